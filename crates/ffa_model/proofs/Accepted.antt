@@ -1,0 +1,46 @@
+-- What an accepted manifest gives, fact by fact.
+use Rattle.std.proofs.Common.{◌≡◌, ℕ, ◌+◌, ◌*◌, ◌%◌, ◌≤◌, true, List, length, arith}
+use Rattle.std.specs.Prelude.{◌==◌, ◌&&◌, nat_le}
+use Rattle.std.specs.List.{list_all}
+use Rattle.std.proofs.lemmas.Bool.{and_parts, leb-true, eqb-true}
+use Rattle.ffa_model.specs.declared.endpoint.Endpoint.{Endpoint}
+use Rattle.ffa_model.specs.Manifest.{is_accepted, is_ram_base, is_from_to, is_placed, are_identified, are_counted, are_apart, regions_of}
+
+pub record Accepted (base blocks : ℕ) (es : List Endpoint) : Type 0 where
+  pub aligned : base % 0x4000000 ≡ 0
+  pub lowest : 0x4000000 ≤ base
+  pub highest : base ≤ 0xFC000000
+  pub some_blocks : 1 ≤ blocks
+  pub few_blocks : blocks ≤ 32
+  pub some_endpoints : 1 ≤ length es
+  pub few_endpoints : length es ≤ 8
+  pub identified : are_identified es ≡ true
+  pub counted : are_counted es ≡ true
+  pub placed : list_all (is_placed base blocks (length es)) (regions_of es) ≡ true
+  pub apart : are_apart (regions_of es) ≡ true
+
+pub accepted : (base blocks : ℕ) (es : List Endpoint) → is_accepted base blocks es ≡ true → Accepted base blocks es
+accepted base blocks es h =
+    let (numbers, regions) = and_parts _ _ h in
+    let (ram, endpoints) = and_parts _ _ numbers in
+    let (place, size) = and_parts _ _ ram in
+    let (from, most) = and_parts _ _ place in
+    let (aligned, least) = and_parts _ _ from in
+    let (few, some) = and_parts _ _ size in
+    let (count, identified) = and_parts _ _ endpoints in
+    let (one, eight) = and_parts _ _ count in
+    let (counted, rest) = and_parts _ _ regions in
+    let (placed, apart) = and_parts _ _ rest in
+    record {
+      aligned = eqb-true _ _ aligned;
+      lowest = leb-true _ _ least;
+      highest = leb-true _ _ most;
+      some_blocks = leb-true _ _ few;
+      few_blocks = leb-true _ _ some;
+      some_endpoints = leb-true _ _ one;
+      few_endpoints = leb-true _ _ eight;
+      identified = identified;
+      counted = counted;
+      placed = placed;
+      apart = apart;
+    }

@@ -1,0 +1,28 @@
+-- The endpoints of the machines that are at hand.
+use Rattle.std.specs.Prelude.{ℕ, Bool, true, false, List, [], ◌∷◌, ◌++◌, replicate}
+use Rattle.ffa_model.specs.declared.rights.Data.TheVariants.{Rw}
+use Rattle.ffa_model.specs.declared.endpoint.Region.{Region}
+use Rattle.ffa_model.specs.declared.endpoint.Endpoint.{Endpoint}
+
+-- sixteen pages of RAM that can be written
+abbrev pub sixteen_writable : ℕ → Bool → Region
+sixteen_writable base exec = record { base = base; pages = 16; rights = record { level = Rw; exec = exec } }
+
+abbrev pub endpoint_with : List ℕ → ℕ → Region → Endpoint
+endpoint_with uuid properties region =
+    record { uuid = uuid; properties = record { 0 = properties }; regions = record { items = region ∷ [] } }
+
+-- the last fifteen bytes of the partitions' UUIDs
+abbrev pub uuid_tail : List ℕ
+uuid_tail = 17 ∷ 34 ∷ 51 ∷ 68 ∷ 85 ∷ 102 ∷ 119 ∷ 136 ∷ 153 ∷ 170 ∷ 187 ∷ 204 ∷ 221 ∷ 238 ∷ 255 ∷ []
+
+-- the normal world and one partition
+abbrev pub built_in_endpoints : List Endpoint
+built_in_endpoints =
+    endpoint_with (replicate 16 0) 6 (sixteen_writable 0x40010000 false)
+    ∷ endpoint_with (0 ∷ uuid_tail) 15 (sixteen_writable 0x40020000 true)
+    ∷ []
+
+-- and a second partition
+abbrev pub row_endpoints : List Endpoint
+row_endpoints = built_in_endpoints ++ endpoint_with (16 ∷ uuid_tail) 15 (sixteen_writable 0x40030000 false) ∷ []

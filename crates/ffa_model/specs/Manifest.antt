@@ -1,0 +1,70 @@
+-- Which parts make a machine, and where its tables stand.
+use Rattle.std.specs.Prelude.{ℕ, ◌+◌, ◌*◌, ◌%◌, ◌==◌, ◌&&◌, ◌||◌, nat_lt, nat_le, not, Bool, true, false, List, [], ◌∷◌, length}
+use Rattle.std.specs.List.{list_all, flat_map}
+use Rattle.ffa_model.specs.declared.endpoint.Region.{Region}
+use Rattle.ffa_model.specs.declared.endpoint.Endpoint.{Endpoint}
+use Rattle.ffa_model.specs.Bits.{is_set}
+
+-- each endpoint has a level 1 page, a level 2 page and a level 3 page for each block of RAM
+abbrev pub table_pages : ℕ → ℕ
+table_pages blocks = 2 + blocks
+
+-- the address of the level 1 page of the endpoint at a place in the manifest
+abbrev pub root_of : ℕ → ℕ → ℕ → ℕ
+root_of base blocks index = base + 4096 * (index * table_pages blocks)
+
+-- the first address behind the table pages of this many endpoints, and the first behind RAM
+abbrev pub tables_end : ℕ → ℕ → ℕ → ℕ
+tables_end base blocks count = root_of base blocks count
+
+abbrev pub ram_end : ℕ → ℕ → ℕ
+ram_end base blocks = base + 0x200000 * blocks
+
+-- a multiple of 64 MiB from 0x04000000 to 0xFC000000
+abbrev pub is_ram_base : ℕ → Bool
+is_ram_base base = (base % 0x4000000 == 0 && nat_le 0x4000000 base) && nat_le base 0xFC000000
+
+-- between these two, each included
+abbrev pub is_from_to : ℕ → ℕ → ℕ → Bool
+is_from_to least most n = nat_le least n && nat_le n most
+
+abbrev pub is_nil : List ℕ → Bool
+is_nil uuid = list_all (λ b. b == 0) uuid
+
+-- the normal world receives neither direct requests nor, from boot, notifications
+abbrev pub is_normal_world : Endpoint → Bool
+is_normal_world e =
+    (is_nil e.uuid && nat_lt e.properties.0 16) && (not (is_set 0 e.properties.0) && not (is_set 3 e.properties.0))
+
+abbrev pub is_partition : Endpoint → Bool
+is_partition e = not (is_nil e.uuid) && nat_lt e.properties.0 16
+
+abbrev pub are_identified : List Endpoint → Bool
+are_identified [] = false
+are_identified (e ∷ es) = is_normal_world e && list_all is_partition es
+
+-- whole pages, at least one, behind the table pages and in RAM
+abbrev pub is_placed : ℕ → ℕ → ℕ → Region → Bool
+is_placed base blocks count r =
+    ((r.base % 4096 == 0 && nat_le 1 r.pages) && nat_le (tables_end base blocks count) r.base)
+    && nat_le (r.base + 4096 * r.pages) (ram_end base blocks)
+
+-- the regions have no page in common
+abbrev pub is_apart : Region → Region → Bool
+is_apart r q = nat_le (r.base + 4096 * r.pages) q.base || nat_le (q.base + 4096 * q.pages) r.base
+
+abbrev pub are_apart : List Region → Bool
+are_apart [] = true
+are_apart (r ∷ rs) = list_all (is_apart r) rs && are_apart rs
+
+abbrev pub regions_of : List Endpoint → List Region
+regions_of es = flat_map (λ (e : Endpoint). e.regions.items) es
+
+abbrev pub are_counted : List Endpoint → Bool
+are_counted es = list_all (λ (e : Endpoint). is_from_to 1 16 (length e.regions.items)) es
+
+-- the conditions of an accepted manifest
+abbrev pub is_accepted : ℕ → ℕ → List Endpoint → Bool
+is_accepted base blocks es =
+    ((is_ram_base base && is_from_to 1 32 blocks) && (is_from_to 1 8 (length es) && are_identified es))
+    && (are_counted es && (list_all (is_placed base blocks (length es)) (regions_of es) && are_apart (regions_of es)))

@@ -1,0 +1,48 @@
+-- Loads, stores and fetches over the walk, of any bytes in RAM.
+use Rattle.std.specs.Prelude.{ℕ, ◌-◌, ◌/◌, ◌%◌, Bool, ◌==◌, if◌then◌else◌, List, ◌++◌, take, drop, length, Result, Ok, Err}
+use Rattle.byteorder.specs.Endian.{little_number}
+use Rattle.ffa_model.specs.Ram.{Ram, page_of, with_page}
+use Rattle.ffa_model.specs.Walk.{Answer, is_in_ram, walk}
+use Rattle.ffa_model.specs.declared.leaf.Leaf.{Leaf}
+use Rattle.ffa_model.specs.declared.operation.FaultKind.{FaultKind}
+use Rattle.ffa_model.specs.declared.operation.FaultKind.TheVariants.{Alignment, Permission, OutsideRam}
+
+-- the page of a physical address, and the address's place in it
+abbrev pub page_index : Ram → ℕ → ℕ
+page_index ram address = (address - ram.base) / 4096
+
+abbrev pub offset : Ram → ℕ → ℕ
+offset ram address = (address - ram.base) % 4096
+
+-- the number in the n bytes at a physical address, the lowest first
+abbrev pub number_at : Ram → ℕ → ℕ → ℕ
+number_at ram address n = little_number n (drop (offset ram address) (page_of ram (page_index ram address)))
+
+-- a page with other bytes from a place on
+abbrev pub with_bytes : List ℕ → ℕ → List ℕ → List ℕ
+with_bytes page at bytes = take at page ++ (bytes ++ drop (length bytes) (drop at page))
+
+-- the RAM with other bytes from a physical address on, all in one page
+abbrev pub with_bytes_at : Ram → ℕ → List ℕ → Ram
+with_bytes_at ram address bytes =
+    with_page ram (page_index ram address) (with_bytes (page_of ram (page_index ram address)) (offset ram address) bytes)
+
+-- what an access needs of the leaf
+abbrev pub may_load : Leaf → Bool
+may_load leaf = leaf.read
+
+abbrev pub may_store_to : Leaf → Bool
+may_store_to leaf = leaf.write
+
+abbrev pub may_execute : Leaf → Bool
+may_execute leaf = leaf.exec
+
+-- where an access ends: the physical address, or the first fault of alignment, walk, right and RAM
+abbrev pub at_leaf : Ram → (Leaf → Bool) → Answer → Result ℕ FaultKind
+at_leaf ram allowed (Err fault) = Err fault
+at_leaf ram allowed (Ok leaf) =
+    if allowed leaf then (if is_in_ram ram leaf.phys then Ok leaf.phys else Err OutsideRam) else Err Permission
+
+unfoldable pub reach : Ram → ℕ → ℕ → ℕ → (Leaf → Bool) → Result ℕ FaultKind
+reach ram root address size allowed =
+    if address % size == 0 then at_leaf ram allowed (walk ram root address) else Err Alignment

@@ -1,0 +1,115 @@
+-- The state of the small machine: maps, sets and lists by page or endpoint, and no table, slot or stack.
+use Rattle.std.specs.Prelude.{ℕ, zero, suc, ◌+◌, ◌-◌, ◌*◌, ◌==◌, Bool, false, ◌&&◌, ◌||◌, nat_lt, List, length, Option, None, is_some, slice_index, slice_index_or, slice_get}
+use Rattle.std.specs.Ordering.{nat_cmp}
+use Rattle.std.specs.Cmp.Lexicographic.{slice_cmp}
+use Rattle.std.specs.Option.{option_map_or}
+use Rattle.std.specs.FinMap as map
+use Rattle.std.specs.FinSet as finite_set
+use Rattle.ffa_model.specs.declared.rights.Rights.{Rights}
+use Rattle.ffa_model.specs.declared.rights.Kind.{Kind}
+use Rattle.ffa_model.specs.declared.transaction.Range.{Range}
+use Rattle.ffa_model.specs.declared.transaction.Receiver.{Receiver}
+use Rattle.ffa_model.specs.declared.schedule.Status.{Status}
+use Rattle.ffa_model.specs.declared.schedule.Status.TheVariants.{Waiting}
+use Rattle.ffa_model.specs.declared.schedule.Work.{Work}
+use Rattle.ffa_model.specs.Bits.{is_set}
+use Rattle.ffa_model.specs.Lists.{listed}
+
+-- what the manifest says of an endpoint for good
+pub record Party : Type 0 where
+  pub uuid : List ℕ
+  pub properties : ℕ
+
+-- a page that an endpoint owns
+pub record Page : Type 0 where
+  pub owner : ℕ
+  pub base : Rights
+  pub bytes : List ℕ
+
+-- a memory management transaction that is open
+pub record Transaction : Type 0 where
+  pub kind : Kind
+  pub sender : ℕ
+  pub tag : ℕ
+  pub zero : Bool
+  pub ranges : List Range
+  pub receivers : List Receiver
+  pub held : map.FinMap nat_cmp Rights  -- by endpoint
+
+-- an endpoint's TX and RX, by page, and whether RX is full
+pub record Buffers : Type 0 where
+  pub tx : ℕ
+  pub rx : ℕ
+  pub full : Bool
+
+-- an endpoint is named by its identifier; a list by endpoint is in the manifest's order
+pub record State : Type 0 where
+  pub ram_base : ℕ
+  pub parties : List Party  -- by endpoint
+  pub pages : List (Option Page)  -- by page; None is a page of the manager
+  pub transactions : map.FinMap nat_cmp Transaction  -- by handle
+  pub sent : List ℕ  -- by endpoint, how many sends it has made
+  pub buffers : List (Option Buffers)  -- by endpoint
+  pub runner : ℕ
+  pub statuses : List Status  -- by endpoint
+  pub works : List (Option Work)  -- by endpoint
+  pub bitmaps : List Bool  -- by endpoint, whether it has notification bitmaps
+  pub bound : finite_set.FinSet (slice_cmp nat_cmp)  -- of receiver, class, bit, sender
+  pub pending : finite_set.FinSet (slice_cmp nat_cmp)  -- of receiver, class, bit
+
+-- the manager's identifier
+abbrev pub manager : ℕ
+manager = 0x8000
+
+-- the identifier of the endpoint at a place in the manifest, and the place of an identifier
+abbrev pub identifier : ℕ → ℕ
+identifier zero = 0
+identifier (suc i) = 0x8001 + i
+
+abbrev pub identifiers : State → List ℕ
+identifiers s = listed (length s.parties) identifier
+
+abbrev pub place : ℕ → ℕ
+place e = e - 0x8000
+
+abbrev pub is_partition : State → ℕ → Bool
+is_partition s e = nat_lt 0x8000 e && nat_lt (place e) (length s.parties)
+
+abbrev pub is_known : State → ℕ → Bool
+is_known s e = e == 0 || is_partition s e
+
+abbrev pub properties_of : State → ℕ → ℕ
+properties_of s e = option_map_or (λ (p : Party). p.properties) (slice_get s.parties (place e)) 0
+
+abbrev pub has_property : State → ℕ → ℕ → Bool
+has_property s e bit = is_set bit (properties_of s e)
+
+abbrev pub page_at : State → ℕ → Option Page
+page_at s p = slice_index_or s.pages p None
+
+abbrev pub address_of : State → ℕ → ℕ
+address_of s p = s.ram_base + 4096 * p
+
+abbrev pub transaction_of : State → ℕ → Option Transaction
+transaction_of s h = map.get s.transactions h
+
+abbrev pub sent_by : State → ℕ → ℕ
+sent_by s e = slice_index s.sent (place e)
+
+abbrev pub buffers_of : State → ℕ → Option Buffers
+buffers_of s e = slice_index_or s.buffers (place e) None
+
+abbrev pub has_buffers : State → ℕ → Bool
+has_buffers s e = is_some (buffers_of s e)
+
+abbrev pub is_rx_full : State → ℕ → Bool
+is_rx_full s e = option_map_or (λ (b : Buffers). b.full) (buffers_of s e) false
+
+abbrev pub status_of : State → ℕ → Status
+status_of s e = slice_index_or s.statuses (place e) Waiting
+
+abbrev pub work_of : State → ℕ → Option Work
+work_of s e = slice_index_or s.works (place e) None
+
+abbrev pub has_bitmaps : State → ℕ → Bool
+has_bitmaps s e = slice_index_or s.bitmaps (place e) false

@@ -1,0 +1,20 @@
+//! The plain types of the partition manager. Its `specs/` hold the small machine that every contract cites.
+#![tactic(auto)]
+
+pub mod endpoint;
+pub mod leaf;
+pub mod machines;
+pub mod manifest;
+pub mod operation;
+pub mod rights;
+pub mod schedule;
+pub mod transaction;
+
+pub use endpoint::{Endpoint, EndpointId, PageNo, Properties, Region};
+pub use leaf::Leaf;
+pub use machines::{built_in, row_machine};
+pub use manifest::Manifest;
+pub use operation::{ErrorCode, FaultKind, Op, Outcome, Size};
+pub use rights::{Data, Kind, Rights};
+pub use schedule::{Status, Work};
+pub use transaction::{Range, Receiver};

@@ -1,0 +1,70 @@
+//! Two machines that are at hand without a manifest's text.
+ghost use Rattle.std.specs.Prelude.{◌≡◌};
+ghost use Rattle.ffa_model.specs.Machines.{sixteen_writable, endpoint_with, built_in_endpoints, row_endpoints};
+
+use crate::endpoint::{Endpoint, Properties, Region};
+use crate::manifest::Manifest;
+use crate::rights::{Data, Rights};
+use arrayvec::ArrayVec;
+use bitflags::Flags;
+
+// Sixteen writable pages.
+fn region(base: u32, exec: bool) -> Region
+    ensures { result ≡ sixteen_writable base exec }
+{
+    let level = Data::Rw;
+    Region {
+        base,
+        pages: 16,
+        rights: Rights { level, exec },
+    }
+}
+
+fn endpoint(uuid: [u8; 16], properties: u32, region: Region) -> Endpoint
+    ensures { result ≡ endpoint_with uuid properties region }
+{
+    let mut regions = ArrayVec::new();
+    regions.push(region);
+    Endpoint {
+        uuid,
+        properties: Properties::from_bits_retain(properties),
+        regions,
+    }
+}
+
+// The normal world and one partition.
+fn two_endpoints() -> ArrayVec<Endpoint, 8>
+    ensures { result.items ≡ built_in_endpoints }
+{
+    let uuid = [
+        0, 17, 34, 51, 68, 85, 102, 119, 136, 153, 170, 187, 204, 221, 238, 255,
+    ];
+    let mut endpoints = ArrayVec::new();
+    endpoints.push(endpoint([0; 16], 6, region(0x4001_0000, false)));
+    endpoints.push(endpoint(uuid, 15, region(0x4002_0000, true)));
+    endpoints
+}
+
+/// The machine of the program's demonstration: 2 MiB of RAM at 0x40000000, the normal world with 16 writable pages at
+/// 0x40010000, and one partition with 16 pages at 0x40020000 that it may write and execute.
+pub fn built_in() -> Manifest
+    ensures base { result.ram_base ≡ 0x40000000 }
+    ensures blocks { result.ram_blocks ≡ 1 }
+    ensures endpoints { result.endpoints.items ≡ built_in_endpoints }
+{
+    Manifest::of(0x4000_0000, 1, two_endpoints())
+}
+
+/// The built-in machine with a second partition, which has 16 writable pages at 0x40030000.
+pub fn row_machine() -> Manifest
+    ensures base { result.ram_base ≡ 0x40000000 }
+    ensures blocks { result.ram_blocks ≡ 1 }
+    ensures endpoints { result.endpoints.items ≡ row_endpoints }
+{
+    let uuid = [
+        16, 17, 34, 51, 68, 85, 102, 119, 136, 153, 170, 187, 204, 221, 238, 255,
+    ];
+    let mut endpoints = two_endpoints();
+    endpoints.push(endpoint(uuid, 15, region(0x4003_0000, false)));
+    Manifest::of(0x4000_0000, 1, endpoints)
+}

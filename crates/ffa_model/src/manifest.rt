@@ -1,0 +1,44 @@
+//! The manifest of a machine.
+ghost use Rattle.std.specs.Prelude.{true, ◌≡◌, ◌+◌, ◌*◌, ◌<◌, length};
+ghost use Rattle.ffa_model.specs.Manifest.{is_accepted, root_of};
+
+use crate::endpoint::Endpoint;
+use arrayvec::ArrayVec;
+
+/// A machine's RAM and endpoints, which meet the conditions of an accepted manifest: the RAM's place and size, the
+/// count of endpoints, and of each endpoint its UUID, its properties and its regions, which lie behind the table pages
+/// in RAM and apart from one another.
+#[derive(Debug, Drop)]
+pub struct Manifest {
+    /// The address of RAM's first byte.
+    pub ram_base: u32,
+    /// RAM's size, in blocks of 2 MiB.
+    pub ram_blocks: u32,
+    /// The normal world, then the partitions in the order of their identifiers.
+    pub endpoints: ArrayVec<Endpoint, 8>,
+    pub ghost accepted: { is_accepted ram_base ram_blocks endpoints.items ≡ true },
+}
+
+impl Manifest {
+    /// The manifest of these parts.
+    pub fn of(ram_base: u32, ram_blocks: u32, endpoints: ArrayVec<Endpoint, 8>) -> Manifest
+        requires { is_accepted ram_base ram_blocks endpoints.items ≡ true }
+        ensures base { result.ram_base ≡ ram_base }
+        ensures blocks { result.ram_blocks ≡ ram_blocks }
+        ensures endpoints { result.endpoints.items ≡ endpoints.items }
+    {
+        Manifest {
+            ram_base,
+            ram_blocks,
+            endpoints,
+        }
+    }
+
+    /// The address of an endpoint's level 1 table, by the endpoint's place in the manifest, from 0.
+    pub fn root(&self, index: usize) -> u32
+        requires { index < length self.now.endpoints.items }
+        ensures { result ≡ root_of self.now.ram_base self.now.ram_blocks index }
+    {
+        self.ram_base + 4096 * (index as u32 * (2 + self.ram_blocks))
+    }
+}

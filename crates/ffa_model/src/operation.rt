@@ -1,0 +1,61 @@
+//! What an endpoint does, and what it gets for it.
+
+use crate::endpoint::EndpointId;
+
+/// How many bytes a load or a store moves.
+#[derive(Clone, Copy, Debug, PartialEq, Eq)]
+pub enum Size {
+    B1,
+    B2,
+    B4,
+    B8,
+}
+
+/// Why a call is refused (DEN0077A, 11.2): the codes -1 to -4 and -6.
+#[derive(Clone, Copy, Debug, PartialEq, Eq)]
+pub enum ErrorCode {
+    NotSupported,
+    InvalidParameters,
+    NoMemory,
+    Busy,
+    Denied,
+}
+
+/// Why an access ends without its bytes.
+#[derive(Clone, Copy, Debug, PartialEq, Eq)]
+pub enum FaultKind {
+    /// No descriptor maps the address.
+    Translation = 1,
+    /// The descriptor lacks the right.
+    Permission = 2,
+    /// The address is no multiple of the size.
+    Alignment = 3,
+    /// The descriptor's access flag is 0.
+    AccessFlag = 4,
+    /// The walk or the access leaves RAM.
+    OutsideRam = 5,
+}
+
+/// An operation of the endpoint that runs.
+#[derive(Clone, Copy, Debug, PartialEq, Eq)]
+pub enum Op {
+    /// A call, with the registers x0 to x7.
+    Call([u64; 8]),
+    Load { addr: u64, size: Size },
+    /// A store of the value's lowest bytes, as many as the size says.
+    Store { addr: u64, size: Size, value: u64 },
+    /// A fetch of one instruction, 4 bytes.
+    Fetch { addr: u64 },
+}
+
+/// What an operation gives.
+#[derive(Clone, Copy, Debug, PartialEq, Eq)]
+pub enum Outcome {
+    /// The endpoint that runs next, and the registers x0 to x7 that it sees.
+    Regs { runner: EndpointId, x: [u64; 8] },
+    /// The bytes of a load or a fetch as a number, the lowest first.
+    Data(u64),
+    /// A store was done.
+    Done,
+    Fault(FaultKind),
+}

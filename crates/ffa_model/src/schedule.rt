@@ -1,0 +1,21 @@
+//! Run states of endpoints.
+
+use crate::endpoint::EndpointId;
+
+/// The run state of an endpoint (DEN0077A, 8.2).
+#[derive(Clone, Copy, Debug, PartialEq, Eq)]
+pub enum Status {
+    Running,
+    Waiting,
+    Yielded,
+    Blocked,
+}
+
+/// Why a partition that doesn't wait was set going.
+#[derive(Clone, Copy, Debug, PartialEq, Eq)]
+pub enum Work {
+    /// The normal world gave it cycles.
+    Run,
+    /// It answers a direct request of this endpoint.
+    Request(EndpointId),
+}
