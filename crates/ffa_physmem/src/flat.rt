@@ -1,0 +1,89 @@
+//! RAM in one piece of memory.
+ghost use Rattle.std.specs.Prelude.{◌≡◌, ℕ, ◌+◌, ◌*◌, ◌%◌, ◌^◌, ◌<◌, ◌≤◌, length, replicate, IfOk, vec_len};
+
+use crate::memory::PhysMem;
+use ffa_model::PageNo;
+use std::alloc::{AllocError, Global};
+use std::fmt;
+
+/// There is no memory for this much RAM.
+#[derive(Clone, Copy, Debug, PartialEq, Eq)]
+pub struct NoMemory;
+
+impl fmt::Display for NoMemory {
+    fn fmt<W: fmt::Write>(&self, f: &mut fmt::Formatter<W>) -> fmt::Result {
+        write!(f, "no memory")
+    }
+}
+
+impl std::error::Error for NoMemory {}
+
+impl From<AllocError> for NoMemory {
+    fn from(_refused: AllocError) -> NoMemory {
+        NoMemory
+    }
+}
+
+/// RAM in one piece.
+#[derive(Drop)]
+pub struct FlatRam {
+    base: u32,
+    pages: Vec<[u8; 4096]>,
+    ghost aligned: { base % 4096 ≡ 0 },
+    ghost fits: { base + 4096 * vec_len pages ≤ 2 ^ 32 },
+}
+
+impl FlatRam {
+    ghost use Rattle.ffa_model.specs.Ram.{zero_ram};
+
+    /// RAM of this many pages, all zeros, from a page's address on. `NoMemory` comes only where the allocator refuses.
+    pub fn new(alloc: Global, base: u32, pages: u32) -> Result<FlatRam, NoMemory>
+        requires aligned { base % 4096 ≡ 0 }
+        requires some { 1 ≤ pages }
+        requires fits { base + 4096 * pages ≤ 2 ^ 32 }
+        ensures { IfOk result (λ m. ⟦<FlatRam as PhysMem>⟧.ram m ≡ zero_ram base pages) }
+    {
+        let pages = zero_pages(alloc, pages)?;
+        Ok(FlatRam { base, pages })
+    }
+}
+
+// Pages of zeros.
+fn zero_pages(alloc: Global, count: u32) -> Result<Vec<[u8; 4096]>, AllocError>
+    ensures { IfOk result (λ v. v.items ≡ replicate count (replicate 4096 0)) }
+{
+    let mut pages = Vec::with_capacity(alloc, count as usize)?;
+    for _index in 0..count {
+        pages.push([0; 4096])?;
+    }
+    Ok(pages)
+}
+
+impl PhysMem for FlatRam {
+    ghost use Rattle.std.specs.Prelude.{refl};
+    ghost use Rattle.std.specs.Vec.{with_item};
+
+    ghost ram = { λ m. record { base = m.base; pages = m.pages.items } };
+
+    ghost with_bytes = { λ m page bytes. record m { pages = with_item m.pages page bytes } };
+
+    ghost one_page = { λ m page bytes. refl };
+
+    fn base(&self) -> u32 {
+        self.base
+    }
+
+    fn pages(&self) -> u32 {
+        self.pages.len() as u32
+    }
+
+    fn page(&self, page: PageNo) -> &[u8; 4096] {
+        let bytes = &self.pages[page.0 as usize];
+        let _whole = &bytes[..];
+        bytes
+    }
+
+    fn page_mut(&mut self, page: PageNo) -> &mut [u8; 4096] {
+        &mut self.pages[page.0 as usize]
+    }
+}

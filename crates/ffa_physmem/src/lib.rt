@@ -1,0 +1,8 @@
+//! RAM, behind a trait whose clauses see a base address and pages of 4096 bytes.
+#![tactic(auto)]
+
+pub mod flat;
+pub mod memory;
+
+pub use flat::{FlatRam, NoMemory};
+pub use memory::{PAGE_SIZE, PhysMem};

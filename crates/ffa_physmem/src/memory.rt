@@ -1,0 +1,90 @@
+//! What the manager needs of RAM.
+ghost use Rattle.std.specs.Prelude.{◌≡◌, ℕ, ◌+◌, ◌*◌, ◌%◌, ◌^◌, ◌<◌, ◌≤◌, List, ◌++◌, length, take, drop, replicate};
+ghost use Rattle.std.specs.Borrow.{sem, Lends, Array, u8 as byte};
+ghost use Rattle.ffa_model.specs.Ram.{Ram, page_of, with_page, word_of, with_word};
+
+use byteorder::{ByteOrder, LittleEndian};
+use ffa_model::PageNo;
+
+/// The bytes of a page.
+pub const PAGE_SIZE: usize = 4096;
+
+/// RAM: a base address and pages of 4096 bytes. No two pages need lie side by side in the implementation's memory.
+pub trait PhysMem {
+    /// Where the RAM begins, and the bytes of each page.
+    ghost ram: { Self → Ram };
+
+    /// The same RAM with other bytes in one page.
+    ghost with_bytes: { Self → ℕ → List ℕ → Self };
+
+    /// The address of the first byte.
+    fn base(&self) -> u32
+        ensures value { result ≡ (ram self.now).base }
+        ensures aligned { result % 4096 ≡ 0 }
+        ensures within { result + 4096 * length (ram self.now).pages ≤ 2 ^ 32 };
+
+    /// The number of pages.
+    fn pages(&self) -> u32
+        ensures { result ≡ length (ram self.now).pages };
+
+    /// The bytes of a page.
+    fn page(&self, page: PageNo) -> &[u8; 4096]
+        requires { page.0 < length (ram self.now).pages }
+        ensures value { result.now ≡ page_of (ram self.now) page.0 }
+        ensures whole { length (page_of (ram self.now) page.0) ≡ 4096 };
+
+    /// The bytes of a page, to be written. No other byte changes.
+    fn page_mut(&mut self, page: PageNo) -> &mut [u8; 4096]
+        requires { page.0 < length (ram self.old).pages }
+        ensures value { result.now ≡ page_of (ram self.old) page.0 }
+        ensures* writes_back { sem 𝓛 (Lends Self.row (Array byte 0) self.entry result (with_bytes self.old page.0)) };
+
+    /// The word at a place of a page, from 0 to 511: 8 bytes, the lowest first.
+    fn read_word(&self, page: PageNo, index: usize) -> u64
+        requires page { page.0 < length (ram self.now).pages }
+        requires index { index < 512 }
+        ensures { result ≡ word_of (page_of (ram self.now) page.0) index }
+    {
+        LittleEndian::read_u64(&self.page(page)[8 * index..])
+    }
+
+    /// Writes the word at a place of a page.
+    fn write_word(&mut self, page: PageNo, index: usize, value: u64)
+        requires page { page.0 < length (ram self.old).pages }
+        requires index { index < 512 }
+        ensures { ram self.new ≡ with_page (ram self.old) page.0 (with_word (page_of (ram self.old) page.0) index value) }
+    {
+        LittleEndian::write_u64(&mut self.page_mut(page)[8 * index..], value);
+    }
+
+    /// Fills a page with zeros.
+    fn clear_page(&mut self, page: PageNo)
+        requires { page.0 < length (ram self.old).pages }
+        ensures { ram self.new ≡ with_page (ram self.old) page.0 (replicate 4096 0) }
+    {
+        *self.page_mut(page) = [0; 4096];
+    }
+
+    /// Carries the first `count` bytes of one page to the front of another, whose other bytes stay.
+    fn copy(&mut self, from: PageNo, to: PageNo, count: usize)
+        requires from { from.0 < length (ram self.old).pages }
+        requires to { to.0 < length (ram self.old).pages }
+        requires count { count ≤ 4096 }
+        ensures { ram self.new ≡ with_page (ram self.old) to.0 (take count (page_of (ram self.old) from.0) ++ drop count (page_of (ram self.old) to.0)) }
+    {
+        let mut buffer = [0; PAGE_SIZE];
+        buffer.copy_from_slice(self.page(from));
+        put_front(self.page_mut(to), &buffer[..count]);
+    }
+
+    /// Only that page changes.
+    ghost one_page: { (m : Self) (page : ℕ) (bytes : List ℕ) → ram (with_bytes m page bytes) ≡ with_page (ram m) page bytes };
+}
+
+// Writes `source` over the first bytes of `target`.
+fn put_front(target: &mut [u8], source: &[u8])
+    requires { length source.now ≤ length target.old }
+    ensures { target.new ≡ source.now ++ drop (length source.now) target.old }
+{
+    target[..source.len()].copy_from_slice(source);
+}
