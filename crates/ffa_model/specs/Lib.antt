@@ -7,6 +7,8 @@ pub mod Machines
 pub mod Descriptor
 pub mod Walk
 pub mod Reach
+pub mod Identifiers
+pub mod Regions
 pub mod State
 pub mod Codes
 pub mod First

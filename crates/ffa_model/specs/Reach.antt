@@ -1,7 +1,6 @@
 -- Loads, stores and fetches over the walk, of any bytes in RAM.
-use Rattle.std.specs.Prelude.{ℕ, ◌-◌, ◌/◌, ◌%◌, Bool, ◌==◌, if◌then◌else◌, List, ◌++◌, take, drop, length, Result, Ok, Err}
-use Rattle.byteorder.specs.Endian.{little_number}
-use Rattle.ffa_model.specs.Ram.{Ram, page_of, with_page}
+use Rattle.std.specs.Prelude.{ℕ, ◌-◌, ◌/◌, ◌%◌, Bool, ◌==◌, if◌then◌else◌, List, Result, Ok, Err}
+use Rattle.ffa_model.specs.Ram.{Ram, page_of, with_page, number_in, with_bytes}
 use Rattle.ffa_model.specs.Walk.{Answer, is_in_ram, walk}
 use Rattle.ffa_model.specs.declared.leaf.Leaf.{Leaf}
 use Rattle.ffa_model.specs.declared.operation.FaultKind.{FaultKind}
@@ -16,11 +15,7 @@ offset ram address = (address - ram.base) % 4096
 
 -- the number in the n bytes at a physical address, the lowest first
 abbrev pub number_at : Ram → ℕ → ℕ → ℕ
-number_at ram address n = little_number n (drop (offset ram address) (page_of ram (page_index ram address)))
-
--- a page with other bytes from a place on
-abbrev pub with_bytes : List ℕ → ℕ → List ℕ → List ℕ
-with_bytes page at bytes = take at page ++ (bytes ++ drop (length bytes) (drop at page))
+number_at ram address n = number_in (page_of ram (page_index ram address)) (offset ram address) n
 
 -- the RAM with other bytes from a physical address on, all in one page
 abbrev pub with_bytes_at : Ram → ℕ → List ℕ → Ram

@@ -13,6 +13,7 @@ use Rattle.ffa_model.specs.declared.schedule.Status.{Status}
 use Rattle.ffa_model.specs.declared.schedule.Status.TheVariants.{Waiting}
 use Rattle.ffa_model.specs.declared.schedule.Work.{Work}
 use Rattle.ffa_model.specs.Bits.{is_set}
+use Rattle.ffa_model.specs.Identifiers.{identifier, place}
 use Rattle.ffa_model.specs.Lists.{listed}
 
 -- what the manifest says of an endpoint for good
@@ -57,20 +58,8 @@ pub record State : Type 0 where
   pub bound : finite_set.FinSet (slice_cmp nat_cmp)  -- of receiver, class, bit, sender
   pub pending : finite_set.FinSet (slice_cmp nat_cmp)  -- of receiver, class, bit
 
--- the manager's identifier
-abbrev pub manager : ℕ
-manager = 0x8000
-
--- the identifier of the endpoint at a place in the manifest, and the place of an identifier
-abbrev pub identifier : ℕ → ℕ
-identifier zero = 0
-identifier (suc i) = 0x8001 + i
-
 abbrev pub identifiers : State → List ℕ
 identifiers s = listed (length s.parties) identifier
-
-abbrev pub place : ℕ → ℕ
-place e = e - 0x8000
 
 abbrev pub is_partition : State → ℕ → Bool
 is_partition s e = nat_lt 0x8000 e && nat_lt (place e) (length s.parties)
