@@ -1,0 +1,2 @@
+//! The machine of the partition manager.
+#![tactic(auto)]
