@@ -11,17 +11,17 @@ use byteorder::{ByteOrder, LittleEndian};
 use ffa_model::{FaultKind, Leaf, PageNo, Size};
 use ffa_physmem::PhysMem;
 
-/// What an access needs of the leaf.
-#[derive(Clone, Copy, Debug, PartialEq, Eq)]
-pub enum Need {
+// What an access needs of the leaf.
+#[derive(Clone, Copy)]
+enum Need {
     Read,
     Write,
     Execute,
 }
 
 impl Need {
-    /// Whether the leaf gives it.
-    pub fn is_given_by(self, leaf: &Leaf) -> bool
+    // Whether the leaf gives it.
+    fn is_given_by(self, leaf: &Leaf) -> bool
         ensures { result ≡ needs self leaf.now }
     {
         match self {

@@ -4,6 +4,6 @@
 pub mod access;
 pub mod translation;
 
-pub use access::{Need, fetch, load, store};
+pub use access::{fetch, load, store};
 pub use ffa_model::{FaultKind, Leaf};
 pub use translation::{is_in_ram, translate};
