@@ -1,25 +1,20 @@
 -- Who owns a page of an accepted manifest: the endpoint with the one region that has it.
-use Rattle.std.proofs.Common.{◌≡◌, ◌∙◌, ℕ, suc, zero, ◌+◌, ◌<◌, Bool, true, false, cond, List, [], ◌∷◌, ◌++◌, map, Option, Some, None, refl, sym, ap, arith}
-use Rattle.std.specs.Prelude.{◌==◌, find}
-use Rattle.std.specs.Option.{option_map, option_or}
+use Rattle.std.proofs.Common.{◌≡◌, ◌∙◌, ℕ, suc, zero, ◌+◌, ◌*◌, ◌<◌, ◌≤◌, Bool, true, false, cond, List, [], ◌∷◌, ◌++◌, map, Option, Some, None, refl, sym, ap, arith}
+use Rattle.std.specs.Prelude.{◌==◌, find, is_some}
+use Rattle.std.specs.Option.{option_map, option_map_or, option_or}
 use Rattle.std.specs.List.{list_all, flat_map, enumerate_from}
-use Rattle.std.proofs.lemmas.Bool.{and_parts, eq-eqb}
+use Rattle.std.proofs.lemmas.Bool.{true≢false, false≢true, and_parts, eq-eqb}
 use Rattle.std.proofs.lemmas.Bool.Decides.{nat_tests}
-use Rattle.std.proofs.lemmas.List.Folds.{find-append}
+use Rattle.std.proofs.lemmas.List.Folds.{find-append, list_all-append, list_all-map}
 use Rattle.ffa_model.specs.declared.endpoint.Region.{Region}
 use Rattle.ffa_model.specs.declared.endpoint.Endpoint.{Endpoint}
 use Rattle.ffa_model.specs.declared.rights.Rights.{Rights}
-use Rattle.ffa_model.specs.Manifest.{is_apart, are_apart, regions_of}
-use Rattle.ffa_model.specs.Identifiers.{identifier}
-use Rattle.ffa_model.specs.Regions.{has_page, right_in}
+use Rattle.ffa_model.specs.Manifest.{is_apart, are_apart, is_placed, regions_of, table_pages, tables_end}
+use Rattle.ffa_model.specs.Identifiers.{manager, identifier}
+use Rattle.ffa_model.specs.Regions.{has_page, right_in, regions_at}
+use Rattle.ffa_model.specs.State.{Page}
 use Rattle.ffa_model.specs.First.{owned_regions, page_with_bytes}
 use Rattle.ffa_model.specs.Access.{right_of}
-
--- the regions of the endpoint at a place, and those of nobody past the end
-abbrev pub regions_at : List Endpoint → ℕ → List Region
-regions_at [] i = []
-regions_at (e ∷ es) zero = e.regions.items
-regions_at (e ∷ es) (suc i) = regions_at es i
 
 -- of two regions that lie apart only one has a page
 apart_one : (base p : ℕ) (r q : Region) → is_apart r q ≡ true → has_page base p r ≡ true → has_page base p q ≡ false
@@ -56,10 +51,10 @@ list_none base p (x ∷ rs) qs r apart is =
         some_none e = cc
 
 -- the regions of endpoints whose first stands at place k, each with its owner
-abbrev owned_from : ℕ → List Endpoint → List (ℕ × Region)
+abbrev pub owned_from : ℕ → List Endpoint → List (ℕ × Region)
 owned_from k es = flat_map (λ (x : ℕ × Endpoint). map (λ (r : Region). (identifier x.0, r)) x.1.regions.items) (enumerate_from k es)
 
-abbrev has : ℕ → ℕ → ℕ × Region → Bool
+abbrev pub has : ℕ → ℕ → ℕ × Region → Bool
 has base p x = has_page base p x.1
 
 -- the base right of a page that was found, where the owner is e
@@ -152,3 +147,73 @@ right-own base es p i bytes apart =
     of : (o : Option (ℕ × Region)) → right_of (identifier i) (option_map (λ (x : ℕ × Region). record { owner = x.0; base = x.1.rights; bytes = bytes }) o) None ≡ right_if (identifier i) o
     of None = refl
     of (Some x) = refl
+
+-- the owner of a page among endpoints whose first stands at place k
+abbrev pub owner_from : ℕ → ℕ → ℕ → List Endpoint → ℕ
+owner_from base p k es = option_map_or (λ (x : ℕ × Region). x.0) (find (has base p) (owned_from k es)) manager
+
+owner-first : (base p k : ℕ) (e : Endpoint) (es : List Endpoint)
+    → owner_from base p k (e ∷ es) ≡ option_map_or (λ (r : Region). identifier k) (find (has_page base p) e.regions.items) (owner_from base p (k + 1) es)
+owner-first base p k e es =
+    ap (λ o. option_map_or (λ (x : ℕ × Region). x.0) o manager)
+    (find-append (has base p) (map (λ (r : Region). (identifier k, r)) e.regions.items) (owned_from (k + 1) es)
+    ∙ ap (λ o. option_or o (find (has base p) (owned_from (k + 1) es))) (find-owned base p (identifier k) e.regions.items))
+    ∙ of (find (has_page base p) e.regions.items)
+  where
+    of : (o : Option Region)
+        → option_map_or (λ (x : ℕ × Region). x.0) (option_or (option_map (λ (r : Region). (identifier k, r)) o) (find (has base p) (owned_from (k + 1) es))) manager
+        ≡ option_map_or (λ (r : Region). identifier k) o (owner_from base p (k + 1) es)
+    of None = refl
+    of (Some r) = refl
+
+-- the first endpoint has the page, or the owner stands behind it
+pub owner-here : (base p k : ℕ) (e : Endpoint) (es : List Endpoint) → is_some (right_in base e.regions.items p) ≡ true → owner_from base p k (e ∷ es) ≡ identifier k
+owner-here base p k e es some = owner-first base p k e es ∙ of (find (has_page base p) e.regions.items) some
+  where
+    of : (o : Option Region) → is_some (option_map (λ (r : Region). r.rights) o) ≡ true → option_map_or (λ (r : Region). identifier k) o (owner_from base p (k + 1) es) ≡ identifier k
+    of None e = absurd (false≢true e)
+    of (Some r) e = refl
+
+pub owner-behind : (base p k : ℕ) (e : Endpoint) (es : List Endpoint) → is_some (right_in base e.regions.items p) ≡ false → owner_from base p k (e ∷ es) ≡ owner_from base p (k + 1) es
+owner-behind base p k e es none = owner-first base p k e es ∙ of (find (has_page base p) e.regions.items) none
+  where
+    of : (o : Option Region) → is_some (option_map (λ (r : Region). r.rights) o) ≡ false → option_map_or (λ (r : Region). identifier k) o (owner_from base p (k + 1) es) ≡ owner_from base p (k + 1) es
+    of None e = refl
+    of (Some r) e = absurd (true≢false e)
+
+-- what is found passes the test, and each test that all pass
+find-passes : {X : Type 0} (test also : X → Bool) (xs : List X) (x : X) → list_all also xs ≡ true → find test xs ≡ Some x → (test x ≡ true) × (also x ≡ true)
+find-passes test also [] x all is = absurd (none_some is)
+  where
+    none_some : None ≡ Some x → ⊥
+    none_some e = cc
+find-passes test also (y ∷ ys) x all is =
+    let (here, rest) = and_parts (also y) (list_all also ys) all in
+    elim (test y) as (λ b. test y ≡ b → cond b (Some y) (find test ys) ≡ Some x → (test x ≡ true) × (also x ≡ true)) [
+      | true ↦ λ passed found. (let same : y ≡ x = cc in (rw same at passed, rw same at here))
+      | false ↦ λ _ found. find-passes test also ys x rest found
+    ] refl is
+
+all-owned : (test : Region → Bool) (k : ℕ) (es : List Endpoint) → list_all test (regions_of es) ≡ true → list_all (λ (x : ℕ × Region). test x.1) (owned_from k es) ≡ true
+all-owned test k [] h = refl
+all-owned test k (e ∷ es) h =
+    let (here, rest) = and_parts (list_all test e.regions.items) (list_all test (regions_of es)) (sym (list_all-append test e.regions.items (regions_of es)) ∙ h) in
+    list_all-append (λ (x : ℕ × Region). test x.1) (map (λ (r : Region). (identifier k, r)) e.regions.items) (owned_from (k + 1) es)
+    ∙ rw (list_all-map (λ (x : ℕ × Region). test x.1) (λ (r : Region). (identifier k, r)) e.regions.items, here) (all-owned test (k + 1) es rest)
+
+-- a page that an endpoint owns lies behind the table pages
+pub owned-behind : (base blocks n : ℕ) (es : List Endpoint) (p : ℕ) (bytes : List ℕ) (page : Page)
+    → list_all (is_placed base blocks n) (regions_of es) ≡ true → page_with_bytes base es p bytes ≡ Some page → n * table_pages blocks ≤ p
+owned-behind base blocks n es p bytes page placed is = of (find (has base p) (owned_regions es)) refl is
+  where
+    of : (o : Option (ℕ × Region)) → find (has base p) (owned_regions es) ≡ o
+        → option_map (λ (x : ℕ × Region). let q : Page = record { owner = x.0; base = x.1.rights; bytes = bytes } in q) o ≡ Some page → n * table_pages blocks ≤ p
+    of None _ none = absurd (none_some none)
+      where
+        none_some : None ≡ Some page → ⊥
+        none_some e = cc
+    of (Some x) found _ =
+        let (there, placed_x) = find-passes (has base p) (λ (y : ℕ × Region). is_placed base blocks n y.1) (owned_regions es) x (all-owned (is_placed base blocks n) 0 es placed) found in
+        let behind : tables_end base blocks n ≤ x.1.base = grind (arith, nat_tests, placed_x) in
+        let low : x.1.base ≤ base + 4096 * p = grind (arith, nat_tests, there) in
+        omega arith

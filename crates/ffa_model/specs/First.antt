@@ -1,5 +1,5 @@
 -- The state in which the machine of an accepted manifest starts.
-use Rattle.std.specs.Prelude.{ℕ, zero, suc, ◌+◌, ◌*◌, Bool, ◌&&◌, nat_le, nat_lt, not, ◌==◌, List, length, map, replicate, find, Option, None}
+use Rattle.std.specs.Prelude.{ℕ, zero, suc, ◌*◌, Bool, ◌&&◌, not, ◌==◌, List, length, map, replicate, find, Option, None}
 use Rattle.std.specs.Option.{option_map}
 use Rattle.std.specs.List.{enumerate_from, flat_map}
 use Rattle.std.specs.FinMap as map_of

@@ -15,6 +15,7 @@ pub mod First
 pub mod Access
 pub mod Calls
 pub mod Memory
+pub mod Refusals
 pub mod Setup
 pub mod Step
 pub mod Agreement

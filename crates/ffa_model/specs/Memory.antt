@@ -1,5 +1,5 @@
 -- Bytes of pages, and the runner's loads, stores and fetches: alignment, then translation, then permission.
-use Rattle.std.specs.Prelude.{ℕ, ◌+◌, ◌-◌, ◌/◌, ◌%◌, ◌^◌, ◌==◌, Bool, true, ◌&&◌, nat_lt, nat_le, List, [], ◌++◌, take, drop, length, Option, Some, None, is_some, slice_set, if◌then◌else◌}
+use Rattle.std.specs.Prelude.{ℕ, ◌-◌, ◌/◌, ◌%◌, ◌^◌, ◌==◌, Bool, true, ◌&&◌, nat_lt, nat_le, List, [], Option, Some, None, is_some, slice_set, if◌then◌else◌}
 use Rattle.byteorder.specs.Endian.{little_bytes}
 use Rattle.std.specs.Option.{option_map, option_map_or, option_and_then}
 use Rattle.ffa_model.specs.declared.rights.Rights.{Rights}

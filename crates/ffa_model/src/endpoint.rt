@@ -12,6 +12,9 @@ use bitflags::{Flag, Flags, bitflag_items};
 pub struct EndpointId(pub u16);
 
 impl EndpointId {
+    /// The manager itself, which is no endpoint.
+    pub const MANAGER: EndpointId = EndpointId(0x8000);
+
     /// The identifier of the endpoint at a place in the manifest, from 0.
     pub fn at(place: usize) -> EndpointId
         requires { place < 0x8000 }

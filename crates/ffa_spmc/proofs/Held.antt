@@ -11,13 +11,13 @@ use Rattle.ffa_model.specs.declared.endpoint.EndpointId.{EndpointId}
 use Rattle.ffa_model.specs.declared.manifest.Manifest.{Manifest}
 use Rattle.ffa_model.specs.Identifiers.{identifier}
 use Rattle.ffa_model.specs.Ram.{Ram, page_of}
-use Rattle.ffa_model.specs.Regions.{right_in, has_page}
+use Rattle.ffa_model.specs.Regions.{right_in, regions_at}
 use Rattle.ffa_model.specs.State.{State, Page, Transaction, page_at}
 use Rattle.ffa_model.specs.Access.{access, is_naming, transaction_at, right_of}
 use Rattle.ffa_model.specs.First.{first, party_of, owned_regions}
 use Rattle.ffa_model.proofs.Listed.{length-listed, get_or-listed, get_or-listed_past}
 use Rattle.ffa_model.proofs.Accepted.{accepted}
-use Rattle.ffa_model.proofs.Owners.{regions_at, right-own}
+use Rattle.ffa_model.proofs.Owners.{right-own}
 use Rattle.ffa_spmc.specs.Meaning.{held_page, state_of}
 
 find_none : (test : ℕ → Bool) (xs : List ℕ) → ((x : ℕ) → test x ≡ false) → find test xs ≡ None

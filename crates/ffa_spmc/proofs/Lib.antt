@@ -1,2 +1,4 @@
 pub mod Held
 pub mod Reaches
+pub mod Agreements
+pub mod Stores
