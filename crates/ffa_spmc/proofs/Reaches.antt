@@ -34,7 +34,7 @@ access-owned s e p r is = elim (page_at s p) as (λ o. page_at s p ≡ o → rig
     none_some : None ≡ Some r → ⊥
     none_some e = cc
 
-owned-in : (s : State) (p : ℕ) (page : Page) → page_at s p ≡ Some page → p < length s.pages
+pub owned-in : (s : State) (p : ℕ) (page : Page) → page_at s p ≡ Some page → p < length s.pages
 owned-in s p page there = elim (cases_lt p (length s.pages)) [
   | inl lt ↦ lt
   | inr past ↦ absurd (none_some (sym (get_or_past s.pages p None past) ∙ there))
