@@ -12,11 +12,10 @@ use Rattle.ffa_model.specs.Agreement.{Agrees, blocks_of, root}
 use Rattle.ffa_model.specs.Identifiers.{identifier}
 use Rattle.ffa_model.specs.Manifest.{root_of}
 use Rattle.ffa_model.specs.Ram.{Ram, page_of}
-use Rattle.ffa_model.specs.Regions.{has_page, right_in, regions_at}
+use Rattle.ffa_model.specs.Regions.{has_page, right_in, regions_at, owned_regions}
 use Rattle.ffa_model.specs.Walk.{walk, granted, is_in_ram}
 use Rattle.ffa_model.specs.State.{State, Page, page_at}
 use Rattle.ffa_model.specs.Access.{access}
-use Rattle.ffa_model.specs.First.{owned_regions}
 use Rattle.ffa_model.specs.Memory.{access_at}
 use Rattle.ffa_model.proofs.Accepted.{accepted}
 use Rattle.ffa_spmc.specs.Meaning.{held_page, state_of}

@@ -14,7 +14,7 @@ use Rattle.ffa_model.specs.Ram.{Ram, page_of}
 use Rattle.ffa_model.specs.Regions.{right_in, regions_at}
 use Rattle.ffa_model.specs.State.{State, Page, Transaction, page_at}
 use Rattle.ffa_model.specs.Access.{access, is_naming, transaction_at, right_of}
-use Rattle.ffa_model.specs.First.{first, party_of, owned_regions}
+use Rattle.ffa_model.specs.First.{first, party_of}
 use Rattle.ffa_model.proofs.Listed.{length-listed, get_or-listed, get_or-listed_past}
 use Rattle.ffa_model.proofs.Accepted.{accepted}
 use Rattle.ffa_model.proofs.Owners.{right-own}

@@ -14,9 +14,9 @@ use Rattle.ffa_model.specs.Lists.{listed}
 use Rattle.ffa_model.specs.Manifest.{is_placed, regions_of, table_pages, tables_end}
 use Rattle.ffa_model.specs.Memory.{page_with, written}
 use Rattle.ffa_model.specs.Ram.{Ram, page_of, with_page, with_bytes}
-use Rattle.ffa_model.specs.Regions.{has_page}
+use Rattle.ffa_model.specs.Regions.{has_page, owned_regions}
 use Rattle.ffa_model.specs.State.{State, Page, page_at}
-use Rattle.ffa_model.specs.First.{owned_regions, page_with_bytes}
+use Rattle.ffa_model.specs.First.{page_with_bytes}
 use Rattle.ffa_model.proofs.Listed.{listed-but}
 use Rattle.ffa_spmc.specs.Meaning.{held_page, state_of}
 use Rattle.ffa_spmc.proofs.Held.{page-in}
