@@ -1,30 +1,30 @@
 -- Loads, fetches and stores of a machine are those of its state.
-use Rattle.std.proofs.Common.{◌≡◌, ◌∙◌, ℕ, ◌+◌, ◌-◌, ◌*◌, ◌/◌, ◌%◌, ◌<◌, ◌≤◌, Bool, true, false, cond, List, [], length, Option, Some, None, Result, Ok, Err, refl, sym, ap, subst, arith}
-use Rattle.std.specs.Prelude.{⊤, ◌==◌, is_some}
+use Rattle.std.proofs.Common.{◌≡◌, ◌∙◌, ℕ, ◌-◌, ◌/◌, ◌%◌, ◌<◌, ◌≤◌, Bool, true, false, List, length, Option, Some, None, Result, Ok, Err, refl, sym, ap, subst, arith}
+use Rattle.std.specs.Prelude.{⊤, ◌==◌}
 use Rattle.byteorder.specs.Endian.{little_bytes}
 use Rattle.ffa_model.specs.declared.endpoint.EndpointId.{EndpointId}
 use Rattle.ffa_model.specs.declared.leaf.Leaf.{Leaf}
 use Rattle.ffa_model.specs.declared.manifest.Manifest.{Manifest}
 use Rattle.ffa_model.specs.declared.operation.FaultKind.{FaultKind}
-use Rattle.ffa_model.specs.declared.operation.FaultKind.TheVariants.{Translation, Permission, Alignment}
+use Rattle.ffa_model.specs.declared.operation.FaultKind.TheVariants.{Translation, Alignment}
 use Rattle.ffa_model.specs.declared.operation.Outcome.{Outcome}
 use Rattle.ffa_model.specs.declared.operation.Outcome.TheVariants.{Data, Done, Fault}
 use Rattle.ffa_model.specs.declared.operation.Size.{Size}
 use Rattle.ffa_model.specs.declared.rights.Rights.{Rights}
-use Rattle.ffa_model.specs.Agreement.{Agrees, root}
+use Rattle.ffa_model.specs.Agreement.{root}
 use Rattle.ffa_model.specs.Identifiers.{identifier, place}
 use Rattle.ffa_model.specs.Memory as memory
 use Rattle.ffa_model.specs.Memory.{access_at, accessed, fault_of, size_of, page_bytes, written}
-use Rattle.ffa_model.specs.Ram.{Ram, page_of, with_page, with_bytes}
-use Rattle.ffa_model.specs.Reach.{at_end, loaded, may_load, may_execute, may_store_to, number_at, reach, store_answer, stored, with_bytes_at, with_bytes_reached}
-use Rattle.ffa_model.specs.Rights.{may_write, may_store, may_fetch}
-use Rattle.ffa_model.specs.State.{State, Page, page_at}
+use Rattle.ffa_model.specs.Ram.{Ram}
+use Rattle.ffa_model.specs.Reach.{at_end, loaded, may_store_to, number_at, reach, store_answer, stored, with_bytes_reached}
+use Rattle.ffa_model.specs.Rights.{may_write, may_store}
+use Rattle.ffa_model.specs.State.{State, page_at}
 use Rattle.ffa_model.proofs.Accepted.{accepted}
 use Rattle.ffa_spmc.specs.Meaning.{IsMachine, state_of}
 use Rattle.ffa_spmc.specs.Snapshot.{Snapshot}
 use Rattle.ffa_spmc.proofs.Held.{base_is, parties_are, size_is}
 use Rattle.ffa_spmc.proofs.Machines.{agrees, machine-written}
-use Rattle.ffa_spmc.proofs.Reaches.{Placed, owned-in, number-is, placed, reach-is, reached}
+use Rattle.ffa_spmc.proofs.Reaches.{owned-in, number-is, placed, reach-is, reached}
 use Rattle.ffa_spmc.proofs.Stores.{state-written}
 
 -- what a load or a fetch that answered this gives
@@ -113,8 +113,8 @@ module _ (ram : Ram) (m : Manifest) (runner : EndpointId) (machine : IsMachine r
       in (
         machine-written ram m runner machine ((address - ram.base) / 4096) ((address - ram.base) % 4096) bytes p.page inside there,
         state-written ram m runner ((address - ram.base) / 4096) ((address - ram.base) % 4096) bytes inside
-        ∙ ap (λ (k : ℕ). written s ((address - ram.base) / 4096) k bytes) at
-        ∙ ap (λ (k : ℕ). written s k (address % 4096) bytes) (sym number),
+            ∙ ap (λ (k : ℕ). written s ((address - ram.base) / 4096) k bytes) at
+            ∙ ap (λ (k : ℕ). written s k (address % 4096) bytes) (sym number),
       )
 
   stored-reached : (address : ℕ) (size : Size) (value : ℕ)

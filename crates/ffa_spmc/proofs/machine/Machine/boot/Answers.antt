@@ -1,24 +1,36 @@
-use Rattle.std.proofs.Common.{rules, true, ◌≡◌, ◌*◌, ◌<◌, ◌≤◌, length, ℕ, ◌+◌, ◌-◌, ◌/◌, ◌%◌, Bool, false, nat_eq, nat_lt, List, [], ◌∷◌, ◌++◌, slice_index_or, slice_set, bit_and, bit_or, Fits, w8, w32, w64, Bor, MutBor}
-use Rattle.ffa_model.specs.Access.{access}
-use Rattle.ffa_model.specs.Agreement.{Agrees, root}
-use Rattle.ffa_model.specs.First.{first}
-use Rattle.ffa_model.specs.Memory as memory
-use Rattle.ffa_model.specs.Identifiers.{place}
-use Rattle.ffa_model.specs.Ram.{zero_ram}
-use Rattle.ffa_model.specs.Refusals.{is_refusal}
-use Rattle.ffa_model.specs.State.{owner_of}
-use Rattle.ffa_model.specs.Step.{serve, step, outcomes, state_after}
-use Rattle.ffa_model.specs.Walk.{is_page_address}
+use Rattle.std.proofs.Common.{◌∙◌, sym, ap, subst}
+use Rattle.ffa_model.specs.declared.manifest.Manifest.{Manifest}
+use Rattle.ffa_model.specs.Agreement.{Agrees}
+use Rattle.ffa_model.specs.Ram.{Ram}
+use Rattle.ffa_spmc.specs.Meaning.{IsMachine, state_of}
+use Rattle.ffa_spmc.proofs.Boots.{machine-first, state-first, zeros-of}
+use Rattle.ffa_spmc.proofs.Machines.{agrees}
 use Rattle.ffa_spmc.proofs.machine.Machine.boot.Goals as goal
 
--- src/machine.rt:53:5
 pub invariant_of-result : goal.invariant_of-result
-invariant_of-result g c = ?
+invariant_of-result g c =
+    let zeros : Ram = g.M.PhysMem.ram c.clear.new.ram in
+    let ram : Ram = g.M.PhysMem.ram c.build.new.memory in
+    let m : Manifest = c.args.manifest.now in
+    let cleared = zeros-of (g.M.PhysMem.ram c.args.ram) zeros m c.clear.ensures c.requires.base c.requires.size in
+    subst (λ (m : Manifest). IsMachine ram m c.at.result) (sym c.copied.ensures)
+    (machine-first zeros ram m c.of.result c.at.result cleared c.of.ensures.base c.of.ensures.blocks c.of.ensures.regions c.build.ensures.built c.build.ensures.rest c.at.ensures)
 
--- src/machine.rt:53:5
 pub returns-clause-state : goal.returns-clause-state
-returns-clause-state g c = ?
+returns-clause-state g c =
+    let zeros : Ram = g.M.PhysMem.ram c.clear.new.ram in
+    let ram : Ram = g.M.PhysMem.ram c.build.new.memory in
+    let m : Manifest = c.args.manifest.now in
+    let cleared = zeros-of (g.M.PhysMem.ram c.args.ram) zeros m c.clear.ensures c.requires.base c.requires.size in
+    ap (λ (m : Manifest). state_of ram m c.at.result) c.copied.ensures
+    ∙ state-first zeros ram m c.of.result c.at.result cleared c.of.ensures.base c.of.ensures.blocks c.of.ensures.regions c.build.ensures.built c.build.ensures.rest c.at.ensures
 
--- src/machine.rt:53:5
 pub returns-clause-agrees : goal.returns-clause-agrees
-returns-clause-agrees g c = ?
+returns-clause-agrees g c =
+    let zeros : Ram = g.M.PhysMem.ram c.clear.new.ram in
+    let ram : Ram = g.M.PhysMem.ram c.build.new.memory in
+    let m : Manifest = c.args.manifest.now in
+    let cleared = zeros-of (g.M.PhysMem.ram c.args.ram) zeros m c.clear.ensures c.requires.base c.requires.size in
+    subst (λ (m : Manifest). Agrees ram (state_of ram m c.at.result)) (sym c.copied.ensures)
+    (agrees ram m c.at.result
+    (machine-first zeros ram m c.of.result c.at.result cleared c.of.ensures.base c.of.ensures.blocks c.of.ensures.regions c.build.ensures.built c.build.ensures.rest c.at.ensures))

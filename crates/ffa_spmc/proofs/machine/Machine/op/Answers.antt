@@ -1,16 +1,10 @@
-use Rattle.std.proofs.Common.{rules, true, ◌≡◌, ◌*◌, ◌<◌, ◌≤◌, length, ℕ, ◌+◌, ◌-◌, ◌/◌, ◌%◌, Bool, false, nat_eq, nat_lt, List, [], ◌∷◌, ◌++◌, slice_index_or, slice_set, bit_and, bit_or, Fits, w8, w32, w64, Bor, MutBor}
-use Rattle.ffa_model.specs.Access.{access}
-use Rattle.ffa_model.specs.Agreement.{Agrees, root}
-use Rattle.ffa_model.specs.First.{first}
-use Rattle.ffa_model.specs.Memory as memory
-use Rattle.ffa_model.specs.Identifiers.{place}
-use Rattle.ffa_model.specs.Ram.{zero_ram}
-use Rattle.ffa_model.specs.Refusals.{is_refusal}
-use Rattle.ffa_model.specs.State.{owner_of}
-use Rattle.ffa_model.specs.Step.{serve, step, outcomes, state_after}
-use Rattle.ffa_model.specs.Walk.{is_page_address}
+use Rattle.std.proofs.Common.{subst}
+use Rattle.ffa_model.specs.Agreement.{Agrees}
+use Rattle.ffa_spmc.specs.Snapshot.{Snapshot}
+use Rattle.ffa_spmc.proofs.Machines.{agrees}
 use Rattle.ffa_spmc.proofs.machine.Machine.op.Goals as goal
 
--- src/machine.rt:174:5
 pub returns-clause-agrees : goal.returns-clause-agrees
-returns-clause-agrees g c = ?
+returns-clause-agrees g c =
+    subst (λ (seen : Snapshot). Agrees seen.ram seen.state) c.self-2.view_is
+    (agrees (g.M.PhysMem.ram c.self-2.inside.ram) c.self-2.inside.manifest c.self-2.inside.runner c.self-2.invariant)
