@@ -27,7 +27,8 @@ fn read_entry<M: PhysMem>(memory: &M, table: u64, index: u64) -> u64
 
 // The table that a word names, which has to be a page of the RAM.
 fn table_of<M: PhysMem>(memory: &M, word: u64) -> Result<u64, FaultKind>
-    ensures value { result ≡ (if walk.is_page_address (M.ram memory.now) (bits 47 12 word * 2 ^ 12) then Ok (bits 47 12 word * 2 ^ 12) else Err OutsideRam) }
+    ensures value { let table = bits 47 12 word * 2 ^ 12 in
+        result ≡ (if walk.is_page_address (M.ram memory.now) table then Ok table else Err OutsideRam) }
     ensures inside { IfOk result (λ table. IsTrue (walk.is_in_ram (M.ram memory.now) table)) }
 {
     let table = (word >> 12) % (1 << 36) * (1 << 12);
