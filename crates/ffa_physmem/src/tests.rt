@@ -2,7 +2,7 @@
 ghost use Rattle.std.specs.Prelude.{◌≡◌};
 ghost use Rattle.ffa_model.specs.Ram.{zero_ram};
 
-use crate::{FlatRam, NoMemory, PhysMem};
+use crate::{FlatRam, PhysMem};
 use ffa_model::PageNo;
 use std::process::Abort;
 use std::test::Fail;
@@ -31,14 +31,5 @@ fn flat_ram(rt: HostRuntime) -> Result<(), Fail> {
     let mut memory = FlatRam::new(rt.alloc(), 0x4000_0000, 2)?;
     assert_eq!(rt; (memory.base(), memory.pages()), (0x4000_0000, 2));
     use_pages(&mut memory, &rt);
-    Ok(())
-}
-
-#[test]
-fn no_memory(rt: HostRuntime) -> Result<(), Fail> {
-    assert_eq!(rt;
-        format!(in rt.alloc(); "{}", NoMemory)?.as_str(),
-        "no memory"
-    );
     Ok(())
 }
