@@ -1,5 +1,5 @@
 //! Where the RAM stands, and which pages of it each endpoint may use from the start.
-ghost use Rattle.std.specs.Prelude.{◌≡◌, ℕ, ◌+◌, ◌*◌, ◌%◌, ◌^◌, ◌<◌, ◌≤◌, IsTrue, map};
+ghost use Rattle.std.specs.Prelude.{◌≡◌, ℕ, ◌+◌, ◌*◌, ◌%◌, ◌^◌, ◌<◌, ◌≤◌};
 ghost use Rattle.arrayvec.specs.ArrayVec.{array_vec_len};
 ghost use Rattle.ffa_model.specs.First.{has_page};
 ghost use Rattle.ffa_model.specs.Manifest.{table_pages};
@@ -94,7 +94,7 @@ impl Layout {
     }
 }
 
-// Whether a region has the page that begins at an address.
+// Whether a region has a page of the RAM that begins at `base`.
 fn reaches(region: &Region, base: u32, page: PageNo) -> bool
     requires { base + 4096 * page.0 < 2 ^ 32 }
     ensures { result ≡ has_page base page.0 region.now }

@@ -1,11 +1,12 @@
-//! The tables: for each endpoint in order a page of level 1, one of level 2, and one of level 3 for each block of 2 MiB.
+//! The tables in RAM's first pages: for each endpoint in order a page of level 1, one of level 2, and one of level 3 for
+//! each block of 2 MiB.
 ghost use Rattle.std.specs.Prelude.{◌≡◌, ℕ, ◌+◌, ◌*◌, ◌<◌, length, Option};
 ghost use Rattle.arrayvec.specs.ArrayVec.{array_vec_len};
 ghost use Rattle.ffa_model.specs.Descriptor.{page_word};
 ghost use Rattle.ffa_model.specs.declared.rights.Rights.{Rights};
-ghost use Rattle.ffa_stage2.specs.Layout.{right_in};
-ghost use Rattle.ffa_stage2.specs.Tables.{IsBuilt, with_right, WalkChanges, KeepsOthers, KeepsRest};
-ghost use Rattle.ffa_stage2.specs.Words.{TablesAre, linked, rights_until};
+ghost use Rattle.ffa_stage2.specs.Layout.{right_in, IsBuiltFor, TablesAreFor, KeepsRestFor};
+ghost use Rattle.ffa_stage2.specs.Tables.{with_right, WalkChanges, KeepsOthers};
+ghost use Rattle.ffa_stage2.specs.Words.{linked, rights_until};
 
 use crate::layout::Layout;
 use ffa_model::{Data, PageNo, Rights};
@@ -41,7 +42,8 @@ pub fn leaf(address: u64, right: Option<Rights>) -> u64
     }
 }
 
-/// Gives one endpoint, named by its place in the manifest, another right to one page.
+/// Gives one endpoint, named by its place in the manifest from 0, another right to one page. No other access changes,
+/// and no byte outside that endpoint's table pages.
 pub fn set_page<M: PhysMem>(
     memory: &mut M,
     layout: &Layout,
@@ -49,11 +51,14 @@ pub fn set_page<M: PhysMem>(
     page: PageNo,
     right: Option<Rights>,
 )
-    requires built { (access : ℕ → ℕ → Option Rights) × IsBuilt (M.ram memory.old) (array_vec_len layout.now.regions) layout.now.blocks access }
+    requires built { (access : ℕ → ℕ → Option Rights) × IsBuiltFor layout.now (M.ram memory.old) access }
     requires index { index < array_vec_len layout.now.regions }
     requires page { page.0 < 512 * layout.now.blocks }
-    ensures built { (access : ℕ → ℕ → Option Rights) → IsBuilt (M.ram memory.old) (array_vec_len layout.now.regions) layout.now.blocks access → IsBuilt (M.ram memory.new) (array_vec_len layout.now.regions) layout.now.blocks (with_right access index page.0 right) }
-    ensures walks { WalkChanges (M.ram memory.old) (M.ram memory.new) (array_vec_len layout.now.regions) layout.now.blocks index page.0 right }
+    ensures built { (access : ℕ → ℕ → Option Rights)
+        → IsBuiltFor layout.now (M.ram memory.old) access
+        → IsBuiltFor layout.now (M.ram memory.new) (with_right access index page.0 right) }
+    ensures walks { WalkChanges (M.ram memory.old) (M.ram memory.new)
+        (array_vec_len layout.now.regions) layout.now.blocks index page.0 right }
     ensures others { KeepsOthers (M.ram memory.old) (M.ram memory.new) layout.now.blocks index }
 {
     let table = layout.table_page(index, 2 + page.0 / 512);
@@ -65,8 +70,8 @@ pub fn set_page<M: PhysMem>(
 fn clear_tables<M: PhysMem>(memory: &mut M, layout: &Layout)
     requires base { (M.ram memory.old).base ≡ layout.now.base }
     requires size { length (M.ram memory.old).pages ≡ 512 * layout.now.blocks }
-    ensures tables { TablesAre (M.ram memory.new) (array_vec_len layout.now.regions) layout.now.blocks (linked layout.now.base layout.now.blocks 0) }
-    ensures rest { KeepsRest (M.ram memory.old) (M.ram memory.new) (array_vec_len layout.now.regions) layout.now.blocks }
+    ensures tables { TablesAreFor layout.now (M.ram memory.new) (linked layout.now.base layout.now.blocks 0) }
+    ensures rest { KeepsRestFor layout.now (M.ram memory.old) (M.ram memory.new) }
 {
     for page in 0..layout.regions.len() as u32 * (2 + layout.blocks) {
         memory.clear_page(PageNo(page));
@@ -77,9 +82,9 @@ fn clear_tables<M: PhysMem>(memory: &mut M, layout: &Layout)
 fn link<M: PhysMem>(memory: &mut M, layout: &Layout, index: usize)
     requires index { index < array_vec_len layout.now.regions }
     requires base { (M.ram memory.old).base ≡ layout.now.base }
-    requires tables { TablesAre (M.ram memory.old) (array_vec_len layout.now.regions) layout.now.blocks (linked layout.now.base layout.now.blocks index) }
-    ensures tables { TablesAre (M.ram memory.new) (array_vec_len layout.now.regions) layout.now.blocks (linked layout.now.base layout.now.blocks (index + 1)) }
-    ensures rest { KeepsRest (M.ram memory.old) (M.ram memory.new) (array_vec_len layout.now.regions) layout.now.blocks }
+    requires tables { TablesAreFor layout.now (M.ram memory.old) (linked layout.now.base layout.now.blocks index) }
+    ensures tables { TablesAreFor layout.now (M.ram memory.new) (linked layout.now.base layout.now.blocks (index + 1)) }
+    ensures rest { KeepsRestFor layout.now (M.ram memory.old) (M.ram memory.new) }
 {
     let top = layout.table_page(index, 0);
     let middle = layout.table_page(index, 1);
@@ -98,9 +103,9 @@ fn link<M: PhysMem>(memory: &mut M, layout: &Layout, index: usize)
 // Gives one endpoint the rights of its regions.
 fn grant<M: PhysMem>(memory: &mut M, layout: &Layout, index: usize)
     requires index { index < array_vec_len layout.now.regions }
-    requires built { IsBuilt (M.ram memory.old) (array_vec_len layout.now.regions) layout.now.blocks (rights_until (right_in layout.now) index 0) }
-    ensures built { IsBuilt (M.ram memory.new) (array_vec_len layout.now.regions) layout.now.blocks (rights_until (right_in layout.now) (index + 1) 0) }
-    ensures rest { KeepsRest (M.ram memory.old) (M.ram memory.new) (array_vec_len layout.now.regions) layout.now.blocks }
+    requires built { IsBuiltFor layout.now (M.ram memory.old) (rights_until (right_in layout.now) index 0) }
+    ensures built { IsBuiltFor layout.now (M.ram memory.new) (rights_until (right_in layout.now) (index + 1) 0) }
+    ensures rest { KeepsRestFor layout.now (M.ram memory.old) (M.ram memory.new) }
 {
     for page in 0..512 * layout.blocks {
         let right = layout.right(index, PageNo(page));
@@ -112,8 +117,8 @@ fn grant<M: PhysMem>(memory: &mut M, layout: &Layout, index: usize)
 fn link_all<M: PhysMem>(memory: &mut M, layout: &Layout)
     requires base { (M.ram memory.old).base ≡ layout.now.base }
     requires size { length (M.ram memory.old).pages ≡ 512 * layout.now.blocks }
-    ensures built { IsBuilt (M.ram memory.new) (array_vec_len layout.now.regions) layout.now.blocks (rights_until (right_in layout.now) 0 0) }
-    ensures rest { KeepsRest (M.ram memory.old) (M.ram memory.new) (array_vec_len layout.now.regions) layout.now.blocks }
+    ensures built { IsBuiltFor layout.now (M.ram memory.new) (rights_until (right_in layout.now) 0 0) }
+    ensures rest { KeepsRestFor layout.now (M.ram memory.old) (M.ram memory.new) }
 {
     clear_tables(memory, layout);
     for index in 0..layout.regions.len() {
@@ -121,13 +126,13 @@ fn link_all<M: PhysMem>(memory: &mut M, layout: &Layout)
     }
 }
 
-/// Builds the tables of all endpoints, where each has the rights of its regions and no other, in a RAM that stands where
-/// the layout says. No page behind the table pages changes.
+/// Builds the tables of all endpoints, where each has the rights of its regions and no other, in a RAM that stands
+/// where the layout says. No page behind the table pages changes.
 pub fn build<M: PhysMem>(memory: &mut M, layout: &Layout)
     requires base { (M.ram memory.old).base ≡ layout.now.base }
     requires size { length (M.ram memory.old).pages ≡ 512 * layout.now.blocks }
-    ensures built { IsBuilt (M.ram memory.new) (array_vec_len layout.now.regions) layout.now.blocks (right_in layout.now) }
-    ensures rest { KeepsRest (M.ram memory.old) (M.ram memory.new) (array_vec_len layout.now.regions) layout.now.blocks }
+    ensures built { IsBuiltFor layout.now (M.ram memory.new) (right_in layout.now) }
+    ensures rest { KeepsRestFor layout.now (M.ram memory.old) (M.ram memory.new) }
 {
     link_all(memory, layout);
     for index in 0..layout.regions.len() {
