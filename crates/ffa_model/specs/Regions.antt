@@ -29,3 +29,7 @@ owned_regions es =
 -- the owner of a page: the endpoint of the region that has it, or the manager
 abbrev pub owner_in : ℕ → List Endpoint → ℕ → ℕ
 owner_in base es p = option_map_or (λ (x : ℕ × Region). x.0) (find (λ (x : ℕ × Region). has_page base p x.1) (owned_regions es)) manager
+
+-- each endpoint's regions, in the endpoints' order
+abbrev pub regions_of_each : List Endpoint → List (List Region)
+regions_of_each es = map (λ (e : Endpoint). e.regions.items) es

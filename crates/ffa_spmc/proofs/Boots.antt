@@ -11,7 +11,7 @@ use Rattle.ffa_model.specs.Identifiers.{identifier, place}
 use Rattle.ffa_model.specs.Lists.{listed}
 use Rattle.ffa_model.specs.Manifest.{table_pages}
 use Rattle.ffa_model.specs.Ram.{Ram, page_of, zero_ram}
-use Rattle.ffa_model.specs.Regions.{regions_at}
+use Rattle.ffa_model.specs.Regions.{regions_at, regions_of_each, right_in as right_among}
 use Rattle.ffa_model.specs.State.{Page}
 use Rattle.ffa_model.specs.First.{first, page_with_bytes}
 use Rattle.ffa_model.proofs.Accepted.{accepted}
@@ -20,7 +20,6 @@ use Rattle.ffa_model.proofs.Owners.{owned-behind}
 use Rattle.ffa_stage2.specs.declared.layout.Layout.{Layout}
 use Rattle.ffa_stage2.specs.declared.layout.Regions.{Regions}
 use Rattle.ffa_stage2.specs.Layout.{regions_in, right_in}
-use Rattle.ffa_stage2.specs.Regions.{right_of, regions_of_each}
 use Rattle.ffa_stage2.specs.Tables.{IsBuilt, KeepsRest, table_page}
 use Rattle.ffa_stage2.proofs.Rights.{built-same}
 use Rattle.ffa_spmc.specs.Meaning.{IsMachine, held_page, own_right, state_of}
@@ -67,8 +66,8 @@ module _ (zeros ram : Ram) (m : Manifest) (layout : Layout) (runner : EndpointId
 
   right-is : (e p : ℕ) → right_in layout e p ≡ own_right m.ram_base es e p
   right-is e p =
-      ap (λ (b : ℕ). right_of b (get_or (regions_in layout) e []) p) base
-      ∙ ap (λ (rs : List Region). right_of m.ram_base rs p) (ap (λ (rss : List (List Region)). get_or rss e []) regions ∙ regions-each es e)
+      ap (λ (b : ℕ). right_among b (get_or (regions_in layout) e []) p) base
+      ∙ ap (λ (rs : List Region). right_among m.ram_base rs p) (ap (λ (rss : List (List Region)). get_or rss e []) regions ∙ regions-each es e)
 
   built-is : IsBuilt ram (length es) m.ram_blocks (own_right m.ram_base es)
   built-is =

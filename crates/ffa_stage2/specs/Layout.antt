@@ -6,7 +6,7 @@ use Rattle.ffa_model.specs.declared.endpoint.Region.{Region}
 use Rattle.ffa_model.specs.declared.rights.Rights.{Rights}
 use Rattle.ffa_stage2.specs.declared.layout.Layout.{Layout}
 use Rattle.ffa_stage2.specs.declared.layout.Regions.{Regions}
-use Rattle.ffa_stage2.specs.Regions.{right_of}
+use Rattle.ffa_model.specs.Regions.{right_in as right_among}
 use Rattle.ffa_stage2.specs.Tables.{IsBuilt, KeepsRest}
 use Rattle.ffa_stage2.specs.Words.{TablesAre}
 
@@ -19,7 +19,7 @@ regions_in layout = lists_of layout.regions.items
 
 -- the right that endpoint e has to page p from the start
 abbrev pub right_in : Layout → ℕ → ℕ → Option Rights
-right_in layout e p = right_of layout.base (slice_index_or (regions_in layout) e []) p
+right_in layout e p = right_among layout.base (slice_index_or (regions_in layout) e []) p
 
 -- the tables of the layout's endpoints stand in the RAM, and endpoint e has `access e p` to page p
 abbrev pub IsBuiltFor : Layout → Ram → (ℕ → ℕ → Option Rights) → Type 0
