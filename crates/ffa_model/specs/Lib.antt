@@ -16,3 +16,5 @@ pub mod Memory
 pub mod Setup
 pub mod Step
 pub mod Agreement
+pub mod TraceLines
+pub mod TraceText

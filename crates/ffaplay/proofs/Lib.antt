@@ -1,0 +1,3 @@
+pub mod LineNumbers
+pub mod LineRegisters
+pub mod LineWords
