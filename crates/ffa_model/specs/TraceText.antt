@@ -50,12 +50,15 @@ bytes_moved (Load addr size) = size_of size
 bytes_moved (Store addr size value) = size_of size
 bytes_moved (Fetch addr) = 4
 
--- what an operation with this outcome prints: data in two digits a byte
-unfoldable pub outcome_text : Op → Outcome → List ℕ
-outcome_text op (Regs runner x) = ended (codes "regs" ++ spaced (hex 4 runner.0) ++ flat_map (λ v. spaced (hex 16 v)) x)
-outcome_text op (Data value) = ended (codes "data" ++ spaced (hex (2 * bytes_moved op) value))
-outcome_text op Done = ended (codes "done")
-outcome_text op (Fault fault) = ended (codes "fault" ++ spaced (fault_name fault))
+-- the words that an operation with this outcome prints: data in two digits a byte
+unfoldable pub outcome_words : Op → Outcome → List ℕ
+outcome_words op (Regs runner x) = codes "regs" ++ spaced (hex 4 runner.0) ++ flat_map (λ v. spaced (hex 16 v)) x
+outcome_words op (Data value) = codes "data" ++ spaced (hex (2 * bytes_moved op) value)
+outcome_words op Done = codes "done"
+outcome_words op (Fault fault) = codes "fault" ++ spaced (fault_name fault)
+
+abbrev pub outcome_text : Op → Outcome → List ℕ
+outcome_text op outcome = ended (outcome_words op outcome)
 
 -- THE TABLE OF ACCESSES
 
@@ -102,9 +105,12 @@ run_text s run =
     codes "pages" ++ spaced (hex 8 (address_of s run.0)) ++ spaced (hex 8 (address_of s run.1 + 4095)) ++ spaced (hex 4 (owner_of s run.0))
     ++ flat_map (λ e. spaced (rights_text (access s e run.0))) (identifiers s))
 
+unfoldable pub runner_text : State → List ℕ
+runner_text s = ended (codes "runner" ++ spaced (hex 4 s.runner))
+
 -- the runner, and the runs
 unfoldable pub show_text : State → List ℕ
-show_text s = ended (codes "runner" ++ spaced (hex 4 s.runner)) ++ flat_map (run_text s) (runs_of s)
+show_text s = runner_text s ++ flat_map (run_text s) (runs_of s)
 
 -- LINES
 

@@ -2,5 +2,8 @@
 #![tactic(auto)]
 
 pub mod line;
+pub mod output;
+pub mod show;
+pub mod text;
 
 fn main() {}
