@@ -1,10 +1,9 @@
 -- What an accepted manifest gives, fact by fact.
-use Rattle.std.proofs.Common.{◌≡◌, ℕ, ◌+◌, ◌*◌, ◌%◌, ◌≤◌, true, List, length, arith}
-use Rattle.std.specs.Prelude.{◌==◌, ◌&&◌, nat_le}
+use Rattle.std.proofs.Common.{◌≡◌, ℕ, ◌%◌, ◌≤◌, true, List, length}
 use Rattle.std.specs.List.{list_all}
 use Rattle.std.proofs.lemmas.Bool.{and_parts, leb-true, eqb-true}
 use Rattle.ffa_model.specs.declared.endpoint.Endpoint.{Endpoint}
-use Rattle.ffa_model.specs.Manifest.{is_accepted, is_ram_base, is_from_to, is_placed, are_identified, are_counted, are_apart, regions_of}
+use Rattle.ffa_model.specs.Manifest.{is_accepted, is_placed, are_identified, are_counted, are_apart, regions_of}
 
 pub record Accepted (base blocks : ℕ) (es : List Endpoint) : Type 0 where
   pub aligned : base % 0x4000000 ≡ 0

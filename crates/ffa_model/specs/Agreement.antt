@@ -4,7 +4,8 @@ use Rattle.std.specs.Prelude.{◌≡◌, ℕ, ◌<◌, ◌/◌, ◌^◌, length,
 use Rattle.ffa_model.specs.Manifest.{root_of}
 use Rattle.ffa_model.specs.Ram.{Ram, page_of}
 use Rattle.ffa_model.specs.Walk.{walk, granted}
-use Rattle.ffa_model.specs.State.{State, Page, identifier, page_at}
+use Rattle.ffa_model.specs.Identifiers.{identifier}
+use Rattle.ffa_model.specs.State.{State, Page, page_at}
 use Rattle.ffa_model.specs.Memory.{access_at}
 
 -- RAM has 512 pages a block

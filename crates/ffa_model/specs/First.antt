@@ -1,5 +1,5 @@
 -- The state in which the machine of an accepted manifest starts.
-use Rattle.std.specs.Prelude.{ℕ, zero, suc, ◌+◌, ◌*◌, Bool, ◌&&◌, nat_le, nat_lt, not, ◌==◌, List, length, map, replicate, find, Option, None}
+use Rattle.std.specs.Prelude.{ℕ, zero, suc, ◌*◌, Bool, ◌&&◌, not, ◌==◌, List, length, map, replicate, find, Option, None}
 use Rattle.std.specs.Option.{option_map}
 use Rattle.std.specs.List.{enumerate_from, flat_map}
 use Rattle.std.specs.FinMap as map_of
@@ -10,13 +10,12 @@ use Rattle.ffa_model.specs.declared.schedule.Status.{Status}
 use Rattle.ffa_model.specs.declared.schedule.Status.TheVariants.{Running, Waiting}
 use Rattle.ffa_model.specs.Bits.{is_set}
 use Rattle.ffa_model.specs.Lists.{listed}
-use Rattle.ffa_model.specs.State.{State, Page, Party, identifier}
+use Rattle.ffa_model.specs.Identifiers.{identifier}
+use Rattle.ffa_model.specs.Regions.{has_page}
+use Rattle.ffa_model.specs.State.{State, Page, Party}
 
 abbrev pub party_of : Endpoint → Party
 party_of e = record { uuid = e.uuid; properties = e.properties.0 }
-
-abbrev pub has_page : ℕ → ℕ → Region → Bool
-has_page base p r = nat_le r.base (base + 4096 * p) && nat_lt (base + 4096 * p) (r.base + 4096 * r.pages)
 
 -- the regions, each with its owner
 abbrev pub owned_regions : List Endpoint → List (ℕ × Region)

@@ -7,12 +7,15 @@ pub mod Machines
 pub mod Descriptor
 pub mod Walk
 pub mod Reach
+pub mod Identifiers
+pub mod Regions
 pub mod State
 pub mod Codes
 pub mod First
 pub mod Access
 pub mod Calls
 pub mod Memory
+pub mod Refusals
 pub mod Setup
 pub mod Step
 pub mod Agreement

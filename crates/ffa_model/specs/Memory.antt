@@ -1,6 +1,6 @@
 -- Bytes of pages, and the runner's loads, stores and fetches: alignment, then translation, then permission.
-use Rattle.std.specs.Prelude.{ℕ, ◌+◌, ◌-◌, ◌/◌, ◌%◌, ◌^◌, ◌==◌, Bool, true, ◌&&◌, nat_lt, nat_le, List, [], ◌++◌, take, drop, length, Option, Some, None, is_some, slice_set, if◌then◌else◌}
-use Rattle.byteorder.specs.Endian.{little_from, little_bytes}
+use Rattle.std.specs.Prelude.{ℕ, ◌-◌, ◌/◌, ◌%◌, ◌^◌, ◌==◌, Bool, true, ◌&&◌, nat_lt, nat_le, List, [], Option, Some, None, is_some, slice_set, if◌then◌else◌}
+use Rattle.byteorder.specs.Endian.{little_bytes}
 use Rattle.std.specs.Option.{option_map, option_map_or, option_and_then}
 use Rattle.ffa_model.specs.declared.rights.Rights.{Rights}
 use Rattle.ffa_model.specs.declared.operation.Size.{Size}
@@ -10,6 +10,7 @@ use Rattle.ffa_model.specs.declared.operation.FaultKind.TheVariants.{Translation
 use Rattle.ffa_model.specs.declared.operation.Outcome.{Outcome}
 use Rattle.ffa_model.specs.declared.operation.Outcome.TheVariants.{Data, Done, Fault}
 use Rattle.ffa_model.specs.Rights.{may_store, may_fetch}
+use Rattle.ffa_model.specs.Ram.{number_in, with_bytes}
 use Rattle.ffa_model.specs.State.{State, Page, page_at}
 use Rattle.ffa_model.specs.Access.{access}
 use Rattle.ffa_model.specs.Calls.{Stepped}
@@ -19,10 +20,6 @@ size_of B1 = 1
 size_of B2 = 2
 size_of B4 = 4
 size_of B8 = 8
-
--- a list with other bytes from a place on
-abbrev pub with_bytes : List ℕ → ℕ → List ℕ → List ℕ
-with_bytes old at bytes = take at old ++ bytes ++ drop (at + length bytes) old
 
 abbrev pub page_bytes : State → ℕ → List ℕ
 page_bytes s p = option_map_or (λ (page : Page). page.bytes) (page_at s p) []
@@ -54,7 +51,7 @@ accessed (Some fault) old new outcome = record { state = old; outcome = Fault fa
 
 -- the number in n bytes at an address, the lowest first
 abbrev pub number_at : State → ℕ → ℕ → ℕ
-number_at s address n = little_from (address % 4096) n (page_bytes s ((address - s.ram_base) / 4096))
+number_at s address n = number_in (page_bytes s ((address - s.ram_base) / 4096)) (address % 4096) n
 
 abbrev pub stored : State → ℕ → List ℕ → State
 stored s address bytes = written s ((address - s.ram_base) / 4096) (address % 4096) bytes

@@ -1,7 +1,7 @@
 -- Loads, stores and fetches over the walk, of any bytes in RAM.
-use Rattle.std.specs.Prelude.{ℕ, ◌-◌, ◌/◌, ◌%◌, Bool, ◌==◌, if◌then◌else◌, List, ◌++◌, take, drop, length, Result, Ok, Err}
-use Rattle.byteorder.specs.Endian.{little_number}
-use Rattle.ffa_model.specs.Ram.{Ram, page_of, with_page}
+use Rattle.std.specs.Prelude.{ℕ, ◌-◌, ◌/◌, ◌%◌, Bool, ◌==◌, if◌then◌else◌, List, Result, Ok, Err, ⊤}
+use Rattle.byteorder.specs.Endian.{little_bytes}
+use Rattle.ffa_model.specs.Ram.{Ram, page_of, with_page, number_in, with_bytes}
 use Rattle.ffa_model.specs.Walk.{Answer, is_in_ram, walk}
 use Rattle.ffa_model.specs.declared.leaf.Leaf.{Leaf}
 use Rattle.ffa_model.specs.declared.operation.FaultKind.{FaultKind}
@@ -16,11 +16,7 @@ offset ram address = (address - ram.base) % 4096
 
 -- the number in the n bytes at a physical address, the lowest first
 abbrev pub number_at : Ram → ℕ → ℕ → ℕ
-number_at ram address n = little_number n (drop (offset ram address) (page_of ram (page_index ram address)))
-
--- a page with other bytes from a place on
-abbrev pub with_bytes : List ℕ → ℕ → List ℕ → List ℕ
-with_bytes page at bytes = take at page ++ (bytes ++ drop (length bytes) (drop at page))
+number_at ram address n = number_in (page_of ram (page_index ram address)) (offset ram address) n
 
 -- the RAM with other bytes from a physical address on, all in one page
 abbrev pub with_bytes_at : Ram → ℕ → List ℕ → Ram
@@ -46,3 +42,25 @@ at_leaf ram allowed (Ok leaf) =
 unfoldable pub reach : Ram → ℕ → ℕ → ℕ → (Leaf → Bool) → Result ℕ FaultKind
 reach ram root address size allowed =
     if address % size == 0 then at_leaf ram allowed (walk ram root address) else Err Alignment
+
+-- what an access answers: something of the physical address where it ends, or the fault
+abbrev pub at_end : {X : Type 0} → (ℕ → X) → Result ℕ FaultKind → Result X FaultKind
+at_end value (Ok physical) = Ok (value physical)
+at_end value (Err fault) = Err fault
+
+-- what a load or a fetch of n bytes gives
+abbrev pub loaded : Ram → ℕ → ℕ → ℕ → (Leaf → Bool) → Result ℕ FaultKind
+loaded ram root address n allowed = at_end (λ physical. number_at ram physical n) (reach ram root address n allowed)
+
+-- whether a store of n bytes is done, or its fault
+abbrev pub store_answer : Ram → ℕ → ℕ → ℕ → Result ⊤ FaultKind
+store_answer ram root address n = at_end (λ physical. tt) (reach ram root address n may_store_to)
+
+-- the RAM with other bytes where an access ends: a fault changes nothing
+abbrev pub with_bytes_reached : Ram → List ℕ → Result ℕ FaultKind → Ram
+with_bytes_reached ram bytes (Ok physical) = with_bytes_at ram physical bytes
+with_bytes_reached ram bytes (Err fault) = ram
+
+-- the RAM after a store of a number's lowest n bytes
+abbrev pub stored : Ram → ℕ → ℕ → ℕ → ℕ → Ram
+stored ram root address n value = with_bytes_reached ram (little_bytes n value) (reach ram root address n may_store_to)

@@ -1,5 +1,4 @@
 -- Setup calls (DEN0077A, 13).
-use Rattle.std.specs.Prelude.{ℕ, List}
 use Rattle.ffa_model.specs.State.{State}
 use Rattle.ffa_model.specs.Calls.{Stepped, replied, success_registers}
 

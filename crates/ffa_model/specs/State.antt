@@ -1,5 +1,5 @@
 -- The state of the small machine: maps, sets and lists by page or endpoint, and no table, slot or stack.
-use Rattle.std.specs.Prelude.{ℕ, zero, suc, ◌+◌, ◌-◌, ◌*◌, ◌==◌, Bool, false, ◌&&◌, ◌||◌, nat_lt, List, length, Option, None, is_some, slice_index, slice_index_or, slice_get}
+use Rattle.std.specs.Prelude.{ℕ, ◌+◌, ◌*◌, ◌==◌, Bool, false, ◌&&◌, ◌||◌, nat_lt, List, length, Option, None, is_some, slice_index, slice_index_or, slice_get}
 use Rattle.std.specs.Ordering.{nat_cmp}
 use Rattle.std.specs.Cmp.Lexicographic.{slice_cmp}
 use Rattle.std.specs.Option.{option_map_or}
@@ -13,6 +13,7 @@ use Rattle.ffa_model.specs.declared.schedule.Status.{Status}
 use Rattle.ffa_model.specs.declared.schedule.Status.TheVariants.{Waiting}
 use Rattle.ffa_model.specs.declared.schedule.Work.{Work}
 use Rattle.ffa_model.specs.Bits.{is_set}
+use Rattle.ffa_model.specs.Identifiers.{manager, identifier, place}
 use Rattle.ffa_model.specs.Lists.{listed}
 
 -- what the manifest says of an endpoint for good
@@ -57,20 +58,8 @@ pub record State : Type 0 where
   pub bound : finite_set.FinSet (slice_cmp nat_cmp)  -- of receiver, class, bit, sender
   pub pending : finite_set.FinSet (slice_cmp nat_cmp)  -- of receiver, class, bit
 
--- the manager's identifier
-abbrev pub manager : ℕ
-manager = 0x8000
-
--- the identifier of the endpoint at a place in the manifest, and the place of an identifier
-abbrev pub identifier : ℕ → ℕ
-identifier zero = 0
-identifier (suc i) = 0x8001 + i
-
 abbrev pub identifiers : State → List ℕ
 identifiers s = listed (length s.parties) identifier
-
-abbrev pub place : ℕ → ℕ
-place e = e - 0x8000
 
 abbrev pub is_partition : State → ℕ → Bool
 is_partition s e = nat_lt 0x8000 e && nat_lt (place e) (length s.parties)
@@ -86,6 +75,10 @@ has_property s e bit = is_set bit (properties_of s e)
 
 abbrev pub page_at : State → ℕ → Option Page
 page_at s p = slice_index_or s.pages p None
+
+-- the owner of a page, which is the manager where it is no endpoint's
+abbrev pub owner_of : State → ℕ → ℕ
+owner_of s p = option_map_or (λ (page : Page). page.owner) (page_at s p) manager
 
 abbrev pub address_of : State → ℕ → ℕ
 address_of s p = s.ram_base + 4096 * p

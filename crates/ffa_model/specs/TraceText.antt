@@ -10,7 +10,7 @@ use Rattle.ffa_model.specs.declared.operation.Outcome.TheVariants.{Regs, Data, D
 use Rattle.ffa_model.specs.declared.operation.FaultKind.{FaultKind}
 use Rattle.ffa_model.specs.declared.operation.FaultKind.TheVariants.{Translation, Permission, Alignment, AccessFlag, OutsideRam}
 use Rattle.ffa_model.specs.Rights.{may_write}
-use Rattle.ffa_model.specs.State.{State, Page, manager, identifiers, page_at, address_of}
+use Rattle.ffa_model.specs.State.{State, identifiers, owner_of, address_of}
 use Rattle.ffa_model.specs.Access.{access}
 use Rattle.ffa_model.specs.Memory.{size_of}
 use Rattle.ffa_model.specs.Step.{step}
@@ -76,10 +76,6 @@ is_same_right None None = true
 is_same_right None (Some b) = false
 is_same_right (Some a) None = false
 is_same_right (Some a) (Some b) = is_same (may_write a.level) (may_write b.level) && is_same a.exec b.exec
-
--- the owner of a page, an endpoint or the manager
-abbrev pub owner_of : State → ℕ → ℕ
-owner_of s p = option_map_or (λ (page : Page). page.owner) (page_at s p) manager
 
 -- two pages that have the same owner, and to which each endpoint has the same access
 unfoldable pub is_alike : State → ℕ → ℕ → Bool

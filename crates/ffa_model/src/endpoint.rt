@@ -1,5 +1,6 @@
 //! Endpoints, pages and regions.
-ghost use Rattle.std.specs.Prelude.{⊤, [], ◌∷◌, codes};
+ghost use Rattle.std.specs.Prelude.{⊤, ◌≡◌, ◌<◌, ◌^◌, [], ◌∷◌, codes};
+ghost use Rattle.ffa_model.specs.Identifiers.{identifier, place};
 
 use crate::rights::Rights;
 use arrayvec::ArrayVec;
@@ -9,6 +10,30 @@ use bitflags::{Flag, Flags, bitflag_items};
 /// the manager itself.
 #[derive(Clone, Copy, Debug, PartialEq, Eq, PartialOrd, Ord, Default)]
 pub struct EndpointId(pub u16);
+
+impl EndpointId {
+    /// The manager itself, which is no endpoint.
+    pub const MANAGER: EndpointId = EndpointId(0x8000);
+
+    /// The identifier of the endpoint at a place in the manifest, from 0.
+    pub fn at(place: usize) -> EndpointId
+        requires { place < 0x8000 }
+        ensures { result.0 ≡ identifier place }
+    {
+        if place == 0 {
+            EndpointId(0)
+        } else {
+            EndpointId(0x8000 + place as u16)
+        }
+    }
+
+    /// The place in the manifest of the endpoint with this identifier, if there is one.
+    pub fn place(self) -> usize
+        ensures { result ≡ place self.0 }
+    {
+        self.0.saturating_sub(0x8000) as usize
+    }
+}
 
 /// The number of a page of 4096 bytes, counted from RAM's first page.
 #[derive(Clone, Copy, Debug, PartialEq, Eq, PartialOrd, Ord, Default)]
@@ -59,10 +84,53 @@ pub struct Region {
     pub rights: Rights,
 }
 
+impl Region {
+    ghost use Rattle.ffa_model.specs.Regions.{has_page};
+
+    /// Whether a page of the RAM at this address is one of the region's.
+    pub fn has_page(&self, ram_base: u32, page: PageNo) -> bool
+        ensures { result ≡ has_page ram_base page.0 self.now }
+    {
+        let address = u64::from(ram_base) + 4096 * u64::from(page.0);
+        let start = u64::from(self.base);
+        start <= address && address < start + 4096 * u64::from(self.pages)
+    }
+}
+
 /// An endpoint as the manifest gives it. The UUID of the normal world is zeros.
 #[derive(Debug, Default, Drop)]
 pub struct Endpoint {
     pub uuid: [u8; 16],
     pub properties: Properties,
     pub regions: ArrayVec<Region, 16>,
+}
+
+impl Endpoint {
+    ghost use Rattle.ffa_model.specs.Regions.{right_in};
+
+    /// The right that the endpoint's regions give it to a page of the RAM at this address.
+    pub fn right_to(&self, ram_base: u32, page: PageNo) -> Option<Rights>
+        ensures { result ≡ right_in ram_base self.now.regions.items page.0 }
+    {
+        self.regions
+            .as_slice()
+            .iter()
+            .find(|region| region.has_page(ram_base, page))
+            .map(|region| region.rights)
+    }
+
+    /// The same endpoint once more. It takes no memory.
+    pub fn copied(&self) -> Endpoint
+        ensures { result ≡ self.now }
+    {
+        let mut regions = ArrayVec::new();
+        for region in self.regions.as_slice() {
+            regions.push(*region);
+        }
+        Endpoint {
+            uuid: self.uuid,
+            properties: self.properties,
+            regions,
+        }
+    }
 }

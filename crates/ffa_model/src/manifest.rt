@@ -41,4 +41,15 @@ impl Manifest {
     {
         self.ram_base + 4096 * (index as u32 * (2 + self.ram_blocks))
     }
+
+    /// The same manifest once more. It takes no memory.
+    pub fn copied(&self) -> Manifest
+        ensures { result ≡ self.now }
+    {
+        let mut endpoints = ArrayVec::new();
+        for endpoint in self.endpoints.as_slice() {
+            endpoints.push(endpoint.copied());
+        }
+        Manifest::of(self.ram_base, self.ram_blocks, endpoints)
+    }
 }

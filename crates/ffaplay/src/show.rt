@@ -2,7 +2,8 @@
 ghost use Rattle.std.specs.Prelude.{◌≡◌, ◌+◌, ◌<◌, ◌≤◌, [], ◌++◌, length};
 ghost use Rattle.std.specs.List.{flat_map, list_all};
 ghost use Rattle.arrayvec.specs.ArrayVec.{array_vec_len};
-ghost use Rattle.ffa_model.specs.State.{identifier, identifiers};
+ghost use Rattle.ffa_model.specs.Identifiers.{identifier};
+ghost use Rattle.ffa_model.specs.State.{identifiers};
 ghost use Rattle.ffa_model.specs.Access.{access};
 ghost use Rattle.ffa_model.specs.TraceText.{spaced, rights_text, is_same_right, is_alike, ends_run, run_text, runner_text, show_text};
 ghost use Rattle.ffaplay.specs.Output.{Writes};
@@ -11,11 +12,11 @@ use crate::output::{self, PlayError};
 use crate::text::{self, CAPACITY, Text};
 use ffa_model::{EndpointId, PageNo, Rights};
 use ffa_physmem::PhysMem;
-use ffa_spmc::{Machine, Stand};
+use ffa_spmc::Machine;
 use std::io::Write;
 
 /// Writes the runner, and the longest runs of pages that have one owner and one access of each endpoint.
-pub fn write_show<M: PhysMem + Drop + Stand, W: Write>(
+pub fn write_show<M: PhysMem + Drop, W: Write>(
     machine: &Machine<M>,
     writer: &mut W,
 ) -> Result<(), PlayError>
@@ -37,7 +38,7 @@ pub fn write_show<M: PhysMem + Drop + Stand, W: Write>(
 }
 
 #[tactic(auto, unfolding(ffa_model::specs::TraceText::runner_text))]
-fn push_runner<M: PhysMem + Drop + Stand>(text: &mut Text, machine: &Machine<M>)
+fn push_runner<M: PhysMem + Drop>(text: &mut Text, machine: &Machine<M>)
     requires { text.old.items ≡ [] }
     ensures { text.new.items ≡ runner_text machine.now.state }
 {
@@ -48,7 +49,7 @@ fn push_runner<M: PhysMem + Drop + Stand>(text: &mut Text, machine: &Machine<M>)
 
 // Appends the run of pages from `first` to `last` to no text yet.
 #[tactic(auto, unfolding(ffa_model::specs::TraceText::run_text))]
-fn push_run<M: PhysMem + Drop + Stand>(text: &mut Text, machine: &Machine<M>, first: u32, last: u32)
+fn push_run<M: PhysMem + Drop>(text: &mut Text, machine: &Machine<M>, first: u32, last: u32)
     requires empty { text.old.items ≡ [] }
     requires first { first < length machine.now.state.pages }
     requires last { last < length machine.now.state.pages }
@@ -65,7 +66,7 @@ fn push_run<M: PhysMem + Drop + Stand>(text: &mut Text, machine: &Machine<M>, fi
 }
 
 // Appends the access of each endpoint to a page.
-fn push_accesses<M: PhysMem + Drop + Stand>(text: &mut Text, machine: &Machine<M>, page: PageNo)
+fn push_accesses<M: PhysMem + Drop>(text: &mut Text, machine: &Machine<M>, page: PageNo)
     requires { array_vec_len text.old ≤ 64 }
     ensures items { text.new.items ≡ text.old.items ++ flat_map (λ e. spaced (rights_text (access machine.now.state e page.0))) (identifiers machine.now.state) }
     ensures room { array_vec_len text.new < CAPACITY }
@@ -75,20 +76,8 @@ fn push_accesses<M: PhysMem + Drop + Stand>(text: &mut Text, machine: &Machine<M
     }
 }
 
-// The identifier of the endpoint at a place in the manifest.
-fn identifier(place: usize) -> EndpointId
-    requires { place < 8 }
-    ensures { result.0 ≡ identifier place }
-{
-    if place == 0 {
-        EndpointId(0)
-    } else {
-        EndpointId(0x8000 + place as u16)
-    }
-}
-
 // The access of the endpoint at a place in the manifest.
-fn access<M: PhysMem + Drop + Stand>(
+fn access<M: PhysMem + Drop>(
     machine: &Machine<M>,
     place: usize,
     page: PageNo,
@@ -96,11 +85,11 @@ fn access<M: PhysMem + Drop + Stand>(
     requires { place < 8 }
     ensures { result ≡ access machine.now.state (identifier place) page.0 }
 {
-    machine.access(identifier(place), page)
+    machine.access(EndpointId::at(place), page)
 }
 
 // Whether a run of pages ends with this one.
-fn ends_run<M: PhysMem + Drop + Stand>(machine: &Machine<M>, page: u32) -> bool
+fn ends_run<M: PhysMem + Drop>(machine: &Machine<M>, page: u32) -> bool
     requires { page < length machine.now.state.pages }
     ensures { result ≡ ends_run machine.now.state page }
 {
@@ -110,7 +99,7 @@ fn ends_run<M: PhysMem + Drop + Stand>(machine: &Machine<M>, page: u32) -> bool
 
 // Whether two pages have the same owner, and each endpoint has the same access to both.
 #[tactic(auto, unfolding(ffa_model::specs::TraceText::is_alike))]
-fn is_alike<M: PhysMem + Drop + Stand>(machine: &Machine<M>, page: PageNo, other: PageNo) -> bool
+fn is_alike<M: PhysMem + Drop>(machine: &Machine<M>, page: PageNo, other: PageNo) -> bool
     requires page { page.0 < length machine.now.state.pages }
     requires other { other.0 < length machine.now.state.pages }
     ensures { result ≡ is_alike machine.now.state page.0 other.0 }
@@ -118,7 +107,7 @@ fn is_alike<M: PhysMem + Drop + Stand>(machine: &Machine<M>, page: PageNo, other
     machine.owner_of(page) == machine.owner_of(other) && has_same_accesses(machine, page, other)
 }
 
-fn has_same_accesses<M: PhysMem + Drop + Stand>(
+fn has_same_accesses<M: PhysMem + Drop>(
     machine: &Machine<M>,
     page: PageNo,
     other: PageNo,

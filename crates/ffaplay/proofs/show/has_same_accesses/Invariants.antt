@@ -1,7 +1,7 @@
 use Rattle.std.proofs.Common.{◌≡◌, true}
 use Rattle.std.specs.List.{list_all}
 use Rattle.ffa_model.specs.Lists.{listed}
-use Rattle.ffa_model.specs.State.{identifier}
+use Rattle.ffa_model.specs.Identifiers.{identifier}
 use Rattle.ffa_model.specs.Access.{access}
 use Rattle.ffa_model.specs.TraceText.{is_same_right}
 use Rattle.ffaplay.proofs.show.has_same_accesses.Given as goal

@@ -1,5 +1,5 @@
 use Rattle.std.proofs.Common.{ℕ, ◌++◌, ap, ◌∙◌, arith}
-use Rattle.ffa_model.specs.State.{identifier}
+use Rattle.ffa_model.specs.Identifiers.{identifier}
 use Rattle.ffa_model.specs.Access.{access}
 use Rattle.ffa_model.specs.TraceText.{spaced, rights_text}
 use Rattle.ffaplay.proofs.Listed.{parts_more}

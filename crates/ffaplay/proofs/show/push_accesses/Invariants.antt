@@ -2,7 +2,7 @@ use Rattle.std.proofs.Common.{◌≡◌, ◌+◌, ◌*◌, ◌++◌}
 use Rattle.std.specs.List.{flat_map}
 use Rattle.arrayvec.specs.ArrayVec.{array_vec_len}
 use Rattle.ffa_model.specs.Lists.{listed}
-use Rattle.ffa_model.specs.State.{identifier}
+use Rattle.ffa_model.specs.Identifiers.{identifier}
 use Rattle.ffa_model.specs.Access.{access}
 use Rattle.ffa_model.specs.TraceText.{spaced, rights_text}
 use Rattle.ffaplay.proofs.show.push_accesses.Given as goal

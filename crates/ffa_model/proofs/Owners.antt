@@ -1,0 +1,219 @@
+-- Who owns a page of an accepted manifest: the endpoint with the one region that has it.
+use Rattle.std.proofs.Common.{◌≡◌, ◌∙◌, ℕ, suc, zero, ◌+◌, ◌*◌, ◌<◌, ◌≤◌, Bool, true, false, cond, List, [], ◌∷◌, ◌++◌, map, Option, Some, None, refl, sym, ap, arith}
+use Rattle.std.specs.Prelude.{◌==◌, find, is_some}
+use Rattle.std.specs.Option.{option_map, option_map_or, option_or}
+use Rattle.std.specs.List.{list_all, flat_map, enumerate_from}
+use Rattle.std.proofs.lemmas.Bool.{true≢false, false≢true, and_parts, eq-eqb}
+use Rattle.std.proofs.lemmas.Bool.Decides.{nat_tests}
+use Rattle.std.proofs.lemmas.List.Folds.{find-append, list_all-append, list_all-map}
+use Rattle.ffa_model.specs.declared.endpoint.Region.{Region}
+use Rattle.ffa_model.specs.declared.endpoint.Endpoint.{Endpoint}
+use Rattle.ffa_model.specs.declared.rights.Rights.{Rights}
+use Rattle.ffa_model.specs.Manifest.{is_apart, are_apart, is_placed, regions_of, table_pages, tables_end}
+use Rattle.ffa_model.specs.Identifiers.{manager, identifier}
+use Rattle.ffa_model.specs.Regions.{has_page, right_in, regions_at}
+use Rattle.ffa_model.specs.State.{Page}
+use Rattle.ffa_model.specs.First.{owned_regions, page_with_bytes}
+use Rattle.ffa_model.specs.Access.{right_of}
+
+-- of two regions that lie apart only one has a page
+apart_one : (base p : ℕ) (r q : Region) → is_apart r q ≡ true → has_page base p r ≡ true → has_page base p q ≡ false
+apart_one base p r q apart here = grind (arith, nat_tests)
+
+none_apart : (base p : ℕ) (r : Region) (qs : List Region) → list_all (is_apart r) qs ≡ true → has_page base p r ≡ true → find (has_page base p) qs ≡ None
+none_apart base p r [] apart here = refl
+none_apart base p r (q ∷ qs) apart here =
+    let (one, rest) = and_parts (is_apart r q) (list_all (is_apart r) qs) apart in
+    ap (λ b. cond b (Some q) (find (has_page base p) qs)) (apart_one base p r q one here) ∙ none_apart base p r qs rest here
+
+-- no list behind a region that has the page has it too
+list_none : (base p : ℕ) (rs qs : List Region) (r : Region) → are_apart (rs ++ qs) ≡ true → find (has_page base p) rs ≡ Some r → find (has_page base p) qs ≡ None
+list_none base p [] qs r apart is = absurd (none_some is)
+  where
+    none_some : None ≡ Some r → ⊥
+    none_some e = cc
+list_none base p (x ∷ rs) qs r apart is =
+    let (here, rest) = and_parts (list_all (is_apart x) (rs ++ qs)) (are_apart (rs ++ qs)) apart in
+    elim (has_page base p x) as (λ b. has_page base p x ≡ b → cond b (Some x) (find (has_page base p) rs) ≡ Some r → find (has_page base p) qs ≡ None) [
+      | true ↦ λ has _. behind rs qs (none_apart base p x (rs ++ qs) here has)
+      | false ↦ λ lacks found. list_none base p rs qs r rest found
+    ] refl is
+  where
+    behind : (ms bs : List Region) → find (has_page base p) (ms ++ bs) ≡ None → find (has_page base p) bs ≡ None
+    behind [] bs none = none
+    behind (a ∷ ms) bs none =
+        elim (has_page base p a) as (λ b. cond b (Some a) (find (has_page base p) (ms ++ bs)) ≡ None → find (has_page base p) bs ≡ None) [
+          | true ↦ λ e. absurd (some_none e)
+          | false ↦ λ e. behind ms bs e
+        ] none
+      where
+        some_none : Some a ≡ None → ⊥
+        some_none e = cc
+
+-- the regions of endpoints whose first stands at place k, each with its owner
+abbrev pub owned_from : ℕ → List Endpoint → List (ℕ × Region)
+owned_from k es = flat_map (λ (x : ℕ × Endpoint). map (λ (r : Region). (identifier x.0, r)) x.1.regions.items) (enumerate_from k es)
+
+abbrev pub has : ℕ → ℕ → ℕ × Region → Bool
+has base p x = has_page base p x.1
+
+-- the base right of a page that was found, where the owner is e
+abbrev right_if : ℕ → Option (ℕ × Region) → Option Rights
+right_if e None = None
+right_if e (Some x) = cond (x.0 == e) (Some x.1.rights) None
+
+find-owned : (base p o : ℕ) (rs : List Region) → find (has base p) (map (λ (r : Region). (o, r)) rs) ≡ option_map (λ (r : Region). (o, r)) (find (has_page base p) rs)
+find-owned base p o [] = refl
+find-owned base p o (r ∷ rs) = elim (has_page base p r) as (λ b. cond b (Some (o, r)) (find (has base p) (map (λ (q : Region). (o, q)) rs)) ≡ option_map (λ (q : Region). (o, q)) (cond b (Some r) (find (has_page base p) rs))) [
+  | true ↦ refl
+  | false ↦ find-owned base p o rs
+]
+
+pub identifier-apart : (i j : ℕ) → (i ≡ j → ⊥) → (identifier i == identifier j) ≡ false
+identifier-apart zero zero h = absurd (h refl)
+identifier-apart zero (suc j) h = grind (arith, nat_tests)
+identifier-apart (suc i) zero h = grind (arith, nat_tests)
+identifier-apart (suc i) (suc j) h = grind (arith, nat_tests)
+
+-- the first endpoint's regions, and then the others'
+right-first : (base p k : ℕ) (e : Endpoint) (es : List Endpoint) (f : ℕ)
+    → right_if f (find (has base p) (owned_from k (e ∷ es)))
+    ≡ right_if f (option_or (option_map (λ (r : Region). (identifier k, r)) (find (has_page base p) e.regions.items)) (find (has base p) (owned_from (k + 1) es)))
+right-first base p k e es f =
+    ap (right_if f) (find-append (has base p) (map (λ (r : Region). (identifier k, r)) e.regions.items) (owned_from (k + 1) es)
+    ∙ ap (λ o. option_or o (find (has base p) (owned_from (k + 1) es))) (find-owned base p (identifier k) e.regions.items))
+
+-- an endpoint that stands before these has none of their pages
+right-before : (base p k i : ℕ) (es : List Endpoint) → i < k → right_if (identifier i) (find (has base p) (owned_from k es)) ≡ None
+right-before base p k i [] lt = refl
+right-before base p k i (e ∷ es) lt =
+    right-first base p k e es (identifier i)
+    ∙ elim (find (has_page base p) e.regions.items) as (λ o. right_if (identifier i) (option_or (option_map (λ (r : Region). (identifier k, r)) o) (find (has base p) (owned_from (k + 1) es))) ≡ None) [
+      | None ↦ right-before base p (k + 1) i es (omega arith)
+      | Some r ↦ ap (λ b. cond b (Some r.rights) None) (identifier-apart k i (λ same. omega arith))
+    ]
+
+-- no region behind has it
+regions-none : (base p i : ℕ) (es : List Endpoint) → find (has_page base p) (regions_of es) ≡ None → right_in base (regions_at es i) p ≡ None
+regions-none base p i [] none = refl
+regions-none base p zero (e ∷ es) none =
+    ap (option_map (λ (r : Region). r.rights)) (or_none (find (has_page base p) e.regions.items) (sym (find-append (has_page base p) e.regions.items (regions_of es)) ∙ none))
+  where
+    or_none : (o : Option Region) → option_or o (find (has_page base p) (regions_of es)) ≡ None → o ≡ None
+    or_none None h = refl
+    or_none (Some r) h = h
+regions-none base p (suc i) (e ∷ es) none =
+    regions-none base p i es (or_none (find (has_page base p) e.regions.items) (sym (find-append (has_page base p) e.regions.items (regions_of es)) ∙ none))
+  where
+    or_none : (o : Option Region) → option_or o (find (has_page base p) (regions_of es)) ≡ None → find (has_page base p) (regions_of es) ≡ None
+    or_none None h = h
+    or_none (Some r) h = absurd (some_none h)
+      where
+        some_none : Some r ≡ None → ⊥
+        some_none e = cc
+
+apart-tail : (rs qs : List Region) → are_apart (rs ++ qs) ≡ true → are_apart qs ≡ true
+apart-tail [] qs h = h
+apart-tail (r ∷ rs) qs h = apart-tail rs qs (and_parts (list_all (is_apart r) (rs ++ qs)) (are_apart (rs ++ qs)) h).1
+
+right-owned : (base p k i : ℕ) (es : List Endpoint) → are_apart (regions_of es) ≡ true
+    → right_if (identifier (k + i)) (find (has base p) (owned_from k es)) ≡ right_in base (regions_at es i) p
+right-owned base p k i [] apart = refl
+right-owned base p k zero (e ∷ es) apart =
+    right-first base p k e es (identifier (k + 0))
+    ∙ elim (find (has_page base p) e.regions.items) as (λ o. right_if (identifier (k + 0)) (option_or (option_map (λ (r : Region). (identifier k, r)) o) (find (has base p) (owned_from (k + 1) es))) ≡ option_map (λ (r : Region). r.rights) o) [
+      | None ↦ right-before base p (k + 1) (k + 0) es (omega arith)
+      | Some r ↦ (let same : (identifier k == identifier (k + 0)) ≡ true = eq-eqb _ _ (ap identifier (omega arith)) in ap (λ b. cond b (Some r.rights) None) same)
+    ]
+right-owned base p k (suc i) (e ∷ es) apart =
+    right-first base p k e es (identifier (k + suc i))
+    ∙ elim (find (has_page base p) e.regions.items) as (λ o. find (has_page base p) e.regions.items ≡ o → right_if (identifier (k + suc i)) (option_or (option_map (λ (r : Region). (identifier k, r)) o) (find (has base p) (owned_from (k + 1) es))) ≡ right_in base (regions_at es i) p) [
+      | None ↦ λ is. (let next : k + suc i ≡ (k + 1) + i = omega arith in
+          ap (λ j. right_if (identifier j) (find (has base p) (owned_from (k + 1) es))) next
+          ∙ right-owned base p (k + 1) i es (apart-tail e.regions.items (regions_of es) apart))
+      | Some r ↦ λ is.
+          ap (λ b. cond b (Some r.rights) None) (identifier-apart k (k + suc i) (λ same. omega arith))
+          ∙ sym (regions-none base p i es (list_none base p e.regions.items (regions_of es) r apart is))
+    ] refl
+
+-- the right of an endpoint to a page that stands in no transaction is that of the endpoint's own regions
+pub right-own : (base : ℕ) (es : List Endpoint) (p i : ℕ) (bytes : List ℕ) → are_apart (regions_of es) ≡ true
+    → right_of (identifier i) (page_with_bytes base es p bytes) None ≡ right_in base (regions_at es i) p
+right-own base es p i bytes apart =
+    of (find (has base p) (owned_regions es))
+    ∙ ap (λ j. right_if (identifier j) (find (has base p) (owned_from 0 es))) (omega arith)
+    ∙ right-owned base p 0 i es apart
+  where
+    of : (o : Option (ℕ × Region)) → right_of (identifier i) (option_map (λ (x : ℕ × Region). record { owner = x.0; base = x.1.rights; bytes = bytes }) o) None ≡ right_if (identifier i) o
+    of None = refl
+    of (Some x) = refl
+
+-- the owner of a page among endpoints whose first stands at place k
+abbrev pub owner_from : ℕ → ℕ → ℕ → List Endpoint → ℕ
+owner_from base p k es = option_map_or (λ (x : ℕ × Region). x.0) (find (has base p) (owned_from k es)) manager
+
+owner-first : (base p k : ℕ) (e : Endpoint) (es : List Endpoint)
+    → owner_from base p k (e ∷ es) ≡ option_map_or (λ (r : Region). identifier k) (find (has_page base p) e.regions.items) (owner_from base p (k + 1) es)
+owner-first base p k e es =
+    ap (λ o. option_map_or (λ (x : ℕ × Region). x.0) o manager)
+    (find-append (has base p) (map (λ (r : Region). (identifier k, r)) e.regions.items) (owned_from (k + 1) es)
+    ∙ ap (λ o. option_or o (find (has base p) (owned_from (k + 1) es))) (find-owned base p (identifier k) e.regions.items))
+    ∙ of (find (has_page base p) e.regions.items)
+  where
+    of : (o : Option Region)
+        → option_map_or (λ (x : ℕ × Region). x.0) (option_or (option_map (λ (r : Region). (identifier k, r)) o) (find (has base p) (owned_from (k + 1) es))) manager
+        ≡ option_map_or (λ (r : Region). identifier k) o (owner_from base p (k + 1) es)
+    of None = refl
+    of (Some r) = refl
+
+-- the first endpoint has the page, or the owner stands behind it
+pub owner-here : (base p k : ℕ) (e : Endpoint) (es : List Endpoint) → is_some (right_in base e.regions.items p) ≡ true → owner_from base p k (e ∷ es) ≡ identifier k
+owner-here base p k e es some = owner-first base p k e es ∙ of (find (has_page base p) e.regions.items) some
+  where
+    of : (o : Option Region) → is_some (option_map (λ (r : Region). r.rights) o) ≡ true → option_map_or (λ (r : Region). identifier k) o (owner_from base p (k + 1) es) ≡ identifier k
+    of None e = absurd (false≢true e)
+    of (Some r) e = refl
+
+pub owner-behind : (base p k : ℕ) (e : Endpoint) (es : List Endpoint) → is_some (right_in base e.regions.items p) ≡ false → owner_from base p k (e ∷ es) ≡ owner_from base p (k + 1) es
+owner-behind base p k e es none = owner-first base p k e es ∙ of (find (has_page base p) e.regions.items) none
+  where
+    of : (o : Option Region) → is_some (option_map (λ (r : Region). r.rights) o) ≡ false → option_map_or (λ (r : Region). identifier k) o (owner_from base p (k + 1) es) ≡ owner_from base p (k + 1) es
+    of None e = refl
+    of (Some r) e = absurd (true≢false e)
+
+-- what is found passes the test, and each test that all pass
+find-passes : {X : Type 0} (test also : X → Bool) (xs : List X) (x : X) → list_all also xs ≡ true → find test xs ≡ Some x → (test x ≡ true) × (also x ≡ true)
+find-passes test also [] x all is = absurd (none_some is)
+  where
+    none_some : None ≡ Some x → ⊥
+    none_some e = cc
+find-passes test also (y ∷ ys) x all is =
+    let (here, rest) = and_parts (also y) (list_all also ys) all in
+    elim (test y) as (λ b. test y ≡ b → cond b (Some y) (find test ys) ≡ Some x → (test x ≡ true) × (also x ≡ true)) [
+      | true ↦ λ passed found. (let same : y ≡ x = cc in (rw same at passed, rw same at here))
+      | false ↦ λ _ found. find-passes test also ys x rest found
+    ] refl is
+
+all-owned : (test : Region → Bool) (k : ℕ) (es : List Endpoint) → list_all test (regions_of es) ≡ true → list_all (λ (x : ℕ × Region). test x.1) (owned_from k es) ≡ true
+all-owned test k [] h = refl
+all-owned test k (e ∷ es) h =
+    let (here, rest) = and_parts (list_all test e.regions.items) (list_all test (regions_of es)) (sym (list_all-append test e.regions.items (regions_of es)) ∙ h) in
+    list_all-append (λ (x : ℕ × Region). test x.1) (map (λ (r : Region). (identifier k, r)) e.regions.items) (owned_from (k + 1) es)
+    ∙ rw (list_all-map (λ (x : ℕ × Region). test x.1) (λ (r : Region). (identifier k, r)) e.regions.items, here) (all-owned test (k + 1) es rest)
+
+-- a page that an endpoint owns lies behind the table pages
+pub owned-behind : (base blocks n : ℕ) (es : List Endpoint) (p : ℕ) (bytes : List ℕ) (page : Page)
+    → list_all (is_placed base blocks n) (regions_of es) ≡ true → page_with_bytes base es p bytes ≡ Some page → n * table_pages blocks ≤ p
+owned-behind base blocks n es p bytes page placed is = of (find (has base p) (owned_regions es)) refl is
+  where
+    of : (o : Option (ℕ × Region)) → find (has base p) (owned_regions es) ≡ o
+        → option_map (λ (x : ℕ × Region). let q : Page = record { owner = x.0; base = x.1.rights; bytes = bytes } in q) o ≡ Some page → n * table_pages blocks ≤ p
+    of None _ none = absurd (none_some none)
+      where
+        none_some : None ≡ Some page → ⊥
+        none_some e = cc
+    of (Some x) found _ =
+        let (there, placed_x) = find-passes (has base p) (λ (y : ℕ × Region). is_placed base blocks n y.1) (owned_regions es) x (all-owned (is_placed base blocks n) 0 es placed) found in
+        let behind : tables_end base blocks n ≤ x.1.base = grind (arith, nat_tests, placed_x) in
+        let low : x.1.base ≤ base + 4096 * p = grind (arith, nat_tests, there) in
+        omega arith

@@ -1,0 +1,6 @@
+use Rattle.std.proofs.Common.{◌≡◌, take}
+use Rattle.ffa_model.proofs.endpoint.Endpoint.copied.Given as goal
+
+-- the regions so far
+abbrev pub invariant-loop-region : goal.invariant-loop-region
+invariant-loop-region l = l.regions.items ≡ take l.region-index l.region-items

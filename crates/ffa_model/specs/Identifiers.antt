@@ -1,0 +1,14 @@
+-- Identifiers of endpoints (DEN0077A, 6.1), and places in the manifest.
+use Rattle.std.specs.Prelude.{ℕ, zero, suc, ◌+◌, ◌-◌}
+
+-- the manager's identifier
+abbrev pub manager : ℕ
+manager = 0x8000
+
+-- the identifier of the endpoint at a place, and the place of an identifier
+abbrev pub identifier : ℕ → ℕ
+identifier zero = 0
+identifier (suc i) = 0x8001 + i
+
+abbrev pub place : ℕ → ℕ
+place e = e - 0x8000

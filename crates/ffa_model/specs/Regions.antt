@@ -1,0 +1,20 @@
+-- The pages of regions.
+use Rattle.std.specs.Prelude.{ℕ, zero, suc, ◌+◌, ◌*◌, Bool, ◌&&◌, nat_le, nat_lt, List, [], ◌∷◌, find, Option}
+use Rattle.std.specs.Option.{option_map}
+use Rattle.ffa_model.specs.declared.endpoint.Region.{Region}
+use Rattle.ffa_model.specs.declared.endpoint.Endpoint.{Endpoint}
+use Rattle.ffa_model.specs.declared.rights.Rights.{Rights}
+
+-- whether page p of the RAM at an address is one of the region's
+abbrev pub has_page : ℕ → ℕ → Region → Bool
+has_page base p r = nat_le r.base (base + 4096 * p) && nat_lt (base + 4096 * p) (r.base + 4096 * r.pages)
+
+-- the right that a list of regions gives to a page
+abbrev pub right_in : ℕ → List Region → ℕ → Option Rights
+right_in base rs p = option_map (λ (r : Region). r.rights) (find (has_page base p) rs)
+
+-- the regions of the endpoint at a place, and those of nobody past the end
+abbrev pub regions_at : List Endpoint → ℕ → List Region
+regions_at [] i = []
+regions_at (e ∷ es) zero = e.regions.items
+regions_at (e ∷ es) (suc i) = regions_at es i

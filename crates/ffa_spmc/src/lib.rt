@@ -1,0 +1,7 @@
+//! The machine of the partition manager: RAM with the tables of all endpoints, and what each operation does.
+#![tactic(auto)]
+
+pub mod machine;
+mod registers;
+
+pub use machine::Machine;

@@ -1,0 +1,202 @@
+//! The machine.
+ghost use Rattle.std.specs.Prelude.{true, ◌≡◌, ◌*◌, ◌<◌, ◌≤◌, length};
+ghost use Rattle.ffa_model.specs.Access.{access};
+ghost use Rattle.ffa_model.specs.Agreement.{Agrees, root};
+ghost use Rattle.ffa_model.specs.First.{first};
+ghost use Rattle.ffa_model.specs.Memory as memory;
+ghost use Rattle.ffa_model.specs.Identifiers.{place};
+ghost use Rattle.ffa_model.specs.Ram.{zero_ram};
+ghost use Rattle.ffa_model.specs.Refusals.{is_refusal};
+ghost use Rattle.ffa_model.specs.State.{owner_of};
+ghost use Rattle.ffa_model.specs.Step.{serve, step, outcomes, state_after};
+ghost use Rattle.ffa_model.specs.Walk.{is_page_address};
+
+use crate::registers::{FFA_ID_GET, error, success};
+use ffa_model::{EndpointId, ErrorCode, Manifest, Op, Outcome, PageNo, Rights, Size};
+use ffa_physmem::PhysMem;
+use ffa_stage2::{Layout, build};
+use std::marker::Model;
+
+/// A machine over any RAM. Contracts see its state, which is that of the small machine, and its RAM with every byte.
+#[derive(Drop)]
+pub struct Machine<M: PhysMem + Drop> {
+    ram: M,
+    manifest: Manifest,
+    runner: EndpointId,
+}
+
+impl<M: PhysMem + Drop> Model for Machine<M> {
+    ghost use Rattle.ffa_spmc.specs.Snapshot.{Snapshot, coded_snapshot};
+
+    ghost Value = { Snapshot };
+
+    ghost coded = { coded_snapshot };
+
+    ghost use Rattle.ffa_spmc.specs.Meaning.{state_of, IsMachine};
+
+    ghost view = { λ m. record { state = state_of (M.ram m.ram) m.manifest m.runner; ram = M.ram m.ram } };
+
+    ghost invariant = { λ m. IsMachine (M.ram m.ram) m.manifest m.runner };
+}
+
+// Fills all pages with zeros.
+fn clear<M: PhysMem>(ram: &mut M)
+    ensures { M.ram ram.new ≡ zero_ram (M.ram ram.old).base (length (M.ram ram.old).pages) }
+{
+    for page in 0..ram.pages() {
+        ram.clear_page(PageNo(page));
+    }
+}
+
+impl<M: PhysMem + Drop> Machine<M> {
+    /// The machine of a manifest in its first state: it clears the RAM and builds the tables.
+    pub fn boot(manifest: &Manifest, ram: M) -> Machine<M>
+        requires base { (M.ram ram).base ≡ manifest.now.ram_base }
+        requires size { length (M.ram ram).pages ≡ 512 * manifest.now.ram_blocks }
+        ensures state { result.state ≡ first manifest.now.ram_base manifest.now.ram_blocks manifest.now.endpoints.items }
+        ensures agrees { Agrees result.ram result.state }
+    {
+        let mut ram = ram;
+        clear(&mut ram);
+        build(&mut ram, &Layout::of(manifest));
+        Machine {
+            ram,
+            manifest: manifest.copied(),
+            runner: EndpointId::at(0),
+        }
+    }
+
+    /// The RAM, whose bytes are all that the machine keeps of tables and data.
+    pub fn ram(&self) -> &M
+        ensures ram { M.ram result.now ≡ self.now.ram }
+        ensures agrees { Agrees (M.ram result.now) self.now.state }
+    {
+        &self.ram
+    }
+
+    /// The endpoint that runs.
+    pub fn runner(&self) -> EndpointId
+        ensures { result.0 ≡ self.now.state.runner }
+    {
+        self.runner
+    }
+
+    /// The number of endpoints, from 1 to 8.
+    pub fn endpoints(&self) -> usize
+        ensures number { result ≡ length self.now.state.parties }
+        ensures some { 1 ≤ result }
+        ensures few { result ≤ 8 }
+    {
+        self.manifest.endpoints.len()
+    }
+
+    /// The owner of a page of the RAM; 0x8000 is the manager.
+    pub fn owner_of(&self, page: PageNo) -> EndpointId
+        requires { page.0 < length self.now.state.pages }
+        ensures { result.0 ≡ owner_of self.now.state page.0 }
+    {
+        for (place, endpoint) in self.manifest.endpoints.as_slice().iter().enumerate() {
+            if endpoint.right_to(self.manifest.ram_base, page).is_some() {
+                return EndpointId::at(place);
+            }
+        }
+        EndpointId::MANAGER
+    }
+
+    /// The right of an endpoint to a page: nothing outside the RAM, or for an endpoint that isn't there.
+    pub fn access(&self, endpoint: EndpointId, page: PageNo) -> Option<Rights>
+        ensures { result ≡ access self.now.state endpoint.0 page.0 }
+    {
+        let place = endpoint.place();
+        if endpoint != EndpointId::at(place) || page.0 >= self.ram.pages() {
+            return None;
+        }
+        self.manifest
+            .endpoints
+            .as_slice()
+            .get(place)?
+            .right_to(self.manifest.ram_base, page)
+    }
+
+    // The root of the runner's table.
+    fn root(&self) -> u32
+        ensures value { result ≡ root self.now.state (place self.now.state.runner) }
+        ensures page { is_page_address self.now.ram result ≡ true }
+    {
+        self.manifest.root(self.runner.place())
+    }
+
+    fn load(&self, addr: u64, size: Size) -> Outcome
+        ensures { result ≡ (memory.load self.now.state addr size).outcome }
+    {
+        match ffa_walker::load(&self.ram, self.root(), addr, size) {
+            Ok(value) => Outcome::Data(value),
+            Err(fault) => Outcome::Fault(fault),
+        }
+    }
+
+    fn fetch(&self, addr: u64) -> Outcome
+        ensures { result ≡ (memory.fetch self.now.state addr).outcome }
+    {
+        match ffa_walker::fetch(&self.ram, self.root(), addr) {
+            Ok(instruction) => Outcome::Data(u64::from(instruction)),
+            Err(fault) => Outcome::Fault(fault),
+        }
+    }
+
+    fn store(&mut self, addr: u64, size: Size, value: u64) -> Outcome
+        ensures outcome { result ≡ (memory.store self.old.state addr size value).outcome }
+        ensures state { self.new.state ≡ (memory.store self.old.state addr size value).state }
+        ensures refused { is_refusal result ≡ true → self.new.ram ≡ self.old.ram }
+    {
+        let root = self.root();
+        match ffa_walker::store(&mut self.ram, root, addr, size, value) {
+            Ok(()) => Outcome::Done,
+            Err(fault) => Outcome::Fault(fault),
+        }
+    }
+
+    // A call of the runner, by the low half of x0. No call that is served today changes the machine.
+    fn call(&self, x: [u64; 8]) -> Outcome
+        ensures outcome { result ≡ (serve self.now.state x).outcome }
+        ensures state { self.now.state ≡ (serve self.now.state x).state }
+    {
+        let runner = self.runner;
+        let function = (x[0] % (1 << 32)) as u32;
+        let x = match function {
+            FFA_ID_GET => success(u32::from(runner.0), 0),
+            _ => error(ErrorCode::NotSupported),
+        };
+        Outcome::Regs { runner, x }
+    }
+
+    /// Does one operation of the runner. A refusal, which is FFA_ERROR or a fault, changes nothing.
+    pub fn op(&mut self, op: &Op) -> Outcome
+        // The outcome and the next state are those of the small machine.
+        ensures outcome { result ≡ (step self.old.state op.now).outcome }
+        ensures state { self.new.state ≡ (step self.old.state op.now).state }
+
+        // Every walk of the new RAM gives exactly the access of the new state, whose bytes it holds.
+        ensures agrees { Agrees self.new.ram self.new.state }
+        ensures refused { is_refusal result ≡ true → self.new ≡ self.old }
+    {
+        match *op {
+            Op::Call(x) => self.call(x),
+            Op::Load { addr, size } => self.load(addr, size),
+            Op::Store { addr, size, value } => self.store(addr, size, value),
+            Op::Fetch { addr } => self.fetch(addr),
+        }
+    }
+
+    /// Does operations one after another, each of the endpoint that runs then, and fills in their outcomes.
+    pub fn run(&mut self, ops: &[Op], filled: &mut [Outcome])
+        requires { length ops.now ≡ length filled.old }
+        ensures outcomes { filled.new ≡ outcomes self.old.state ops.now }
+        ensures state { self.new.state ≡ state_after self.old.state ops.now }
+        ensures agrees { Agrees self.new.ram self.new.state }
+    {
+        for i in 0..ops.len() {
+            filled[i] = self.op(&ops[i]);
+        }
+    }
+}

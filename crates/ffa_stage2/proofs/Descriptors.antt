@@ -1,0 +1,85 @@
+-- What the walk makes of one descriptor.
+use Rattle.std.proofs.Common.{◌≡◌, ℕ, ◌+◌, ◌-◌, ◌*◌, ◌/◌, ◌%◌, ◌^◌, ◌<◌, Bool, true, false, refl, ap, arith, Option, None, Some, Ok, Err}
+use Rattle.std.specs.Prelude.{◌==◌}
+use Rattle.ffa_model.specs.Bits.{bits}
+use Rattle.ffa_model.specs.Ram.{Ram, page_of, word_of}
+use Rattle.ffa_model.specs.Walk.{is_page_address, entry, leaf_of, from_level3, from_level2, from_level1, granted}
+use Rattle.ffa_model.specs.Descriptor.{page_word, table_word}
+use Rattle.ffa_model.specs.declared.operation.FaultKind.TheVariants.{Translation}
+use Rattle.ffa_model.specs.declared.rights.Data.{Data}
+use Rattle.ffa_model.specs.declared.rights.Data.TheVariants.{Ro, Rw}
+use Rattle.ffa_model.specs.declared.rights.Rights.{Rights}
+
+-- a page descriptor by its fields: w is S2AP's upper bit, x is XN
+from_level3-fields : (word f w x address : ℕ) → word ≡ 4096 * f + 1919 + 128 * w + 2 ^ 54 * x → f < 2 ^ 36 → w < 2 → x < 2
+    → from_level3 word address ≡ Ok (record { phys = f * 2 ^ 12 + bits 11 0 address; read = true; write = w == 1; exec = x == 0 })
+unfolding from_level3 leaf_of
+from_level3-fields word f w x address e hf hw hx =
+    let kind : bits 1 0 word ≡ 3 = omega arith in
+    let accessed : bits 10 10 word ≡ 1 = omega arith in
+    let readable : bits 6 6 word ≡ 1 = omega arith in
+    let writable : bits 7 7 word ≡ w = omega arith in
+    let never : bits 54 54 word ≡ x = omega arith in
+    let frame : bits 47 12 word ≡ f = omega arith in
+    rw (kind, accessed, readable, writable, never, frame)
+
+from_level3-some : (level : Data) (exec : Bool) (f address : ℕ) → f < 2 ^ 36
+    → from_level3 (page_word (4096 * f) (Some (record { level = level; exec = exec }))) address
+    ≡ granted (Some (record { level = level; exec = exec })) (f * 2 ^ 12 + bits 11 0 address)
+unfolding page_word granted
+from_level3-some Ro true f address h = from_level3-fields _ f 0 0 address (omega arith) h (omega arith) (omega arith)
+from_level3-some Ro false f address h = from_level3-fields _ f 0 1 address (omega arith) h (omega arith) (omega arith)
+from_level3-some Rw true f address h = from_level3-fields _ f 1 0 address (omega arith) h (omega arith) (omega arith)
+from_level3-some Rw false f address h = from_level3-fields _ f 1 1 address (omega arith) h (omega arith) (omega arith)
+
+-- the descriptor that maps page f to itself
+pub from_level3-page_word : (right : Option Rights) (f address : ℕ) → f < 2 ^ 36
+    → from_level3 (page_word (4096 * f) right) address ≡ granted right (f * 2 ^ 12 + bits 11 0 address)
+unfolding from_level3 page_word granted
+from_level3-page_word None f address h = refl
+from_level3-page_word (Some r) f address h = from_level3-some r.level r.exec f address h
+
+pub from_level2-zero : (ram : Ram) (address : ℕ) → from_level2 ram 0 address ≡ Err Translation
+unfolding from_level2
+from_level2-zero ram address = refl
+
+pub from_level1-zero : (ram : Ram) (address : ℕ) → from_level1 ram 0 address ≡ Err Translation
+unfolding from_level1
+from_level1-zero ram address = refl
+
+-- a descriptor of the table at t
+pub from_level2-table : (ram : Ram) (t address : ℕ) → t < 2 ^ 48 → t % 4096 ≡ 0 → is_page_address ram t ≡ true
+    → from_level2 ram (table_word t) address ≡ from_level3 (entry ram t (bits 20 12 address)) address
+unfolding from_level2
+from_level2-table ram t address h aligned here =
+    let valid : bits 0 0 (t + 3) ≡ 1 = omega arith in
+    let kind : bits 1 1 (t + 3) ≡ 1 = omega arith in
+    let target : bits 47 12 (t + 3) * 2 ^ 12 ≡ t = omega arith in
+    rw (valid, kind, target, here)
+
+pub from_level1-table : (ram : Ram) (t address : ℕ) → t < 2 ^ 48 → t % 4096 ≡ 0 → is_page_address ram t ≡ true
+    → from_level1 ram (table_word t) address ≡ from_level2 ram (entry ram t (bits 29 21 address)) address
+unfolding from_level1
+from_level1-table ram t address h aligned here =
+    let valid : bits 0 0 (t + 3) ≡ 1 = omega arith in
+    let kind : bits 1 1 (t + 3) ≡ 1 = omega arith in
+    let target : bits 47 12 (t + 3) * 2 ^ 12 ≡ t = omega arith in
+    rw (valid, kind, target, here)
+
+-- the words of the table in page p
+pub entry-page : (ram : Ram) (p i : ℕ) → entry ram (ram.base + 4096 * p) i ≡ word_of (page_of ram p) i
+entry-page ram p i =
+    let e : (ram.base + 4096 * p - ram.base) / 4096 ≡ p = omega arith in
+    ap (λ (q : ℕ). word_of (page_of ram q) i) e
+
+page_word-some_fits : (level : Data) (exec : Bool) (address : ℕ) → page_word address (Some (record { level = level; exec = exec })) < 2 ^ 64
+unfolding page_word
+page_word-some_fits Ro true address = omega arith
+page_word-some_fits Ro false address = omega arith
+page_word-some_fits Rw true address = omega arith
+page_word-some_fits Rw false address = omega arith
+
+pub page_word-fits : (right : Option Rights) (address : ℕ) → page_word address right < 2 ^ 64
+unfolding page_word
+page_word-fits None address = omega arith
+page_word-fits (Some r) address = page_word-some_fits r.level r.exec address

@@ -1,0 +1,10 @@
+pub mod Descriptors
+pub mod Places
+pub mod Words
+pub mod Walks
+pub mod Writes
+pub mod Kept
+pub mod Rights
+pub mod Changes
+pub mod Cleared
+pub mod Links

@@ -1,0 +1,110 @@
+-- The walk of built tables gives the access.
+use Rattle.std.proofs.Common.{◌≡◌, ◌∙◌, ℕ, ◌+◌, ◌-◌, ◌*◌, ◌/◌, ◌%◌, ◌^◌, ◌<◌, ◌≤◌, true, false, ap, arith, Option, Err, length, inl, inr}
+use Rattle.std.specs.Prelude.{◌==◌, nat_lt}
+use Rattle.std.proofs.lemmas.Bool.{cases_lt, cases_eq}
+use Rattle.std.proofs.lemmas.Bool.Decides.{nat_tests}
+use Rattle.ffa_model.specs.Bits.{bits}
+use Rattle.ffa_model.specs.Ram.{Ram}
+use Rattle.ffa_model.specs.Manifest.{root_of}
+use Rattle.ffa_model.specs.Descriptor.{page_word}
+use Rattle.ffa_model.specs.Walk.{is_in_ram, entry, from_level3, from_level2, from_level1, walk, granted}
+use Rattle.ffa_model.specs.declared.operation.FaultKind.TheVariants.{Translation}
+use Rattle.ffa_model.specs.declared.rights.Rights.{Rights}
+use Rattle.ffa_stage2.specs.Tables.{IsBuilt, InPages, table_page, table_link, level1_place, level2_place, answer}
+use Rattle.ffa_stage2.proofs.Descriptors.{from_level3-page_word, from_level2-zero, from_level1-zero, from_level2-table, from_level1-table, entry-page}
+use Rattle.ffa_stage2.proofs.Places.{is_in_ram-inside, is_in_ram-outside, table_page-below, table_page-address}
+
+answer-inside : (ram : Ram) (access : ℕ → ℕ → Option Rights) (e p a : ℕ) → a ≡ ram.base + 4096 * p + a % 4096 → p < length ram.pages
+    → granted (access e p) (ram.base + 4096 * p + a % 4096) ≡ answer ram access e a
+answer-inside ram access e p a place h =
+    let here : is_in_ram ram a ≡ true = is_in_ram-inside ram a (omega arith) (omega arith) in
+    let number : (a - ram.base) / 4096 ≡ p = omega arith in
+    rw (here, number, ← place)
+
+answer-outside : (ram : Ram) (access : ℕ → ℕ → Option Rights) (e a : ℕ) → (ram.base ≤ a → a < ram.base + 4096 * length ram.pages → ⊥)
+    → Err Translation ≡ answer ram access e a
+unfolding granted
+answer-outside ram access e a h = let out : is_in_ram ram a ≡ false = is_in_ram-outside ram a h in rw out
+
+module _ (ram : Ram) (n b : ℕ) (access : ℕ → ℕ → Option Rights) (e a : ℕ) (built : IsBuilt ram n b access) (he : e < n) (ha : a < 2 ^ 32) where
+  -- the answer in block k
+  in_pages : (k : ℕ) → k < b → InPages ram b e (access e) k
+      → from_level2 ram (table_link ram.base b e (2 + k)) a
+      ≡ granted (access e (512 * k + bits 20 12 a)) (ram.base + 4096 * (512 * k + bits 20 12 a) + a % 4096)
+  in_pages k hk pages =
+      let j : ℕ = bits 20 12 a in
+      let f : ℕ = ram.base / 4096 + (512 * k + j) in
+      let t : ℕ = ram.base + 4096 * table_page b e (2 + k) in
+      let hj : j < 512 = omega arith in
+      let aligned : ram.base % 0x4000000 ≡ 0 = built.fits.place in
+      let within : ram.base + 0x200000 * b ≤ 2 ^ 32 = built.fits.within in
+      let size : length ram.pages ≡ 512 * b = built.fits.size in
+      let q : ram.base + 4096 * (512 * k + j) ≡ 4096 * f = omega arith in
+      let target : f * 2 ^ 12 + bits 11 0 a ≡ ram.base + 4096 * (512 * k + j) + a % 4096 = omega arith in
+      let small : f < 2 ^ 36 = omega arith in
+      let below : table_page b e (2 + k) < length ram.pages = table_page-below ram n b e (2 + k) built.fits he (omega arith) in
+      from_level2-table ram t a (omega arith) (omega arith) (table_page-address ram n b e (2 + k) built.fits he (omega arith))
+      ∙ ap (λ (w : ℕ). from_level3 w a) (entry-page ram (table_page b e (2 + k)) j ∙ pages.words j hj
+      ∙ ap (λ (x : ℕ). page_word x (access e (512 * k + j))) q)
+      ∙ from_level3-page_word (access e (512 * k + j)) f a small
+      ∙ ap (λ (x : ℕ). granted (access e (512 * k + j)) x) target
+
+  -- from the level 2 page on
+  in_level2 : bits 31 30 a ≡ level1_place ram.base
+      → from_level2 ram (entry ram (ram.base + 4096 * table_page b e 1) (bits 29 21 a)) a ≡ answer ram access e a
+  in_level2 top =
+      let first : ℕ = level2_place ram.base in
+      let j : ℕ = bits 29 21 a in
+      let hj : j < 512 = omega arith in
+      let aligned : ram.base % 0x4000000 ≡ 0 = built.fits.place in
+      let few : b ≤ 32 = built.fits.few in
+      let within : ram.base + 0x200000 * b ≤ 2 ^ 32 = built.fits.within in
+      let size : length ram.pages ≡ 512 * b = built.fits.size in
+      let read = entry-page ram (table_page b e 1) j in
+      elim (cases_lt j first) [
+        | inl low ↦
+            ap (λ (w : ℕ). from_level2 ram w a) (read ∙ built.outside e j he hj (inl low)) ∙ from_level2-zero ram a
+            ∙ answer-outside ram access e a (λ from to. omega arith)
+        | inr from ↦ elim (cases_lt j (first + b)) [
+          | inr high ↦
+              ap (λ (w : ℕ). from_level2 ram w a) (read ∙ built.outside e j he hj (inr high)) ∙ from_level2-zero ram a
+              ∙ answer-outside ram access e a (λ low to. omega arith)
+          | inl below ↦
+              let k : ℕ = j - first in
+              let hk : k < b = omega arith in
+              let jk : j ≡ first + k = omega arith in
+              let pages = built.each e k he hk in
+              ap (λ (w : ℕ). from_level2 ram w a) (ap (λ (i : ℕ). entry ram (ram.base + 4096 * table_page b e 1) i) jk
+              ∙ entry-page ram (table_page b e 1) (first + k) ∙ pages.table)
+              ∙ in_pages k hk pages
+              ∙ answer-inside ram access e (512 * k + bits 20 12 a) a (omega arith) (omega arith)
+        ]
+      ]
+
+  -- the walk of an endpoint's table gives its access, and Translation outside the RAM
+  pub walk-built : walk ram (root_of ram.base b e) a ≡ answer ram access e a
+  unfolding walk
+  walk-built =
+      let base : ℕ = ram.base in
+      let j : ℕ = bits 31 30 a in
+      let hj : j < 512 = omega arith in
+      let aligned : ram.base % 0x4000000 ≡ 0 = built.fits.place in
+      let few : b ≤ 32 = built.fits.few in
+      let within : ram.base + 0x200000 * b ≤ 2 ^ 32 = built.fits.within in
+      let size : length ram.pages ≡ 512 * b = built.fits.size in
+      let fits : nat_lt a (2 ^ 32) ≡ true = grind (arith, nat_tests) in
+      let root : root_of ram.base b e ≡ ram.base + 4096 * table_page b e 0 = omega arith in
+      let word = ap (λ (t : ℕ). entry ram t j) root ∙ entry-page ram (table_page b e 0) j ∙ built.level1 e j he hj in
+      rw fits (elim (cases_eq j (level1_place base)) [
+        | inl top ↦
+            let t : ℕ = base + 4096 * table_page b e 1 in
+            let below : table_page b e 1 < length ram.pages = table_page-below ram n b e 1 built.fits he (omega arith) in
+            let here : (j == level1_place base) ≡ true = grind (arith, nat_tests) in
+            ap (λ (w : ℕ). from_level1 ram w a) (word ∙ rw here)
+            ∙ from_level1-table ram t a (omega arith) (omega arith) (table_page-address ram n b e 1 built.fits he (omega arith))
+            ∙ in_level2 top
+        | inr other ↦
+            let off : (j == level1_place base) ≡ false = grind (arith, nat_tests) in
+            ap (λ (w : ℕ). from_level1 ram w a) (word ∙ rw off) ∙ from_level1-zero ram a
+            ∙ answer-outside ram access e a (λ low high. other (omega arith))
+      ])

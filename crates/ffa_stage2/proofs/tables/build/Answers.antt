@@ -1,0 +1,13 @@
+use Rattle.std.proofs.Common.{arith}
+use Rattle.arrayvec.specs.ArrayVec.{array_vec_len}
+use Rattle.ffa_stage2.specs.Layout.{right_in}
+use Rattle.ffa_stage2.specs.Words.{rights_until}
+use Rattle.ffa_stage2.proofs.Rights.{built-same, rights_until-all}
+use Rattle.ffa_stage2.proofs.tables.build.Goals as goal
+
+pub returns-clause-built : goal.returns-clause-built
+returns-clause-built g c =
+    let l = c.args.layout.now in
+    built-same (g.M.PhysMem.ram c.loop-index.memory) (array_vec_len l.regions) l.blocks (rights_until (right_in l) c.loop-index.index 0) (right_in l)
+    c.loop-index.invariant.built
+    (λ e p he _. rights_until-all (right_in l) c.loop-index.index e p (omega (arith, he)))

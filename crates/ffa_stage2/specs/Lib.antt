@@ -1,0 +1,4 @@
+pub mod Regions
+pub mod Layout
+pub mod Tables
+pub mod Words

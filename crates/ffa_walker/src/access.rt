@@ -1,0 +1,146 @@
+//! Loads, stores and fetches through the walk.
+ghost use Rattle.std.specs.Prelude.{◌≡◌, ℕ, ◌%◌, ◌^◌, ◌<◌, ◌==◌, IsTrue, IfOk, true};
+ghost use Rattle.byteorder.specs.Endian.{little_bytes};
+ghost use Rattle.ffa_model.specs.Memory.{size_of};
+ghost use Rattle.ffa_model.specs.Walk as walk;
+ghost use Rattle.ffa_model.specs.Reach as spec;
+ghost use Rattle.ffa_walker.specs.Need.{needs};
+
+use crate::translation::{is_in_ram, translate};
+use byteorder::{ByteOrder, LittleEndian};
+use ffa_model::{FaultKind, Leaf, PageNo, Size};
+use ffa_physmem::PhysMem;
+
+// What an access needs of the leaf.
+#[derive(Clone, Copy)]
+enum Need {
+    Read,
+    Write,
+    Execute,
+}
+
+impl Need {
+    // Whether the leaf gives it.
+    fn is_given_by(self, leaf: &Leaf) -> bool
+        ensures { result ≡ needs self leaf.now }
+    {
+        match self {
+            Need::Read => leaf.read,
+            Need::Write => leaf.write,
+            Need::Execute => leaf.exec,
+        }
+    }
+}
+
+// Whether an address is a multiple of a size.
+fn is_aligned(address: u64, size: Size) -> bool
+    ensures { result ≡ (address % size_of size == 0) }
+{
+    match size {
+        Size::B1 => true,
+        Size::B2 => address % 2 == 0,
+        Size::B4 => address % 4 == 0,
+        Size::B8 => address % 8 == 0,
+    }
+}
+
+// The physical address where an access ends, in one page with the bytes after it.
+#[tactic(auto, unfolding(ffa_model::specs::Reach::reach))]
+fn reach<M: PhysMem>(
+    memory: &M,
+    root: u32,
+    address: u64,
+    size: Size,
+    need: Need,
+) -> Result<u64, FaultKind>
+    requires root { walk.is_page_address (M.ram memory.now) root ≡ true }
+    ensures value { result ≡ spec.reach (M.ram memory.now) root address (size_of size) (needs need) }
+    ensures aligned { IfOk result (λ physical. physical % size_of size ≡ 0) }
+    ensures inside { IfOk result (λ physical. IsTrue (walk.is_in_ram (M.ram memory.now) physical)) }
+{
+    if !is_aligned(address, size) {
+        return Err(FaultKind::Alignment);
+    }
+    let leaf = translate(memory, root, address)?;
+    if !need.is_given_by(&leaf) {
+        return Err(FaultKind::Permission);
+    }
+    if !is_in_ram(memory, leaf.phys) {
+        return Err(FaultKind::OutsideRam);
+    }
+    Ok(leaf.phys)
+}
+
+// The number in the bytes at a physical address, the lowest first.
+fn read_number<M: PhysMem>(memory: &M, physical: u64, size: Size) -> u64
+    requires inside { IsTrue (walk.is_in_ram (M.ram memory.now) physical) }
+    requires aligned { physical % size_of size ≡ 0 }
+    ensures number { result ≡ spec.number_at (M.ram memory.now) physical (size_of size) }
+    ensures fits { result < 256 ^ size_of size }
+{
+    let place = physical - u64::from(memory.base());
+    let page = memory.page(PageNo((place / 4096) as u32));
+    let bytes = &page[(place % 4096) as usize..];
+    match size {
+        Size::B1 => u64::from(bytes[0]),
+        Size::B2 => u64::from(LittleEndian::read_u16(bytes)),
+        Size::B4 => u64::from(LittleEndian::read_u32(bytes)),
+        Size::B8 => LittleEndian::read_u64(bytes),
+    }
+}
+
+// Writes the lowest bytes of a number at a physical address, the lowest first.
+fn write_number<M: PhysMem>(memory: &mut M, physical: u64, size: Size, value: u64)
+    requires inside { IsTrue (walk.is_in_ram (M.ram memory.old) physical) }
+    requires aligned { physical % size_of size ≡ 0 }
+    ensures { M.ram memory.new ≡ spec.with_bytes_at (M.ram memory.old) physical (little_bytes (size_of size) value) }
+{
+    let place = physical - u64::from(memory.base());
+    let page = memory.page_mut(PageNo((place / 4096) as u32));
+    let bytes = &mut page[(place % 4096) as usize..];
+    match size {
+        Size::B1 => bytes[0] = (value % (1 << 8)) as u8,
+        Size::B2 => LittleEndian::write_u16(bytes, (value % (1 << 16)) as u16),
+        Size::B4 => LittleEndian::write_u32(bytes, (value % (1 << 32)) as u32),
+        Size::B8 => LittleEndian::write_u64(bytes, value),
+    }
+}
+
+/// Loads the number in the bytes at an address, the lowest first. The faults, in this order: `Alignment` where the
+/// address is no multiple of the size, then those of `translate`, `Permission` where the leaf may not be read, and
+/// `OutsideRam` where it leads out of the RAM.
+pub fn load<M: PhysMem>(memory: &M, root: u32, address: u64, size: Size) -> Result<u64, FaultKind>
+    requires root { walk.is_page_address (M.ram memory.now) root ≡ true }
+    ensures loaded { result ≡ spec.loaded (M.ram memory.now) root address (size_of size) spec.may_load }
+{
+    let physical = reach(memory, root, address, size, Need::Read)?;
+    Ok(read_number(memory, physical, size))
+}
+
+/// Fetches the instruction at an address: 4 bytes, the lowest first. The faults are those of `load`, with `Permission`
+/// where the leaf may not be executed.
+pub fn fetch<M: PhysMem>(memory: &M, root: u32, address: u64) -> Result<u32, FaultKind>
+    requires root { walk.is_page_address (M.ram memory.now) root ≡ true }
+    ensures fetched { result ≡ spec.loaded (M.ram memory.now) root address 4 spec.may_execute }
+{
+    let physical = reach(memory, root, address, Size::B4, Need::Execute)?;
+    Ok(read_number(memory, physical, Size::B4) as u32)
+}
+
+/// Stores the lowest bytes of a value at an address, the lowest first, and changes no other byte. The faults are those
+/// of `load`, with `Permission` where the leaf may not be written; they change nothing.
+pub fn store<M: PhysMem>(
+    memory: &mut M,
+    root: u32,
+    address: u64,
+    size: Size,
+    value: u64,
+) -> Result<(), FaultKind>
+    requires root { walk.is_page_address (M.ram memory.old) root ≡ true }
+    ensures answer { result ≡ spec.store_answer (M.ram memory.old) root address (size_of size) }
+    ensures stored { M.ram memory.new ≡ spec.stored (M.ram memory.old) root address (size_of size) value }
+{
+    let physical = reach(memory, root, address, size, Need::Write)?;
+    write_number(memory, physical, size, value);
+    Ok(())
+}

@@ -1,0 +1,9 @@
+//! The stage 2 walk over any bytes in RAM, and loads, stores and fetches through it (DDI 0487, D8.2 and D8.3).
+#![tactic(auto)]
+
+pub mod access;
+pub mod translation;
+
+pub use access::{fetch, load, store};
+pub use ffa_model::{FaultKind, Leaf};
+pub use translation::{is_in_ram, translate};
