@@ -123,16 +123,20 @@ unfoldable pub line_of : List ℕ → Option Line
 line_of [] = Some skip
 line_of (c ∷ bytes) = if c == hash then Some skip else command_of (words_of (c ∷ bytes))
 
-abbrev pub is_line : List ℕ → Bool
-is_line bytes = is_some (line_of bytes)
-
-abbrev pub are_lines : List (List ℕ) → Bool
-are_lines lines = list_all is_line lines
+-- whether the bytes say something, where they are one line
+abbrev pub has_meaning : List ℕ → Bool
+has_meaning bytes = is_some (line_of bytes)
 
 -- INPUTS
 
 abbrev pub has_no_feed : List ℕ → Bool
 has_no_feed bytes = list_all (λ c. not (c == feed)) bytes
+
+abbrev pub is_line : List ℕ → Bool
+is_line bytes = has_no_feed bytes && has_meaning bytes
+
+abbrev pub are_lines : List (List ℕ) → Bool
+are_lines lines = list_all is_line lines
 
 -- lines, each with the LF that ends it
 abbrev pub joined : List (List ℕ) → List ℕ

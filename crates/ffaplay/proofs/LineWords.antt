@@ -5,19 +5,12 @@ use Rattle.std.specs.List.{position_or_len, slice_split, All, before_first, afte
 use Rattle.std.proofs.lemmas.List.{take_rest}
 use Rattle.std.proofs.lemmas.List.Splits.{slice_split_first, slice_split_none, length-slice_split}
 use Rattle.std.proofs.lemmas.List.Quantifiers.{position-Some}
-use Rattle.std.proofs.lemmas.List.Sums.{prefix_len_passes}
-use Rattle.std.proofs.lemmas.Bool.{not-true}
 use Rattle.std.specs.Borrow.{Bor}
 use Rattle.ffa_model.specs.TraceLines.{space, words_of}
+use Rattle.ffaplay.proofs.Positions.{none_pass}
 use Rattle.ffaplay.specs.Parsed.{words_left, at_end}
 use Rattle.ffaplay.specs.declared.line.Line.{Line}
 use Rattle.ffaplay.specs.declared.line.Words.{Words}
-
--- where a list has no place that passes, no element passes
-none_pass : {X : Type 0} (p : X → Bool) (xs : List X) → position p xs ≡ None → All (λ x. p x ≡ false) xs
-none_pass p xs h k d below =
-    let far : length xs ≤ position_or_len p xs = grind arith in
-    not-true (p (get_or xs k d)) (prefix_len_passes (λ x. not (p x)) xs k d (omega arith))
 
 -- no space: all is one word
 pub last_word : (rest : List ℕ) → position (λ c. c == space) rest ≡ None → words_of rest ≡ rest ∷ []

@@ -3,6 +3,7 @@
 
 pub mod line;
 pub mod output;
+pub mod player;
 pub mod show;
 pub mod text;
 
