@@ -1,20 +1,31 @@
 -- Who owns a page of an accepted manifest: the endpoint with the one region that has it.
-use Rattle.std.proofs.Common.{◌≡◌, ◌∙◌, ℕ, suc, zero, ◌+◌, ◌*◌, ◌<◌, ◌≤◌, Bool, true, false, cond, List, [], ◌∷◌, ◌++◌, map, Option, Some, None, refl, sym, ap, arith}
+use Rattle.std.proofs.Common.{◌≡◌, ◌∙◌, ℕ, suc, zero, ◌+◌, ◌*◌, ◌<◌, ◌≤◌, Bool, true, false, cond, List, [], ◌∷◌, ◌++◌, length, get_or, map, Option, Some, None, refl, sym, ap, subst, arith}
 use Rattle.std.specs.Prelude.{◌==◌, find, is_some}
 use Rattle.std.specs.Option.{option_map, option_map_or, option_or}
 use Rattle.std.specs.List.{list_all, flat_map, enumerate_from}
-use Rattle.std.proofs.lemmas.Bool.{true≢false, false≢true, and_parts, eq-eqb}
+use Rattle.std.proofs.lemmas.Bool.{true≢false, false≢true, and_parts, eq-eqb, eqb-true, ne_eqb}
 use Rattle.std.proofs.lemmas.Bool.Decides.{nat_tests}
 use Rattle.std.proofs.lemmas.List.Folds.{find-append, list_all-append, list_all-map}
 use Rattle.ffa_model.specs.declared.endpoint.Region.{Region}
 use Rattle.ffa_model.specs.declared.endpoint.Endpoint.{Endpoint}
 use Rattle.ffa_model.specs.declared.rights.Rights.{Rights}
 use Rattle.ffa_model.specs.Manifest.{is_apart, are_apart, is_placed, regions_of, table_pages, tables_end}
-use Rattle.ffa_model.specs.Identifiers.{manager, identifier}
-use Rattle.ffa_model.specs.Regions.{has_page, right_in, regions_at}
+use Rattle.ffa_model.specs.Identifiers.{manager, identifier, place}
+use Rattle.ffa_model.specs.Regions.{has_page, right_in, regions_at, owned_regions}
 use Rattle.ffa_model.specs.State.{Page}
-use Rattle.ffa_model.specs.First.{owned_regions, page_with_bytes}
+use Rattle.ffa_model.specs.First.{page_with_bytes}
 use Rattle.ffa_model.specs.Access.{right_of}
+
+-- the regions of an endpoint that is there, and of none
+pub regions_at-there : (es : List Endpoint) (i : ℕ) (e : Endpoint) → e ≡ get_or es i e → i < length es → regions_at es i ≡ e.regions.items
+regions_at-there [] i e is lt = absurd (omega arith)
+regions_at-there (x ∷ es) zero e is lt = ap (λ (e : Endpoint). e.regions.items) (sym is)
+regions_at-there (x ∷ es) (suc i) e is lt = regions_at-there es i e is (omega arith)
+
+pub regions_at-past : (es : List Endpoint) (i : ℕ) → length es ≤ i → regions_at es i ≡ []
+regions_at-past [] i past = refl
+regions_at-past (x ∷ es) zero past = absurd (omega arith)
+regions_at-past (x ∷ es) (suc i) past = regions_at-past es i (omega arith)
 
 -- of two regions that lie apart only one has a page
 apart_one : (base p : ℕ) (r q : Region) → is_apart r q ≡ true → has_page base p r ≡ true → has_page base p q ≡ false
@@ -217,3 +228,32 @@ owned-behind base blocks n es p bytes page placed is = of (find (has base p) (ow
         let behind : tables_end base blocks n ≤ x.1.base = grind (arith, nat_tests, placed_x) in
         let low : x.1.base ≤ base + 4096 * p = grind (arith, nat_tests, there) in
         omega arith
+
+-- each owner is the endpoint at its place
+place-identifier : (i : ℕ) → (identifier (place (identifier i)) == identifier i) ≡ true
+place-identifier zero = refl
+place-identifier (suc i) =
+    let at : place (0x8001 + i) ≡ suc i = omega arith in
+    eq-eqb (identifier (place (0x8001 + i))) (0x8001 + i) (ap identifier at)
+
+all-named : (k : ℕ) (es : List Endpoint) → list_all (λ (x : ℕ × Region). identifier (place x.0) == x.0) (owned_from k es) ≡ true
+all-named k [] = refl
+all-named k (e ∷ es) =
+    list_all-append (λ (x : ℕ × Region). identifier (place x.0) == x.0) (map (λ (r : Region). (identifier k, r)) e.regions.items) (owned_from (k + 1) es)
+    ∙ rw (list_all-map (λ (x : ℕ × Region). identifier (place x.0) == x.0) (λ (r : Region). (identifier k, r)) e.regions.items, each e.regions.items) (all-named (k + 1) es)
+  where
+    each : (rs : List Region) → list_all (λ (r : Region). identifier (place (identifier k)) == identifier k) rs ≡ true
+    each [] = refl
+    each (r ∷ rs) = rw (place-identifier k) (each rs)
+
+-- who is no endpoint has no page
+pub right-unnamed : (base : ℕ) (es : List Endpoint) (p e : ℕ) (bytes : List ℕ) → (identifier (place e) ≡ e → ⊥) → right_of e (page_with_bytes base es p bytes) None ≡ None
+right-unnamed base es p e bytes unnamed = of (find (has base p) (owned_regions es)) refl
+  where
+    of : (o : Option (ℕ × Region)) → find (has base p) (owned_regions es) ≡ o
+        → right_of e (option_map (λ (x : ℕ × Region). let q : Page = record { owner = x.0; base = x.1.rights; bytes = bytes } in q) o) None ≡ None
+    of None is = refl
+    of (Some x) is =
+        let named = (find-passes (has base p) (λ (y : ℕ × Region). identifier (place y.0) == y.0) (owned_regions es) x (all-named 0 es) is).1 in
+        let other : (x.0 == e) ≡ false = ne_eqb x.0 e (λ same. unnamed (subst (λ (n : ℕ). identifier (place n) ≡ n) same (eqb-true (identifier (place x.0)) x.0 named))) in
+        ap (λ b. cond b (Some x.1.rights) None) other

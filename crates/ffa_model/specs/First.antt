@@ -1,7 +1,7 @@
 -- The state in which the machine of an accepted manifest starts.
 use Rattle.std.specs.Prelude.{ℕ, zero, suc, ◌*◌, Bool, ◌&&◌, not, ◌==◌, List, length, map, replicate, find, Option, None}
 use Rattle.std.specs.Option.{option_map}
-use Rattle.std.specs.List.{enumerate_from, flat_map}
+use Rattle.std.specs.List.{enumerate_from}
 use Rattle.std.specs.FinMap as map_of
 use Rattle.std.specs.FinSet as finite_set
 use Rattle.ffa_model.specs.declared.endpoint.Region.{Region}
@@ -10,17 +10,11 @@ use Rattle.ffa_model.specs.declared.schedule.Status.{Status}
 use Rattle.ffa_model.specs.declared.schedule.Status.TheVariants.{Running, Waiting}
 use Rattle.ffa_model.specs.Bits.{is_set}
 use Rattle.ffa_model.specs.Lists.{listed}
-use Rattle.ffa_model.specs.Identifiers.{identifier}
-use Rattle.ffa_model.specs.Regions.{has_page}
+use Rattle.ffa_model.specs.Regions.{has_page, owned_regions}
 use Rattle.ffa_model.specs.State.{State, Page, Party}
 
 abbrev pub party_of : Endpoint → Party
 party_of e = record { uuid = e.uuid; properties = e.properties.0 }
-
--- the regions, each with its owner
-abbrev pub owned_regions : List Endpoint → List (ℕ × Region)
-owned_regions es =
-    flat_map (λ (x : ℕ × Endpoint). map (λ (r : Region). (identifier x.0, r)) x.1.regions.items) (enumerate_from 0 es)
 
 -- a page of a region belongs to the region's endpoint, with the region's right as base; all others are the manager's
 abbrev pub page_with_bytes : ℕ → List Endpoint → ℕ → List ℕ → Option Page

@@ -1,6 +1,8 @@
 -- The pages of regions.
-use Rattle.std.specs.Prelude.{ℕ, zero, suc, ◌+◌, ◌*◌, Bool, ◌&&◌, nat_le, nat_lt, List, [], ◌∷◌, find, Option}
-use Rattle.std.specs.Option.{option_map}
+use Rattle.std.specs.Prelude.{ℕ, zero, suc, ◌+◌, ◌*◌, Bool, ◌&&◌, nat_le, nat_lt, List, [], ◌∷◌, map, find, Option}
+use Rattle.std.specs.List.{enumerate_from, flat_map}
+use Rattle.ffa_model.specs.Identifiers.{manager, identifier}
+use Rattle.std.specs.Option.{option_map, option_map_or}
 use Rattle.ffa_model.specs.declared.endpoint.Region.{Region}
 use Rattle.ffa_model.specs.declared.endpoint.Endpoint.{Endpoint}
 use Rattle.ffa_model.specs.declared.rights.Rights.{Rights}
@@ -18,3 +20,16 @@ abbrev pub regions_at : List Endpoint → ℕ → List Region
 regions_at [] i = []
 regions_at (e ∷ es) zero = e.regions.items
 regions_at (e ∷ es) (suc i) = regions_at es i
+
+-- the regions, each with its owner
+abbrev pub owned_regions : List Endpoint → List (ℕ × Region)
+owned_regions es =
+    flat_map (λ (x : ℕ × Endpoint). map (λ (r : Region). (identifier x.0, r)) x.1.regions.items) (enumerate_from 0 es)
+
+-- the owner of a page: the endpoint of the region that has it, or the manager
+abbrev pub owner_in : ℕ → List Endpoint → ℕ → ℕ
+owner_in base es p = option_map_or (λ (x : ℕ × Region). x.0) (find (λ (x : ℕ × Region). has_page base p x.1) (owned_regions es)) manager
+
+-- each endpoint's regions, in the endpoints' order
+abbrev pub regions_of_each : List Endpoint → List (List Region)
+regions_of_each es = map (λ (e : Endpoint). e.regions.items) es

@@ -1,6 +1,7 @@
 //! Endpoints, pages and regions.
 ghost use Rattle.std.specs.Prelude.{⊤, ◌≡◌, ◌<◌, ◌^◌, [], ◌∷◌, codes};
 ghost use Rattle.ffa_model.specs.Identifiers.{identifier, place};
+ghost use Rattle.ffa_model.specs.Regions.{has_page, right_in};
 
 use crate::rights::Rights;
 use arrayvec::ArrayVec;
@@ -85,8 +86,6 @@ pub struct Region {
 }
 
 impl Region {
-    ghost use Rattle.ffa_model.specs.Regions.{has_page};
-
     /// Whether a page of the RAM at this address is one of the region's.
     pub fn has_page(&self, ram_base: u32, page: PageNo) -> bool
         ensures { result ≡ has_page ram_base page.0 self.now }
@@ -106,17 +105,11 @@ pub struct Endpoint {
 }
 
 impl Endpoint {
-    ghost use Rattle.ffa_model.specs.Regions.{right_in};
-
     /// The right that the endpoint's regions give it to a page of the RAM at this address.
     pub fn right_to(&self, ram_base: u32, page: PageNo) -> Option<Rights>
         ensures { result ≡ right_in ram_base self.now.regions.items page.0 }
     {
-        self.regions
-            .as_slice()
-            .iter()
-            .find(|region| region.has_page(ram_base, page))
-            .map(|region| region.rights)
+        right_in(self.regions.as_slice(), ram_base, page)
     }
 
     /// The same endpoint once more. It takes no memory.
@@ -133,4 +126,14 @@ impl Endpoint {
             regions,
         }
     }
+}
+
+/// The right of the first of these regions that has a page of the RAM at this address.
+pub fn right_in(regions: &[Region], ram_base: u32, page: PageNo) -> Option<Rights>
+    ensures { result ≡ right_in ram_base regions.now page.0 }
+{
+    regions
+        .iter()
+        .find(|region| region.has_page(ram_base, page))
+        .map(|region| region.rights)
 }

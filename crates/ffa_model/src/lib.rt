@@ -10,7 +10,7 @@ pub mod rights;
 pub mod schedule;
 pub mod transaction;
 
-pub use endpoint::{Endpoint, EndpointId, PageNo, Properties, Region};
+pub use endpoint::{Endpoint, EndpointId, PageNo, Properties, Region, right_in};
 pub use leaf::Leaf;
 pub use machines::{built_in, row_machine};
 pub use manifest::Manifest;

@@ -1,8 +1,10 @@
 //! The manifest of a machine.
 ghost use Rattle.std.specs.Prelude.{true, ◌≡◌, ◌+◌, ◌*◌, ◌<◌, length};
 ghost use Rattle.ffa_model.specs.Manifest.{is_accepted, root_of};
+ghost use Rattle.ffa_model.specs.Regions.{right_in, regions_at, owner_in};
 
-use crate::endpoint::Endpoint;
+use crate::endpoint::{Endpoint, EndpointId, PageNo};
+use crate::rights::Rights;
 use arrayvec::ArrayVec;
 
 /// A machine's RAM and endpoints, which meet the conditions of an accepted manifest: the RAM's place and size, the
@@ -40,6 +42,30 @@ impl Manifest {
         ensures { result ≡ root_of self.now.ram_base self.now.ram_blocks index }
     {
         self.ram_base + 4096 * (index as u32 * (2 + self.ram_blocks))
+    }
+
+    /// The right that the regions of the endpoint at a place give it to a page; nothing where there is no such endpoint.
+    pub fn right_to(&self, place: usize, page: PageNo) -> Option<Rights>
+        ensures { result ≡ right_in self.now.ram_base (regions_at self.now.endpoints.items place) page.0 }
+    {
+        let endpoints = self.endpoints.as_slice();
+        if place < endpoints.len() {
+            endpoints[place].right_to(self.ram_base, page)
+        } else {
+            None
+        }
+    }
+
+    /// The endpoint with a region that has the page, or the manager.
+    pub fn owner_of(&self, page: PageNo) -> EndpointId
+        ensures { result.0 ≡ owner_in self.now.ram_base self.now.endpoints.items page.0 }
+    {
+        for (place, endpoint) in self.endpoints.as_slice().iter().enumerate() {
+            if endpoint.right_to(self.ram_base, page).is_some() {
+                return EndpointId::at(place);
+            }
+        }
+        EndpointId::MANAGER
     }
 
     /// The same manifest once more. It takes no memory.

@@ -6,3 +6,6 @@ pub mod memory;
 
 pub use flat::{FlatRam, NoMemory};
 pub use memory::{PAGE_SIZE, PhysMem};
+
+#[cfg(test)]
+mod tests;

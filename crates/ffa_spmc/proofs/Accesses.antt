@@ -1,35 +1,41 @@
 -- Loads, fetches and stores of a machine are those of its state.
-use Rattle.std.proofs.Common.{◌≡◌, ◌∙◌, ℕ, ◌+◌, ◌-◌, ◌*◌, ◌/◌, ◌%◌, ◌<◌, ◌≤◌, Bool, true, false, cond, List, [], length, Option, Some, None, Result, Ok, Err, refl, sym, ap, subst, arith}
-use Rattle.std.specs.Prelude.{◌==◌, is_some}
+use Rattle.std.proofs.Common.{◌≡◌, ◌∙◌, ℕ, ◌-◌, ◌/◌, ◌%◌, ◌<◌, ◌≤◌, Bool, true, false, List, length, Option, Some, None, Result, Ok, Err, refl, sym, ap, subst, arith}
+use Rattle.std.specs.Prelude.{⊤, ◌==◌}
 use Rattle.byteorder.specs.Endian.{little_bytes}
 use Rattle.ffa_model.specs.declared.endpoint.EndpointId.{EndpointId}
 use Rattle.ffa_model.specs.declared.leaf.Leaf.{Leaf}
 use Rattle.ffa_model.specs.declared.manifest.Manifest.{Manifest}
 use Rattle.ffa_model.specs.declared.operation.FaultKind.{FaultKind}
-use Rattle.ffa_model.specs.declared.operation.FaultKind.TheVariants.{Translation, Permission, Alignment}
+use Rattle.ffa_model.specs.declared.operation.FaultKind.TheVariants.{Translation, Alignment}
 use Rattle.ffa_model.specs.declared.operation.Outcome.{Outcome}
 use Rattle.ffa_model.specs.declared.operation.Outcome.TheVariants.{Data, Done, Fault}
 use Rattle.ffa_model.specs.declared.operation.Size.{Size}
 use Rattle.ffa_model.specs.declared.rights.Rights.{Rights}
-use Rattle.ffa_model.specs.Agreement.{Agrees, root}
+use Rattle.ffa_model.specs.Agreement.{root}
 use Rattle.ffa_model.specs.Identifiers.{identifier, place}
 use Rattle.ffa_model.specs.Memory as memory
 use Rattle.ffa_model.specs.Memory.{access_at, accessed, fault_of, size_of, page_bytes, written}
-use Rattle.ffa_model.specs.Ram.{Ram, page_of, with_page, with_bytes}
-use Rattle.ffa_model.specs.Reach.{at_end, loaded, may_load, may_execute, may_store_to, number_at, reach, store_answer, stored, with_bytes_at, with_bytes_reached}
-use Rattle.ffa_model.specs.Rights.{may_write, may_store, may_fetch}
-use Rattle.ffa_model.specs.State.{State, Page, page_at}
+use Rattle.ffa_model.specs.Ram.{Ram}
+use Rattle.ffa_model.specs.Reach.{at_end, loaded, may_store_to, number_at, reach, store_answer, stored, with_bytes_reached}
+use Rattle.ffa_model.specs.Rights.{may_write, may_store}
+use Rattle.ffa_model.specs.State.{State, page_at}
 use Rattle.ffa_model.proofs.Accepted.{accepted}
 use Rattle.ffa_spmc.specs.Meaning.{IsMachine, state_of}
+use Rattle.ffa_spmc.specs.Snapshot.{Snapshot}
 use Rattle.ffa_spmc.proofs.Held.{base_is, parties_are, size_is}
 use Rattle.ffa_spmc.proofs.Machines.{agrees, machine-written}
-use Rattle.ffa_spmc.proofs.Reaches.{Placed, owned-in, number-is, placed, reach-is, reached}
+use Rattle.ffa_spmc.proofs.Reaches.{owned-in, number-is, placed, reach-is, reached}
 use Rattle.ffa_spmc.proofs.Stores.{state-written}
 
 -- what a load or a fetch that answered this gives
 abbrev pub outcome_of : Result ℕ FaultKind → Outcome
 outcome_of (Ok value) = Data value
 outcome_of (Err fault) = Fault fault
+
+-- what a store that answered this gives
+abbrev pub done_or_fault : Result ⊤ FaultKind → Outcome
+done_or_fault (Ok done) = Done
+done_or_fault (Err fault) = Fault fault
 
 -- who meets no fault has a right
 right-of : (aligned : Bool) (right : Option Rights) (may : Option Rights → Bool) → fault_of aligned right may ≡ None → (r : Rights) × (right ≡ Some r)
@@ -87,3 +93,84 @@ module _ (ram : Ram) (m : Manifest) (runner : EndpointId) (machine : IsMachine r
           let (r, right) = right-of (address % n == 0) (access_at s runner.0 address) may is in
           let there : access_at s (identifier (place runner.0)) address ≡ Some r = ap (λ (e : ℕ). access_at s e address) machine.named ∙ right in
           ap Data (number-is ram s (agrees ram m runner machine) (place runner.0) known address n r aligned there)
+
+  -- what a store leaves where its access ended so
+  after : (address : ℕ) (bytes : List ℕ) (o : Option FaultKind) (n : ℕ) → fault_of (address % n == 0) (access_at s runner.0 address) may_store ≡ o
+      → IsMachine (with_bytes_reached ram bytes (reached o address)) m runner
+      × (state_of (with_bytes_reached ram bytes (reached o address)) m runner ≡ (accessed o s (memory.stored s address bytes) Done).state)
+  after address bytes (Some fault) n is = (machine, refl)
+  after address bytes None n is =
+      let (r, right) = right-of (address % n == 0) (access_at s runner.0 address) may_store is in
+      let p = placed s runner.0 address r right in
+      let low : s.ram_base ≤ address = p.low in
+      let base : s.ram_base ≡ ram.base = base_is ram m runner ∙ sym machine.base in
+      let number : (address - s.ram_base) / 4096 ≡ (address - ram.base) / 4096 = omega (arith, base) in
+      let whole : s.ram_base % 4096 ≡ 0 = aligned in
+      let at : (address - ram.base) % 4096 ≡ address % 4096 = omega (arith, base, whole, low) in
+      let there : page_at s ((address - ram.base) / 4096) ≡ Some p.page = ap (page_at s) (sym number) ∙ p.there in
+      let inside : (address - ram.base) / 4096 < length ram.pages =
+      subst (λ (n : ℕ). (address - ram.base) / 4096 < n) (size_is ram m runner) (owned-in s ((address - ram.base) / 4096) p.page there)
+      in (
+        machine-written ram m runner machine ((address - ram.base) / 4096) ((address - ram.base) % 4096) bytes p.page inside there,
+        state-written ram m runner ((address - ram.base) / 4096) ((address - ram.base) % 4096) bytes inside
+            ∙ ap (λ (k : ℕ). written s ((address - ram.base) / 4096) k bytes) at
+            ∙ ap (λ (k : ℕ). written s k (address % 4096) bytes) (sym number),
+      )
+
+  stored-reached : (address : ℕ) (size : Size) (value : ℕ)
+      → stored ram runner_root address (size_of size) value
+      ≡ with_bytes_reached ram (little_bytes (size_of size) value) (reached (fault_of (address % size_of size == 0) (access_at s runner.0 address) may_store) address)
+  stored-reached address size value = ap (with_bytes_reached ram (little_bytes (size_of size) value)) (runner-reach address (size_of size) may_store_to may_store (λ r. refl))
+
+  pub store-machine : (address : ℕ) (size : Size) (value : ℕ) → IsMachine (stored ram runner_root address (size_of size) value) m runner
+  store-machine address size value =
+      subst (λ (r : Ram). IsMachine r m runner) (sym (stored-reached address size value))
+      (after address (little_bytes (size_of size) value) (fault_of (address % size_of size == 0) (access_at s runner.0 address) may_store) (size_of size) refl).0
+
+  pub store-state : (address : ℕ) (size : Size) (value : ℕ) → state_of (stored ram runner_root address (size_of size) value) m runner ≡ (memory.store s address size value).state
+  store-state address size value =
+      ap (λ (r : Ram). state_of r m runner) (stored-reached address size value)
+      ∙ (after address (little_bytes (size_of size) value) (fault_of (address % size_of size == 0) (access_at s runner.0 address) may_store) (size_of size) refl).1
+
+  pub store-outcome : (address : ℕ) (size : Size) (value : ℕ) → done_or_fault (store_answer ram runner_root address (size_of size)) ≡ (memory.store s address size value).outcome
+  store-outcome address size value =
+      ap (λ (r : Result ℕ FaultKind). done_or_fault (at_end (λ physical. tt) r)) (runner-reach address (size_of size) may_store_to may_store (λ r. refl))
+      ∙ ending (fault_of (address % size_of size == 0) (access_at s runner.0 address) may_store)
+    where
+      ending : (o : Option FaultKind) → done_or_fault (at_end (λ physical. tt) (reached o address)) ≡ (accessed o s (memory.stored s address (little_bytes (size_of size) value)) Done).outcome
+      ending None = refl
+      ending (Some fault) = refl
+
+  -- The same as callers see it: `now` is what a contract sees of the machine, and r the root that the code took.
+  module _ (now : Snapshot) (view : record { state = s; ram = ram } ≡ now) (r : ℕ) (at : r ≡ root now.state (place now.state.runner)) where
+    root-is-runner : r ≡ runner_root
+    root-is-runner = at ∙ ap (λ (seen : Snapshot). root seen.state (place seen.state.runner)) (sym view)
+
+    pub loaded-seen : (address n : ℕ) (allowed : Leaf → Bool) (may : Option Rights → Bool) (answer : Result ℕ FaultKind)
+        → ((right : Rights) → allowed (record { phys = address; read = true; write = may_write right.level; exec = right.exec }) ≡ may (Some right))
+        → answer ≡ loaded ram r address n allowed
+        → outcome_of answer
+        ≡ (accessed (fault_of (address % n == 0) (access_at now.state now.state.runner address) may) now.state now.state (Data (memory.number_at now.state address n))).outcome
+    loaded-seen address n allowed may answer same is =
+        ap outcome_of (is ∙ ap (λ (q : ℕ). loaded ram q address n allowed) root-is-runner)
+        ∙ loaded-is address n allowed may same
+        ∙ ap (λ (seen : Snapshot). (accessed (fault_of (address % n == 0) (access_at seen.state seen.state.runner address) may) seen.state seen.state (Data (memory.number_at seen.state address n))).outcome) view
+
+    module _ (address : ℕ) (size : Size) (value : ℕ) (new : Ram) (wrote : new ≡ stored ram r address (size_of size) value) where
+      new-is : new ≡ stored ram runner_root address (size_of size) value
+      new-is = wrote ∙ ap (λ (q : ℕ). stored ram q address (size_of size) value) root-is-runner
+
+      pub machine-stored : IsMachine new m runner
+      machine-stored = subst (λ (ram : Ram). IsMachine ram m runner) (sym new-is) (store-machine address size value)
+
+      pub state-stored : state_of new m runner ≡ (memory.store now.state address size value).state
+      state-stored =
+          ap (λ (ram : Ram). state_of ram m runner) new-is ∙ store-state address size value
+          ∙ ap (λ (seen : Snapshot). (memory.store seen.state address size value).state) view
+
+    pub answer-stored : (address : ℕ) (size : Size) (value : ℕ) (answer : Result ⊤ FaultKind) → answer ≡ store_answer ram r address (size_of size)
+        → done_or_fault answer ≡ (memory.store now.state address size value).outcome
+    answer-stored address size value answer is =
+        ap done_or_fault (is ∙ ap (λ (q : ℕ). store_answer ram q address (size_of size)) root-is-runner)
+        ∙ store-outcome address size value
+        ∙ ap (λ (seen : Snapshot). (memory.store seen.state address size value).outcome) view

@@ -1,5 +1,5 @@
 -- Where every walk gives an endpoint the right of its own regions, RAM agrees with the state that it means.
-use Rattle.std.proofs.Common.{◌≡◌, ◌∙◌, ℕ, ◌+◌, ◌-◌, ◌*◌, ◌/◌, ◌%◌, ◌^◌, ◌<◌, ◌≤◌, Bool, true, false, cond, List, length, get_or, Option, Some, None, refl, sym, ap, subst, arith, inl, inr}
+use Rattle.std.proofs.Common.{◌≡◌, ◌∙◌, ℕ, ◌+◌, ◌-◌, ◌*◌, ◌/◌, ◌^◌, ◌<◌, ◌≤◌, true, false, cond, length, Option, Some, None, refl, sym, ap, subst, arith, inl, inr}
 use Rattle.std.specs.Prelude.{◌&&◌, nat_le, nat_lt, find}
 use Rattle.std.specs.Option.{option_map, option_and_then}
 use Rattle.std.proofs.lemmas.Bool.{cases_lt}
@@ -12,14 +12,12 @@ use Rattle.ffa_model.specs.Agreement.{Agrees, blocks_of, root}
 use Rattle.ffa_model.specs.Identifiers.{identifier}
 use Rattle.ffa_model.specs.Manifest.{root_of}
 use Rattle.ffa_model.specs.Ram.{Ram, page_of}
-use Rattle.ffa_model.specs.Regions.{has_page, right_in, regions_at}
+use Rattle.ffa_model.specs.Regions.{has_page, right_in, regions_at, owned_regions}
 use Rattle.ffa_model.specs.Walk.{walk, granted, is_in_ram}
 use Rattle.ffa_model.specs.State.{State, Page, page_at}
 use Rattle.ffa_model.specs.Access.{access}
-use Rattle.ffa_model.specs.First.{owned_regions}
 use Rattle.ffa_model.specs.Memory.{access_at}
-use Rattle.ffa_model.proofs.Accepted.{accepted}
-use Rattle.ffa_spmc.specs.Meaning.{held_page, state_of}
+use Rattle.ffa_spmc.specs.Meaning.{state_of}
 use Rattle.ffa_spmc.proofs.Held.{base_is, parties_are, size_is, page-in, page-past, access-in, access-past}
 
 -- the right that the endpoint at a place has to the page of an address, and none outside RAM
@@ -79,6 +77,7 @@ module _ (ram : Ram) (m : Manifest) (runner : EndpointId) (place : ram.base ≡ 
     where
       none_some : None ≡ Some page → ⊥
       none_some e = cc
+
       of : (o : Option (ℕ × Region)) → option_map (λ (x : ℕ × Region). let q : Page = record { owner = x.0; base = x.1.rights; bytes = page_of ram p } in q) o ≡ Some page → page_of ram p ≡ page.bytes
       of None e = absurd (none_some e)
       of (Some x) e = ap (λ (q : Page). q.bytes) (some_is e)

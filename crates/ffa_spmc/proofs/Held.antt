@@ -1,7 +1,7 @@
 -- The state that RAM and a manifest mean, part by part.
-use Rattle.std.proofs.Common.{◌≡◌, ◌∙◌, ℕ, ◌+◌, ◌*◌, ◌/◌, ◌<◌, ◌≤◌, Bool, false, List, [], ◌∷◌, length, get_or, map, Option, Some, None, refl, sym, ap, arith, inl, inr}
+use Rattle.std.proofs.Common.{◌≡◌, ◌∙◌, ℕ, ◌<◌, ◌≤◌, Bool, false, List, [], ◌∷◌, length, Option, Some, None, refl, ap, inl, inr}
 use Rattle.std.specs.Prelude.{find}
-use Rattle.std.specs.Option.{option_and_then, option_map}
+use Rattle.std.specs.Option.{option_and_then, option_map, option_map_or}
 use Rattle.std.specs.Ordering.{nat_cmp}
 use Rattle.std.specs.FinMap as finite
 use Rattle.std.proofs.lemmas.Bool.{cases_lt}
@@ -9,15 +9,15 @@ use Rattle.std.proofs.lemmas.List.{length-map}
 use Rattle.ffa_model.specs.declared.endpoint.Region.{Region}
 use Rattle.ffa_model.specs.declared.endpoint.EndpointId.{EndpointId}
 use Rattle.ffa_model.specs.declared.manifest.Manifest.{Manifest}
-use Rattle.ffa_model.specs.Identifiers.{identifier}
+use Rattle.ffa_model.specs.Identifiers.{identifier, manager, place}
 use Rattle.ffa_model.specs.Ram.{Ram, page_of}
-use Rattle.ffa_model.specs.Regions.{right_in, regions_at}
-use Rattle.ffa_model.specs.State.{State, Page, Transaction, page_at}
+use Rattle.ffa_model.specs.Regions.{has_page, owned_regions, owner_in, right_in, regions_at}
+use Rattle.ffa_model.specs.State.{State, Page, Transaction, owner_of, page_at}
 use Rattle.ffa_model.specs.Access.{access, is_naming, transaction_at, right_of}
-use Rattle.ffa_model.specs.First.{first, party_of, owned_regions}
+use Rattle.ffa_model.specs.First.{first, party_of}
 use Rattle.ffa_model.proofs.Listed.{length-listed, get_or-listed, get_or-listed_past}
 use Rattle.ffa_model.proofs.Accepted.{accepted}
-use Rattle.ffa_model.proofs.Owners.{right-own}
+use Rattle.ffa_model.proofs.Owners.{right-own, right-unnamed}
 use Rattle.ffa_spmc.specs.Meaning.{held_page, state_of}
 
 find_none : (test : ℕ → Bool) (xs : List ℕ) → ((x : ℕ) → test x ≡ false) → find test xs ≡ None
@@ -66,3 +66,23 @@ module _ (ram : Ram) (m : Manifest) (runner : EndpointId) where
 
   pub access-past : (e p : ℕ) → length ram.pages ≤ p → access s e p ≡ None
   access-past e p past = access-is e p ∙ ap (λ (page : Option Page). right_of e page None) (page-past p past)
+
+  -- who is no endpoint has no access
+  pub access-unnamed : (e p : ℕ) → (identifier (place e) ≡ e → ⊥) → access s e p ≡ None
+  access-unnamed e p unnamed = elim (cases_lt p (length ram.pages)) [
+    | inl lt ↦
+        access-is e p ∙ ap (λ (page : Option Page). right_of e page None) (page-in p lt)
+        ∙ right-unnamed ram.base m.endpoints.items p e (page_of ram p) unnamed
+    | inr past ↦ access-past e p past
+  ]
+
+  pub owner-is : (p : ℕ) → p < length ram.pages → owner_of s p ≡ owner_in ram.base m.endpoints.items p
+  owner-is p lt =
+      ap (λ (page : Option Page). option_map_or (λ (q : Page). q.owner) page manager) (page-in p lt)
+      ∙ of (find (λ (x : ℕ × Region). has_page ram.base p x.1) (owned_regions m.endpoints.items))
+    where
+      of : (o : Option (ℕ × Region))
+          → option_map_or (λ (q : Page). q.owner) (option_map (λ (x : ℕ × Region). let q : Page = record { owner = x.0; base = x.1.rights; bytes = page_of ram p } in q) o) manager
+          ≡ option_map_or (λ (x : ℕ × Region). x.0) o manager
+      of None = refl
+      of (Some x) = refl

@@ -4,3 +4,4 @@ pub mod Agreements
 pub mod Stores
 pub mod Machines
 pub mod Accesses
+pub mod Boots

@@ -1,25 +1,24 @@
 -- What holds of a machine's parts, and stays so.
-use Rattle.std.proofs.Common.{◌≡◌, ◌≢◌, ◌∙◌, ℕ, ◌+◌, ◌-◌, ◌*◌, ◌/◌, ◌<◌, ◌≤◌, true, cond, List, [], length, set, Option, Some, None, refl, sym, ap, subst, arith, length-set}
+use Rattle.std.proofs.Common.{◌≡◌, ◌∙◌, ℕ, ◌-◌, ◌*◌, ◌/◌, ◌<◌, ◌≤◌, true, cond, List, [], length, set, Some, None, refl, sym, ap, subst, arith, length-set}
 use Rattle.std.proofs.lemmas.List.{get_or-set_other}
 use Rattle.ffa_model.specs.declared.endpoint.EndpointId.{EndpointId}
 use Rattle.ffa_model.specs.declared.manifest.Manifest.{Manifest}
 use Rattle.ffa_model.specs.Agreement.{Agrees, root}
 use Rattle.ffa_model.specs.Identifiers.{place}
-use Rattle.ffa_model.specs.Manifest.{root_of, table_pages}
+use Rattle.ffa_model.specs.Manifest.{table_pages}
 use Rattle.ffa_model.specs.Ram.{Ram, page_of, with_page, with_bytes}
-use Rattle.ffa_model.specs.State.{State, Page, page_at}
+use Rattle.ffa_model.specs.State.{Page, page_at}
 use Rattle.ffa_model.specs.Walk.{is_page_address, is_in_ram, granted}
 use Rattle.ffa_model.specs.Regions.{right_in, regions_at}
 use Rattle.ffa_model.specs.First.{page_with_bytes}
 use Rattle.ffa_model.proofs.Accepted.{accepted}
 use Rattle.ffa_model.proofs.Owners.{owned-behind}
-use Rattle.ffa_stage2.specs.Tables.{table_page}
 use Rattle.ffa_stage2.proofs.Kept.{built-kept}
 use Rattle.ffa_stage2.proofs.Places.{root-address}
 use Rattle.ffa_stage2.proofs.Walks.{walk-built}
-use Rattle.ffa_spmc.specs.Meaning.{IsMachine, held_page, own_right, state_of}
-use Rattle.ffa_spmc.proofs.Held.{page-in, size_is}
-use Rattle.ffa_spmc.proofs.Agreements.{WalksGive, agrees-held, root-is, right_at}
+use Rattle.ffa_spmc.specs.Meaning.{IsMachine, own_right, state_of}
+use Rattle.ffa_spmc.proofs.Held.{page-in}
+use Rattle.ffa_spmc.proofs.Agreements.{WalksGive, agrees-held, root-is}
 
 module _ (ram : Ram) (m : Manifest) (runner : EndpointId) (machine : IsMachine ram m runner) where
   walks-give : WalksGive ram m

@@ -8,11 +8,11 @@ use Rattle.std.proofs.lemmas.List.{get_or_past}
 use Rattle.ffa_model.specs.declared.leaf.Leaf.{Leaf}
 use Rattle.ffa_model.specs.declared.rights.Rights.{Rights}
 use Rattle.ffa_model.specs.declared.operation.FaultKind.{FaultKind}
-use Rattle.ffa_model.specs.declared.operation.FaultKind.TheVariants.{Translation, Permission, Alignment, OutsideRam}
+use Rattle.ffa_model.specs.declared.operation.FaultKind.TheVariants.{Translation, Permission, Alignment}
 use Rattle.ffa_model.specs.Agreement.{Agrees, root}
 use Rattle.ffa_model.specs.Identifiers.{identifier}
 use Rattle.ffa_model.specs.Ram.{Ram, page_of, number_in}
-use Rattle.ffa_model.specs.Walk.{Answer, is_in_ram, walk, granted}
+use Rattle.ffa_model.specs.Walk.{is_in_ram, walk, granted}
 use Rattle.ffa_model.specs.Reach.{at_leaf, reach, number_at as number_in_ram}
 use Rattle.ffa_model.specs.Rights.{may_write}
 use Rattle.ffa_model.specs.State.{State, Page, page_at}

@@ -1,22 +1,18 @@
 -- A write to one page of RAM, in the state that RAM means.
-use Rattle.std.proofs.Common.{◌≡◌, ◌≢◌, ◌∙◌, ℕ, ◌+◌, ◌*◌, ◌<◌, ◌≤◌, true, List, [], ◌∷◌, length, get_or, set, Option, Some, None, refl, sym, ap, arith, length-set}
-use Rattle.std.specs.Prelude.{◌&&◌, nat_le, nat_lt, find}
+use Rattle.std.proofs.Common.{◌≡◌, ◌≢◌, ◌∙◌, ℕ, ◌<◌, List, [], length, set, Option, Some, None, refl, sym, ap, length-set}
+use Rattle.std.specs.Prelude.{find}
 use Rattle.std.specs.Option.{option_map}
-use Rattle.std.specs.List.{list_all}
-use Rattle.std.proofs.lemmas.Bool.{and_parts, leb-true, cases_Bool}
-use Rattle.std.proofs.lemmas.Bool.Decides.{nat_tests}
 use Rattle.std.proofs.lemmas.List.{get_or-set_same, get_or-set_other}
 use Rattle.ffa_model.specs.declared.endpoint.Endpoint.{Endpoint}
 use Rattle.ffa_model.specs.declared.endpoint.EndpointId.{EndpointId}
 use Rattle.ffa_model.specs.declared.endpoint.Region.{Region}
 use Rattle.ffa_model.specs.declared.manifest.Manifest.{Manifest}
 use Rattle.ffa_model.specs.Lists.{listed}
-use Rattle.ffa_model.specs.Manifest.{is_placed, regions_of, table_pages, tables_end}
 use Rattle.ffa_model.specs.Memory.{page_with, written}
 use Rattle.ffa_model.specs.Ram.{Ram, page_of, with_page, with_bytes}
-use Rattle.ffa_model.specs.Regions.{has_page}
-use Rattle.ffa_model.specs.State.{State, Page, page_at}
-use Rattle.ffa_model.specs.First.{owned_regions, page_with_bytes}
+use Rattle.ffa_model.specs.Regions.{has_page, owned_regions}
+use Rattle.ffa_model.specs.State.{Page, page_at}
+use Rattle.ffa_model.specs.First.{page_with_bytes}
 use Rattle.ffa_model.proofs.Listed.{listed-but}
 use Rattle.ffa_spmc.specs.Meaning.{held_page, state_of}
 use Rattle.ffa_spmc.proofs.Held.{page-in}

@@ -95,12 +95,7 @@ impl<M: PhysMem + Drop> Machine<M> {
         requires { page.0 < length self.now.state.pages }
         ensures { result.0 ≡ owner_of self.now.state page.0 }
     {
-        for (place, endpoint) in self.manifest.endpoints.as_slice().iter().enumerate() {
-            if endpoint.right_to(self.manifest.ram_base, page).is_some() {
-                return EndpointId::at(place);
-            }
-        }
-        EndpointId::MANAGER
+        self.manifest.owner_of(page)
     }
 
     /// The right of an endpoint to a page: nothing outside the RAM, or for an endpoint that isn't there.
@@ -108,14 +103,11 @@ impl<M: PhysMem + Drop> Machine<M> {
         ensures { result ≡ access self.now.state endpoint.0 page.0 }
     {
         let place = endpoint.place();
-        if endpoint != EndpointId::at(place) || page.0 >= self.ram.pages() {
-            return None;
+        if endpoint == EndpointId::at(place) && page.0 < self.ram.pages() {
+            self.manifest.right_to(place, page)
+        } else {
+            None
         }
-        self.manifest
-            .endpoints
-            .as_slice()
-            .get(place)?
-            .right_to(self.manifest.ram_base, page)
     }
 
     // The root of the runner's table.
@@ -147,7 +139,7 @@ impl<M: PhysMem + Drop> Machine<M> {
     fn store(&mut self, addr: u64, size: Size, value: u64) -> Outcome
         ensures outcome { result ≡ (memory.store self.old.state addr size value).outcome }
         ensures state { self.new.state ≡ (memory.store self.old.state addr size value).state }
-        ensures refused { is_refusal result ≡ true → self.new.ram ≡ self.old.ram }
+        ensures refused { is_refusal result ≡ true → self.new ≡ self.old }
     {
         let root = self.root();
         match ffa_walker::store(&mut self.ram, root, addr, size, value) {
@@ -180,6 +172,18 @@ impl<M: PhysMem + Drop> Machine<M> {
         ensures agrees { Agrees self.new.ram self.new.state }
         ensures refused { is_refusal result ≡ true → self.new ≡ self.old }
     {
+        let _ = &self.runner;
+        let outcome = self.operate(op);
+        let _ = &self.runner;
+        outcome
+    }
+
+    // The operation itself, by its kind.
+    fn operate(&mut self, op: &Op) -> Outcome
+        ensures outcome { result ≡ (step self.old.state op.now).outcome }
+        ensures state { self.new.state ≡ (step self.old.state op.now).state }
+        ensures refused { is_refusal result ≡ true → self.new ≡ self.old }
+    {
         match *op {
             Op::Call(x) => self.call(x),
             Op::Load { addr, size } => self.load(addr, size),
@@ -198,5 +202,6 @@ impl<M: PhysMem + Drop> Machine<M> {
         for i in 0..ops.len() {
             filled[i] = self.op(&ops[i]);
         }
+        let _ = &self.runner;
     }
 }

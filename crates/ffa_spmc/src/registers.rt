@@ -8,6 +8,7 @@ use ffa_model::ErrorCode;
 pub(crate) const FFA_ID_GET: u32 = 0x8400_0069;
 
 const FFA_ERROR: u64 = 0x8400_0060;
+
 const FFA_SUCCESS: u64 = 0x8400_0061;
 
 // FF-A's number of a code, as 32 bits of two's complement.

@@ -44,20 +44,24 @@ put-page_word base b access e p right e' s j hj = elim (cases_eq e' e) [
 
 module _ (old new : Ram) (n b : ℕ) (access : ℕ → ℕ → Option Rights) (e p : ℕ) (right : Option Rights) (built : IsBuilt old n b access) (he : e < n) (hp : p < 512 * b)
     (page place value : ℕ) (wrote : new ≡ with_page old page (with_word (page_of old page) place value))
-    (same_page : page ≡ table_page b e (2 + p / 512)) (same_place : place ≡ p % 512) (same_value : value ≡ page_word (old.base + 4096 * p) right) where
+    (same_page : page ≡ table_page b e (2 + p / 512)) (same_place : place ≡ p % 512) (address : ℕ) (same_value : value ≡ page_word address right) (same_address : address ≡ old.base + 4096 * p) where
+  -- the descriptor that is written
+  written_word : value ≡ page_word (old.base + 4096 * p) right
+  written_word = same_value ∙ ap (λ (a : ℕ). page_word a right) same_address
+
   -- the code's write changes the endpoint's table pages alone
   pub others-changed : KeepsOthers old new b e
   others-changed =
       KeepsOthers-written old n b (built_words old.base b access) e (2 + p / 512) (p % 512) (page_word (old.base + 4096 * p) right)
       (words-of_IsBuilt old n b access built) he (omega arith) (omega arith) (page_word-fits right (old.base + 4096 * p))
-      new page place value wrote same_page same_place same_value
+      new page place value wrote same_page same_place written_word
 
   pub built-changed : IsBuilt new n b (with_right access e p right)
   built-changed =
       let written =
       TablesAre-written old n b (built_words old.base b access) e (2 + p / 512) (p % 512) (page_word (old.base + 4096 * p) right)
       (words-of_IsBuilt old n b access built) he (omega arith) (omega arith) (page_word-fits right (old.base + 4096 * p))
-      new page place value wrote same_page same_place same_value
+      new page place value wrote same_page same_place written_word
       in
       let stays : new.base ≡ old.base = others-changed.base in
       IsBuilt-of_words new n b (with_right access e p right) (TablesAre-same new n b _ (built_words new.base b (with_right access e p right)) written

@@ -1,10 +1,14 @@
 -- What a layout gives each endpoint.
 use Rattle.std.specs.Prelude.{ℕ, List, [], map, slice_index_or, Option}
+use Rattle.arrayvec.specs.ArrayVec.{array_vec_len}
+use Rattle.ffa_model.specs.Ram.{Ram}
 use Rattle.ffa_model.specs.declared.endpoint.Region.{Region}
 use Rattle.ffa_model.specs.declared.rights.Rights.{Rights}
 use Rattle.ffa_stage2.specs.declared.layout.Layout.{Layout}
 use Rattle.ffa_stage2.specs.declared.layout.Regions.{Regions}
-use Rattle.ffa_stage2.specs.Regions.{right_of}
+use Rattle.ffa_model.specs.Regions.{right_in as right_among}
+use Rattle.ffa_stage2.specs.Tables.{IsBuilt, KeepsRest}
+use Rattle.ffa_stage2.specs.Words.{TablesAre}
 
 abbrev pub lists_of : List Regions → List (List Region)
 lists_of regions = map (λ (r : Regions). r.list.items) regions
@@ -15,4 +19,16 @@ regions_in layout = lists_of layout.regions.items
 
 -- the right that endpoint e has to page p from the start
 abbrev pub right_in : Layout → ℕ → ℕ → Option Rights
-right_in layout e p = right_of layout.base (slice_index_or (regions_in layout) e []) p
+right_in layout e p = right_among layout.base (slice_index_or (regions_in layout) e []) p
+
+-- the tables of the layout's endpoints stand in the RAM, and endpoint e has `access e p` to page p
+abbrev pub IsBuiltFor : Layout → Ram → (ℕ → ℕ → Option Rights) → Type 0
+IsBuiltFor layout ram access = IsBuilt ram (array_vec_len layout.regions) layout.blocks access
+
+-- word j of endpoint e's table page s is `word e s j`
+abbrev pub TablesAreFor : Layout → Ram → (ℕ → ℕ → ℕ → ℕ) → Type 0
+TablesAreFor layout ram word = TablesAre ram (array_vec_len layout.regions) layout.blocks word
+
+-- the RAM stands where it did, and no page behind the table pages changed
+abbrev pub KeepsRestFor : Layout → Ram → Ram → Type 0
+KeepsRestFor layout old new = KeepsRest old new (array_vec_len layout.regions) layout.blocks

@@ -1,4 +1,3 @@
-pub mod Regions
 pub mod Layout
 pub mod Tables
 pub mod Words

@@ -1,12 +1,10 @@
 //! Where the RAM stands, and which pages of it each endpoint may use from the start.
-ghost use Rattle.std.specs.Prelude.{◌≡◌, ℕ, ◌+◌, ◌*◌, ◌%◌, ◌^◌, ◌<◌, ◌≤◌, IsTrue, map};
+ghost use Rattle.std.specs.Prelude.{◌≡◌, ℕ, ◌+◌, ◌*◌, ◌%◌, ◌^◌, ◌<◌, ◌≤◌};
 ghost use Rattle.arrayvec.specs.ArrayVec.{array_vec_len};
-ghost use Rattle.ffa_model.specs.Regions.{has_page};
 ghost use Rattle.ffa_model.specs.Manifest.{table_pages};
-ghost use Rattle.ffa_stage2.specs.Regions.{right_of};
 
 use arrayvec::ArrayVec;
-use ffa_model::{Endpoint, Manifest, PageNo, Region, Rights};
+use ffa_model::{Endpoint, Manifest, PageNo, Region, Rights, right_in};
 
 /// The regions of one endpoint, which have no page in common.
 #[derive(Debug, Default, Drop)]
@@ -45,7 +43,8 @@ pub struct Layout {
 
 impl Layout {
     ghost use Rattle.ffa_stage2.specs.Layout.{regions_in, right_in};
-    ghost use Rattle.ffa_stage2.specs.Regions.{regions_of_each};
+    ghost use Rattle.ffa_model.specs.Regions.{regions_of_each};
+    ghost use Rattle.ffa_stage2.specs.Tables.{table_page, table_link};
 
     /// The layout of a machine: its RAM, and its endpoints' regions in the same order.
     pub fn of(manifest: &Manifest) -> Layout
@@ -64,34 +63,31 @@ impl Layout {
         }
     }
 
-    /// The right that an endpoint's regions give to a page, if one of them has it.
-    pub fn right(&self, index: usize, page: PageNo) -> Option<Rights>
+    // The right that an endpoint's regions give to a page, if one of them has it.
+    pub(crate) fn right(&self, index: usize, page: PageNo) -> Option<Rights>
         requires index { index < array_vec_len self.now.regions }
         requires page { page.0 < 512 * self.now.blocks }
         ensures { result ≡ right_in self.now index page.0 }
     {
-        right(&self.regions[index].list, self.base, page)
+        right_in(self.regions[index].list.as_slice(), self.base, page)
     }
-}
 
-// Whether a region has the page that begins at an address.
-fn reaches(region: &Region, base: u32, page: PageNo) -> bool
-    requires { base + 4096 * page.0 < 2 ^ 32 }
-    ensures { result ≡ has_page base page.0 region.now }
-{
-    let address = base + 4096 * page.0;
-    region.base <= address && (address - region.base) / 4096 < region.pages
-}
-
-// The right of the first region that has the page.
-fn right(regions: &[Region], base: u32, page: PageNo) -> Option<Rights>
-    requires { base + 4096 * page.0 < 2 ^ 32 }
-    ensures { result ≡ right_of base regions.now page.0 }
-{
-    for region in regions {
-        if reaches(region, base, page) {
-            return Some(region.rights);
-        }
+    // One of an endpoint's table pages: 0 is level 1, 1 is level 2, and 2 + k is level 3 of block k.
+    pub(crate) fn table_page(&self, index: usize, table: u32) -> PageNo
+        requires index { index < array_vec_len self.now.regions }
+        requires table { table < table_pages self.now.blocks }
+        ensures number { result.0 ≡ table_page self.now.blocks index table }
+        ensures within { result.0 < 512 * self.now.blocks }
+    {
+        PageNo(index as u32 * (2 + self.blocks) + table)
     }
-    None
+
+    // The descriptor that names it, of type 11.
+    pub(crate) fn table_link(&self, index: usize, table: u32) -> u64
+        requires index { index < array_vec_len self.now.regions }
+        requires table { table < table_pages self.now.blocks }
+        ensures { result ≡ table_link self.now.base self.now.blocks index table }
+    {
+        u64::from(self.base) + 4096 * u64::from(self.table_page(index, table).0) + 3
+    }
 }

@@ -1,19 +1,31 @@
-//! The tables: for each endpoint in order a page of level 1, one of level 2, and one of level 3 for each block of 2 MiB.
+//! The tables in RAM's first pages: for each endpoint in order a page of level 1, one of level 2, and one of level 3 for
+//! each block of 2 MiB.
 ghost use Rattle.std.specs.Prelude.{◌≡◌, ℕ, ◌+◌, ◌*◌, ◌<◌, length, Option};
 ghost use Rattle.arrayvec.specs.ArrayVec.{array_vec_len};
 ghost use Rattle.ffa_model.specs.Descriptor.{page_word};
 ghost use Rattle.ffa_model.specs.declared.rights.Rights.{Rights};
-ghost use Rattle.ffa_stage2.specs.Layout.{right_in};
-ghost use Rattle.ffa_stage2.specs.Tables.{IsBuilt, with_right, WalkChanges, KeepsOthers, KeepsRest};
-ghost use Rattle.ffa_stage2.specs.Words.{TablesAre, linked, rights_until};
+ghost use Rattle.ffa_stage2.specs.Layout.{right_in, IsBuiltFor, TablesAreFor, KeepsRestFor};
+ghost use Rattle.ffa_stage2.specs.Tables.{with_right, WalkChanges, KeepsOthers};
+ghost use Rattle.ffa_stage2.specs.Words.{linked, rights_until};
 
 use crate::layout::Layout;
 use ffa_model::{Data, PageNo, Rights};
 use ffa_physmem::PhysMem;
 
-/// The level 3 descriptor that maps the page of an address to itself (DDI 0487, D8.3), normal memory that is written
-/// back and shared inside. Bits 47:12 of the address alone count. No right is 0.
-#[tactic(auto, unfolding(ffa_model::specs::Descriptor::page_word))]
+/// Bits 47:12 of a descriptor: the address of a page.
+const ADDRESS: u64 = 0x0000_ffff_ffff_f000;
+
+/// A page of normal memory that may be read: type 11, MemAttr 1111, S2AP 01, SH 11 and AF.
+const READABLE_PAGE: u64 = 0b11 + (0b1111 << 2) + (1 << 6) + (0b11 << 8) + (1 << 10);
+
+/// S2AP's upper bit.
+const WRITABLE: u64 = 1 << 7;
+
+/// XN.
+const EXECUTE_NEVER: u64 = 1 << 54;
+
+/// The level 3 descriptor that maps the page of an address to itself (DDI 0487, D8.3). Bits 47:12 of the address alone
+/// count. No right is 0.
 pub fn leaf(address: u64, right: Option<Rights>) -> u64
     ensures { result ≡ page_word address right }
 {
@@ -22,15 +34,16 @@ pub fn leaf(address: u64, right: Option<Rights>) -> u64
         Some(rights) => {
             let write = match rights.level {
                 Data::Ro => 0,
-                Data::Rw => 1 << 7,
+                Data::Rw => WRITABLE,
             };
-            let never = if rights.exec { 0 } else { 1 << 54 };
-            (address >> 12) % (1 << 36) * 4096 + 0x77f + write + never
+            let never = if rights.exec { 0 } else { EXECUTE_NEVER };
+            (address & ADDRESS) + READABLE_PAGE + write + never
         }
     }
 }
 
-/// Gives one endpoint, named by its place in the manifest, another right to one page.
+/// Gives one endpoint, named by its place in the manifest from 0, another right to one page. No other access changes,
+/// and no byte outside that endpoint's table pages.
 pub fn set_page<M: PhysMem>(
     memory: &mut M,
     layout: &Layout,
@@ -38,24 +51,27 @@ pub fn set_page<M: PhysMem>(
     page: PageNo,
     right: Option<Rights>,
 )
-    requires built { (access : ℕ → ℕ → Option Rights) × IsBuilt (M.ram memory.old) (array_vec_len layout.now.regions) layout.now.blocks access }
+    requires built { (access : ℕ → ℕ → Option Rights) × IsBuiltFor layout.now (M.ram memory.old) access }
     requires index { index < array_vec_len layout.now.regions }
     requires page { page.0 < 512 * layout.now.blocks }
-    ensures built { (access : ℕ → ℕ → Option Rights) → IsBuilt (M.ram memory.old) (array_vec_len layout.now.regions) layout.now.blocks access → IsBuilt (M.ram memory.new) (array_vec_len layout.now.regions) layout.now.blocks (with_right access index page.0 right) }
-    ensures walks { WalkChanges (M.ram memory.old) (M.ram memory.new) (array_vec_len layout.now.regions) layout.now.blocks index page.0 right }
+    ensures built { (access : ℕ → ℕ → Option Rights)
+        → IsBuiltFor layout.now (M.ram memory.old) access
+        → IsBuiltFor layout.now (M.ram memory.new) (with_right access index page.0 right) }
+    ensures walks { WalkChanges (M.ram memory.old) (M.ram memory.new)
+        (array_vec_len layout.now.regions) layout.now.blocks index page.0 right }
     ensures others { KeepsOthers (M.ram memory.old) (M.ram memory.new) layout.now.blocks index }
 {
-    let table = index as u32 * (2 + layout.blocks) + 2 + page.0 / 512;
+    let table = layout.table_page(index, 2 + page.0 / 512);
     let address = u64::from(memory.base()) + 4096 * u64::from(page.0);
-    memory.write_word(PageNo(table), (page.0 % 512) as usize, leaf(address, right));
+    memory.write_word(table, (page.0 % 512) as usize, leaf(address, right));
 }
 
 // Clears the table pages.
 fn clear_tables<M: PhysMem>(memory: &mut M, layout: &Layout)
     requires base { (M.ram memory.old).base ≡ layout.now.base }
     requires size { length (M.ram memory.old).pages ≡ 512 * layout.now.blocks }
-    ensures tables { TablesAre (M.ram memory.new) (array_vec_len layout.now.regions) layout.now.blocks (linked layout.now.base layout.now.blocks 0) }
-    ensures rest { KeepsRest (M.ram memory.old) (M.ram memory.new) (array_vec_len layout.now.regions) layout.now.blocks }
+    ensures tables { TablesAreFor layout.now (M.ram memory.new) (linked layout.now.base layout.now.blocks 0) }
+    ensures rest { KeepsRestFor layout.now (M.ram memory.old) (M.ram memory.new) }
 {
     for page in 0..layout.regions.len() as u32 * (2 + layout.blocks) {
         memory.clear_page(PageNo(page));
@@ -66,30 +82,30 @@ fn clear_tables<M: PhysMem>(memory: &mut M, layout: &Layout)
 fn link<M: PhysMem>(memory: &mut M, layout: &Layout, index: usize)
     requires index { index < array_vec_len layout.now.regions }
     requires base { (M.ram memory.old).base ≡ layout.now.base }
-    requires tables { TablesAre (M.ram memory.old) (array_vec_len layout.now.regions) layout.now.blocks (linked layout.now.base layout.now.blocks index) }
-    ensures tables { TablesAre (M.ram memory.new) (array_vec_len layout.now.regions) layout.now.blocks (linked layout.now.base layout.now.blocks (index + 1)) }
-    ensures rest { KeepsRest (M.ram memory.old) (M.ram memory.new) (array_vec_len layout.now.regions) layout.now.blocks }
+    requires tables { TablesAreFor layout.now (M.ram memory.old) (linked layout.now.base layout.now.blocks index) }
+    ensures tables { TablesAreFor layout.now (M.ram memory.new) (linked layout.now.base layout.now.blocks (index + 1)) }
+    ensures rest { KeepsRestFor layout.now (M.ram memory.old) (M.ram memory.new) }
 {
-    let base = u64::from(layout.base);
-    let top = index as u32 * (2 + layout.blocks);
+    let top = layout.table_page(index, 0);
+    let middle = layout.table_page(index, 1);
+    let first = (layout.base >> 21) % 512;
     memory.write_word(
-        PageNo(top),
-        (base >> 30) as usize,
-        base + 4096 * u64::from(top + 1) + 3,
+        top,
+        (layout.base >> 30) as usize,
+        layout.table_link(index, 1),
     );
-    let first = ((base >> 21) % 512) as usize;
     for block in 0..layout.blocks {
-        let table = base + 4096 * u64::from(top + 2 + block) + 3;
-        memory.write_word(PageNo(top + 1), first + block as usize, table);
+        let table = layout.table_link(index, 2 + block);
+        memory.write_word(middle, (first + block) as usize, table);
     }
 }
 
 // Gives one endpoint the rights of its regions.
 fn grant<M: PhysMem>(memory: &mut M, layout: &Layout, index: usize)
     requires index { index < array_vec_len layout.now.regions }
-    requires built { IsBuilt (M.ram memory.old) (array_vec_len layout.now.regions) layout.now.blocks (rights_until (right_in layout.now) index 0) }
-    ensures built { IsBuilt (M.ram memory.new) (array_vec_len layout.now.regions) layout.now.blocks (rights_until (right_in layout.now) (index + 1) 0) }
-    ensures rest { KeepsRest (M.ram memory.old) (M.ram memory.new) (array_vec_len layout.now.regions) layout.now.blocks }
+    requires built { IsBuiltFor layout.now (M.ram memory.old) (rights_until (right_in layout.now) index 0) }
+    ensures built { IsBuiltFor layout.now (M.ram memory.new) (rights_until (right_in layout.now) (index + 1) 0) }
+    ensures rest { KeepsRestFor layout.now (M.ram memory.old) (M.ram memory.new) }
 {
     for page in 0..512 * layout.blocks {
         let right = layout.right(index, PageNo(page));
@@ -101,8 +117,8 @@ fn grant<M: PhysMem>(memory: &mut M, layout: &Layout, index: usize)
 fn link_all<M: PhysMem>(memory: &mut M, layout: &Layout)
     requires base { (M.ram memory.old).base ≡ layout.now.base }
     requires size { length (M.ram memory.old).pages ≡ 512 * layout.now.blocks }
-    ensures built { IsBuilt (M.ram memory.new) (array_vec_len layout.now.regions) layout.now.blocks (rights_until (right_in layout.now) 0 0) }
-    ensures rest { KeepsRest (M.ram memory.old) (M.ram memory.new) (array_vec_len layout.now.regions) layout.now.blocks }
+    ensures built { IsBuiltFor layout.now (M.ram memory.new) (rights_until (right_in layout.now) 0 0) }
+    ensures rest { KeepsRestFor layout.now (M.ram memory.old) (M.ram memory.new) }
 {
     clear_tables(memory, layout);
     for index in 0..layout.regions.len() {
@@ -110,16 +126,68 @@ fn link_all<M: PhysMem>(memory: &mut M, layout: &Layout)
     }
 }
 
-/// Builds the tables of all endpoints, where each has the rights of its regions and no other, in a RAM that stands where
-/// the layout says. No page behind the table pages changes.
+/// Builds the tables of all endpoints, where each has the rights of its regions and no other, in a RAM that stands
+/// where the layout says. No page behind the table pages changes.
 pub fn build<M: PhysMem>(memory: &mut M, layout: &Layout)
     requires base { (M.ram memory.old).base ≡ layout.now.base }
     requires size { length (M.ram memory.old).pages ≡ 512 * layout.now.blocks }
-    ensures built { IsBuilt (M.ram memory.new) (array_vec_len layout.now.regions) layout.now.blocks (right_in layout.now) }
-    ensures rest { KeepsRest (M.ram memory.old) (M.ram memory.new) (array_vec_len layout.now.regions) layout.now.blocks }
+    ensures built { IsBuiltFor layout.now (M.ram memory.new) (right_in layout.now) }
+    ensures rest { KeepsRestFor layout.now (M.ram memory.old) (M.ram memory.new) }
 {
     link_all(memory, layout);
     for index in 0..layout.regions.len() {
         grant(memory, layout, index);
+    }
+}
+
+#[cfg(test)]
+mod tests {
+    use super::*;
+    use ffa_model::{built_in, row_machine};
+    use ffa_physmem::{FlatRam, NoMemory};
+
+    #[test]
+    fn leaf_gives_descriptors(rt: HostRuntime) {
+        let level = Data::Rw;
+        let code = Rights { level, exec: true };
+        let data = Rights { level, exec: false };
+        let constant = Rights {
+            level: Data::Ro,
+            exec: false,
+        };
+        assert_eq!(rt; leaf(0x4000_1000, Some(code)), 0x0000_0000_4000_17ff);
+        assert_eq!(rt; leaf(0x4000_1000, Some(data)), 0x0040_0000_4000_17ff);
+        assert_eq!(rt; leaf(0x4000_1000, Some(constant)), 0x0040_0000_4000_177f);
+        assert_eq!(rt; leaf(0x4000_1000, None), 0);
+    }
+
+    #[test]
+    fn build_writes_tables(rt: HostRuntime) -> Result<(), NoMemory> {
+        for manifest in [built_in(), row_machine()] {
+            let mut ram = FlatRam::new(rt.alloc(), manifest.ram_base, 512)?;
+            build(&mut ram, &Layout::of(&manifest));
+            assert_eq!(rt; ram.read_word(PageNo(0), 1), 0x0000_0000_4000_1003);
+            assert_eq!(rt; ram.read_word(PageNo(1), 0), 0x0000_0000_4000_2003);
+            assert_eq!(rt; ram.read_word(PageNo(2), 16), 0x0040_0000_4001_07ff);
+            assert_eq!(rt; ram.read_word(PageNo(5), 32), 0x0000_0000_4002_07ff);
+        }
+        Ok(())
+    }
+
+    #[test]
+    fn set_page_writes_descriptor(rt: HostRuntime) -> Result<(), NoMemory> {
+        let manifest = row_machine();
+        let layout = Layout::of(&manifest);
+        let mut ram = FlatRam::new(rt.alloc(), layout.base, 512)?;
+        build(&mut ram, &layout);
+        let right = Rights {
+            level: Data::Ro,
+            exec: false,
+        };
+        set_page(&mut ram, &layout, 1, PageNo(1), Some(right));
+        assert_eq!(rt; ram.read_word(PageNo(5), 0), 0);
+        assert_eq!(rt; ram.read_word(PageNo(5), 1), 0x0040_0000_4000_177f);
+        assert_eq!(rt; ram.read_word(PageNo(5), 2), 0);
+        Ok(())
     }
 }

@@ -139,6 +139,7 @@ pub fn store<M: PhysMem>(
     requires root { walk.is_page_address (M.ram memory.old) root ≡ true }
     ensures answer { result ≡ spec.store_answer (M.ram memory.old) root address (size_of size) }
     ensures stored { M.ram memory.new ≡ spec.stored (M.ram memory.old) root address (size_of size) value }
+    ensures root { walk.is_page_address (M.ram memory.new) root ≡ true }
 {
     let physical = reach(memory, root, address, size, Need::Write)?;
     write_number(memory, physical, size, value);

@@ -7,3 +7,6 @@ pub mod translation;
 pub use access::{fetch, load, store};
 pub use ffa_model::{FaultKind, Leaf};
 pub use translation::{is_in_ram, translate};
+
+#[cfg(test)]
+mod tests;

@@ -1,13 +1,15 @@
 //! The walk: one small function for each level.
-ghost use Rattle.std.specs.Prelude.{◌≡◌, ℕ, ◌<◌, IsTrue, true};
-ghost use Rattle.ffa_model.specs.Walk as spec;
+ghost use Rattle.std.specs.Prelude.{◌≡◌, ℕ, ◌*◌, ◌^◌, ◌<◌, if◌then◌else◌, IsTrue, IfOk, Ok, Err, true};
+ghost use Rattle.ffa_model.specs.Walk as walk;
+ghost use Rattle.ffa_model.specs.Bits.{bits};
+ghost use Rattle.ffa_model.specs.declared.operation.FaultKind.TheVariants.{OutsideRam};
 
 use ffa_model::{FaultKind, Leaf, PageNo};
 use ffa_physmem::PhysMem;
 
 /// Whether a byte of the RAM stands at an address.
 pub fn is_in_ram<M: PhysMem>(memory: &M, address: u64) -> bool
-    ensures { result ≡ spec.is_in_ram (M.ram memory.now) address }
+    ensures { result ≡ walk.is_in_ram (M.ram memory.now) address }
 {
     let base = u64::from(memory.base());
     base <= address && address < base + 4096 * u64::from(memory.pages())
@@ -15,18 +17,31 @@ pub fn is_in_ram<M: PhysMem>(memory: &M, address: u64) -> bool
 
 // The word at a place of the table at an address.
 fn read_entry<M: PhysMem>(memory: &M, table: u64, index: u64) -> u64
-    requires table { IsTrue (spec.is_in_ram (M.ram memory.now) table) }
+    requires table { IsTrue (walk.is_in_ram (M.ram memory.now) table) }
     requires index { index < 512 }
-    ensures { result ≡ spec.entry (M.ram memory.now) table index }
+    ensures { result ≡ walk.entry (M.ram memory.now) table index }
 {
     let page = (table - u64::from(memory.base())) / 4096;
     memory.read_word(PageNo(page as u32), index as usize)
 }
 
+// The table that a word names, which has to be a page of the RAM.
+fn table_of<M: PhysMem>(memory: &M, word: u64) -> Result<u64, FaultKind>
+    ensures value { let table = bits 47 12 word * 2 ^ 12 in
+        result ≡ (if walk.is_page_address (M.ram memory.now) table then Ok table else Err OutsideRam) }
+    ensures inside { IfOk result (λ table. IsTrue (walk.is_in_ram (M.ram memory.now) table)) }
+{
+    let table = (word >> 12) % (1 << 36) * (1 << 12);
+    if !is_in_ram(memory, table) {
+        return Err(FaultKind::OutsideRam);
+    }
+    Ok(table)
+}
+
 // What a leaf descriptor says: AF is bit 10, S2AP is bit 6 to read and bit 7 to write, XN is bit 54.
 #[tactic(auto, unfolding(ffa_model::specs::Walk::leaf_of))]
 fn read_leaf(word: u64, phys: u64) -> Result<Leaf, FaultKind>
-    ensures { result ≡ spec.leaf_of word phys }
+    ensures { result ≡ walk.leaf_of word phys }
 {
     if (word >> 10) % 2 == 0 {
         return Err(FaultKind::AccessFlag);
@@ -43,7 +58,7 @@ fn read_leaf(word: u64, phys: u64) -> Result<Leaf, FaultKind>
 // The walk from a word of level 3, where type 01 is invalid.
 #[tactic(auto, unfolding(ffa_model::specs::Walk::from_level3))]
 fn walk_from_level3(word: u64, address: u64) -> Result<Leaf, FaultKind>
-    ensures { result ≡ spec.from_level3 word address }
+    ensures { result ≡ walk.from_level3 word address }
 {
     if word % 4 != 3 {
         return Err(FaultKind::Translation);
@@ -57,7 +72,7 @@ fn walk_from_level3(word: u64, address: u64) -> Result<Leaf, FaultKind>
 // The walk from a word of level 2: a block of 2 MiB, or a table of level 3.
 #[tactic(auto, unfolding(ffa_model::specs::Walk::from_level2))]
 fn walk_from_level2<M: PhysMem>(memory: &M, word: u64, address: u64) -> Result<Leaf, FaultKind>
-    ensures { result ≡ spec.from_level2 (M.ram memory.now) word address }
+    ensures { result ≡ walk.from_level2 (M.ram memory.now) word address }
 {
     if word % 2 == 0 {
         return Err(FaultKind::Translation);
@@ -68,17 +83,14 @@ fn walk_from_level2<M: PhysMem>(memory: &M, word: u64, address: u64) -> Result<L
             (word >> 21) % (1 << 27) * (1 << 21) + address % (1 << 21),
         );
     }
-    let table = (word >> 12) % (1 << 36) * (1 << 12);
-    if !is_in_ram(memory, table) {
-        return Err(FaultKind::OutsideRam);
-    }
+    let table = table_of(memory, word)?;
     walk_from_level3(read_entry(memory, table, (address >> 12) % 512), address)
 }
 
 // The walk from a word of level 1: a block of 1 GiB, or a table of level 2.
 #[tactic(auto, unfolding(ffa_model::specs::Walk::from_level1))]
 fn walk_from_level1<M: PhysMem>(memory: &M, word: u64, address: u64) -> Result<Leaf, FaultKind>
-    ensures { result ≡ spec.from_level1 (M.ram memory.now) word address }
+    ensures { result ≡ walk.from_level1 (M.ram memory.now) word address }
 {
     if word % 2 == 0 {
         return Err(FaultKind::Translation);
@@ -89,10 +101,7 @@ fn walk_from_level1<M: PhysMem>(memory: &M, word: u64, address: u64) -> Result<L
             (word >> 30) % (1 << 18) * (1 << 30) + address % (1 << 30),
         );
     }
-    let table = (word >> 12) % (1 << 36) * (1 << 12);
-    if !is_in_ram(memory, table) {
-        return Err(FaultKind::OutsideRam);
-    }
+    let table = table_of(memory, word)?;
     walk_from_level2(
         memory,
         read_entry(memory, table, (address >> 21) % 512),
@@ -105,8 +114,8 @@ fn walk_from_level1<M: PhysMem>(memory: &M, word: u64, address: u64) -> Result<L
 /// `AccessFlag` (DDI 0487, D8.3). The leaf's physical address need not be in RAM.
 #[tactic(auto, unfolding(ffa_model::specs::Walk::walk))]
 pub fn translate<M: PhysMem>(memory: &M, root: u32, address: u64) -> Result<Leaf, FaultKind>
-    requires root { spec.is_page_address (M.ram memory.now) root ≡ true }
-    ensures walk { result ≡ spec.walk (M.ram memory.now) root address }
+    requires root { walk.is_page_address (M.ram memory.now) root ≡ true }
+    ensures walk { result ≡ walk.walk (M.ram memory.now) root address }
 {
     if address >= 1 << 32 {
         return Err(FaultKind::Translation);

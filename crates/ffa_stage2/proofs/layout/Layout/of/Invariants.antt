@@ -1,7 +1,7 @@
 use Rattle.std.proofs.Common.{◌≡◌, take}
 use Rattle.arrayvec.specs.ArrayVec.{array_vec_len}
 use Rattle.ffa_stage2.specs.Layout.{lists_of}
-use Rattle.ffa_stage2.specs.Regions.{regions_of_each}
+use Rattle.ffa_model.specs.Regions.{regions_of_each}
 use Rattle.ffa_stage2.proofs.layout.Layout.of.Given as goal
 
 -- the endpoints so far

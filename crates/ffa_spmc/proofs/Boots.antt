@@ -1,0 +1,113 @@
+-- A machine in its first state.
+use Rattle.std.proofs.Common.{◌≡◌, ◌∙◌, ℕ, suc, zero, ◌*◌, ◌<◌, ◌≤◌, List, [], ◌∷◌, length, get_or, replicate, Option, Some, None, refl, sym, ap, subst, arith, inl, inr}
+use Rattle.std.proofs.lemmas.Bool.{cases_lt}
+use Rattle.std.proofs.lemmas.List.{get_or-replicate, length-map, length-replicate}
+use Rattle.arrayvec.specs.ArrayVec.{array_vec_len}
+use Rattle.ffa_model.specs.declared.endpoint.Endpoint.{Endpoint}
+use Rattle.ffa_model.specs.declared.endpoint.EndpointId.{EndpointId}
+use Rattle.ffa_model.specs.declared.endpoint.Region.{Region}
+use Rattle.ffa_model.specs.declared.manifest.Manifest.{Manifest}
+use Rattle.ffa_model.specs.Identifiers.{identifier, place}
+use Rattle.ffa_model.specs.Lists.{listed}
+use Rattle.ffa_model.specs.Manifest.{table_pages}
+use Rattle.ffa_model.specs.Ram.{Ram, page_of, zero_ram}
+use Rattle.ffa_model.specs.Regions.{regions_at, regions_of_each, right_in as right_among}
+use Rattle.ffa_model.specs.State.{Page}
+use Rattle.ffa_model.specs.First.{first, page_with_bytes}
+use Rattle.ffa_model.proofs.Accepted.{accepted}
+use Rattle.ffa_model.proofs.Listed.{listed-same}
+use Rattle.ffa_model.proofs.Owners.{owned-behind}
+use Rattle.ffa_stage2.specs.declared.layout.Layout.{Layout}
+use Rattle.ffa_stage2.specs.declared.layout.Regions.{Regions}
+use Rattle.ffa_stage2.specs.Layout.{regions_in, right_in}
+use Rattle.ffa_stage2.specs.Tables.{IsBuilt, KeepsRest, table_page}
+use Rattle.ffa_stage2.proofs.Rights.{built-same}
+use Rattle.ffa_spmc.specs.Meaning.{IsMachine, held_page, own_right, state_of}
+
+regions-each : (es : List Endpoint) (i : ℕ) → get_or (regions_of_each es) i [] ≡ regions_at es i
+regions-each [] i = refl
+regions-each (e ∷ es) zero = refl
+regions-each (e ∷ es) (suc i) = regions-each es i
+
+-- no endpoint owns a page before the end of the tables
+unowned : (m : Manifest) (p : ℕ) (bytes : List ℕ) → p < length m.endpoints.items * table_pages m.ram_blocks → page_with_bytes m.ram_base m.endpoints.items p bytes ≡ None
+unowned m p bytes low = of (page_with_bytes m.ram_base m.endpoints.items p bytes) refl
+  where
+    of : (o : Option Page) → page_with_bytes m.ram_base m.endpoints.items p bytes ≡ o → page_with_bytes m.ram_base m.endpoints.items p bytes ≡ None
+    of None is = is
+    of (Some page) is =
+        let placed = (accepted m.ram_base m.ram_blocks m.endpoints.items m.accepted).placed in
+        absurd (omega (arith, low, owned-behind m.ram_base m.ram_blocks (length m.endpoints.items) m.endpoints.items p bytes page placed is))
+
+-- a RAM of zeros that stands where the manifest says
+pub zeros-of : (old zeros : Ram) (m : Manifest) → zeros ≡ zero_ram old.base (length old.pages) → old.base ≡ m.ram_base → length old.pages ≡ 512 * m.ram_blocks
+    → zeros ≡ zero_ram m.ram_base (512 * m.ram_blocks)
+zeros-of old zeros m cleared base size = cleared ∙ ap (λ (b : ℕ). zero_ram b (length old.pages)) base ∙ ap (zero_ram m.ram_base) size
+
+module _ (zeros ram : Ram) (m : Manifest) (layout : Layout) (runner : EndpointId)
+    (cleared : zeros ≡ zero_ram m.ram_base (512 * m.ram_blocks))
+    (base : layout.base ≡ m.ram_base) (blocks : layout.blocks ≡ m.ram_blocks) (regions : regions_in layout ≡ regions_of_each m.endpoints.items)
+    (built : IsBuilt ram (array_vec_len layout.regions) layout.blocks (right_in layout))
+    (rest : KeepsRest zeros ram (array_vec_len layout.regions) layout.blocks)
+    (normal : runner.0 ≡ 0) where
+  abbrev es : List Endpoint
+  es = m.endpoints.items
+
+  many : array_vec_len layout.regions ≡ length es
+  many =
+      sym (length-map layout.regions.items (λ (r : Regions). r.list.items)) ∙ ap length regions
+      ∙ length-map es (λ (e : Endpoint). e.regions.items)
+
+  base-is : ram.base ≡ m.ram_base
+  base-is = rest.base ∙ ap (λ (r : Ram). r.base) cleared
+
+  size-is : length ram.pages ≡ 512 * m.ram_blocks
+  size-is = rest.size ∙ ap (λ (r : Ram). length r.pages) cleared ∙ length-replicate (512 * m.ram_blocks) (replicate 4096 0)
+
+  right-is : (e p : ℕ) → right_in layout e p ≡ own_right m.ram_base es e p
+  right-is e p =
+      ap (λ (b : ℕ). right_among b (get_or (regions_in layout) e []) p) base
+      ∙ ap (λ (rs : List Region). right_among m.ram_base rs p) (ap (λ (rss : List (List Region)). get_or rss e []) regions ∙ regions-each es e)
+
+  built-is : IsBuilt ram (length es) m.ram_blocks (own_right m.ram_base es)
+  built-is =
+      subst (λ (n : ℕ). IsBuilt ram n m.ram_blocks (own_right m.ram_base es)) many
+      (subst (λ (b : ℕ). IsBuilt ram (array_vec_len layout.regions) b (own_right m.ram_base es)) blocks
+      (built-same ram (array_vec_len layout.regions) layout.blocks (right_in layout) (own_right m.ram_base es) built (λ e p _ _. right-is e p)))
+
+  pub machine-first : IsMachine ram m runner
+  machine-first =
+      let a = accepted m.ram_base m.ram_blocks m.endpoints.items m.accepted in
+      let some : 1 ≤ length es = a.some_endpoints in
+      record {
+        base = base-is;
+        size = size-is;
+        known = omega (arith, normal, some);
+        named = ap (λ (e : ℕ). identifier (place e)) normal ∙ sym normal;
+        built = built-is;
+      }
+
+  -- a page behind the tables is zeros, and nobody owns one before
+  page-first : (p : ℕ) → p < length ram.pages → held_page ram es p ≡ page_with_bytes m.ram_base es p (replicate 4096 0)
+  page-first p inside =
+      ap (λ (b : ℕ). page_with_bytes b es p (page_of ram p)) base-is
+      ∙ elim (cases_lt p (length es * table_pages m.ram_blocks)) [
+        | inl low ↦ unowned m p (page_of ram p) low ∙ sym (unowned m p (replicate 4096 0) low)
+        | inr behind ↦
+            (let end : table_page layout.blocks (array_vec_len layout.regions) 0 ≤ p = of_end many blocks behind in
+            ap (page_with_bytes m.ram_base es p)
+            (rest.pages p end ∙ ap (λ (r : Ram). page_of r p) cleared
+            ∙ get_or-replicate (512 * m.ram_blocks) p (replicate 4096 0) [] (omega (arith, inside, size-is))))
+      ]
+    where
+      of_end : {n b k c : ℕ} → n ≡ k → b ≡ c → k * table_pages c ≤ p → table_page b n 0 ≤ p
+      of_end same_n same_b h = rw (same_n, same_b) (omega (arith, h))
+
+  pages-first : listed (length ram.pages) (held_page ram es) ≡ listed (512 * m.ram_blocks) (λ p. page_with_bytes m.ram_base es p (replicate 4096 0))
+  pages-first =
+      listed-same (length ram.pages) (held_page ram es) (λ p. page_with_bytes m.ram_base es p (replicate 4096 0)) page-first
+      ∙ ap (λ (n : ℕ). listed n (λ p. page_with_bytes m.ram_base es p (replicate 4096 0))) size-is
+
+  pub state-first : state_of ram m runner ≡ first m.ram_base m.ram_blocks es
+  unfolding first
+  state-first = λ i. record (first m.ram_base m.ram_blocks es) { pages = pages-first i; runner = normal i }

@@ -1,0 +1,10 @@
+use Rattle.std.proofs.Common.{◌≡◌, ◌++◌, take, drop}
+use Rattle.ffa_model.specs.Step.{outcomes, state_after}
+use Rattle.ffa_spmc.proofs.machine.Machine.run.Given as goal
+
+-- the outcomes so far and those of what is left are those of all
+abbrev pub invariant-loop-i : goal.invariant-loop-i
+invariant-loop-i g l = record {
+  told : take l.i l.filled ++ outcomes l.self.state (drop l.i l.ops) ≡ outcomes l.fn.self.state l.ops;
+  rest : state_after l.self.state (drop l.i l.ops) ≡ state_after l.fn.self.state l.ops;
+}
