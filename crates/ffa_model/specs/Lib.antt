@@ -19,3 +19,5 @@ pub mod Refusals
 pub mod Setup
 pub mod Step
 pub mod Agreement
+pub mod TraceLines
+pub mod TraceText

@@ -1,0 +1,144 @@
+-- The lines of a trace: which bytes, without the LF that ends them, are which line.
+use Rattle.std.specs.Prelude.{ℕ, ◌+◌, ◌-◌, ◌*◌, ◌==◌, Bool, false, not, ◌&&◌, ◌||◌, nat_le, List, [], ◌∷◌, ◌++◌, length, replicate, fold, codes, Option, Some, None, is_some, if◌then◌else◌, option_and_then, option_map}
+use Rattle.std.specs.Str.{bytes_eq}
+use Rattle.std.specs.List.{list_all, slice_split}
+use Rattle.ffa_model.specs.declared.operation.Op.{Op}
+use Rattle.ffa_model.specs.declared.operation.Op.TheVariants.{Call, Load, Store, Fetch}
+use Rattle.ffa_model.specs.declared.operation.Size.{Size}
+use Rattle.ffa_model.specs.declared.operation.Size.TheVariants.{B1, B2, B4, B8}
+
+-- LF ends a line, a space stands between two words, and `#` begins a comment
+abbrev pub feed : ℕ
+feed = 10
+
+abbrev pub space : ℕ
+space = 32
+
+abbrev pub hash : ℕ
+hash = 35
+
+-- an operation of the runner, the table of accesses, or nothing
+pub data Line : Type 0 where
+  operate : (op : Op) → Line
+  show : Line
+  skip : Line
+
+-- NUMBERS
+
+abbrev pub is_between : ℕ → ℕ → ℕ → Bool
+is_between first last c = nat_le first c && nat_le c last
+
+-- the value of a hexadecimal digit, of either case
+unfoldable pub digit_value : ℕ → Option ℕ
+digit_value c =
+    if is_between 48 57 c then Some (c - 48)
+    else if is_between 65 70 c then Some (c - 55)
+    else if is_between 97 102 c then Some (c - 87)
+    else None
+
+-- a number with one more digit behind
+abbrev pub with_digit : Option ℕ → ℕ → Option ℕ
+with_digit number c = option_and_then (λ n. option_map (λ d. 16 * n + d) (digit_value c)) number
+
+-- the number that 1 to 16 digits write
+unfoldable pub number_of : List ℕ → Option ℕ
+number_of word = if is_between 1 16 (length word) then fold with_digit (Some 0) word else None
+
+-- the numbers that words write, one each
+abbrev pub numbers_of : List (List ℕ) → Option (List ℕ)
+numbers_of [] = Some []
+numbers_of (word ∷ words) = option_and_then (λ n. option_map (λ ns. n ∷ ns) (numbers_of words)) (number_of word)
+
+-- LINES
+
+-- what stands before, between and behind the spaces of a line: exactly one space parts two words, since a second one
+-- would make an empty word, which is neither a name nor a number
+unfoldable pub words_of : List ℕ → List (List ℕ)
+words_of line = slice_split (λ c. c == space) line
+
+-- registers that aren't given are 0
+abbrev pub registers_of : List ℕ → List ℕ
+registers_of given = given ++ replicate (8 - length given) 0
+
+-- how many bytes to load
+unfoldable pub size_named : List ℕ → Option Size
+size_named word =
+    if bytes_eq word (codes "1") then Some B1
+    else if bytes_eq word (codes "2") then Some B2
+    else if bytes_eq word (codes "4") then Some B4
+    else if bytes_eq word (codes "8") then Some B8
+    else None
+
+-- how many bytes to store, by the count of the value's digits
+unfoldable pub size_written : List ℕ → Option Size
+size_written word =
+    if length word == 2 then Some B1
+    else if length word == 4 then Some B2
+    else if length word == 8 then Some B4
+    else if length word == 16 then Some B8
+    else None
+
+-- `call X0 .. X7`, of which 1 to 8 are given
+unfoldable pub call_of : List (List ℕ) → Option Line
+call_of words =
+    if is_between 1 8 (length words)
+    then option_map (λ given. operate (Call (registers_of given))) (numbers_of words)
+    else None
+
+-- `load A N`
+unfoldable pub load_of : List (List ℕ) → Option Line
+load_of (a ∷ n ∷ []) =
+    option_and_then (λ addr. option_map (λ size. operate (Load addr size)) (size_named n)) (number_of a)
+load_of _ = None
+
+-- `store A V`
+unfoldable pub store_of : List (List ℕ) → Option Line
+store_of (a ∷ v ∷ []) =
+    option_and_then (λ addr. option_and_then (λ size. option_map (λ value. operate (Store addr size value)) (number_of v)) (size_written v)) (number_of a)
+store_of _ = None
+
+-- `fetch A`
+unfoldable pub fetch_of : List (List ℕ) → Option Line
+fetch_of (a ∷ []) = option_map (λ addr. operate (Fetch addr)) (number_of a)
+fetch_of _ = None
+
+-- `show`
+unfoldable pub show_of : List (List ℕ) → Option Line
+show_of [] = Some show
+show_of _ = None
+
+-- a name and what follows it
+unfoldable pub command_of : List (List ℕ) → Option Line
+command_of [] = None
+command_of (name ∷ words) =
+    if bytes_eq name (codes "call") then call_of words
+    else if bytes_eq name (codes "load") then load_of words
+    else if bytes_eq name (codes "store") then store_of words
+    else if bytes_eq name (codes "fetch") then fetch_of words
+    else if bytes_eq name (codes "show") then show_of words
+    else None
+
+-- the line that these bytes are, if they are one: an empty line and a comment say nothing
+unfoldable pub line_of : List ℕ → Option Line
+line_of [] = Some skip
+line_of (c ∷ bytes) = if c == hash then Some skip else command_of (words_of (c ∷ bytes))
+
+-- whether the bytes say something, where they are one line
+abbrev pub has_meaning : List ℕ → Bool
+has_meaning bytes = is_some (line_of bytes)
+
+-- INPUTS
+
+abbrev pub has_no_feed : List ℕ → Bool
+has_no_feed bytes = list_all (λ c. not (c == feed)) bytes
+
+abbrev pub is_line : List ℕ → Bool
+is_line bytes = has_no_feed bytes && has_meaning bytes
+
+abbrev pub are_lines : List (List ℕ) → Bool
+are_lines lines = list_all is_line lines
+
+-- lines, each with the LF that ends it
+abbrev pub joined : List (List ℕ) → List ℕ
+joined [] = []
+joined (line ∷ lines) = line ++ feed ∷ joined lines
