@@ -1,3 +1,4 @@
+mod DigitTable
 pub mod Feeds
 pub mod Fronts
 pub mod LineNumbers

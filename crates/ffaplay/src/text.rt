@@ -40,12 +40,10 @@ fn digit(value: u64) -> u8
     requires { value < 16 }
     ensures { result ≡ digit value }
 {
-    if value < 10 {
-        b'0' + value as u8
-    } else {
-        b'A' + (value - 10) as u8
-    }
+    DIGITS[value as usize]
 }
+
+static DIGITS: [u8; 16] = *b"0123456789ABCDEF";
 
 /// Appends a space and the letters of a right.
 pub fn push_right(text: &mut Text, right: Option<Rights>)
