@@ -37,7 +37,7 @@ run_goes_on s first p zero h e = absurd (false≢true (sym e ∙ ends_last s p (
 run_goes_on s first p (suc k) h e =
     let inside : begins_run s (p + 1) ≡ false = begins_behind s p ∙ sym (ends_before s p k h) ∙ e in
     ap₂ (λ b d. zip (first ∷ cond b ((p + 1) ∷ filter (begins_run s) (range_with_len (p + 1 + 1) k)) (filter (begins_run s) (range_with_len (p + 1 + 1) k)))
-        (cond d (p ∷ filter (ends_run s) (range_with_len (p + 1) (suc k))) (filter (ends_run s) (range_with_len (p + 1) (suc k))))) inside e
+    (cond d (p ∷ filter (ends_run s) (range_with_len (p + 1) (suc k))) (filter (ends_run s) (range_with_len (p + 1) (suc k))))) inside e
 
 -- the run ends
 pub run_ends : (s : State) (first p k : ℕ) → p + suc k ≡ length s.pages → ends_run s p ≡ true
@@ -47,7 +47,7 @@ run_ends s first p zero h e = ap (λ d. zip (first ∷ []) (cond d (p ∷ []) []
 run_ends s first p (suc k) h e =
     let next : begins_run s (p + 1) ≡ true = begins_behind s p ∙ sym (ends_before s p k h) ∙ e in
     ap₂ (λ b d. zip (first ∷ cond b ((p + 1) ∷ filter (begins_run s) (range_with_len (p + 1 + 1) k)) (filter (begins_run s) (range_with_len (p + 1 + 1) k)))
-        (cond d (p ∷ filter (ends_run s) (range_with_len (p + 1) (suc k))) (filter (ends_run s) (range_with_len (p + 1) (suc k))))) next e
+    (cond d (p ∷ filter (ends_run s) (range_with_len (p + 1) (suc k))) (filter (ends_run s) (range_with_len (p + 1) (suc k))))) next e
 
 pub all_pending : (s : State) (n : ℕ) → zip (filter (begins_run s) (range_with_len 0 n)) (filter (ends_run s) (range_with_len 0 n)) ≡ pending s 0 0 n
 unfolding pending

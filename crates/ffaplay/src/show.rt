@@ -77,11 +77,7 @@ fn push_accesses<M: PhysMem + Drop>(text: &mut Text, machine: &Machine<M>, page:
 }
 
 // The access of the endpoint at a place in the manifest.
-fn access<M: PhysMem + Drop>(
-    machine: &Machine<M>,
-    place: usize,
-    page: PageNo,
-) -> Option<Rights>
+fn access<M: PhysMem + Drop>(machine: &Machine<M>, place: usize, page: PageNo) -> Option<Rights>
     requires { place < 8 }
     ensures { result ≡ access machine.now.state (identifier place) page.0 }
 {
@@ -107,11 +103,7 @@ fn is_alike<M: PhysMem + Drop>(machine: &Machine<M>, page: PageNo, other: PageNo
     machine.owner_of(page) == machine.owner_of(other) && has_same_accesses(machine, page, other)
 }
 
-fn has_same_accesses<M: PhysMem + Drop>(
-    machine: &Machine<M>,
-    page: PageNo,
-    other: PageNo,
-) -> bool
+fn has_same_accesses<M: PhysMem + Drop>(machine: &Machine<M>, page: PageNo, other: PageNo) -> bool
     ensures { result ≡ list_all (λ e. is_same_right (access machine.now.state e page.0) (access machine.now.state e other.0)) (identifiers machine.now.state) }
 {
     for place in 0..machine.endpoints() {

@@ -6,7 +6,7 @@ use Rattle.ffaplay.proofs.Listed.{all_more, one_fails}
 use Rattle.ffaplay.proofs.show.has_same_accesses.Goals as goal
 
 pub returns-then-not-is_same_right : goal.returns-then-not-is_same_right
-returns-then-not-is_same_right g c = 
+returns-then-not-is_same_right g c =
     let same = λ (e : ℕ). is_same_right (access c.args.machine.now.state e c.args.page.0) (access c.args.machine.now.state e c.args.other.0) in
     sym (one_fails same identifier c.loop-place.place _ (omega (arith, c.endpoints-place-end.ensures.number))
     (sym (c.is_same_right.ensures ∙ ap₂ is_same_right c.access.ensures c.access-in-loop-place.ensures) ∙ c.if-not-is_same_right.true))

@@ -8,6 +8,6 @@ use Rattle.ffaplay.proofs.show.push_accesses.Goals as goal
 pub loop-place-preserved : goal.loop-place-preserved
 loop-place-preserved g c = record {
   so_far = parts_more (λ (e : ℕ). spaced (rights_text (access c.args.machine.now.state e c.args.page.0))) identifier c.loop-place.place c.args.text.now.items c.loop-place.text.items _ c.loop-place.invariant.so_far
-    (c.push_right.ensures.items ∙ ap (λ r. c.loop-place.text.items ++ spaced (rights_text r)) c.access.ensures);
+      (c.push_right.ensures.items ∙ ap (λ r. c.loop-place.text.items ++ spaced (rights_text r)) c.access.ensures);
   room = omega (arith, c.push_right.ensures.len, c.loop-place.invariant.room);
 }

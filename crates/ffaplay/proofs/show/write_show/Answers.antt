@@ -11,7 +11,7 @@ pub returns-in_err-write_text : goal.returns-in_err-write_text
 returns-in_err-write_text g c =
     let p = err_from_is_err_and c.from_residual.result c.from_residual.ensures.1 in
     rw (p.1, p.2) (writes_failed c.in_err-write_text.field-0.0 _ _ _ _ _ c.in_err-write_text.ensures
-      (λ w. runner_failed _ _ _ (subst (TookFront _ _) (c.as_slice.ensures.value ∙ c.push_runner.ensures) w)))
+    (λ w. runner_failed _ _ _ (subst (TookFront _ _) (c.as_slice.ensures.value ∙ c.push_runner.ensures) w)))
 
 pub loop-last-init : goal.loop-last-init
 loop-last-init g c = record {
@@ -25,7 +25,7 @@ returns-in_err-write_text-2 g c =
     let inside : c.loop-last.last < length c.args.machine.now.state.pages = omega (arith, c.ram.ensures.agrees.size, c.pages-last-end.ensures) in
     let ended = sym c.ends_run.ensures ∙ c.if-ends_run.true in
     rw (p.1, p.2) (writes_failed c.in_err-write_text-2.field-0.0 _ _ _ _ _ c.in_err-write_text-2.ensures
-      (λ w. run_failed _ _ _ _ _ inside c.loop-last.invariant.shown _ ended (subst (TookFront _ _) (c.as_slice-then-ends_run.ensures.value ∙ c.push_run.ensures) w)))
+    (λ w. run_failed _ _ _ _ _ inside c.loop-last.invariant.shown _ ended (subst (TookFront _ _) (c.as_slice-then-ends_run.ensures.value ∙ c.push_run.ensures) w)))
 
 pub loop-last-preserved : goal.loop-last-preserved
 loop-last-preserved g c =
@@ -34,7 +34,7 @@ loop-last-preserved g c =
       | then-ends_run+in_ok-write_text-2 w ↦ record {
         order = omega (arith, w.first-is);
         shown = rw (w.writer-is, w.first-is) (run_written _ _ _ _ _ inside c.loop-last.invariant.shown _ (sym c.ends_run.ensures ∙ w.if-ends_run.true)
-          (subst (Appends _ _) (w.as_slice-then-ends_run.ensures.value ∙ w.push_run.ensures) w.in_ok-write_text-2.ensures));
+            (subst (Appends _ _) (w.as_slice-then-ends_run.ensures.value ∙ w.push_run.ensures) w.in_ok-write_text-2.ensures));
       }
       | else-ends_run w ↦ record {
         order = omega (arith, w.first-is);
