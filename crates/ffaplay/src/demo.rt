@@ -47,3 +47,57 @@ pub fn fail<E: Write, D: Display + Drop>(err: &mut E, why: D, status: u8) -> u8
     let _ = writeln!(err, "ffaplay: {why}");
     status
 }
+
+#[cfg(test)]
+mod tests {
+    use super::*;
+    use std::io;
+    use std::test::Fail;
+
+    // Takes all, and fails to flush.
+    #[derive(Drop)]
+    struct Stuck;
+
+    impl Write for Stuck {
+        fn write(&mut self, buf: &[u8]) -> io::Result<usize> {
+            Ok(buf.len())
+        }
+
+        fn flush(&mut self) -> io::Result<()> {
+            Err(io::Error::from(io::ErrorKind::Other))
+        }
+    }
+
+    #[test]
+    fn says_how_it_ended(rt: HostRuntime) -> Result<(), Fail> {
+        for (trace, want, said, status) in [
+            (Some("load 40010000 1\n"), "data 00\n", "", 0),
+            (
+                Some("load 40010000 1\nload 40010000 1\nload 4001\n"),
+                "data 00\ndata 00\n",
+                "ffaplay: line 3: bad line\n",
+                2,
+            ),
+            (None, "", "ffaplay: cannot read no.trace\n", 3),
+        ] {
+            let mut out = Vec::new(rt.alloc());
+            let mut err = Vec::new(rt.alloc());
+            let trace = trace.map(|text| text.as_bytes());
+            let ended = demo(rt.alloc(), "no.trace", trace, &mut out, &mut err);
+            assert_eq!(rt; out.as_slice(), want.as_bytes());
+            assert_eq!(rt; err.as_slice(), said.as_bytes());
+            assert_eq!(rt; ended, status);
+        }
+        let mut err = Vec::new(rt.alloc());
+        let ended = demo(
+            rt.alloc(),
+            "first.trace",
+            Some(b"show\n".as_slice()),
+            &mut Stuck,
+            &mut err,
+        );
+        assert_eq!(rt; err.as_slice(), b"ffaplay: cannot write\n".as_slice());
+        assert_eq!(rt; ended, 3);
+        Ok(())
+    }
+}
