@@ -11,27 +11,38 @@ use ffa_physmem::PhysMem;
 use ffa_spmc::Machine;
 use std::alloc::Global;
 use std::io::{Read, Write};
+use std::marker::Model;
 
 /// How many bytes a play asks of its reader at a time.
 const BLOCK: usize = 65536;
 
-/// Plays traces on a machine.
+/// Plays traces on a machine, as which contracts see it.
 #[derive(Drop)]
 pub struct Player<M: PhysMem + Drop> {
     machine: Machine<M>,
 }
 
+impl<M: PhysMem + Drop> Model for Player<M> {
+    ghost use Rattle.ffa_spmc.specs.Snapshot.{Snapshot, coded_snapshot};
+
+    ghost Value = { Snapshot };
+
+    ghost coded = { coded_snapshot };
+
+    ghost view = { λ player. player.machine };
+}
+
 impl<M: PhysMem + Drop> Player<M> {
     /// A player on this machine, as it is.
     pub fn new(machine: Machine<M>) -> Player<M>
-        ensures { result.machine ≡ machine }
+        ensures { result ≡ machine }
     {
         Player { machine }
     }
 
     /// The machine, as the lines so far left it.
     pub fn machine(&self) -> &Machine<M>
-        ensures { result.now ≡ self.now.machine }
+        ensures { result.now ≡ self.now }
     {
         &self.machine
     }
@@ -45,7 +56,7 @@ impl<M: PhysMem + Drop> Player<M> {
         reader: &mut R,
         writer: &mut W,
     ) -> Result<(), PlayError>
-        ensures { Played self.old.machine.state self.new.machine.state (W.contents writer.old) (W.contents writer.new) (R.remaining reader.old) (R.remaining reader.new) result }
+        ensures { Played self.old.state self.new.state (W.contents writer.old) (W.contents writer.new) (R.remaining reader.old) (R.remaining reader.new) result }
     {
         play_lines(&mut self.machine, alloc, reader, writer)
     }
@@ -151,3 +162,6 @@ fn do_line<M: PhysMem + Drop, W: Write>(
         None => Err(PlayError::BadLine(number)),
     }
 }
+
+#[cfg(test)]
+mod tests;

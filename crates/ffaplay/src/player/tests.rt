@@ -1,0 +1,229 @@
+use super::*;
+use ffa_model::{built_in, row_machine};
+use ffa_physmem::FlatRam;
+use std::io;
+use std::test::Fail;
+
+const FIRST: &str = "call 84000069\nstore 40010000 2A\nload 40010000 1\nload 40020000 1\nshow\n";
+
+const FIRST_TEXT: &str =
+    "regs 0000 0000000084000061 0000000000000000 0000000000000000 0000000000000000 0000000000000000 0000000000000000 0000000000000000 0000000000000000\ndone\ndata 2A\nfault translation\nrunner 0000\npages 40000000 4000FFFF 8000 --- ---\npages 40010000 4001FFFF 0000 rw- ---\npages 40020000 4002FFFF 8001 --- rwx\npages 40030000 401FFFFF 8000 --- ---\n";
+
+// Where the text of each line of FIRST ends.
+const ENDS: [usize; 5] = [146, 151, 159, 177, 337];
+
+// Gives a byte a call, and fails after `left` of them.
+#[derive(Drop)]
+struct Dripping<'a> {
+    bytes: &'a [u8],
+    left: usize,
+}
+
+impl Read for Dripping<'_> {
+    fn read(&mut self, buf: &mut [u8]) -> io::Result<usize> {
+        if self.left == 0 {
+            return Err(io::Error::from(io::ErrorKind::Interrupted));
+        }
+        self.left -= 1;
+        match self.bytes.split_first() {
+            Some((first, rest)) if !buf.is_empty() => {
+                buf[0] = *first;
+                self.bytes = rest;
+                Ok(1)
+            }
+            _ => Ok(0),
+        }
+    }
+}
+
+// Takes up to three bytes a call, and after `room` bytes fails, or takes nothing more.
+#[derive(Drop)]
+struct Narrow {
+    taken: Vec<u8>,
+    room: usize,
+    fails: bool,
+}
+
+impl Write for Narrow {
+    fn write(&mut self, buf: &[u8]) -> io::Result<usize> {
+        let count = buf.len().min(self.room).min(3);
+        if count == 0 && self.fails {
+            return Err(io::Error::from(io::ErrorKind::Interrupted));
+        }
+        self.taken.extend_from_slice(&buf[..count])?;
+        self.room -= count;
+        Ok(count)
+    }
+
+    fn flush(&mut self) -> io::Result<()> {
+        Err(io::Error::from(io::ErrorKind::Other))
+    }
+}
+
+fn demonstration(alloc: Global) -> Result<Player<FlatRam>, Fail> {
+    let manifest = built_in();
+    let ram = FlatRam::new(alloc, manifest.ram_base, 512)?;
+    Ok(Player::new(Machine::boot(&manifest, ram)))
+}
+
+fn rows(alloc: Global) -> Result<Player<FlatRam>, Fail> {
+    let manifest = row_machine();
+    let ram = FlatRam::new(alloc, manifest.ram_base, 512)?;
+    Ok(Player::new(Machine::boot(&manifest, ram)))
+}
+
+#[test]
+fn plays_the_rows(rt: HostRuntime) -> Result<(), Fail> {
+    for (trace, want) in [
+        (
+            "load 40000000 8\nstore 40008FF8 00\n",
+            "fault translation\nfault translation\n",
+        ),
+        (
+            "load 40010001 2\nfetch 40010000\n",
+            "fault alignment\nfault permission\n",
+        ),
+        (
+            "load 4001FFF8 8\nload 100000000 1\n",
+            "data 0000000000000000\nfault translation\n",
+        ),
+        (
+            "store 40010000 11223344\nload 40010000 1\nload 40010002 2\n",
+            "done\ndata 44\ndata 1122\n",
+        ),
+        (
+            "store 4001fff8 0123456789abcDEF\nload 4001FFF8 4\n",
+            "done\ndata 89ABCDEF\n",
+        ),
+        ("# a comment\n\n#\nload 40010000 1\n", "data 00\n"),
+        ("", ""),
+    ] {
+        let mut player = rows(rt.alloc())?;
+        let mut out = Vec::new(rt.alloc());
+        let played = player.play(rt.alloc(), &mut trace.as_bytes(), &mut out);
+        assert_eq!(rt; out.as_slice(), want.as_bytes(), "{trace}");
+        assert_eq!(rt; played, Ok(()), "{trace}");
+    }
+    Ok(())
+}
+
+#[test]
+fn refuses_what_is_no_line(rt: HostRuntime) -> Result<(), Fail> {
+    for bad in [
+        "load 4001",
+        "load 40010000 1 ",
+        " load 40010000 1",
+        "load  40010000 1",
+        "load 40010000 3",
+        "load 40010000 01",
+        "load 0x40010000 1",
+        "load 00000000040010000 1",
+        "load  1",
+        "LOAD 40010000 1",
+        "store 40010000 1",
+        "store 40010000 123",
+        "store 40010000",
+        "store 40010000 00 00",
+        "fetch",
+        "fetch 40010000 4",
+        "call",
+        "call ",
+        "call 1 2 3 4 5 6 7 8 9",
+        "call 1 2 G",
+        "show ",
+        "shows",
+        " ",
+        " # a comment",
+        "load 40010000 1\r",
+    ] {
+        let mut player = rows(rt.alloc())?;
+        let mut trace = Vec::from_slice(rt.alloc(), b"load 40010000 1\n")?;
+        trace.extend_from_slice(bad.as_bytes())?;
+        trace.extend_from_slice(b"\nload 40010000 1\n")?;
+        let mut out = Vec::new(rt.alloc());
+        let played = player.play(rt.alloc(), &mut trace.as_slice(), &mut out);
+        assert_eq!(rt; out.as_slice(), b"data 00\n".as_slice(), "{bad}");
+        assert_eq!(rt; played, Err(PlayError::BadLine(2)), "{bad}");
+    }
+    Ok(())
+}
+
+#[test]
+fn refuses_a_line_that_does_not_end(rt: HostRuntime) -> Result<(), Fail> {
+    let mut player = rows(rt.alloc())?;
+    let mut out = Vec::new(rt.alloc());
+    let played = player.play(rt.alloc(), &mut b"load 40010000 1".as_slice(), &mut out);
+    assert_eq!(rt; played, Err(PlayError::BadLine(1)));
+    assert!(rt; out.is_empty());
+    // Lines count from 1 again, and the machine goes on.
+    let trace = "store 40010000 2A\nload 40010000 2\nload 4001\n";
+    let played = player.play(rt.alloc(), &mut trace.as_bytes(), &mut out);
+    assert_eq!(rt; played, Err(PlayError::BadLine(3)));
+    let played = player.play(rt.alloc(), &mut b"load 40010000 1\n".as_slice(), &mut out);
+    assert_eq!(rt; played, Ok(()));
+    assert_eq!(rt; out.as_slice(), b"done\ndata 002A\ndata 2A\n".as_slice());
+    assert_eq!(rt; player.machine().endpoints(), 3);
+    Ok(())
+}
+
+#[test]
+fn takes_lines_longer_than_a_block(rt: HostRuntime) -> Result<(), Fail> {
+    let mut trace = Vec::from_slice(rt.alloc(), b"load 40010000 1\n#")?;
+    for _ in 0..100_000 {
+        trace.push(b'x')?;
+    }
+    trace.extend_from_slice(b"\nload 40010000 2\nload\n")?;
+    let mut player = rows(rt.alloc())?;
+    let mut out = Vec::new(rt.alloc());
+    let played = player.play(rt.alloc(), &mut trace.as_slice(), &mut out);
+    assert_eq!(rt; played, Err(PlayError::BadLine(4)));
+    assert_eq!(rt; out.as_slice(), b"data 00\ndata 0000\n".as_slice());
+    Ok(())
+}
+
+#[test]
+fn stops_where_the_reader_fails(rt: HostRuntime) -> Result<(), Fail> {
+    for left in 0..=FIRST.len() {
+        let bytes = FIRST.as_bytes();
+        let mut player = demonstration(rt.alloc())?;
+        let mut out = Vec::new(rt.alloc());
+        let played = player.play(rt.alloc(), &mut Dripping { bytes, left }, &mut out);
+        let lines = bytes
+            .iter()
+            .take(left)
+            .filter(|byte| **byte == b'\n')
+            .count();
+        let end = match lines {
+            0 => 0,
+            1..=5 => ENDS[lines - 1],
+            _ => 0,
+        };
+        assert_eq!(rt; out.as_slice(), &FIRST_TEXT.as_bytes()[..end], "{left}");
+        assert_eq!(rt; played, Err(PlayError::Read), "{left}");
+    }
+    Ok(())
+}
+
+#[test]
+fn stops_where_the_writer_fails(rt: HostRuntime) -> Result<(), Fail> {
+    for fails in [true, false] {
+        for room in 0..=FIRST_TEXT.len() {
+            let mut player = demonstration(rt.alloc())?;
+            let taken = Vec::new(rt.alloc());
+            let mut out = Narrow { taken, room, fails };
+            let played = player.play(rt.alloc(), &mut FIRST.as_bytes(), &mut out);
+            assert_eq!(rt;
+                out.taken.as_slice(),
+                &FIRST_TEXT.as_bytes()[..room],
+                "{room}"
+            );
+            let want = if room < FIRST_TEXT.len() {
+                Err(PlayError::Write)
+            } else {
+                Ok(())
+            };
+            assert_eq!(rt; played, want, "{room}");
+        }
+    }
+    Ok(())
+}
