@@ -1,0 +1,9 @@
+-- Where the regions of a machine may lie.
+use Rattle.std.specs.Prelude.{Bool}
+use Rattle.ffa_model.specs.declared.endpoint.Region.{Region}
+use Rattle.ffa_model.specs.Manifest.{is_placed}
+use Rattle.ffa_manifest.specs.declared.place.Place.{Place}
+
+-- whole pages in RAM behind the table pages
+abbrev pub is_in : Place → Region → Bool
+is_in place = is_placed place.base place.blocks place.endpoints

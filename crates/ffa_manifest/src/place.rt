@@ -1,0 +1,36 @@
+//! Where the regions of a machine may lie.
+ghost use Rattle.std.specs.Prelude.{◌≡◌, ◌≤◌};
+
+use ffa_model::Region;
+
+/// A machine's RAM, of which the front holds the tables of its endpoints.
+#[derive(Clone, Copy, Debug)]
+pub(crate) struct Place {
+    /// The address of RAM's first byte.
+    pub base: u32,
+    /// RAM's size, in blocks of 2 MiB.
+    pub blocks: u32,
+    /// How many endpoints have tables.
+    pub endpoints: u32,
+    ghost low: { base ≤ 0xFC000000 },
+    ghost small: { blocks ≤ 32 },
+    ghost few: { endpoints ≤ 8 },
+}
+
+impl Place {
+    ghost use Rattle.ffa_manifest.specs.Place.{is_in};
+
+    /// Whether the region is of whole pages, at least one, that all lie in RAM behind the table pages.
+    pub(crate) fn holds(&self, region: &Region) -> bool
+        ensures { result ≡ is_in self.now region.now }
+    {
+        let start = u64::from(self.base);
+        let free = start + 4096 * u64::from(self.endpoints * (2 + self.blocks));
+        let end = start + 0x20_0000 * u64::from(self.blocks);
+        let first = u64::from(region.base);
+        region.base % 4096 == 0
+            && 1 <= region.pages
+            && free <= first
+            && first + 4096 * u64::from(region.pages) <= end
+    }
+}
