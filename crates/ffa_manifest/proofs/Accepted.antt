@@ -1,5 +1,5 @@
 -- What was read meets the conditions of a manifest.
-use Rattle.std.proofs.Common.{◌≡◌, ℕ, zero, suc, Bool, true, false, ◌&&◌, ◌||◌, not, ◌==◌, List, [], ◌∷◌, ◌++◌, length, append-nil, Result, Ok, refl, sym, ap, ◌∙◌, subst, append_assoc, replicate, codes, arith}
+use Rattle.std.proofs.Common.{◌≡◌, ℕ, suc, Bool, true, false, ◌&&◌, ◌||◌, not, ◌==◌, List, [], ◌∷◌, ◌++◌, length, append-nil, Ok, refl, sym, ap, ◌∙◌, subst, append_assoc, replicate, codes, arith}
 use Rattle.std.specs.Prelude.{nat_lt}
 use Rattle.std.specs.List.{list_all}
 use Rattle.std.proofs.lemmas.Bool.{and_parts, or_parts, ne_eqb, cond-false}
@@ -17,7 +17,7 @@ use Rattle.ffa_manifest.specs.Regions.{regions_at}
 use Rattle.ffa_manifest.specs.Endpoints.{normal_world, normal_world_keys, normal_world_properties, partition, partition_keys, version_at, identifier, uuid_at, properties_at, endpoint_of, next_endpoint, endpoints_from, endpoint_items}
 use Rattle.ffa_manifest.specs.Document.{ram_base_at, ram_blocks_at}
 use Rattle.ffa_manifest.proofs.Steps.{bind_ok, refusal_ok, tested_ok, read_each-keeps, length-read_all, items_at-count}
-use Rattle.ffa_manifest.proofs.RegionsRead.{RegionsRead, AreSound, regions_at-read}
+use Rattle.ffa_manifest.proofs.RegionsRead.{RegionsRead, regions_at-read}
 
 identifier-some : (text uuid : List ℕ) → identifier text ≡ Ok uuid → not (is_nil uuid) ≡ true
 unfolding identifier

@@ -1,5 +1,5 @@
 -- Single bits of a word.
-use Rattle.std.proofs.Common.{◌≡◌, ℕ, zero, suc, ◌*◌, ◌/◌, ◌%◌, ◌==◌, refl, arith, bit_and}
+use Rattle.std.proofs.Common.{◌≡◌, ℕ, ◌==◌, arith, bit_and}
 use Rattle.std.proofs.lemmas.Bool.Decides.{nat_tests}
 use Rattle.std.proofs.lemmas.Nat.Bits.{and_pow}
 use Rattle.ffa_model.specs.Bits.{is_set}

@@ -1,5 +1,5 @@
 -- Texts that are no identifier.
-use Rattle.std.proofs.Common.{◌≡◌, ℕ, zero, suc, ◌==◌, Bool, ◌&&◌, List, [], ◌∷◌, length, replicate, Option, Some, None, Result, Ok, Err, IsOk, ◌↔◌, refl, ap, arith}
+use Rattle.std.proofs.Common.{◌≡◌, ℕ, zero, suc, ◌==◌, ◌&&◌, List, [], ◌∷◌, length, replicate, Option, Some, None, Result, Ok, Err, IsOk, ◌↔◌, refl, ap, arith}
 use Rattle.std.specs.Str.{bytes_eq}
 use Rattle.ffa_model.specs.Manifest.{is_nil}
 

@@ -1,5 +1,5 @@
 -- Tables and arrays of the code beside the data that they stand for.
-use Rattle.std.proofs.Common.{◌≡◌, ℕ, List, [], ◌∷◌, ◌&&◌, ◌||◌, map, length, Bor, String, Global, string_bytes, refl, ap}
+use Rattle.std.proofs.Common.{◌≡◌, ℕ, List, [], ◌∷◌, ◌||◌, map, length, Bor, String, Global, string_bytes, refl, ap}
 use Rattle.std.specs.Prelude.{suc}
 use Rattle.std.specs.List.{list_all, list_any}
 use Rattle.std.specs.Str.{bytes_eq}

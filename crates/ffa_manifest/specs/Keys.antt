@@ -1,5 +1,5 @@
 -- The keys of a table, and what stands at one: its presence first, then its kind, then its value.
-use Rattle.std.specs.Prelude.{ℕ, ℤ, pos, negsuc, Bool, true, ◌&&◌, ◌^◌, nat_lt, List, Option, Some, None, Result, Ok, Err, if◌then◌else◌}
+use Rattle.std.specs.Prelude.{ℕ, ℤ, pos, negsuc, Bool, true, ◌&&◌, List, Option, Some, None, Result, Ok, Err, if◌then◌else◌}
 use Rattle.std.specs.Str.{bytes_eq}
 use Rattle.std.specs.List.{list_any}
 use Rattle.toml.specs.Data.{Data, Items, Members, no_members, member, get_member, as_str, as_integer, as_array}
@@ -27,9 +27,9 @@ text_at key ms = do
   d ← value_at key ms
   or_cause WrongKind (as_str d)
 
--- the number of an integer from 0 to 2^32 - 1; no key takes another
+-- the number that an integer is, where it's at least 0
 unfoldable pub natural : ℤ → Option ℕ
-natural (pos n) = if nat_lt n (2 ^ 32) then Some n else None
+natural (pos n) = Some n
 natural (negsuc n) = None
 
 unfoldable pub number_at : List ℕ → Members → Result (Option ℕ) ManifestError

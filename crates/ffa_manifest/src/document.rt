@@ -25,7 +25,7 @@ fn ram_base_at(table: &Table) -> Result<u32, ManifestError>
     ensures highest { IfOk result (λ n. n ≤ 0xFC000000) }
 {
     match number_at(table, "ram_base")? {
-        Some(n) if n % 0x400_0000 == 0 && 0x400_0000 <= n && n <= 0xFC00_0000 => Ok(n),
+        Some(n) if n % 0x400_0000 == 0 && 0x400_0000 <= n && n <= 0xFC00_0000 => Ok(n as u32),
         _ => Err(ManifestError::RamBase),
     }
 }
@@ -36,7 +36,7 @@ fn ram_blocks_at(table: &Table) -> Result<u32, ManifestError>
     ensures most { IfOk result (λ n. n ≤ 32) }
 {
     match number_at(table, "ram_blocks")? {
-        Some(n) if 1 <= n && n <= 32 => Ok(n),
+        Some(n) if 1 <= n && n <= 32 => Ok(n as u32),
         _ => Err(ManifestError::RamBlocks),
     }
 }
@@ -55,14 +55,14 @@ pub(crate) fn machine(table: &Table) -> Result<Manifest, ManifestError>
     ensures { Exact parts_of result (machine_in (table_view table.now)) }
 {
     top_keys(table)?;
-    let base = ram_base_at(table)?;
-    let blocks = ram_blocks_at(table)?;
+    let ram_base = ram_base_at(table)?;
+    let ram_blocks = ram_blocks_at(table)?;
     let values = endpoint_items(table)?;
     let place = Place {
-        base,
-        blocks,
+        base: ram_base,
+        blocks: ram_blocks,
         endpoints: values.len() as u32,
     };
     let endpoints = endpoints_from(values, &place)?;
-    Ok(Manifest::of(base, blocks, endpoints))
+    Ok(Manifest::of(ram_base, ram_blocks, endpoints))
 }

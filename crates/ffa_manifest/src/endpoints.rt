@@ -53,7 +53,7 @@ fn properties_at(table: &Table) -> Result<Properties, ManifestError>
     ensures { Exact (λ p. p.0) result (properties_in (table_view table.now)) }
 {
     match number_at(table, "properties")? {
-        Some(bits) if bits < 16 => Ok(Properties::from_bits_retain(bits)),
+        Some(bits) if bits < 16 => Ok(Properties::from_bits_retain(bits as u32)),
         _ => Err(ManifestError::Property),
     }
 }

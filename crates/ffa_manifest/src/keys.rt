@@ -55,15 +55,15 @@ pub(crate) fn text_at<'a>(table: &'a Table, key: &str) -> Result<&'a str, Manife
 }
 
 #[tactic(auto, unfolding(crate::specs::Keys::natural))]
-fn natural(number: i64) -> Option<u32>
+fn natural(number: i64) -> Option<u64>
     ensures { result ≡ natural_of number }
 {
-    u32::try_from(number).ok()
+    u64::try_from(number).ok()
 }
 
-/// The number of the integer at a key, where it fits 32 bits without a sign.
+/// The number that the integer at a key is, or `None` for one below 0.
 #[tactic(auto, unfolding(crate::specs::Keys::number_at))]
-pub(crate) fn number_at(table: &Table, key: &str) -> Result<Option<u32>, ManifestError>
+pub(crate) fn number_at(table: &Table, key: &str) -> Result<Option<u64>, ManifestError>
     ensures { Exact (λ n. n) result (number_in key.now (table_view table.now)) }
 {
     match value_at(table, key)?.as_integer() {

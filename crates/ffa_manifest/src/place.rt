@@ -1,7 +1,7 @@
 //! Where the regions of a machine may lie.
 ghost use Rattle.std.specs.Prelude.{◌≡◌, ◌≤◌};
 
-use ffa_model::Region;
+use ffa_model::{Region, Rights};
 
 /// A machine's RAM, of which the front holds the tables of its endpoints.
 #[derive(Clone, Copy, Debug)]
@@ -18,19 +18,26 @@ pub(crate) struct Place {
 }
 
 impl Place {
-    ghost use Rattle.ffa_manifest.specs.Place.{is_in};
+    ghost use Rattle.ffa_manifest.specs.Place.{placed};
 
-    /// Whether the region is of whole pages, at least one, that all lie in RAM behind the table pages.
-    pub(crate) fn holds(&self, region: &Region) -> bool
-        ensures { result ≡ is_in self.now region.now }
+    /// The region of these numbers, where it's of whole pages, at least one, that all lie in RAM behind the table
+    /// pages.
+    pub(crate) fn region(&self, base: u64, pages: u64, rights: Rights) -> Option<Region>
+        ensures { result ≡ placed self.now (record { base = base; pages = pages; rights = rights }) }
     {
         let start = u64::from(self.base);
         let free = start + 4096 * u64::from(self.endpoints * (2 + self.blocks));
         let end = start + 0x20_0000 * u64::from(self.blocks);
-        let first = u64::from(region.base);
-        region.base % 4096 == 0
-            && 1 <= region.pages
-            && free <= first
-            && first + 4096 * u64::from(region.pages) <= end
+        let region_end = u128::from(base) + 4096 * u128::from(pages);
+        if base % 4096 == 0 && 1 <= pages && free <= base && region_end <= u128::from(end) {
+            let (base, pages) = (base as u32, pages as u32);
+            Some(Region {
+                base,
+                pages,
+                rights,
+            })
+        } else {
+            None
+        }
     }
 }

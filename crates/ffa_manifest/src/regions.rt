@@ -22,14 +22,14 @@ fn region_keys(table: &Table) -> Result<(), ManifestError>
 }
 
 #[tactic(auto, unfolding(crate::specs::Regions::base_at))]
-fn base_at(table: &Table) -> Result<Option<u32>, ManifestError>
+fn base_at(table: &Table) -> Result<Option<u64>, ManifestError>
     ensures { Exact (λ n. n) result (base_in (table_view table.now)) }
 {
     number_at(table, "base")
 }
 
 #[tactic(auto, unfolding(crate::specs::Regions::pages_at))]
-fn pages_at(table: &Table) -> Result<Option<u32>, ManifestError>
+fn pages_at(table: &Table) -> Result<Option<u64>, ManifestError>
     ensures { Exact (λ n. n) result (pages_in (table_view table.now)) }
 {
     number_at(table, "pages")
@@ -71,18 +71,11 @@ fn region(table: &Table, place: &Place) -> Result<Region, ManifestError>
     let base = base_at(table)?;
     let pages = pages_at(table)?;
     let rights = rights_at(table)?;
-    let region = match (base, pages) {
-        (Some(base), Some(pages)) => Region {
-            base,
-            pages,
-            rights,
-        },
-        _ => return Err(ManifestError::RegionOutside),
-    };
-    if place.holds(&region) {
-        Ok(region)
-    } else {
-        Err(ManifestError::RegionOutside)
+    match (base, pages) {
+        (Some(base), Some(pages)) => place
+            .region(base, pages, rights)
+            .ok_or(ManifestError::RegionOutside),
+        _ => Err(ManifestError::RegionOutside),
     }
 }
 
