@@ -32,3 +32,11 @@ module _ {X : Type 0} where
   parts_more part f n before now after h e =
       e ∙ ap (λ l. l ++ part (f n)) h ∙ append_assoc before (flat_map part (listed n f)) (part (f n))
       ∙ ap (λ l. before ++ l) (sym (ap (flat_map part) (listed-more n f) ∙ flat_map-append part (listed n f) (f n ∷ []) ∙ ap (λ l. flat_map part (listed n f) ++ l) (append-nil (part (f n)))))
+
+module _ {X : Type 0} where
+  -- five pieces put behind a list one after another
+  pub five_pieces : (l a b c d e : List X) → ((((l ++ a) ++ b) ++ c) ++ d) ++ e ≡ l ++ ((a ++ (b ++ (c ++ d))) ++ e)
+  five_pieces l a b c d e =
+      ap (λ k. k ++ e) (ap (λ k. (k ++ c) ++ d) (append_assoc l a b) ∙ ap (λ k. k ++ d) (append_assoc l (a ++ b) c) ∙ append_assoc l ((a ++ b) ++ c) d
+      ∙ ap (λ k. l ++ k) (append_assoc (a ++ b) c d ∙ append_assoc a b (c ++ d)))
+      ∙ append_assoc l (a ++ (b ++ (c ++ d))) e

@@ -8,10 +8,10 @@ ghost use Rattle.ffa_model.specs.TraceText.{digit, hex, spaced, ended, fault_nam
 use arrayvec::ArrayVec;
 use ffa_model::{Data, FaultKind, Op, Outcome, Rights, Size};
 
-/// Room for the longest line, which is that of eight registers.
-pub const CAPACITY: usize = 160;
+/// Room for the longest text that is written at once, which is where the tables of eight endpoints stand.
+pub const CAPACITY: usize = 288;
 
-/// A line that is being made.
+/// A text that is being made.
 pub type Text = ArrayVec<u8, CAPACITY>;
 
 /// Appends a word as it stands.
@@ -31,6 +31,16 @@ pub fn push_hex(text: &mut Text, digits: u32, value: u64)
     ensures len { array_vec_len text.new ≡ array_vec_len text.old + 1 + digits }
 {
     text.push(b' ');
+    push_digits(text, digits, value);
+}
+
+/// Appends the lowest `digits` hexadecimal digits of a number.
+pub fn push_digits(text: &mut Text, digits: u32, value: u64)
+    requires digits { digits ≤ 16 }
+    requires room { array_vec_len text.old + digits ≤ CAPACITY }
+    ensures items { text.new.items ≡ text.old.items ++ hex digits value }
+    ensures len { array_vec_len text.new ≡ array_vec_len text.old + digits }
+{
     for place in (0..digits).rev() {
         text.push(digit((value >> (4 * place)) % 16));
     }

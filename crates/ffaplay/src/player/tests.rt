@@ -1,6 +1,6 @@
 use super::*;
-use ffa_model::{built_in, row_machine};
-use ffa_physmem::FlatRam;
+use ffa_model::{PageNo, built_in, row_machine};
+use ffa_physmem::{FlatRam, PhysMem};
 use std::io;
 use std::test::Fail;
 
@@ -72,6 +72,33 @@ fn rows(alloc: Global) -> Result<Player<FlatRam>, Fail> {
     Ok(Player::new(Machine::boot(&manifest, ram)))
 }
 
+// The word at an address of RAM.
+fn word(player: &Player<FlatRam>, address: u32) -> Option<u64> {
+    let ram = player.machine().ram();
+    let offset = address.checked_sub(ram.base())?;
+    if offset / 4096 < ram.pages() {
+        let index = offset % 4096 / 8;
+        Some(ram.read_word(PageNo(offset / 4096), index as usize))
+    } else {
+        None
+    }
+}
+
+#[test]
+fn boots_with_tables(rt: HostRuntime) -> Result<(), Fail> {
+    let player = rows(rt.alloc())?;
+    for (address, want) in [
+        (0x4000_0008, 0x0000_0000_4000_1003),
+        (0x4000_1000, 0x0000_0000_4000_2003),
+        (0x4000_2080, 0x0040_0000_4001_07FF),
+    ] {
+        assert_eq!(rt; word(&player, address), Some(want));
+    }
+    let player = demonstration(rt.alloc())?;
+    assert_eq!(rt; word(&player, 0x4000_5100), Some(0x0000_0000_4002_07FF));
+    Ok(())
+}
+
 #[test]
 fn plays_the_rows(rt: HostRuntime) -> Result<(), Fail> {
     for (trace, want) in [
@@ -94,6 +121,10 @@ fn plays_the_rows(rt: HostRuntime) -> Result<(), Fail> {
         (
             "store 4001fff8 0123456789abcDEF\nload 4001FFF8 4\n",
             "done\ndata 89ABCDEF\n",
+        ),
+        (
+            "call 84000063 10001\n",
+            "regs 0000 0000000084000060 0000000000000000 00000000FFFFFFFF 0000000000000000 0000000000000000 0000000000000000 0000000000000000 0000000000000000\n",
         ),
         ("# a comment\n\n#\nload 40010000 1\n", "data 00\n"),
         ("", ""),
@@ -198,7 +229,11 @@ fn stops_where_the_reader_fails(rt: HostRuntime) -> Result<(), Fail> {
             1..=5 => ENDS[lines - 1],
             _ => 0,
         };
-        assert_eq!(rt; out.as_slice(), &FIRST_TEXT.as_bytes()[..end], "{left}");
+        assert_eq!(rt;
+            Some(out.as_slice()),
+            FIRST_TEXT.as_bytes().get(..end),
+            "{left}"
+        );
         assert_eq!(rt; played, Err(PlayError::Read), "{left}");
     }
     Ok(())

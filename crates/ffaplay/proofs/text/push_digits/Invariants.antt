@@ -1,7 +1,7 @@
 use Rattle.std.proofs.Common.{◌≡◌, ◌+◌, ◌++◌}
 use Rattle.arrayvec.specs.ArrayVec.{array_vec_len}
 use Rattle.ffa_model.specs.TraceText.{hex}
-use Rattle.ffaplay.proofs.text.push_hex.Given as goal
+use Rattle.ffaplay.proofs.text.push_digits.Given as goal
 
 -- the digits so far, and those below
 abbrev pub invariant-loop-place : goal.invariant-loop-place

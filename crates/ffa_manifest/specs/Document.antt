@@ -1,0 +1,45 @@
+-- The machine that a text describes, or the first cause for which it is refused.
+use Rattle.std.specs.Prelude.{ℕ, List, [], ◌∷◌, Result, Ok, codes}
+use Rattle.toml.specs.Data.{Members}
+use Rattle.toml.specs.Parse.{parse_document}
+use Rattle.ffa_model.specs.declared.endpoint.Endpoint.{Endpoint}
+use Rattle.ffa_model.specs.declared.manifest.Manifest.{Manifest}
+use Rattle.ffa_model.specs.Manifest.{is_ram_base, is_from_to, is_placed}
+use Rattle.ffa_manifest.specs.declared.error.ManifestError.{ManifestError}
+use Rattle.ffa_manifest.specs.declared.error.ManifestError.TheVariants.{Toml, RamBase, RamBlocks}
+use Rattle.ffa_manifest.specs.Reading.{◌>>=◌, or_cause, tested, item_count}
+use Rattle.ffa_manifest.specs.Keys.{only_keys, number_at}
+use Rattle.ffa_manifest.specs.Endpoints.{endpoint_items, endpoints_from}
+
+-- a machine's RAM, and its endpoints in order
+pub record Parts : Type 0 where
+  pub ram_base : ℕ
+  pub ram_blocks : ℕ
+  pub endpoints : List Endpoint
+
+abbrev pub parts_of : Manifest → Parts
+parts_of m = record { ram_base = m.ram_base; ram_blocks = m.ram_blocks; endpoints = m.endpoints.items }
+
+unfoldable pub top_keys : Members → Result (Unit {0}) ManifestError
+top_keys ms = only_keys (codes "ram_base" ∷ codes "ram_blocks" ∷ codes "endpoint" ∷ []) ms
+
+unfoldable pub ram_base_at : Members → Result ℕ ManifestError
+ram_base_at ms = number_at (codes "ram_base") ms >>= tested is_ram_base RamBase
+
+unfoldable pub ram_blocks_at : Members → Result ℕ ManifestError
+ram_blocks_at ms = number_at (codes "ram_blocks") ms >>= tested (is_from_to 1 32) RamBlocks
+
+-- the top table
+unfoldable pub machine : Members → Result Parts ManifestError
+machine ms = do
+  known ← top_keys ms
+  base ← ram_base_at ms
+  blocks ← ram_blocks_at ms
+  ds ← endpoint_items ms
+  endpoints ← endpoints_from (is_placed base blocks (item_count ds)) ds
+  Ok (record { ram_base = base; ram_blocks = blocks; endpoints = endpoints })
+
+unfoldable pub machine_of : List ℕ → Result Parts ManifestError
+machine_of text = do
+  ms ← or_cause Toml (parse_document text)
+  machine ms

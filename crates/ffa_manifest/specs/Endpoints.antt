@@ -1,0 +1,79 @@
+-- The endpoints: the normal world, then the partitions.
+use Rattle.std.specs.Prelude.{ℕ, Bool, ◌||◌, ◌==◌, nat_lt, List, [], ◌∷◌, length, replicate, Result, Ok, Err, if◌then◌else◌, codes}
+use Rattle.std.specs.Str.{bytes_eq}
+use Rattle.uuid.specs.Text.{parsed}
+use Rattle.toml.specs.Data.{Data, Items, Members, as_table}
+use Rattle.ffa_model.specs.declared.endpoint.Region.{Region}
+use Rattle.ffa_model.specs.declared.endpoint.Endpoint.{Endpoint}
+use Rattle.ffa_model.specs.Bits.{is_set}
+use Rattle.ffa_model.specs.Manifest.{is_nil, regions_of}
+use Rattle.ffa_manifest.specs.declared.error.ManifestError.{ManifestError}
+use Rattle.ffa_manifest.specs.declared.error.ManifestError.TheVariants.{WrongKind, EndpointCount, Uuid, Property, Version}
+use Rattle.ffa_manifest.specs.Reading.{◌>>=◌, or_cause, tested, read_each}
+use Rattle.ffa_manifest.specs.Keys.{only_keys, number_at, text_at, items_at}
+use Rattle.ffa_manifest.specs.Regions.{regions_at}
+
+unfoldable pub normal_world_keys : Members → Result (Unit {0}) ManifestError
+normal_world_keys ms = only_keys (codes "version" ∷ codes "properties" ∷ codes "regions" ∷ []) ms
+
+unfoldable pub partition_keys : Members → Result (Unit {0}) ManifestError
+partition_keys ms = only_keys (codes "version" ∷ codes "uuid" ∷ codes "properties" ∷ codes "regions" ∷ []) ms
+
+-- the one version that is spoken
+unfoldable pub version_at : Members → Result (Unit {0}) ManifestError
+version_at ms = do
+  text ← text_at (codes "version") ms
+  if bytes_eq text (codes "1.1") then Ok tt else Err Version
+
+-- the bytes that a text writes, which aren't all 0
+unfoldable pub identifier : List ℕ → Result (List ℕ) ManifestError
+identifier text = do
+  uuid ← or_cause Uuid (parsed text)
+  if is_nil uuid then Err Uuid else Ok uuid
+
+unfoldable pub uuid_at : Members → Result (List ℕ) ManifestError
+uuid_at ms = text_at (codes "uuid") ms >>= identifier
+
+unfoldable pub properties_at : Members → Result ℕ ManifestError
+properties_at ms = number_at (codes "properties") ms >>= tested (λ n. nat_lt n 16) Property
+
+-- the normal world receives neither direct requests nor, from boot, notifications
+unfoldable pub normal_world_properties : Members → Result ℕ ManifestError
+normal_world_properties ms = do
+  n ← properties_at ms
+  if is_set 0 n || is_set 3 n then Err Property else Ok n
+
+abbrev pub endpoint_of : List ℕ → ℕ → List Region → Endpoint
+endpoint_of uuid properties regions =
+    record { uuid = uuid; properties = record { 0 = properties }; regions = record { items = regions } }
+
+-- the first table
+unfoldable pub normal_world : (Region → Bool) → Members → Result Endpoint ManifestError
+normal_world is_placed ms = do
+  known ← normal_world_keys ms
+  version ← version_at ms
+  properties ← normal_world_properties ms
+  regions ← regions_at is_placed [] ms
+  Ok (endpoint_of (replicate 16 0) properties regions)
+
+-- a table after those of these endpoints
+unfoldable pub partition : (Region → Bool) → List Endpoint → Members → Result Endpoint ManifestError
+partition is_placed before ms = do
+  known ← partition_keys ms
+  version ← version_at ms
+  uuid ← uuid_at ms
+  properties ← properties_at ms
+  regions ← regions_at is_placed (regions_of before) ms
+  Ok (endpoint_of uuid properties regions)
+
+-- the next endpoint of the array, after these
+unfoldable pub next_endpoint : (Region → Bool) → List Endpoint → Data → Result Endpoint ManifestError
+next_endpoint is_placed before d = do
+  ms ← or_cause WrongKind (as_table d)
+  if length before == 0 then normal_world is_placed ms else partition is_placed before ms
+
+unfoldable pub endpoints_from : (Region → Bool) → Items → Result (List Endpoint) ManifestError
+endpoints_from is_placed ds = read_each (next_endpoint is_placed) [] ds
+
+unfoldable pub endpoint_items : Members → Result Items ManifestError
+endpoint_items ms = items_at (codes "endpoint") 8 EndpointCount ms

@@ -1,0 +1,6 @@
+pub mod Reading
+pub mod Keys
+pub mod Place
+pub mod Regions
+pub mod Endpoints
+pub mod Document

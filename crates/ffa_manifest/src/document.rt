@@ -1,0 +1,68 @@
+//! The top table of a manifest.
+ghost use Rattle.std.specs.Prelude.{◌≡◌, ◌≤◌, IfOk, length};
+ghost use Rattle.toml.specs.View.{table_view, items_view};
+ghost use Rattle.ffa_manifest.specs.Reading.{Exact};
+ghost use Rattle.ffa_manifest.specs.Document.{top_keys as top_keys_in, ram_base_at as ram_base_in, ram_blocks_at as ram_blocks_in, machine as machine_in, parts_of};
+ghost use Rattle.ffa_manifest.specs.Endpoints.{endpoint_items as endpoint_items_in};
+
+use crate::endpoints::endpoints_from;
+use crate::error::ManifestError;
+use crate::keys::{items_at, number_at, only_keys};
+use crate::place::Place;
+use ffa_model::Manifest;
+use toml::{Table, Value};
+
+#[tactic(auto, unfolding(crate::specs::Document::top_keys))]
+fn top_keys(table: &Table) -> Result<(), ManifestError>
+    ensures { Exact (λ u. u) result (top_keys_in (table_view table.now)) }
+{
+    only_keys(table, &["ram_base", "ram_blocks", "endpoint"])
+}
+
+#[tactic(auto, unfolding(crate::specs::Document::ram_base_at))]
+fn ram_base_at(table: &Table) -> Result<u32, ManifestError>
+    ensures number { Exact (λ n. n) result (ram_base_in (table_view table.now)) }
+    ensures highest { IfOk result (λ n. n ≤ 0xFC000000) }
+{
+    match number_at(table, "ram_base")? {
+        Some(n) if n % 0x400_0000 == 0 && 0x400_0000 <= n && n <= 0xFC00_0000 => Ok(n as u32),
+        _ => Err(ManifestError::RamBase),
+    }
+}
+
+#[tactic(auto, unfolding(crate::specs::Document::ram_blocks_at))]
+fn ram_blocks_at(table: &Table) -> Result<u32, ManifestError>
+    ensures number { Exact (λ n. n) result (ram_blocks_in (table_view table.now)) }
+    ensures most { IfOk result (λ n. n ≤ 32) }
+{
+    match number_at(table, "ram_blocks")? {
+        Some(n) if 1 <= n && n <= 32 => Ok(n as u32),
+        _ => Err(ManifestError::RamBlocks),
+    }
+}
+
+#[tactic(auto, unfolding(crate::specs::Endpoints::endpoint_items))]
+fn endpoint_items(table: &Table) -> Result<&[Value], ManifestError>
+    ensures items { Exact (λ vs. items_view vs.now) result (endpoint_items_in (table_view table.now)) }
+    ensures few { IfOk result (λ vs. length vs.now ≤ 8) }
+{
+    items_at(table, "endpoint", 8, ManifestError::EndpointCount)
+}
+
+/// The machine that the top table of a manifest describes.
+#[tactic(auto, using(crate::proofs::Views::item_count_view), unfolding(crate::specs::Document::machine))]
+pub(crate) fn machine(table: &Table) -> Result<Manifest, ManifestError>
+    ensures { Exact parts_of result (machine_in (table_view table.now)) }
+{
+    top_keys(table)?;
+    let ram_base = ram_base_at(table)?;
+    let ram_blocks = ram_blocks_at(table)?;
+    let values = endpoint_items(table)?;
+    let place = Place {
+        base: ram_base,
+        blocks: ram_blocks,
+        endpoints: values.len() as u32,
+    };
+    let endpoints = endpoints_from(values, &place)?;
+    Ok(Manifest::of(ram_base, ram_blocks, endpoints))
+}

@@ -1,0 +1,147 @@
+//! The endpoints of a machine.
+ghost use Rattle.std.specs.Prelude.{◌≡◌, ◌≤◌, ◌||◌, length};
+ghost use Rattle.ffa_model.specs.Bits.{is_set};
+ghost use Rattle.toml.specs.View.{view, table_view, items_view};
+ghost use Rattle.ffa_manifest.specs.Reading.{Exact};
+ghost use Rattle.ffa_manifest.specs.Place.{is_in};
+ghost use Rattle.ffa_manifest.specs.Endpoints.{normal_world_keys as normal_world_keys_in, partition_keys as partition_keys_in, version_at as version_in, uuid_at as uuid_in, properties_at as properties_in, normal_world_properties as normal_world_properties_in, normal_world as normal_world_in, partition as partition_in, next_endpoint as next_in, endpoints_from as endpoints_in};
+
+use crate::error::ManifestError;
+use crate::identifier::identifier;
+use crate::keys::{number_at, only_keys, text_at};
+use crate::place::Place;
+use crate::regions::regions_at;
+use arrayvec::ArrayVec;
+use bitflags::Flags;
+use ffa_model::{Endpoint, Properties};
+use toml::{Table, Value};
+
+#[tactic(auto, unfolding(crate::specs::Endpoints::normal_world_keys))]
+fn normal_world_keys(table: &Table) -> Result<(), ManifestError>
+    ensures { Exact (λ u. u) result (normal_world_keys_in (table_view table.now)) }
+{
+    only_keys(table, &["version", "properties", "regions"])
+}
+
+#[tactic(auto, unfolding(crate::specs::Endpoints::partition_keys))]
+fn partition_keys(table: &Table) -> Result<(), ManifestError>
+    ensures { Exact (λ u. u) result (partition_keys_in (table_view table.now)) }
+{
+    only_keys(table, &["version", "uuid", "properties", "regions"])
+}
+
+#[tactic(auto, unfolding(crate::specs::Endpoints::version_at))]
+fn version_at(table: &Table) -> Result<(), ManifestError>
+    ensures { Exact (λ u. u) result (version_in (table_view table.now)) }
+{
+    if text_at(table, "version")? == "1.1" {
+        Ok(())
+    } else {
+        Err(ManifestError::Version)
+    }
+}
+
+#[tactic(auto, unfolding(crate::specs::Endpoints::uuid_at))]
+fn uuid_at(table: &Table) -> Result<[u8; 16], ManifestError>
+    ensures { Exact (λ bytes. bytes) result (uuid_in (table_view table.now)) }
+{
+    identifier(text_at(table, "uuid")?)
+}
+
+#[tactic(auto, unfolding(crate::specs::Endpoints::properties_at))]
+fn properties_at(table: &Table) -> Result<Properties, ManifestError>
+    ensures { Exact (λ p. p.0) result (properties_in (table_view table.now)) }
+{
+    match number_at(table, "properties")? {
+        Some(bits) if bits < 16 => Ok(Properties::from_bits_retain(bits as u32)),
+        _ => Err(ManifestError::Property),
+    }
+}
+
+// Whether direct requests or notifications are to be received.
+#[tactic(auto, using(crate::proofs::Bits::contains_first, crate::proofs::Bits::contains_fourth))]
+fn receives(properties: Properties) -> bool
+    ensures { result ≡ (is_set 0 properties.0 || is_set 3 properties.0) }
+{
+    properties.contains(Properties::RECEIVES_DIRECT_REQUESTS)
+        || properties.contains(Properties::RECEIVES_NOTIFICATIONS)
+}
+
+#[tactic(auto, unfolding(crate::specs::Endpoints::normal_world_properties))]
+fn normal_world_properties(table: &Table) -> Result<Properties, ManifestError>
+    ensures { Exact (λ p. p.0) result (normal_world_properties_in (table_view table.now)) }
+{
+    let properties = properties_at(table)?;
+    if receives(properties) {
+        Err(ManifestError::Property)
+    } else {
+        Ok(properties)
+    }
+}
+
+#[tactic(auto, unfolding(crate::specs::Endpoints::normal_world))]
+fn normal_world(table: &Table, place: &Place) -> Result<Endpoint, ManifestError>
+    ensures { Exact (λ e. e) result (normal_world_in (is_in place.now) (table_view table.now)) }
+{
+    normal_world_keys(table)?;
+    version_at(table)?;
+    let properties = normal_world_properties(table)?;
+    let regions = regions_at(table, place, &[])?;
+    Ok(Endpoint {
+        uuid: [0; 16],
+        properties,
+        regions,
+    })
+}
+
+#[tactic(auto, unfolding(crate::specs::Endpoints::partition))]
+fn partition(table: &Table, place: &Place, before: &[Endpoint]) -> Result<Endpoint, ManifestError>
+    ensures { Exact (λ e. e) result (partition_in (is_in place.now) before.now (table_view table.now)) }
+{
+    partition_keys(table)?;
+    version_at(table)?;
+    let uuid = uuid_at(table)?;
+    let properties = properties_at(table)?;
+    let regions = regions_at(table, place, before)?;
+    Ok(Endpoint {
+        uuid,
+        properties,
+        regions,
+    })
+}
+
+#[tactic(auto, unfolding(crate::specs::Endpoints::next_endpoint))]
+fn next_endpoint(
+    value: &Value,
+    place: &Place,
+    before: &[Endpoint],
+) -> Result<Endpoint, ManifestError>
+    ensures { Exact (λ e. e) result (next_in (is_in place.now) before.now (view value.now)) }
+{
+    let table = match value.as_table() {
+        None => return Err(ManifestError::WrongKind),
+        Some(table) => table,
+    };
+    if before.is_empty() {
+        normal_world(table, place)
+    } else {
+        partition(table, place, before)
+    }
+}
+
+/// The endpoints of the items of the array `endpoint`.
+#[tactic(auto, unfolding(crate::specs::Endpoints::endpoints_from))]
+pub(crate) fn endpoints_from(
+    values: &[Value],
+    place: &Place,
+) -> Result<ArrayVec<Endpoint, 8>, ManifestError>
+    requires { length values.now ≤ 8 }
+    ensures { Exact (λ es. es.items) result (endpoints_in (is_in place.now) (items_view values.now)) }
+{
+    let mut endpoints = ArrayVec::new();
+    for value in values {
+        let endpoint = next_endpoint(value, place, endpoints.as_slice())?;
+        endpoints.push(endpoint);
+    }
+    Ok(endpoints)
+}

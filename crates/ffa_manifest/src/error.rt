@@ -1,0 +1,50 @@
+//! Why a manifest is refused.
+
+use thiserror::Error;
+
+/// The cause for which a manifest is refused: the first that applies, in the order in which the text is read.
+#[derive(Clone, Copy, Debug, PartialEq, Eq, Error)]
+pub enum ManifestError {
+    /// The allocator refused memory.
+    #[error("M1 NoMemory")]
+    NoMemory,
+    /// The text is no TOML document.
+    #[error("M2 Toml")]
+    Toml,
+    /// A table has a key that isn't one of its own.
+    #[error("M3 UnknownKey")]
+    UnknownKey,
+    /// A table lacks one of its keys.
+    #[error("M4 MissingKey")]
+    MissingKey,
+    /// A value has another kind than its key asks for, or `rights` isn't one of `ro`, `rw`, `rox` and `rwx`.
+    #[error("M5 WrongKind")]
+    WrongKind,
+    /// `ram_base` isn't a multiple of 64 MiB from 0x04000000 to 0xFC000000.
+    #[error("M6 RamBase")]
+    RamBase,
+    /// `ram_blocks` isn't from 1 to 32.
+    #[error("M7 RamBlocks")]
+    RamBlocks,
+    /// There is no endpoint, or more than 8.
+    #[error("M8 EndpointCount")]
+    EndpointCount,
+    /// A UUID can't be read, or it's the Nil UUID.
+    #[error("M9 Uuid")]
+    Uuid,
+    /// `properties` isn't from 0 to 15, or the normal world is to receive direct requests or notifications.
+    #[error("M10 Property")]
+    Property,
+    /// An endpoint has no region, or more than 16.
+    #[error("M11 RegionCount")]
+    RegionCount,
+    /// A region isn't of whole pages, at least one, that all lie in RAM behind the table pages.
+    #[error("M12 RegionOutside")]
+    RegionOutside,
+    /// A region has a page of a region that was read before.
+    #[error("M13 RegionOverlap")]
+    RegionOverlap,
+    /// `version` isn't `1.1`.
+    #[error("M14 Version")]
+    Version,
+}

@@ -1,0 +1,152 @@
+//! The regions of an endpoint.
+ghost use Rattle.std.specs.Prelude.{◌≡◌, ◌≤◌, ◌++◌, length};
+ghost use Rattle.std.specs.List.{list_all};
+ghost use Rattle.toml.specs.View.{view, table_view, items_view};
+ghost use Rattle.ffa_model.specs.Manifest.{is_apart, regions_of};
+ghost use Rattle.ffa_manifest.specs.Reading.{Exact};
+ghost use Rattle.ffa_manifest.specs.Place.{is_in};
+ghost use Rattle.ffa_manifest.specs.Regions.{region_keys as keys_in, base_at as base_in, pages_at as pages_in, rights_named as rights_of_word, rights_at as rights_in, region as region_in, is_free as is_free_in, next_region as next_in, regions_from as regions_in, regions_at as regions_of_table};
+
+use crate::error::ManifestError;
+use crate::keys::{items_at, number_at, only_keys, text_at};
+use crate::place::Place;
+use arrayvec::ArrayVec;
+use ffa_model::{Data, Endpoint, Region, Rights};
+use toml::{Table, Value};
+
+#[tactic(auto, unfolding(crate::specs::Regions::region_keys))]
+fn region_keys(table: &Table) -> Result<(), ManifestError>
+    ensures { Exact (λ u. u) result (keys_in (table_view table.now)) }
+{
+    only_keys(table, &["base", "pages", "rights"])
+}
+
+#[tactic(auto, unfolding(crate::specs::Regions::base_at))]
+fn base_at(table: &Table) -> Result<Option<u64>, ManifestError>
+    ensures { Exact (λ n. n) result (base_in (table_view table.now)) }
+{
+    number_at(table, "base")
+}
+
+#[tactic(auto, unfolding(crate::specs::Regions::pages_at))]
+fn pages_at(table: &Table) -> Result<Option<u64>, ManifestError>
+    ensures { Exact (λ n. n) result (pages_in (table_view table.now)) }
+{
+    number_at(table, "pages")
+}
+
+#[tactic(auto, unfolding(crate::specs::Regions::rights_named))]
+fn rights_named(word: &str) -> Option<Rights>
+    ensures { result ≡ rights_of_word word.now }
+{
+    let (level, exec) = if word == "ro" {
+        (Data::Ro, false)
+    } else if word == "rw" {
+        (Data::Rw, false)
+    } else if word == "rox" {
+        (Data::Ro, true)
+    } else if word == "rwx" {
+        (Data::Rw, true)
+    } else {
+        return None;
+    };
+    Some(Rights { level, exec })
+}
+
+#[tactic(auto, unfolding(crate::specs::Regions::rights_at))]
+fn rights_at(table: &Table) -> Result<Rights, ManifestError>
+    ensures { Exact (λ r. r) result (rights_in (table_view table.now)) }
+{
+    match rights_named(text_at(table, "rights")?) {
+        None => Err(ManifestError::WrongKind),
+        Some(rights) => Ok(rights),
+    }
+}
+
+#[tactic(auto, unfolding(crate::specs::Regions::region))]
+fn region(table: &Table, place: &Place) -> Result<Region, ManifestError>
+    ensures { Exact (λ r. r) result (region_in (is_in place.now) (table_view table.now)) }
+{
+    region_keys(table)?;
+    let base = base_at(table)?;
+    let pages = pages_at(table)?;
+    let rights = rights_at(table)?;
+    match (base, pages) {
+        (Some(base), Some(pages)) => place
+            .region(base, pages, rights)
+            .ok_or(ManifestError::RegionOutside),
+        _ => Err(ManifestError::RegionOutside),
+    }
+}
+
+fn is_apart(region: &Region, other: &Region) -> bool
+    ensures { result ≡ is_apart region.now other.now }
+{
+    let end = u64::from(region.base) + 4096 * u64::from(region.pages);
+    let other_end = u64::from(other.base) + 4096 * u64::from(other.pages);
+    end <= u64::from(other.base) || other_end <= u64::from(region.base)
+}
+
+fn is_apart_from_all(region: &Region, others: &[Region]) -> bool
+    ensures { result ≡ is_free_in others.now region.now }
+{
+    others.iter().all(|other| is_apart(region, other))
+}
+
+// No endpoint has a page of the region.
+fn is_free(region: &Region, endpoints: &[Endpoint]) -> bool
+    ensures { result ≡ list_all (λ (e : Endpoint). is_free_in e.regions.items region.now) endpoints.now }
+{
+    endpoints.iter().all(|endpoint| is_apart_from_all(region, endpoint.regions.as_slice()))
+}
+
+#[tactic(auto, using(crate::proofs::Taken::is_free_of_both), unfolding(crate::specs::Regions::next_region))]
+fn next_region(
+    value: &Value,
+    place: &Place,
+    endpoints: &[Endpoint],
+    own: &[Region],
+) -> Result<Region, ManifestError>
+    ensures { Exact (λ r. r) result (next_in (is_in place.now) (regions_of endpoints.now ++ own.now) (view value.now)) }
+{
+    let table = match value.as_table() {
+        None => return Err(ManifestError::WrongKind),
+        Some(table) => table,
+    };
+    let region = region(table, place)?;
+    if is_free(&region, endpoints) && is_apart_from_all(&region, own) {
+        Ok(region)
+    } else {
+        Err(ManifestError::RegionOverlap)
+    }
+}
+
+#[tactic(auto, unfolding(crate::specs::Regions::regions_from))]
+fn regions_from(
+    values: &[Value],
+    place: &Place,
+    endpoints: &[Endpoint],
+) -> Result<ArrayVec<Region, 16>, ManifestError>
+    requires { length values.now ≤ 16 }
+    ensures { Exact (λ rs. rs.items) result (regions_in (is_in place.now) (regions_of endpoints.now) (items_view values.now)) }
+{
+    let mut own = ArrayVec::new();
+    for value in values {
+        let region = next_region(value, place, endpoints, own.as_slice())?;
+        own.push(region);
+    }
+    Ok(own)
+}
+
+/// The regions of an endpoint's table, which lie apart from those of the endpoints before it.
+#[tactic(auto, unfolding(crate::specs::Regions::regions_at))]
+pub(crate) fn regions_at(
+    table: &Table,
+    place: &Place,
+    endpoints: &[Endpoint],
+) -> Result<ArrayVec<Region, 16>, ManifestError>
+    ensures { Exact (λ rs. rs.items) result (regions_of_table (is_in place.now) (regions_of endpoints.now) (table_view table.now)) }
+{
+    let values = items_at(table, "regions", 16, ManifestError::RegionCount)?;
+    regions_from(values, place, endpoints)
+}

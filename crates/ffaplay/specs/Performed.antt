@@ -1,0 +1,79 @@
+-- What a command of the program leaves.
+use Rattle.std.specs.Prelude.{◌≡◌, ◌⊎◌, ℕ, true, List, codes, IsUtf8, Option, Result, None, Some, Ok, Err, ⊤}
+use Rattle.std.specs.Io.KnownBytes.{Appends, Keeps}
+use Rattle.ffa_model.specs.State.{State}
+use Rattle.ffa_model.specs.First.{first}
+use Rattle.ffa_model.specs.Machines.{built_in_endpoints}
+use Rattle.ffa_model.specs.TraceLines.{are_lines, joined}
+use Rattle.ffa_model.specs.TraceText.{text, ended}
+use Rattle.ffa_manifest.specs.Document.{Parts, machine_of}
+use Rattle.ffa_manifest.specs.declared.error.ManifestError.{ManifestError}
+use Rattle.ffa_manifest.specs.declared.error.ManifestError.TheVariants.{Toml}
+use Rattle.ffaplay.specs.Layouts.{layout_text}
+use Rattle.ffaplay.specs.declared.commands.Failure.{Failure}
+use Rattle.ffaplay.specs.declared.commands.Failure.TheVariants.{Manifest, BadLine, Read, Write, NoMemory}
+use Rattle.ffaplay.specs.declared.words.Request.{Request}
+use Rattle.ffaplay.specs.declared.words.Request.TheVariants.{Run, Demo, Check, Layout}
+
+-- these are all the bytes, where those are known
+abbrev pub IsAll : Option (List ℕ) → List ℕ → Type 0
+IsAll None all = ⊤
+IsAll (Some bytes) all = bytes ≡ all
+
+-- the bytes of a file that could be read are the text of a machine's manifest
+abbrev pub Describes : Option (List ℕ) → Parts → Type 0
+Describes None m = ⊥
+Describes (Some bytes) m = IsUtf8 bytes × (machine_of bytes ≡ Ok m)
+
+-- they aren't, for this cause
+abbrev pub IsRefused : Option (List ℕ) → ManifestError → Type 0
+IsRefused None cause = ⊥
+IsRefused (Some bytes) cause = ((IsUtf8 bytes → ⊥) × (cause ≡ Toml)) ⊎ (machine_of bytes ≡ Err cause)
+
+abbrev pub SomeCause : Option (List ℕ) → Type 0
+SomeCause manifest = (cause : ManifestError) × IsRefused manifest cause
+
+abbrev pub first_of : Parts → State
+first_of m = first m.ram_base m.ram_blocks m.endpoints
+
+abbrev pub built_in_parts : Parts
+built_in_parts = record { ram_base = 0x40000000; ram_blocks = 1; endpoints = built_in_endpoints }
+
+-- a trace was played from this state to its end: what its reader had are lines, and their text was written
+pub record IsPlayed (start : State) (trace held holds : Option (List ℕ)) : Type 0 where
+  pub lines : List (List ℕ)
+  pub each : are_lines lines ≡ true
+  pub all : IsAll trace (joined lines)
+  pub written : Appends held holds (text start lines)
+
+-- A command was done: `manifest` are the bytes of the manifest's file, if it could be read, `trace` those that the
+-- trace's reader had, where known, and `held` and `holds` those that the writer held before, and holds.
+abbrev pub IsDone : Request → Option (List ℕ) → Option (List ℕ) → Option (List ℕ) → Option (List ℕ) → Type 0
+IsDone (Run m t) manifest trace held holds = (parts : Parts) × Describes manifest parts × IsPlayed (first_of parts) trace held holds
+IsDone (Demo t) manifest trace held holds = IsPlayed (first_of built_in_parts) trace held holds
+IsDone (Check m) manifest trace held holds = (parts : Parts) × Describes manifest parts × Appends held holds (ended (codes "accepted"))
+IsDone (Layout m) manifest trace held holds = (parts : Parts) × Describes manifest parts × Appends held holds (layout_text parts)
+
+-- the status with which the program ends
+abbrev pub status_of : Failure → ℕ
+status_of (Manifest cause) = 1
+status_of (BadLine n) = 2
+status_of (Read path) = 3
+status_of Write = 3
+status_of NoMemory = 3
+
+-- a manifest is refused for its own cause, and then nothing was written
+abbrev pub FailsFor : Option (List ℕ) → Option (List ℕ) → Option (List ℕ) → Failure → Type 0
+FailsFor manifest held holds (Manifest cause) = IsRefused manifest cause × Keeps held holds
+FailsFor manifest held holds (BadLine n) = ⊤
+FailsFor manifest held holds (Read path) = ⊤
+FailsFor manifest held holds Write = ⊤
+FailsFor manifest held holds NoMemory = ⊤
+
+-- no manifest is refused
+abbrev pub IsOther : Failure → Type 0
+IsOther (Manifest cause) = ⊥
+IsOther (BadLine n) = ⊤
+IsOther (Read path) = ⊤
+IsOther Write = ⊤
+IsOther NoMemory = ⊤

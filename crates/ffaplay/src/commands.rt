@@ -1,0 +1,181 @@
+//! The commands of the program.
+ghost use Rattle.std.specs.Prelude.{◌≡◌, ◌≤◌, None, OnOk, IfErr, IfOk, option_map};
+ghost use Rattle.std.specs.Option.{option_and_then};
+ghost use Rattle.std.specs.Io.KnownBytes.{Appends, Keeps};
+ghost use Rattle.ffa_manifest.specs.Document.{parts_of};
+ghost use Rattle.ffaplay.specs.Performed.{Describes, IsRefused, SomeCause, IsPlayed, IsDone, IsOther, FailsFor, first_of, status_of};
+
+use crate::layout;
+use crate::output::{self, PlayError};
+use crate::player::Player;
+use crate::text::Text;
+use crate::words::Request;
+use ffa_manifest::ManifestError;
+use ffa_model::{Manifest, built_in};
+use ffa_physmem::FlatRam;
+use ffa_spmc::Machine;
+use std::alloc::Global;
+use std::io::{Read, Write};
+use thiserror::Error;
+
+/// Why a command isn't done.
+#[derive(Clone, Copy, Debug, PartialEq, Eq, Error)]
+pub enum Failure<'a> {
+    /// The manifest is refused.
+    #[error("manifest: {0}")]
+    Manifest(ManifestError),
+    /// The line of this number, counted from 1, is none of a trace.
+    #[error("line {0}: bad line")]
+    BadLine(u64),
+    /// The file at this path can't be read.
+    #[error("cannot read {0}")]
+    Read(&'a str),
+    /// The output can't be written.
+    #[error("cannot write")]
+    Write,
+    /// There is no memory.
+    #[error("no memory")]
+    NoMemory,
+}
+
+impl Failure<'_> {
+    // The status with which the program ends.
+    fn status(&self) -> u8
+        ensures { result ≡ status_of self.now }
+    {
+        match self {
+            Failure::Manifest(_) => 1,
+            Failure::BadLine(_) => 2,
+            Failure::Read(_) | Failure::Write | Failure::NoMemory => 3,
+        }
+    }
+}
+
+/// Does what was asked for, and answers the status with which the program ends.
+///
+/// `manifest` are the bytes of the manifest's file and `trace` reads the trace's; `None` is a file that can't be read.
+/// What the request doesn't name is left alone. All output goes to `out`, which is flushed, and to `err` a line that says
+/// why a command isn't done. The status is 0 for a command that was done, 1 for a manifest that is refused, 2 for a line
+/// that is none of a trace, and 3 where a file can't be read, `out` can't be written or memory is short. Faults are found
+/// in this order: the manifest's file, the manifest, the trace's file, RAM, the trace.
+pub fn perform<R: Read + Drop, W: Write, E: Write>(
+    alloc: Global,
+    request: &Request<'_>,
+    manifest: Option<&[u8]>,
+    trace: Option<R>,
+    out: &mut W,
+    err: &mut E,
+) -> u8
+    ensures done { result ≡ 0 → IsDone request.now (option_map (λ bytes. bytes.now) manifest.entry) (option_and_then (λ reader. R.remaining reader) trace) (W.contents out.old) (W.contents out.new) }
+    ensures refused { result ≡ 1 → SomeCause (option_map (λ bytes. bytes.now) manifest.entry) × Keeps (W.contents out.old) (W.contents out.new) }
+    ensures quiet { result ≡ 0 → Keeps (E.contents err.old) (E.contents err.new) }
+    ensures status { result ≤ 3 }
+{
+    let done = do_request(alloc, request, manifest, trace, out);
+    let flushed = out.flush();
+    let failure = match done {
+        Ok(()) if flushed.is_ok() => return 0,
+        Ok(()) => Failure::Write,
+        Err(failure) => failure,
+    };
+    let _ = writeln!(err, "ffaplay: {failure}");
+    failure.status()
+}
+
+fn do_request<'a, R: Read + Drop, W: Write>(
+    alloc: Global,
+    request: &Request<'a>,
+    manifest: Option<&[u8]>,
+    trace: Option<R>,
+    out: &mut W,
+) -> Result<(), Failure<'a>>
+    ensures done { OnOk result (IsDone request.now (option_map (λ bytes. bytes.now) manifest.entry) (option_and_then (λ reader. R.remaining reader) trace) (W.contents out.old) (W.contents out.new)) }
+    ensures failed { IfErr result (FailsFor (option_map (λ bytes. bytes.now) manifest.entry) (W.contents out.old) (W.contents out.new)) }
+{
+    match *request {
+        Request::Run {
+            manifest: path,
+            trace: trace_path,
+        } => {
+            let manifest = read_manifest(alloc, path, manifest)?;
+            play(alloc, &manifest, trace_path, trace, out)
+        }
+        Request::Demo { trace: path } => play(alloc, &built_in(), path, trace, out),
+        Request::Check { manifest: path } => {
+            read_manifest(alloc, path, manifest)?;
+            write(out, b"accepted\n")
+        }
+        Request::Layout { manifest: path } => {
+            let manifest = read_manifest(alloc, path, manifest)?;
+            let mut text = Text::new();
+            layout::push_layout(&mut text, &manifest);
+            write(out, text.as_slice())
+        }
+    }
+}
+
+fn read_manifest<'a>(
+    alloc: Global,
+    path: &'a str,
+    bytes: Option<&[u8]>,
+) -> Result<Manifest, Failure<'a>>
+    ensures described { IfOk result (λ m. Describes (option_map (λ b. b.now) bytes.entry) (parts_of m)) }
+    ensures failed { IfErr result (FailsFor (option_map (λ b. b.now) bytes.entry) None None) }
+{
+    let Some(bytes) = bytes else {
+        return Err(Failure::Read(path));
+    };
+    let Ok(text) = str::from_utf8(bytes) else {
+        return Err(Failure::Manifest(ManifestError::Toml));
+    };
+    ffa_manifest::read(alloc, text).map_err(|error| match error {
+        ManifestError::NoMemory => Failure::NoMemory,
+        cause => Failure::Manifest(cause),
+    })
+}
+
+// Plays a trace on a machine that has just booted.
+fn play<'a, R: Read + Drop, W: Write>(
+    alloc: Global,
+    manifest: &Manifest,
+    path: &'a str,
+    trace: Option<R>,
+    out: &mut W,
+) -> Result<(), Failure<'a>>
+    ensures played { OnOk result (IsPlayed (first_of (parts_of manifest.now)) (option_and_then (λ reader. R.remaining reader) trace) (W.contents out.old) (W.contents out.new)) }
+    ensures failed { IfErr result IsOther }
+{
+    let Some(mut trace) = trace else {
+        return Err(Failure::Read(path));
+    };
+    let Ok(ram) = FlatRam::new(alloc, manifest.ram_base, 512 * manifest.ram_blocks) else {
+        return Err(Failure::NoMemory);
+    };
+    let mut player = Player::new(Machine::boot(manifest, ram));
+    match player.play(alloc, &mut trace, out) {
+        Ok(()) => Ok(()),
+        Err(error) => Err(why(path, error)),
+    }
+}
+
+fn write<'a, W: Write>(out: &mut W, text: &[u8]) -> Result<(), Failure<'a>>
+    ensures written { OnOk result (Appends (W.contents out.old) (W.contents out.new) text.now) }
+    ensures failed { IfErr result IsOther }
+{
+    output::write_text(out, text).map_err(|_| Failure::Write)
+}
+
+// Why a play of the trace at this path stopped.
+fn why(path: &str, error: PlayError) -> Failure<'_>
+    ensures { IsOther result }
+{
+    match error {
+        PlayError::Read => Failure::Read(path),
+        PlayError::Write => Failure::Write,
+        PlayError::NoMemory => Failure::NoMemory,
+        PlayError::BadLine(number) => Failure::BadLine(number),
+    }
+}
+
+#[cfg(test)]
+mod tests;

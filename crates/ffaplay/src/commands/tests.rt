@@ -1,0 +1,254 @@
+//! The commands on worked manifests and traces.
+
+use super::*;
+use std::alloc::AllocError;
+use std::io;
+use std::test::Fail;
+
+// A machine with two partitions.
+const ROW: &str = "ram_base = 0x40000000
+ram_blocks = 1
+[[endpoint]]
+version = \"1.1\"
+properties = 6
+regions = [{ base = 0x40010000, pages = 16, rights = \"rw\" }]
+[[endpoint]]
+version = \"1.1\"
+uuid = \"00112233-4455-6677-8899-aabbccddeeff\"
+properties = 15
+regions = [{ base = 0x40020000, pages = 16, rights = \"rwx\" }]
+[[endpoint]]
+version = \"1.1\"
+uuid = \"10112233-4455-6677-8899-aabbccddeeff\"
+properties = 15
+regions = [{ base = 0x40030000, pages = 16, rights = \"rw\" }]
+";
+
+// The highest machine that there is, but for its fourth to eighth endpoint.
+const HIGHEST: &str = "ram_base = 0xFC000000
+ram_blocks = 32
+[[endpoint]]
+version = \"1.1\"
+properties = 6
+regions = [{ base = 0xFFFFF000, pages = 1, rights = \"rw\" }]
+[[endpoint]]
+version = \"1.1\"
+uuid = \"00112233-4455-6677-8899-aabbccddeeff\"
+properties = 15
+regions = [{ base = 0xFC110000, pages = 1, rights = \"rwx\" }]
+";
+
+const RUN: Request<'static> = Request::Run {
+    manifest: "row.toml",
+    trace: "row.trace",
+};
+
+const DEMO: Request<'static> = Request::Demo { trace: "no.trace" };
+
+const CHECK: Request<'static> = Request::Check {
+    manifest: "row.toml",
+};
+
+const LAYOUT: Request<'static> = Request::Layout {
+    manifest: "row.toml",
+};
+
+// How a command ended, with what it wrote.
+#[derive(Debug, PartialEq, Drop)]
+struct Ended {
+    status: u8,
+    out: Vec<u8>,
+    err: Vec<u8>,
+}
+
+fn performed(
+    alloc: Global,
+    request: &Request<'_>,
+    manifest: Option<&[u8]>,
+    trace: Option<&str>,
+) -> Ended {
+    let mut out = Vec::new(alloc);
+    let mut err = Vec::new(alloc);
+    let trace = trace.map(|text| text.as_bytes());
+    let status = perform(alloc, request, manifest, trace, &mut out, &mut err);
+    Ended { status, out, err }
+}
+
+fn wanted(alloc: Global, status: u8, out: &str, err: &str) -> Result<Ended, AllocError> {
+    Ok(Ended {
+        status,
+        out: Vec::from_slice(alloc, out.as_bytes())?,
+        err: Vec::from_slice(alloc, err.as_bytes())?,
+    })
+}
+
+#[test]
+fn demonstrates(rt: HostRuntime) -> Result<(), Fail> {
+    let trace = "call 84000069\nstore 40010000 2A\nload 40010000 1\nload 40020000 1\nshow\n";
+    let text =
+        "regs 0000 0000000084000061 0000000000000000 0000000000000000 0000000000000000 0000000000000000 0000000000000000 0000000000000000 0000000000000000\ndone\ndata 2A\nfault translation\nrunner 0000\npages 40000000 4000FFFF 8000 --- ---\npages 40010000 4001FFFF 0000 rw- ---\npages 40020000 4002FFFF 8001 --- rwx\npages 40030000 401FFFFF 8000 --- ---\n";
+    let got = performed(rt.alloc(), &DEMO, None, Some(trace));
+    assert_eq!(rt; got, wanted(rt.alloc(), 0, text, "")?);
+    Ok(())
+}
+
+#[test]
+fn ends_traces_with_their_status(rt: HostRuntime) -> Result<(), Fail> {
+    for (trace, status, out, err) in [
+        (Some(""), 0, "", ""),
+        (
+            Some("load 40010000 1\nload 40010000 1\nload 4001\n"),
+            2,
+            "data 00\ndata 00\n",
+            "ffaplay: line 3: bad line\n",
+        ),
+        (
+            Some("load 40010000 1"),
+            2,
+            "",
+            "ffaplay: line 1: bad line\n",
+        ),
+        (None, 3, "", "ffaplay: cannot read row.trace\n"),
+    ] {
+        let got = performed(rt.alloc(), &RUN, Some(ROW.as_bytes()), trace);
+        assert_eq!(rt; got, wanted(rt.alloc(), status, out, err)?);
+    }
+    let got = performed(rt.alloc(), &DEMO, None, None);
+    assert_eq!(rt;
+        got,
+        wanted(rt.alloc(), 3, "", "ffaplay: cannot read no.trace\n")?
+    );
+    Ok(())
+}
+
+#[test]
+fn loads_the_highest_word(rt: HostRuntime) -> Result<(), Fail> {
+    let trace = "store FFFFFFF8 0123456789ABCDEF\nload FFFFFFF8 8\n";
+    let got = performed(rt.alloc(), &RUN, Some(HIGHEST.as_bytes()), Some(trace));
+    assert_eq!(rt;
+        got,
+        wanted(rt.alloc(), 0, "done\ndata 0123456789ABCDEF\n", "")?
+    );
+    Ok(())
+}
+
+// Faults are found in order: the manifest's file, the manifest, the trace's file.
+#[test]
+fn finds_the_first_fault(rt: HostRuntime) -> Result<(), Fail> {
+    let overlapping = ROW.replacen(rt.alloc(), "0x40030000", "0x40028000", 1)?;
+    for (manifest, status, err) in [
+        (None, 3, "ffaplay: cannot read row.toml\n"),
+        (
+            Some(overlapping.as_bytes()),
+            1,
+            "ffaplay: manifest: M13 RegionOverlap\n",
+        ),
+        (Some(b"\xff".as_slice()), 1, "ffaplay: manifest: M2 Toml\n"),
+        (Some(ROW.as_bytes()), 3, "ffaplay: cannot read row.trace\n"),
+    ] {
+        let got = performed(rt.alloc(), &RUN, manifest, None);
+        assert_eq!(rt; got, wanted(rt.alloc(), status, "", err)?);
+    }
+    Ok(())
+}
+
+#[test]
+fn checks_manifests(rt: HostRuntime) -> Result<(), Fail> {
+    for (old, new, status, out, err) in [
+        ("", "", 0, "accepted\n", ""),
+        ("ram_blocks = 1", "ram_blocks = 2", 0, "accepted\n", ""),
+        (
+            "0x40010000, pages = 16",
+            "0x40009000, pages = 1",
+            0,
+            "accepted\n",
+            "",
+        ),
+        (
+            "0x40010000, pages = 16",
+            "0x40008000, pages = 1",
+            1,
+            "",
+            "ffaplay: manifest: M12 RegionOutside\n",
+        ),
+        (
+            "0x40000000",
+            "0x41000000",
+            1,
+            "",
+            "ffaplay: manifest: M6 RamBase\n",
+        ),
+    ] {
+        let manifest = ROW.replacen(rt.alloc(), old, new, 1)?;
+        let got = performed(rt.alloc(), &CHECK, Some(manifest.as_bytes()), None);
+        assert_eq!(rt; got, wanted(rt.alloc(), status, out, err)?, "{new}");
+    }
+    Ok(())
+}
+
+#[test]
+fn prints_layouts(rt: HostRuntime) -> Result<(), Fail> {
+    for (blocks, out) in [
+        (
+            "ram_blocks = 1",
+            "0000 40000000 40001000 40002000\n8001 40003000 40004000 40005000\n8002 40006000 40007000 40008000\n",
+        ),
+        (
+            "ram_blocks = 2",
+            "0000 40000000 40001000 40002000\n8001 40004000 40005000 40006000\n8002 40008000 40009000 4000A000\n",
+        ),
+    ] {
+        let manifest = ROW.replacen(rt.alloc(), "ram_blocks = 1", blocks, 1)?;
+        let got = performed(rt.alloc(), &LAYOUT, Some(manifest.as_bytes()), None);
+        assert_eq!(rt; got, wanted(rt.alloc(), 0, out, "")?);
+    }
+    Ok(())
+}
+
+// Takes up to `room` bytes, and fails to take more or to flush.
+#[derive(Drop)]
+struct Stuck {
+    room: usize,
+}
+
+impl Write for Stuck {
+    fn write(&mut self, buf: &[u8]) -> io::Result<usize> {
+        let count = buf.len().min(self.room);
+        self.room -= count;
+        Ok(count)
+    }
+
+    fn flush(&mut self) -> io::Result<()> {
+        Err(io::Error::from(io::ErrorKind::Other))
+    }
+}
+
+#[test]
+fn tells_what_cannot_be_written(rt: HostRuntime) -> Result<(), Fail> {
+    for request in [RUN, CHECK, LAYOUT] {
+        for room in [0, 3, 1000] {
+            let trace = Some(b"show\n".as_slice());
+            let mut err = Vec::new(rt.alloc());
+            let mut out = Stuck { room };
+            let manifest = Some(ROW.as_bytes());
+            let status = perform(rt.alloc(), &request, manifest, trace, &mut out, &mut err);
+            assert_eq!(rt; status, 3);
+            assert_eq!(rt; err.as_slice(), b"ffaplay: cannot write\n".as_slice());
+        }
+    }
+    Ok(())
+}
+
+// With the tool's option that makes the Nth allocation fail, for each N in turn.
+#[test]
+fn whole_or_no_memory(rt: HostRuntime) -> Result<(), Fail> {
+    let trace = Some("load 40010000 1\n");
+    let got = performed(rt.alloc(), &RUN, Some(ROW.as_bytes()), trace);
+    if got.status == 3 {
+        assert!(rt; got.out.is_empty() || got.out.as_slice() == b"data 00\n".as_slice());
+    } else {
+        assert_eq!(rt; got.out.as_slice(), b"data 00\n".as_slice());
+        assert_eq!(rt; got.status, 0);
+    }
+    Ok(())
+}

@@ -1,0 +1,77 @@
+//! Worked command lines.
+
+use crate::{Request, request};
+use clap::error::ErrorKind;
+use std::test::Fail;
+
+#[test]
+fn commands_with_their_paths(rt: HostRuntime) -> Result<(), Fail> {
+    let (manifest, trace) = ("row.toml", "first.trace");
+    let run = ["ffaplay", "run", manifest, trace];
+    let demo = ["ffaplay", "demo", trace];
+    let check = ["ffaplay", "check", manifest];
+    let layout = ["ffaplay", "layout", "--", manifest];
+    let alloc = rt.alloc();
+    assert_eq!(rt; request(alloc, &run)?, Request::Run { manifest, trace });
+    assert_eq!(rt; request(alloc, &demo)?, Request::Demo { trace });
+    assert_eq!(rt; request(alloc, &check)?, Request::Check { manifest });
+    assert_eq!(rt; request(alloc, &layout)?, Request::Layout { manifest });
+    Ok(())
+}
+
+#[test]
+fn mistakes(rt: HostRuntime) {
+    for (words, kind) in [
+        (["ffaplay"].as_slice(), ErrorKind::MissingSubcommand),
+        (["ffaplay", "play"].as_slice(), ErrorKind::InvalidSubcommand),
+        (
+            ["ffaplay", "run", "row.toml"].as_slice(),
+            ErrorKind::MissingRequiredArgument,
+        ),
+        (
+            ["ffaplay", "demo", "a", "b"].as_slice(),
+            ErrorKind::UnknownArgument,
+        ),
+        (
+            ["ffaplay", "check", "--frames", "a"].as_slice(),
+            ErrorKind::UnknownArgument,
+        ),
+    ] {
+        let found = request(rt.alloc(), words).err().map(|error| error.kind());
+        assert_eq!(rt; found, Some(kind));
+    }
+}
+
+// Whatever name the program was started by.
+#[test]
+fn help_names_each_command(rt: HostRuntime) -> Result<(), Fail> {
+    let alloc = rt.alloc();
+    let words = ["/tmp/other", "--help"];
+    let error = request(alloc, &words).err().ok_or("no help")?;
+    assert_eq!(rt; error.kind(), ErrorKind::DisplayHelp);
+    let text = format!(in alloc; "{error}")?;
+    for part in [
+        "Usage: ffaplay <COMMAND>\n",
+        "  run     Plays a trace on the machine of a manifest\n",
+        "  demo    Plays a trace on the built-in machine\n",
+        "  check   Says whether a manifest is accepted\n",
+        "  layout  Prints where each endpoint's tables stand\n",
+    ] {
+        assert!(rt; text.contains(part), "lacks {part}");
+    }
+    Ok(())
+}
+
+#[test]
+fn help_of_a_command_names_its_paths(rt: HostRuntime) -> Result<(), Fail> {
+    let alloc = rt.alloc();
+    let words = ["ffaplay", "run", "--help"];
+    let error = request(alloc, &words).err().ok_or("no help")?;
+    assert_eq!(rt; error.kind(), ErrorKind::DisplayHelp);
+    let text = format!(in alloc; "{error}")?;
+    assert!(rt;
+        text.contains("Usage: ffaplay run <manifest> <trace>\n"),
+        "{text}"
+    );
+    Ok(())
+}
