@@ -39,6 +39,7 @@ machine ms = do
   endpoints ← endpoints_from (is_placed base blocks (item_count ds)) ds
   Ok (record { ram_base = base; ram_blocks = blocks; endpoints = endpoints })
 
+-- the text as TOML, and then its tables, each whole in the order of its keys
 unfoldable pub machine_of : List ℕ → Result Parts ManifestError
 machine_of text = do
   ms ← or_cause Toml (parse_document text)

@@ -69,9 +69,12 @@ fn help_of_a_command_names_its_paths(rt: HostRuntime) -> Result<(), Fail> {
     let error = request(alloc, &words).err().ok_or("no help")?;
     assert_eq!(rt; error.kind(), ErrorKind::DisplayHelp);
     let text = format!(in alloc; "{error}")?;
-    assert!(rt;
-        text.contains("Usage: ffaplay run <manifest> <trace>\n"),
-        "{text}"
-    );
+    for part in [
+        "Usage: ffaplay run <manifest> <trace>\n",
+        "  <manifest>  The machine's manifest, a TOML file\n",
+        "  <trace>     The trace: a line for each operation\n",
+    ] {
+        assert!(rt; text.contains(part), "lacks {part}");
+    }
     Ok(())
 }
