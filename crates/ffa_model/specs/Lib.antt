@@ -16,3 +16,8 @@ pub mod Memory
 pub mod Setup
 pub mod Step
 pub mod Agreement
+pub mod DescriptorPlaces
+pub mod SendDescriptor
+pub mod RetrieveDescriptor
+pub mod RelinquishDescriptor
+pub mod ResponseBytes

@@ -1,0 +1,11 @@
+pub mod Numbers
+pub mod Listed
+pub mod Entries
+pub mod Tests
+pub mod HeaderLaw
+pub mod SendLaw
+pub mod SendParts
+pub mod Answered
+pub mod RetrieveParts
+pub mod RetrieveLaw
+pub mod RelinquishLaw
