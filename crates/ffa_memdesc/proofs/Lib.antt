@@ -7,5 +7,8 @@ pub mod SendLaw
 pub mod SendParts
 pub mod Answered
 pub mod RetrieveParts
+pub mod Writes
+pub mod Runs
+pub mod Whole
 pub mod RetrieveLaw
 pub mod RelinquishLaw

@@ -8,6 +8,7 @@ mod laws;
 mod ranges;
 mod receivers;
 mod relinquish;
+mod respond;
 mod retrieve;
 mod send;
 
@@ -15,6 +16,7 @@ pub use bytes::Bytes;
 pub use ffa_model::{RelinquishDesc, Response, RetrieveDesc, SendDesc};
 pub use laws::one_record;
 pub use relinquish::read_relinquish;
+pub use respond::write_response;
 pub use retrieve::read_retrieve;
 pub use send::read_send;
 

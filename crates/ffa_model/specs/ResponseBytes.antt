@@ -1,5 +1,5 @@
 -- The bytes of the answer to a retrieve: a transaction descriptor for one receiver.
-use Rattle.std.specs.Prelude.{ℕ, ◌+◌, ◌*◌, Bool, if◌then◌else◌, List, ◌++◌, length, replicate, Some}
+use Rattle.std.specs.Prelude.{ℕ, ◌+◌, ◌*◌, Bool, if◌then◌else◌, List, [], ◌∷◌, ◌++◌, length, Some}
 use Rattle.std.specs.List.{flat_map}
 use Rattle.byteorder.specs.Endian.{little_bytes}
 use Rattle.ffa_model.specs.declared.rights.Kind.{Kind}
@@ -61,7 +61,7 @@ permissions_of r = data_code (Some r.level) + 4 * exec_code r.exec
 
 -- the access descriptor, with the composite right behind it
 abbrev pub access_bytes : ResponseRecord → List ℕ
-access_bytes r = le 2 r.endpoint ++ le 1 (permissions_of r.rights) ++ le 1 0 ++ le 4 (header_size + 16) ++ le 8 0
+access_bytes r = le 2 r.endpoint ++ permissions_of r.rights ∷ 0 ∷ [] ++ le 4 (header_size + 16) ++ le 8 0
 
 abbrev pub composite_bytes : List Range → List ℕ
 composite_bytes ranges = le 4 (page_total ranges) ++ le 4 (length ranges) ++ le 8 0
