@@ -11,7 +11,7 @@ use Rattle.ffa_model.specs.Lists.{listed}
 use Rattle.ffa_model.specs.DescriptorPlaces.{endpoint_field, access_place, range_place}
 use Rattle.ffa_model.specs.SendDescriptor.{holds_at_each, is_access, is_named, is_access_beside, receiver_in, receivers_in, is_range, are_apart, is_range_beside, range_in, ranges_in}
 use Rattle.ffa_memdesc.specs.Reading.{receiver_of, receivers_of, range_of, ranges_of}
-use Rattle.ffa_memdesc.proofs.Tests.{cond_none}
+use Rattle.ffa_memdesc.proofs.Decisions.{cond_none}
 use Rattle.ffa_memdesc.proofs.Listed.{listed-suc, holds_more, fails_at}
 
 -- the first n entries pass, and are these

@@ -1,7 +1,7 @@
 pub mod Numbers
 pub mod Listed
 pub mod Entries
-pub mod Tests
+pub mod Decisions
 pub mod HeaderLaw
 pub mod SendLaw
 pub mod SendParts

@@ -4,7 +4,7 @@ use Rattle.std.proofs.lemmas.Bool.{and_parts, and_from, leb-true, eqb-true, le-l
 use Rattle.std.proofs.lemmas.Option.{cond_some, same_Some}
 use Rattle.ffa_model.specs.declared.descriptor.RelinquishDesc.{RelinquishDesc}
 use Rattle.ffa_model.specs.RelinquishDescriptor.{Relinquish, relinquish_in, relinquish_of}
-use Rattle.ffa_memdesc.proofs.Tests.{cond_true}
+use Rattle.ffa_memdesc.proofs.Decisions.{cond_true}
 
 same_parts : (r : RelinquishDesc) (handle endpoint : ℕ) (zero : Bool) → handle ≡ r.handle → zero ≡ r.zero → endpoint ≡ r.endpoint.0
     → record { handle = handle; zero = zero; endpoint = record { 0 = endpoint } } ≡ r

@@ -10,7 +10,7 @@ use Rattle.ffa_model.specs.declared.descriptor.RetrieveDesc.{RetrieveDesc}
 use Rattle.ffa_model.specs.Bits.{bits}
 use Rattle.ffa_model.specs.DescriptorPlaces.{is_header, sender_field, flags_field, handle_field, tag_field, receiver_count, data_code, data_of, kind_code, kind_of}
 use Rattle.ffa_model.specs.RetrieveDescriptor.{Retrieve, asked, retrieve_in, is_retrieve_header, is_retrieve_access, retrieve_of}
-use Rattle.ffa_memdesc.proofs.Tests.{cond_true, differ, differ_again, either_told, either_again}
+use Rattle.ffa_memdesc.proofs.Decisions.{cond_true, differ, differ_again, either_told, either_again}
 use Rattle.ffa_memdesc.proofs.HeaderLaw.{header_told, header_again}
 
 kind_code-kind_of : (n : ℕ) → n < 4 → kind_code (kind_of n) ≡ n

@@ -12,7 +12,7 @@ use Rattle.ffa_model.specs.RetrieveDescriptor.{retrieve_in, is_retrieve_header, 
 use Rattle.ffa_memdesc.specs.declared.access.Access.{Access}
 use Rattle.ffa_memdesc.specs.declared.header.Header.{Header}
 use Rattle.ffa_memdesc.specs.Reading.{header_of, header_in, access_in}
-use Rattle.ffa_memdesc.proofs.Tests.{cond_none, cond_true, cond_false, first_of_three, second_of_three, third_of_three}
+use Rattle.ffa_memdesc.proofs.Decisions.{cond_none, cond_true, cond_false, first_of_three, second_of_three, third_of_three}
 
 pub no_header : (e : ℕ) (b : List ℕ) → None ≡ header_of b → None ≡ retrieve_of e b
 unfolding header_of retrieve_of

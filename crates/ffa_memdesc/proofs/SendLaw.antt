@@ -9,7 +9,7 @@ use Rattle.ffa_model.specs.declared.transaction.Receiver.{Receiver}
 use Rattle.ffa_model.specs.DescriptorPlaces.{IsHeader, is_header, flags_field, sender_field, tag_field, receiver_count, access_place, endpoint_field, range_count, range_place}
 use Rattle.ffa_model.specs.SendDescriptor.{SendRecord, Send, IsGrant, IsAccess, IsComposite, IsRange, AreApart, is_grant, is_access, is_access_beside, is_composite, is_range, are_apart, is_range_beside, is_send_header, is_send_body, holds_at_each, send_in, send_counted, send_of, receiver_in, receivers_in, range_in, ranges_in}
 use Rattle.ffa_memdesc.proofs.Listed.{holds_told, holds_again, none_told, none_again, all_told, all_again}
-use Rattle.ffa_memdesc.proofs.Tests.{cond_true, differ, differ_again, either_told, either_again, either_true}
+use Rattle.ffa_memdesc.proofs.Decisions.{cond_true, differ, differ_again, either_told, either_again, either_true}
 use Rattle.ffa_memdesc.proofs.HeaderLaw.{header_told, header_again}
 
 grant_told : (kind : Kind) (p : ℕ) → is_grant kind p ≡ true → IsGrant kind p

@@ -10,7 +10,7 @@ use Rattle.ffa_model.specs.DescriptorPlaces.{u32_at, composite_place, array_end,
 use Rattle.ffa_model.specs.SendDescriptor.{SendRecord, is_access_beside, is_composite, is_range_beside, is_send_header, is_send_body, holds_at_each, send_in, send_counted, send_of, receivers_in, ranges_in, page_total}
 use Rattle.ffa_memdesc.specs.declared.header.Header.{Header}
 use Rattle.ffa_memdesc.specs.Reading.{header_of, header_in, receivers_of, range_count_of, ranges_of}
-use Rattle.ffa_memdesc.proofs.Tests.{cond_none, first_of_three, second_of_three, third_of_three}
+use Rattle.ffa_memdesc.proofs.Decisions.{cond_none, first_of_three, second_of_three, third_of_three}
 
 not_counted : (t : Bool) (kind : Kind) (b : List ℕ) → t ≡ false → None ≡ send_counted t kind b
 not_counted true kind b e = absurd cc

@@ -1,6 +1,7 @@
 //! Relinquish descriptors.
 
-ghost use Rattle.std.specs.Prelude.{◌≡◌, Some, None, IfOk, OnErr, MatchResult};
+ghost use Rattle.std.specs.Prelude.{◌≡◌, IfOk, OnErr};
+ghost use Rattle.std.specs.Result.{result_ok};
 ghost use Rattle.ffa_model.specs.RelinquishDescriptor.{Relinquish, relinquish_of};
 ghost use Rattle.ffa_model.specs.declared.descriptor.RelinquishDesc.{RelinquishDesc};
 
@@ -16,7 +17,7 @@ const SIZE: usize = 18;
 pub fn read_relinquish_from<B: Bytes>(bytes: &B) -> Result<RelinquishDesc, Bad>
     ensures found { IfOk result (λ d. Relinquish (B.bytes bytes.now) d) }
     ensures none { OnErr result ((r : RelinquishDesc) → Relinquish (B.bytes bytes.now) r → ⊥) }
-    ensures computed { MatchResult result (λ d. relinquish_of (B.bytes bytes.now) ≡ Some d) (λ _. relinquish_of (B.bytes bytes.now) ≡ None) }
+    ensures computed { result_ok result ≡ relinquish_of (B.bytes bytes.now) }
 {
     if bytes.len() < SIZE {
         return Err(Bad);
@@ -36,7 +37,7 @@ pub fn read_relinquish_from<B: Bytes>(bytes: &B) -> Result<RelinquishDesc, Bad>
 pub fn read_relinquish(bytes: &[u8]) -> Result<RelinquishDesc, Bad>
     ensures found { IfOk result (λ d. Relinquish bytes.now d) }
     ensures none { OnErr result ((r : RelinquishDesc) → Relinquish bytes.now r → ⊥) }
-    ensures computed { MatchResult result (λ d. relinquish_of bytes.now ≡ Some d) (λ _. relinquish_of bytes.now ≡ None) }
+    ensures computed { result_ok result ≡ relinquish_of bytes.now }
 {
     read_relinquish_from(&bytes)
 }

@@ -1,8 +1,8 @@
 //! The answer to a retrieve, written where its caller reads it.
 
-ghost use Rattle.std.specs.Prelude.{◌≡◌, ◌+◌, ◌*◌, ◌^◌, ◌<◌, ◌≤◌, List, ℕ, length, [], ◌∷◌, ◌++◌, take, drop, Some};
+ghost use Rattle.std.specs.Prelude.{◌≡◌, ◌+◌, ◌*◌, ◌^◌, ◌<◌, ◌≤◌, List, ℕ, length, [], ◌∷◌, ◌++◌, take, drop};
 ghost use Rattle.std.specs.List.{flat_map};
-ghost use Rattle.ffa_model.specs.DescriptorPlaces.{header_size, data_code, exec_code, kind_code};
+ghost use Rattle.ffa_model.specs.DescriptorPlaces.{header_size};
 ghost use Rattle.ffa_model.specs.SendDescriptor.{page_total};
 ghost use Rattle.ffa_model.specs.ResponseBytes.{le, flags_of, permissions_of, header_bytes, access_bytes, composite_bytes, range_bytes, response_record, response_bytes, response_size};
 ghost use Rattle.ffa_memdesc.specs.Writing.{Wrote};

@@ -1,6 +1,7 @@
 //! Retrieve descriptors.
 
-ghost use Rattle.std.specs.Prelude.{◌≡◌, ◌*◌, Some, None, IfOk, OnErr, MatchResult, MatchOption, not, ◌==◌};
+ghost use Rattle.std.specs.Prelude.{◌≡◌, IfOk, OnErr};
+ghost use Rattle.std.specs.Result.{result_ok};
 ghost use Rattle.ffa_model.specs.Bits.{bits};
 ghost use Rattle.ffa_model.specs.DescriptorPlaces.{kind_of};
 ghost use Rattle.ffa_model.specs.RetrieveDescriptor.{Retrieve, retrieve_of, is_retrieve_header, is_retrieve_access};
@@ -84,7 +85,7 @@ fn retrieve_in<B: Bytes>(bytes: &B, endpoint: EndpointId) -> Option<RetrieveDesc
 pub fn read_retrieve_from<B: Bytes>(bytes: &B, endpoint: EndpointId) -> Result<RetrieveDesc, Bad>
     ensures found { IfOk result (λ d. Retrieve endpoint.0 (B.bytes bytes.now) d) }
     ensures none { OnErr result ((r : RetrieveDesc) → Retrieve endpoint.0 (B.bytes bytes.now) r → ⊥) }
-    ensures computed { MatchResult result (λ d. retrieve_of endpoint.0 (B.bytes bytes.now) ≡ Some d) (λ _. retrieve_of endpoint.0 (B.bytes bytes.now) ≡ None) }
+    ensures computed { result_ok result ≡ retrieve_of endpoint.0 (B.bytes bytes.now) }
 {
     retrieve_in(bytes, endpoint).ok_or(Bad)
 }
@@ -93,7 +94,7 @@ pub fn read_retrieve_from<B: Bytes>(bytes: &B, endpoint: EndpointId) -> Result<R
 pub fn read_retrieve(bytes: &[u8], endpoint: EndpointId) -> Result<RetrieveDesc, Bad>
     ensures found { IfOk result (λ d. Retrieve endpoint.0 bytes.now d) }
     ensures none { OnErr result ((r : RetrieveDesc) → Retrieve endpoint.0 bytes.now r → ⊥) }
-    ensures computed { MatchResult result (λ d. retrieve_of endpoint.0 bytes.now ≡ Some d) (λ _. retrieve_of endpoint.0 bytes.now ≡ None) }
+    ensures computed { result_ok result ≡ retrieve_of endpoint.0 bytes.now }
 {
     read_retrieve_from(&bytes, endpoint)
 }

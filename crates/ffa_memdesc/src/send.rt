@@ -1,7 +1,8 @@
 //! Send descriptors.
 
-ghost use Rattle.std.specs.Prelude.{◌≡◌, Some, None, IfOk, OnErr, MatchResult, IsTrue, ◌↔◌, true, ◌≤◌};
+ghost use Rattle.std.specs.Prelude.{◌≡◌, ◌≤◌, IfOk, OnErr, IsTrue};
 ghost use Rattle.std.specs.Option.{option_map};
+ghost use Rattle.std.specs.Result.{result_ok};
 ghost use Rattle.ffa_model.specs.SendDescriptor.{SendRecord, send_record, Send, send_of, most_flags, most_receivers, attributes_of, is_send_header};
 ghost use Rattle.ffa_memdesc.specs.Reading.{header_in};
 
@@ -84,7 +85,7 @@ fn send_in<B: Bytes>(bytes: &B, kind: Kind) -> Option<SendDesc>
 pub fn read_send_from<B: Bytes>(bytes: &B, kind: Kind) -> Result<SendDesc, Bad>
     ensures found { IfOk result (λ d. Send kind (B.bytes bytes.now) (send_record d)) }
     ensures none { OnErr result ((r : SendRecord) → Send kind (B.bytes bytes.now) r → ⊥) }
-    ensures computed { MatchResult result (λ d. send_of kind (B.bytes bytes.now) ≡ Some (send_record d)) (λ _. send_of kind (B.bytes bytes.now) ≡ None) }
+    ensures computed { option_map send_record (result_ok result) ≡ send_of kind (B.bytes bytes.now) }
 {
     send_in(bytes, kind).ok_or(Bad)
 }
@@ -93,7 +94,7 @@ pub fn read_send_from<B: Bytes>(bytes: &B, kind: Kind) -> Result<SendDesc, Bad>
 pub fn read_send(bytes: &[u8], kind: Kind) -> Result<SendDesc, Bad>
     ensures found { IfOk result (λ d. Send kind bytes.now (send_record d)) }
     ensures none { OnErr result ((r : SendRecord) → Send kind bytes.now r → ⊥) }
-    ensures computed { MatchResult result (λ d. send_of kind bytes.now ≡ Some (send_record d)) (λ _. send_of kind bytes.now ≡ None) }
+    ensures computed { option_map send_record (result_ok result) ≡ send_of kind bytes.now }
 {
     read_send_from(&bytes, kind)
 }
