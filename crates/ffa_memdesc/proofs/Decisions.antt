@@ -1,5 +1,5 @@
 -- Tests that decide facts, and what they let through.
-use Rattle.std.proofs.Common.{◌≡◌, ◌≢◌, ◌⊎◌, ℕ, ◌≤◌, Bool, true, false, not, ◌&&◌, ◌||◌, cond, eqb, Option, Some, None, refl, sym, ap, ◌∙◌, subst, inl, inr}
+use Rattle.std.proofs.Common.{◌≡◌, ◌≢◌, ◌⊎◌, ℕ, Bool, true, false, not, ◌&&◌, ◌||◌, cond, eqb, Some, None, refl, ap, inl, inr}
 use Rattle.std.proofs.lemmas.Bool.{or_cases, not-true, eqb-true, eqb-false, eq-eqb, ne_eqb}
 
 pub cond_none : {A : Type 0} (t : Bool) (x : A) → None ≡ cond t (Some x) None → t ≡ false

@@ -1,15 +1,12 @@
 -- Lists of entries that are read one after another, each tested beside the ones before it.
-use Rattle.std.proofs.Common.{◌≡◌, ℕ, zero, suc, ◌+◌, ◌*◌, ◌<◌, Bool, true, false, not, cond, List, [], ◌∷◌, ◌++◌, Option, Some, None, refl, sym, ap, ◌∙◌, subst, arith, add-one, inl, inr}
-use Rattle.std.specs.Prelude.{◌&&◌}
-use Rattle.std.specs.List.{list_all}
+use Rattle.std.proofs.Common.{◌≡◌, ℕ, ◌+◌, ◌<◌, Bool, true, false, cond, List, [], ◌∷◌, ◌++◌, Some, None, refl, sym, ap, ◌∙◌, subst, add-one}
 use Rattle.std.proofs.lemmas.Option.{cond_some}
-use Rattle.std.proofs.lemmas.Bool.{cases_Bool}
 use Rattle.ffa_model.specs.declared.rights.Kind.{Kind}
 use Rattle.ffa_model.specs.declared.transaction.Receiver.{Receiver}
 use Rattle.ffa_model.specs.declared.transaction.Range.{Range}
 use Rattle.ffa_model.specs.Lists.{listed}
-use Rattle.ffa_model.specs.DescriptorPlaces.{endpoint_field, access_place, range_place}
-use Rattle.ffa_model.specs.SendDescriptor.{holds_at_each, is_access, is_named, is_access_beside, receiver_in, receivers_in, is_range, are_apart, is_range_beside, range_in, ranges_in}
+use Rattle.ffa_model.specs.DescriptorPlaces.{access_place, range_place}
+use Rattle.ffa_model.specs.SendDescriptor.{holds_at_each, is_access_beside, receiver_in, is_range_beside, range_in}
 use Rattle.ffa_memdesc.specs.Reading.{receiver_of, receivers_of, range_of, ranges_of}
 use Rattle.ffa_memdesc.proofs.Decisions.{cond_none}
 use Rattle.ffa_memdesc.proofs.Listed.{listed-suc, holds_more, fails_at}

@@ -1,5 +1,5 @@
 -- Numbers by their bytes.
-use Rattle.std.proofs.Common.{◌≡◌, ℕ, suc, ◌+◌, ◌*◌, ◌^◌, List, refl, arith}
+use Rattle.std.proofs.Common.{◌≡◌, ℕ, suc, ◌+◌, ◌*◌, List, arith}
 use Rattle.ffa_model.specs.DescriptorPlaces.{byte, u16_at, u32_at, u64_at}
 
 pub u16_bytes : (b : List ℕ) (at : ℕ) → u16_at b at ≡ byte b at + 256 * byte b (at + 1)

@@ -1,5 +1,5 @@
 -- A relinquish: what is computed is what the relation says, both ways.
-use Rattle.std.proofs.Common.{◌≡◌, ℕ, Bool, true, List, Option, Some, None, refl, sym, ap, ◌∙◌, subst}
+use Rattle.std.proofs.Common.{◌≡◌, ℕ, Bool, List, Some, refl, sym, ap, ◌∙◌, subst}
 use Rattle.std.proofs.lemmas.Bool.{and_parts, and_from, leb-true, eqb-true, le-leb, eq-eqb}
 use Rattle.std.proofs.lemmas.Option.{cond_some, same_Some}
 use Rattle.ffa_model.specs.declared.descriptor.RelinquishDesc.{RelinquishDesc}

@@ -1,5 +1,5 @@
 -- A retrieve: what is computed is what the relation says, both ways.
-use Rattle.std.proofs.Common.{◌≡◌, ◌≢◌, ◌⊎◌, ℕ, zero, suc, ◌+◌, ◌*◌, ◌/◌, ◌%◌, ◌<◌, ◌≤◌, ◌==◌, Bool, true, false, not, cond, List, Option, Some, None, refl, sym, ap, ◌∙◌, subst, arith}
+use Rattle.std.proofs.Common.{◌≡◌, ◌≢◌, ℕ, zero, suc, ◌*◌, ◌<◌, Bool, true, List, Option, Some, None, refl, sym, ap, ◌∙◌, subst, arith}
 use Rattle.std.proofs.lemmas.Bool.{and_parts, and_from, eqb-true, eq-eqb}
 use Rattle.std.proofs.lemmas.Option.{cond_some, same_Some, none-some}
 use Rattle.ffa_model.specs.declared.rights.Data.{Data}
@@ -8,7 +8,7 @@ use Rattle.ffa_model.specs.declared.rights.Kind.{Kind}
 use Rattle.ffa_model.specs.declared.rights.Kind.TheVariants.{Share, Lend, Donate}
 use Rattle.ffa_model.specs.declared.descriptor.RetrieveDesc.{RetrieveDesc}
 use Rattle.ffa_model.specs.Bits.{bits}
-use Rattle.ffa_model.specs.DescriptorPlaces.{is_header, sender_field, flags_field, handle_field, tag_field, receiver_count, data_code, data_of, kind_code, kind_of}
+use Rattle.ffa_model.specs.DescriptorPlaces.{is_header, flags_field, data_code, data_of, kind_code, kind_of}
 use Rattle.ffa_model.specs.RetrieveDescriptor.{Retrieve, asked, retrieve_in, is_retrieve_header, is_retrieve_access, retrieve_of}
 use Rattle.ffa_memdesc.proofs.Decisions.{cond_true, differ, differ_again, either_told, either_again}
 use Rattle.ffa_memdesc.proofs.HeaderLaw.{header_told, header_again}

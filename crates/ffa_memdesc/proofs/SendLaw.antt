@@ -1,12 +1,12 @@
 -- A send: what is computed is what the relation says, both ways.
-use Rattle.std.proofs.Common.{◌≡◌, ◌≢◌, ◌⊎◌, ℕ, ◌+◌, ◌<◌, ◌≤◌, ◌==◌, Bool, true, false, not, List, Option, Some, None, refl, sym, ap, ◌∙◌, subst, inl, inr}
+use Rattle.std.proofs.Common.{◌≡◌, ◌≢◌, ℕ, ◌<◌, ◌==◌, Bool, true, false, not, List, Some, None, refl, sym, ap, ◌∙◌, subst, inl, inr}
 use Rattle.std.proofs.lemmas.Bool.{and_parts, and_from, or_cases, not-true, leb-true, eqb-true, eqb-false, le-leb, eq-eqb, ne_eqb}
 use Rattle.std.proofs.lemmas.Option.{cond_some, same_Some, none-some}
 use Rattle.ffa_model.specs.declared.rights.Kind.{Kind}
 use Rattle.ffa_model.specs.declared.rights.Kind.TheVariants.{Share, Lend, Donate}
 use Rattle.ffa_model.specs.declared.transaction.Range.{Range}
 use Rattle.ffa_model.specs.declared.transaction.Receiver.{Receiver}
-use Rattle.ffa_model.specs.DescriptorPlaces.{IsHeader, is_header, flags_field, sender_field, tag_field, receiver_count, access_place, endpoint_field, range_count, range_place}
+use Rattle.ffa_model.specs.DescriptorPlaces.{is_header, flags_field, sender_field, tag_field, receiver_count, access_place, endpoint_field, range_count, range_place}
 use Rattle.ffa_model.specs.SendDescriptor.{SendRecord, Send, IsGrant, IsAccess, IsComposite, IsRange, AreApart, is_grant, is_access, is_access_beside, is_composite, is_range, are_apart, is_range_beside, is_send_header, is_send_body, holds_at_each, send_in, send_counted, send_of, receiver_in, receivers_in, range_in, ranges_in}
 use Rattle.ffa_memdesc.proofs.Listed.{holds_told, holds_again, none_told, none_again, all_told, all_again}
 use Rattle.ffa_memdesc.proofs.Decisions.{cond_true, differ, differ_again, either_told, either_again, either_true}

@@ -1,13 +1,12 @@
 -- What each part of a reader tells of the whole send.
-use Rattle.std.proofs.Common.{◌≡◌, ◌≢◌, ℕ, ◌+◌, ◌*◌, ◌≤◌, Bool, true, false, List, Option, Some, None, refl, sym, ap, ◌∙◌, subst, eqb, length, arith}
-use Rattle.std.specs.Prelude.{◌&&◌}
+use Rattle.std.proofs.Common.{◌≡◌, ◌≢◌, ℕ, ◌+◌, ◌≤◌, Bool, true, false, List, Some, None, refl, sym, ap, ◌∙◌, subst, eqb, length, arith}
 use Rattle.std.proofs.lemmas.Bool.{and_from, and_parts, leb-true, eq-eqb, ne_eqb}
 use Rattle.std.proofs.lemmas.Option.{cond_some}
 use Rattle.ffa_model.specs.declared.rights.Kind.{Kind}
 use Rattle.ffa_model.specs.declared.transaction.Range.{Range}
 use Rattle.ffa_model.specs.declared.transaction.Receiver.{Receiver}
 use Rattle.ffa_model.specs.DescriptorPlaces.{u32_at, composite_place, array_end, is_header, receiver_count, range_count, total_field}
-use Rattle.ffa_model.specs.SendDescriptor.{SendRecord, is_access_beside, is_composite, is_range_beside, is_send_header, is_send_body, holds_at_each, send_in, send_counted, send_of, receivers_in, ranges_in, page_total}
+use Rattle.ffa_model.specs.SendDescriptor.{is_access_beside, is_composite, is_range_beside, is_send_header, is_send_body, holds_at_each, send_in, send_counted, send_of, receivers_in, ranges_in, page_total}
 use Rattle.ffa_memdesc.specs.declared.header.Header.{Header}
 use Rattle.ffa_memdesc.specs.Reading.{header_of, header_in, receivers_of, range_count_of, ranges_of}
 use Rattle.ffa_memdesc.proofs.Decisions.{cond_none, first_of_three, second_of_three, third_of_three}

@@ -1,10 +1,10 @@
 -- What the parts of a reader answer.
-use Rattle.std.specs.Prelude.{◌≡◌, ◌≤◌, ℕ, ◌+◌, ◌*◌, Bool, not, ◌&&◌, if◌then◌else◌, List, length, Option, Some, None, Result, Ok, Err}
+use Rattle.std.specs.Prelude.{ℕ, not, ◌&&◌, if◌then◌else◌, List, Option, Some, None}
 use Rattle.ffa_model.specs.declared.rights.Kind.{Kind}
 use Rattle.ffa_model.specs.declared.transaction.Receiver.{Receiver}
 use Rattle.ffa_model.specs.declared.transaction.Range.{Range}
 use Rattle.std.specs.List.{list_all}
-use Rattle.ffa_model.specs.DescriptorPlaces.{u64_at, sender_field, attributes_field, flags_field, handle_field, tag_field, receiver_count, array_place, is_header, endpoint_field, permissions_field, access_flags_field, composite_field, access_reserved_field, range_count}
+use Rattle.ffa_model.specs.DescriptorPlaces.{sender_field, attributes_field, flags_field, handle_field, tag_field, receiver_count, array_place, is_header, endpoint_field, permissions_field, access_flags_field, composite_field, access_reserved_field, range_count}
 use Rattle.ffa_model.specs.SendDescriptor.{is_access, is_named, receiver_at, receivers_in, is_access_beside, is_range, are_apart, range_at, ranges_in, is_range_beside, is_composite, holds_at_each}
 use Rattle.ffa_memdesc.specs.declared.header.Header.{Header}
 use Rattle.ffa_memdesc.specs.declared.access.Access.{Access}

@@ -1,4 +1,4 @@
-//! The transaction header. No other file knows its form.
+//! The transaction header, as it is read.
 
 ghost use Rattle.std.specs.Prelude.{◌≡◌, ◌≤◌, length, IfSome};
 ghost use Rattle.ffa_model.specs.DescriptorPlaces.{array_end};

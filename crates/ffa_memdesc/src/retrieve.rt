@@ -1,9 +1,9 @@
 //! Retrieve descriptors.
 
-ghost use Rattle.std.specs.Prelude.{◌≡◌, IfOk, OnErr};
+ghost use Rattle.std.specs.Prelude.{◌≡◌, ℕ, List, IfOk, OnErr};
 ghost use Rattle.std.specs.Result.{result_ok};
 ghost use Rattle.ffa_model.specs.Bits.{bits};
-ghost use Rattle.ffa_model.specs.DescriptorPlaces.{kind_of};
+ghost use Rattle.ffa_model.specs.DescriptorPlaces.{array_place, kind_of};
 ghost use Rattle.ffa_model.specs.RetrieveDescriptor.{Retrieve, retrieve_of, is_retrieve_header, is_retrieve_access};
 ghost use Rattle.ffa_model.specs.declared.descriptor.RetrieveDesc.{RetrieveDesc};
 ghost use Rattle.ffa_memdesc.specs.Reading.{header_in, access_in};
@@ -29,9 +29,8 @@ fn kind_of(flags: u32) -> Option<Kind>
 
 /// Whether the header is that of a retrieve.
 #[tactic(auto, unfolding(ffa_model::specs::RetrieveDescriptor::is_retrieve_header))]
-fn is_retrieve_header<B: Bytes>(bytes: &B, header: &Header) -> bool
-    requires { header.now ≡ header_in (B.bytes bytes.now) }
-    ensures { result ≡ is_retrieve_header (B.bytes bytes.now) }
+fn is_retrieve_header(header: &Header) -> bool
+    ensures { (b : List ℕ) → header.now ≡ header_in b → result ≡ is_retrieve_header b }
 {
     (header.attributes == 0 || header.attributes == NORMAL_MEMORY)
         && header.flags & 7 == 0
@@ -41,15 +40,8 @@ fn is_retrieve_header<B: Bytes>(bytes: &B, header: &Header) -> bool
 
 /// Whether the access descriptor is that of a retrieve for this endpoint.
 #[tactic(auto, unfolding(ffa_model::specs::RetrieveDescriptor::is_retrieve_access))]
-fn is_retrieve_access<B: Bytes>(
-    bytes: &B,
-    endpoint: EndpointId,
-    header: &Header,
-    access: &Access,
-) -> bool
-    requires header { header.now ≡ header_in (B.bytes bytes.now) }
-    requires access { access.now ≡ access_in (B.bytes bytes.now) header.now.array }
-    ensures { result ≡ is_retrieve_access endpoint.0 (B.bytes bytes.now) }
+fn is_retrieve_access(endpoint: EndpointId, access: &Access) -> bool
+    ensures { (b : List ℕ) → access.now ≡ access_in b (array_place b) → result ≡ is_retrieve_access endpoint.0 b }
 {
     access.endpoint.0 == endpoint.0
         && access.data_code() != 3
@@ -64,11 +56,11 @@ fn retrieve_in<B: Bytes>(bytes: &B, endpoint: EndpointId) -> Option<RetrieveDesc
     ensures { result ≡ retrieve_of endpoint.0 (B.bytes bytes.now) }
 {
     let header = read_header(bytes)?;
-    if !is_retrieve_header(bytes, &header) {
+    if !is_retrieve_header(&header) {
         return None;
     }
     let access = read_access(bytes, header.array as usize);
-    if !is_retrieve_access(bytes, endpoint, &header, &access) {
+    if !is_retrieve_access(endpoint, &access) {
         return None;
     }
     Some(RetrieveDesc {

@@ -1,6 +1,6 @@
 //! Send descriptors.
 
-ghost use Rattle.std.specs.Prelude.{◌≡◌, ◌≤◌, IfOk, OnErr, IsTrue};
+ghost use Rattle.std.specs.Prelude.{◌≡◌, ◌≤◌, ℕ, List, IfOk, OnErr, IsTrue};
 ghost use Rattle.std.specs.Option.{option_map};
 ghost use Rattle.std.specs.Result.{result_ok};
 ghost use Rattle.ffa_model.specs.SendDescriptor.{SendRecord, send_record, Send, send_of, most_flags, most_receivers, attributes_of, is_send_header};
@@ -46,9 +46,8 @@ fn attributes_of(kind: Kind, count: u32) -> u16
 
 /// Whether the header is that of a send.
 #[tactic(auto, unfolding(ffa_model::specs::SendDescriptor::is_send_header))]
-fn is_send_header<B: Bytes>(bytes: &B, kind: Kind, header: &Header) -> bool
-    requires { header.now ≡ header_in (B.bytes bytes.now) }
-    ensures exact { result ≡ is_send_header kind (B.bytes bytes.now) }
+fn is_send_header(kind: Kind, header: &Header) -> bool
+    ensures exact { (b : List ℕ) → header.now ≡ header_in b → result ≡ is_send_header kind b }
     ensures few { IsTrue result → header.now.count ≤ 4 }
 {
     header.attributes == attributes_of(kind, header.count)
@@ -62,7 +61,7 @@ fn send_in<B: Bytes>(bytes: &B, kind: Kind) -> Option<SendDesc>
     ensures { option_map send_record result ≡ send_of kind (B.bytes bytes.now) }
 {
     let header = read_header(bytes)?;
-    if !is_send_header(bytes, kind, &header) {
+    if !is_send_header(kind, &header) {
         return None;
     }
     let composite = read_u32(bytes, header.array as usize + 4);

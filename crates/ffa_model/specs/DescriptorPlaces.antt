@@ -19,7 +19,8 @@ u32_at b at = little_from at 4 b
 unfoldable pub u64_at : List ℕ → ℕ → ℕ
 u64_at b at = little_from at 8 b
 
--- THE TRANSACTION HEADER: its length, its fields, and what makes bytes one. No other definition knows its form
+-- THE TRANSACTION HEADER: its length, its fields, and what makes bytes one. Only these and the header of a response
+-- (`header_bytes` of ResponseBytes) know its form
 abbrev pub header_size : ℕ
 header_size = 48
 

@@ -1,5 +1,5 @@
 -- Retrieve descriptors: which bytes ask for memory that was offered, and what they say.
-use Rattle.std.specs.Prelude.{◌≡◌, ◌≢◌, ◌⊎◌, ℕ, ◌+◌, ◌*◌, ◌==◌, Bool, not, ◌&&◌, ◌||◌, List, Option, Some, None, if◌then◌else◌}
+use Rattle.std.specs.Prelude.{◌≡◌, ◌≢◌, ◌⊎◌, ℕ, ◌*◌, ◌==◌, Bool, not, ◌&&◌, ◌||◌, List, Option, Some, None, if◌then◌else◌}
 use Rattle.ffa_model.specs.declared.descriptor.RetrieveDesc.{RetrieveDesc}
 use Rattle.ffa_model.specs.Bits.{bits}
 use Rattle.ffa_model.specs.DescriptorPlaces.{sender_field, attributes_field, flags_field, handle_field, tag_field, receiver_count, array_place, IsHeader, is_header, endpoint_field, permissions_field, access_flags_field, composite_field, access_reserved_field, data_code, data_of, kind_code, kind_of, normal_memory}

@@ -11,11 +11,11 @@ returns-in_err-header g c =
 
 pub returns-then-not-is_send_header : goal.returns-then-not-is_send_header
 returns-then-not-is_send_header g c =
-    no_send_header c.args.kind (g.B.Bytes.bytes c.args.bytes.now) (sym c.if-not-is_send_header.ensures.exact)
+    no_send_header c.args.kind (g.B.Bytes.bytes c.args.bytes.now) (sym (c.if-not-is_send_header.ensures.exact (g.B.Bytes.bytes c.args.bytes.now) c.in_ok-header.ensures.found))
 
 pub read_u32-composite-requires : goal.read_u32-composite-requires
 read_u32-composite-requires g c =
-    entry_inside c.args.kind (g.B.Bytes.bytes c.args.bytes.now) c.in_ok-header.header c.in_ok-header.ensures.found c.in_ok-header.ensures.inside (sym c.if-not-is_send_header.ensures.exact)
+    entry_inside c.args.kind (g.B.Bytes.bytes c.args.bytes.now) c.in_ok-header.header c.in_ok-header.ensures.found c.in_ok-header.ensures.inside (sym (c.if-not-is_send_header.ensures.exact (g.B.Bytes.bytes c.args.bytes.now) c.in_ok-header.ensures.found))
 
 pub returns-in_err-receivers : goal.returns-in_err-receivers
 returns-in_err-receivers g c =
@@ -43,6 +43,6 @@ pub returns : goal.returns
 returns g c =
     let place : c.read_u32-composite.result ≡ composite_place (g.B.Bytes.bytes c.args.bytes.now) = c.read_u32-composite.ensures ∙ ap (λ (h : Header). u32_at (g.B.Bytes.bytes c.args.bytes.now) (h.array + 4)) c.in_ok-header.ensures.found in
     whole_send c.args.kind (g.B.Bytes.bytes c.args.bytes.now) c.in_ok-header.header c.in_ok-receivers.receivers.items c.in_ok-count.count c.in_ok-ranges.ranges.items _ _
-    c.in_ok-header.ensures.exact (sym c.if-not-is_send_header.ensures.exact) c.in_ok-receivers.ensures c.in_ok-count.ensures.exact c.in_ok-ranges.ensures
+    c.in_ok-header.ensures.exact (sym (c.if-not-is_send_header.ensures.exact (g.B.Bytes.bytes c.args.bytes.now) c.in_ok-header.ensures.found)) c.in_ok-receivers.ensures c.in_ok-count.ensures.exact c.in_ok-ranges.ensures
     (totals (g.B.Bytes.bytes c.args.bytes.now) c.in_ok-ranges.ranges.items c.deref.result.now c.in_ok-count.count c.read_u32-composite.result _ _ place c.in_ok-ranges.ensures c.in_ok-count.ensures.found c.deref.ensures.0 c.page_total.ensures c.read_u32.ensures)
     c.if-page_total-read_u32.false
