@@ -19,5 +19,10 @@ pub mod Refusals
 pub mod Setup
 pub mod Step
 pub mod Agreement
+pub mod DescriptorPlaces
+pub mod SendDescriptor
+pub mod RetrieveDescriptor
+pub mod RelinquishDescriptor
+pub mod ResponseBytes
 pub mod TraceLines
 pub mod TraceText

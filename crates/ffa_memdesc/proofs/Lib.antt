@@ -1,0 +1,14 @@
+pub mod Numbers
+pub mod Listed
+pub mod Entries
+pub mod Decisions
+pub mod HeaderLaw
+pub mod SendLaw
+pub mod SendParts
+pub mod Answered
+pub mod RetrieveParts
+pub mod Writes
+pub mod Runs
+pub mod Whole
+pub mod RetrieveLaw
+pub mod RelinquishLaw

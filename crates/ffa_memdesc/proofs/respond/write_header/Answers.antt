@@ -1,0 +1,20 @@
+use Rattle.std.proofs.Common.{ℕ, ◌++◌, refl, subst}
+use Rattle.ffa_model.specs.ResponseBytes.{le}
+use Rattle.ffa_memdesc.specs.Writing.{Wrote}
+use Rattle.ffa_memdesc.proofs.Writes.{wrote_start, two, four, eight}
+use Rattle.ffa_memdesc.proofs.respond.write_header.Goals as goal
+
+pub returns : goal.returns
+returns c =
+    let w0 = wrote_start c.args.out.now in
+    let w1 = two _ _ _ _ 0 2 _ refl w0 c.put_u16.ensures in
+    let w2 = two _ _ _ _ 2 4 _ refl w1 c.put_u16-2.ensures in
+    let w3 = four _ _ _ _ 4 8 _ refl w2 c.put_u32.ensures in
+    let flags = subst (λ (x : ℕ). Wrote c.args.out.now (le 2 c.args.response.now.sender.0 ++ le 2 0x2F ++ le 4 x) 8 c.put_u32.new.out) c.flags_of.ensures w3 in
+    let w4 = eight _ _ _ _ 8 16 _ refl flags c.put_u64.ensures in
+    let w5 = eight _ _ _ _ 16 24 _ refl w4 c.put_u64-2.ensures in
+    let w6 = four _ _ _ _ 24 28 _ refl w5 c.put_u32-2.ensures in
+    let w7 = four _ _ _ _ 28 32 _ refl w6 c.put_u32-3.ensures in
+    let w8 = four _ _ _ _ 32 36 _ refl w7 c.put_u32-4.ensures in
+    let w9 = four _ _ _ _ 36 40 _ refl w8 c.put_u32-5.ensures in
+    eight _ _ _ _ 40 48 _ refl w9 c.put_u64-3.ensures

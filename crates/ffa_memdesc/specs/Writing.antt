@@ -1,0 +1,7 @@
+-- Bytes that are written from the front on.
+use Rattle.std.specs.Prelude.{◌≡◌, ℕ, List, ◌++◌, length, drop}
+
+-- the first bytes of old became the front, which ends at this place, and the rest stays
+pub record Wrote (old front : List ℕ) (at : ℕ) (new : List ℕ) : Type 0 where
+  pub place : length front ≡ at
+  pub bytes : new ≡ front ++ drop at old

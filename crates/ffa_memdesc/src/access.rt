@@ -1,0 +1,50 @@
+//! Access descriptors.
+
+ghost use Rattle.std.specs.Prelude.{◌≡◌, ◌+◌, ◌≤◌, length};
+ghost use Rattle.ffa_model.specs.Bits.{bits};
+ghost use Rattle.ffa_memdesc.specs.Reading.{access_in};
+
+use crate::bytes::{Bytes, read_u16, read_u32, read_u64};
+use ffa_model::EndpointId;
+
+/// An access descriptor as it stands in the bytes.
+#[derive(Clone, Copy, Debug, PartialEq, Eq)]
+pub struct Access {
+    pub endpoint: EndpointId,
+    pub permissions: u8,
+    pub flags: u8,
+    /// The place of the composite.
+    pub composite: u32,
+    pub reserved: u64,
+}
+
+impl Access {
+    /// The data permission, bits 1:0.
+    pub fn data_code(&self) -> u8
+        ensures { result ≡ bits 1 0 self.now.permissions }
+    {
+        self.permissions & 3
+    }
+
+    /// The instruction permission, bits 3:2.
+    pub fn instruction_code(&self) -> u8
+        ensures { result ≡ bits 3 2 self.now.permissions }
+    {
+        self.permissions >> 2 & 3
+    }
+}
+
+/// The access descriptor at this place.
+pub fn read_access<B: Bytes>(bytes: &B, at: usize) -> Access
+    requires { at + 16 ≤ length (B.bytes bytes.now) }
+    ensures { result ≡ access_in (B.bytes bytes.now) at }
+{
+    let _len = bytes.len();
+    Access {
+        endpoint: EndpointId(read_u16(bytes, at)),
+        permissions: bytes.at(at + 2),
+        flags: bytes.at(at + 3),
+        composite: read_u32(bytes, at + 4),
+        reserved: read_u64(bytes, at + 8),
+    }
+}

@@ -1,0 +1,76 @@
+//! Bytes that are read in place, and the numbers in them.
+
+ghost use Rattle.std.specs.Prelude.{◌≡◌, ℕ, ◌+◌, ◌<◌, ◌≤◌, List, length};
+ghost use Rattle.ffa_model.specs.DescriptorPlaces.{byte, u16_at, u32_at, u64_at};
+
+use byteorder::{ByteOrder, LittleEndian};
+
+/// Bytes that are read one by one, wherever they lie.
+pub trait Bytes {
+    ghost bytes: { Self → List ℕ };
+
+    /// How many bytes there are.
+    fn len(&self) -> usize
+        ensures { result ≡ length (bytes self.now) };
+
+    /// The byte at a place, counted from 0.
+    fn at(&self, place: usize) -> u8
+        requires { place < length (bytes self.now) }
+        ensures { result ≡ byte (bytes self.now) place };
+}
+
+impl<'a> Bytes for &'a [u8] {
+    ghost bytes = { λ s. s.now };
+
+    fn len(&self) -> usize {
+        (**self).len()
+    }
+
+    fn at(&self, place: usize) -> u8 {
+        (**self)[place]
+    }
+}
+
+/// The number in the two bytes from this place on, the low one first.
+#[tactic(auto, using(crate::proofs::Numbers::u16_bytes))]
+pub fn read_u16<B: Bytes>(bytes: &B, place: usize) -> u16
+    requires { place + 2 ≤ length (B.bytes bytes.now) }
+    ensures { result ≡ u16_at (B.bytes bytes.now) place }
+{
+    let _len = bytes.len();
+    LittleEndian::read_u16(&[bytes.at(place), bytes.at(place + 1)])
+}
+
+/// The number in the four bytes from this place on, the lowest first.
+#[tactic(auto, using(crate::proofs::Numbers::u32_bytes))]
+pub fn read_u32<B: Bytes>(bytes: &B, place: usize) -> u32
+    requires { place + 4 ≤ length (B.bytes bytes.now) }
+    ensures { result ≡ u32_at (B.bytes bytes.now) place }
+{
+    let _len = bytes.len();
+    LittleEndian::read_u32(&[
+        bytes.at(place),
+        bytes.at(place + 1),
+        bytes.at(place + 2),
+        bytes.at(place + 3),
+    ])
+}
+
+/// The number in the eight bytes from this place on, the lowest first.
+#[tactic(auto, using(crate::proofs::Numbers::u64_bytes))]
+pub fn read_u64<B: Bytes>(bytes: &B, place: usize) -> u64
+    requires { place + 8 ≤ length (B.bytes bytes.now) }
+    ensures { result ≡ u64_at (B.bytes bytes.now) place }
+{
+    let _len = bytes.len();
+    LittleEndian::read_u64(&[
+        bytes.at(place),
+        bytes.at(place + 1),
+        bytes.at(place + 2),
+        bytes.at(place + 3),
+        bytes.at(place + 4),
+        bytes.at(place + 5),
+        bytes.at(place + 6),
+        bytes.at(place + 7),
+    ])
+}

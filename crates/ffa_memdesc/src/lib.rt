@@ -1,0 +1,28 @@
+//! Descriptors of memory transactions (DEN0077A, 5.11 and 16): read where they lie, and written where they are read.
+#![tactic(auto)]
+
+mod access;
+mod bytes;
+mod header;
+mod laws;
+mod ranges;
+mod receivers;
+mod relinquish;
+mod respond;
+mod retrieve;
+mod send;
+
+pub use bytes::Bytes;
+pub use ffa_model::{RelinquishDesc, Response, RetrieveDesc, SendDesc};
+pub use laws::one_record;
+pub use relinquish::read_relinquish;
+pub use respond::write_response;
+pub use retrieve::read_retrieve;
+pub use send::read_send;
+
+/// The bytes are no descriptor of the kind that was asked for.
+#[derive(Clone, Copy, Debug, PartialEq, Eq)]
+pub struct Bad;
+
+#[cfg(test)]
+mod tests;

@@ -1,0 +1,105 @@
+//! The composite of a send: its ranges.
+
+ghost use Rattle.std.specs.Prelude.{◌≡◌, ◌+◌, ◌*◌, ◌≤◌, length, IfSome};
+ghost use Rattle.std.specs.List.{list_all};
+ghost use Rattle.std.specs.Option.{option_map};
+ghost use Rattle.ffa_model.specs.DescriptorPlaces.{composite_place, range_count, range_place};
+ghost use Rattle.ffa_model.specs.SendDescriptor.{range_end, are_apart, page_total};
+ghost use Rattle.ffa_memdesc.specs.Reading.{header_in, range_count_of, range_of, ranges_of};
+
+use crate::bytes::{Bytes, read_u32, read_u64};
+use crate::header::{ENTRY_SIZE, Header};
+use arrayvec::ArrayVec;
+use ffa_model::Range;
+
+/// The most ranges that a send may have.
+pub const MOST_RANGES: u32 = 16;
+
+/// How many ranges the composite has, where it stands behind the access descriptors and inside the bytes.
+#[tactic(auto, unfolding(crate::specs::Reading::range_count_of))]
+pub fn read_range_count<B: Bytes>(bytes: &B, header: &Header, composite: u32) -> Option<u32>
+    requires header { header.now ≡ header_in (B.bytes bytes.now) }
+    requires composite { composite ≡ composite_place (B.bytes bytes.now) }
+    ensures exact { result ≡ range_count_of (B.bytes bytes.now) }
+    ensures found { IfSome result (λ n. n ≡ range_count (B.bytes bytes.now)) }
+    ensures few { IfSome result (λ n. n ≤ 16) }
+    ensures inside { IfSome result (λ n. range_place (B.bytes bytes.now) n ≤ length (B.bytes bytes.now)) }
+{
+    let len = bytes.len() as u64;
+    let first = composite as u64 + 16;
+    if first > len {
+        return None;
+    }
+    let at = composite as usize;
+    let count = read_u32(bytes, at + 4);
+    let fits = composite % 16 == 0
+        && header.array as u64 + ENTRY_SIZE as u64 * header.count as u64 <= composite as u64
+        && count >= 1
+        && count <= MOST_RANGES
+        && read_u64(bytes, at + 8) == 0
+        && first + ENTRY_SIZE as u64 * count as u64 <= len;
+    if fits { Some(count) } else { None }
+}
+
+/// Where a range ends. Nothing wraps.
+fn range_end(range: &Range) -> u128
+    ensures { result ≡ range_end range.now }
+{
+    range.address as u128 + 4096 * range.pages as u128
+}
+
+fn are_apart(a: &Range, b: &Range) -> bool
+    ensures { result ≡ are_apart a.now b.now }
+{
+    range_end(a) <= b.address as u128 || range_end(b) <= a.address as u128
+}
+
+fn is_apart_from(range: &Range, earlier: &[Range]) -> bool
+    ensures { result ≡ list_all (are_apart range.now) earlier.now }
+{
+    earlier.iter().all(|r| are_apart(range, r))
+}
+
+/// The range at this place, where it has no page of an earlier one.
+#[tactic(auto, unfolding(crate::specs::Reading::range_of))]
+fn read_range<B: Bytes>(bytes: &B, at: usize, earlier: &[Range]) -> Option<Range>
+    requires { at + 16 ≤ length (B.bytes bytes.now) }
+    ensures { result ≡ range_of (B.bytes bytes.now) at earlier.now }
+{
+    let _len = bytes.len();
+    let range = Range {
+        address: read_u64(bytes, at),
+        pages: read_u32(bytes, at + 8),
+    };
+    let fits = range.pages >= 1
+        && range.address % 4096 == 0
+        && range_end(&range) <= 1 << 48
+        && read_u32(bytes, at + 12) == 0
+        && is_apart_from(&range, earlier);
+    if fits { Some(range) } else { None }
+}
+
+/// The ranges of the composite, where all fit.
+pub fn read_ranges<B: Bytes>(bytes: &B, composite: u32, count: u32) -> Option<ArrayVec<Range, 16>>
+    requires composite { composite ≡ composite_place (B.bytes bytes.now) }
+    requires few { count ≤ 16 }
+    requires inside { range_place (B.bytes bytes.now) count ≤ length (B.bytes bytes.now) }
+    ensures { option_map (λ v. v.items) result ≡ ranges_of (B.bytes bytes.now) count }
+{
+    let _len = bytes.len();
+    let mut ranges = ArrayVec::new();
+    for i in 0..count {
+        let at = composite as usize + 16 + ENTRY_SIZE as usize * i as usize;
+        let range = read_range(bytes, at, &ranges)?;
+        ranges.push(range);
+    }
+    Some(ranges)
+}
+
+/// How many pages at most 16 ranges have together. Nothing wraps.
+pub fn page_total(ranges: &[Range]) -> u64
+    requires { length ranges.now ≤ 16 }
+    ensures { result ≡ page_total ranges.now }
+{
+    ranges.iter().map(|r| r.pages as u64).sum()
+}

@@ -1,0 +1,43 @@
+//! Relinquish descriptors.
+
+ghost use Rattle.std.specs.Prelude.{◌≡◌, IfOk, OnErr};
+ghost use Rattle.std.specs.Result.{result_ok};
+ghost use Rattle.ffa_model.specs.RelinquishDescriptor.{Relinquish, relinquish_of};
+ghost use Rattle.ffa_model.specs.declared.descriptor.RelinquishDesc.{RelinquishDesc};
+
+use crate::Bad;
+use crate::bytes::{Bytes, read_u16, read_u32, read_u64};
+use ffa_model::{EndpointId, RelinquishDesc};
+
+/// How many bytes a relinquish descriptor of one endpoint has.
+const SIZE: usize = 18;
+
+/// What a relinquish descriptor says, wherever its bytes lie.
+#[tactic(auto, unfolding(ffa_model::specs::RelinquishDescriptor::relinquish_of))]
+pub fn read_relinquish_from<B: Bytes>(bytes: &B) -> Result<RelinquishDesc, Bad>
+    ensures found { IfOk result (λ d. Relinquish (B.bytes bytes.now) d) }
+    ensures none { OnErr result ((r : RelinquishDesc) → Relinquish (B.bytes bytes.now) r → ⊥) }
+    ensures computed { result_ok result ≡ relinquish_of (B.bytes bytes.now) }
+{
+    if bytes.len() < SIZE {
+        return Err(Bad);
+    }
+    let flags = read_u32(bytes, 8);
+    if flags > 1 || read_u32(bytes, 12) != 1 {
+        return Err(Bad);
+    }
+    Ok(RelinquishDesc {
+        handle: read_u64(bytes, 0),
+        zero: flags == 1,
+        endpoint: EndpointId(read_u16(bytes, 16)),
+    })
+}
+
+/// What the bytes say as a relinquish descriptor of one endpoint. `Bad` means that they are none.
+pub fn read_relinquish(bytes: &[u8]) -> Result<RelinquishDesc, Bad>
+    ensures found { IfOk result (λ d. Relinquish bytes.now d) }
+    ensures none { OnErr result ((r : RelinquishDesc) → Relinquish bytes.now r → ⊥) }
+    ensures computed { result_ok result ≡ relinquish_of bytes.now }
+{
+    read_relinquish_from(&bytes)
+}

@@ -1,0 +1,145 @@
+//! The answer to a retrieve, written where its caller reads it.
+
+ghost use Rattle.std.specs.Prelude.{◌≡◌, ◌+◌, ◌*◌, ◌^◌, ◌<◌, ◌≤◌, List, ℕ, length, [], ◌∷◌, ◌++◌, take, drop};
+ghost use Rattle.std.specs.List.{flat_map};
+ghost use Rattle.ffa_model.specs.DescriptorPlaces.{header_size};
+ghost use Rattle.ffa_model.specs.SendDescriptor.{page_total};
+ghost use Rattle.ffa_model.specs.ResponseBytes.{le, flags_of, permissions_of, header_bytes, access_bytes, composite_bytes, range_bytes, response_record, response_bytes, response_size};
+ghost use Rattle.ffa_memdesc.specs.Writing.{Wrote};
+
+use crate::header::{ENTRY_SIZE, HEADER_SIZE, NORMAL_MEMORY};
+use crate::ranges::page_total;
+use byteorder::{ByteOrder, LittleEndian};
+use ffa_model::{Data, Kind, Range, Response, Rights};
+
+/// Where the access descriptor, the composite and the ranges of a response stand.
+const ACCESS: usize = HEADER_SIZE as usize;
+
+const COMPOSITE: usize = ACCESS + ENTRY_SIZE as usize;
+
+const RANGES: usize = COMPOSITE + 16;
+
+fn put_u8(out: &mut [u8], at: usize, value: u8)
+    requires { at + 1 ≤ length out.old }
+    ensures { out.new ≡ take at out.old ++ (value ∷ [] ++ drop (at + 1) out.old) }
+{
+    out[at] = value;
+}
+
+fn put_u16(out: &mut [u8], at: usize, value: u16)
+    requires { at + 2 ≤ length out.old }
+    ensures { out.new ≡ take at out.old ++ (le 2 value ++ drop (at + 2) out.old) }
+{
+    LittleEndian::write_u16(&mut out[at..], value);
+}
+
+fn put_u32(out: &mut [u8], at: usize, value: u32)
+    requires { at + 4 ≤ length out.old }
+    ensures { out.new ≡ take at out.old ++ (le 4 value ++ drop (at + 4) out.old) }
+{
+    LittleEndian::write_u32(&mut out[at..], value);
+}
+
+fn put_u64(out: &mut [u8], at: usize, value: u64)
+    requires { at + 8 ≤ length out.old }
+    ensures { out.new ≡ take at out.old ++ (le 8 value ++ drop (at + 8) out.old) }
+{
+    LittleEndian::write_u64(&mut out[at..], value);
+}
+
+/// The flags: the kind in bits 4:3, and in bit 0 whether the pages were zeroed.
+fn flags_of(kind: Kind, zero: bool) -> u32
+    ensures { result ≡ flags_of kind zero }
+{
+    let kind = match kind {
+        Kind::Share => 1,
+        Kind::Lend => 2,
+        Kind::Donate => 3,
+    };
+    kind << 3 | zero as u32
+}
+
+/// The permissions: data in bits 1:0, instructions in bits 3:2.
+fn permissions_of(rights: Rights) -> u8
+    ensures { result ≡ permissions_of rights }
+{
+    let level = match rights.level {
+        Data::Ro => 1,
+        Data::Rw => 2,
+    };
+    let exec = if rights.exec { 2 } else { 1 };
+    exec << 2 | level
+}
+
+fn write_header(out: &mut [u8], response: &Response)
+    requires { 48 ≤ length out.old }
+    ensures { Wrote out.old (header_bytes (response_record response.now)) header_size out.new }
+{
+    put_u16(out, 0, response.sender.0);
+    put_u16(out, 2, NORMAL_MEMORY);
+    put_u32(out, 4, flags_of(response.kind, response.zero));
+    put_u64(out, 8, response.handle);
+    put_u64(out, 16, response.tag);
+    put_u32(out, 24, ENTRY_SIZE);
+    put_u32(out, 28, 1);
+    put_u32(out, 32, HEADER_SIZE);
+    put_u32(out, 36, 0);
+    put_u64(out, 40, 0);
+}
+
+fn write_access(out: &mut [u8], response: &Response)
+    requires { header_size + 16 ≤ length out.old }
+    ensures { (old front : List ℕ) → Wrote old front header_size out.old
+        → Wrote old (front ++ access_bytes (response_record response.now)) (header_size + 16) out.new }
+{
+    put_u16(out, ACCESS, response.endpoint.0);
+    put_u8(out, ACCESS + 2, permissions_of(response.rights));
+    put_u8(out, ACCESS + 3, 0);
+    put_u32(out, ACCESS + 4, COMPOSITE as u32);
+    put_u64(out, ACCESS + 8, 0);
+}
+
+fn write_composite(out: &mut [u8], ranges: &[Range])
+    requires room { header_size + 32 ≤ length out.old }
+    requires few { length ranges.now ≤ 16 }
+    requires total { page_total ranges.now < 2 ^ 32 }
+    ensures { (old front : List ℕ) → Wrote old front (header_size + 16) out.old
+        → Wrote old (front ++ composite_bytes ranges.now) (header_size + 32) out.new }
+{
+    put_u32(out, COMPOSITE, page_total(ranges) as u32);
+    put_u32(out, COMPOSITE + 4, ranges.len() as u32);
+    put_u64(out, COMPOSITE + 8, 0);
+}
+
+fn write_range(out: &mut [u8], at: usize, range: &Range)
+    requires { at + 16 ≤ length out.old }
+    ensures { (old front : List ℕ) → Wrote old front at out.old → Wrote old (front ++ range_bytes range.now) (at + 16) out.new }
+{
+    put_u64(out, at, range.address);
+    put_u32(out, at + 8, range.pages);
+    put_u32(out, at + 12, 0);
+}
+
+fn write_ranges(out: &mut [u8], ranges: &[Range])
+    requires { response_size ranges.now ≤ length out.old }
+    ensures { (old front : List ℕ) → Wrote old front (header_size + 32) out.old
+        → Wrote old (front ++ flat_map range_bytes ranges.now) (response_size ranges.now) out.new }
+{
+    for i in 0..ranges.len() {
+        write_range(out, RANGES + ENTRY_SIZE as usize * i, &ranges[i]);
+    }
+}
+
+/// Writes a response from the page's first byte on, and answers how many bytes it has. The rest of the page stays.
+pub fn write_response(response: &Response, out: &mut [u8; 4096]) -> usize
+    requires { page_total response.now.ranges.items < 2 ^ 32 }
+    ensures size { result ≡ response_size response.now.ranges.items }
+    ensures bytes { out.new ≡ response_bytes (response_record response.now) ++ drop (response_size response.now.ranges.items) out.old }
+{
+    let ranges = response.ranges.as_slice();
+    write_header(out, response);
+    write_access(out, response);
+    write_composite(out, ranges);
+    write_ranges(out, ranges);
+    RANGES + ENTRY_SIZE as usize * ranges.len()
+}

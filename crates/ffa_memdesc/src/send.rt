@@ -1,0 +1,99 @@
+//! Send descriptors.
+
+ghost use Rattle.std.specs.Prelude.{◌≡◌, ◌≤◌, ℕ, List, IfOk, OnErr, IsTrue};
+ghost use Rattle.std.specs.Option.{option_map};
+ghost use Rattle.std.specs.Result.{result_ok};
+ghost use Rattle.ffa_model.specs.SendDescriptor.{SendRecord, send_record, Send, send_of, most_flags, most_receivers, attributes_of, is_send_header};
+ghost use Rattle.ffa_memdesc.specs.Reading.{header_in};
+
+use crate::Bad;
+use crate::bytes::{Bytes, read_u32};
+use crate::header::{Header, NORMAL_MEMORY, read_header};
+use crate::ranges::{page_total, read_range_count, read_ranges};
+use crate::receivers::read_receivers;
+use ffa_model::{Kind, SendDesc};
+
+/// The greatest flags of a send. Bit 0 asks for zeros, but not in a share.
+fn most_flags(kind: Kind) -> u32
+    ensures { result ≡ most_flags kind }
+{
+    match kind {
+        Kind::Share => 0,
+        Kind::Lend | Kind::Donate => 1,
+    }
+}
+
+fn most_receivers(kind: Kind) -> u32
+    ensures value { result ≡ most_receivers kind }
+    ensures few { result ≤ 4 }
+{
+    match kind {
+        Kind::Share | Kind::Lend => 4,
+        Kind::Donate => 1,
+    }
+}
+
+/// The memory attributes of a send to this many receivers.
+fn attributes_of(kind: Kind, count: u32) -> u16
+    ensures { result ≡ attributes_of kind count }
+{
+    match kind {
+        Kind::Share => NORMAL_MEMORY,
+        Kind::Lend => { if count == 1 { 0 } else { NORMAL_MEMORY } }
+        Kind::Donate => 0,
+    }
+}
+
+/// Whether the header is that of a send.
+#[tactic(auto, unfolding(ffa_model::specs::SendDescriptor::is_send_header))]
+fn is_send_header(kind: Kind, header: &Header) -> bool
+    ensures exact { (b : List ℕ) → header.now ≡ header_in b → result ≡ is_send_header kind b }
+    ensures few { IsTrue result → header.now.count ≤ 4 }
+{
+    header.attributes == attributes_of(kind, header.count)
+        && header.flags <= most_flags(kind)
+        && header.handle == 0
+        && header.count >= 1
+        && header.count <= most_receivers(kind)
+}
+
+fn send_in<B: Bytes>(bytes: &B, kind: Kind) -> Option<SendDesc>
+    ensures { option_map send_record result ≡ send_of kind (B.bytes bytes.now) }
+{
+    let header = read_header(bytes)?;
+    if !is_send_header(kind, &header) {
+        return None;
+    }
+    let composite = read_u32(bytes, header.array as usize + 4);
+    let receivers = read_receivers(bytes, kind, &header, composite)?;
+    let count = read_range_count(bytes, &header, composite)?;
+    let ranges = read_ranges(bytes, composite, count)?;
+    if page_total(&ranges) != read_u32(bytes, composite as usize) as u64 {
+        return None;
+    }
+    Some(SendDesc {
+        sender: header.sender,
+        zero: header.flags == 1,
+        tag: header.tag,
+        receivers,
+        ranges,
+    })
+}
+
+/// What a send descriptor says, wherever its bytes lie.
+pub fn read_send_from<B: Bytes>(bytes: &B, kind: Kind) -> Result<SendDesc, Bad>
+    ensures found { IfOk result (λ d. Send kind (B.bytes bytes.now) (send_record d)) }
+    ensures none { OnErr result ((r : SendRecord) → Send kind (B.bytes bytes.now) r → ⊥) }
+    ensures computed { option_map send_record (result_ok result) ≡ send_of kind (B.bytes bytes.now) }
+{
+    send_in(bytes, kind).ok_or(Bad)
+}
+
+/// What the bytes say as a send descriptor of this kind. `Bad` means that they are none.
+pub fn read_send(bytes: &[u8], kind: Kind) -> Result<SendDesc, Bad>
+    ensures found { IfOk result (λ d. Send kind bytes.now (send_record d)) }
+    ensures none { OnErr result ((r : SendRecord) → Send kind bytes.now r → ⊥) }
+    ensures computed { option_map send_record (result_ok result) ≡ send_of kind bytes.now }
+{
+    read_send_from(&bytes, kind)
+}

@@ -1,0 +1,132 @@
+-- Where the fields of memory transaction descriptors stand (DEN0077A, 5.11 and 16), and the codes in them.
+use Rattle.byteorder.specs.Endian.{little_from}
+use Rattle.std.specs.Prelude.{◌≡◌, ◌≤◌, ℕ, ◌+◌, ◌*◌, ◌%◌, ◌==◌, Bool, ◌&&◌, nat_le, List, length, slice_index, Option, Some, None, if◌then◌else◌}
+use Rattle.ffa_model.specs.declared.rights.Data.{Data}
+use Rattle.ffa_model.specs.declared.rights.Data.TheVariants.{Ro, Rw}
+use Rattle.ffa_model.specs.declared.rights.Kind.{Kind}
+use Rattle.ffa_model.specs.declared.rights.Kind.TheVariants.{Share, Lend, Donate}
+
+-- numbers in bytes, by their place, the low byte first
+abbrev pub byte : List ℕ → ℕ → ℕ
+byte b at = slice_index b at
+
+unfoldable pub u16_at : List ℕ → ℕ → ℕ
+u16_at b at = little_from at 2 b
+
+unfoldable pub u32_at : List ℕ → ℕ → ℕ
+u32_at b at = little_from at 4 b
+
+unfoldable pub u64_at : List ℕ → ℕ → ℕ
+u64_at b at = little_from at 8 b
+
+-- THE TRANSACTION HEADER: its length, its fields, and what makes bytes one. Only these and the header of a response
+-- (`header_bytes` of ResponseBytes) know its form
+abbrev pub header_size : ℕ
+header_size = 48
+
+abbrev pub sender_field : List ℕ → ℕ
+sender_field b = u16_at b 0
+
+abbrev pub attributes_field : List ℕ → ℕ
+attributes_field b = u16_at b 2
+
+abbrev pub flags_field : List ℕ → ℕ
+flags_field b = u32_at b 4
+
+abbrev pub handle_field : List ℕ → ℕ
+handle_field b = u64_at b 8
+
+abbrev pub tag_field : List ℕ → ℕ
+tag_field b = u64_at b 16
+
+abbrev pub receiver_count : List ℕ → ℕ
+receiver_count b = u32_at b 28
+
+-- where the access descriptors begin
+abbrev pub array_place : List ℕ → ℕ
+array_place b = u32_at b 32
+
+-- the place of access descriptor i
+abbrev pub access_place : List ℕ → ℕ → ℕ
+access_place b i = array_place b + 16 * i
+
+abbrev pub array_end : List ℕ → ℕ
+array_end b = access_place b (receiver_count b)
+
+-- access descriptors of 16 bytes stand behind the header, and all lie inside the bytes
+pub record IsHeader (b : List ℕ) : Type 0 where
+  pub whole : header_size ≤ length b
+  pub access_size : u32_at b 24 ≡ 16
+  pub aligned : array_place b % 16 ≡ 0
+  pub behind : header_size ≤ array_place b
+  pub inside : array_end b ≤ length b
+  pub reserved : u32_at b 36 ≡ 0
+  pub reserved_too : u64_at b 40 ≡ 0
+
+abbrev pub is_header : List ℕ → Bool
+is_header b =
+    nat_le header_size (length b)
+    && (u32_at b 24 == 16)
+    && (array_place b % 16 == 0)
+    && nat_le header_size (array_place b)
+    && nat_le (array_end b) (length b)
+    && (u32_at b 36 == 0)
+    && (u64_at b 40 == 0)
+
+-- AN ACCESS DESCRIPTOR, by its place
+abbrev pub endpoint_field : List ℕ → ℕ → ℕ
+endpoint_field b at = u16_at b at
+
+abbrev pub permissions_field : List ℕ → ℕ → ℕ
+permissions_field b at = byte b (at + 2)
+
+abbrev pub access_flags_field : List ℕ → ℕ → ℕ
+access_flags_field b at = byte b (at + 3)
+
+abbrev pub composite_field : List ℕ → ℕ → ℕ
+composite_field b at = u32_at b (at + 4)
+
+abbrev pub access_reserved_field : List ℕ → ℕ → ℕ
+access_reserved_field b at = u64_at b (at + 8)
+
+-- THE COMPOSITE: its place as the first access descriptor tells it, how many ranges it has, and the place of range i
+abbrev pub composite_place : List ℕ → ℕ
+composite_place b = composite_field b (array_place b)
+
+abbrev pub total_field : List ℕ → ℕ
+total_field b = u32_at b (composite_place b)
+
+abbrev pub range_count : List ℕ → ℕ
+range_count b = u32_at b (composite_place b + 4)
+
+abbrev pub range_place : List ℕ → ℕ → ℕ
+range_place b i = composite_place b + 16 + 16 * i
+
+-- CODES
+-- data permission: 00 not specified, 01 read only, 10 read and write
+abbrev pub data_code : Option Data → ℕ
+data_code None = 0
+data_code (Some Ro) = 1
+data_code (Some Rw) = 2
+
+abbrev pub data_of : ℕ → Option Data
+data_of code = if code == 1 then Some Ro else if code == 2 then Some Rw else None
+
+-- instruction permission: 00 not specified, 01 not executable, 10 executable
+abbrev pub exec_code : Bool → ℕ
+exec_code exec = if exec then 2 else 1
+
+-- transaction type: 00 not specified, 01 share, 10 lend, 11 donate
+abbrev pub kind_code : Option Kind → ℕ
+kind_code None = 0
+kind_code (Some Share) = 1
+kind_code (Some Lend) = 2
+kind_code (Some Donate) = 3
+
+abbrev pub kind_of : ℕ → Option Kind
+kind_of code =
+    if code == 1 then Some Share else if code == 2 then Some Lend else if code == 3 then Some Donate else None
+
+-- normal memory, write-back, inner shareable
+abbrev pub normal_memory : ℕ
+normal_memory = 0x2F

@@ -1,0 +1,53 @@
+//! What the descriptors of memory transactions say (DEN0077A, 5.11 and 16).
+
+use crate::endpoint::EndpointId;
+use crate::rights::{Data, Kind, Rights};
+use crate::transaction::{Range, Receiver};
+use arrayvec::ArrayVec;
+
+/// What a send descriptor says: that of FFA_MEM_DONATE, FFA_MEM_LEND or FFA_MEM_SHARE.
+#[derive(Debug, Drop)]
+pub struct SendDesc {
+    pub sender: EndpointId,
+    /// Whether the pages are to be zeroed before they are offered.
+    pub zero: bool,
+    pub tag: u64,
+    pub receivers: ArrayVec<Receiver, 4>,
+    pub ranges: ArrayVec<Range, 16>,
+}
+
+/// What a retrieve descriptor says: that of FFA_MEM_RETRIEVE_REQ. `None` is a field that is not specified.
+#[derive(Clone, Copy, Debug, PartialEq, Eq)]
+pub struct RetrieveDesc {
+    pub sender: EndpointId,
+    pub handle: u64,
+    pub tag: u64,
+    pub kind: Option<Kind>,
+    pub level: Option<Data>,
+    pub exec: bool,
+}
+
+/// What a relinquish descriptor says: that of FFA_MEM_RELINQUISH.
+#[derive(Clone, Copy, Debug, PartialEq, Eq)]
+pub struct RelinquishDesc {
+    pub handle: u64,
+    /// Whether the pages are to be zeroed.
+    pub zero: bool,
+    pub endpoint: EndpointId,
+}
+
+/// What the answer to a retrieve tells its caller: that of FFA_MEM_RETRIEVE_RESP.
+#[derive(Debug, Drop)]
+pub struct Response {
+    pub sender: EndpointId,
+    pub kind: Kind,
+    /// Whether the pages were zeroed before they were offered.
+    pub zero: bool,
+    pub handle: u64,
+    pub tag: u64,
+    /// The caller.
+    pub endpoint: EndpointId,
+    /// The right that the caller now holds.
+    pub rights: Rights,
+    pub ranges: ArrayVec<Range, 16>,
+}
