@@ -2,6 +2,7 @@
 use Rattle.std.specs.Prelude.{ℕ, ◌+◌, ◌-◌, ◌*◌, ◌==◌, Bool, false, not, ◌&&◌, ◌||◌, nat_le, List, [], ◌∷◌, ◌++◌, length, replicate, fold, codes, Option, Some, None, is_some, if◌then◌else◌, option_and_then, option_map}
 use Rattle.std.specs.Str.{bytes_eq}
 use Rattle.std.specs.List.{list_all, slice_split}
+use Rattle.ffa_model.specs.Manifest.{is_from_to}
 use Rattle.ffa_model.specs.declared.operation.Op.{Op}
 use Rattle.ffa_model.specs.declared.operation.Op.TheVariants.{Call, Load, Store, Fetch}
 use Rattle.ffa_model.specs.declared.operation.Size.{Size}
@@ -25,15 +26,12 @@ pub data Line : Type 0 where
 
 -- NUMBERS
 
-abbrev pub is_between : ℕ → ℕ → ℕ → Bool
-is_between first last c = nat_le first c && nat_le c last
-
 -- the value of a hexadecimal digit, of either case
 unfoldable pub digit_value : ℕ → Option ℕ
 digit_value c =
-    if is_between 48 57 c then Some (c - 48)
-    else if is_between 65 70 c then Some (c - 55)
-    else if is_between 97 102 c then Some (c - 87)
+    if is_from_to 48 57 c then Some (c - 48)
+    else if is_from_to 65 70 c then Some (c - 55)
+    else if is_from_to 97 102 c then Some (c - 87)
     else None
 
 -- a number with one more digit behind
@@ -42,7 +40,7 @@ with_digit number c = option_and_then (λ n. option_map (λ d. 16 * n + d) (digi
 
 -- the number that 1 to 16 digits write
 unfoldable pub number_of : List ℕ → Option ℕ
-number_of word = if is_between 1 16 (length word) then fold with_digit (Some 0) word else None
+number_of word = if is_from_to 1 16 (length word) then fold with_digit (Some 0) word else None
 
 -- the numbers that words write, one each
 abbrev pub numbers_of : List (List ℕ) → Option (List ℕ)
@@ -81,7 +79,7 @@ size_written word =
 -- `call X0 .. X7`, of which 1 to 8 are given
 unfoldable pub call_of : List (List ℕ) → Option Line
 call_of words =
-    if is_between 1 8 (length words)
+    if is_from_to 1 8 (length words)
     then option_map (λ given. operate (Call (registers_of given))) (numbers_of words)
     else None
 

@@ -1,14 +1,13 @@
 -- Bytes of a block, line by line.
-use Rattle.std.proofs.Common.{◌≡◌, ℕ, ◌+◌, ◌-◌, ◌<◌, ◌≤◌, ◌^◌, Bool, true, false, not, List, [], ◌∷◌, ◌++◌, length, take, drop, get_or, position, Option, Some, None, Result, Ok, Err, sym, ap, ◌∙◌, subst, arith, append_assoc, append-nil, take-append-drop, length-append, take_all, refl}
+use Rattle.std.proofs.Common.{◌≡◌, ℕ, ◌+◌, ◌-◌, ◌^◌, true, List, [], ◌∷◌, ◌++◌, length, take, drop, position, Option, Some, None, Result, Ok, Err, sym, ap, ◌∙◌, arith, append_assoc, append-nil, take-append-drop, length-append, take_all, refl}
 use Rattle.std.specs.Prelude.{◌==◌}
-use Rattle.std.specs.List.{list_all, position_or_len}
-use Rattle.std.proofs.lemmas.List.{drop_more, take_rest}
+use Rattle.std.proofs.lemmas.List.{drop_more}
 use Rattle.std.proofs.lemmas.List.Folds.{list_all-append}
 use Rattle.std.proofs.lemmas.List.Quantifiers.{position-Some}
 use Rattle.std.proofs.lemmas.Bool.{eqb-true}
 use Rattle.ffa_model.specs.State.{State}
 use Rattle.ffa_model.specs.TraceLines.{feed, joined, has_no_feed}
-use Rattle.ffaplay.specs.Played.{Did, DidAndBegan, Began, LineDone, LineEnded, Kept, Feeding, Fed}
+use Rattle.ffaplay.specs.Played.{LineDone, LineEnded, Kept, Feeding, Fed}
 use Rattle.ffaplay.specs.declared.output.PlayError.{PlayError}
 use Rattle.ffaplay.specs.declared.output.PlayError.TheVariants.{Read, Write, NoMemory, BadLine}
 use Rattle.ffaplay.proofs.Positions.{none_pass, none_before}

@@ -3,7 +3,7 @@ use Rattle.std.proofs.Common.{◌≡◌, ◌≢◌, Bool, true, false, ℕ, suc,
 use Rattle.std.specs.Prelude.{if◌then◌else◌}
 use Rattle.std.proofs.Math.Seq.{set-append_seam}
 use Rattle.ffa_model.specs.declared.operation.Op.TheVariants.{Call}
-use Rattle.ffa_model.specs.TraceLines.{Line, operate, number_of, numbers_of, registers_of, call_of, is_between}
+use Rattle.ffa_model.specs.TraceLines.{operate, number_of, numbers_of, registers_of, call_of}
 
 -- of the words, these numbers were read, and `left` are still to be read
 pub record Reading (words left : List (List ℕ)) (x : List ℕ) (count : ℕ) : Type 0 where

@@ -7,7 +7,7 @@ use Rattle.ffa_model.specs.State.{State}
 use Rattle.ffa_model.specs.TraceLines.{Line, line_of, has_meaning}
 use Rattle.ffa_model.specs.TraceText.{line_text, line_after, text_of, after}
 use Rattle.ffaplay.specs.Output.{TookFront, Writes}
-use Rattle.ffaplay.specs.Played.{Began, LineDone}
+use Rattle.ffaplay.specs.Played.{LineDone}
 use Rattle.ffaplay.specs.declared.output.PlayError.{PlayError}
 use Rattle.ffaplay.specs.declared.output.PlayError.TheVariants.{Read, Write, NoMemory, BadLine}
 

@@ -1,13 +1,12 @@
 -- Runs of lines, one after another.
-use Rattle.std.proofs.Common.{◌≡◌, ℕ, ◌+◌, List, [], ◌∷◌, ◌++◌, Option, true, sym, ap, ◌∙◌, subst, append_assoc, append-nil, refl}
-use Rattle.std.specs.Prelude.{◌&&◌}
+use Rattle.std.proofs.Common.{◌≡◌, ℕ, List, [], ◌∷◌, ◌++◌, Option, true, sym, ap, ◌∙◌, subst, append_assoc, append-nil, refl}
 use Rattle.std.specs.Io.KnownBytes.{Appends, Keeps}
 use Rattle.std.proofs.KnownBytes.{Appends-nil, Appends-trans, Appends-kept}
 use Rattle.std.proofs.lemmas.List.Folds.{list_all-append}
 use Rattle.ffa_model.specs.State.{State}
 use Rattle.ffa_model.specs.TraceLines.{feed, joined, is_line, are_lines, has_no_feed, has_meaning}
 use Rattle.ffa_model.specs.TraceText.{text, text_of, after, after_all}
-use Rattle.ffaplay.specs.Played.{Did, DidAndBegan, Began}
+use Rattle.ffaplay.specs.Played.{Did, DidAndBegan}
 
 pub joined-append : (ls ms : List (List ℕ)) → joined (ls ++ ms) ≡ joined ls ++ joined ms
 joined-append [] ms = refl

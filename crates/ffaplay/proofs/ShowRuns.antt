@@ -1,5 +1,5 @@
 -- The runs of pages, one after another.
-use Rattle.std.proofs.Common.{◌≡◌, ℕ, zero, suc, ◌+◌, ◌-◌, ◌<◌, ◌≤◌, Bool, true, false, cond, not, List, [], ◌∷◌, ◌++◌, length, Option, sym, ap, ap₂, ◌∙◌, subst, arith, refl, append_assoc, append-nil, eq-eqb}
+use Rattle.std.proofs.Common.{◌≡◌, ℕ, zero, suc, ◌+◌, ◌-◌, ◌<◌, ◌≤◌, true, false, cond, not, List, [], ◌∷◌, ◌++◌, length, Option, sym, ap, ap₂, ◌∙◌, subst, arith, refl, append_assoc, append-nil, eq-eqb}
 use Rattle.std.specs.Prelude.{◌==◌, ◌||◌, filter, zip}
 use Rattle.std.proofs.lemmas.Bool.{ne_eqb, false≢true}
 use Rattle.std.specs.List.{flat_map, range_with_len}

@@ -2,7 +2,7 @@
 use Rattle.std.specs.Prelude.{◌≡◌, ◌≤◌, ◌⊎◌, ℕ, ◌+◌, ◌-◌, ◌^◌, true, false, List, [], ◌∷◌, ◌++◌, length, Option, Result, Ok, Err}
 use Rattle.std.specs.Io.KnownBytes.{Appends, Consumes, IsAtEnd, Keeps}
 use Rattle.ffa_model.specs.State.{State}
-use Rattle.ffa_model.specs.TraceLines.{feed, has_no_feed, has_meaning, is_line, are_lines, joined}
+use Rattle.ffa_model.specs.TraceLines.{feed, has_no_feed, has_meaning, are_lines, joined}
 use Rattle.ffa_model.specs.TraceText.{text, text_of, after, after_all}
 use Rattle.ffaplay.specs.Output.{TookFront}
 use Rattle.ffaplay.specs.declared.output.PlayError.{PlayError}

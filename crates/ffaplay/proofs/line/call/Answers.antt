@@ -1,5 +1,3 @@
-use Rattle.std.proofs.Common.{[], ◌∷◌, sym}
-use Rattle.ffaplay.specs.Parsed.{words_left}
 use Rattle.ffaplay.proofs.LineRegisters.{start, left_are, more, bad_word, ninth_word, no_word, all_words}
 use Rattle.ffaplay.proofs.line.call.Goals as goal
 

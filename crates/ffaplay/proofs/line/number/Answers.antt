@@ -1,4 +1,4 @@
-use Rattle.std.proofs.Common.{◌+◌, ◌*◌, ◌^◌, ◌<◌, ◌≤◌, ◌∙◌, sym, arith}
+use Rattle.std.proofs.Common.{◌<◌, ◌∙◌, sym, arith}
 use Rattle.ffaplay.proofs.LineNumbers.{no_digit, no_number, more_digits, fits_word}
 use Rattle.ffaplay.proofs.line.number.Goals as goal
 
