@@ -1,6 +1,7 @@
 //! The plain types of the partition manager. Its `specs/` hold the small machine that every contract cites.
 #![tactic(auto)]
 
+pub mod call;
 pub mod endpoint;
 pub mod leaf;
 pub mod machines;
@@ -10,6 +11,7 @@ pub mod rights;
 pub mod schedule;
 pub mod transaction;
 
+pub use call::{Call, Reply};
 pub use endpoint::{Endpoint, EndpointId, PageNo, Properties, Region};
 pub use leaf::Leaf;
 pub use machines::{built_in, row_machine};
