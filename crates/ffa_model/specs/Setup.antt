@@ -31,9 +31,13 @@ spm_id_reply = success manager 0
 abbrev pub uuid_bytes : List ℕ → List ℕ
 uuid_bytes words = flat_map (little_bytes 4) words
 
--- the partitions that a UUID selects, each with its place in the manifest: the Nil UUID selects all
-abbrev pub selected : State → List ℕ → List (ℕ × Party)
-selected s uuid = filter (λ p. not (p.0 == 0) && (is_nil uuid || bytes_eq p.1.uuid uuid)) (enumerate_from 0 s.parties)
+-- whether a UUID selects the endpoint at a place in the manifest: the Nil UUID selects each partition
+abbrev pub is_selected : List ℕ → ℕ × Party → Bool
+is_selected uuid p = not (p.0 == 0) && (is_nil uuid || bytes_eq p.1.uuid uuid)
+
+-- the partitions that a UUID selects, each with its place in the manifest
+abbrev pub selected : List Party → List ℕ → List (ℕ × Party)
+selected parties uuid = filter (is_selected uuid) (enumerate_from 0 parties)
 
 -- the information on a partition: properties bit 8 says that it is AArch64, and the UUID answers the Nil UUID alone
 abbrev pub info_of : List ℕ → ℕ × Party → List ℕ
@@ -41,8 +45,8 @@ info_of uuid p =
     little_bytes 2 (identifier p.0) ++ little_bytes 2 1 ++ little_bytes 4 (p.1.properties + 0x100)
     ++ (if is_nil uuid then p.1.uuid else replicate 16 0)
 
-abbrev pub info_bytes : State → List ℕ → List ℕ
-info_bytes s uuid = flat_map (info_of uuid) (selected s uuid)
+abbrev pub info_bytes : List Party → List ℕ → List ℕ
+info_bytes parties uuid = flat_map (info_of uuid) (selected parties uuid)
 
 abbrev pub is_count_alone : ℕ → Bool
 is_count_alone flags = is_set 0 flags
@@ -53,16 +57,16 @@ is_any (x ∷ xs) = true
 
 abbrev pub info_guards : State → List ℕ → ℕ → List (Bool × ErrorCode)
 info_guards s uuid flags =
-    (is_nil uuid || is_any (selected s uuid), InvalidParameters)
+    (is_nil uuid || is_any (selected s.parties uuid), InvalidParameters)
     ∷ (is_count_alone flags || has_buffers s s.runner, InvalidParameters)
     ∷ (is_count_alone flags || not (is_rx_full s s.runner), Busy)
     ∷ []
 
 abbrev pub informed : State → List ℕ → ℕ → State
-informed s uuid flags = if is_count_alone flags then s else filled s s.runner (info_bytes s uuid)
+informed s uuid flags = if is_count_alone flags then s else filled s s.runner (info_bytes s.parties uuid)
 
 abbrev pub info_get : State → List ℕ → ℕ → Stepped
 info_get s words flags =
     answered (first_failure (info_guards s (uuid_bytes words) flags)) s
     (informed s (uuid_bytes words) flags)
-    (success (length (selected s (uuid_bytes words))) (if is_count_alone flags then 0 else 24))
+    (success (length (selected s.parties (uuid_bytes words))) (if is_count_alone flags then 0 else 24))
