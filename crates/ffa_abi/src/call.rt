@@ -199,7 +199,7 @@ pub fn decode(x: [u64; 8]) -> Call
         .unwrap_or(Call::Unknown)
 }
 
-/// Whether a number is the identifier of a call that is served, in either form that the call has (DEN0077A, 13.2).
+/// Whether a number is the identifier of a call that is served, in either form that the call has (DEN0077A, 13).
 pub fn is_served(function: u32) -> bool
     ensures { result ≡ is_served function }
 {

@@ -1,4 +1,4 @@
-//! Partition information (DEN0077A, 13.8).
+//! Partition information (DEN0077A, 13).
 ghost use Rattle.std.specs.Prelude.{◌≡◌, ◌<◌, length, map};
 ghost use Rattle.ffa_model.specs.First.{party_of};
 ghost use Rattle.ffa_model.specs.Manifest as model;
@@ -24,6 +24,7 @@ fn uuid_of(words: [u32; 4]) -> [u8; 16]
     uuid
 }
 
+// Whether this is the Nil UUID.
 fn is_zeros(uuid: &[u8; 16]) -> bool
     ensures { result ≡ model.is_nil uuid.now }
 {

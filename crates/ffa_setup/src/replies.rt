@@ -12,7 +12,7 @@ const VERSION: u32 = 0x0001_0001;
 /// NOT_SUPPORTED as FFA_VERSION answers it, as 32 bits of two's complement.
 const NO_VERSION: u32 = 0xFFFF_FFFF;
 
-/// FFA_VERSION (DEN0077A, 13.1): version 1.1 to a caller of any version with the major number 1, and else
+/// FFA_VERSION (DEN0077A, 13): version 1.1 to a caller of any version with the major number 1, and else
 /// NOT_SUPPORTED.
 pub fn version(version: u32) -> Reply
     ensures { result ≡ version_reply version }
@@ -24,7 +24,7 @@ pub fn version(version: u32) -> Reply
     }
 }
 
-/// FFA_FEATURES (DEN0077A, 13.2), by the identifier of a call in either form: whether the call is served. No call has
+/// FFA_FEATURES (DEN0077A, 13), by the identifier of a call in either form: whether the call is served. No call has
 /// further properties.
 pub fn features(function: u32) -> Reply
     ensures { result ≡ features_reply function }
@@ -36,14 +36,14 @@ pub fn features(function: u32) -> Reply
     }
 }
 
-/// FFA_ID_GET (DEN0077A, 13.9): the caller's own identifier.
+/// FFA_ID_GET (DEN0077A, 13): the caller's own identifier.
 pub fn id(caller: EndpointId) -> Reply
     ensures { result ≡ success caller.0 0 }
 {
     Reply::Success([u32::from(caller.0), 0, 0, 0, 0, 0])
 }
 
-/// FFA_SPM_ID_GET (DEN0077A, 13.10): the manager's identifier.
+/// FFA_SPM_ID_GET (DEN0077A, 13): the manager's identifier.
 pub fn spm_id() -> Reply
     ensures { result ≡ spm_id_reply }
 {
