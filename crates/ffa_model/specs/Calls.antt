@@ -1,14 +1,17 @@
--- What a call gives: the next state, the endpoint that runs next, and the registers that it sees.
-use Rattle.std.specs.Prelude.{ℕ, ◌%◌, ◌^◌, List, ◌∷◌, replicate}
+-- The form of each call: guards in order, and what changes where none fails.
+use Rattle.std.specs.Prelude.{ℕ, ◌%◌, ◌/◌, ◌^◌, Bool, List, [], ◌∷◌, Option, Some, None, if◌then◌else◌, replicate}
 use Rattle.ffa_model.specs.declared.operation.ErrorCode.{ErrorCode}
 use Rattle.ffa_model.specs.declared.operation.ErrorCode.TheVariants.{NotSupported, InvalidParameters, NoMemory, Busy, Denied}
 use Rattle.ffa_model.specs.declared.operation.Outcome.{Outcome}
 use Rattle.ffa_model.specs.declared.operation.Outcome.TheVariants.{Regs}
+use Rattle.ffa_model.specs.declared.call.Reply.{Reply}
+use Rattle.ffa_model.specs.declared.call.Reply.TheVariants.{Version, Error, Success, Passed, Retrieved}
 use Rattle.ffa_model.specs.State.{State}
 
--- a register's low half
-abbrev pub low : ℕ → ℕ
-low x = x % 2 ^ 32
+-- the code of the first guard that fails
+abbrev pub first_failure : List (Bool × ErrorCode) → Option ErrorCode
+first_failure [] = None
+first_failure (guard ∷ guards) = if guard.0 then first_failure guards else Some guard.1
 
 -- FF-A's number of a code, as 32 bits of two's complement (DEN0077A, 11.2)
 abbrev pub code_number : ErrorCode → ℕ
@@ -18,18 +21,27 @@ code_number NoMemory = 0xFFFFFFFD
 code_number Busy = 0xFFFFFFFC
 code_number Denied = 0xFFFFFFFA
 
--- the registers of FFA_ERROR, with the code in w2
-abbrev pub error_registers : ErrorCode → List ℕ
-error_registers code = 0x84000060 ∷ 0 ∷ code_number code ∷ replicate 5 0
+-- the eight registers of a reply
+abbrev pub encode : Reply → List ℕ
+encode (Version version) = version ∷ replicate 7 0
+encode (Error code) = 0x84000060 ∷ 0 ∷ code_number code ∷ replicate 5 0
+encode (Success results) = 0x84000061 ∷ 0 ∷ results
+encode (Passed w0 w1 payload) = w0 ∷ w1 ∷ 0 ∷ payload
+encode (Retrieved size) = 0x84000075 ∷ size ∷ size ∷ replicate 5 0
 
--- the registers of FFA_SUCCESS, with these results in w2 and w3
-abbrev pub success_registers : ℕ → ℕ → List ℕ
-success_registers w2 w3 = 0x84000061 ∷ 0 ∷ w2 ∷ w3 ∷ replicate 4 0
+-- success with these two results in w2 and w3
+abbrev pub success : ℕ → ℕ → Reply
+success w2 w3 = Success (w2 ∷ w3 ∷ replicate 4 0)
 
 pub record Stepped : Type 0 where
   pub state : State
   pub outcome : Outcome
 
--- the runner of this state sees these registers
-abbrev pub replied : State → List ℕ → Stepped
-replied s registers = record { state = s; outcome = Regs (record { 0 = s.runner }) registers }
+-- the runner of this state sees the reply
+abbrev pub replied : State → Reply → Stepped
+replied s reply = record { state = s; outcome = Regs (record { 0 = s.runner }) (encode reply) }
+
+-- a call whose guards gave this: a refusal changes nothing
+abbrev pub answered : Option ErrorCode → State → State → Reply → Stepped
+answered None old new reply = replied new reply
+answered (Some code) old new reply = replied old (Error code)

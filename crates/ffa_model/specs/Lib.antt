@@ -14,8 +14,10 @@ pub mod Codes
 pub mod First
 pub mod Access
 pub mod Calls
+pub mod Registers
 pub mod Memory
 pub mod Refusals
+pub mod Buffers
 pub mod Setup
 pub mod Step
 pub mod Agreement

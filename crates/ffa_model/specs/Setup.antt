@@ -1,7 +1,72 @@
--- Setup calls (DEN0077A, 13).
-use Rattle.ffa_model.specs.State.{State}
-use Rattle.ffa_model.specs.Calls.{Stepped, replied, success_registers}
+-- Version, features, identifiers and partition information (DEN0077A, 13).
+use Rattle.byteorder.specs.Endian.{little_bytes}
+use Rattle.std.specs.Prelude.{ℕ, ◌+◌, ◌==◌, Bool, true, false, not, ◌&&◌, ◌||◌, List, [], ◌∷◌, ◌++◌, length, replicate, if◌then◌else◌}
+use Rattle.std.specs.Str.{bytes_eq}
+use Rattle.std.specs.List.{filter, flat_map, enumerate_from}
+use Rattle.ffa_model.specs.declared.operation.ErrorCode.{ErrorCode}
+use Rattle.ffa_model.specs.declared.operation.ErrorCode.TheVariants.{InvalidParameters, Busy, NotSupported}
+use Rattle.ffa_model.specs.declared.call.Reply.{Reply}
+use Rattle.ffa_model.specs.declared.call.Reply.TheVariants.{Version, Error}
+use Rattle.ffa_model.specs.Bits.{bits, is_set}
+use Rattle.ffa_model.specs.Identifiers.{manager, identifier}
+use Rattle.ffa_model.specs.Manifest.{is_nil}
+use Rattle.ffa_model.specs.Registers.{is_served}
+use Rattle.ffa_model.specs.State.{State, Party, has_buffers, is_rx_full}
+use Rattle.ffa_model.specs.Buffers.{filled}
+use Rattle.ffa_model.specs.Calls.{Stepped, answered, first_failure, success}
 
--- FFA_ID_GET answers the caller
-abbrev pub id_get : State → Stepped
-id_get s = replied s (success_registers s.runner 0)
+abbrev pub version_reply : ℕ → Reply
+version_reply version = if not (is_set 31 version) && bits 30 16 version == 1 then Version 0x10001 else Version 0xFFFFFFFF
+
+abbrev pub features_reply : ℕ → Reply
+features_reply function = if is_served function then success 0 0 else Error NotSupported
+
+abbrev pub id_reply : State → Reply
+id_reply s = success s.runner 0
+
+abbrev pub spm_id_reply : Reply
+spm_id_reply = success manager 0
+
+-- the 16 bytes that four registers hold
+abbrev pub uuid_bytes : List ℕ → List ℕ
+uuid_bytes words = flat_map (little_bytes 4) words
+
+-- whether a UUID selects the endpoint at a place in the manifest: the Nil UUID selects each partition
+abbrev pub is_selected : List ℕ → ℕ × Party → Bool
+is_selected uuid p = not (p.0 == 0) && (is_nil uuid || bytes_eq p.1.uuid uuid)
+
+-- the partitions that a UUID selects, each with its place in the manifest
+abbrev pub selected : List Party → List ℕ → List (ℕ × Party)
+selected parties uuid = filter (is_selected uuid) (enumerate_from 0 parties)
+
+-- the information on a partition: properties bit 8 says that it is AArch64, and the UUID answers the Nil UUID alone
+abbrev pub info_of : List ℕ → ℕ × Party → List ℕ
+info_of uuid p =
+    little_bytes 2 (identifier p.0) ++ little_bytes 2 1 ++ little_bytes 4 (p.1.properties + 0x100)
+    ++ (if is_nil uuid then p.1.uuid else replicate 16 0)
+
+abbrev pub info_bytes : List Party → List ℕ → List ℕ
+info_bytes parties uuid = flat_map (info_of uuid) (selected parties uuid)
+
+abbrev pub is_count_alone : ℕ → Bool
+is_count_alone flags = is_set 0 flags
+
+abbrev pub is_any : {X : Type 0} → List X → Bool
+is_any [] = false
+is_any (x ∷ xs) = true
+
+abbrev pub info_guards : State → List ℕ → ℕ → List (Bool × ErrorCode)
+info_guards s uuid flags =
+    (is_nil uuid || is_any (selected s.parties uuid), InvalidParameters)
+    ∷ (is_count_alone flags || has_buffers s s.runner, InvalidParameters)
+    ∷ (is_count_alone flags || not (is_rx_full s s.runner), Busy)
+    ∷ []
+
+abbrev pub informed : State → List ℕ → ℕ → State
+informed s uuid flags = if is_count_alone flags then s else filled s s.runner (info_bytes s.parties uuid)
+
+abbrev pub info_get : State → List ℕ → ℕ → Stepped
+info_get s words flags =
+    answered (first_failure (info_guards s (uuid_bytes words) flags)) s
+    (informed s (uuid_bytes words) flags)
+    (success (length (selected s.parties (uuid_bytes words))) (if is_count_alone flags then 0 else 24))

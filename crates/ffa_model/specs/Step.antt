@@ -1,23 +1,55 @@
 -- The small machine.
-use Rattle.std.specs.Prelude.{ℕ, ◌==◌, List, [], ◌∷◌, slice_index, if◌then◌else◌}
+use Rattle.std.specs.Prelude.{List, [], ◌∷◌}
 use Rattle.ffa_model.specs.declared.operation.Op.{Op}
 use Rattle.ffa_model.specs.declared.operation.Op.TheVariants.{Call, Load, Store, Fetch}
 use Rattle.ffa_model.specs.declared.operation.ErrorCode.TheVariants.{NotSupported}
 use Rattle.ffa_model.specs.declared.operation.Outcome.{Outcome}
+use Rattle.ffa_model.specs.declared.call.Reply.TheVariants.{Error}
+use Rattle.ffa_model.specs.declared.call.Call as calls
+use Rattle.ffa_model.specs.declared.call.Call.TheVariants.{Version, Features, RxRelease, RxtxMap, RxtxUnmap, PartitionInfoGet, IdGet, MsgWait, Yield, Run, DirectRequest, DirectResponse, MemDonate, MemLend, MemShare, MemRetrieve, MemRelinquish, MemReclaim, BitmapCreate, BitmapDestroy, NotificationBind, NotificationUnbind, NotificationSet, NotificationGet, SpmIdGet, MsgSend2, Unknown}
 use Rattle.ffa_model.specs.State.{State}
-use Rattle.ffa_model.specs.Calls.{Stepped, replied, low, error_registers}
+use Rattle.ffa_model.specs.Registers.{decode}
+use Rattle.ffa_model.specs.Calls.{Stepped, replied}
 use Rattle.ffa_model.specs.Memory.{load, store, fetch}
-use Rattle.ffa_model.specs.Setup.{id_get}
+use Rattle.ffa_model.specs.Setup.{version_reply, features_reply, id_reply, spm_id_reply, info_get}
+use Rattle.ffa_model.specs.Buffers.{rxtx_map, rxtx_unmap, rx_release}
 
--- a call of the runner, by the low half of x0; what is no call that is served is not supported
-abbrev pub serve : State → List ℕ → Stepped
-serve s x =
-    if low (slice_index x 0) == 0x84000069 then id_get s
-    else replied s (error_registers NotSupported)
+abbrev pub not_supported : State → Stepped
+not_supported s = replied s (Error NotSupported)
+
+-- a call of the runner; what isn't served is not supported
+abbrev pub serve : State → calls.Call → Stepped
+serve s (Version version) = replied s (version_reply version)
+serve s (Features function) = replied s (features_reply function)
+serve s RxRelease = rx_release s
+serve s (RxtxMap tx rx pages) = rxtx_map s tx rx pages
+serve s (RxtxUnmap endpoint) = rxtx_unmap s endpoint
+serve s (PartitionInfoGet uuid flags) = info_get s uuid flags
+serve s IdGet = replied s (id_reply s)
+serve s SpmIdGet = replied s spm_id_reply
+serve s MsgWait = not_supported s
+serve s Yield = not_supported s
+serve s (Run target) = not_supported s
+serve s (DirectRequest function parties flags payload) = not_supported s
+serve s (DirectResponse function parties flags payload) = not_supported s
+serve s (MemDonate total fragment address pages) = not_supported s
+serve s (MemLend total fragment address pages) = not_supported s
+serve s (MemShare total fragment address pages) = not_supported s
+serve s (MemRetrieve total fragment address pages) = not_supported s
+serve s MemRelinquish = not_supported s
+serve s (MemReclaim low high flags) = not_supported s
+serve s (BitmapCreate endpoint contexts) = not_supported s
+serve s (BitmapDestroy endpoint) = not_supported s
+serve s (NotificationBind parties flags low high) = not_supported s
+serve s (NotificationUnbind parties flags low high) = not_supported s
+serve s (NotificationSet parties flags low high) = not_supported s
+serve s (NotificationGet receiver flags) = not_supported s
+serve s MsgSend2 = not_supported s
+serve s Unknown = not_supported s
 
 -- one operation of the runner
 abbrev pub step : State → Op → Stepped
-step s (Call x) = serve s x
+step s (Call x) = serve s (decode x)
 step s (Load addr size) = load s addr size
 step s (Store addr size value) = store s addr size value
 step s (Fetch addr) = fetch s addr

@@ -1,6 +1,7 @@
 //! The plain types of the partition manager. Its `specs/` hold the small machine that every contract cites.
 #![tactic(auto)]
 
+pub mod call;
 pub mod descriptor;
 pub mod endpoint;
 pub mod leaf;
@@ -11,6 +12,7 @@ pub mod rights;
 pub mod schedule;
 pub mod transaction;
 
+pub use call::{Call, Reply};
 pub use descriptor::{RelinquishDesc, Response, RetrieveDesc, SendDesc};
 pub use endpoint::{Endpoint, EndpointId, PageNo, Properties, Region, right_in};
 pub use leaf::Leaf;

@@ -1,0 +1,218 @@
+//! Calls in registers.
+ghost use Rattle.std.specs.Prelude.{◌≡◌, ◌<◌, slice_index};
+ghost use Rattle.ffa_model.specs.Registers.{decode, is_served, low};
+ghost use Rattle.ffa_abi.specs.Parts as parts;
+
+use crate::function::*;
+use ffa_model::Call;
+
+/// The registers x0 to x7 of a call, of which the low half of x0 names the function.
+#[derive(Clone, Copy, Debug)]
+struct Registers([u64; 8]);
+
+impl Registers {
+    // The low half of a register.
+    fn w(&self, index: usize) -> u32
+        requires { index < 8 }
+        ensures { result ≡ low (slice_index self.now.0 index) }
+    {
+        (self.0[index] % (1 << 32)) as u32
+    }
+
+    // A whole register in the 64-bit form of a call, whose identifier has bit 30 set, and else its low half.
+    fn x(&self, index: usize) -> u64
+        requires { index < 8 }
+        ensures { result ≡ parts.widest self.now.0 index }
+    {
+        if (self.w(0) >> 30) % 2 == 1 {
+            self.0[index]
+        } else {
+            u64::from(self.w(index))
+        }
+    }
+
+    // The call, where it is of setup.
+    fn setup(&self) -> Option<Call>
+        ensures { result ≡ parts.called_in parts.setup self.now.0 }
+    {
+        let call = match self.w(0) {
+            FFA_VERSION => Call::Version { version: self.w(1) },
+            FFA_FEATURES => Call::Features {
+                function: self.w(1),
+            },
+            FFA_RX_RELEASE => Call::RxRelease,
+            FFA_RXTX_MAP | FFA_RXTX_MAP_64 => Call::RxtxMap {
+                tx: self.x(1),
+                rx: self.x(2),
+                pages: self.w(3),
+            },
+            FFA_RXTX_UNMAP => Call::RxtxUnmap {
+                endpoint: self.w(1),
+            },
+            FFA_PARTITION_INFO_GET => Call::PartitionInfoGet {
+                uuid: [self.w(1), self.w(2), self.w(3), self.w(4)],
+                flags: self.w(5),
+            },
+            FFA_ID_GET => Call::IdGet,
+            _ => return None,
+        };
+        Some(call)
+    }
+
+    // The call, where it is of run states or a direct message.
+    fn message(&self) -> Option<Call>
+        ensures { result ≡ parts.called_in parts.messages self.now.0 }
+    {
+        let call = match self.w(0) {
+            FFA_MSG_WAIT => Call::MsgWait,
+            FFA_YIELD => Call::Yield,
+            FFA_RUN => Call::Run { target: self.w(1) },
+            FFA_MSG_SEND_DIRECT_REQ | FFA_MSG_SEND_DIRECT_REQ_64 => Call::DirectRequest {
+                function: self.w(0),
+                parties: self.w(1),
+                flags: self.w(2),
+                payload: self.payload(),
+            },
+            FFA_MSG_SEND_DIRECT_RESP | FFA_MSG_SEND_DIRECT_RESP_64 => Call::DirectResponse {
+                function: self.w(0),
+                parties: self.w(1),
+                flags: self.w(2),
+                payload: self.payload(),
+            },
+            _ => return None,
+        };
+        Some(call)
+    }
+
+    // What a direct message carries.
+    fn payload(&self) -> [u64; 5]
+        ensures { result ≡ parts.payload_of self.now.0 }
+    {
+        [self.x(3), self.x(4), self.x(5), self.x(6), self.x(7)]
+    }
+
+    // The call, where it is of memory.
+    fn memory(&self) -> Option<Call>
+        ensures { result ≡ parts.called_in parts.memory self.now.0 }
+    {
+        let (total, fragment, address, pages) = (self.w(1), self.w(2), self.x(3), self.w(4));
+        let call = match self.w(0) {
+            FFA_MEM_DONATE | FFA_MEM_DONATE_64 => Call::MemDonate {
+                total,
+                fragment,
+                address,
+                pages,
+            },
+            FFA_MEM_LEND | FFA_MEM_LEND_64 => Call::MemLend {
+                total,
+                fragment,
+                address,
+                pages,
+            },
+            FFA_MEM_SHARE | FFA_MEM_SHARE_64 => Call::MemShare {
+                total,
+                fragment,
+                address,
+                pages,
+            },
+            FFA_MEM_RETRIEVE_REQ | FFA_MEM_RETRIEVE_REQ_64 => Call::MemRetrieve {
+                total,
+                fragment,
+                address,
+                pages,
+            },
+            FFA_MEM_RELINQUISH => Call::MemRelinquish,
+            FFA_MEM_RECLAIM => Call::MemReclaim {
+                low: self.w(1),
+                high: self.w(2),
+                flags: self.w(3),
+            },
+            _ => return None,
+        };
+        Some(call)
+    }
+
+    // The call, where it is of notifications.
+    fn notification(&self) -> Option<Call>
+        ensures { result ≡ parts.called_in parts.notifications self.now.0 }
+    {
+        let (parties, flags, low, high) = (self.w(1), self.w(2), self.w(3), self.w(4));
+        let call = match self.w(0) {
+            FFA_NOTIFICATION_BITMAP_CREATE => Call::BitmapCreate {
+                endpoint: self.w(1),
+                contexts: self.w(2),
+            },
+            FFA_NOTIFICATION_BITMAP_DESTROY => Call::BitmapDestroy {
+                endpoint: self.w(1),
+            },
+            FFA_NOTIFICATION_BIND => Call::NotificationBind {
+                parties,
+                flags,
+                low,
+                high,
+            },
+            FFA_NOTIFICATION_UNBIND => Call::NotificationUnbind {
+                parties,
+                flags,
+                low,
+                high,
+            },
+            FFA_NOTIFICATION_SET => Call::NotificationSet {
+                parties,
+                flags,
+                low,
+                high,
+            },
+            FFA_NOTIFICATION_GET => Call::NotificationGet {
+                receiver: self.w(1),
+                flags: self.w(2),
+            },
+            _ => return None,
+        };
+        Some(call)
+    }
+
+    // The call, where version 1.1 added it.
+    fn addition(&self) -> Option<Call>
+        ensures { result ≡ parts.called_in parts.additions self.now.0 }
+    {
+        match self.w(0) {
+            FFA_SPM_ID_GET => Some(Call::SpmIdGet),
+            FFA_MSG_SEND2 => Some(Call::MsgSend2),
+            _ => None,
+        }
+    }
+}
+
+/// The call that the registers x0 to x7 hold. The low half of x0 names it; its other arguments are low halves of
+/// registers, but for those that the 64-bit form of a call widens.
+pub fn decode(x: [u64; 8]) -> Call
+    ensures { result ≡ decode x }
+{
+    let registers = Registers(x);
+    registers
+        .setup()
+        .or_else(|| registers.message())
+        .or_else(|| registers.memory())
+        .or_else(|| registers.notification())
+        .or_else(|| registers.addition())
+        .unwrap_or(Call::Unknown)
+}
+
+/// Whether a number is the identifier of a call that is served, in either form that the call has (DEN0077A, 13).
+pub fn is_served(function: u32) -> bool
+    ensures { result ≡ is_served function }
+{
+    matches!(
+        function,
+        FFA_VERSION
+            | FFA_FEATURES
+            | FFA_RX_RELEASE
+            | FFA_RXTX_MAP
+            | FFA_RXTX_MAP_64
+            | FFA_RXTX_UNMAP
+            | FFA_PARTITION_INFO_GET
+            | FFA_ID_GET
+            | FFA_SPM_ID_GET
+    )
+}

@@ -1,0 +1,12 @@
+//! Calls and replies in the eight registers (DEN0028, 2; DEN0077A, 11).
+#![tactic(auto)]
+
+mod call;
+mod function;
+mod reply;
+#[cfg(test)]
+mod tests;
+
+pub use call::{decode, is_served};
+pub use ffa_model::{Call, Reply};
+pub use reply::encode;

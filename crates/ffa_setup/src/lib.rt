@@ -1,0 +1,10 @@
+//! Setup: the version, features, identifiers and partition information (DEN0077A, 13).
+#![tactic(auto)]
+
+mod partitions;
+mod replies;
+#[cfg(test)]
+mod tests;
+
+pub use partitions::{count, info_bytes, is_nil};
+pub use replies::{features, id, spm_id, version};

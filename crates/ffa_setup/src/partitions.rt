@@ -1,0 +1,93 @@
+//! Partition information (DEN0077A, 13).
+ghost use Rattle.std.specs.Prelude.{◌≡◌, ◌<◌, length, map};
+ghost use Rattle.ffa_model.specs.First.{party_of};
+ghost use Rattle.ffa_model.specs.Manifest as model;
+ghost use Rattle.ffa_model.specs.Setup.{info_bytes, info_of, is_selected, selected, uuid_bytes};
+
+use arrayvec::ArrayVec;
+use bitflags::Flags;
+use byteorder::{ByteOrder, LittleEndian};
+use ffa_model::{Endpoint, EndpointId, Manifest};
+
+/// The bit of a partition's properties that says that it runs in AArch64.
+const AARCH64: u32 = 0x100;
+
+/// How many execution contexts each partition has.
+const CONTEXTS: u16 = 1;
+
+// The UUID whose bytes four registers hold, the lowest first.
+fn uuid_of(words: [u32; 4]) -> [u8; 16]
+    ensures { result ≡ uuid_bytes words }
+{
+    let mut uuid = [0; 16];
+    LittleEndian::write_u32_into(&words, &mut uuid);
+    uuid
+}
+
+// Whether this is the Nil UUID.
+fn is_zeros(uuid: &[u8; 16]) -> bool
+    ensures { result ≡ model.is_nil uuid.now }
+{
+    uuid.iter().all(|&byte| byte == 0)
+}
+
+/// Whether four registers hold the Nil UUID.
+pub fn is_nil(uuid: [u32; 4]) -> bool
+    ensures { result ≡ model.is_nil (uuid_bytes uuid) }
+{
+    is_zeros(&uuid_of(uuid))
+}
+
+// Whether a UUID selects the endpoint at a place in the manifest.
+fn is_selected(uuid: &[u8; 16], place: usize, endpoint: &Endpoint) -> bool
+    ensures { result ≡ is_selected uuid.now (place, party_of endpoint.now) }
+{
+    place != 0 && (is_zeros(uuid) || endpoint.uuid == *uuid)
+}
+
+/// How many partitions the UUID in four registers selects: the Nil UUID selects all, and another UUID those that have
+/// it.
+pub fn count(manifest: &Manifest, uuid: [u32; 4]) -> u32
+    ensures { result ≡ length (selected (map party_of manifest.now.endpoints.items) (uuid_bytes uuid)) }
+{
+    let uuid = uuid_of(uuid);
+    let mut count = 0;
+    for (place, endpoint) in manifest.endpoints.as_slice().iter().enumerate() {
+        if is_selected(&uuid, place, endpoint) {
+            count += 1;
+        }
+    }
+    count
+}
+
+// The information on the partition at a place in the manifest, which has its UUID where the Nil UUID was asked.
+fn info_of(uuid: &[u8; 16], place: usize, endpoint: &Endpoint) -> [u8; 24]
+    requires place { place < 8 }
+    requires properties { endpoint.now.properties.0 < 16 }
+    ensures { result ≡ info_of uuid.now (place, party_of endpoint.now) }
+{
+    let mut info = [0; 24];
+    LittleEndian::write_u16(&mut info[..2], EndpointId::at(place).0);
+    LittleEndian::write_u16(&mut info[2..4], CONTEXTS);
+    LittleEndian::write_u32(&mut info[4..8], endpoint.properties.bits() + AARCH64);
+    if is_zeros(uuid) {
+        info[8..].copy_from_slice(&endpoint.uuid);
+    }
+    info
+}
+
+/// The descriptors of the partitions that the UUID in four registers selects, 24 bytes each, in the order of the
+/// manifest.
+pub fn info_bytes(manifest: &Manifest, uuid: [u32; 4]) -> ArrayVec<u8, 168>
+    ensures { result.items ≡ info_bytes (map party_of manifest.now.endpoints.items) (uuid_bytes uuid) }
+{
+    let uuid = uuid_of(uuid);
+    let mut bytes = ArrayVec::new();
+    for (place, endpoint) in manifest.endpoints.as_slice().iter().enumerate() {
+        if is_selected(&uuid, place, endpoint) {
+            let info = info_of(&uuid, place, endpoint);
+            bytes.try_extend_from_slice(&info).unwrap();
+        }
+    }
+    bytes
+}

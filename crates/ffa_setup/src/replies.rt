@@ -1,0 +1,51 @@
+//! Calls whose reply is all that they do.
+ghost use Rattle.std.specs.Prelude.{◌≡◌};
+ghost use Rattle.ffa_model.specs.Calls.{success};
+ghost use Rattle.ffa_model.specs.Setup.{version_reply, features_reply, spm_id_reply};
+
+use ffa_abi::is_served;
+use ffa_model::{EndpointId, ErrorCode, Reply};
+
+/// The version that is implemented: the major number in bits 30:16 and the minor one below.
+const VERSION: u32 = 0x0001_0001;
+
+/// NOT_SUPPORTED as FFA_VERSION answers it, as 32 bits of two's complement.
+const NO_VERSION: u32 = 0xFFFF_FFFF;
+
+/// FFA_VERSION (DEN0077A, 13): version 1.1 to a caller of any version with the major number 1, and else
+/// NOT_SUPPORTED.
+pub fn version(version: u32) -> Reply
+    ensures { result ≡ version_reply version }
+{
+    if version >> 16 == 1 {
+        Reply::Version(VERSION)
+    } else {
+        Reply::Version(NO_VERSION)
+    }
+}
+
+/// FFA_FEATURES (DEN0077A, 13), by the identifier of a call in either form: whether the call is served. No call has
+/// further properties.
+pub fn features(function: u32) -> Reply
+    ensures { result ≡ features_reply function }
+{
+    if is_served(function) {
+        Reply::Success([0; 6])
+    } else {
+        Reply::Error(ErrorCode::NotSupported)
+    }
+}
+
+/// FFA_ID_GET (DEN0077A, 13): the caller's own identifier.
+pub fn id(caller: EndpointId) -> Reply
+    ensures { result ≡ success caller.0 0 }
+{
+    Reply::Success([u32::from(caller.0), 0, 0, 0, 0, 0])
+}
+
+/// FFA_SPM_ID_GET (DEN0077A, 13): the manager's identifier.
+pub fn spm_id() -> Reply
+    ensures { result ≡ spm_id_reply }
+{
+    id(EndpointId::MANAGER)
+}
