@@ -1,3 +1,4 @@
 pub mod Accepted
 pub mod Listed
 pub mod Owners
+pub mod Written

@@ -1,5 +1,5 @@
 -- Lists that a function of the index gives.
-use Rattle.std.proofs.Common.{◌≡◌, ℕ, suc, zero, ◌<◌, ◌≤◌, ◌∷◌, length, get_or, set, refl, ap, arith}
+use Rattle.std.proofs.Common.{◌≡◌, ◌∙◌, ℕ, suc, zero, ◌+◌, ◌<◌, ◌≤◌, [], ◌∷◌, ◌++◌, length, get_or, set, refl, ap, arith}
 use Rattle.ffa_model.specs.Lists.{listed}
 
 pub length-listed : {X : Type 0} (n : ℕ) (f : ℕ → X) → length (listed n f) ≡ n
@@ -25,3 +25,10 @@ pub listed-but : {X : Type 0} (n : ℕ) (f g : ℕ → X) (p : ℕ) → ((q : �
 listed-but zero f g p same = refl
 listed-but (suc n) f g zero same = ap (λ ys. g 0 ∷ ys) (listed-same n (λ i. g (suc i)) (λ i. f (suc i)) (λ i lt. same (suc i) (omega arith) (omega arith)))
 listed-but (suc n) f g (suc p) same = λ i. same 0 (omega arith) (omega arith) i ∷ listed-but n (λ i. f (suc i)) (λ i. g (suc i)) p (λ q lt ne. same (suc q) (omega arith) (omega arith)) i
+
+-- one more
+pub listed-more : {X : Type 0} (n : ℕ) (f : ℕ → X) → listed (n + 1) f ≡ listed n f ++ f n ∷ []
+listed-more zero f = refl
+listed-more (suc n) f =
+    let next : suc n + 1 ≡ suc (n + 1) = omega arith in
+    ap (λ m. listed m f) next ∙ ap (λ xs. f 0 ∷ xs) (listed-more n (λ i. f (suc i)))

@@ -257,3 +257,23 @@ right-unnamed base es p e bytes unnamed = of (find (has base p) (owned_regions e
         let named = (find-passes (has base p) (λ (y : ℕ × Region). identifier (place y.0) == y.0) (owned_regions es) x (all-named 0 es) is).1 in
         let other : (x.0 == e) ≡ false = ne_eqb x.0 e (λ same. unnamed (subst (λ (n : ℕ). identifier (place n) ≡ n) same (eqb-true (identifier (place x.0)) x.0 named))) in
         ap (λ b. cond b (Some x.1.rights) None) other
+
+-- the owner of a page is the endpoint at its place
+pub found-named : (base p : ℕ) (es : List Endpoint) (x : ℕ × Region) → find (has base p) (owned_regions es) ≡ Some x → identifier (place x.0) ≡ x.0
+found-named base p es x is =
+    eqb-true (identifier (place x.0)) x.0
+    (find-passes (has base p) (λ (y : ℕ × Region). identifier (place y.0) == y.0) (owned_regions es) x (all-named 0 es) is).1
+
+-- its regions give it the right of the one that has the page
+pub found-right : (base p : ℕ) (es : List Endpoint) (x : ℕ × Region) → are_apart (regions_of es) ≡ true
+    → find (has base p) (owned_regions es) ≡ Some x → right_in base (regions_at es (place x.0)) p ≡ Some x.1.rights
+found-right base p es x apart is =
+    sym (right-owned base p 0 (place x.0) es apart)
+    ∙ ap (λ j. right_if (identifier j) (find (has base p) (owned_regions es))) (omega arith)
+    ∙ ap (right_if (identifier (place x.0))) is
+    ∙ ap (λ b. cond b (Some x.1.rights) None) (eq-eqb x.0 (identifier (place x.0)) (sym (found-named base p es x is)))
+
+-- no endpoint is the manager
+pub identifier-manager : (i : ℕ) → identifier i ≡ manager → ⊥
+identifier-manager zero h = omega (arith, h)
+identifier-manager (suc i) h = omega (arith, h)

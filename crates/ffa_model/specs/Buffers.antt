@@ -1,42 +1,94 @@
 -- The RX and TX buffers (DEN0077A, 7.2).
-use Rattle.std.specs.Prelude.{ℕ, ◌-◌, ◌/◌, ◌%◌, ◌==◌, Bool, true, false, not, ◌&&◌, ◌||◌, nat_lt, nat_le, is_none, List, [], ◌∷◌, length, Option, Some, None, slice_set}
-use Rattle.std.specs.List.{list_any}
+use Rattle.std.specs.Prelude.{ℕ, ◌-◌, ◌/◌, ◌%◌, ◌==◌, Bool, true, false, not, ◌&&◌, nat_lt, nat_le, is_none, is_some, List, [], ◌∷◌, length, Option, Some, None, slice_index_or, slice_set}
 use Rattle.std.specs.Option.{option_map, option_map_or}
 use Rattle.ffa_model.specs.declared.operation.ErrorCode.{ErrorCode}
 use Rattle.ffa_model.specs.declared.operation.ErrorCode.TheVariants.{InvalidParameters, Denied}
+use Rattle.ffa_model.specs.declared.rights.Rights.{Rights}
 use Rattle.ffa_model.specs.Identifiers.{place}
 use Rattle.ffa_model.specs.Rights.{may_write}
-use Rattle.ffa_model.specs.State.{State, Page, Buffers, page_at, buffers_of, has_buffers, is_rx_full}
+use Rattle.ffa_model.specs.State.{State, Page, Buffers, page_at, buffers_of}
 use Rattle.ffa_model.specs.Access.{handle_at}
 use Rattle.ffa_model.specs.Memory.{written}
 use Rattle.ffa_model.specs.Calls.{Stepped, answered, first_failure, success}
 
--- the number of the page at an address
-abbrev pub page_number : State → ℕ → ℕ
-page_number s address = (address - s.ram_base) / 4096
+-- the buffers of e in a list by endpoint, and the list in which e has these, or none
+abbrev pub buffers_in : List (Option Buffers) → ℕ → Option Buffers
+buffers_in list e = slice_index_or list (place e) None
 
--- the address of a page in RAM
-abbrev pub is_page_address : State → ℕ → Bool
-is_page_address s address = (address % 4096 == 0 && nat_le s.ram_base address) && nat_lt (page_number s address) (length s.pages)
-
-abbrev pub is_owned : ℕ → Option Page → Bool
-is_owned e None = false
-is_owned e (Some page) = page.owner == e
-
-abbrev pub is_writable : Option Page → Bool
-is_writable None = false
-is_writable (Some page) = may_write page.base.level
-
--- a page of e alone, in no open transaction, with base rw
-abbrev pub is_usable : State → ℕ → ℕ → Bool
-is_usable s e p = (is_owned e (page_at s p) && is_none (handle_at s p)) && is_writable (page_at s p)
-
-abbrev pub with_buffers : State → ℕ → Option Buffers → State
-with_buffers s e b = record s { buffers = slice_set s.buffers (place e) b }
+abbrev pub buffers_with : List (Option Buffers) → ℕ → Option Buffers → List (Option Buffers)
+buffers_with list e b = slice_set list (place e) b
 
 -- RX of e is full, or empty
+abbrev pub buffers_with_rx : List (Option Buffers) → ℕ → Bool → List (Option Buffers)
+buffers_with_rx list e full = buffers_with list e (option_map (λ (b : Buffers). record b { full = full }) (buffers_in list e))
+
+abbrev pub is_full : Option Buffers → Bool
+is_full own = option_map_or (λ (b : Buffers). b.full) own false
+
+-- what decides whether a page may be a buffer: its owner, the owner's right, and whether an open transaction names it
+pub record Candidate : Type 0 where
+  pub owner : ℕ
+  pub base : Rights
+  pub named : Bool
+
+-- RAM as the checks of a mapping see it: where it begins, how many pages it has, and those that are not the manager's
+pub record Candidates : Type 0 where
+  pub base : ℕ
+  pub count : ℕ
+  pub page : ℕ → Option Candidate
+
+-- the number of the page at an address
+abbrev pub page_number : ℕ → ℕ → ℕ
+page_number base address = (address - base) / 4096
+
+-- the address of a page in RAM
+abbrev pub is_page_address : Candidates → ℕ → Bool
+is_page_address ram address = (address % 4096 == 0 && nat_le ram.base address) && nat_lt (page_number ram.base address) ram.count
+
+-- a page of e alone, in no open transaction, with base rw
+abbrev pub is_usable : ℕ → Option Candidate → Bool
+is_usable e None = false
+is_usable e (Some page) = (page.owner == e && not page.named) && may_write page.base.level
+
+-- e may have a buffer in the page at an address
+abbrev pub is_usable_at : ℕ → Candidates → ℕ → Bool
+is_usable_at e ram address = is_usable e (ram.page (page_number ram.base address))
+
+-- the checks of each call, in order, for an endpoint e with these buffers of its own
+abbrev pub map_guards : ℕ → Option Buffers → Candidates → ℕ → ℕ → ℕ → List (Bool × ErrorCode)
+map_guards e own ram tx rx pages =
+    (is_none own, Denied)
+    ∷ (pages == 1, InvalidParameters)
+    ∷ (is_page_address ram tx, InvalidParameters)
+    ∷ (is_page_address ram rx, InvalidParameters)
+    ∷ (not (tx == rx), InvalidParameters)
+    ∷ (is_usable_at e ram tx, Denied)
+    ∷ (is_usable_at e ram rx, Denied)
+    ∷ []
+
+abbrev pub unmap_guards : Option Buffers → ℕ → List (Bool × ErrorCode)
+unmap_guards own endpoint = (endpoint == 0, InvalidParameters) ∷ (is_some own, InvalidParameters) ∷ []
+
+abbrev pub release_guards : Option Buffers → List (Bool × ErrorCode)
+release_guards own = (is_full own, Denied) ∷ []
+
+-- the buffers in the pages at these addresses, with RX empty
+abbrev pub new_buffers : ℕ → ℕ → ℕ → Buffers
+new_buffers base tx rx = record { tx = page_number base tx; rx = page_number base rx; full = false }
+
+-- the same of a state
+abbrev pub candidate_at : State → ℕ → Option Candidate
+candidate_at s p =
+    option_map (λ (page : Page). record { owner = page.owner; base = page.base; named = is_some (handle_at s p) }) (page_at s p)
+
+abbrev pub candidates : State → Candidates
+candidates s = record { base = s.ram_base; count = length s.pages; page = candidate_at s }
+
+abbrev pub with_buffers : State → ℕ → Option Buffers → State
+with_buffers s e b = record s { buffers = buffers_with s.buffers e b }
+
 abbrev pub with_rx : State → ℕ → Bool → State
-with_rx s e full = with_buffers s e (option_map (λ (b : Buffers). record b { full = full }) (buffers_of s e))
+with_rx s e full = record s { buffers = buffers_with_rx s.buffers e full }
 
 abbrev pub rx_written : State → List ℕ → Option Buffers → State
 rx_written s bytes None = s
@@ -46,27 +98,14 @@ rx_written s bytes (Some b) = written s b.rx 0 bytes
 abbrev pub filled : State → ℕ → List ℕ → State
 filled s e bytes = with_rx (rx_written s bytes (buffers_of s e)) e true
 
-abbrev pub map_guards : State → ℕ → ℕ → ℕ → List (Bool × ErrorCode)
-map_guards s tx rx pages =
-    (not (has_buffers s s.runner), Denied)
-    ∷ (pages == 1, InvalidParameters)
-    ∷ (is_page_address s tx, InvalidParameters)
-    ∷ (is_page_address s rx, InvalidParameters)
-    ∷ (not (tx == rx), InvalidParameters)
-    ∷ (is_usable s s.runner (page_number s tx), Denied)
-    ∷ (is_usable s s.runner (page_number s rx), Denied)
-    ∷ []
-
-abbrev pub mapped : State → ℕ → ℕ → State
-mapped s tx rx = with_buffers s s.runner (Some (record { tx = page_number s tx; rx = page_number s rx; full = false }))
-
 abbrev pub rxtx_map : State → ℕ → ℕ → ℕ → Stepped
-rxtx_map s tx rx pages = answered (first_failure (map_guards s tx rx pages)) s (mapped s tx rx) (success 0 0)
+rxtx_map s tx rx pages =
+    answered (first_failure (map_guards s.runner (buffers_of s s.runner) (candidates s) tx rx pages)) s
+    (with_buffers s s.runner (Some (new_buffers s.ram_base tx rx))) (success 0 0)
 
 abbrev pub rxtx_unmap : State → ℕ → Stepped
 rxtx_unmap s endpoint =
-    answered (first_failure ((endpoint == 0, InvalidParameters) ∷ (has_buffers s s.runner, InvalidParameters) ∷ [])) s
-    (with_buffers s s.runner None) (success 0 0)
+    answered (first_failure (unmap_guards (buffers_of s s.runner) endpoint)) s (with_buffers s s.runner None) (success 0 0)
 
 abbrev pub rx_release : State → Stepped
-rx_release s = answered (first_failure ((is_rx_full s s.runner, Denied) ∷ [])) s (with_rx s s.runner false) (success 0 0)
+rx_release s = answered (first_failure (release_guards (buffers_of s s.runner))) s (with_rx s s.runner false) (success 0 0)

@@ -5,7 +5,7 @@ pub mod flat;
 pub mod memory;
 
 pub use flat::{FlatRam, NoMemory};
-pub use memory::{PAGE_SIZE, PhysMem};
+pub use memory::{PAGE_SIZE, PhysMem, put_front};
 
 #[cfg(test)]
 mod tests;

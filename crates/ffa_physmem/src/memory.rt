@@ -81,8 +81,8 @@ pub trait PhysMem {
     ghost one_page: { (m : Self) (page : ℕ) (bytes : List ℕ) → ram (with_bytes m page bytes) ≡ with_page (ram m) page bytes };
 }
 
-// Writes `source` over the first bytes of `target`.
-fn put_front(target: &mut [u8], source: &[u8])
+/// Writes `source` over the first bytes of `target`, whose other bytes stay.
+pub fn put_front(target: &mut [u8], source: &[u8])
     requires { length source.now ≤ length target.old }
     ensures { target.new ≡ source.now ++ drop (length source.now) target.old }
 {

@@ -1,0 +1,17 @@
+-- Lists of which one element was written.
+use Rattle.std.proofs.Common.{◌≡◌, ◌∙◌, ℕ, List, [], ◌∷◌, length, map, set, refl, ap, arith}
+use Rattle.std.proofs.lemmas.List.{length-set, map-set}
+use Rattle.std.specs.List.{refill}
+
+refill-whole : {X : Type 0} (xs ws : List X) → length ws ≡ length xs → refill (length xs) xs ws ≡ ws
+refill-whole [] [] same = refl
+refill-whole [] (w ∷ ws) same = absurd (omega arith)
+refill-whole (x ∷ xs) [] same = absurd (omega arith)
+refill-whole (x ∷ xs) (w ∷ ws) same = ap (λ vs. w ∷ vs) (refill-whole xs ws (omega arith))
+
+-- written through a slice of all elements
+pub map-refill-set : {X Y : Type 0} (f : X → Y) (xs ys : List X) (i : ℕ) (y : X) → ys ≡ xs → map f (refill (length xs) xs (set ys i y)) ≡ set (map f xs) i (f y)
+map-refill-set f xs ys i y same =
+    ap (map f) (refill-whole xs (set ys i y) (length-set ys i y ∙ ap length same))
+    ∙ map-set f ys i y
+    ∙ ap (λ zs. set (map f zs) i (f y)) same

@@ -1,0 +1,9 @@
+//! Which endpoint owns each page of RAM.
+#![tactic(auto)]
+
+pub mod table;
+
+pub use table::PageTable;
+
+#[cfg(test)]
+mod tests;

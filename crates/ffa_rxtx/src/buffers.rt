@@ -1,0 +1,241 @@
+//! Who has mapped buffers, and which.
+ghost use Rattle.std.specs.Prelude.{◌≡◌, ◌<◌, ◌≤◌, length, replicate, is_some, if◌then◌else◌, true, false, OnOk, OnErr, IfOk, IsSomeAnd};
+ghost use Rattle.std.specs.Option.{option_map};
+ghost use Rattle.std.specs.Result.{result_err};
+ghost use Rattle.ffa_model.specs.Buffers.{buffers_in, buffers_with, buffers_with_rx, is_full, is_page_address, is_usable, map_guards, new_buffers, page_number, release_guards, unmap_guards};
+ghost use Rattle.ffa_model.specs.Calls.{first_failure};
+ghost use Rattle.ffa_model.specs.Identifiers.{place};
+ghost use Rattle.ffa_rxtx.specs.Parts.{candidate_in, candidates_in, with_rx_bytes};
+ghost use Rattle.ffa_rxtx.specs.Stored.{buffers_of};
+
+use arrayvec::ArrayVec;
+use ffa_model::{Data, EndpointId, ErrorCode, PageNo};
+use ffa_pages::PageTable;
+use ffa_physmem::{PhysMem, put_front};
+use std::marker::Model;
+
+/// The buffers of one endpoint, a page each.
+#[derive(Clone, Copy, Debug, PartialEq, Eq)]
+pub struct Mapped {
+    /// The page that the endpoint writes for the manager to read.
+    pub tx: PageNo,
+    /// The page in which the endpoint reads what the manager wrote.
+    pub rx: PageNo,
+    /// Whether RX holds bytes that the endpoint hasn't released.
+    pub is_full: bool,
+}
+
+/// Of each endpoint its buffers, if it has mapped any (DEN0077A, 7.2). They take no memory beyond themselves.
+#[derive(Drop)]
+pub struct Buffers {
+    entries: ArrayVec<Option<Mapped>, 8>,
+}
+
+impl Model for Buffers {
+    ghost use Rattle.std.specs.Prelude.{List, Option};
+    ghost use Rattle.ffa_model.specs.State.{Buffers as Own};
+
+    ghost Value = { List (Option Own) };
+
+    ghost use Rattle.ffa_rxtx.specs.Stored.{list_of};
+
+    ghost view = { λ b. list_of b.entries.items };
+}
+
+impl Buffers {
+    /// This many endpoints, none of which has buffers.
+    pub fn none(endpoints: usize) -> Buffers
+        requires { endpoints ≤ 8 }
+        ensures { result ≡ replicate endpoints None }
+    {
+        let mut entries = ArrayVec::new();
+        for _place in 0..endpoints {
+            entries.push(None);
+        }
+        Buffers { entries }
+    }
+
+    /// The buffers of an endpoint, if it has mapped any. Who is no endpoint has none.
+    pub fn of(&self, endpoint: EndpointId) -> Option<Mapped>
+        ensures { option_map buffers_of result ≡ buffers_in self.now endpoint.0 }
+    {
+        let entries = self.entries.as_slice();
+        if endpoint.place() < entries.len() {
+            entries[endpoint.place()]
+        } else {
+            None
+        }
+    }
+
+    /// Whether an endpoint has buffers.
+    pub fn has(&self, endpoint: EndpointId) -> bool
+        ensures { result ≡ is_some (buffers_in self.now endpoint.0) }
+    {
+        self.of(endpoint).is_some()
+    }
+
+    /// Whether RX of an endpoint is full. Without buffers it isn't.
+    pub fn is_full(&self, endpoint: EndpointId) -> bool
+        ensures { result ≡ is_full (buffers_in self.now endpoint.0) }
+    {
+        match self.of(endpoint) {
+            Some(mapped) => mapped.is_full,
+            None => false,
+        }
+    }
+
+    /// FFA_RXTX_MAP of an endpoint, in the RAM of this table from `ram_base` on: TX and RX are the pages at these
+    /// addresses, and RX is empty. `pages` is the size that the caller names for each.
+    ///
+    /// # Errors
+    ///
+    /// In this order: `Denied` where the caller has buffers; `InvalidParameters` where the size isn't one page, an
+    /// address isn't that of a page of RAM, or both are the same; `Denied` where a page isn't the caller's, stands in an
+    /// open transaction, or has a base right without rw. An error changes nothing.
+    pub fn map(
+        &mut self,
+        table: &PageTable,
+        ram_base: u32,
+        caller: EndpointId,
+        tx: u64,
+        rx: u64,
+        pages: u32,
+    ) -> Result<(), ErrorCode>
+        requires { place caller.0 < length self.old }
+        ensures refusal { result_err result ≡ first_failure (map_guards caller.0 (buffers_in self.old caller.0) (candidates_in table.now ram_base) tx rx pages) }
+        ensures kept { OnErr result (self.new ≡ self.old) }
+        ensures mapped { OnOk result (self.new ≡ buffers_with self.old caller.0 (Some (new_buffers ram_base tx rx))) }
+    {
+        let mapped = self.checked(table, ram_base, caller, tx, rx, pages)?;
+        self.put(caller, Some(mapped));
+        Ok(())
+    }
+
+    /// FFA_RXTX_UNMAP of an endpoint, with w1: the caller has no buffers then, whether RX was full or not.
+    ///
+    /// # Errors
+    ///
+    /// `InvalidParameters` where the word isn't 0 or the caller has no buffers. An error changes nothing.
+    pub fn unmap(&mut self, caller: EndpointId, endpoint_word: u32) -> Result<(), ErrorCode>
+        ensures refusal { result_err result ≡ first_failure (unmap_guards (buffers_in self.old caller.0) endpoint_word) }
+        ensures kept { OnErr result (self.new ≡ self.old) }
+        ensures unmapped { OnOk result (self.new ≡ buffers_with self.old caller.0 None) }
+    {
+        if endpoint_word != 0 || !self.has(caller) {
+            return Err(ErrorCode::InvalidParameters);
+        }
+        self.put(caller, None);
+        Ok(())
+    }
+
+    /// FFA_RX_RELEASE of an endpoint: its RX is empty then.
+    ///
+    /// # Errors
+    ///
+    /// `Denied` where the caller has no buffers or its RX isn't full. An error changes nothing.
+    pub fn release(&mut self, caller: EndpointId) -> Result<(), ErrorCode>
+        ensures refusal { result_err result ≡ first_failure (release_guards (buffers_in self.old caller.0)) }
+        ensures kept { OnErr result (self.new ≡ self.old) }
+        ensures emptied { OnOk result (self.new ≡ buffers_with_rx self.old caller.0 false) }
+    {
+        if !self.is_full(caller) {
+            return Err(ErrorCode::Denied);
+        }
+        self.set_full(caller, false);
+        Ok(())
+    }
+
+    /// Writes bytes to the start of RX of an endpoint that has buffers, and says that it is full. The other bytes of RX
+    /// stay.
+    pub fn fill<M: PhysMem>(&mut self, ram: &mut M, endpoint: EndpointId, bytes: &[u8])
+        requires rx { IsSomeAnd (buffers_in self.old endpoint.0) (λ b. b.rx < length (M.ram ram.old).pages) }
+        requires bytes { length bytes.now ≤ 4096 }
+        ensures ram { M.ram ram.new ≡ with_rx_bytes (M.ram ram.old) (buffers_in self.old endpoint.0) bytes.now }
+        ensures full { self.new ≡ buffers_with_rx self.old endpoint.0 true }
+    {
+        if let Some(mapped) = self.of(endpoint) {
+            put_front(ram.page_mut(mapped.rx), bytes);
+            self.set_full(endpoint, true);
+        }
+    }
+
+    // Says of an endpoint's RX whether it is full.
+    fn set_full(&mut self, endpoint: EndpointId, is_full: bool)
+        ensures { self.new ≡ buffers_with_rx self.old endpoint.0 is_full }
+    {
+        if let Some(mapped) = self.of(endpoint) {
+            self.put(endpoint, Some(Mapped { is_full, ..mapped }));
+        }
+    }
+
+    // Gives an endpoint these buffers in place of its own.
+    fn put(&mut self, endpoint: EndpointId, buffers: Option<Mapped>)
+        requires { place endpoint.0 < length self.old }
+        ensures { self.new ≡ buffers_with self.old endpoint.0 (option_map buffers_of buffers) }
+    {
+        self.entries[endpoint.place()] = buffers;
+    }
+
+    // The buffers of a mapping that passes its checks.
+    fn checked(
+        &self,
+        table: &PageTable,
+        ram_base: u32,
+        caller: EndpointId,
+        tx: u64,
+        rx: u64,
+        pages: u32,
+    ) -> Result<Mapped, ErrorCode>
+        ensures refusal { result_err result ≡ first_failure (map_guards caller.0 (buffers_in self.now caller.0) (candidates_in table.now ram_base) tx rx pages) }
+        ensures buffers { IfOk result (λ mapped. buffers_of mapped ≡ new_buffers ram_base tx rx) }
+    {
+        if self.has(caller) {
+            return Err(ErrorCode::Denied);
+        }
+        if pages != 1 {
+            return Err(ErrorCode::InvalidParameters);
+        }
+        let tx_page = page_at(table, ram_base, tx)?;
+        let rx_page = page_at(table, ram_base, rx)?;
+        if tx == rx {
+            return Err(ErrorCode::InvalidParameters);
+        }
+        if !is_usable(table, caller, tx_page) || !is_usable(table, caller, rx_page) {
+            return Err(ErrorCode::Denied);
+        }
+        Ok(Mapped {
+            tx: tx_page,
+            rx: rx_page,
+            is_full: false,
+        })
+    }
+}
+
+// The page at an address, which is `InvalidParameters` where there is none.
+fn page_at(table: &PageTable, ram_base: u32, address: u64) -> Result<PageNo, ErrorCode>
+    ensures refusal { result_err result ≡ (if is_page_address (candidates_in table.now ram_base) address then None else Some ErrorCode.InvalidParameters) }
+    ensures page { IfOk result (λ page. page.0 ≡ page_number ram_base address) }
+    ensures within { IfOk result (λ page. page.0 < length table.now) }
+{
+    let base = u64::from(ram_base);
+    if address % 4096 != 0 || address < base {
+        return Err(ErrorCode::InvalidParameters);
+    }
+    let page = (address - base) / 4096;
+    if page >= u64::from(table.pages()) {
+        return Err(ErrorCode::InvalidParameters);
+    }
+    Ok(PageNo(page as u32))
+}
+
+// Whether an endpoint owns a page alone and may write it.
+fn is_usable(table: &PageTable, endpoint: EndpointId, page: PageNo) -> bool
+    requires { page.0 < length table.now }
+    ensures { result ≡ is_usable endpoint.0 (candidate_in table.now page.0) }
+{
+    let is_alone = table.owner_of(page) == endpoint && table.slot_of(page).is_none();
+    match table.base_of(page) {
+        Some(base) => is_alone && base.level == Data::Rw,
+        None => false,
+    }
+}

@@ -1,0 +1,9 @@
+//! The RX and TX buffers of endpoints.
+#![tactic(auto)]
+
+pub mod buffers;
+
+pub use buffers::{Buffers, Mapped};
+
+#[cfg(test)]
+mod tests;
