@@ -12,7 +12,7 @@ fn versions(rt: HostRuntime) {
 
 #[test]
 fn feature_by_identifier(rt: HostRuntime) {
-    assert_eq!(rt; features(0x8400_0066), Reply::Success([0; 6]));
+    assert_eq!(rt; features(0x8400_0069), Reply::Success([0; 6]));
     assert_eq!(rt;
         features(0x8400_0075),
         Reply::Error(ErrorCode::NotSupported)

@@ -2,6 +2,5 @@
 #![tactic(auto)]
 
 pub mod machine;
-mod registers;
 
 pub use machine::Machine;

@@ -2,17 +2,18 @@
 ghost use Rattle.std.specs.Prelude.{true, ◌≡◌, ◌*◌, ◌<◌, ◌≤◌, length};
 ghost use Rattle.ffa_model.specs.Access.{access};
 ghost use Rattle.ffa_model.specs.Agreement.{Agrees, root};
+ghost use Rattle.ffa_model.specs.Calls.{replied};
 ghost use Rattle.ffa_model.specs.First.{first};
 ghost use Rattle.ffa_model.specs.Memory as memory;
 ghost use Rattle.ffa_model.specs.Identifiers.{place};
 ghost use Rattle.ffa_model.specs.Ram.{zero_ram};
 ghost use Rattle.ffa_model.specs.Refusals.{is_refusal};
+ghost use Rattle.ffa_model.specs.Registers.{decode};
 ghost use Rattle.ffa_model.specs.State.{owner_of};
 ghost use Rattle.ffa_model.specs.Step.{serve, step, outcomes, state_after};
 ghost use Rattle.ffa_model.specs.Walk.{is_page_address};
 
-use crate::registers::{FFA_ID_GET, error, success};
-use ffa_model::{EndpointId, ErrorCode, Manifest, Op, Outcome, PageNo, Rights, Size};
+use ffa_model::{Call, EndpointId, ErrorCode, Manifest, Op, Outcome, PageNo, Reply, Rights, Size};
 use ffa_physmem::PhysMem;
 use ffa_stage2::{Layout, build};
 use std::marker::Model;
@@ -148,18 +149,29 @@ impl<M: PhysMem + Drop> Machine<M> {
         }
     }
 
-    // A call of the runner, by the low half of x0. No call that is served today changes the machine.
-    fn call(&self, x: [u64; 8]) -> Outcome
-        ensures outcome { result ≡ (serve self.now.state x).outcome }
-        ensures state { self.now.state ≡ (serve self.now.state x).state }
+    // The reply to a call of the runner. No call that is served today changes the machine.
+    fn reply(&self, call: Call) -> Reply
+        ensures { replied self.now.state result ≡ serve self.now.state call }
     {
-        let runner = self.runner;
-        let function = (x[0] % (1 << 32)) as u32;
-        let x = match function {
-            FFA_ID_GET => success(u32::from(runner.0), 0),
-            _ => error(ErrorCode::NotSupported),
-        };
-        Outcome::Regs { runner, x }
+        match call {
+            Call::Version { version } => ffa_setup::version(version),
+            Call::Features { function } => ffa_setup::features(function),
+            Call::IdGet => ffa_setup::id(self.runner),
+            Call::SpmIdGet => ffa_setup::spm_id(),
+            _ => Reply::Error(ErrorCode::NotSupported),
+        }
+    }
+
+    // A call of the runner, in its registers.
+    fn call(&self, x: [u64; 8]) -> Outcome
+        ensures outcome { result ≡ (serve self.now.state (decode x)).outcome }
+        ensures state { self.now.state ≡ (serve self.now.state (decode x)).state }
+    {
+        let reply = self.reply(ffa_abi::decode(x));
+        Outcome::Regs {
+            runner: self.runner,
+            x: ffa_abi::encode(&reply),
+        }
     }
 
     /// Does one operation of the runner. A refusal, which is FFA_ERROR or a fault, changes nothing.
