@@ -1,21 +1,17 @@
 -- Lists of a function's values, one more at the end.
-use Rattle.std.proofs.Common.{◌≡◌, ℕ, zero, suc, ◌+◌, ◌<◌, Bool, true, false, List, [], ◌∷◌, ◌++◌, sym, ap, ◌∙◌, arith, refl, append_assoc, append-nil, add-one}
+use Rattle.std.proofs.Common.{◌≡◌, ℕ, zero, suc, ◌+◌, ◌<◌, Bool, true, false, List, [], ◌∷◌, ◌++◌, sym, ap, ◌∙◌, arith, refl, append_assoc, append-nil}
 use Rattle.std.specs.Prelude.{◌&&◌}
 use Rattle.std.specs.List.{list_all, flat_map}
 use Rattle.std.proofs.lemmas.List.Folds.{list_all-append}
 use Rattle.std.proofs.lemmas.Grind.{flat_map-append}
 use Rattle.ffa_model.specs.Lists.{listed}
+use Rattle.ffa_model.proofs.Listed.{listed-more}
 
 either : (b : Bool) → b && false ≡ false
 either true = refl
 either false = refl
 
 module _ {X : Type 0} where
-  pub listed-more : (n : ℕ) (f : ℕ → X) → listed (n + 1) f ≡ listed n f ++ f n ∷ []
-  listed-more zero f = refl
-  listed-more (suc n) f =
-      ap (λ k. listed k f) (add-one (suc n)) ∙ ap (λ l. f 0 ∷ l) (ap (λ k. listed k (λ i. f (suc i))) (sym (add-one n)) ∙ listed-more n (λ i. f (suc i)))
-
   -- one more that passes
   pub all_more : (p : X → Bool) (f : ℕ → X) (n : ℕ) → list_all p (listed n f) ≡ true → p (f n) ≡ true → list_all p (listed (n + 1) f) ≡ true
   all_more p f n h e = ap (list_all p) (listed-more n f) ∙ list_all-append p (listed n f) (f n ∷ []) ∙ rw (h, e) refl
