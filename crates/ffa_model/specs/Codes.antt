@@ -18,6 +18,7 @@ use Rattle.ffa_model.specs.declared.schedule.Work.{Work}
 use Rattle.ffa_model.specs.declared.schedule.Work.TheVariants.{Run, Request}
 use Rattle.ffa_model.specs.Rights.{may_write}
 use Rattle.ffa_model.specs.State.{State, Party, Page, Transaction, Buffers}
+use Rattle.ffa_model.specs.RunStates.{Schedule}
 
 abbrev pub data_from : Bool → Data
 data_from true = Rw
@@ -134,3 +135,8 @@ coded_state =
       pending = p.1.1.1.1.1.1.1.1.1.1.1;
     })
     (λ _. refl)
+
+abbrev pub coded_schedule : Coded Schedule
+coded_schedule =
+    code_by (ℕ × (List Status × List (Option Work))) (coded× coded_ℕ (coded× (coded_list coded_status) (coded_list (coded_option coded_work))))
+    (λ c. (c.runner, (c.statuses, c.works))) (λ p. record { runner = p.0; statuses = p.1.0; works = p.1.1 }) (λ _. refl)

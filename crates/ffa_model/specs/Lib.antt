@@ -19,6 +19,9 @@ pub mod Memory
 pub mod Refusals
 pub mod Buffers
 pub mod Setup
+pub mod RunStates
+pub mod Sound
+pub mod Messages
 pub mod Step
 pub mod Agreement
 pub mod DescriptorPlaces

@@ -61,17 +61,22 @@ pub record State : Type 0 where
 abbrev pub identifiers : State → List ℕ
 identifiers s = listed (length s.parties) identifier
 
-abbrev pub is_partition : State → ℕ → Bool
-is_partition s e = nat_lt 0x8000 e && nat_lt (place e) (length s.parties)
+-- whether e names a partition, or an endpoint, of this many endpoints
+abbrev pub is_partition_among : ℕ → ℕ → Bool
+is_partition_among n e = nat_lt 0x8000 e && nat_lt (place e) n
+
+abbrev pub is_known_among : ℕ → ℕ → Bool
+is_known_among n e = e == 0 || is_partition_among n e
 
 abbrev pub is_known : State → ℕ → Bool
-is_known s e = e == 0 || is_partition s e
+is_known s e = is_known_among (length s.parties) e
 
-abbrev pub properties_of : State → ℕ → ℕ
-properties_of s e = option_map_or (λ (p : Party). p.properties) (slice_get s.parties (place e)) 0
+-- the property word of e, and whether a bit of it is set
+abbrev pub properties_among : List Party → ℕ → ℕ
+properties_among parties e = option_map_or (λ (p : Party). p.properties) (slice_get parties (place e)) 0
 
-abbrev pub has_property : State → ℕ → ℕ → Bool
-has_property s e bit = is_set bit (properties_of s e)
+abbrev pub has_property : List Party → ℕ → ℕ → Bool
+has_property parties e bit = is_set bit (properties_among parties e)
 
 abbrev pub page_at : State → ℕ → Option Page
 page_at s p = slice_index_or s.pages p None

@@ -141,7 +141,7 @@ impl Buffers {
         if !self.is_full(caller) {
             return Err(ErrorCode::Denied);
         }
-        self.set_full(caller, false);
+        self.empty(caller);
         Ok(())
     }
 
@@ -157,6 +157,13 @@ impl Buffers {
             put_front(ram.page_mut(mapped.rx), bytes);
             self.set_full(endpoint, true);
         }
+    }
+
+    /// Says that RX of an endpoint is empty, if the endpoint has buffers. Its bytes stay.
+    pub fn empty(&mut self, endpoint: EndpointId)
+        ensures { self.new ≡ buffers_with_rx self.old endpoint.0 false }
+    {
+        self.set_full(endpoint, false);
     }
 
     // Says of an endpoint's RX whether it is full.

@@ -1,0 +1,61 @@
+-- Indirect messages (DEN0077A, 7.1 and 15): what stands in TX is copied to the receiver's RX.
+use Rattle.std.specs.Prelude.{ℕ, ◌+◌, ◌==◌, Bool, not, nat_le, List, [], ◌∷◌, length, take, is_some, Option}
+use Rattle.std.specs.Option.{option_map_or}
+use Rattle.ffa_model.specs.declared.operation.ErrorCode.{ErrorCode}
+use Rattle.ffa_model.specs.declared.operation.ErrorCode.TheVariants.{InvalidParameters, Busy, Denied}
+use Rattle.ffa_model.specs.State.{State, Party, Buffers, buffers_of, is_known_among, has_property}
+use Rattle.ffa_model.specs.Ram.{number_in}
+use Rattle.ffa_model.specs.Memory.{page_bytes}
+use Rattle.ffa_model.specs.Buffers.{filled, is_full, buffers_in}
+use Rattle.ffa_model.specs.Calls.{Stepped, answered, first_failure, success}
+
+-- the header of a message, in its first 20 bytes
+pub record MessageHeader : Type 0 where
+  pub flags : ℕ
+  pub reserved : ℕ
+  pub offset : ℕ
+  pub receiver : ℕ
+  pub sender : ℕ
+  pub size : ℕ
+
+abbrev pub header_in : List ℕ → MessageHeader
+header_in tx =
+    record {
+      flags = number_in tx 0 4;
+      reserved = number_in tx 4 4;
+      offset = number_in tx 8 4;
+      receiver = number_in tx 12 2;
+      sender = number_in tx 14 2;
+      size = number_in tx 16 4;
+    }
+
+-- the checks of FFA_MSG_SEND2 in order, for a caller among these endpoints and their buffers
+abbrev pub send2_guards : List Party → List (Option Buffers) → ℕ → MessageHeader → List (Bool × ErrorCode)
+send2_guards parties buffers caller m =
+    (is_some (buffers_in buffers caller), InvalidParameters)
+    ∷ (m.flags == 0, InvalidParameters)
+    ∷ (m.reserved == 0, InvalidParameters)
+    ∷ (m.sender == caller, InvalidParameters)
+    ∷ (is_known_among (length parties) m.receiver, InvalidParameters)
+    ∷ (not (m.receiver == caller), InvalidParameters)
+    ∷ (nat_le 20 m.offset, InvalidParameters)
+    ∷ (not (m.size == 0), InvalidParameters)
+    ∷ (nat_le (m.offset + m.size) 4096, InvalidParameters)
+    ∷ (has_property parties caller 2, Denied)
+    ∷ (has_property parties m.receiver 2, Denied)
+    ∷ (is_some (buffers_in buffers m.receiver), Busy)
+    ∷ (not (is_full (buffers_in buffers m.receiver)), Busy)
+    ∷ []
+
+-- the message that begins these bytes, with its header
+abbrev pub message_in : List ℕ → List ℕ
+message_in tx = take ((header_in tx).offset + (header_in tx).size) tx
+
+-- the same of a state
+abbrev pub tx_bytes : State → ℕ → List ℕ
+tx_bytes s e = option_map_or (λ (b : Buffers). page_bytes s b.tx) (buffers_of s e) []
+
+abbrev pub msg_send2 : State → Stepped
+msg_send2 s =
+    answered (first_failure (send2_guards s.parties s.buffers s.runner (header_in (tx_bytes s s.runner)))) s
+    (filled s (header_in (tx_bytes s s.runner)).receiver (message_in (tx_bytes s s.runner))) (success 0 0)
