@@ -205,6 +205,14 @@ pub fn is_served(function: u32) -> bool
 {
     matches!(
         function,
-        FFA_VERSION | FFA_FEATURES | FFA_ID_GET | FFA_SPM_ID_GET
+        FFA_VERSION
+            | FFA_FEATURES
+            | FFA_RX_RELEASE
+            | FFA_RXTX_MAP
+            | FFA_RXTX_MAP_64
+            | FFA_RXTX_UNMAP
+            | FFA_PARTITION_INFO_GET
+            | FFA_ID_GET
+            | FFA_SPM_ID_GET
     )
 }

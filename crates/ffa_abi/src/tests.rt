@@ -221,7 +221,9 @@ fn no_calls(rt: HostRuntime) {
     }
     assert!(rt; is_served(0x8400_0069));
     assert!(rt; !is_served(0xC400_0069));
-    assert!(rt; !is_served(0x8400_0066));
+    assert!(rt; is_served(0x8400_0066));
+    assert!(rt; is_served(0xC400_0066));
+    assert!(rt; !is_served(0x8400_0075));
 }
 
 #[test]

@@ -1,10 +1,16 @@
 -- Outcomes that refuse: FFA_ERROR, and faults.
 use Rattle.std.specs.Prelude.{◌==◌, Bool, true, false, slice_index}
+use Rattle.ffa_model.specs.declared.call.Reply.{Reply}
 use Rattle.ffa_model.specs.declared.operation.Outcome.{Outcome}
 use Rattle.ffa_model.specs.declared.operation.Outcome.TheVariants.{Regs, Data, Done, Fault}
+use Rattle.ffa_model.specs.Calls.{encode}
 
 abbrev pub is_refusal : Outcome → Bool
 is_refusal (Regs runner x) = slice_index x 0 == 0x84000060
 is_refusal (Data value) = false
 is_refusal Done = false
 is_refusal (Fault fault) = true
+
+-- a reply that is seen as FFA_ERROR
+abbrev pub is_error : Reply → Bool
+is_error reply = slice_index (encode reply) 0 == 0x84000060

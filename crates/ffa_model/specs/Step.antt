@@ -11,7 +11,8 @@ use Rattle.ffa_model.specs.State.{State}
 use Rattle.ffa_model.specs.Registers.{decode}
 use Rattle.ffa_model.specs.Calls.{Stepped, replied}
 use Rattle.ffa_model.specs.Memory.{load, store, fetch}
-use Rattle.ffa_model.specs.Setup.{version_reply, features_reply, id_reply, spm_id_reply}
+use Rattle.ffa_model.specs.Setup.{version_reply, features_reply, id_reply, spm_id_reply, info_get}
+use Rattle.ffa_model.specs.Buffers.{rxtx_map, rxtx_unmap, rx_release}
 
 abbrev pub not_supported : State → Stepped
 not_supported s = replied s (Error NotSupported)
@@ -20,10 +21,10 @@ not_supported s = replied s (Error NotSupported)
 abbrev pub serve : State → calls.Call → Stepped
 serve s (Version version) = replied s (version_reply version)
 serve s (Features function) = replied s (features_reply function)
-serve s RxRelease = not_supported s
-serve s (RxtxMap tx rx pages) = not_supported s
-serve s (RxtxUnmap endpoint) = not_supported s
-serve s (PartitionInfoGet uuid flags) = not_supported s
+serve s RxRelease = rx_release s
+serve s (RxtxMap tx rx pages) = rxtx_map s tx rx pages
+serve s (RxtxUnmap endpoint) = rxtx_unmap s endpoint
+serve s (PartitionInfoGet uuid flags) = info_get s uuid flags
 serve s IdGet = replied s (id_reply s)
 serve s SpmIdGet = replied s spm_id_reply
 serve s MsgWait = not_supported s

@@ -6,5 +6,5 @@ mod replies;
 #[cfg(test)]
 mod tests;
 
-pub use partitions::{count, info_bytes, is_nil};
+pub use partitions::{count, info_bytes, is_recognized};
 pub use replies::{features, id, spm_id, version};

@@ -1,8 +1,8 @@
 //! Partition information (DEN0077A, 13).
-ghost use Rattle.std.specs.Prelude.{◌≡◌, ◌<◌, length, map};
+ghost use Rattle.std.specs.Prelude.{◌≡◌, ◌<◌, ◌||◌, length, map};
 ghost use Rattle.ffa_model.specs.First.{party_of};
 ghost use Rattle.ffa_model.specs.Manifest as model;
-ghost use Rattle.ffa_model.specs.Setup.{info_bytes, info_of, is_selected, selected, uuid_bytes};
+ghost use Rattle.ffa_model.specs.Setup.{info_bytes, info_of, is_any, is_selected, selected, uuid_bytes};
 
 use arrayvec::ArrayVec;
 use bitflags::Flags;
@@ -31,8 +31,8 @@ fn is_zeros(uuid: &[u8; 16]) -> bool
     uuid.iter().all(|&byte| byte == 0)
 }
 
-/// Whether four registers hold the Nil UUID.
-pub fn is_nil(uuid: [u32; 4]) -> bool
+// Whether four registers hold the Nil UUID.
+fn is_nil(uuid: [u32; 4]) -> bool
     ensures { result ≡ model.is_nil (uuid_bytes uuid) }
 {
     is_zeros(&uuid_of(uuid))
@@ -58,6 +58,13 @@ pub fn count(manifest: &Manifest, uuid: [u32; 4]) -> u32
         }
     }
     count
+}
+
+/// Whether a UUID in four registers may be asked for: the Nil UUID may, and else that of a partition.
+pub fn is_recognized(manifest: &Manifest, uuid: [u32; 4]) -> bool
+    ensures { result ≡ (model.is_nil (uuid_bytes uuid) || is_any (selected (map party_of manifest.now.endpoints.items) (uuid_bytes uuid))) }
+{
+    is_nil(uuid) || count(manifest, uuid) != 0
 }
 
 // The information on the partition at a place in the manifest, which has its UUID where the Nil UUID was asked.

@@ -1,5 +1,5 @@
 //! Worked values, on the machine with two partitions.
-use crate::{count, features, id, info_bytes, is_nil, spm_id, version};
+use crate::{count, features, id, info_bytes, is_recognized, spm_id, version};
 use byteorder::{ByteOrder, LittleEndian};
 use ffa_model::{EndpointId, ErrorCode, Reply, row_machine};
 
@@ -12,7 +12,7 @@ fn versions(rt: HostRuntime) {
 
 #[test]
 fn feature_by_identifier(rt: HostRuntime) {
-    assert_eq!(rt; features(0x8400_0069), Reply::Success([0; 6]));
+    assert_eq!(rt; features(0x8400_0066), Reply::Success([0; 6]));
     assert_eq!(rt;
         features(0x8400_0075),
         Reply::Error(ErrorCode::NotSupported)
@@ -28,7 +28,7 @@ fn identifiers(rt: HostRuntime) {
 #[test]
 fn information_on_all(rt: HostRuntime) {
     let manifest = row_machine();
-    assert!(rt; is_nil([0; 4]));
+    assert!(rt; is_recognized(&manifest, [0; 4]));
     assert_eq!(rt; count(&manifest, [0; 4]), 2);
     let info = info_bytes(&manifest, [0; 4]);
     let mut words = [0; 6];
@@ -53,7 +53,7 @@ fn information_on_all(rt: HostRuntime) {
 fn information_on_one(rt: HostRuntime) {
     let manifest = row_machine();
     let uuid = [0x3322_1100, 0x7766_5544, 0xBBAA_9988, 0xFFEE_DDCC];
-    assert!(rt; !is_nil(uuid));
+    assert!(rt; is_recognized(&manifest, uuid));
     assert_eq!(rt; count(&manifest, uuid), 1);
     let info = info_bytes(&manifest, uuid);
     assert_eq!(rt; info.len(), 24);
@@ -66,5 +66,6 @@ fn information_on_one(rt: HostRuntime) {
 fn information_on_none(rt: HostRuntime) {
     let uuid = [0, 0, 0, 1];
     assert_eq!(rt; count(&row_machine(), uuid), 0);
+    assert!(rt; !is_recognized(&row_machine(), uuid));
     assert!(rt; info_bytes(&row_machine(), uuid).is_empty());
 }

@@ -2,7 +2,6 @@
 use Rattle.std.proofs.Common.{◌≡◌, ◌∙◌, ℕ, ◌-◌, ◌/◌, ◌%◌, ◌<◌, ◌≤◌, Bool, true, false, List, length, Option, Some, None, Result, Ok, Err, refl, sym, ap, subst, arith}
 use Rattle.std.specs.Prelude.{⊤, ◌==◌}
 use Rattle.byteorder.specs.Endian.{little_bytes}
-use Rattle.ffa_model.specs.declared.endpoint.EndpointId.{EndpointId}
 use Rattle.ffa_model.specs.declared.leaf.Leaf.{Leaf}
 use Rattle.ffa_model.specs.declared.manifest.Manifest.{Manifest}
 use Rattle.ffa_model.specs.declared.operation.FaultKind.{FaultKind}
@@ -20,6 +19,7 @@ use Rattle.ffa_model.specs.Reach.{at_end, loaded, may_store_to, number_at, reach
 use Rattle.ffa_model.specs.Rights.{may_write, may_store}
 use Rattle.ffa_model.specs.State.{State, page_at}
 use Rattle.ffa_model.proofs.Accepted.{accepted}
+use Rattle.ffa_spmc.specs.declared.kept.Kept.{Kept}
 use Rattle.ffa_spmc.specs.Meaning.{IsMachine, state_of}
 use Rattle.ffa_spmc.specs.Snapshot.{Snapshot}
 use Rattle.ffa_spmc.proofs.Held.{base_is, parties_are, size_is}
@@ -49,93 +49,93 @@ right-of false right may none = absurd (some_none none)
     some_none : Some Alignment ≡ None → ⊥
     some_none e = cc
 
-module _ (ram : Ram) (m : Manifest) (runner : EndpointId) (machine : IsMachine ram m runner) where
+module _ (ram : Ram) (m : Manifest) (kept : Kept) (machine : IsMachine ram m kept) where
   abbrev s : State
-  s = state_of ram m runner
+  s = state_of ram m kept
 
   -- the root of the runner's table
   abbrev pub runner_root : ℕ
-  runner_root = root s (place runner.0)
+  runner_root = root s (place kept.runner.0)
 
-  known : place runner.0 < length s.parties
-  known = subst (λ (n : ℕ). place runner.0 < n) (sym (parties_are ram m runner)) machine.known
+  known : place kept.runner.0 < length s.parties
+  known = subst (λ (n : ℕ). place kept.runner.0 < n) (sym (parties_are ram m kept)) machine.known
 
   aligned : s.ram_base % 4096 ≡ 0
   aligned =
-      let base : s.ram_base ≡ m.ram_base = base_is ram m runner in
+      let base : s.ram_base ≡ m.ram_base = base_is ram m kept in
       let place = (accepted m.ram_base m.ram_blocks m.endpoints.items m.accepted).aligned in
       omega (arith, base, place)
 
   runner_access : ℕ → Option Rights
-  runner_access address = access_at s runner.0 address
+  runner_access address = access_at s kept.runner.0 address
 
   -- an access of the runner over the walk ends where the state's does
   runner-reach : (address n : ℕ) (allowed : Leaf → Bool) (may : Option Rights → Bool)
       → ((r : Rights) → allowed (record { phys = address; read = true; write = may_write r.level; exec = r.exec }) ≡ may (Some r))
-      → reach ram runner_root address n allowed ≡ reached (fault_of (address % n == 0) (access_at s runner.0 address) may) address
+      → reach ram runner_root address n allowed ≡ reached (fault_of (address % n == 0) (access_at s kept.runner.0 address) may) address
   runner-reach address n allowed may same =
-      reach-is ram s (agrees ram m runner machine) (place runner.0) known address n allowed may same
+      reach-is ram s (agrees ram m kept machine) (place kept.runner.0) known address n allowed may same
       ∙ ap (λ (e : ℕ). reached (fault_of (address % n == 0) (access_at s e address) may) address) machine.named
 
   -- a load or a fetch of n bytes
   pub loaded-is : (address n : ℕ) (allowed : Leaf → Bool) (may : Option Rights → Bool)
       → ((r : Rights) → allowed (record { phys = address; read = true; write = may_write r.level; exec = r.exec }) ≡ may (Some r))
       → outcome_of (loaded ram runner_root address n allowed)
-      ≡ (accessed (fault_of (address % n == 0) (access_at s runner.0 address) may) s s (Data (memory.number_at s address n))).outcome
+      ≡ (accessed (fault_of (address % n == 0) (access_at s kept.runner.0 address) may) s s (Data (memory.number_at s address n))).outcome
   loaded-is address n allowed may same =
       ap (λ (r : Result ℕ FaultKind). outcome_of (at_end (λ physical. number_at ram physical n) r)) (runner-reach address n allowed may same)
-      ∙ ending (fault_of (address % n == 0) (access_at s runner.0 address) may) refl
+      ∙ ending (fault_of (address % n == 0) (access_at s kept.runner.0 address) may) refl
     where
-      ending : (o : Option FaultKind) → fault_of (address % n == 0) (access_at s runner.0 address) may ≡ o
+      ending : (o : Option FaultKind) → fault_of (address % n == 0) (access_at s kept.runner.0 address) may ≡ o
           → outcome_of (at_end (λ physical. number_at ram physical n) (reached o address)) ≡ (accessed o s s (Data (memory.number_at s address n))).outcome
       ending (Some fault) is = refl
       ending None is =
-          let (r, right) = right-of (address % n == 0) (access_at s runner.0 address) may is in
-          let there : access_at s (identifier (place runner.0)) address ≡ Some r = ap (λ (e : ℕ). access_at s e address) machine.named ∙ right in
-          ap Data (number-is ram s (agrees ram m runner machine) (place runner.0) known address n r aligned there)
+          let (r, right) = right-of (address % n == 0) (access_at s kept.runner.0 address) may is in
+          let there : access_at s (identifier (place kept.runner.0)) address ≡ Some r = ap (λ (e : ℕ). access_at s e address) machine.named ∙ right in
+          ap Data (number-is ram s (agrees ram m kept machine) (place kept.runner.0) known address n r aligned there)
 
   -- what a store leaves where its access ended so
-  after : (address : ℕ) (bytes : List ℕ) (o : Option FaultKind) (n : ℕ) → fault_of (address % n == 0) (access_at s runner.0 address) may_store ≡ o
-      → IsMachine (with_bytes_reached ram bytes (reached o address)) m runner
-      × (state_of (with_bytes_reached ram bytes (reached o address)) m runner ≡ (accessed o s (memory.stored s address bytes) Done).state)
+  after : (address : ℕ) (bytes : List ℕ) (o : Option FaultKind) (n : ℕ) → fault_of (address % n == 0) (access_at s kept.runner.0 address) may_store ≡ o
+      → IsMachine (with_bytes_reached ram bytes (reached o address)) m kept
+      × (state_of (with_bytes_reached ram bytes (reached o address)) m kept ≡ (accessed o s (memory.stored s address bytes) Done).state)
   after address bytes (Some fault) n is = (machine, refl)
   after address bytes None n is =
-      let (r, right) = right-of (address % n == 0) (access_at s runner.0 address) may_store is in
-      let p = placed s runner.0 address r right in
+      let (r, right) = right-of (address % n == 0) (access_at s kept.runner.0 address) may_store is in
+      let p = placed s kept.runner.0 address r right in
       let low : s.ram_base ≤ address = p.low in
-      let base : s.ram_base ≡ ram.base = base_is ram m runner ∙ sym machine.base in
+      let base : s.ram_base ≡ ram.base = base_is ram m kept ∙ sym machine.base in
       let number : (address - s.ram_base) / 4096 ≡ (address - ram.base) / 4096 = omega (arith, base) in
       let whole : s.ram_base % 4096 ≡ 0 = aligned in
       let at : (address - ram.base) % 4096 ≡ address % 4096 = omega (arith, base, whole, low) in
       let there : page_at s ((address - ram.base) / 4096) ≡ Some p.page = ap (page_at s) (sym number) ∙ p.there in
       let inside : (address - ram.base) / 4096 < length ram.pages =
-      subst (λ (n : ℕ). (address - ram.base) / 4096 < n) (size_is ram m runner) (owned-in s ((address - ram.base) / 4096) p.page there)
+      subst (λ (n : ℕ). (address - ram.base) / 4096 < n) (size_is ram m kept) (owned-in s ((address - ram.base) / 4096) p.page there)
       in (
-        machine-written ram m runner machine ((address - ram.base) / 4096) ((address - ram.base) % 4096) bytes p.page inside there,
-        state-written ram m runner ((address - ram.base) / 4096) ((address - ram.base) % 4096) bytes inside
+        machine-written ram m kept machine ((address - ram.base) / 4096) ((address - ram.base) % 4096) bytes p.page inside there,
+        state-written ram m kept ((address - ram.base) / 4096) ((address - ram.base) % 4096) bytes inside
             ∙ ap (λ (k : ℕ). written s ((address - ram.base) / 4096) k bytes) at
             ∙ ap (λ (k : ℕ). written s k (address % 4096) bytes) (sym number),
       )
 
   stored-reached : (address : ℕ) (size : Size) (value : ℕ)
       → stored ram runner_root address (size_of size) value
-      ≡ with_bytes_reached ram (little_bytes (size_of size) value) (reached (fault_of (address % size_of size == 0) (access_at s runner.0 address) may_store) address)
+      ≡ with_bytes_reached ram (little_bytes (size_of size) value) (reached (fault_of (address % size_of size == 0) (access_at s kept.runner.0 address) may_store) address)
   stored-reached address size value = ap (with_bytes_reached ram (little_bytes (size_of size) value)) (runner-reach address (size_of size) may_store_to may_store (λ r. refl))
 
-  pub store-machine : (address : ℕ) (size : Size) (value : ℕ) → IsMachine (stored ram runner_root address (size_of size) value) m runner
+  pub store-machine : (address : ℕ) (size : Size) (value : ℕ) → IsMachine (stored ram runner_root address (size_of size) value) m kept
   store-machine address size value =
-      subst (λ (r : Ram). IsMachine r m runner) (sym (stored-reached address size value))
-      (after address (little_bytes (size_of size) value) (fault_of (address % size_of size == 0) (access_at s runner.0 address) may_store) (size_of size) refl).0
+      subst (λ (r : Ram). IsMachine r m kept) (sym (stored-reached address size value))
+      (after address (little_bytes (size_of size) value) (fault_of (address % size_of size == 0) (access_at s kept.runner.0 address) may_store) (size_of size) refl).0
 
-  pub store-state : (address : ℕ) (size : Size) (value : ℕ) → state_of (stored ram runner_root address (size_of size) value) m runner ≡ (memory.store s address size value).state
+  pub store-state : (address : ℕ) (size : Size) (value : ℕ) → state_of (stored ram runner_root address (size_of size) value) m kept ≡ (memory.store s address size value).state
   store-state address size value =
-      ap (λ (r : Ram). state_of r m runner) (stored-reached address size value)
-      ∙ (after address (little_bytes (size_of size) value) (fault_of (address % size_of size == 0) (access_at s runner.0 address) may_store) (size_of size) refl).1
+      ap (λ (r : Ram). state_of r m kept) (stored-reached address size value)
+      ∙ (after address (little_bytes (size_of size) value) (fault_of (address % size_of size == 0) (access_at s kept.runner.0 address) may_store) (size_of size) refl).1
 
   pub store-outcome : (address : ℕ) (size : Size) (value : ℕ) → done_or_fault (store_answer ram runner_root address (size_of size)) ≡ (memory.store s address size value).outcome
   store-outcome address size value =
       ap (λ (r : Result ℕ FaultKind). done_or_fault (at_end (λ physical. tt) r)) (runner-reach address (size_of size) may_store_to may_store (λ r. refl))
-      ∙ ending (fault_of (address % size_of size == 0) (access_at s runner.0 address) may_store)
+      ∙ ending (fault_of (address % size_of size == 0) (access_at s kept.runner.0 address) may_store)
     where
       ending : (o : Option FaultKind) → done_or_fault (at_end (λ physical. tt) (reached o address)) ≡ (accessed o s (memory.stored s address (little_bytes (size_of size) value)) Done).outcome
       ending None = refl
@@ -160,12 +160,12 @@ module _ (ram : Ram) (m : Manifest) (runner : EndpointId) (machine : IsMachine r
       new-is : new ≡ stored ram runner_root address (size_of size) value
       new-is = wrote ∙ ap (λ (q : ℕ). stored ram q address (size_of size) value) root-is-runner
 
-      pub machine-stored : IsMachine new m runner
-      machine-stored = subst (λ (ram : Ram). IsMachine ram m runner) (sym new-is) (store-machine address size value)
+      pub machine-stored : IsMachine new m kept
+      machine-stored = subst (λ (ram : Ram). IsMachine ram m kept) (sym new-is) (store-machine address size value)
 
-      pub state-stored : state_of new m runner ≡ (memory.store now.state address size value).state
+      pub state-stored : state_of new m kept ≡ (memory.store now.state address size value).state
       state-stored =
-          ap (λ (ram : Ram). state_of ram m runner) new-is ∙ store-state address size value
+          ap (λ (ram : Ram). state_of ram m kept) new-is ∙ store-state address size value
           ∙ ap (λ (seen : Snapshot). (memory.store seen.state address size value).state) view
 
     pub answer-stored : (address : ℕ) (size : Size) (value : ℕ) (answer : Result ⊤ FaultKind) → answer ≡ store_answer ram r address (size_of size)

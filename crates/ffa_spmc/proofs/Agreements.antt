@@ -4,7 +4,6 @@ use Rattle.std.specs.Prelude.{◌&&◌, nat_le, nat_lt, find}
 use Rattle.std.specs.Option.{option_map, option_and_then}
 use Rattle.std.proofs.lemmas.Bool.{cases_lt}
 use Rattle.std.proofs.lemmas.Bool.Decides.{nat_tests}
-use Rattle.ffa_model.specs.declared.endpoint.EndpointId.{EndpointId}
 use Rattle.ffa_model.specs.declared.endpoint.Region.{Region}
 use Rattle.ffa_model.specs.declared.manifest.Manifest.{Manifest}
 use Rattle.ffa_model.specs.declared.rights.Rights.{Rights}
@@ -17,12 +16,14 @@ use Rattle.ffa_model.specs.Walk.{walk, granted, is_in_ram}
 use Rattle.ffa_model.specs.State.{State, Page, page_at}
 use Rattle.ffa_model.specs.Access.{access}
 use Rattle.ffa_model.specs.Memory.{access_at}
-use Rattle.ffa_spmc.specs.Meaning.{state_of}
-use Rattle.ffa_spmc.proofs.Held.{base_is, parties_are, size_is, page-in, page-past, access-in, access-past}
+use Rattle.ffa_pages.specs.Entry.{Entry, entry_at}
+use Rattle.ffa_spmc.specs.declared.kept.Kept.{Kept}
+use Rattle.ffa_spmc.specs.Meaning.{IsMachine, state_of}
+use Rattle.ffa_spmc.proofs.Held.{base_is, parties_are, size_is, page-held, page-past, access-in, access-past}
 
 -- the right that the endpoint at a place has to the page of an address, and none outside RAM
 abbrev pub right_at : Ram → Manifest → ℕ → ℕ → Option Rights
-right_at ram m i address = cond (is_in_ram ram address) (right_in ram.base (regions_at m.endpoints.items i) ((address - ram.base) / 4096)) None
+right_at ram m i address = cond (is_in_ram ram address) (right_in m.ram_base (regions_at m.endpoints.items i) ((address - ram.base) / 4096)) None
 
 -- every walk gives that right
 abbrev pub WalksGive : Ram → Manifest → Type 0
@@ -30,25 +31,25 @@ WalksGive ram m =
     (i address : ℕ) → i < length m.endpoints.items → address < 2 ^ 32
     → walk ram (root_of ram.base m.ram_blocks i) address ≡ granted (right_at ram m i address) address
 
-module _ (ram : Ram) (m : Manifest) (runner : EndpointId) (place : ram.base ≡ m.ram_base) (size : length ram.pages ≡ 512 * m.ram_blocks) where
+module _ (ram : Ram) (m : Manifest) (kept : Kept) (machine : IsMachine ram m kept) where
   abbrev s : State
-  s = state_of ram m runner
+  s = state_of ram m kept
 
   pub root-is : (i : ℕ) → root s i ≡ root_of ram.base m.ram_blocks i
   root-is i =
-      let many : length s.pages ≡ 512 * m.ram_blocks = size_is ram m runner ∙ size in
+      let many : length s.pages ≡ 512 * m.ram_blocks = size_is ram m kept ∙ machine.size in
       let blocks : blocks_of s ≡ m.ram_blocks = omega (arith, many) in
-      ap (λ (b : ℕ). root_of s.ram_base b i) blocks ∙ ap (λ (base : ℕ). root_of base m.ram_blocks i) (base_is ram m runner ∙ sym place)
+      ap (λ (b : ℕ). root_of s.ram_base b i) blocks ∙ ap (λ (base : ℕ). root_of base m.ram_blocks i) (base_is ram m kept ∙ sym machine.base)
 
   access_at-is : (i address : ℕ) → address < 2 ^ 32 → access_at s (identifier i) address ≡ right_at ram m i address
   access_at-is i address low =
-      let base : s.ram_base ≡ ram.base = base_is ram m runner ∙ sym place in
+      let base : s.ram_base ≡ ram.base = base_is ram m kept ∙ sym machine.base in
       elim (cases_lt address ram.base) [
         | inl under ↦
             (let outside : is_in_ram ram address ≡ false = grind (arith, nat_tests) in
             let test : (nat_le s.ram_base address && nat_lt address (2 ^ 32)) ≡ false = grind (arith, nat_tests, base) in
             ap (λ b. option_and_then (access s (identifier i)) (cond b (Some ((address - s.ram_base) / 4096)) None)) test
-            ∙ sym (ap (λ b. cond b (right_in ram.base (regions_at m.endpoints.items i) ((address - ram.base) / 4096)) None) outside))
+            ∙ sym (ap (λ b. cond b (right_in m.ram_base (regions_at m.endpoints.items i) ((address - ram.base) / 4096)) None) outside))
         | inr from ↦
             (let test : (nat_le s.ram_base address && nat_lt address (2 ^ 32)) ≡ true = grind (arith, nat_tests, base) in
             let number : (address - s.ram_base) / 4096 ≡ (address - ram.base) / 4096 = ap (λ (b : ℕ). (address - b) / 4096) base in
@@ -58,41 +59,40 @@ module _ (ram : Ram) (m : Manifest) (runner : EndpointId) (place : ram.base ≡ 
               | inl lt ↦
                   (let under : address < ram.base + 4096 * length ram.pages = omega arith in
                   let inside : is_in_ram ram address ≡ true = grind (arith, nat_tests) in
-                  here ∙ access-in ram m runner i ((address - ram.base) / 4096) lt
-                  ∙ ap (λ (b : ℕ). right_in b (regions_at m.endpoints.items i) ((address - ram.base) / 4096)) refl
-                  ∙ sym (ap (λ b. cond b (right_in ram.base (regions_at m.endpoints.items i) ((address - ram.base) / 4096)) None) inside))
+                  here ∙ access-in ram m kept machine i ((address - ram.base) / 4096) lt
+                  ∙ sym (ap (λ b. cond b (right_in m.ram_base (regions_at m.endpoints.items i) ((address - ram.base) / 4096)) None) inside))
               | inr past ↦
                   (let over : ram.base + 4096 * length ram.pages ≤ address = omega arith in
                   let outside : is_in_ram ram address ≡ false = grind (arith, nat_tests) in
-                  here ∙ access-past ram m runner (identifier i) ((address - ram.base) / 4096) past
-                  ∙ sym (ap (λ b. cond b (right_in ram.base (regions_at m.endpoints.items i) ((address - ram.base) / 4096)) None) outside))
+                  here ∙ access-past ram m kept (identifier i) ((address - ram.base) / 4096) past
+                  ∙ sym (ap (λ b. cond b (right_in m.ram_base (regions_at m.endpoints.items i) ((address - ram.base) / 4096)) None) outside))
             ])
       ]
 
   bytes-are : (p : ℕ) (page : Page) → page_at s p ≡ Some page → page_of ram p ≡ page.bytes
   bytes-are p page there = elim (cases_lt p (length ram.pages)) [
-    | inl lt ↦ of (find (λ (x : ℕ × Region). has_page ram.base p x.1) (owned_regions m.endpoints.items)) (sym (page-in ram m runner p lt) ∙ there)
-    | inr past ↦ absurd (none_some (sym (page-past ram m runner p past) ∙ there))
+    | inl lt ↦ of (entry_at kept.pages p) (sym (page-held ram m kept p lt) ∙ there)
+    | inr past ↦ absurd (none_some (sym (page-past ram m kept p past) ∙ there))
   ]
     where
       none_some : None ≡ Some page → ⊥
       none_some e = cc
 
-      of : (o : Option (ℕ × Region)) → option_map (λ (x : ℕ × Region). let q : Page = record { owner = x.0; base = x.1.rights; bytes = page_of ram p } in q) o ≡ Some page → page_of ram p ≡ page.bytes
+      of : (o : Option Entry) → option_map (λ (e : Entry). let q : Page = record { owner = e.owner; base = e.base; bytes = page_of ram p } in q) o ≡ Some page → page_of ram p ≡ page.bytes
       of None e = absurd (none_some e)
       of (Some x) e = ap (λ (q : Page). q.bytes) (some_is e)
         where
-          some_is : Some (let q : Page = record { owner = x.0; base = x.1.rights; bytes = page_of ram p } in q) ≡ Some page → (let q : Page = record { owner = x.0; base = x.1.rights; bytes = page_of ram p } in q) ≡ page
+          some_is : Some (let q : Page = record { owner = x.owner; base = x.base; bytes = page_of ram p } in q) ≡ Some page → (let q : Page = record { owner = x.owner; base = x.base; bytes = page_of ram p } in q) ≡ page
           some_is e = cc
 
   pub agrees-held : WalksGive ram m → Agrees ram s
   agrees-held walks =
       record {
-        place = place ∙ sym (base_is ram m runner);
-        size = sym (size_is ram m runner);
+        place = machine.base ∙ sym (base_is ram m kept);
+        size = sym (size_is ram m kept);
         walks = λ i address lt low.
             ap (λ (r : ℕ). walk ram r address) (root-is i)
-            ∙ walks i address (subst (λ (n : ℕ). i < n) (parties_are ram m runner) lt) low
+            ∙ walks i address (subst (λ (n : ℕ). i < n) (parties_are ram m kept) lt) low
             ∙ ap (λ (o : Option Rights). granted o address) (sym (access_at-is i address low));
         bytes = bytes-are;
       }

@@ -4,7 +4,6 @@ use Rattle.std.proofs.lemmas.Bool.{cases_lt}
 use Rattle.std.proofs.lemmas.List.{get_or-replicate, length-map, length-replicate}
 use Rattle.arrayvec.specs.ArrayVec.{array_vec_len}
 use Rattle.ffa_model.specs.declared.endpoint.Endpoint.{Endpoint}
-use Rattle.ffa_model.specs.declared.endpoint.EndpointId.{EndpointId}
 use Rattle.ffa_model.specs.declared.endpoint.Region.{Region}
 use Rattle.ffa_model.specs.declared.manifest.Manifest.{Manifest}
 use Rattle.ffa_model.specs.Identifiers.{identifier, place}
@@ -12,7 +11,7 @@ use Rattle.ffa_model.specs.Lists.{listed}
 use Rattle.ffa_model.specs.Manifest.{table_pages}
 use Rattle.ffa_model.specs.Ram.{Ram, page_of, zero_ram}
 use Rattle.ffa_model.specs.Regions.{regions_at, regions_of_each, right_in as right_among}
-use Rattle.ffa_model.specs.State.{Page}
+use Rattle.ffa_model.specs.State.{Page, Buffers}
 use Rattle.ffa_model.specs.First.{first, page_with_bytes}
 use Rattle.ffa_model.proofs.Accepted.{accepted}
 use Rattle.ffa_model.proofs.Listed.{listed-same}
@@ -22,7 +21,10 @@ use Rattle.ffa_stage2.specs.declared.layout.Regions.{Regions}
 use Rattle.ffa_stage2.specs.Layout.{regions_in, right_in}
 use Rattle.ffa_stage2.specs.Tables.{IsBuilt, KeepsRest, table_page}
 use Rattle.ffa_stage2.proofs.Rights.{built-same}
+use Rattle.ffa_spmc.specs.declared.kept.Kept.{Kept}
+use Rattle.ffa_spmc.specs.Owners.{first_owners}
 use Rattle.ffa_spmc.specs.Meaning.{IsMachine, held_page, own_right, state_of}
+use Rattle.ffa_spmc.proofs.Held.{page-held, page-in}
 
 regions-each : (es : List Endpoint) (i : ℕ) → get_or (regions_of_each es) i [] ≡ regions_at es i
 regions-each [] i = refl
@@ -44,12 +46,12 @@ pub zeros-of : (old zeros : Ram) (m : Manifest) → zeros ≡ zero_ram old.base 
     → zeros ≡ zero_ram m.ram_base (512 * m.ram_blocks)
 zeros-of old zeros m cleared base size = cleared ∙ ap (λ (b : ℕ). zero_ram b (length old.pages)) base ∙ ap (zero_ram m.ram_base) size
 
-module _ (zeros ram : Ram) (m : Manifest) (layout : Layout) (runner : EndpointId)
+module _ (zeros ram : Ram) (m : Manifest) (layout : Layout) (kept : Kept)
     (cleared : zeros ≡ zero_ram m.ram_base (512 * m.ram_blocks))
     (base : layout.base ≡ m.ram_base) (blocks : layout.blocks ≡ m.ram_blocks) (regions : regions_in layout ≡ regions_of_each m.endpoints.items)
     (built : IsBuilt ram (array_vec_len layout.regions) layout.blocks (right_in layout))
     (rest : KeepsRest zeros ram (array_vec_len layout.regions) layout.blocks)
-    (normal : runner.0 ≡ 0) where
+    (owners : kept.pages ≡ first_owners m) (none : kept.buffers ≡ replicate (length m.endpoints.items) None) (normal : kept.runner.0 ≡ 0) where
   abbrev es : List Endpoint
   es = m.endpoints.items
 
@@ -75,22 +77,36 @@ module _ (zeros ram : Ram) (m : Manifest) (layout : Layout) (runner : EndpointId
       (subst (λ (b : ℕ). IsBuilt ram (array_vec_len layout.regions) b (own_right m.ram_base es)) blocks
       (built-same ram (array_vec_len layout.regions) layout.blocks (right_in layout) (own_right m.ram_base es) built (λ e p _ _. right-is e p)))
 
-  pub machine-first : IsMachine ram m runner
+  none-mapped : (n i : ℕ) (b : Buffers) → get_or (replicate n None) i None ≡ Some b → ⊥
+  none-mapped zero i b is = none_some is
+    where
+      none_some : None ≡ Some b → ⊥
+      none_some e = cc
+  none-mapped (suc n) zero b is = none_some is
+    where
+      none_some : None ≡ Some b → ⊥
+      none_some e = cc
+  none-mapped (suc n) (suc i) b is = none-mapped n i b is
+
+  pub machine-first : IsMachine ram m kept
   machine-first =
       let a = accepted m.ram_base m.ram_blocks m.endpoints.items m.accepted in
       let some : 1 ≤ length es = a.some_endpoints in
       record {
         base = base-is;
         size = size-is;
+        owners = owners;
+        each = ap length none ∙ length-replicate (length es) None;
+        own = λ i b is. absurd (none-mapped (length es) i b (ap (λ (list : List (Option Buffers)). get_or list i None) (sym none) ∙ is));
         known = omega (arith, normal, some);
         named = ap (λ (e : ℕ). identifier (place e)) normal ∙ sym normal;
         built = built-is;
       }
 
   -- a page behind the tables is zeros, and nobody owns one before
-  page-first : (p : ℕ) → p < length ram.pages → held_page ram es p ≡ page_with_bytes m.ram_base es p (replicate 4096 0)
-  page-first p inside =
-      ap (λ (b : ℕ). page_with_bytes b es p (page_of ram p)) base-is
+  page-zeros : (p : ℕ) → p < length ram.pages → held_page ram kept.pages p ≡ page_with_bytes m.ram_base es p (replicate 4096 0)
+  page-zeros p inside =
+      sym (page-held ram m kept p inside) ∙ page-in ram m kept machine-first p inside
       ∙ elim (cases_lt p (length es * table_pages m.ram_blocks)) [
         | inl low ↦ unowned m p (page_of ram p) low ∙ sym (unowned m p (replicate 4096 0) low)
         | inr behind ↦
@@ -103,11 +119,11 @@ module _ (zeros ram : Ram) (m : Manifest) (layout : Layout) (runner : EndpointId
       of_end : {n b k c : ℕ} → n ≡ k → b ≡ c → k * table_pages c ≤ p → table_page b n 0 ≤ p
       of_end same_n same_b h = rw (same_n, same_b) (omega (arith, h))
 
-  pages-first : listed (length ram.pages) (held_page ram es) ≡ listed (512 * m.ram_blocks) (λ p. page_with_bytes m.ram_base es p (replicate 4096 0))
+  pages-first : listed (length ram.pages) (held_page ram kept.pages) ≡ listed (512 * m.ram_blocks) (λ p. page_with_bytes m.ram_base es p (replicate 4096 0))
   pages-first =
-      listed-same (length ram.pages) (held_page ram es) (λ p. page_with_bytes m.ram_base es p (replicate 4096 0)) page-first
+      listed-same (length ram.pages) (held_page ram kept.pages) (λ p. page_with_bytes m.ram_base es p (replicate 4096 0)) page-zeros
       ∙ ap (λ (n : ℕ). listed n (λ p. page_with_bytes m.ram_base es p (replicate 4096 0))) size-is
 
-  pub state-first : state_of ram m runner ≡ first m.ram_base m.ram_blocks es
+  pub state-first : state_of ram m kept ≡ first m.ram_base m.ram_blocks es
   unfolding first
-  state-first = λ i. record (first m.ram_base m.ram_blocks es) { pages = pages-first i; runner = normal i }
+  state-first = λ i. record (first m.ram_base m.ram_blocks es) { pages = pages-first i; buffers = none i; runner = normal i }

@@ -1,38 +1,55 @@
 -- The state that RAM and a manifest mean, part by part.
-use Rattle.std.proofs.Common.{◌≡◌, ◌∙◌, ℕ, ◌<◌, ◌≤◌, Bool, false, List, [], ◌∷◌, length, Option, Some, None, refl, ap, inl, inr}
+use Rattle.std.proofs.Common.{◌≡◌, ◌∙◌, ℕ, ◌*◌, ◌<◌, ◌≤◌, Bool, false, List, [], ◌∷◌, length, Option, Some, None, refl, ap, subst, inl, inr}
 use Rattle.std.specs.Prelude.{find}
 use Rattle.std.specs.Option.{option_and_then, option_map, option_map_or}
 use Rattle.std.specs.Ordering.{nat_cmp}
 use Rattle.std.specs.FinMap as finite
 use Rattle.std.proofs.lemmas.Bool.{cases_lt}
 use Rattle.std.proofs.lemmas.List.{length-map}
+use Rattle.ffa_model.specs.declared.endpoint.Endpoint.{Endpoint}
 use Rattle.ffa_model.specs.declared.endpoint.Region.{Region}
-use Rattle.ffa_model.specs.declared.endpoint.EndpointId.{EndpointId}
 use Rattle.ffa_model.specs.declared.manifest.Manifest.{Manifest}
 use Rattle.ffa_model.specs.Identifiers.{identifier, manager, place}
 use Rattle.ffa_model.specs.Ram.{Ram, page_of}
 use Rattle.ffa_model.specs.Regions.{has_page, owned_regions, owner_in, right_in, regions_at}
 use Rattle.ffa_model.specs.State.{State, Page, Transaction, owner_of, page_at}
-use Rattle.ffa_model.specs.Access.{access, is_naming, transaction_at, right_of}
-use Rattle.ffa_model.specs.First.{first, party_of}
+use Rattle.ffa_model.specs.Access.{access, handle_at, is_naming, transaction_at, right_of}
+use Rattle.ffa_model.specs.First.{first, party_of, page_with_bytes}
 use Rattle.ffa_model.proofs.Listed.{length-listed, get_or-listed, get_or-listed_past}
 use Rattle.ffa_model.proofs.Accepted.{accepted}
 use Rattle.ffa_model.proofs.Owners.{right-own, right-unnamed}
-use Rattle.ffa_spmc.specs.Meaning.{held_page, state_of}
+use Rattle.ffa_pages.specs.Entry.{Entry, entry_at, first_entry}
+use Rattle.ffa_spmc.specs.declared.kept.Kept.{Kept}
+use Rattle.ffa_spmc.specs.Meaning.{IsMachine, held_page, state_of}
 
 find_none : (test : ℕ → Bool) (xs : List ℕ) → ((x : ℕ) → test x ≡ false) → find test xs ≡ None
 find_none test [] never = refl
 find_none test (x ∷ xs) never = rw (never x) (find_none test xs never)
 
 -- no transaction is open where the map of them is empty
-pub transaction-empty : (s : State) (p : ℕ) → s.transactions ≡ finite.empty → transaction_at s p ≡ None
-transaction-empty s p none =
-    ap (option_and_then (finite.get s.transactions))
-    (find_none (λ h. is_naming s p (finite.get s.transactions h)) (finite.keys s.transactions) (λ h. ap (is_naming s p) (ap (λ (m : finite.FinMap nat_cmp Transaction). finite.get m h) none ∙ finite.get-empty nat_cmp h)))
+handle-empty : (s : State) (p : ℕ) → s.transactions ≡ finite.empty → handle_at s p ≡ None
+handle-empty s p none =
+    find_none (λ h. is_naming s p (finite.get s.transactions h)) (finite.keys s.transactions)
+    (λ h. ap (is_naming s p) (ap (λ (m : finite.FinMap nat_cmp Transaction). finite.get m h) none ∙ finite.get-empty nat_cmp h))
 
-module _ (ram : Ram) (m : Manifest) (runner : EndpointId) where
+pub transaction-empty : (s : State) (p : ℕ) → s.transactions ≡ finite.empty → transaction_at s p ≡ None
+transaction-empty s p none = ap (option_and_then (finite.get s.transactions)) (handle-empty s p none)
+
+-- a page that the first owners say, with these bytes
+page-first : (base p : ℕ) (es : List Endpoint) (bytes : List ℕ)
+    → option_map (λ (e : Entry). let q : Page = record { owner = e.owner; base = e.base; bytes = bytes } in q) (first_entry base es p) ≡ page_with_bytes base es p bytes
+page-first base p es bytes = of (find (λ (x : ℕ × Region). has_page base p x.1) (owned_regions es))
+  where
+    of : (o : Option (ℕ × Region))
+        → option_map (λ (e : Entry). let q : Page = record { owner = e.owner; base = e.base; bytes = bytes } in q)
+        (option_map (λ (x : ℕ × Region). let e : Entry = record { owner = x.0; base = x.1.rights; slot = None } in e) o)
+        ≡ option_map (λ (x : ℕ × Region). record { owner = x.0; base = x.1.rights; bytes = bytes }) o
+    of None = refl
+    of (Some x) = refl
+
+module _ (ram : Ram) (m : Manifest) (kept : Kept) where
   abbrev s : State
-  s = state_of ram m runner
+  s = state_of ram m kept
 
   pub base_is : s.ram_base ≡ m.ram_base
   unfolding first
@@ -47,42 +64,58 @@ module _ (ram : Ram) (m : Manifest) (runner : EndpointId) where
   none_open = refl
 
   pub size_is : length s.pages ≡ length ram.pages
-  size_is = length-listed (length ram.pages) (held_page ram m.endpoints.items)
+  size_is = length-listed (length ram.pages) (held_page ram kept.pages)
 
-  pub page-in : (p : ℕ) → p < length ram.pages → page_at s p ≡ held_page ram m.endpoints.items p
-  page-in p lt = get_or-listed (length ram.pages) (held_page ram m.endpoints.items) p None lt
+  pub page-held : (p : ℕ) → p < length ram.pages → page_at s p ≡ held_page ram kept.pages p
+  page-held p lt = get_or-listed (length ram.pages) (held_page ram kept.pages) p None lt
 
   pub page-past : (p : ℕ) → length ram.pages ≤ p → page_at s p ≡ None
-  page-past p past = get_or-listed_past (length ram.pages) (held_page ram m.endpoints.items) p None past
+  page-past p past = get_or-listed_past (length ram.pages) (held_page ram kept.pages) p None past
 
   pub access-is : (e p : ℕ) → access s e p ≡ right_of e (page_at s p) None
   access-is e p = ap (right_of e (page_at s p)) (transaction-empty s p none_open)
 
-  -- the access of an endpoint is the right of its own regions
-  pub access-in : (i p : ℕ) → p < length ram.pages → access s (identifier i) p ≡ right_in ram.base (regions_at m.endpoints.items i) p
-  access-in i p lt =
-      access-is (identifier i) p ∙ ap (λ (page : Option Page). right_of (identifier i) page None) (page-in p lt)
-      ∙ right-own ram.base m.endpoints.items p i (page_of ram p) (accepted m.ram_base m.ram_blocks m.endpoints.items m.accepted).apart
-
   pub access-past : (e p : ℕ) → length ram.pages ≤ p → access s e p ≡ None
   access-past e p past = access-is e p ∙ ap (λ (page : Option Page). right_of e page None) (page-past p past)
 
-  -- who is no endpoint has no access
-  pub access-unnamed : (e p : ℕ) → (identifier (place e) ≡ e → ⊥) → access s e p ≡ None
-  access-unnamed e p unnamed = elim (cases_lt p (length ram.pages)) [
-    | inl lt ↦
-        access-is e p ∙ ap (λ (page : Option Page). right_of e page None) (page-in p lt)
-        ∙ right-unnamed ram.base m.endpoints.items p e (page_of ram p) unnamed
-    | inr past ↦ access-past e p past
-  ]
+  pub none_named : (p : ℕ) → handle_at s p ≡ None
+  none_named p = handle-empty s p none_open
 
-  pub owner-is : (p : ℕ) → p < length ram.pages → owner_of s p ≡ owner_in ram.base m.endpoints.items p
-  owner-is p lt =
-      ap (λ (page : Option Page). option_map_or (λ (q : Page). q.owner) page manager) (page-in p lt)
-      ∙ of (find (λ (x : ℕ × Region). has_page ram.base p x.1) (owned_regions m.endpoints.items))
-    where
-      of : (o : Option (ℕ × Region))
-          → option_map_or (λ (q : Page). q.owner) (option_map (λ (x : ℕ × Region). let q : Page = record { owner = x.0; base = x.1.rights; bytes = page_of ram p } in q) o) manager
-          ≡ option_map_or (λ (x : ℕ × Region). x.0) o manager
-      of None = refl
-      of (Some x) = refl
+  -- of a machine
+  module _ (machine : IsMachine ram m kept) where
+    pub entry-in : (p : ℕ) → p < length ram.pages → entry_at kept.pages p ≡ first_entry m.ram_base m.endpoints.items p
+    entry-in p lt =
+        ap (λ (owners : List (Option Entry)). entry_at owners p) machine.owners
+        ∙ get_or-listed (512 * m.ram_blocks) (first_entry m.ram_base m.endpoints.items) p None (subst (λ (n : ℕ). p < n) machine.size lt)
+
+    pub page-in : (p : ℕ) → p < length ram.pages → page_at s p ≡ page_with_bytes m.ram_base m.endpoints.items p (page_of ram p)
+    page-in p lt =
+        page-held p lt
+        ∙ ap (option_map (λ (e : Entry). let q : Page = record { owner = e.owner; base = e.base; bytes = page_of ram p } in q)) (entry-in p lt)
+        ∙ page-first m.ram_base p m.endpoints.items (page_of ram p)
+
+    -- the access of an endpoint is the right of its own regions
+    pub access-in : (i p : ℕ) → p < length ram.pages → access s (identifier i) p ≡ right_in m.ram_base (regions_at m.endpoints.items i) p
+    access-in i p lt =
+        access-is (identifier i) p ∙ ap (λ (page : Option Page). right_of (identifier i) page None) (page-in p lt)
+        ∙ right-own m.ram_base m.endpoints.items p i (page_of ram p) (accepted m.ram_base m.ram_blocks m.endpoints.items m.accepted).apart
+
+    -- who is no endpoint has no access
+    pub access-unnamed : (e p : ℕ) → (identifier (place e) ≡ e → ⊥) → access s e p ≡ None
+    access-unnamed e p unnamed = elim (cases_lt p (length ram.pages)) [
+      | inl lt ↦
+          access-is e p ∙ ap (λ (page : Option Page). right_of e page None) (page-in p lt)
+          ∙ right-unnamed m.ram_base m.endpoints.items p e (page_of ram p) unnamed
+      | inr past ↦ access-past e p past
+    ]
+
+    pub owner-is : (p : ℕ) → p < length ram.pages → owner_of s p ≡ owner_in m.ram_base m.endpoints.items p
+    owner-is p lt =
+        ap (λ (page : Option Page). option_map_or (λ (q : Page). q.owner) page manager) (page-in p lt)
+        ∙ of (find (λ (x : ℕ × Region). has_page m.ram_base p x.1) (owned_regions m.endpoints.items))
+      where
+        of : (o : Option (ℕ × Region))
+            → option_map_or (λ (q : Page). q.owner) (option_map (λ (x : ℕ × Region). let q : Page = record { owner = x.0; base = x.1.rights; bytes = page_of ram p } in q) o) manager
+            ≡ option_map_or (λ (x : ℕ × Region). x.0) o manager
+        of None = refl
+        of (Some x) = refl

@@ -5,3 +5,7 @@ pub mod Stores
 pub mod Machines
 pub mod Accesses
 pub mod Boots
+pub mod Candidates
+pub mod BufferCalls
+pub mod Fills
+pub mod Information

@@ -1,7 +1,6 @@
 -- What holds of a machine's parts, and stays so.
 use Rattle.std.proofs.Common.{◌≡◌, ◌∙◌, ℕ, ◌-◌, ◌*◌, ◌/◌, ◌<◌, ◌≤◌, true, cond, List, [], length, set, Some, None, refl, sym, ap, subst, arith, length-set}
 use Rattle.std.proofs.lemmas.List.{get_or-set_other}
-use Rattle.ffa_model.specs.declared.endpoint.EndpointId.{EndpointId}
 use Rattle.ffa_model.specs.declared.manifest.Manifest.{Manifest}
 use Rattle.ffa_model.specs.Agreement.{Agrees, root}
 use Rattle.ffa_model.specs.Identifiers.{place}
@@ -16,39 +15,41 @@ use Rattle.ffa_model.proofs.Owners.{owned-behind}
 use Rattle.ffa_stage2.proofs.Kept.{built-kept}
 use Rattle.ffa_stage2.proofs.Places.{root-address}
 use Rattle.ffa_stage2.proofs.Walks.{walk-built}
+use Rattle.ffa_spmc.specs.declared.kept.Kept.{Kept}
 use Rattle.ffa_spmc.specs.Meaning.{IsMachine, own_right, state_of}
 use Rattle.ffa_spmc.proofs.Held.{page-in}
 use Rattle.ffa_spmc.proofs.Agreements.{WalksGive, agrees-held, root-is}
 
-module _ (ram : Ram) (m : Manifest) (runner : EndpointId) (machine : IsMachine ram m runner) where
+module _ (ram : Ram) (m : Manifest) (kept : Kept) (machine : IsMachine ram m kept) where
   walks-give : WalksGive ram m
   walks-give i address known low =
       walk-built ram (length m.endpoints.items) m.ram_blocks (own_right m.ram_base m.endpoints.items) i address machine.built known low
-      ∙ ap (λ (base : ℕ). granted (cond (is_in_ram ram address) (right_in base (regions_at m.endpoints.items i) ((address - ram.base) / 4096)) None) address) (sym machine.base)
 
   -- the RAM of a machine agrees with its state
-  pub agrees : Agrees ram (state_of ram m runner)
-  agrees = agrees-held ram m runner machine.base machine.size walks-give
+  pub agrees : Agrees ram (state_of ram m kept)
+  agrees = agrees-held ram m kept machine walks-give
 
   -- the root of the runner's table is a page of the RAM
-  pub runner-root : is_page_address ram (root (state_of ram m runner) (place runner.0)) ≡ true
+  pub runner-root : is_page_address ram (root (state_of ram m kept) (place kept.runner.0)) ≡ true
   runner-root =
-      ap (is_page_address ram) (root-is ram m runner machine.base machine.size (place runner.0))
-      ∙ root-address ram (length m.endpoints.items) m.ram_blocks (place runner.0) machine.built.fits machine.known
+      ap (is_page_address ram) (root-is ram m kept machine (place kept.runner.0))
+      ∙ root-address ram (length m.endpoints.items) m.ram_blocks (place kept.runner.0) machine.built.fits machine.known
 
 -- a write to a page that an endpoint owns leaves the tables as they are
-pub machine-written : (ram : Ram) (m : Manifest) (runner : EndpointId) → IsMachine ram m runner → (p at : ℕ) (bytes : List ℕ) (page : Page)
-    → p < length ram.pages → page_at (state_of ram m runner) p ≡ Some page
-    → IsMachine (with_page ram p (with_bytes (page_of ram p) at bytes)) m runner
-machine-written ram m runner machine p at bytes page inside there =
+pub machine-written : (ram : Ram) (m : Manifest) (kept : Kept) → IsMachine ram m kept → (p at : ℕ) (bytes : List ℕ) (page : Page)
+    → p < length ram.pages → page_at (state_of ram m kept) p ≡ Some page
+    → IsMachine (with_page ram p (with_bytes (page_of ram p) at bytes)) m kept
+machine-written ram m kept machine p at bytes page inside there =
     let a = accepted m.ram_base m.ram_blocks m.endpoints.items m.accepted in
-    let owned : page_with_bytes m.ram_base m.endpoints.items p (page_of ram p) ≡ Some page =
-    subst (λ (base : ℕ). page_with_bytes base m.endpoints.items p (page_of ram p) ≡ Some page) machine.base (sym (page-in ram m runner p inside) ∙ there) in
+    let owned : page_with_bytes m.ram_base m.endpoints.items p (page_of ram p) ≡ Some page = sym (page-in ram m kept machine p inside) ∙ there in
     let behind : length m.endpoints.items * table_pages m.ram_blocks ≤ p = owned-behind m.ram_base m.ram_blocks (length m.endpoints.items) m.endpoints.items p (page_of ram p) page a.placed owned in
     let size : length (set ram.pages p (with_bytes (page_of ram p) at bytes)) ≡ length ram.pages = length-set ram.pages p (with_bytes (page_of ram p) at bytes) in
     record {
       base = machine.base;
       size = size ∙ machine.size;
+      owners = machine.owners;
+      each = machine.each;
+      own = machine.own;
       known = machine.known;
       named = machine.named;
       built = built-kept ram (with_page ram p (with_bytes (page_of ram p) at bytes)) (length m.endpoints.items) m.ram_blocks (own_right m.ram_base m.endpoints.items) machine.built refl size

@@ -1,2 +1,3 @@
 pub mod Snapshot
+pub mod Owners
 pub mod Meaning

@@ -1,29 +1,39 @@
 //! The machine.
-ghost use Rattle.std.specs.Prelude.{true, ◌≡◌, ◌*◌, ◌<◌, ◌≤◌, length};
+ghost use Rattle.std.specs.Prelude.{true, ◌≡◌, ◌*◌, ◌<◌, ◌≤◌, length, None, if◌then◌else◌};
+ghost use Rattle.std.specs.Result.{result_err};
 ghost use Rattle.ffa_model.specs.Access.{access};
 ghost use Rattle.ffa_model.specs.Agreement.{Agrees, root};
-ghost use Rattle.ffa_model.specs.Calls.{replied};
+ghost use Rattle.ffa_model.specs.Buffers.{rx_release, rxtx_map, rxtx_unmap};
+ghost use Rattle.ffa_model.specs.Calls.{first_failure, replied, success};
 ghost use Rattle.ffa_model.specs.First.{first};
 ghost use Rattle.ffa_model.specs.Memory as memory;
 ghost use Rattle.ffa_model.specs.Identifiers.{place};
 ghost use Rattle.ffa_model.specs.Ram.{zero_ram};
-ghost use Rattle.ffa_model.specs.Refusals.{is_refusal};
+ghost use Rattle.ffa_model.specs.Refusals.{is_error, is_refusal};
 ghost use Rattle.ffa_model.specs.Registers.{decode};
+ghost use Rattle.ffa_model.specs.Setup.{info_get, info_guards, informed, is_count_alone, selected, uuid_bytes};
 ghost use Rattle.ffa_model.specs.State.{owner_of};
 ghost use Rattle.ffa_model.specs.Step.{serve, step, outcomes, state_after};
 ghost use Rattle.ffa_model.specs.Walk.{is_page_address};
 
+use crate::kept::Kept;
 use ffa_model::{Call, EndpointId, ErrorCode, Manifest, Op, Outcome, PageNo, Reply, Rights, Size};
 use ffa_physmem::PhysMem;
 use ffa_stage2::{Layout, build};
 use std::marker::Model;
+
+/// The reply to a call that answers no more than that it is done.
+const DONE: Reply = Reply::Success([0; 6]);
+
+/// The bytes of one partition's information.
+const INFO_SIZE: u32 = 24;
 
 /// A machine over any RAM. Contracts see its state, which is that of the small machine, and its RAM with every byte.
 #[derive(Drop)]
 pub struct Machine<M: PhysMem + Drop> {
     ram: M,
     manifest: Manifest,
-    runner: EndpointId,
+    kept: Kept,
 }
 
 impl<M: PhysMem + Drop> Model for Machine<M> {
@@ -35,9 +45,16 @@ impl<M: PhysMem + Drop> Model for Machine<M> {
 
     ghost use Rattle.ffa_spmc.specs.Meaning.{state_of, IsMachine};
 
-    ghost view = { λ m. record { state = state_of (M.ram m.ram) m.manifest m.runner; ram = M.ram m.ram } };
+    ghost view = { λ m. record { state = state_of (M.ram m.ram) m.manifest m.kept; ram = M.ram m.ram } };
 
-    ghost invariant = { λ m. IsMachine (M.ram m.ram) m.manifest m.runner };
+    ghost invariant = { λ m. IsMachine (M.ram m.ram) m.manifest m.kept };
+}
+
+// Whether a request for partition information asks for the count alone.
+fn is_count_alone(flags: u32) -> bool
+    ensures { result ≡ is_count_alone flags }
+{
+    flags % 2 == 1
 }
 
 // Fills all pages with zeros.
@@ -63,7 +80,7 @@ impl<M: PhysMem + Drop> Machine<M> {
         Machine {
             ram,
             manifest: manifest.copied(),
-            runner: EndpointId::at(0),
+            kept: Kept::first(manifest),
         }
     }
 
@@ -79,7 +96,7 @@ impl<M: PhysMem + Drop> Machine<M> {
     pub fn runner(&self) -> EndpointId
         ensures { result.0 ≡ self.now.state.runner }
     {
-        self.runner
+        self.kept.runner
     }
 
     /// The number of endpoints, from 1 to 8.
@@ -116,7 +133,7 @@ impl<M: PhysMem + Drop> Machine<M> {
         ensures value { result ≡ root self.now.state (place self.now.state.runner) }
         ensures page { is_page_address self.now.ram result ≡ true }
     {
-        self.manifest.root(self.runner.place())
+        self.manifest.root(self.kept.runner.place())
     }
 
     fn load(&self, addr: u64, size: Size) -> Outcome
@@ -149,27 +166,119 @@ impl<M: PhysMem + Drop> Machine<M> {
         }
     }
 
-    // The reply to a call of the runner. No call that is served today changes the machine.
-    fn reply(&self, call: Call) -> Reply
-        ensures { replied self.now.state result ≡ serve self.now.state call }
+    // The reply to a call of the runner, and what the call changes.
+    fn reply(&mut self, call: Call) -> Reply
+        ensures served { replied self.new.state result ≡ serve self.old.state call }
+        ensures refused { is_error result ≡ true → self.new ≡ self.old }
     {
         match call {
             Call::Version { version } => ffa_setup::version(version),
             Call::Features { function } => ffa_setup::features(function),
-            Call::IdGet => ffa_setup::id(self.runner),
+            Call::RxRelease => self.release(),
+            Call::RxtxMap { tx, rx, pages } => self.map(tx, rx, pages),
+            Call::RxtxUnmap { endpoint } => self.unmap(endpoint),
+            Call::PartitionInfoGet { uuid, flags } => self.partition_info(uuid, flags),
+            Call::IdGet => ffa_setup::id(self.kept.runner),
             Call::SpmIdGet => ffa_setup::spm_id(),
             _ => Reply::Error(ErrorCode::NotSupported),
         }
     }
 
+    // FFA_RX_RELEASE of the runner.
+    fn release(&mut self) -> Reply
+        ensures served { replied self.new.state result ≡ rx_release self.old.state }
+        ensures refused { is_error result ≡ true → self.new ≡ self.old }
+    {
+        match self.kept.buffers.release(self.kept.runner) {
+            Ok(()) => DONE,
+            Err(code) => Reply::Error(code),
+        }
+    }
+
+    // FFA_RXTX_MAP of the runner.
+    fn map(&mut self, tx: u64, rx: u64, pages: u32) -> Reply
+        ensures served { replied self.new.state result ≡ rxtx_map self.old.state tx rx pages }
+        ensures refused { is_error result ≡ true → self.new ≡ self.old }
+    {
+        let (ram_base, runner) = (self.manifest.ram_base, self.kept.runner);
+        let kept = &mut self.kept;
+        match kept
+            .buffers
+            .map(&kept.pages, ram_base, runner, tx, rx, pages)
+        {
+            Ok(()) => DONE,
+            Err(code) => Reply::Error(code),
+        }
+    }
+
+    // FFA_RXTX_UNMAP of the runner.
+    fn unmap(&mut self, endpoint: u32) -> Reply
+        ensures served { replied self.new.state result ≡ rxtx_unmap self.old.state endpoint }
+        ensures refused { is_error result ≡ true → self.new ≡ self.old }
+    {
+        match self.kept.buffers.unmap(self.kept.runner, endpoint) {
+            Ok(()) => DONE,
+            Err(code) => Reply::Error(code),
+        }
+    }
+
+    // FFA_PARTITION_INFO_GET of the runner.
+    fn partition_info(&mut self, uuid: [u32; 4], flags: u32) -> Reply
+        ensures served { replied self.new.state result ≡ info_get self.old.state uuid flags }
+        ensures refused { is_error result ≡ true → self.new ≡ self.old }
+    {
+        match self.check_info(uuid, flags) {
+            Ok(()) => self.inform(uuid, flags),
+            Err(code) => Reply::Error(code),
+        }
+    }
+
+    // Whether partition information can be given to the runner, or why not.
+    fn check_info(&self, uuid: [u32; 4], flags: u32) -> Result<(), ErrorCode>
+        ensures { result_err result ≡ first_failure (info_guards self.now.state (uuid_bytes uuid) flags) }
+    {
+        if !ffa_setup::is_recognized(&self.manifest, uuid) {
+            return Err(ErrorCode::InvalidParameters);
+        }
+        if is_count_alone(flags) {
+            return Ok(());
+        }
+        if !self.kept.buffers.has(self.kept.runner) {
+            return Err(ErrorCode::InvalidParameters);
+        }
+        if self.kept.buffers.is_full(self.kept.runner) {
+            return Err(ErrorCode::Busy);
+        }
+        Ok(())
+    }
+
+    // Gives the runner partition information: its RX has the descriptors, unless it asked for the count alone.
+    fn inform(&mut self, uuid: [u32; 4], flags: u32) -> Reply
+        requires { first_failure (info_guards self.old.state (uuid_bytes uuid) flags) ≡ None }
+        ensures state { self.new.state ≡ informed self.old.state (uuid_bytes uuid) flags }
+        ensures reply { result ≡ success (length (selected self.old.state.parties (uuid_bytes uuid))) (if is_count_alone flags then 0 else 24) }
+    {
+        let count = ffa_setup::count(&self.manifest, uuid);
+        if is_count_alone(flags) {
+            return Reply::Success([count, 0, 0, 0, 0, 0]);
+        }
+        let bytes = ffa_setup::info_bytes(&self.manifest, uuid);
+        let runner = self.kept.runner;
+        self.kept
+            .buffers
+            .fill(&mut self.ram, runner, bytes.as_slice());
+        Reply::Success([count, INFO_SIZE, 0, 0, 0, 0])
+    }
+
     // A call of the runner, in its registers.
-    fn call(&self, x: [u64; 8]) -> Outcome
-        ensures outcome { result ≡ (serve self.now.state (decode x)).outcome }
-        ensures state { self.now.state ≡ (serve self.now.state (decode x)).state }
+    fn call(&mut self, x: [u64; 8]) -> Outcome
+        ensures outcome { result ≡ (serve self.old.state (decode x)).outcome }
+        ensures state { self.new.state ≡ (serve self.old.state (decode x)).state }
+        ensures refused { is_refusal result ≡ true → self.new ≡ self.old }
     {
         let reply = self.reply(ffa_abi::decode(x));
         Outcome::Regs {
-            runner: self.runner,
+            runner: self.kept.runner,
             x: ffa_abi::encode(&reply),
         }
     }
@@ -184,9 +293,9 @@ impl<M: PhysMem + Drop> Machine<M> {
         ensures agrees { Agrees self.new.ram self.new.state }
         ensures refused { is_refusal result ≡ true → self.new ≡ self.old }
     {
-        let _ = &self.runner;
+        let _ = &self.kept.runner;
         let outcome = self.operate(op);
-        let _ = &self.runner;
+        let _ = &self.kept.runner;
         outcome
     }
 
@@ -214,6 +323,6 @@ impl<M: PhysMem + Drop> Machine<M> {
         for i in 0..ops.len() {
             filled[i] = self.op(&ops[i]);
         }
-        let _ = &self.runner;
+        let _ = &self.kept.runner;
     }
 }

@@ -19,9 +19,8 @@ returns-then-page-pages g c =
     let count : c.pages.result ≡ length ram.pages = c.pages.ensures in
     let inside : c.args.page.0 < length ram.pages = omega (arith, c.if-page-pages.true, count) in
     c.right_to.ensures
-    ∙ ap (λ (base : ℕ). right_in base (regions_at m.endpoints.items i) c.args.page.0) (sym c.self.invariant.base)
-    ∙ sym (access-in ram m c.self.inside.runner i c.args.page.0 inside)
-    ∙ ap (λ (e : ℕ). access (state_of ram m c.self.inside.runner) e c.args.page.0) (sym named)
+    ∙ sym (access-in ram m c.self.inside.kept c.self.invariant i c.args.page.0 inside)
+    ∙ ap (λ (e : ℕ). access (state_of ram m c.self.inside.kept) e c.args.page.0) (sym named)
     ∙ ap (λ (seen : Snapshot). access seen.state c.args.endpoint.0 c.args.page.0) c.self.view_is
 
 pub returns-else-eq : goal.returns-else-eq
@@ -32,11 +31,11 @@ returns-else-eq g c =
       | else-eq-via-then-eq+else-page-pages w ↦
           (let count : w.pages.result ≡ length ram.pages = w.pages.ensures in
           let past : length ram.pages ≤ c.args.page.0 = omega (arith, w.if-page-pages.false, count) in
-          sym (access-past ram m c.self.inside.runner c.args.endpoint.0 c.args.page.0 past)
+          sym (access-past ram m c.self.inside.kept c.args.endpoint.0 c.args.page.0 past)
           ∙ ap (λ (seen : Snapshot). access seen.state c.args.endpoint.0 c.args.page.0) c.self.view_is)
       | else-eq-via-else-eq w ↦
           (let at : c.at.result.0 ≡ identifier (place c.args.endpoint.0) = c.at.ensures ∙ ap identifier c.place-place.ensures in
-          sym (access-unnamed ram m c.self.inside.runner c.args.endpoint.0 c.args.page.0
+          sym (access-unnamed ram m c.self.inside.kept c.self.invariant c.args.endpoint.0 c.args.page.0
           (λ named. eqb-false c.args.endpoint.0 c.at.result.0 (sym c.eq.ensures ∙ w.if-eq.false) (sym (at ∙ named))))
           ∙ ap (λ (seen : Snapshot). access seen.state c.args.endpoint.0 c.args.page.0) c.self.view_is)
     ]

@@ -8,12 +8,12 @@ use Rattle.ffa_spmc.proofs.machine.Machine.fetch.Goals as goal
 pub returns-in-Ok : goal.returns-in-Ok
 returns-in-Ok g c =
     ap Data c.from.ensures
-    ∙ loaded-seen (g.M.PhysMem.ram c.self.inside.ram) c.self.inside.manifest c.self.inside.runner c.self.invariant
+    ∙ loaded-seen (g.M.PhysMem.ram c.self.inside.ram) c.self.inside.manifest c.self.inside.kept c.self.invariant
     c.args.self.now c.self.view_is c.root.result c.root.ensures.value
     c.args.addr 4 may_execute may_fetch (Ok c.in-Ok.instruction) (λ right. refl) (sym c.in-Ok.is ∙ c.fetch.ensures.fetched)
 
 pub returns-in-Err : goal.returns-in-Err
 returns-in-Err g c =
-    loaded-seen (g.M.PhysMem.ram c.self.inside.ram) c.self.inside.manifest c.self.inside.runner c.self.invariant
+    loaded-seen (g.M.PhysMem.ram c.self.inside.ram) c.self.inside.manifest c.self.inside.kept c.self.invariant
     c.args.self.now c.self.view_is c.root.result c.root.ensures.value
     c.args.addr 4 may_execute may_fetch (Err c.in-Err.fault) (λ right. refl) (sym c.in-Err.is ∙ c.fetch.ensures.fetched)

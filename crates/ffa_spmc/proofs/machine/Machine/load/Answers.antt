@@ -6,12 +6,12 @@ use Rattle.ffa_spmc.proofs.machine.Machine.load.Goals as goal
 
 pub returns-in-Ok : goal.returns-in-Ok
 returns-in-Ok g c =
-    loaded-seen (g.M.PhysMem.ram c.self.inside.ram) c.self.inside.manifest c.self.inside.runner c.self.invariant
+    loaded-seen (g.M.PhysMem.ram c.self.inside.ram) c.self.inside.manifest c.self.inside.kept c.self.invariant
     c.args.self.now c.self.view_is c.root.result c.root.ensures.value
     c.args.addr (size_of c.args.size) may_load (λ right. true) (Ok c.in-Ok.value) (λ right. refl) (sym c.in-Ok.is ∙ c.load.ensures.loaded)
 
 pub returns-in-Err : goal.returns-in-Err
 returns-in-Err g c =
-    loaded-seen (g.M.PhysMem.ram c.self.inside.ram) c.self.inside.manifest c.self.inside.runner c.self.invariant
+    loaded-seen (g.M.PhysMem.ram c.self.inside.ram) c.self.inside.manifest c.self.inside.kept c.self.invariant
     c.args.self.now c.self.view_is c.root.result c.root.ensures.value
     c.args.addr (size_of c.args.size) may_load (λ right. true) (Err c.in-Err.fault) (λ right. refl) (sym c.in-Err.is ∙ c.load.ensures.loaded)

@@ -10,7 +10,7 @@ returns g c =
     let ram = g.M.PhysMem.ram c.self.inside.ram in
     let m = c.self.inside.manifest in
     let inside : c.args.page.0 < length ram.pages =
-    subst (λ (n : ℕ). c.args.page.0 < n) (size_is ram m c.self.inside.runner) (subst (λ (seen : Snapshot). c.args.page.0 < length seen.state.pages) (sym c.self.view_is) c.requires) in
-    c.owner_of.ensures ∙ ap (λ (base : ℕ). owner_in base m.endpoints.items c.args.page.0) (sym c.self.invariant.base)
-    ∙ sym (owner-is ram m c.self.inside.runner c.args.page.0 inside)
+    subst (λ (n : ℕ). c.args.page.0 < n) (size_is ram m c.self.inside.kept) (subst (λ (seen : Snapshot). c.args.page.0 < length seen.state.pages) (sym c.self.view_is) c.requires) in
+    c.owner_of.ensures
+    ∙ sym (owner-is ram m c.self.inside.kept c.self.invariant c.args.page.0 inside)
     ∙ ap (λ (seen : Snapshot). owner_of seen.state c.args.page.0) c.self.view_is

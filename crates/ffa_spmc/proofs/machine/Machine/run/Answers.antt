@@ -7,4 +7,4 @@ use Rattle.ffa_spmc.proofs.machine.Machine.run.Goals as goal
 pub returns-clause-agrees : goal.returns-clause-agrees
 returns-clause-agrees g c =
     subst (λ (seen : Snapshot). Agrees seen.ram seen.state) c.self.view_is
-    (agrees (g.M.PhysMem.ram c.self.inside.ram) c.self.inside.manifest c.self.inside.runner c.self.invariant)
+    (agrees (g.M.PhysMem.ram c.self.inside.ram) c.self.inside.manifest c.self.inside.kept c.self.invariant)

@@ -1,0 +1,127 @@
+-- What decides whether a page may be a buffer is the same for the state and for the owners that are kept.
+use Rattle.std.proofs.Common.{◌≡◌, ◌∙◌, ℕ, ◌*◌, ◌<◌, ◌≤◌, Bool, true, false, cond, List, length, Option, Some, None, refl, sym, ap, subst, inl, inr}
+use Rattle.std.specs.Prelude.{◌==◌, ◌&&◌, is_some, is_none, find, not, nat_le, nat_lt, ◌-◌, ◌/◌, ◌%◌}
+use Rattle.std.specs.Option.{option_map, option_map_or}
+use Rattle.std.proofs.lemmas.Bool.{and_parts, cases_lt, eqb-true, ltb-true}
+use Rattle.std.proofs.lemmas.List.{get_or_past}
+use Rattle.ffa_model.specs.declared.endpoint.Endpoint.{Endpoint}
+use Rattle.ffa_model.specs.declared.endpoint.Region.{Region}
+use Rattle.ffa_model.specs.declared.manifest.Manifest.{Manifest}
+use Rattle.ffa_model.specs.declared.operation.ErrorCode.{ErrorCode}
+use Rattle.ffa_model.specs.Access.{handle_at}
+use Rattle.ffa_model.specs.Buffers.{Candidate, Candidates, candidate_at, candidates, is_page_address, is_usable, is_usable_at, map_guards, new_buffers, page_number}
+use Rattle.ffa_model.specs.Calls.{first_failure}
+use Rattle.ffa_model.specs.Identifiers.{identifier, manager, place}
+use Rattle.ffa_model.specs.Ram.{Ram, page_of}
+use Rattle.ffa_model.specs.Regions.{has_page, owned_regions, owner_in}
+use Rattle.ffa_model.specs.State.{State, Page, Buffers, page_at}
+use Rattle.ffa_model.proofs.Listed.{length-listed}
+use Rattle.ffa_pages.specs.Entry.{Entry, entry_at, first_entry}
+use Rattle.ffa_rxtx.specs.Parts.{candidate_in, candidates_in}
+use Rattle.ffa_spmc.specs.Owners.{AreOwn, IsOwn}
+use Rattle.ffa_spmc.specs.declared.kept.Kept.{Kept}
+use Rattle.ffa_spmc.specs.Meaning.{IsMachine, state_of}
+use Rattle.ffa_spmc.proofs.Held.{base_is, entry-in, none_named, page-held, page-past, size_is}
+
+-- where no guard fails, the first passes, and none after it fails
+first-passes : (test : Bool) (code : ErrorCode) (rest : Option ErrorCode) → None ≡ cond test rest (Some code) → (test ≡ true) × (None ≡ rest)
+first-passes true code rest none = (refl, none)
+first-passes false code rest none = absurd (none_some none)
+  where
+    none_some : None ≡ Some code → ⊥
+    none_some e = cc
+
+-- whoever may use a page of the first owners owns it
+usable-owner : (e base p : ℕ) (es : List Endpoint)
+    → is_usable e (option_map (λ (x : Entry). let q : Candidate = record { owner = x.owner; base = x.base; named = is_some x.slot } in q) (first_entry base es p)) ≡ true
+    → owner_in base es p ≡ e
+usable-owner e base p es = of (find (λ (x : ℕ × Region). has_page base p x.1) (owned_regions es))
+  where
+    of : (o : Option (ℕ × Region))
+        → is_usable e (option_map (λ (x : Entry). let q : Candidate = record { owner = x.owner; base = x.base; named = is_some x.slot } in q)
+        (option_map (λ (x : ℕ × Region). let y : Entry = record { owner = x.0; base = x.1.rights; slot = None } in y) o)) ≡ true
+        → option_map_or (λ (x : ℕ × Region). x.0) o manager ≡ e
+    of None h = absurd (false_true h)
+      where
+        false_true : false ≡ true → ⊥
+        false_true e = cc
+    of (Some x) h = let (alone, writable) = and_parts _ _ h in let (owner, unnamed) = and_parts _ _ alone in eqb-true x.0 e owner
+
+module _ (ram : Ram) (m : Manifest) (kept : Kept) (machine : IsMachine ram m kept) where
+  abbrev s : State
+  s = state_of ram m kept
+
+  owners-many : length kept.pages ≡ 512 * m.ram_blocks
+  owners-many = ap (λ (owners : List (Option Entry)). length owners) machine.owners ∙ length-listed (512 * m.ram_blocks) (first_entry m.ram_base m.endpoints.items)
+
+  owners-size : length kept.pages ≡ length ram.pages
+  owners-size = owners-many ∙ sym machine.size
+
+  candidate-is : (p : ℕ) → candidate_at s p ≡ candidate_in kept.pages p
+  candidate-is p = elim (cases_lt p (length ram.pages)) [
+    | inl lt ↦
+        ap (option_map (λ (page : Page). let q : Candidate = record { owner = page.owner; base = page.base; named = is_some (handle_at s p) } in q)) (page-held ram m kept p lt)
+        ∙ of (entry_at kept.pages p) (λ x is. unnamed p lt x is)
+    | inr past ↦
+        ap (option_map (λ (page : Page). let q : Candidate = record { owner = page.owner; base = page.base; named = is_some (handle_at s p) } in q)) (page-past ram m kept p past)
+        ∙ sym (ap (option_map (λ (x : Entry). let q : Candidate = record { owner = x.owner; base = x.base; named = is_some x.slot } in q)) (get_or_past kept.pages p None (subst (λ (n : ℕ). n ≤ p) (sym owners-size) past)))
+  ]
+    where
+      -- no transaction names a page of the first owners
+      unnamed : (p : ℕ) → p < length ram.pages → (x : Entry) → entry_at kept.pages p ≡ Some x → x.slot ≡ None
+      unnamed p lt x is = from (find (λ (y : ℕ × Region). has_page m.ram_base p y.1) (owned_regions m.endpoints.items)) (sym (entry-in ram m kept machine p lt) ∙ is)
+        where
+          from : (o : Option (ℕ × Region)) → option_map (λ (y : ℕ × Region). let z : Entry = record { owner = y.0; base = y.1.rights; slot = None } in z) o ≡ Some x → x.slot ≡ None
+          from None e = absurd (none_some e)
+            where
+              none_some : None ≡ Some x → ⊥
+              none_some e = cc
+          from (Some y) e = sym (ap (λ (z : Entry). z.slot) (some_is e))
+            where
+              some_is : Some (let z : Entry = record { owner = y.0; base = y.1.rights; slot = None } in z) ≡ Some x → (let z : Entry = record { owner = y.0; base = y.1.rights; slot = None } in z) ≡ x
+              some_is e = cc
+
+      of : (o : Option Entry) → ((x : Entry) → o ≡ Some x → x.slot ≡ None)
+          → option_map (λ (page : Page). let q : Candidate = record { owner = page.owner; base = page.base; named = is_some (handle_at s p) } in q)
+          (option_map (λ (x : Entry). let q : Page = record { owner = x.owner; base = x.base; bytes = page_of ram p } in q) o)
+          ≡ option_map (λ (x : Entry). let q : Candidate = record { owner = x.owner; base = x.base; named = is_some x.slot } in q) o
+      of None free = refl
+      of (Some x) free =
+          ap (λ (named : Option ℕ). Some (let q : Candidate = record { owner = x.owner; base = x.base; named = is_some named } in q)) (none_named ram m kept p ∙ sym (free x refl))
+
+  pub candidates-are : candidates s ≡ candidates_in kept.pages m.ram_base
+  candidates-are = λ i. record {
+    base = base_is ram m kept i;
+    count = (size_is ram m kept ∙ sym owners-size) i;
+    page = λ p. candidate-is p i;
+  }
+
+  -- where a mapping passes its checks, the buffers are pages of the runner
+  own-page : (address : ℕ) → is_page_address (candidates_in kept.pages m.ram_base) address ≡ true
+      → is_usable_at kept.runner.0 (candidates_in kept.pages m.ram_base) address ≡ true → IsOwn m (place kept.runner.0) (page_number m.ram_base address)
+  own-page address is_page usable =
+      let (whole, below) = and_parts _ _ is_page in
+      let inside : page_number m.ram_base address < length kept.pages = ltb-true _ _ below in
+      let entry : entry_at kept.pages (page_number m.ram_base address) ≡ first_entry m.ram_base m.endpoints.items (page_number m.ram_base address) =
+      entry-in ram m kept machine (page_number m.ram_base address) (subst (λ (n : ℕ). page_number m.ram_base address < n) owners-size inside)
+      in
+      let passes = subst
+      (λ (entry : Option Entry). is_usable kept.runner.0 (option_map (λ (x : Entry). let q : Candidate = record { owner = x.owner; base = x.base; named = is_some x.slot } in q) entry) ≡ true)
+      entry usable in
+      record {
+        inside = subst (λ (n : ℕ). page_number m.ram_base address < n) owners-many inside;
+        owner = usable-owner kept.runner.0 m.ram_base (page_number m.ram_base address) m.endpoints.items passes ∙ sym machine.named;
+      }
+
+  pub mapped-own : (tx rx pages : ℕ) (own : Option Buffers)
+      → None ≡ first_failure (map_guards kept.runner.0 own (candidates_in kept.pages m.ram_base) tx rx pages)
+      → AreOwn m (place kept.runner.0) (new_buffers m.ram_base tx rx)
+  mapped-own tx rx pages own none =
+      let (unmapped, after) = first-passes _ _ _ none in
+      let (single, after) = first-passes _ _ _ after in
+      let (tx_page, after) = first-passes _ _ _ after in
+      let (rx_page, after) = first-passes _ _ _ after in
+      let (apart, after) = first-passes _ _ _ after in
+      let (tx_usable, after) = first-passes _ _ _ after in
+      let (rx_usable, after) = first-passes _ _ _ after in
+      record { tx = own-page tx tx_page tx_usable; rx = own-page rx rx_page rx_usable }

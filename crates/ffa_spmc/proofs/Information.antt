@@ -1,0 +1,86 @@
+-- Partition information: its checks and what they leave, from what the code tests.
+use Rattle.std.proofs.Common.{◌≡◌, ◌∙◌, ℕ, Bool, true, false, cond, List, length, map, Option, Some, None, refl, sym, ap}
+use Rattle.std.specs.Prelude.{◌||◌, is_some, not}
+use Rattle.ffa_model.specs.declared.manifest.Manifest.{Manifest}
+use Rattle.ffa_model.specs.declared.operation.ErrorCode.{ErrorCode}
+use Rattle.ffa_model.specs.declared.operation.ErrorCode.TheVariants.{InvalidParameters, Busy}
+use Rattle.ffa_model.specs.Buffers.{buffers_in, buffers_with_rx, filled, is_full}
+use Rattle.ffa_model.specs.Calls.{first_failure, success}
+use Rattle.ffa_model.specs.First.{first, party_of}
+use Rattle.ffa_model.specs.Manifest.{is_nil}
+use Rattle.ffa_model.specs.Ram.{Ram}
+use Rattle.ffa_model.specs.Setup.{info_bytes, info_guards, informed, is_any, is_count_alone, selected}
+use Rattle.ffa_model.specs.State.{State, Party, Buffers}
+use Rattle.ffa_spmc.specs.declared.kept.Kept.{Kept}
+use Rattle.ffa_rxtx.specs.Parts.{with_rx_bytes}
+use Rattle.ffa_spmc.specs.Meaning.{IsMachine, state_of}
+use Rattle.ffa_spmc.specs.Snapshot.{Snapshot}
+use Rattle.ffa_spmc.proofs.Fills.{state-filled}
+
+-- what the checks give where a UUID is recognized, the count alone is asked, there are buffers, and RX is full
+abbrev pub decided : Bool → Bool → Bool → Bool → Option ErrorCode
+decided recognized alone has full =
+    cond recognized (cond (alone || has) (cond (alone || not full) None (Some Busy)) (Some InvalidParameters)) (Some InvalidParameters)
+
+module _ (ram : Ram) (m : Manifest) (kept : Kept) (now : Snapshot) (view : record { state = state_of ram m kept; ram = ram } ≡ now) where
+  abbrev own : Option Buffers
+  own = buffers_in kept.buffers kept.runner.0
+
+  pub parties-seen : map party_of m.endpoints.items ≡ now.state.parties
+  unfolding first
+  parties-seen = ap (λ (seen : Snapshot). seen.state.parties) view
+
+  failure-is : (uuid : List ℕ) (flags : ℕ)
+      → decided (is_nil uuid || is_any (selected (map party_of m.endpoints.items) uuid)) (is_count_alone flags) (is_some own) (is_full own)
+      ≡ first_failure (info_guards now.state uuid flags)
+  unfolding first
+  failure-is uuid flags = ap (λ (seen : Snapshot). first_failure (info_guards seen.state uuid flags)) view
+
+  pub info-unknown : (uuid : List ℕ) (flags : ℕ) → (is_nil uuid || is_any (selected (map party_of m.endpoints.items) uuid)) ≡ false
+      → Some InvalidParameters ≡ first_failure (info_guards now.state uuid flags)
+  info-unknown uuid flags unknown = sym (λ i. decided (unknown i) (is_count_alone flags) (is_some own) (is_full own)) ∙ failure-is uuid flags
+
+  module _ (uuid : List ℕ) (flags : ℕ) (known : (is_nil uuid || is_any (selected (map party_of m.endpoints.items) uuid)) ≡ true) where
+    pub info-count : is_count_alone flags ≡ true → None ≡ first_failure (info_guards now.state uuid flags)
+    info-count alone = sym (λ i. decided (known i) (alone i) (is_some own) (is_full own)) ∙ failure-is uuid flags
+
+    pub info-unmapped : is_count_alone flags ≡ false → is_some own ≡ false → Some InvalidParameters ≡ first_failure (info_guards now.state uuid flags)
+    info-unmapped alone none = sym (λ i. decided (known i) (alone i) (none i) (is_full own)) ∙ failure-is uuid flags
+
+    pub info-full : is_count_alone flags ≡ false → is_some own ≡ true → is_full own ≡ true → Some Busy ≡ first_failure (info_guards now.state uuid flags)
+    info-full alone some full = sym (λ i. decided (known i) (alone i) (some i) (full i)) ∙ failure-is uuid flags
+
+    pub info-ready : is_count_alone flags ≡ false → is_some own ≡ true → is_full own ≡ false → None ≡ first_failure (info_guards now.state uuid flags)
+    info-ready alone some empty = sym (λ i. decided (known i) (alone i) (some i) (empty i)) ∙ failure-is uuid flags
+
+  -- the reply, by the count and whether it is all that is asked
+  pub info-reply : (count : ℕ) (uuid : List ℕ) (flags : ℕ) (alone : Bool) → count ≡ length (selected (map party_of m.endpoints.items) uuid) → is_count_alone flags ≡ alone
+      → success count (cond alone 0 24) ≡ success (length (selected now.state.parties uuid)) (cond (is_count_alone flags) 0 24)
+  info-reply count uuid flags alone is asked = λ i. success ((is ∙ ap (λ (parties : List Party). length (selected parties uuid)) parties-seen) i) (cond (sym asked i) 0 24)
+
+  -- who is given the descriptors has buffers
+  pub informed-own : (uuid : List ℕ) (flags : ℕ) → first_failure (info_guards now.state uuid flags) ≡ None → is_count_alone flags ≡ false → (b : Buffers) × (own ≡ Some b)
+  informed-own uuid flags none alone =
+      of own refl (is_nil uuid || is_any (selected (map party_of m.endpoints.items) uuid))
+      (sym (λ i. decided (is_nil uuid || is_any (selected (map party_of m.endpoints.items) uuid)) (alone i) (is_some own) (is_full own)) ∙ failure-is uuid flags ∙ none)
+    where
+      of : (o : Option Buffers) → own ≡ o → (recognized : Bool) → decided recognized false (is_some o) (is_full o) ≡ None → (b : Buffers) × (own ≡ Some b)
+      of (Some b) is recognized none = (b, is)
+      of None is true none = absurd (some_none none)
+        where
+          some_none : Some InvalidParameters ≡ None → ⊥
+          some_none e = cc
+      of None is false none = absurd (some_none none)
+        where
+          some_none : Some InvalidParameters ≡ None → ⊥
+          some_none e = cc
+
+  -- the descriptors in RX of the runner
+  pub state-informed : IsMachine ram m kept → (uuid : List ℕ) (flags : ℕ) (bytes : List ℕ) → bytes ≡ info_bytes (map party_of m.endpoints.items) uuid → is_count_alone flags ≡ false
+      → state_of (with_rx_bytes ram own bytes) m (record kept { buffers = buffers_with_rx kept.buffers kept.runner.0 true }) ≡ informed now.state uuid flags
+  unfolding first
+  state-informed machine uuid flags bytes are asked =
+      state-filled ram m kept machine kept.runner.0 machine.known bytes
+      ∙ (λ i. filled (state_of ram m kept) kept.runner.0 (are i))
+      ∙ (λ i. cond (sym asked i) (state_of ram m kept) (filled (state_of ram m kept) kept.runner.0 (info_bytes (map party_of m.endpoints.items) uuid)))
+      ∙ ap (λ (seen : Snapshot). informed seen.state uuid flags) view

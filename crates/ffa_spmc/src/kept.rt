@@ -1,0 +1,34 @@
+//! What a machine keeps beside its RAM.
+ghost use Rattle.std.specs.Prelude.{◌≡◌, None, length, replicate};
+ghost use Rattle.ffa_spmc.specs.Owners.{first_owners};
+
+use ffa_model::{EndpointId, Manifest};
+use ffa_pages::PageTable;
+use ffa_rxtx::Buffers;
+
+/// What a machine keeps beside the RAM and the manifest.
+#[derive(Drop)]
+pub struct Kept {
+    /// Who owns each page.
+    pub pages: PageTable,
+    /// Each endpoint's buffers.
+    pub buffers: Buffers,
+    /// The endpoint that runs.
+    pub runner: EndpointId,
+}
+
+impl Kept {
+    /// What the machine of a manifest keeps at first: the owners are those of the regions, nobody has buffers, and the
+    /// normal world runs.
+    pub fn first(manifest: &Manifest) -> Kept
+        ensures pages { result.pages ≡ first_owners manifest.now }
+        ensures buffers { result.buffers ≡ replicate (length manifest.now.endpoints.items) None }
+        ensures runner { result.runner.0 ≡ 0 }
+    {
+        Kept {
+            pages: PageTable::of(manifest),
+            buffers: Buffers::none(manifest.endpoints.len()),
+            runner: EndpointId::at(0),
+        }
+    }
+}
