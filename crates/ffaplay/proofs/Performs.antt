@@ -3,7 +3,7 @@ use Rattle.std.proofs.Common.{◌≡◌, List, ◌++◌, ℕ, Option, None, Some
 use Rattle.std.specs.Io.KnownBytes.{Consumes, IsAtEnd}
 use Rattle.ffa_model.specs.State.{State}
 use Rattle.ffa_model.specs.TraceLines.{joined}
-use Rattle.ffaplay.specs.Played.{Played}
+use Rattle.ffa_trace.specs.Played.{Played}
 use Rattle.ffaplay.specs.Performed.{IsAll, IsPlayed}
 
 all_consumed : (had has : Option (List ℕ)) (bytes : List ℕ) → Consumes had has bytes → IsAtEnd has → IsAll had bytes

@@ -6,14 +6,13 @@ ghost use Rattle.ffa_manifest.specs.Document.{parts_of};
 ghost use Rattle.ffaplay.specs.Performed.{Describes, IsRefused, SomeCause, IsPlayed, IsDone, IsOther, FailsFor, first_of, status_of};
 
 use crate::layout;
-use crate::output::{self, PlayError};
-use crate::player::Player;
-use crate::text::Text;
 use crate::words::Request;
 use ffa_manifest::ManifestError;
 use ffa_model::{Manifest, built_in};
 use ffa_physmem::FlatRam;
 use ffa_spmc::Machine;
+use ffa_trace::text::Text;
+use ffa_trace::{PlayError, Player, output};
 use std::alloc::Global;
 use std::io::{Read, Write};
 use thiserror::Error;

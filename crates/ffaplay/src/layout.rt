@@ -4,8 +4,8 @@ ghost use Rattle.arrayvec.specs.ArrayVec.{array_vec_len};
 ghost use Rattle.ffa_manifest.specs.Document.{parts_of};
 ghost use Rattle.ffaplay.specs.Layouts.{endpoint_line, layout_text};
 
-use crate::text::{self, CAPACITY, Text};
 use ffa_model::{EndpointId, Manifest};
+use ffa_trace::text::{self, CAPACITY, Text};
 
 /// Appends a line for each endpoint, with the addresses of its first tables, to no text yet.
 pub fn push_layout(text: &mut Text, manifest: &Manifest)

@@ -6,11 +6,6 @@ ghost use Rattle.ffaplay.specs.Commands.{ask_of, asked_by, IsRefusedFor};
 
 mod commands;
 pub mod layout;
-pub mod line;
-pub mod output;
-pub mod player;
-pub mod show;
-pub mod text;
 mod words;
 
 use clap::Error;

@@ -1,7 +1,7 @@
 use Rattle.std.proofs.Common.{[], ◌∷◌, ◌++◌, ◌+◌, ap, ◌∙◌}
 use Rattle.ffa_model.specs.TraceText.{hex, spaced}
 use Rattle.ffaplay.specs.Layouts.{endpoint_line}
-use Rattle.ffaplay.proofs.Listed.{five_pieces}
+use Rattle.ffa_trace.proofs.Listed.{five_pieces}
 use Rattle.ffaplay.proofs.layout.push_endpoint.Goals as goal
 
 pub returns-clause-items : goal.returns-clause-items

@@ -1,7 +1,7 @@
 use Rattle.std.proofs.Common.{[], ◌++◌, ap, ◌∙◌, arith}
 use Rattle.ffa_manifest.specs.Document.{parts_of}
 use Rattle.ffaplay.specs.Layouts.{endpoint_line, layout_line}
-use Rattle.ffaplay.proofs.Listed.{parts_more}
+use Rattle.ffa_trace.proofs.Listed.{parts_more}
 use Rattle.ffaplay.proofs.layout.push_layout.Goals as goal
 
 pub loop-place-preserved : goal.loop-place-preserved

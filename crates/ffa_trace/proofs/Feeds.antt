@@ -1,0 +1,129 @@
+-- Bytes of a block, line by line.
+use Rattle.std.proofs.Common.{◌≡◌, ℕ, ◌+◌, ◌-◌, ◌^◌, true, List, [], ◌∷◌, ◌++◌, length, take, drop, position, Option, Some, None, Result, Ok, Err, sym, ap, ◌∙◌, arith, append_assoc, append-nil, take-append-drop, length-append, take_all, refl}
+use Rattle.std.specs.Prelude.{◌==◌}
+use Rattle.std.proofs.lemmas.List.{drop_more}
+use Rattle.std.proofs.lemmas.List.Folds.{list_all-append}
+use Rattle.std.proofs.lemmas.List.Quantifiers.{position-Some}
+use Rattle.std.proofs.lemmas.Bool.{eqb-true}
+use Rattle.ffa_model.specs.State.{State}
+use Rattle.ffa_model.specs.TraceLines.{feed, joined, has_no_feed}
+use Rattle.ffa_trace.specs.Played.{LineDone, LineEnded, Kept, Feeding, Fed}
+use Rattle.ffa_trace.specs.declared.output.PlayError.{PlayError}
+use Rattle.ffa_trace.specs.declared.output.PlayError.TheVariants.{Read, Write, NoMemory, BadLine}
+use Rattle.ffa_trace.proofs.Positions.{none_pass, none_before}
+use Rattle.ffa_trace.proofs.Runs.{joined-append, did_none, did_more, did_one, did_kept}
+
+-- where the first LF stands
+pub split_at : (rest : List ℕ) (end : ℕ) → Some end ≡ position (λ c. c == feed) rest → rest ≡ take end rest ++ feed ∷ drop (end + 1) rest
+split_at rest end h =
+    let found = position-Some (λ c. c == feed) rest end 0 (sym h) in
+    sym (take-append-drop end rest) ∙ ap (λ l. take end rest ++ l) (drop_more rest end 0 found.0 ∙ ap (λ c. c ∷ drop (end + 1) rest) (eqb-true _ _ found.1))
+
+pub piece_free : (rest : List ℕ) (end : ℕ) → Some end ≡ position (λ c. c == feed) rest → has_no_feed (take end rest) ≡ true
+piece_free rest end h = none_before (λ c. c == feed) rest end (λ k d below. (position-Some (λ c. c == feed) rest end d (sym h)).2 k below)
+
+pub rest_free : (rest : List ℕ) → None ≡ position (λ c. c == feed) rest → has_no_feed rest ≡ true
+rest_free rest h =
+    ap has_no_feed (sym (take_all (length rest) rest (omega arith))) ∙ none_before (λ c. c == feed) rest (length rest) (none_pass (λ c. c == feed) rest (sym h))
+
+no_feed-append : (xs ys : List ℕ) → has_no_feed xs ≡ true → has_no_feed ys ≡ true → has_no_feed (xs ++ ys) ≡ true
+no_feed-append xs ys p q = list_all-append _ xs ys ∙ rw (p, q) refl
+
+-- bytes that begin with those seen
+goes_on : (old gone rest lines begun : List ℕ) → old ++ gone ≡ lines ++ begun → old ++ (gone ++ rest) ≡ lines ++ (begun ++ rest)
+goes_on old gone rest lines begun e = sym (append_assoc old gone rest) ∙ ap (λ l. l ++ rest) e ∙ append_assoc lines begun rest
+
+-- a line that ended is one more of the lines
+line_ended : (ls : List (List ℕ)) (l rest : List ℕ) → joined ls ++ (l ++ feed ∷ rest) ≡ joined (ls ++ l ∷ []) ++ rest
+line_ended ls l rest =
+    ap (λ x. joined ls ++ x) (sym (append_assoc l (feed ∷ []) rest)) ∙ sym (append_assoc (joined ls) (l ++ feed ∷ []) rest) ∙ ap (λ x. x ++ rest) (sym (joined-append ls (l ∷ [])))
+
+-- where a loop over the bytes stands: `gone` were taken, and `rest` are left
+pub record Taking (start now : State) (held holds : Option (List ℕ)) (number next : ℕ) (old bytes begun rest : List ℕ) : Type 0 where
+  pub gone : List ℕ
+  pub split : bytes ≡ gone ++ rest
+  pub fed : Feeding start now held holds number next (old ++ gone) begun
+
+pub taking_none : (s : State) (a : Option (List ℕ)) (number : ℕ) (old bytes : List ℕ) → has_no_feed old ≡ true → Taking s s a a number number old bytes old bytes
+taking_none s a number old bytes free = record {
+  gone = [];
+  split = refl;
+  fed = record { lines = []; did = did_none s a; whole = append-nil old; unended = free; counted = omega arith };
+}
+
+module _ (s m : State) (a b : Option (List ℕ)) (number next : ℕ) (old bytes begun rest : List ℕ) (t : Taking s m a b number next old bytes begun rest) where
+  -- a line ended and was done
+  pub line_done : (n : State) (c : Option (List ℕ)) (end : ℕ) → Some end ≡ position (λ c. c == feed) rest → LineDone {X = Unit {0}} m n b c next (begun ++ take end rest) (Ok tt)
+      → Taking s n a c number (next + 1) old bytes [] (drop (end + 1) rest)
+  line_done n c end h (good, state, written) =
+      let free = no_feed-append begun (take end rest) t.fed.unended (piece_free rest end h) in record {
+        gone = t.gone ++ (take end rest ++ feed ∷ []);
+        split = t.split ∙ ap (λ l. t.gone ++ l) (split_at rest end h ∙ sym (append_assoc (take end rest) (feed ∷ []) (drop (end + 1) rest)))
+            ∙ sym (append_assoc t.gone (take end rest ++ feed ∷ []) (drop (end + 1) rest));
+        fed = record {
+          lines = t.fed.lines ++ (begun ++ take end rest) ∷ [];
+          did = did_more t.fed.did (did_one m n b c (begun ++ take end rest) free good state written);
+          whole = goes_on old t.gone (take end rest ++ feed ∷ []) (joined t.fed.lines) begun t.fed.whole
+              ∙ ap (λ l. joined t.fed.lines ++ l) (sym (append_assoc begun (take end rest) (feed ∷ []))) ∙ line_ended t.fed.lines (begun ++ take end rest) [];
+          unended = refl;
+          counted = omega (arith, t.fed.counted, length-append t.fed.lines ((begun ++ take end rest) ∷ []));
+        };
+      }
+
+  -- all bytes, where a line ended
+  bytes_at : (end : ℕ) → Some end ≡ position (λ c. c == feed) rest
+      → old ++ bytes ≡ joined t.fed.lines ++ ((begun ++ take end rest) ++ feed ∷ drop (end + 1) rest)
+  bytes_at end h =
+      ap (λ l. old ++ l) t.split ∙ goes_on old t.gone rest (joined t.fed.lines) begun t.fed.whole
+      ∙ ap (λ l. joined t.fed.lines ++ l) (ap (λ l. begun ++ l) (split_at rest end h) ∙ sym (append_assoc begun (take end rest) (feed ∷ drop (end + 1) rest)))
+
+  bytes_now : old ++ bytes ≡ joined t.fed.lines ++ (begun ++ rest)
+  bytes_now = ap (λ l. old ++ l) t.split ∙ goes_on old t.gone rest (joined t.fed.lines) begun t.fed.whole
+
+  -- a line ended, and it failed
+  pub line_failed : (n : State) (c : Option (List ℕ)) (e : PlayError) (end last : ℕ) (left : List ℕ) → Some end ≡ position (λ c. c == feed) rest
+      → LineEnded {X = Unit {0}} m n b c next (begun ++ take end rest) (Err e) → Fed {X = Unit {0}} s n a c number last (old ++ bytes) left (Err e)
+  line_failed n c Read end last left h l = absurd l
+  line_failed n c Write end last left h l = (
+    t.fed.lines,
+    begun ++ take end rest,
+    drop (end + 1) rest,
+    record {
+      between = m;
+      taken = b;
+      did = t.fed.did;
+      whole = no_feed-append begun (take end rest) t.fed.unended (piece_free rest end h);
+      began = l;
+    },
+    bytes_at end h,
+  )
+  line_failed n c NoMemory end last left h l = (t.fed.lines, begun ++ rest, did_kept s m n a b c t.fed.lines t.fed.did l.0 l.1, bytes_now)
+  line_failed n c (BadLine k) end last left h l = (
+    t.fed.lines,
+    begun ++ take end rest,
+    drop (end + 1) rest,
+    did_kept s m n a b c t.fed.lines t.fed.did l.2 l.3,
+    bytes_at end h,
+    no_feed-append begun (take end rest) t.fed.unended (piece_free rest end h),
+    l.0,
+    l.1 ∙ t.fed.counted,
+  )
+
+  -- the lines can't be counted any further
+  pub cannot_count : (last : ℕ) (left : List ℕ) → next ≡ 2 ^ 64 - 1 → Fed {X = Unit {0}} s m a b number last (old ++ bytes) left (Err Read)
+  cannot_count last left h = (t.fed.lines, begun ++ rest, t.fed.did, bytes_now, omega (arith, h, t.fed.counted))
+
+  -- no line ends any more
+  pub all_taken : (left : List ℕ) (r : Result (Unit {0}) PlayError) → None ≡ position (λ c. c == feed) rest → Kept begun left rest r
+      → Fed s m a b number next (old ++ bytes) left r
+  all_taken left (Ok x) h k = record {
+    lines = t.fed.lines;
+    did = t.fed.did;
+    whole = bytes_now ∙ ap (λ l. joined t.fed.lines ++ l) (sym k);
+    unended = ap has_no_feed k ∙ no_feed-append begun rest t.fed.unended (rest_free rest h);
+    counted = t.fed.counted;
+  }
+  all_taken left (Err Read) h k = absurd k
+  all_taken left (Err Write) h k = absurd k
+  all_taken left (Err NoMemory) h k = (t.fed.lines, begun ++ rest, t.fed.did, bytes_now)
+  all_taken left (Err (BadLine n)) h k = absurd k

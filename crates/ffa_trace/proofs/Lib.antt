@@ -1,0 +1,13 @@
+mod DigitTable
+pub mod Feeds
+pub mod Fronts
+pub mod LineNumbers
+pub mod LineRegisters
+pub mod LineWords
+pub mod Listed
+pub mod OneLine
+pub mod Plays
+pub mod Positions
+pub mod Runs
+pub mod ShowRuns
+pub mod TextDigits

@@ -1,0 +1,6 @@
+use Rattle.ffa_trace.proofs.Plays.{Playing}
+use Rattle.ffa_trace.proofs.player.play_lines.Given as goal
+
+abbrev pub invariant-loop : goal.invariant-loop
+invariant-loop g l =
+    Playing l.fn.machine.state l.machine.state (g.W.Write.contents l.fn.writer) (g.W.Write.contents l.writer) (g.R.Read.remaining l.fn.reader) (g.R.Read.remaining l.reader) l.number l.begun.items

@@ -1,0 +1,11 @@
+//! The player of traces: what each line does on the machine, and the text of what comes of it.
+#![tactic(auto)]
+
+mod line;
+pub mod output;
+mod player;
+mod show;
+pub mod text;
+
+pub use output::PlayError;
+pub use player::Player;

@@ -1,0 +1,215 @@
+//! The lines of a trace.
+ghost use Rattle.std.specs.Prelude.{◌≡◌, ◌<◌, ◌==◌, [], ◌∷◌, Option, option_map, position, IfSome};
+ghost use Rattle.std.specs.Option.{option_map_or};
+ghost use Rattle.ffa_model.specs.TraceLines.{space, digit_value, number_of, size_named, size_written, call_of, load_of, store_of, fetch_of, show_of, command_of, line_of};
+ghost use Rattle.ffa_trace.specs.Parsed.{meaning_of, words_left, at_end};
+
+use ffa_model::{Op, Size};
+
+/// A line of a trace.
+#[derive(Clone, Copy, Debug)]
+pub enum Line {
+    /// An operation of the endpoint that runs.
+    Operate(Op),
+    /// The table of accesses.
+    Show,
+    /// An empty line or a comment.
+    Skip,
+}
+
+/// The line that these bytes are, without the LF that ends it, or `None` where they are no line.
+#[tactic(auto, unfolding(ffa_model::specs::TraceLines::line_of))]
+pub fn parse(bytes: &[u8]) -> Option<Line>
+    ensures { option_map meaning_of result ≡ line_of bytes.now }
+{
+    match bytes {
+        [] | [b'#', ..] => Some(Line::Skip),
+        _ => command(Words { rest: Some(bytes) }),
+    }
+}
+
+// What stands between the spaces of a line, one word after another.
+#[derive(Clone, Copy)]
+struct Words<'a> {
+    rest: Option<&'a [u8]>,
+}
+
+impl<'a> Words<'a> {
+    fn next_word(&mut self) -> Option<&'a [u8]>
+        ensures { option_map_or (λ w. w.now ∷ words_left self.new) result [] ≡ words_left self.old }
+    {
+        let rest = self.rest.take()?;
+        match first_space(rest) {
+            None => Some(rest),
+            Some(end) => {
+                self.rest = Some(&rest[end + 1..]);
+                Some(&rest[..end])
+            }
+        }
+    }
+
+    // The line that was read, if no word is left.
+    fn finish(self, line: Line) -> Option<Line>
+        ensures { result ≡ at_end (words_left self.entry) line }
+    {
+        match self.rest {
+            None => Some(line),
+            Some(_) => None,
+        }
+    }
+}
+
+fn first_space(bytes: &[u8]) -> Option<usize>
+    ensures { result ≡ position (λ c. c == space) bytes.now }
+{
+    bytes.iter().position(|byte| *byte == b' ')
+}
+
+#[tactic(auto, unfolding(ffa_model::specs::TraceLines::command_of))]
+fn command(mut words: Words<'_>) -> Option<Line>
+    ensures { option_map meaning_of result ≡ command_of (words_left words.entry) }
+{
+    let name = words.next_word()?;
+    if name == b"load".as_slice() {
+        load(words)
+    } else if name == b"store".as_slice() {
+        store(words)
+    } else if name == b"call".as_slice() {
+        call(words)
+    } else if name == b"fetch".as_slice() {
+        fetch(words)
+    } else if name == b"show".as_slice() {
+        show(words)
+    } else {
+        None
+    }
+}
+
+#[tactic(auto, unfolding(ffa_model::specs::TraceLines::load_of))]
+fn load(mut words: Words<'_>) -> Option<Line>
+    ensures { option_map meaning_of result ≡ load_of (words_left words.entry) }
+{
+    let addr = number(words.next_word()?)?;
+    let size = size_named(words.next_word()?)?;
+    words.finish(Line::Operate(Op::Load { addr, size }))
+}
+
+#[tactic(auto, unfolding(ffa_model::specs::TraceLines::store_of))]
+fn store(mut words: Words<'_>) -> Option<Line>
+    ensures { option_map meaning_of result ≡ store_of (words_left words.entry) }
+{
+    let addr = number(words.next_word()?)?;
+    let digits = words.next_word()?;
+    let size = size_written(digits)?;
+    let value = number(digits)?;
+    words.finish(Line::Operate(Op::Store { addr, size, value }))
+}
+
+#[tactic(auto, unfolding(ffa_model::specs::TraceLines::fetch_of))]
+fn fetch(mut words: Words<'_>) -> Option<Line>
+    ensures { option_map meaning_of result ≡ fetch_of (words_left words.entry) }
+{
+    let addr = number(words.next_word()?)?;
+    words.finish(Line::Operate(Op::Fetch { addr }))
+}
+
+#[tactic(auto, unfolding(ffa_model::specs::TraceLines::show_of))]
+fn show(words: Words<'_>) -> Option<Line>
+    ensures { option_map meaning_of result ≡ show_of (words_left words.entry) }
+{
+    words.finish(Line::Show)
+}
+
+fn call(mut words: Words<'_>) -> Option<Line>
+    ensures { option_map meaning_of result ≡ call_of (words_left words.entry) }
+{
+    let mut x = [0; 8];
+    let mut count = 0;
+    while let Some(word) = words.next_word() {
+        if count == 8 {
+            return None;
+        }
+        x[count] = number(word)?;
+        count += 1;
+    }
+    if count == 0 {
+        return None;
+    }
+    Some(Line::Operate(Op::Call(x)))
+}
+
+// How many bytes to load.
+#[tactic(auto, unfolding(ffa_model::specs::TraceLines::size_named))]
+fn size_named(word: &[u8]) -> Option<Size>
+    ensures { result ≡ size_named word.now }
+{
+    match word {
+        b"1" => Some(Size::B1),
+        b"2" => Some(Size::B2),
+        b"4" => Some(Size::B4),
+        b"8" => Some(Size::B8),
+        _ => None,
+    }
+}
+
+// How many bytes to store, by the digits of the value.
+#[tactic(auto, unfolding(ffa_model::specs::TraceLines::size_written))]
+fn size_written(word: &[u8]) -> Option<Size>
+    ensures { result ≡ size_written word.now }
+{
+    match word.len() {
+        2 => Some(Size::B1),
+        4 => Some(Size::B2),
+        8 => Some(Size::B4),
+        16 => Some(Size::B8),
+        _ => None,
+    }
+}
+
+// The number that 1 to 16 hexadecimal digits write.
+#[tactic(auto, unfolding(ffa_model::specs::TraceLines::number_of))]
+fn number(word: &[u8]) -> Option<u64>
+    ensures { result ≡ number_of word.now }
+{
+    if word.is_empty() || word.len() > 16 {
+        return None;
+    }
+    let mut number = 0;
+    for byte in word {
+        number = 16 * number + u64::from(digit_value(*byte)?);
+    }
+    Some(number)
+}
+
+// The value of a byte as a hexadecimal digit. It's a look-up, since digits and letters follow one another without rule.
+fn digit_value(byte: u8) -> Option<u8>
+    ensures value { result ≡ digit_value byte }
+    ensures small { IfSome result (λ digit. digit < 16) }
+{
+    let value = DIGIT_VALUES[byte as usize];
+    if value < NO_DIGIT { Some(value) } else { None }
+}
+
+// What stands in the table for a byte that is no digit.
+const NO_DIGIT: u8 = 16;
+
+// The value of each byte as a digit.
+#[rattlefmt::skip]
+static DIGIT_VALUES: [u8; 256] = [
+    16, 16, 16, 16, 16, 16, 16, 16, 16, 16, 16, 16, 16, 16, 16, 16,
+    16, 16, 16, 16, 16, 16, 16, 16, 16, 16, 16, 16, 16, 16, 16, 16,
+    16, 16, 16, 16, 16, 16, 16, 16, 16, 16, 16, 16, 16, 16, 16, 16,
+    0, 1, 2, 3, 4, 5, 6, 7, 8, 9, 16, 16, 16, 16, 16, 16,
+    16, 10, 11, 12, 13, 14, 15, 16, 16, 16, 16, 16, 16, 16, 16, 16,
+    16, 16, 16, 16, 16, 16, 16, 16, 16, 16, 16, 16, 16, 16, 16, 16,
+    16, 10, 11, 12, 13, 14, 15, 16, 16, 16, 16, 16, 16, 16, 16, 16,
+    16, 16, 16, 16, 16, 16, 16, 16, 16, 16, 16, 16, 16, 16, 16, 16,
+    16, 16, 16, 16, 16, 16, 16, 16, 16, 16, 16, 16, 16, 16, 16, 16,
+    16, 16, 16, 16, 16, 16, 16, 16, 16, 16, 16, 16, 16, 16, 16, 16,
+    16, 16, 16, 16, 16, 16, 16, 16, 16, 16, 16, 16, 16, 16, 16, 16,
+    16, 16, 16, 16, 16, 16, 16, 16, 16, 16, 16, 16, 16, 16, 16, 16,
+    16, 16, 16, 16, 16, 16, 16, 16, 16, 16, 16, 16, 16, 16, 16, 16,
+    16, 16, 16, 16, 16, 16, 16, 16, 16, 16, 16, 16, 16, 16, 16, 16,
+    16, 16, 16, 16, 16, 16, 16, 16, 16, 16, 16, 16, 16, 16, 16, 16,
+    16, 16, 16, 16, 16, 16, 16, 16, 16, 16, 16, 16, 16, 16, 16, 16,
+];

@@ -1,0 +1,167 @@
+//! The player of traces.
+ghost use Rattle.std.specs.Prelude.{◌≡◌, ◌==◌, true, [], ◌++◌, ◌∷◌, position, OnOk};
+ghost use Rattle.ffa_model.specs.TraceLines.{feed, has_no_feed};
+ghost use Rattle.ffa_trace.specs.Played.{LineDone, LineEnded, Kept, Fed, Played};
+
+use crate::line::{self, Line};
+use crate::output::{self, PlayError};
+use crate::show;
+use crate::text::{self, Text};
+use ffa_physmem::PhysMem;
+use ffa_spmc::Machine;
+use std::alloc::Global;
+use std::io::{Read, Write};
+use std::marker::Model;
+
+/// How many bytes a play asks of its reader at a time.
+const BLOCK: usize = 65536;
+
+/// Plays traces on a machine, as which contracts see it.
+#[derive(Drop)]
+pub struct Player<M: PhysMem + Drop> {
+    machine: Machine<M>,
+}
+
+impl<M: PhysMem + Drop> Model for Player<M> {
+    ghost use Rattle.ffa_spmc.specs.Snapshot.{Snapshot, coded_snapshot};
+
+    ghost Value = { Snapshot };
+
+    ghost coded = { coded_snapshot };
+
+    ghost view = { λ player. player.machine };
+}
+
+impl<M: PhysMem + Drop> Player<M> {
+    /// A player on this machine, as it is.
+    pub fn new(machine: Machine<M>) -> Player<M>
+        ensures { result ≡ machine }
+    {
+        Player { machine }
+    }
+
+    /// The machine, as the lines so far left it.
+    pub fn machine(&self) -> &Machine<M>
+        ensures { result.now ≡ self.now }
+    {
+        &self.machine
+    }
+
+    /// Does the lines that the reader gives, one after another, and writes the text of each before the next is done.
+    /// Lines count from 1. It asks the reader and the writer for `read` and `write` alone, and tries nothing again
+    /// after an error.
+    pub fn play<R: Read, W: Write>(
+        &mut self,
+        alloc: Global,
+        reader: &mut R,
+        writer: &mut W,
+    ) -> Result<(), PlayError>
+        ensures { Played self.old.state self.new.state (W.contents writer.old) (W.contents writer.new) (R.remaining reader.old) (R.remaining reader.new) result }
+    {
+        play_lines(&mut self.machine, alloc, reader, writer)
+    }
+}
+
+fn play_lines<M: PhysMem + Drop, R: Read, W: Write>(
+    machine: &mut Machine<M>,
+    alloc: Global,
+    reader: &mut R,
+    writer: &mut W,
+) -> Result<(), PlayError>
+    ensures { Played machine.old.state machine.new.state (W.contents writer.old) (W.contents writer.new) (R.remaining reader.old) (R.remaining reader.new) result }
+{
+    let mut begun = Vec::new(alloc);
+    let mut number = 1;
+    let mut block = [0; BLOCK];
+    for _ in 0..u64::MAX - 1 {
+        match reader.read(&mut block) {
+            Ok(0) if begun.is_empty() => return Ok(()),
+            Ok(0) => return Err(PlayError::BadLine(number)),
+            Ok(count) => feed(machine, writer, &mut begun, &mut number, &block[..count])?,
+            Err(_) => return Err(PlayError::Read),
+        }
+    }
+    Err(PlayError::Read)
+}
+
+// Takes bytes that were read: `begun` are those of the line that hasn't ended, and `number` is its number.
+fn feed<M: PhysMem + Drop, W: Write>(
+    machine: &mut Machine<M>,
+    writer: &mut W,
+    begun: &mut Vec<u8>,
+    number: &mut u64,
+    bytes: &[u8],
+) -> Result<(), PlayError>
+    requires { has_no_feed begun.old.items ≡ true }
+    ensures { Fed machine.old.state machine.new.state (W.contents writer.old) (W.contents writer.new) number.old number.new (begun.old.items ++ bytes.now) begun.new.items result }
+{
+    let mut rest = bytes;
+    while let Some(end) = first_feed(rest) {
+        if *number == u64::MAX {
+            return Err(PlayError::Read);
+        }
+        end_line(machine, writer, begun, *number, &rest[..end])?;
+        *number += 1;
+        rest = &rest[end + 1..];
+    }
+    keep(begun, rest)
+}
+
+fn first_feed(bytes: &[u8]) -> Option<usize>
+    ensures { result ≡ position (λ c. c == feed) bytes.now }
+{
+    bytes.iter().position(|byte| *byte == b'\n')
+}
+
+fn keep(begun: &mut Vec<u8>, bytes: &[u8]) -> Result<(), PlayError>
+    ensures { Kept begun.old.items begun.new.items bytes.now result }
+{
+    begun
+        .extend_from_slice(bytes)
+        .map_err(|_| PlayError::NoMemory)
+}
+
+// Does the line that begins with `begun` and ends with `piece`. A line that lies in one block isn't copied.
+fn end_line<M: PhysMem + Drop, W: Write>(
+    machine: &mut Machine<M>,
+    writer: &mut W,
+    begun: &mut Vec<u8>,
+    number: u64,
+    piece: &[u8],
+) -> Result<(), PlayError>
+    ensures line { LineEnded machine.old.state machine.new.state (W.contents writer.old) (W.contents writer.new) number (begun.old.items ++ piece.now) result }
+    ensures none_begun { OnOk result (begun.new.items ≡ []) }
+{
+    if begun.is_empty() {
+        return do_line(machine, writer, number, piece);
+    }
+    keep(begun, piece)?;
+    do_line(machine, writer, number, begun)?;
+    begun.clear();
+    Ok(())
+}
+
+// Does a line, and writes its text.
+fn do_line<M: PhysMem + Drop, W: Write>(
+    machine: &mut Machine<M>,
+    writer: &mut W,
+    number: u64,
+    bytes: &[u8],
+) -> Result<(), PlayError>
+    ensures { LineDone machine.old.state machine.new.state (W.contents writer.old) (W.contents writer.new) number bytes.now result }
+{
+    match line::parse(bytes) {
+        Some(Line::Operate(op)) => {
+            let outcome = machine.op(&op);
+            let mut text = Text::new();
+            text::push_outcome(&mut text, &op, &outcome);
+            output::write_text(writer, text.as_slice())
+        }
+        Some(Line::Show) => show::write_show(machine, writer),
+        Some(Line::Skip) => Ok(()),
+        None => Err(PlayError::BadLine(number)),
+    }
+}
+
+#[cfg(test)]
+mod tests;

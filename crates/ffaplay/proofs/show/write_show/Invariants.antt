@@ -1,9 +1,0 @@
-use Rattle.std.proofs.Common.{◌≤◌}
-use Rattle.ffaplay.proofs.ShowRuns.{Showing}
-use Rattle.ffaplay.proofs.show.write_show.Given as goal
-
-abbrev pub invariant-loop-last : goal.invariant-loop-last
-invariant-loop-last g l = record {
-  order : l.first ≤ l.last;
-  shown : Showing l.fn.machine.state (g.W.Write.contents l.fn.writer) (g.W.Write.contents l.writer) l.first l.last;
-}
