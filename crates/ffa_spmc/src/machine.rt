@@ -202,10 +202,8 @@ impl<M: PhysMem + Drop> Machine<M> {
     {
         let (ram_base, runner) = (self.manifest.ram_base, self.kept.runner);
         let kept = &mut self.kept;
-        match kept
-            .buffers
-            .map(&kept.pages, ram_base, runner, tx, rx, pages)
-        {
+        let owners = &kept.pages;
+        match kept.buffers.map(owners, ram_base, runner, tx, rx, pages) {
             Ok(()) => DONE,
             Err(code) => Reply::Error(code),
         }

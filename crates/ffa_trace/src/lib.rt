@@ -4,6 +4,8 @@
 mod line;
 pub mod output;
 mod player;
+#[cfg(test)]
+mod rows;
 mod show;
 pub mod text;
 

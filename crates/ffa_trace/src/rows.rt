@@ -1,0 +1,134 @@
+//! Calls worked out by hand, played on the machine with two partitions.
+use crate::Player;
+use ffa_model::row_machine;
+use ffa_physmem::FlatRam;
+use ffa_spmc::Machine;
+use std::alloc::Global;
+use std::test::Fail;
+
+fn rows(alloc: Global) -> Result<Player<FlatRam>, Fail> {
+    let manifest = row_machine();
+    let ram = FlatRam::new(alloc, manifest.ram_base, 512)?;
+    Ok(Player::new(Machine::boot(&manifest, ram)))
+}
+
+// What one more line prints.
+fn played(alloc: Global, player: &mut Player<FlatRam>, line: &str) -> Result<String, Fail> {
+    let mut trace = String::new(alloc);
+    trace.push_str(line)?;
+    trace.push_str("\n")?;
+    let mut written = Vec::new(alloc);
+    player.play(alloc, &mut trace.as_bytes(), &mut written)?;
+    Ok(String::from_utf8(written)?)
+}
+
+// The text of an outcome from its short form. Registers are written as `8001: 84000061 0 1`: the runner, then the
+// registers without their leading zeros and without the last ones that are zero.
+fn printed(alloc: Global, short: &str) -> Result<String, Fail> {
+    let mut text = String::new(alloc);
+    let Some((runner, registers)) = short.split_once(": ") else {
+        text.push_str(short)?;
+        text.push_str("\n")?;
+        return Ok(text);
+    };
+    text.push_str("regs ")?;
+    push_padded(&mut text, runner, 4)?;
+    let mut count = 0;
+    for register in registers.split(' ') {
+        text.push_str(" ")?;
+        push_padded(&mut text, register, 16)?;
+        count += 1;
+    }
+    for _register in count..8 {
+        text.push_str(" 0000000000000000")?;
+    }
+    text.push_str("\n")?;
+    Ok(text)
+}
+
+// Writes digits with zeros before them, this many in all.
+fn push_padded(text: &mut String, digits: &str, width: usize) -> Result<(), Fail> {
+    for _zero in digits.len()..width {
+        text.push_str("0")?;
+    }
+    text.push_str(digits)?;
+    Ok(())
+}
+
+// Plays lines on a fresh machine: the first that doesn't print what is wanted, with what it prints.
+fn difference(alloc: Global, lines: &[(&str, &str)]) -> Result<Option<String>, Fail> {
+    let mut player = rows(alloc)?;
+    for (line, want) in lines {
+        let text = played(alloc, &mut player, line)?;
+        if text != printed(alloc, want)? {
+            return Ok(Some(format!(in alloc; "{line}: {text}")?));
+        }
+    }
+    Ok(None)
+}
+
+const INVALID_PARAMETERS: &str = "0: 84000060 0 FFFFFFFE";
+
+const DENIED: &str = "0: 84000060 0 FFFFFFFA";
+
+const NOT_SUPPORTED: &str = "0: 84000060 0 FFFFFFFF";
+
+#[test]
+fn versions_and_features(rt: HostRuntime) -> Result<(), Fail> {
+    let lines = [
+        ("call 84000063 10001", "0: 10001"),
+        ("call 84000063 80010001", "0: FFFFFFFF"),
+        ("call 84000063 20000", "0: FFFFFFFF"),
+        ("call 0", NOT_SUPPORTED),
+        ("call 84000083", NOT_SUPPORTED),
+        ("call C4000063", NOT_SUPPORTED),
+        ("call 84000064 84000066", "0: 84000061"),
+        ("call 84000064 84000075", NOT_SUPPORTED),
+        ("call 84000085", "0: 84000061 0 8000"),
+    ];
+    assert_eq!(rt; difference(rt.alloc(), &lines)?, None);
+    Ok(())
+}
+
+#[test]
+fn information_on_one_partition(rt: HostRuntime) -> Result<(), Fail> {
+    let lines = [
+        ("call 84000066 4001E000 4001F000 1", "0: 84000061"),
+        (
+            "call 84000068 33221100 77665544 BBAA9988 FFEEDDCC",
+            "0: 84000061 0 1 18",
+        ),
+        ("load 4001F000 8", "data 0000010F00018001"),
+        (
+            "call 84000068 33221100 77665544 BBAA9988 FFEEDDCC",
+            "0: 84000060 0 FFFFFFFC",
+        ),
+        (
+            "call 84000068 33221100 77665544 BBAA9988 FFEEDDCC 1",
+            "0: 84000061 0 1",
+        ),
+    ];
+    assert_eq!(rt; difference(rt.alloc(), &lines)?, None);
+    Ok(())
+}
+
+#[test]
+fn buffers_of_the_normal_world(rt: HostRuntime) -> Result<(), Fail> {
+    let lines = [
+        ("call 84000065", DENIED),
+        ("call C4000066 14001E000 4001F000 1", INVALID_PARAMETERS),
+        ("call 84000066 14001E000 4001F000 1", "0: 84000061"),
+        ("call 84000067 1", INVALID_PARAMETERS),
+        ("call 84000068", "0: 84000061 0 2 18"),
+        ("load 4001F008 8", "data 7766554433221100"),
+        ("load 4001F018 8", "data 0000010F00018002"),
+        ("call 84000065", "0: 84000061"),
+        ("call 84000067", "0: 84000061"),
+        ("call 84000067", INVALID_PARAMETERS),
+        ("call 84000068", INVALID_PARAMETERS),
+        ("call 84000068 0 0 0 0 1", "0: 84000061 0 2"),
+        ("call 84000085", "0: 84000061 0 8000"),
+    ];
+    assert_eq!(rt; difference(rt.alloc(), &lines)?, None);
+    Ok(())
+}
