@@ -2,10 +2,10 @@
 ghost use Rattle.std.specs.Prelude.{◌≡◌, ◌==◌, ◌⊎◌, ◌||◌, ◌≤◌, ◌<◌, length, map, is_some, is_none, if◌then◌else◌, true, false, Some, None, OnOk, OnErr, IfOk, IsSomeAnd};
 ghost use Rattle.std.specs.List.{list_any};
 ghost use Rattle.std.specs.Result.{result_err};
-ghost use Rattle.ffa_model.specs.Bits.{high_half, low_half};
+ghost use Rattle.ffa_model.specs.Bits.{high_half, word_of_two};
 ghost use Rattle.ffa_model.specs.Calls.{first_failure};
-ghost use Rattle.ffa_model.specs.declared.schedule.Status.TheVariants.{Yielded, Blocked};
 ghost use Rattle.ffa_model.specs.declared.endpoint.EndpointId.{EndpointId};
+ghost use Rattle.ffa_model.specs.declared.schedule.Status.TheVariants.{Yielded, Blocked};
 ghost use Rattle.ffa_model.specs.Identifiers.{place};
 ghost use Rattle.ffa_model.specs.RunStates.{finished, first_schedule, given_cycles, is_endpoint, is_run, is_waiting, is_yielded, passed, requested, requester, run_guards, run_reply, status_in, switched, wait_guards, wait_reply, with_work, work_in, yield_guards, yield_reply};
 ghost use Rattle.ffa_model.specs.Sound.{IsSound, origin};
@@ -15,6 +15,13 @@ ghost use Rattle.ffa_schedule.specs.Links.{has_link_at, identifiers_of, status_o
 use arrayvec::ArrayVec;
 use ffa_model::{EndpointId, ErrorCode, Reply, Status, Work};
 use std::marker::Model;
+
+// The identifiers of the calls that a reply names (DEN0077A, 11 to 16).
+const FFA_MSG_WAIT: u32 = 0x8400_006B;
+
+const FFA_YIELD: u32 = 0x8400_006C;
+
+const FFA_RUN: u32 = 0x8400_006D;
 
 /// Who runs, and for whom: the endpoints from the normal world to the runner, each of which is blocked for the one
 /// behind it (DEN0077A, 8.2). A partition that waits or has yielded stands outside.
@@ -28,8 +35,6 @@ pub struct Chain {
 
 impl Model for Chain {
     ghost use Rattle.ffa_model.specs.Codes.{coded_schedule};
-    ghost use Rattle.ffa_model.specs.declared.endpoint.EndpointId.{EndpointId};
-    ghost use Rattle.ffa_model.specs.Identifiers.{place};
     ghost use Rattle.ffa_model.specs.RunStates.{Schedule};
 
     ghost Value = { Schedule };
@@ -114,7 +119,7 @@ impl Chain {
         match self.work(target) {
             None => {
                 self.start(target, Work::Run);
-                Ok(passed(0x8400_006D, word))
+                Ok(passed(FFA_RUN, word))
             }
             Some(work) => {
                 self.start(target, work);
@@ -140,7 +145,7 @@ impl Chain {
         match self.own_work() {
             Some(Work::Run) => {
                 self.stop(None);
-                Ok(passed(0x8400_006B, u32::from(runner.0) * 0x1_0000))
+                Ok(given_back(FFA_MSG_WAIT, runner))
             }
             _ => Err(ErrorCode::Denied),
         }
@@ -163,7 +168,7 @@ impl Chain {
         match self.own_work() {
             Some(work) if works_for_normal_world(work) => {
                 self.stop(Some(work));
-                Ok(passed(0x8400_006C, u32::from(runner.0) * 0x1_0000))
+                Ok(given_back(FFA_YIELD, runner))
             }
             _ => Err(ErrorCode::Denied),
         }
@@ -194,8 +199,8 @@ impl Chain {
         ensures work { result ≡ work_in self.now self.now.runner }
         ensures sound { IsSound self.now }
     {
-        let runner = self.links[self.links.len() - 1];
-        self.work(runner)
+        let last = self.links.len() - 1;
+        self.work(self.links[last])
     }
 
     // The target of FFA_RUN, where it may be given cycles.
@@ -268,6 +273,13 @@ fn works_for_normal_world(work: Work) -> bool
         Work::Run => true,
         Work::Request(by) => by.0 == 0,
     }
+}
+
+// What the normal world is passed by a runner that gives its cycles back.
+fn given_back(function: u32, runner: EndpointId) -> Reply
+    ensures { result ≡ passed function (word_of_two runner.0 0) }
+{
+    passed(function, u32::from(runner.0) * 0x1_0000)
 }
 
 // What the endpoint that runs next is passed, in w0 and w1.
