@@ -2,3 +2,4 @@ pub mod Accepted
 pub mod Listed
 pub mod Owners
 pub mod Written
+pub mod Places

@@ -18,7 +18,7 @@ use Rattle.ffa_model.specs.Sound.{origin}
 use Rattle.ffa_model.proofs.Listed.{listed-but}
 use Rattle.ffa_schedule.specs.Links.{IsChain, has_link_at, last_link, link_at, schedule_of, status_at, status_outside, work_at}
 use Rattle.ffa_schedule.proofs.Links.{has-more, last-more, length-more, link-before, link-elsewhere, link-found, link-has, link-last}
-use Rattle.ffa_schedule.proofs.Places.{known-place, partition-known, partition-place}
+use Rattle.ffa_model.proofs.Places.{known-place, partition-known, partition-place}
 
 -- each link is an endpoint
 pub link-known : (links : List ℕ) (works : List (Option Work)) (k : ℕ) → IsChain links works → k < length links → is_known_among (length works) (link_at links k) ≡ true

@@ -1,4 +1,3 @@
-pub mod Places
 pub mod Links
 pub mod Chains
 pub mod Sounds

@@ -19,7 +19,7 @@ use Rattle.ffa_model.proofs.Written.{map-refill-set}
 use Rattle.ffa_schedule.specs.Links.{IsChain, has_link_at, identifiers_of, last_link, schedule_of, status_at, status_outside, work_at}
 use Rattle.ffa_schedule.proofs.Chains.{status-last, status-rest, behind, origin-before, popped, pushed, room, schedule-popped, schedule-pushed}
 use Rattle.ffa_schedule.proofs.Links.{identifiers-more, last-more}
-use Rattle.ffa_schedule.proofs.Places.{partition-place}
+use Rattle.ffa_model.proofs.Places.{partition-place}
 use Rattle.ffa_schedule.proofs.Sounds.{outside-chain, sound}
 
 -- an element written through a slice of all

@@ -22,7 +22,7 @@ use Rattle.ffa_model.proofs.Accepted.{accepted}
 use Rattle.ffa_spmc.specs.declared.kept.Kept.{Kept}
 use Rattle.ffa_spmc.specs.Meaning.{IsMachine, state_of}
 use Rattle.ffa_spmc.specs.Snapshot.{Snapshot}
-use Rattle.ffa_spmc.proofs.Held.{base_is, parties_are, size_is}
+use Rattle.ffa_spmc.proofs.Held.{base_is, parties_are, size_is, runner-known, runner-named}
 use Rattle.ffa_spmc.proofs.Machines.{agrees, machine-written}
 use Rattle.ffa_spmc.proofs.Reaches.{owned-in, number-is, placed, reach-is, reached}
 use Rattle.ffa_spmc.proofs.Stores.{state-written}
@@ -55,10 +55,10 @@ module _ (ram : Ram) (m : Manifest) (kept : Kept) (machine : IsMachine ram m kep
 
   -- the root of the runner's table
   abbrev pub runner_root : ℕ
-  runner_root = root s (place kept.runner.0)
+  runner_root = root s (place kept.chain.runner)
 
-  known : place kept.runner.0 < length s.parties
-  known = subst (λ (n : ℕ). place kept.runner.0 < n) (sym (parties_are ram m kept)) machine.known
+  known : place kept.chain.runner < length s.parties
+  known = subst (λ (n : ℕ). place kept.chain.runner < n) (sym (parties_are ram m kept)) (runner-known ram m kept machine kept.chain.runner refl)
 
   aligned : s.ram_base % 4096 ≡ 0
   aligned =
@@ -67,41 +67,41 @@ module _ (ram : Ram) (m : Manifest) (kept : Kept) (machine : IsMachine ram m kep
       omega (arith, base, place)
 
   runner_access : ℕ → Option Rights
-  runner_access address = access_at s kept.runner.0 address
+  runner_access address = access_at s kept.chain.runner address
 
   -- an access of the runner over the walk ends where the state's does
   runner-reach : (address n : ℕ) (allowed : Leaf → Bool) (may : Option Rights → Bool)
       → ((r : Rights) → allowed (record { phys = address; read = true; write = may_write r.level; exec = r.exec }) ≡ may (Some r))
-      → reach ram runner_root address n allowed ≡ reached (fault_of (address % n == 0) (access_at s kept.runner.0 address) may) address
+      → reach ram runner_root address n allowed ≡ reached (fault_of (address % n == 0) (access_at s kept.chain.runner address) may) address
   runner-reach address n allowed may same =
-      reach-is ram s (agrees ram m kept machine) (place kept.runner.0) known address n allowed may same
-      ∙ ap (λ (e : ℕ). reached (fault_of (address % n == 0) (access_at s e address) may) address) machine.named
+      reach-is ram s (agrees ram m kept machine) (place kept.chain.runner) known address n allowed may same
+      ∙ ap (λ (e : ℕ). reached (fault_of (address % n == 0) (access_at s e address) may) address) (runner-named ram m kept machine kept.chain.runner refl)
 
   -- a load or a fetch of n bytes
   pub loaded-is : (address n : ℕ) (allowed : Leaf → Bool) (may : Option Rights → Bool)
       → ((r : Rights) → allowed (record { phys = address; read = true; write = may_write r.level; exec = r.exec }) ≡ may (Some r))
       → outcome_of (loaded ram runner_root address n allowed)
-      ≡ (accessed (fault_of (address % n == 0) (access_at s kept.runner.0 address) may) s s (Data (memory.number_at s address n))).outcome
+      ≡ (accessed (fault_of (address % n == 0) (access_at s kept.chain.runner address) may) s s (Data (memory.number_at s address n))).outcome
   loaded-is address n allowed may same =
       ap (λ (r : Result ℕ FaultKind). outcome_of (at_end (λ physical. number_at ram physical n) r)) (runner-reach address n allowed may same)
-      ∙ ending (fault_of (address % n == 0) (access_at s kept.runner.0 address) may) refl
+      ∙ ending (fault_of (address % n == 0) (access_at s kept.chain.runner address) may) refl
     where
-      ending : (o : Option FaultKind) → fault_of (address % n == 0) (access_at s kept.runner.0 address) may ≡ o
+      ending : (o : Option FaultKind) → fault_of (address % n == 0) (access_at s kept.chain.runner address) may ≡ o
           → outcome_of (at_end (λ physical. number_at ram physical n) (reached o address)) ≡ (accessed o s s (Data (memory.number_at s address n))).outcome
       ending (Some fault) is = refl
       ending None is =
-          let (r, right) = right-of (address % n == 0) (access_at s kept.runner.0 address) may is in
-          let there : access_at s (identifier (place kept.runner.0)) address ≡ Some r = ap (λ (e : ℕ). access_at s e address) machine.named ∙ right in
-          ap Data (number-is ram s (agrees ram m kept machine) (place kept.runner.0) known address n r aligned there)
+          let (r, right) = right-of (address % n == 0) (access_at s kept.chain.runner address) may is in
+          let there : access_at s (identifier (place kept.chain.runner)) address ≡ Some r = ap (λ (e : ℕ). access_at s e address) (runner-named ram m kept machine kept.chain.runner refl) ∙ right in
+          ap Data (number-is ram s (agrees ram m kept machine) (place kept.chain.runner) known address n r aligned there)
 
   -- what a store leaves where its access ended so
-  after : (address : ℕ) (bytes : List ℕ) (o : Option FaultKind) (n : ℕ) → fault_of (address % n == 0) (access_at s kept.runner.0 address) may_store ≡ o
+  after : (address : ℕ) (bytes : List ℕ) (o : Option FaultKind) (n : ℕ) → fault_of (address % n == 0) (access_at s kept.chain.runner address) may_store ≡ o
       → IsMachine (with_bytes_reached ram bytes (reached o address)) m kept
       × (state_of (with_bytes_reached ram bytes (reached o address)) m kept ≡ (accessed o s (memory.stored s address bytes) Done).state)
   after address bytes (Some fault) n is = (machine, refl)
   after address bytes None n is =
-      let (r, right) = right-of (address % n == 0) (access_at s kept.runner.0 address) may_store is in
-      let p = placed s kept.runner.0 address r right in
+      let (r, right) = right-of (address % n == 0) (access_at s kept.chain.runner address) may_store is in
+      let p = placed s kept.chain.runner address r right in
       let low : s.ram_base ≤ address = p.low in
       let base : s.ram_base ≡ ram.base = base_is ram m kept ∙ sym machine.base in
       let number : (address - s.ram_base) / 4096 ≡ (address - ram.base) / 4096 = omega (arith, base) in
@@ -119,23 +119,23 @@ module _ (ram : Ram) (m : Manifest) (kept : Kept) (machine : IsMachine ram m kep
 
   stored-reached : (address : ℕ) (size : Size) (value : ℕ)
       → stored ram runner_root address (size_of size) value
-      ≡ with_bytes_reached ram (little_bytes (size_of size) value) (reached (fault_of (address % size_of size == 0) (access_at s kept.runner.0 address) may_store) address)
+      ≡ with_bytes_reached ram (little_bytes (size_of size) value) (reached (fault_of (address % size_of size == 0) (access_at s kept.chain.runner address) may_store) address)
   stored-reached address size value = ap (with_bytes_reached ram (little_bytes (size_of size) value)) (runner-reach address (size_of size) may_store_to may_store (λ r. refl))
 
   pub store-machine : (address : ℕ) (size : Size) (value : ℕ) → IsMachine (stored ram runner_root address (size_of size) value) m kept
   store-machine address size value =
       subst (λ (r : Ram). IsMachine r m kept) (sym (stored-reached address size value))
-      (after address (little_bytes (size_of size) value) (fault_of (address % size_of size == 0) (access_at s kept.runner.0 address) may_store) (size_of size) refl).0
+      (after address (little_bytes (size_of size) value) (fault_of (address % size_of size == 0) (access_at s kept.chain.runner address) may_store) (size_of size) refl).0
 
   pub store-state : (address : ℕ) (size : Size) (value : ℕ) → state_of (stored ram runner_root address (size_of size) value) m kept ≡ (memory.store s address size value).state
   store-state address size value =
       ap (λ (r : Ram). state_of r m kept) (stored-reached address size value)
-      ∙ (after address (little_bytes (size_of size) value) (fault_of (address % size_of size == 0) (access_at s kept.runner.0 address) may_store) (size_of size) refl).1
+      ∙ (after address (little_bytes (size_of size) value) (fault_of (address % size_of size == 0) (access_at s kept.chain.runner address) may_store) (size_of size) refl).1
 
   pub store-outcome : (address : ℕ) (size : Size) (value : ℕ) → done_or_fault (store_answer ram runner_root address (size_of size)) ≡ (memory.store s address size value).outcome
   store-outcome address size value =
       ap (λ (r : Result ℕ FaultKind). done_or_fault (at_end (λ physical. tt) r)) (runner-reach address (size_of size) may_store_to may_store (λ r. refl))
-      ∙ ending (fault_of (address % size_of size == 0) (access_at s kept.runner.0 address) may_store)
+      ∙ ending (fault_of (address % size_of size == 0) (access_at s kept.chain.runner address) may_store)
     where
       ending : (o : Option FaultKind) → done_or_fault (at_end (λ physical. tt) (reached o address)) ≡ (accessed o s (memory.stored s address (little_bytes (size_of size) value)) Done).outcome
       ending None = refl

@@ -13,6 +13,8 @@ use Rattle.ffa_model.specs.Ram.{Ram, page_of, zero_ram}
 use Rattle.ffa_model.specs.Regions.{regions_at, regions_of_each, right_in as right_among}
 use Rattle.ffa_model.specs.State.{Page, Buffers}
 use Rattle.ffa_model.specs.First.{first, page_with_bytes}
+use Rattle.ffa_model.specs.RunStates.{Schedule, first_schedule}
+use Rattle.ffa_model.specs.Sound.{IsSound}
 use Rattle.ffa_model.proofs.Accepted.{accepted}
 use Rattle.ffa_model.proofs.Listed.{listed-same}
 use Rattle.ffa_model.proofs.Owners.{owned-behind}
@@ -51,7 +53,7 @@ module _ (zeros ram : Ram) (m : Manifest) (layout : Layout) (kept : Kept)
     (base : layout.base ≡ m.ram_base) (blocks : layout.blocks ≡ m.ram_blocks) (regions : regions_in layout ≡ regions_of_each m.endpoints.items)
     (built : IsBuilt ram (array_vec_len layout.regions) layout.blocks (right_in layout))
     (rest : KeepsRest zeros ram (array_vec_len layout.regions) layout.blocks)
-    (owners : kept.pages ≡ first_owners m) (none : kept.buffers ≡ replicate (length m.endpoints.items) None) (normal : kept.runner.0 ≡ 0) where
+    (owners : kept.pages ≡ first_owners m) (none : kept.buffers ≡ replicate (length m.endpoints.items) None) (schedule : kept.chain ≡ first_schedule (length m.endpoints.items)) (sound : IsSound kept.chain) where
   abbrev es : List Endpoint
   es = m.endpoints.items
 
@@ -90,16 +92,14 @@ module _ (zeros ram : Ram) (m : Manifest) (layout : Layout) (kept : Kept)
 
   pub machine-first : IsMachine ram m kept
   machine-first =
-      let a = accepted m.ram_base m.ram_blocks m.endpoints.items m.accepted in
-      let some : 1 ≤ length es = a.some_endpoints in
       record {
         base = base-is;
         size = size-is;
         owners = owners;
         each = ap length none ∙ length-replicate (length es) None;
         own = λ i b is. absurd (none-mapped (length es) i b (ap (λ (list : List (Option Buffers)). get_or list i None) (sym none) ∙ is));
-        known = omega (arith, normal, some);
-        named = ap (λ (e : ℕ). identifier (place e)) normal ∙ sym normal;
+        counted = ap (λ (c : Schedule). length c.works) schedule ∙ length-replicate (length es) None;
+        sound = sound;
         built = built-is;
       }
 
@@ -126,4 +126,10 @@ module _ (zeros ram : Ram) (m : Manifest) (layout : Layout) (kept : Kept)
 
   pub state-first : state_of ram m kept ≡ first m.ram_base m.ram_blocks es
   unfolding first
-  state-first = λ i. record (first m.ram_base m.ram_blocks es) { pages = pages-first i; buffers = none i; runner = normal i }
+  state-first = λ i. record (first m.ram_base m.ram_blocks es) {
+    pages = pages-first i;
+    buffers = none i;
+    runner = (schedule i).runner;
+    statuses = (schedule i).statuses;
+    works = (schedule i).works;
+  }

@@ -11,7 +11,7 @@ use Rattle.ffa_model.specs.declared.manifest.Manifest.{Manifest}
 use Rattle.ffa_model.specs.declared.operation.ErrorCode.{ErrorCode}
 use Rattle.ffa_model.specs.declared.operation.ErrorCode.TheVariants.{InvalidParameters, Busy}
 use Rattle.ffa_model.specs.Buffers.{buffers_in, buffers_with, buffers_with_rx, candidates, is_full, map_guards, new_buffers, release_guards, rxtx_map, unmap_guards}
-use Rattle.ffa_model.specs.Calls.{answered, first_failure, replied, success}
+use Rattle.ffa_model.specs.Calls.{Stepped, answered, first_failure, replied, success}
 use Rattle.ffa_model.specs.First.{first}
 use Rattle.ffa_model.specs.Identifiers.{place}
 use Rattle.ffa_model.specs.Ram.{Ram}
@@ -20,6 +20,7 @@ use Rattle.ffa_rxtx.specs.Parts.{candidates_in}
 use Rattle.ffa_spmc.specs.Owners.{AreOwn}
 use Rattle.ffa_spmc.specs.declared.kept.Kept.{Kept}
 use Rattle.ffa_spmc.specs.Meaning.{IsMachine, state_of}
+use Rattle.ffa_spmc.proofs.Held.{runner-known}
 use Rattle.ffa_spmc.proofs.Candidates.{candidates-are, mapped-own}
 
 -- what a call that only can be done or refused replies
@@ -30,9 +31,6 @@ done_or_error (Err code) = Error code
 module _ (ram : Ram) (m : Manifest) (kept : Kept) (machine : IsMachine ram m kept) where
   abbrev s : State
   s = state_of ram m kept
-
-  abbrev e : ℕ
-  e = kept.runner.0
 
   -- the machine with other buffers
   abbrev pub Remains : List (Option Buffers) → Type 0
@@ -55,8 +53,8 @@ module _ (ram : Ram) (m : Manifest) (kept : Kept) (machine : IsMachine ram m kep
                 (are_own b (sym (get_or-set_same kept.buffers (place f) own None there) ∙ ap (λ (j : ℕ). get_or (set kept.buffers (place f) own) j None) (sym same) ∙ is))
             | inr other ↦ machine.own i b (sym (get_or-set_other kept.buffers (place f) i own None other) ∙ is)
           ];
-          known = machine.known;
-          named = machine.named;
+          counted = machine.counted;
+          sound = machine.sound;
           built = machine.built;
         }
 
@@ -86,7 +84,8 @@ module _ (ram : Ram) (m : Manifest) (kept : Kept) (machine : IsMachine ram m kep
   machine-either (Ok done) changed list remains same is = subst Remains (sym is) remains
   machine-either (Err code) changed list remains same is = subst Remains (sym same) machine
 
-  module _ (tx rx pages : ℕ) where
+  -- the code's runner is the run states'
+  module _ (e : ℕ) (at : e ≡ kept.chain.runner) (tx rx pages : ℕ) where
     refusal-is : first_failure (map_guards e (buffers_in kept.buffers e) (candidates s) tx rx pages)
         ≡ first_failure (map_guards e (buffers_in kept.buffers e) (candidates_in kept.pages m.ram_base) tx rx pages)
     refusal-is = ap (λ ram. first_failure (map_guards e (buffers_in kept.buffers e) ram tx rx pages)) (candidates-are ram m kept machine)
@@ -100,8 +99,8 @@ module _ (ram : Ram) (m : Manifest) (kept : Kept) (machine : IsMachine ram m kep
           of : (r : Result ⊤ ErrorCode) → result_err r ≡ first_failure (map_guards e (buffers_in kept.buffers e) (candidates_in kept.pages m.ram_base) tx rx pages)
               → OnErr r (list ≡ kept.buffers) → OnOk r (list ≡ buffers_with kept.buffers e (Some (new_buffers m.ram_base tx rx))) → Remains list
           of (Ok done) passes same is =
-              subst Remains (sym is) (machine-with e machine.known (Some (new_buffers m.ram_base tx rx))
-              (λ b one. subst (AreOwn m (place e)) (some_is b one) (mapped-own ram m kept machine tx rx pages (buffers_in kept.buffers e) passes)))
+              subst Remains (sym is) (machine-with e (runner-known ram m kept machine e at) (Some (new_buffers m.ram_base tx rx))
+              (λ b one. subst (AreOwn m (place e)) (some_is b one) (mapped-own ram m kept machine e tx rx pages (buffers_in kept.buffers e) at passes)))
             where
               some_is : (b : Buffers) → Some (new_buffers m.ram_base tx rx) ≡ Some b → new_buffers m.ram_base tx rx ≡ b
               some_is b e = cc
@@ -109,11 +108,16 @@ module _ (ram : Ram) (m : Manifest) (kept : Kept) (machine : IsMachine ram m kep
 
       pub map-served : replied (state_of ram m (record kept { buffers = list })) (done_or_error r) ≡ rxtx_map s tx rx pages
       unfolding first
-      map-served = of r (refusal ∙ sym refusal-is) same mapped
+      map-served = of r (refusal ∙ sym refusal-is) same mapped ∙ (λ i. mapped_by (at i))
         where
+          mapped_by : ℕ → Stepped
+          mapped_by f =
+              answered (first_failure (map_guards f (buffers_in kept.buffers f) (candidates s) tx rx pages)) s
+              (state_of ram m (record kept { buffers = buffers_with kept.buffers f (Some (new_buffers m.ram_base tx rx)) })) (success 0 0)
+
           of : (r : Result ⊤ ErrorCode) → result_err r ≡ first_failure (map_guards e (buffers_in kept.buffers e) (candidates s) tx rx pages)
               → OnErr r (list ≡ kept.buffers) → OnOk r (list ≡ buffers_with kept.buffers e (Some (new_buffers m.ram_base tx rx)))
-              → replied (state_of ram m (record kept { buffers = list })) (done_or_error r) ≡ rxtx_map s tx rx pages
+              → replied (state_of ram m (record kept { buffers = list })) (done_or_error r) ≡ mapped_by e
           of (Ok done) passes same is =
               ap (λ (list : List (Option Buffers)). replied (state_of ram m (record kept { buffers = list })) (success 0 0)) is
               ∙ ap (λ o. answered o s (state_of ram m (record kept { buffers = buffers_with kept.buffers e (Some (new_buffers m.ram_base tx rx)) })) (success 0 0)) passes

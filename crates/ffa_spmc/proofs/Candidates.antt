@@ -21,7 +21,7 @@ use Rattle.ffa_rxtx.specs.Parts.{candidate_in, candidates_in}
 use Rattle.ffa_spmc.specs.Owners.{AreOwn, IsOwn}
 use Rattle.ffa_spmc.specs.declared.kept.Kept.{Kept}
 use Rattle.ffa_spmc.specs.Meaning.{IsMachine, state_of}
-use Rattle.ffa_spmc.proofs.Held.{base_is, entry-in, none_named, page-held, page-past, size_is}
+use Rattle.ffa_spmc.proofs.Held.{base_is, entry-in, none_named, page-held, page-past, size_is, runner-named}
 
 -- where no guard fails, the first passes, and none after it fails
 first-passes : (test : Bool) (code : ErrorCode) (rest : Option ErrorCode) → None ≡ cond test rest (Some code) → (test ≡ true) × (None ≡ rest)
@@ -97,26 +97,26 @@ module _ (ram : Ram) (m : Manifest) (kept : Kept) (machine : IsMachine ram m kep
   }
 
   -- where a mapping passes its checks, the buffers are pages of the runner
-  own-page : (address : ℕ) → is_page_address (candidates_in kept.pages m.ram_base) address ≡ true
-      → is_usable_at kept.runner.0 (candidates_in kept.pages m.ram_base) address ≡ true → IsOwn m (place kept.runner.0) (page_number m.ram_base address)
-  own-page address is_page usable =
+  own-page : (e address : ℕ) → e ≡ kept.chain.runner → is_page_address (candidates_in kept.pages m.ram_base) address ≡ true
+      → is_usable_at e (candidates_in kept.pages m.ram_base) address ≡ true → IsOwn m (place e) (page_number m.ram_base address)
+  own-page e address at is_page usable =
       let (whole, below) = and_parts _ _ is_page in
       let inside : page_number m.ram_base address < length kept.pages = ltb-true _ _ below in
       let entry : entry_at kept.pages (page_number m.ram_base address) ≡ first_entry m.ram_base m.endpoints.items (page_number m.ram_base address) =
       entry-in ram m kept machine (page_number m.ram_base address) (subst (λ (n : ℕ). page_number m.ram_base address < n) owners-size inside)
       in
       let passes = subst
-      (λ (entry : Option Entry). is_usable kept.runner.0 (option_map (λ (x : Entry). let q : Candidate = record { owner = x.owner; base = x.base; named = is_some x.slot } in q) entry) ≡ true)
+      (λ (entry : Option Entry). is_usable e (option_map (λ (x : Entry). let q : Candidate = record { owner = x.owner; base = x.base; named = is_some x.slot } in q) entry) ≡ true)
       entry usable in
       record {
         inside = subst (λ (n : ℕ). page_number m.ram_base address < n) owners-many inside;
-        owner = usable-owner kept.runner.0 m.ram_base (page_number m.ram_base address) m.endpoints.items passes ∙ sym machine.named;
+        owner = usable-owner e m.ram_base (page_number m.ram_base address) m.endpoints.items passes ∙ sym (runner-named ram m kept machine e at);
       }
 
-  pub mapped-own : (tx rx pages : ℕ) (own : Option Buffers)
-      → None ≡ first_failure (map_guards kept.runner.0 own (candidates_in kept.pages m.ram_base) tx rx pages)
-      → AreOwn m (place kept.runner.0) (new_buffers m.ram_base tx rx)
-  mapped-own tx rx pages own none =
+  pub mapped-own : (e tx rx pages : ℕ) (own : Option Buffers) → e ≡ kept.chain.runner
+      → None ≡ first_failure (map_guards e own (candidates_in kept.pages m.ram_base) tx rx pages)
+      → AreOwn m (place e) (new_buffers m.ram_base tx rx)
+  mapped-own e tx rx pages own at none =
       let (unmapped, after) = first-passes _ _ _ none in
       let (single, after) = first-passes _ _ _ after in
       let (tx_page, after) = first-passes _ _ _ after in
@@ -124,4 +124,4 @@ module _ (ram : Ram) (m : Manifest) (kept : Kept) (machine : IsMachine ram m kep
       let (apart, after) = first-passes _ _ _ after in
       let (tx_usable, after) = first-passes _ _ _ after in
       let (rx_usable, after) = first-passes _ _ _ after in
-      record { tx = own-page tx tx_page tx_usable; rx = own-page rx rx_page rx_usable }
+      record { tx = own-page e tx at tx_page tx_usable; rx = own-page e rx at rx_page rx_usable }

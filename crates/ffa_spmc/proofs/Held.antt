@@ -1,5 +1,5 @@
 -- The state that RAM and a manifest mean, part by part.
-use Rattle.std.proofs.Common.{◌≡◌, ◌∙◌, ℕ, ◌*◌, ◌<◌, ◌≤◌, Bool, false, List, [], ◌∷◌, length, Option, Some, None, refl, ap, subst, inl, inr}
+use Rattle.std.proofs.Common.{◌≡◌, ◌∙◌, ℕ, ◌*◌, ◌<◌, ◌≤◌, Bool, true, false, List, [], ◌∷◌, length, Option, Some, None, refl, sym, ap, subst, inl, inr}
 use Rattle.std.specs.Prelude.{find}
 use Rattle.std.specs.Option.{option_and_then, option_map, option_map_or}
 use Rattle.std.specs.Ordering.{nat_cmp}
@@ -12,12 +12,13 @@ use Rattle.ffa_model.specs.declared.manifest.Manifest.{Manifest}
 use Rattle.ffa_model.specs.Identifiers.{identifier, manager, place}
 use Rattle.ffa_model.specs.Ram.{Ram, page_of}
 use Rattle.ffa_model.specs.Regions.{has_page, owned_regions, owner_in, right_in, regions_at}
-use Rattle.ffa_model.specs.State.{State, Page, Transaction, owner_of, page_at}
+use Rattle.ffa_model.specs.State.{State, Page, Transaction, is_known_among, owner_of, page_at}
 use Rattle.ffa_model.specs.Access.{access, handle_at, is_naming, transaction_at, right_of}
 use Rattle.ffa_model.specs.First.{first, party_of, page_with_bytes}
 use Rattle.ffa_model.proofs.Listed.{length-listed, get_or-listed, get_or-listed_past}
 use Rattle.ffa_model.proofs.Accepted.{accepted}
 use Rattle.ffa_model.proofs.Owners.{right-own, right-unnamed}
+use Rattle.ffa_model.proofs.Places.{known-named, known-place}
 use Rattle.ffa_pages.specs.Entry.{Entry, entry_at, first_entry}
 use Rattle.ffa_spmc.specs.declared.kept.Kept.{Kept}
 use Rattle.ffa_spmc.specs.Meaning.{IsMachine, held_page, state_of}
@@ -93,6 +94,21 @@ module _ (ram : Ram) (m : Manifest) (kept : Kept) where
         page-held p lt
         ∙ ap (option_map (λ (e : Entry). let q : Page = record { owner = e.owner; base = e.base; bytes = page_of ram p } in q)) (entry-in p lt)
         ∙ page-first m.ram_base p m.endpoints.items (page_of ram p)
+
+    -- an endpoint of the run states is one of the manifest's
+    pub endpoint-known : (e : ℕ) → is_known_among (length kept.chain.works) e ≡ true → place e < length m.endpoints.items
+    endpoint-known e known =
+        subst (λ (n : ℕ). place e < n) machine.counted
+        (known-place (length kept.chain.works) e
+        (subst (λ (n : ℕ). 1 ≤ n) (sym machine.counted) (accepted m.ram_base m.ram_blocks m.endpoints.items m.accepted).some_endpoints)
+        known)
+
+    -- so is the runner
+    pub runner-known : (e : ℕ) → e ≡ kept.chain.runner → place e < length m.endpoints.items
+    runner-known e at = subst (λ (r : ℕ). place r < length m.endpoints.items) (sym at) (endpoint-known kept.chain.runner machine.sound.runner)
+
+    pub runner-named : (e : ℕ) → e ≡ kept.chain.runner → identifier (place e) ≡ e
+    runner-named e at = subst (λ (r : ℕ). identifier (place r) ≡ r) (sym at) (known-named (length kept.chain.works) kept.chain.runner machine.sound.runner)
 
     -- the access of an endpoint is the right of its own regions
     pub access-in : (i p : ℕ) → p < length ram.pages → access s (identifier i) p ≡ right_in m.ram_base (regions_at m.endpoints.items i) p

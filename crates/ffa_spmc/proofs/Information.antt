@@ -14,6 +14,7 @@ use Rattle.ffa_model.specs.State.{State, Party, Buffers}
 use Rattle.ffa_spmc.specs.declared.kept.Kept.{Kept}
 use Rattle.ffa_rxtx.specs.Parts.{with_rx_bytes}
 use Rattle.ffa_spmc.specs.Meaning.{IsMachine, state_of}
+use Rattle.ffa_spmc.proofs.Held.{runner-known}
 use Rattle.ffa_spmc.specs.Snapshot.{Snapshot}
 use Rattle.ffa_spmc.proofs.Fills.{state-filled}
 
@@ -22,9 +23,9 @@ abbrev pub decided : Bool → Bool → Bool → Bool → Option ErrorCode
 decided recognized alone has full =
     cond recognized (cond (alone || has) (cond (alone || not full) None (Some Busy)) (Some InvalidParameters)) (Some InvalidParameters)
 
-module _ (ram : Ram) (m : Manifest) (kept : Kept) (now : Snapshot) (view : record { state = state_of ram m kept; ram = ram } ≡ now) where
+module _ (ram : Ram) (m : Manifest) (kept : Kept) (now : Snapshot) (view : record { state = state_of ram m kept; ram = ram } ≡ now) (e : ℕ) (at : e ≡ kept.chain.runner) where
   abbrev own : Option Buffers
-  own = buffers_in kept.buffers kept.runner.0
+  own = buffers_in kept.buffers e
 
   pub parties-seen : map party_of m.endpoints.items ≡ now.state.parties
   unfolding first
@@ -34,7 +35,9 @@ module _ (ram : Ram) (m : Manifest) (kept : Kept) (now : Snapshot) (view : recor
       → decided (is_nil uuid || is_any (selected (map party_of m.endpoints.items) uuid)) (is_count_alone flags) (is_some own) (is_full own)
       ≡ first_failure (info_guards now.state uuid flags)
   unfolding first
-  failure-is uuid flags = ap (λ (seen : Snapshot). first_failure (info_guards seen.state uuid flags)) view
+  failure-is uuid flags =
+      (λ i. decided (is_nil uuid || is_any (selected (map party_of m.endpoints.items) uuid)) (is_count_alone flags) (is_some (buffers_in kept.buffers (at i))) (is_full (buffers_in kept.buffers (at i))))
+      ∙ ap (λ (seen : Snapshot). first_failure (info_guards seen.state uuid flags)) view
 
   pub info-unknown : (uuid : List ℕ) (flags : ℕ) → (is_nil uuid || is_any (selected (map party_of m.endpoints.items) uuid)) ≡ false
       → Some InvalidParameters ≡ first_failure (info_guards now.state uuid flags)
@@ -77,10 +80,10 @@ module _ (ram : Ram) (m : Manifest) (kept : Kept) (now : Snapshot) (view : recor
 
   -- the descriptors in RX of the runner
   pub state-informed : IsMachine ram m kept → (uuid : List ℕ) (flags : ℕ) (bytes : List ℕ) → bytes ≡ info_bytes (map party_of m.endpoints.items) uuid → is_count_alone flags ≡ false
-      → state_of (with_rx_bytes ram own bytes) m (record kept { buffers = buffers_with_rx kept.buffers kept.runner.0 true }) ≡ informed now.state uuid flags
+      → state_of (with_rx_bytes ram own bytes) m (record kept { buffers = buffers_with_rx kept.buffers e true }) ≡ informed now.state uuid flags
   unfolding first
   state-informed machine uuid flags bytes are asked =
-      state-filled ram m kept machine kept.runner.0 machine.known bytes
-      ∙ (λ i. filled (state_of ram m kept) kept.runner.0 (are i))
-      ∙ (λ i. cond (sym asked i) (state_of ram m kept) (filled (state_of ram m kept) kept.runner.0 (info_bytes (map party_of m.endpoints.items) uuid)))
+      state-filled ram m kept machine e (runner-known ram m kept machine e at) bytes
+      ∙ (λ i. filled (state_of ram m kept) (at i) (are i))
+      ∙ (λ i. cond (sym asked i) (state_of ram m kept) (filled (state_of ram m kept) kept.chain.runner (info_bytes (map party_of m.endpoints.items) uuid)))
       ∙ ap (λ (seen : Snapshot). informed seen.state uuid flags) view

@@ -17,7 +17,7 @@ use Rattle.ffa_stage2.proofs.Places.{root-address}
 use Rattle.ffa_stage2.proofs.Walks.{walk-built}
 use Rattle.ffa_spmc.specs.declared.kept.Kept.{Kept}
 use Rattle.ffa_spmc.specs.Meaning.{IsMachine, own_right, state_of}
-use Rattle.ffa_spmc.proofs.Held.{page-in}
+use Rattle.ffa_spmc.proofs.Held.{page-in, runner-known}
 use Rattle.ffa_spmc.proofs.Agreements.{WalksGive, agrees-held, root-is}
 
 module _ (ram : Ram) (m : Manifest) (kept : Kept) (machine : IsMachine ram m kept) where
@@ -30,10 +30,10 @@ module _ (ram : Ram) (m : Manifest) (kept : Kept) (machine : IsMachine ram m kep
   agrees = agrees-held ram m kept machine walks-give
 
   -- the root of the runner's table is a page of the RAM
-  pub runner-root : is_page_address ram (root (state_of ram m kept) (place kept.runner.0)) ≡ true
+  pub runner-root : is_page_address ram (root (state_of ram m kept) (place kept.chain.runner)) ≡ true
   runner-root =
-      ap (is_page_address ram) (root-is ram m kept machine (place kept.runner.0))
-      ∙ root-address ram (length m.endpoints.items) m.ram_blocks (place kept.runner.0) machine.built.fits machine.known
+      ap (is_page_address ram) (root-is ram m kept machine (place kept.chain.runner))
+      ∙ root-address ram (length m.endpoints.items) m.ram_blocks (place kept.chain.runner) machine.built.fits (runner-known ram m kept machine kept.chain.runner refl)
 
 -- a write to a page that an endpoint owns leaves the tables as they are
 pub machine-written : (ram : Ram) (m : Manifest) (kept : Kept) → IsMachine ram m kept → (p at : ℕ) (bytes : List ℕ) (page : Page)
@@ -50,8 +50,8 @@ machine-written ram m kept machine p at bytes page inside there =
       owners = machine.owners;
       each = machine.each;
       own = machine.own;
-      known = machine.known;
-      named = machine.named;
+      counted = machine.counted;
+      sound = machine.sound;
       built = built-kept ram (with_page ram p (with_bytes (page_of ram p) at bytes)) (length m.endpoints.items) m.ram_blocks (own_right m.ram_base m.endpoints.items) machine.built refl size
           (λ q low. get_or-set_other ram.pages p q (with_bytes (page_of ram p) at bytes) [] (λ same. absurd (omega (arith, low, behind, same))));
     }

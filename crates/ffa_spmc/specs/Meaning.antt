@@ -3,7 +3,6 @@ use Rattle.std.specs.Prelude.{◌≡◌, ℕ, ◌*◌, ◌<◌, List, length, Op
 use Rattle.std.specs.Option.{option_map}
 use Rattle.ffa_model.specs.declared.endpoint.Endpoint.{Endpoint}
 use Rattle.ffa_model.specs.declared.manifest.Manifest.{Manifest}
-use Rattle.ffa_model.specs.Identifiers.{identifier, place}
 use Rattle.ffa_model.specs.declared.rights.Rights.{Rights}
 use Rattle.ffa_model.specs.Lists.{listed}
 use Rattle.ffa_model.specs.Regions.{right_in, regions_at}
@@ -12,6 +11,7 @@ use Rattle.ffa_stage2.specs.Tables.{IsBuilt}
 use Rattle.ffa_model.specs.Ram.{Ram, page_of}
 use Rattle.ffa_model.specs.State.{State, Page, Buffers}
 use Rattle.ffa_model.specs.First.{first}
+use Rattle.ffa_model.specs.Sound.{IsSound}
 use Rattle.ffa_spmc.specs.Owners.{first_owners, AreOwn}
 use Rattle.ffa_spmc.specs.declared.kept.Kept.{Kept}
 
@@ -26,21 +26,23 @@ state_of ram m kept =
     record (first m.ram_base m.ram_blocks m.endpoints.items) {
       pages = listed (length ram.pages) (held_page ram kept.pages);
       buffers = kept.buffers;
-      runner = kept.runner.0;
+      runner = kept.chain.runner;
+      statuses = kept.chain.statuses;
+      works = kept.chain.works;
     }
 
 -- the right that an endpoint's regions give it, by its place in the manifest
 abbrev pub own_right : ℕ → List Endpoint → ℕ → ℕ → Option Rights
 own_right base es i p = right_in base (regions_at es i) p
 
--- RAM stands where the manifest says, the owners are the manifest's, each endpoint's buffers are its own, the runner is
--- an endpoint, and the tables are built for the endpoints' regions
+-- RAM stands where the manifest says, the owners are the manifest's, each endpoint's buffers are its own, the run states
+-- are sound, and the tables are built for the endpoints' regions
 pub record IsMachine (ram : Ram) (m : Manifest) (kept : Kept) : Type 0 where
   pub base : ram.base ≡ m.ram_base
   pub size : length ram.pages ≡ 512 * m.ram_blocks
   pub owners : kept.pages ≡ first_owners m
   pub each : length kept.buffers ≡ length m.endpoints.items
   pub own : (i : ℕ) (b : Buffers) → slice_index_or kept.buffers i None ≡ Some b → AreOwn m i b
-  pub known : place kept.runner.0 < length m.endpoints.items
-  pub named : identifier (place kept.runner.0) ≡ kept.runner.0
+  pub counted : length kept.chain.works ≡ length m.endpoints.items
+  pub sound : IsSound kept.chain
   pub built : IsBuilt ram (length m.endpoints.items) m.ram_blocks (own_right m.ram_base m.endpoints.items)

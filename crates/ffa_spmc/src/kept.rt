@@ -1,10 +1,13 @@
 //! What a machine keeps beside its RAM.
 ghost use Rattle.std.specs.Prelude.{◌≡◌, None, length, replicate};
+ghost use Rattle.ffa_model.specs.RunStates.{first_schedule};
+ghost use Rattle.ffa_model.specs.Sound.{IsSound};
 ghost use Rattle.ffa_spmc.specs.Owners.{first_owners};
 
-use ffa_model::{EndpointId, Manifest};
+use ffa_model::Manifest;
 use ffa_pages::PageTable;
 use ffa_rxtx::Buffers;
+use ffa_schedule::Chain;
 
 /// What a machine keeps beside the RAM and the manifest.
 #[derive(Drop)]
@@ -13,8 +16,8 @@ pub struct Kept {
     pub pages: PageTable,
     /// Each endpoint's buffers.
     pub buffers: Buffers,
-    /// The endpoint that runs.
-    pub runner: EndpointId,
+    /// Who runs, and for whom.
+    pub chain: Chain,
 }
 
 impl Kept {
@@ -23,12 +26,13 @@ impl Kept {
     pub fn first(manifest: &Manifest) -> Kept
         ensures pages { result.pages ≡ first_owners manifest.now }
         ensures buffers { result.buffers ≡ replicate (length manifest.now.endpoints.items) None }
-        ensures runner { result.runner.0 ≡ 0 }
+        ensures chain { result.chain ≡ first_schedule (length manifest.now.endpoints.items) }
+        ensures sound { IsSound result.chain }
     {
         Kept {
             pages: PageTable::of(manifest),
             buffers: Buffers::none(manifest.endpoints.len()),
-            runner: EndpointId::at(0),
+            chain: Chain::first(manifest.endpoints.len()),
         }
     }
 }

@@ -96,7 +96,7 @@ impl<M: PhysMem + Drop> Machine<M> {
     pub fn runner(&self) -> EndpointId
         ensures { result.0 ≡ self.now.state.runner }
     {
-        self.kept.runner
+        self.kept.chain.runner()
     }
 
     /// The number of endpoints, from 1 to 8.
@@ -133,7 +133,7 @@ impl<M: PhysMem + Drop> Machine<M> {
         ensures value { result ≡ root self.now.state (place self.now.state.runner) }
         ensures page { is_page_address self.now.ram result ≡ true }
     {
-        self.manifest.root(self.kept.runner.place())
+        self.manifest.root(self.kept.chain.runner().place())
     }
 
     fn load(&self, addr: u64, size: Size) -> Outcome
@@ -178,7 +178,7 @@ impl<M: PhysMem + Drop> Machine<M> {
             Call::RxtxMap { tx, rx, pages } => self.map(tx, rx, pages),
             Call::RxtxUnmap { endpoint } => self.unmap(endpoint),
             Call::PartitionInfoGet { uuid, flags } => self.partition_info(uuid, flags),
-            Call::IdGet => ffa_setup::id(self.kept.runner),
+            Call::IdGet => ffa_setup::id(self.kept.chain.runner()),
             Call::SpmIdGet => ffa_setup::spm_id(),
             _ => Reply::Error(ErrorCode::NotSupported),
         }
@@ -189,7 +189,8 @@ impl<M: PhysMem + Drop> Machine<M> {
         ensures served { replied self.new.state result ≡ rx_release self.old.state }
         ensures refused { is_error result ≡ true → self.new ≡ self.old }
     {
-        match self.kept.buffers.release(self.kept.runner) {
+        let runner = self.kept.chain.runner();
+        match self.kept.buffers.release(runner) {
             Ok(()) => DONE,
             Err(code) => Reply::Error(code),
         }
@@ -200,7 +201,8 @@ impl<M: PhysMem + Drop> Machine<M> {
         ensures served { replied self.new.state result ≡ rxtx_map self.old.state tx rx pages }
         ensures refused { is_error result ≡ true → self.new ≡ self.old }
     {
-        let (ram_base, runner) = (self.manifest.ram_base, self.kept.runner);
+        let ram_base = self.manifest.ram_base;
+        let runner = self.kept.chain.runner();
         let kept = &mut self.kept;
         let owners = &kept.pages;
         match kept.buffers.map(owners, ram_base, runner, tx, rx, pages) {
@@ -214,7 +216,8 @@ impl<M: PhysMem + Drop> Machine<M> {
         ensures served { replied self.new.state result ≡ rxtx_unmap self.old.state endpoint }
         ensures refused { is_error result ≡ true → self.new ≡ self.old }
     {
-        match self.kept.buffers.unmap(self.kept.runner, endpoint) {
+        let runner = self.kept.chain.runner();
+        match self.kept.buffers.unmap(runner, endpoint) {
             Ok(()) => DONE,
             Err(code) => Reply::Error(code),
         }
@@ -235,16 +238,17 @@ impl<M: PhysMem + Drop> Machine<M> {
     fn check_info(&self, uuid: [u32; 4], flags: u32) -> Result<(), ErrorCode>
         ensures { result_err result ≡ first_failure (info_guards self.now.state (uuid_bytes uuid) flags) }
     {
+        let runner = self.kept.chain.runner();
         if !ffa_setup::is_recognized(&self.manifest, uuid) {
             return Err(ErrorCode::InvalidParameters);
         }
         if is_count_alone(flags) {
             return Ok(());
         }
-        if !self.kept.buffers.has(self.kept.runner) {
+        if !self.kept.buffers.has(runner) {
             return Err(ErrorCode::InvalidParameters);
         }
-        if self.kept.buffers.is_full(self.kept.runner) {
+        if self.kept.buffers.is_full(runner) {
             return Err(ErrorCode::Busy);
         }
         Ok(())
@@ -261,7 +265,7 @@ impl<M: PhysMem + Drop> Machine<M> {
             return Reply::Success([count, 0, 0, 0, 0, 0]);
         }
         let bytes = ffa_setup::info_bytes(&self.manifest, uuid);
-        let runner = self.kept.runner;
+        let runner = self.kept.chain.runner();
         self.kept
             .buffers
             .fill(&mut self.ram, runner, bytes.as_slice());
@@ -276,7 +280,7 @@ impl<M: PhysMem + Drop> Machine<M> {
     {
         let reply = self.reply(ffa_abi::decode(x));
         Outcome::Regs {
-            runner: self.kept.runner,
+            runner: self.kept.chain.runner(),
             x: ffa_abi::encode(&reply),
         }
     }
@@ -291,9 +295,9 @@ impl<M: PhysMem + Drop> Machine<M> {
         ensures agrees { Agrees self.new.ram self.new.state }
         ensures refused { is_refusal result ≡ true → self.new ≡ self.old }
     {
-        let _ = &self.kept.runner;
+        let _ = &self.kept;
         let outcome = self.operate(op);
-        let _ = &self.kept.runner;
+        let _ = &self.kept;
         outcome
     }
 
@@ -321,6 +325,6 @@ impl<M: PhysMem + Drop> Machine<M> {
         for i in 0..ops.len() {
             filled[i] = self.op(&ops[i]);
         }
-        let _ = &self.kept.runner;
+        let _ = &self.kept;
     }
 }

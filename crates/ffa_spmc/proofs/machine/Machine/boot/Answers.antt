@@ -14,7 +14,7 @@ invariant_of-result g c =
     let m : Manifest = c.args.manifest.now in
     let cleared = zeros-of (g.M.PhysMem.ram c.args.ram) zeros m c.clear.ensures c.requires.base c.requires.size in
     subst (λ (m : Manifest). IsMachine ram m c.first.result) (sym c.copied.ensures)
-    (machine-first zeros ram m c.of.result c.first.result cleared c.of.ensures.base c.of.ensures.blocks c.of.ensures.regions c.build.ensures.built c.build.ensures.rest c.first.ensures.pages c.first.ensures.buffers c.first.ensures.runner)
+    (machine-first zeros ram m c.of.result c.first.result cleared c.of.ensures.base c.of.ensures.blocks c.of.ensures.regions c.build.ensures.built c.build.ensures.rest c.first.ensures.pages c.first.ensures.buffers c.first.ensures.chain c.first.ensures.sound)
 
 pub returns-clause-state : goal.returns-clause-state
 returns-clause-state g c =
@@ -23,7 +23,7 @@ returns-clause-state g c =
     let m : Manifest = c.args.manifest.now in
     let cleared = zeros-of (g.M.PhysMem.ram c.args.ram) zeros m c.clear.ensures c.requires.base c.requires.size in
     ap (λ (m : Manifest). state_of ram m c.first.result) c.copied.ensures
-    ∙ state-first zeros ram m c.of.result c.first.result cleared c.of.ensures.base c.of.ensures.blocks c.of.ensures.regions c.build.ensures.built c.build.ensures.rest c.first.ensures.pages c.first.ensures.buffers c.first.ensures.runner
+    ∙ state-first zeros ram m c.of.result c.first.result cleared c.of.ensures.base c.of.ensures.blocks c.of.ensures.regions c.build.ensures.built c.build.ensures.rest c.first.ensures.pages c.first.ensures.buffers c.first.ensures.chain c.first.ensures.sound
 
 pub returns-clause-agrees : goal.returns-clause-agrees
 returns-clause-agrees g c =
@@ -33,4 +33,4 @@ returns-clause-agrees g c =
     let cleared = zeros-of (g.M.PhysMem.ram c.args.ram) zeros m c.clear.ensures c.requires.base c.requires.size in
     subst (λ (m : Manifest). Agrees ram (state_of ram m c.first.result)) (sym c.copied.ensures)
     (agrees ram m c.first.result
-    (machine-first zeros ram m c.of.result c.first.result cleared c.of.ensures.base c.of.ensures.blocks c.of.ensures.regions c.build.ensures.built c.build.ensures.rest c.first.ensures.pages c.first.ensures.buffers c.first.ensures.runner))
+    (machine-first zeros ram m c.of.result c.first.result cleared c.of.ensures.base c.of.ensures.blocks c.of.ensures.regions c.build.ensures.built c.build.ensures.rest c.first.ensures.pages c.first.ensures.buffers c.first.ensures.chain c.first.ensures.sound))

@@ -10,7 +10,7 @@ use Rattle.ffa_spmc.proofs.machine.Machine.map.Goals.{in-Ok, in-Err}
 
 pub invariant_of-self : goal.invariant_of-self
 invariant_of-self g c =
-    machine-mapped (g.M.PhysMem.ram c.self.inside.ram) c.self.inside.manifest c.self.inside.kept c.self.invariant
+    machine-mapped (g.M.PhysMem.ram c.self.inside.ram) c.self.inside.manifest c.self.inside.kept c.self.invariant c.runner-runner.result.0 c.runner-runner.ensures
     c.args.tx c.args.rx c.args.pages c.map.result c.map.new.self c.map.ensures.refusal c.map.ensures.kept c.map.ensures.mapped
 
 pub returns-clause-served : goal.returns-clause-served
@@ -20,6 +20,6 @@ returns-clause-served g c =
       | in-Err w ↦ w.result-is ∙ ap done_or_error (sym w.in-Err.is)
     ] in
     ap (λ (reply : Reply). replied (state_of (g.M.PhysMem.ram c.self.inside.ram) c.self.inside.manifest (record c.self.inside.kept { buffers = c.map.new.self })) reply) reply
-    ∙ map-served (g.M.PhysMem.ram c.self.inside.ram) c.self.inside.manifest c.self.inside.kept c.self.invariant
+    ∙ map-served (g.M.PhysMem.ram c.self.inside.ram) c.self.inside.manifest c.self.inside.kept c.self.invariant c.runner-runner.result.0 c.runner-runner.ensures
     c.args.tx c.args.rx c.args.pages c.map.result c.map.new.self c.map.ensures.refusal c.map.ensures.kept c.map.ensures.mapped
     ∙ ap (λ (seen : Snapshot). rxtx_map seen.state c.args.tx c.args.rx c.args.pages) c.self.view_is

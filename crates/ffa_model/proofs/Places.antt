@@ -1,9 +1,9 @@
 -- Identifiers of endpoints, by their places.
-use Rattle.std.proofs.Common.{◌≡◌, ◌⊎◌, ℕ, ◌<◌, ◌≤◌, true, inl, inr, arith}
+use Rattle.std.proofs.Common.{◌≡◌, ◌∙◌, ◌⊎◌, ℕ, suc, ◌+◌, ◌-◌, ◌<◌, ◌≤◌, true, inl, inr, sym, ap, arith}
 use Rattle.std.specs.Prelude.{◌==◌}
 use Rattle.std.proofs.lemmas.Bool.{and_parts, eqb-true, ltb-true, or_cases}
 use Rattle.std.proofs.lemmas.Bool.Decides.{nat_tests}
-use Rattle.ffa_model.specs.Identifiers.{place}
+use Rattle.ffa_model.specs.Identifiers.{identifier, place}
 use Rattle.ffa_model.specs.State.{is_partition_among, is_known_among}
 
 -- a partition's identifier is above the manager's, and its place is an endpoint's
@@ -40,3 +40,16 @@ same-known n e f known_e known_f same = elim (known-cases n e known_e) [
         | inr partition_f ↦ (let (above_f, within_f) = partition-place n f partition_f in omega arith)
       ])
 ]
+
+-- an endpoint is the one at its place
+pub known-named : (n e : ℕ) → is_known_among n e ≡ true → identifier (place e) ≡ e
+known-named n e is = elim (known-cases n e is) [
+  | inl first ↦ ap (λ (f : ℕ). identifier (place f)) first ∙ sym first
+  | inr partition ↦ above e (partition-place n e partition).0
+]
+  where
+    above : (e : ℕ) → 0x8000 < e → identifier (place e) ≡ e
+    above e over =
+        let behind : place e ≡ suc (e - 0x8001) = omega arith in
+        let back : 0x8001 + (e - 0x8001) ≡ e = omega arith in
+        ap identifier behind ∙ back
