@@ -1,0 +1,5 @@
+pub mod Places
+pub mod Links
+pub mod Chains
+pub mod Sounds
+pub mod Steps

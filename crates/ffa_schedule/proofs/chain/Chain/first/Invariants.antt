@@ -1,0 +1,10 @@
+use Rattle.std.proofs.Common.{◌≡◌, replicate, None}
+use Rattle.arrayvec.specs.ArrayVec.{array_vec_len}
+use Rattle.ffa_schedule.proofs.chain.Chain.first.Given as goal
+
+-- the endpoints so far
+abbrev pub invariant-loop-place : goal.invariant-loop-place
+invariant-loop-place l = record {
+  count : array_vec_len l.works ≡ l._place;
+  works : l.works.items ≡ replicate l._place None;
+}

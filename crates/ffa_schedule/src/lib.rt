@@ -1,0 +1,9 @@
+//! Who runs, and for whom.
+#![tactic(auto)]
+
+pub mod chain;
+
+pub use chain::Chain;
+
+#[cfg(test)]
+mod tests;
