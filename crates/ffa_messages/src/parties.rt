@@ -34,3 +34,19 @@ pub fn has_indirect_messages(manifest: &Manifest, endpoint: EndpointId) -> bool
 {
     properties_of(manifest, endpoint).contains(Properties::INDIRECT_MESSAGES)
 }
+
+/// Whether an endpoint sends direct requests.
+#[tactic(auto, using(crate::proofs::Bits::contains_second))]
+pub fn sends_direct_requests(manifest: &Manifest, endpoint: EndpointId) -> bool
+    ensures { result ≡ has_property (map party_of manifest.now.endpoints.items) endpoint.0 1 }
+{
+    properties_of(manifest, endpoint).contains(Properties::SENDS_DIRECT_REQUESTS)
+}
+
+/// Whether an endpoint receives direct requests.
+#[tactic(auto, using(crate::proofs::Bits::contains_first))]
+pub fn receives_direct_requests(manifest: &Manifest, endpoint: EndpointId) -> bool
+    ensures { result ≡ has_property (map party_of manifest.now.endpoints.items) endpoint.0 0 }
+{
+    properties_of(manifest, endpoint).contains(Properties::RECEIVES_DIRECT_REQUESTS)
+}

@@ -1,4 +1,4 @@
-//! Messages on the machine with two partitions.
+//! Indirect messages on the machine with two partitions.
 ghost use Rattle.std.specs.Prelude.{◌≡◌, length};
 ghost use Rattle.ffa_messages.specs.Parts.{AreInRam};
 
@@ -94,7 +94,7 @@ fn part_of_a_page(rt: HostRuntime) -> Result<(), Fail> {
     assert_eq!(rt;
         &ram.page(RX)[8..28],
         [
-            0, 0, 0, 0, 0, 0, 0, 0, 22, 0, 0, 0, 2, 0x80, 1, 0x80, 2, 0, 0, 0, 7, 7, 7, 7, 9, 9
+            24, 0, 0, 0, 2, 0x80, 1, 0x80, 2, 0, 0, 0, 0, 0, 0, 0, 7, 7, 9, 9
         ]
         .as_slice()
     );
