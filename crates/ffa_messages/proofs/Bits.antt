@@ -1,0 +1,14 @@
+-- Single bits of a word.
+use Rattle.std.proofs.Common.{◌≡◌, ℕ, ◌==◌, arith, bit_and}
+use Rattle.std.proofs.lemmas.Bool.Decides.{nat_tests}
+use Rattle.std.proofs.lemmas.Nat.Bits.{and_pow}
+use Rattle.ffa_model.specs.Bits.{is_set}
+
+pub contains_first : (n : ℕ) → (bit_and n 1 == 1) ≡ is_set 0 n
+contains_first n = let e = and_pow n 0 in rw e (grind (arith, nat_tests))
+
+pub contains_second : (n : ℕ) → (bit_and n 2 == 2) ≡ is_set 1 n
+contains_second n = let e = and_pow n 1 in rw e (grind (arith, nat_tests))
+
+pub contains_third : (n : ℕ) → (bit_and n 4 == 4) ≡ is_set 2 n
+contains_third n = let e = and_pow n 2 in rw e (grind (arith, nat_tests))

@@ -1,0 +1,148 @@
+//! Direct messages (DEN0077A, 7.1 and 15).
+ghost use Rattle.std.specs.Prelude.{◌≡◌, length, map, true, OnOk, OnErr, IfOk};
+ghost use Rattle.std.specs.Option.{option_map};
+ghost use Rattle.std.specs.Result.{result_err};
+ghost use Rattle.ffa_model.specs.Bits.{high_half, low_half};
+ghost use Rattle.ffa_model.specs.Calls.{first_failure};
+ghost use Rattle.ffa_model.specs.First.{party_of};
+ghost use Rattle.ffa_model.specs.RunStates.{finished, is_waiting, request_guards, requested, requester, response_guards, status_in, work_in};
+ghost use Rattle.ffa_model.specs.Sound.{IsSound};
+ghost use Rattle.ffa_model.specs.State.{is_partition_among};
+
+#[cfg(test)]
+mod tests;
+
+use crate::parties::{is_known, receives_direct_requests, sends_direct_requests};
+use ffa_model::{EndpointId, ErrorCode, Manifest, Reply, Status, Work};
+use ffa_schedule::Chain;
+
+/// A direct message in registers: the identifier of the call in w0, w1, w2 and the payload in x3 to x7.
+#[derive(Clone, Copy, Debug, PartialEq, Eq)]
+pub struct DirectMessage {
+    pub function: u32,
+    /// The sender in the high half and the receiver in the low half.
+    pub parties: u32,
+    pub flags: u32,
+    pub payload: [u64; 5],
+}
+
+impl DirectMessage {
+    // The endpoint that the message names as its sender.
+    fn sender(&self) -> EndpointId
+        ensures { result.0 ≡ high_half self.now.parties }
+    {
+        EndpointId((self.parties / 0x1_0000) as u16)
+    }
+
+    // The endpoint that the message names as its receiver.
+    fn receiver(&self) -> EndpointId
+        ensures { result.0 ≡ low_half self.now.parties }
+    {
+        EndpointId((self.parties % 0x1_0000) as u16)
+    }
+
+    // What the receiver is passed.
+    fn passed(&self) -> Reply
+        ensures { result ≡ Reply.Passed self.now.function self.now.parties self.now.payload }
+    {
+        Reply::Passed {
+            w0: self.function,
+            w1: self.parties,
+            payload: self.payload,
+        }
+    }
+}
+
+/// FFA_MSG_SEND_DIRECT_REQ of the runner (DEN0077A, 15): it is blocked, and the receiver, which waited, works for it and
+/// runs. The reply is what the receiver sees.
+///
+/// # Errors
+///
+/// In this order: `InvalidParameters` where the message's sender isn't the runner, w2 isn't 0, or the receiver is no
+/// endpoint or the runner itself; `Denied` where the receiver is the normal world, the runner doesn't send direct
+/// requests or the receiver doesn't receive them; `Busy` where the receiver doesn't wait. An error changes nothing.
+pub fn direct_req(
+    chain: &mut Chain,
+    manifest: &Manifest,
+    message: &DirectMessage,
+) -> Result<Reply, ErrorCode>
+    requires endpoints { length chain.old.works ≡ length manifest.now.endpoints.items }
+    ensures refusal { result_err result ≡ first_failure (request_guards (map party_of manifest.now.endpoints.items) chain.old message.now.parties message.now.flags) }
+    ensures reply { IfOk result (λ reply. reply ≡ Reply.Passed message.now.function message.now.parties message.now.payload) }
+    ensures kept { OnErr result (chain.new ≡ chain.old) }
+    ensures changed { OnOk result (chain.new ≡ requested chain.old (low_half message.now.parties)) }
+    ensures sound { IsSound chain.old → IsSound chain.new }
+{
+    let receiver = free_receiver(chain, manifest, message)?;
+    chain.request(receiver);
+    Ok(message.passed())
+}
+
+/// FFA_MSG_SEND_DIRECT_RESP of the runner (DEN0077A, 15): it waits, and the endpoint whose request it answers runs. The
+/// reply is what that endpoint sees.
+///
+/// # Errors
+///
+/// In this order: `Denied` where the runner answers no request; `InvalidParameters` where the message's sender isn't the
+/// runner, its receiver isn't the endpoint that asked, or w2 isn't 0. An error changes nothing.
+pub fn direct_resp(chain: &mut Chain, message: &DirectMessage) -> Result<Reply, ErrorCode>
+    ensures refusal { result_err result ≡ first_failure (response_guards chain.old message.now.parties message.now.flags) }
+    ensures reply { IfOk result (λ reply. reply ≡ Reply.Passed message.now.function message.now.parties message.now.payload) }
+    ensures kept { OnErr result (chain.new ≡ chain.old) }
+    ensures changed { OnOk result (chain.new ≡ finished chain.old (low_half message.now.parties)) }
+    ensures sound { IsSound chain.old → IsSound chain.new }
+{
+    let requester = match requester(chain) {
+        Some(requester) => requester,
+        None => return Err(ErrorCode::Denied),
+    };
+    if message.sender() != chain.runner() || message.receiver() != requester {
+        return Err(ErrorCode::InvalidParameters);
+    }
+    if message.flags != 0 {
+        return Err(ErrorCode::InvalidParameters);
+    }
+    chain.respond();
+    Ok(message.passed())
+}
+
+// The receiver of a request that the runner may make.
+fn free_receiver(
+    chain: &Chain,
+    manifest: &Manifest,
+    message: &DirectMessage,
+) -> Result<EndpointId, ErrorCode>
+    ensures refusal { result_err result ≡ first_failure (request_guards (map party_of manifest.now.endpoints.items) chain.now message.now.parties message.now.flags) }
+    ensures receiver { IfOk result (λ receiver. receiver.0 ≡ low_half message.now.parties) }
+    ensures partition { IfOk result (λ receiver. is_partition_among (length manifest.now.endpoints.items) receiver.0 ≡ true) }
+    ensures waiting { IfOk result (λ receiver. is_waiting (status_in chain.now receiver.0) ≡ true) }
+{
+    let runner = chain.runner();
+    let receiver = message.receiver();
+    if message.sender() != runner || message.flags != 0 {
+        return Err(ErrorCode::InvalidParameters);
+    }
+    if !is_known(manifest, receiver) || receiver == runner {
+        return Err(ErrorCode::InvalidParameters);
+    }
+    if receiver == EndpointId(0) {
+        return Err(ErrorCode::Denied);
+    }
+    if !sends_direct_requests(manifest, runner) || !receives_direct_requests(manifest, receiver) {
+        return Err(ErrorCode::Denied);
+    }
+    match chain.status(receiver) {
+        Status::Waiting => Ok(receiver),
+        _ => Err(ErrorCode::Busy),
+    }
+}
+
+// The endpoint whose request the runner answers, if there is one.
+fn requester(chain: &Chain) -> Option<EndpointId>
+    ensures { option_map (λ (by : EndpointId). by.0) result ≡ requester (work_in chain.now chain.now.runner) }
+{
+    match chain.work(chain.runner()) {
+        Some(Work::Request(requester)) => Some(requester),
+        _ => None,
+    }
+}

@@ -1,0 +1,52 @@
+//! Endpoints by their identifiers: which there are, and what each takes part in.
+ghost use Rattle.std.specs.Prelude.{◌≡◌, length, map};
+ghost use Rattle.ffa_model.specs.First.{party_of};
+ghost use Rattle.ffa_model.specs.State.{has_property, is_known_among, properties_among};
+
+use bitflags::Flags;
+use ffa_model::{EndpointId, Manifest, Properties};
+
+/// Whether an identifier names an endpoint of the manifest.
+pub fn is_known(manifest: &Manifest, endpoint: EndpointId) -> bool
+    ensures { result ≡ is_known_among (length manifest.now.endpoints.items) endpoint.0 }
+{
+    let is_partition = endpoint > EndpointId::MANAGER
+        && endpoint.place() < manifest.endpoints.len();
+    endpoint == EndpointId(0) || is_partition
+}
+
+// What an endpoint takes part in, which is nothing where the manifest has no such endpoint.
+fn properties_of(manifest: &Manifest, endpoint: EndpointId) -> Properties
+    ensures { result.0 ≡ properties_among (map party_of manifest.now.endpoints.items) endpoint.0 }
+{
+    let endpoints = manifest.endpoints.as_slice();
+    if endpoint.place() < endpoints.len() {
+        endpoints[endpoint.place()].properties
+    } else {
+        Properties::empty()
+    }
+}
+
+/// Whether an endpoint sends and receives indirect messages.
+#[tactic(auto, using(crate::proofs::Bits::contains_third))]
+pub fn has_indirect_messages(manifest: &Manifest, endpoint: EndpointId) -> bool
+    ensures { result ≡ has_property (map party_of manifest.now.endpoints.items) endpoint.0 2 }
+{
+    properties_of(manifest, endpoint).contains(Properties::INDIRECT_MESSAGES)
+}
+
+/// Whether an endpoint sends direct requests.
+#[tactic(auto, using(crate::proofs::Bits::contains_second))]
+pub fn sends_direct_requests(manifest: &Manifest, endpoint: EndpointId) -> bool
+    ensures { result ≡ has_property (map party_of manifest.now.endpoints.items) endpoint.0 1 }
+{
+    properties_of(manifest, endpoint).contains(Properties::SENDS_DIRECT_REQUESTS)
+}
+
+/// Whether an endpoint receives direct requests.
+#[tactic(auto, using(crate::proofs::Bits::contains_first))]
+pub fn receives_direct_requests(manifest: &Manifest, endpoint: EndpointId) -> bool
+    ensures { result ≡ has_property (map party_of manifest.now.endpoints.items) endpoint.0 0 }
+{
+    properties_of(manifest, endpoint).contains(Properties::RECEIVES_DIRECT_REQUESTS)
+}
