@@ -213,6 +213,14 @@ pub fn is_served(function: u32) -> bool
             | FFA_RXTX_UNMAP
             | FFA_PARTITION_INFO_GET
             | FFA_ID_GET
+            | FFA_MSG_WAIT
+            | FFA_YIELD
+            | FFA_RUN
+            | FFA_MSG_SEND_DIRECT_REQ
+            | FFA_MSG_SEND_DIRECT_REQ_64
+            | FFA_MSG_SEND_DIRECT_RESP
+            | FFA_MSG_SEND_DIRECT_RESP_64
             | FFA_SPM_ID_GET
+            | FFA_MSG_SEND2
     )
 }

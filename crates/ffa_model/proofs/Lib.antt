@@ -3,3 +3,4 @@ pub mod Listed
 pub mod Owners
 pub mod Written
 pub mod Places
+pub mod Named

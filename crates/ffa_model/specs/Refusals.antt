@@ -1,5 +1,7 @@
 -- Outcomes that refuse: FFA_ERROR, and faults.
-use Rattle.std.specs.Prelude.{◌==◌, Bool, true, false, slice_index}
+use Rattle.std.specs.Prelude.{◌==◌, Bool, true, false, not, slice_index}
+use Rattle.ffa_model.specs.declared.call.Call.{Call}
+use Rattle.ffa_model.specs.declared.call.Call.TheVariants.{DirectRequest, DirectResponse}
 use Rattle.ffa_model.specs.declared.call.Reply.{Reply}
 use Rattle.ffa_model.specs.declared.operation.Outcome.{Outcome}
 use Rattle.ffa_model.specs.declared.operation.Outcome.TheVariants.{Regs, Data, Done, Fault}
@@ -14,3 +16,9 @@ is_refusal (Fault fault) = true
 -- a reply that is seen as FFA_ERROR
 abbrev pub is_error : Reply → Bool
 is_error reply = slice_index (encode reply) 0 == 0x84000060
+
+-- whether what a call passes on is not seen as FFA_ERROR
+abbrev pub passes_no_error : Call → Bool
+passes_no_error (DirectRequest function parties flags payload) = not (function == 0x84000060)
+passes_no_error (DirectResponse function parties flags payload) = not (function == 0x84000060)
+passes_no_error call = true

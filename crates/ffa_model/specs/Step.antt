@@ -13,6 +13,8 @@ use Rattle.ffa_model.specs.Calls.{Stepped, replied}
 use Rattle.ffa_model.specs.Memory.{load, store, fetch}
 use Rattle.ffa_model.specs.Setup.{version_reply, features_reply, id_reply, spm_id_reply, info_get}
 use Rattle.ffa_model.specs.Buffers.{rxtx_map, rxtx_unmap, rx_release}
+use Rattle.ffa_model.specs.RunStates.{direct_request, direct_response, run_partition, msg_wait, yield_now}
+use Rattle.ffa_model.specs.Messages.{msg_send2}
 
 abbrev pub not_supported : State → Stepped
 not_supported s = replied s (Error NotSupported)
@@ -27,11 +29,11 @@ serve s (RxtxUnmap endpoint) = rxtx_unmap s endpoint
 serve s (PartitionInfoGet uuid flags) = info_get s uuid flags
 serve s IdGet = replied s (id_reply s)
 serve s SpmIdGet = replied s spm_id_reply
-serve s MsgWait = not_supported s
-serve s Yield = not_supported s
-serve s (Run target) = not_supported s
-serve s (DirectRequest function parties flags payload) = not_supported s
-serve s (DirectResponse function parties flags payload) = not_supported s
+serve s MsgWait = msg_wait s
+serve s Yield = yield_now s
+serve s (Run target) = run_partition s target
+serve s (DirectRequest function parties flags payload) = direct_request s function parties flags payload
+serve s (DirectResponse function parties flags payload) = direct_response s function parties flags payload
 serve s (MemDonate total fragment address pages) = not_supported s
 serve s (MemLend total fragment address pages) = not_supported s
 serve s (MemShare total fragment address pages) = not_supported s
@@ -44,7 +46,7 @@ serve s (NotificationBind parties flags low high) = not_supported s
 serve s (NotificationUnbind parties flags low high) = not_supported s
 serve s (NotificationSet parties flags low high) = not_supported s
 serve s (NotificationGet receiver flags) = not_supported s
-serve s MsgSend2 = not_supported s
+serve s MsgSend2 = msg_send2 s
 serve s Unknown = not_supported s
 
 -- one operation of the runner

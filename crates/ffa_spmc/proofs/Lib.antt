@@ -9,3 +9,4 @@ pub mod Candidates
 pub mod BufferCalls
 pub mod Fills
 pub mod Information
+pub mod Schedules

@@ -1,5 +1,5 @@
 //! The machine.
-ghost use Rattle.std.specs.Prelude.{true, ◌≡◌, ◌*◌, ◌<◌, ◌≤◌, length, None, if◌then◌else◌};
+ghost use Rattle.std.specs.Prelude.{true, false, ◌≡◌, ◌==◌, ◌*◌, ◌<◌, ◌≤◌, length, None, if◌then◌else◌};
 ghost use Rattle.std.specs.Result.{result_err};
 ghost use Rattle.ffa_model.specs.Access.{access};
 ghost use Rattle.ffa_model.specs.Agreement.{Agrees, root};
@@ -9,8 +9,10 @@ ghost use Rattle.ffa_model.specs.First.{first};
 ghost use Rattle.ffa_model.specs.Memory as memory;
 ghost use Rattle.ffa_model.specs.Identifiers.{place};
 ghost use Rattle.ffa_model.specs.Ram.{zero_ram};
-ghost use Rattle.ffa_model.specs.Refusals.{is_error, is_refusal};
+ghost use Rattle.ffa_model.specs.Refusals.{is_error, is_refusal, passes_no_error};
 ghost use Rattle.ffa_model.specs.Registers.{decode};
+ghost use Rattle.ffa_model.specs.Messages.{msg_send2};
+ghost use Rattle.ffa_model.specs.RunStates.{direct_request, direct_response, msg_wait, run_partition, yield_now};
 ghost use Rattle.ffa_model.specs.Setup.{info_get, info_guards, informed, is_count_alone, selected, uuid_bytes};
 ghost use Rattle.ffa_model.specs.State.{owner_of};
 ghost use Rattle.ffa_model.specs.Step.{serve, step, outcomes, state_after};
@@ -18,6 +20,7 @@ ghost use Rattle.ffa_model.specs.Walk.{is_page_address};
 
 use crate::kept::Kept;
 use ffa_model::{Call, EndpointId, ErrorCode, Manifest, Op, Outcome, PageNo, Reply, Rights, Size};
+use ffa_messages::{DirectMessage, direct_req, direct_resp, send2};
 use ffa_physmem::PhysMem;
 use ffa_stage2::{Layout, build};
 use std::marker::Model;
@@ -168,6 +171,7 @@ impl<M: PhysMem + Drop> Machine<M> {
 
     // The reply to a call of the runner, and what the call changes.
     fn reply(&mut self, call: Call) -> Reply
+        requires { passes_no_error call ≡ true }
         ensures served { replied self.new.state result ≡ serve self.old.state call }
         ensures refused { is_error result ≡ true → self.new ≡ self.old }
     {
@@ -179,6 +183,32 @@ impl<M: PhysMem + Drop> Machine<M> {
             Call::RxtxUnmap { endpoint } => self.unmap(endpoint),
             Call::PartitionInfoGet { uuid, flags } => self.partition_info(uuid, flags),
             Call::IdGet => ffa_setup::id(self.kept.chain.runner()),
+            Call::MsgWait => self.wait(),
+            Call::Yield => self.yield_now(),
+            Call::Run { target } => self.run_partition(target),
+            Call::DirectRequest {
+                function,
+                parties,
+                flags,
+                payload,
+            } => self.request(&DirectMessage {
+                function,
+                parties,
+                flags,
+                payload,
+            }),
+            Call::DirectResponse {
+                function,
+                parties,
+                flags,
+                payload,
+            } => self.respond(&DirectMessage {
+                function,
+                parties,
+                flags,
+                payload,
+            }),
+            Call::MsgSend2 => self.send(),
             Call::SpmIdGet => ffa_setup::spm_id(),
             _ => Reply::Error(ErrorCode::NotSupported),
         }
@@ -270,6 +300,80 @@ impl<M: PhysMem + Drop> Machine<M> {
             .buffers
             .fill(&mut self.ram, runner, bytes.as_slice());
         Reply::Success([count, INFO_SIZE, 0, 0, 0, 0])
+    }
+
+    // FFA_RUN of the runner.
+    fn run_partition(&mut self, target: u32) -> Reply
+        ensures served { replied self.new.state result ≡ run_partition self.old.state target }
+        ensures refused { is_error result ≡ true → self.new ≡ self.old }
+    {
+        match self.kept.chain.run(target) {
+            Ok(reply) => reply,
+            Err(code) => Reply::Error(code),
+        }
+    }
+
+    // FFA_MSG_WAIT of the runner, whose RX is empty then.
+    fn wait(&mut self) -> Reply
+        ensures served { replied self.new.state result ≡ msg_wait self.old.state }
+        ensures refused { is_error result ≡ true → self.new ≡ self.old }
+    {
+        let runner = self.kept.chain.runner();
+        match self.kept.chain.wait() {
+            Ok(reply) => {
+                self.kept.buffers.empty(runner);
+                reply
+            }
+            Err(code) => Reply::Error(code),
+        }
+    }
+
+    // FFA_YIELD of the runner.
+    fn yield_now(&mut self) -> Reply
+        ensures served { replied self.new.state result ≡ yield_now self.old.state }
+        ensures refused { is_error result ≡ true → self.new ≡ self.old }
+    {
+        match self.kept.chain.yield_now() {
+            Ok(reply) => reply,
+            Err(code) => Reply::Error(code),
+        }
+    }
+
+    // FFA_MSG_SEND_DIRECT_REQ of the runner.
+    fn request(&mut self, message: &DirectMessage) -> Reply
+        requires { (message.now.function == 0x84000060) ≡ false }
+        ensures served { replied self.new.state result ≡ direct_request self.old.state message.now.function message.now.parties message.now.flags message.now.payload }
+        ensures refused { is_error result ≡ true → self.new ≡ self.old }
+    {
+        match direct_req(&mut self.kept.chain, &self.manifest, message) {
+            Ok(reply) => reply,
+            Err(code) => Reply::Error(code),
+        }
+    }
+
+    // FFA_MSG_SEND_DIRECT_RESP of the runner.
+    fn respond(&mut self, message: &DirectMessage) -> Reply
+        requires { (message.now.function == 0x84000060) ≡ false }
+        ensures served { replied self.new.state result ≡ direct_response self.old.state message.now.function message.now.parties message.now.flags message.now.payload }
+        ensures refused { is_error result ≡ true → self.new ≡ self.old }
+    {
+        match direct_resp(&mut self.kept.chain, message) {
+            Ok(reply) => reply,
+            Err(code) => Reply::Error(code),
+        }
+    }
+
+    // FFA_MSG_SEND2 of the runner.
+    fn send(&mut self) -> Reply
+        ensures served { replied self.new.state result ≡ msg_send2 self.old.state }
+        ensures refused { is_error result ≡ true → self.new ≡ self.old }
+    {
+        let runner = self.kept.chain.runner();
+        let buffers = &mut self.kept.buffers;
+        match send2(&mut self.ram, buffers, &self.manifest, runner) {
+            Ok(reply) => reply,
+            Err(code) => Reply::Error(code),
+        }
     }
 
     // A call of the runner, in its registers.
