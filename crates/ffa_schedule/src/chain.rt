@@ -106,8 +106,8 @@ impl Chain {
     /// # Errors
     ///
     /// In this order: `Denied` where the runner isn't the normal world; `InvalidParameters` where the word names no
-    /// partition, or an execution context that isn't 0; `Busy` where the target neither waits nor has yielded. An error
-    /// changes nothing.
+    /// partition, or an execution context that isn't 0; `Busy` where the target neither waits nor has yielded, though
+    /// there is no such partition while the normal world runs. An error changes nothing.
     pub fn run(&mut self, word: u32) -> Result<Reply, ErrorCode>
         ensures refusal { result_err result ≡ first_failure (run_guards (length self.old.works) self.old word) }
         ensures reply { IfOk result (λ reply. reply ≡ run_reply word (status_in self.old (high_half word))) }
