@@ -1,5 +1,5 @@
 //! The chain of endpoints that work for one another.
-ghost use Rattle.std.specs.Prelude.{◌≡◌, ◌==◌, ◌⊎◌, ◌||◌, ◌≤◌, ◌<◌, length, map, is_some, is_none, if◌then◌else◌, true, false, Some, None, OnOk, OnErr, IfOk, IsSomeAnd};
+ghost use Rattle.std.specs.Prelude.{◌≡◌, ◌==◌, ◌⊎◌, ◌||◌, ◌≤◌, length, is_some, true, Some, None, OnOk, OnErr, IfOk, IsSomeAnd};
 ghost use Rattle.std.specs.List.{list_any};
 ghost use Rattle.std.specs.Result.{result_err};
 ghost use Rattle.ffa_model.specs.Bits.{high_half, word_of_two};
@@ -10,7 +10,7 @@ ghost use Rattle.ffa_model.specs.Identifiers.{place};
 ghost use Rattle.ffa_model.specs.RunStates.{finished, first_schedule, given_cycles, is_endpoint, is_run, is_waiting, is_yielded, passed, requested, requester, run_guards, run_reply, status_in, switched, wait_guards, wait_reply, with_work, work_in, yield_guards, yield_reply};
 ghost use Rattle.ffa_model.specs.Sound.{IsSound, origin};
 ghost use Rattle.ffa_model.specs.State.{is_partition_among};
-ghost use Rattle.ffa_schedule.specs.Links.{has_link_at, identifiers_of, status_outside};
+ghost use Rattle.ffa_schedule.specs.Links.{status_outside};
 
 use arrayvec::ArrayVec;
 use ffa_model::{EndpointId, ErrorCode, Reply, Status, Work};
@@ -106,8 +106,8 @@ impl Chain {
     /// # Errors
     ///
     /// In this order: `Denied` where the runner isn't the normal world; `InvalidParameters` where the word names no
-    /// partition, or an execution context that isn't 0; `Busy` where the target neither waits nor has yielded. An error
-    /// changes nothing.
+    /// partition, or an execution context that isn't 0; `Busy` where the target neither waits nor has yielded, though
+    /// there is no such partition while the normal world runs. An error changes nothing.
     pub fn run(&mut self, word: u32) -> Result<Reply, ErrorCode>
         ensures refusal { result_err result ≡ first_failure (run_guards (length self.old.works) self.old word) }
         ensures reply { IfOk result (λ reply. reply ≡ run_reply word (status_in self.old (high_half word))) }
