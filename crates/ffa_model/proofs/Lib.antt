@@ -4,3 +4,4 @@ pub mod Owners
 pub mod Written
 pub mod Places
 pub mod Named
+pub mod Guards

@@ -1,6 +1,6 @@
 -- Calls on buffers leave a machine a machine, and change its state as the small machine's.
-use Rattle.std.proofs.Common.{◌≡◌, ◌∙◌, ℕ, ◌<◌, ◌≤◌, Bool, true, false, List, [], length, set, get_or, Option, Some, None, Result, Ok, Err, refl, sym, ap, subst, inl, inr, length-set}
-use Rattle.std.specs.Prelude.{⊤, OnOk, OnErr, ◌||◌, not, cond, is_some, map, IsSomeAnd}
+use Rattle.std.proofs.Common.{◌≡◌, ◌∙◌, ℕ, ◌<◌, Bool, List, length, set, get_or, Option, Some, None, Result, Ok, Err, refl, sym, ap, subst, inl, inr, length-set}
+use Rattle.std.specs.Prelude.{⊤, OnOk, OnErr}
 use Rattle.std.specs.Option.{option_map}
 use Rattle.std.specs.Result.{result_err}
 use Rattle.std.proofs.lemmas.Bool.{cases_eq}
@@ -9,8 +9,7 @@ use Rattle.ffa_model.specs.declared.call.Reply.{Reply}
 use Rattle.ffa_model.specs.declared.call.Reply.TheVariants.{Error}
 use Rattle.ffa_model.specs.declared.manifest.Manifest.{Manifest}
 use Rattle.ffa_model.specs.declared.operation.ErrorCode.{ErrorCode}
-use Rattle.ffa_model.specs.declared.operation.ErrorCode.TheVariants.{InvalidParameters, Busy}
-use Rattle.ffa_model.specs.Buffers.{buffers_in, buffers_with, buffers_with_rx, candidates, is_full, map_guards, new_buffers, release_guards, rxtx_map, unmap_guards}
+use Rattle.ffa_model.specs.Buffers.{buffers_in, buffers_with, buffers_with_rx, candidates, map_guards, new_buffers, rxtx_map}
 use Rattle.ffa_model.specs.Calls.{Stepped, answered, first_failure, replied, success}
 use Rattle.ffa_model.specs.First.{first}
 use Rattle.ffa_model.specs.Identifiers.{place}

@@ -1,20 +1,21 @@
 -- What decides whether a page may be a buffer is the same for the state and for the owners that are kept.
-use Rattle.std.proofs.Common.{◌≡◌, ◌∙◌, ℕ, ◌*◌, ◌<◌, ◌≤◌, Bool, true, false, cond, List, length, Option, Some, None, refl, sym, ap, subst, inl, inr}
-use Rattle.std.specs.Prelude.{◌==◌, ◌&&◌, is_some, is_none, find, not, nat_le, nat_lt, ◌-◌, ◌/◌, ◌%◌}
+use Rattle.std.proofs.Common.{◌≡◌, ◌∙◌, ℕ, ◌*◌, ◌<◌, ◌≤◌, true, false, List, length, Option, Some, None, refl, sym, ap, subst, inl, inr}
+use Rattle.std.specs.Prelude.{is_some, find}
 use Rattle.std.specs.Option.{option_map, option_map_or}
 use Rattle.std.proofs.lemmas.Bool.{and_parts, cases_lt, eqb-true, ltb-true}
 use Rattle.std.proofs.lemmas.List.{get_or_past}
 use Rattle.ffa_model.specs.declared.endpoint.Endpoint.{Endpoint}
 use Rattle.ffa_model.specs.declared.endpoint.Region.{Region}
 use Rattle.ffa_model.specs.declared.manifest.Manifest.{Manifest}
-use Rattle.ffa_model.specs.declared.operation.ErrorCode.{ErrorCode}
+use Rattle.ffa_model.specs.declared.operation.ErrorCode.TheVariants.{Denied}
 use Rattle.ffa_model.specs.Access.{handle_at}
-use Rattle.ffa_model.specs.Buffers.{Candidate, Candidates, candidate_at, candidates, is_page_address, is_usable, is_usable_at, map_guards, new_buffers, page_number}
+use Rattle.ffa_model.specs.Buffers.{Candidate, candidate_at, candidates, is_page_address, is_usable, is_usable_at, map_guards, new_buffers, page_number}
 use Rattle.ffa_model.specs.Calls.{first_failure}
-use Rattle.ffa_model.specs.Identifiers.{identifier, manager, place}
+use Rattle.ffa_model.specs.Identifiers.{manager, place}
 use Rattle.ffa_model.specs.Ram.{Ram, page_of}
 use Rattle.ffa_model.specs.Regions.{has_page, owned_regions, owner_in}
-use Rattle.ffa_model.specs.State.{State, Page, Buffers, page_at}
+use Rattle.ffa_model.specs.State.{State, Page, Buffers}
+use Rattle.ffa_model.proofs.Guards.{guard-passes}
 use Rattle.ffa_model.proofs.Listed.{length-listed}
 use Rattle.ffa_pages.specs.Entry.{Entry, entry_at, first_entry}
 use Rattle.ffa_rxtx.specs.Parts.{candidate_in, candidates_in}
@@ -22,14 +23,6 @@ use Rattle.ffa_spmc.specs.Owners.{AreOwn, IsOwn}
 use Rattle.ffa_spmc.specs.declared.kept.Kept.{Kept}
 use Rattle.ffa_spmc.specs.Meaning.{IsMachine, state_of}
 use Rattle.ffa_spmc.proofs.Held.{base_is, entry-in, none_named, page-held, page-past, size_is, runner-named}
-
--- where no guard fails, the first passes, and none after it fails
-first-passes : (test : Bool) (code : ErrorCode) (rest : Option ErrorCode) → None ≡ cond test rest (Some code) → (test ≡ true) × (None ≡ rest)
-first-passes true code rest none = (refl, none)
-first-passes false code rest none = absurd (none_some none)
-  where
-    none_some : None ≡ Some code → ⊥
-    none_some e = cc
 
 -- whoever may use a page of the first owners owns it
 usable-owner : (e base p : ℕ) (es : List Endpoint)
@@ -117,11 +110,5 @@ module _ (ram : Ram) (m : Manifest) (kept : Kept) (machine : IsMachine ram m kep
       → None ≡ first_failure (map_guards e own (candidates_in kept.pages m.ram_base) tx rx pages)
       → AreOwn m (place e) (new_buffers m.ram_base tx rx)
   mapped-own e tx rx pages own at none =
-      let (unmapped, after) = first-passes _ _ _ none in
-      let (single, after) = first-passes _ _ _ after in
-      let (tx_page, after) = first-passes _ _ _ after in
-      let (rx_page, after) = first-passes _ _ _ after in
-      let (apart, after) = first-passes _ _ _ after in
-      let (tx_usable, after) = first-passes _ _ _ after in
-      let (rx_usable, after) = first-passes _ _ _ after in
-      record { tx = own-page e tx at tx_page tx_usable; rx = own-page e rx at rx_page rx_usable }
+      let passes = λ (k : ℕ). guard-passes (map_guards e own (candidates_in kept.pages m.ram_base) tx rx pages) k Denied none in
+      record { tx = own-page e tx at (passes 2) (passes 5); rx = own-page e rx at (passes 3) (passes 6) }

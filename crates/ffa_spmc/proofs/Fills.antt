@@ -1,5 +1,5 @@
 -- Bytes in an endpoint's RX: they stand in a page of its own, and the state has them as RAM does.
-use Rattle.std.proofs.Common.{◌≡◌, ◌∙◌, ℕ, ◌<◌, Bool, true, List, length, Option, Some, None, refl, sym, ap, subst}
+use Rattle.std.proofs.Common.{◌≡◌, ◌∙◌, ℕ, ◌<◌, true, List, length, Option, Some, None, refl, sym, ap, subst}
 use Rattle.std.specs.Prelude.{IsSomeAnd}
 use Rattle.std.specs.Option.{option_map_or}
 use Rattle.ffa_model.specs.declared.manifest.Manifest.{Manifest}
@@ -10,7 +10,7 @@ use Rattle.ffa_model.specs.Ram.{Ram, page_of, with_page, with_bytes}
 use Rattle.ffa_model.specs.State.{State, Page, Buffers, owner_of, page_at}
 use Rattle.ffa_model.proofs.Owners.{identifier-manager}
 use Rattle.ffa_rxtx.specs.Parts.{with_rx_bytes}
-use Rattle.ffa_spmc.specs.Owners.{AreOwn, IsOwn}
+use Rattle.ffa_spmc.specs.Owners.{IsOwn}
 use Rattle.ffa_spmc.specs.declared.kept.Kept.{Kept}
 use Rattle.ffa_spmc.specs.Meaning.{IsMachine, state_of}
 use Rattle.ffa_spmc.proofs.Held.{owner-is}
@@ -23,7 +23,7 @@ module _ (ram : Ram) (m : Manifest) (kept : Kept) (machine : IsMachine ram m kep
   s = state_of ram m kept
 
   -- a page of an endpoint's own is one of the state's
-  own-inside : (i p : ℕ) → IsOwn m i p → p < length ram.pages
+  pub own-inside : (i p : ℕ) → IsOwn m i p → p < length ram.pages
   own-inside i p own = subst (λ (n : ℕ). p < n) (sym machine.size) own.inside
 
   pub own-there : (i p : ℕ) → IsOwn m i p → (page : Page) × (page_at s p ≡ Some page)

@@ -1,5 +1,5 @@
 -- The state that RAM and a manifest mean, part by part.
-use Rattle.std.proofs.Common.{◌≡◌, ◌∙◌, ℕ, ◌*◌, ◌<◌, ◌≤◌, Bool, true, false, List, [], ◌∷◌, length, Option, Some, None, refl, sym, ap, subst, inl, inr}
+use Rattle.std.proofs.Common.{◌≡◌, ◌∙◌, ℕ, ◌*◌, ◌<◌, ◌≤◌, Bool, true, false, List, [], ◌∷◌, length, map, Option, Some, None, refl, sym, ap, subst, inl, inr}
 use Rattle.std.specs.Prelude.{find}
 use Rattle.std.specs.Option.{option_and_then, option_map, option_map_or}
 use Rattle.std.specs.Ordering.{nat_cmp}
@@ -59,6 +59,10 @@ module _ (ram : Ram) (m : Manifest) (kept : Kept) where
   pub parties_are : length s.parties ≡ length m.endpoints.items
   unfolding first
   parties_are = length-map m.endpoints.items party_of
+
+  pub parties-listed : map party_of m.endpoints.items ≡ s.parties
+  unfolding first
+  parties-listed = refl
 
   pub none_open : s.transactions ≡ finite.empty
   unfolding first

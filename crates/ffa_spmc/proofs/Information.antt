@@ -10,7 +10,7 @@ use Rattle.ffa_model.specs.First.{first, party_of}
 use Rattle.ffa_model.specs.Manifest.{is_nil}
 use Rattle.ffa_model.specs.Ram.{Ram}
 use Rattle.ffa_model.specs.Setup.{info_bytes, info_guards, informed, is_any, is_count_alone, selected}
-use Rattle.ffa_model.specs.State.{State, Party, Buffers}
+use Rattle.ffa_model.specs.State.{Party, Buffers}
 use Rattle.ffa_spmc.specs.declared.kept.Kept.{Kept}
 use Rattle.ffa_rxtx.specs.Parts.{with_rx_bytes}
 use Rattle.ffa_spmc.specs.Meaning.{IsMachine, state_of}

@@ -10,3 +10,4 @@ pub mod BufferCalls
 pub mod Fills
 pub mod Information
 pub mod Schedules
+pub mod Sends

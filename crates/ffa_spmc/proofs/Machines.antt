@@ -1,5 +1,5 @@
 -- What holds of a machine's parts, and stays so.
-use Rattle.std.proofs.Common.{◌≡◌, ◌∙◌, ℕ, ◌-◌, ◌*◌, ◌/◌, ◌<◌, ◌≤◌, true, cond, List, [], length, set, Some, None, refl, sym, ap, subst, arith, length-set}
+use Rattle.std.proofs.Common.{◌≡◌, ◌∙◌, ℕ, ◌*◌, ◌<◌, ◌≤◌, true, List, [], length, set, Some, refl, sym, ap, arith, length-set}
 use Rattle.std.proofs.lemmas.List.{get_or-set_other}
 use Rattle.ffa_model.specs.declared.manifest.Manifest.{Manifest}
 use Rattle.ffa_model.specs.Agreement.{Agrees, root}
@@ -7,8 +7,7 @@ use Rattle.ffa_model.specs.Identifiers.{place}
 use Rattle.ffa_model.specs.Manifest.{table_pages}
 use Rattle.ffa_model.specs.Ram.{Ram, page_of, with_page, with_bytes}
 use Rattle.ffa_model.specs.State.{Page, page_at}
-use Rattle.ffa_model.specs.Walk.{is_page_address, is_in_ram, granted}
-use Rattle.ffa_model.specs.Regions.{right_in, regions_at}
+use Rattle.ffa_model.specs.Walk.{is_page_address}
 use Rattle.ffa_model.specs.First.{page_with_bytes}
 use Rattle.ffa_model.proofs.Accepted.{accepted}
 use Rattle.ffa_model.proofs.Owners.{owned-behind}

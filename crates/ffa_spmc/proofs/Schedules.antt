@@ -1,5 +1,5 @@
 -- Calls on run states leave a machine a machine, and change its state as the small machine's.
-use Rattle.std.proofs.Common.{◌≡◌, ◌∙◌, ℕ, true, false, List, length, set, Option, Some, None, Result, Ok, Err, refl, sym, ap, subst, length-set}
+use Rattle.std.proofs.Common.{◌≡◌, ◌∙◌, ℕ, true, false, List, length, Some, Result, Ok, Err, refl, sym, ap, length-set}
 use Rattle.std.specs.Prelude.{Bool, IfOk, OnOk, OnErr}
 use Rattle.std.specs.Result.{result_err}
 use Rattle.ffa_model.specs.declared.call.Reply.{Reply}
@@ -9,7 +9,6 @@ use Rattle.ffa_model.specs.declared.operation.ErrorCode.{ErrorCode}
 use Rattle.ffa_model.specs.declared.schedule.Status.{Status}
 use Rattle.ffa_model.specs.declared.schedule.Status.TheVariants.{Running, Waiting, Yielded, Blocked}
 use Rattle.ffa_model.specs.declared.schedule.Work.TheVariants.{Run}
-use Rattle.ffa_model.specs.declared.schedule.Work.{Work}
 use Rattle.ffa_model.specs.Calls.{answered, first_failure, replied}
 use Rattle.ffa_model.specs.First.{first}
 use Rattle.ffa_model.specs.Identifiers.{place}
@@ -20,7 +19,6 @@ use Rattle.ffa_model.specs.Sound.{IsSound}
 use Rattle.ffa_model.specs.State.{State}
 use Rattle.ffa_spmc.specs.declared.kept.Kept.{Kept}
 use Rattle.ffa_spmc.specs.Meaning.{IsMachine, state_of}
-use Rattle.ffa_spmc.specs.Snapshot.{Snapshot}
 
 -- what a call that was done or refused replies
 abbrev pub reply_or_error : Result Reply ErrorCode → Reply

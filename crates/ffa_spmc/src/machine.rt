@@ -19,8 +19,8 @@ ghost use Rattle.ffa_model.specs.Step.{serve, step, outcomes, state_after};
 ghost use Rattle.ffa_model.specs.Walk.{is_page_address};
 
 use crate::kept::Kept;
-use ffa_model::{Call, EndpointId, ErrorCode, Manifest, Op, Outcome, PageNo, Reply, Rights, Size};
 use ffa_messages::{DirectMessage, direct_req, direct_resp, send2};
+use ffa_model::{Call, EndpointId, ErrorCode, Manifest, Op, Outcome, PageNo, Reply, Rights, Size};
 use ffa_physmem::PhysMem;
 use ffa_stage2::{Layout, build};
 use std::marker::Model;

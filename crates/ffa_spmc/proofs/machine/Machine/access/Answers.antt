@@ -3,7 +3,6 @@ use Rattle.std.proofs.lemmas.Bool.{eqb-true, eqb-false}
 use Rattle.ffa_model.specs.Access.{access}
 use Rattle.ffa_model.specs.Identifiers.{identifier, place}
 use Rattle.ffa_model.specs.Ram.{Ram}
-use Rattle.ffa_model.specs.Regions.{right_in, regions_at}
 use Rattle.ffa_spmc.specs.Meaning.{state_of}
 use Rattle.ffa_spmc.specs.Snapshot.{Snapshot}
 use Rattle.ffa_spmc.proofs.Held.{access-in, access-past, access-unnamed}

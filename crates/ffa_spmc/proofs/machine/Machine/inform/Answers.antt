@@ -1,11 +1,9 @@
-use Rattle.std.proofs.Common.{◌≡◌, ◌∙◌, List, true, false, refl, sym, ap, subst}
+use Rattle.std.proofs.Common.{◌∙◌, List, true, false, refl, sym, ap, subst}
 use Rattle.std.specs.Prelude.{Option}
-use Rattle.ffa_model.specs.Buffers.{buffers_in, buffers_with_rx}
-use Rattle.ffa_model.specs.First.{party_of}
+use Rattle.ffa_model.specs.Buffers.{buffers_with_rx}
 use Rattle.ffa_model.specs.Ram.{Ram}
 use Rattle.ffa_model.specs.Setup.{uuid_bytes}
 use Rattle.ffa_model.specs.State.{Buffers}
-use Rattle.ffa_rxtx.specs.Parts.{with_rx_bytes}
 use Rattle.ffa_spmc.specs.declared.kept.Kept.{Kept}
 use Rattle.ffa_spmc.specs.Meaning.{IsMachine, state_of}
 use Rattle.ffa_spmc.proofs.Fills.{machine-filled, rx-in-ram}

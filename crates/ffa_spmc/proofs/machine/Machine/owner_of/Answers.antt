@@ -1,5 +1,4 @@
 use Rattle.std.proofs.Common.{◌∙◌, ◌<◌, ℕ, length, sym, ap, subst}
-use Rattle.ffa_model.specs.Regions.{owner_in}
 use Rattle.ffa_model.specs.State.{owner_of}
 use Rattle.ffa_spmc.specs.Snapshot.{Snapshot}
 use Rattle.ffa_spmc.proofs.Held.{owner-is, size_is}
