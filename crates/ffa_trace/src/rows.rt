@@ -67,6 +67,18 @@ fn difference(alloc: Global, lines: &[(&str, &str)]) -> Result<Option<String>, F
     Ok(None)
 }
 
+// Buffers of the normal world and of both partitions, mapped by each of them as it runs.
+const MAP_NORMAL: (&str, &str) = ("call 84000066 4001E000 4001F000 1", "0: 84000061");
+
+const MAP_FIRST: (&str, &str) = ("call 84000066 4002E000 4002F000 1", "8001: 84000061");
+
+const MAP_SECOND: (&str, &str) = ("call 84000066 4003E000 4003F000 1", "8002: 84000061");
+
+// The normal world gives a partition cycles.
+const RUN_FIRST: (&str, &str) = ("call 8400006D 80010000", "8001: 8400006D 80010000");
+
+const RUN_SECOND: (&str, &str) = ("call 8400006D 80020000", "8002: 8400006D 80020000");
+
 const INVALID_PARAMETERS: &str = "0: 84000060 0 FFFFFFFE";
 
 const DENIED: &str = "0: 84000060 0 FFFFFFFA";
@@ -93,7 +105,7 @@ fn versions_and_features(rt: HostRuntime) -> Result<(), Fail> {
 #[test]
 fn information_on_one_partition(rt: HostRuntime) -> Result<(), Fail> {
     let lines = [
-        ("call 84000066 4001E000 4001F000 1", "0: 84000061"),
+        MAP_NORMAL,
         (
             "call 84000068 33221100 77665544 BBAA9988 FFEEDDCC",
             "0: 84000061 0 1 18",
@@ -128,6 +140,145 @@ fn buffers_of_the_normal_world(rt: HostRuntime) -> Result<(), Fail> {
         ("call 84000068", INVALID_PARAMETERS),
         ("call 84000068 0 0 0 0 1", "0: 84000061 0 2"),
         ("call 84000085", "0: 84000061 0 8000"),
+    ];
+    assert_eq!(rt; difference(rt.alloc(), &lines)?, None);
+    Ok(())
+}
+
+#[test]
+fn runs_a_partition(rt: HostRuntime) -> Result<(), Fail> {
+    let lines = [
+        ("call 8400006D 80010001", INVALID_PARAMETERS),
+        ("call 8400006D 80030000", INVALID_PARAMETERS),
+        ("call 8400006D 80010000", "8001: 8400006D 80010000"),
+    ];
+    assert_eq!(rt; difference(rt.alloc(), &lines)?, None);
+    Ok(())
+}
+
+#[test]
+fn buffers_of_partitions(rt: HostRuntime) -> Result<(), Fail> {
+    let lines = [
+        RUN_FIRST,
+        ("call 84000066 4002E000 4002F000 1", "8001: 84000061"),
+        (
+            "call 84000066 4002E000 4002F000 1",
+            "8001: 84000060 0 FFFFFFFA",
+        ),
+        ("call 8400006B", "0: 8400006B 80010000"),
+        RUN_SECOND,
+        (
+            "call 84000066 4003E000 4003E000 1",
+            "8002: 84000060 0 FFFFFFFE",
+        ),
+    ];
+    assert_eq!(rt; difference(rt.alloc(), &lines)?, None);
+    Ok(())
+}
+
+#[test]
+fn yields_within_a_request(rt: HostRuntime) -> Result<(), Fail> {
+    let lines = [
+        ("call 8400006F 8001 0 AA", "8001: 8400006F 8001 0 AA"),
+        ("call 8400006C", "0: 8400006C 80010000"),
+        ("call 8400006F 8001 0 AA", "0: 84000060 0 FFFFFFFC"),
+        ("call 8400006D 80010000", "8001: 84000061"),
+        ("call 8400006B", "8001: 84000060 0 FFFFFFFA"),
+        ("call 84000070 80010000 0 BB", "0: 84000070 80010000 0 BB"),
+    ];
+    assert_eq!(rt; difference(rt.alloc(), &lines)?, None);
+    Ok(())
+}
+
+#[test]
+fn passes_wide_payloads_whole(rt: HostRuntime) -> Result<(), Fail> {
+    let lines = [
+        (
+            "call C400006F 8001 0 1122334455667788",
+            "8001: C400006F 8001 0 1122334455667788",
+        ),
+        ("call 84000070 80010000", "0: 84000070 80010000"),
+        (
+            "call 8400006F 8001 0 1122334455667788",
+            "8001: 8400006F 8001 0 55667788",
+        ),
+    ];
+    assert_eq!(rt; difference(rt.alloc(), &lines)?, None);
+    Ok(())
+}
+
+#[test]
+fn requests_in_a_chain(rt: HostRuntime) -> Result<(), Fail> {
+    let lines = [
+        RUN_FIRST,
+        ("call 8400006F 80018002", "8002: 8400006F 80018002"),
+        ("call 8400006F 80028001", "8002: 84000060 0 FFFFFFFC"),
+        ("call 8400006B", "8002: 84000060 0 FFFFFFFA"),
+        ("call 84000070 80028001", "8001: 84000070 80028001"),
+    ];
+    assert_eq!(rt; difference(rt.alloc(), &lines)?, None);
+    Ok(())
+}
+
+#[test]
+fn refused_run_states(rt: HostRuntime) -> Result<(), Fail> {
+    let lines = [
+        ("call 8400006B", DENIED),
+        ("call 8400006C", DENIED),
+        ("call 8400006F 8003", INVALID_PARAMETERS),
+        ("call 8400006F 0", INVALID_PARAMETERS),
+        RUN_FIRST,
+        ("call 8400006F 80010000", "8001: 84000060 0 FFFFFFFA"),
+        ("call 8400006F 80018001", "8001: 84000060 0 FFFFFFFE"),
+        ("call 8400006F 80018002", "8002: 8400006F 80018002"),
+        ("call 8400006C", "8002: 84000060 0 FFFFFFFA"),
+        ("call 84000070 80020000", "8002: 84000060 0 FFFFFFFE"),
+    ];
+    assert_eq!(rt; difference(rt.alloc(), &lines)?, None);
+    Ok(())
+}
+
+// The header of a message of the first partition to the second stands in TX from 4002E000 on: the offset at 8, the
+// receiver at 12, the sender at 14 and the size at 16.
+#[test]
+fn sends_a_page(rt: HostRuntime) -> Result<(), Fail> {
+    let lines = [
+        RUN_SECOND,
+        MAP_SECOND,
+        ("call 8400006B", "0: 8400006B 80020000"),
+        RUN_FIRST,
+        MAP_FIRST,
+        ("store 4002E008 00000014", "done"),
+        ("store 4002E00C 8002", "done"),
+        ("store 4002E00E 8001", "done"),
+        ("store 4002E010 00000FED", "done"),
+        ("store 4002EFF8 1122334455667788", "done"),
+        ("call 84000086", "8001: 84000060 0 FFFFFFFE"),
+        ("store 4002E010 00000FEC", "done"),
+        ("call 84000086", "8001: 84000061"),
+        ("call 84000086", "8001: 84000060 0 FFFFFFFC"),
+        ("call 8400006B", "0: 8400006B 80010000"),
+        RUN_SECOND,
+        ("load 4003F008 8", "data 8001800200000014"),
+        ("load 4003FFF8 8", "data 1122334455667788"),
+        ("call 84000065", "8002: 84000061"),
+        ("call 84000065", "8002: 84000060 0 FFFFFFFA"),
+    ];
+    assert_eq!(rt; difference(rt.alloc(), &lines)?, None);
+    Ok(())
+}
+
+#[test]
+fn a_wait_empties_rx(rt: HostRuntime) -> Result<(), Fail> {
+    let lines = [
+        RUN_FIRST,
+        MAP_FIRST,
+        ("call 84000068 0 0 0 0 0", "8001: 84000061 0 2 18"),
+        ("call 84000068 0 0 0 0 0", "8001: 84000060 0 FFFFFFFC"),
+        ("call 8400006B", "0: 8400006B 80010000"),
+        RUN_FIRST,
+        ("call 84000065", "8001: 84000060 0 FFFFFFFA"),
+        ("load 4002F000 8", "data 0000010F00018001"),
     ];
     assert_eq!(rt; difference(rt.alloc(), &lines)?, None);
     Ok(())
