@@ -38,13 +38,13 @@ none_in_ram pages zero place b is = absurd (none_some b is)
 none_in_ram pages (suc n) zero b is = absurd (none_some b is)
 none_in_ram pages (suc n) (suc i) b is = none_in_ram pages n i b is
 
-pub written_in_ram : (pages e : ℕ) (buffers : List (Option Buffers)) (b : Buffers) → AreInRam pages buffers → b.tx < pages → b.rx < pages → AreInRam pages (buffers_with buffers e (Some b))
-written_in_ram pages e buffers b within tx rx =
-    each-set (λ (q : Buffers). (q.tx < pages) × (q.rx < pages)) buffers (place e) (Some b) within (λ q is. (let same : b ≡ q = cc in rw (← same) (tx, rx)))
+pub written_in_ram : (pages e : ℕ) (buffers : List (Option Buffers)) (own : Option Buffers) → AreInRam pages buffers
+    → ((b : Buffers) → own ≡ Some b → (b.tx < pages) × (b.rx < pages)) → AreInRam pages (buffers_with buffers e own)
+written_in_ram pages e buffers own within here =
+    each-set (λ (b : Buffers). (b.tx < pages) × (b.rx < pages)) buffers (place e) own within here
 
 pub full_in_ram : (pages e : ℕ) (buffers : List (Option Buffers)) (full : Bool) → AreInRam pages buffers → AreInRam pages (buffers_with_rx buffers e full)
-full_in_ram pages e buffers full within =
-    each-set (λ (q : Buffers). (q.tx < pages) × (q.rx < pages)) buffers (place e) _ within (of (buffers_in buffers e) (within (place e)))
+full_in_ram pages e buffers full within = written_in_ram pages e buffers _ within (of (buffers_in buffers e) (within (place e)))
   where
     of : (own : Option Buffers) → ((b : Buffers) → own ≡ Some b → (b.tx < pages) × (b.rx < pages))
         → (q : Buffers) → option_map (λ (b : Buffers). record b { full = full }) own ≡ Some q → (q.tx < pages) × (q.rx < pages)

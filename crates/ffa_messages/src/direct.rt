@@ -9,12 +9,12 @@ ghost use Rattle.ffa_model.specs.RunStates.{finished, is_waiting, request_guards
 ghost use Rattle.ffa_model.specs.Sound.{IsSound};
 ghost use Rattle.ffa_model.specs.State.{is_partition_among};
 
-#[cfg(test)]
-mod tests;
-
 use crate::parties::{is_known, receives_direct_requests, sends_direct_requests};
 use ffa_model::{EndpointId, ErrorCode, Manifest, Reply, Status, Work};
 use ffa_schedule::Chain;
+
+#[cfg(test)]
+mod tests;
 
 /// A direct message in registers: the identifier of the call in w0, w1, w2 and the payload in x3 to x7.
 #[derive(Clone, Copy, Debug, PartialEq, Eq)]

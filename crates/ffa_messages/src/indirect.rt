@@ -9,14 +9,14 @@ ghost use Rattle.ffa_model.specs.Ram.{number_in};
 ghost use Rattle.ffa_rxtx.specs.Parts.{with_rx_bytes};
 ghost use Rattle.ffa_messages.specs.Parts.{AreInRam, tx_in};
 
-#[cfg(test)]
-mod tests;
-
 use crate::parties::{has_indirect_messages, is_known};
 use byteorder::{ByteOrder, LittleEndian};
 use ffa_model::{EndpointId, ErrorCode, Manifest, Reply};
 use ffa_physmem::{PAGE_SIZE, PhysMem};
 use ffa_rxtx::Buffers;
+
+#[cfg(test)]
+mod tests;
 
 /// How many bytes the header of a message has.
 const HEADER_SIZE: u32 = 20;
