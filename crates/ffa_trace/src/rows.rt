@@ -33,14 +33,10 @@ fn printed(alloc: Global, short: &str) -> Result<String, Fail> {
     };
     text.push_str("regs ")?;
     push_padded(&mut text, runner, 4)?;
-    let mut count = 0;
-    for register in registers.split(' ') {
+    let mut written = registers.split(' ');
+    for _register in 0..8 {
         text.push_str(" ")?;
-        push_padded(&mut text, register, 16)?;
-        count += 1;
-    }
-    for _register in count..8 {
-        text.push_str(" 0000000000000000")?;
+        push_padded(&mut text, written.next().unwrap_or(""), 16)?;
     }
     text.push_str("\n")?;
     Ok(text)
