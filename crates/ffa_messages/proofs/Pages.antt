@@ -1,9 +1,10 @@
 -- The pages of buffers.
-use Rattle.std.proofs.Common.{◌≡◌, ◌∙◌, ℕ, zero, suc, ◌<◌, Bool, true, List, [], ◌∷◌, length, replicate, Option, None, Some, Result, Ok, Err, is_some, get_or, set, refl, ap}
+use Rattle.std.proofs.Common.{◌≡◌, ◌∙◌, ℕ, zero, suc, ◌<◌, Bool, true, List, [], ◌∷◌, length, Option, None, Some, Result, Ok, Err, is_some, get_or, set, refl, ap}
 use Rattle.std.specs.Option.{IsSomeAnd, option_map}
 use Rattle.std.specs.Result.{OnOk, OnErr}
 use Rattle.std.proofs.lemmas.List.{length-set}
 use Rattle.std.proofs.lemmas.Bool.{false≢true}
+use Rattle.std.proofs.lemmas.Option.{none-some}
 use Rattle.ffa_model.specs.Buffers.{buffers_in, buffers_with, buffers_with_rx}
 use Rattle.ffa_model.specs.Identifiers.{place}
 use Rattle.ffa_model.specs.Ram.{Ram}
@@ -19,9 +20,6 @@ rx_in_ram pages e buffers within has = of (buffers_in buffers e) refl has
     of None is has = absurd (false≢true has)
     of (Some b) is has = (within _ b is).1
 
-none_some : {X : Type 0} (x : X) → None ≡ Some x → ⊥
-none_some x e = cc
-
 -- what holds of all that stand in a list holds after one was written of which it holds
 each-set : {X : Type 0} (P : X → Type 0) (xs : List (Option X)) (k : ℕ) (own : Option X)
     → ((i : ℕ) (x : X) → get_or xs i None ≡ Some x → P x) → ((x : X) → own ≡ Some x → P x)
@@ -32,12 +30,7 @@ each-set P (y ∷ ys) zero own all here (suc i) x is = all (suc i) x is
 each-set P (y ∷ ys) (suc k) own all here zero x is = all zero x is
 each-set P (y ∷ ys) (suc k) own all here (suc i) x is = each-set P ys k own (λ j. all (suc j)) here i x is
 
--- no buffers, buffers that were written, and an RX that is full or empty
-pub none_in_ram : (pages endpoints : ℕ) → AreInRam pages (replicate endpoints None)
-none_in_ram pages zero place b is = absurd (none_some b is)
-none_in_ram pages (suc n) zero b is = absurd (none_some b is)
-none_in_ram pages (suc n) (suc i) b is = none_in_ram pages n i b is
-
+-- buffers that were written, and an RX that is full or empty, leave all buffers in RAM
 pub written_in_ram : (pages e : ℕ) (buffers : List (Option Buffers)) (own : Option Buffers) → AreInRam pages buffers
     → ((b : Buffers) → own ≡ Some b → (b.tx < pages) × (b.rx < pages)) → AreInRam pages (buffers_with buffers e own)
 written_in_ram pages e buffers own within here =
@@ -48,7 +41,7 @@ full_in_ram pages e buffers full within = written_in_ram pages e buffers _ withi
   where
     of : (own : Option Buffers) → ((b : Buffers) → own ≡ Some b → (b.tx < pages) × (b.rx < pages))
         → (q : Buffers) → option_map (λ (b : Buffers). record b { full = full }) own ≡ Some q → (q.tx < pages) × (q.rx < pages)
-    of None own q is = absurd (none_some q is)
+    of None own q is = absurd (none-some q is)
     of (Some b) own q is = let (tx, rx) = own b refl in let t : b.tx ≡ q.tx = cc in let r : b.rx ≡ q.rx = cc in (rw (← t) tx, rw (← r) rx)
 
 -- a call that fills an RX or fails leaves all buffers in RAM, and RAM its size

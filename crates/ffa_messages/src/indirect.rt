@@ -7,7 +7,7 @@ ghost use Rattle.ffa_model.specs.First.{party_of};
 ghost use Rattle.ffa_model.specs.Messages.{header_in, message_in, send2_guards};
 ghost use Rattle.ffa_model.specs.Ram.{number_in};
 ghost use Rattle.ffa_rxtx.specs.Parts.{with_rx_bytes};
-ghost use Rattle.ffa_messages.specs.Parts.{AreInRam, tx_in};
+ghost use Rattle.ffa_messages.specs.Parts.{AreInRam, receiver_in, sent_in};
 
 use crate::parties::{has_indirect_messages, is_known};
 use byteorder::{ByteOrder, LittleEndian};
@@ -118,12 +118,12 @@ pub fn send2<M: PhysMem>(
     caller: EndpointId,
 ) -> Result<Reply, ErrorCode>
     requires pages { AreInRam (length (M.ram ram.old).pages) buffers.old }
-    ensures refusal { result_err result ≡ first_failure (send2_guards (map party_of manifest.now.endpoints.items) buffers.old caller.0 (header_in (tx_in (M.ram ram.old) (buffers_in buffers.old caller.0)))) }
+    ensures refusal { result_err result ≡ first_failure (send2_guards (map party_of manifest.now.endpoints.items) buffers.old caller.0 (header_in (sent_in (M.ram ram.old) buffers.old caller.0))) }
     ensures reply { IfOk result (λ reply. reply ≡ success 0 0) }
     ensures kept_ram { OnErr result (M.ram ram.new ≡ M.ram ram.old) }
     ensures kept { OnErr result (buffers.new ≡ buffers.old) }
-    ensures ram { OnOk result (M.ram ram.new ≡ with_rx_bytes (M.ram ram.old) (buffers_in buffers.old (header_in (tx_in (M.ram ram.old) (buffers_in buffers.old caller.0))).receiver) (message_in (tx_in (M.ram ram.old) (buffers_in buffers.old caller.0)))) }
-    ensures full { OnOk result (buffers.new ≡ buffers_with_rx buffers.old (header_in (tx_in (M.ram ram.old) (buffers_in buffers.old caller.0))).receiver true) }
+    ensures ram { OnOk result (M.ram ram.new ≡ with_rx_bytes (M.ram ram.old) (buffers_in buffers.old (receiver_in (M.ram ram.old) buffers.old caller.0)) (message_in (sent_in (M.ram ram.old) buffers.old caller.0))) }
+    ensures full { OnOk result (buffers.new ≡ buffers_with_rx buffers.old (receiver_in (M.ram ram.old) buffers.old caller.0) true) }
 {
     let mapped = match buffers.of(caller) {
         Some(mapped) => mapped,

@@ -1,6 +1,7 @@
 -- Loads, fetches and stores of a machine are those of its state.
 use Rattle.std.proofs.Common.{◌≡◌, ◌∙◌, ℕ, ◌-◌, ◌/◌, ◌%◌, ◌<◌, ◌≤◌, Bool, true, false, List, length, Option, Some, None, Result, Ok, Err, refl, sym, ap, subst, arith}
 use Rattle.std.specs.Prelude.{⊤, ◌==◌}
+use Rattle.std.proofs.lemmas.Option.{none-some}
 use Rattle.byteorder.specs.Endian.{little_bytes}
 use Rattle.ffa_model.specs.declared.leaf.Leaf.{Leaf}
 use Rattle.ffa_model.specs.declared.manifest.Manifest.{Manifest}
@@ -40,14 +41,8 @@ done_or_fault (Err fault) = Fault fault
 -- who meets no fault has a right
 right-of : (aligned : Bool) (right : Option Rights) (may : Option Rights → Bool) → fault_of aligned right may ≡ None → (r : Rights) × (right ≡ Some r)
 right-of true (Some r) may none = (r, refl)
-right-of true None may none = absurd (some_none none)
-  where
-    some_none : Some Translation ≡ None → ⊥
-    some_none e = cc
-right-of false right may none = absurd (some_none none)
-  where
-    some_none : Some Alignment ≡ None → ⊥
-    some_none e = cc
+right-of true None may none = absurd (none-some Translation (sym none))
+right-of false right may none = absurd (none-some Alignment (sym none))
 
 module _ (ram : Ram) (m : Manifest) (kept : Kept) (machine : IsMachine ram m kept) where
   abbrev s : State

@@ -4,6 +4,7 @@ use Rattle.std.specs.Prelude.{◌&&◌, nat_le, nat_lt}
 use Rattle.std.specs.Option.{option_map, option_and_then}
 use Rattle.std.proofs.lemmas.Bool.{cases_lt}
 use Rattle.std.proofs.lemmas.Bool.Decides.{nat_tests}
+use Rattle.std.proofs.lemmas.Option.{none-some, same_Some}
 use Rattle.ffa_model.specs.declared.manifest.Manifest.{Manifest}
 use Rattle.ffa_model.specs.declared.rights.Rights.{Rights}
 use Rattle.ffa_model.specs.Agreement.{Agrees, blocks_of, root}
@@ -71,18 +72,12 @@ module _ (ram : Ram) (m : Manifest) (kept : Kept) (machine : IsMachine ram m kep
   bytes-are : (p : ℕ) (page : Page) → page_at s p ≡ Some page → page_of ram p ≡ page.bytes
   bytes-are p page there = elim (cases_lt p (length ram.pages)) [
     | inl lt ↦ of (entry_at kept.pages p) (sym (page-held ram m kept p lt) ∙ there)
-    | inr past ↦ absurd (none_some (sym (page-past ram m kept p past) ∙ there))
+    | inr past ↦ absurd (none-some page (sym (page-past ram m kept p past) ∙ there))
   ]
     where
-      none_some : None ≡ Some page → ⊥
-      none_some e = cc
-
       of : (o : Option Entry) → option_map (λ (e : Entry). let q : Page = record { owner = e.owner; base = e.base; bytes = page_of ram p } in q) o ≡ Some page → page_of ram p ≡ page.bytes
-      of None e = absurd (none_some e)
-      of (Some x) e = ap (λ (q : Page). q.bytes) (some_is e)
-        where
-          some_is : Some (let q : Page = record { owner = x.owner; base = x.base; bytes = page_of ram p } in q) ≡ Some page → (let q : Page = record { owner = x.owner; base = x.base; bytes = page_of ram p } in q) ≡ page
-          some_is e = cc
+      of None e = absurd (none-some page e)
+      of (Some x) e = ap (λ (q : Page). q.bytes) (same_Some _ page e)
 
   pub agrees-held : WalksGive ram m → Agrees ram s
   agrees-held walks =

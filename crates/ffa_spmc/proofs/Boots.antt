@@ -2,6 +2,7 @@
 use Rattle.std.proofs.Common.{◌≡◌, ◌∙◌, ℕ, suc, zero, ◌*◌, ◌<◌, ◌≤◌, List, [], ◌∷◌, length, get_or, replicate, Option, Some, None, refl, sym, ap, subst, arith, inl, inr}
 use Rattle.std.proofs.lemmas.Bool.{cases_lt}
 use Rattle.std.proofs.lemmas.List.{get_or-replicate, length-map, length-replicate}
+use Rattle.std.proofs.lemmas.Option.{none-some}
 use Rattle.arrayvec.specs.ArrayVec.{array_vec_len}
 use Rattle.ffa_model.specs.declared.endpoint.Endpoint.{Endpoint}
 use Rattle.ffa_model.specs.declared.endpoint.Region.{Region}
@@ -79,14 +80,8 @@ module _ (zeros ram : Ram) (m : Manifest) (layout : Layout) (kept : Kept)
       (built-same ram (array_vec_len layout.regions) layout.blocks (right_in layout) (own_right m.ram_base es) built (λ e p _ _. right-is e p)))
 
   none-mapped : (n i : ℕ) (b : Buffers) → get_or (replicate n None) i None ≡ Some b → ⊥
-  none-mapped zero i b is = none_some is
-    where
-      none_some : None ≡ Some b → ⊥
-      none_some e = cc
-  none-mapped (suc n) zero b is = none_some is
-    where
-      none_some : None ≡ Some b → ⊥
-      none_some e = cc
+  none-mapped zero i b is = none-some b is
+  none-mapped (suc n) zero b is = none-some b is
   none-mapped (suc n) (suc i) b is = none-mapped n i b is
 
   pub machine-first : IsMachine ram m kept

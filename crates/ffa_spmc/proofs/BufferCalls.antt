@@ -5,6 +5,7 @@ use Rattle.std.specs.Option.{option_map}
 use Rattle.std.specs.Result.{result_err}
 use Rattle.std.proofs.lemmas.Bool.{cases_eq}
 use Rattle.std.proofs.lemmas.List.{get_or-set_same, get_or-set_other}
+use Rattle.std.proofs.lemmas.Option.{none-some, same_Some}
 use Rattle.ffa_model.specs.declared.call.Reply.{Reply}
 use Rattle.ffa_model.specs.declared.call.Reply.TheVariants.{Error}
 use Rattle.ffa_model.specs.declared.manifest.Manifest.{Manifest}
@@ -62,20 +63,11 @@ module _ (ram : Ram) (m : Manifest) (kept : Kept) (machine : IsMachine ram m kep
     machine-rx full = machine-with (option_map (λ (b : Buffers). record b { full = full }) (buffers_in kept.buffers f)) (λ b is. of (buffers_in kept.buffers f) refl b is)
       where
         of : (o : Option Buffers) → buffers_in kept.buffers f ≡ o → (b : Buffers) → option_map (λ (x : Buffers). let y : Buffers = record x { full = full } in y) o ≡ Some b → AreOwn m (place f) b
-        of None at b is = absurd (none_some is)
-          where
-            none_some : None ≡ Some b → ⊥
-            none_some e = cc
-        of (Some x) at b is = subst (AreOwn m (place f)) (some_is is) (let own = machine.own (place f) x at in record { tx = own.tx; rx = own.rx })
-          where
-            some_is : Some (let y : Buffers = record x { full = full } in y) ≡ Some b → (let y : Buffers = record x { full = full } in y) ≡ b
-            some_is e = cc
+        of None at b is = absurd (none-some b is)
+        of (Some x) at b is = subst (AreOwn m (place f)) (same_Some _ b is) (let own = machine.own (place f) x at in record { tx = own.tx; rx = own.rx })
 
     pub machine-unmapped : Remains (buffers_with kept.buffers f None)
-    machine-unmapped = machine-with None (λ b is. absurd (none_some b is))
-      where
-        none_some : (b : Buffers) → None ≡ Some b → ⊥
-        none_some b e = cc
+    machine-unmapped = machine-with None (λ b is. absurd (none-some b is))
 
   -- a call that either keeps the buffers or leaves these
   pub machine-either : {X : Type 0} (r : Result X ErrorCode) (changed list : List (Option Buffers))
@@ -99,10 +91,7 @@ module _ (ram : Ram) (m : Manifest) (kept : Kept) (machine : IsMachine ram m kep
               → OnErr r (list ≡ kept.buffers) → OnOk r (list ≡ buffers_with kept.buffers e (Some (new_buffers m.ram_base tx rx))) → Remains list
           of (Ok done) passes same is =
               subst Remains (sym is) (machine-with e (runner-known ram m kept machine e at) (Some (new_buffers m.ram_base tx rx))
-              (λ b one. subst (AreOwn m (place e)) (some_is b one) (mapped-own ram m kept machine e tx rx pages (buffers_in kept.buffers e) at passes)))
-            where
-              some_is : (b : Buffers) → Some (new_buffers m.ram_base tx rx) ≡ Some b → new_buffers m.ram_base tx rx ≡ b
-              some_is b e = cc
+              (λ b one. subst (AreOwn m (place e)) (same_Some _ b one) (mapped-own ram m kept machine e tx rx pages (buffers_in kept.buffers e) at passes)))
           of (Err code) fails same is = subst Remains (sym same) machine
 
       pub map-served : replied (state_of ram m (record kept { buffers = list })) (done_or_error r) ≡ rxtx_map s tx rx pages

@@ -1,9 +1,10 @@
 -- What decides whether a page may be a buffer is the same for the state and for the owners that are kept.
-use Rattle.std.proofs.Common.{◌≡◌, ◌∙◌, ℕ, ◌*◌, ◌<◌, ◌≤◌, true, false, List, length, Option, Some, None, refl, sym, ap, subst, inl, inr}
+use Rattle.std.proofs.Common.{◌≡◌, ◌∙◌, ℕ, ◌*◌, ◌<◌, ◌≤◌, true, List, length, Option, Some, None, refl, sym, ap, subst, inl, inr}
 use Rattle.std.specs.Prelude.{is_some, find}
 use Rattle.std.specs.Option.{option_map, option_map_or}
-use Rattle.std.proofs.lemmas.Bool.{and_parts, cases_lt, eqb-true, ltb-true}
+use Rattle.std.proofs.lemmas.Bool.{and_parts, cases_lt, eqb-true, false≢true, ltb-true}
 use Rattle.std.proofs.lemmas.List.{get_or_past}
+use Rattle.std.proofs.lemmas.Option.{none-some, same_Some}
 use Rattle.ffa_model.specs.declared.endpoint.Endpoint.{Endpoint}
 use Rattle.ffa_model.specs.declared.endpoint.Region.{Region}
 use Rattle.ffa_model.specs.declared.manifest.Manifest.{Manifest}
@@ -34,10 +35,7 @@ usable-owner e base p es = of (find (λ (x : ℕ × Region). has_page base p x.1
         → is_usable e (option_map (λ (x : Entry). let q : Candidate = record { owner = x.owner; base = x.base; named = is_some x.slot } in q)
         (option_map (λ (x : ℕ × Region). let y : Entry = record { owner = x.0; base = x.1.rights; slot = None } in y) o)) ≡ true
         → option_map_or (λ (x : ℕ × Region). x.0) o manager ≡ e
-    of None h = absurd (false_true h)
-      where
-        false_true : false ≡ true → ⊥
-        false_true e = cc
+    of None h = absurd (false≢true h)
     of (Some x) h = let (alone, writable) = and_parts _ _ h in let (owner, unnamed) = and_parts _ _ alone in eqb-true x.0 e owner
 
 module _ (ram : Ram) (m : Manifest) (kept : Kept) (machine : IsMachine ram m kept) where
@@ -65,14 +63,8 @@ module _ (ram : Ram) (m : Manifest) (kept : Kept) (machine : IsMachine ram m kep
       unnamed p lt x is = from (find (λ (y : ℕ × Region). has_page m.ram_base p y.1) (owned_regions m.endpoints.items)) (sym (entry-in ram m kept machine p lt) ∙ is)
         where
           from : (o : Option (ℕ × Region)) → option_map (λ (y : ℕ × Region). let z : Entry = record { owner = y.0; base = y.1.rights; slot = None } in z) o ≡ Some x → x.slot ≡ None
-          from None e = absurd (none_some e)
-            where
-              none_some : None ≡ Some x → ⊥
-              none_some e = cc
-          from (Some y) e = sym (ap (λ (z : Entry). z.slot) (some_is e))
-            where
-              some_is : Some (let z : Entry = record { owner = y.0; base = y.1.rights; slot = None } in z) ≡ Some x → (let z : Entry = record { owner = y.0; base = y.1.rights; slot = None } in z) ≡ x
-              some_is e = cc
+          from None e = absurd (none-some x e)
+          from (Some y) e = sym (ap (λ (z : Entry). z.slot) (same_Some _ x e))
 
       of : (o : Option Entry) → ((x : Entry) → o ≡ Some x → x.slot ≡ None)
           → option_map (λ (page : Page). let q : Candidate = record { owner = page.owner; base = page.base; named = is_some (handle_at s p) } in q)

@@ -1,6 +1,7 @@
 -- Partition information: its checks and what they leave, from what the code tests.
 use Rattle.std.proofs.Common.{◌≡◌, ◌∙◌, ℕ, Bool, true, false, cond, List, length, map, Option, Some, None, refl, sym, ap}
 use Rattle.std.specs.Prelude.{◌||◌, is_some, not}
+use Rattle.std.proofs.lemmas.Option.{none-some}
 use Rattle.ffa_model.specs.declared.manifest.Manifest.{Manifest}
 use Rattle.ffa_model.specs.declared.operation.ErrorCode.{ErrorCode}
 use Rattle.ffa_model.specs.declared.operation.ErrorCode.TheVariants.{InvalidParameters, Busy}
@@ -69,14 +70,8 @@ module _ (ram : Ram) (m : Manifest) (kept : Kept) (now : Snapshot) (view : recor
     where
       of : (o : Option Buffers) → own ≡ o → (recognized : Bool) → decided recognized false (is_some o) (is_full o) ≡ None → (b : Buffers) × (own ≡ Some b)
       of (Some b) is recognized none = (b, is)
-      of None is true none = absurd (some_none none)
-        where
-          some_none : Some InvalidParameters ≡ None → ⊥
-          some_none e = cc
-      of None is false none = absurd (some_none none)
-        where
-          some_none : Some InvalidParameters ≡ None → ⊥
-          some_none e = cc
+      of None is true none = absurd (none-some InvalidParameters (sym none))
+      of None is false none = absurd (none-some InvalidParameters (sym none))
 
   -- the descriptors in RX of the runner
   pub state-informed : IsMachine ram m kept → (uuid : List ℕ) (flags : ℕ) (bytes : List ℕ) → bytes ≡ info_bytes (map party_of m.endpoints.items) uuid → is_count_alone flags ≡ false

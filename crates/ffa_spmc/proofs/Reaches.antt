@@ -5,6 +5,7 @@ use Rattle.std.specs.Option.{option_and_then, option_map_or}
 use Rattle.std.proofs.lemmas.Bool.{cases_lt}
 use Rattle.std.proofs.lemmas.Bool.Decides.{nat_tests}
 use Rattle.std.proofs.lemmas.List.{get_or_past}
+use Rattle.std.proofs.lemmas.Option.{none-some}
 use Rattle.ffa_model.specs.declared.leaf.Leaf.{Leaf}
 use Rattle.ffa_model.specs.declared.rights.Rights.{Rights}
 use Rattle.ffa_model.specs.declared.operation.FaultKind.{FaultKind}
@@ -27,21 +28,15 @@ reached (Some fault) address = Err fault
 -- who has access to a page has access to a page that an endpoint owns
 pub access-owned : (s : State) (e p : ℕ) (r : Rights) → access s e p ≡ Some r → (page : Page) × (page_at s p ≡ Some page)
 access-owned s e p r is = elim (page_at s p) as (λ o. page_at s p ≡ o → right_of e o (transaction_at s p) ≡ Some r → (page : Page) × (page_at s p ≡ Some page)) [
-  | None ↦ λ _ none. absurd (none_some none)
+  | None ↦ λ _ none. absurd (none-some r none)
   | Some page ↦ λ there _. (page, there)
 ] refl is
-  where
-    none_some : None ≡ Some r → ⊥
-    none_some e = cc
 
 pub owned-in : (s : State) (p : ℕ) (page : Page) → page_at s p ≡ Some page → p < length s.pages
 owned-in s p page there = elim (cases_lt p (length s.pages)) [
   | inl lt ↦ lt
-  | inr past ↦ absurd (none_some (sym (get_or_past s.pages p None past) ∙ there))
+  | inr past ↦ absurd (none-some page (sym (get_or_past s.pages p None past) ∙ there))
 ]
-  where
-    none_some : None ≡ Some page → ⊥
-    none_some e = cc
 
 -- the page at which an access with a right ends
 pub record Placed (s : State) (address : ℕ) : Type 0 where
@@ -53,13 +48,10 @@ pub record Placed (s : State) (address : ℕ) : Type 0 where
 pub placed : (s : State) (e address : ℕ) (r : Rights) → access_at s e address ≡ Some r → Placed s address
 placed s e address r is =
     elim (nat_le s.ram_base address && nat_lt address (2 ^ 32)) as (λ b. (nat_le s.ram_base address && nat_lt address (2 ^ 32)) ≡ b → option_and_then (access s e) (cond b (Some ((address - s.ram_base) / 4096)) None) ≡ Some r → Placed s address) [
-      | false ↦ λ _ none. absurd (none_some none)
+      | false ↦ λ _ none. absurd (none-some r none)
       | true ↦ λ inside some. (let (page, there) = access-owned s e ((address - s.ram_base) / 4096) r some in
           record { low = grind (arith, nat_tests, inside); high = grind (arith, nat_tests, inside); page = page; there = there })
     ] refl is
-  where
-    none_some : None ≡ Some r → ⊥
-    none_some e = cc
 
 -- an address past the input's end is reached by nobody
 past-end : (s : State) (e address : ℕ) → 2 ^ 32 ≤ address → access_at s e address ≡ None

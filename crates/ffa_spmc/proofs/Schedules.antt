@@ -2,6 +2,7 @@
 use Rattle.std.proofs.Common.{◌≡◌, ◌∙◌, ℕ, true, false, List, length, Some, Result, Ok, Err, refl, sym, ap, length-set}
 use Rattle.std.specs.Prelude.{Bool, IfOk, OnOk, OnErr}
 use Rattle.std.specs.Result.{result_err}
+use Rattle.std.proofs.lemmas.Bool.{false≢true}
 use Rattle.ffa_model.specs.declared.call.Reply.{Reply}
 use Rattle.ffa_model.specs.declared.call.Reply.TheVariants.{Error}
 use Rattle.ffa_model.specs.declared.manifest.Manifest.{Manifest}
@@ -85,8 +86,5 @@ module _ (ram : Ram) (m : Manifest) (kept : Kept) (machine : IsMachine ram m kep
       refused fine = of r same is_good
         where
           of : (r : Result Reply ErrorCode) → OnErr r (new ≡ kept.chain) → IfOk r (λ reply. reply ≡ good) → is_error (reply_or_error r) ≡ true → new ≡ kept.chain
-          of (Ok reply) same replies error = absurd (false_true (sym fine ∙ sym (ap is_error replies) ∙ error))
-            where
-              false_true : false ≡ true → ⊥
-              false_true e = cc
+          of (Ok reply) same replies error = absurd (false≢true (sym fine ∙ sym (ap is_error replies) ∙ error))
           of (Err code) is replies error = is

@@ -21,7 +21,7 @@ use Rattle.ffa_model.proofs.Guards.{guard-passes}
 use Rattle.ffa_model.proofs.Accepted.{accepted}
 use Rattle.ffa_model.proofs.Places.{known-place}
 use Rattle.ffa_rxtx.specs.Parts.{with_rx_bytes}
-use Rattle.ffa_messages.specs.Parts.{AreInRam, tx_in}
+use Rattle.ffa_messages.specs.Parts.{AreInRam, receiver_in, sent_in, tx_in}
 use Rattle.ffa_spmc.specs.declared.kept.Kept.{Kept}
 use Rattle.ffa_spmc.specs.Meaning.{IsMachine, state_of}
 use Rattle.ffa_spmc.proofs.Fills.{machine-filled, own-inside, own-there, state-filled}
@@ -58,10 +58,10 @@ module _ (ram : Ram) (m : Manifest) (kept : Kept) (machine : IsMachine ram m kep
 
   module _ (e : ℕ) (at : e ≡ kept.chain.runner) where
     abbrev tx : List ℕ
-    tx = tx_in ram (buffers_in kept.buffers e)
+    tx = sent_in ram kept.buffers e
 
     abbrev receiver : ℕ
-    receiver = (header_in tx).receiver
+    receiver = receiver_in ram kept.buffers e
 
     sent-is : sent_by tx e ≡ msg_send2 s
     unfolding first
