@@ -1,5 +1,5 @@
 -- What a play that ended well leaves, for the one who asked for it.
-use Rattle.std.proofs.Common.{◌≡◌, List, ◌++◌, ℕ, Option, None, Some, Ok, ap, ◌∙◌, append-nil}
+use Rattle.std.proofs.Common.{List, ◌++◌, ℕ, Option, None, Some, Ok, ap, ◌∙◌, append-nil}
 use Rattle.std.specs.Io.KnownBytes.{Consumes, IsAtEnd}
 use Rattle.ffa_model.specs.State.{State}
 use Rattle.ffa_model.specs.TraceLines.{joined}

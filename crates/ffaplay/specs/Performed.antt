@@ -1,5 +1,5 @@
 -- What a command of the program leaves.
-use Rattle.std.specs.Prelude.{◌≡◌, ◌⊎◌, ℕ, true, List, codes, IsUtf8, Option, Result, None, Some, Ok, Err, ⊤}
+use Rattle.std.specs.Prelude.{◌≡◌, ◌⊎◌, ℕ, true, List, codes, IsUtf8, Option, None, Some, Ok, Err, ⊤}
 use Rattle.std.specs.Io.KnownBytes.{Appends, Keeps}
 use Rattle.ffa_model.specs.State.{State}
 use Rattle.ffa_model.specs.First.{first}
@@ -12,8 +12,8 @@ use Rattle.ffa_manifest.specs.declared.error.ManifestError.TheVariants.{Toml}
 use Rattle.ffaplay.specs.Layouts.{layout_text}
 use Rattle.ffaplay.specs.declared.commands.Failure.{Failure}
 use Rattle.ffaplay.specs.declared.commands.Failure.TheVariants.{Manifest, BadLine, Read, Write, NoMemory}
-use Rattle.ffaplay.specs.declared.words.Request.{Request}
-use Rattle.ffaplay.specs.declared.words.Request.TheVariants.{Run, Demo, Check, Layout}
+use Rattle.ffa_command.specs.declared.command_line.Request.{Request}
+use Rattle.ffa_command.specs.declared.command_line.Request.TheVariants.{Run, Demo, Check, Layout}
 
 -- these are all the bytes, where those are known
 abbrev pub IsAll : Option (List ℕ) → List ℕ → Type 0

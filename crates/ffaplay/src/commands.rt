@@ -6,7 +6,7 @@ ghost use Rattle.ffa_manifest.specs.Document.{parts_of};
 ghost use Rattle.ffaplay.specs.Performed.{Describes, IsRefused, SomeCause, IsPlayed, IsDone, IsOther, FailsFor, first_of, status_of};
 
 use crate::layout;
-use crate::words::Request;
+use ffa_command::Request;
 use ffa_manifest::ManifestError;
 use ffa_model::{Manifest, built_in};
 use ffa_physmem::FlatRam;

@@ -1,44 +1,20 @@
 //! Plays FF-A calls and memory accesses on a small machine.
 #![tactic(auto)]
 
-ghost use Rattle.std.specs.Prelude.{◌≡◌, IfOk, IfErr, Some, map};
-ghost use Rattle.ffaplay.specs.Commands.{ask_of, asked_by, IsRefusedFor};
-
 mod commands;
 pub mod layout;
-mod words;
 
-use clap::Error;
-use clap::error::ErrorKind;
 pub use commands::perform;
-use std::alloc::{AllocError, Global};
+use ffa_command::ErrorKind;
+pub use ffa_command::{Request, request};
+use std::alloc::AllocError;
 use std::fs::{self, File};
 use std::io::BufWriter;
 use std::process::ExitCode;
 use std::{env, io};
-pub use words::Request;
 
 /// How many bytes of output are gathered before they are written.
 const OUTPUT: usize = 65536;
-
-/// What the words ask for, of which the first is the program's name.
-///
-/// An error with the kind `OutOfMemory` is want of memory, whatever the words are. One with the kind `DisplayHelp` has
-/// the help that was asked for, and any other says what is wrong with the words.
-pub fn request<'a>(alloc: Global, words: &'a [&'a str]) -> Result<Request<'a>, Error>
-    // The command and its paths are clap's matches of the words.
-    ensures asked { IfOk result (λ r. asked_by (map (λ w. w.now) words.entry.now) ≡ Some (ask_of r)) }
-    ensures refused { IfErr result (IsRefusedFor (map (λ w. w.now) words.entry.now)) }
-{
-    let mut command = words::program(alloc)?;
-    match command.try_get_matches_from_mut(words) {
-        Err(error) => Err(error),
-        Ok(matches) => match words::asked_by(&matches) {
-            Some(request) => Ok(request),
-            None => Err(command.error(ErrorKind::MissingSubcommand, "no command was given")?),
-        },
-    }
-}
 
 fn main(rt: HostRuntime) -> ExitCode {
     match status(&rt) {

@@ -1,4 +1,4 @@
-use Rattle.std.proofs.Common.{ap, ◌∙◌, sym, subst}
+use Rattle.std.proofs.Common.{ap, ◌∙◌, subst}
 use Rattle.ffa_spmc.specs.Snapshot.{Snapshot}
 use Rattle.ffaplay.specs.Performed.{IsPlayed}
 use Rattle.ffaplay.proofs.Performs.{played_whole}

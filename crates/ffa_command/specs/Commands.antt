@@ -3,8 +3,8 @@ use Rattle.std.specs.Prelude.{◌≡◌, ◌⊎◌, List, [], true, Option, Some
 use Rattle.std.specs.Str.{bytes_eq}
 use Rattle.clap.specs.Words.{App, HasKind, Row, Rule, Text, fault_of, first_of, new_app, new_rule, subcommand_of, with_rule, with_subcommand}
 use Rattle.clap.specs.declared.error.Error.{Error}
-use Rattle.ffaplay.specs.declared.words.Request.{Request}
-use Rattle.ffaplay.specs.declared.words.Request.TheVariants.{Run, Demo, Check, Layout}
+use Rattle.ffa_command.specs.declared.command_line.Request.{Request}
+use Rattle.ffa_command.specs.declared.command_line.Request.TheVariants.{Run, Demo, Check, Layout}
 
 -- a path that has to be given
 abbrev pub path_rule : Text → Rule

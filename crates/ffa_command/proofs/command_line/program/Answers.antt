@@ -1,7 +1,7 @@
 use Rattle.std.proofs.lemmas.Result.{IfOk-weaker}
-use Rattle.ffaplay.specs.Commands.{program, bare, run_app, demo_app, check_app, layout_app}
-use Rattle.ffaplay.proofs.Parse.{with_command}
-use Rattle.ffaplay.proofs.words.program.Goals as goal
+use Rattle.ffa_command.specs.Commands.{program, bare, run_app, demo_app, check_app, layout_app}
+use Rattle.ffa_command.proofs.Parse.{with_command}
+use Rattle.ffa_command.proofs.command_line.program.Goals as goal
 
 pub returns : goal.returns
 unfolding program

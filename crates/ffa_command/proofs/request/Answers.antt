@@ -1,8 +1,8 @@
 use Rattle.std.proofs.Common.{map, option_map, Ok, Err, ap, sym, ◌∙◌, inl, inr}
 use Rattle.clap.specs.declared.parser.matches.ArgMatches.{ArgMatches}
-use Rattle.ffaplay.specs.Commands.{ask_of, asked_by, asked_in}
-use Rattle.ffaplay.proofs.Parse.{met_command, program_fails}
-use Rattle.ffaplay.proofs.request.Goals as goal
+use Rattle.ffa_command.specs.Commands.{ask_of, asked_by, asked_in}
+use Rattle.ffa_command.proofs.Parse.{met_command, program_fails}
+use Rattle.ffa_command.proofs.request.Goals as goal
 
 pub returns-in-Err-clause-refused : goal.returns-in-Err-clause-refused
 returns-in-Err-clause-refused c =

@@ -2,7 +2,7 @@
 ghost use Rattle.std.specs.Prelude.{◌≡◌, IfOk, false, option_map};
 ghost use Rattle.clap.specs.Words.{app_of, rule_of, found_of, first_of, rows_of, subcommand_rows_of};
 ghost use Rattle.clap.specs.declared.builder.command.Command.TheViews.{out-Command};
-ghost use Rattle.ffaplay.specs.Commands.{manifest_of, trace_of, path_rule, manifest_id, trace_id, run_app, demo_app, check_app, layout_app, bare, program, ask_of, asked, asked_in, asked_run, asked_demo, asked_check, asked_layout};
+ghost use Rattle.ffa_command.specs.Commands.{manifest_of, trace_of, path_rule, manifest_id, trace_id, run_app, demo_app, check_app, layout_app, bare, program, ask_of, asked, asked_in, asked_run, asked_demo, asked_check, asked_layout};
 
 use clap::{Arg, ArgMatches, Command};
 use std::alloc::{AllocError, Global};

@@ -6,7 +6,7 @@ use Rattle.clap.specs.declared.error.Error.{Error}
 use Rattle.clap.specs.declared.parser.matches.ArgMatches.{ArgMatches}
 use Rattle.clap.specs.declared.builder.command.Command.{Command}
 use Rattle.clap.specs.declared.builder.command.Command.TheViews.{out-Command}
-use Rattle.ffaplay.specs.Commands.{program, bare, run_app, demo_app, check_app, layout_app}
+use Rattle.ffa_command.specs.Commands.{program, bare, run_app, demo_app, check_app, layout_app}
 
 -- one more command
 pub with_command : (old sub new : Command) (a s : App) → AddsSubcommand old sub new → (out-Command sub).has_globals ≡ false → app_of old ≡ a → app_of sub ≡ s → app_of new ≡ with_subcommand a s.top
