@@ -14,13 +14,73 @@ AreNamed [] = Unit {0}
 AreNamed (f ∷ fs) = IsNamed f × AreNamed fs
 
 functions-named : AreNamed functions
-functions-named =
-    (λ w x form. refl, (λ w x form. refl, (λ w x form. refl, (λ w x form. refl, (λ w x form. refl,
-    (λ w x form. refl, (λ w x form. refl, (λ w x form. refl, (λ w x form. refl, (λ w x form. refl,
-    (λ w x form. grind (arith, nat_tests, form), (λ w x form. grind (arith, nat_tests, form),
-    (λ w x form. refl, (λ w x form. refl, (λ w x form. refl, (λ w x form. refl, (λ w x form. refl,
-    (λ w x form. refl, (λ w x form. refl, (λ w x form. refl, (λ w x form. refl, (λ w x form. refl,
-    (λ w x form. refl, (λ w x form. refl, (λ w x form. refl, (λ w x form. refl, tt))))))))))))))))))))))))))
+functions-named = (
+  λ w x form. refl,
+  (
+    λ w x form. refl,
+    (
+      λ w x form. refl,
+      (
+        λ w x form. refl,
+        (
+          λ w x form. refl,
+          (
+            λ w x form. refl,
+            (
+              λ w x form. refl,
+              (
+                λ w x form. refl,
+                (
+                  λ w x form. refl,
+                  (
+                    λ w x form. refl,
+                    (
+                      λ w x form. grind (arith, nat_tests, form),
+                      (
+                        λ w x form. grind (arith, nat_tests, form),
+                        (
+                          λ w x form. refl,
+                          (
+                            λ w x form. refl,
+                            (
+                              λ w x form. refl,
+                              (
+                                λ w x form. refl,
+                                (
+                                  λ w x form. refl,
+                                  (
+                                    λ w x form. refl,
+                                    (
+                                      λ w x form. refl,
+                                      (
+                                        λ w x form. refl,
+                                        (
+                                          λ w x form. refl,
+                                          (
+                                            λ w x form. refl,
+                                            (λ w x form. refl, (λ w x form. refl, (λ w x form. refl, (λ w x form. refl, tt)))),
+                                          ),
+                                        ),
+                                      ),
+                                    ),
+                                  ),
+                                ),
+                              ),
+                            ),
+                          ),
+                        ),
+                      ),
+                    ),
+                  ),
+                ),
+              ),
+            ),
+          ),
+        ),
+      ),
+    ),
+  ),
+)
 
 found-named : (x : List ℕ) (fs : List Function) → AreNamed fs → passes_no_error (called x (find (is_form_of (low (slice_index x 0))) fs)) ≡ true
 found-named x [] named = refl
