@@ -80,9 +80,7 @@ fn accepted_changes(rt: HostRuntime) -> Result<(), Fail> {
 }
 
 #[test]
-fn refused_changes(rt: HostRuntime) -> Result<(), Fail> {
-    let other_base = "ram_base = 0x41000000";
-    let nil = "uuid = \"00000000-0000-0000-0000-000000000000\"";
+fn refused_documents(rt: HostRuntime) -> Result<(), Fail> {
     let uuid = "uuid = \"00112233-4455-6677-8899-aabbccddeeff\"";
     let region = "{ base = 0x40010000, pages = 16, rights = \"rw\" }";
     for (old, new, cause) in [
@@ -105,6 +103,18 @@ fn refused_changes(rt: HostRuntime) -> Result<(), Fail> {
         ),
         (region, "0", ManifestError::WrongKind),
         ("\"rw\"", "\"wr\"", ManifestError::WrongKind),
+    ] {
+        assert_eq!(rt; cause_of(rt.alloc(), old, new)?, Some(cause), "at {new}");
+    }
+    Ok(())
+}
+
+#[test]
+fn refused_machines(rt: HostRuntime) -> Result<(), Fail> {
+    let other_base = "ram_base = 0x41000000";
+    let nil = "uuid = \"00000000-0000-0000-0000-000000000000\"";
+    let uuid = "uuid = \"00112233-4455-6677-8899-aabbccddeeff\"";
+    for (old, new, cause) in [
         ("ram_base = 0x40000000", other_base, ManifestError::RamBase),
         ("0x40000000", "0xFC000001", ManifestError::RamBase),
         (
@@ -120,6 +130,21 @@ fn refused_changes(rt: HostRuntime) -> Result<(), Fail> {
             "properties = 16",
             ManifestError::Property,
         ),
+        (
+            "version = \"1.1\"",
+            "version = \"1.2\"",
+            ManifestError::Version,
+        ),
+    ] {
+        assert_eq!(rt; cause_of(rt.alloc(), old, new)?, Some(cause), "at {new}");
+    }
+    Ok(())
+}
+
+#[test]
+fn refused_regions(rt: HostRuntime) -> Result<(), Fail> {
+    let region = "{ base = 0x40010000, pages = 16, rights = \"rw\" }";
+    for (old, new, cause) in [
         (region, "", ManifestError::RegionCount),
         (
             "0x40010000, pages = 16",
@@ -133,11 +158,6 @@ fn refused_changes(rt: HostRuntime) -> Result<(), Fail> {
         ),
         ("0x40010000", "-4096", ManifestError::RegionOutside),
         ("0x40030000", "0x40028000", ManifestError::RegionOverlap),
-        (
-            "version = \"1.1\"",
-            "version = \"1.2\"",
-            ManifestError::Version,
-        ),
     ] {
         assert_eq!(rt; cause_of(rt.alloc(), old, new)?, Some(cause), "at {new}");
     }
