@@ -1,5 +1,6 @@
 -- Fields of words.
-use Rattle.std.specs.Prelude.{ℕ, ◌+◌, ◌-◌, ◌*◌, ◌/◌, ◌%◌, ◌^◌, ◌==◌, Bool}
+use Rattle.std.specs.Prelude.{ℕ, zero, suc, ◌+◌, ◌-◌, ◌*◌, ◌/◌, ◌%◌, ◌^◌, ◌==◌, Bool, List, filter, if◌then◌else◌}
+use Rattle.ffa_model.specs.Lists.{listed}
 
 -- bits high down to low of a word
 abbrev pub bits : ℕ → ℕ → ℕ → ℕ
@@ -17,3 +18,16 @@ low_half word = bits 15 0 word
 
 abbrev pub word_of_two : ℕ → ℕ → ℕ
 word_of_two high low = high * 0x10000 + low
+
+-- the 64-bit word of two halves
+abbrev pub joined : ℕ → ℕ → ℕ
+joined low high = high * 2 ^ 32 + low
+
+-- which of the 64 bits of a word are set
+abbrev pub bits_of : ℕ → List ℕ
+bits_of word = filter (λ k. is_set k word) (listed 64 (λ k. k))
+
+-- the number in which those of the lowest n bits are set that pass a test
+abbrev pub word_where : ℕ → (ℕ → Bool) → ℕ
+word_where zero test = 0
+word_where (suc n) test = word_where n test + (if test n then 2 ^ n else 0)

@@ -8,8 +8,8 @@ use Rattle.ffa_model.specs.Identifiers.{place}
 use Rattle.ffa_model.specs.Rights.{may_write}
 use Rattle.ffa_model.specs.State.{State, Page, Buffers, page_at, buffers_of}
 use Rattle.ffa_model.specs.Access.{handle_at}
-use Rattle.ffa_model.specs.Memory.{written}
-use Rattle.ffa_model.specs.Calls.{Stepped, answered, first_failure, success}
+use Rattle.ffa_model.specs.Memory.{written_pages}
+use Rattle.ffa_model.specs.Calls.{Service, success}
 
 -- the buffers of e in a list by endpoint, and the list in which e has these, or none
 abbrev pub buffers_in : List (Option Buffers) → ℕ → Option Buffers
@@ -31,7 +31,7 @@ pub record Candidate : Type 0 where
   pub base : Rights
   pub named : Bool
 
--- RAM as the checks of a mapping see it: where it begins, how many pages it has, and those that are not the manager's
+-- RAM as the checks of a call see it: where it begins, how many pages it has, and those that are not the manager's
 pub record Candidates : Type 0 where
   pub base : ℕ
   pub count : ℕ
@@ -90,22 +90,27 @@ with_buffers s e b = record s { buffers = buffers_with s.buffers e b }
 abbrev pub with_rx : State → ℕ → Bool → State
 with_rx s e full = record s { buffers = buffers_with_rx s.buffers e full }
 
-abbrev pub rx_written : State → List ℕ → Option Buffers → State
-rx_written s bytes None = s
-rx_written s bytes (Some b) = written s b.rx 0 bytes
+-- the pages, where these bytes stand in RX from its start, and its other bytes stay
+abbrev pub filled_pages : List (Option Page) → List ℕ → Option Buffers → List (Option Page)
+filled_pages pages bytes None = pages
+filled_pages pages bytes (Some b) = written_pages pages b.rx 0 bytes
 
--- these bytes stand in RX of e from its start, its other bytes stay, and it is full
+-- so they stand in RX of e, which is full
 abbrev pub filled : State → ℕ → List ℕ → State
-filled s e bytes = with_rx (rx_written s bytes (buffers_of s e)) e true
+filled s e bytes =
+    record s { pages = filled_pages s.pages bytes (buffers_of s e); buffers = buffers_with_rx s.buffers e true }
 
-abbrev pub rxtx_map : State → ℕ → ℕ → ℕ → Stepped
+abbrev pub rxtx_map : State → ℕ → ℕ → ℕ → Service
 rxtx_map s tx rx pages =
-    answered (first_failure (map_guards s.runner (buffers_of s s.runner) (candidates s) tx rx pages)) s
-    (with_buffers s s.runner (Some (new_buffers s.ram_base tx rx))) (success 0 0)
+    record {
+      guards = map_guards s.runner (buffers_of s s.runner) (candidates s) tx rx pages;
+      state = with_buffers s s.runner (Some (new_buffers s.ram_base tx rx));
+      reply = success 0 0;
+    }
 
-abbrev pub rxtx_unmap : State → ℕ → Stepped
+abbrev pub rxtx_unmap : State → ℕ → Service
 rxtx_unmap s endpoint =
-    answered (first_failure (unmap_guards (buffers_of s s.runner) endpoint)) s (with_buffers s s.runner None) (success 0 0)
+    record { guards = unmap_guards (buffers_of s s.runner) endpoint; state = with_buffers s s.runner None; reply = success 0 0 }
 
-abbrev pub rx_release : State → Stepped
-rx_release s = answered (first_failure (release_guards (buffers_of s s.runner))) s (with_rx s s.runner false) (success 0 0)
+abbrev pub rx_release : State → Service
+rx_release s = record { guards = release_guards (buffers_of s s.runner); state = with_rx s s.runner false; reply = success 0 0 }

@@ -8,7 +8,8 @@ use Rattle.ffa_model.specs.declared.call.Reply.{Reply}
 use Rattle.ffa_model.specs.declared.call.Reply.TheVariants.{Version, Error, Success, Passed, Retrieved}
 use Rattle.ffa_model.specs.State.{State}
 
--- the code of the first guard that fails
+-- A guard is a test, which passes where it is true, and the code that the call answers where it fails: the code of the
+-- first that fails
 abbrev pub first_failure : List (Bool × ErrorCode) → Option ErrorCode
 first_failure [] = None
 first_failure (guard ∷ guards) = if guard.0 then first_failure guards else Some guard.1
@@ -41,7 +42,20 @@ pub record Stepped : Type 0 where
 abbrev pub replied : State → Reply → Stepped
 replied s reply = record { state = s; outcome = Regs (record { 0 = s.runner }) (encode reply) }
 
+-- how a call is served: its guards, and where all pass the state after it and the reply
+pub record Service : Type 0 where
+  pub guards : List (Bool × ErrorCode)
+  pub state : State
+  pub reply : Reply
+
+-- a call that nothing refuses, and that changes nothing
+abbrev pub replying : State → Reply → Service
+replying s reply = record { guards = []; state = s; reply = reply }
+
 -- a call whose guards gave this: a refusal changes nothing
 abbrev pub answered : Option ErrorCode → State → State → Reply → Stepped
 answered None old new reply = replied new reply
 answered (Some code) old new reply = replied old (Error code)
+
+abbrev pub served : State → Service → Stepped
+served s c = answered (first_failure c.guards) s c.state c.reply

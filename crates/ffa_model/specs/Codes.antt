@@ -19,6 +19,8 @@ use Rattle.ffa_model.specs.declared.schedule.Work.TheVariants.{Run, Request}
 use Rattle.ffa_model.specs.Rights.{may_write}
 use Rattle.ffa_model.specs.State.{State, Party, Page, Transaction, Buffers}
 use Rattle.ffa_model.specs.RunStates.{Schedule}
+use Rattle.ffa_model.specs.Transactions.{Offers}
+use Rattle.ffa_model.specs.Notifications.{Notifications}
 
 abbrev pub data_from : Bool → Data
 data_from true = Rw
@@ -140,3 +142,13 @@ abbrev pub coded_schedule : Coded Schedule
 coded_schedule =
     code_by (ℕ × (List Status × List (Option Work))) (coded× coded_ℕ (coded× (coded_list coded_status) (coded_list (coded_option coded_work))))
     (λ c. (c.runner, (c.statuses, c.works))) (λ p. record { runner = p.0; statuses = p.1.0; works = p.1.1 }) (λ _. refl)
+
+abbrev pub coded_offers : Coded Offers
+coded_offers =
+    code_by (map.FinMap nat_cmp Transaction × List ℕ) (coded× (map.code coded_ℕ coded_transaction) (coded_list coded_ℕ))
+    (λ o. (o.transactions, o.sent)) (λ p. record { transactions = p.0; sent = p.1 }) (λ _. refl)
+
+abbrev pub coded_notifications : Coded Notifications
+coded_notifications =
+    code_by (List Bool × (finite_set.FinSet (slice_cmp nat_cmp) × finite_set.FinSet (slice_cmp nat_cmp))) (coded× (coded_list coded_bool) (coded× coded_bits coded_bits))
+    (λ n. (n.bitmaps, (n.bound, n.pending))) (λ p. record { bitmaps = p.0; bound = p.1.0; pending = p.1.1 }) (λ _. refl)

@@ -5,7 +5,8 @@ use Rattle.std.specs.Prelude.{ℕ, zero, suc, ◌+◌, ◌-◌}
 abbrev pub manager : ℕ
 manager = 0x8000
 
--- the identifier of the endpoint at a place, and the place of an identifier
+-- The identifier of the endpoint at a place, and the place of an identifier. All up to 0x8000 have place 0: before it asks
+-- for the place of a number a guard tests `is_known_among`.
 abbrev pub identifier : ℕ → ℕ
 identifier zero = 0
 identifier (suc i) = 0x8001 + i

@@ -1,18 +1,20 @@
 -- Bytes of pages, and the runner's loads, stores and fetches: alignment, then translation, then permission.
-use Rattle.std.specs.Prelude.{ℕ, ◌-◌, ◌/◌, ◌%◌, ◌^◌, ◌==◌, Bool, true, ◌&&◌, nat_lt, nat_le, List, [], Option, Some, None, is_some, slice_set, if◌then◌else◌}
+use Rattle.std.specs.Prelude.{ℕ, ◌-◌, ◌/◌, ◌%◌, ◌^◌, ◌==◌, Bool, true, ◌&&◌, nat_lt, nat_le, List, [], Option, Some, None, is_some, replicate, slice_index_or, slice_set, if◌then◌else◌}
 use Rattle.byteorder.specs.Endian.{little_bytes}
 use Rattle.std.specs.Option.{option_map, option_map_or, option_and_then}
 use Rattle.ffa_model.specs.declared.rights.Rights.{Rights}
+use Rattle.ffa_model.specs.declared.transaction.Range.{Range}
 use Rattle.ffa_model.specs.declared.operation.Size.{Size}
 use Rattle.ffa_model.specs.declared.operation.Size.TheVariants.{B1, B2, B4, B8}
 use Rattle.ffa_model.specs.declared.operation.FaultKind.{FaultKind}
 use Rattle.ffa_model.specs.declared.operation.FaultKind.TheVariants.{Translation, Permission, Alignment}
 use Rattle.ffa_model.specs.declared.operation.Outcome.{Outcome}
 use Rattle.ffa_model.specs.declared.operation.Outcome.TheVariants.{Data, Done, Fault}
+use Rattle.ffa_model.specs.Lists.{map_at}
 use Rattle.ffa_model.specs.Rights.{may_store, may_fetch}
 use Rattle.ffa_model.specs.Ram.{number_in, with_bytes}
 use Rattle.ffa_model.specs.State.{State, Page, page_at}
-use Rattle.ffa_model.specs.Access.{access}
+use Rattle.ffa_model.specs.Access.{access, names}
 use Rattle.ffa_model.specs.Calls.{Stepped}
 
 abbrev pub size_of : Size → ℕ
@@ -28,10 +30,27 @@ page_bytes s p = option_map_or (λ (page : Page). page.bytes) (page_at s p) []
 abbrev pub page_with : ℕ → List ℕ → Option Page → Option Page
 page_with at bytes page = option_map (λ (q : Page). record q { bytes = with_bytes q.bytes at bytes }) page
 
-abbrev pub written : State → ℕ → ℕ → List ℕ → State
-written s p at bytes = record s { pages = slice_set s.pages p (page_with at bytes (page_at s p)) }
+abbrev pub written_pages : List (Option Page) → ℕ → ℕ → List ℕ → List (Option Page)
+written_pages pages p at bytes = slice_set pages p (page_with at bytes (slice_index_or pages p None))
 
--- the page of an address below 2 ^ 32; the last clause of `page_at` answers those past RAM's end
+abbrev pub written : State → ℕ → ℕ → List ℕ → State
+written s p at bytes = record s { pages = written_pages s.pages p at bytes }
+
+-- the pages that the ranges name are changed
+abbrev pub changed_pages : State → List Range → (Option Page → Option Page) → List (Option Page)
+changed_pages s ranges change = map_at (λ p page. if names s ranges p then change page else page) s.pages
+
+abbrev pub with_pages : State → List Range → (Option Page → Option Page) → State
+with_pages s ranges change = record s { pages = changed_pages s ranges change }
+
+abbrev pub zeroed_page : Option Page → Option Page
+zeroed_page page = option_map (λ (q : Page). record q { bytes = replicate 4096 0 }) page
+
+-- the pages that the ranges name are all zeros, where that is asked
+abbrev pub zeroed_if : Bool → State → List Range → State
+zeroed_if asked s ranges = record s { pages = if asked then changed_pages s ranges zeroed_page else s.pages }
+
+-- the page of an address below 2 ^ 32; `page_at` has none past RAM's end
 abbrev pub page_of_address : State → ℕ → Option ℕ
 page_of_address s address = if nat_le s.ram_base address && nat_lt address (2 ^ 32) then Some ((address - s.ram_base) / 4096) else None
 

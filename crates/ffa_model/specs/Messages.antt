@@ -1,4 +1,5 @@
--- Indirect messages (DEN0077A, 7.1 and 15): what stands in TX is copied to the receiver's RX.
+-- Indirect messages (DEN0077A, 7.1 and 15): what stands in TX is copied to the receiver's RX, of which the manager
+-- notifies it.
 use Rattle.std.specs.Prelude.{ℕ, ◌+◌, ◌==◌, Bool, not, nat_le, List, [], ◌∷◌, length, take, is_some, Option}
 use Rattle.std.specs.Option.{option_map_or}
 use Rattle.ffa_model.specs.declared.operation.ErrorCode.{ErrorCode}
@@ -7,7 +8,8 @@ use Rattle.ffa_model.specs.State.{State, Party, Buffers, buffers_of, is_known_am
 use Rattle.ffa_model.specs.Ram.{number_in}
 use Rattle.ffa_model.specs.Memory.{page_bytes}
 use Rattle.ffa_model.specs.Buffers.{filled, is_full, buffers_in}
-use Rattle.ffa_model.specs.Calls.{Stepped, answered, first_failure, success}
+use Rattle.ffa_model.specs.Notifications.{notifications_of, with_framework_bit, with_notifications}
+use Rattle.ffa_model.specs.Calls.{Service, success}
 
 -- the header of a message, in its first 20 bytes
 pub record MessageHeader : Type 0 where
@@ -55,7 +57,14 @@ message_in tx = take ((header_in tx).offset + (header_in tx).size) tx
 abbrev pub tx_bytes : State → ℕ → List ℕ
 tx_bytes s e = option_map_or (λ (b : Buffers). page_bytes s b.tx) (buffers_of s e) []
 
-abbrev pub msg_send2 : State → Stepped
+abbrev pub delivered : State → ℕ → List ℕ → State
+delivered s receiver message =
+    with_notifications (filled s receiver message) (with_framework_bit (notifications_of s) receiver)
+
+abbrev pub msg_send2 : State → Service
 msg_send2 s =
-    answered (first_failure (send2_guards s.parties s.buffers s.runner (header_in (tx_bytes s s.runner)))) s
-    (filled s (header_in (tx_bytes s s.runner)).receiver (message_in (tx_bytes s s.runner))) (success 0 0)
+    record {
+      guards = send2_guards s.parties s.buffers s.runner (header_in (tx_bytes s s.runner));
+      state = delivered s (header_in (tx_bytes s s.runner)).receiver (message_in (tx_bytes s s.runner));
+      reply = success 0 0;
+    }

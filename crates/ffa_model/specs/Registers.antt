@@ -62,15 +62,9 @@ wide_of function = function + 2 ^ 30
 abbrev pub is_form_of : ℕ → Function → Bool
 is_form_of w0 f = w0 == f.function || (f.is_wide && w0 == wide_of f.function)
 
--- the calls that the machine serves today, by their 32-bit identifiers
-abbrev pub served : List ℕ
-served =
-    0x84000063 ∷ 0x84000064 ∷ 0x84000065 ∷ 0x84000066 ∷ 0x84000067 ∷ 0x84000068 ∷ 0x84000069 ∷ 0x8400006B ∷ 0x8400006C
-    ∷ 0x8400006D ∷ 0x8400006F ∷ 0x84000070 ∷ 0x84000085 ∷ 0x84000086 ∷ []
-
--- whether a number names a call that is served, in either form that it has
+-- whether a number names a call, in either form that it has
 abbrev pub is_served : ℕ → Bool
-is_served w0 = list_any (λ (f : Function). is_form_of w0 f && list_any (λ id. id == f.function) served) functions
+is_served w0 = list_any (is_form_of w0) functions
 
 abbrev pub called : List ℕ → Option Function → Call
 called x None = Unknown

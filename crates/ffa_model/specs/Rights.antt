@@ -1,5 +1,5 @@
 -- Rights: nothing, or data (ro below rw) with or without execution.
-use Rattle.std.specs.Prelude.{Bool, true, false, Option, Some, None}
+use Rattle.std.specs.Prelude.{Bool, true, false, not, ◌&&◌, ◌||◌, Option, Some, None}
 use Rattle.ffa_model.specs.declared.rights.Data.{Data}
 use Rattle.ffa_model.specs.declared.rights.Data.TheVariants.{Ro, Rw}
 use Rattle.ffa_model.specs.declared.rights.Rights.{Rights}
@@ -22,3 +22,33 @@ abbrev pub is_share : Kind → Bool
 is_share Share = true
 is_share Lend = false
 is_share Donate = false
+
+abbrev pub is_lend : Kind → Bool
+is_lend Share = false
+is_lend Lend = true
+is_lend Donate = false
+
+abbrev pub is_donate : Kind → Bool
+is_donate Share = false
+is_donate Lend = false
+is_donate Donate = true
+
+abbrev pub is_same_kind : Kind → Kind → Bool
+is_same_kind Share k = is_share k
+is_same_kind Lend k = is_lend k
+is_same_kind Donate k = is_donate k
+
+-- ro is below rw
+abbrev pub is_data_at_most : Data → Data → Bool
+is_data_at_most Ro b = true
+is_data_at_most Rw b = may_write b
+
+-- no more data, and execution only where the other has it
+abbrev pub is_at_most : Rights → Rights → Bool
+is_at_most a b = is_data_at_most a.level b.level && (not a.exec || b.exec)
+
+-- nothing is least
+abbrev pub is_within : Option Rights → Option Rights → Bool
+is_within None b = true
+is_within (Some a) None = false
+is_within (Some a) (Some b) = is_at_most a b

@@ -14,7 +14,7 @@ use Rattle.ffa_model.specs.Lists.{listed}
 use Rattle.ffa_model.specs.First.{first_status}
 use Rattle.ffa_model.specs.State.{State, Party, is_partition_among, is_known_among, has_property}
 use Rattle.ffa_model.specs.Buffers.{with_rx}
-use Rattle.ffa_model.specs.Calls.{Stepped, answered, first_failure, success}
+use Rattle.ffa_model.specs.Calls.{Service, success}
 
 -- the run states of all endpoints
 pub record Schedule : Type 0 where
@@ -155,30 +155,44 @@ schedule_of s = record { runner = s.runner; statuses = s.statuses; works = s.wor
 abbrev pub with_schedule : State → Schedule → State
 with_schedule s c = record s { runner = c.runner; statuses = c.statuses; works = c.works }
 
-abbrev pub direct_request : State → ℕ → ℕ → ℕ → List ℕ → Stepped
+abbrev pub direct_request : State → ℕ → ℕ → ℕ → List ℕ → Service
 direct_request s function word flags payload =
-    answered (first_failure (request_guards s.parties (schedule_of s) word flags)) s
-    (with_schedule s (requested (schedule_of s) (low_half word))) (Passed function word payload)
+    record {
+      guards = request_guards s.parties (schedule_of s) word flags;
+      state = with_schedule s (requested (schedule_of s) (low_half word));
+      reply = Passed function word payload;
+    }
 
 -- the guards leave one requester, whom w1 names in its low half
-abbrev pub direct_response : State → ℕ → ℕ → ℕ → List ℕ → Stepped
+abbrev pub direct_response : State → ℕ → ℕ → ℕ → List ℕ → Service
 direct_response s function word flags payload =
-    answered (first_failure (response_guards (schedule_of s) word flags)) s
-    (with_schedule s (finished (schedule_of s) (low_half word))) (Passed function word payload)
+    record {
+      guards = response_guards (schedule_of s) word flags;
+      state = with_schedule s (finished (schedule_of s) (low_half word));
+      reply = Passed function word payload;
+    }
 
-abbrev pub run_partition : State → ℕ → Stepped
+abbrev pub run_partition : State → ℕ → Service
 run_partition s word =
-    answered (first_failure (run_guards (length s.parties) (schedule_of s) word)) s
-    (with_schedule s (given_cycles (schedule_of s) (high_half word) (status_in (schedule_of s) (high_half word))))
-    (run_reply word (status_in (schedule_of s) (high_half word)))
+    record {
+      guards = run_guards (length s.parties) (schedule_of s) word;
+      state = with_schedule s (given_cycles (schedule_of s) (high_half word) (status_in (schedule_of s) (high_half word)));
+      reply = run_reply word (status_in (schedule_of s) (high_half word));
+    }
 
--- who waits has an empty RX
-abbrev pub msg_wait : State → Stepped
+-- FFA_MSG_WAIT also empties the caller's RX; a message may fill it while the caller waits
+abbrev pub msg_wait : State → Service
 msg_wait s =
-    answered (first_failure (wait_guards (schedule_of s))) s
-    (with_rx (with_schedule s (finished (schedule_of s) 0)) s.runner false) (wait_reply s.runner)
+    record {
+      guards = wait_guards (schedule_of s);
+      state = with_rx (with_schedule s (finished (schedule_of s) 0)) s.runner false;
+      reply = wait_reply s.runner;
+    }
 
-abbrev pub yield_now : State → Stepped
+abbrev pub yield_now : State → Service
 yield_now s =
-    answered (first_failure (yield_guards (schedule_of s))) s
-    (with_schedule s (switched (schedule_of s) Yielded 0)) (yield_reply s.runner)
+    record {
+      guards = yield_guards (schedule_of s);
+      state = with_schedule s (switched (schedule_of s) Yielded 0);
+      reply = yield_reply s.runner;
+    }

@@ -13,7 +13,7 @@ use Rattle.ffa_model.specs.Manifest.{is_nil}
 use Rattle.ffa_model.specs.Registers.{is_served}
 use Rattle.ffa_model.specs.State.{State, Party, has_buffers, is_rx_full}
 use Rattle.ffa_model.specs.Buffers.{filled}
-use Rattle.ffa_model.specs.Calls.{Stepped, answered, first_failure, success}
+use Rattle.ffa_model.specs.Calls.{Service, success}
 
 abbrev pub version_reply : ℕ → Reply
 version_reply version = if not (is_set 31 version) && bits 30 16 version == 1 then Version 0x10001 else Version 0xFFFFFFFF
@@ -65,8 +65,10 @@ info_guards s uuid flags =
 abbrev pub informed : State → List ℕ → ℕ → State
 informed s uuid flags = if is_count_alone flags then s else filled s s.runner (info_bytes s.parties uuid)
 
-abbrev pub info_get : State → List ℕ → ℕ → Stepped
+abbrev pub info_get : State → List ℕ → ℕ → Service
 info_get s words flags =
-    answered (first_failure (info_guards s (uuid_bytes words) flags)) s
-    (informed s (uuid_bytes words) flags)
-    (success (length (selected s.parties (uuid_bytes words))) (if is_count_alone flags then 0 else 24))
+    record {
+      guards = info_guards s (uuid_bytes words) flags;
+      state = informed s (uuid_bytes words) flags;
+      reply = success (length (selected s.parties (uuid_bytes words))) (if is_count_alone flags then 0 else 24);
+    }

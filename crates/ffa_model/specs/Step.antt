@@ -4,50 +4,59 @@ use Rattle.ffa_model.specs.declared.operation.Op.{Op}
 use Rattle.ffa_model.specs.declared.operation.Op.TheVariants.{Call, Load, Store, Fetch}
 use Rattle.ffa_model.specs.declared.operation.ErrorCode.TheVariants.{NotSupported}
 use Rattle.ffa_model.specs.declared.operation.Outcome.{Outcome}
+use Rattle.ffa_model.specs.declared.rights.Kind.TheVariants.{Share, Lend, Donate}
 use Rattle.ffa_model.specs.declared.call.Reply.TheVariants.{Error}
 use Rattle.ffa_model.specs.declared.call.Call as calls
 use Rattle.ffa_model.specs.declared.call.Call.TheVariants.{Version, Features, RxRelease, RxtxMap, RxtxUnmap, PartitionInfoGet, IdGet, MsgWait, Yield, Run, DirectRequest, DirectResponse, MemDonate, MemLend, MemShare, MemRetrieve, MemRelinquish, MemReclaim, BitmapCreate, BitmapDestroy, NotificationBind, NotificationUnbind, NotificationSet, NotificationGet, SpmIdGet, MsgSend2, Unknown}
 use Rattle.ffa_model.specs.State.{State}
 use Rattle.ffa_model.specs.Registers.{decode}
-use Rattle.ffa_model.specs.Calls.{Stepped, replied}
+use Rattle.ffa_model.specs.Calls.{Service, Stepped, replying, served}
 use Rattle.ffa_model.specs.Memory.{load, store, fetch}
 use Rattle.ffa_model.specs.Setup.{version_reply, features_reply, id_reply, spm_id_reply, info_get}
 use Rattle.ffa_model.specs.Buffers.{rxtx_map, rxtx_unmap, rx_release}
 use Rattle.ffa_model.specs.RunStates.{direct_request, direct_response, run_partition, msg_wait, yield_now}
 use Rattle.ffa_model.specs.Messages.{msg_send2}
+use Rattle.ffa_model.specs.Transactions.{transfer}
+use Rattle.ffa_model.specs.MemorySend.{memory_send}
+use Rattle.ffa_model.specs.MemoryRetrieve.{memory_retrieve}
+use Rattle.ffa_model.specs.MemoryReturn.{memory_relinquish, memory_reclaim}
+use Rattle.ffa_model.specs.Notifications.{bitmap_create, bitmap_destroy, notification_bind, notification_unbind, notification_set, notification_get}
 
-abbrev pub not_supported : State → Stepped
-not_supported s = replied s (Error NotSupported)
+abbrev pub not_supported : State → Service
+not_supported s = replying s (Error NotSupported)
 
--- a call of the runner; what isn't served is not supported
+-- each call of the runner; what is no call is not supported
+abbrev pub service : State → calls.Call → Service
+service s (Version version) = replying s (version_reply version)
+service s (Features function) = replying s (features_reply function)
+service s RxRelease = rx_release s
+service s (RxtxMap tx rx pages) = rxtx_map s tx rx pages
+service s (RxtxUnmap endpoint) = rxtx_unmap s endpoint
+service s (PartitionInfoGet uuid flags) = info_get s uuid flags
+service s IdGet = replying s (id_reply s)
+service s SpmIdGet = replying s spm_id_reply
+service s MsgWait = msg_wait s
+service s Yield = yield_now s
+service s (Run target) = run_partition s target
+service s (DirectRequest function word flags payload) = direct_request s function word flags payload
+service s (DirectResponse function word flags payload) = direct_response s function word flags payload
+service s (MemDonate total fragment address pages) = memory_send s Donate (transfer total fragment address pages)
+service s (MemLend total fragment address pages) = memory_send s Lend (transfer total fragment address pages)
+service s (MemShare total fragment address pages) = memory_send s Share (transfer total fragment address pages)
+service s (MemRetrieve total fragment address pages) = memory_retrieve s (transfer total fragment address pages)
+service s MemRelinquish = memory_relinquish s
+service s (MemReclaim low high flags) = memory_reclaim s low high flags
+service s (BitmapCreate endpoint contexts) = bitmap_create s endpoint contexts
+service s (BitmapDestroy endpoint) = bitmap_destroy s endpoint
+service s (NotificationBind word flags low high) = notification_bind s word flags low high
+service s (NotificationUnbind word flags low high) = notification_unbind s word flags low high
+service s (NotificationSet word flags low high) = notification_set s word flags low high
+service s (NotificationGet receiver flags) = notification_get s receiver flags
+service s MsgSend2 = msg_send2 s
+service s Unknown = not_supported s
+
 abbrev pub serve : State → calls.Call → Stepped
-serve s (Version version) = replied s (version_reply version)
-serve s (Features function) = replied s (features_reply function)
-serve s RxRelease = rx_release s
-serve s (RxtxMap tx rx pages) = rxtx_map s tx rx pages
-serve s (RxtxUnmap endpoint) = rxtx_unmap s endpoint
-serve s (PartitionInfoGet uuid flags) = info_get s uuid flags
-serve s IdGet = replied s (id_reply s)
-serve s SpmIdGet = replied s spm_id_reply
-serve s MsgWait = msg_wait s
-serve s Yield = yield_now s
-serve s (Run target) = run_partition s target
-serve s (DirectRequest function parties flags payload) = direct_request s function parties flags payload
-serve s (DirectResponse function parties flags payload) = direct_response s function parties flags payload
-serve s (MemDonate total fragment address pages) = not_supported s
-serve s (MemLend total fragment address pages) = not_supported s
-serve s (MemShare total fragment address pages) = not_supported s
-serve s (MemRetrieve total fragment address pages) = not_supported s
-serve s MemRelinquish = not_supported s
-serve s (MemReclaim low high flags) = not_supported s
-serve s (BitmapCreate endpoint contexts) = not_supported s
-serve s (BitmapDestroy endpoint) = not_supported s
-serve s (NotificationBind parties flags low high) = not_supported s
-serve s (NotificationUnbind parties flags low high) = not_supported s
-serve s (NotificationSet parties flags low high) = not_supported s
-serve s (NotificationGet receiver flags) = not_supported s
-serve s MsgSend2 = msg_send2 s
-serve s Unknown = not_supported s
+serve s call = served s (service s call)
 
 -- one operation of the runner
 abbrev pub step : State → Op → Stepped

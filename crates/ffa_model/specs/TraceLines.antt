@@ -121,9 +121,9 @@ unfoldable pub line_of : List ℕ → Option Line
 line_of [] = Some skip
 line_of (c ∷ bytes) = if c == hash then Some skip else command_of (words_of (c ∷ bytes))
 
--- whether the bytes say something, where they are one line
-abbrev pub has_meaning : List ℕ → Bool
-has_meaning bytes = is_some (line_of bytes)
+-- whether the bytes are a line that is taken, where they have no LF
+abbrev pub is_good : List ℕ → Bool
+is_good bytes = is_some (line_of bytes)
 
 -- INPUTS
 
@@ -131,7 +131,7 @@ abbrev pub has_no_feed : List ℕ → Bool
 has_no_feed bytes = list_all (λ c. not (c == feed)) bytes
 
 abbrev pub is_line : List ℕ → Bool
-is_line bytes = has_no_feed bytes && has_meaning bytes
+is_line bytes = has_no_feed bytes && is_good bytes
 
 abbrev pub are_lines : List (List ℕ) → Bool
 are_lines lines = list_all is_line lines

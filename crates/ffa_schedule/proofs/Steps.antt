@@ -16,11 +16,11 @@ use Rattle.ffa_model.specs.RunStates.{Schedule, first_schedule, is_endpoint, is_
 use Rattle.ffa_model.specs.Sound.{IsSound, origin}
 use Rattle.ffa_model.proofs.Listed.{get_or-listed, get_or-listed_past, listed-same}
 use Rattle.ffa_model.proofs.Written.{map-refill-set}
-use Rattle.ffa_schedule.specs.Links.{IsChain, has_link_at, identifiers_of, last_link, schedule_of, status_at, status_outside, work_at}
-use Rattle.ffa_schedule.proofs.Chains.{status-last, status-rest, behind, origin-before, popped, pushed, room, schedule-popped, schedule-pushed}
-use Rattle.ffa_schedule.proofs.Links.{identifiers-more, last-more}
+use Rattle.ffa_model.specs.Links.{IsChain, has_link_at, identifiers_of, last_link, schedule_of, status_at, status_outside, work_at}
+use Rattle.ffa_model.proofs.Chains.{status-last, status-rest, behind, origin-before, popped, pushed, room, schedule-popped, schedule-pushed}
+use Rattle.ffa_model.proofs.Links.{identifiers-more, last-more}
 use Rattle.ffa_model.proofs.Places.{partition-place}
-use Rattle.ffa_schedule.proofs.Sounds.{outside-chain, sound}
+use Rattle.ffa_model.proofs.Sounds.{outside-chain, sound}
 
 -- an element written through a slice of all
 pub refill-set : {X : Type 0} (xs ys : List X) (i j : ℕ) (y : X) → ys ≡ xs → i ≡ j → refill (length xs) xs (set ys i y) ≡ set xs j y

@@ -10,7 +10,7 @@ ghost use Rattle.ffa_model.specs.Identifiers.{place};
 ghost use Rattle.ffa_model.specs.RunStates.{finished, first_schedule, given_cycles, is_endpoint, is_run, is_waiting, is_yielded, passed, requested, requester, run_guards, run_reply, status_in, switched, wait_guards, wait_reply, with_work, work_in, yield_guards, yield_reply};
 ghost use Rattle.ffa_model.specs.Sound.{IsSound, origin};
 ghost use Rattle.ffa_model.specs.State.{is_partition_among};
-ghost use Rattle.ffa_schedule.specs.Links.{status_outside};
+ghost use Rattle.ffa_model.specs.Links.{status_outside};
 
 use arrayvec::ArrayVec;
 use ffa_model::{EndpointId, ErrorCode, Reply, Status, Work};
@@ -41,7 +41,7 @@ impl Model for Chain {
 
     ghost coded = { coded_schedule };
 
-    ghost use Rattle.ffa_schedule.specs.Links.{identifiers_of, schedule_of, IsChain};
+    ghost use Rattle.ffa_model.specs.Links.{identifiers_of, schedule_of, IsChain};
 
     ghost view = { λ c. schedule_of (identifiers_of c.links.items) c.works.items };
 

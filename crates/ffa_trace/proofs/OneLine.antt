@@ -4,7 +4,7 @@ use Rattle.std.specs.Prelude.{is_some}
 use Rattle.std.specs.Option.{option_map_or}
 use Rattle.std.specs.Io.KnownBytes.{Appends}
 use Rattle.ffa_model.specs.State.{State}
-use Rattle.ffa_model.specs.TraceLines.{Line, line_of, has_meaning}
+use Rattle.ffa_model.specs.TraceLines.{Line, line_of, is_good}
 use Rattle.ffa_model.specs.TraceText.{line_text, line_after, text_of, after}
 use Rattle.ffa_trace.specs.Output.{TookFront, Writes}
 use Rattle.ffa_trace.specs.Played.{LineDone}
@@ -12,7 +12,7 @@ use Rattle.ffa_trace.specs.declared.output.PlayError.{PlayError}
 use Rattle.ffa_trace.specs.declared.output.PlayError.TheVariants.{Read, Write, NoMemory, BadLine}
 
 module _ (start now : State) (held holds : Option (List ℕ)) (number : ℕ) (bytes : List ℕ) (line : Line) (is : Some line ≡ line_of bytes) (next : now ≡ line_after start line) where
-  means : has_meaning bytes ≡ true
+  means : is_good bytes ≡ true
   means = ap is_some (sym is)
 
   state_is : now ≡ after start bytes

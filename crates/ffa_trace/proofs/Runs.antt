@@ -4,7 +4,7 @@ use Rattle.std.specs.Io.KnownBytes.{Appends, Keeps}
 use Rattle.std.proofs.KnownBytes.{Appends-nil, Appends-trans, Appends-kept}
 use Rattle.std.proofs.lemmas.List.Folds.{list_all-append}
 use Rattle.ffa_model.specs.State.{State}
-use Rattle.ffa_model.specs.TraceLines.{feed, joined, is_line, are_lines, has_no_feed, has_meaning}
+use Rattle.ffa_model.specs.TraceLines.{feed, joined, is_line, are_lines, has_no_feed, is_good}
 use Rattle.ffa_model.specs.TraceText.{text, text_of, after, after_all}
 use Rattle.ffa_trace.specs.Played.{Did, DidAndBegan}
 
@@ -46,7 +46,7 @@ began_more s m n a b c ls ms line p q = record {
   began = q.began;
 }
 
-pub did_one : (s n : State) (a b : Option (List ℕ)) (l : List ℕ) → has_no_feed l ≡ true → has_meaning l ≡ true → n ≡ after s l → Appends a b (text_of s l)
+pub did_one : (s n : State) (a b : Option (List ℕ)) (l : List ℕ) → has_no_feed l ≡ true → is_good l ≡ true → n ≡ after s l → Appends a b (text_of s l)
     → Did s n a b (l ∷ [])
 did_one s n a b l f g e w = record {
   each = rw (f, g) refl;

@@ -2,7 +2,7 @@
 use Rattle.std.specs.Prelude.{◌≡◌, ◌≤◌, ◌⊎◌, ℕ, ◌+◌, ◌-◌, ◌^◌, true, false, List, [], ◌∷◌, ◌++◌, length, Option, Result, Ok, Err}
 use Rattle.std.specs.Io.KnownBytes.{Appends, Consumes, IsAtEnd, Keeps}
 use Rattle.ffa_model.specs.State.{State}
-use Rattle.ffa_model.specs.TraceLines.{feed, has_no_feed, has_meaning, are_lines, joined}
+use Rattle.ffa_model.specs.TraceLines.{feed, has_no_feed, is_good, are_lines, joined}
 use Rattle.ffa_model.specs.TraceText.{text, text_of, after, after_all}
 use Rattle.ffa_trace.specs.Output.{TookFront}
 use Rattle.ffa_trace.specs.declared.output.PlayError.{PlayError}
@@ -18,7 +18,7 @@ pub record Did (start now : State) (held holds : Option (List ℕ)) (lines : Lis
 
 -- a line was done, and the writer took a beginning of its text
 pub record Began (start now : State) (held holds : Option (List ℕ)) (line : List ℕ) : Type 0 where
-  pub good : has_meaning line ≡ true
+  pub good : is_good line ≡ true
   pub state : now ≡ after start line
   pub written : TookFront held holds (text_of start line)
 
@@ -34,9 +34,9 @@ pub record DidAndBegan (start now : State) (held holds : Option (List ℕ)) (lin
 
 -- it was done, or it is none: no other error comes
 abbrev pub LineDone : {X : Type 0} → State → State → Option (List ℕ) → Option (List ℕ) → ℕ → List ℕ → Result X PlayError → Type 0
-LineDone start now held holds number line (Ok _) = (has_meaning line ≡ true) × (now ≡ after start line) × Appends held holds (text_of start line)
+LineDone start now held holds number line (Ok _) = (is_good line ≡ true) × (now ≡ after start line) × Appends held holds (text_of start line)
 LineDone start now held holds number line (Err Write) = Began start now held holds line
-LineDone start now held holds number line (Err (BadLine n)) = (has_meaning line ≡ false) × (n ≡ number) × (now ≡ start) × Keeps held holds
+LineDone start now held holds number line (Err (BadLine n)) = (is_good line ≡ false) × (n ≡ number) × (now ≡ start) × Keeps held holds
 LineDone start now held holds number line (Err Read) = ⊥
 LineDone start now held holds number line (Err NoMemory) = ⊥
 
@@ -76,7 +76,7 @@ Fed start now held holds number next bytes rest (Err Write) = (lines : List (Lis
     × DidAndBegan start now held holds lines line × (bytes ≡ joined lines ++ (line ++ feed ∷ more))
 Fed start now held holds number next bytes rest (Err (BadLine n)) = (lines : List (List ℕ)) × (bad : List ℕ) × (more : List ℕ)
     × Did start now held holds lines × (bytes ≡ joined lines ++ (bad ++ feed ∷ more))
-    × (has_no_feed bad ≡ true) × (has_meaning bad ≡ false) × (n ≡ number + length lines)
+    × (has_no_feed bad ≡ true) × (is_good bad ≡ false) × (n ≡ number + length lines)
 
 -- A PLAY, by its answer, where `had` are the reader's bytes before it and `has` those after it
 
@@ -96,4 +96,4 @@ Played start now held holds had has (Err Write) = (lines : List (List ℕ)) × (
 Played start now held holds had has (Err (BadLine n)) = (lines : List (List ℕ)) × (bad : List ℕ) × (more : List ℕ)
     × Did start now held holds lines × Consumes had has (joined lines ++ (bad ++ more))
     × (n ≡ 1 + length lines) × (has_no_feed bad ≡ true)
-    × ((((next : List ℕ) × (more ≡ feed ∷ next)) × (has_meaning bad ≡ false)) ⊎ ((more ≡ []) × (1 ≤ length bad) × IsAtEnd has))
+    × ((((next : List ℕ) × (more ≡ feed ∷ next)) × (is_good bad ≡ false)) ⊎ ((more ≡ []) × (1 ≤ length bad) × IsAtEnd has))

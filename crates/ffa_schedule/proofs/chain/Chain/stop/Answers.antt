@@ -1,6 +1,6 @@
 use Rattle.std.proofs.Common.{◌++◌, ◌∙◌, ap, option_to_list}
 use Rattle.ffa_model.specs.Identifiers.{place}
-use Rattle.ffa_schedule.proofs.Sounds.{sound}
+use Rattle.ffa_model.proofs.Sounds.{sound}
 use Rattle.ffa_schedule.proofs.Steps.{refill-set, stop-chain, stop-view}
 use Rattle.ffa_schedule.proofs.chain.Chain.stop.Goals as goal
 

@@ -16,8 +16,8 @@ use Rattle.ffa_model.specs.State.{is_partition_among, is_known_among}
 use Rattle.ffa_model.specs.RunStates.{Schedule, switched, with_work}
 use Rattle.ffa_model.specs.Sound.{origin}
 use Rattle.ffa_model.proofs.Listed.{listed-but}
-use Rattle.ffa_schedule.specs.Links.{IsChain, has_link_at, last_link, link_at, schedule_of, status_at, status_outside, work_at}
-use Rattle.ffa_schedule.proofs.Links.{has-more, last-more, length-more, link-before, link-elsewhere, link-found, link-has, link-last}
+use Rattle.ffa_model.specs.Links.{IsChain, has_link_at, last_link, link_at, schedule_of, status_at, status_outside, work_at}
+use Rattle.ffa_model.proofs.Links.{has-more, last-more, length-more, link-before, link-elsewhere, link-found, link-has, link-last}
 use Rattle.ffa_model.proofs.Places.{known-place, partition-known, partition-place}
 
 -- each link is an endpoint

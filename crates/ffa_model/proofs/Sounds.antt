@@ -14,9 +14,9 @@ use Rattle.ffa_model.specs.State.{is_partition_among, is_known_among}
 use Rattle.ffa_model.specs.RunStates.{Schedule, is_waiting, is_yielded, status_in, work_in}
 use Rattle.ffa_model.specs.Sound.{IsChained, IsLinked, IsSound, is_known, is_partition, origin}
 use Rattle.ffa_model.proofs.Listed.{get_or-listed, length-listed}
-use Rattle.ffa_schedule.specs.Links.{IsChain, has_link_at, last_link, link_at, schedule_of, status_at, status_outside, work_at}
-use Rattle.ffa_schedule.proofs.Chains.{link-known, link-within, status-last, status-rest}
-use Rattle.ffa_schedule.proofs.Links.{link-elsewhere, link-found, link-has}
+use Rattle.ffa_model.specs.Links.{IsChain, has_link_at, last_link, link_at, schedule_of, status_at, status_outside, work_at}
+use Rattle.ffa_model.proofs.Chains.{link-known, link-within, status-last, status-rest}
+use Rattle.ffa_model.proofs.Links.{link-elsewhere, link-found, link-has}
 use Rattle.ffa_model.proofs.Places.{known-place, partition-place, same-known}
 
 -- who stands outside of the chain neither runs nor is blocked, and waits where it has no work

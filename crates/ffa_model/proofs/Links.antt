@@ -6,7 +6,7 @@ use Rattle.std.proofs.lemmas.List.{get_or_append_left, get_or_at, length-append,
 use Rattle.std.proofs.lemmas.List.Folds.{list_any_at}
 use Rattle.ffa_model.specs.declared.endpoint.EndpointId.{EndpointId}
 use Rattle.ffa_model.specs.Identifiers.{place}
-use Rattle.ffa_schedule.specs.Links.{has_link_at, identifiers_of, last_link, link_at}
+use Rattle.ffa_model.specs.Links.{has_link_at, identifiers_of, last_link, link_at}
 
 -- the index of the link at a place
 pub link-found : (links : List ℕ) (p : ℕ) → has_link_at links p ≡ true → (k : ℕ) × (k < length links) × (place (link_at links k) ≡ p)

@@ -1,0 +1,119 @@
+-- Rights never grow.
+use Rattle.std.proofs.Common.{◌≡◌, ◌≢◌, ◌∙◌, ℕ, Bool, true, false, cond, List, [], ◌∷◌, Option, Some, None, is_some, refl, sym, ap}
+use Rattle.std.specs.Prelude.{◌==◌, ◌&&◌, ◌||◌, length, nat_le, not}
+use Rattle.std.proofs.lemmas.Bool.{and_from, and_parts, eqb-true, false≢true, true≢false}
+use Rattle.ffa_model.specs.declared.rights.Data.{Data}
+use Rattle.ffa_model.specs.declared.rights.Data.TheVariants.{Ro, Rw}
+use Rattle.ffa_model.specs.declared.rights.Rights.{Rights}
+use Rattle.ffa_model.specs.declared.operation.Op.{Op}
+use Rattle.ffa_model.specs.Rights.{is_lend, is_data_at_most, is_share, is_within}
+use Rattle.ffa_model.specs.State.{State, Page, Transaction, page_at}
+use Rattle.ffa_model.specs.Access.{access, held_by, right_by, right_of, transaction_at}
+use Rattle.ffa_model.specs.Step.{state_after, step}
+use Rattle.ffa_model.specs.Steady.{IsSteady, page_base, is_joint}
+use Rattle.ffa_model.specs.Isolation.{NeverGrow, are_lawful, is_joint_at, is_lawful}
+use Rattle.ffa_laws.proofs.Views.{found}
+use Rattle.ffa_laws.proofs.Changes.{same_base, standing}
+use Rattle.ffa_laws.proofs.Kept.{rewritten-step}
+use Rattle.ffa_laws.proofs.Laws.{steady-step}
+
+level-same : (d : Data) → is_data_at_most d d ≡ true
+level-same Ro = refl
+level-same Rw = refl
+
+level-through : (a b c : Data) → is_data_at_most a b ≡ true → is_data_at_most b c ≡ true → is_data_at_most a c ≡ true
+level-through Ro b c ab bc = refl
+level-through Rw Ro c ab bc = absurd (false≢true ab)
+level-through Rw Rw c ab bc = bc
+
+execution-same : (b : Bool) → (not b || b) ≡ true
+execution-same true = refl
+execution-same false = refl
+
+execution-through : (a b c : Bool) → (not a || b) ≡ true → (not b || c) ≡ true → (not a || c) ≡ true
+execution-through false b c ab bc = refl
+execution-through true true c ab bc = bc
+execution-through true false c ab bc = absurd (false≢true ab)
+
+within-same : (r : Option Rights) → is_within r r ≡ true
+within-same None = refl
+within-same (Some r) = and_from (is_data_at_most r.level r.level) (not r.exec || r.exec) (level-same r.level) (execution-same r.exec)
+
+within-through : (a b c : Option Rights) → is_within a b ≡ true → is_within b c ≡ true → is_within a c ≡ true
+within-through None b c ab bc = refl
+within-through (Some a) None c ab bc = absurd (false≢true ab)
+within-through (Some a) (Some b) None ab bc = absurd (false≢true bc)
+within-through (Some a) (Some b) (Some c) ab bc =
+    let (level_ab, exec_ab) = and_parts _ _ ab in
+    let (level_bc, exec_bc) = and_parts _ _ bc in
+    and_from _ _ (level-through a.level b.level c.level level_ab level_bc) (execution-through a.exec b.exec c.exec exec_ab exec_bc)
+
+-- ---- in any steady state
+-- a right that is the owner's under a test, or nothing
+within-test : (b : Bool) (r : Rights) → is_within (cond b (Some r) None) (Some r) ≡ true
+within-test true r = within-same (Some r)
+within-test false r = refl
+
+test-holds : (b : Bool) (r : Rights) → is_some (cond b (Some r) None) ≡ true → b ≡ true
+test-holds true r some = refl
+test-holds false r some = absurd (false≢true some)
+
+module _ (s : State) (steady : IsSteady s) where
+  access-within : (e p : ℕ) → is_within (access s e p) (page_base (page_at s p)) ≡ true
+  access-within e p = go (page_at s p) refl (transaction_at s p) refl
+    where
+      go : (page : Option Page) → page_at s p ≡ page → (o : Option Transaction) → transaction_at s p ≡ o → is_within (right_of e page o) (page_base page) ≡ true
+      go None at o open_at = refl
+      go (Some page) at None open_at = within-test (page.owner == e) page.base
+      go (Some page) at (Some u) open_at = held (held_by u e) refl
+        where
+          held : (h : Option Rights) → held_by u e ≡ h → is_within (right_by e page u h) (Some page.base) ≡ true
+          held None is = within-test (is_share u.kind && u.sender == e) page.base
+          held (Some right) is =
+              let (h, open_h, named) = found s p u open_at in
+              sym (ap (λ q. is_within (Some right) (page_base q)) at) ∙ (steady.transactions h u open_h).within p e right named is
+
+  access-alone : (e f p : ℕ) → e ≢ f → is_some (access s e p) ≡ true → is_some (access s f p) ≡ true → is_joint_at (transaction_at s p) ≡ true
+  access-alone e f p differ one other = go (page_at s p) (transaction_at s p) refl one other
+    where
+      go : (page : Option Page) (o : Option Transaction) → transaction_at s p ≡ o → is_some (right_of e page o) ≡ true → is_some (right_of f page o) ≡ true → is_joint_at o ≡ true
+      go None o open_at one other = absurd (false≢true one)
+      go (Some page) None open_at one other =
+          absurd (differ (sym (eqb-true page.owner e (test-holds (page.owner == e) page.base one)) ∙ eqb-true page.owner f (test-holds (page.owner == f) page.base other)))
+      go (Some page) (Some u) open_at one other = held (held_by u e) refl (held_by u f) refl one other
+        where
+          by_share : (g : ℕ) → is_some (cond (is_share u.kind && u.sender == g) (Some page.base) None) ≡ true → is_joint u ≡ true
+          by_share g some =
+              let (share, sender) = and_parts (is_share u.kind) (u.sender == g) (test-holds (is_share u.kind && u.sender == g) page.base some) in
+              ap (λ b. b || (is_lend u.kind && nat_le 2 (length u.receivers))) share
+
+          held : (h : Option Rights) → held_by u e ≡ h → (k : Option Rights) → held_by u f ≡ k → is_some (right_by e page u h) ≡ true → is_some (right_by f page u k) ≡ true → is_joint u ≡ true
+          held None is k of_f one other = by_share e one
+          held (Some right) is None of_f one other = by_share f other
+          held (Some right) is (Some right_f) of_f one other =
+              let (h, open_h, named) = found s p u open_at in
+              (steady.transactions h u open_h).alone e f right right_f differ is of_f
+
+-- ---- over a run
+base-step : (s : State) (op : Op) (p : ℕ) → is_lawful op ≡ true → page_base (page_at (step s op).state p) ≡ page_base (page_at s p)
+base-step s op p lawful = rewritten-step (λ t. page_base (page_at t p) ≡ page_base (page_at s p)) s refl (λ ps bs c n rewritten. same_base _ (page_at s p) (rewritten.same p)) op lawful
+
+stands-nowhere : (x : Option Page) → standing x ≡ None → x ≡ None
+stands-nowhere None is = refl
+stands-nowhere (Some page) is = absurd (true≢false (ap is_some is))
+
+manager-step : (s : State) (op : Op) (p : ℕ) → is_lawful op ≡ true → page_at s p ≡ None → page_at (step s op).state p ≡ None
+manager-step s op p lawful none = rewritten-step (λ t. page_at t p ≡ None) s none (λ ps bs c n rewritten. stands-nowhere _ (rewritten.same p ∙ ap standing none)) op lawful
+
+pub never_grow : (s : State) (ops : List Op) → are_lawful ops ≡ true → IsSteady s → NeverGrow s (state_after s ops)
+never_grow s [] lawful steady =
+    record { base = λ p. within-same (page_base (page_at s p)); within = access-within s steady; manager = λ p none. none; alone = access-alone s steady }
+never_grow s (op ∷ ops) lawful steady =
+    let (one, rest) = and_parts (is_lawful op) (are_lawful ops) lawful in
+    let later = never_grow (step s op).state ops rest (steady-step s steady op one) in
+    record {
+      base = λ p. sym (ap (is_within (page_base (page_at (state_after (step s op).state ops) p))) (base-step s op p one)) ∙ later.base p;
+      within = later.within;
+      manager = λ p none. later.manager p (manager-step s op p one none);
+      alone = later.alone;
+    }

@@ -1,0 +1,92 @@
+-- A page that its owner has alone keeps its bytes, whatever another endpoint does, but for a message into RX.
+use Rattle.std.proofs.Common.{◌≡◌, ◌≢◌, ◌∙◌, ℕ, ◌-◌, ◌/◌, ◌%◌, true, false, cond, List, [], get_or, Option, Some, None, is_some, refl, sym, ap, inl, inr, get_or-set_other}
+use Rattle.std.specs.Prelude.{◌==◌, ◌&&◌, nat_le, nat_lt, ◌^◌}
+use Rattle.std.specs.Option.{option_and_then, option_map_or}
+use Rattle.std.proofs.lemmas.Bool.{and_from, cases_eq, eq-eqb, eqb-true, false≢true, true≢false}
+use Rattle.byteorder.specs.Endian.{little_bytes}
+use Rattle.ffa_model.specs.declared.operation.Op.{Op}
+use Rattle.ffa_model.specs.declared.operation.ErrorCode.TheVariants.{InvalidParameters}
+use Rattle.ffa_model.specs.Rights.{may_store}
+use Rattle.ffa_model.specs.State.{State, Page, Buffers, page_at, owner_of, buffers_of, is_known, transaction_of}
+use Rattle.ffa_model.specs.Access.{access, handle_at, right_of}
+use Rattle.ffa_model.specs.Buffers.{filled_pages}
+use Rattle.ffa_model.specs.Memory.{access_at, page_bytes, size_of, store_fault, written_pages}
+use Rattle.ffa_model.specs.Calls.{first_failure}
+use Rattle.ffa_model.specs.Messages.{header_in, message_in, send2_guards, tx_bytes}
+use Rattle.ffa_model.specs.Step.{step}
+use Rattle.ffa_model.specs.Steady.{IsSteady}
+use Rattle.ffa_model.specs.Isolation.{Integrity, is_lawful, is_bound_for, is_message}
+use Rattle.ffa_model.proofs.Guards.{guard-passes}
+use Rattle.ffa_laws.proofs.MemoryLaws.{fault-none}
+use Rattle.ffa_laws.proofs.Kept.{kept-step}
+
+-- the bytes of a page of a list of pages
+abbrev bytes_in : List (Option Page) → ℕ → List ℕ
+bytes_in ps p = option_map_or (λ (page : Page). page.bytes) (get_or ps p None) []
+
+elsewhere : (ps : List (Option Page)) (q p at : ℕ) (bytes : List ℕ) → p ≢ q → bytes_in (written_pages ps q at bytes) p ≡ bytes_in ps p
+elsewhere ps q p at bytes differ = ap (λ page. option_map_or (λ (x : Page). x.bytes) page []) (get_or-set_other ps q p _ None differ)
+
+module _ (s : State) (steady : IsSteady s) (e p : ℕ) (owned : owner_of s p ≡ e) (unnamed : handle_at s p ≡ None) (other : s.runner ≢ e) where
+  -- a filled RX of another endpoint is another page
+  elsewhere-filled : (f : ℕ) (bytes : List ℕ) → is_known s f ≡ true → ((b : Buffers) → buffers_of s f ≡ Some b → p ≢ b.rx) → bytes_in (filled_pages s.pages bytes (buffers_of s f)) p ≡ bytes_in s.pages p
+  elsewhere-filled f bytes known differ = go (buffers_of s f) refl
+    where
+      go : (o : Option Buffers) → buffers_of s f ≡ o → bytes_in (filled_pages s.pages bytes o) p ≡ bytes_in s.pages p
+      go None is = refl
+      go (Some b) is = elsewhere s.pages b.rx p 0 bytes (differ b is)
+
+  -- RX of an endpoint is its own page
+  of_another : (f : ℕ) (b : Buffers) → is_known s f ≡ true → buffers_of s f ≡ Some b → f ≢ e → p ≢ b.rx
+  of_another f b known is differ same = differ (sym (steady.buffers f b known is).rx.owner ∙ ap (owner_of s) (sym same) ∙ owned)
+
+  -- the runner has no access to the page
+  no_access : access s s.runner p ≡ None
+  no_access = ap (λ o. right_of s.runner (page_at s p) (option_and_then (transaction_of s) o)) unnamed ∙ go (page_at s p) refl
+    where
+      go : (page : Option Page) → page_at s p ≡ page → right_of s.runner page None ≡ None
+      go None at = refl
+      go (Some q) at =
+          elim (q.owner == s.runner) as (λ b. (q.owner == s.runner) ≡ b → cond b (Some q.base) None ≡ None) [
+            | true ↦ λ mine. absurd (other (sym (eqb-true q.owner s.runner mine) ∙ ap (λ o. option_map_or (λ (x : Page). x.owner) o 0x8000) (sym at) ∙ owned))
+            | false ↦ λ differs. refl
+          ] refl
+
+  stored_elsewhere : (address n : ℕ) → store_fault s address n ≡ None → p ≢ (address - s.ram_base) / 4096
+  stored_elsewhere address n none same =
+      false≢true (sym (ap is_some no_access) ∙ ap (λ q. is_some (access s s.runner q)) same ∙ reached (fault-none (address % n == 0) (access_at s s.runner address) may_store none))
+    where
+      reached : is_some (access_at s s.runner address) ≡ true → is_some (access s s.runner ((address - s.ram_base) / 4096)) ≡ true
+      reached =
+          elim (nat_le s.ram_base address && nat_lt address (2 ^ 32)) as (λ b. is_some (option_and_then (access s s.runner) (cond b (Some ((address - s.ram_base) / 4096)) None)) ≡ true → is_some (access s s.runner ((address - s.ram_base) / 4096)) ≡ true) [
+            | true ↦ λ some. some
+            | false ↦ λ some. absurd (false≢true some)
+          ]
+
+  delivered_elsewhere : (op : Op) → (is_message op && is_bound_for s e p) ≡ false → is_message op ≡ true
+      → first_failure (send2_guards s.parties s.buffers s.runner (header_in (tx_bytes s s.runner))) ≡ None
+      → bytes_in (filled_pages s.pages (message_in (tx_bytes s s.runner)) (buffers_of s (header_in (tx_bytes s s.runner)).receiver)) p ≡ bytes_in s.pages p
+  delivered_elsewhere op not_bound is none =
+      elsewhere-filled receiver (message_in (tx_bytes s s.runner)) known (λ b buffers same.
+      elim (cases_eq receiver e) [
+        | inl mine ↦
+            let rx : option_map_or (λ (x : Buffers). x.rx == p) (buffers_of s e) false ≡ true = ap (λ o. option_map_or (λ (x : Buffers). x.rx == p) o false) (ap (buffers_of s) (sym mine) ∙ buffers) ∙ eq-eqb b.rx p (sym same) in
+            true≢false (sym (and_from _ _ is (and_from _ _ (eq-eqb receiver e mine) rx)) ∙ not_bound)
+        | inr differ ↦ of_another receiver b known buffers differ same
+      ])
+    where
+      receiver : ℕ
+      receiver = (header_in (tx_bytes s s.runner)).receiver
+
+      known : is_known s receiver ≡ true
+      known = guard-passes (send2_guards s.parties s.buffers s.runner (header_in (tx_bytes s s.runner))) 4 InvalidParameters (sym none)
+
+  bytes-kept : (op : Op) → is_lawful op ≡ true → (is_message op && is_bound_for s e p) ≡ false → page_bytes (step s op).state p ≡ page_bytes s p
+  bytes-kept op lawful not_bound =
+      kept-step (λ t. page_bytes t p ≡ page_bytes s p) (λ ps. bytes_in ps p ≡ bytes_in s.pages p) s refl (λ ps bs c n same. same) refl
+      (λ bytes. elsewhere-filled s.runner bytes steady.runner (λ b is. of_another s.runner b steady.runner is other)) op lawful
+      (λ address size value none. elsewhere s.pages ((address - s.ram_base) / 4096) p (address % 4096) (little_bytes (size_of size) value) (stored_elsewhere address (size_of size) none))
+      (delivered_elsewhere op not_bound)
+
+pub integrity : (s : State) (op : Op) → is_lawful op ≡ true → IsSteady s → Integrity s op
+integrity s op lawful steady e p owned unnamed other not_bound = bytes-kept s steady e p owned unnamed other op lawful not_bound

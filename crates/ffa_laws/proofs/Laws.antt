@@ -1,0 +1,192 @@
+-- The laws of a step, call by call, and of a run by induction.
+use Rattle.std.proofs.Common.{◌≡◌, ◌≢◌, ◌∙◌, ℕ, true, false, cond, List, [], ◌∷◌, ◌++◌, map, Some, None, refl, sym, ap, subst}
+use Rattle.std.specs.Prelude.{◌==◌}
+use Rattle.std.proofs.lemmas.Bool.{and_parts, eq-eqb, eqb-true, false≢true, true≢false}
+use Rattle.std.proofs.lemmas.List.{append_assoc}
+use Rattle.ffa_model.specs.declared.operation.Op.{Op}
+use Rattle.ffa_model.specs.declared.operation.Op.TheVariants.{Call, Load, Store, Fetch}
+use Rattle.ffa_model.specs.declared.operation.Outcome.{Outcome}
+use Rattle.ffa_model.specs.declared.call.Call as calls
+use Rattle.ffa_model.specs.declared.call.Call.TheVariants.{Version, Features, RxRelease, RxtxMap, RxtxUnmap, PartitionInfoGet, IdGet, MsgWait, Yield, Run, DirectRequest, DirectResponse, MemDonate, MemLend, MemShare, MemRetrieve, MemRelinquish, MemReclaim, BitmapCreate, BitmapDestroy, NotificationBind, NotificationUnbind, NotificationSet, NotificationGet, SpmIdGet, MsgSend2, Unknown}
+use Rattle.ffa_model.specs.State.{State, is_known}
+use Rattle.ffa_model.specs.Calls.{Stepped, first_failure}
+use Rattle.ffa_model.specs.Registers.{decode}
+use Rattle.ffa_model.specs.declared.schedule.Status.TheVariants.{Yielded}
+use Rattle.ffa_model.specs.Bits.{bits_of, high_half, joined, low_half}
+use Rattle.ffa_model.specs.Buffers.{new_buffers}
+use Rattle.ffa_model.specs.RunStates.{direct_request, direct_response, finished, given_cycles, requested, run_partition, schedule_of, status_in, switched, yield_now}
+use Rattle.ffa_model.specs.Notifications.{class_of, notifications_of, with_bitmaps, with_pending, without_pending}
+use Rattle.ffa_laws.proofs.Steadies.{steady-notified}
+use Rattle.ffa_laws.proofs.NotificationLaws.{other-bind, other-create, other-destroy, other-get, other-set, other-unbind, own-bind, own-create, own-destroy, own-get, own-set, own-unbind, steady-bind, steady-destroy, steady-unbind}
+use Rattle.ffa_model.specs.Step.{service, step}
+use Rattle.ffa_model.specs.Steady.{IsSteady}
+use Rattle.ffa_model.specs.View.{view}
+use Rattle.ffa_model.specs.Events.{Event, Item, Own, Told, apply, apply_all, events, items, message, messages, seen, told_by}
+use Rattle.ffa_model.specs.Isolation.{OneStep, Isolated, are_lawful, is_lawful, is_lawful_call}
+use Rattle.ffa_laws.proofs.Form.{IsOwn, served-kept, served-own, viewed}
+use Rattle.ffa_laws.proofs.Told.{IsTold, other-same, served-other}
+use Rattle.ffa_laws.proofs.Kept.{known-step}
+use Rattle.ffa_laws.proofs.MemoryLaws.{other-fetch, other-load, other-store, own-fetch, own-load, own-store, steady-fetch, steady-load, steady-store}
+use Rattle.ffa_laws.proofs.BufferLaws.{other-buffers, other-release, own-map, own-release, own-unmap, steady-map, steady-unmap, steady-with_rx}
+use Rattle.ffa_laws.proofs.SetupLaws.{other-info, own-info, steady-info}
+use Rattle.ffa_laws.proofs.ScheduleLaws.{other-scheduled, other-wait, own-request, own-response, own-run, own-wait, own-yield, steady-request, steady-response, steady-run, steady-wait, steady-yield}
+use Rattle.ffa_laws.proofs.MessageLaws.{other-send2, own-send2, steady-send2}
+
+-- ---- one step, by calls
+own-service : (s : State) → IsSteady s → (call : calls.Call) → is_lawful_call call ≡ true → IsOwn s (service (view s.runner s) call) (service s call)
+own-service s steady (Version version) lawful = (refl, λ none. (refl, refl))
+own-service s steady (Features function) lawful = (refl, λ none. (refl, refl))
+own-service s steady RxRelease lawful = own-release s steady
+own-service s steady (RxtxMap tx rx pages) lawful = own-map s steady tx rx pages
+own-service s steady (RxtxUnmap endpoint) lawful = own-unmap s steady endpoint
+own-service s steady (PartitionInfoGet uuid flags) lawful = own-info s steady uuid flags
+own-service s steady IdGet lawful = (refl, λ none. (refl, refl))
+own-service s steady SpmIdGet lawful = (refl, λ none. (refl, refl))
+own-service s steady MsgWait lawful = own-wait s
+own-service s steady Yield lawful = own-yield s
+own-service s steady (Run target) lawful = own-run s target
+own-service s steady (DirectRequest function word flags payload) lawful = own-request s function word flags payload
+own-service s steady (DirectResponse function word flags payload) lawful = own-response s function word flags payload
+own-service s steady (MemDonate total fragment address pages) lawful = absurd (false≢true lawful)
+own-service s steady (MemLend total fragment address pages) lawful = absurd (false≢true lawful)
+own-service s steady (MemShare total fragment address pages) lawful = absurd (false≢true lawful)
+own-service s steady (MemRetrieve total fragment address pages) lawful = absurd (false≢true lawful)
+own-service s steady MemRelinquish lawful = absurd (false≢true lawful)
+own-service s steady (MemReclaim low high flags) lawful = absurd (false≢true lawful)
+own-service s steady (BitmapCreate endpoint contexts) lawful = own-create s steady endpoint contexts
+own-service s steady (BitmapDestroy endpoint) lawful = own-destroy s steady endpoint
+own-service s steady (NotificationBind word flags low high) lawful = own-bind s steady word flags low high
+own-service s steady (NotificationUnbind word flags low high) lawful = own-unbind s steady word flags low high
+own-service s steady (NotificationSet word flags low high) lawful = own-set s steady word flags low high
+own-service s steady (NotificationGet word flags) lawful = own-get s steady word flags
+own-service s steady MsgSend2 lawful = own-send2 s steady
+own-service s steady Unknown lawful = (refl, λ none. (refl, refl))
+
+pub own-step : (s : State) → IsSteady s → (op : Op) → is_lawful op ≡ true → step (view s.runner s) op ≡ viewed s.runner (step s op)
+own-step s steady (Call x) lawful = served-own s (service (view s.runner s) (decode x)) (service s (decode x)) (own-service s steady (decode x) lawful)
+own-step s steady (Load addr size) lawful = own-load s steady addr size
+own-step s steady (Store addr size value) lawful = own-store s steady addr size value
+own-step s steady (Fetch addr) lawful = own-fetch s steady addr
+
+module _ (e : ℕ) (s : State) (steady : IsSteady s) (known : is_known s e ≡ true) (other : s.runner ≢ e) where
+  other-service : (call : calls.Call) → is_lawful_call call ≡ true → IsTold e s (service s call) (told_by e s call)
+  other-service (Version version) lawful = λ none. other-same e s
+  other-service (Features function) lawful = λ none. other-same e s
+  other-service RxRelease lawful = λ none. other-release s steady e
+  other-service (RxtxMap tx rx pages) lawful = λ none. other-buffers s steady e known other (Some (new_buffers s.ram_base tx rx))
+  other-service (RxtxUnmap endpoint) lawful = λ none. other-buffers s steady e known other None
+  other-service (PartitionInfoGet uuid flags) lawful = λ none. other-info s steady uuid flags e other
+  other-service IdGet lawful = λ none. other-same e s
+  other-service SpmIdGet lawful = λ none. other-same e s
+  other-service MsgWait lawful = λ none. other-wait e s
+  other-service Yield lawful = λ none. other-scheduled e s (switched (schedule_of s) Yielded 0) (yield_now s)
+  other-service (Run target) lawful = λ none. other-scheduled e s (given_cycles (schedule_of s) (high_half target) (status_in (schedule_of s) (high_half target))) (run_partition s target)
+  other-service (DirectRequest function word flags payload) lawful = λ none. other-scheduled e s (requested (schedule_of s) (low_half word)) (direct_request s function word flags payload)
+  other-service (DirectResponse function word flags payload) lawful = λ none. other-scheduled e s (finished (schedule_of s) (low_half word)) (direct_response s function word flags payload)
+  other-service (MemDonate total fragment address pages) lawful = absurd (false≢true lawful)
+  other-service (MemLend total fragment address pages) lawful = absurd (false≢true lawful)
+  other-service (MemShare total fragment address pages) lawful = absurd (false≢true lawful)
+  other-service (MemRetrieve total fragment address pages) lawful = absurd (false≢true lawful)
+  other-service MemRelinquish lawful = absurd (false≢true lawful)
+  other-service (MemReclaim low high flags) lawful = absurd (false≢true lawful)
+  other-service (BitmapCreate endpoint contexts) lawful = other-create e s other endpoint contexts
+  other-service (BitmapDestroy endpoint) lawful = other-destroy e s other steady endpoint
+  other-service (NotificationBind word flags low high) lawful = λ none. other-bind e s other word low high flags
+  other-service (NotificationUnbind word flags low high) lawful = λ none. other-unbind e s other word low high flags
+  other-service (NotificationSet word flags low high) lawful = λ none. other-set e s known word flags low high
+  other-service (NotificationGet word flags) lawful = λ none. other-get e s other word flags
+  other-service MsgSend2 lawful = other-send2 s steady e known
+  other-service Unknown lawful = λ none. other-same e s
+
+  pub other-step : (op : Op) → is_lawful op ≡ true → view e (step s op).state ≡ apply_all e (view e s) (events e s op)
+  other-step (Call x) lawful = served-other e s (service s (decode x)) (told_by e s (decode x)) (other-service (decode x) lawful)
+  other-step (Load addr size) lawful = other-load e s addr size
+  other-step (Store addr size value) lawful = other-store e s addr size value
+  other-step (Fetch addr) lawful = other-fetch e s addr
+
+steady-service : (s : State) → IsSteady s → (call : calls.Call) → is_lawful_call call ≡ true → first_failure (service s call).guards ≡ None → IsSteady (service s call).state
+steady-service s steady (Version version) lawful none = steady
+steady-service s steady (Features function) lawful none = steady
+steady-service s steady RxRelease lawful none = steady-with_rx s steady s.runner false
+steady-service s steady (RxtxMap tx rx pages) lawful none = steady-map s steady tx rx pages none
+steady-service s steady (RxtxUnmap endpoint) lawful none = steady-unmap s steady
+steady-service s steady (PartitionInfoGet uuid flags) lawful none = steady-info s steady uuid flags
+steady-service s steady IdGet lawful none = steady
+steady-service s steady SpmIdGet lawful none = steady
+steady-service s steady MsgWait lawful none = steady-wait s steady
+steady-service s steady Yield lawful none = steady-yield s steady
+steady-service s steady (Run target) lawful none = steady-run s steady target none
+steady-service s steady (DirectRequest function word flags payload) lawful none = steady-request s steady function word flags payload none
+steady-service s steady (DirectResponse function word flags payload) lawful none = steady-response s steady function word flags payload none
+steady-service s steady (MemDonate total fragment address pages) lawful none = absurd (false≢true lawful)
+steady-service s steady (MemLend total fragment address pages) lawful none = absurd (false≢true lawful)
+steady-service s steady (MemShare total fragment address pages) lawful none = absurd (false≢true lawful)
+steady-service s steady (MemRetrieve total fragment address pages) lawful none = absurd (false≢true lawful)
+steady-service s steady MemRelinquish lawful none = absurd (false≢true lawful)
+steady-service s steady (MemReclaim low high flags) lawful none = absurd (false≢true lawful)
+steady-service s steady (BitmapCreate endpoint contexts) lawful none = steady-notified s steady (with_bitmaps (notifications_of s) 0) steady.bound
+steady-service s steady (BitmapDestroy endpoint) lawful none = steady-destroy s steady
+steady-service s steady (NotificationBind word flags low high) lawful none = steady-bind s steady word low high
+steady-service s steady (NotificationUnbind word flags low high) lawful none = steady-unbind s steady word low high
+steady-service s steady (NotificationSet word flags low high) lawful none = steady-notified s steady (with_pending (notifications_of s) (low_half word) (class_of s.runner) (bits_of (joined low high))) steady.bound
+steady-service s steady (NotificationGet word flags) lawful none = steady-notified s steady (without_pending (notifications_of s) s.runner flags) steady.bound
+steady-service s steady MsgSend2 lawful none = steady-send2 s steady
+steady-service s steady Unknown lawful none = steady
+
+pub steady-step : (s : State) → IsSteady s → (op : Op) → is_lawful op ≡ true → IsSteady (step s op).state
+steady-step s steady (Call x) lawful = served-kept IsSteady s (service s (decode x)) steady (steady-service s steady (decode x) lawful)
+steady-step s steady (Load addr size) lawful = steady-load s steady addr size
+steady-step s steady (Store addr size value) lawful = steady-store s steady addr size value
+steady-step s steady (Fetch addr) lawful = steady-fetch s steady addr
+
+-- ---- one step, as a law of two states
+own_of : (s : State) → IsSteady s → (e : ℕ) → s.runner ≡ e → (op : Op) → is_lawful op ≡ true → step (view e s) op ≡ viewed e (step s op)
+own_of s steady e is op lawful = subst (λ f. step (view f s) op ≡ viewed f (step s op)) is (own-step s steady op lawful)
+
+two_states : (s t : State) → IsSteady s → IsSteady t → (op : Op) → is_lawful op ≡ true → view s.runner t ≡ view s.runner s → viewed s.runner (step t op) ≡ viewed s.runner (step s op)
+two_states s t steady there op lawful same =
+    sym (own_of t there s.runner (ap (λ (v : State). v.runner) same) op lawful) ∙ ap (λ (v : State). step v op) same ∙ own-step s steady op lawful
+
+pub one_step : (s : State) (op : Op) → is_lawful op ≡ true → IsSteady s → OneStep s op
+one_step s op lawful steady =
+    record {
+      others = λ e known ne. other-step e s steady known ne op lawful;
+      outcome = λ t there same. ap (λ (st : Stepped). st.outcome) (two_states s t steady there op lawful same);
+      own = λ t there same. ap (λ (st : Stepped). st.state) (two_states s t steady there op lawful same);
+    }
+
+-- ---- a run
+-- what is seen in a view, by own operations and events alone
+replay : ℕ → State → List Item → List Outcome
+replay e v [] = []
+replay e v (Own op ∷ rest) = (step v op).outcome ∷ replay e (step v op).state rest
+replay e v (Told event ∷ rest) = message e event ++ replay e (apply e v event) rest
+
+replay-told : (e : ℕ) (v : State) (es : List Event) (rest : List Item) → replay e v (map (λ event. Told event) es ++ rest) ≡ messages e es ++ replay e (apply_all e v es) rest
+unfolding replay
+replay-told e v [] rest = refl
+replay-told e v (event ∷ es) rest =
+    ap (λ xs. message e event ++ xs) (replay-told e (apply e v event) es rest)
+    ∙ sym (append_assoc (message e event) (messages e es) (replay e (apply_all e (apply e v event) es) rest))
+
+seen_is : (e : ℕ) (ops : List Op) (s : State) → are_lawful ops ≡ true → IsSteady s → is_known s e ≡ true → seen e s ops ≡ replay e (view e s) (items e s ops)
+unfolding replay
+seen_is e [] s lawful steady known = refl
+seen_is e (op ∷ ops) s lawful steady known =
+    let (one, rest) = and_parts (is_lawful op) (are_lawful ops) lawful in
+    let later = seen_is e ops (step s op).state rest (steady-step s steady op one) (known-step s op e one known) in
+    elim (s.runner == e) as (λ b. (s.runner == e) ≡ b → cond b ((step s op).outcome ∷ []) (messages e (events e s op)) ++ seen e (step s op).state ops ≡ replay e (view e s) (cond b (Own op ∷ []) (map (λ event. Told event) (events e s op)) ++ items e (step s op).state ops)) [
+      | true ↦ λ mine.
+          let is : s.runner ≡ e = eqb-true s.runner e mine in
+          ap (λ xs. (step s op).outcome ∷ xs) later ∙ ap (λ (st : Stepped). st.outcome ∷ replay e st.state (items e (step s op).state ops)) (sym (own_of s steady e is op one))
+      | false ↦ λ differ.
+          ap (λ xs. messages e (events e s op) ++ xs) (later ∙ ap (λ v. replay e v (items e (step s op).state ops)) (other-step e s steady known (apart differ) op one))
+          ∙ sym (replay-told e (view e s) (events e s op) (items e (step s op).state ops))
+    ] refl
+  where
+    apart : (s.runner == e) ≡ false → s.runner ≢ e
+    apart differ same = true≢false (sym (eq-eqb s.runner e same) ∙ differ)
+
+pub isolated : (s : State) (ops : List Op) → are_lawful ops ≡ true → IsSteady s → Isolated s ops
+isolated s ops lawful steady e t others known lawful_others there same same_items =
+    seen_is e others t lawful_others there (ap (λ (v : State). is_known v e) same ∙ known) ∙ ap (λ v. replay e v (items e t others)) same ∙ ap (replay e (view e s)) same_items ∙ sym (seen_is e ops s lawful steady known)

@@ -1,0 +1,145 @@
+-- Indirect messages: in the sender's view, and to others.
+use Rattle.std.proofs.Common.{◌≡◌, ◌≢◌, ◌∙◌, ℕ, ◌+◌, true, false, List, [], ◌∷◌, ◌++◌, length, Option, Some, None, is_some, refl, sym, ap, arith, length-set}
+use Rattle.std.specs.Prelude.{◌==◌, not, nat_le}
+use Rattle.std.specs.Option.{option_map_or}
+use Rattle.std.proofs.lemmas.Bool.{eq-eqb, eqb-true, true≢false}
+use Rattle.std.proofs.lemmas.Bool.Decides.{nat_tests}
+use Rattle.ffa_model.specs.declared.operation.ErrorCode.{ErrorCode}
+use Rattle.ffa_model.specs.declared.operation.ErrorCode.TheVariants.{InvalidParameters, Busy, Denied}
+use Rattle.ffa_model.specs.Identifiers.{place}
+use Rattle.ffa_model.specs.State.{State, Page, Buffers, buffers_of, has_bitmaps, has_property, is_known, is_known_among}
+use Rattle.ffa_model.specs.Memory.{page_bytes}
+use Rattle.ffa_model.specs.Buffers.{buffers_in, buffers_with_rx, filled, filled_pages, is_full}
+use Rattle.ffa_model.specs.Calls.{first_failure}
+use Rattle.ffa_model.specs.Messages.{MessageHeader, delivered, header_in, message_in, msg_send2, send2_guards, tx_bytes}
+use Rattle.ffa_model.specs.Notifications.{manager_class, notifications_of, rx_full_bits, with_framework_bit}
+use Rattle.ffa_model.specs.RunStates.{schedule_of}
+use Rattle.ffa_model.specs.Steady.{IsSteady}
+use Rattle.ffa_model.specs.View.{view, is_near, kept}
+use Rattle.ffa_model.specs.Events.{Filled, Pending, apply_all, delivers, public_change, where_true}
+use Rattle.ffa_model.proofs.Guards.{guard-passes}
+use Rattle.ffa_laws.proofs.Maps.{length-map_at}
+use Rattle.ffa_laws.proofs.Views.{near-bytes}
+use Rattle.ffa_laws.proofs.Form.{IsOwn}
+use Rattle.ffa_laws.proofs.Changes.{other-told, repaged, seen_buffers, view-changed, with_parts, with_public_parts}
+use Rattle.ffa_laws.proofs.Written.{rewritten-filled, rx-own, seen-filled, with_rx_full}
+use Rattle.ffa_laws.proofs.Steadies.{alone-near, steady-notified}
+use Rattle.ffa_laws.proofs.Told.{IsTold}
+use Rattle.ffa_laws.proofs.Raised.{own-bitmaps, pending-applied, raised, raised-absent, raised-hidden, raised-own}
+use Rattle.ffa_laws.proofs.BufferLaws.{far-repaged, own-buffers, seen-full, seen-some, steady-filled, view-buffers, view-filled_other}
+
+not-same : (a b : ℕ) → not (a == b) ≡ true → a ≢ b
+not-same a b is same = grind (arith, nat_tests)
+
+module _ (s : State) (steady : IsSteady s) where
+  tx-seen : tx_bytes (view s.runner s) s.runner ≡ tx_bytes s s.runner
+  tx-seen = ap (λ o. option_map_or (λ (b : Buffers). page_bytes (view s.runner s) b.tx) o []) (own-buffers s.runner s steady.runner) ∙ go (buffers_of s s.runner) refl
+    where
+      go : (o : Option Buffers) → buffers_of s s.runner ≡ o → option_map_or (λ (b : Buffers). page_bytes (view s.runner s) b.tx) o [] ≡ option_map_or (λ (b : Buffers). page_bytes s b.tx) o []
+      go None is = refl
+      go (Some b) is = near-bytes s.runner s b.tx (alone-near s s.runner b.tx (steady.buffers s.runner b steady.runner is).tx)
+
+  some-seen : (f : ℕ) → is_some (buffers_in (view s.runner s).buffers f) ≡ is_some (buffers_in s.buffers f)
+  some-seen f = ap is_some (view-buffers s.runner f s) ∙ seen-some s.runner (length s.pages) (place f) (buffers_of s f)
+
+  full-seen : (f : ℕ) → is_full (buffers_in (view s.runner s).buffers f) ≡ is_full (buffers_in s.buffers f)
+  full-seen f = ap is_full (view-buffers s.runner f s) ∙ seen-full s.runner (length s.pages) (place f) (buffers_of s f)
+
+  -- that buffers are there, and full, is all that the checks ask of them
+  same-guards : (m : MessageHeader) → send2_guards s.parties (view s.runner s).buffers s.runner m ≡ send2_guards s.parties s.buffers s.runner m
+  same-guards m = λ i.
+      (some-seen s.runner i, InvalidParameters)
+      ∷ (m.flags == 0, InvalidParameters)
+      ∷ (m.reserved == 0, InvalidParameters)
+      ∷ (m.sender == s.runner, InvalidParameters)
+      ∷ (is_known_among (length s.parties) m.receiver, InvalidParameters)
+      ∷ (not (m.receiver == s.runner), InvalidParameters)
+      ∷ (nat_le 20 m.offset, InvalidParameters)
+      ∷ (not (m.size == 0), InvalidParameters)
+      ∷ (nat_le (m.offset + m.size) 4096, InvalidParameters)
+      ∷ (has_property s.parties s.runner 2, Denied)
+      ∷ (has_property s.parties m.receiver 2, Denied)
+      ∷ (some-seen m.receiver i, Busy)
+      ∷ (not (full-seen m.receiver i), Busy)
+      ∷ []
+
+  abbrev failure : Option ErrorCode
+  failure = first_failure (send2_guards s.parties s.buffers s.runner (header_in (tx_bytes s s.runner)))
+
+  abbrev receiver : ℕ
+  receiver = (header_in (tx_bytes s s.runner)).receiver
+
+  abbrev bytes : List ℕ
+  bytes = message_in (tx_bytes s s.runner)
+
+  receiver-known : failure ≡ None → is_known s receiver ≡ true
+  receiver-known none = guard-passes (send2_guards s.parties s.buffers s.runner (header_in (tx_bytes s s.runner))) 4 InvalidParameters (sym none)
+
+  receiver-other : failure ≡ None → receiver ≢ s.runner
+  receiver-other none = not-same receiver s.runner (guard-passes (send2_guards s.parties s.buffers s.runner (header_in (tx_bytes s s.runner))) 5 InvalidParameters (sym none))
+
+  pub own-send2 : IsOwn s (msg_send2 (view s.runner s)) (msg_send2 s)
+  own-send2 = (
+    ap (λ tx. first_failure (send2_guards s.parties (view s.runner s).buffers s.runner (header_in tx))) tx-seen ∙ ap first_failure (same-guards (header_in (tx_bytes s s.runner))),
+    λ none. (
+      ap (λ tx. delivered (view s.runner s) (header_in tx).receiver (message_in tx)) tx-seen
+          ∙ ap (λ v. raised v receiver manager_class rx_full_bits) (view-filled_other s.runner receiver s bytes steady steady.runner (receiver-known none) (receiver-other none))
+          ∙ raised-absent receiver manager_class rx_full_bits s.runner (filled s receiver bytes) (receiver-known none) (receiver-other none)
+          ∙ sym (raised-hidden receiver manager_class rx_full_bits s.runner (filled s receiver bytes) (receiver-other none)),
+      refl,
+    ),
+  )
+
+  pub steady-send2 : IsSteady (msg_send2 s).state
+  steady-send2 =
+      let after = steady-filled s steady receiver bytes in
+      steady-notified (filled s receiver bytes) after (with_framework_bit (notifications_of s) receiver) after.bound
+
+  module _ (e : ℕ) (known : is_known s e ≡ true) where
+    abbrev new_pages : List (Option Page)
+    new_pages = filled_pages s.pages bytes (buffers_of s receiver)
+
+    abbrev new_buffers : List (Option Buffers)
+    new_buffers = buffers_with_rx s.buffers receiver true
+
+    each : length new_buffers ≡ length s.buffers
+    each = length-set s.buffers (place receiver) (with_rx_full true (buffers_of s receiver))
+
+    filled-seen : view e (filled s receiver bytes) ≡ with_public_parts (repaged e s new_pages) (schedule_of s) (seen_buffers e (length s.pages) new_buffers)
+    filled-seen = view-changed e s new_pages new_buffers (schedule_of s) (rewritten-filled s.pages bytes (buffers_of s receiver))
+
+    to-other : failure ≡ None → (receiver == e) ≡ false → view e (msg_send2 s).state ≡ apply_all e (view e s) (public_change s (msg_send2 s).state)
+    to-other none other =
+        other-told e s (msg_send2 s).state (view e s) [] each (λ i mine. rx-own (length s.pages) s.buffers receiver true i)
+        (length-map_at (λ q page. kept (is_near e s q) page) s.pages) refl refl
+        (raised-hidden receiver manager_class rx_full_bits e (filled s receiver bytes) differ ∙ filled-seen
+        ∙ ap (λ v. with_public_parts v (schedule_of s) (seen_buffers e (length s.pages) new_buffers)) (far-repaged e receiver s bytes steady (receiver-known none) differ))
+      where
+        differ : receiver ≢ e
+        differ same = true≢false (sym (eq-eqb receiver e same) ∙ other)
+
+    to-receiver : (receiver == e) ≡ true → view e (msg_send2 s).state
+        ≡ apply_all e (view e s) ((Filled bytes ∷ where_true (has_bitmaps s e) (Pending manager_class rx_full_bits ∷ [])) ++ public_change s (msg_send2 s).state)
+    to-receiver mine =
+        other-told e s (msg_send2 s).state (raised (repaged e s new_pages) e manager_class rx_full_bits) (Filled bytes ∷ where_true (has_bitmaps s e) (Pending manager_class rx_full_bits ∷ [])) each (λ i own. rx-own (length s.pages) s.buffers receiver true i)
+        (length-map_at (λ q page. kept (is_near e s q) page) new_pages ∙ (rewritten-filled s.pages bytes (buffers_of s receiver)).each) refl
+        (ap (λ v. apply_all e v (where_true (has_bitmaps s e) (Pending manager_class rx_full_bits ∷ []))) by_filled
+        ∙ pending-applied e manager_class rx_full_bits (repaged e s new_pages) (has_bitmaps s e) (own-bitmaps e s known))
+        (ap (λ f. view e (raised (filled s receiver bytes) f manager_class rx_full_bits)) same
+        ∙ sym (raised-own e manager_class rx_full_bits (filled s receiver bytes) known)
+        ∙ ap (λ v. raised v e manager_class rx_full_bits) filled-seen)
+      where
+        same : receiver ≡ e
+        same = eqb-true receiver e mine
+
+        by_filled : record (view e s) { pages = filled_pages (view e s).pages bytes (buffers_of (view e s) e) } ≡ repaged e s new_pages
+        by_filled =
+            λ i. with_parts (view e s) ((ap (filled_pages (view e s).pages bytes) (own-buffers e s known ∙ ap (buffers_of s) (sym same)) ∙ sym (seen-filled e s bytes (buffers_of s receiver))) i) (view e s).buffers (schedule_of s)
+
+    pub other-send2 : IsTold e s (msg_send2 s) (delivers e s (tx_bytes s s.runner))
+    other-send2 none =
+        elim (receiver == e) as (λ b. (receiver == e) ≡ b → view e (msg_send2 s).state
+        ≡ apply_all e (view e s) (where_true b (Filled bytes ∷ where_true (has_bitmaps s e) (Pending manager_class rx_full_bits ∷ [])) ++ public_change s (msg_send2 s).state)) [
+          | true ↦ to-receiver
+          | false ↦ to-other none
+        ] refl

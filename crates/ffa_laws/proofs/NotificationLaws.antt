@@ -1,0 +1,487 @@
+-- Notifications: in the runner's view, and to others.
+use Rattle.std.proofs.Common.{◌≡◌, ◌≢◌, ◌∙◌, ℕ, zero, suc, ◌<◌, Bool, true, false, cond, List, [], ◌∷◌, ◌++◌, map, length, set, refl, sym, ap, subst, arith}
+use Rattle.std.specs.Prelude.{◌==◌, ◌||◌, ◌&&◌, filter, nat_le, not}
+use Rattle.std.specs.List.{list_all, list_any}
+use Rattle.std.specs.Ordering.{eq_by_cmp, nat_cmp}
+use Rattle.std.specs.Cmp.Lexicographic.{slice_cmp}
+use Rattle.std.specs.FinSet as finite_set
+use Rattle.std.proofs.Math.Path.{fun_ext}
+use Rattle.std.proofs.lemmas.Bool.{cases_Bool, and_parts, eq-eqb, eqb-true, false≢true, ne_eqb, true≢false}
+use Rattle.std.proofs.lemmas.Bool.Decides.{nat_tests}
+use Rattle.std.proofs.lemmas.List.{set-get_or}
+use Rattle.std.proofs.lemmas.Cmp.{eq_by_cmp_equiv, nat_list_cmp_total}
+use Rattle.ffa_model.specs.declared.operation.ErrorCode.TheVariants.{InvalidParameters, Denied}
+use Rattle.ffa_model.specs.declared.call.Reply.{Reply}
+use Rattle.ffa_model.specs.declared.call.Reply.TheVariants.{Success}
+use Rattle.ffa_model.specs.Bits.{bits, bits_of, high_half, is_set, joined, low_half, word_where}
+use Rattle.ffa_model.specs.Lists.{listed, map_at}
+use Rattle.ffa_model.specs.Identifiers.{identifier}
+use Rattle.ffa_model.specs.State.{State, is_known, is_known_among}
+use Rattle.ffa_model.specs.Calls.{first_failure}
+use Rattle.ffa_model.specs.Notifications.{Notifications, binding, bitmap_create, bitmap_destroy, class_in, class_of, destroy_guards, create_guards, get_reply, has_bitmaps_in, has_pending, is_bindable, is_bound, is_bound_to_another, is_pending, is_unbindable, manager_class, normal_class, notification_bind, notification_get, notification_set, notification_unbind, notifications_of, partition_class, receiver_bit, receiver_in, sender_in, set_guards, with_bound, with_notifications, without_bitmaps, without_bound}
+use Rattle.ffa_model.specs.Steady.{IsSteady, IsSteadyBinding}
+use Rattle.ffa_model.specs.View.{view}
+use Rattle.ffa_model.specs.Events.{Bound, Event, Pending, Unbound, apply_all, binds, public_change, sets, unbinds, where_true}
+use Rattle.ffa_model.proofs.Guards.{guard-passes}
+use Rattle.ffa_laws.proofs.Maps.{length-map_at, map_at-set}
+use Rattle.ffa_laws.proofs.Form.{IsOwn, same-first}
+use Rattle.ffa_laws.proofs.Told.{IsTold}
+use Rattle.ffa_laws.proofs.Changes.{other-told, own-same}
+use Rattle.ffa_laws.proofs.Steadies.{steady-notified}
+use Rattle.ffa_laws.proofs.Bitmaps.{Bits, among, among-each, bound-all, contains-less, contains-more, contains-retained, retained-both, retained-commute, retained-within, same_bits, same_elements, seen-less, seen-more, unbound-all, unseen-less, unseen-more}
+use Rattle.ffa_laws.proofs.Raised.{bitmaps-seen, own-bitmaps, raised, raised-absent, raised-hidden, raised-own}
+
+not-same : (a b : ℕ) → not (a == b) ≡ true → a ≢ b
+not-same a b is same = grind (arith, nat_tests)
+
+-- what e sees of bindings and of pending bits
+abbrev bound_to : ℕ → List ℕ → Bool
+bound_to e x = receiver_in x == e || sender_in x == e
+
+abbrev pending_to : ℕ → List ℕ → Bool
+pending_to e x = receiver_in x == e
+
+or_first : (a b : Bool) → a ≡ true → (a || b) ≡ true
+or_first true b is = refl
+or_first false b is = absurd (false≢true is)
+
+or_second : (a b : Bool) → b ≡ true → (a || b) ≡ true
+or_second true b is = refl
+or_second false b is = is
+
+and_second : (a b : Bool) → b ≡ true → (a && b) ≡ a
+and_second true b is = is
+and_second false b is = refl
+
+more-bits : (m : ℕ) (g : ℕ → ℕ) (f : ℕ → List ℕ) (x : List ℕ) → (k : ℕ) × (k < m) × (x ≡ f (g (suc k))) → (k : ℕ) × (k < suc m) × (x ≡ f (g k))
+more-bits m g f x (k, lt, same) = (suc k, omega arith, same)
+
+among-first : (b : Bool) (m : ℕ) (g : ℕ → ℕ) (f : ℕ → List ℕ) (x : List ℕ) (rest : List ℕ) → among x (map f (cond b (g 0 ∷ rest) rest)) ≡ true
+    → (among x (map f rest) ≡ true → (k : ℕ) × (k < m) × (x ≡ f (g (suc k)))) → (k : ℕ) × (k < suc m) × (x ≡ f (g k))
+among-first false m g f x rest is later = more-bits m g f x (later is)
+among-first true m g f x rest is later =
+    elim (eq_by_cmp (slice_cmp nat_cmp) x (f (g 0))) as (λ b. eq_by_cmp (slice_cmp nat_cmp) x (f (g 0)) ≡ b → (b || among x (map f rest)) ≡ true → (k : ℕ) × (k < suc m) × (x ≡ f (g k))) [
+      | true ↦ λ here _. (0, omega arith, same_elements x (f (g 0)) here)
+      | false ↦ λ _ among_rest. more-bits m g f x (later among_rest)
+    ] refl is
+
+-- bits of a word
+among-bits : (test : ℕ → Bool) (m : ℕ) (g : ℕ → ℕ) (f : ℕ → List ℕ) (x : List ℕ) → among x (map f (filter test (listed m g))) ≡ true → (k : ℕ) × (k < m) × (x ≡ f (g k))
+among-bits test zero g f x is = absurd (false≢true is)
+among-bits test (suc m) g f x is = among-first (test (g 0)) m g f x (filter test (listed m (λ i. g (suc i)))) is (λ rest. among-bits test m (λ i. g (suc i)) f x rest)
+
+-- ---- what the runner sees of its own
+module _ (s : State) (steady : IsSteady s) where
+  abbrev r : ℕ
+  r = s.runner
+
+  abbrev n : Notifications
+  n = notifications_of s
+
+  abbrev v : State
+  v = view s.runner s
+
+  abbrev nv : Notifications
+  nv = notifications_of (view s.runner s)
+
+  -- a binding of which it is the receiver or the sender
+  bound-seen : (f class bit g : ℕ) → bound_to s.runner (binding f class bit g) ≡ true → is_bound nv f class bit g ≡ is_bound n f class bit g
+  bound-seen f class bit g mine =
+      contains-retained s.bound (bound_to s.runner) (binding f class bit g) ∙ and_second (finite_set.contains s.bound (binding f class bit g)) (bound_to s.runner (binding f class bit g)) mine
+
+  received-seen : (class bit g : ℕ) → is_bound nv s.runner class bit g ≡ is_bound n s.runner class bit g
+  received-seen class bit g = bound-seen s.runner class bit g (or_first (s.runner == s.runner) (g == s.runner) (eq-eqb s.runner s.runner refl))
+
+  sent-seen : (f class bit : ℕ) → is_bound nv f class bit s.runner ≡ is_bound n f class bit s.runner
+  sent-seen f class bit = bound-seen f class bit s.runner (or_second (f == s.runner) (s.runner == s.runner) (eq-eqb s.runner s.runner refl))
+
+  pending-seen : (class bit : ℕ) → is_pending nv s.runner class bit ≡ is_pending n s.runner class bit
+  pending-seen class bit =
+      contains-retained s.pending (pending_to s.runner) (receiver_bit s.runner class bit)
+      ∙ and_second (finite_set.contains s.pending (receiver_bit s.runner class bit)) (s.runner == s.runner) (eq-eqb s.runner s.runner refl)
+
+  pending-same : is_pending nv s.runner ≡ is_pending n s.runner
+  pending-same = fun_ext (λ class. fun_ext (λ bit. pending-seen class bit))
+
+  pub own-create : (endpoint contexts : ℕ) → IsOwn s (bitmap_create v endpoint contexts) (bitmap_create s endpoint contexts)
+  own-create endpoint contexts = (
+    same-first (s.runner == 0) Denied
+        ((endpoint == 0, InvalidParameters) ∷ (contexts == 1, InvalidParameters) ∷ (not (has_bitmaps_in nv 0), Denied) ∷ [])
+        ((endpoint == 0, InvalidParameters) ∷ (contexts == 1, InvalidParameters) ∷ (not (has_bitmaps_in n 0), Denied) ∷ []) (λ is_first. (
+        let first : s.runner ≡ 0 = eqb-true s.runner 0 is_first in
+        let same : has_bitmaps_in nv 0 ≡ has_bitmaps_in n 0 = subst (λ e. has_bitmaps_in nv e ≡ has_bitmaps_in n e) first (own-bitmaps s.runner s steady.runner) in
+        λ i. first_failure ((endpoint == 0, InvalidParameters) ∷ (contexts == 1, InvalidParameters) ∷ (not (same i), Denied) ∷ []))),
+    λ none. (
+      (let is_first : (s.runner == 0) ≡ true = guard-passes (create_guards n s.runner endpoint contexts) 0 Denied (sym none) in
+          let first : (0 == s.runner) ≡ true = eq-eqb 0 s.runner (sym (eqb-true s.runner 0 is_first)) in
+          λ i. record v { bitmaps = sym (map_at-set (λ j has. identifier j == s.runner && has) s.bitmaps 0 true ∙ ap (λ b. set v.bitmaps 0 (b && true)) first) i }),
+      refl,
+    ),
+  )
+
+  and_false : (b : Bool) → (b && false) ≡ false
+  and_false true = refl
+  and_false false = refl
+
+  pub own-destroy : (endpoint : ℕ) → IsOwn s (bitmap_destroy v endpoint) (bitmap_destroy s endpoint)
+  own-destroy endpoint = (
+    same-first (s.runner == 0) Denied
+        ((endpoint == 0, InvalidParameters) ∷ (has_bitmaps_in nv 0, Denied) ∷ (not (has_pending nv 0), Denied) ∷ [])
+        ((endpoint == 0, InvalidParameters) ∷ (has_bitmaps_in n 0, Denied) ∷ (not (has_pending n 0), Denied) ∷ []) (λ is_first. (
+        let first : s.runner ≡ 0 = eqb-true s.runner 0 is_first in
+        let same : has_bitmaps_in nv 0 ≡ has_bitmaps_in n 0 = subst (λ e. has_bitmaps_in nv e ≡ has_bitmaps_in n e) first (own-bitmaps s.runner s steady.runner) in
+        let pending : is_pending nv 0 ≡ is_pending n 0 = subst (λ e. is_pending nv e ≡ is_pending n e) first pending-same in
+        λ i. first_failure ((endpoint == 0, InvalidParameters) ∷ (same i, Denied)
+        ∷ (not (list_any (λ class. list_any (pending i class) (listed 64 (λ k. k))) (partition_class ∷ normal_class ∷ manager_class ∷ [])), Denied) ∷ []))),
+    λ none. (
+      (λ i. record v {
+        bitmaps = sym (map_at-set (λ j has. identifier j == s.runner && has) s.bitmaps 0 false ∙ ap (set v.bitmaps 0) (and_false (0 == s.runner))) i;
+        bound = retained-commute s.bound (bound_to s.runner) (λ x. not (receiver_in x == 0)) i;
+      }),
+      refl,
+    ),
+  )
+
+  module _ (word flags low high : ℕ) where
+    abbrev sender : ℕ
+    sender = high_half word
+
+    abbrev bitmap : ℕ
+    bitmap = joined low high
+
+    abbrev ks : List ℕ
+    ks = bits_of (joined low high)
+
+    another-seen : (bit : ℕ) → is_bound_to_another (length s.parties) nv s.runner (class_of sender) bit sender ≡ is_bound_to_another (length s.parties) n s.runner (class_of sender) bit sender
+    another-seen bit = ap (λ test. list_any test (listed (length s.parties) identifier)) (fun_ext (λ f. ap (λ b. not (f == sender) && b) (received-seen (class_of sender) bit f)))
+
+    bindable-seen : (bit : ℕ) → is_bindable (length s.parties) nv s.runner sender bit ≡ is_bindable (length s.parties) n s.runner sender bit
+    bindable-seen bit = λ i. not (another-seen bit i) && not (pending-seen (class_of sender) bit i)
+
+    unbindable-seen : (bit : ℕ) → is_unbindable nv s.runner sender bit ≡ is_unbindable n s.runner sender bit
+    unbindable-seen bit = λ i. received-seen (class_of sender) bit sender i && not (pending-seen (class_of sender) bit i)
+
+    abbrev entry : ℕ → List ℕ
+    entry k = binding s.runner (class_of sender) k sender
+
+    mine : (x : List ℕ) → among x (map entry ks) ≡ true → bound_to s.runner x ≡ true
+    mine x is = among-each (λ y. bound_to s.runner y ≡ true) entry ks x (λ k. or_first (s.runner == s.runner) (sender == s.runner) (eq-eqb s.runner s.runner refl)) is
+
+    pub own-bind : IsOwn s (notification_bind v word flags low high) (notification_bind s word flags low high)
+    own-bind = (
+      (λ i. first_failure (
+          (low_half word == s.runner, InvalidParameters)
+          ∷ (is_known_among (length s.parties) sender, InvalidParameters)
+          ∷ (not (sender == s.runner), InvalidParameters)
+          ∷ (flags == 0, InvalidParameters)
+          ∷ (not (bitmap == 0), InvalidParameters)
+          ∷ (own-bitmaps s.runner s steady.runner i, Denied)
+          ∷ (list_all (fun_ext bindable-seen i) ks, Denied)
+          ∷ [])),
+      λ none. ((λ i. record v { bound = sym (seen-more (bound_to s.runner) s.bound (map entry ks) mine) i }), refl),
+    )
+
+    pub own-unbind : IsOwn s (notification_unbind v word flags low high) (notification_unbind s word flags low high)
+    own-unbind = (
+      (λ i. first_failure (
+          (low_half word == s.runner, InvalidParameters)
+          ∷ (is_known_among (length s.parties) sender, InvalidParameters)
+          ∷ (not (sender == s.runner), InvalidParameters)
+          ∷ (flags == 0, InvalidParameters)
+          ∷ (not (bitmap == 0), InvalidParameters)
+          ∷ (own-bitmaps s.runner s steady.runner i, Denied)
+          ∷ (list_all (fun_ext unbindable-seen i) ks, Denied)
+          ∷ [])),
+      λ none. ((λ i. record v { bound = sym (seen-less (bound_to s.runner) s.bound (map entry ks)) i }), refl),
+    )
+
+    pub own-set : IsOwn s (notification_set v word flags low high) (notification_set s word flags low high)
+    own-set = (
+      (λ i. first_failure (
+          (sender == s.runner, InvalidParameters)
+          ∷ (is_known_among (length s.parties) (low_half word), InvalidParameters)
+          ∷ (not (low_half word == s.runner), InvalidParameters)
+          ∷ (flags == 0 || flags == 2, InvalidParameters)
+          ∷ (not (bitmap == 0), InvalidParameters)
+          ∷ (list_all (λ k. sent-seen (low_half word) (class_of s.runner) k i) ks, Denied)
+          ∷ [])),
+      λ none. (
+        (let known : is_known s (low_half word) ≡ true = guard-passes (set_guards (length s.parties) n s.runner word flags bitmap) 1 InvalidParameters (sym none) in
+            let differ : low_half word ≢ s.runner = not-same (low_half word) s.runner (guard-passes (set_guards (length s.parties) n s.runner word flags bitmap) 2 InvalidParameters (sym none)) in
+            raised-absent (low_half word) (class_of s.runner) ks s.runner s known differ ∙ sym (raised-hidden (low_half word) (class_of s.runner) ks s.runner s differ)),
+        refl,
+      ),
+    )
+
+  abbrev reply_by : ℕ → (ℕ → ℕ → Bool) → Reply
+  reply_by flags p =
+      Success (
+      bits 31 0 (cond (is_set partition_class flags) (word_where 64 (p partition_class)) 0)
+      ∷ bits 63 32 (cond (is_set partition_class flags) (word_where 64 (p partition_class)) 0)
+      ∷ bits 31 0 (cond (is_set normal_class flags) (word_where 64 (p normal_class)) 0)
+      ∷ bits 63 32 (cond (is_set normal_class flags) (word_where 64 (p normal_class)) 0)
+      ∷ bits 31 0 (cond (is_set manager_class flags) (word_where 64 (p manager_class)) 0)
+      ∷ 0
+      ∷ [])
+
+  pub own-get : (word flags : ℕ) → IsOwn s (notification_get v word flags) (notification_get s word flags)
+  own-get word flags = (
+    (λ i. first_failure (
+        (low_half word == s.runner, InvalidParameters)
+        ∷ (high_half word == 0, InvalidParameters)
+        ∷ (nat_le flags 15, InvalidParameters)
+        ∷ (own-bitmaps s.runner s steady.runner i, Denied)
+        ∷ [])),
+    λ none. (
+      (λ i. record v { pending = retained-commute s.pending (pending_to s.runner) (λ x. not (receiver_in x == s.runner && is_set (class_in x) flags)) i }),
+      reply,
+    ),
+  )
+    where
+      reply : get_reply nv s.runner flags ≡ get_reply n s.runner flags
+      reply = ap (reply_by flags) pending-same
+
+  -- ---- steadiness: bindings keep their form
+  pub steady-destroy : IsSteady (bitmap_destroy s 0).state
+  steady-destroy =
+      steady-notified s steady (without_bitmaps n 0) (λ x is. steady.bound x (and_parts (finite_set.contains s.bound x) (not (receiver_in x == 0)) (sym (contains-retained s.bound (λ y. not (receiver_in y == 0)) x) ∙ is)).0)
+
+  pub steady-unbind : (word low high : ℕ) → IsSteady (with_notifications s (without_bound n s.runner (high_half word) (bits_of (joined low high))))
+  steady-unbind word low high =
+      steady-notified s steady (without_bound n s.runner (high_half word) (bits_of (joined low high)))
+      (λ x is. steady.bound x (and_parts (finite_set.contains s.bound x) _ (sym (contains-less s.bound (map (λ k. binding s.runner (class_of (high_half word)) k (high_half word)) (bits_of (joined low high))) x) ∙ is)).0)
+
+  pub steady-bind : (word low high : ℕ) → IsSteady (with_notifications s (with_bound n s.runner (high_half word) (bits_of (joined low high))))
+  steady-bind word low high =
+      steady-notified s steady (with_bound n s.runner (high_half word) (bits_of (joined low high)))
+      (λ x is. form x (finite_set.contains s.bound x) refl (sym (contains-more s.bound (map (λ k. binding s.runner (class_of (high_half word)) k (high_half word)) (bits_of (joined low high))) x) ∙ is))
+    where
+      form : (x : List ℕ) (b : Bool) → finite_set.contains s.bound x ≡ b
+          → (finite_set.contains s.bound x || among x (map (λ k. binding s.runner (class_of (high_half word)) k (high_half word)) (bits_of (joined low high)))) ≡ true → IsSteadyBinding x
+      form x true old is = steady.bound x old
+      form x false new is =
+          let (k, lt, same) = among-bits (λ j. is_set j (joined low high)) 64 (λ j. j) (λ j. binding s.runner (class_of (high_half word)) j (high_half word)) x
+          (sym (ap (λ b. b || among x (map (λ j. binding s.runner (class_of (high_half word)) j (high_half word)) (bits_of (joined low high)))) new) ∙ is) in
+          record { receiver = s.runner; bit = k; sender = high_half word; is = same; in_word = lt }
+
+-- ---- to another endpoint
+-- some entries are in a set already, or not
+more-new : (a : Bits) (f : ℕ → List ℕ) (new : ℕ → Bool) (ks : List ℕ) (x : List ℕ) → ((k : ℕ) → new k ≡ false → finite_set.contains a (f k) ≡ true)
+    → (finite_set.contains a x || among x (map f (filter new ks))) ≡ (finite_set.contains a x || among x (map f ks))
+more-new a f new [] x there = refl
+more-new a f new (k ∷ ks) x there =
+    elim (new k) as (λ b. new k ≡ b → (finite_set.contains a x || among x (map f (cond b (k ∷ filter new ks) (filter new ks)))) ≡ (finite_set.contains a x || among x (map f (k ∷ ks)))) [
+      | true ↦ λ is. (let later = more-new a f new ks x there in grind (arith, cases_Bool (eq_by_cmp (slice_cmp nat_cmp) x (f k)), cases_Bool (finite_set.contains a x), later))
+      | false ↦ λ is.
+          let later = more-new a f new ks x there in
+          elim (eq_by_cmp (slice_cmp nat_cmp) x (f k)) as (λ b. eq_by_cmp (slice_cmp nat_cmp) x (f k) ≡ b → (finite_set.contains a x || among x (map f (filter new ks))) ≡ (finite_set.contains a x || (b || among x (map f ks)))) [
+            | true ↦ λ here. (let in_a : finite_set.contains a x ≡ true = ap (finite_set.contains a) (same_elements x (f k) here) ∙ there k is in grind (arith, in_a))
+            | false ↦ λ _. later
+          ] refl
+    ] refl
+
+less-old : (a : Bits) (f : ℕ → List ℕ) (old : ℕ → Bool) (ks : List ℕ) (x : List ℕ) → ((k : ℕ) → old k ≡ false → finite_set.contains a (f k) ≡ false)
+    → (finite_set.contains a x && not (among x (map f (filter old ks)))) ≡ (finite_set.contains a x && not (among x (map f ks)))
+less-old a f old [] x absent = refl
+less-old a f old (k ∷ ks) x absent =
+    elim (old k) as (λ b. old k ≡ b → (finite_set.contains a x && not (among x (map f (cond b (k ∷ filter old ks) (filter old ks))))) ≡ (finite_set.contains a x && not (among x (map f (k ∷ ks))))) [
+      | true ↦ λ is. (let later = less-old a f old ks x absent in grind (arith, cases_Bool (eq_by_cmp (slice_cmp nat_cmp) x (f k)), cases_Bool (finite_set.contains a x), later))
+      | false ↦ λ is.
+          let later = less-old a f old ks x absent in
+          elim (eq_by_cmp (slice_cmp nat_cmp) x (f k)) as (λ b. eq_by_cmp (slice_cmp nat_cmp) x (f k) ≡ b → (finite_set.contains a x && not (among x (map f (filter old ks)))) ≡ (finite_set.contains a x && not (b || among x (map f ks)))) [
+            | true ↦ λ here. (let out : finite_set.contains a x ≡ false = ap (finite_set.contains a) (same_elements x (f k) here) ∙ absent k is in grind (arith, out))
+            | false ↦ λ _. later
+          ] refl
+    ] refl
+
+module _ (e : ℕ) (s : State) where
+  -- a change of notifications alone, told by events that change them alone
+  told-notified : (t u : State) (told : List Event) → t ≡ with_notifications s (notifications_of t) → u ≡ with_notifications (view e s) (notifications_of u) → apply_all e (view e s) told ≡ u
+      → view e t ≡ u → view e t ≡ apply_all e (view e s) (told ++ public_change s t)
+  told-notified t u told only_t only_u by_told new =
+      subst (λ x. view e x ≡ apply_all e (view e s) (told ++ public_change s x)) (sym only_t) (
+      other-told e s (with_notifications s (notifications_of t)) (with_notifications (view e s) (notifications_of u)) told refl (own-same e s)
+      (length-map_at _ s.pages) refl (by_told ∙ only_u) (ap (view e) (sym only_t) ∙ new ∙ only_u))
+
+  pub other-set : is_known s e ≡ true → (word flags low high : ℕ) → view e (notification_set s word flags low high).state
+      ≡ apply_all e (view e s) (sets e s (low_half word) (bits_of (joined low high)) ++ public_change s (notification_set s word flags low high).state)
+  other-set known word flags low high =
+      elim (low_half word == e) as (λ b. (low_half word == e) ≡ b → view e (notification_set s word flags low high).state
+      ≡ apply_all e (view e s) (where_true b (Pending (class_of s.runner) (bits_of (joined low high)) ∷ []) ++ public_change s (notification_set s word flags low high).state)) [
+        | true ↦ λ mine.
+            told-notified (notification_set s word flags low high).state (raised (view e s) e (class_of s.runner) (bits_of (joined low high))) (Pending (class_of s.runner) (bits_of (joined low high)) ∷ []) refl refl refl
+            (ap (λ f. view e (raised s f (class_of s.runner) (bits_of (joined low high)))) (eqb-true (low_half word) e mine) ∙ sym (raised-own e (class_of s.runner) (bits_of (joined low high)) s known))
+        | false ↦ λ other.
+            told-notified (notification_set s word flags low high).state (view e s) [] refl refl refl
+            (raised-hidden (low_half word) (class_of s.runner) (bits_of (joined low high)) e s (λ same. true≢false (sym (eq-eqb (low_half word) e same) ∙ other)))
+      ] refl
+
+  module _ (other : s.runner ≢ e) where
+    pub other-get : (word flags : ℕ) → view e (notification_get s word flags).state ≡ apply_all e (view e s) (public_change s (notification_get s word flags).state)
+    other-get word flags =
+        told-notified (notification_get s word flags).state (view e s) [] refl refl refl
+        (λ i. record (view e s) { pending = retained-within s.pending (λ x. not (receiver_in x == s.runner && is_set (class_in x) flags)) (pending_to e) (λ x is. kept_in x is) i })
+      where
+        kept_in : (x : List ℕ) → (receiver_in x == e) ≡ true → not (receiver_in x == s.runner && is_set (class_in x) flags) ≡ true
+        kept_in x is =
+            let away : (receiver_in x == s.runner) ≡ false = ap (λ f. f == s.runner) (eqb-true (receiver_in x) e is) ∙ ne_eqb e s.runner (λ same. other (sym same)) in
+            ap (λ b. not (b && is_set (class_in x) flags)) away
+
+    -- bindings of the runner as receiver, to a sender
+    module _ (word low high : ℕ) where
+      abbrev to : ℕ
+      to = high_half word
+
+      abbrev its_bits : List ℕ
+      its_bits = bits_of (joined low high)
+
+      abbrev bound_as : ℕ → ℕ → List ℕ
+      bound_as g k = binding s.runner (class_of g) k g
+
+      unseen : (g : ℕ) → (g == e) ≡ false → (x : List ℕ) → among x (map (bound_as g) its_bits) ≡ true → bound_to e x ≡ false
+      unseen g differs x is = among-each (λ y. bound_to e y ≡ false) (bound_as g) its_bits x (λ k. (let away : (s.runner == e) ≡ false = ne_eqb s.runner e other in λ i. away i || differs i)) is
+
+      seen-own : (x : List ℕ) → among x (map (bound_as e) its_bits) ≡ true → bound_to e x ≡ true
+      seen-own x is = among-each (λ y. bound_to e y ≡ true) (bound_as e) its_bits x (λ k. or_second (s.runner == e) (e == e) (eq-eqb e e refl)) is
+
+      -- what is bound to e, e sees
+      seen-bound : (k : ℕ) → finite_set.contains (view e s).bound (bound_as e k) ≡ is_bound (notifications_of s) s.runner (class_of e) k e
+      seen-bound k = contains-retained s.bound (bound_to e) (bound_as e k) ∙ and_second (finite_set.contains s.bound (bound_as e k)) _ (or_second (s.runner == e) (e == e) (eq-eqb e e refl))
+
+      abbrev is_new : ℕ → Bool
+      is_new k = not (is_bound (notifications_of s) s.runner (class_of e) k e)
+
+      abbrev is_old : ℕ → Bool
+      is_old k = is_bound (notifications_of s) s.runner (class_of e) k e
+
+      not_false : (b : Bool) → not b ≡ false → b ≡ true
+      not_false true is = refl
+      not_false false is = absurd (true≢false is)
+
+      pub other-bind : (flags : ℕ) → view e (notification_bind s word flags low high).state
+          ≡ apply_all e (view e s) (binds e s s.runner to its_bits ++ public_change s (notification_bind s word flags low high).state)
+      other-bind flags =
+          elim (to == e) as (λ b. (to == e) ≡ b → view e (notification_bind s word flags low high).state
+          ≡ apply_all e (view e s) (where_true b (map (λ k. Bound s.runner (class_of e) k) (filter is_new its_bits)) ++ public_change s (notification_bind s word flags low high).state)) [
+            | true ↦ λ mine.
+                told-notified (notification_bind s word flags low high).state (record (view e s) { bound = finite_set.union (view e s).bound (finite_set.from_list (map (bound_as e) (filter is_new its_bits))) }) (map (λ k. Bound s.runner (class_of e) k) (filter is_new its_bits)) refl refl
+                (bound-all e s.runner (class_of e) (view e s) (filter is_new its_bits))
+                (λ i. record (view e s) {
+                  bound = (ap (λ g. finite_set.retain (finite_set.union s.bound (finite_set.from_list (map (bound_as g) its_bits))) (bound_to e)) (eqb-true to e mine)
+                      ∙ seen-more (bound_to e) s.bound (map (bound_as e) its_bits) seen-own
+                      ∙ same_bits _ _ (λ x.
+                      contains-more (view e s).bound (map (bound_as e) its_bits) x
+                      ∙ sym (more-new (view e s).bound (bound_as e) is_new its_bits x (λ k old. seen-bound k ∙ not_false (is_old k) old))
+                      ∙ sym (contains-more (view e s).bound (map (bound_as e) (filter is_new its_bits)) x))) i;
+                })
+            | false ↦ λ differs.
+                told-notified (notification_bind s word flags low high).state (view e s) [] refl refl refl
+                (λ i. record (view e s) { bound = unseen-more (bound_to e) s.bound (map (bound_as to) its_bits) (unseen to differs) i })
+          ] refl
+
+      pub other-unbind : (flags : ℕ) → view e (notification_unbind s word flags low high).state
+          ≡ apply_all e (view e s) (unbinds e s s.runner to its_bits ++ public_change s (notification_unbind s word flags low high).state)
+      other-unbind flags =
+          elim (to == e) as (λ b. (to == e) ≡ b → view e (notification_unbind s word flags low high).state
+          ≡ apply_all e (view e s) (where_true b (map (λ k. Unbound s.runner (class_of e) k) (filter is_old its_bits)) ++ public_change s (notification_unbind s word flags low high).state)) [
+            | true ↦ λ mine.
+                told-notified (notification_unbind s word flags low high).state (record (view e s) { bound = finite_set.difference (view e s).bound (finite_set.from_list (map (bound_as e) (filter is_old its_bits))) }) (map (λ k. Unbound s.runner (class_of e) k) (filter is_old its_bits)) refl refl
+                (unbound-all e s.runner (class_of e) (view e s) (filter is_old its_bits))
+                (λ i. record (view e s) {
+                  bound = (ap (λ g. finite_set.retain (finite_set.difference s.bound (finite_set.from_list (map (bound_as g) its_bits))) (bound_to e)) (eqb-true to e mine)
+                      ∙ seen-less (bound_to e) s.bound (map (bound_as e) its_bits)
+                      ∙ same_bits _ _ (λ x.
+                      contains-less (view e s).bound (map (bound_as e) its_bits) x
+                      ∙ sym (less-old (view e s).bound (bound_as e) is_old its_bits x (λ k new. seen-bound k ∙ new))
+                      ∙ sym (contains-less (view e s).bound (map (bound_as e) (filter is_old its_bits)) x))) i;
+                })
+            | false ↦ λ differs.
+                told-notified (notification_unbind s word flags low high).state (view e s) [] refl refl refl
+                (λ i. record (view e s) { bound = unseen-less (bound_to e) s.bound (map (bound_as to) its_bits) (unseen to differs) i })
+          ] refl
+
+    -- bitmaps of the normal world, which runs, are not e's
+    first-away : (s.runner == 0) ≡ true → (0 == e) ≡ false
+    first-away is = ne_eqb 0 e (λ same. other (eqb-true s.runner 0 is ∙ same))
+
+    bitmaps-away : (has : Bool) → (0 == e) ≡ false → map_at (λ j b. identifier j == e && b) (set s.bitmaps 0 has) ≡ (view e s).bitmaps
+    bitmaps-away has away =
+        map_at-set (λ j b. identifier j == e && b) s.bitmaps 0 has
+        ∙ ap (set (view e s).bitmaps 0) (ap (λ b. b && has) away ∙ sym (bitmaps-seen e 0 s ∙ ap (λ b. b && has_bitmaps_in (notifications_of s) 0) away))
+        ∙ set-get_or (view e s).bitmaps 0 false
+
+    pub other-create : (endpoint contexts : ℕ) → IsTold e s (bitmap_create s endpoint contexts) []
+    other-create endpoint contexts none =
+        told-notified (bitmap_create s endpoint contexts).state (view e s) [] refl refl refl
+        (λ i. record (view e s) { bitmaps = bitmaps-away true (first-away (guard-passes (create_guards (notifications_of s) s.runner endpoint contexts) 0 Denied (sym none))) i })
+
+    -- all bindings of the normal world to e go
+    listed-among : (test : ℕ → Bool) (m : ℕ) (g : ℕ → ℕ) (f : ℕ → List ℕ) (k : ℕ) → k < m → test (g k) ≡ true → among (f (g k)) (map f (filter test (listed m g))) ≡ true
+    listed-among test zero g f k lt is = absurd (omega arith)
+    listed-among test (suc m) g f zero lt is = ap (λ b. among (f (g 0)) (map f (cond b (g 0 ∷ filter test (listed m (λ i. g (suc i)))) (filter test (listed m (λ i. g (suc i))))))) is ∙ or_first _ _ (itself (f (g 0)))
+      where
+        itself : (x : List ℕ) → eq_by_cmp (slice_cmp nat_cmp) x x ≡ true
+        itself x = (eq_by_cmp_equiv nat_list_cmp_total).refl x
+    listed-among test (suc m) g f (suc k) lt is =
+        let later = listed-among test m (λ i. g (suc i)) f k (omega arith) is in
+        elim (test (g 0)) as (λ b. among (f (g (suc k))) (map f (cond b (g 0 ∷ filter test (listed m (λ i. g (suc i)))) (filter test (listed m (λ i. g (suc i)))))) ≡ true) [
+          | true ↦ or_second (eq_by_cmp (slice_cmp nat_cmp) (f (g (suc k))) (f (g 0))) _ later
+          | false ↦ later
+        ]
+
+    abbrev is_left : ℕ → Bool
+    is_left k = is_bound (notifications_of s) 0 (class_of e) k e
+
+    abbrev left_entry : ℕ → List ℕ
+    left_entry k = binding 0 (class_of e) k e
+
+    abbrev left_bits : List ℕ
+    left_bits = filter is_left (listed 64 (λ k. k))
+
+    -- which bindings e sees no more
+    destroyed-at : IsSteady s → (0 == e) ≡ false → (x : List ℕ) (b : Bool) → finite_set.contains s.bound x ≡ b
+        → (b && (not (receiver_in x == 0) && bound_to e x)) ≡ ((b && bound_to e x) && not (among x (map left_entry left_bits)))
+    destroyed-at steady away x false is = refl
+    destroyed-at steady away x true is =
+        let good = steady.bound x is in
+        let at_receiver : receiver_in x ≡ good.receiver = ap receiver_in good.is in
+        let at_sender : sender_in x ≡ good.sender = ap sender_in good.is in
+        elim (receiver_in x == 0) as (λ b. (receiver_in x == 0) ≡ b → (not b && bound_to e x) ≡ (bound_to e x && not (among x (map left_entry left_bits)))) [
+          | true ↦ λ first.
+              let is_zero : receiver_in x ≡ 0 = eqb-true (receiver_in x) 0 first in
+              let not_e : (receiver_in x == e) ≡ false = ap (λ f. f == e) is_zero ∙ away in
+              elim (sender_in x == e) as (λ b. (sender_in x == e) ≡ b → false ≡ ((receiver_in x == e || b) && not (among x (map left_entry left_bits)))) [
+                | true ↦ λ its.
+                    let from_e : good.sender ≡ e = sym at_sender ∙ eqb-true (sender_in x) e its in
+                    let whole : x ≡ left_entry good.bit = good.is ∙ (λ i. binding ((sym at_receiver ∙ is_zero) i) (class_of (from_e i)) good.bit (from_e i)) in
+                    let here : among x (map left_entry left_bits) ≡ true =
+                    subst (λ y. among y (map left_entry left_bits) ≡ true) (sym whole) (listed-among is_left 64 (λ k. k) left_entry good.bit good.in_word (ap (finite_set.contains s.bound) (sym whole) ∙ is)) in
+                    sym (ap (λ b. (receiver_in x == e || true) && not b) here ∙ grind (arith, cases_Bool (receiver_in x == e)))
+                | false ↦ λ differs. sym (ap (λ b. (b || false) && not (among x (map left_entry left_bits))) not_e)
+              ] refl
+          | false ↦ λ later.
+              elim (among x (map left_entry left_bits)) as (λ b. among x (map left_entry left_bits) ≡ b → bound_to e x ≡ (bound_to e x && not b)) [
+                | true ↦ λ here. absurd (false≢true (sym later ∙ eq-eqb (receiver_in x) 0 (among-each (λ y. receiver_in y ≡ 0) left_entry left_bits x (λ k. refl) here)))
+                | false ↦ λ _. grind (arith, cases_Bool (receiver_in x == e), cases_Bool (sender_in x == e))
+              ] refl
+        ] refl
+
+    pub other-destroy : IsSteady s → (endpoint : ℕ) → IsTold e s (bitmap_destroy s endpoint) (unbinds e s 0 e (listed 64 (λ k. k)))
+    other-destroy steady endpoint none =
+        subst (λ b. view e (bitmap_destroy s endpoint).state ≡ apply_all e (view e s) (where_true b (map (λ k. Unbound 0 (class_of e) k) left_bits) ++ public_change s (bitmap_destroy s endpoint).state)) (sym (eq-eqb e e refl))
+        (told-notified (bitmap_destroy s endpoint).state (record (view e s) { bound = finite_set.difference (view e s).bound (finite_set.from_list (map left_entry left_bits)) }) (map (λ k. Unbound 0 (class_of e) k) left_bits) refl refl
+        (unbound-all e 0 (class_of e) (view e s) left_bits)
+        (λ i. record (view e s) { bitmaps = bitmaps-away false away i; bound = bound i }))
+      where
+        away : (0 == e) ≡ false
+        away = first-away (guard-passes (destroy_guards (notifications_of s) s.runner endpoint) 0 Denied (sym none))
+
+        bound : finite_set.retain (finite_set.retain s.bound (λ x. not (receiver_in x == 0))) (bound_to e) ≡ finite_set.difference (view e s).bound (finite_set.from_list (map left_entry left_bits))
+        bound = same_bits _ _ (λ x.
+            retained-both s.bound (λ y. not (receiver_in y == 0)) (bound_to e) x
+            ∙ ap (λ c. c && (not (receiver_in x == 0) && bound_to e x)) refl
+            ∙ go x (finite_set.contains s.bound x) refl
+            ∙ sym (contains-less (view e s).bound (map left_entry left_bits) x ∙ ap (λ b. b && not (among x (map left_entry left_bits))) (contains-retained s.bound (bound_to e) x)))
+          where
+            go : (x : List ℕ) (b : Bool) → finite_set.contains s.bound x ≡ b → (finite_set.contains s.bound x && (not (receiver_in x == 0) && bound_to e x)) ≡ ((finite_set.contains s.bound x && bound_to e x) && not (among x (map left_entry left_bits)))
+            go x b is = (λ i. is i && (not (receiver_in x == 0) && bound_to e x)) ∙ destroyed-at steady away x b is ∙ (λ i. (sym is i && bound_to e x) && not (among x (map left_entry left_bits)))

@@ -1,0 +1,49 @@
+-- The public part: two are told apart by their numbers.
+use Rattle.std.proofs.Common.{◌≡◌, ◌∙◌, ℕ, zero, suc, Bool, true, false, List, [], ◌∷◌, map, Option, Some, None, refl, sym, ap, bytes_eq}
+use Rattle.std.proofs.lemmas.Bool.{and_parts, eqb-true}
+use Rattle.std.proofs.lemmas.Slice.Eq.{bytes_eq-Decides}
+use Rattle.ffa_model.specs.declared.schedule.Work.{Work}
+use Rattle.ffa_model.specs.declared.schedule.Work.TheVariants.{Run, Request}
+use Rattle.ffa_model.specs.Codes.{status_code, status_from, status_from-code}
+use Rattle.ffa_model.specs.Events.{PublicPart, is_same_public, work_number, fullness_number}
+
+-- a list is known by the numbers of its elements
+module _ {X : Type 0} (number : X → ℕ) (from : ℕ → X) (back : (x : X) → from (number x) ≡ x) where
+  numbers-back : (xs : List X) → map from (map number xs) ≡ xs
+  numbers-back [] = refl
+  numbers-back (x ∷ xs) = λ i. back x i ∷ numbers-back xs i
+
+  same_list : (xs ys : List X) → bytes_eq (map number xs) (map number ys) ≡ true → xs ≡ ys
+  same_list xs ys same = sym (numbers-back xs) ∙ ap (map from) ((bytes_eq-Decides (map number xs) (map number ys)).0 same) ∙ numbers-back ys
+
+abbrev work_back : ℕ → Option Work
+work_back zero = None
+work_back (suc zero) = Some Run
+work_back (suc (suc by)) = Some (Request (record { 0 = by }))
+
+abbrev fullness_back : ℕ → Option Bool
+fullness_back zero = None
+fullness_back (suc zero) = Some false
+fullness_back (suc (suc n)) = Some true
+
+work_back-number : (w : Option Work) → work_back (work_number w) ≡ w
+work_back-number None = refl
+work_back-number (Some Run) = refl
+work_back-number (Some (Request by)) = refl
+
+fullness_back-number : (f : Option Bool) → fullness_back (fullness_number f) ≡ f
+fullness_back-number None = refl
+fullness_back-number (Some false) = refl
+fullness_back-number (Some true) = refl
+
+pub same_public : (a b : PublicPart) → is_same_public a b ≡ true → a ≡ b
+same_public a b same =
+    let (three, full) = and_parts _ _ same in
+    let (two, works) = and_parts _ _ three in
+    let (runner, statuses) = and_parts _ _ two in
+    λ i. record {
+      runner = eqb-true a.runner b.runner runner i;
+      statuses = same_list status_code status_from status_from-code a.statuses b.statuses statuses i;
+      works = same_list work_number work_back work_back-number a.works b.works works i;
+      full = same_list fullness_number fullness_back fullness_back-number a.full b.full full i;
+    }

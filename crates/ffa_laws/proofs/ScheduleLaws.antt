@@ -1,0 +1,130 @@
+-- Run states: run, wait, yield and direct messages, in the runner's view, and to others.
+use Rattle.std.proofs.Common.{◌≡◌, ◌∙◌, ℕ, suc, zero, ◌<◌, true, false, List, [], ◌∷◌, length, get_or, set, Option, Some, None, refl, sym, ap, arith, length-set}
+use Rattle.std.specs.Prelude.{◌++◌}
+use Rattle.std.proofs.lemmas.Bool.{eqb-true, false≢true}
+use Rattle.ffa_model.specs.declared.operation.ErrorCode.TheVariants.{InvalidParameters}
+use Rattle.ffa_model.specs.declared.schedule.Status.{Status}
+use Rattle.ffa_model.specs.declared.schedule.Status.TheVariants.{Running, Waiting, Yielded, Blocked}
+use Rattle.ffa_model.specs.declared.schedule.Work.{Work}
+use Rattle.ffa_model.specs.declared.schedule.Work.TheVariants.{Run, Request}
+use Rattle.ffa_model.specs.Bits.{high_half, low_half, word_of_two}
+use Rattle.ffa_model.specs.Identifiers.{place}
+use Rattle.ffa_model.specs.State.{State, buffers_of, is_known_among}
+use Rattle.ffa_model.specs.Buffers.{buffers_with_rx}
+use Rattle.ffa_model.specs.Calls.{Service, first_failure}
+use Rattle.ffa_model.specs.RunStates.{Schedule, direct_request, direct_response, finished, given_cycles, is_answer, msg_wait, request_guards, requested, requester, response_guards, run_guards, run_partition, schedule_of, status_in, switched, with_schedule, work_in, yield_now}
+use Rattle.ffa_model.specs.Steady.{IsSteady}
+use Rattle.ffa_model.specs.View.{view}
+use Rattle.ffa_model.specs.Events.{apply_all, public_change, switches}
+use Rattle.ffa_model.proofs.Guards.{guard-passes}
+use Rattle.ffa_model.proofs.Places.{known-place, partition-known}
+use Rattle.ffa_laws.proofs.Form.{IsOwn}
+use Rattle.ffa_laws.proofs.Changes.{other-changed, own-same, unwritten}
+use Rattle.ffa_laws.proofs.Written.{rx-own, with_rx_full}
+use Rattle.ffa_laws.proofs.Steadies.{steady-changed, steady-rx}
+use Rattle.ffa_laws.proofs.Told.{switches-applied}
+use Rattle.ffa_laws.proofs.BufferLaws.{view-with_rx}
+
+-- ---- in the runner's view
+module _ (s : State) where
+  pub own-request : (function word flags : ℕ) (payload : List ℕ) → IsOwn s (direct_request (view s.runner s) function word flags payload) (direct_request s function word flags payload)
+  own-request function word flags payload = (refl, λ none. (refl, refl))
+
+  pub own-response : (function word flags : ℕ) (payload : List ℕ) → IsOwn s (direct_response (view s.runner s) function word flags payload) (direct_response s function word flags payload)
+  own-response function word flags payload = (refl, λ none. (refl, refl))
+
+  pub own-run : (word : ℕ) → IsOwn s (run_partition (view s.runner s) word) (run_partition s word)
+  own-run word = (refl, λ none. (refl, refl))
+
+  pub own-wait : IsOwn s (msg_wait (view s.runner s)) (msg_wait s)
+  own-wait = (refl, λ none. (view-with_rx s.runner (with_schedule s (finished (schedule_of s) 0)) s.runner false, refl))
+
+  pub own-yield : IsOwn s (yield_now (view s.runner s)) (yield_now s)
+  own-yield = (refl, λ none. (refl, refl))
+
+-- ---- to others
+module _ (e : ℕ) (s : State) where
+  pub other-scheduled : (c : Schedule) (call : Service) → view e (with_schedule s c) ≡ apply_all e (view e s) (switches e call ++ public_change s (with_schedule s c))
+  other-scheduled c call = other-changed e s s.pages s.buffers c (switches e call) (unwritten s.pages) refl (own-same e s) (switches-applied e (view e s) call)
+
+  pub other-wait : view e (msg_wait s).state ≡ apply_all e (view e s) (switches e (msg_wait s) ++ public_change s (msg_wait s).state)
+  other-wait =
+      other-changed e s s.pages (buffers_with_rx s.buffers s.runner false) (finished (schedule_of s) 0) (switches e (msg_wait s)) (unwritten s.pages)
+      (length-set s.buffers (place s.runner) (with_rx_full false (buffers_of s s.runner))) (λ i mine. rx-own (length s.pages) s.buffers s.runner false i)
+      (switches-applied e (view e s) (msg_wait s))
+
+-- ---- steadiness: who runs, and whom works name
+pub requesters-set : (K : ℕ → Type 0) (ws : List (Option Work)) (j : ℕ) (w : Option Work) → ((by : ℕ) → requester w ≡ Some by → K by) → ((i by : ℕ) → requester (get_or ws i None) ≡ Some by → K by)
+    → (i by : ℕ) → requester (get_or (set ws j w) i None) ≡ Some by → K by
+requesters-set K [] j w new old i by is = old i by is
+requesters-set K (x ∷ ws) zero w new old zero by is = new by is
+requesters-set K (x ∷ ws) zero w new old (suc i) by is = old (suc i) by is
+requesters-set K (x ∷ ws) (suc j) w new old zero by is = old 0 by is
+requesters-set K (x ∷ ws) (suc j) w new old (suc i) by is = requesters-set K ws j w new (λ k. old (suc k)) i by is
+
+abbrev Known : State → ℕ → Type 0
+Known s e = is_known_among (length s.parties) e ≡ true
+
+none_some : {x : ℕ} → None ≡ Some x → ⊥
+none_some e = cc
+
+-- the runner and the requesters of a schedule are endpoints
+record AreKnown (s : State) (c : Schedule) : Type 0 where
+  runner : Known s c.runner
+  requesters : (i by : ℕ) → requester (get_or c.works i None) ≡ Some by → Known s by
+
+module _ (s : State) (steady : IsSteady s) where
+  scheduled-steady : (c : Schedule) → AreKnown s c → IsSteady (with_schedule s c)
+  scheduled-steady c known = steady-changed s steady s.pages s.buffers c (unwritten s.pages) refl known.runner known.requesters steady.buffers
+
+  finished-known : (e : ℕ) → Known s e → AreKnown s (finished (schedule_of s) e)
+  finished-known e known =
+      record { runner = known; requesters = requesters-set (Known s) s.works (place s.runner) None (λ by is. absurd (none_some is)) steady.requesters }
+
+  given-known : (e : ℕ) (status : Status) → Known s e → AreKnown s (given_cycles (schedule_of s) e status)
+  given-known e Waiting known = record { runner = known; requesters = requesters-set (Known s) s.works (place e) (Some Run) (λ by is. absurd (none_some is)) steady.requesters }
+  given-known e Yielded known = record { runner = known; requesters = steady.requesters }
+  given-known e Running known = record { runner = steady.runner; requesters = steady.requesters }
+  given-known e Blocked known = record { runner = steady.runner; requesters = steady.requesters }
+
+  first-known : Known s 0
+  first-known = refl
+
+  pub steady-request : (function word flags : ℕ) (payload : List ℕ) → first_failure (request_guards s.parties (schedule_of s) word flags) ≡ None → IsSteady (direct_request s function word flags payload).state
+  steady-request function word flags payload none =
+      scheduled-steady (requested (schedule_of s) (low_half word)) (record {
+        runner = guard-passes (request_guards s.parties (schedule_of s) word flags) 2 InvalidParameters (sym none);
+        requesters = requesters-set (Known s) s.works (place (low_half word)) (Some (Request (record { 0 = s.runner }))) (λ by is. (let same : s.runner ≡ by = cc in ap (is_known_among (length s.parties)) (sym same) ∙ steady.runner)) steady.requesters;
+      })
+
+  answers : (word : ℕ) (w : Option ℕ) → is_answer s.runner word w ≡ true → (by : ℕ) × (w ≡ Some by) × (word ≡ word_of_two s.runner by)
+  answers word None is = absurd (false≢true is)
+  answers word (Some by) is = (by, refl, eqb-true word (word_of_two s.runner by) is)
+
+  pub steady-run : (word : ℕ) → first_failure (run_guards (length s.parties) (schedule_of s) word) ≡ None → IsSteady (run_partition s word).state
+  steady-run word none =
+      scheduled-steady (given_cycles (schedule_of s) (high_half word) (status_in (schedule_of s) (high_half word)))
+      (given-known (high_half word) (status_in (schedule_of s) (high_half word)) (partition-known (length s.parties) (high_half word) (guard-passes (run_guards (length s.parties) (schedule_of s) word) 1 InvalidParameters (sym none))))
+
+  pub steady-yield : IsSteady (yield_now s).state
+  steady-yield = scheduled-steady (switched (schedule_of s) Yielded 0) (record { runner = first-known; requesters = steady.requesters })
+
+  pub steady-wait : IsSteady (msg_wait s).state
+  steady-wait =
+      let known = finished-known 0 first-known in
+      steady-changed s steady s.pages (buffers_with_rx s.buffers s.runner false) (finished (schedule_of s) 0) (unwritten s.pages) (length-set s.buffers (place s.runner) (with_rx_full false (buffers_of s s.runner)))
+      known.runner known.requesters (steady-rx s steady s.runner false)
+
+  -- w1 of a response names the runner's requester in its low half
+  pub answerer : (word flags : ℕ) → first_failure (response_guards (schedule_of s) word flags) ≡ None → (by : ℕ) × (requester (work_in (schedule_of s) s.runner) ≡ Some by) × (low_half word ≡ by)
+  answerer word flags none =
+      let (by, is, named) = answers word (requester (work_in (schedule_of s) s.runner)) (guard-passes (response_guards (schedule_of s) word flags) 1 InvalidParameters (sym none)) in
+      let known = steady.requesters (place s.runner) by is in
+      let small : by < 65536 = (let few = steady.few in let lt = known-place (length s.parties) by steady.some known in omega arith) in
+      let low : low_half word ≡ by = omega arith in
+      (by, is, low)
+
+  pub steady-response : (function word flags : ℕ) (payload : List ℕ) → first_failure (response_guards (schedule_of s) word flags) ≡ None → IsSteady (direct_response s function word flags payload).state
+  steady-response function word flags payload none =
+      (let (by, is, low) = answerer word flags none in
+      scheduled-steady (finished (schedule_of s) (low_half word)) (finished-known (low_half word) (ap (is_known_among (length s.parties)) low ∙ steady.requesters (place s.runner) by is)))

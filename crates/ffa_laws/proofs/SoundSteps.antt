@@ -1,0 +1,110 @@
+-- Each operation keeps a state sound.
+use Rattle.std.proofs.Common.{◌≡◌, ◌∙◌, ℕ, ◌≤◌, true, false, cond, length, Some, None, refl, sym, ap, subst, arith, length-set}
+use Rattle.byteorder.specs.Endian.{little_bytes}
+use Rattle.std.proofs.lemmas.Bool.{false≢true}
+use Rattle.ffa_model.specs.declared.operation.Op.{Op}
+use Rattle.ffa_model.specs.declared.operation.Op.TheVariants.{Call, Load, Store, Fetch}
+use Rattle.ffa_model.specs.declared.operation.Outcome.TheVariants.{Data, Done}
+use Rattle.ffa_model.specs.declared.schedule.Status.{Status}
+use Rattle.ffa_model.specs.declared.schedule.Status.TheVariants.{Running, Waiting, Yielded, Blocked}
+use Rattle.ffa_model.specs.declared.schedule.Work.TheVariants.{Run as WorkRun, Request}
+use Rattle.ffa_model.specs.declared.call.Call as calls
+use Rattle.ffa_model.specs.declared.call.Call.TheVariants.{Version, Features, RxRelease, RxtxMap, RxtxUnmap, PartitionInfoGet, IdGet, MsgWait, Yield, Run, DirectRequest, DirectResponse, MemDonate, MemLend, MemShare, MemRetrieve, MemRelinquish, MemReclaim, BitmapCreate, BitmapDestroy, NotificationBind, NotificationUnbind, NotificationSet, NotificationGet, SpmIdGet, MsgSend2, Unknown}
+use Rattle.ffa_model.specs.Bits.{high_half, low_half}
+use Rattle.ffa_model.specs.Identifiers.{place}
+use Rattle.ffa_model.specs.Registers.{decode}
+use Rattle.ffa_model.specs.State.{State}
+use Rattle.ffa_model.specs.Calls.{first_failure}
+use Rattle.ffa_model.specs.Memory.{fetch_fault, number_at, read_fault, size_of, store_fault, stored}
+use Rattle.ffa_model.specs.Buffers.{filled}
+use Rattle.ffa_model.specs.Setup.{info_bytes, is_count_alone, uuid_bytes}
+use Rattle.ffa_model.specs.RunStates.{Schedule, finished, given_cycles, run_guards, schedule_of, status_in}
+use Rattle.ffa_model.specs.Sound.{IsSound}
+use Rattle.ffa_model.specs.Steady.{IsScheduled}
+use Rattle.ffa_model.specs.Step.{service, step}
+use Rattle.ffa_model.specs.Isolation.{is_lawful, is_lawful_call}
+use Rattle.ffa_laws.proofs.Form.{accessed-kept, served-kept}
+use Rattle.ffa_laws.proofs.ScheduleLaws.{answerer}
+use Rattle.ffa_laws.proofs.SoundLaws.{sound-request, sound-response, sound-run, sound-wait, sound-yield}
+use Rattle.ffa_laws.proofs.Kept.{rewritten-step}
+use Rattle.ffa_laws.proofs.Laws.{steady-step}
+
+-- run states that are sound, of as many endpoints
+record AreSound (n : ℕ) (c : Schedule) : Type 0 where
+  sound : IsSound c
+  works : length c.works ≡ n
+
+module _ (s : State) (is : IsScheduled s) where
+  abbrev c : Schedule
+  c = schedule_of s
+
+  abbrev n : ℕ
+  n = length s.parties
+
+  abbrev P : State → Type 0
+  P t = AreSound n (schedule_of t)
+
+  old : P s
+  old = record { sound = is.schedule; works = is.works }
+
+  some : 1 ≤ length s.works
+  some = let least = is.steady.some in omega (arith, is.works)
+
+  few : length s.works ≤ 8
+  few = let most = is.steady.few in omega (arith, is.works)
+
+  given-works : (e : ℕ) (status : Status) → length (given_cycles c e status).works ≡ length s.works
+  given-works e Waiting = length-set s.works (place e) (Some WorkRun)
+  given-works e Yielded = refl
+  given-works e Running = refl
+  given-works e Blocked = refl
+
+  finished-works : (e : ℕ) → length (finished c e).works ≡ n
+  finished-works e = length-set s.works (place s.runner) None ∙ is.works
+
+  sound-service : (call : calls.Call) → is_lawful_call call ≡ true → first_failure (service s call).guards ≡ None → P (service s call).state
+  sound-service (Version version) lawful none = old
+  sound-service (Features function) lawful none = old
+  sound-service RxRelease lawful none = old
+  sound-service (RxtxMap tx rx pages) lawful none = old
+  sound-service (RxtxUnmap endpoint) lawful none = old
+  sound-service (PartitionInfoGet uuid flags) lawful none = elim (is_count_alone flags) as (λ b. P (cond b s (filled s s.runner (info_bytes s.parties (uuid_bytes uuid))))) [ true ↦ old | false ↦ old ]
+  sound-service IdGet lawful none = old
+  sound-service SpmIdGet lawful none = old
+  sound-service MsgWait lawful none = record { sound = sound-wait c is.schedule some few none; works = finished-works 0 }
+  sound-service Yield lawful none = record { sound = sound-yield c is.schedule some few none; works = is.works }
+  sound-service (Run word) lawful none = record { sound = sound-run c is.schedule some few word (ap (λ k. first_failure (run_guards k c word)) is.works ∙ none); works = given-works (high_half word) (status_in c (high_half word)) ∙ is.works }
+  sound-service (DirectRequest function word flags payload) lawful none =
+      record { sound = sound-request c is.schedule some few s.parties (sym is.works) word flags none; works = length-set s.works (place (low_half word)) (Some (Request (record { 0 = s.runner }))) ∙ is.works }
+  sound-service (DirectResponse function word flags payload) lawful none =
+      (let (by, asked, low) = answerer s is.steady word flags none in
+      subst (λ e. AreSound n (finished c e)) (sym low) (record { sound = sound-response c is.schedule some few by asked; works = finished-works by }))
+  sound-service (MemDonate total fragment address pages) lawful none = absurd (false≢true lawful)
+  sound-service (MemLend total fragment address pages) lawful none = absurd (false≢true lawful)
+  sound-service (MemShare total fragment address pages) lawful none = absurd (false≢true lawful)
+  sound-service (MemRetrieve total fragment address pages) lawful none = absurd (false≢true lawful)
+  sound-service MemRelinquish lawful none = absurd (false≢true lawful)
+  sound-service (MemReclaim low high flags) lawful none = absurd (false≢true lawful)
+  sound-service (BitmapCreate endpoint contexts) lawful none = old
+  sound-service (BitmapDestroy endpoint) lawful none = old
+  sound-service (NotificationBind word flags low high) lawful none = old
+  sound-service (NotificationUnbind word flags low high) lawful none = old
+  sound-service (NotificationSet word flags low high) lawful none = old
+  sound-service (NotificationGet word flags) lawful none = old
+  sound-service MsgSend2 lawful none = old
+  sound-service Unknown lawful none = old
+
+  sound-op : (op : Op) → is_lawful op ≡ true → P (step s op).state
+  sound-op (Call x) lawful = served-kept P s (service s (decode x)) old (sound-service (decode x) lawful)
+  sound-op (Load address size) lawful = accessed-kept P s s (Data (number_at s address (size_of size))) (read_fault s address (size_of size)) old (λ none. old)
+  sound-op (Store address size value) lawful = accessed-kept P s (stored s address (little_bytes (size_of size) value)) Done (store_fault s address (size_of size)) old (λ none. old)
+  sound-op (Fetch address) lawful = accessed-kept P s s (Data (number_at s address 4)) (fetch_fault s address) old (λ none. old)
+
+  pub sound-step : (op : Op) → is_lawful op ≡ true → IsScheduled (step s op).state
+  sound-step op lawful =
+      let after = sound-op op lawful in
+      record {
+        steady = steady-step s is.steady op lawful;
+        works = after.works ∙ sym (rewritten-step (λ t. length t.parties ≡ n) s refl (λ ps bs c n rewritten. refl) op lawful);
+        schedule = after.sound;
+      }

@@ -1,0 +1,109 @@
+-- What keeps a state steady.
+use Rattle.std.proofs.Common.{◌≡◌, ◌≢◌, ◌∙◌, ℕ, Bool, true, false, cond, List, length, get_or, Option, Some, None, is_some, refl, sym, ap, subst, arith}
+use Rattle.std.specs.Prelude.{◌==◌}
+use Rattle.std.specs.Option.{option_map, option_map_or}
+use Rattle.ffa_model.specs.Rights.{is_within}
+use Rattle.ffa_model.specs.Identifiers.{place}
+use Rattle.ffa_model.specs.State.{State, Page, Buffers, page_at, owner_of, is_known_among, is_known, transaction_of}
+use Rattle.ffa_model.specs.Access.{handle_at, transaction_at}
+use Rattle.ffa_model.specs.Buffers.{is_usable, candidate_at, buffers_with_rx}
+use Rattle.ffa_model.specs.RunStates.{Schedule, requester}
+use Rattle.ffa_model.specs.Notifications.{Notifications, with_notifications}
+use Rattle.ffa_model.specs.Steady.{AreSteadyBuffers, IsAlone, IsSteady, IsSteadyBinding}
+use Rattle.std.specs.FinSet as finite_set
+use Rattle.ffa_model.specs.View.{is_near, involves}
+use Rattle.std.specs.Prelude.{◌||◌, not}
+use Rattle.std.specs.Option.{option_and_then}
+use Rattle.std.proofs.lemmas.Bool.{false≢true, eqb-true, and_parts}
+use Rattle.std.proofs.lemmas.Bool.Decides.{nat_tests}
+use Rattle.ffa_laws.proofs.Changes.{AreRewritten, with_parts, same_base, same_owner}
+use Rattle.ffa_laws.proofs.Written.{at-changed, is_at, with_rx_full}
+
+-- a page that may be a buffer of e is e's, and no transaction names it
+pub usable : (s : State) (e p : ℕ) → is_usable e (candidate_at s p) ≡ true → IsAlone s e p
+usable s e p is = go (page_at s p) refl is
+  where
+    no_handle : (o : Option ℕ) → not (is_some o) ≡ true → o ≡ None
+    no_handle None n = refl
+    no_handle (Some h) n = absurd (false≢true n)
+
+    go : (page : Option Page) → page_at s p ≡ page
+        → is_usable e (option_map (λ (q : Page). record { owner = q.owner; base = q.base; named = is_some (handle_at s p) }) page) ≡ true → IsAlone s e p
+    go None at is = absurd (false≢true is)
+    go (Some q) at is =
+        let (both, writable) = and_parts _ _ is in
+        let (mine, free) = and_parts _ _ both in
+        record { owner = ap (λ o. option_map_or (λ (x : Page). x.owner) o 0x8000) at ∙ eqb-true q.owner e mine; unnamed = no_handle (handle_at s p) free }
+
+-- such a page is near to its owner alone
+pub alone-near : (s : State) (e p : ℕ) → IsAlone s e p → is_near e s p ≡ true
+alone-near s e p is = let owner = is.owner in grind (arith, nat_tests)
+
+pub alone-far : (s : State) (e f p : ℕ) → IsAlone s f p → f ≢ e → is_near e s p ≡ false
+alone-far s e f p is differ =
+    let owner = is.owner in
+    let none : transaction_at s p ≡ None = ap (option_and_then (transaction_of s)) is.unnamed in
+    let other : (owner_of s p == e) ≡ false = grind (arith, nat_tests) in
+    ap (λ t. owner_of s p == e || involves e t) none ∙ ap (λ b. b || false) other
+
+module _ (s : State) (steady : IsSteady s) (ps : List (Option Page)) (bs : List (Option Buffers)) (c : Schedule) (rewritten : AreRewritten s.pages ps) where
+  alone-kept : (e p : ℕ) → IsAlone s e p → IsAlone (with_parts s ps bs c) e p
+  alone-kept e p alone = record { owner = same_owner (get_or ps p None) (page_at s p) (rewritten.same p) ∙ alone.owner; unnamed = alone.unnamed }
+
+  pub steady-changed : length bs ≡ length s.buffers → is_known_among (length s.parties) c.runner ≡ true
+      → ((i by : ℕ) → requester (get_or c.works i None) ≡ Some by → is_known_among (length s.parties) by ≡ true)
+      → ((e : ℕ) (b : Buffers) → is_known s e ≡ true → get_or bs (place e) None ≡ Some b → AreSteadyBuffers s e b)
+      → IsSteady (with_parts s ps bs c)
+  steady-changed each runner requesters buffers =
+      record {
+        some = steady.some;
+        few = steady.few;
+        each = each ∙ steady.each;
+        runner = runner;
+        requesters = requesters;
+        one = steady.one;
+        transactions = λ h t is. record {
+          owned = λ p named. same_owner (get_or ps p None) (page_at s p) (rewritten.same p) ∙ (steady.transactions h t is).owned p named;
+          offered = (steady.transactions h t is).offered;
+          within = λ p e right named holds. ap (is_within (Some right)) (same_base (get_or ps p None) (page_at s p) (rewritten.same p)) ∙ (steady.transactions h t is).within p e right named holds;
+          alone = (steady.transactions h t is).alone;
+        };
+        buffers = λ e b known is. (let own = buffers e b known is in record { tx = alone-kept e b.tx own.tx; rx = alone-kept e b.rx own.rx });
+        bound = steady.bound;
+      }
+
+-- notifications, where the bindings keep their form
+pub steady-notified : (s : State) → IsSteady s → (n : Notifications) → ((entry : List ℕ) → finite_set.contains n.bound entry ≡ true → IsSteadyBinding entry) → IsSteady (with_notifications s n)
+steady-notified s steady n bound =
+    record {
+      some = steady.some;
+      few = steady.few;
+      each = steady.each;
+      runner = steady.runner;
+      requesters = steady.requesters;
+      one = steady.one;
+      transactions = λ h t is. (let good = steady.transactions h t is in record { owned = good.owned; offered = good.offered; within = good.within; alone = good.alone });
+      buffers = λ e b known is.
+          let own = steady.buffers e b known is in
+          record { tx = record { owner = own.tx.owner; unnamed = own.tx.unnamed }; rx = record { owner = own.rx.owner; unnamed = own.rx.unnamed } };
+      bound = bound;
+    }
+
+-- RX that is full or empty leaves buffers steady
+pub steady-rx : (s : State) → IsSteady s → (f : ℕ) (full : Bool) (e : ℕ) (b : Buffers) → is_known s e ≡ true → get_or (buffers_with_rx s.buffers f full) (place e) None ≡ Some b → AreSteadyBuffers s e b
+steady-rx s steady f full e b known is =
+    go (is_at (place f) (place e)) (get_or s.buffers (place e) None) refl (sym (at-changed (with_rx_full full) s.buffers (place f) (place e) refl) ∙ is)
+  where
+    none_some : None ≡ Some b → ⊥
+    none_some x = cc
+
+    own : (x : Buffers) → get_or s.buffers (place e) None ≡ Some x → b.tx ≡ x.tx → b.rx ≡ x.rx → AreSteadyBuffers s e b
+    own x at tx rx =
+        let own = steady.buffers e x known at in
+        record { tx = subst (IsAlone s e) (sym tx) own.tx; rx = subst (IsAlone s e) (sym rx) own.rx }
+
+    go : (same : Bool) (o : Option Buffers) → get_or s.buffers (place e) None ≡ o → cond same (with_rx_full full o) o ≡ Some b → AreSteadyBuffers s e b
+    go true None at is = absurd (none_some is)
+    go false None at is = absurd (none_some is)
+    go true (Some x) at is = let same : record x { full = full } ≡ b = cc in own x at (ap (λ (y : Buffers). y.tx) (sym same)) (ap (λ (y : Buffers). y.rx) (sym same))
+    go false (Some x) at is = let same : x ≡ b = cc in own x at (ap (λ (y : Buffers). y.tx) (sym same)) (ap (λ (y : Buffers). y.rx) (sym same))

@@ -1,0 +1,5 @@
+use Rattle.ffa_laws.proofs.Firsts.{first-sound}
+use Rattle.ffa_laws.proofs.isolation.first_is_sound.Goals as goal
+
+pub returns : goal.returns
+returns c = first-sound

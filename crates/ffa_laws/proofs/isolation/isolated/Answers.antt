@@ -1,0 +1,9 @@
+use Rattle.ffa_laws.proofs.Laws.{isolated}
+use Rattle.ffa_laws.proofs.Shows.{shown}
+use Rattle.ffa_laws.proofs.isolation.isolated.Goals as goal
+
+pub returns-clause-isolated : goal.returns-clause-isolated
+returns-clause-isolated c = isolated
+
+pub returns-clause-shown : goal.returns-clause-shown
+returns-clause-shown c = shown

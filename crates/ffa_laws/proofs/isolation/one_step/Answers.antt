@@ -1,0 +1,12 @@
+use Rattle.ffa_laws.proofs.Laws.{one_step, steady-step}
+use Rattle.ffa_laws.proofs.SoundSteps.{sound-step}
+use Rattle.ffa_laws.proofs.isolation.one_step.Goals as goal
+
+pub returns-clause-step : goal.returns-clause-step
+returns-clause-step c = one_step
+
+pub returns-clause-steady : goal.returns-clause-steady
+returns-clause-steady c = λ s op lawful steady. steady-step s steady op lawful
+
+pub returns-clause-scheduled : goal.returns-clause-scheduled
+returns-clause-scheduled c = λ s op lawful is. sound-step s is op lawful

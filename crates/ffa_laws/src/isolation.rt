@@ -1,0 +1,40 @@
+//! Isolation: what an endpoint sees comes from its view, from its own operations, and from the events towards it.
+
+ghost use Rattle.std.specs.Prelude.{ℕ, ◌≡◌, ◌≤◌, true, List, length};
+ghost use Rattle.ffa_model.specs.declared.endpoint.Endpoint.{Endpoint};
+ghost use Rattle.ffa_model.specs.First.{first};
+ghost use Rattle.ffa_model.specs.declared.operation.Op.{Op};
+ghost use Rattle.ffa_model.specs.State.{State};
+ghost use Rattle.ffa_model.specs.Step.{state_after, step};
+ghost use Rattle.ffa_model.specs.Steady.{IsScheduled, IsSteady};
+ghost use Rattle.ffa_model.specs.Isolation.{Integrity, Isolated, NeverGrow, OneStep, Shown, are_lawful, is_lawful};
+
+/// One operation: it tells another endpoint its events, and its outcome depends on the runner's view alone. A state that
+/// is steady stays so, and sound run states stay sound.
+pub fn one_step()
+    ensures step { (s : State) (op : Op) → is_lawful op ≡ true → IsSteady s → OneStep s op }
+    ensures steady { (s : State) (op : Op) → is_lawful op ≡ true → IsSteady s → IsSteady (step s op).state }
+    ensures scheduled { (s : State) (op : Op) → is_lawful op ≡ true → IsScheduled s → IsScheduled (step s op).state }
+{}
+
+/// A list of operations: what an endpoint sees of it depends on its view at the start, on its own operations and on the
+/// events towards it; and what it sees is in the outcomes.
+pub fn isolated()
+    ensures isolated { (s : State) (ops : List Op) → are_lawful ops ≡ true → IsSteady s → Isolated s ops }
+    ensures shown { (s : State) (ops : List Op) → Shown s ops }
+{}
+
+/// Rights never grow, whatever is done.
+pub fn rights_never_grow()
+    ensures { (s : State) (ops : List Op) → are_lawful ops ≡ true → IsSteady s → NeverGrow s (state_after s ops) }
+{}
+
+/// A page that its owner has alone keeps its bytes while another endpoint runs, but for a message into its RX.
+pub fn integrity()
+    ensures { (s : State) (op : Op) → is_lawful op ≡ true → IsSteady s → Integrity s op }
+{}
+
+/// The state in which a machine starts is steady, with sound run states.
+pub fn first_is_sound()
+    ensures { (base blocks : ℕ) (es : List Endpoint) → 1 ≤ length es → length es ≤ 8 → IsScheduled (first base blocks es) }
+{}

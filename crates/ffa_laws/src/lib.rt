@@ -1,0 +1,6 @@
+//! Laws of the small machine, proved over its definitions alone.
+#![tactic(auto)]
+
+pub mod isolation;
+
+pub use isolation::{first_is_sound, integrity, isolated, one_step, rights_never_grow};

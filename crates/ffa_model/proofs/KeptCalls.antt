@@ -1,0 +1,86 @@
+-- The state stays sound through the changes of each call on memory, but for the bytes that a retrieve leaves in RX.
+use Rattle.std.proofs.Common.{◌≡◌, ◌∙◌, ℕ, Bool, true, false, not, List, Option, Some, None, refl, sym, ap, subst}
+use Rattle.std.specs.Prelude.{is_some}
+use Rattle.std.specs.Option.{option_and_then, option_map}
+use Rattle.std.specs.FinMap as finite
+use Rattle.std.proofs.lemmas.Bool.{and_parts, false≢true, true≢false}
+use Rattle.ffa_model.specs.declared.descriptor.RelinquishDesc.{RelinquishDesc}
+use Rattle.ffa_model.specs.declared.rights.Kind.{Kind}
+use Rattle.ffa_model.specs.declared.rights.Kind.TheVariants.{Share, Lend, Donate}
+use Rattle.ffa_model.specs.declared.rights.Rights.{Rights}
+use Rattle.ffa_model.specs.declared.transaction.Range.{Range}
+use Rattle.ffa_model.specs.Rights.{is_at_most, is_donate}
+use Rattle.ffa_model.specs.SendDescriptor.{SendRecord}
+use Rattle.ffa_model.specs.State.{State, Page, Transaction, page_at, transaction_of}
+use Rattle.ffa_model.specs.Access.{handle_at, is_naming, is_receiver, names, transaction_at}
+use Rattle.ffa_model.specs.Memory.{zeroed_if}
+use Rattle.ffa_model.specs.Buffers.{Candidate, candidate_at, is_usable}
+use Rattle.ffa_model.specs.Transactions.{bases_of, ceiling, closed, next_handle, offers_of, opened, with_offers}
+use Rattle.ffa_model.specs.MemorySend.{offered, transaction_from}
+use Rattle.ffa_model.specs.MemoryRetrieve.{given_if, taken, taken_in}
+use Rattle.ffa_model.specs.MemoryReturn.{reclaimed, relinquished_from}
+use Rattle.ffa_model.specs.SoundState.{IsKnown, IsSoundState}
+use Rattle.ffa_model.proofs.Accesses.{in-closed}
+use Rattle.ffa_model.proofs.Handles.{found-passes, none-passes}
+use Rattle.ffa_model.proofs.Kept.{closed-sound, holding-sound, released-sound, zeros-sound}
+use Rattle.ffa_model.proofs.KeptDonate.{given-sound}
+use Rattle.ffa_model.proofs.KeptSend.{IsSendable, opened-sound}
+
+pub zeroed-sound : (asked : Bool) (s : State) (ranges : List Range) → IsSoundState s → IsSoundState (zeroed_if asked s ranges)
+zeroed-sound true s ranges sound = zeros-sound s ranges sound
+zeroed-sound false s ranges sound = sound
+
+-- a page that may be a buffer stands in no transaction
+usable-unnamed : (s : State) (e p : ℕ) → is_usable e (candidate_at s p) ≡ true → handle_at s p ≡ None
+usable-unnamed s e p usable = of (page_at s p) usable
+  where
+    none : (o : Option ℕ) → not (is_some o) ≡ true → o ≡ None
+    none None h = refl
+    none (Some h) is = absurd (false≢true is)
+
+    of : (o : Option Page)
+        → is_usable e (option_map (λ (page : Page). let c : Candidate = record { owner = page.owner; base = page.base; named = is_some (handle_at s p) } in c) o) ≡ true
+        → handle_at s p ≡ None
+    of None h = absurd (false≢true h)
+    of (Some page) h = none (handle_at s p) (and_parts _ _ (and_parts _ _ h).0).1
+
+-- where a page stands in no transaction, no handle names it
+handle-none : (s : State) (p : ℕ) → transaction_at s p ≡ None → handle_at s p ≡ None
+handle-none s p none = of (handle_at s p) refl none
+  where
+    of : (o : Option ℕ) → handle_at s p ≡ o → option_and_then (finite.get s.transactions) o ≡ None → o ≡ None
+    of None at is = refl
+    of (Some h) at is = absurd (true≢false (sym (found-passes (is_naming s p) refl s.transactions h at) ∙ ap (is_naming s p) is))
+
+module _ (s : State) (sound : IsSoundState s) where
+  pub offered-sound : (kind : Kind) (r : SendRecord) → r.sender ≡ s.runner → IsSendable s (transaction_from kind r) → IsSoundState (offered s kind (Some r))
+  offered-sound kind r same good =
+      zeroed-sound r.zero _ r.ranges
+      (subst (λ e. IsSoundState (with_offers s (opened (offers_of s) (next_handle (offers_of s) e) (transaction_from kind r)))) same
+      (opened-sound s sound (transaction_from kind r) good))
+
+  pub relinquished-sound : (d : RelinquishDesc) (t : Transaction) → transaction_of s d.handle ≡ Some t → IsSoundState (relinquished_from s d (Some t))
+  relinquished-sound d t was = zeroed-sound d.zero _ t.ranges (released-sound s sound d.handle t was s.runner)
+
+  module _ (h : ℕ) (t : Transaction) (was : transaction_of s h ≡ Some t) where
+    pub reclaimed-sound : (zero : Bool) → IsSoundState (reclaimed s h zero)
+    reclaimed-sound zero = zeroed-sound zero _ _ (closed-sound s sound h t was)
+
+    -- the pages of a transaction are no buffers
+    unbuffered : (p : ℕ) (e : ℕ) → is_usable e (candidate_at s p) ≡ true → names s t.ranges p ≡ false
+    unbuffered p e usable = sym (ap (is_naming s p) was) ∙ none-passes (is_naming s p) refl s.transactions h (usable-unnamed s e p usable)
+
+    donated-sound : (e : ℕ) (right : Rights) → IsKnown s e → IsSoundState (with_offers (given_if true s t.ranges e right) (closed (offers_of s) h))
+    donated-sound e right known =
+        given-sound (with_offers s (closed (offers_of s) h)) (closed-sound s sound h t was) t.ranges e right known
+        (λ p lt named. handle-none (with_offers s (closed (offers_of s) h)) p (in-closed s h t was p (λ k j at_k at_j. sound.one p k j lt at_k at_j) named))
+        (λ f b is_known is. let its = sound.buffers f b is_known is in (unbuffered b.tx f its.tx, unbuffered b.rx f its.rx))
+
+    pub taken-sound : (e : ℕ) (right : Rights) → IsKnown s e → is_receiver e t ≡ true → is_at_most right (ceiling (bases_of s) t e) ≡ true
+        → IsSoundState (taken s h t e right)
+    taken-sound e right known receiver within = of t.kind refl
+      where
+        of : (kind : Kind) → t.kind ≡ kind → IsSoundState (with_offers (given_if (is_donate kind) s t.ranges e right) (taken_in kind (offers_of s) h t e right))
+        of Share is = holding-sound s sound h t was e right receiver within (ap is_donate is)
+        of Lend is = holding-sound s sound h t was e right receiver within (ap is_donate is)
+        of Donate is = donated-sound e right known

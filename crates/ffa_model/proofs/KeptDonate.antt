@@ -1,0 +1,149 @@
+-- The state stays sound when pages that stand in no transaction and no buffer are given to another endpoint.
+use Rattle.std.proofs.Common.{◌≡◌, ◌∙◌, ℕ, zero, suc, ◌<◌, Bool, true, false, cond, List, ◌∷◌, length, Option, Some, None, refl, sym, ap, subst, arith}
+use Rattle.std.specs.Prelude.{◌==◌, ◌&&◌, filter, if◌then◌else◌}
+use Rattle.std.specs.List.{list_all}
+use Rattle.std.specs.Option.{option_map, option_map_or}
+use Rattle.std.proofs.lemmas.Bool.{true≢false}
+use Rattle.std.proofs.lemmas.Option.{none-some, same_Some}
+use Rattle.ffa_model.specs.declared.rights.Data.TheVariants.{Ro, Rw}
+use Rattle.ffa_model.specs.declared.rights.Kind.{Kind}
+use Rattle.ffa_model.specs.declared.rights.Kind.TheVariants.{Share, Lend, Donate}
+use Rattle.ffa_model.specs.declared.rights.Rights.{Rights}
+use Rattle.ffa_model.specs.declared.transaction.Range.{Range}
+use Rattle.ffa_model.specs.declared.transaction.Receiver.{Receiver}
+use Rattle.ffa_model.specs.Identifiers.{manager}
+use Rattle.ffa_model.specs.Lists.{listed}
+use Rattle.ffa_model.specs.Rights.{is_at_most, may_fetch, may_store}
+use Rattle.ffa_model.specs.State.{State, Page, Transaction, Buffers, buffers_of, owner_of, page_at, transaction_of}
+use Rattle.ffa_model.specs.Access.{handle_at, is_naming, names}
+use Rattle.ffa_model.specs.Memory.{with_pages}
+use Rattle.ffa_model.specs.Transactions.{Bases, are_writable, base_of, bases_of, ceiling, ceiling_in, grant_to, pages_in}
+use Rattle.ffa_model.specs.MemorySend.{are_grants_within, is_grantable, is_inside}
+use Rattle.ffa_model.specs.MemoryRetrieve.{given_page}
+use Rattle.ffa_model.specs.SoundState.{IsKnown, IsSoundPage, IsSoundState, IsSoundTransaction}
+use Rattle.ffa_model.proofs.Accesses.{length-map_at, page-changed}
+use Rattle.ffa_model.proofs.Handles.{none-passes}
+use Rattle.ffa_model.proofs.Kept.{same-usable}
+
+-- two tests that agree wherever they are asked
+pub same-tests : (test also keep : ℕ → Bool) (n : ℕ) (f : ℕ → ℕ) → ((i : ℕ) → i < n → keep (f i) ≡ true → test (f i) ≡ also (f i))
+    → list_all test (filter keep (listed n f)) ≡ list_all also (filter keep (listed n f))
+same-tests test also keep zero f same = refl
+same-tests test also keep (suc n) f same = of (keep (f 0)) refl (same-tests test also keep n (λ i. f (suc i)) (λ i lt kept. same (suc i) (omega arith) kept))
+  where
+    of : (b : Bool) → keep (f 0) ≡ b
+        → list_all test (filter keep (listed n (λ i. f (suc i)))) ≡ list_all also (filter keep (listed n (λ i. f (suc i))))
+        → list_all test (cond b (f 0 ∷ filter keep (listed n (λ i. f (suc i)))) (filter keep (listed n (λ i. f (suc i)))))
+        ≡ list_all also (cond b (f 0 ∷ filter keep (listed n (λ i. f (suc i)))) (filter keep (listed n (λ i. f (suc i)))))
+    of true kept rest = λ i. same 0 (omega arith) kept i && rest i
+    of false left rest = rest
+
+module _ (s : State) (sound : IsSoundState s) (ranges : List Range) (e : ℕ) (right : Rights) (known : IsKnown s e)
+    (free : (p : ℕ) → p < length s.pages → names s ranges p ≡ true → handle_at s p ≡ None)
+    (unbuffered : (f : ℕ) (b : Buffers) → IsKnown s f → buffers_of s f ≡ Some b → (names s ranges b.tx ≡ false) × (names s ranges b.rx ≡ false)) where
+  abbrev pub after_giving : State
+  after_giving = with_pages s ranges (given_page e right)
+
+  size : length after_giving.pages ≡ length s.pages
+  size = length-map_at (λ p page. if names s ranges p then given_page e right page else page) s.pages
+
+  -- other pages are as they were
+  page-same : (p : ℕ) → names s ranges p ≡ false → page_at after_giving p ≡ page_at s p
+  page-same p other = page-changed s ranges (given_page e right) p refl ∙ ap (λ b. cond b (given_page e right (page_at s p)) (page_at s p)) other
+
+  base-same : (p : ℕ) → names s ranges p ≡ false → base_of after_giving p ≡ base_of s p
+  base-same p other = ap (option_map (λ (page : Page). page.base)) (page-same p other)
+
+  owner-same : (p : ℕ) → names s ranges p ≡ false → owner_of after_giving p ≡ owner_of s p
+  owner-same p other = ap (λ o. option_map_or (λ (page : Page). page.owner) o manager) (page-same p other)
+
+  -- RAM as it is then, by the number of pages before
+  abbrev given_bases : Bases
+  given_bases = record { base = s.ram_base; count = length s.pages; right = base_of after_giving }
+
+  given_bases-are : bases_of after_giving ≡ given_bases
+  given_bases-are = λ i. record { base = s.ram_base; count = size i; right = base_of after_giving }
+
+  module _ (h : ℕ) (t : Transaction) (is : transaction_of s h ≡ Some t) where
+    good : IsSoundTransaction s h t
+    good = sound.transactions h t is
+
+    -- no page of an open transaction is given
+    other : (p : ℕ) → p < length s.pages → names s t.ranges p ≡ true → names s ranges p ≡ false
+    other p lt named = of (names s ranges p) refl
+      where
+        of : (b : Bool) → names s ranges p ≡ b → names s ranges p ≡ false
+        of false is_other = is_other
+        of true given = absurd (true≢false (sym (ap (is_naming s p) is ∙ named) ∙ none-passes (is_naming s p) refl s.transactions h (free p lt given)))
+
+    same-all : (test : Option Rights → Bool) → list_all (λ p. test (base_of after_giving p)) (pages_in given_bases t.ranges) ≡ list_all (λ p. test (base_of s p)) (pages_in given_bases t.ranges)
+    same-all test = same-tests (λ p. test (base_of after_giving p)) (λ p. test (base_of s p)) (names s t.ranges) (length s.pages) (λ p. p) (λ p lt named. ap test (base-same p (other p lt named)))
+
+    ceiling-same : (f : ℕ) → ceiling given_bases t f ≡ ceiling (bases_of s) t f
+    ceiling-same f = of t.kind
+      where
+        of : (kind : Kind) → ceiling_in kind given_bases t f ≡ ceiling_in kind (bases_of s) t f
+        of Share = refl
+        of Lend = λ i. record { level = grant_to t f; exec = length t.receivers == 1 && same-all may_fetch i }
+        of Donate = λ i. record { level = if same-all may_store i then Rw else Ro; exec = same-all may_fetch i }
+
+    given-transaction : IsSoundTransaction after_giving h t
+    given-transaction =
+        record {
+          sender = good.sender;
+          number = good.number;
+          inside = subst (λ (b : Bases). list_all (is_inside b) t.ranges ≡ true) (sym given_bases-are) good.inside;
+          owned = λ p lt named.
+              let within : p < length s.pages = subst (λ n. p < n) size lt in
+              owner-same p (other p within named) ∙ good.owned p within named;
+          grants = subst (λ (b : Bases). list_all (are_grants_within b t.receivers) (pages_in b t.ranges) ≡ true) (sym given_bases-are)
+              (same-all (λ o. list_all (λ (r : Receiver). is_grantable r.grant o) t.receivers) ∙ good.grants);
+          zeroed = λ zero. subst (λ (b : Bases). are_writable b t.ranges ≡ true) (sym given_bases-are) (same-all may_store ∙ good.zeroed zero);
+          receivers = good.receivers;
+          holder = good.holder;
+          within = λ f its held. subst (λ (b : Bases). is_at_most its (ceiling b t f) ≡ true) (sym given_bases-are)
+              (subst (λ (most : Rights). is_at_most its most ≡ true) (sym (ceiling-same f)) (good.within f its held));
+          donate = good.donate;
+          some_receivers = good.some_receivers;
+          few_receivers = good.few_receivers;
+          some_ranges = good.some_ranges;
+          few_ranges = good.few_ranges;
+          tag = good.tag;
+        }
+
+  given-pages : (p : ℕ) (page : Page) → page_at after_giving p ≡ Some page → IsSoundPage after_giving page
+  given-pages p page is = of (names s ranges p) (page_at s p) refl (sym (page-changed s ranges (given_page e right) p refl) ∙ is)
+    where
+      of : (b : Bool) (o : Option Page) → page_at s p ≡ o → cond b (given_page e right o) o ≡ Some page → IsSoundPage after_giving page
+      of true None there none = absurd (none-some page none)
+      of true (Some q) there some =
+          let before = sound.pages p q there in
+          subst (λ (r : Page). IsSoundPage after_giving r) (same_Some _ page some) (record { owner = known; size = before.size; bytes = before.bytes })
+      of false None there none = absurd (none-some page none)
+      of false (Some q) there some =
+          let before = sound.pages p q there in
+          subst (λ (r : Page). IsSoundPage after_giving r) (same_Some q page some) (record { owner = before.owner; size = before.size; bytes = before.bytes })
+
+  pub given-sound : IsSoundState after_giving
+  given-sound =
+      let blocks = sound.sized.blocks in
+      record {
+        sized = record { some = sound.sized.some; few = sound.sized.few; base = sound.sized.base; blocks = (blocks.0, size ∙ blocks.1, blocks.2, blocks.3); sent = sound.sized.sent; buffers = sound.sized.buffers; works = sound.sized.works; bitmaps = sound.sized.bitmaps };
+        parties = sound.parties;
+        pages = given-pages;
+        transactions = given-transaction;
+        one = λ p h k lt at_h at_k. sound.one p h k (subst (λ n. p < n) size lt) at_h at_k;
+        few = sound.few;
+        sent = sound.sent;
+        buffers = λ f b is_known is.
+            let its = sound.buffers f b is_known is in
+            let apart = unbuffered f b is_known is in
+            record {
+              tx = same-usable s after_giving f b.tx (base-same b.tx apart.0) (owner-same b.tx apart.0) (λ none. none) its.tx;
+              rx = same-usable s after_giving f b.rx (base-same b.rx apart.1) (owner-same b.rx apart.1) (λ none. none) its.rx;
+              apart = its.apart;
+            };
+        schedule = sound.schedule;
+        bound = λ entry is. let its = sound.bound entry is in record { receiver = its.receiver; bit = its.bit; sender = its.sender; is = its.is; to_known = its.to_known; from_known = its.from_known; in_word = its.in_word; bitmaps = its.bitmaps; alone = its.alone };
+        pending = λ entry is. let its = sound.pending entry is in record { receiver = its.receiver; class = its.class; bit = its.bit; is = its.is; to_known = its.to_known; of_class = its.of_class; in_word = its.in_word; bound = its.bound };
+      }

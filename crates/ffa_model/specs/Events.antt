@@ -1,0 +1,301 @@
+-- What the operations of others do to an endpoint's view, and what the endpoint sees.
+use Rattle.byteorder.specs.Endian.{little_bytes}
+use Rattle.std.specs.Prelude.{ℕ, suc, ◌==◌, ◌/◌, ◌-◌, Bool, true, false, not, ◌&&◌, List, [], ◌∷◌, ◌++◌, map, filter, length, Option, Some, None, slice_index_or, if◌then◌else◌}
+use Rattle.std.specs.Option.{option_map}
+use Rattle.std.specs.Str.{bytes_eq}
+use Rattle.std.specs.FinMap as map_of
+use Rattle.std.specs.FinSet as finite_set
+use Rattle.ffa_model.specs.declared.rights.Rights.{Rights}
+use Rattle.ffa_model.specs.declared.rights.Kind.{Kind}
+use Rattle.ffa_model.specs.declared.rights.Kind.TheVariants.{Share, Lend, Donate}
+use Rattle.ffa_model.specs.declared.transaction.Range.{Range}
+use Rattle.ffa_model.specs.declared.descriptor.RetrieveDesc.{RetrieveDesc}
+use Rattle.ffa_model.specs.declared.descriptor.RelinquishDesc.{RelinquishDesc}
+use Rattle.ffa_model.specs.declared.schedule.Status.{Status}
+use Rattle.ffa_model.specs.declared.schedule.Work.{Work}
+use Rattle.ffa_model.specs.declared.schedule.Work.TheVariants.{Run as WorkRun, Request}
+use Rattle.ffa_model.specs.declared.operation.Op.{Op}
+use Rattle.ffa_model.specs.declared.operation.Op.TheVariants.{Call, Load, Store, Fetch}
+use Rattle.ffa_model.specs.declared.operation.Outcome.{Outcome}
+use Rattle.ffa_model.specs.declared.operation.Outcome.TheVariants.{Regs}
+use Rattle.ffa_model.specs.declared.call.Call as calls
+use Rattle.ffa_model.specs.declared.call.Call.TheVariants.{Version, Features, RxRelease, RxtxMap, RxtxUnmap, PartitionInfoGet, IdGet, MsgWait, Yield, Run, DirectRequest, DirectResponse, MemDonate, MemLend, MemShare, MemRetrieve, MemRelinquish, MemReclaim, BitmapCreate, BitmapDestroy, NotificationBind, NotificationUnbind, NotificationSet, NotificationGet, SpmIdGet, MsgSend2, Unknown}
+use Rattle.ffa_model.specs.Bits.{bits_of, high_half, joined, low_half}
+use Rattle.ffa_model.specs.Lists.{listed, map_at}
+use Rattle.ffa_model.specs.Codes.{status_code}
+use Rattle.ffa_model.specs.Registers.{decode}
+use Rattle.ffa_model.specs.State.{State, Page, Transaction, Buffers, buffers_of, has_bitmaps, transaction_of}
+use Rattle.ffa_model.specs.Access.{is_from, is_offered, is_receiver, names}
+use Rattle.ffa_model.specs.Calls.{Service, encode, first_failure}
+use Rattle.ffa_model.specs.Memory.{changed_pages, size_of, store_fault, stored, with_pages, zeroed_page}
+use Rattle.ffa_model.specs.Buffers.{filled_pages}
+use Rattle.ffa_model.specs.RunStates.{direct_request, direct_response, msg_wait, run_partition, yield_now}
+use Rattle.ffa_model.specs.Messages.{header_in, message_in, tx_bytes}
+use Rattle.ffa_model.specs.Notifications.{binding, class_of, is_bound, manager_class, notifications_of, rx_full_bits, with_notifications, with_pending}
+use Rattle.ffa_model.specs.SendDescriptor.{SendRecord}
+use Rattle.ffa_model.specs.Transactions.{bases_of, handle_of, holding, next_handle, not_holding, offers_of, with_offers, with_transaction}
+use Rattle.ffa_model.specs.MemorySend.{offered, send_read, transaction_from}
+use Rattle.ffa_model.specs.MemoryRetrieve.{retrieve_read, right_for}
+use Rattle.ffa_model.specs.MemoryReturn.{ranges_of, relinquish_read}
+use Rattle.ffa_model.specs.Step.{serve, service, step}
+use Rattle.ffa_model.specs.View.{involves, is_near, kept}
+
+-- what everyone may know: who runs, each status and work, and of mapped buffers whether RX is full
+pub record PublicPart : Type 0 where
+  pub runner : ℕ
+  pub statuses : List Status
+  pub works : List (Option Work)
+  pub full : List (Option Bool)
+
+abbrev pub fullness : Option Buffers → Option Bool
+fullness b = option_map (λ (q : Buffers). q.full) b
+
+abbrev pub public_part : State → PublicPart
+public_part s =
+    record { runner = s.runner; statuses = s.statuses; works = s.works; full = map fullness s.buffers }
+
+pub data Event : Type 0 where
+  Wrote : (address : ℕ) (bytes : List ℕ) → Event
+  Message : (x : List ℕ) → Event
+  Filled : (bytes : List ℕ) → Event
+  Pending : (class : ℕ) (bits : List ℕ) → Event
+  Bound : (receiver class bit : ℕ) → Event
+  Unbound : (receiver class bit : ℕ) → Event
+  Opened : (handle : ℕ) (t : Transaction) (pages : List (Option Page)) → Event
+  Held : (handle holder : ℕ) (right : Option Rights) → Event
+  Zeroed : (handle : ℕ) → Event
+  Closed : (handle : ℕ) → Event
+  Public : (values : PublicPart) → Event
+
+-- APPLY: what an event changes in the view of e
+
+-- buffers that are mapped, and full or not; those of another endpoint have no page in RAM
+abbrev pub with_fullness : ℕ → Option Buffers → Option Bool → Option Buffers
+with_fullness past b None = None
+with_fullness past None (Some full) = Some (record { tx = past; rx = past; full = full })
+with_fullness past (Some b) (Some full) = Some (record b { full = full })
+
+abbrev pub with_public : State → PublicPart → State
+with_public v values =
+    record v {
+      runner = values.runner;
+      statuses = values.statuses;
+      works = values.works;
+      buffers = map_at (λ i b. with_fullness (length v.pages) b (slice_index_or values.full i None)) v.buffers;
+    }
+
+-- the pages that the ranges name, each in its place, and pages with these in their places
+abbrev pub named_pages : State → List Range → List (Option Page)
+named_pages s ranges = map_at (λ p page. kept (names s ranges p) page) s.pages
+
+abbrev pub pages_with : State → List Range → List (Option Page) → List (Option Page)
+pages_with v ranges pages = map_at (λ p page. if names v ranges p then slice_index_or pages p None else page) v.pages
+
+abbrev pub with_opened : State → ℕ → Transaction → List (Option Page) → State
+with_opened v h t pages =
+    record v { pages = pages_with v t.ranges pages; transactions = map_of.insert v.transactions h t }
+
+-- an endpoint holds a right, or nothing
+abbrev pub with_held : Transaction → ℕ → Option Rights → Transaction
+with_held t f None = not_holding t f
+with_held t f (Some right) = holding t f right
+
+abbrev pub with_holder : State → ℕ → ℕ → Option Rights → Option Transaction → State
+with_holder v h f right None = v
+with_holder v h f right (Some t) = with_offers v (with_transaction (offers_of v) h (with_held t f right))
+
+-- a transaction and its pages leave
+abbrev pub without : State → ℕ → State
+without v h =
+    record v {
+      pages = changed_pages v (ranges_of (transaction_of v h)) (λ page. None);
+      transactions = map_of.remove v.transactions h;
+    }
+
+abbrev pub apply : ℕ → State → Event → State
+apply e v (Wrote address bytes) = stored v address bytes
+apply e v (Message x) = v
+apply e v (Filled bytes) = record v { pages = filled_pages v.pages bytes (buffers_of v e) }
+apply e v (Pending class bits) = with_notifications v (with_pending (notifications_of v) e class bits)
+apply e v (Bound receiver class bit) = record v { bound = finite_set.insert v.bound (binding receiver class bit e) }
+apply e v (Unbound receiver class bit) = record v { bound = finite_set.remove v.bound (binding receiver class bit e) }
+apply e v (Opened h t pages) = with_opened v h t pages
+apply e v (Held h f right) = with_holder v h f right (transaction_of v h)
+apply e v (Zeroed h) = with_pages v (ranges_of (transaction_of v h)) zeroed_page
+apply e v (Closed h) = without v h
+apply e v (Public values) = with_public v values
+
+abbrev pub apply_all : ℕ → State → List Event → State
+apply_all e v [] = v
+apply_all e v (event ∷ events) = apply_all e (apply e v event) events
+
+-- EVENTS: what an operation of another endpoint tells e
+
+abbrev pub where_true : Bool → List Event → List Event
+where_true true events = events
+where_true false events = []
+
+-- a refusal and a fault give no event
+abbrev pub where_passed : {X : Type 0} → Option X → List Event → List Event
+where_passed None events = events
+where_passed (Some failure) events = []
+
+-- a store into a page that e knows
+abbrev pub writes : ℕ → State → ℕ → List ℕ → List Event
+writes e s address bytes = where_true (is_near e s ((address - s.ram_base) / 4096)) (Wrote address bytes ∷ [])
+
+-- a call after which e runs
+abbrev pub switches : ℕ → Service → List Event
+switches e c = where_true (c.state.runner == e) (Message (encode c.reply) ∷ [])
+
+-- an indirect message to e
+abbrev pub delivers : ℕ → State → List ℕ → List Event
+delivers e s tx =
+    where_true ((header_in tx).receiver == e)
+    (Filled (message_in tx) ∷ where_true (has_bitmaps s e) (Pending manager_class rx_full_bits ∷ []))
+
+-- a send to e, with the pages after it
+abbrev pub opens : ℕ → State → Kind → Option SendRecord → List Event
+opens e s kind None = []
+opens e s kind (Some r) =
+    where_true (is_receiver e (transaction_from kind r))
+    (Opened (next_handle (offers_of s) s.runner) (transaction_from kind r) (named_pages (offered s kind (Some r)) r.ranges) ∷ [])
+
+-- the runner takes what e sent
+abbrev pub taking : Kind → ℕ → ℕ → Rights → Event
+taking Donate h f right = Closed h
+taking Lend h f right = Held h f (Some right)
+taking Share h f right = Held h f (Some right)
+
+abbrev pub takes_from : ℕ → State → RetrieveDesc → Option Transaction → List Event
+takes_from e s d None = []
+takes_from e s d (Some t) =
+    where_true (t.sender == e) (taking t.kind d.handle s.runner (right_for (bases_of s) t s.runner d) ∷ [])
+
+abbrev pub takes : ℕ → State → Option RetrieveDesc → List Event
+takes e s None = []
+takes e s (Some d) = takes_from e s d (transaction_of s d.handle)
+
+-- the runner gives up what e sent, and zeroes what e sent or is offered
+abbrev pub releases : ℕ → State → Option RelinquishDesc → List Event
+releases e s None = []
+releases e s (Some d) =
+    where_true (is_from e (transaction_of s d.handle)) (Held d.handle s.runner None ∷ [])
+    ++ where_true (d.zero && involves e (transaction_of s d.handle)) (Zeroed d.handle ∷ [])
+
+-- the runner ends what e was offered
+abbrev pub closes : ℕ → State → ℕ → List Event
+closes e s h = where_true (is_offered e (transaction_of s h)) (Closed h ∷ [])
+
+-- the receiver binds bits to e, of which some were bound to it before
+abbrev pub binds : ℕ → State → ℕ → ℕ → List ℕ → List Event
+binds e s receiver sender ks =
+    where_true (sender == e)
+    (map (λ k. Bound receiver (class_of e) k) (filter (λ k. not (is_bound (notifications_of s) receiver (class_of e) k e)) ks))
+
+-- the receiver takes bits away from e that it has
+abbrev pub unbinds : ℕ → State → ℕ → ℕ → List ℕ → List Event
+unbinds e s receiver sender ks =
+    where_true (sender == e)
+    (map (λ k. Unbound receiver (class_of e) k) (filter (λ k. is_bound (notifications_of s) receiver (class_of e) k e) ks))
+
+-- the runner makes bits of e pending
+abbrev pub sets : ℕ → State → ℕ → List ℕ → List Event
+sets e s receiver ks = where_true (receiver == e) (Pending (class_of s.runner) ks ∷ [])
+
+-- what a call that nothing refuses tells e besides the public part
+abbrev pub told_by : ℕ → State → calls.Call → List Event
+told_by e s (Version version) = []
+told_by e s (Features function) = []
+told_by e s RxRelease = []
+told_by e s (RxtxMap tx rx pages) = []
+told_by e s (RxtxUnmap endpoint) = []
+told_by e s (PartitionInfoGet uuid flags) = []
+told_by e s IdGet = []
+told_by e s SpmIdGet = []
+told_by e s MsgWait = switches e (msg_wait s)
+told_by e s Yield = switches e (yield_now s)
+told_by e s (Run target) = switches e (run_partition s target)
+told_by e s (DirectRequest function word flags payload) = switches e (direct_request s function word flags payload)
+told_by e s (DirectResponse function word flags payload) = switches e (direct_response s function word flags payload)
+told_by e s (MemDonate total fragment address pages) = opens e s Donate (send_read s Donate total)
+told_by e s (MemLend total fragment address pages) = opens e s Lend (send_read s Lend total)
+told_by e s (MemShare total fragment address pages) = opens e s Share (send_read s Share total)
+told_by e s (MemRetrieve total fragment address pages) = takes e s (retrieve_read s total)
+told_by e s MemRelinquish = releases e s (relinquish_read s)
+told_by e s (MemReclaim low high flags) = closes e s (handle_of high low)
+told_by e s (BitmapCreate endpoint contexts) = []
+told_by e s (BitmapDestroy endpoint) = unbinds e s 0 e (listed 64 (λ k. k))
+told_by e s (NotificationBind word flags low high) = binds e s s.runner (high_half word) (bits_of (joined low high))
+told_by e s (NotificationUnbind word flags low high) = unbinds e s s.runner (high_half word) (bits_of (joined low high))
+told_by e s (NotificationSet word flags low high) = sets e s (low_half word) (bits_of (joined low high))
+told_by e s (NotificationGet receiver flags) = []
+told_by e s MsgSend2 = delivers e s (tx_bytes s s.runner)
+told_by e s Unknown = []
+
+-- the public part as numbers, by which two are compared
+abbrev pub work_number : Option Work → ℕ
+work_number None = 0
+work_number (Some WorkRun) = 1
+work_number (Some (Request by)) = suc (suc by.0)
+
+abbrev pub fullness_number : Option Bool → ℕ
+fullness_number None = 0
+fullness_number (Some false) = 1
+fullness_number (Some true) = 2
+
+abbrev pub is_same_public : PublicPart → PublicPart → Bool
+is_same_public a b =
+    ((a.runner == b.runner && bytes_eq (map status_code a.statuses) (map status_code b.statuses))
+    && bytes_eq (map work_number a.works) (map work_number b.works))
+    && bytes_eq (map fullness_number a.full) (map fullness_number b.full)
+
+-- the public part where it changed
+abbrev pub public_change : State → State → List Event
+public_change s next = if is_same_public (public_part s) (public_part next) then [] else Public (public_part next) ∷ []
+
+-- what an operation of another endpoint tells e
+abbrev pub events : ℕ → State → Op → List Event
+events e s (Call x) =
+    where_passed (first_failure (service s (decode x)).guards) (told_by e s (decode x))
+    ++ public_change s (serve s (decode x)).state
+events e s (Load addr size) = []
+events e s (Store addr size value) =
+    where_passed (store_fault s addr (size_of size)) (writes e s addr (little_bytes (size_of size) value))
+events e s (Fetch addr) = []
+
+-- WHAT AN ENDPOINT SEES
+
+pub data Item : Type 0 where
+  Own : (op : Op) → Item
+  Told : (event : Event) → Item
+
+-- e's own operations and the events towards e, in order
+abbrev pub items : ℕ → State → List Op → List Item
+items e s [] = []
+items e s (op ∷ ops) =
+    (if s.runner == e then Own op ∷ [] else map (λ event. Told event) (events e s op)) ++ items e (step s op).state ops
+
+-- the registers of a message to e
+abbrev pub message : ℕ → Event → List Outcome
+message e (Wrote address bytes) = []
+message e (Message x) = Regs (record { 0 = e }) x ∷ []
+message e (Filled bytes) = []
+message e (Pending class bits) = []
+message e (Bound receiver class bit) = []
+message e (Unbound receiver class bit) = []
+message e (Opened h t pages) = []
+message e (Held h f right) = []
+message e (Zeroed h) = []
+message e (Closed h) = []
+message e (Public values) = []
+
+abbrev pub messages : ℕ → List Event → List Outcome
+messages e [] = []
+messages e (event ∷ events) = message e event ++ messages e events
+
+-- the outcomes of e's operations, and the registers by which another's operation made e run
+abbrev pub seen : ℕ → State → List Op → List Outcome
+seen e s [] = []
+seen e s (op ∷ ops) =
+    (if s.runner == e then (step s op).outcome ∷ [] else messages e (events e s op)) ++ seen e (step s op).state ops

@@ -1,0 +1,151 @@
+-- The laws over the small machine: isolation, rights that never grow, integrity.
+use Rattle.std.specs.Prelude.{◌≡◌, ◌≢◌, ℕ, ◌==◌, Bool, true, false, ◌&&◌, List, [], ◌∷◌, ◌++◌, Option, None, is_some, if◌then◌else◌}
+use Rattle.std.specs.List.{list_all}
+use Rattle.std.specs.Option.{option_map_or}
+use Rattle.ffa_model.specs.declared.operation.Op.{Op}
+use Rattle.ffa_model.specs.declared.operation.Op.TheVariants.{Call, Load, Store, Fetch}
+use Rattle.ffa_model.specs.declared.operation.Outcome.{Outcome}
+use Rattle.ffa_model.specs.declared.operation.Outcome.TheVariants.{Regs, Data, Done, Fault}
+use Rattle.ffa_model.specs.declared.call.Call as calls
+use Rattle.ffa_model.specs.declared.call.Call.TheVariants.{Version, Features, RxRelease, RxtxMap, RxtxUnmap, PartitionInfoGet, IdGet, MsgWait, Yield, Run, DirectRequest, DirectResponse, MemDonate, MemLend, MemShare, MemRetrieve, MemRelinquish, MemReclaim, BitmapCreate, BitmapDestroy, NotificationBind, NotificationUnbind, NotificationSet, NotificationGet, SpmIdGet, MsgSend2, Unknown}
+use Rattle.ffa_model.specs.Rights.{is_within}
+use Rattle.ffa_model.specs.State.{State, Transaction, Buffers, page_at, owner_of, buffers_of, is_known}
+use Rattle.ffa_model.specs.Access.{access, handle_at, transaction_at}
+use Rattle.ffa_model.specs.Memory.{page_bytes}
+use Rattle.ffa_model.specs.Registers.{decode}
+use Rattle.ffa_model.specs.Messages.{header_in, tx_bytes}
+use Rattle.ffa_model.specs.Step.{step, outcomes}
+use Rattle.ffa_model.specs.Steady.{IsSteady, page_base, is_joint}
+use Rattle.ffa_model.specs.View.{view}
+use Rattle.ffa_model.specs.Events.{apply_all, events, items, seen}
+
+-- THE CALLS that the laws speak of: as yet not those on memory transactions
+abbrev pub is_lawful_call : calls.Call → Bool
+is_lawful_call (Version version) = true
+is_lawful_call (Features function) = true
+is_lawful_call RxRelease = true
+is_lawful_call (RxtxMap tx rx pages) = true
+is_lawful_call (RxtxUnmap endpoint) = true
+is_lawful_call (PartitionInfoGet uuid flags) = true
+is_lawful_call IdGet = true
+is_lawful_call SpmIdGet = true
+is_lawful_call MsgWait = true
+is_lawful_call Yield = true
+is_lawful_call (Run target) = true
+is_lawful_call (DirectRequest function word flags payload) = true
+is_lawful_call (DirectResponse function word flags payload) = true
+is_lawful_call (MemDonate total fragment address pages) = false
+is_lawful_call (MemLend total fragment address pages) = false
+is_lawful_call (MemShare total fragment address pages) = false
+is_lawful_call (MemRetrieve total fragment address pages) = false
+is_lawful_call MemRelinquish = false
+is_lawful_call (MemReclaim low high flags) = false
+is_lawful_call (BitmapCreate endpoint contexts) = true
+is_lawful_call (BitmapDestroy endpoint) = true
+is_lawful_call (NotificationBind word flags low high) = true
+is_lawful_call (NotificationUnbind word flags low high) = true
+is_lawful_call (NotificationSet word flags low high) = true
+is_lawful_call (NotificationGet word flags) = true
+is_lawful_call MsgSend2 = true
+is_lawful_call Unknown = true
+
+abbrev pub is_lawful : Op → Bool
+is_lawful (Call x) = is_lawful_call (decode x)
+is_lawful (Load addr size) = true
+is_lawful (Store addr size value) = true
+is_lawful (Fetch addr) = true
+
+abbrev pub are_lawful : List Op → Bool
+are_lawful ops = list_all is_lawful ops
+
+-- ISOLATION
+
+-- One operation: what another endpoint learns is in its events, and the runner's outcome and its view afterwards depend
+-- on its view before alone.
+pub record OneStep (s : State) (op : Op) : Type 0 where
+  pub others : (e : ℕ) → is_known s e ≡ true → s.runner ≢ e → view e (step s op).state ≡ apply_all e (view e s) (events e s op)
+  pub outcome : (t : State) → IsSteady t → view s.runner t ≡ view s.runner s → (step t op).outcome ≡ (step s op).outcome
+  pub own : (t : State) → IsSteady t → view s.runner t ≡ view s.runner s → view s.runner (step t op).state ≡ view s.runner (step s op).state
+
+-- who runs after an outcome
+abbrev pub runner_after : ℕ → Outcome → ℕ
+runner_after r (Regs runner x) = runner.0
+runner_after r (Data value) = r
+runner_after r Done = r
+runner_after r (Fault fault) = r
+
+-- of the outcomes of a run that r begins, those of e's operations and those that make e run
+abbrev pub shown_to : ℕ → ℕ → List Outcome → List Outcome
+shown_to e r [] = []
+shown_to e r (outcome ∷ rest) =
+    (if r == e then outcome ∷ [] else if runner_after r outcome == e then outcome ∷ [] else []) ++ shown_to e (runner_after r outcome) rest
+
+-- what e sees of a run is in the outcomes that the run fills in
+abbrev pub Shown : State → List Op → Type 0
+Shown s ops = (e : ℕ) → shown_to e s.runner (outcomes s ops) ≡ seen e s ops
+
+-- what e sees of a run depends on its view at the start, its own operations and the events towards it alone
+abbrev pub Isolated : State → List Op → Type 0
+Isolated s ops =
+    (e : ℕ) (t : State) (others : List Op) → is_known s e ≡ true → are_lawful others ≡ true → IsSteady t → view e t ≡ view e s → items e t others ≡ items e s ops
+    → seen e t others ≡ seen e s ops
+
+-- RIGHTS THAT NEVER GROW
+
+abbrev pub is_joint_at : Option Transaction → Bool
+is_joint_at t = option_map_or is_joint t false
+
+-- from one state to a later one
+pub record NeverGrow (s t : State) : Type 0 where
+  pub base : (p : ℕ) → is_within (page_base (page_at t p)) (page_base (page_at s p)) ≡ true
+  pub within : (e p : ℕ) → is_within (access t e p) (page_base (page_at t p)) ≡ true
+  pub manager : (p : ℕ) → page_at s p ≡ None → page_at t p ≡ None
+  pub alone : (e f p : ℕ) → e ≢ f → is_some (access t e p) ≡ true → is_some (access t f p) ≡ true → is_joint_at (transaction_at t p) ≡ true
+
+-- INTEGRITY
+
+-- whether a call is an indirect message
+abbrev pub is_send2 : calls.Call → Bool
+is_send2 (Version version) = false
+is_send2 (Features function) = false
+is_send2 RxRelease = false
+is_send2 (RxtxMap tx rx pages) = false
+is_send2 (RxtxUnmap endpoint) = false
+is_send2 (PartitionInfoGet uuid flags) = false
+is_send2 IdGet = false
+is_send2 MsgWait = false
+is_send2 Yield = false
+is_send2 (Run target) = false
+is_send2 (DirectRequest function word flags payload) = false
+is_send2 (DirectResponse function word flags payload) = false
+is_send2 (MemDonate total fragment address pages) = false
+is_send2 (MemLend total fragment address pages) = false
+is_send2 (MemShare total fragment address pages) = false
+is_send2 (MemRetrieve total fragment address pages) = false
+is_send2 MemRelinquish = false
+is_send2 (MemReclaim low high flags) = false
+is_send2 (BitmapCreate endpoint contexts) = false
+is_send2 (BitmapDestroy endpoint) = false
+is_send2 (NotificationBind word flags low high) = false
+is_send2 (NotificationUnbind word flags low high) = false
+is_send2 (NotificationSet word flags low high) = false
+is_send2 (NotificationGet receiver flags) = false
+is_send2 SpmIdGet = false
+is_send2 MsgSend2 = true
+is_send2 Unknown = false
+
+abbrev pub is_message : Op → Bool
+is_message (Call x) = is_send2 (decode x)
+is_message (Load addr size) = false
+is_message (Store addr size value) = false
+is_message (Fetch addr) = false
+
+-- whether the runner's TX has a message to e, and e's RX is this page
+abbrev pub is_bound_for : State → ℕ → ℕ → Bool
+is_bound_for s e p = (header_in (tx_bytes s s.runner)).receiver == e && option_map_or (λ (b : Buffers). b.rx == p) (buffers_of s e) false
+
+-- another's operation leaves the bytes of a page that its owner has alone, but for a message into its RX
+abbrev pub Integrity : State → Op → Type 0
+Integrity s op =
+    (e p : ℕ) → owner_of s p ≡ e → handle_at s p ≡ None → s.runner ≢ e → (is_message op && is_bound_for s e p) ≡ false
+    → page_bytes (step s op).state p ≡ page_bytes s p

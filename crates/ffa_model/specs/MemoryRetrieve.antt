@@ -1,0 +1,123 @@
+-- FFA_MEM_RETRIEVE_REQ (DEN0077A, 5 and 16).
+use Rattle.std.specs.Prelude.{ℕ, ◌==◌, Bool, true, false, not, nat_le, is_some, is_none, List, [], ◌∷◌, take, Option, Some, None, unwrap_or, if◌then◌else◌}
+use Rattle.std.specs.Option.{option_map, option_map_or}
+use Rattle.std.specs.FinMap as map
+use Rattle.ffa_model.specs.declared.operation.ErrorCode.{ErrorCode}
+use Rattle.ffa_model.specs.declared.operation.ErrorCode.TheVariants.{InvalidParameters, Busy, Denied}
+use Rattle.ffa_model.specs.declared.call.Reply.TheVariants.{Retrieved}
+use Rattle.ffa_model.specs.declared.descriptor.RetrieveDesc.{RetrieveDesc}
+use Rattle.ffa_model.specs.declared.rights.Rights.{Rights}
+use Rattle.ffa_model.specs.declared.rights.Kind.{Kind}
+use Rattle.ffa_model.specs.declared.rights.Kind.TheVariants.{Share, Lend, Donate}
+use Rattle.ffa_model.specs.declared.transaction.Range.{Range}
+use Rattle.ffa_model.specs.Rights.{is_at_most, is_donate, is_same_kind}
+use Rattle.ffa_model.specs.State.{State, Page, Transaction, transaction_of}
+use Rattle.ffa_model.specs.Access.{is_receiver, held_by}
+use Rattle.ffa_model.specs.Memory.{changed_pages}
+use Rattle.ffa_model.specs.Buffers.{buffers_in, filled, is_full}
+use Rattle.ffa_model.specs.Messages.{tx_bytes}
+use Rattle.ffa_model.specs.RetrieveDescriptor.{retrieve_of}
+use Rattle.ffa_model.specs.ResponseBytes.{ResponseRecord, response_bytes, response_size}
+use Rattle.ffa_model.specs.Transactions.{Bases, Offers, Scene, Transfer, bases_of, ceiling, closed, holding, with_transaction, offers_of, scene_of, with_offers}
+use Rattle.ffa_model.specs.Calls.{Service}
+
+-- the right that is asked: data that aren't specified are the most, and instructions that aren't are not executed
+abbrev pub asked_right : Rights → RetrieveDesc → Rights
+asked_right most d = record { level = unwrap_or d.level most.level; exec = d.exec }
+
+-- the right that e gets
+abbrev pub right_for : Bases → Transaction → ℕ → RetrieveDesc → Rights
+right_for ram t e d = asked_right (ceiling ram t e) d
+
+-- a kind that isn't specified is any
+abbrev pub is_kind_right : Kind → Option Kind → Bool
+is_kind_right kind None = true
+is_kind_right kind (Some k) = is_same_kind kind k
+
+-- the checks of the transaction that is asked for, in order, for an e whose RX is full or not
+abbrev pub holding_guards : Bases → Bool → ℕ → RetrieveDesc → Option Transaction → List (Bool × ErrorCode)
+holding_guards ram full e d None = (false, InvalidParameters) ∷ []
+holding_guards ram full e d (Some t) =
+    (is_receiver e t, InvalidParameters)
+    ∷ (d.sender.0 == t.sender, InvalidParameters)
+    ∷ (d.tag == t.tag, InvalidParameters)
+    ∷ (is_kind_right t.kind d.kind, InvalidParameters)
+    ∷ (is_none (held_by t e), Denied)
+    ∷ (is_at_most (right_for ram t e d) (ceiling ram t e), Denied)
+    ∷ (not full, Busy)
+    ∷ []
+
+abbrev pub request_guards : Scene → ℕ → Option RetrieveDesc → List (Bool × ErrorCode)
+request_guards c e None = (false, InvalidParameters) ∷ []
+request_guards c e (Some d) =
+    holding_guards c.bases (is_full (buffers_in c.buffers e)) e d (map.get c.offers.transactions d.handle)
+
+-- the checks of a retrieve by e in order, where the descriptor says this, if it is one
+abbrev pub retrieve_guards : Scene → ℕ → Transfer → Option RetrieveDesc → List (Bool × ErrorCode)
+retrieve_guards c e x d =
+    (is_some (buffers_in c.buffers e), InvalidParameters)
+    ∷ (x.total == x.fragment, InvalidParameters)
+    ∷ (nat_le x.total 4096, InvalidParameters)
+    ∷ (x.address == 0, InvalidParameters)
+    ∷ (x.pages == 0, InvalidParameters)
+    ∷ request_guards c e d
+
+-- what is open after e has retrieved the transaction of a handle: e holds the right, and of a donate nothing is open
+abbrev pub taken_in : Kind → Offers → ℕ → Transaction → ℕ → Rights → Offers
+taken_in Donate o h t e right = closed o h
+taken_in Lend o h t e right = with_transaction o h (holding t e right)
+taken_in Share o h t e right = with_transaction o h (holding t e right)
+
+-- what e is told of what it now holds
+abbrev pub response_to : ℕ → Transaction → ℕ → Rights → ResponseRecord
+response_to h t e right =
+    record {
+      sender = t.sender;
+      kind = t.kind;
+      zero = t.zero;
+      handle = h;
+      tag = t.tag;
+      endpoint = e;
+      rights = right;
+      ranges = t.ranges;
+    }
+
+-- the same of a state: the pages of a donate are e's own, with this right
+abbrev pub given_page : ℕ → Rights → Option Page → Option Page
+given_page e right page = option_map (λ (q : Page). record q { owner = e; base = right }) page
+
+abbrev pub given_if : Bool → State → List Range → ℕ → Rights → State
+given_if donated s ranges e right =
+    record s { pages = if donated then changed_pages s ranges (given_page e right) else s.pages }
+
+abbrev pub taken : State → ℕ → Transaction → ℕ → Rights → State
+taken s h t e right = with_offers (given_if (is_donate t.kind) s t.ranges e right) (taken_in t.kind (offers_of s) h t e right)
+
+-- and RX holds the response
+abbrev pub retrieved_right : State → ℕ → Transaction → ℕ → Rights → State
+retrieved_right s h t e right = filled (taken s h t e right) e (response_bytes (response_to h t e right))
+
+abbrev pub retrieved_from : State → RetrieveDesc → Option Transaction → State
+retrieved_from s d None = s
+retrieved_from s d (Some t) = retrieved_right s d.handle t s.runner (right_for (bases_of s) t s.runner d)
+
+abbrev pub retrieved : State → Option RetrieveDesc → State
+retrieved s None = s
+retrieved s (Some d) = retrieved_from s d (transaction_of s d.handle)
+
+-- the length of the response
+abbrev pub response_length : State → Option RetrieveDesc → ℕ
+response_length s None = 0
+response_length s (Some d) = option_map_or (λ (t : Transaction). response_size t.ranges) (transaction_of s d.handle) 0
+
+-- what stands in the first bytes of the runner's TX
+abbrev pub retrieve_read : State → ℕ → Option RetrieveDesc
+retrieve_read s total = retrieve_of s.runner (take total (tx_bytes s s.runner))
+
+abbrev pub memory_retrieve : State → Transfer → Service
+memory_retrieve s x =
+    record {
+      guards = retrieve_guards (scene_of s) s.runner x (retrieve_read s x.total);
+      state = retrieved s (retrieve_read s x.total);
+      reply = Retrieved (response_length s (retrieve_read s x.total));
+    }

@@ -1,0 +1,96 @@
+-- FFA_MEM_RELINQUISH, by which a receiver gives up what it holds, and FFA_MEM_RECLAIM, by which the sender ends the
+-- transaction (DEN0077A, 5 and 16).
+use Rattle.std.specs.Prelude.{ℕ, ◌==◌, Bool, false, not, ◌&&◌, ◌||◌, nat_le, is_some, is_none, List, [], ◌∷◌, Option, Some, None}
+use Rattle.std.specs.List.{list_all}
+use Rattle.std.specs.FinMap as map
+use Rattle.ffa_model.specs.declared.operation.ErrorCode.{ErrorCode}
+use Rattle.ffa_model.specs.declared.operation.ErrorCode.TheVariants.{InvalidParameters, Denied}
+use Rattle.ffa_model.specs.declared.descriptor.RelinquishDesc.{RelinquishDesc}
+use Rattle.ffa_model.specs.declared.transaction.Range.{Range}
+use Rattle.ffa_model.specs.declared.transaction.Receiver.{Receiver}
+use Rattle.ffa_model.specs.Bits.{is_set}
+use Rattle.ffa_model.specs.Rights.{is_lend, may_store}
+use Rattle.ffa_model.specs.State.{State, Transaction, Buffers, transaction_of, buffers_of}
+use Rattle.ffa_model.specs.Access.{is_from, is_offered, is_held_by, held_by}
+use Rattle.ffa_model.specs.Memory.{zeroed_if}
+use Rattle.ffa_model.specs.Messages.{tx_bytes}
+use Rattle.ffa_model.specs.RelinquishDescriptor.{relinquish_of}
+use Rattle.ffa_model.specs.Transactions.{Bases, Offers, bases_of, handle_of, are_writable, closed, not_holding, with_transaction, offers_of, with_offers}
+use Rattle.ffa_model.specs.Calls.{Service, success}
+
+-- FFA_MEM_RELINQUISH
+
+-- whether e may zero the pages: it holds a lend, and may write to them
+abbrev pub is_zeroable : ℕ → Option Transaction → Bool
+is_zeroable e None = false
+is_zeroable e (Some t) = is_lend t.kind && may_store (held_by t e)
+
+-- the checks of the transaction that e gives up, in order
+abbrev pub release_guards : ℕ → RelinquishDesc → Option Transaction → List (Bool × ErrorCode)
+release_guards e d t =
+    (d.endpoint.0 == e, InvalidParameters)
+    ∷ (is_offered e t, InvalidParameters)
+    ∷ (is_held_by e t, Denied)
+    ∷ (not d.zero || is_zeroable e t, Denied)
+    ∷ []
+
+abbrev pub returned_guards : Offers → ℕ → Option RelinquishDesc → List (Bool × ErrorCode)
+returned_guards offers e None = (false, InvalidParameters) ∷ []
+returned_guards offers e (Some d) = release_guards e d (map.get offers.transactions d.handle)
+
+-- the checks of an e with these buffers in order, where the descriptor says this, if it is one
+abbrev pub relinquish_guards : Option Buffers → Offers → ℕ → Option RelinquishDesc → List (Bool × ErrorCode)
+relinquish_guards own offers e d = (is_some own, InvalidParameters) ∷ returned_guards offers e d
+
+abbrev pub relinquished_from : State → RelinquishDesc → Option Transaction → State
+relinquished_from s d None = s
+relinquished_from s d (Some t) =
+    zeroed_if d.zero (with_offers s (with_transaction (offers_of s) d.handle (not_holding t s.runner))) t.ranges
+
+abbrev pub relinquished : State → Option RelinquishDesc → State
+relinquished s None = s
+relinquished s (Some d) = relinquished_from s d (transaction_of s d.handle)
+
+-- what stands in the runner's TX
+abbrev pub relinquish_read : State → Option RelinquishDesc
+relinquish_read s = relinquish_of (tx_bytes s s.runner)
+
+abbrev pub memory_relinquish : State → Service
+memory_relinquish s =
+    record {
+      guards = relinquish_guards (buffers_of s s.runner) (offers_of s) s.runner (relinquish_read s);
+      state = relinquished s (relinquish_read s);
+      reply = success 0 0;
+    }
+
+-- FFA_MEM_RECLAIM
+
+-- whether no receiver holds the transaction
+abbrev pub is_unheld : Option Transaction → Bool
+is_unheld None = false
+is_unheld (Some t) = list_all (λ (r : Receiver). is_none (held_by t r.endpoint.0)) t.receivers
+
+abbrev pub ranges_of : Option Transaction → List Range
+ranges_of None = []
+ranges_of (Some t) = t.ranges
+
+-- the checks of a reclaim by e in order, of the transaction of the handle, if it is open
+abbrev pub reclaim_guards : Bases → ℕ → ℕ → Option Transaction → List (Bool × ErrorCode)
+reclaim_guards ram e flags t =
+    (nat_le flags 1, InvalidParameters)
+    ∷ (is_from e t, InvalidParameters)
+    ∷ (is_unheld t, Denied)
+    ∷ (not (is_set 0 flags) || are_writable ram (ranges_of t), Denied)
+    ∷ []
+
+abbrev pub reclaimed : State → ℕ → Bool → State
+reclaimed s h zero = zeroed_if zero (with_offers s (closed (offers_of s) h)) (ranges_of (transaction_of s h))
+
+-- the handle's low half stands in w1, and its high half in w2
+abbrev pub memory_reclaim : State → ℕ → ℕ → ℕ → Service
+memory_reclaim s low high flags =
+    record {
+      guards = reclaim_guards (bases_of s) s.runner flags (transaction_of s (handle_of high low));
+      state = reclaimed s (handle_of high low) (is_set 0 flags);
+      reply = success 0 0;
+    }

@@ -1,0 +1,112 @@
+-- FFA_MEM_DONATE, FFA_MEM_LEND and FFA_MEM_SHARE (DEN0077A, 5 and 16).
+use Rattle.std.specs.Prelude.{ℕ, ◌+◌, ◌*◌, ◌==◌, Bool, true, false, not, ◌&&◌, ◌||◌, nat_lt, nat_le, is_some, List, [], ◌∷◌, take, Option, Some, None}
+use Rattle.std.specs.List.{list_any, list_all}
+use Rattle.std.specs.Option.{option_map_or}
+use Rattle.std.specs.FinMap as map
+use Rattle.ffa_model.specs.declared.operation.ErrorCode.{ErrorCode}
+use Rattle.ffa_model.specs.declared.operation.ErrorCode.TheVariants.{InvalidParameters, NoMemory, Denied}
+use Rattle.ffa_model.specs.declared.call.Reply.{Reply}
+use Rattle.ffa_model.specs.declared.rights.Data.{Data}
+use Rattle.ffa_model.specs.declared.rights.Kind.{Kind}
+use Rattle.ffa_model.specs.declared.rights.Rights.{Rights}
+use Rattle.ffa_model.specs.declared.transaction.Range.{Range}
+use Rattle.ffa_model.specs.declared.transaction.Receiver.{Receiver}
+use Rattle.ffa_model.specs.Bits.{bits}
+use Rattle.ffa_model.specs.Rights.{is_data_at_most}
+use Rattle.ffa_model.specs.State.{State, Transaction, Buffers, is_known_among}
+use Rattle.ffa_model.specs.Memory.{zeroed_if}
+use Rattle.ffa_model.specs.Buffers.{Candidate, Candidates, buffers_in}
+use Rattle.ffa_model.specs.Messages.{tx_bytes}
+use Rattle.ffa_model.specs.SendDescriptor.{SendRecord, send_of, range_end}
+use Rattle.ffa_model.specs.Transactions.{Bases, Offers, Scene, Transfer, sent_in, next_handle, open_count, opened, pages_in, are_writable, offers_of, scene_of, with_offers}
+use Rattle.ffa_model.specs.Calls.{Service, success}
+
+abbrev pub are_known : ℕ → List Receiver → Bool
+are_known endpoints receivers = list_all (λ (r : Receiver). is_known_among endpoints r.endpoint.0) receivers
+
+-- a range that lies in RAM
+abbrev pub is_inside : Bases → Range → Bool
+is_inside ram r = nat_le ram.base r.address && nat_le (range_end r) (ram.base + 4096 * ram.count)
+
+-- a page that e owns, and that no open transaction names
+abbrev pub is_own : ℕ → Option Candidate → Bool
+is_own e None = false
+is_own e (Some page) = page.owner == e && not page.named
+
+-- whether someone has a buffer in a page
+abbrev pub is_buffer : List (Option Buffers) → ℕ → Bool
+is_buffer buffers p = list_any (λ b. option_map_or (λ (x : Buffers). x.tx == p || x.rx == p) b false) buffers
+
+abbrev pub is_sendable : ℕ → Candidates → List (Option Buffers) → ℕ → Bool
+is_sendable e ram buffers p = is_own e (ram.page p) && not (is_buffer buffers p)
+
+-- a page whose own data right is at least the grant
+abbrev pub is_grantable : Option Data → Option Rights → Bool
+is_grantable None right = true
+is_grantable (Some level) None = false
+is_grantable (Some level) (Some right) = is_data_at_most level right.level
+
+abbrev pub are_grants_within : Bases → List Receiver → ℕ → Bool
+are_grants_within ram receivers p = list_all (λ (r : Receiver). is_grantable r.grant (ram.right p)) receivers
+
+-- the checks of what a send descriptor says, in order
+abbrev pub offer_guards : Scene → ℕ → Option SendRecord → List (Bool × ErrorCode)
+offer_guards c e None = (false, InvalidParameters) ∷ []
+offer_guards c e (Some r) =
+    (r.sender == e, InvalidParameters)
+    ∷ (are_known c.endpoints r.receivers, InvalidParameters)
+    ∷ (list_all (is_inside c.bases) r.ranges, Denied)
+    ∷ (list_all (is_sendable e c.ram c.buffers) (pages_in c.bases r.ranges), Denied)
+    ∷ (list_all (are_grants_within c.bases r.receivers) (pages_in c.bases r.ranges), Denied)
+    ∷ (not r.zero || are_writable c.bases r.ranges, Denied)
+    ∷ (nat_lt (open_count c.offers e) 8, NoMemory)
+    ∷ (nat_lt (sent_in c.offers e) 65535, NoMemory)
+    ∷ []
+
+-- the checks of a send by e in order, where the descriptor says this, if it is one
+abbrev pub send_guards : Scene → ℕ → Transfer → Option SendRecord → List (Bool × ErrorCode)
+send_guards c e x r =
+    (is_some (buffers_in c.buffers e), InvalidParameters)
+    ∷ (x.total == x.fragment, InvalidParameters)
+    ∷ (nat_le x.total 4096, InvalidParameters)
+    ∷ (x.address == 0, InvalidParameters)
+    ∷ (x.pages == 0, InvalidParameters)
+    ∷ offer_guards c e r
+
+-- the transaction that a send opens: nobody holds it
+abbrev pub transaction_from : Kind → SendRecord → Transaction
+transaction_from kind r =
+    record {
+      kind = kind;
+      sender = r.sender;
+      tag = r.tag;
+      zero = r.zero;
+      ranges = r.ranges;
+      receivers = r.receivers;
+      held = map.empty;
+    }
+
+-- what is open after a send by e
+abbrev pub offered_in : Offers → ℕ → Kind → SendRecord → Offers
+offered_in o e kind r = opened o (next_handle o e) (transaction_from kind r)
+
+-- the handle's low half in w2, and its high half in w3
+abbrev pub handle_reply : ℕ → Reply
+handle_reply h = success (bits 31 0 h) (bits 63 32 h)
+
+-- the same of a state: what stands in the first bytes of the runner's TX, and what comes of it
+abbrev pub send_read : State → Kind → ℕ → Option SendRecord
+send_read s kind total = send_of kind (take total (tx_bytes s s.runner))
+
+abbrev pub offered : State → Kind → Option SendRecord → State
+offered s kind None = s
+offered s kind (Some r) =
+    zeroed_if r.zero (with_offers s (offered_in (offers_of s) s.runner kind r)) r.ranges
+
+abbrev pub memory_send : State → Kind → Transfer → Service
+memory_send s kind x =
+    record {
+      guards = send_guards (scene_of s) s.runner x (send_read s kind x.total);
+      state = offered s kind (send_read s kind x.total);
+      reply = handle_reply (next_handle (offers_of s) s.runner);
+    }

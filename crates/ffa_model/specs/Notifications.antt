@@ -1,0 +1,259 @@
+-- Notifications (DEN0077A, 10): who has bitmaps, which bits are bound to whom, and which are pending.
+use Rattle.std.specs.Prelude.{ℕ, ◌==◌, Bool, true, false, not, ◌&&◌, ◌||◌, nat_le, List, [], ◌∷◌, length, map, slice_index, slice_index_or, slice_set, if◌then◌else◌}
+use Rattle.std.specs.Ordering.{nat_cmp}
+use Rattle.std.specs.Cmp.Lexicographic.{slice_cmp}
+use Rattle.std.specs.List.{list_any, list_all}
+use Rattle.std.specs.FinSet as finite_set
+use Rattle.ffa_model.specs.declared.operation.ErrorCode.{ErrorCode}
+use Rattle.ffa_model.specs.declared.operation.ErrorCode.TheVariants.{InvalidParameters, Denied}
+use Rattle.ffa_model.specs.declared.call.Reply.{Reply}
+use Rattle.ffa_model.specs.declared.call.Reply.TheVariants.{Success}
+use Rattle.ffa_model.specs.Bits.{bits, bits_of, high_half, is_set, joined, low_half, word_where}
+use Rattle.ffa_model.specs.Identifiers.{identifier, place}
+use Rattle.ffa_model.specs.Lists.{listed}
+use Rattle.ffa_model.specs.State.{State, is_known_among}
+use Rattle.ffa_model.specs.Calls.{Service, success}
+
+-- the notifications of all endpoints
+pub record Notifications : Type 0 where
+  pub bitmaps : List Bool  -- by endpoint, whether it has bitmaps
+  pub bound : finite_set.FinSet (slice_cmp nat_cmp)
+  pub pending : finite_set.FinSet (slice_cmp nat_cmp)
+
+-- The classes of a receiver's bits, by who sets them: a partition, the normal world, or the manager. The flags of
+-- FFA_NOTIFICATION_GET ask for class k by bit k
+abbrev pub partition_class : ℕ
+partition_class = 0
+
+abbrev pub normal_class : ℕ
+normal_class = 1
+
+abbrev pub manager_class : ℕ
+manager_class = 2
+
+abbrev pub class_of : ℕ → ℕ
+class_of sender = if sender == 0 then normal_class else partition_class
+
+-- An entry of `bound` lists the receiver, the class, the bit from 0 to 63, and the sender; one of `pending` lists the
+-- first three of these
+abbrev pub binding : ℕ → ℕ → ℕ → ℕ → List ℕ
+binding receiver class bit sender = receiver ∷ class ∷ bit ∷ sender ∷ []
+
+abbrev pub receiver_bit : ℕ → ℕ → ℕ → List ℕ
+receiver_bit receiver class bit = receiver ∷ class ∷ bit ∷ []
+
+abbrev pub receiver_in : List ℕ → ℕ
+receiver_in entry = slice_index entry 0
+
+abbrev pub class_in : List ℕ → ℕ
+class_in entry = slice_index entry 1
+
+abbrev pub sender_in : List ℕ → ℕ
+sender_in entry = slice_index entry 3
+
+abbrev pub has_bitmaps_in : Notifications → ℕ → Bool
+has_bitmaps_in n e = slice_index_or n.bitmaps (place e) false
+
+abbrev pub is_bound : Notifications → ℕ → ℕ → ℕ → ℕ → Bool
+is_bound n receiver class bit sender = finite_set.contains n.bound (binding receiver class bit sender)
+
+abbrev pub is_pending : Notifications → ℕ → ℕ → ℕ → Bool
+is_pending n receiver class bit = finite_set.contains n.pending (receiver_bit receiver class bit)
+
+-- whether another of these endpoints has the bit
+abbrev pub is_bound_to_another : ℕ → Notifications → ℕ → ℕ → ℕ → ℕ → Bool
+is_bound_to_another endpoints n receiver class bit sender =
+    list_any (λ f. not (f == sender) && is_bound n receiver class bit f) (listed endpoints identifier)
+
+-- the bitmap of a receiver's pending bits of a class
+abbrev pub pending_word : Notifications → ℕ → ℕ → ℕ
+pending_word n receiver class = word_where 64 (is_pending n receiver class)
+
+-- whether any bit of a receiver is pending
+abbrev pub has_pending : Notifications → ℕ → Bool
+has_pending n receiver =
+    list_any (λ class. list_any (is_pending n receiver class) (listed 64 (λ k. k))) (partition_class ∷ normal_class ∷ manager_class ∷ [])
+
+-- CHANGES
+-- the sender has these bits of the receiver, or has them no more
+abbrev pub bindings : ℕ → ℕ → List ℕ → finite_set.FinSet (slice_cmp nat_cmp)
+bindings receiver sender ks = finite_set.from_list (map (λ k. binding receiver (class_of sender) k sender) ks)
+
+abbrev pub with_bound : Notifications → ℕ → ℕ → List ℕ → Notifications
+with_bound n receiver sender ks = record n { bound = finite_set.union n.bound (bindings receiver sender ks) }
+
+abbrev pub without_bound : Notifications → ℕ → ℕ → List ℕ → Notifications
+without_bound n receiver sender ks = record n { bound = finite_set.difference n.bound (bindings receiver sender ks) }
+
+-- these bits of a receiver's class are pending, where it has bitmaps
+abbrev pub with_pending : Notifications → ℕ → ℕ → List ℕ → Notifications
+with_pending n receiver class ks =
+    record n {
+      pending =
+          if has_bitmaps_in n receiver
+          then finite_set.union n.pending (finite_set.from_list (map (receiver_bit receiver class) ks))
+          else n.pending;
+    }
+
+-- the classes of a receiver that the flags ask for have no pending bit
+abbrev pub without_pending : Notifications → ℕ → ℕ → Notifications
+without_pending n receiver flags =
+    record n { pending = finite_set.retain n.pending (λ x. not (receiver_in x == receiver && is_set (class_in x) flags)) }
+
+abbrev pub with_bitmaps : Notifications → ℕ → Notifications
+with_bitmaps n e = record n { bitmaps = slice_set n.bitmaps (place e) true }
+
+-- the bindings of a receiver's bits go with its bitmaps
+abbrev pub without_bitmaps : Notifications → ℕ → Notifications
+without_bitmaps n e =
+    record n { bitmaps = slice_set n.bitmaps (place e) false; bound = finite_set.retain n.bound (λ x. not (receiver_in x == e)) }
+
+-- by bit 0 of its class the manager tells a receiver that RX has become full
+abbrev pub rx_full_bits : List ℕ
+rx_full_bits = 0 ∷ []
+
+abbrev pub with_framework_bit : Notifications → ℕ → Notifications
+with_framework_bit n receiver = with_pending n receiver manager_class rx_full_bits
+
+-- the checks of each call in order, by a caller among this many endpoints
+
+-- FFA_NOTIFICATION_BITMAP_CREATE, with w1 and w2
+abbrev pub create_guards : Notifications → ℕ → ℕ → ℕ → List (Bool × ErrorCode)
+create_guards n caller endpoint contexts =
+    (caller == 0, Denied)
+    ∷ (endpoint == 0, InvalidParameters)
+    ∷ (contexts == 1, InvalidParameters)
+    ∷ (not (has_bitmaps_in n 0), Denied)
+    ∷ []
+
+-- FFA_NOTIFICATION_BITMAP_DESTROY, with w1
+abbrev pub destroy_guards : Notifications → ℕ → ℕ → List (Bool × ErrorCode)
+destroy_guards n caller endpoint =
+    (caller == 0, Denied)
+    ∷ (endpoint == 0, InvalidParameters)
+    ∷ (has_bitmaps_in n 0, Denied)
+    ∷ (not (has_pending n 0), Denied)
+    ∷ []
+
+-- FFA_NOTIFICATION_BIND, with w1, w2 and the bitmap: the sender stands in the high half of w1, the receiver in the low
+abbrev pub is_bindable : ℕ → Notifications → ℕ → ℕ → ℕ → Bool
+is_bindable endpoints n receiver sender bit =
+    not (is_bound_to_another endpoints n receiver (class_of sender) bit sender) && not (is_pending n receiver (class_of sender) bit)
+
+abbrev pub bind_guards : ℕ → Notifications → ℕ → ℕ → ℕ → ℕ → List (Bool × ErrorCode)
+bind_guards endpoints n caller word flags bitmap =
+    (low_half word == caller, InvalidParameters)
+    ∷ (is_known_among endpoints (high_half word), InvalidParameters)
+    ∷ (not (high_half word == caller), InvalidParameters)
+    ∷ (flags == 0, InvalidParameters)
+    ∷ (not (bitmap == 0), InvalidParameters)
+    ∷ (has_bitmaps_in n caller, Denied)
+    ∷ (list_all (is_bindable endpoints n caller (high_half word)) (bits_of bitmap), Denied)
+    ∷ []
+
+-- FFA_NOTIFICATION_UNBIND, with the same
+abbrev pub is_unbindable : Notifications → ℕ → ℕ → ℕ → Bool
+is_unbindable n receiver sender bit =
+    is_bound n receiver (class_of sender) bit sender && not (is_pending n receiver (class_of sender) bit)
+
+abbrev pub unbind_guards : ℕ → Notifications → ℕ → ℕ → ℕ → ℕ → List (Bool × ErrorCode)
+unbind_guards endpoints n caller word flags bitmap =
+    (low_half word == caller, InvalidParameters)
+    ∷ (is_known_among endpoints (high_half word), InvalidParameters)
+    ∷ (not (high_half word == caller), InvalidParameters)
+    ∷ (flags == 0, InvalidParameters)
+    ∷ (not (bitmap == 0), InvalidParameters)
+    ∷ (has_bitmaps_in n caller, Denied)
+    ∷ (list_all (is_unbindable n caller (high_half word)) (bits_of bitmap), Denied)
+    ∷ []
+
+-- FFA_NOTIFICATION_SET, with the same: the flag that delays the schedule receiver interrupt has no effect
+abbrev pub set_guards : ℕ → Notifications → ℕ → ℕ → ℕ → ℕ → List (Bool × ErrorCode)
+set_guards endpoints n caller word flags bitmap =
+    (high_half word == caller, InvalidParameters)
+    ∷ (is_known_among endpoints (low_half word), InvalidParameters)
+    ∷ (not (low_half word == caller), InvalidParameters)
+    ∷ (flags == 0 || flags == 2, InvalidParameters)
+    ∷ (not (bitmap == 0), InvalidParameters)
+    ∷ (list_all (λ k. is_bound n (low_half word) (class_of caller) k caller) (bits_of bitmap), Denied)
+    ∷ []
+
+-- FFA_NOTIFICATION_GET, with w1 and w2: the receiver stands in the low half of w1, its context in the high
+abbrev pub get_guards : Notifications → ℕ → ℕ → ℕ → List (Bool × ErrorCode)
+get_guards n caller word flags =
+    (low_half word == caller, InvalidParameters)
+    ∷ (high_half word == 0, InvalidParameters)
+    ∷ (nat_le flags 15, InvalidParameters)
+    ∷ (has_bitmaps_in n caller, Denied)
+    ∷ []
+
+-- the pending bits of a class, where the flags ask for it
+abbrev pub asked_word : Notifications → ℕ → ℕ → ℕ → ℕ
+asked_word n receiver flags class = if is_set class flags then pending_word n receiver class else 0
+
+-- a word's low half stands before its high half; of the manager's bits there are 32, and no hypervisor has any
+abbrev pub get_reply : Notifications → ℕ → ℕ → Reply
+get_reply n receiver flags =
+    Success (bits 31 0 (asked_word n receiver flags partition_class)
+    ∷ bits 63 32 (asked_word n receiver flags partition_class)
+    ∷ bits 31 0 (asked_word n receiver flags normal_class)
+    ∷ bits 63 32 (asked_word n receiver flags normal_class)
+    ∷ bits 31 0 (asked_word n receiver flags manager_class)
+    ∷ 0
+    ∷ [])
+
+-- the same of a state
+abbrev pub notifications_of : State → Notifications
+notifications_of s = record { bitmaps = s.bitmaps; bound = s.bound; pending = s.pending }
+
+abbrev pub with_notifications : State → Notifications → State
+with_notifications s n = record s { bitmaps = n.bitmaps; bound = n.bound; pending = n.pending }
+
+abbrev pub bitmap_create : State → ℕ → ℕ → Service
+bitmap_create s endpoint contexts =
+    record {
+      guards = create_guards (notifications_of s) s.runner endpoint contexts;
+      state = with_notifications s (with_bitmaps (notifications_of s) 0);
+      reply = success 0 0;
+    }
+
+abbrev pub bitmap_destroy : State → ℕ → Service
+bitmap_destroy s endpoint =
+    record {
+      guards = destroy_guards (notifications_of s) s.runner endpoint;
+      state = with_notifications s (without_bitmaps (notifications_of s) 0);
+      reply = success 0 0;
+    }
+
+abbrev pub notification_bind : State → ℕ → ℕ → ℕ → ℕ → Service
+notification_bind s word flags low high =
+    record {
+      guards = bind_guards (length s.parties) (notifications_of s) s.runner word flags (joined low high);
+      state = with_notifications s (with_bound (notifications_of s) s.runner (high_half word) (bits_of (joined low high)));
+      reply = success 0 0;
+    }
+
+abbrev pub notification_unbind : State → ℕ → ℕ → ℕ → ℕ → Service
+notification_unbind s word flags low high =
+    record {
+      guards = unbind_guards (length s.parties) (notifications_of s) s.runner word flags (joined low high);
+      state = with_notifications s (without_bound (notifications_of s) s.runner (high_half word) (bits_of (joined low high)));
+      reply = success 0 0;
+    }
+
+abbrev pub notification_set : State → ℕ → ℕ → ℕ → ℕ → Service
+notification_set s word flags low high =
+    record {
+      guards = set_guards (length s.parties) (notifications_of s) s.runner word flags (joined low high);
+      state =
+          with_notifications s (with_pending (notifications_of s) (low_half word) (class_of s.runner) (bits_of (joined low high)));
+      reply = success 0 0;
+    }
+
+abbrev pub notification_get : State → ℕ → ℕ → Service
+notification_get s word flags =
+    record {
+      guards = get_guards (notifications_of s) s.runner word flags;
+      state = with_notifications s (without_pending (notifications_of s) s.runner flags);
+      reply = get_reply (notifications_of s) s.runner flags;
+    }

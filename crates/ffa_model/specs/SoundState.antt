@@ -1,0 +1,111 @@
+-- What holds of every state of the machine.
+use Rattle.std.specs.Prelude.{◌≡◌, ◌≢◌, ◌<◌, ◌≤◌, ℕ, ◌*◌, ◌^◌, true, nat_lt, List, length, Some, None, slice_get}
+use Rattle.std.specs.List.{list_all}
+use Rattle.std.specs.FinSet as finite_set
+use Rattle.ffa_model.specs.declared.rights.Rights.{Rights}
+use Rattle.ffa_model.specs.declared.rights.Kind.TheVariants.{Donate}
+use Rattle.ffa_model.specs.Manifest.{is_ram_base}
+use Rattle.ffa_model.specs.Rights.{is_at_most}
+use Rattle.ffa_model.specs.State.{State, Page, Party, Transaction, Buffers, buffers_of, is_known, owner_of, page_at, sent_by, transaction_of}
+use Rattle.ffa_model.specs.Access.{held_by, is_naming, is_receiver, names, pages_named}
+use Rattle.ffa_model.specs.Buffers.{candidate_at, is_usable}
+use Rattle.ffa_model.specs.SendDescriptor.{most_receivers}
+use Rattle.ffa_model.specs.RunStates.{schedule_of}
+use Rattle.ffa_model.specs.Sound.{IsSound}
+use Rattle.ffa_model.specs.Transactions.{are_writable, bases_of, ceiling, handle_of, offers_of, open_count}
+use Rattle.ffa_model.specs.MemorySend.{are_grants_within, are_known, is_inside}
+use Rattle.ffa_model.specs.Notifications.{binding, class_of, has_bitmaps_in, is_bound, manager_class, notifications_of, receiver_bit}
+
+-- numbers that are bytes
+abbrev pub are_bytes : List ℕ → Type 0
+are_bytes numbers = list_all (λ b. nat_lt b 256) numbers ≡ true
+
+abbrev pub IsKnown : State → ℕ → Type 0
+IsKnown s e = is_known s e ≡ true
+
+-- what the manifest says of an endpoint
+pub record IsSoundParty (party : Party) : Type 0 where
+  pub size : length party.uuid ≡ 16
+  pub bytes : are_bytes party.uuid
+  pub properties : party.properties < 2 ^ 32
+
+-- a page that an endpoint owns; that it has a base right, and a page of the manager has none, is in the state's form
+pub record IsSoundPage (s : State) (page : Page) : Type 0 where
+  pub owner : IsKnown s page.owner
+  pub size : length page.bytes ≡ 4096
+  pub bytes : are_bytes page.bytes
+
+-- an open transaction under its handle: its pages are its sender's own, no grant is above the right of a page, pages
+-- that were zeroed may be written, and a holder is a receiver that holds at most its ceiling. Nobody holds a donate
+pub record IsSoundTransaction (s : State) (h : ℕ) (t : Transaction) : Type 0 where
+  pub sender : IsKnown s t.sender
+  pub number : (n : ℕ) × (h ≡ handle_of t.sender n) × (1 ≤ n) × (n ≤ sent_by s t.sender)
+  pub inside : list_all (is_inside (bases_of s)) t.ranges ≡ true
+  pub owned : (p : ℕ) → p < length s.pages → names s t.ranges p ≡ true → owner_of s p ≡ t.sender
+  pub grants : list_all (are_grants_within (bases_of s) t.receivers) (pages_named s t.ranges) ≡ true
+  pub zeroed : t.zero ≡ true → are_writable (bases_of s) t.ranges ≡ true
+  pub receivers : are_known (length s.parties) t.receivers ≡ true
+  pub holder : (e : ℕ) (right : Rights) → held_by t e ≡ Some right → is_receiver e t ≡ true
+  pub within : (e : ℕ) (right : Rights) → held_by t e ≡ Some right → is_at_most right (ceiling (bases_of s) t e) ≡ true
+  pub donate : (e : ℕ) → t.kind ≡ Donate → held_by t e ≡ None
+  pub some_receivers : 1 ≤ length t.receivers
+  pub few_receivers : length t.receivers ≤ most_receivers t.kind
+  pub some_ranges : 1 ≤ length t.ranges
+  pub few_ranges : length t.ranges ≤ 16
+  pub tag : t.tag < 2 ^ 64
+
+-- two pages of the endpoint alone, in no open transaction, with base rw
+pub record IsSoundBuffers (s : State) (e : ℕ) (b : Buffers) : Type 0 where
+  pub tx : is_usable e (candidate_at s b.tx) ≡ true
+  pub rx : is_usable e (candidate_at s b.rx) ≡ true
+  pub apart : b.tx ≢ b.rx
+
+-- a bit that is bound: to nobody else, in its sender's class, and where the receiver has bitmaps
+pub record IsSoundBinding (s : State) (entry : List ℕ) : Type 0 where
+  pub receiver : ℕ
+  pub bit : ℕ
+  pub sender : ℕ
+  pub is : entry ≡ binding receiver (class_of sender) bit sender
+  pub to_known : IsKnown s receiver
+  pub from_known : IsKnown s sender
+  pub in_word : bit < 64
+  pub bitmaps : has_bitmaps_in (notifications_of s) receiver ≡ true
+  pub alone :
+      (other : ℕ) → is_bound (notifications_of s) receiver (class_of sender) bit other ≡ true → other ≡ sender
+
+-- a bit that is pending: one of a partition or of the normal world is bound
+pub record IsSoundPending (s : State) (entry : List ℕ) : Type 0 where
+  pub receiver : ℕ
+  pub class : ℕ
+  pub bit : ℕ
+  pub is : entry ≡ receiver_bit receiver class bit
+  pub to_known : IsKnown s receiver
+  pub of_class : class ≤ manager_class
+  pub in_word : bit < 64
+  pub bound : class < manager_class → (sender : ℕ) × (is_bound (notifications_of s) receiver class bit sender ≡ true)
+
+-- one to eight endpoints, 2 to 64 MiB of RAM, and a list by endpoint for each of them
+pub record IsSized (s : State) : Type 0 where
+  pub some : 1 ≤ length s.parties
+  pub few : length s.parties ≤ 8
+  pub base : is_ram_base s.ram_base ≡ true
+  pub blocks : (n : ℕ) × (length s.pages ≡ 512 * n) × (1 ≤ n) × (n ≤ 32)
+  pub sent : length s.sent ≡ length s.parties
+  pub buffers : length s.buffers ≡ length s.parties
+  pub works : length s.works ≡ length s.parties
+  pub bitmaps : length s.bitmaps ≡ length s.parties
+
+pub record IsSoundState (s : State) : Type 0 where
+  pub sized : IsSized s
+  pub parties : (i : ℕ) (party : Party) → slice_get s.parties i ≡ Some party → IsSoundParty party
+  pub pages : (p : ℕ) (page : Page) → page_at s p ≡ Some page → IsSoundPage s page
+  pub transactions : (h : ℕ) (t : Transaction) → transaction_of s h ≡ Some t → IsSoundTransaction s h t
+  pub one :
+      (p h k : ℕ) → p < length s.pages → is_naming s p (transaction_of s h) ≡ true
+      → is_naming s p (transaction_of s k) ≡ true → h ≡ k
+  pub few : (e : ℕ) → IsKnown s e → open_count (offers_of s) e ≤ 8
+  pub sent : (e : ℕ) → IsKnown s e → sent_by s e ≤ 65535
+  pub buffers : (e : ℕ) (b : Buffers) → IsKnown s e → buffers_of s e ≡ Some b → IsSoundBuffers s e b
+  pub schedule : IsSound (schedule_of s)
+  pub bound : (entry : List ℕ) → finite_set.contains s.bound entry ≡ true → IsSoundBinding s entry
+  pub pending : (entry : List ℕ) → finite_set.contains s.pending entry ≡ true → IsSoundPending s entry

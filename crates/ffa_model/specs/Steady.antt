@@ -1,0 +1,62 @@
+-- What isolation asks of a state. It holds of every machine's state, and each operation keeps it.
+use Rattle.std.specs.Prelude.{◌≡◌, ◌≢◌, ℕ, ◌≤◌, ◌<◌, Bool, true, ◌&&◌, ◌||◌, nat_le, List, length, Option, Some, None, slice_index_or}
+use Rattle.std.specs.Option.{option_map}
+use Rattle.std.specs.FinSet as finite_set
+use Rattle.ffa_model.specs.declared.rights.Rights.{Rights}
+use Rattle.ffa_model.specs.Rights.{is_share, is_lend, is_within}
+use Rattle.ffa_model.specs.State.{State, Page, Transaction, Buffers, page_at, is_known, owner_of, buffers_of, transaction_of}
+use Rattle.ffa_model.specs.Access.{handle_at, names, is_naming, is_receiver, held_by}
+use Rattle.ffa_model.specs.RunStates.{requester, schedule_of}
+use Rattle.ffa_model.specs.Sound.{IsSound}
+use Rattle.ffa_model.specs.Notifications.{binding, class_of}
+
+abbrev pub page_base : Option Page → Option Rights
+page_base page = option_map (λ (q : Page). q.base) page
+
+-- whether a transaction lets several endpoints have its pages: a share, or a lend to several
+abbrev pub is_joint : Transaction → Bool
+is_joint t = is_share t.kind || (is_lend t.kind && nat_le 2 (length t.receivers))
+
+-- An open transaction is of pages of its sender. Who holds it is one of its receivers, has no more than the owner's right,
+-- and is alone with it, unless the transaction lets several have the pages.
+pub record IsSteadyTransaction (s : State) (t : Transaction) : Type 0 where
+  pub owned : (p : ℕ) → names s t.ranges p ≡ true → owner_of s p ≡ t.sender
+  pub offered : (e : ℕ) (right : Rights) → held_by t e ≡ Some right → is_receiver e t ≡ true
+  pub within : (p e : ℕ) (right : Rights) → names s t.ranges p ≡ true → held_by t e ≡ Some right → is_within (Some right) (page_base (page_at s p)) ≡ true
+  pub alone : (e f : ℕ) (one other : Rights) → e ≢ f → held_by t e ≡ Some one → held_by t f ≡ Some other → is_joint t ≡ true
+
+-- a page that its owner has alone: no open transaction names it
+pub record IsAlone (s : State) (e p : ℕ) : Type 0 where
+  pub owner : owner_of s p ≡ e
+  pub unnamed : handle_at s p ≡ None
+
+pub record AreSteadyBuffers (s : State) (e : ℕ) (b : Buffers) : Type 0 where
+  pub tx : IsAlone s e b.tx
+  pub rx : IsAlone s e b.rx
+
+-- a bit that is bound is of the class of its sender
+pub record IsSteadyBinding (entry : List ℕ) : Type 0 where
+  pub receiver : ℕ
+  pub bit : ℕ
+  pub sender : ℕ
+  pub is : entry ≡ binding receiver (class_of sender) bit sender
+  pub in_word : bit < 64
+
+-- A page stands in one open transaction at most, and a buffer's page in none. Whoever runs, and whoever waits for an
+-- answer, is an endpoint.
+pub record IsSteady (s : State) : Type 0 where
+  pub some : 1 ≤ length s.parties
+  pub few : length s.parties ≤ 8
+  pub each : length s.buffers ≡ length s.parties
+  pub runner : is_known s s.runner ≡ true
+  pub requesters : (i by : ℕ) → requester (slice_index_or s.works i None) ≡ Some by → is_known s by ≡ true
+  pub one : (p h k : ℕ) → is_naming s p (transaction_of s h) ≡ true → is_naming s p (transaction_of s k) ≡ true → h ≡ k
+  pub transactions : (h : ℕ) (t : Transaction) → transaction_of s h ≡ Some t → IsSteadyTransaction s t
+  pub buffers : (e : ℕ) (b : Buffers) → is_known s e ≡ true → buffers_of s e ≡ Some b → AreSteadyBuffers s e b
+  pub bound : (entry : List ℕ) → finite_set.contains s.bound entry ≡ true → IsSteadyBinding entry
+
+-- a steady state with sound run states
+pub record IsScheduled (s : State) : Type 0 where
+  pub steady : IsSteady s
+  pub works : length s.works ≡ length s.parties
+  pub schedule : IsSound (schedule_of s)

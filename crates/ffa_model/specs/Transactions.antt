@@ -1,0 +1,136 @@
+-- Memory management transactions that are open (DEN0077A, 5): their handles, who holds them, and the most that a
+-- receiver may hold.
+use Rattle.std.specs.Prelude.{ℕ, ◌+◌, ◌*◌, ◌^◌, ◌==◌, Bool, false, ◌&&◌, List, length, filter, find, Option, slice_index, slice_set, unwrap_or, if◌then◌else◌}
+use Rattle.std.specs.Ordering.{nat_cmp}
+use Rattle.std.specs.List.{list_all}
+use Rattle.std.specs.Option.{option_and_then, option_map}
+use Rattle.std.specs.FinMap as map
+use Rattle.ffa_model.specs.declared.rights.Data.{Data}
+use Rattle.ffa_model.specs.declared.rights.Data.TheVariants.{Ro, Rw}
+use Rattle.ffa_model.specs.declared.rights.Rights.{Rights}
+use Rattle.ffa_model.specs.declared.rights.Kind.{Kind}
+use Rattle.ffa_model.specs.declared.rights.Kind.TheVariants.{Share, Lend, Donate}
+use Rattle.ffa_model.specs.declared.transaction.Range.{Range}
+use Rattle.ffa_model.specs.declared.transaction.Receiver.{Receiver}
+use Rattle.ffa_model.specs.Identifiers.{place}
+use Rattle.ffa_model.specs.Lists.{listed}
+use Rattle.ffa_model.specs.Rights.{may_fetch, may_store}
+use Rattle.ffa_model.specs.State.{State, Page, Transaction, Buffers, page_at}
+use Rattle.ffa_model.specs.Access.{covers}
+use Rattle.ffa_model.specs.Buffers.{Candidates, candidates}
+
+-- the open transactions, and how many sends each endpoint has made
+pub record Offers : Type 0 where
+  pub transactions : map.FinMap nat_cmp Transaction  -- by handle
+  pub sent : List ℕ  -- by endpoint
+
+-- RAM as grants and ceilings see it: where it begins, how many pages it has, and the right to each page that its owner
+-- has while no transaction names it
+pub record Bases : Type 0 where
+  pub base : ℕ
+  pub count : ℕ
+  pub right : ℕ → Option Rights
+
+-- what the checks read beside the call: the number of endpoints, RAM with owners and with rights, the buffers, and what
+-- is open
+pub record Scene : Type 0 where
+  pub endpoints : ℕ
+  pub ram : Candidates
+  pub bases : Bases
+  pub buffers : List (Option Buffers)
+  pub offers : Offers
+
+-- the registers of a call whose descriptor stands in TX: its whole length, that of the fragment, and the address and
+-- the page count of a buffer beside TX
+pub record Transfer : Type 0 where
+  pub total : ℕ
+  pub fragment : ℕ
+  pub address : ℕ
+  pub pages : ℕ
+
+abbrev pub transfer : ℕ → ℕ → ℕ → ℕ → Transfer
+transfer total fragment address pages = record { total = total; fragment = fragment; address = address; pages = pages }
+
+-- HANDLES
+-- the sender in the high half, and in the low half which of its sends it is, counted from 1
+abbrev pub handle_of : ℕ → ℕ → ℕ
+handle_of e number = e * 2 ^ 32 + number
+
+abbrev pub sent_in : Offers → ℕ → ℕ
+sent_in o e = slice_index o.sent (place e)
+
+abbrev pub next_handle : Offers → ℕ → ℕ
+next_handle o e = handle_of e (sent_in o e + 1)
+
+-- how many open transactions e has sent
+abbrev pub open_count : Offers → ℕ → ℕ
+open_count o e = length (filter (λ (t : Transaction). t.sender == e) (map.values o.transactions))
+
+-- CHANGES
+-- e holds this right, or holds nothing
+abbrev pub holding : Transaction → ℕ → Rights → Transaction
+holding t e right = record t { held = map.insert t.held e right }
+
+abbrev pub not_holding : Transaction → ℕ → Transaction
+not_holding t e = record t { held = map.remove t.held e }
+
+-- its sender has made one send more, which is open
+abbrev pub opened : Offers → ℕ → Transaction → Offers
+opened o h t =
+    record o { transactions = map.insert o.transactions h t; sent = slice_set o.sent (place t.sender) (sent_in o t.sender + 1) }
+
+-- the transaction of a handle is this one, or is open no more
+abbrev pub with_transaction : Offers → ℕ → Transaction → Offers
+with_transaction o h t = record o { transactions = map.insert o.transactions h t }
+
+abbrev pub closed : Offers → ℕ → Offers
+closed o h = record o { transactions = map.remove o.transactions h }
+
+-- CEILINGS
+-- the pages of RAM that the ranges name
+abbrev pub pages_in : Bases → List Range → List ℕ
+pages_in ram ranges = filter (λ p. covers ranges (ram.base + 4096 * p)) (listed ram.count (λ p. p))
+
+-- whether all pages that the ranges name have base rw, and whether all have execution
+abbrev pub are_writable : Bases → List Range → Bool
+are_writable ram ranges = list_all (λ p. may_store (ram.right p)) (pages_in ram ranges)
+
+abbrev pub are_executable : Bases → List Range → Bool
+are_executable ram ranges = list_all (λ p. may_fetch (ram.right p)) (pages_in ram ranges)
+
+-- the data right that e is granted
+abbrev pub grant_to : Transaction → ℕ → Data
+grant_to t e = unwrap_or (option_and_then (λ (r : Receiver). r.grant) (find (λ (r : Receiver). r.endpoint.0 == e) t.receivers)) Ro
+
+-- the most that e may hold: what all pages have in a donate; else the grant, with execution in a lend to one alone
+abbrev pub ceiling_in : Kind → Bases → Transaction → ℕ → Rights
+ceiling_in Donate ram t e =
+    record { level = if are_writable ram t.ranges then Rw else Ro; exec = are_executable ram t.ranges }
+ceiling_in Lend ram t e = record { level = grant_to t e; exec = length t.receivers == 1 && are_executable ram t.ranges }
+ceiling_in Share ram t e = record { level = grant_to t e; exec = false }
+
+abbrev pub ceiling : Bases → Transaction → ℕ → Rights
+ceiling ram t e = ceiling_in t.kind ram t e
+
+-- the same of a state
+abbrev pub offers_of : State → Offers
+offers_of s = record { transactions = s.transactions; sent = s.sent }
+
+abbrev pub with_offers : State → Offers → State
+with_offers s o = record s { transactions = o.transactions; sent = o.sent }
+
+abbrev pub base_of : State → ℕ → Option Rights
+base_of s p = option_map (λ (page : Page). page.base) (page_at s p)
+
+abbrev pub bases_of : State → Bases
+bases_of s = record { base = s.ram_base; count = length s.pages; right = base_of s }
+
+abbrev pub scene_of : State → Scene
+scene_of s =
+    record {
+      endpoints = length s.parties;
+      ram = candidates s;
+      bases = bases_of s;
+      buffers = s.buffers;
+      offers = offers_of s;
+    }

@@ -1,0 +1,55 @@
+-- What an endpoint can know of a state: the state itself, with all else left out or blank.
+use Rattle.std.specs.Prelude.{ℕ, ◌==◌, Bool, ◌&&◌, ◌||◌, length, Option, None, if◌then◌else◌}
+use Rattle.std.specs.Ordering.{nat_cmp}
+use Rattle.std.specs.Option.{option_map}
+use Rattle.std.specs.FinMap as map
+use Rattle.std.specs.FinSet as finite_set
+use Rattle.ffa_model.specs.Lists.{map_at}
+use Rattle.ffa_model.specs.Masks.{map_values}
+use Rattle.ffa_model.specs.Identifiers.{identifier}
+use Rattle.ffa_model.specs.State.{State, Transaction, Buffers, owner_of, transaction_of}
+use Rattle.ffa_model.specs.Access.{is_from, is_offered, transaction_at}
+use Rattle.ffa_model.specs.Notifications.{receiver_in, sender_in}
+
+-- whether e sent a transaction, or is offered it
+abbrev pub involves : ℕ → Option Transaction → Bool
+involves e t = is_from e t || is_offered e t
+
+-- a page that e owns, or that a transaction of e's or offered to e names
+abbrev pub is_near : ℕ → State → ℕ → Bool
+is_near e s p = owner_of s p == e || involves e (transaction_at s p)
+
+abbrev pub kept : {X : Type 0} → Bool → Option X → Option X
+kept there x = if there then x else None
+
+-- who isn't the sender knows of the holders itself alone
+abbrev pub seen_by : ℕ → Transaction → Transaction
+seen_by e t = record t { held = if t.sender == e then t.held else map.retain_keys t.held (λ f. f == e) }
+
+abbrev pub transactions_of : ℕ → State → map.FinMap nat_cmp Transaction
+transactions_of e s = map_values (seen_by e) (map.retain_keys s.transactions (λ h. involves e (transaction_of s h)))
+
+-- of another's buffers whether they are mapped, and whether RX is full; their pages are named by a number past RAM
+abbrev pub hidden : ℕ → Option Buffers → Option Buffers
+hidden past b = option_map (λ (q : Buffers). record { tx = past; rx = past; full = q.full }) b
+
+abbrev pub buffers_seen : ℕ → ℕ → ℕ → Option Buffers → Option Buffers
+buffers_seen e past i b = if identifier i == e then b else hidden past b
+
+-- The constants, and who runs, each status and work are public. Of the lists by endpoint e has its own element.
+abbrev pub view : ℕ → State → State
+view e s =
+    record {
+      ram_base = s.ram_base;
+      parties = s.parties;
+      pages = map_at (λ p page. kept (is_near e s p) page) s.pages;
+      transactions = transactions_of e s;
+      sent = map_at (λ i n. if identifier i == e then n else 0) s.sent;
+      buffers = map_at (buffers_seen e (length s.pages)) s.buffers;
+      runner = s.runner;
+      statuses = s.statuses;
+      works = s.works;
+      bitmaps = map_at (λ i has. identifier i == e && has) s.bitmaps;
+      bound = finite_set.retain s.bound (λ x. receiver_in x == e || sender_in x == e);
+      pending = finite_set.retain s.pending (λ x. receiver_in x == e);
+    }
