@@ -39,7 +39,7 @@ within-same : (r : Option Rights) → is_within r r ≡ true
 within-same None = refl
 within-same (Some r) = and_from (is_data_at_most r.level r.level) (not r.exec || r.exec) (level-same r.level) (execution-same r.exec)
 
-within-through : (a b c : Option Rights) → is_within a b ≡ true → is_within b c ≡ true → is_within a c ≡ true
+pub within-through : (a b c : Option Rights) → is_within a b ≡ true → is_within b c ≡ true → is_within a c ≡ true
 within-through None b c ab bc = refl
 within-through (Some a) None c ab bc = absurd (false≢true ab)
 within-through (Some a) (Some b) None ab bc = absurd (false≢true bc)

@@ -28,3 +28,4 @@ pub mod Closed
 pub mod CountSeen
 pub mod Ceilings
 pub mod ReclaimLaws
+pub mod SoundSteady

@@ -4,6 +4,7 @@ ghost use Rattle.std.specs.Prelude.{ℕ, ◌≡◌, ◌≤◌, true, List, lengt
 ghost use Rattle.ffa_model.specs.declared.endpoint.Endpoint.{Endpoint};
 ghost use Rattle.ffa_model.specs.First.{first};
 ghost use Rattle.ffa_model.specs.declared.operation.Op.{Op};
+ghost use Rattle.ffa_model.specs.SoundState.{IsSoundState};
 ghost use Rattle.ffa_model.specs.State.{State};
 ghost use Rattle.ffa_model.specs.Step.{state_after, step};
 ghost use Rattle.ffa_model.specs.Steady.{IsScheduled, IsSteady};
@@ -32,6 +33,11 @@ pub fn rights_never_grow()
 /// A page that its owner has alone keeps its bytes while another endpoint runs, but for a message into its RX.
 pub fn integrity()
     ensures { (s : State) (op : Op) → is_lawful op ≡ true → IsSteady s → Integrity s op }
+{}
+
+/// What isolation asks of a state holds of every sound state.
+pub fn sound_is_steady()
+    ensures { (s : State) → IsSoundState s → IsSteady s }
 {}
 
 /// The state in which a machine starts is steady, with sound run states.
