@@ -29,3 +29,5 @@ pub mod CountSeen
 pub mod Ceilings
 pub mod ReclaimLaws
 pub mod SoundSteady
+pub mod ByteLists
+pub mod SoundKept
