@@ -36,6 +36,10 @@ module _ {X : Type 0} (test : X → Bool) where
         | false ↦ later
       ]
 
+pub all-enumerated : {X : Type 0} (test : X → Bool) (k : ℕ) (xs : List X) → list_all test xs ≡ true → list_all (λ (x : ℕ × X). test x.1) (enumerate_from k xs) ≡ true
+all-enumerated test k [] all = refl
+all-enumerated test k (x ∷ xs) all = let (here, rest) = and_parts (test x) (list_all test xs) all in and_from (test x) _ here (all-enumerated test (k + 1) xs rest)
+
 pub length-filter-le : {X : Type 0} (keep : X → Bool) (xs : List X) → length (filter keep xs) ≤ length xs
 length-filter-le keep [] = omega arith
 length-filter-le keep (x ∷ xs) =
@@ -67,12 +71,19 @@ module _ (page : List ℕ) (at : ℕ) (bytes : List ℕ) where
       all-append (λ b. nat_lt b 256) (take at page) (bytes ++ drop (length bytes) (drop at page)) (all-take (λ b. nat_lt b 256) at page old)
       (all-append (λ b. nat_lt b 256) bytes (drop (length bytes) (drop at page)) new (all-drop (λ b. nat_lt b 256) (length bytes) (drop at page) (all-drop (λ b. nat_lt b 256) at page old)))
 
--- pieces of one length, and of bytes
-module _ {X : Type 0} (piece : X → List ℕ) where
-  pub length-pieces : (size : ℕ) (xs : List X) → ((x : X) → length (piece x) ≤ size) → length (flat_map piece xs) ≤ length xs * size
-  length-pieces size [] each = omega arith
-  length-pieces size (x ∷ xs) each =
-      let here = each x in
-      let later = length-pieces size xs each in
+-- pieces of elements that pass a test, at most of this length each, or of bytes
+module _ {X : Type 0} (piece : X → List ℕ) (test : X → Bool) where
+  pub length-pieces : (size : ℕ) (xs : List X) → list_all test xs ≡ true → ((x : X) → test x ≡ true → length (piece x) ≤ size) → length (flat_map piece xs) ≤ length xs * size
+  length-pieces size [] all each = omega arith
+  length-pieces size (x ∷ xs) all each =
+      let (passes, rest) = and_parts (test x) (list_all test xs) all in
+      let here = each x passes in
+      let later = length-pieces size xs rest each in
       let both = length-append (piece x) (flat_map piece xs) in
       omega arith
+
+  pub bytes-pieces : (xs : List X) → list_all test xs ≡ true → ((x : X) → test x ≡ true → are_bytes (piece x)) → are_bytes (flat_map piece xs)
+  bytes-pieces [] all each = refl
+  bytes-pieces (x ∷ xs) all each =
+      let (passes, rest) = and_parts (test x) (list_all test xs) all in
+      all-append (λ b. nat_lt b 256) (piece x) (flat_map piece xs) (each x passes) (bytes-pieces xs rest each)

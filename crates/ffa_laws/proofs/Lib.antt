@@ -31,3 +31,4 @@ pub mod ReclaimLaws
 pub mod SoundSteady
 pub mod ByteLists
 pub mod SoundKept
+pub mod SoundPages
