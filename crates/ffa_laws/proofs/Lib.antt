@@ -32,3 +32,4 @@ pub mod SoundSteady
 pub mod ByteLists
 pub mod SoundKept
 pub mod SoundPages
+pub mod SoundBuffers
