@@ -33,3 +33,4 @@ pub mod ByteLists
 pub mod SoundKept
 pub mod SoundPages
 pub mod SoundBuffers
+pub mod SoundNotifications
