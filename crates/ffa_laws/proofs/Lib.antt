@@ -34,3 +34,4 @@ pub mod SoundKept
 pub mod SoundPages
 pub mod SoundBuffers
 pub mod SoundNotifications
+pub mod SoundOperations

@@ -30,9 +30,9 @@ use Rattle.ffa_laws.proofs.Kept.{rewritten-step}
 use Rattle.ffa_laws.proofs.Laws.{steady-step}
 
 -- run states that are sound, of as many endpoints
-record AreSound (n : ℕ) (c : Schedule) : Type 0 where
-  sound : IsSound c
-  works : length c.works ≡ n
+pub record AreSound (n : ℕ) (c : Schedule) : Type 0 where
+  pub sound : IsSound c
+  pub works : length c.works ≡ n
 
 module _ (s : State) (is : IsScheduled s) where
   abbrev c : Schedule
@@ -62,7 +62,7 @@ module _ (s : State) (is : IsScheduled s) where
   finished-works : (e : ℕ) → length (finished c e).works ≡ n
   finished-works e = length-set s.works (place s.runner) None ∙ is.works
 
-  sound-service : (call : calls.Call) → is_lawful_call call ≡ true → first_failure (service s call).guards ≡ None → P (service s call).state
+  pub sound-service : (call : calls.Call) → is_lawful_call call ≡ true → first_failure (service s call).guards ≡ None → P (service s call).state
   sound-service (Version version) lawful none = old
   sound-service (Features function) lawful none = old
   sound-service RxRelease lawful none = old
