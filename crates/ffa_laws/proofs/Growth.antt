@@ -10,8 +10,8 @@ use Rattle.ffa_model.specs.Rights.{is_lend, is_data_at_most, is_share, is_within
 use Rattle.ffa_model.specs.State.{State, Page, Transaction, page_at}
 use Rattle.ffa_model.specs.Access.{access, held_by, right_by, right_of, transaction_at}
 use Rattle.ffa_model.specs.Step.{state_after, step}
-use Rattle.ffa_model.specs.Steady.{IsSteady, page_base, is_joint}
-use Rattle.ffa_model.specs.Isolation.{NeverGrow, are_lawful, is_joint_at, is_lawful}
+use Rattle.ffa_laws.specs.Steady.{IsSteady, page_base, is_joint}
+use Rattle.ffa_laws.specs.Isolation.{NeverGrow, are_lawful, is_joint_at, is_lawful}
 use Rattle.ffa_laws.proofs.Views.{found}
 use Rattle.ffa_laws.proofs.Changes.{same_base, standing}
 use Rattle.ffa_laws.proofs.Kept.{rewritten-step}

@@ -14,8 +14,8 @@ use Rattle.ffa_model.specs.Memory.{access_at, page_bytes, size_of, store_fault, 
 use Rattle.ffa_model.specs.Calls.{first_failure}
 use Rattle.ffa_model.specs.Messages.{header_in, message_in, send2_guards, tx_bytes}
 use Rattle.ffa_model.specs.Step.{step}
-use Rattle.ffa_model.specs.Steady.{IsSteady}
-use Rattle.ffa_model.specs.Isolation.{Integrity, is_lawful, is_bound_for, is_message}
+use Rattle.ffa_laws.specs.Steady.{IsSteady}
+use Rattle.ffa_laws.specs.Isolation.{Integrity, is_lawful, is_bound_for, is_message}
 use Rattle.ffa_model.proofs.Guards.{guard-passes}
 use Rattle.ffa_laws.proofs.MemoryLaws.{fault-none}
 use Rattle.ffa_laws.proofs.Kept.{kept-step}

@@ -22,7 +22,7 @@ use Rattle.ffa_model.specs.RunStates.{Schedule, finished, given_cycles, requeste
 use Rattle.ffa_model.specs.Notifications.{Notifications, class_of, notifications_of, with_bitmaps, with_bound, with_framework_bit, with_notifications, with_pending, without_bitmaps, without_bound, without_pending}
 use Rattle.ffa_model.specs.Messages.{header_in, message_in, send2_guards, tx_bytes}
 use Rattle.ffa_model.specs.Step.{service, step}
-use Rattle.ffa_model.specs.Isolation.{is_lawful, is_lawful_call, is_message, is_send2}
+use Rattle.ffa_laws.specs.Isolation.{is_lawful, is_lawful_call, is_message, is_send2}
 use Rattle.ffa_laws.proofs.Form.{accessed-kept, served-kept}
 use Rattle.ffa_laws.proofs.Changes.{AreRewritten, unwritten, with_parts}
 use Rattle.ffa_laws.proofs.Written.{rewritten-filled, rewritten-written}

@@ -19,10 +19,10 @@ use Rattle.ffa_model.specs.Notifications.{class_of, notifications_of, with_bitma
 use Rattle.ffa_laws.proofs.Steadies.{steady-notified}
 use Rattle.ffa_laws.proofs.NotificationLaws.{other-bind, other-create, other-destroy, other-get, other-set, other-unbind, own-bind, own-create, own-destroy, own-get, own-set, own-unbind, steady-bind, steady-destroy, steady-unbind}
 use Rattle.ffa_model.specs.Step.{service, step}
-use Rattle.ffa_model.specs.Steady.{IsSteady}
-use Rattle.ffa_model.specs.View.{view}
-use Rattle.ffa_model.specs.Events.{Event, Item, Own, Told, apply, apply_all, events, items, message, messages, seen, told_by}
-use Rattle.ffa_model.specs.Isolation.{OneStep, Isolated, are_lawful, is_lawful, is_lawful_call}
+use Rattle.ffa_laws.specs.Steady.{IsSteady}
+use Rattle.ffa_laws.specs.View.{view}
+use Rattle.ffa_laws.specs.Events.{Event, Item, Own, Told, apply, apply_all, events, items, message, messages, seen, told_by}
+use Rattle.ffa_laws.specs.Isolation.{OneStep, Isolated, are_lawful, is_lawful, is_lawful_call}
 use Rattle.ffa_laws.proofs.Form.{IsOwn, served-kept, served-own, viewed}
 use Rattle.ffa_laws.proofs.Told.{IsTold, other-same, served-other}
 use Rattle.ffa_laws.proofs.Kept.{known-step}

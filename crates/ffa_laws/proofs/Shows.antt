@@ -34,9 +34,9 @@ use Rattle.ffa_model.specs.MemoryRetrieve.{retrieve_read, retrieved, retrieved_f
 use Rattle.ffa_model.specs.MemoryReturn.{relinquish_read, relinquished, relinquished_from}
 use Rattle.ffa_model.specs.Registers.{decode}
 use Rattle.ffa_model.specs.Step.{outcomes, serve, service, step}
-use Rattle.ffa_model.specs.Events.{Event, Public, Wrote, Message, Filled, Pending, Held, Zeroed, Closed, delivers, events, is_same_public, message, messages, opens, public_change, public_part, releases, seen, switches, takes, takes_from, taking, told_by, where_passed, where_true}
-use Rattle.ffa_model.specs.View.{involves, is_near}
-use Rattle.ffa_model.specs.Isolation.{Shown, runner_after, shown_to}
+use Rattle.ffa_laws.specs.Events.{Event, Public, Wrote, Message, Filled, Pending, Held, Zeroed, Closed, delivers, events, is_same_public, message, messages, opens, public_change, public_part, releases, seen, switches, takes, takes_from, taking, told_by, where_passed, where_true}
+use Rattle.ffa_laws.specs.View.{involves, is_near}
+use Rattle.ffa_laws.specs.Isolation.{Shown, runner_after, shown_to}
 
 -- an outcome names who runs then
 abbrev Tells : ℕ → Stepped → Type 0

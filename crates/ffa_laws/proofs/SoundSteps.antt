@@ -20,9 +20,9 @@ use Rattle.ffa_model.specs.Buffers.{filled}
 use Rattle.ffa_model.specs.Setup.{info_bytes, is_count_alone, uuid_bytes}
 use Rattle.ffa_model.specs.RunStates.{Schedule, finished, given_cycles, run_guards, schedule_of, status_in}
 use Rattle.ffa_model.specs.Sound.{IsSound}
-use Rattle.ffa_model.specs.Steady.{IsScheduled}
+use Rattle.ffa_laws.specs.Steady.{IsScheduled}
 use Rattle.ffa_model.specs.Step.{service, step}
-use Rattle.ffa_model.specs.Isolation.{is_lawful, is_lawful_call}
+use Rattle.ffa_laws.specs.Isolation.{is_lawful, is_lawful_call}
 use Rattle.ffa_laws.proofs.Form.{accessed-kept, served-kept}
 use Rattle.ffa_laws.proofs.ScheduleLaws.{answerer}
 use Rattle.ffa_laws.proofs.SoundLaws.{sound-request, sound-response, sound-run, sound-wait, sound-yield}

@@ -6,8 +6,8 @@ ghost use Rattle.ffa_model.specs.First.{first};
 ghost use Rattle.ffa_model.specs.declared.operation.Op.{Op};
 ghost use Rattle.ffa_model.specs.State.{State};
 ghost use Rattle.ffa_model.specs.Step.{state_after, step};
-ghost use Rattle.ffa_model.specs.Steady.{IsScheduled, IsSteady};
-ghost use Rattle.ffa_model.specs.Isolation.{Integrity, Isolated, NeverGrow, OneStep, Shown, are_lawful, is_lawful};
+ghost use Rattle.ffa_laws.specs.Steady.{IsScheduled, IsSteady};
+ghost use Rattle.ffa_laws.specs.Isolation.{Integrity, Isolated, NeverGrow, OneStep, Shown, are_lawful, is_lawful};
 
 /// One operation: it tells another endpoint its events, and its outcome depends on the runner's view alone. A state that
 /// is steady stays so, and sound run states stay sound.

@@ -15,9 +15,9 @@ use Rattle.ffa_model.specs.Memory.{page_bytes}
 use Rattle.ffa_model.specs.Registers.{decode}
 use Rattle.ffa_model.specs.Messages.{header_in, tx_bytes}
 use Rattle.ffa_model.specs.Step.{step, outcomes}
-use Rattle.ffa_model.specs.Steady.{IsSteady, page_base, is_joint}
-use Rattle.ffa_model.specs.View.{view}
-use Rattle.ffa_model.specs.Events.{apply_all, events, items, seen}
+use Rattle.ffa_laws.specs.Steady.{IsSteady, page_base, is_joint}
+use Rattle.ffa_laws.specs.View.{view}
+use Rattle.ffa_laws.specs.Events.{apply_all, events, items, seen}
 
 -- THE CALLS that the laws speak of: as yet not those on memory transactions
 abbrev pub is_lawful_call : calls.Call → Bool
