@@ -6,7 +6,7 @@ pub returns-clause-step : goal.returns-clause-step
 returns-clause-step c = one_step
 
 pub returns-clause-steady : goal.returns-clause-steady
-returns-clause-steady c = λ s op lawful steady. steady-step s steady op lawful
+returns-clause-steady c = λ s op steady. steady-step s steady op
 
 pub returns-clause-scheduled : goal.returns-clause-scheduled
-returns-clause-scheduled c = λ s op lawful is. sound-step s is op lawful
+returns-clause-scheduled c = λ s op is. sound-step s is op
