@@ -9,7 +9,7 @@ use Rattle.std.specs.FinSet as finite_set
 use Rattle.std.proofs.lemmas.Bool.{cases_Bool, false≢true}
 use Rattle.ffa_model.specs.State.{State}
 use Rattle.ffa_model.specs.Notifications.{binding}
-use Rattle.ffa_model.specs.Events.{Bound, Unbound, apply_all}
+use Rattle.ffa_laws.specs.Events.{Bound, Unbound, apply_all}
 
 abbrev pub Bits : Type 0
 Bits = finite_set.FinSet (slice_cmp nat_cmp)

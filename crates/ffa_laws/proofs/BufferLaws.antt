@@ -13,9 +13,9 @@ use Rattle.ffa_model.specs.Access.{handle_at, transaction_at}
 use Rattle.ffa_model.specs.Buffers.{buffers_with, buffers_with_rx, candidate_at, candidates, filled, filled_pages, is_full, is_page_address, is_usable, map_guards, new_buffers, page_number, release_guards, rx_release, rxtx_map, rxtx_unmap, unmap_guards, with_buffers, with_rx}
 use Rattle.ffa_model.specs.Calls.{first_failure}
 use Rattle.ffa_model.specs.RunStates.{schedule_of}
-use Rattle.ffa_model.specs.Steady.{IsSteady, AreSteadyBuffers}
-use Rattle.ffa_model.specs.View.{view, buffers_seen, hidden, involves, is_near, kept}
-use Rattle.ffa_model.specs.Events.{apply_all, fullness, public_change, with_fullness}
+use Rattle.ffa_laws.specs.Steady.{IsSteady, AreSteadyBuffers}
+use Rattle.ffa_laws.specs.View.{view, buffers_seen, hidden, involves, is_near, kept}
+use Rattle.ffa_laws.specs.Events.{apply_all, fullness, public_change, with_fullness}
 use Rattle.ffa_model.proofs.Guards.{guard-passes}
 use Rattle.ffa_model.proofs.Places.{known-named, known-place, same-known}
 use Rattle.ffa_laws.proofs.Maps.{at-map_at, length-map_at, map_at-set}

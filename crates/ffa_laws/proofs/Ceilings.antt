@@ -12,8 +12,8 @@ use Rattle.ffa_model.specs.Rights.{may_fetch, may_store}
 use Rattle.ffa_model.specs.State.{State, Page, Transaction, owner_of, page_at, transaction_of}
 use Rattle.ffa_model.specs.Access.{is_naming, names, transaction_at}
 use Rattle.ffa_model.specs.Transactions.{are_writable, base_of, bases_of, ceiling, ceiling_in, grant_to, pages_in}
-use Rattle.ffa_model.specs.Steady.{IsSteady}
-use Rattle.ffa_model.specs.View.{view, involves, is_near, kept, seen_by}
+use Rattle.ffa_laws.specs.Steady.{IsSteady}
+use Rattle.ffa_laws.specs.View.{view, involves, is_near, kept, seen_by}
 use Rattle.ffa_model.proofs.KeptDonate.{same-tests}
 use Rattle.ffa_laws.proofs.Maps.{first_one, length-map_at}
 use Rattle.ffa_laws.proofs.Views.{view-page}

@@ -14,11 +14,11 @@ use Rattle.ffa_model.specs.Lists.{map_at}
 use Rattle.ffa_model.specs.State.{State, Page, Transaction, page_at, owner_of, transaction_of}
 use Rattle.ffa_model.specs.Access.{handle_at, is_naming, is_receiver, names, transaction_at}
 use Rattle.ffa_model.specs.RunStates.{schedule_of}
-use Rattle.ffa_model.specs.Steady.{IsSteady}
-use Rattle.ffa_model.specs.View.{view, involves, is_near, kept, seen_by, transactions_of}
+use Rattle.ffa_laws.specs.Steady.{IsSteady}
+use Rattle.ffa_laws.specs.View.{view, involves, is_near, kept, seen_by, transactions_of}
 use Rattle.ffa_model.specs.Memory.{changed_pages, with_pages, zeroed_page}
 use Rattle.ffa_model.specs.MemoryReturn.{ranges_of}
-use Rattle.ffa_model.specs.Events.{Closed, apply, with_held}
+use Rattle.ffa_laws.specs.Events.{Closed, apply, with_held}
 use Rattle.ffa_laws.proofs.Maps.{first_no, first_none, first_one, first_some, at-map_at, length-map_at, map_at-alike, map_at-same, map_at-twice}
 use Rattle.ffa_laws.proofs.Views.{shown, view-page, view-transaction}
 use Rattle.ffa_laws.proofs.Changes.{AreRewritten, standing, view-changed, with_parts}

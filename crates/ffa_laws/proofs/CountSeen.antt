@@ -6,11 +6,11 @@ use Rattle.std.specs.Ordering.{nat_cmp}
 use Rattle.std.specs.Cmp.{nat_cmp_total, unsigned_tied}
 use Rattle.std.specs.FinMap as finite
 use Rattle.std.proofs.lemmas.Bool.{cases_eq, eq-eqb, false≢true}
-use Rattle.ffa_model.specs.Masks.{map_values}
+use Rattle.ffa_laws.specs.View.{map_values}
 use Rattle.ffa_model.specs.State.{State, Transaction, transaction_of}
 use Rattle.ffa_model.specs.Access.{is_receiver}
 use Rattle.ffa_model.specs.Transactions.{offers_of, open_count}
-use Rattle.ffa_model.specs.View.{view, involves, seen_by}
+use Rattle.ffa_laws.specs.View.{view, involves, seen_by}
 use Rattle.ffa_model.proofs.Counts.{count, count-insert, count-remove, one}
 use Rattle.ffa_model.proofs.Handles.{Transactions, get-beside, get-left, get-put, get-taken}
 use Rattle.ffa_laws.proofs.Maps.{get-map_values}

@@ -18,7 +18,7 @@ use Rattle.ffa_model.specs.Access.{is_naming}
 use Rattle.ffa_model.specs.RunStates.{first_schedule, requester}
 use Rattle.ffa_model.specs.Links as links
 use Rattle.ffa_model.specs.Sound.{IsSound}
-use Rattle.ffa_model.specs.Steady.{IsScheduled}
+use Rattle.ffa_laws.specs.Steady.{IsScheduled}
 use Rattle.ffa_model.proofs.Listed.{listed-same}
 use Rattle.ffa_model.proofs.Chains.{status-rest}
 use Rattle.ffa_model.proofs.Sounds.{sound}

@@ -6,7 +6,7 @@ use Rattle.ffa_model.specs.declared.operation.FaultKind.{FaultKind}
 use Rattle.ffa_model.specs.State.{State}
 use Rattle.ffa_model.specs.Calls.{Service, Stepped, answered, first_failure, replied, served}
 use Rattle.ffa_model.specs.Memory.{accessed}
-use Rattle.ffa_model.specs.View.{view}
+use Rattle.ffa_laws.specs.View.{view}
 
 abbrev pub viewed : ℕ → Stepped → Stepped
 viewed e st = record { state = view e st.state; outcome = st.outcome }

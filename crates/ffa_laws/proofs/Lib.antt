@@ -15,6 +15,7 @@ pub mod ScheduleLaws
 pub mod MessageLaws
 pub mod NotificationLaws
 pub mod Kept
+pub mod Lawful
 pub mod Laws
 pub mod Growth
 pub mod Integrities

@@ -10,7 +10,7 @@ use Rattle.std.specs.Cmp.{nat_cmp_total}
 use Rattle.std.specs.FinMap as finite
 use Rattle.ffa_model.specs.State.{Transaction}
 use Rattle.ffa_model.specs.Lists.{map_at}
-use Rattle.ffa_model.specs.Masks.{map_values}
+use Rattle.ffa_laws.specs.View.{map_values}
 use Rattle.ffa_model.specs.Access.{first_handle}
 
 pub length-map_at : {X Y : Type 0} (f : ℕ → X → Y) (xs : List X) → length (map_at f xs) ≡ length xs

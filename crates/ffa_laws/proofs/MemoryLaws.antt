@@ -15,9 +15,9 @@ use Rattle.ffa_model.specs.State.{State}
 use Rattle.ffa_model.specs.Access.{access}
 use Rattle.ffa_model.specs.Memory.{access_at, accessed, fault_of, fetch, fetch_fault, load, number_at, page_of_address, read_fault, size_of, store, store_fault, stored, written_pages}
 use Rattle.ffa_model.specs.RunStates.{schedule_of}
-use Rattle.ffa_model.specs.Steady.{IsSteady}
-use Rattle.ffa_model.specs.View.{view, is_near}
-use Rattle.ffa_model.specs.Events.{Event, Wrote, apply_all, where_passed, where_true, writes}
+use Rattle.ffa_laws.specs.Steady.{IsSteady}
+use Rattle.ffa_laws.specs.View.{view, is_near}
+use Rattle.ffa_laws.specs.Events.{Event, Wrote, apply_all, where_passed, where_true, writes}
 use Rattle.ffa_laws.proofs.Views.{view-access, access-near, near-bytes}
 use Rattle.ffa_laws.proofs.Form.{viewed, accessed-own, accessed-kept}
 use Rattle.ffa_laws.proofs.Changes.{with_parts}

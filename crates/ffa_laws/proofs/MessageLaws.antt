@@ -14,9 +14,9 @@ use Rattle.ffa_model.specs.Calls.{first_failure}
 use Rattle.ffa_model.specs.Messages.{MessageHeader, delivered, header_in, message_in, msg_send2, send2_guards, tx_bytes}
 use Rattle.ffa_model.specs.Notifications.{manager_class, notifications_of, rx_full_bits, with_framework_bit}
 use Rattle.ffa_model.specs.RunStates.{schedule_of}
-use Rattle.ffa_model.specs.Steady.{IsSteady}
-use Rattle.ffa_model.specs.View.{view, is_near, kept}
-use Rattle.ffa_model.specs.Events.{Filled, Pending, apply_all, delivers, public_change, where_true}
+use Rattle.ffa_laws.specs.Steady.{IsSteady}
+use Rattle.ffa_laws.specs.View.{view, is_near, kept}
+use Rattle.ffa_laws.specs.Events.{Filled, Pending, apply_all, delivers, public_change, where_true}
 use Rattle.ffa_model.proofs.Guards.{guard-passes}
 use Rattle.ffa_laws.proofs.Maps.{length-map_at}
 use Rattle.ffa_laws.proofs.Views.{near-bytes}

@@ -19,9 +19,9 @@ use Rattle.ffa_model.specs.Identifiers.{identifier}
 use Rattle.ffa_model.specs.State.{State, is_known, is_known_among}
 use Rattle.ffa_model.specs.Calls.{first_failure}
 use Rattle.ffa_model.specs.Notifications.{Notifications, binding, bitmap_create, bitmap_destroy, class_in, class_of, destroy_guards, create_guards, get_reply, has_bitmaps_in, has_pending, is_bindable, is_bound, is_bound_to_another, is_pending, is_unbindable, manager_class, normal_class, notification_bind, notification_get, notification_set, notification_unbind, notifications_of, partition_class, receiver_bit, receiver_in, sender_in, set_guards, with_bound, with_notifications, without_bitmaps, without_bound}
-use Rattle.ffa_model.specs.Steady.{IsSteady, IsSteadyBinding}
-use Rattle.ffa_model.specs.View.{view}
-use Rattle.ffa_model.specs.Events.{Bound, Event, Pending, Unbound, apply_all, binds, public_change, sets, unbinds, where_true}
+use Rattle.ffa_laws.specs.Steady.{IsSteady, IsSteadyBinding}
+use Rattle.ffa_laws.specs.View.{view}
+use Rattle.ffa_laws.specs.Events.{Bound, Event, Pending, Unbound, apply_all, binds, public_change, sets, unbinds, where_true}
 use Rattle.ffa_model.proofs.Guards.{guard-passes}
 use Rattle.ffa_laws.proofs.Maps.{length-map_at, map_at-set}
 use Rattle.ffa_laws.proofs.Form.{IsOwn, same-first}

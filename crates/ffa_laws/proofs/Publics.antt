@@ -5,7 +5,7 @@ use Rattle.std.proofs.lemmas.Slice.Eq.{bytes_eq-Decides}
 use Rattle.ffa_model.specs.declared.schedule.Work.{Work}
 use Rattle.ffa_model.specs.declared.schedule.Work.TheVariants.{Run, Request}
 use Rattle.ffa_model.specs.Codes.{status_code, status_from, status_from-code}
-use Rattle.ffa_model.specs.Events.{PublicPart, is_same_public, work_number, fullness_number}
+use Rattle.ffa_laws.specs.Events.{PublicPart, is_same_public, work_number, fullness_number}
 
 -- a list is known by the numbers of its elements
 module _ {X : Type 0} (number : X → ℕ) (from : ℕ → X) (back : (x : X) → from (number x) ≡ x) where

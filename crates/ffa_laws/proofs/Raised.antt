@@ -6,8 +6,8 @@ use Rattle.std.proofs.lemmas.Bool.{eq-eqb, ne_eqb}
 use Rattle.ffa_model.specs.Identifiers.{identifier, place}
 use Rattle.ffa_model.specs.State.{State, is_known}
 use Rattle.ffa_model.specs.Notifications.{has_bitmaps_in, notifications_of, receiver_bit, receiver_in, with_notifications, with_pending}
-use Rattle.ffa_model.specs.View.{view}
-use Rattle.ffa_model.specs.Events.{Pending, apply_all, where_true}
+use Rattle.ffa_laws.specs.View.{view}
+use Rattle.ffa_laws.specs.Events.{Pending, apply_all, where_true}
 use Rattle.ffa_model.proofs.Places.{known-named}
 use Rattle.ffa_laws.proofs.Maps.{at-map_at-from}
 use Rattle.ffa_laws.proofs.Bitmaps.{Bits, among, among-each, seen-more, unseen-more}

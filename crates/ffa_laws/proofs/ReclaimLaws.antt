@@ -14,10 +14,10 @@ use Rattle.ffa_model.specs.Memory.{zeroed_if, zeroed_page}
 use Rattle.ffa_model.specs.Calls.{first_failure}
 use Rattle.ffa_model.specs.Transactions.{are_writable, bases_of, handle_of}
 use Rattle.ffa_model.specs.MemoryReturn.{is_unheld, memory_reclaim, ranges_of, reclaim_guards, reclaimed}
-use Rattle.ffa_model.specs.Steady.{IsSteady}
-use Rattle.ffa_model.specs.View.{view, involves, is_near, kept, seen_by}
+use Rattle.ffa_laws.specs.Steady.{IsSteady}
+use Rattle.ffa_laws.specs.View.{view, involves, is_near, kept, seen_by}
 use Rattle.ffa_model.specs.RunStates.{schedule_of}
-use Rattle.ffa_model.specs.Events.{Closed, apply_all, closes, where_true}
+use Rattle.ffa_laws.specs.Events.{Closed, apply_all, closes, where_true}
 use Rattle.ffa_model.proofs.Guards.{guard-passes}
 use Rattle.ffa_laws.proofs.Views.{shown, view-page, view-transaction}
 use Rattle.ffa_laws.proofs.Form.{IsOwn}

@@ -13,9 +13,9 @@ use Rattle.ffa_model.specs.State.{State, buffers_of, is_known_among}
 use Rattle.ffa_model.specs.Buffers.{buffers_with_rx}
 use Rattle.ffa_model.specs.Calls.{Service, first_failure}
 use Rattle.ffa_model.specs.RunStates.{Schedule, direct_request, direct_response, finished, given_cycles, is_answer, msg_wait, request_guards, requested, requester, response_guards, run_guards, run_partition, schedule_of, status_in, switched, with_schedule, work_in, yield_now}
-use Rattle.ffa_model.specs.Steady.{IsSteady}
-use Rattle.ffa_model.specs.View.{view}
-use Rattle.ffa_model.specs.Events.{apply_all, public_change, switches}
+use Rattle.ffa_laws.specs.Steady.{IsSteady}
+use Rattle.ffa_laws.specs.View.{view}
+use Rattle.ffa_laws.specs.Events.{apply_all, public_change, switches}
 use Rattle.ffa_model.proofs.Guards.{guard-passes}
 use Rattle.ffa_model.proofs.Places.{known-place, partition-known}
 use Rattle.ffa_laws.proofs.Form.{IsOwn}

@@ -9,9 +9,9 @@ use Rattle.ffa_model.specs.Buffers.{buffers_with_rx, filled, filled_pages, is_fu
 use Rattle.ffa_model.specs.Calls.{first_failure}
 use Rattle.ffa_model.specs.RunStates.{schedule_of}
 use Rattle.ffa_model.specs.Setup.{info_bytes, info_get, info_guards, informed, is_any, is_count_alone, selected, uuid_bytes}
-use Rattle.ffa_model.specs.Steady.{IsSteady}
-use Rattle.ffa_model.specs.View.{view}
-use Rattle.ffa_model.specs.Events.{apply_all, public_change}
+use Rattle.ffa_laws.specs.Steady.{IsSteady}
+use Rattle.ffa_laws.specs.View.{view}
+use Rattle.ffa_laws.specs.Events.{apply_all, public_change}
 use Rattle.ffa_laws.proofs.Form.{IsOwn}
 use Rattle.ffa_laws.proofs.Changes.{other-changed}
 use Rattle.ffa_laws.proofs.Written.{rewritten-filled, rx-own, with_rx_full}

@@ -12,7 +12,7 @@ use Rattle.ffa_model.specs.declared.schedule.Status.TheVariants.{Yielded}
 use Rattle.ffa_model.specs.declared.call.Call as calls
 use Rattle.ffa_model.specs.declared.call.Call.TheVariants.{Version, Features, RxRelease, RxtxMap, RxtxUnmap, PartitionInfoGet, IdGet, MsgWait, Yield, Run, DirectRequest, DirectResponse, MemDonate, MemLend, MemShare, MemRetrieve, MemRelinquish, MemReclaim, BitmapCreate, BitmapDestroy, NotificationBind, NotificationUnbind, NotificationSet, NotificationGet, SpmIdGet, MsgSend2, Unknown}
 use Rattle.ffa_model.specs.Bits.{high_half, low_half}
-use Rattle.ffa_model.specs.Registers.{decode}
+use Rattle.ffa_model.specs.Registers.{served_call}
 use Rattle.ffa_model.specs.State.{State, buffers_of}
 use Rattle.ffa_model.specs.Calls.{first_failure, served}
 use Rattle.ffa_model.specs.Memory.{fetch_fault, number_at, read_fault, size_of, store_fault, stored, written_pages}
@@ -22,10 +22,11 @@ use Rattle.ffa_model.specs.RunStates.{Schedule, finished, given_cycles, requeste
 use Rattle.ffa_model.specs.Messages.{header_in, message_in, msg_send2, send2_guards, tx_bytes}
 use Rattle.ffa_model.specs.SoundState.{IsKnown, IsSoundState}
 use Rattle.ffa_model.specs.Step.{service, step}
-use Rattle.ffa_model.specs.Steady.{IsScheduled}
-use Rattle.ffa_model.specs.Isolation.{is_lawful, is_lawful_call}
+use Rattle.ffa_laws.specs.Steady.{IsScheduled}
+use Rattle.ffa_laws.specs.Isolation.{is_lawful_call}
 use Rattle.ffa_model.proofs.Guards.{guard-passes}
 use Rattle.ffa_laws.proofs.Form.{accessed-kept, served-kept}
+use Rattle.ffa_laws.proofs.Lawful.{lawful as served_lawful}
 use Rattle.ffa_laws.proofs.SoundBuffers.{filled-state-sound, map-sound, rx-sound, unmap-sound}
 use Rattle.ffa_laws.proofs.SoundKept.{pages-sound, schedule-sound}
 use Rattle.ffa_laws.proofs.SoundNotifications.{bind-sound, create-sound, destroy-sound, framework-sound, get-sound, set-sound, unbind-sound}
@@ -95,9 +96,9 @@ module _ (s : State) (sound : IsSoundState s) where
       (rewritten-written s.pages ((address - s.ram_base) / 4096) (address % 4096) (little_bytes (size_of size) value))
       (stored-sound s sound address ((address - s.ram_base) / 4096) size value none)
 
-  pub step-sound : (op : Op) → is_lawful op ≡ true → IsSoundState (step s op).state
-  step-sound (Call x) lawful = call-sound (decode x) lawful
-  step-sound (Load address size) lawful = accessed-kept IsSoundState s s (Data (number_at s address (size_of size))) (read_fault s address (size_of size)) sound (λ none. sound)
-  step-sound (Store address size value) lawful =
+  pub step-sound : (op : Op) → IsSoundState (step s op).state
+  step-sound (Call x) = call-sound (served_call x) (served_lawful x)
+  step-sound (Load address size) = accessed-kept IsSoundState s s (Data (number_at s address (size_of size))) (read_fault s address (size_of size)) sound (λ none. sound)
+  step-sound (Store address size value) =
       accessed-kept IsSoundState s (stored s address (little_bytes (size_of size) value)) Done (store_fault s address (size_of size)) sound (store-sound address size value)
-  step-sound (Fetch address) lawful = accessed-kept IsSoundState s s (Data (number_at s address 4)) (fetch_fault s address) sound (λ none. sound)
+  step-sound (Fetch address) = accessed-kept IsSoundState s s (Data (number_at s address 4)) (fetch_fault s address) sound (λ none. sound)

@@ -166,5 +166,5 @@ module _ (s : State) (sound : IsSoundState s) where
     informed-sound b =
         filled-sound s s.pages sound.pages (info_bytes s.parties uuid) (bytes-pieces (info_of uuid) passes (selected s.parties uuid) selected-sound bytes-info)
         (let size = length-pieces (info_of uuid) passes 24 (selected s.parties uuid) selected-sound size-info in
-            let few = few-selected in
-            omega arith) b
+        let few = few-selected in
+        omega arith) b

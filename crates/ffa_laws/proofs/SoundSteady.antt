@@ -21,7 +21,7 @@ use Rattle.ffa_model.specs.Transactions.{Bases, are_executable, are_writable, ba
 use Rattle.ffa_model.specs.MemorySend.{are_grants_within, is_grantable, is_inside}
 use Rattle.ffa_model.specs.SendDescriptor.{range_end}
 use Rattle.ffa_model.specs.SoundState.{IsKnown, IsSoundState, IsSoundTransaction}
-use Rattle.ffa_model.specs.Steady.{IsSteady, IsSteadyTransaction, is_joint, page_base}
+use Rattle.ffa_laws.specs.Steady.{IsSteady, IsSteadyTransaction, is_joint, page_base}
 use Rattle.ffa_model.proofs.NamedPages.{listed-each}
 use Rattle.ffa_laws.proofs.Growth.{within-through}
 use Rattle.ffa_laws.proofs.SoundLaws.{requester-known}

@@ -9,9 +9,9 @@ use Rattle.ffa_model.specs.Access.{handle_at, transaction_at}
 use Rattle.ffa_model.specs.Buffers.{is_usable, candidate_at, buffers_with_rx}
 use Rattle.ffa_model.specs.RunStates.{Schedule, requester}
 use Rattle.ffa_model.specs.Notifications.{Notifications, with_notifications}
-use Rattle.ffa_model.specs.Steady.{AreSteadyBuffers, IsAlone, IsSteady, IsSteadyBinding}
+use Rattle.ffa_laws.specs.Steady.{AreSteadyBuffers, IsAlone, IsSteady, IsSteadyBinding}
 use Rattle.std.specs.FinSet as finite_set
-use Rattle.ffa_model.specs.View.{is_near, involves}
+use Rattle.ffa_laws.specs.View.{is_near, involves}
 use Rattle.std.specs.Prelude.{◌||◌, not}
 use Rattle.std.specs.Option.{option_and_then}
 use Rattle.std.proofs.lemmas.Bool.{false≢true, eqb-true, and_parts}

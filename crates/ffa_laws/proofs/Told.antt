@@ -5,8 +5,8 @@ use Rattle.ffa_model.specs.declared.operation.ErrorCode.{ErrorCode}
 use Rattle.ffa_model.specs.State.{State}
 use Rattle.ffa_model.specs.Calls.{Service, answered, encode, first_failure, served}
 use Rattle.ffa_model.specs.RunStates.{schedule_of}
-use Rattle.ffa_model.specs.View.{view}
-use Rattle.ffa_model.specs.Events.{Event, Message, apply_all, public_change, switches, where_passed, where_true}
+use Rattle.ffa_laws.specs.View.{view}
+use Rattle.ffa_laws.specs.Events.{Event, Message, apply_all, public_change, switches, where_passed, where_true}
 use Rattle.ffa_laws.proofs.Changes.{other-changed, own-same, unwritten}
 
 -- nothing has changed

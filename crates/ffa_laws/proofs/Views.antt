@@ -11,8 +11,8 @@ use Rattle.ffa_model.specs.Rights.{is_share}
 use Rattle.ffa_model.specs.State.{State, Page, Transaction, page_at, owner_of, transaction_of}
 use Rattle.ffa_model.specs.Access.{names, is_naming, is_receiver, held_by, first_handle, handle_at, transaction_at, right_by, right_of, access}
 use Rattle.ffa_model.specs.Memory.{page_bytes}
-use Rattle.ffa_model.specs.Steady.{IsSteady}
-use Rattle.ffa_model.specs.View.{view, involves, is_near, kept, seen_by}
+use Rattle.ffa_laws.specs.Steady.{IsSteady}
+use Rattle.ffa_laws.specs.View.{view, involves, is_near, kept, seen_by}
 use Rattle.ffa_laws.proofs.Maps.{at-map_at, first_one, first_no, first_some, first_none, get-map_values}
 
 pub kept_none : {X : Type 0} (b : Bool) → kept {X = X} b None ≡ None

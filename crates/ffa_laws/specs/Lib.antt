@@ -1,0 +1,4 @@
+pub mod View
+pub mod Events
+pub mod Steady
+pub mod Isolation

@@ -4,5 +4,5 @@
 pub mod isolation;
 
 pub use isolation::{
-    first_is_sound, integrity, isolated, one_step, rights_never_grow, sound_is_steady,
+    first_is_sound, integrity, isolated, one_call, one_step, rights_never_grow, sound_is_steady,
 };

@@ -37,9 +37,4 @@ pub mod SoundState
 pub mod Step
 pub mod TraceLines
 pub mod TraceText
-pub mod Masks
-pub mod View
-pub mod Events
-pub mod Steady
-pub mod Isolation
 pub mod Links

@@ -1,7 +1,7 @@
--- Which calls there are, and their arguments in the registers (DEN0028, 2; DEN0077A, 11 to 16). One table says both
--- for reading a call and for FFA_FEATURES.
+-- Which calls there are, which of them are served, and their arguments in the registers (DEN0028, 2; DEN0077A, 11 to 16).
+-- One table says it all: for reading a call, for FFA_FEATURES and for the step.
 use Rattle.std.specs.Prelude.{ℕ, ◌+◌, ◌%◌, ◌^◌, ◌==◌, Bool, true, false, ◌&&◌, ◌||◌, List, [], ◌∷◌, Option, Some, None, find, slice_index, if◌then◌else◌}
-use Rattle.std.specs.List.{list_any}
+use Rattle.std.specs.Option.{option_map_or}
 use Rattle.ffa_model.specs.declared.call.Call.{Call}
 use Rattle.ffa_model.specs.declared.call.Call.TheVariants.{Version, Features, RxRelease, RxtxMap, RxtxUnmap, PartitionInfoGet, IdGet, MsgWait, Yield, Run, DirectRequest, DirectResponse, MemDonate, MemLend, MemShare, MemRetrieve, MemRelinquish, MemReclaim, BitmapCreate, BitmapDestroy, NotificationBind, NotificationUnbind, NotificationSet, NotificationGet, SpmIdGet, MsgSend2, Unknown}
 
@@ -9,18 +9,23 @@ use Rattle.ffa_model.specs.declared.call.Call.TheVariants.{Version, Features, Rx
 abbrev pub low : ℕ → ℕ
 low x = x % 2 ^ 32
 
--- A call: its 32-bit identifier, whether it also has the 64-bit form, and what it is of its arguments:
--- w gives a register's low half, x the whole register in the 64-bit form and else its low half.
+-- A call: its 32-bit identifier, whether it also has the 64-bit form, whether it is served, and what it is of its
+-- arguments: w gives a register's low half, x the whole register in the 64-bit form and else its low half.
 pub record Function : Type 0 where
   pub function : ℕ
   pub is_wide : Bool
+  pub is_served : Bool
   pub call : (ℕ → ℕ) → (ℕ → ℕ) → Call
 
 abbrev pub narrow : ℕ → ((ℕ → ℕ) → Call) → Function
-narrow function call = record { function = function; is_wide = false; call = λ w x. call w }
+narrow function call = record { function = function; is_wide = false; is_served = true; call = λ w x. call w }
 
 abbrev pub wide : ℕ → ((ℕ → ℕ) → (ℕ → ℕ) → Call) → Function
-wide function call = record { function = function; is_wide = true; call = call }
+wide function call = record { function = function; is_wide = true; is_served = true; call = call }
+
+-- a call that is read and answered by NOT_SUPPORTED
+abbrev pub unserved : Function → Function
+unserved f = record f { is_served = false }
 
 abbrev pub payload : (ℕ → ℕ) → List ℕ
 payload x = x 3 ∷ x 4 ∷ x 5 ∷ x 6 ∷ x 7 ∷ []
@@ -39,18 +44,18 @@ functions =
     ∷ narrow 0x8400006D (λ w. Run (w 1))
     ∷ wide 0x8400006F (λ w x. DirectRequest (w 0) (w 1) (w 2) (payload x))
     ∷ wide 0x84000070 (λ w x. DirectResponse (w 0) (w 1) (w 2) (payload x))
-    ∷ wide 0x84000071 (λ w x. MemDonate (w 1) (w 2) (x 3) (w 4))
-    ∷ wide 0x84000072 (λ w x. MemLend (w 1) (w 2) (x 3) (w 4))
-    ∷ wide 0x84000073 (λ w x. MemShare (w 1) (w 2) (x 3) (w 4))
-    ∷ wide 0x84000074 (λ w x. MemRetrieve (w 1) (w 2) (x 3) (w 4))
-    ∷ narrow 0x84000076 (λ w. MemRelinquish)
-    ∷ narrow 0x84000077 (λ w. MemReclaim (w 1) (w 2) (w 3))
-    ∷ narrow 0x8400007D (λ w. BitmapCreate (w 1) (w 2))
-    ∷ narrow 0x8400007E (λ w. BitmapDestroy (w 1))
-    ∷ narrow 0x8400007F (λ w. NotificationBind (w 1) (w 2) (w 3) (w 4))
-    ∷ narrow 0x84000080 (λ w. NotificationUnbind (w 1) (w 2) (w 3) (w 4))
-    ∷ narrow 0x84000081 (λ w. NotificationSet (w 1) (w 2) (w 3) (w 4))
-    ∷ narrow 0x84000082 (λ w. NotificationGet (w 1) (w 2))
+    ∷ unserved (wide 0x84000071 (λ w x. MemDonate (w 1) (w 2) (x 3) (w 4)))
+    ∷ unserved (wide 0x84000072 (λ w x. MemLend (w 1) (w 2) (x 3) (w 4)))
+    ∷ unserved (wide 0x84000073 (λ w x. MemShare (w 1) (w 2) (x 3) (w 4)))
+    ∷ unserved (wide 0x84000074 (λ w x. MemRetrieve (w 1) (w 2) (x 3) (w 4)))
+    ∷ unserved (narrow 0x84000076 (λ w. MemRelinquish))
+    ∷ unserved (narrow 0x84000077 (λ w. MemReclaim (w 1) (w 2) (w 3)))
+    ∷ unserved (narrow 0x8400007D (λ w. BitmapCreate (w 1) (w 2)))
+    ∷ unserved (narrow 0x8400007E (λ w. BitmapDestroy (w 1)))
+    ∷ unserved (narrow 0x8400007F (λ w. NotificationBind (w 1) (w 2) (w 3) (w 4)))
+    ∷ unserved (narrow 0x84000080 (λ w. NotificationUnbind (w 1) (w 2) (w 3) (w 4)))
+    ∷ unserved (narrow 0x84000081 (λ w. NotificationSet (w 1) (w 2) (w 3) (w 4)))
+    ∷ unserved (narrow 0x84000082 (λ w. NotificationGet (w 1) (w 2)))
     ∷ narrow 0x84000085 (λ w. SpmIdGet)
     ∷ narrow 0x84000086 (λ w. MsgSend2)
     ∷ []
@@ -62,9 +67,13 @@ wide_of function = function + 2 ^ 30
 abbrev pub is_form_of : ℕ → Function → Bool
 is_form_of w0 f = w0 == f.function || (f.is_wide && w0 == wide_of f.function)
 
--- whether a number names a call, in either form that it has
+-- the call of which a number is the identifier, in either form that the call has
+abbrev pub function_of : ℕ → Option Function
+function_of w0 = find (is_form_of w0) functions
+
+-- whether a number is the identifier of a call that is served
 abbrev pub is_served : ℕ → Bool
-is_served w0 = list_any (is_form_of w0) functions
+is_served w0 = option_map_or (λ (f : Function). f.is_served) (function_of w0) false
 
 abbrev pub called : List ℕ → Option Function → Call
 called x None = Unknown
@@ -73,4 +82,8 @@ called x (Some f) =
 
 -- the call in the eight registers
 unfoldable pub decode : List ℕ → Call
-decode x = called x (find (is_form_of (low (slice_index x 0))) functions)
+decode x = called x (function_of (low (slice_index x 0)))
+
+-- the call that the registers ask for, where it is served
+abbrev pub served_call : List ℕ → Call
+served_call x = if is_served (low (slice_index x 0)) then decode x else Unknown

@@ -1,11 +1,10 @@
 -- What an endpoint can know of a state: the state itself, with all else left out or blank.
-use Rattle.std.specs.Prelude.{ℕ, ◌==◌, Bool, ◌&&◌, ◌||◌, length, Option, None, if◌then◌else◌}
+use Rattle.std.specs.Prelude.{ℕ, ◌==◌, Bool, ◌&&◌, ◌||◌, length, map as each, Option, None, if◌then◌else◌}
 use Rattle.std.specs.Ordering.{nat_cmp}
 use Rattle.std.specs.Option.{option_map}
 use Rattle.std.specs.FinMap as map
 use Rattle.std.specs.FinSet as finite_set
 use Rattle.ffa_model.specs.Lists.{map_at}
-use Rattle.ffa_model.specs.Masks.{map_values}
 use Rattle.ffa_model.specs.Identifiers.{identifier}
 use Rattle.ffa_model.specs.State.{State, Transaction, Buffers, owner_of, transaction_of}
 use Rattle.ffa_model.specs.Access.{is_from, is_offered, transaction_at}
@@ -21,6 +20,10 @@ is_near e s p = owner_of s p == e || involves e (transaction_at s p)
 
 abbrev pub kept : {X : Type 0} → Bool → Option X → Option X
 kept there x = if there then x else None
+
+-- a finite map whose values are changed
+abbrev pub map_values : {X Y : Type 0} → (X → Y) → map.FinMap nat_cmp X → map.FinMap nat_cmp Y
+map_values f m = map.from_entries (each (λ entry. (entry.0, f entry.1)) (map.entries m))
 
 -- who isn't the sender knows of the holders itself alone
 abbrev pub seen_by : ℕ → Transaction → Transaction

@@ -23,7 +23,7 @@ use Rattle.ffa_model.specs.declared.call.Call.TheVariants.{Version, Features, Rx
 use Rattle.ffa_model.specs.Bits.{bits_of, high_half, joined, low_half}
 use Rattle.ffa_model.specs.Lists.{listed, map_at}
 use Rattle.ffa_model.specs.Codes.{status_code}
-use Rattle.ffa_model.specs.Registers.{decode}
+use Rattle.ffa_model.specs.Registers.{served_call}
 use Rattle.ffa_model.specs.State.{State, Page, Transaction, Buffers, buffers_of, has_bitmaps, transaction_of}
 use Rattle.ffa_model.specs.Access.{is_from, is_offered, is_receiver, names}
 use Rattle.ffa_model.specs.Calls.{Service, encode, first_failure}
@@ -38,7 +38,7 @@ use Rattle.ffa_model.specs.MemorySend.{offered, send_read, transaction_from}
 use Rattle.ffa_model.specs.MemoryRetrieve.{retrieve_read, right_for}
 use Rattle.ffa_model.specs.MemoryReturn.{ranges_of, relinquish_read}
 use Rattle.ffa_model.specs.Step.{serve, service, step}
-use Rattle.ffa_model.specs.View.{involves, is_near, kept}
+use Rattle.ffa_laws.specs.View.{involves, is_near, kept}
 
 -- what everyone may know: who runs, each status and work, and of mapped buffers whether RX is full
 pub record PublicPart : Type 0 where
@@ -254,11 +254,14 @@ is_same_public a b =
 abbrev pub public_change : State → State → List Event
 public_change s next = if is_same_public (public_part s) (public_part next) then [] else Public (public_part next) ∷ []
 
+-- what a call of another endpoint tells e
+abbrev pub call_events : ℕ → State → calls.Call → List Event
+call_events e s call =
+    where_passed (first_failure (service s call).guards) (told_by e s call) ++ public_change s (serve s call).state
+
 -- what an operation of another endpoint tells e
 abbrev pub events : ℕ → State → Op → List Event
-events e s (Call x) =
-    where_passed (first_failure (service s (decode x)).guards) (told_by e s (decode x))
-    ++ public_change s (serve s (decode x)).state
+events e s (Call x) = call_events e s (served_call x)
 events e s (Load addr size) = []
 events e s (Store addr size value) =
     where_passed (store_fault s addr (size_of size)) (writes e s addr (little_bytes (size_of size) value))
