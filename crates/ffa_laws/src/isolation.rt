@@ -1,11 +1,12 @@
 //! Isolation: what an endpoint sees comes from its view, from its own operations, and from the events towards it.
 
-ghost use Rattle.std.specs.Prelude.{ℕ, ◌≡◌, ◌≤◌, true, List, length};
+ghost use Rattle.std.specs.Prelude.{ℕ, ◌≡◌, ◌≤◌, true, List, length, Some, slice_get};
 ghost use Rattle.ffa_model.specs.declared.endpoint.Endpoint.{Endpoint};
 ghost use Rattle.ffa_model.specs.First.{first};
 ghost use Rattle.ffa_model.specs.declared.call.Call.{Call};
 ghost use Rattle.ffa_model.specs.declared.operation.Op.{Op};
-ghost use Rattle.ffa_model.specs.SoundState.{IsSoundState};
+ghost use Rattle.ffa_model.specs.Manifest.{is_accepted};
+ghost use Rattle.ffa_model.specs.SoundState.{IsSoundState, are_bytes};
 ghost use Rattle.ffa_model.specs.State.{State};
 ghost use Rattle.ffa_model.specs.Step.{serve, state_after, step};
 ghost use Rattle.ffa_laws.specs.Steady.{IsScheduled, IsSteady};
@@ -53,7 +54,11 @@ pub fn sound_is_steady()
     ensures { (s : State) → IsSoundState s → IsSteady s }
 {}
 
-/// The state in which a machine starts is steady, with sound run states.
+/// The state in which a machine starts is steady, with sound run states. That of an accepted manifest, whose UUIDs have 16
+/// bytes each, is sound.
 pub fn first_is_sound()
-    ensures { (base blocks : ℕ) (es : List Endpoint) → 1 ≤ length es → length es ≤ 8 → IsScheduled (first base blocks es) }
+    ensures scheduled { (base blocks : ℕ) (es : List Endpoint) → 1 ≤ length es → length es ≤ 8 → IsScheduled (first base blocks es) }
+    ensures sound { (base blocks : ℕ) (es : List Endpoint) → is_accepted base blocks es ≡ true
+        → ((i : ℕ) (e : Endpoint) → slice_get es i ≡ Some e → (length e.uuid ≡ 16) × are_bytes e.uuid)
+        → IsSoundState (first base blocks es) }
 {}
