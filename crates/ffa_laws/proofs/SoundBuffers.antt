@@ -6,15 +6,14 @@ use Rattle.std.proofs.lemmas.List.{get_or-set_other, get_or-set_same}
 use Rattle.std.proofs.lemmas.Option.{none-some, same_Some}
 use Rattle.ffa_model.specs.declared.operation.ErrorCode.TheVariants.{InvalidParameters, Denied}
 use Rattle.ffa_model.specs.Identifiers.{place}
-use Rattle.ffa_model.specs.Manifest.{is_ram_base}
-use Rattle.ffa_model.specs.State.{State, Page, Buffers, buffers_of, is_known}
+use Rattle.ffa_model.specs.State.{State, Buffers, buffers_of, is_known}
 use Rattle.ffa_model.specs.Calls.{first_failure}
 use Rattle.ffa_model.specs.Buffers.{Candidates, buffers_with, buffers_with_rx, candidates, filled, filled_pages, is_page_address, map_guards, new_buffers, page_number, rxtx_map, with_buffers, with_rx}
 use Rattle.ffa_model.specs.SoundState.{IsSoundBuffers, IsSoundState}
 use Rattle.ffa_model.proofs.Guards.{guard-passes}
 use Rattle.ffa_model.proofs.Places.{known-place, same-known}
 use Rattle.ffa_laws.proofs.SoundKept.{AreSoundBuffers, AreSoundPages, buffers-sound, pages-sound}
-use Rattle.ffa_laws.proofs.SoundSteady.{sound-steady}
+use Rattle.ffa_laws.proofs.SoundSteady.{runner-known}
 use Rattle.ffa_laws.proofs.Written.{at-changed, is_at, rewritten-filled, with_rx_full}
 
 -- pages at different addresses are different
@@ -27,9 +26,6 @@ page-address ram address is =
     (eqb-true (address % 4096) 0 aligned, leb-true ram.base address above)
 
 module _ (s : State) (sound : IsSoundState s) where
-  known : is_known s s.runner ≡ true
-  known = (sound-steady s sound).runner
-
   -- RX is full, or empty
   pub rx-sound : (f : ℕ) (full : Bool) → IsSoundState (with_rx s f full)
   rx-sound f full =
@@ -49,12 +45,12 @@ module _ (s : State) (sound : IsSoundState s) where
   set-sound o new = buffers-sound s sound (buffers_with s.buffers s.runner o) (length-set s.buffers (place s.runner) o ∙ sound.sized.buffers) own
     where
       inside : place s.runner < length s.buffers
-      inside = subst (λ n. place s.runner < n) (sym sound.sized.buffers) (known-place (length s.parties) s.runner sound.sized.some known)
+      inside = subst (λ n. place s.runner < n) (sym sound.sized.buffers) (known-place (length s.parties) s.runner sound.sized.some (runner-known s sound))
 
       own : AreSoundBuffers s (buffers_with s.buffers s.runner o)
       own e b its is = elim (cases_eq (place e) (place s.runner)) [
         | inl same ↦
-            let mine : e ≡ s.runner = same-known (length s.parties) e s.runner its known same in
+            let mine : e ≡ s.runner = same-known (length s.parties) e s.runner its (runner-known s sound) same in
             subst (λ f. IsSoundBuffers s f b) (sym mine) (new b (sym (ap (λ i. get_or (set s.buffers (place s.runner) o) i None) same ∙ get_or-set_same s.buffers (place s.runner) o None inside) ∙ is))
         | inr other ↦ sound.buffers e b its (sym (get_or-set_other s.buffers (place s.runner) (place e) o None other) ∙ is)
       ]

@@ -1,14 +1,13 @@
 -- What keeps a state sound: its parts, one by one.
-use Rattle.std.proofs.Common.{◌≡◌, ◌∙◌, ℕ, ◌<◌, true, List, length, get_or, Option, Some, None, refl, sym, ap, subst, arith}
+use Rattle.std.proofs.Common.{◌≡◌, ◌∙◌, ℕ, ◌<◌, true, List, length, get_or, Option, Some, None, refl, subst, arith}
 use Rattle.std.specs.FinSet as finite_set
 use Rattle.ffa_model.specs.Identifiers.{place}
-use Rattle.ffa_model.specs.State.{State, Page, Buffers, buffers_of, owner_of, page_at}
-use Rattle.ffa_model.specs.Buffers.{with_buffers}
+use Rattle.ffa_model.specs.State.{State, Page, Buffers, owner_of, page_at}
 use Rattle.ffa_model.specs.RunStates.{Schedule, schedule_of, with_schedule}
 use Rattle.ffa_model.specs.Notifications.{Notifications, with_notifications}
 use Rattle.ffa_model.specs.Sound.{IsSound}
 use Rattle.ffa_model.specs.SoundState.{IsKnown, IsSoundBinding, IsSoundBuffers, IsSoundPage, IsSoundPending, IsSoundState}
-use Rattle.ffa_model.specs.Transactions.{base_of, bases_of}
+use Rattle.ffa_model.specs.Transactions.{bases_of}
 use Rattle.ffa_model.proofs.Kept.{same-transaction, same-usable}
 use Rattle.ffa_laws.proofs.Changes.{AreRewritten, same_base, same_owner, unwritten, with_parts}
 

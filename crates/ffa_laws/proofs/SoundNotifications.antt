@@ -11,9 +11,9 @@ use Rattle.ffa_model.specs.declared.operation.ErrorCode.TheVariants.{InvalidPara
 use Rattle.ffa_model.specs.Bits.{bits_of, high_half, is_set, joined, low_half}
 use Rattle.ffa_model.specs.Identifiers.{identifier, place}
 use Rattle.ffa_model.specs.Lists.{listed}
-use Rattle.ffa_model.specs.State.{State, is_known, is_known_among}
+use Rattle.ffa_model.specs.State.{State}
 use Rattle.ffa_model.specs.Calls.{first_failure}
-use Rattle.ffa_model.specs.Notifications.{Notifications, bind_guards, binding, bitmap_destroy, class_in, class_of, destroy_guards, has_bitmaps_in, has_pending, is_bindable, is_bound, is_bound_to_another, is_pending, is_unbindable, manager_class, normal_class, notification_bind, notification_set, notification_unbind, notifications_of, partition_class, receiver_bit, receiver_in, rx_full_bits, sender_in, set_guards, unbind_guards, with_bitmaps, with_bound, with_framework_bit, with_notifications, with_pending, without_bitmaps, without_bound, without_pending}
+use Rattle.ffa_model.specs.Notifications.{Notifications, bind_guards, binding, class_in, class_of, destroy_guards, has_bitmaps_in, has_pending, is_bindable, is_bound, is_bound_to_another, is_pending, is_unbindable, manager_class, normal_class, notifications_of, partition_class, receiver_bit, receiver_in, rx_full_bits, sender_in, set_guards, unbind_guards, with_bitmaps, with_bound, with_framework_bit, with_notifications, with_pending, without_bitmaps, without_bound, without_pending}
 use Rattle.ffa_model.specs.SoundState.{IsKnown, IsSoundBinding, IsSoundPending, IsSoundState}
 use Rattle.ffa_model.proofs.Guards.{guard-passes}
 use Rattle.ffa_model.proofs.NamedPages.{each-listed}
@@ -21,7 +21,7 @@ use Rattle.ffa_model.proofs.Places.{known-named, known-place, same-known}
 use Rattle.ffa_laws.proofs.Bitmaps.{Bits, among, contains-less, contains-more, contains-retained, same_elements}
 use Rattle.ffa_laws.proofs.Raised.{raised}
 use Rattle.ffa_laws.proofs.SoundKept.{notifications-sound}
-use Rattle.ffa_laws.proofs.SoundSteady.{sound-steady}
+use Rattle.ffa_laws.proofs.SoundSteady.{runner-known}
 
 -- ---- lists of bits
 any-listed : {X : Type 0} (test : X → Bool) (n : ℕ) (f : ℕ → X) (i : ℕ) → i < n → test (f i) ≡ true → list_any test (listed n f) ≡ true
@@ -81,9 +81,6 @@ pending-found n e class bit of_class in_word is = go class of_class (any-listed 
 module _ (s : State) (sound : IsSoundState s) where
   abbrev n : Notifications
   n = notifications_of s
-
-  known : is_known s s.runner ≡ true
-  known = (sound-steady s sound).runner
 
   -- ---- where bindings stay as they are, and where pending bits do
   same-binding : (m : Notifications) (x : List ℕ) → (good : IsSoundBinding s x) → has_bitmaps_in m good.receiver ≡ true
@@ -224,7 +221,7 @@ module _ (s : State) (sound : IsSoundState s) where
             bit = new.0;
             sender = sender;
             is = new.2;
-            to_known = known;
+            to_known = runner-known s sound;
             from_known = guard-passes (bind_guards (length s.parties) n s.runner word flags (joined low high)) 1 InvalidParameters (sym none);
             in_word = ltb-true new.0 64 (and_parts (nat_lt new.0 64) _ new.1).0;
             bitmaps = guard-passes (bind_guards (length s.parties) n s.runner word flags (joined low high)) 5 Denied (sym none);

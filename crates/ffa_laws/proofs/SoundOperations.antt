@@ -1,5 +1,5 @@
 -- Each operation keeps a state sound.
-use Rattle.std.proofs.Common.{◌≡◌, ℕ, true, false, cond, length, Some, None, sym}
+use Rattle.std.proofs.Common.{◌≡◌, ℕ, true, false, cond, length, None, sym}
 use Rattle.byteorder.specs.Endian.{little_bytes}
 use Rattle.std.specs.Prelude.{◌-◌, ◌/◌, ◌%◌}
 use Rattle.std.proofs.lemmas.Bool.{false≢true}
@@ -20,7 +20,7 @@ use Rattle.ffa_model.specs.Buffers.{filled}
 use Rattle.ffa_model.specs.Setup.{info_bytes, is_count_alone, uuid_bytes}
 use Rattle.ffa_model.specs.RunStates.{Schedule, finished, given_cycles, requested, schedule_of, status_in, switched, with_schedule}
 use Rattle.ffa_model.specs.Messages.{header_in, message_in, msg_send2, send2_guards, tx_bytes}
-use Rattle.ffa_model.specs.SoundState.{IsKnown, IsSoundState}
+use Rattle.ffa_model.specs.SoundState.{IsSoundState}
 use Rattle.ffa_model.specs.Step.{service, step}
 use Rattle.ffa_laws.specs.Steady.{IsScheduled}
 use Rattle.ffa_laws.specs.Isolation.{is_lawful_call}

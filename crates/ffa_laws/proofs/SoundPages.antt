@@ -1,6 +1,6 @@
 -- Pages stay sound where bytes are written: by a store, and into RX.
-use Rattle.std.proofs.Common.{◌≡◌, ◌∙◌, ℕ, zero, suc, ◌+◌, ◌*◌, ◌≤◌, Bool, true, false, cond, List, [], ◌∷◌, ◌++◌, take, length, replicate, get_or, Option, Some, None, refl, sym, ap, subst, arith, length-append}
-use Rattle.std.specs.Prelude.{◌==◌, ◌%◌, ◌&&◌, nat_le, nat_lt, slice_get}
+use Rattle.std.proofs.Common.{◌≡◌, ◌∙◌, ℕ, suc, ◌+◌, ◌≤◌, Bool, true, false, cond, List, [], ◌∷◌, ◌++◌, take, length, replicate, get_or, Option, Some, None, refl, sym, subst, arith, length-append}
+use Rattle.std.specs.Prelude.{◌==◌, ◌%◌, ◌&&◌, nat_lt, slice_get}
 use Rattle.std.specs.List.{enumerate_from, list_all}
 use Rattle.std.specs.Option.{option_map_or}
 use Rattle.std.proofs.lemmas.Bool.{and_from, and_parts, eq-eqb, eqb-true, leb-true}
@@ -26,9 +26,8 @@ use Rattle.ffa_model.specs.Messages.{header_in, message_in, send2_guards, tx_byt
 use Rattle.ffa_model.specs.SoundState.{IsSoundPage, IsSoundParty, IsSoundState, are_bytes}
 use Rattle.ffa_model.proofs.Guards.{guard-passes}
 use Rattle.ffa_laws.proofs.ByteLists.{all-append, all-enumerated, all-filter, all-take, bytes-pieces, bytes-with_bytes, length-filter-le, length-pieces, length-with_bytes, number-bytes}
-use Rattle.ffa_laws.proofs.Changes.{unwritten}
-use Rattle.ffa_laws.proofs.SoundKept.{AreSoundPages, pages-sound}
-use Rattle.ffa_laws.proofs.Written.{at-changed, is_at, rewritten-filled, rewritten-written}
+use Rattle.ffa_laws.proofs.SoundKept.{AreSoundPages}
+use Rattle.ffa_laws.proofs.Written.{at-changed, is_at}
 
 module _ (s : State) (ps : List (Option Page)) (pages : AreSoundPages s ps) (bytes : List ℕ) (are : are_bytes bytes) where
   pub written-sound : (p at : ℕ) → at + length bytes ≤ 4096 → AreSoundPages s (written_pages ps p at bytes)

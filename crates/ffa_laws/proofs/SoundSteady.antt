@@ -2,7 +2,7 @@
 use Rattle.std.proofs.Common.{◌≡◌, ◌≢◌, ◌∙◌, ℕ, ◌+◌, ◌*◌, ◌<◌, ◌≤◌, Bool, true, false, cond, List, [], ◌∷◌, length, Option, Some, None, refl, sym, ap, subst, inl, inr, arith}
 use Rattle.std.specs.Prelude.{◌==◌, ◌&&◌, ◌||◌, find, nat_le, nat_lt, not, unwrap_or}
 use Rattle.std.specs.List.{list_all, list_any}
-use Rattle.std.specs.Option.{option_and_then, option_map, option_map_or}
+use Rattle.std.specs.Option.{option_and_then, option_map_or}
 use Rattle.std.proofs.lemmas.Bool.{and_from, and_parts, eqb-true, false≢true, le-leb, leb-true, ltb-true, or_cases}
 use Rattle.std.proofs.lemmas.Option.{none-some}
 use Rattle.ffa_model.specs.declared.rights.Data.{Data}
@@ -14,13 +14,13 @@ use Rattle.ffa_model.specs.declared.transaction.Range.{Range}
 use Rattle.ffa_model.specs.declared.transaction.Receiver.{Receiver}
 use Rattle.ffa_model.specs.Identifiers.{manager}
 use Rattle.ffa_model.specs.Rights.{is_at_most, is_data_at_most, is_lend, is_share, is_within, may_fetch, may_store}
-use Rattle.ffa_model.specs.State.{State, Page, Transaction, is_known_among, owner_of, page_at, transaction_of}
+use Rattle.ffa_model.specs.State.{State, Page, Transaction, is_known, is_known_among, owner_of, page_at, transaction_of}
 use Rattle.ffa_model.specs.Access.{covers, held_by, is_naming, names}
 use Rattle.ffa_model.specs.RunStates.{schedule_of}
 use Rattle.ffa_model.specs.Transactions.{Bases, are_executable, are_writable, base_of, bases_of, ceiling, ceiling_in, grant_to, pages_in}
 use Rattle.ffa_model.specs.MemorySend.{are_grants_within, is_grantable, is_inside}
 use Rattle.ffa_model.specs.SendDescriptor.{range_end}
-use Rattle.ffa_model.specs.SoundState.{IsKnown, IsSoundState, IsSoundTransaction}
+use Rattle.ffa_model.specs.SoundState.{IsSoundState, IsSoundTransaction}
 use Rattle.ffa_laws.specs.Steady.{IsSteady, IsSteadyTransaction, is_joint, page_base}
 use Rattle.ffa_model.proofs.NamedPages.{listed-each}
 use Rattle.ffa_laws.proofs.Growth.{within-through}
@@ -71,7 +71,7 @@ two-receivers (r ∷ []) e f differ one other = absurd (differ (sym (alone e one
     alone g is = elim (or_cases _ _ is) [ inl same ↦ eqb-true r.endpoint.0 g same | inr none ↦ absurd (false≢true none) ]
 two-receivers (r ∷ q ∷ receivers) e f differ one other = omega arith
 
--- execution, where a test gives it
+-- execution and level, where a test gives them
 executed : (b c : Bool) → (b ≡ true → c ≡ true) → (not b || c) ≡ true
 executed true c is = is refl
 executed false c is = refl
@@ -80,9 +80,9 @@ alone-executed : (one all c : Bool) → (all ≡ true → c ≡ true) → (not (
 alone-executed true all c is = executed all c is
 alone-executed false all c is = refl
 
-written : (b : Bool) (level : Data) → (b ≡ true → is_data_at_most Rw level ≡ true) → is_data_at_most (cond b Rw Ro) level ≡ true
-written true level is = is refl
-written false level is = refl
+level-within : (b : Bool) (level : Data) → (b ≡ true → is_data_at_most Rw level ≡ true) → is_data_at_most (cond b Rw Ro) level ≡ true
+level-within true level is = is refl
+level-within false level is = refl
 
 module _ (s : State) (sound : IsSoundState s) where
   module _ (h : ℕ) (t : Transaction) (open_t : transaction_of s h ≡ Some t) where
@@ -130,7 +130,7 @@ module _ (s : State) (sound : IsSoundState s) where
             go Share = and_from _ _ grant refl
             go Lend = and_from _ _ grant (alone-executed (length t.receivers == 1) (are_executable (bases_of s) t.ranges) page.base.exec execute)
             go Donate =
-                and_from _ _ (written (are_writable (bases_of s) t.ranges) page.base.level (λ all. sym (ap may_store base) ∙ each (λ q. may_store (base_of s q)) all))
+                and_from _ _ (level-within (are_writable (bases_of s) t.ranges) page.base.level (λ all. sym (ap may_store base) ∙ each (λ q. may_store (base_of s q)) all))
                 (executed (are_executable (bases_of s) t.ranges) page.base.exec execute)
 
     steady-transaction : IsSteadyTransaction s t
@@ -176,3 +176,7 @@ module _ (s : State) (sound : IsSoundState s) where
             let own = sound.bound entry is in
             record { receiver = own.receiver; bit = own.bit; sender = own.sender; is = own.is; in_word = own.in_word };
       }
+
+  -- whoever runs is an endpoint
+  pub runner-known : is_known s s.runner ≡ true
+  runner-known = sound-steady.runner

@@ -13,8 +13,8 @@ ghost use Rattle.ffa_laws.specs.Steady.{IsScheduled, IsSteady};
 ghost use Rattle.ffa_laws.specs.Isolation.{Integrity, Isolated, LeavesBytes, NeverGrow, OneCall, OneStep, Shown, is_lawful_call, is_send2};
 
 /// One call, served yet or not: it tells another endpoint its events, and its outcome depends on the runner's view alone. A
-/// state that is steady stays so, rights don't grow, and a page that its owner has alone keeps its bytes while another
-/// endpoint runs, but for a message into its RX.
+/// state that is steady or sound stays so, rights don't grow, and a page that its owner has alone keeps its bytes while
+/// another endpoint runs, but for a message into its RX.
 pub fn one_call()
     ensures call { (s : State) (call : Call) → is_lawful_call call ≡ true → IsSteady s → OneCall s call }
     ensures steady { (s : State) (call : Call) → is_lawful_call call ≡ true → IsSteady s → IsSteady (serve s call).state }
@@ -24,7 +24,7 @@ pub fn one_call()
 {}
 
 /// One operation: it tells another endpoint its events, and its outcome depends on the runner's view alone. A state that
-/// is steady stays so, and sound run states stay sound.
+/// is steady or sound stays so, and sound run states stay sound.
 pub fn one_step()
     ensures step { (s : State) (op : Op) → IsSteady s → OneStep s op }
     ensures steady { (s : State) (op : Op) → IsSteady s → IsSteady (step s op).state }
