@@ -88,17 +88,18 @@ impl PageTable {
 
     /// Gives a page to an endpoint, with this right. A transaction that names the page goes on naming it.
     pub fn give(&mut self, page: PageNo, owner: EndpointId, base: Rights)
-        requires { page.0 < length self.old }
+        requires page { page.0 < length self.old }
+        requires endpoint { owner.0 ≢ manager }
         ensures { self.new ≡ given self.old page.0 owner.0 base }
     {
         let slot = self.slot_of(page);
         self.pages[page.0 as usize] = Some(OwnedPage { owner, base, slot });
     }
 
-    /// Says which open transaction names a page that an endpoint owns, by its place in the pool, or that none does.
+    /// Says which open transaction names a page that an endpoint owns, by its place in the pool, or that none does. Of a
+    /// page of the manager nothing is kept.
     pub fn mark(&mut self, page: PageNo, slot: Option<u8>)
-        requires page { page.0 < length self.old }
-        requires owned { owner_at self.old page.0 ≢ manager }
+        requires { page.0 < length self.old }
         ensures { self.new ≡ marked self.old page.0 slot }
     {
         if let Some(owned) = self.owned(page) {

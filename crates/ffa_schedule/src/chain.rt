@@ -67,7 +67,8 @@ impl Chain {
 
     /// The endpoint that runs.
     pub fn runner(&self) -> EndpointId
-        ensures { result.0 ≡ self.now.runner }
+        ensures runner { result.0 ≡ self.now.runner }
+        ensures sound { IsSound self.now }
     {
         self.links[self.links.len() - 1]
     }
@@ -196,11 +197,9 @@ impl Chain {
 
     // The work of the runner.
     fn own_work(&self) -> Option<Work>
-        ensures work { result ≡ work_in self.now self.now.runner }
-        ensures sound { IsSound self.now }
+        ensures { result ≡ work_in self.now self.now.runner }
     {
-        let last = self.links.len() - 1;
-        self.work(self.links[last])
+        self.work(self.runner())
     }
 
     // The target of FFA_RUN, where it may be given cycles.

@@ -1,5 +1,5 @@
 use Rattle.ffa_schedule.proofs.Steps.{sound-seen}
-use Rattle.ffa_schedule.proofs.chain.Chain.own_work.Goals as goal
+use Rattle.ffa_schedule.proofs.chain.Chain.runner.Goals as goal
 
 pub returns-clause-sound : goal.returns-clause-sound
 returns-clause-sound c = sound-seen c.self.inside.links.items c.self.inside.works.items c.args.self.now c.self.view_is c.self.invariant
