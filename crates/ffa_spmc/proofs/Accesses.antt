@@ -21,10 +21,13 @@ use Rattle.ffa_model.specs.Rights.{may_write, may_store}
 use Rattle.ffa_model.specs.State.{State, page_at}
 use Rattle.ffa_model.proofs.Accepted.{accepted}
 use Rattle.ffa_spmc.specs.declared.kept.Kept.{Kept}
-use Rattle.ffa_spmc.specs.Meaning.{IsMachine, state_of}
+use Rattle.ffa_model.specs.declared.operation.Op.TheVariants.{Store}
+use Rattle.ffa_model.specs.SoundState.{IsSoundState}
+use Rattle.ffa_laws.proofs.SoundOperations.{step-sound}
+use Rattle.ffa_spmc.specs.Meaning.{HasTables, IsMachine, state_of}
 use Rattle.ffa_spmc.specs.Snapshot.{Snapshot}
 use Rattle.ffa_spmc.proofs.Held.{base_is, parties_are, size_is, runner-known, runner-named}
-use Rattle.ffa_spmc.proofs.Machines.{agrees, machine-written}
+use Rattle.ffa_spmc.proofs.Machines.{agrees, tables-written}
 use Rattle.ffa_spmc.proofs.Reaches.{owned-in, number-is, placed, reach-is, reached}
 use Rattle.ffa_spmc.proofs.Stores.{state-written}
 
@@ -91,14 +94,14 @@ module _ (ram : Ram) (m : Manifest) (kept : Kept) (machine : IsMachine ram m kep
 
   -- what a store leaves where its access ended so
   after : (address : ℕ) (bytes : List ℕ) (o : Option FaultKind) (n : ℕ) → fault_of (address % n == 0) (access_at s kept.chain.runner address) may_store ≡ o
-      → IsMachine (with_bytes_reached ram bytes (reached o address)) m kept
+      → HasTables (with_bytes_reached ram bytes (reached o address)) m
       × (state_of (with_bytes_reached ram bytes (reached o address)) m kept ≡ (accessed o s (memory.stored s address bytes) Done).state)
-  after address bytes (Some fault) n is = (machine, refl)
+  after address bytes (Some fault) n is = (machine.tables, refl)
   after address bytes None n is =
       let (r, right) = right-of (address % n == 0) (access_at s kept.chain.runner address) may_store is in
       let p = placed s kept.chain.runner address r right in
       let low : s.ram_base ≤ address = p.low in
-      let base : s.ram_base ≡ ram.base = base_is ram m kept ∙ sym machine.base in
+      let base : s.ram_base ≡ ram.base = base_is ram m kept ∙ sym machine.tables.base in
       let number : (address - s.ram_base) / 4096 ≡ (address - ram.base) / 4096 = omega (arith, base) in
       let whole : s.ram_base % 4096 ≡ 0 = aligned in
       let at : (address - ram.base) % 4096 ≡ address % 4096 = omega (arith, base, whole, low) in
@@ -106,7 +109,7 @@ module _ (ram : Ram) (m : Manifest) (kept : Kept) (machine : IsMachine ram m kep
       let inside : (address - ram.base) / 4096 < length ram.pages =
       subst (λ (n : ℕ). (address - ram.base) / 4096 < n) (size_is ram m kept) (owned-in s ((address - ram.base) / 4096) p.page there)
       in (
-        machine-written ram m kept machine ((address - ram.base) / 4096) ((address - ram.base) % 4096) bytes p.page inside there,
+        tables-written ram m kept machine ((address - ram.base) / 4096) ((address - ram.base) % 4096) bytes p.page inside there,
         state-written ram m kept ((address - ram.base) / 4096) ((address - ram.base) % 4096) bytes inside
             ∙ ap (λ (k : ℕ). written s ((address - ram.base) / 4096) k bytes) at
             ∙ ap (λ (k : ℕ). written s k (address % 4096) bytes) (sym number),
@@ -117,15 +120,23 @@ module _ (ram : Ram) (m : Manifest) (kept : Kept) (machine : IsMachine ram m kep
       ≡ with_bytes_reached ram (little_bytes (size_of size) value) (reached (fault_of (address % size_of size == 0) (access_at s kept.chain.runner address) may_store) address)
   stored-reached address size value = ap (with_bytes_reached ram (little_bytes (size_of size) value)) (runner-reach address (size_of size) may_store_to may_store (λ r. refl))
 
-  pub store-machine : (address : ℕ) (size : Size) (value : ℕ) → IsMachine (stored ram runner_root address (size_of size) value) m kept
-  store-machine address size value =
-      subst (λ (r : Ram). IsMachine r m kept) (sym (stored-reached address size value))
+  store-tables : (address : ℕ) (size : Size) (value : ℕ) → HasTables (stored ram runner_root address (size_of size) value) m
+  store-tables address size value =
+      subst (λ (r : Ram). HasTables r m) (sym (stored-reached address size value))
       (after address (little_bytes (size_of size) value) (fault_of (address % size_of size == 0) (access_at s kept.chain.runner address) may_store) (size_of size) refl).0
 
   pub store-state : (address : ℕ) (size : Size) (value : ℕ) → state_of (stored ram runner_root address (size_of size) value) m kept ≡ (memory.store s address size value).state
   store-state address size value =
       ap (λ (r : Ram). state_of r m kept) (stored-reached address size value)
       ∙ (after address (little_bytes (size_of size) value) (fault_of (address % size_of size == 0) (access_at s kept.chain.runner address) may_store) (size_of size) refl).1
+
+  pub store-machine : (address : ℕ) (size : Size) (value : ℕ) → IsMachine (stored ram runner_root address (size_of size) value) m kept
+  store-machine address size value =
+      record {
+        tables = store-tables address size value;
+        owners = machine.owners;
+        sound = subst IsSoundState (sym (store-state address size value)) (step-sound s machine.sound (Store address size value));
+      }
 
   pub store-outcome : (address : ℕ) (size : Size) (value : ℕ) → done_or_fault (store_answer ram runner_root address (size_of size)) ≡ (memory.store s address size value).outcome
   store-outcome address size value =

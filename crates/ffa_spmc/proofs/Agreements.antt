@@ -37,13 +37,13 @@ module _ (ram : Ram) (m : Manifest) (kept : Kept) (machine : IsMachine ram m kep
 
   pub root-is : (i : ℕ) → root s i ≡ root_of ram.base m.ram_blocks i
   root-is i =
-      let many : length s.pages ≡ 512 * m.ram_blocks = size_is ram m kept ∙ machine.size in
+      let many : length s.pages ≡ 512 * m.ram_blocks = size_is ram m kept ∙ machine.tables.size in
       let blocks : blocks_of s ≡ m.ram_blocks = omega (arith, many) in
-      ap (λ (b : ℕ). root_of s.ram_base b i) blocks ∙ ap (λ (base : ℕ). root_of base m.ram_blocks i) (base_is ram m kept ∙ sym machine.base)
+      ap (λ (b : ℕ). root_of s.ram_base b i) blocks ∙ ap (λ (base : ℕ). root_of base m.ram_blocks i) (base_is ram m kept ∙ sym machine.tables.base)
 
   access_at-is : (i address : ℕ) → address < 2 ^ 32 → access_at s (identifier i) address ≡ right_at ram m i address
   access_at-is i address low =
-      let base : s.ram_base ≡ ram.base = base_is ram m kept ∙ sym machine.base in
+      let base : s.ram_base ≡ ram.base = base_is ram m kept ∙ sym machine.tables.base in
       elim (cases_lt address ram.base) [
         | inl under ↦
             (let outside : is_in_ram ram address ≡ false = grind (arith, nat_tests) in
@@ -82,7 +82,7 @@ module _ (ram : Ram) (m : Manifest) (kept : Kept) (machine : IsMachine ram m kep
   pub agrees-held : WalksGive ram m → Agrees ram s
   agrees-held walks =
       record {
-        place = machine.base ∙ sym (base_is ram m kept);
+        place = machine.tables.base ∙ sym (base_is ram m kept);
         size = sym (size_is ram m kept);
         walks = λ i address lt low.
             ap (λ (r : ℕ). walk ram r address) (root-is i)

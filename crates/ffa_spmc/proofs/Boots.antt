@@ -1,8 +1,10 @@
 -- A machine in its first state.
+use Rattle.std.specs.Prelude.{◌==◌, nat_lt, slice_get, true}
+use Rattle.std.specs.List.{list_all}
 use Rattle.std.proofs.Common.{◌≡◌, ◌∙◌, ℕ, suc, zero, ◌*◌, ◌<◌, ◌≤◌, List, [], ◌∷◌, length, get_or, replicate, Option, Some, None, refl, sym, ap, subst, arith, inl, inr}
-use Rattle.std.proofs.lemmas.Bool.{cases_lt}
+use Rattle.std.proofs.lemmas.Bool.{and_parts, cases_lt, eqb-true}
 use Rattle.std.proofs.lemmas.List.{get_or-replicate, length-map, length-replicate}
-use Rattle.std.proofs.lemmas.Option.{none-some}
+use Rattle.std.proofs.lemmas.Option.{none-some, same_Some}
 use Rattle.arrayvec.specs.ArrayVec.{array_vec_len}
 use Rattle.ffa_model.specs.declared.endpoint.Endpoint.{Endpoint}
 use Rattle.ffa_model.specs.declared.endpoint.Region.{Region}
@@ -14,7 +16,6 @@ use Rattle.ffa_model.specs.Regions.{regions_at, regions_of_each, right_in as rig
 use Rattle.ffa_model.specs.State.{Page, Buffers}
 use Rattle.ffa_model.specs.First.{first, page_with_bytes}
 use Rattle.ffa_model.specs.RunStates.{Schedule, first_schedule}
-use Rattle.ffa_model.specs.Sound.{IsSound}
 use Rattle.ffa_model.proofs.Accepted.{accepted}
 use Rattle.ffa_model.proofs.Listed.{listed-same}
 use Rattle.ffa_model.proofs.Owners.{owned-behind}
@@ -25,8 +26,12 @@ use Rattle.ffa_stage2.specs.Tables.{IsBuilt, KeepsRest, table_page}
 use Rattle.ffa_stage2.proofs.Rights.{built-same}
 use Rattle.ffa_spmc.specs.declared.kept.Kept.{Kept}
 use Rattle.ffa_spmc.specs.Owners.{first_owners}
-use Rattle.ffa_spmc.specs.Meaning.{IsMachine, held_page, own_right, state_of}
-use Rattle.ffa_spmc.proofs.Held.{page-held, page-in}
+use Rattle.ffa_model.specs.Endpoints.{have_uuids}
+use Rattle.ffa_model.specs.SoundState.{IsSoundState, are_bytes}
+use Rattle.ffa_model.specs.Uuid.{is_uuid}
+use Rattle.ffa_laws.proofs.Firsts.{first-state-sound}
+use Rattle.ffa_spmc.specs.Meaning.{HasTables, IsMachine, held_page, own_right, state_of}
+use Rattle.ffa_spmc.proofs.Held.{page-at, page-held, parties_are}
 
 regions-each : (es : List Endpoint) (i : ℕ) → get_or (regions_of_each es) i [] ≡ regions_at es i
 regions-each [] i = refl
@@ -53,7 +58,8 @@ module _ (zeros ram : Ram) (m : Manifest) (layout : Layout) (kept : Kept)
     (base : layout.base ≡ m.ram_base) (blocks : layout.blocks ≡ m.ram_blocks) (regions : regions_in layout ≡ regions_of_each m.endpoints.items)
     (built : IsBuilt ram (array_vec_len layout.regions) layout.blocks (right_in layout))
     (rest : KeepsRest zeros ram (array_vec_len layout.regions) layout.blocks)
-    (owners : kept.pages ≡ first_owners m) (none : kept.buffers ≡ replicate (length m.endpoints.items) None) (schedule : kept.chain ≡ first_schedule (length m.endpoints.items)) (sound : IsSound kept.chain) where
+    (owners : kept.pages ≡ first_owners m) (none : kept.buffers ≡ replicate (length m.endpoints.items) None) (schedule : kept.chain ≡ first_schedule (length m.endpoints.items))
+    (uuids : have_uuids m.endpoints.items ≡ true) where
   abbrev es : List Endpoint
   es = m.endpoints.items
 
@@ -79,39 +85,27 @@ module _ (zeros ram : Ram) (m : Manifest) (layout : Layout) (kept : Kept)
       (subst (λ (b : ℕ). IsBuilt ram (array_vec_len layout.regions) b (own_right m.ram_base es)) blocks
       (built-same ram (array_vec_len layout.regions) layout.blocks (right_in layout) (own_right m.ram_base es) built (λ e p _ _. right-is e p)))
 
-  none-mapped : (n i : ℕ) (b : Buffers) → get_or (replicate n None) i None ≡ Some b → ⊥
-  none-mapped zero i b is = none-some b is
-  none-mapped (suc n) zero b is = none-some b is
-  none-mapped (suc n) (suc i) b is = none-mapped n i b is
+  tables-first : HasTables ram m
+  tables-first = record { base = base-is; size = size-is; built = built-is }
 
-  pub machine-first : IsMachine ram m kept
-  machine-first =
-      record {
-        base = base-is;
-        size = size-is;
-        owners = owners;
-        each = ap length none ∙ length-replicate (length es) None;
-        own = λ i b is. absurd (none-mapped (length es) i b (ap (λ (list : List (Option Buffers)). get_or list i None) (sym none) ∙ is));
-        counted = ap (λ (c : Schedule). length c.works) schedule ∙ length-replicate (length es) None;
-        sound = sound;
-        built = built-is;
-      }
-
-  -- a page behind the tables is zeros, and nobody owns one before
-  page-zeros : (p : ℕ) → p < length ram.pages → held_page ram kept.pages p ≡ page_with_bytes m.ram_base es p (replicate 4096 0)
-  page-zeros p inside =
-      sym (page-held ram m kept p inside) ∙ page-in ram m kept machine-first p inside
-      ∙ elim (cases_lt p (length es * table_pages m.ram_blocks)) [
-        | inl low ↦ unowned m p (page_of ram p) low ∙ sym (unowned m p (replicate 4096 0) low)
-        | inr behind ↦
-            (let end : table_page layout.blocks (array_vec_len layout.regions) 0 ≤ p = of_end many blocks behind in
-            ap (page_with_bytes m.ram_base es p)
-            (rest.pages p end ∙ ap (λ (r : Ram). page_of r p) cleared
-            ∙ get_or-replicate (512 * m.ram_blocks) p (replicate 4096 0) [] (omega (arith, inside, size-is))))
-      ]
+  -- a page behind the tables is zeros
+  behind-zeros : (p : ℕ) → p < length ram.pages → length es * table_pages m.ram_blocks ≤ p → page_of ram p ≡ replicate 4096 0
+  behind-zeros p inside behind =
+      let end : table_page layout.blocks (array_vec_len layout.regions) 0 ≤ p = of_end many blocks behind in
+      rest.pages p end ∙ ap (λ (r : Ram). page_of r p) cleared
+      ∙ get_or-replicate (512 * m.ram_blocks) p (replicate 4096 0) [] (omega (arith, inside, size-is))
     where
       of_end : {n b k c : ℕ} → n ≡ k → b ≡ c → k * table_pages c ≤ p → table_page b n 0 ≤ p
       of_end same_n same_b h = rw (same_n, same_b) (omega (arith, h))
+
+  -- and nobody owns one before
+  page-zeros : (p : ℕ) → p < length ram.pages → held_page ram kept.pages p ≡ page_with_bytes m.ram_base es p (replicate 4096 0)
+  page-zeros p inside =
+      sym (page-held ram m kept p inside) ∙ page-at ram m kept size-is owners p inside
+      ∙ elim (cases_lt p (length es * table_pages m.ram_blocks)) [
+        | inl low ↦ unowned m p (page_of ram p) low ∙ sym (unowned m p (replicate 4096 0) low)
+        | inr behind ↦ ap (page_with_bytes m.ram_base es p) (behind-zeros p inside behind)
+      ]
 
   pages-first : listed (length ram.pages) (held_page ram kept.pages) ≡ listed (512 * m.ram_blocks) (λ p. page_with_bytes m.ram_base es p (replicate 4096 0))
   pages-first =
@@ -127,3 +121,24 @@ module _ (zeros ram : Ram) (m : Manifest) (layout : Layout) (kept : Kept)
     statuses = (schedule i).statuses;
     works = (schedule i).works;
   }
+
+  -- the UUIDs, one by one
+  uuid-at : (es : List Endpoint) → have_uuids es ≡ true → (i : ℕ) (e : Endpoint) → slice_get es i ≡ Some e → (length e.uuid ≡ 16) × are_bytes e.uuid
+  uuid-at [] all i e is = absurd (none-some e is)
+  uuid-at (f ∷ fs) all zero e is =
+      let (sixteen, bytes) = and_parts (length f.uuid == 16) (list_all (λ b. nat_lt b 256) f.uuid) (and_parts (is_uuid f.uuid) (have_uuids fs) all).0 in
+      let same : f ≡ e = same_Some f e is in
+      subst (λ (x : Endpoint). (length x.uuid ≡ 16) × are_bytes x.uuid) same (eqb-true (length f.uuid) 16 sixteen, bytes)
+  uuid-at (f ∷ fs) all (suc i) e is = uuid-at fs (and_parts (is_uuid f.uuid) (have_uuids fs) all).1 i e is
+
+  pub machine-first : IsMachine ram m kept
+  machine-first =
+      record {
+        tables = tables-first;
+        owners = owners;
+        sound = subst IsSoundState (sym state-first) (first-state-sound m.ram_base m.ram_blocks es m.accepted (uuid-at es uuids));
+      }
+
+  -- the pages behind the tables, the manager's too
+  pub cleared-behind : (p : ℕ) → length (state_of ram m kept).parties * table_pages m.ram_blocks ≤ p → p < length ram.pages → page_of ram p ≡ replicate 4096 0
+  cleared-behind p behind inside = behind-zeros p inside (subst (λ (n : ℕ). n * table_pages m.ram_blocks ≤ p) (parties_are ram m kept) behind)

@@ -20,23 +20,9 @@ use Rattle.ffa_model.proofs.Guards.{guard-passes}
 use Rattle.ffa_model.proofs.Listed.{length-listed}
 use Rattle.ffa_pages.specs.Entry.{Entry, entry_at, first_entry}
 use Rattle.ffa_rxtx.specs.Parts.{candidate_in, candidates_in}
-use Rattle.ffa_spmc.specs.Owners.{AreOwn, IsOwn}
 use Rattle.ffa_spmc.specs.declared.kept.Kept.{Kept}
 use Rattle.ffa_spmc.specs.Meaning.{IsMachine, state_of}
 use Rattle.ffa_spmc.proofs.Held.{base_is, entry-in, none_named, page-held, page-past, size_is, runner-named}
-
--- whoever may use a page of the first owners owns it
-usable-owner : (e base p : ℕ) (es : List Endpoint)
-    → is_usable e (option_map (λ (x : Entry). let q : Candidate = record { owner = x.owner; base = x.base; named = is_some x.slot } in q) (first_entry base es p)) ≡ true
-    → owner_in base es p ≡ e
-usable-owner e base p es = of (find (λ (x : ℕ × Region). has_page base p x.1) (owned_regions es))
-  where
-    of : (o : Option (ℕ × Region))
-        → is_usable e (option_map (λ (x : Entry). let q : Candidate = record { owner = x.owner; base = x.base; named = is_some x.slot } in q)
-        (option_map (λ (x : ℕ × Region). let y : Entry = record { owner = x.0; base = x.1.rights; slot = None } in y) o)) ≡ true
-        → option_map_or (λ (x : ℕ × Region). x.0) o manager ≡ e
-    of None h = absurd (false≢true h)
-    of (Some x) h = let (alone, writable) = and_parts _ _ h in let (owner, unnamed) = and_parts _ _ alone in eqb-true x.0 e owner
 
 module _ (ram : Ram) (m : Manifest) (kept : Kept) (machine : IsMachine ram m kept) where
   abbrev s : State
@@ -46,7 +32,7 @@ module _ (ram : Ram) (m : Manifest) (kept : Kept) (machine : IsMachine ram m kep
   owners-many = ap (λ (owners : List (Option Entry)). length owners) machine.owners ∙ length-listed (512 * m.ram_blocks) (first_entry m.ram_base m.endpoints.items)
 
   owners-size : length kept.pages ≡ length ram.pages
-  owners-size = owners-many ∙ sym machine.size
+  owners-size = owners-many ∙ sym machine.tables.size
 
   candidate-is : (p : ℕ) → candidate_at s p ≡ candidate_in kept.pages p
   candidate-is p = elim (cases_lt p (length ram.pages)) [
@@ -80,27 +66,3 @@ module _ (ram : Ram) (m : Manifest) (kept : Kept) (machine : IsMachine ram m kep
     count = (size_is ram m kept ∙ sym owners-size) i;
     page = λ p. candidate-is p i;
   }
-
-  -- where a mapping passes its checks, the buffers are pages of the runner
-  own-page : (e address : ℕ) → e ≡ kept.chain.runner → is_page_address (candidates_in kept.pages m.ram_base) address ≡ true
-      → is_usable_at e (candidates_in kept.pages m.ram_base) address ≡ true → IsOwn m (place e) (page_number m.ram_base address)
-  own-page e address at is_page usable =
-      let (whole, below) = and_parts _ _ is_page in
-      let inside : page_number m.ram_base address < length kept.pages = ltb-true _ _ below in
-      let entry : entry_at kept.pages (page_number m.ram_base address) ≡ first_entry m.ram_base m.endpoints.items (page_number m.ram_base address) =
-      entry-in ram m kept machine (page_number m.ram_base address) (subst (λ (n : ℕ). page_number m.ram_base address < n) owners-size inside)
-      in
-      let passes = subst
-      (λ (entry : Option Entry). is_usable e (option_map (λ (x : Entry). let q : Candidate = record { owner = x.owner; base = x.base; named = is_some x.slot } in q) entry) ≡ true)
-      entry usable in
-      record {
-        inside = subst (λ (n : ℕ). page_number m.ram_base address < n) owners-many inside;
-        owner = usable-owner e m.ram_base (page_number m.ram_base address) m.endpoints.items passes ∙ sym (runner-named ram m kept machine e at);
-      }
-
-  pub mapped-own : (e tx rx pages : ℕ) (own : Option Buffers) → e ≡ kept.chain.runner
-      → None ≡ first_failure (map_guards e own (candidates_in kept.pages m.ram_base) tx rx pages)
-      → AreOwn m (place e) (new_buffers m.ram_base tx rx)
-  mapped-own e tx rx pages own at none =
-      let passes = λ (k : ℕ). guard-passes (map_guards e own (candidates_in kept.pages m.ram_base) tx rx pages) k Denied none in
-      record { tx = own-page e tx at (passes 2) (passes 5); rx = own-page e rx at (passes 3) (passes 6) }

@@ -1,67 +1,82 @@
 -- Bytes in an endpoint's RX: they stand in a page of its own, and the state has them as RAM does.
 use Rattle.std.proofs.Common.{◌≡◌, ◌∙◌, ℕ, ◌<◌, true, List, length, Option, Some, None, refl, sym, ap, subst}
-use Rattle.std.specs.Prelude.{IsSomeAnd}
-use Rattle.std.specs.Option.{option_map_or}
+use Rattle.std.specs.Prelude.{IsSomeAnd, is_some}
+use Rattle.std.specs.Option.{option_map}
+use Rattle.std.proofs.lemmas.Bool.{false≢true}
 use Rattle.ffa_model.specs.declared.manifest.Manifest.{Manifest}
-use Rattle.ffa_model.specs.Buffers.{buffers_in, buffers_with_rx, filled, rx_written, with_rx}
+use Rattle.ffa_model.specs.Access.{handle_at}
+use Rattle.ffa_model.specs.Buffers.{Candidate, buffers_in, buffers_with_rx, candidate_at, filled, filled_pages, is_usable}
 use Rattle.ffa_model.specs.First.{first}
-use Rattle.ffa_model.specs.Identifiers.{identifier, manager, place}
 use Rattle.ffa_model.specs.Ram.{Ram, page_of, with_page, with_bytes}
-use Rattle.ffa_model.specs.State.{State, Page, Buffers, owner_of, page_at}
-use Rattle.ffa_model.proofs.Owners.{identifier-manager}
+use Rattle.ffa_model.specs.State.{State, Page, Buffers, is_known, is_known_among, page_at}
 use Rattle.ffa_rxtx.specs.Parts.{with_rx_bytes}
-use Rattle.ffa_spmc.specs.Owners.{IsOwn}
+use Rattle.ffa_laws.proofs.SoundSteady.{runner-known}
 use Rattle.ffa_spmc.specs.declared.kept.Kept.{Kept}
-use Rattle.ffa_spmc.specs.Meaning.{IsMachine, state_of}
-use Rattle.ffa_spmc.proofs.Held.{owner-is}
-use Rattle.ffa_spmc.proofs.Machines.{machine-written}
+use Rattle.ffa_spmc.specs.Meaning.{HasTables, IsMachine, state_of}
+use Rattle.ffa_spmc.proofs.Held.{each, parties_are, size_is}
+use Rattle.ffa_spmc.proofs.Machines.{tables-written}
+use Rattle.ffa_spmc.proofs.Reaches.{owned-in}
 use Rattle.ffa_spmc.proofs.Stores.{state-written}
-use Rattle.ffa_spmc.proofs.BufferCalls.{machine-rx}
 
 module _ (ram : Ram) (m : Manifest) (kept : Kept) (machine : IsMachine ram m kept) where
   abbrev s : State
   s = state_of ram m kept
 
-  -- a page of an endpoint's own is one of the state's
-  pub own-inside : (i p : ℕ) → IsOwn m i p → p < length ram.pages
-  own-inside i p own = subst (λ (n : ℕ). p < n) (sym machine.size) own.inside
+  -- a page that an endpoint owns
+  abbrev pub IsThere : ℕ → Type 0
+  IsThere p = (page : Page) × (page_at s p ≡ Some page)
 
-  pub own-there : (i p : ℕ) → IsOwn m i p → (page : Page) × (page_at s p ≡ Some page)
-  own-there i p own = of (page_at s p) refl
+  usable-there : (e p : ℕ) → is_usable e (candidate_at s p) ≡ true → IsThere p
+  usable-there e p usable = of (page_at s p) refl usable
     where
-      owner : owner_of s p ≡ identifier i
-      owner = owner-is ram m kept machine p (own-inside i p own) ∙ own.owner
+      of : (o : Option Page) → page_at s p ≡ o
+          → is_usable e (option_map (λ (page : Page). let q : Candidate = record { owner = page.owner; base = page.base; named = is_some (handle_at s p) } in q) o) ≡ true
+          → IsThere p
+      of None at passes = absurd (false≢true passes)
+      of (Some page) at passes = (page, at)
 
-      of : (o : Option Page) → page_at s p ≡ o → (page : Page) × (page_at s p ≡ Some page)
-      of (Some page) there = (page, there)
-      of None none = absurd (identifier-manager i (sym owner ∙ ap (λ (o : Option Page). option_map_or (λ (page : Page). page.owner) o manager) none))
+  -- is a page of RAM
+  pub there-inside : (p : ℕ) → IsThere p → p < length ram.pages
+  there-inside p there = subst (λ (n : ℕ). p < n) (size_is ram m kept) (owned-in s p there.0 there.1)
 
-  module _ (f : ℕ) (known : place f < length m.endpoints.items) where
-    rx-inside : (b : Buffers) → buffers_in kept.buffers f ≡ Some b → b.rx < length ram.pages
-    rx-inside b is = own-inside (place f) b.rx (machine.own (place f) b is).rx
+  -- the pages of an endpoint's buffers
+  pub buffers-there : (f : ℕ) → is_known s f ≡ true → (b : Buffers) → buffers_in kept.buffers f ≡ Some b → IsThere b.tx × IsThere b.rx
+  buffers-there f known b is =
+      let sound = machine.sound.buffers f b known is in
+      (usable-there f b.tx sound.tx, usable-there f b.rx sound.rx)
 
+  -- the runner, as the code has it, is an endpoint
+  pub runner-there : (e : ℕ) → e ≡ kept.chain.runner → is_known s e ≡ true
+  runner-there e at = subst (λ (r : ℕ). is_known s r ≡ true) (sym at) (runner-known s machine.sound)
+
+  -- and one that may have buffers
+  pub known-buffered : (e : ℕ) → is_known s e ≡ true → is_known_among (length kept.buffers) e ≡ true
+  known-buffered e known = subst (λ (n : ℕ). is_known_among n e ≡ true) (parties_are ram m kept ∙ sym (each ram m kept machine)) known
+
+  module _ (f : ℕ) (known : is_known s f ≡ true) where
     pub rx-in-ram : (b : Buffers) → buffers_in kept.buffers f ≡ Some b → IsSomeAnd (buffers_in kept.buffers f) (λ b. b.rx < length ram.pages)
-    rx-in-ram b is = subst (λ (o : Option Buffers). IsSomeAnd o (λ b. b.rx < length ram.pages)) (sym is) (rx-inside b is)
+    rx-in-ram b is =
+        subst (λ (o : Option Buffers). IsSomeAnd o (λ b. b.rx < length ram.pages)) (sym is) (there-inside b.rx (buffers-there f known b is).1)
 
     module _ (bytes : List ℕ) where
       abbrev pub after_fill : Kept
       after_fill = record kept { buffers = buffers_with_rx kept.buffers f true }
 
-      pub machine-filled : IsMachine (with_rx_bytes ram (buffers_in kept.buffers f) bytes) m after_fill
-      machine-filled = of (buffers_in kept.buffers f) refl
+      pub tables-filled : HasTables (with_rx_bytes ram (buffers_in kept.buffers f) bytes) m
+      tables-filled = of (buffers_in kept.buffers f) refl
         where
-          of : (o : Option Buffers) → buffers_in kept.buffers f ≡ o → IsMachine (with_rx_bytes ram o bytes) m after_fill
-          of None is = machine-rx ram m kept machine f known true
+          of : (o : Option Buffers) → buffers_in kept.buffers f ≡ o → HasTables (with_rx_bytes ram o bytes) m
+          of None is = machine.tables
           of (Some b) is =
-              let (page, there) = own-there (place f) b.rx (machine.own (place f) b is).rx in
-              machine-rx (with_page ram b.rx (with_bytes (page_of ram b.rx) 0 bytes)) m kept (machine-written ram m kept machine b.rx 0 bytes page (rx-inside b is) there) f known true
+              let (page, there) = (buffers-there f known b is).1 in
+              tables-written ram m kept machine b.rx 0 bytes page (there-inside b.rx (page, there)) there
 
       pub state-filled : state_of (with_rx_bytes ram (buffers_in kept.buffers f) bytes) m after_fill ≡ filled s f bytes
       unfolding first
       state-filled = of (buffers_in kept.buffers f) refl
         where
           of : (o : Option Buffers) → buffers_in kept.buffers f ≡ o → state_of (with_rx_bytes ram o bytes) m after_fill ≡ filled s f bytes
-          of None is = λ i. with_rx (rx_written s bytes (sym is i)) f true
+          of None is = λ i. record s { pages = filled_pages s.pages bytes (sym is i); buffers = buffers_with_rx kept.buffers f true }
           of (Some b) is =
-              (λ i. record (state-written ram m kept b.rx 0 bytes (rx-inside b is) i) { buffers = buffers_with_rx kept.buffers f true })
-              ∙ (λ i. with_rx (rx_written s bytes (sym is i)) f true)
+              (λ i. record (state-written ram m kept b.rx 0 bytes (there-inside b.rx (buffers-there f known b is).1) i) { buffers = buffers_with_rx kept.buffers f true })
+              ∙ (λ i. record s { pages = filled_pages s.pages bytes (sym is i); buffers = buffers_with_rx kept.buffers f true })

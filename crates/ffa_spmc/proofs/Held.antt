@@ -15,12 +15,14 @@ use Rattle.ffa_model.specs.Regions.{has_page, owned_regions, owner_in, right_in,
 use Rattle.ffa_model.specs.State.{State, Page, Transaction, is_known_among, owner_of, page_at}
 use Rattle.ffa_model.specs.Access.{access, handle_at, is_naming, transaction_at, right_of}
 use Rattle.ffa_model.specs.First.{first, party_of, page_with_bytes}
+use Rattle.ffa_model.specs.Sound.{IsSound}
 use Rattle.ffa_model.proofs.Listed.{length-listed, get_or-listed, get_or-listed_past}
 use Rattle.ffa_model.proofs.Accepted.{accepted}
 use Rattle.ffa_model.proofs.Owners.{right-own, right-unnamed}
 use Rattle.ffa_model.proofs.Places.{known-named, known-place}
 use Rattle.ffa_pages.specs.Entry.{Entry, entry_at, first_entry}
 use Rattle.ffa_spmc.specs.declared.kept.Kept.{Kept}
+use Rattle.ffa_spmc.specs.Owners.{first_owners}
 use Rattle.ffa_spmc.specs.Meaning.{IsMachine, held_page, state_of}
 
 find_none : (test : ℕ → Bool) (xs : List ℕ) → ((x : ℕ) → test x ≡ false) → find test xs ≡ None
@@ -86,33 +88,51 @@ module _ (ram : Ram) (m : Manifest) (kept : Kept) where
   pub none_named : (p : ℕ) → handle_at s p ≡ None
   none_named p = handle-empty s p none_open
 
+  -- where the owners are the manifest's
+  module _ (size : length ram.pages ≡ 512 * m.ram_blocks) (owners : kept.pages ≡ first_owners m) where
+    entry-at : (p : ℕ) → p < length ram.pages → entry_at kept.pages p ≡ first_entry m.ram_base m.endpoints.items p
+    entry-at p lt =
+        ap (λ (owners : List (Option Entry)). entry_at owners p) owners
+        ∙ get_or-listed (512 * m.ram_blocks) (first_entry m.ram_base m.endpoints.items) p None (subst (λ (n : ℕ). p < n) size lt)
+
+    pub page-at : (p : ℕ) → p < length ram.pages → page_at s p ≡ page_with_bytes m.ram_base m.endpoints.items p (page_of ram p)
+    page-at p lt =
+        page-held p lt
+        ∙ ap (option_map (λ (e : Entry). let q : Page = record { owner = e.owner; base = e.base; bytes = page_of ram p } in q)) (entry-at p lt)
+        ∙ page-first m.ram_base p m.endpoints.items (page_of ram p)
+
   -- of a machine
   module _ (machine : IsMachine ram m kept) where
     pub entry-in : (p : ℕ) → p < length ram.pages → entry_at kept.pages p ≡ first_entry m.ram_base m.endpoints.items p
-    entry-in p lt =
-        ap (λ (owners : List (Option Entry)). entry_at owners p) machine.owners
-        ∙ get_or-listed (512 * m.ram_blocks) (first_entry m.ram_base m.endpoints.items) p None (subst (λ (n : ℕ). p < n) machine.size lt)
+    entry-in p lt = entry-at machine.tables.size machine.owners p lt
 
     pub page-in : (p : ℕ) → p < length ram.pages → page_at s p ≡ page_with_bytes m.ram_base m.endpoints.items p (page_of ram p)
-    page-in p lt =
-        page-held p lt
-        ∙ ap (option_map (λ (e : Entry). let q : Page = record { owner = e.owner; base = e.base; bytes = page_of ram p } in q)) (entry-in p lt)
-        ∙ page-first m.ram_base p m.endpoints.items (page_of ram p)
+    page-in p lt = page-at machine.tables.size machine.owners p lt
+
+    -- a list by endpoint has an element for each
+    pub each : length kept.buffers ≡ length m.endpoints.items
+    each = machine.sound.sized.buffers ∙ parties_are
+
+    pub counted : length kept.chain.works ≡ length m.endpoints.items
+    counted = machine.sound.sized.works ∙ parties_are
+
+    pub scheduled : IsSound kept.chain
+    scheduled = machine.sound.schedule
 
     -- an endpoint of the run states is one of the manifest's
     pub endpoint-known : (e : ℕ) → is_known_among (length kept.chain.works) e ≡ true → place e < length m.endpoints.items
     endpoint-known e known =
-        subst (λ (n : ℕ). place e < n) machine.counted
+        subst (λ (n : ℕ). place e < n) counted
         (known-place (length kept.chain.works) e
-        (subst (λ (n : ℕ). 1 ≤ n) (sym machine.counted) (accepted m.ram_base m.ram_blocks m.endpoints.items m.accepted).some_endpoints)
+        (subst (λ (n : ℕ). 1 ≤ n) (sym counted) (accepted m.ram_base m.ram_blocks m.endpoints.items m.accepted).some_endpoints)
         known)
 
     -- so is the runner
     pub runner-known : (e : ℕ) → e ≡ kept.chain.runner → place e < length m.endpoints.items
-    runner-known e at = subst (λ (r : ℕ). place r < length m.endpoints.items) (sym at) (endpoint-known kept.chain.runner machine.sound.runner)
+    runner-known e at = subst (λ (r : ℕ). place r < length m.endpoints.items) (sym at) (endpoint-known kept.chain.runner scheduled.runner)
 
     pub runner-named : (e : ℕ) → e ≡ kept.chain.runner → identifier (place e) ≡ e
-    runner-named e at = subst (λ (r : ℕ). identifier (place r) ≡ r) (sym at) (known-named (length kept.chain.works) kept.chain.runner machine.sound.runner)
+    runner-named e at = subst (λ (r : ℕ). identifier (place r) ≡ r) (sym at) (known-named (length kept.chain.works) kept.chain.runner scheduled.runner)
 
     -- the access of an endpoint is the right of its own regions
     pub access-in : (i p : ℕ) → p < length ram.pages → access s (identifier i) p ≡ right_in m.ram_base (regions_at m.endpoints.items i) p

@@ -10,14 +10,16 @@ use Rattle.ffa_model.specs.Calls.{first_failure, success}
 use Rattle.ffa_model.specs.First.{first, party_of}
 use Rattle.ffa_model.specs.Manifest.{is_nil}
 use Rattle.ffa_model.specs.Ram.{Ram}
-use Rattle.ffa_model.specs.Setup.{info_bytes, info_guards, informed, is_any, is_count_alone, selected}
+use Rattle.ffa_model.specs.Setup.{info_bytes, info_get, info_guards, informed, is_any, is_count_alone, selected, uuid_bytes}
+use Rattle.ffa_model.specs.declared.call.Call.TheVariants.{PartitionInfoGet}
 use Rattle.ffa_model.specs.State.{Party, Buffers}
 use Rattle.ffa_spmc.specs.declared.kept.Kept.{Kept}
 use Rattle.ffa_rxtx.specs.Parts.{with_rx_bytes}
 use Rattle.ffa_spmc.specs.Meaning.{IsMachine, state_of}
-use Rattle.ffa_spmc.proofs.Held.{runner-known}
 use Rattle.ffa_spmc.specs.Snapshot.{Snapshot}
-use Rattle.ffa_spmc.proofs.Fills.{state-filled}
+use Rattle.ffa_spmc.proofs.Answered.{passed-state}
+use Rattle.ffa_spmc.proofs.Fills.{runner-there, state-filled, tables-filled}
+use Rattle.ffa_spmc.proofs.Machines.{machine-called}
 
 -- what the checks give where a UUID is recognized, the count alone is asked, there are buffers, and RX is full
 abbrev pub decided : Bool → Bool → Bool → Bool → Option ErrorCode
@@ -74,11 +76,24 @@ module _ (ram : Ram) (m : Manifest) (kept : Kept) (now : Snapshot) (view : recor
       of None is false none = absurd (none-some InvalidParameters (sym none))
 
   -- the descriptors in RX of the runner
-  pub state-informed : IsMachine ram m kept → (uuid : List ℕ) (flags : ℕ) (bytes : List ℕ) → bytes ≡ info_bytes (map party_of m.endpoints.items) uuid → is_count_alone flags ≡ false
-      → state_of (with_rx_bytes ram own bytes) m (record kept { buffers = buffers_with_rx kept.buffers e true }) ≡ informed now.state uuid flags
-  unfolding first
-  state-informed machine uuid flags bytes are asked =
-      state-filled ram m kept machine e (runner-known ram m kept machine e at) bytes
-      ∙ (λ i. filled (state_of ram m kept) (at i) (are i))
-      ∙ (λ i. cond (sym asked i) (state_of ram m kept) (filled (state_of ram m kept) kept.chain.runner (info_bytes (map party_of m.endpoints.items) uuid)))
-      ∙ ap (λ (seen : Snapshot). informed seen.state uuid flags) view
+  module _ (machine : IsMachine ram m kept) (words : List ℕ) (flags : ℕ) (bytes : List ℕ)
+      (are : bytes ≡ info_bytes (map party_of m.endpoints.items) (uuid_bytes words)) (asked : is_count_alone flags ≡ false) where
+    abbrev pub after_information : Kept
+    after_information = record kept { buffers = buffers_with_rx kept.buffers e true }
+
+    informed-is : state_of (with_rx_bytes ram own bytes) m after_information ≡ informed (state_of ram m kept) (uuid_bytes words) flags
+    unfolding first
+    informed-is =
+        state-filled ram m kept machine e (runner-there ram m kept machine e at) bytes
+        ∙ (λ i. filled (state_of ram m kept) (at i) (are i))
+        ∙ (λ i. cond (sym asked i) (state_of ram m kept) (filled (state_of ram m kept) kept.chain.runner (info_bytes (map party_of m.endpoints.items) (uuid_bytes words))))
+
+    pub state-informed : state_of (with_rx_bytes ram own bytes) m after_information ≡ informed now.state (uuid_bytes words) flags
+    state-informed = informed-is ∙ ap (λ (seen : Snapshot). informed seen.state (uuid_bytes words) flags) view
+
+    pub machine-informed : first_failure (info_guards now.state (uuid_bytes words) flags) ≡ None → IsMachine (with_rx_bytes ram own bytes) m after_information
+    machine-informed none =
+        machine-called ram (with_rx_bytes ram own bytes) m kept after_information machine
+        (tables-filled ram m kept machine e (runner-there ram m kept machine e at) bytes) refl (PartitionInfoGet words flags) refl
+        (informed-is
+        ∙ sym (passed-state (state_of ram m kept) (info_get (state_of ram m kept) words flags) (ap (λ (seen : Snapshot). first_failure (info_guards seen.state (uuid_bytes words) flags)) view ∙ none)))

@@ -1,3 +1,4 @@
+pub mod Answered
 pub mod Held
 pub mod Reaches
 pub mod Agreements

@@ -1,5 +1,5 @@
 -- What holds of a machine's parts, and stays so.
-use Rattle.std.proofs.Common.{◌≡◌, ◌∙◌, ℕ, ◌*◌, ◌<◌, ◌≤◌, true, List, [], length, set, Some, refl, sym, ap, arith, length-set}
+use Rattle.std.proofs.Common.{◌≡◌, ◌∙◌, ℕ, ◌*◌, ◌<◌, ◌≤◌, true, List, [], length, set, Some, refl, sym, ap, subst, arith, length-set}
 use Rattle.std.proofs.lemmas.List.{get_or-set_other}
 use Rattle.ffa_model.specs.declared.manifest.Manifest.{Manifest}
 use Rattle.ffa_model.specs.Agreement.{Agrees, root}
@@ -15,14 +15,19 @@ use Rattle.ffa_stage2.proofs.Kept.{built-kept}
 use Rattle.ffa_stage2.proofs.Places.{root-address}
 use Rattle.ffa_stage2.proofs.Walks.{walk-built}
 use Rattle.ffa_spmc.specs.declared.kept.Kept.{Kept}
-use Rattle.ffa_spmc.specs.Meaning.{IsMachine, own_right, state_of}
+use Rattle.ffa_model.specs.declared.call.Call as calls
+use Rattle.ffa_model.specs.SoundState.{IsSoundState}
+use Rattle.ffa_model.specs.Step.{serve}
+use Rattle.ffa_laws.specs.Isolation.{is_lawful_call}
+use Rattle.ffa_laws.proofs.SoundOperations.{call-sound}
+use Rattle.ffa_spmc.specs.Meaning.{HasTables, IsMachine, own_right, state_of}
 use Rattle.ffa_spmc.proofs.Held.{page-in, runner-known}
 use Rattle.ffa_spmc.proofs.Agreements.{WalksGive, agrees-held, root-is}
 
 module _ (ram : Ram) (m : Manifest) (kept : Kept) (machine : IsMachine ram m kept) where
   walks-give : WalksGive ram m
   walks-give i address known low =
-      walk-built ram (length m.endpoints.items) m.ram_blocks (own_right m.ram_base m.endpoints.items) i address machine.built known low
+      walk-built ram (length m.endpoints.items) m.ram_blocks (own_right m.ram_base m.endpoints.items) i address machine.tables.built known low
 
   -- the RAM of a machine agrees with its state
   pub agrees : Agrees ram (state_of ram m kept)
@@ -32,25 +37,30 @@ module _ (ram : Ram) (m : Manifest) (kept : Kept) (machine : IsMachine ram m kep
   pub runner-root : is_page_address ram (root (state_of ram m kept) (place kept.chain.runner)) ≡ true
   runner-root =
       ap (is_page_address ram) (root-is ram m kept machine (place kept.chain.runner))
-      ∙ root-address ram (length m.endpoints.items) m.ram_blocks (place kept.chain.runner) machine.built.fits (runner-known ram m kept machine kept.chain.runner refl)
+      ∙ root-address ram (length m.endpoints.items) m.ram_blocks (place kept.chain.runner) machine.tables.built.fits (runner-known ram m kept machine kept.chain.runner refl)
 
 -- a write to a page that an endpoint owns leaves the tables as they are
-pub machine-written : (ram : Ram) (m : Manifest) (kept : Kept) → IsMachine ram m kept → (p at : ℕ) (bytes : List ℕ) (page : Page)
+pub tables-written : (ram : Ram) (m : Manifest) (kept : Kept) → IsMachine ram m kept → (p at : ℕ) (bytes : List ℕ) (page : Page)
     → p < length ram.pages → page_at (state_of ram m kept) p ≡ Some page
-    → IsMachine (with_page ram p (with_bytes (page_of ram p) at bytes)) m kept
-machine-written ram m kept machine p at bytes page inside there =
+    → HasTables (with_page ram p (with_bytes (page_of ram p) at bytes)) m
+tables-written ram m kept machine p at bytes page inside there =
     let a = accepted m.ram_base m.ram_blocks m.endpoints.items m.accepted in
     let owned : page_with_bytes m.ram_base m.endpoints.items p (page_of ram p) ≡ Some page = sym (page-in ram m kept machine p inside) ∙ there in
     let behind : length m.endpoints.items * table_pages m.ram_blocks ≤ p = owned-behind m.ram_base m.ram_blocks (length m.endpoints.items) m.endpoints.items p (page_of ram p) page a.placed owned in
     let size : length (set ram.pages p (with_bytes (page_of ram p) at bytes)) ≡ length ram.pages = length-set ram.pages p (with_bytes (page_of ram p) at bytes) in
     record {
-      base = machine.base;
-      size = size ∙ machine.size;
-      owners = machine.owners;
-      each = machine.each;
-      own = machine.own;
-      counted = machine.counted;
-      sound = machine.sound;
-      built = built-kept ram (with_page ram p (with_bytes (page_of ram p) at bytes)) (length m.endpoints.items) m.ram_blocks (own_right m.ram_base m.endpoints.items) machine.built refl size
+      base = machine.tables.base;
+      size = size ∙ machine.tables.size;
+      built = built-kept ram (with_page ram p (with_bytes (page_of ram p) at bytes)) (length m.endpoints.items) m.ram_blocks (own_right m.ram_base m.endpoints.items) machine.tables.built refl size
           (λ q low. get_or-set_other ram.pages p q (with_bytes (page_of ram p) at bytes) [] (λ same. absurd (omega (arith, low, behind, same))));
+    }
+
+-- a machine is one after a call whose laws are proved, where the tables still are there
+pub machine-called : (ram new : Ram) (m : Manifest) (kept next : Kept) → IsMachine ram m kept → HasTables new m → next.pages ≡ kept.pages
+    → (call : calls.Call) → is_lawful_call call ≡ true → state_of new m next ≡ (serve (state_of ram m kept) call).state → IsMachine new m next
+machine-called ram new m kept next machine tables same call lawful is =
+    record {
+      tables = tables;
+      owners = same ∙ machine.owners;
+      sound = subst IsSoundState (sym is) (call-sound (state_of ram m kept) machine.sound call lawful);
     }

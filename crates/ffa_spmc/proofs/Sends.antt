@@ -1,32 +1,53 @@
 -- An indirect message of the runner: what stands in its TX, and what the call leaves.
-use Rattle.std.proofs.Common.{◌≡◌, ◌∙◌, ℕ, ◌<◌, true, List, [], length, map, Option, Some, None, Result, Ok, Err, refl, sym, ap, subst}
+use Rattle.std.proofs.Common.{◌≡◌, ◌∙◌, ℕ, zero, suc, ◌+◌, ◌-◌, ◌<◌, Bool, true, false, cond, List, [], ◌∷◌, length, map, get_or, Option, Some, None, Result, Ok, Err, refl, sym, ap, subst, arith, inl, inr}
 use Rattle.std.specs.Prelude.{IfOk, OnOk, OnErr}
 use Rattle.std.specs.Option.{option_map_or}
 use Rattle.std.specs.Result.{result_err}
-use Rattle.std.proofs.lemmas.List.{length-map}
+use Rattle.std.specs.FinSet as finite_set
+use Rattle.std.proofs.lemmas.Bool.{cases_lt}
+use Rattle.std.proofs.lemmas.Bool.Decides.{nat_tests}
+use Rattle.std.proofs.lemmas.List.{get_or_past, length-map}
+use Rattle.std.proofs.lemmas.Option.{none-some}
+use Rattle.std.specs.List.{enumerate_from}
 use Rattle.ffa_model.specs.declared.call.Reply.{Reply}
-use Rattle.ffa_model.specs.declared.call.Reply.TheVariants.{Error}
+use Rattle.ffa_model.specs.declared.endpoint.Endpoint.{Endpoint}
 use Rattle.ffa_model.specs.declared.manifest.Manifest.{Manifest}
 use Rattle.ffa_model.specs.declared.operation.ErrorCode.{ErrorCode}
 use Rattle.ffa_model.specs.declared.operation.ErrorCode.TheVariants.{InvalidParameters}
 use Rattle.ffa_model.specs.Buffers.{buffers_in, buffers_with_rx, filled}
-use Rattle.ffa_model.specs.Calls.{Stepped, answered, first_failure, replied, success}
-use Rattle.ffa_model.specs.First.{first, party_of}
-use Rattle.ffa_model.specs.Identifiers.{place}
+use Rattle.ffa_model.specs.Calls.{first_failure, replied, served, success}
+use Rattle.ffa_model.specs.First.{first, has_first_bitmaps, party_of}
+use Rattle.ffa_model.specs.Identifiers.{identifier, place}
 use Rattle.ffa_model.specs.Memory.{page_bytes}
-use Rattle.ffa_model.specs.Messages.{header_in, message_in, msg_send2, send2_guards, tx_bytes}
+use Rattle.ffa_model.specs.Messages.{delivered, header_in, message_in, msg_send2, send2_guards, tx_bytes}
+use Rattle.ffa_model.specs.Notifications.{has_bitmaps_in, manager_class, notifications_of, receiver_bit, rx_full_bits}
 use Rattle.ffa_model.specs.Ram.{Ram}
-use Rattle.ffa_model.specs.State.{State, Page, Party, Buffers, is_known_among}
+use Rattle.ffa_model.specs.State.{State, Page, Party, Buffers, is_known, is_known_among}
 use Rattle.ffa_model.proofs.Guards.{guard-passes}
-use Rattle.ffa_model.proofs.Accepted.{accepted}
-use Rattle.ffa_model.proofs.Places.{known-place}
 use Rattle.ffa_rxtx.specs.Parts.{with_rx_bytes}
 use Rattle.ffa_messages.specs.Parts.{AreInRam, receiver_in, sent_in, tx_in}
 use Rattle.ffa_spmc.specs.declared.kept.Kept.{Kept}
-use Rattle.ffa_spmc.specs.Meaning.{IsMachine, state_of}
-use Rattle.ffa_spmc.proofs.Fills.{machine-filled, own-inside, own-there, state-filled}
+use Rattle.ffa_spmc.specs.Meaning.{HasTables, IsMachine, state_of}
+use Rattle.ffa_spmc.specs.Replies.{reply_or_error}
+use Rattle.ffa_spmc.proofs.Answered.{answered-by, done-both, done-so, refused-both}
+use Rattle.ffa_spmc.proofs.Fills.{buffers-there, runner-there, state-filled, tables-filled, there-inside}
+use Rattle.ffa_spmc.proofs.Held.{each, parties_are}
 use Rattle.ffa_spmc.proofs.Machines.{agrees}
-use Rattle.ffa_spmc.proofs.Schedules.{reply_or_error}
+
+-- the endpoint at a place is there, and its place is this one
+known-at : (n i : ℕ) → i < n → is_known_among n (identifier i) ≡ true
+known-at n zero lt = refl
+known-at n (suc i) lt = grind (arith, nat_tests)
+
+place-at : (i : ℕ) → place (identifier i) ≡ i
+place-at zero = refl
+place-at (suc i) = omega arith
+
+-- nobody has bitmaps at first, as long as notifications aren't served
+bitless : (es : List (ℕ × Endpoint)) (i : ℕ) → get_or (map has_first_bitmaps es) i false ≡ false
+bitless [] i = refl
+bitless (e ∷ es) zero = refl
+bitless (e ∷ es) (suc i) = bitless es i
 
 module _ (ram : Ram) (m : Manifest) (kept : Kept) (machine : IsMachine ram m kept) where
   abbrev s : State
@@ -37,24 +58,23 @@ module _ (ram : Ram) (m : Manifest) (kept : Kept) (machine : IsMachine ram m kep
 
   -- all buffers are in RAM
   pub buffers-in-ram : AreInRam (length ram.pages) kept.buffers
-  buffers-in-ram i b is =
-      (own-inside ram m kept machine i b.tx (machine.own i b is).tx, own-inside ram m kept machine i b.rx (machine.own i b is).rx)
+  buffers-in-ram i b is = elim (cases_lt i (length kept.buffers)) [
+    | inl lt ↦
+        (let known : is_known s (identifier i) ≡ true = known-at (length s.parties) i (subst (λ (n : ℕ). i < n) (each ram m kept machine ∙ sym (parties_are ram m kept)) lt) in
+        let own : buffers_in kept.buffers (identifier i) ≡ Some b = ap (λ (k : ℕ). get_or kept.buffers k None) (place-at i) ∙ is in
+        let there = buffers-there ram m kept machine (identifier i) known b own in
+        (there-inside ram m kept machine b.tx there.0, there-inside ram m kept machine b.rx there.1))
+    | inr past ↦ absurd (none-some b (sym (get_or_past kept.buffers i None past) ∙ is))
+  ]
 
-  -- TX holds what RAM does
-  tx-is : (e : ℕ) → tx_in ram (buffers_in kept.buffers e) ≡ tx_bytes s e
-  tx-is e = of (buffers_in kept.buffers e) refl
-    where
-      of : (o : Option Buffers) → buffers_in kept.buffers e ≡ o → tx_in ram o ≡ option_map_or (λ (b : Buffers). page_bytes s b.tx) o []
-      of None is = refl
-      of (Some b) is =
-          let (page, there) = own-there ram m kept machine (place e) b.tx (machine.own (place e) b is).tx in
-          (agrees ram m kept machine).bytes b.tx page there ∙ sym (ap (λ (o : Option Page). option_map_or (λ (q : Page). q.bytes) o []) there)
-
-  -- the call, by the bytes in TX and the caller
-  abbrev sent_by : List ℕ → ℕ → Stepped
-  sent_by tx e =
-      answered (first_failure (send2_guards parties kept.buffers e (header_in tx))) s
-      (filled s (header_in tx).receiver (message_in tx)) (success 0 0)
+  -- so a message raises no bit
+  unnotified : (f : ℕ) (message : List ℕ) → filled s f message ≡ delivered s f message
+  unfolding first
+  unnotified f message =
+      let none : has_bitmaps_in (notifications_of s) f ≡ false = bitless (enumerate_from 0 m.endpoints.items) (place f) in
+      λ i. record (filled s f message) {
+        pending = cond (sym none i) (finite_set.union s.pending (finite_set.from_list (map (receiver_bit f manager_class) rx_full_bits))) s.pending;
+      }
 
   module _ (e : ℕ) (at : e ≡ kept.chain.runner) where
     abbrev tx : List ℕ
@@ -63,48 +83,51 @@ module _ (ram : Ram) (m : Manifest) (kept : Kept) (machine : IsMachine ram m kep
     abbrev receiver : ℕ
     receiver = receiver_in ram kept.buffers e
 
-    sent-is : sent_by tx e ≡ msg_send2 s
-    unfolding first
-    sent-is = λ i. sent_by ((tx-is e ∙ ap (tx_bytes s) at) i) (at i)
+    -- TX holds what RAM does
+    tx-is : tx ≡ tx_bytes s e
+    tx-is = of (buffers_in kept.buffers e) refl
+      where
+        of : (o : Option Buffers) → buffers_in kept.buffers e ≡ o → tx_in ram o ≡ option_map_or (λ (b : Buffers). page_bytes s b.tx) o []
+        of None is = refl
+        of (Some b) is =
+            let (page, there) = (buffers-there ram m kept machine e (runner-there ram m kept machine e at) b is).0 in
+            (agrees ram m kept machine).bytes b.tx page there ∙ sym (ap (λ (o : Option Page). option_map_or (λ (q : Page). q.bytes) o []) there)
 
-    receiver-known : None ≡ first_failure (send2_guards parties kept.buffers e (header_in tx)) → place receiver < length m.endpoints.items
-    receiver-known none =
-        let known : is_known_among (length parties) receiver ≡ true = guard-passes (send2_guards parties kept.buffers e (header_in tx)) 4 InvalidParameters none in
-        known-place (length m.endpoints.items) receiver (accepted m.ram_base m.ram_blocks m.endpoints.items m.accepted).some_endpoints
-        (subst (λ (n : ℕ). is_known_among n receiver ≡ true) (length-map m.endpoints.items party_of) known)
+    sent-is : tx ≡ tx_bytes s kept.chain.runner
+    sent-is = tx-is ∙ ap (tx_bytes s) at
+
+    receiver-known : first_failure (send2_guards parties kept.buffers e (header_in tx)) ≡ None → is_known s receiver ≡ true
+    unfolding first
+    receiver-known none = guard-passes (send2_guards parties kept.buffers e (header_in tx)) 4 InvalidParameters (sym none)
 
     module _ (r : Result Reply ErrorCode) (new : Ram) (list : List (Option Buffers))
         (refusal : result_err r ≡ first_failure (send2_guards parties kept.buffers e (header_in tx)))
         (kept_ram : OnErr r (new ≡ ram)) (kept_buffers : OnErr r (list ≡ kept.buffers))
         (filled_ram : OnOk r (new ≡ with_rx_bytes ram (buffers_in kept.buffers receiver) (message_in tx)))
         (full : OnOk r (list ≡ buffers_with_rx kept.buffers receiver true)) where
-      pub machine-sent : IsMachine new m (record kept { buffers = list })
-      machine-sent = of r refusal kept_ram kept_buffers filled_ram full
+      pub tables-sent : HasTables new m
+      tables-sent = of r refusal kept_ram filled_ram
         where
           of : (r : Result Reply ErrorCode) → result_err r ≡ first_failure (send2_guards parties kept.buffers e (header_in tx))
-              → OnErr r (new ≡ ram) → OnErr r (list ≡ kept.buffers)
-              → OnOk r (new ≡ with_rx_bytes ram (buffers_in kept.buffers receiver) (message_in tx)) → OnOk r (list ≡ buffers_with_rx kept.buffers receiver true)
-              → IsMachine new m (record kept { buffers = list })
-          of (Ok reply) passes _ _ wrote is =
-              subst (λ (list : List (Option Buffers)). IsMachine new m (record kept { buffers = list })) (sym is)
-              (subst (λ (ram : Ram). IsMachine ram m (record kept { buffers = buffers_with_rx kept.buffers receiver true })) (sym wrote)
-              (machine-filled ram m kept machine receiver (receiver-known passes) (message_in tx)))
-          of (Err code) fails same is _ _ =
-              subst (λ (list : List (Option Buffers)). IsMachine new m (record kept { buffers = list })) (sym is)
-              (subst (λ (ram : Ram). IsMachine ram m kept) (sym same) machine)
+              → OnErr r (new ≡ ram) → OnOk r (new ≡ with_rx_bytes ram (buffers_in kept.buffers receiver) (message_in tx)) → HasTables new m
+          of (Ok reply) passes same wrote =
+              subst (λ (ram : Ram). HasTables ram m) (sym wrote) (tables-filled ram m kept machine receiver (receiver-known (sym passes)) (message_in tx))
+          of (Err code) fails same wrote = subst (λ (ram : Ram). HasTables ram m) (sym same) machine.tables
 
-      pub served-sent : IfOk r (λ reply. reply ≡ success 0 0) → replied (state_of new m (record kept { buffers = list })) (reply_or_error r) ≡ msg_send2 s
-      served-sent good = of r refusal kept_ram kept_buffers filled_ram full good ∙ sent-is
+      pub sent : IfOk r (λ reply. reply ≡ success 0 0) → replied (state_of new m (record kept { buffers = list })) (reply_or_error r) ≡ served s (msg_send2 s)
+      unfolding first
+      sent good =
+          answered-by s (state_of new m (record kept { buffers = list })) (msg_send2 s) r (λ reply. reply)
+          (refusal ∙ (λ i. first_failure (send2_guards parties kept.buffers (at i) (header_in (sent-is i)))))
+          (refused-both r (λ same is. λ i. state_of (same i) m (record kept { buffers = is i })) kept_ram kept_buffers)
+          (done-so r (λ none facts. delivers (sym refusal ∙ none) facts) (done-both r (λ wrote is. (wrote, is)) filled_ram full))
+          good
         where
-          of : (r : Result Reply ErrorCode) → result_err r ≡ first_failure (send2_guards parties kept.buffers e (header_in tx))
-              → OnErr r (new ≡ ram) → OnErr r (list ≡ kept.buffers)
-              → OnOk r (new ≡ with_rx_bytes ram (buffers_in kept.buffers receiver) (message_in tx)) → OnOk r (list ≡ buffers_with_rx kept.buffers receiver true)
-              → IfOk r (λ reply. reply ≡ success 0 0)
-              → replied (state_of new m (record kept { buffers = list })) (reply_or_error r) ≡ sent_by tx e
-          of (Ok reply) passes _ _ wrote is good =
-              (λ i. replied (state_of (wrote i) m (record kept { buffers = is i })) (good i))
-              ∙ ap (λ (new : State). replied new (success 0 0)) (state-filled ram m kept machine receiver (receiver-known passes) (message_in tx))
-              ∙ ap (λ o. answered o s (filled s receiver (message_in tx)) (success 0 0)) passes
-          of (Err code) fails same is _ _ good =
-              (λ i. replied (state_of (same i) m (record kept { buffers = is i })) (Error code))
-              ∙ ap (λ o. answered o s (filled s receiver (message_in tx)) (success 0 0)) fails
+          delivers : first_failure (send2_guards parties kept.buffers e (header_in tx)) ≡ None
+              → (new ≡ with_rx_bytes ram (buffers_in kept.buffers receiver) (message_in tx)) × (list ≡ buffers_with_rx kept.buffers receiver true)
+              → state_of new m (record kept { buffers = list }) ≡ (msg_send2 s).state
+          delivers none facts =
+              (λ i. state_of (facts.0 i) m (record kept { buffers = facts.1 i }))
+              ∙ state-filled ram m kept machine receiver (receiver-known none) (message_in tx)
+              ∙ unnotified receiver (message_in tx)
+              ∙ (λ i. delivered s (header_in (sent-is i)).receiver (message_in (sent-is i)))

@@ -1,3 +1,5 @@
 pub mod Snapshot
 pub mod Owners
 pub mod Meaning
+pub mod Replies
+pub mod Arms

@@ -1,5 +1,5 @@
 -- What the parts of a machine mean together.
-use Rattle.std.specs.Prelude.{◌≡◌, ℕ, ◌*◌, List, length, Option, Some, None, slice_index_or}
+use Rattle.std.specs.Prelude.{◌≡◌, ℕ, ◌*◌, List, length, Option}
 use Rattle.std.specs.Option.{option_map}
 use Rattle.ffa_model.specs.declared.endpoint.Endpoint.{Endpoint}
 use Rattle.ffa_model.specs.declared.manifest.Manifest.{Manifest}
@@ -9,10 +9,10 @@ use Rattle.ffa_model.specs.Regions.{right_in, regions_at}
 use Rattle.ffa_pages.specs.Entry.{Entry, entry_at}
 use Rattle.ffa_stage2.specs.Tables.{IsBuilt}
 use Rattle.ffa_model.specs.Ram.{Ram, page_of}
-use Rattle.ffa_model.specs.State.{State, Page, Buffers}
+use Rattle.ffa_model.specs.State.{State, Page}
 use Rattle.ffa_model.specs.First.{first}
-use Rattle.ffa_model.specs.Sound.{IsSound}
-use Rattle.ffa_spmc.specs.Owners.{first_owners, AreOwn}
+use Rattle.ffa_model.specs.SoundState.{IsSoundState}
+use Rattle.ffa_spmc.specs.Owners.{first_owners}
 use Rattle.ffa_spmc.specs.declared.kept.Kept.{Kept}
 
 -- a page of the state, with the bytes that RAM holds
@@ -35,14 +35,14 @@ state_of ram m kept =
 abbrev pub own_right : ℕ → List Endpoint → ℕ → ℕ → Option Rights
 own_right base es i p = right_in base (regions_at es i) p
 
--- RAM stands where the manifest says, the owners are the manifest's, each endpoint's buffers are its own, the run states
--- are sound, and the tables are built for the endpoints' regions
-pub record IsMachine (ram : Ram) (m : Manifest) (kept : Kept) : Type 0 where
+-- RAM stands where the manifest says, and its tables are built for the endpoints' regions
+pub record HasTables (ram : Ram) (m : Manifest) : Type 0 where
   pub base : ram.base ≡ m.ram_base
   pub size : length ram.pages ≡ 512 * m.ram_blocks
-  pub owners : kept.pages ≡ first_owners m
-  pub each : length kept.buffers ≡ length m.endpoints.items
-  pub own : (i : ℕ) (b : Buffers) → slice_index_or kept.buffers i None ≡ Some b → AreOwn m i b
-  pub counted : length kept.chain.works ≡ length m.endpoints.items
-  pub sound : IsSound kept.chain
   pub built : IsBuilt ram (length m.endpoints.items) m.ram_blocks (own_right m.ram_base m.endpoints.items)
+
+-- besides the owners are the manifest's, and the state is sound
+pub record IsMachine (ram : Ram) (m : Manifest) (kept : Kept) : Type 0 where
+  pub tables : HasTables ram m
+  pub owners : kept.pages ≡ first_owners m
+  pub sound : IsSoundState (state_of ram m kept)

@@ -1,7 +1,6 @@
 //! What a machine keeps beside its RAM.
 ghost use Rattle.std.specs.Prelude.{◌≡◌, None, length, replicate};
 ghost use Rattle.ffa_model.specs.RunStates.{first_schedule};
-ghost use Rattle.ffa_model.specs.Sound.{IsSound};
 ghost use Rattle.ffa_spmc.specs.Owners.{first_owners};
 
 use ffa_model::Manifest;
@@ -27,7 +26,6 @@ impl Kept {
         ensures pages { result.pages ≡ first_owners manifest.now }
         ensures buffers { result.buffers ≡ replicate (length manifest.now.endpoints.items) None }
         ensures chain { result.chain ≡ first_schedule (length manifest.now.endpoints.items) }
-        ensures sound { IsSound result.chain }
     {
         Kept {
             pages: PageTable::of(manifest),

@@ -1,22 +1,28 @@
 //! The machine.
-ghost use Rattle.std.specs.Prelude.{true, false, ◌≡◌, ◌==◌, ◌*◌, ◌<◌, ◌≤◌, length, None, if◌then◌else◌};
+ghost use Rattle.std.specs.Prelude.{true, false, ◌≡◌, ℕ, ◌==◌, ◌*◌, ◌<◌, ◌≤◌, length, replicate, None, if◌then◌else◌};
 ghost use Rattle.std.specs.Result.{result_err};
 ghost use Rattle.ffa_model.specs.Access.{access};
 ghost use Rattle.ffa_model.specs.Agreement.{Agrees, root};
 ghost use Rattle.ffa_model.specs.Buffers.{rx_release, rxtx_map, rxtx_unmap};
-ghost use Rattle.ffa_model.specs.Calls.{first_failure, replied, success};
+ghost use Rattle.ffa_model.specs.Calls.{first_failure, replied, served, success};
 ghost use Rattle.ffa_model.specs.First.{first};
 ghost use Rattle.ffa_model.specs.Memory as memory;
 ghost use Rattle.ffa_model.specs.Identifiers.{place};
-ghost use Rattle.ffa_model.specs.Ram.{zero_ram};
+ghost use Rattle.ffa_model.specs.Manifest.{table_pages};
+ghost use Rattle.ffa_model.specs.Ram.{page_of, zero_ram};
+ghost use Rattle.ffa_model.specs.SoundState.{IsSoundState};
+ghost use Rattle.ffa_laws.specs.Events.{seen};
+ghost use Rattle.ffa_laws.specs.Isolation.{Integrity, Isolated, NeverGrow, OneStep, shown_to};
 ghost use Rattle.ffa_model.specs.Refusals.{is_error, is_refusal, passes_no_error};
-ghost use Rattle.ffa_model.specs.Registers.{decode};
+ghost use Rattle.ffa_model.specs.Registers.{served_call};
 ghost use Rattle.ffa_model.specs.Messages.{msg_send2};
 ghost use Rattle.ffa_model.specs.RunStates.{direct_request, direct_response, msg_wait, run_partition, yield_now};
 ghost use Rattle.ffa_model.specs.Setup.{info_get, info_guards, informed, is_count_alone, selected, uuid_bytes};
 ghost use Rattle.ffa_model.specs.State.{owner_of};
 ghost use Rattle.ffa_model.specs.Step.{serve, step, outcomes, state_after};
 ghost use Rattle.ffa_model.specs.Walk.{is_page_address};
+ghost use Rattle.ffa_spmc.specs.Arms.{has_arm};
+ghost use Rattle.ffa_spmc.specs.Replies.{done_or_error, reply_or_error};
 
 use crate::kept::Kept;
 use ffa_messages::{DirectMessage, direct_req, direct_resp, send2};
@@ -53,6 +59,26 @@ impl<M: PhysMem + Drop> Model for Machine<M> {
     ghost invariant = { λ m. IsMachine (M.ram m.ram) m.manifest m.kept };
 }
 
+// The reply to a call that only can be done or refused.
+fn done_or_error(answer: Result<(), ErrorCode>) -> Reply
+    ensures { result ≡ done_or_error answer }
+{
+    match answer {
+        Ok(()) => DONE,
+        Err(code) => Reply::Error(code),
+    }
+}
+
+// The reply of a call that was done, or the code for which it was refused.
+fn reply_or_error(answer: Result<Reply, ErrorCode>) -> Reply
+    ensures { result ≡ reply_or_error answer }
+{
+    match answer {
+        Ok(reply) => reply,
+        Err(code) => Reply::Error(code),
+    }
+}
+
 // Whether a request for partition information asks for the count alone.
 fn is_count_alone(flags: u32) -> bool
     ensures { result ≡ is_count_alone flags }
@@ -69,13 +95,27 @@ fn clear<M: PhysMem>(ram: &mut M)
     }
 }
 
+// The call that the registers ask for, where it is served.
+fn served_call(x: [u64; 8]) -> Call
+    ensures { result ≡ served_call x }
+{
+    if ffa_abi::is_served((x[0] % (1 << 32)) as u32) {
+        ffa_abi::decode(x)
+    } else {
+        Call::Unknown
+    }
+}
+
 impl<M: PhysMem + Drop> Machine<M> {
-    /// The machine of a manifest in its first state: it clears the RAM and builds the tables.
+    /// The machine of a manifest in its first state: it clears the RAM and builds the tables. All pages behind the tables
+    /// are zeros, the manager's too.
     pub fn boot(manifest: &Manifest, ram: M) -> Machine<M>
         requires base { (M.ram ram).base ≡ manifest.now.ram_base }
         requires size { length (M.ram ram).pages ≡ 512 * manifest.now.ram_blocks }
         ensures state { result.state ≡ first manifest.now.ram_base manifest.now.ram_blocks manifest.now.endpoints.items }
         ensures agrees { Agrees result.ram result.state }
+        ensures cleared { (p : ℕ) → length result.state.parties * table_pages manifest.now.ram_blocks ≤ p → p < length result.ram.pages → page_of result.ram p ≡ replicate 4096 0 }
+        ensures sound { IsSoundState result.state }
     {
         let mut ram = ram;
         clear(&mut ram);
@@ -171,7 +211,8 @@ impl<M: PhysMem + Drop> Machine<M> {
 
     // The reply to a call of the runner, and what the call changes.
     fn reply(&mut self, call: Call) -> Reply
-        requires { passes_no_error call ≡ true }
+        requires arm { has_arm call ≡ true }
+        requires named { passes_no_error call ≡ true }
         ensures served { replied self.new.state result ≡ serve self.old.state call }
         ensures refused { is_error result ≡ true → self.new ≡ self.old }
     {
@@ -216,46 +257,37 @@ impl<M: PhysMem + Drop> Machine<M> {
 
     // FFA_RX_RELEASE of the runner.
     fn release(&mut self) -> Reply
-        ensures served { replied self.new.state result ≡ rx_release self.old.state }
+        ensures served { replied self.new.state result ≡ served self.old.state (rx_release self.old.state) }
         ensures refused { is_error result ≡ true → self.new ≡ self.old }
     {
         let runner = self.kept.chain.runner();
-        match self.kept.buffers.release(runner) {
-            Ok(()) => DONE,
-            Err(code) => Reply::Error(code),
-        }
+        done_or_error(self.kept.buffers.release(runner))
     }
 
     // FFA_RXTX_MAP of the runner.
     fn map(&mut self, tx: u64, rx: u64, pages: u32) -> Reply
-        ensures served { replied self.new.state result ≡ rxtx_map self.old.state tx rx pages }
+        ensures served { replied self.new.state result ≡ served self.old.state (rxtx_map self.old.state tx rx pages) }
         ensures refused { is_error result ≡ true → self.new ≡ self.old }
     {
         let ram_base = self.manifest.ram_base;
         let runner = self.kept.chain.runner();
         let kept = &mut self.kept;
         let owners = &kept.pages;
-        match kept.buffers.map(owners, ram_base, runner, tx, rx, pages) {
-            Ok(()) => DONE,
-            Err(code) => Reply::Error(code),
-        }
+        done_or_error(kept.buffers.map(owners, ram_base, runner, tx, rx, pages))
     }
 
     // FFA_RXTX_UNMAP of the runner.
     fn unmap(&mut self, endpoint: u32) -> Reply
-        ensures served { replied self.new.state result ≡ rxtx_unmap self.old.state endpoint }
+        ensures served { replied self.new.state result ≡ served self.old.state (rxtx_unmap self.old.state endpoint) }
         ensures refused { is_error result ≡ true → self.new ≡ self.old }
     {
         let runner = self.kept.chain.runner();
-        match self.kept.buffers.unmap(runner, endpoint) {
-            Ok(()) => DONE,
-            Err(code) => Reply::Error(code),
-        }
+        done_or_error(self.kept.buffers.unmap(runner, endpoint))
     }
 
     // FFA_PARTITION_INFO_GET of the runner.
     fn partition_info(&mut self, uuid: [u32; 4], flags: u32) -> Reply
-        ensures served { replied self.new.state result ≡ info_get self.old.state uuid flags }
+        ensures served { replied self.new.state result ≡ served self.old.state (info_get self.old.state uuid flags) }
         ensures refused { is_error result ≡ true → self.new ≡ self.old }
     {
         match self.check_info(uuid, flags) {
@@ -304,85 +336,68 @@ impl<M: PhysMem + Drop> Machine<M> {
 
     // FFA_RUN of the runner.
     fn run_partition(&mut self, target: u32) -> Reply
-        ensures served { replied self.new.state result ≡ run_partition self.old.state target }
+        ensures served { replied self.new.state result ≡ served self.old.state (run_partition self.old.state target) }
         ensures refused { is_error result ≡ true → self.new ≡ self.old }
     {
-        match self.kept.chain.run(target) {
-            Ok(reply) => reply,
-            Err(code) => Reply::Error(code),
-        }
+        reply_or_error(self.kept.chain.run(target))
     }
 
     // FFA_MSG_WAIT of the runner, whose RX is empty then.
     fn wait(&mut self) -> Reply
-        ensures served { replied self.new.state result ≡ msg_wait self.old.state }
+        ensures served { replied self.new.state result ≡ served self.old.state (msg_wait self.old.state) }
         ensures refused { is_error result ≡ true → self.new ≡ self.old }
     {
         let runner = self.kept.chain.runner();
-        match self.kept.chain.wait() {
-            Ok(reply) => {
-                self.kept.buffers.empty(runner);
-                reply
-            }
-            Err(code) => Reply::Error(code),
+        let result = self.kept.chain.wait();
+        if result.is_ok() {
+            self.kept.buffers.empty(runner);
         }
+        reply_or_error(result)
     }
 
     // FFA_YIELD of the runner.
     fn yield_now(&mut self) -> Reply
-        ensures served { replied self.new.state result ≡ yield_now self.old.state }
+        ensures served { replied self.new.state result ≡ served self.old.state (yield_now self.old.state) }
         ensures refused { is_error result ≡ true → self.new ≡ self.old }
     {
-        match self.kept.chain.yield_now() {
-            Ok(reply) => reply,
-            Err(code) => Reply::Error(code),
-        }
+        reply_or_error(self.kept.chain.yield_now())
     }
 
     // FFA_MSG_SEND_DIRECT_REQ of the runner.
     fn request(&mut self, message: &DirectMessage) -> Reply
         requires { (message.now.function == 0x84000060) ≡ false }
-        ensures served { replied self.new.state result ≡ direct_request self.old.state message.now.function message.now.parties message.now.flags message.now.payload }
+        ensures served { replied self.new.state result ≡ served self.old.state (direct_request self.old.state message.now.function message.now.parties message.now.flags message.now.payload) }
         ensures refused { is_error result ≡ true → self.new ≡ self.old }
     {
-        match direct_req(&mut self.kept.chain, &self.manifest, message) {
-            Ok(reply) => reply,
-            Err(code) => Reply::Error(code),
-        }
+        reply_or_error(direct_req(&mut self.kept.chain, &self.manifest, message))
     }
 
     // FFA_MSG_SEND_DIRECT_RESP of the runner.
     fn respond(&mut self, message: &DirectMessage) -> Reply
         requires { (message.now.function == 0x84000060) ≡ false }
-        ensures served { replied self.new.state result ≡ direct_response self.old.state message.now.function message.now.parties message.now.flags message.now.payload }
+        ensures served { replied self.new.state result ≡ served self.old.state (direct_response self.old.state message.now.function message.now.parties message.now.flags message.now.payload) }
         ensures refused { is_error result ≡ true → self.new ≡ self.old }
     {
-        match direct_resp(&mut self.kept.chain, message) {
-            Ok(reply) => reply,
-            Err(code) => Reply::Error(code),
-        }
+        reply_or_error(direct_resp(&mut self.kept.chain, message))
     }
 
     // FFA_MSG_SEND2 of the runner.
     fn send(&mut self) -> Reply
-        ensures served { replied self.new.state result ≡ msg_send2 self.old.state }
+        ensures served { replied self.new.state result ≡ served self.old.state (msg_send2 self.old.state) }
         ensures refused { is_error result ≡ true → self.new ≡ self.old }
     {
         let runner = self.kept.chain.runner();
         let buffers = &mut self.kept.buffers;
-        match send2(&mut self.ram, buffers, &self.manifest, runner) {
-            Ok(reply) => reply,
-            Err(code) => Reply::Error(code),
-        }
+        reply_or_error(send2(&mut self.ram, buffers, &self.manifest, runner))
     }
 
     // A call of the runner, in its registers.
     fn call(&mut self, x: [u64; 8]) -> Outcome
-        ensures outcome { result ≡ (serve self.old.state (decode x)).outcome }
-        ensures state { self.new.state ≡ (serve self.old.state (decode x)).state }
+        ensures outcome { result ≡ (serve self.old.state (served_call x)).outcome }
+        ensures state { self.new.state ≡ (serve self.old.state (served_call x)).state }
         ensures refused { is_refusal result ≡ true → self.new ≡ self.old }
     {
-        let reply = self.reply(ffa_abi::decode(x));
+        let reply = self.reply(served_call(x));
         Outcome::Regs {
             runner: self.kept.chain.runner(),
             x: ffa_abi::encode(&reply),
@@ -398,7 +413,14 @@ impl<M: PhysMem + Drop> Machine<M> {
         // Every walk of the new RAM gives exactly the access of the new state, whose bytes it holds.
         ensures agrees { Agrees self.new.ram self.new.state }
         ensures refused { is_refusal result ≡ true → self.new ≡ self.old }
+
+        // The state stays sound. What another endpoint learns is in its events, what the runner sees depends on its view
+        // alone, and a page that its owner has alone is safe from others.
+        ensures sound { IsSoundState self.new.state }
+        ensures step { OneStep self.old.state op.now }
+        ensures integrity { Integrity self.old.state op.now }
     {
+        // A field is lent before and after, since the invariant that the clauses rest on is known where one is.
         let _ = &self.kept;
         let outcome = self.operate(op);
         let _ = &self.kept;
@@ -425,7 +447,18 @@ impl<M: PhysMem + Drop> Machine<M> {
         ensures outcomes { filled.new ≡ outcomes self.old.state ops.now }
         ensures state { self.new.state ≡ state_after self.old.state ops.now }
         ensures agrees { Agrees self.new.ram self.new.state }
+        ensures sound { IsSoundState self.new.state }
+
+        // What an endpoint sees is the same from every state that it sees alike, with every list of operations that holds
+        // the same of it; and what it sees is in the outcomes that were filled in.
+        ensures isolated { Isolated self.old.state ops.now }
+        ensures shown { (e : ℕ) → shown_to e self.old.state.runner filled.new ≡ seen e self.old.state ops.now }
+
+        // No base right is above the one before, no access above the base right, and the manager's pages stay its own.
+        ensures never_grow { NeverGrow self.old.state self.new.state }
     {
+        // A field is lent before and after, as in `op`.
+        let _ = &self.kept;
         for i in 0..ops.len() {
             filled[i] = self.op(&ops[i]);
         }

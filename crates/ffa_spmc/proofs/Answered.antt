@@ -1,0 +1,55 @@
+-- What the machine answers to a call that a part of it has done or refused.
+use Rattle.std.proofs.Common.{◌≡◌, ◌∙◌, ℕ, Bool, true, false, Option, Some, None, Result, Ok, Err, refl, sym, ap}
+use Rattle.std.specs.Prelude.{⊤, IfOk, OnOk, OnErr}
+use Rattle.std.specs.Result.{result_err}
+use Rattle.std.proofs.lemmas.Bool.{false≢true}
+use Rattle.ffa_model.specs.declared.call.Reply.{Reply}
+use Rattle.ffa_model.specs.declared.call.Reply.TheVariants.{Error}
+use Rattle.ffa_model.specs.declared.operation.ErrorCode.{ErrorCode}
+use Rattle.ffa_model.specs.Calls.{Service, Stepped, answered, first_failure, replied, served, success}
+use Rattle.ffa_model.specs.Refusals.{is_error}
+use Rattle.ffa_model.specs.State.{State}
+use Rattle.ffa_spmc.specs.Replies.{reply_of}
+
+-- facts of a refusal, or of what was done, joined
+pub refused-both : {X : Type 0} (r : Result X ErrorCode) {P Q R : Type 0} → (P → Q → R) → OnErr r P → OnErr r Q → OnErr r R
+refused-both (Ok x) join p q = tt
+refused-both (Err code) join p q = join p q
+
+pub done-both : {X : Type 0} (r : Result X ErrorCode) {P Q R : Type 0} → (P → Q → R) → OnOk r P → OnOk r Q → OnOk r R
+done-both (Ok x) join p q = join p q
+done-both (Err code) join p q = tt
+
+pub refused-so : {X : Type 0} (r : Result X ErrorCode) {P Q : Type 0} → (P → Q) → OnErr r P → OnErr r Q
+refused-so (Ok x) so p = tt
+refused-so (Err code) so p = so p
+
+-- where nothing was refused, what follows of it
+pub done-so : {X : Type 0} (r : Result X ErrorCode) {P Q : Type 0} → (result_err r ≡ None → P → Q) → OnOk r P → OnOk r Q
+done-so (Ok x) so p = so refl p
+done-so (Err code) so p = tt
+
+pub done-replies : (r : Result ⊤ ErrorCode) → IfOk r (λ done. success 0 0 ≡ success 0 0)
+done-replies (Ok done) = refl
+done-replies (Err code) = tt
+
+-- A call whose guards refuse it just where r does, and which leaves the state and the reply that r gives, is served.
+module _ {X : Type 0} (s new : State) (c : Service) (r : Result X ErrorCode) (told : X → Reply) where
+  pub answered-by : result_err r ≡ first_failure c.guards → OnErr r (new ≡ s) → OnOk r (new ≡ c.state) → IfOk r (λ x. told x ≡ c.reply)
+      → replied new (reply_of told r) ≡ served s c
+  answered-by refusal same done replies = of r refusal same done replies
+    where
+      of : (r : Result X ErrorCode) → result_err r ≡ first_failure c.guards → OnErr r (new ≡ s) → OnOk r (new ≡ c.state) → IfOk r (λ x. told x ≡ c.reply)
+          → replied new (reply_of told r) ≡ served s c
+      of (Ok x) passes same is replies = (λ i. replied (is i) (replies i)) ∙ ap (λ o. answered o s c.state c.reply) passes
+      of (Err code) fails is done replies = ap (λ (t : State). replied t (Error code)) is ∙ ap (λ o. answered o s c.state c.reply) fails
+
+-- a call that nothing refuses leaves its state
+pub passed-state : (s : State) (c : Service) → first_failure c.guards ≡ None → (served s c).state ≡ c.state
+passed-state s c none = ap (λ o. (answered o s c.state c.reply).state) none
+
+-- a reply that is no error comes of what was done
+pub error-refused : {X A : Type 0} (r : Result X ErrorCode) (told : X → Reply) (old new : A) (good : Reply) → is_error good ≡ false
+    → OnErr r (new ≡ old) → IfOk r (λ x. told x ≡ good) → is_error (reply_of told r) ≡ true → new ≡ old
+error-refused (Ok x) told old new good fine same replies error = absurd (false≢true (sym fine ∙ sym (ap is_error replies) ∙ error))
+error-refused (Err code) told old new good fine is replies error = is

@@ -1,0 +1,17 @@
+-- What the runner sees of a call that a part of the machine has done or refused.
+use Rattle.std.specs.Prelude.{⊤, Result, Ok, Err}
+use Rattle.ffa_model.specs.declared.call.Reply.{Reply}
+use Rattle.ffa_model.specs.declared.call.Reply.TheVariants.{Error}
+use Rattle.ffa_model.specs.declared.operation.ErrorCode.{ErrorCode}
+use Rattle.ffa_model.specs.Calls.{success}
+
+-- where `told` is the reply to what is done
+abbrev pub reply_of : {X : Type 0} → (X → Reply) → Result X ErrorCode → Reply
+reply_of told (Ok x) = told x
+reply_of told (Err code) = Error code
+
+abbrev pub done_or_error : Result ⊤ ErrorCode → Reply
+done_or_error r = reply_of (λ done. success 0 0) r
+
+abbrev pub reply_or_error : Result Reply ErrorCode → Reply
+reply_or_error r = reply_of (λ reply. reply) r
