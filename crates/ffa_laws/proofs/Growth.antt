@@ -6,16 +6,19 @@ use Rattle.ffa_model.specs.declared.rights.Data.{Data}
 use Rattle.ffa_model.specs.declared.rights.Data.TheVariants.{Ro, Rw}
 use Rattle.ffa_model.specs.declared.rights.Rights.{Rights}
 use Rattle.ffa_model.specs.declared.operation.Op.{Op}
+use Rattle.ffa_model.specs.declared.call.Call as calls
+use Rattle.ffa_model.specs.RunStates.{Schedule}
+use Rattle.ffa_model.specs.Notifications.{Notifications}
 use Rattle.ffa_model.specs.Rights.{is_lend, is_data_at_most, is_share, is_within}
-use Rattle.ffa_model.specs.State.{State, Page, Transaction, page_at}
+use Rattle.ffa_model.specs.State.{State, Buffers, Page, Transaction, page_at}
 use Rattle.ffa_model.specs.Access.{access, held_by, right_by, right_of, transaction_at}
-use Rattle.ffa_model.specs.Step.{state_after, step}
+use Rattle.ffa_model.specs.Step.{serve, state_after, step}
 use Rattle.ffa_laws.specs.Steady.{IsSteady, page_base, is_joint}
-use Rattle.ffa_laws.specs.Isolation.{NeverGrow, are_lawful, is_joint_at, is_lawful}
+use Rattle.ffa_laws.specs.Isolation.{NeverGrow, is_joint_at, is_lawful_call}
 use Rattle.ffa_laws.proofs.Views.{found}
-use Rattle.ffa_laws.proofs.Changes.{same_base, standing}
-use Rattle.ffa_laws.proofs.Kept.{rewritten-step}
-use Rattle.ffa_laws.proofs.Laws.{steady-step}
+use Rattle.ffa_laws.proofs.Changes.{AreRewritten, same_base, standing}
+use Rattle.ffa_laws.proofs.Kept.{rewritten-call, rewritten-step, with_all_parts}
+use Rattle.ffa_laws.proofs.Laws.{steady-call, steady-step}
 
 level-same : (d : Data) → is_data_at_most d d ≡ true
 level-same Ro = refl
@@ -39,7 +42,7 @@ within-same : (r : Option Rights) → is_within r r ≡ true
 within-same None = refl
 within-same (Some r) = and_from (is_data_at_most r.level r.level) (not r.exec || r.exec) (level-same r.level) (execution-same r.exec)
 
-within-through : (a b c : Option Rights) → is_within a b ≡ true → is_within b c ≡ true → is_within a c ≡ true
+pub within-through : (a b c : Option Rights) → is_within a b ≡ true → is_within b c ≡ true → is_within a c ≡ true
 within-through None b c ab bc = refl
 within-through (Some a) None c ab bc = absurd (false≢true ab)
 within-through (Some a) (Some b) None ab bc = absurd (false≢true bc)
@@ -94,26 +97,48 @@ module _ (s : State) (steady : IsSteady s) where
               let (h, open_h, named) = found s p u open_at in
               (steady.transactions h u open_h).alone e f right right_f differ is of_f
 
--- ---- over a run
-base-step : (s : State) (op : Op) (p : ℕ) → is_lawful op ≡ true → page_base (page_at (step s op).state p) ≡ page_base (page_at s p)
-base-step s op p lawful = rewritten-step (λ t. page_base (page_at t p) ≡ page_base (page_at s p)) s refl (λ ps bs c n rewritten. same_base _ (page_at s p) (rewritten.same p)) op lawful
+-- ---- over a call and over a run
+-- base rights and the manager's pages, as they stand in t, are those of s
+record KeepsRights (s t : State) : Type 0 where
+  pub bases : (p : ℕ) → page_base (page_at t p) ≡ page_base (page_at s p)
+  pub manager : (p : ℕ) → page_at s p ≡ None → page_at t p ≡ None
 
 stands-nowhere : (x : Option Page) → standing x ≡ None → x ≡ None
 stands-nowhere None is = refl
 stands-nowhere (Some page) is = absurd (true≢false (ap is_some is))
 
-manager-step : (s : State) (op : Op) (p : ℕ) → is_lawful op ≡ true → page_at s p ≡ None → page_at (step s op).state p ≡ None
-manager-step s op p lawful none = rewritten-step (λ t. page_at t p ≡ None) s none (λ ps bs c n rewritten. stands-nowhere _ (rewritten.same p ∙ ap standing none)) op lawful
-
-pub never_grow : (s : State) (ops : List Op) → are_lawful ops ≡ true → IsSteady s → NeverGrow s (state_after s ops)
-never_grow s [] lawful steady =
-    record { base = λ p. within-same (page_base (page_at s p)); within = access-within s steady; manager = λ p none. none; alone = access-alone s steady }
-never_grow s (op ∷ ops) lawful steady =
-    let (one, rest) = and_parts (is_lawful op) (are_lawful ops) lawful in
-    let later = never_grow (step s op).state ops rest (steady-step s steady op one) in
+rewritten-rights : (s : State) (ps : List (Option Page)) (bs : List (Option Buffers)) (c : Schedule) (n : Notifications) → AreRewritten s.pages ps → KeepsRights s (with_all_parts s ps bs c n)
+rewritten-rights s ps bs c n rewritten =
     record {
-      base = λ p. sym (ap (is_within (page_base (page_at (state_after (step s op).state ops) p))) (base-step s op p one)) ∙ later.base p;
+      bases = λ p. same_base _ (page_at s p) (rewritten.same p);
+      manager = λ p none. stands-nowhere _ (rewritten.same p ∙ ap standing none);
+    }
+
+same-rights : (s : State) → KeepsRights s s
+same-rights s = record { bases = λ p. refl; manager = λ p none. none }
+
+grown-from : (s t u : State) → KeepsRights s t → NeverGrow t u → NeverGrow s u
+grown-from s t u keeps later =
+    record {
+      base = λ p. sym (ap (is_within (page_base (page_at u p))) (keeps.bases p)) ∙ later.base p;
       within = later.within;
-      manager = λ p none. later.manager p (manager-step s op p one none);
+      manager = λ p none. later.manager p (keeps.manager p none);
       alone = later.alone;
     }
+
+not_grown : (s : State) → IsSteady s → NeverGrow s s
+not_grown s steady =
+    record { base = λ p. within-same (page_base (page_at s p)); within = access-within s steady; manager = λ p none. none; alone = access-alone s steady }
+
+pub never_grow : (s : State) (ops : List Op) → IsSteady s → NeverGrow s (state_after s ops)
+never_grow s [] steady = not_grown s steady
+never_grow s (op ∷ ops) steady =
+    grown-from s (step s op).state (state_after (step s op).state ops)
+    (rewritten-step (KeepsRights s) s (same-rights s) (rewritten-rights s) op)
+    (never_grow (step s op).state ops (steady-step s steady op))
+
+pub call_never_grows : (s : State) (call : calls.Call) → is_lawful_call call ≡ true → IsSteady s → NeverGrow s (serve s call).state
+call_never_grows s call lawful steady =
+    grown-from s (serve s call).state (serve s call).state
+    (rewritten-call (KeepsRights s) s (same-rights s) (rewritten-rights s) call lawful)
+    (not_grown (serve s call).state (steady-call s steady call lawful))

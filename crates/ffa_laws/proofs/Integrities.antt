@@ -1,10 +1,11 @@
 -- A page that its owner has alone keeps its bytes, whatever another endpoint does, but for a message into RX.
 use Rattle.std.proofs.Common.{◌≡◌, ◌≢◌, ◌∙◌, ℕ, ◌-◌, ◌/◌, ◌%◌, true, false, cond, List, [], get_or, Option, Some, None, is_some, refl, sym, ap, inl, inr, get_or-set_other}
-use Rattle.std.specs.Prelude.{◌==◌, ◌&&◌, nat_le, nat_lt, ◌^◌}
+use Rattle.std.specs.Prelude.{Bool, ◌==◌, ◌&&◌, nat_le, nat_lt, ◌^◌}
 use Rattle.std.specs.Option.{option_and_then, option_map_or}
 use Rattle.std.proofs.lemmas.Bool.{and_from, cases_eq, eq-eqb, eqb-true, false≢true, true≢false}
 use Rattle.byteorder.specs.Endian.{little_bytes}
 use Rattle.ffa_model.specs.declared.operation.Op.{Op}
+use Rattle.ffa_model.specs.declared.call.Call as calls
 use Rattle.ffa_model.specs.declared.operation.ErrorCode.TheVariants.{InvalidParameters}
 use Rattle.ffa_model.specs.Rights.{may_store}
 use Rattle.ffa_model.specs.State.{State, Page, Buffers, page_at, owner_of, buffers_of, is_known, transaction_of}
@@ -13,12 +14,12 @@ use Rattle.ffa_model.specs.Buffers.{filled_pages}
 use Rattle.ffa_model.specs.Memory.{access_at, page_bytes, size_of, store_fault, written_pages}
 use Rattle.ffa_model.specs.Calls.{first_failure}
 use Rattle.ffa_model.specs.Messages.{header_in, message_in, send2_guards, tx_bytes}
-use Rattle.ffa_model.specs.Step.{step}
+use Rattle.ffa_model.specs.Step.{serve, step}
 use Rattle.ffa_laws.specs.Steady.{IsSteady}
-use Rattle.ffa_laws.specs.Isolation.{Integrity, is_lawful, is_bound_for, is_message}
+use Rattle.ffa_laws.specs.Isolation.{Integrity, LeavesBytes, is_bound_for, is_lawful_call, is_message, is_send2}
 use Rattle.ffa_model.proofs.Guards.{guard-passes}
 use Rattle.ffa_laws.proofs.MemoryLaws.{fault-none}
-use Rattle.ffa_laws.proofs.Kept.{kept-step}
+use Rattle.ffa_laws.proofs.Kept.{kept-call, kept-step}
 
 -- the bytes of a page of a list of pages
 abbrev bytes_in : List (Option Page) → ℕ → List ℕ
@@ -63,10 +64,10 @@ module _ (s : State) (steady : IsSteady s) (e p : ℕ) (owned : owner_of s p ≡
             | false ↦ λ some. absurd (false≢true some)
           ]
 
-  delivered_elsewhere : (op : Op) → (is_message op && is_bound_for s e p) ≡ false → is_message op ≡ true
+  delivered_elsewhere : (message : Bool) → (message && is_bound_for s e p) ≡ false → message ≡ true
       → first_failure (send2_guards s.parties s.buffers s.runner (header_in (tx_bytes s s.runner))) ≡ None
       → bytes_in (filled_pages s.pages (message_in (tx_bytes s s.runner)) (buffers_of s (header_in (tx_bytes s s.runner)).receiver)) p ≡ bytes_in s.pages p
-  delivered_elsewhere op not_bound is none =
+  delivered_elsewhere message not_bound is none =
       elsewhere-filled receiver (message_in (tx_bytes s s.runner)) known (λ b buffers same.
       elim (cases_eq receiver e) [
         | inl mine ↦
@@ -81,12 +82,21 @@ module _ (s : State) (steady : IsSteady s) (e p : ℕ) (owned : owner_of s p ≡
       known : is_known s receiver ≡ true
       known = guard-passes (send2_guards s.parties s.buffers s.runner (header_in (tx_bytes s s.runner))) 4 InvalidParameters (sym none)
 
-  bytes-kept : (op : Op) → is_lawful op ≡ true → (is_message op && is_bound_for s e p) ≡ false → page_bytes (step s op).state p ≡ page_bytes s p
-  bytes-kept op lawful not_bound =
-      kept-step (λ t. page_bytes t p ≡ page_bytes s p) (λ ps. bytes_in ps p ≡ bytes_in s.pages p) s refl (λ ps bs c n same. same) refl
-      (λ bytes. elsewhere-filled s.runner bytes steady.runner (λ b is. of_another s.runner b steady.runner is other)) op lawful
-      (λ address size value none. elsewhere s.pages ((address - s.ram_base) / 4096) p (address % 4096) (little_bytes (size_of size) value) (stored_elsewhere address (size_of size) none))
-      (delivered_elsewhere op not_bound)
+  bytes-kept-call : (call : calls.Call) → is_lawful_call call ≡ true → (is_send2 call && is_bound_for s e p) ≡ false → page_bytes (serve s call).state p ≡ page_bytes s p
+  bytes-kept-call call lawful not_bound =
+      kept-call (λ t. page_bytes t p ≡ page_bytes s p) (λ ps. bytes_in ps p ≡ bytes_in s.pages p) s refl (λ ps bs c n same. same) refl
+      (λ bytes. elsewhere-filled s.runner bytes steady.runner (λ b is. of_another s.runner b steady.runner is other)) call lawful
+      (delivered_elsewhere (is_send2 call) not_bound)
 
-pub integrity : (s : State) (op : Op) → is_lawful op ≡ true → IsSteady s → Integrity s op
-integrity s op lawful steady e p owned unnamed other not_bound = bytes-kept s steady e p owned unnamed other op lawful not_bound
+  bytes-kept : (op : Op) → (is_message op && is_bound_for s e p) ≡ false → page_bytes (step s op).state p ≡ page_bytes s p
+  bytes-kept op not_bound =
+      kept-step (λ t. page_bytes t p ≡ page_bytes s p) (λ ps. bytes_in ps p ≡ bytes_in s.pages p) s refl (λ ps bs c n same. same) refl
+      (λ bytes. elsewhere-filled s.runner bytes steady.runner (λ b is. of_another s.runner b steady.runner is other)) op
+      (λ address size value none. elsewhere s.pages ((address - s.ram_base) / 4096) p (address % 4096) (little_bytes (size_of size) value) (stored_elsewhere address (size_of size) none))
+      (delivered_elsewhere (is_message op) not_bound)
+
+pub integrity : (s : State) (op : Op) → IsSteady s → Integrity s op
+integrity s op steady e p owned unnamed other not_bound = bytes-kept s steady e p owned unnamed other op not_bound
+
+pub call_integrity : (s : State) (call : calls.Call) → is_lawful_call call ≡ true → IsSteady s → LeavesBytes (is_send2 call) s (serve s call).state
+call_integrity s call lawful steady e p owned unnamed other not_bound = bytes-kept-call s steady e p owned unnamed other call lawful not_bound

@@ -12,7 +12,7 @@ use Rattle.ffa_model.specs.declared.schedule.Status.TheVariants.{Yielded}
 use Rattle.ffa_model.specs.declared.call.Call as calls
 use Rattle.ffa_model.specs.declared.call.Call.TheVariants.{Version, Features, RxRelease, RxtxMap, RxtxUnmap, PartitionInfoGet, IdGet, MsgWait, Yield, Run, DirectRequest, DirectResponse, MemDonate, MemLend, MemShare, MemRetrieve, MemRelinquish, MemReclaim, BitmapCreate, BitmapDestroy, NotificationBind, NotificationUnbind, NotificationSet, NotificationGet, SpmIdGet, MsgSend2, Unknown}
 use Rattle.ffa_model.specs.Bits.{bits_of, high_half, joined, low_half}
-use Rattle.ffa_model.specs.Registers.{decode}
+use Rattle.ffa_model.specs.Registers.{served_call}
 use Rattle.ffa_model.specs.State.{State, Page, Buffers, buffers_of, is_known}
 use Rattle.ffa_model.specs.Calls.{first_failure}
 use Rattle.ffa_model.specs.Memory.{fetch_fault, number_at, read_fault, size_of, store_fault, stored, written_pages}
@@ -21,8 +21,9 @@ use Rattle.ffa_model.specs.Setup.{info_bytes, is_count_alone, uuid_bytes}
 use Rattle.ffa_model.specs.RunStates.{Schedule, finished, given_cycles, requested, schedule_of, status_in, switched}
 use Rattle.ffa_model.specs.Notifications.{Notifications, class_of, notifications_of, with_bitmaps, with_bound, with_framework_bit, with_notifications, with_pending, without_bitmaps, without_bound, without_pending}
 use Rattle.ffa_model.specs.Messages.{header_in, message_in, send2_guards, tx_bytes}
-use Rattle.ffa_model.specs.Step.{service, step}
-use Rattle.ffa_laws.specs.Isolation.{is_lawful, is_lawful_call, is_message, is_send2}
+use Rattle.ffa_model.specs.Step.{serve, service, step}
+use Rattle.ffa_laws.specs.Isolation.{is_lawful_call, is_message, is_send2}
+use Rattle.ffa_laws.proofs.Lawful.{lawful as served_lawful}
 use Rattle.ffa_laws.proofs.Form.{accessed-kept, served-kept}
 use Rattle.ffa_laws.proofs.Changes.{AreRewritten, unwritten, with_parts}
 use Rattle.ffa_laws.proofs.Written.{rewritten-filled, rewritten-written}
@@ -80,23 +81,32 @@ module _ (P : State → Type 0) (R : List (Option Page) → Type 0) (s : State) 
       new sent_pages (buffers_with_rx s.buffers (header_in (tx_bytes s s.runner)).receiver true) (schedule_of s) (with_framework_bit (notifications_of s) (header_in (tx_bytes s s.runner)).receiver) (by_send refl none)
   kept-service Unknown lawful by_send none = old
 
-  pub kept-step : (op : Op) → is_lawful op ≡ true → ((address : ℕ) (size : Size) (value : ℕ) → store_fault s address (size_of size) ≡ None → R (stored_pages address size value))
+  pub kept-call : (call : calls.Call) → is_lawful_call call ≡ true → (is_send2 call ≡ true → send_failure ≡ None → R sent_pages) → P (serve s call).state
+  kept-call call lawful by_send = served-kept P s (service s call) old (kept-service call lawful by_send)
+
+  pub kept-step : (op : Op) → ((address : ℕ) (size : Size) (value : ℕ) → store_fault s address (size_of size) ≡ None → R (stored_pages address size value))
       → (is_message op ≡ true → send_failure ≡ None → R sent_pages) → P (step s op).state
-  kept-step (Call x) lawful by_store by_send = served-kept P s (service s (decode x)) old (kept-service (decode x) lawful by_send)
-  kept-step (Load address size) lawful by_store by_send = accessed-kept P s s (Data (number_at s address (size_of size))) (read_fault s address (size_of size)) old (λ none. old)
-  kept-step (Store address size value) lawful by_store by_send =
+  kept-step (Call x) by_store by_send = kept-call (served_call x) (served_lawful x) by_send
+  kept-step (Load address size) by_store by_send = accessed-kept P s s (Data (number_at s address (size_of size))) (read_fault s address (size_of size)) old (λ none. old)
+  kept-step (Store address size value) by_store by_send =
       accessed-kept P s (stored s address (little_bytes (size_of size) value)) Done (store_fault s address (size_of size)) old
       (λ none. new (stored_pages address size value) s.buffers (schedule_of s) (notifications_of s) (by_store address size value none))
-  kept-step (Fetch address) lawful by_store by_send = accessed-kept P s s (Data (number_at s address 4)) (fetch_fault s address) old (λ none. old)
+  kept-step (Fetch address) by_store by_send = accessed-kept P s s (Data (number_at s address 4)) (fetch_fault s address) old (λ none. old)
 
 -- owners, base rights and transactions stay, and so do the constants
 pub rewritten-step : (P : State → Type 0) (s : State) → P s → ((ps : List (Option Page)) (bs : List (Option Buffers)) (c : Schedule) (n : Notifications) → AreRewritten s.pages ps → P (with_all_parts s ps bs c n))
-    → (op : Op) → is_lawful op ≡ true → P (step s op).state
-rewritten-step P s old new op lawful =
-    kept-step P (AreRewritten s.pages) s old new (unwritten s.pages) (λ bytes. rewritten-filled s.pages bytes (buffers_of s s.runner)) op lawful
+    → (op : Op) → P (step s op).state
+rewritten-step P s old new op =
+    kept-step P (AreRewritten s.pages) s old new (unwritten s.pages) (λ bytes. rewritten-filled s.pages bytes (buffers_of s s.runner)) op
     (λ address size value none. rewritten-written s.pages ((address - s.ram_base) / 4096) (address % 4096) (little_bytes (size_of size) value))
     (λ is none. rewritten-filled s.pages (message_in (tx_bytes s s.runner)) (buffers_of s (header_in (tx_bytes s s.runner)).receiver))
 
+pub rewritten-call : (P : State → Type 0) (s : State) → P s → ((ps : List (Option Page)) (bs : List (Option Buffers)) (c : Schedule) (n : Notifications) → AreRewritten s.pages ps → P (with_all_parts s ps bs c n))
+    → (call : calls.Call) → is_lawful_call call ≡ true → P (serve s call).state
+rewritten-call P s old new call lawful =
+    kept-call P (AreRewritten s.pages) s old new (unwritten s.pages) (λ bytes. rewritten-filled s.pages bytes (buffers_of s s.runner)) call lawful
+    (λ is none. rewritten-filled s.pages (message_in (tx_bytes s s.runner)) (buffers_of s (header_in (tx_bytes s s.runner)).receiver))
+
 -- the endpoints stay the same
-pub known-step : (s : State) (op : Op) (e : ℕ) → is_lawful op ≡ true → is_known s e ≡ true → is_known (step s op).state e ≡ true
-known-step s op e lawful known = rewritten-step (λ t. is_known t e ≡ true) s known (λ ps bs c n rewritten. known) op lawful
+pub known-step : (s : State) (op : Op) (e : ℕ) → is_known s e ≡ true → is_known (step s op).state e ≡ true
+known-step s op e known = rewritten-step (λ t. is_known t e ≡ true) s known (λ ps bs c n rewritten. known) op

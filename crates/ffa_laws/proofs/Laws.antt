@@ -10,7 +10,7 @@ use Rattle.ffa_model.specs.declared.call.Call as calls
 use Rattle.ffa_model.specs.declared.call.Call.TheVariants.{Version, Features, RxRelease, RxtxMap, RxtxUnmap, PartitionInfoGet, IdGet, MsgWait, Yield, Run, DirectRequest, DirectResponse, MemDonate, MemLend, MemShare, MemRetrieve, MemRelinquish, MemReclaim, BitmapCreate, BitmapDestroy, NotificationBind, NotificationUnbind, NotificationSet, NotificationGet, SpmIdGet, MsgSend2, Unknown}
 use Rattle.ffa_model.specs.State.{State, is_known}
 use Rattle.ffa_model.specs.Calls.{Stepped, first_failure}
-use Rattle.ffa_model.specs.Registers.{decode}
+use Rattle.ffa_model.specs.Registers.{served_call}
 use Rattle.ffa_model.specs.declared.schedule.Status.TheVariants.{Yielded}
 use Rattle.ffa_model.specs.Bits.{bits_of, high_half, joined, low_half}
 use Rattle.ffa_model.specs.Buffers.{new_buffers}
@@ -18,11 +18,12 @@ use Rattle.ffa_model.specs.RunStates.{direct_request, direct_response, finished,
 use Rattle.ffa_model.specs.Notifications.{class_of, notifications_of, with_bitmaps, with_pending, without_pending}
 use Rattle.ffa_laws.proofs.Steadies.{steady-notified}
 use Rattle.ffa_laws.proofs.NotificationLaws.{other-bind, other-create, other-destroy, other-get, other-set, other-unbind, own-bind, own-create, own-destroy, own-get, own-set, own-unbind, steady-bind, steady-destroy, steady-unbind}
-use Rattle.ffa_model.specs.Step.{service, step}
+use Rattle.ffa_model.specs.Step.{serve, service, step}
 use Rattle.ffa_laws.specs.Steady.{IsSteady}
 use Rattle.ffa_laws.specs.View.{view}
-use Rattle.ffa_laws.specs.Events.{Event, Item, Own, Told, apply, apply_all, events, items, message, messages, seen, told_by}
-use Rattle.ffa_laws.specs.Isolation.{OneStep, Isolated, are_lawful, is_lawful, is_lawful_call}
+use Rattle.ffa_laws.specs.Events.{Event, Item, Own, Told, apply, apply_all, call_events, events, items, message, messages, seen, told_by}
+use Rattle.ffa_laws.specs.Isolation.{Isolated, OneCall, OneStep, is_lawful_call}
+use Rattle.ffa_laws.proofs.Lawful.{lawful as served_lawful}
 use Rattle.ffa_laws.proofs.Form.{IsOwn, served-kept, served-own, viewed}
 use Rattle.ffa_laws.proofs.Told.{IsTold, other-same, served-other}
 use Rattle.ffa_laws.proofs.Kept.{known-step}
@@ -62,11 +63,14 @@ own-service s steady (NotificationGet word flags) lawful = own-get s steady word
 own-service s steady MsgSend2 lawful = own-send2 s steady
 own-service s steady Unknown lawful = (refl, λ none. (refl, refl))
 
-pub own-step : (s : State) → IsSteady s → (op : Op) → is_lawful op ≡ true → step (view s.runner s) op ≡ viewed s.runner (step s op)
-own-step s steady (Call x) lawful = served-own s (service (view s.runner s) (decode x)) (service s (decode x)) (own-service s steady (decode x) lawful)
-own-step s steady (Load addr size) lawful = own-load s steady addr size
-own-step s steady (Store addr size value) lawful = own-store s steady addr size value
-own-step s steady (Fetch addr) lawful = own-fetch s steady addr
+own-call : (s : State) → IsSteady s → (call : calls.Call) → is_lawful_call call ≡ true → serve (view s.runner s) call ≡ viewed s.runner (serve s call)
+own-call s steady call lawful = served-own s (service (view s.runner s) call) (service s call) (own-service s steady call lawful)
+
+pub own-step : (s : State) → IsSteady s → (op : Op) → step (view s.runner s) op ≡ viewed s.runner (step s op)
+own-step s steady (Call x) = own-call s steady (served_call x) (served_lawful x)
+own-step s steady (Load addr size) = own-load s steady addr size
+own-step s steady (Store addr size value) = own-store s steady addr size value
+own-step s steady (Fetch addr) = own-fetch s steady addr
 
 module _ (e : ℕ) (s : State) (steady : IsSteady s) (known : is_known s e ≡ true) (other : s.runner ≢ e) where
   other-service : (call : calls.Call) → is_lawful_call call ≡ true → IsTold e s (service s call) (told_by e s call)
@@ -98,11 +102,14 @@ module _ (e : ℕ) (s : State) (steady : IsSteady s) (known : is_known s e ≡ t
   other-service MsgSend2 lawful = other-send2 s steady e known
   other-service Unknown lawful = λ none. other-same e s
 
-  pub other-step : (op : Op) → is_lawful op ≡ true → view e (step s op).state ≡ apply_all e (view e s) (events e s op)
-  other-step (Call x) lawful = served-other e s (service s (decode x)) (told_by e s (decode x)) (other-service (decode x) lawful)
-  other-step (Load addr size) lawful = other-load e s addr size
-  other-step (Store addr size value) lawful = other-store e s addr size value
-  other-step (Fetch addr) lawful = other-fetch e s addr
+  other-call : (call : calls.Call) → is_lawful_call call ≡ true → view e (serve s call).state ≡ apply_all e (view e s) (call_events e s call)
+  other-call call lawful = served-other e s (service s call) (told_by e s call) (other-service call lawful)
+
+  pub other-step : (op : Op) → view e (step s op).state ≡ apply_all e (view e s) (events e s op)
+  other-step (Call x) = other-call (served_call x) (served_lawful x)
+  other-step (Load addr size) = other-load e s addr size
+  other-step (Store addr size value) = other-store e s addr size value
+  other-step (Fetch addr) = other-fetch e s addr
 
 steady-service : (s : State) → IsSteady s → (call : calls.Call) → is_lawful_call call ≡ true → first_failure (service s call).guards ≡ None → IsSteady (service s call).state
 steady-service s steady (Version version) lawful none = steady
@@ -133,26 +140,39 @@ steady-service s steady (NotificationGet word flags) lawful none = steady-notifi
 steady-service s steady MsgSend2 lawful none = steady-send2 s steady
 steady-service s steady Unknown lawful none = steady
 
-pub steady-step : (s : State) → IsSteady s → (op : Op) → is_lawful op ≡ true → IsSteady (step s op).state
-steady-step s steady (Call x) lawful = served-kept IsSteady s (service s (decode x)) steady (steady-service s steady (decode x) lawful)
-steady-step s steady (Load addr size) lawful = steady-load s steady addr size
-steady-step s steady (Store addr size value) lawful = steady-store s steady addr size value
-steady-step s steady (Fetch addr) lawful = steady-fetch s steady addr
+pub steady-call : (s : State) → IsSteady s → (call : calls.Call) → is_lawful_call call ≡ true → IsSteady (serve s call).state
+steady-call s steady call lawful = served-kept IsSteady s (service s call) steady (steady-service s steady call lawful)
 
--- ---- one step, as a law of two states
-own_of : (s : State) → IsSteady s → (e : ℕ) → s.runner ≡ e → (op : Op) → is_lawful op ≡ true → step (view e s) op ≡ viewed e (step s op)
-own_of s steady e is op lawful = subst (λ f. step (view f s) op ≡ viewed f (step s op)) is (own-step s steady op lawful)
+pub steady-step : (s : State) → IsSteady s → (op : Op) → IsSteady (step s op).state
+steady-step s steady (Call x) = steady-call s steady (served_call x) (served_lawful x)
+steady-step s steady (Load addr size) = steady-load s steady addr size
+steady-step s steady (Store addr size value) = steady-store s steady addr size value
+steady-step s steady (Fetch addr) = steady-fetch s steady addr
 
-two_states : (s t : State) → IsSteady s → IsSteady t → (op : Op) → is_lawful op ≡ true → view s.runner t ≡ view s.runner s → viewed s.runner (step t op) ≡ viewed s.runner (step s op)
-two_states s t steady there op lawful same =
-    sym (own_of t there s.runner (ap (λ (v : State). v.runner) same) op lawful) ∙ ap (λ (v : State). step v op) same ∙ own-step s steady op lawful
+-- ---- one call and one step, as laws of two states
+-- what acts on the runner's view alone acts alike on two states of one view
+two_states : (act : State → Stepped) → ((u : State) → IsSteady u → act (view u.runner u) ≡ viewed u.runner (act u))
+    → (s t : State) → IsSteady s → IsSteady t → view s.runner t ≡ view s.runner s → viewed s.runner (act t) ≡ viewed s.runner (act s)
+two_states act own s t steady there same =
+    let mine : act (view s.runner t) ≡ viewed s.runner (act t) = subst (λ e. act (view e t) ≡ viewed e (act t)) (ap (λ (v : State). v.runner) same) (own t there) in
+    sym mine ∙ ap act same ∙ own s steady
 
-pub one_step : (s : State) (op : Op) → is_lawful op ≡ true → IsSteady s → OneStep s op
-one_step s op lawful steady =
+pub one_call : (s : State) (call : calls.Call) → is_lawful_call call ≡ true → IsSteady s → OneCall s call
+one_call s call lawful steady =
+    let alike = two_states (λ u. serve u call) (λ u is. own-call u is call lawful) s in
     record {
-      others = λ e known ne. other-step e s steady known ne op lawful;
-      outcome = λ t there same. ap (λ (st : Stepped). st.outcome) (two_states s t steady there op lawful same);
-      own = λ t there same. ap (λ (st : Stepped). st.state) (two_states s t steady there op lawful same);
+      others = λ e known ne. other-call e s steady known ne call lawful;
+      outcome = λ t there same. ap (λ (st : Stepped). st.outcome) (alike t steady there same);
+      own = λ t there same. ap (λ (st : Stepped). st.state) (alike t steady there same);
+    }
+
+pub one_step : (s : State) (op : Op) → IsSteady s → OneStep s op
+one_step s op steady =
+    let alike = two_states (λ u. step u op) (λ u is. own-step u is op) s in
+    record {
+      others = λ e known ne. other-step e s steady known ne op;
+      outcome = λ t there same. ap (λ (st : Stepped). st.outcome) (alike t steady there same);
+      own = λ t there same. ap (λ (st : Stepped). st.state) (alike t steady there same);
     }
 
 -- ---- a run
@@ -169,24 +189,23 @@ replay-told e v (event ∷ es) rest =
     ap (λ xs. message e event ++ xs) (replay-told e (apply e v event) es rest)
     ∙ sym (append_assoc (message e event) (messages e es) (replay e (apply_all e (apply e v event) es) rest))
 
-seen_is : (e : ℕ) (ops : List Op) (s : State) → are_lawful ops ≡ true → IsSteady s → is_known s e ≡ true → seen e s ops ≡ replay e (view e s) (items e s ops)
+seen_is : (e : ℕ) (ops : List Op) (s : State) → IsSteady s → is_known s e ≡ true → seen e s ops ≡ replay e (view e s) (items e s ops)
 unfolding replay
-seen_is e [] s lawful steady known = refl
-seen_is e (op ∷ ops) s lawful steady known =
-    let (one, rest) = and_parts (is_lawful op) (are_lawful ops) lawful in
-    let later = seen_is e ops (step s op).state rest (steady-step s steady op one) (known-step s op e one known) in
+seen_is e [] s steady known = refl
+seen_is e (op ∷ ops) s steady known =
+    let later = seen_is e ops (step s op).state (steady-step s steady op) (known-step s op e known) in
     elim (s.runner == e) as (λ b. (s.runner == e) ≡ b → cond b ((step s op).outcome ∷ []) (messages e (events e s op)) ++ seen e (step s op).state ops ≡ replay e (view e s) (cond b (Own op ∷ []) (map (λ event. Told event) (events e s op)) ++ items e (step s op).state ops)) [
       | true ↦ λ mine.
-          let is : s.runner ≡ e = eqb-true s.runner e mine in
-          ap (λ xs. (step s op).outcome ∷ xs) later ∙ ap (λ (st : Stepped). st.outcome ∷ replay e st.state (items e (step s op).state ops)) (sym (own_of s steady e is op one))
+          let acts : step (view e s) op ≡ viewed e (step s op) = subst (λ f. step (view f s) op ≡ viewed f (step s op)) (eqb-true s.runner e mine) (own-step s steady op) in
+          ap (λ xs. (step s op).outcome ∷ xs) later ∙ ap (λ (st : Stepped). st.outcome ∷ replay e st.state (items e (step s op).state ops)) (sym acts)
       | false ↦ λ differ.
-          ap (λ xs. messages e (events e s op) ++ xs) (later ∙ ap (λ v. replay e v (items e (step s op).state ops)) (other-step e s steady known (apart differ) op one))
+          ap (λ xs. messages e (events e s op) ++ xs) (later ∙ ap (λ v. replay e v (items e (step s op).state ops)) (other-step e s steady known (apart differ) op))
           ∙ sym (replay-told e (view e s) (events e s op) (items e (step s op).state ops))
     ] refl
   where
     apart : (s.runner == e) ≡ false → s.runner ≢ e
     apart differ same = true≢false (sym (eq-eqb s.runner e same) ∙ differ)
 
-pub isolated : (s : State) (ops : List Op) → are_lawful ops ≡ true → IsSteady s → Isolated s ops
-isolated s ops lawful steady e t others known lawful_others there same same_items =
-    seen_is e others t lawful_others there (ap (λ (v : State). is_known v e) same ∙ known) ∙ ap (λ v. replay e v (items e t others)) same ∙ ap (replay e (view e s)) same_items ∙ sym (seen_is e ops s lawful steady known)
+pub isolated : (s : State) (ops : List Op) → IsSteady s → Isolated s ops
+isolated s ops steady e t others known there same same_items =
+    seen_is e others t there (ap (λ (v : State). is_known v e) same ∙ known) ∙ ap (λ v. replay e v (items e t others)) same ∙ ap (replay e (view e s)) same_items ∙ sym (seen_is e ops s steady known)

@@ -15,6 +15,7 @@ pub mod ScheduleLaws
 pub mod MessageLaws
 pub mod NotificationLaws
 pub mod Kept
+pub mod Lawful
 pub mod Laws
 pub mod Growth
 pub mod Integrities
@@ -28,3 +29,10 @@ pub mod Closed
 pub mod CountSeen
 pub mod Ceilings
 pub mod ReclaimLaws
+pub mod SoundSteady
+pub mod ByteLists
+pub mod SoundKept
+pub mod SoundPages
+pub mod SoundBuffers
+pub mod SoundNotifications
+pub mod SoundOperations

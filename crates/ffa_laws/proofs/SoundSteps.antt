@@ -12,7 +12,7 @@ use Rattle.ffa_model.specs.declared.call.Call as calls
 use Rattle.ffa_model.specs.declared.call.Call.TheVariants.{Version, Features, RxRelease, RxtxMap, RxtxUnmap, PartitionInfoGet, IdGet, MsgWait, Yield, Run, DirectRequest, DirectResponse, MemDonate, MemLend, MemShare, MemRetrieve, MemRelinquish, MemReclaim, BitmapCreate, BitmapDestroy, NotificationBind, NotificationUnbind, NotificationSet, NotificationGet, SpmIdGet, MsgSend2, Unknown}
 use Rattle.ffa_model.specs.Bits.{high_half, low_half}
 use Rattle.ffa_model.specs.Identifiers.{place}
-use Rattle.ffa_model.specs.Registers.{decode}
+use Rattle.ffa_model.specs.Registers.{served_call}
 use Rattle.ffa_model.specs.State.{State}
 use Rattle.ffa_model.specs.Calls.{first_failure}
 use Rattle.ffa_model.specs.Memory.{fetch_fault, number_at, read_fault, size_of, store_fault, stored}
@@ -22,7 +22,8 @@ use Rattle.ffa_model.specs.RunStates.{Schedule, finished, given_cycles, run_guar
 use Rattle.ffa_model.specs.Sound.{IsSound}
 use Rattle.ffa_laws.specs.Steady.{IsScheduled}
 use Rattle.ffa_model.specs.Step.{service, step}
-use Rattle.ffa_laws.specs.Isolation.{is_lawful, is_lawful_call}
+use Rattle.ffa_laws.specs.Isolation.{is_lawful_call}
+use Rattle.ffa_laws.proofs.Lawful.{lawful as served_lawful}
 use Rattle.ffa_laws.proofs.Form.{accessed-kept, served-kept}
 use Rattle.ffa_laws.proofs.ScheduleLaws.{answerer}
 use Rattle.ffa_laws.proofs.SoundLaws.{sound-request, sound-response, sound-run, sound-wait, sound-yield}
@@ -30,9 +31,9 @@ use Rattle.ffa_laws.proofs.Kept.{rewritten-step}
 use Rattle.ffa_laws.proofs.Laws.{steady-step}
 
 -- run states that are sound, of as many endpoints
-record AreSound (n : ℕ) (c : Schedule) : Type 0 where
-  sound : IsSound c
-  works : length c.works ≡ n
+pub record AreSound (n : ℕ) (c : Schedule) : Type 0 where
+  pub sound : IsSound c
+  pub works : length c.works ≡ n
 
 module _ (s : State) (is : IsScheduled s) where
   abbrev c : Schedule
@@ -62,7 +63,7 @@ module _ (s : State) (is : IsScheduled s) where
   finished-works : (e : ℕ) → length (finished c e).works ≡ n
   finished-works e = length-set s.works (place s.runner) None ∙ is.works
 
-  sound-service : (call : calls.Call) → is_lawful_call call ≡ true → first_failure (service s call).guards ≡ None → P (service s call).state
+  pub sound-service : (call : calls.Call) → is_lawful_call call ≡ true → first_failure (service s call).guards ≡ None → P (service s call).state
   sound-service (Version version) lawful none = old
   sound-service (Features function) lawful none = old
   sound-service RxRelease lawful none = old
@@ -94,17 +95,17 @@ module _ (s : State) (is : IsScheduled s) where
   sound-service MsgSend2 lawful none = old
   sound-service Unknown lawful none = old
 
-  sound-op : (op : Op) → is_lawful op ≡ true → P (step s op).state
-  sound-op (Call x) lawful = served-kept P s (service s (decode x)) old (sound-service (decode x) lawful)
-  sound-op (Load address size) lawful = accessed-kept P s s (Data (number_at s address (size_of size))) (read_fault s address (size_of size)) old (λ none. old)
-  sound-op (Store address size value) lawful = accessed-kept P s (stored s address (little_bytes (size_of size) value)) Done (store_fault s address (size_of size)) old (λ none. old)
-  sound-op (Fetch address) lawful = accessed-kept P s s (Data (number_at s address 4)) (fetch_fault s address) old (λ none. old)
+  sound-op : (op : Op) → P (step s op).state
+  sound-op (Call x) = served-kept P s (service s (served_call x)) old (sound-service (served_call x) (served_lawful x))
+  sound-op (Load address size) = accessed-kept P s s (Data (number_at s address (size_of size))) (read_fault s address (size_of size)) old (λ none. old)
+  sound-op (Store address size value) = accessed-kept P s (stored s address (little_bytes (size_of size) value)) Done (store_fault s address (size_of size)) old (λ none. old)
+  sound-op (Fetch address) = accessed-kept P s s (Data (number_at s address 4)) (fetch_fault s address) old (λ none. old)
 
-  pub sound-step : (op : Op) → is_lawful op ≡ true → IsScheduled (step s op).state
-  sound-step op lawful =
-      let after = sound-op op lawful in
+  pub sound-step : (op : Op) → IsScheduled (step s op).state
+  sound-step op =
+      let after = sound-op op in
       record {
-        steady = steady-step s is.steady op lawful;
-        works = after.works ∙ sym (rewritten-step (λ t. length t.parties ≡ n) s refl (λ ps bs c n rewritten. refl) op lawful);
+        steady = steady-step s is.steady op;
+        works = after.works ∙ sym (rewritten-step (λ t. length t.parties ≡ n) s refl (λ ps bs c n rewritten. refl) op);
         schedule = after.sound;
       }

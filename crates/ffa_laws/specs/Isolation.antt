@@ -1,6 +1,5 @@
 -- The laws over the small machine: isolation, rights that never grow, integrity.
 use Rattle.std.specs.Prelude.{◌≡◌, ◌≢◌, ℕ, ◌==◌, Bool, true, false, ◌&&◌, List, [], ◌∷◌, ◌++◌, Option, None, is_some, if◌then◌else◌}
-use Rattle.std.specs.List.{list_all}
 use Rattle.std.specs.Option.{option_map_or}
 use Rattle.ffa_model.specs.declared.operation.Op.{Op}
 use Rattle.ffa_model.specs.declared.operation.Op.TheVariants.{Call, Load, Store, Fetch}
@@ -12,14 +11,14 @@ use Rattle.ffa_model.specs.Rights.{is_within}
 use Rattle.ffa_model.specs.State.{State, Transaction, Buffers, page_at, owner_of, buffers_of, is_known}
 use Rattle.ffa_model.specs.Access.{access, handle_at, transaction_at}
 use Rattle.ffa_model.specs.Memory.{page_bytes}
-use Rattle.ffa_model.specs.Registers.{decode}
+use Rattle.ffa_model.specs.Registers.{served_call}
 use Rattle.ffa_model.specs.Messages.{header_in, tx_bytes}
-use Rattle.ffa_model.specs.Step.{step, outcomes}
+use Rattle.ffa_model.specs.Step.{outcomes, serve, step}
 use Rattle.ffa_laws.specs.Steady.{IsSteady, page_base, is_joint}
 use Rattle.ffa_laws.specs.View.{view}
-use Rattle.ffa_laws.specs.Events.{apply_all, events, items, seen}
+use Rattle.ffa_laws.specs.Events.{apply_all, call_events, events, items, seen}
 
--- THE CALLS that the laws speak of: as yet not those on memory transactions
+-- THE CALLS whose laws are proved, served yet or not: all but those on memory transactions
 abbrev pub is_lawful_call : calls.Call → Bool
 is_lawful_call (Version version) = true
 is_lawful_call (Features function) = true
@@ -49,19 +48,16 @@ is_lawful_call (NotificationGet word flags) = true
 is_lawful_call MsgSend2 = true
 is_lawful_call Unknown = true
 
-abbrev pub is_lawful : Op → Bool
-is_lawful (Call x) = is_lawful_call (decode x)
-is_lawful (Load addr size) = true
-is_lawful (Store addr size value) = true
-is_lawful (Fetch addr) = true
-
-abbrev pub are_lawful : List Op → Bool
-are_lawful ops = list_all is_lawful ops
-
 -- ISOLATION
 
--- One operation: what another endpoint learns is in its events, and the runner's outcome and its view afterwards depend
--- on its view before alone.
+-- One call: what another endpoint learns is in its events, and the runner's outcome and its view afterwards depend on its
+-- view before alone.
+pub record OneCall (s : State) (call : calls.Call) : Type 0 where
+  pub others : (e : ℕ) → is_known s e ≡ true → s.runner ≢ e → view e (serve s call).state ≡ apply_all e (view e s) (call_events e s call)
+  pub outcome : (t : State) → IsSteady t → view s.runner t ≡ view s.runner s → (serve t call).outcome ≡ (serve s call).outcome
+  pub own : (t : State) → IsSteady t → view s.runner t ≡ view s.runner s → view s.runner (serve t call).state ≡ view s.runner (serve s call).state
+
+-- one operation, alike
 pub record OneStep (s : State) (op : Op) : Type 0 where
   pub others : (e : ℕ) → is_known s e ≡ true → s.runner ≢ e → view e (step s op).state ≡ apply_all e (view e s) (events e s op)
   pub outcome : (t : State) → IsSteady t → view s.runner t ≡ view s.runner s → (step t op).outcome ≡ (step s op).outcome
@@ -87,7 +83,7 @@ Shown s ops = (e : ℕ) → shown_to e s.runner (outcomes s ops) ≡ seen e s op
 -- what e sees of a run depends on its view at the start, its own operations and the events towards it alone
 abbrev pub Isolated : State → List Op → Type 0
 Isolated s ops =
-    (e : ℕ) (t : State) (others : List Op) → is_known s e ≡ true → are_lawful others ≡ true → IsSteady t → view e t ≡ view e s → items e t others ≡ items e s ops
+    (e : ℕ) (t : State) (others : List Op) → is_known s e ≡ true → IsSteady t → view e t ≡ view e s → items e t others ≡ items e s ops
     → seen e t others ≡ seen e s ops
 
 -- RIGHTS THAT NEVER GROW
@@ -135,7 +131,7 @@ is_send2 MsgSend2 = true
 is_send2 Unknown = false
 
 abbrev pub is_message : Op → Bool
-is_message (Call x) = is_send2 (decode x)
+is_message (Call x) = is_send2 (served_call x)
 is_message (Load addr size) = false
 is_message (Store addr size value) = false
 is_message (Fetch addr) = false
@@ -144,8 +140,12 @@ is_message (Fetch addr) = false
 abbrev pub is_bound_for : State → ℕ → ℕ → Bool
 is_bound_for s e p = (header_in (tx_bytes s s.runner)).receiver == e && option_map_or (λ (b : Buffers). b.rx == p) (buffers_of s e) false
 
--- another's operation leaves the bytes of a page that its owner has alone, but for a message into its RX
+-- From s to t the bytes of a page that its owner has alone stay while another endpoint runs, but for a message into the
+-- owner's RX.
+abbrev pub LeavesBytes : Bool → State → State → Type 0
+LeavesBytes is_message s t =
+    (e p : ℕ) → owner_of s p ≡ e → handle_at s p ≡ None → s.runner ≢ e → (is_message && is_bound_for s e p) ≡ false
+    → page_bytes t p ≡ page_bytes s p
+
 abbrev pub Integrity : State → Op → Type 0
-Integrity s op =
-    (e p : ℕ) → owner_of s p ≡ e → handle_at s p ≡ None → s.runner ≢ e → (is_message op && is_bound_for s e p) ≡ false
-    → page_bytes (step s op).state p ≡ page_bytes s p
+Integrity s op = LeavesBytes (is_message op) s (step s op).state

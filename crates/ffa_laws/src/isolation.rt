@@ -1,40 +1,64 @@
 //! Isolation: what an endpoint sees comes from its view, from its own operations, and from the events towards it.
 
-ghost use Rattle.std.specs.Prelude.{ℕ, ◌≡◌, ◌≤◌, true, List, length};
+ghost use Rattle.std.specs.Prelude.{ℕ, ◌≡◌, ◌≤◌, true, List, length, Some, slice_get};
 ghost use Rattle.ffa_model.specs.declared.endpoint.Endpoint.{Endpoint};
 ghost use Rattle.ffa_model.specs.First.{first};
+ghost use Rattle.ffa_model.specs.declared.call.Call.{Call};
 ghost use Rattle.ffa_model.specs.declared.operation.Op.{Op};
+ghost use Rattle.ffa_model.specs.Manifest.{is_accepted};
+ghost use Rattle.ffa_model.specs.SoundState.{IsSoundState, are_bytes};
 ghost use Rattle.ffa_model.specs.State.{State};
-ghost use Rattle.ffa_model.specs.Step.{state_after, step};
+ghost use Rattle.ffa_model.specs.Step.{serve, state_after, step};
 ghost use Rattle.ffa_laws.specs.Steady.{IsScheduled, IsSteady};
-ghost use Rattle.ffa_laws.specs.Isolation.{Integrity, Isolated, NeverGrow, OneStep, Shown, are_lawful, is_lawful};
+ghost use Rattle.ffa_laws.specs.Isolation.{Integrity, Isolated, LeavesBytes, NeverGrow, OneCall, OneStep, Shown, is_lawful_call, is_send2};
+
+/// One call, served yet or not: it tells another endpoint its events, and its outcome depends on the runner's view alone. A
+/// state that is steady or sound stays so, rights don't grow, and a page that its owner has alone keeps its bytes while
+/// another endpoint runs, but for a message into its RX.
+pub fn one_call()
+    ensures call { (s : State) (call : Call) → is_lawful_call call ≡ true → IsSteady s → OneCall s call }
+    ensures steady { (s : State) (call : Call) → is_lawful_call call ≡ true → IsSteady s → IsSteady (serve s call).state }
+    ensures sound { (s : State) (call : Call) → is_lawful_call call ≡ true → IsSoundState s → IsSoundState (serve s call).state }
+    ensures never_grow { (s : State) (call : Call) → is_lawful_call call ≡ true → IsSteady s → NeverGrow s (serve s call).state }
+    ensures integrity { (s : State) (call : Call) → is_lawful_call call ≡ true → IsSteady s → LeavesBytes (is_send2 call) s (serve s call).state }
+{}
 
 /// One operation: it tells another endpoint its events, and its outcome depends on the runner's view alone. A state that
-/// is steady stays so, and sound run states stay sound.
+/// is steady or sound stays so, and sound run states stay sound.
 pub fn one_step()
-    ensures step { (s : State) (op : Op) → is_lawful op ≡ true → IsSteady s → OneStep s op }
-    ensures steady { (s : State) (op : Op) → is_lawful op ≡ true → IsSteady s → IsSteady (step s op).state }
-    ensures scheduled { (s : State) (op : Op) → is_lawful op ≡ true → IsScheduled s → IsScheduled (step s op).state }
+    ensures step { (s : State) (op : Op) → IsSteady s → OneStep s op }
+    ensures steady { (s : State) (op : Op) → IsSteady s → IsSteady (step s op).state }
+    ensures sound { (s : State) (op : Op) → IsSoundState s → IsSoundState (step s op).state }
+    ensures scheduled { (s : State) (op : Op) → IsScheduled s → IsScheduled (step s op).state }
 {}
 
 /// A list of operations: what an endpoint sees of it depends on its view at the start, on its own operations and on the
 /// events towards it; and what it sees is in the outcomes.
 pub fn isolated()
-    ensures isolated { (s : State) (ops : List Op) → are_lawful ops ≡ true → IsSteady s → Isolated s ops }
+    ensures isolated { (s : State) (ops : List Op) → IsSteady s → Isolated s ops }
     ensures shown { (s : State) (ops : List Op) → Shown s ops }
 {}
 
 /// Rights never grow, whatever is done.
 pub fn rights_never_grow()
-    ensures { (s : State) (ops : List Op) → are_lawful ops ≡ true → IsSteady s → NeverGrow s (state_after s ops) }
+    ensures { (s : State) (ops : List Op) → IsSteady s → NeverGrow s (state_after s ops) }
 {}
 
 /// A page that its owner has alone keeps its bytes while another endpoint runs, but for a message into its RX.
 pub fn integrity()
-    ensures { (s : State) (op : Op) → is_lawful op ≡ true → IsSteady s → Integrity s op }
+    ensures { (s : State) (op : Op) → IsSteady s → Integrity s op }
 {}
 
-/// The state in which a machine starts is steady, with sound run states.
+/// What isolation asks of a state holds of every sound state.
+pub fn sound_is_steady()
+    ensures { (s : State) → IsSoundState s → IsSteady s }
+{}
+
+/// The state in which a machine starts is steady, with sound run states. That of an accepted manifest, whose UUIDs have 16
+/// bytes each, is sound.
 pub fn first_is_sound()
-    ensures { (base blocks : ℕ) (es : List Endpoint) → 1 ≤ length es → length es ≤ 8 → IsScheduled (first base blocks es) }
+    ensures scheduled { (base blocks : ℕ) (es : List Endpoint) → 1 ≤ length es → length es ≤ 8 → IsScheduled (first base blocks es) }
+    ensures sound { (base blocks : ℕ) (es : List Endpoint) → is_accepted base blocks es ≡ true
+        → ((i : ℕ) (e : Endpoint) → slice_get es i ≡ Some e → (length e.uuid ≡ 16) × are_bytes e.uuid)
+        → IsSoundState (first base blocks es) }
 {}

@@ -3,4 +3,6 @@
 
 pub mod isolation;
 
-pub use isolation::{first_is_sound, integrity, isolated, one_step, rights_never_grow};
+pub use isolation::{
+    first_is_sound, integrity, isolated, one_call, one_step, rights_never_grow, sound_is_steady,
+};

@@ -8,6 +8,8 @@ pub mod Descriptor
 pub mod Walk
 pub mod Reach
 pub mod Identifiers
+pub mod Uuid
+pub mod Endpoints
 pub mod Regions
 pub mod State
 pub mod Codes

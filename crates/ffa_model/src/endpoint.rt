@@ -1,7 +1,8 @@
 //! Endpoints, pages and regions.
-ghost use Rattle.std.specs.Prelude.{⊤, ◌≡◌, ◌<◌, ◌^◌, [], ◌∷◌, codes};
+ghost use Rattle.std.specs.Prelude.{⊤, true, ◌≡◌, ◌<◌, ◌^◌, [], ◌∷◌, codes};
 ghost use Rattle.ffa_model.specs.Identifiers.{identifier, place};
 ghost use Rattle.ffa_model.specs.Regions.{has_page, right_in};
+ghost use Rattle.ffa_model.specs.Uuid.{is_uuid};
 
 use crate::rights::Rights;
 use arrayvec::ArrayVec;
@@ -112,16 +113,17 @@ impl Endpoint {
         right_in(self.regions.as_slice(), ram_base, page)
     }
 
-    /// The same endpoint once more. It takes no memory.
+    /// The same endpoint once more, whose UUID has 16 bytes, as the type says. It takes no memory.
     pub fn copied(&self) -> Endpoint
-        ensures { result ≡ self.now }
+        ensures same { result ≡ self.now }
+        ensures uuid { is_uuid self.now.uuid ≡ true }
     {
         let mut regions = ArrayVec::new();
         for region in self.regions.as_slice() {
             regions.push(*region);
         }
         Endpoint {
-            uuid: self.uuid,
+            uuid: whole(self.uuid),
             properties: self.properties,
             regions,
         }
@@ -136,4 +138,12 @@ pub fn right_in(regions: &[Region], ram_base: u32, page: PageNo) -> Option<Right
         .iter()
         .find(|region| region.has_page(ram_base, page))
         .map(|region| region.rights)
+}
+
+// The same bytes, of which the type says that they are 16 and each below 256.
+fn whole(uuid: [u8; 16]) -> [u8; 16]
+    ensures same { result ≡ uuid }
+    ensures uuid { is_uuid uuid ≡ true }
+{
+    uuid
 }

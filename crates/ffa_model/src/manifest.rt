@@ -2,6 +2,7 @@
 ghost use Rattle.std.specs.Prelude.{true, ◌≡◌, ◌+◌, ◌*◌, ◌<◌, length};
 ghost use Rattle.ffa_model.specs.Manifest.{is_accepted, root_of};
 ghost use Rattle.ffa_model.specs.Regions.{right_in, regions_at, owner_in};
+ghost use Rattle.ffa_model.specs.Endpoints.{have_uuids};
 
 use crate::endpoint::{Endpoint, EndpointId, PageNo};
 use crate::rights::Rights;
@@ -68,9 +69,10 @@ impl Manifest {
         EndpointId::MANAGER
     }
 
-    /// The same manifest once more. It takes no memory.
+    /// The same manifest once more, whose UUIDs have 16 bytes each, as the types say. It takes no memory.
     pub fn copied(&self) -> Manifest
-        ensures { result ≡ self.now }
+        ensures same { result ≡ self.now }
+        ensures uuids { have_uuids self.now.endpoints.items ≡ true }
     {
         let mut endpoints = ArrayVec::new();
         for endpoint in self.endpoints.as_slice() {

@@ -1,0 +1,95 @@
+-- What keeps a state sound: its parts, one by one.
+use Rattle.std.proofs.Common.{◌≡◌, ◌∙◌, ℕ, ◌<◌, true, List, length, get_or, Option, Some, None, refl, subst, arith}
+use Rattle.std.specs.FinSet as finite_set
+use Rattle.ffa_model.specs.Identifiers.{place}
+use Rattle.ffa_model.specs.State.{State, Page, Buffers, owner_of, page_at}
+use Rattle.ffa_model.specs.RunStates.{Schedule, schedule_of, with_schedule}
+use Rattle.ffa_model.specs.Notifications.{Notifications, with_notifications}
+use Rattle.ffa_model.specs.Sound.{IsSound}
+use Rattle.ffa_model.specs.SoundState.{IsKnown, IsSoundBinding, IsSoundBuffers, IsSoundPage, IsSoundPending, IsSoundState}
+use Rattle.ffa_model.specs.Transactions.{bases_of}
+use Rattle.ffa_model.proofs.Kept.{same-transaction, same-usable}
+use Rattle.ffa_laws.proofs.Changes.{AreRewritten, same_base, same_owner, unwritten, with_parts}
+
+-- pages whose owners are endpoints, and that hold bytes
+abbrev pub AreSoundPages : State → List (Option Page) → Type 0
+AreSoundPages s ps = (p : ℕ) (page : Page) → get_or ps p None ≡ Some page → IsSoundPage s page
+
+abbrev pub AreSoundBuffers : State → List (Option Buffers) → Type 0
+AreSoundBuffers s bs = (e : ℕ) (b : Buffers) → IsKnown s e → get_or bs (place e) None ≡ Some b → IsSoundBuffers s e b
+
+module _ (s : State) (sound : IsSoundState s) where
+  module _ (ps : List (Option Page)) (bs : List (Option Buffers)) (c : Schedule) (rewritten : AreRewritten s.pages ps) where
+    abbrev z : State
+    z = with_parts s ps bs c
+
+    same-bases : bases_of z ≡ bases_of s
+    same-bases = λ i. record { base = s.ram_base; count = rewritten.each i; right = λ p. same_base (get_or ps p None) (page_at s p) (rewritten.same p) i }
+
+    same-owners : (p : ℕ) → owner_of z p ≡ owner_of s p
+    same-owners p = same_owner (get_or ps p None) (page_at s p) (rewritten.same p)
+
+    -- other bytes, buffers and run states
+    pub parts-sound : AreSoundPages s ps → length bs ≡ length s.parties → AreSoundBuffers s bs → length c.works ≡ length s.parties → IsSound c → IsSoundState z
+    parts-sound pages each buffers works schedule =
+        let sized = sound.sized in
+        record {
+          sized =
+              record {
+                some = sized.some;
+                few = sized.few;
+                base = sized.base;
+                blocks = (sized.blocks.0, rewritten.each ∙ sized.blocks.1, sized.blocks.2, sized.blocks.3);
+                sent = sized.sent;
+                buffers = each;
+                works = works;
+                bitmaps = sized.bitmaps;
+              };
+          parties = sound.parties;
+          pages = λ p page is. let good = pages p page is in record { owner = good.owner; size = good.size; bytes = good.bytes };
+          transactions = λ h t is. same-transaction s z h t same-bases same-owners refl (omega arith) (sound.transactions h t is);
+          one = λ p h k lt at_h at_k. sound.one p h k (subst (λ n. p < n) rewritten.each lt) at_h at_k;
+          few = sound.few;
+          sent = sound.sent;
+          buffers = λ e b known is.
+              let good = buffers e b known is in
+              record {
+                tx = same-usable s z e b.tx (λ i. (same-bases i).right b.tx) (same-owners b.tx) (λ none. none) good.tx;
+                rx = same-usable s z e b.rx (λ i. (same-bases i).right b.rx) (same-owners b.rx) (λ none. none) good.rx;
+                apart = good.apart;
+              };
+          schedule = schedule;
+          bound = λ entry is. let good = sound.bound entry is in record { receiver = good.receiver; bit = good.bit; sender = good.sender; is = good.is; to_known = good.to_known; from_known = good.from_known; in_word = good.in_word; bitmaps = good.bitmaps; alone = good.alone };
+          pending = λ entry is. let good = sound.pending entry is in record { receiver = good.receiver; class = good.class; bit = good.bit; is = good.is; to_known = good.to_known; of_class = good.of_class; in_word = good.in_word; bound = good.bound };
+        }
+
+  -- bytes alone, buffers alone, run states alone
+  pub pages-sound : (ps : List (Option Page)) → AreRewritten s.pages ps → AreSoundPages s ps → IsSoundState (record s { pages = ps })
+  pages-sound ps rewritten pages = parts-sound ps s.buffers (schedule_of s) rewritten pages sound.sized.buffers sound.buffers sound.sized.works sound.schedule
+
+  pub buffers-sound : (bs : List (Option Buffers)) → length bs ≡ length s.parties → AreSoundBuffers s bs → IsSoundState (record s { buffers = bs })
+  buffers-sound bs each buffers = parts-sound s.pages bs (schedule_of s) (unwritten s.pages) sound.pages each buffers sound.sized.works sound.schedule
+
+  pub schedule-sound : (c : Schedule) → length c.works ≡ length s.parties → IsSound c → IsSoundState (with_schedule s c)
+  schedule-sound c works schedule = parts-sound s.pages s.buffers c (unwritten s.pages) sound.pages sound.sized.buffers sound.buffers works schedule
+
+  -- notifications
+  pub notifications-sound : (n : Notifications) → length n.bitmaps ≡ length s.parties
+      → ((entry : List ℕ) → finite_set.contains n.bound entry ≡ true → IsSoundBinding (with_notifications s n) entry)
+      → ((entry : List ℕ) → finite_set.contains n.pending entry ≡ true → IsSoundPending (with_notifications s n) entry)
+      → IsSoundState (with_notifications s n)
+  notifications-sound n bitmaps bound pending =
+      let sized = sound.sized in
+      record {
+        sized = record { some = sized.some; few = sized.few; base = sized.base; blocks = sized.blocks; sent = sized.sent; buffers = sized.buffers; works = sized.works; bitmaps = bitmaps };
+        parties = sound.parties;
+        pages = λ p page is. let good = sound.pages p page is in record { owner = good.owner; size = good.size; bytes = good.bytes };
+        transactions = λ h t is. same-transaction s (with_notifications s n) h t refl (λ p. refl) refl (omega arith) (sound.transactions h t is);
+        one = sound.one;
+        few = sound.few;
+        sent = sound.sent;
+        buffers = λ e b known is. let good = sound.buffers e b known is in record { tx = good.tx; rx = good.rx; apart = good.apart };
+        schedule = sound.schedule;
+        bound = bound;
+        pending = pending;
+      }

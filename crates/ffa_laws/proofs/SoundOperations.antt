@@ -1,0 +1,104 @@
+-- Each operation keeps a state sound.
+use Rattle.std.proofs.Common.{◌≡◌, ℕ, true, false, cond, length, None, sym}
+use Rattle.byteorder.specs.Endian.{little_bytes}
+use Rattle.std.specs.Prelude.{◌-◌, ◌/◌, ◌%◌}
+use Rattle.std.proofs.lemmas.Bool.{false≢true}
+use Rattle.ffa_model.specs.declared.operation.Op.{Op}
+use Rattle.ffa_model.specs.declared.operation.Op.TheVariants.{Call, Load, Store, Fetch}
+use Rattle.ffa_model.specs.declared.operation.ErrorCode.TheVariants.{InvalidParameters}
+use Rattle.ffa_model.specs.declared.operation.Outcome.TheVariants.{Data, Done}
+use Rattle.ffa_model.specs.declared.operation.Size.{Size}
+use Rattle.ffa_model.specs.declared.schedule.Status.TheVariants.{Yielded}
+use Rattle.ffa_model.specs.declared.call.Call as calls
+use Rattle.ffa_model.specs.declared.call.Call.TheVariants.{Version, Features, RxRelease, RxtxMap, RxtxUnmap, PartitionInfoGet, IdGet, MsgWait, Yield, Run, DirectRequest, DirectResponse, MemDonate, MemLend, MemShare, MemRetrieve, MemRelinquish, MemReclaim, BitmapCreate, BitmapDestroy, NotificationBind, NotificationUnbind, NotificationSet, NotificationGet, SpmIdGet, MsgSend2, Unknown}
+use Rattle.ffa_model.specs.Bits.{high_half, low_half}
+use Rattle.ffa_model.specs.Registers.{served_call}
+use Rattle.ffa_model.specs.State.{State, buffers_of}
+use Rattle.ffa_model.specs.Calls.{first_failure, served}
+use Rattle.ffa_model.specs.Memory.{fetch_fault, number_at, read_fault, size_of, store_fault, stored, written_pages}
+use Rattle.ffa_model.specs.Buffers.{filled}
+use Rattle.ffa_model.specs.Setup.{info_bytes, is_count_alone, uuid_bytes}
+use Rattle.ffa_model.specs.RunStates.{Schedule, finished, given_cycles, requested, schedule_of, status_in, switched, with_schedule}
+use Rattle.ffa_model.specs.Messages.{header_in, message_in, msg_send2, send2_guards, tx_bytes}
+use Rattle.ffa_model.specs.SoundState.{IsSoundState}
+use Rattle.ffa_model.specs.Step.{service, step}
+use Rattle.ffa_laws.specs.Steady.{IsScheduled}
+use Rattle.ffa_laws.specs.Isolation.{is_lawful_call}
+use Rattle.ffa_model.proofs.Guards.{guard-passes}
+use Rattle.ffa_laws.proofs.Form.{accessed-kept, served-kept}
+use Rattle.ffa_laws.proofs.Lawful.{lawful as served_lawful}
+use Rattle.ffa_laws.proofs.SoundBuffers.{filled-state-sound, map-sound, rx-sound, unmap-sound}
+use Rattle.ffa_laws.proofs.SoundKept.{pages-sound, schedule-sound}
+use Rattle.ffa_laws.proofs.SoundNotifications.{bind-sound, create-sound, destroy-sound, framework-sound, get-sound, set-sound, unbind-sound}
+use Rattle.ffa_laws.proofs.SoundPages.{informed-sound, sent-sound, stored-sound}
+use Rattle.ffa_laws.proofs.SoundSteady.{sound-steady}
+use Rattle.ffa_laws.proofs.SoundSteps.{AreSound, sound-service}
+use Rattle.ffa_laws.proofs.Written.{rewritten-written}
+
+module _ (s : State) (sound : IsSoundState s) where
+  pub scheduled : IsScheduled s
+  scheduled = record { steady = sound-steady s sound; works = sound.sized.works; schedule = sound.schedule }
+
+  -- run states that a call leaves
+  run-states : (c : Schedule) → AreSound (length s.parties) c → IsSoundState (with_schedule s c)
+  run-states c are = schedule-sound s sound c are.works are.sound
+
+  sent : first_failure (msg_send2 s).guards ≡ None → IsSoundState (msg_send2 s).state
+  sent none =
+      framework-sound (filled s (header_in (tx_bytes s s.runner)).receiver (message_in (tx_bytes s s.runner)))
+      (filled-state-sound s sound (header_in (tx_bytes s s.runner)).receiver (message_in (tx_bytes s s.runner)) (sent-sound s sound (buffers_of s (header_in (tx_bytes s s.runner)).receiver) none))
+      (header_in (tx_bytes s s.runner)).receiver
+      (guard-passes (send2_guards s.parties s.buffers s.runner (header_in (tx_bytes s s.runner))) 4 InvalidParameters (sym none))
+
+  service-sound : (call : calls.Call) → is_lawful_call call ≡ true → first_failure (service s call).guards ≡ None → IsSoundState (service s call).state
+  service-sound (Version version) lawful none = sound
+  service-sound (Features function) lawful none = sound
+  service-sound RxRelease lawful none = rx-sound s sound s.runner false
+  service-sound (RxtxMap tx rx pages) lawful none = map-sound s sound tx rx pages none
+  service-sound (RxtxUnmap endpoint) lawful none = unmap-sound s sound
+  service-sound (PartitionInfoGet uuid flags) lawful none =
+      elim (is_count_alone flags) as (λ b. IsSoundState (cond b s (filled s s.runner (info_bytes s.parties (uuid_bytes uuid))))) [
+        | true ↦ sound
+        | false ↦ filled-state-sound s sound s.runner (info_bytes s.parties (uuid_bytes uuid)) (informed-sound s sound (uuid_bytes uuid) (buffers_of s s.runner))
+      ]
+  service-sound IdGet lawful none = sound
+  service-sound SpmIdGet lawful none = sound
+  service-sound MsgWait lawful none =
+      rx-sound (with_schedule s (finished (schedule_of s) 0)) (run-states (finished (schedule_of s) 0) (sound-service s scheduled MsgWait lawful none)) s.runner false
+  service-sound Yield lawful none = run-states (switched (schedule_of s) Yielded 0) (sound-service s scheduled Yield lawful none)
+  service-sound (Run word) lawful none =
+      run-states (given_cycles (schedule_of s) (high_half word) (status_in (schedule_of s) (high_half word))) (sound-service s scheduled (Run word) lawful none)
+  service-sound (DirectRequest function word flags payload) lawful none =
+      run-states (requested (schedule_of s) (low_half word)) (sound-service s scheduled (DirectRequest function word flags payload) lawful none)
+  service-sound (DirectResponse function word flags payload) lawful none =
+      run-states (finished (schedule_of s) (low_half word)) (sound-service s scheduled (DirectResponse function word flags payload) lawful none)
+  service-sound (MemDonate total fragment address pages) lawful none = absurd (false≢true lawful)
+  service-sound (MemLend total fragment address pages) lawful none = absurd (false≢true lawful)
+  service-sound (MemShare total fragment address pages) lawful none = absurd (false≢true lawful)
+  service-sound (MemRetrieve total fragment address pages) lawful none = absurd (false≢true lawful)
+  service-sound MemRelinquish lawful none = absurd (false≢true lawful)
+  service-sound (MemReclaim low high flags) lawful none = absurd (false≢true lawful)
+  service-sound (BitmapCreate endpoint contexts) lawful none = create-sound s sound
+  service-sound (BitmapDestroy endpoint) lawful none = destroy-sound s sound endpoint none
+  service-sound (NotificationBind word flags low high) lawful none = bind-sound s sound word flags low high none
+  service-sound (NotificationUnbind word flags low high) lawful none = unbind-sound s sound word flags low high none
+  service-sound (NotificationSet word flags low high) lawful none = set-sound s sound word flags low high none
+  service-sound (NotificationGet word flags) lawful none = get-sound s sound flags
+  service-sound MsgSend2 lawful none = sent none
+  service-sound Unknown lawful none = sound
+
+  pub call-sound : (call : calls.Call) → is_lawful_call call ≡ true → IsSoundState (served s (service s call)).state
+  call-sound call lawful = served-kept IsSoundState s (service s call) sound (service-sound call lawful)
+
+  store-sound : (address : ℕ) (size : Size) (value : ℕ) → store_fault s address (size_of size) ≡ None → IsSoundState (stored s address (little_bytes (size_of size) value))
+  store-sound address size value none =
+      pages-sound s sound (written_pages s.pages ((address - s.ram_base) / 4096) (address % 4096) (little_bytes (size_of size) value))
+      (rewritten-written s.pages ((address - s.ram_base) / 4096) (address % 4096) (little_bytes (size_of size) value))
+      (stored-sound s sound address ((address - s.ram_base) / 4096) size value none)
+
+  pub step-sound : (op : Op) → IsSoundState (step s op).state
+  step-sound (Call x) = call-sound (served_call x) (served_lawful x)
+  step-sound (Load address size) = accessed-kept IsSoundState s s (Data (number_at s address (size_of size))) (read_fault s address (size_of size)) sound (λ none. sound)
+  step-sound (Store address size value) =
+      accessed-kept IsSoundState s (stored s address (little_bytes (size_of size) value)) Done (store_fault s address (size_of size)) sound (store-sound address size value)
+  step-sound (Fetch address) = accessed-kept IsSoundState s s (Data (number_at s address 4)) (fetch_fault s address) sound (λ none. sound)
