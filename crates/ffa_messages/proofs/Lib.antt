@@ -1,3 +1,4 @@
 pub mod Bits
 pub mod Headers
 pub mod Pages
+pub mod Refusals

@@ -1,10 +1,11 @@
--- What a message is read from, over the parts of the machine.
-use Rattle.std.specs.Prelude.{◌≡◌, ℕ, ◌<◌, List, [], Option, Some, None, slice_index_or}
+-- What a message is read from, over the parts of the machine, and its checks by what they are about.
+use Rattle.std.specs.Prelude.{◌≡◌, ℕ, ◌+◌, ◌<◌, ◌==◌, Bool, not, ◌&&◌, nat_le, List, [], length, Option, Some, None, slice_index_or}
 use Rattle.std.specs.Option.{option_map_or}
+use Rattle.ffa_model.specs.Bits.{high_half, low_half}
 use Rattle.ffa_model.specs.Buffers.{buffers_in}
 use Rattle.ffa_model.specs.Messages.{MessageHeader, header_in}
 use Rattle.ffa_model.specs.Ram.{Ram, page_of}
-use Rattle.ffa_model.specs.State.{Buffers}
+use Rattle.ffa_model.specs.State.{Party, Buffers, is_known_among, has_property}
 use Rattle.ffa_messages.specs.declared.indirect.MessageHeader.{MessageHeader as Header}
 
 -- TX and RX of each endpoint's buffers are among this many pages
@@ -33,3 +34,24 @@ header_of m =
       sender = m.sender.0;
       size = m.size;
     }
+
+-- w1 and w2 of a direct request are from the runner to another endpoint, without flags
+abbrev pub is_addressed : List Party → ℕ → ℕ → ℕ → Bool
+is_addressed parties runner word flags =
+    high_half word == runner
+    && (flags == 0 && (is_known_among (length parties) (low_half word) && not (low_half word == runner)))
+
+-- both ends of a direct request take part in such requests
+abbrev pub may_request : List Party → ℕ → ℕ → Bool
+may_request parties sender receiver =
+    not (receiver == 0) && (has_property parties sender 1 && has_property parties receiver 0)
+
+-- a header is from the caller to another endpoint, without flags
+abbrev pub is_from : List Party → ℕ → MessageHeader → Bool
+is_from parties caller m =
+    m.flags == 0
+    && (m.reserved == 0 && (m.sender == caller && (is_known_among (length parties) m.receiver && not (m.receiver == caller))))
+
+-- the payload has bytes, which stand behind the header and end within the page
+abbrev pub is_whole : MessageHeader → Bool
+is_whole m = nat_le 20 m.offset && (not (m.size == 0) && nat_le (m.offset + m.size) 4096)

@@ -8,6 +8,7 @@ ghost use Rattle.ffa_model.specs.First.{party_of};
 ghost use Rattle.ffa_model.specs.RunStates.{finished, is_waiting, request_guards, requested, requester, response_guards, status_in, work_in};
 ghost use Rattle.ffa_model.specs.Sound.{IsSound};
 ghost use Rattle.ffa_model.specs.State.{is_partition_among};
+ghost use Rattle.ffa_messages.specs.Parts.{is_addressed, may_request};
 
 use crate::parties::{is_known, receives_direct_requests, sends_direct_requests};
 use ffa_model::{EndpointId, ErrorCode, Manifest, Reply, Status, Work};
@@ -41,6 +42,16 @@ impl DirectMessage {
         EndpointId((self.parties % 0x1_0000) as u16)
     }
 
+    // Whether the message is from the runner to another endpoint, without flags.
+    fn is_addressed(&self, manifest: &Manifest, runner: EndpointId) -> bool
+        ensures { result ≡ is_addressed (map party_of manifest.now.endpoints.items) runner.0 self.now.parties self.now.flags }
+    {
+        self.sender() == runner
+            && self.flags == 0
+            && is_known(manifest, self.receiver())
+            && self.receiver() != runner
+    }
+
     // What the receiver is passed.
     fn passed(&self) -> Reply
         ensures { result ≡ Reply.Passed self.now.function self.now.parties self.now.payload }
@@ -71,7 +82,7 @@ pub fn direct_req(
     ensures reply { IfOk result (λ reply. reply ≡ Reply.Passed message.now.function message.now.parties message.now.payload) }
     ensures kept { OnErr result (chain.new ≡ chain.old) }
     ensures changed { OnOk result (chain.new ≡ requested chain.old (low_half message.now.parties)) }
-    ensures sound { IsSound chain.old → IsSound chain.new }
+    ensures sound { IsSound chain.new }
 {
     let receiver = free_receiver(chain, manifest, message)?;
     chain.request(receiver);
@@ -90,7 +101,7 @@ pub fn direct_resp(chain: &mut Chain, message: &DirectMessage) -> Result<Reply, 
     ensures reply { IfOk result (λ reply. reply ≡ Reply.Passed message.now.function message.now.parties message.now.payload) }
     ensures kept { OnErr result (chain.new ≡ chain.old) }
     ensures changed { OnOk result (chain.new ≡ finished chain.old (low_half message.now.parties)) }
-    ensures sound { IsSound chain.old → IsSound chain.new }
+    ensures sound { IsSound chain.new }
 {
     let requester = match requester(chain) {
         Some(requester) => requester,
@@ -107,6 +118,7 @@ pub fn direct_resp(chain: &mut Chain, message: &DirectMessage) -> Result<Reply, 
 }
 
 // The receiver of a request that the runner may make.
+#[tactic(auto, using(crate::proofs::Refusals::request_refusal))]
 fn free_receiver(
     chain: &Chain,
     manifest: &Manifest,
@@ -116,19 +128,14 @@ fn free_receiver(
     ensures receiver { IfOk result (λ receiver. receiver.0 ≡ low_half message.now.parties) }
     ensures partition { IfOk result (λ receiver. is_partition_among (length manifest.now.endpoints.items) receiver.0 ≡ true) }
     ensures waiting { IfOk result (λ receiver. is_waiting (status_in chain.now receiver.0) ≡ true) }
+    ensures sound { IsSound chain.now }
 {
     let runner = chain.runner();
     let receiver = message.receiver();
-    if message.sender() != runner || message.flags != 0 {
+    if !message.is_addressed(manifest, runner) {
         return Err(ErrorCode::InvalidParameters);
     }
-    if !is_known(manifest, receiver) || receiver == runner {
-        return Err(ErrorCode::InvalidParameters);
-    }
-    if receiver == EndpointId(0) {
-        return Err(ErrorCode::Denied);
-    }
-    if !sends_direct_requests(manifest, runner) || !receives_direct_requests(manifest, receiver) {
+    if !may_request(manifest, runner, receiver) {
         return Err(ErrorCode::Denied);
     }
     match chain.status(receiver) {
@@ -137,9 +144,19 @@ fn free_receiver(
     }
 }
 
+// Whether both ends of a direct request take part in such requests. The normal world receives none.
+fn may_request(manifest: &Manifest, sender: EndpointId, receiver: EndpointId) -> bool
+    ensures { result ≡ may_request (map party_of manifest.now.endpoints.items) sender.0 receiver.0 }
+{
+    receiver != EndpointId(0)
+        && sends_direct_requests(manifest, sender)
+        && receives_direct_requests(manifest, receiver)
+}
+
 // The endpoint whose request the runner answers, if there is one.
 fn requester(chain: &Chain) -> Option<EndpointId>
-    ensures { option_map (λ (by : EndpointId). by.0) result ≡ requester (work_in chain.now chain.now.runner) }
+    ensures requester { option_map (λ (by : EndpointId). by.0) result ≡ requester (work_in chain.now chain.now.runner) }
+    ensures sound { IsSound chain.now }
 {
     match chain.work(chain.runner()) {
         Some(Work::Request(requester)) => Some(requester),

@@ -1,17 +1,18 @@
 //! Indirect messages (DEN0077A, 7.1 and 15).
-ghost use Rattle.std.specs.Prelude.{◌≡◌, ◌+◌, ◌≤◌, length, map, true, is_some, OnOk, OnErr, IfOk};
+ghost use Rattle.std.specs.Prelude.{◌≡◌, ◌+◌, ◌<◌, ◌≤◌, ◌&&◌, length, map, not, take, true, is_some, OnOk, OnErr, IfOk, IsSomeAnd};
 ghost use Rattle.std.specs.Result.{result_err};
-ghost use Rattle.ffa_model.specs.Buffers.{buffers_in, buffers_with_rx};
+ghost use Rattle.ffa_model.specs.Buffers.{buffers_in, buffers_with_rx, is_full};
 ghost use Rattle.ffa_model.specs.Calls.{first_failure, success};
 ghost use Rattle.ffa_model.specs.First.{party_of};
 ghost use Rattle.ffa_model.specs.Messages.{header_in, message_in, send2_guards};
-ghost use Rattle.ffa_model.specs.Ram.{number_in};
+ghost use Rattle.ffa_model.specs.Ram.{number_in, page_of};
+ghost use Rattle.ffa_model.specs.State.{has_property, is_known_among};
 ghost use Rattle.ffa_rxtx.specs.Parts.{with_rx_bytes};
-ghost use Rattle.ffa_messages.specs.Parts.{AreInRam, receiver_in, sent_in};
+ghost use Rattle.ffa_messages.specs.Parts.{AreInRam, is_from, is_whole, receiver_in, sent_in};
 
 use crate::parties::{has_indirect_messages, is_known};
 use byteorder::{ByteOrder, LittleEndian};
-use ffa_model::{EndpointId, ErrorCode, Manifest, Reply};
+use ffa_model::{EndpointId, ErrorCode, Manifest, PageNo, Reply};
 use ffa_physmem::{PAGE_SIZE, PhysMem};
 use ffa_rxtx::Buffers;
 
@@ -52,6 +53,7 @@ impl MessageHeader {
     }
 
     // Whether a caller that has buffers may send the message, and the length of the message with its header.
+    #[tactic(auto, using(crate::proofs::Refusals::send2_refusal))]
     fn checked(
         &self,
         buffers: &Buffers,
@@ -63,27 +65,52 @@ impl MessageHeader {
         ensures end { IfOk result (λ end. end ≡ self.now.offset + self.now.size) }
         ensures fits { IfOk result (λ end. end ≤ 4096) }
         ensures receiver { OnOk result (is_some (buffers_in buffers.now self.now.receiver.0) ≡ true) }
+        ensures known { OnOk result (is_known_among (length buffers.now) self.now.receiver.0 ≡ true) }
     {
-        let end = u64::from(self.offset) + u64::from(self.size);
-        if self.flags != 0 || self.reserved != 0 || self.sender != caller {
+        if !self.is_from(manifest, caller) || !self.is_whole() {
             return Err(ErrorCode::InvalidParameters);
         }
-        if !is_known(manifest, self.receiver) || self.receiver == caller {
-            return Err(ErrorCode::InvalidParameters);
-        }
-        if self.offset < HEADER_SIZE || self.size == 0 || end > PAGE_SIZE as u64 {
-            return Err(ErrorCode::InvalidParameters);
-        }
-        if !has_indirect_messages(manifest, caller)
-            || !has_indirect_messages(manifest, self.receiver)
-        {
+        if !take_part(manifest, caller, self.receiver) {
             return Err(ErrorCode::Denied);
         }
-        if !buffers.has(self.receiver) || buffers.is_full(self.receiver) {
+        if !is_free(buffers, self.receiver) {
             return Err(ErrorCode::Busy);
         }
-        Ok(end as usize)
+        Ok((self.offset + self.size) as usize)
     }
+
+    // Whether the message is from the caller to another endpoint, without flags.
+    fn is_from(&self, manifest: &Manifest, caller: EndpointId) -> bool
+        ensures { result ≡ is_from (map party_of manifest.now.endpoints.items) caller.0 (header_of self.now) }
+    {
+        self.flags == 0
+            && self.reserved == 0
+            && self.sender == caller
+            && is_known(manifest, self.receiver)
+            && self.receiver != caller
+    }
+
+    // Whether the payload has bytes, which stand behind the header and end within the page.
+    fn is_whole(&self) -> bool
+        ensures { result ≡ is_whole (header_of self.now) }
+    {
+        let end = u64::from(self.offset) + u64::from(self.size);
+        self.offset >= HEADER_SIZE && self.size != 0 && end <= PAGE_SIZE as u64
+    }
+}
+
+// Whether both ends of a message take part in indirect messages.
+fn take_part(manifest: &Manifest, sender: EndpointId, receiver: EndpointId) -> bool
+    ensures { result ≡ (has_property (map party_of manifest.now.endpoints.items) sender.0 2 && has_property (map party_of manifest.now.endpoints.items) receiver.0 2) }
+{
+    has_indirect_messages(manifest, sender) && has_indirect_messages(manifest, receiver)
+}
+
+// Whether an endpoint has an RX that isn't full.
+fn is_free(buffers: &Buffers, endpoint: EndpointId) -> bool
+    ensures { result ≡ (is_some (buffers_in buffers.now endpoint.0) && not (is_full (buffers_in buffers.now endpoint.0))) }
+{
+    buffers.has(endpoint) && !buffers.is_full(endpoint)
 }
 
 // The number in the two bytes of a page from this place on.
@@ -129,10 +156,28 @@ pub fn send2<M: PhysMem>(
         Some(mapped) => mapped,
         None => return Err(ErrorCode::InvalidParameters),
     };
-    let mut message = [0; PAGE_SIZE];
-    message.copy_from_slice(ram.page(mapped.tx));
-    let header = MessageHeader::read(&message);
+    let header = MessageHeader::read(ram.page(mapped.tx));
     let length = header.checked(buffers, manifest, caller)?;
-    buffers.fill(ram, header.receiver, &message[..length]);
+    deliver(ram, buffers, mapped.tx, header.receiver, length);
     Ok(Reply::Success([0; 6]))
+}
+
+// Copies as many bytes as this size from the start of a page to RX of an endpoint that has buffers.
+fn deliver<M: PhysMem>(
+    ram: &mut M,
+    buffers: &mut Buffers,
+    tx: PageNo,
+    receiver: EndpointId,
+    size: usize,
+)
+    requires tx { tx.0 < length (M.ram ram.old).pages }
+    requires known { is_known_among (length buffers.old) receiver.0 ≡ true }
+    requires rx { IsSomeAnd (buffers_in buffers.old receiver.0) (λ b. b.rx < length (M.ram ram.old).pages) }
+    requires fits { size ≤ 4096 }
+    ensures ram { M.ram ram.new ≡ with_rx_bytes (M.ram ram.old) (buffers_in buffers.old receiver.0) (take size (page_of (M.ram ram.old) tx.0)) }
+    ensures full { buffers.new ≡ buffers_with_rx buffers.old receiver.0 true }
+{
+    let mut message = [0; PAGE_SIZE];
+    message[..size].copy_from_slice(&ram.page(tx)[..size]);
+    buffers.fill(ram, receiver, &message[..size]);
 }

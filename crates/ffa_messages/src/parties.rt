@@ -15,7 +15,8 @@ pub fn is_known(manifest: &Manifest, endpoint: EndpointId) -> bool
     endpoint == EndpointId(0) || is_partition
 }
 
-// What an endpoint takes part in, which is nothing where the manifest has no such endpoint.
+// What an endpoint takes part in. An identifier that is no endpoint's is read at its place, so each up to 0x8000 as the
+// normal world's; where the manifest has no such place it takes part in nothing.
 fn properties_of(manifest: &Manifest, endpoint: EndpointId) -> Properties
     ensures { result.0 ≡ properties_among (map party_of manifest.now.endpoints.items) endpoint.0 }
 {

@@ -5,7 +5,8 @@ ghost use Rattle.std.specs.Result.{result_err};
 ghost use Rattle.ffa_model.specs.Buffers.{buffers_in, buffers_with, buffers_with_rx, is_full, is_page_address, is_usable, map_guards, new_buffers, page_number, release_guards, unmap_guards};
 ghost use Rattle.ffa_model.specs.Calls.{first_failure};
 ghost use Rattle.ffa_model.specs.Identifiers.{place};
-ghost use Rattle.ffa_rxtx.specs.Parts.{candidate_in, candidates_in, with_rx_bytes};
+ghost use Rattle.ffa_model.specs.State.{is_known_among};
+ghost use Rattle.ffa_rxtx.specs.Parts.{are_two_pages, candidate_in, candidates_in, with_rx_bytes};
 ghost use Rattle.ffa_rxtx.specs.Stored.{buffers_of};
 
 use arrayvec::ArrayVec;
@@ -55,7 +56,8 @@ impl Buffers {
         Buffers { entries }
     }
 
-    /// The buffers of an endpoint, if it has mapped any. Who is no endpoint has none.
+    /// The buffers of an endpoint, if it has mapped any. An identifier that is no endpoint's is read at its place, so each
+    /// up to 0x8000 as the normal world's.
     pub fn of(&self, endpoint: EndpointId) -> Option<Mapped>
         ensures { option_map buffers_of result ≡ buffers_in self.now endpoint.0 }
     {
@@ -92,6 +94,7 @@ impl Buffers {
     /// In this order: `Denied` where the caller has buffers; `InvalidParameters` where the size isn't one page, an
     /// address isn't that of a page of RAM, or both are the same; `Denied` where a page isn't the caller's, stands in an
     /// open transaction, or has a base right without rw. An error changes nothing.
+    #[tactic(auto, using(crate::proofs::Places::known_place))]
     pub fn map(
         &mut self,
         table: &PageTable,
@@ -101,7 +104,8 @@ impl Buffers {
         rx: u64,
         pages: u32,
     ) -> Result<(), ErrorCode>
-        requires { place caller.0 < length self.old }
+        requires some { 1 ≤ length self.old }
+        requires known { is_known_among (length self.old) caller.0 ≡ true }
         ensures refusal { result_err result ≡ first_failure (map_guards caller.0 (buffers_in self.old caller.0) (candidates_in table.now ram_base) tx rx pages) }
         ensures kept { OnErr result (self.new ≡ self.old) }
         ensures mapped { OnOk result (self.new ≡ buffers_with self.old caller.0 (Some (new_buffers ram_base tx rx))) }
@@ -117,6 +121,7 @@ impl Buffers {
     ///
     /// `InvalidParameters` where the word isn't 0 or the caller has no buffers. An error changes nothing.
     pub fn unmap(&mut self, caller: EndpointId, endpoint_word: u32) -> Result<(), ErrorCode>
+        requires { is_known_among (length self.old) caller.0 ≡ true }
         ensures refusal { result_err result ≡ first_failure (unmap_guards (buffers_in self.old caller.0) endpoint_word) }
         ensures kept { OnErr result (self.new ≡ self.old) }
         ensures unmapped { OnOk result (self.new ≡ buffers_with self.old caller.0 None) }
@@ -134,6 +139,7 @@ impl Buffers {
     ///
     /// `Denied` where the caller has no buffers or its RX isn't full. An error changes nothing.
     pub fn release(&mut self, caller: EndpointId) -> Result<(), ErrorCode>
+        requires { is_known_among (length self.old) caller.0 ≡ true }
         ensures refusal { result_err result ≡ first_failure (release_guards (buffers_in self.old caller.0)) }
         ensures kept { OnErr result (self.new ≡ self.old) }
         ensures emptied { OnOk result (self.new ≡ buffers_with_rx self.old caller.0 false) }
@@ -148,6 +154,7 @@ impl Buffers {
     /// Writes bytes to the start of RX of an endpoint that has buffers, and says that it is full. The other bytes of RX
     /// stay.
     pub fn fill<M: PhysMem>(&mut self, ram: &mut M, endpoint: EndpointId, bytes: &[u8])
+        requires known { is_known_among (length self.old) endpoint.0 ≡ true }
         requires rx { IsSomeAnd (buffers_in self.old endpoint.0) (λ b. b.rx < length (M.ram ram.old).pages) }
         requires bytes { length bytes.now ≤ 4096 }
         ensures ram { M.ram ram.new ≡ with_rx_bytes (M.ram ram.old) (buffers_in self.old endpoint.0) bytes.now }
@@ -161,6 +168,7 @@ impl Buffers {
 
     /// Says that RX of an endpoint is empty, if the endpoint has buffers. Its bytes stay.
     pub fn empty(&mut self, endpoint: EndpointId)
+        requires { is_known_among (length self.old) endpoint.0 ≡ true }
         ensures { self.new ≡ buffers_with_rx self.old endpoint.0 false }
     {
         self.set_full(endpoint, false);
@@ -184,6 +192,7 @@ impl Buffers {
     }
 
     // The buffers of a mapping that passes its checks.
+    #[tactic(auto, using(crate::proofs::Refusals::map_refusal))]
     fn checked(
         &self,
         table: &PageTable,
@@ -202,11 +211,7 @@ impl Buffers {
         if pages != 1 {
             return Err(ErrorCode::InvalidParameters);
         }
-        let tx_page = page_at(table, ram_base, tx)?;
-        let rx_page = page_at(table, ram_base, rx)?;
-        if tx == rx {
-            return Err(ErrorCode::InvalidParameters);
-        }
+        let (tx_page, rx_page) = two_pages(table, ram_base, tx, rx)?;
         if !is_usable(table, caller, tx_page) || !is_usable(table, caller, rx_page) {
             return Err(ErrorCode::Denied);
         }
@@ -216,6 +221,26 @@ impl Buffers {
             is_full: false,
         })
     }
+}
+
+// The pages at two addresses, which are `InvalidParameters` where one is no page's or both are the same.
+fn two_pages(
+    table: &PageTable,
+    ram_base: u32,
+    tx: u64,
+    rx: u64,
+) -> Result<(PageNo, PageNo), ErrorCode>
+    ensures refusal { result_err result ≡ (if are_two_pages (candidates_in table.now ram_base) tx rx then None else Some ErrorCode.InvalidParameters) }
+    ensures tx { IfOk result (λ pages. pages.0.0 ≡ page_number ram_base tx) }
+    ensures rx { IfOk result (λ pages. pages.1.0 ≡ page_number ram_base rx) }
+    ensures within { IfOk result (λ pages. (pages.0.0 < length table.now) × (pages.1.0 < length table.now)) }
+{
+    let tx_page = page_at(table, ram_base, tx)?;
+    let rx_page = page_at(table, ram_base, rx)?;
+    if tx == rx {
+        return Err(ErrorCode::InvalidParameters);
+    }
+    Ok((tx_page, rx_page))
 }
 
 // The page at an address, which is `InvalidParameters` where there is none.

@@ -1,0 +1,50 @@
+-- The checks of a call in groups, as the code makes them.
+use Rattle.std.proofs.Common.{◌≡◌, ◌∙◌, ◌+◌, ℕ, Bool, List, [], ◌∷◌, Option, Some, None, length, ap}
+use Rattle.std.specs.Prelude.{◌==◌, not, ◌&&◌, nat_le, is_some, if◌then◌else◌}
+use Rattle.ffa_model.specs.declared.operation.ErrorCode.{ErrorCode}
+use Rattle.ffa_model.specs.declared.operation.ErrorCode.TheVariants.{InvalidParameters, Busy, Denied}
+use Rattle.ffa_model.specs.Bits.{high_half, low_half}
+use Rattle.ffa_model.specs.Buffers.{buffers_in, is_full}
+use Rattle.ffa_model.specs.Calls.{first_failure}
+use Rattle.ffa_model.specs.Messages.{MessageHeader, send2_guards}
+use Rattle.ffa_model.specs.RunStates.{Schedule, is_waiting, request_guards, status_in}
+use Rattle.ffa_model.specs.State.{Party, Buffers, has_property, is_known_among}
+use Rattle.ffa_model.proofs.Guards.{one-code}
+use Rattle.ffa_messages.specs.Parts.{is_addressed, is_from, is_whole, may_request}
+
+pub request_refusal : (parties : List Party) (c : Schedule) (word flags : ℕ) → first_failure (request_guards parties c word flags)
+    ≡ (if is_addressed parties c.runner word flags
+    then (if may_request parties c.runner (low_half word) then (if is_waiting (status_in c (low_half word)) then None else Some Busy) else Some Denied)
+    else Some InvalidParameters)
+request_refusal parties c word flags =
+    let busy : List (Bool × ErrorCode) = (is_waiting (status_in c (low_half word)), Busy) ∷ [] in
+    let denied : List (Bool × ErrorCode) =
+    (not (low_half word == 0), Denied) ∷ (has_property parties c.runner 1, Denied) ∷ (has_property parties (low_half word) 0, Denied) ∷ busy in
+    one-code InvalidParameters (high_half word == c.runner) ((flags == 0) ∷ is_known_among (length parties) (low_half word) ∷ not (low_half word == c.runner) ∷ []) denied
+    ∙ ap (λ (next : Option ErrorCode). if is_addressed parties c.runner word flags then next else Some InvalidParameters)
+    (one-code Denied (not (low_half word == 0)) (has_property parties c.runner 1 ∷ has_property parties (low_half word) 0 ∷ []) busy)
+
+pub send2_refusal : (parties : List Party) (buffers : List (Option Buffers)) (caller : ℕ) (m : MessageHeader) → first_failure (send2_guards parties buffers caller m)
+    ≡ (if is_some (buffers_in buffers caller)
+    then (if is_from parties caller m
+    then (if is_whole m
+    then (if has_property parties caller 2 && has_property parties m.receiver 2
+    then (if is_some (buffers_in buffers m.receiver) && not (is_full (buffers_in buffers m.receiver)) then None else Some Busy)
+    else Some Denied)
+    else Some InvalidParameters)
+    else Some InvalidParameters)
+    else Some InvalidParameters)
+send2_refusal parties buffers caller m =
+    let busy : List (Bool × ErrorCode) =
+    (is_some (buffers_in buffers m.receiver), Busy) ∷ (not (is_full (buffers_in buffers m.receiver)), Busy) ∷ [] in
+    let denied : List (Bool × ErrorCode) = (has_property parties caller 2, Denied) ∷ (has_property parties m.receiver 2, Denied) ∷ busy in
+    let cut : List (Bool × ErrorCode) =
+    (nat_le 20 m.offset, InvalidParameters) ∷ (not (m.size == 0), InvalidParameters) ∷ (nat_le (m.offset + m.size) 4096, InvalidParameters) ∷ denied in
+    ap (λ (next : Option ErrorCode). if is_some (buffers_in buffers caller) then next else Some InvalidParameters)
+    (one-code InvalidParameters (m.flags == 0) ((m.reserved == 0) ∷ (m.sender == caller) ∷ is_known_among (length parties) m.receiver ∷ not (m.receiver == caller) ∷ []) cut
+    ∙ ap (λ (next : Option ErrorCode). if is_from parties caller m then next else Some InvalidParameters)
+    (one-code InvalidParameters (nat_le 20 m.offset) (not (m.size == 0) ∷ nat_le (m.offset + m.size) 4096 ∷ []) denied
+    ∙ ap (λ (next : Option ErrorCode). if is_whole m then next else Some InvalidParameters)
+    (one-code Denied (has_property parties caller 2) (has_property parties m.receiver 2 ∷ []) busy
+    ∙ ap (λ (next : Option ErrorCode). if has_property parties caller 2 && has_property parties m.receiver 2 then next else Some Denied)
+    (one-code Busy (is_some (buffers_in buffers m.receiver)) (not (is_full (buffers_in buffers m.receiver)) ∷ []) []))))
