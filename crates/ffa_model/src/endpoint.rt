@@ -106,6 +106,18 @@ pub struct Endpoint {
 }
 
 impl Endpoint {
+    // The endpoint of these parts, whose UUID has 16 bytes, as the type says.
+    fn of(uuid: [u8; 16], properties: Properties, regions: ArrayVec<Region, 16>) -> Endpoint
+        ensures parts { result ≡ record { uuid = uuid; properties = properties; regions = regions } }
+        ensures uuid { is_uuid result.uuid ≡ true }
+    {
+        Endpoint {
+            uuid,
+            properties,
+            regions,
+        }
+    }
+
     /// The right that the endpoint's regions give it to a page of the RAM at this address.
     pub fn right_to(&self, ram_base: u32, page: PageNo) -> Option<Rights>
         ensures { result ≡ right_in ram_base self.now.regions.items page.0 }
@@ -122,11 +134,7 @@ impl Endpoint {
         for region in self.regions.as_slice() {
             regions.push(*region);
         }
-        Endpoint {
-            uuid: whole(self.uuid),
-            properties: self.properties,
-            regions,
-        }
+        Endpoint::of(self.uuid, self.properties, regions)
     }
 }
 
@@ -138,12 +146,4 @@ pub fn right_in(regions: &[Region], ram_base: u32, page: PageNo) -> Option<Right
         .iter()
         .find(|region| region.has_page(ram_base, page))
         .map(|region| region.rights)
-}
-
-// The same bytes, of which the type says that they are 16 and each below 256.
-fn whole(uuid: [u8; 16]) -> [u8; 16]
-    ensures same { result ≡ uuid }
-    ensures uuid { is_uuid uuid ≡ true }
-{
-    uuid
 }
