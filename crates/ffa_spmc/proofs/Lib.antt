@@ -12,3 +12,5 @@ pub mod Fills
 pub mod Information
 pub mod Schedules
 pub mod Sends
+pub mod ServedCalls
+pub mod Laws

@@ -1,5 +1,6 @@
 -- Calls on run states change the state as the small machine's.
-use Rattle.std.proofs.Common.{◌≡◌, ◌∙◌, ℕ, true, false, List, Result, refl, sym, ap}
+use Rattle.std.proofs.Common.{◌≡◌, ◌∙◌, ℕ, true, false, List, Option, Result, Ok, Err, is_ok, refl, sym, ap}
+use Rattle.std.proofs.lemmas.Bool.{false≢true}
 use Rattle.std.specs.Prelude.{IfOk, OnOk, OnErr}
 use Rattle.std.specs.Result.{result_err}
 use Rattle.ffa_model.specs.declared.call.Reply.{Reply}
@@ -11,12 +12,13 @@ use Rattle.ffa_model.specs.Calls.{Service, first_failure, replied, served}
 use Rattle.ffa_model.specs.First.{first}
 use Rattle.ffa_model.specs.Ram.{Ram}
 use Rattle.ffa_model.specs.Refusals.{is_error}
-use Rattle.ffa_model.specs.RunStates.{Schedule, run_reply, with_schedule}
-use Rattle.ffa_model.specs.State.{State}
+use Rattle.ffa_model.specs.RunStates.{Schedule, finished, msg_wait, run_reply, wait_guards, with_schedule}
+use Rattle.ffa_model.specs.Buffers.{buffers_with_rx}
+use Rattle.ffa_model.specs.State.{State, Buffers}
 use Rattle.ffa_spmc.specs.declared.kept.Kept.{Kept}
 use Rattle.ffa_spmc.specs.Meaning.{state_of}
 use Rattle.ffa_spmc.specs.Replies.{reply_or_error}
-use Rattle.ffa_spmc.proofs.Answered.{answered-by, done-so, refused-so}
+use Rattle.ffa_spmc.proofs.Answered.{answered-by, done-so, passed-state, refused-so}
 
 -- the reply of FFA_RUN is no error
 pub run_reply-good : (word : ℕ) (status : Status) → is_error (run_reply word status) ≡ false
@@ -46,3 +48,13 @@ module _ (ram : Ram) (m : Manifest) (kept : Kept) where
       (refused-so r (λ is. ap with_chain is) same)
       (done-so r (λ none is. ap with_chain is ∙ with_chain-is changed ∙ sym leaves) done)
       replies
+
+  -- FFA_MSG_WAIT that is done also leaves another RX
+  pub waited : (e : ℕ) → e ≡ kept.chain.runner → (r : Result Reply ErrorCode) (new : Schedule) (list : List (Option Buffers)) → is_ok r ≡ true
+      → result_err r ≡ first_failure (wait_guards kept.chain) → OnOk r (new ≡ finished kept.chain 0) → list ≡ buffers_with_rx kept.buffers e false
+      → state_of ram m (record kept { buffers = list; chain = new }) ≡ (served s (msg_wait s)).state
+  unfolding first
+  waited e at (Ok reply) new list ok passes is emptied =
+      (λ i. state_of ram m (record kept { buffers = (emptied ∙ ap (λ (f : ℕ). buffers_with_rx kept.buffers f false) at) i; chain = is i }))
+      ∙ sym (passed-state s (msg_wait s) (sym passes))
+  waited e at (Err code) new list ok fails is emptied = absurd (false≢true ok)

@@ -251,7 +251,20 @@ impl<M: PhysMem + Drop> Machine<M> {
             }),
             Call::MsgSend2 => self.send(),
             Call::SpmIdGet => ffa_setup::spm_id(),
-            _ => Reply::Error(ErrorCode::NotSupported),
+            // No identifier asks for one of these as yet, but for the first.
+            Call::Unknown
+            | Call::MemDonate { .. }
+            | Call::MemLend { .. }
+            | Call::MemShare { .. }
+            | Call::MemRetrieve { .. }
+            | Call::MemRelinquish
+            | Call::MemReclaim { .. }
+            | Call::BitmapCreate { .. }
+            | Call::BitmapDestroy { .. }
+            | Call::NotificationBind { .. }
+            | Call::NotificationUnbind { .. }
+            | Call::NotificationSet { .. }
+            | Call::NotificationGet { .. } => Reply::Error(ErrorCode::NotSupported),
         }
     }
 
@@ -459,9 +472,18 @@ impl<M: PhysMem + Drop> Machine<M> {
     {
         // A field is lent before and after, as in `op`.
         let _ = &self.kept;
-        for i in 0..ops.len() {
-            filled[i] = self.op(&ops[i]);
-        }
+        self.operate_all(ops, filled);
         let _ = &self.kept;
+    }
+
+    // The operations themselves, in turn.
+    fn operate_all(&mut self, ops: &[Op], filled: &mut [Outcome])
+        requires { length ops.now ≡ length filled.old }
+        ensures outcomes { filled.new ≡ outcomes self.old.state ops.now }
+        ensures state { self.new.state ≡ state_after self.old.state ops.now }
+    {
+        for i in 0..ops.len() {
+            filled[i] = self.operate(&ops[i]);
+        }
     }
 }

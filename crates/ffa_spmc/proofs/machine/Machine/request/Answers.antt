@@ -35,8 +35,4 @@ returns-clause-served g c =
     ∙ ap (λ (seen : Snapshot). served seen.state (direct_request seen.state c.args.message.now.function c.args.message.now.parties c.args.message.now.flags c.args.message.now.payload)) c.self.view_is
 
 pub direct_req-requires : goal.direct_req-requires
-direct_req-requires g c =
-    let ram : Ram = g.M.PhysMem.ram c.self.inside.ram in
-    let m : Manifest = c.self.inside.manifest in
-    let kept : Kept = c.self.inside.kept in
-    counted ram m kept c.self.invariant
+direct_req-requires g c = record { endpoints = counted (g.M.PhysMem.ram c.self.inside.ram) c.self.inside.manifest c.self.inside.kept c.self.invariant }

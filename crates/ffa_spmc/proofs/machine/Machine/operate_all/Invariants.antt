@@ -1,6 +1,6 @@
 use Rattle.std.proofs.Common.{◌≡◌, ◌++◌, take, drop}
 use Rattle.ffa_model.specs.Step.{outcomes, state_after}
-use Rattle.ffa_spmc.proofs.machine.Machine.run.Given as goal
+use Rattle.ffa_spmc.proofs.machine.Machine.operate_all.Given as goal
 
 -- the outcomes so far and those of what is left are those of all
 abbrev pub invariant-loop-i : goal.invariant-loop-i
