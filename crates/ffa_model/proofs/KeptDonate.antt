@@ -99,7 +99,6 @@ module _ (s : State) (sound : IsSoundState s) (ranges : List Range) (e : ℕ) (r
           grants = subst (λ (b : Bases). list_all (are_grants_within b t.receivers) (pages_in b t.ranges) ≡ true) (sym given_bases-are)
               (same-all (λ o. list_all (λ (r : Receiver). is_grantable r.grant o) t.receivers) ∙ good.grants);
           zeroed = λ zero. subst (λ (b : Bases). are_writable b t.ranges ≡ true) (sym given_bases-are) (same-all may_store ∙ good.zeroed zero);
-          receivers = good.receivers;
           holder = good.holder;
           within = λ f its held. subst (λ (b : Bases). is_at_most its (ceiling b t f) ≡ true) (sym given_bases-are)
               (subst (λ (most : Rights). is_at_most its most ≡ true) (sym (ceiling-same f)) (good.within f its held));
