@@ -26,7 +26,7 @@ use Rattle.ffa_model.specs.Buffers.{filled}
 use Rattle.ffa_model.specs.Setup.{info_bytes, is_count_alone, uuid_bytes}
 use Rattle.ffa_model.specs.RunStates.{direct_request, direct_response, msg_wait, run_partition, yield_now}
 use Rattle.ffa_model.specs.Messages.{header_in, message_in, tx_bytes}
-use Rattle.ffa_model.specs.Notifications.{class_of, manager_class, rx_full_bits}
+use Rattle.ffa_model.specs.Notifications.{class_of, manager_class, message_bits}
 use Rattle.ffa_model.specs.SendDescriptor.{SendRecord}
 use Rattle.ffa_model.specs.Transactions.{handle_of}
 use Rattle.ffa_model.specs.MemorySend.{offered, send_read, transaction_from}
@@ -66,7 +66,7 @@ no_messages e true f (k ∷ ks) none = (λ i. none k i ++ messages e (map f ks))
 no_delivery : (e : ℕ) (s : State) (tx : List ℕ) → messages e (delivers e s tx) ≡ []
 no_delivery e s tx = go ((header_in tx).receiver == e) (has_bitmaps s e)
   where
-    go : (b c : Bool) → messages e (where_true b (Filled (message_in tx) ∷ where_true c (Pending manager_class rx_full_bits ∷ []))) ≡ []
+    go : (b c : Bool) → messages e (where_true b (Filled (message_in tx) ∷ where_true c (Pending manager_class message_bits ∷ []))) ≡ []
     go true true = refl
     go true false = refl
     go false c = refl

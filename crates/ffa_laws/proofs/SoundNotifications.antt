@@ -13,7 +13,7 @@ use Rattle.ffa_model.specs.Identifiers.{identifier, place}
 use Rattle.ffa_model.specs.Lists.{listed}
 use Rattle.ffa_model.specs.State.{State}
 use Rattle.ffa_model.specs.Calls.{first_failure}
-use Rattle.ffa_model.specs.Notifications.{Notifications, bind_guards, binding, class_in, class_of, destroy_guards, has_bitmaps_in, has_pending, is_bindable, is_bound, is_bound_to_another, is_pending, is_unbindable, manager_class, normal_class, notifications_of, partition_class, receiver_bit, receiver_in, rx_full_bits, sender_in, set_guards, unbind_guards, with_bitmaps, with_bound, with_framework_bit, with_notifications, with_pending, without_bitmaps, without_bound, without_pending}
+use Rattle.ffa_model.specs.Notifications.{Notifications, bind_guards, binding, class_in, class_of, destroy_guards, has_bitmaps_in, has_pending, is_bindable, is_bound, is_bound_to_another, is_pending, is_unbindable, manager_class, normal_class, notifications_of, partition_class, receiver_bit, receiver_in, message_bits, sender_in, set_guards, unbind_guards, with_bitmaps, with_bound, with_framework_bit, with_notifications, with_pending, without_bitmaps, without_bound, without_pending}
 use Rattle.ffa_model.specs.SoundState.{IsKnown, IsSoundBinding, IsSoundPending, IsSoundState}
 use Rattle.ffa_model.proofs.Guards.{guard-passes}
 use Rattle.ffa_model.proofs.NamedPages.{each-listed}
@@ -295,8 +295,8 @@ module _ (s : State) (sound : IsSoundState s) where
       all = bits-pass (bound_to (low_half word)) (joined low high) (guard-passes (set_guards (length s.parties) n s.runner word flags (joined low high)) 5 Denied (sym none))
 
   pub framework-sound : (f : ℕ) → IsKnown s f → IsSoundState (with_notifications s (with_framework_bit n f))
-  framework-sound f to = raised-sound f manager_class rx_full_bits (λ x is.
-      let (k, passes, same) = among-passed (λ k. k == 0) (receiver_bit f manager_class) rx_full_bits x refl is in
+  framework-sound f to = raised-sound f manager_class message_bits (λ x is.
+      let (k, passes, same) = among-passed (λ k. k == 0) (receiver_bit f manager_class) message_bits x refl is in
       let first = eqb-true k 0 passes in
       record { receiver = f; class = manager_class; bit = k; is = same; to_known = to; of_class = omega arith; in_word = omega (arith, first); bound = λ lt. absurd (omega arith) })
 

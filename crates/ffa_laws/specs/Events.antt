@@ -31,7 +31,7 @@ use Rattle.ffa_model.specs.Memory.{changed_pages, size_of, store_fault, stored, 
 use Rattle.ffa_model.specs.Buffers.{filled_pages}
 use Rattle.ffa_model.specs.RunStates.{direct_request, direct_response, msg_wait, run_partition, yield_now}
 use Rattle.ffa_model.specs.Messages.{header_in, message_in, tx_bytes}
-use Rattle.ffa_model.specs.Notifications.{binding, class_of, is_bound, manager_class, notifications_of, rx_full_bits, with_notifications, with_pending}
+use Rattle.ffa_model.specs.Notifications.{binding, class_of, is_bound, manager_class, notifications_of, message_bits, with_notifications, with_pending}
 use Rattle.ffa_model.specs.SendDescriptor.{SendRecord}
 use Rattle.ffa_model.specs.Transactions.{bases_of, handle_of, holding, next_handle, not_holding, offers_of, with_offers, with_transaction}
 use Rattle.ffa_model.specs.MemorySend.{offered, send_read, transaction_from}
@@ -152,7 +152,7 @@ switches e c = where_true (c.state.runner == e) (Message (encode c.reply) ∷ []
 abbrev pub delivers : ℕ → State → List ℕ → List Event
 delivers e s tx =
     where_true ((header_in tx).receiver == e)
-    (Filled (message_in tx) ∷ where_true (has_bitmaps s e) (Pending manager_class rx_full_bits ∷ []))
+    (Filled (message_in tx) ∷ where_true (has_bitmaps s e) (Pending manager_class message_bits ∷ []))
 
 -- a send to e, with the pages after it
 abbrev pub opens : ℕ → State → Kind → Option SendRecord → List Event

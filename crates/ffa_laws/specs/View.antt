@@ -39,7 +39,9 @@ hidden past b = option_map (λ (q : Buffers). record { tx = past; rx = past; ful
 abbrev pub buffers_seen : ℕ → ℕ → ℕ → Option Buffers → Option Buffers
 buffers_seen e past i b = if identifier i == e then b else hidden past b
 
--- The constants, and who runs, each status and work are public. Of the lists by endpoint e has its own element.
+-- The constants are public, and so are who runs, each status and work, and of each endpoint's buffers whether they are
+-- mapped and RX is full. Of the sends and of who has bitmaps e knows its own element; of the bits that are bound, those
+-- that it receives or sends; of those that are pending, its own.
 abbrev pub view : ℕ → State → State
 view e s =
     record {

@@ -41,7 +41,7 @@ pub record Candidates : Type 0 where
 abbrev pub page_number : ℕ → ℕ → ℕ
 page_number base address = (address - base) / 4096
 
--- the address of a page in RAM
+-- whether an address is that of a page in RAM
 abbrev pub is_page_address : Candidates → ℕ → Bool
 is_page_address ram address = (address % 4096 == 0 && nat_le ram.base address) && nat_lt (page_number ram.base address) ram.count
 

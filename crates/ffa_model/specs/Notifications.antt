@@ -108,12 +108,12 @@ abbrev pub without_bitmaps : Notifications → ℕ → Notifications
 without_bitmaps n e =
     record n { bitmaps = slice_set n.bitmaps (place e) false; bound = finite_set.retain n.bound (λ x. not (receiver_in x == e)) }
 
--- by bit 0 of its class the manager tells a receiver that RX has become full
-abbrev pub rx_full_bits : List ℕ
-rx_full_bits = 0 ∷ []
+-- by bit 0 of its class the manager tells a receiver that an indirect message stands in its RX
+abbrev pub message_bits : List ℕ
+message_bits = 0 ∷ []
 
 abbrev pub with_framework_bit : Notifications → ℕ → Notifications
-with_framework_bit n receiver = with_pending n receiver manager_class rx_full_bits
+with_framework_bit n receiver = with_pending n receiver manager_class message_bits
 
 -- the checks of each call in order, by a caller among this many endpoints
 
@@ -191,7 +191,8 @@ get_guards n caller word flags =
 abbrev pub asked_word : Notifications → ℕ → ℕ → ℕ → ℕ
 asked_word n receiver flags class = if is_set class flags then pending_word n receiver class else 0
 
--- a word's low half stands before its high half; of the manager's bits there are 32, and no hypervisor has any
+-- a word's low half stands before its high half; of the manager's bits w6 holds the lowest 32, of which bit 0 alone is ever
+-- set, and there is no hypervisor whose bits w7 would hold
 abbrev pub get_reply : Notifications → ℕ → ℕ → Reply
 get_reply n receiver flags =
     Success (bits 31 0 (asked_word n receiver flags partition_class)

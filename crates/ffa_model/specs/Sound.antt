@@ -1,4 +1,4 @@
--- What holds of the run states of every machine.
+-- What sound run states are: the first ones are, and each operation keeps them so.
 use Rattle.std.specs.Prelude.{◌≡◌, ◌⊎◌, ◌↔◌, ℕ, nat_eq, true, List, [], ◌∷◌, length, Option, Some, None}
 use Rattle.std.specs.List.{list_any, IsDistinct}
 use Rattle.ffa_model.specs.declared.schedule.Status.TheVariants.{Running, Waiting, Yielded, Blocked}

@@ -98,11 +98,12 @@ are_writable ram ranges = list_all (λ p. may_store (ram.right p)) (pages_in ram
 abbrev pub are_executable : Bases → List Range → Bool
 are_executable ram ranges = list_all (λ p. may_fetch (ram.right p)) (pages_in ram ranges)
 
--- the data right that e is granted
+-- the data right that e is granted: ro where nothing is, but a send descriptor grants each receiver of a share or a lend one
 abbrev pub grant_to : Transaction → ℕ → Data
 grant_to t e = unwrap_or (option_and_then (λ (r : Receiver). r.grant) (find (λ (r : Receiver). r.endpoint.0 == e) t.receivers)) Ro
 
--- the most that e may hold: what all pages have in a donate; else the grant, with execution in a lend to one alone
+-- the most that e may hold: what all pages have in a donate; else the grant, and a lend to one may be executed where all
+-- pages may
 abbrev pub ceiling_in : Kind → Bases → Transaction → ℕ → Rights
 ceiling_in Donate ram t e =
     record { level = if are_writable ram t.ranges then Rw else Ro; exec = are_executable ram t.ranges }
