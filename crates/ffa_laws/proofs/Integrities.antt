@@ -16,7 +16,7 @@ use Rattle.ffa_model.specs.Calls.{first_failure}
 use Rattle.ffa_model.specs.Messages.{header_in, message_in, send2_guards, tx_bytes}
 use Rattle.ffa_model.specs.Step.{serve, step}
 use Rattle.ffa_laws.specs.Steady.{IsSteady}
-use Rattle.ffa_laws.specs.Isolation.{Integrity, LeavesBytes, fills_rx_page, is_lawful_call, is_message, is_send2}
+use Rattle.ffa_laws.specs.Isolation.{Integrity, LeavesBytes, fills_rx_page, is_lawful_call, is_indirect_message, is_send2}
 use Rattle.ffa_model.proofs.Guards.{guard-passes}
 use Rattle.ffa_laws.proofs.MemoryLaws.{fault-none}
 use Rattle.ffa_laws.proofs.Kept.{kept-call, kept-step}
@@ -88,12 +88,12 @@ module _ (s : State) (steady : IsSteady s) (e p : ℕ) (owned : owner_of s p ≡
       (λ bytes. elsewhere-filled s.runner bytes steady.runner (λ b is. of_another s.runner b steady.runner is other)) call lawful
       (delivered_elsewhere (is_send2 call) not_bound)
 
-  bytes-kept : (op : Op) → (is_message op && fills_rx_page s e p) ≡ false → page_bytes (step s op).state p ≡ page_bytes s p
+  bytes-kept : (op : Op) → (is_indirect_message op && fills_rx_page s e p) ≡ false → page_bytes (step s op).state p ≡ page_bytes s p
   bytes-kept op not_bound =
       kept-step (λ t. page_bytes t p ≡ page_bytes s p) (λ ps. bytes_in ps p ≡ bytes_in s.pages p) s refl (λ ps bs c n same. same) refl
       (λ bytes. elsewhere-filled s.runner bytes steady.runner (λ b is. of_another s.runner b steady.runner is other)) op
       (λ address size value none. elsewhere s.pages ((address - s.ram_base) / 4096) p (address % 4096) (little_bytes (size_of size) value) (stored_elsewhere address (size_of size) none))
-      (delivered_elsewhere (is_message op) not_bound)
+      (delivered_elsewhere (is_indirect_message op) not_bound)
 
 pub integrity : (s : State) (op : Op) → IsSteady s → Integrity s op
 integrity s op steady e p owned unnamed other not_bound = bytes-kept s steady e p owned unnamed other op not_bound

@@ -131,11 +131,11 @@ is_send2 SpmIdGet = false
 is_send2 MsgSend2 = true
 is_send2 Unknown = false
 
-abbrev pub is_message : Op → Bool
-is_message (Call x) = is_send2 (served_call x)
-is_message (Load addr size) = false
-is_message (Store addr size value) = false
-is_message (Fetch addr) = false
+abbrev pub is_indirect_message : Op → Bool
+is_indirect_message (Call x) = is_send2 (served_call x)
+is_indirect_message (Load addr size) = false
+is_indirect_message (Store addr size value) = false
+is_indirect_message (Fetch addr) = false
 
 -- whether an indirect message of the runner isn't refused, and this page is its receiver's RX, where the receiver is e
 abbrev pub fills_rx_page : State → ℕ → ℕ → Bool
@@ -146,9 +146,9 @@ fills_rx_page s e p =
 -- From s to t the bytes of a page that its owner has alone stay while another endpoint runs, but for a message into the
 -- owner's RX.
 abbrev pub LeavesBytes : Bool → State → State → Type 0
-LeavesBytes is_message s t =
-    (e p : ℕ) → owner_of s p ≡ e → handle_at s p ≡ None → s.runner ≢ e → (is_message && fills_rx_page s e p) ≡ false
+LeavesBytes message s t =
+    (e p : ℕ) → owner_of s p ≡ e → handle_at s p ≡ None → s.runner ≢ e → (message && fills_rx_page s e p) ≡ false
     → page_bytes t p ≡ page_bytes s p
 
 abbrev pub Integrity : State → Op → Type 0
-Integrity s op = LeavesBytes (is_message op) s (step s op).state
+Integrity s op = LeavesBytes (is_indirect_message op) s (step s op).state

@@ -34,7 +34,7 @@ same-transaction s z h t bases owners parties sent good =
       sender = subst (λ n. is_known_among n t.sender ≡ true) (sym parties) good.sender;
       number = (number.0, number.1, number.2, omega (arith, number.3, sent));
       inside = subst (λ (b : Bases). list_all (is_inside b) t.ranges ≡ true) (sym bases) good.inside;
-      owned = λ p lt named. owners p ∙ good.owned p (subst (λ (b : Bases). p < b.count) bases lt) (subst (λ (b : Bases). covers t.ranges (b.base + 4096 * p) ≡ true) bases named);
+      owned = λ p lt named. owners p ∙ good.owned p (subst (λ (b : Bases). p < b.pages) bases lt) (subst (λ (b : Bases). covers t.ranges (b.ram_base + 4096 * p) ≡ true) bases named);
       grants = subst (λ (b : Bases). list_all (are_grants_within b t.receivers) (pages_in b t.ranges) ≡ true) (sym bases) good.grants;
       zeroed = λ zero. subst (λ (b : Bases). are_writable b t.ranges ≡ true) (sym bases) (good.zeroed zero);
       holder = good.holder;
@@ -78,7 +78,7 @@ module _ (s : State) (ranges : List Range) where
   zeros-size = length-map_at (λ p page. if names s ranges p then zeroed_page page else page) s.pages
 
   pub zeros-bases : bases_of zeros ≡ bases_of s
-  zeros-bases = λ i. record { base = s.ram_base; count = zeros-size i; right = λ p. same p i }
+  zeros-bases = λ i. record { ram_base = s.ram_base; pages = zeros-size i; right = λ p. same p i }
     where
       same : (p : ℕ) → base_of zeros p ≡ base_of s p
       same p = ap (option_map (λ (page : Page). page.base)) (page-changed s ranges zeroed_page p refl) ∙ of (names s ranges p) (page_at s p)

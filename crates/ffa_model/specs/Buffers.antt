@@ -76,7 +76,7 @@ release_guards own = (is_full own, Denied) ∷ []
 abbrev pub new_buffers : ℕ → ℕ → ℕ → Buffers
 new_buffers base tx rx = record { tx = page_number base tx; rx = page_number base rx; full = false }
 
--- the same of a state
+-- ON A STATE
 abbrev pub candidate_at : State → ℕ → Option Candidate
 candidate_at s p =
     option_map (λ (page : Page). record { owner = page.owner; base = page.base; named = is_some (handle_at s p) }) (page_at s p)

@@ -44,6 +44,13 @@ is_yielded Waiting = false
 is_yielded Yielded = true
 is_yielded Blocked = false
 
+-- statuses as numbers, each another
+abbrev pub status_number : Status → ℕ
+status_number Running = 0
+status_number Waiting = 1
+status_number Yielded = 2
+status_number Blocked = 3
+
 -- whether the normal world gave the cycles
 abbrev pub is_run : Option Work → Bool
 is_run None = false
@@ -149,7 +156,7 @@ wait_reply runner = passed 0x8400006B (word_of_two runner 0)
 abbrev pub yield_reply : ℕ → Reply
 yield_reply runner = passed 0x8400006C (word_of_two runner 0)
 
--- the same of a state
+-- ON A STATE
 abbrev pub schedule_of : State → Schedule
 schedule_of s = record { runner = s.runner; statuses = s.statuses; works = s.works }
 
