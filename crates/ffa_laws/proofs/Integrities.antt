@@ -1,6 +1,6 @@
 -- A page that its owner has alone keeps its bytes, whatever another endpoint does, but for a message into RX.
 use Rattle.std.proofs.Common.{◌≡◌, ◌≢◌, ◌∙◌, ℕ, ◌-◌, ◌/◌, ◌%◌, true, false, cond, List, [], get_or, Option, Some, None, is_some, refl, sym, ap, inl, inr, get_or-set_other}
-use Rattle.std.specs.Prelude.{Bool, ◌==◌, ◌&&◌, nat_le, nat_lt, ◌^◌}
+use Rattle.std.specs.Prelude.{Bool, is_none, ◌==◌, ◌&&◌, nat_le, nat_lt, ◌^◌}
 use Rattle.std.specs.Option.{option_and_then, option_map_or}
 use Rattle.std.proofs.lemmas.Bool.{and_from, cases_eq, eq-eqb, eqb-true, false≢true, true≢false}
 use Rattle.byteorder.specs.Endian.{little_bytes}
@@ -16,7 +16,7 @@ use Rattle.ffa_model.specs.Calls.{first_failure}
 use Rattle.ffa_model.specs.Messages.{header_in, message_in, send2_guards, tx_bytes}
 use Rattle.ffa_model.specs.Step.{serve, step}
 use Rattle.ffa_laws.specs.Steady.{IsSteady}
-use Rattle.ffa_laws.specs.Isolation.{Integrity, LeavesBytes, is_bound_for, is_lawful_call, is_message, is_send2}
+use Rattle.ffa_laws.specs.Isolation.{Integrity, LeavesBytes, fills_rx_page, is_lawful_call, is_indirect_message, is_send2}
 use Rattle.ffa_model.proofs.Guards.{guard-passes}
 use Rattle.ffa_laws.proofs.MemoryLaws.{fault-none}
 use Rattle.ffa_laws.proofs.Kept.{kept-call, kept-step}
@@ -64,15 +64,15 @@ module _ (s : State) (steady : IsSteady s) (e p : ℕ) (owned : owner_of s p ≡
             | false ↦ λ some. absurd (false≢true some)
           ]
 
-  delivered_elsewhere : (message : Bool) → (message && is_bound_for s e p) ≡ false → message ≡ true
+  delivered_elsewhere : (message : Bool) → (message && fills_rx_page s e p) ≡ false → message ≡ true
       → first_failure (send2_guards s.parties s.buffers s.runner (header_in (tx_bytes s s.runner))) ≡ None
       → bytes_in (filled_pages s.pages (message_in (tx_bytes s s.runner)) (buffers_of s (header_in (tx_bytes s s.runner)).receiver)) p ≡ bytes_in s.pages p
-  delivered_elsewhere message not_bound is none =
+  delivered_elsewhere message not_bound is passed =
       elsewhere-filled receiver (message_in (tx_bytes s s.runner)) known (λ b buffers same.
       elim (cases_eq receiver e) [
         | inl mine ↦
             let rx : option_map_or (λ (x : Buffers). x.rx == p) (buffers_of s e) false ≡ true = ap (λ o. option_map_or (λ (x : Buffers). x.rx == p) o false) (ap (buffers_of s) (sym mine) ∙ buffers) ∙ eq-eqb b.rx p (sym same) in
-            true≢false (sym (and_from _ _ is (and_from _ _ (eq-eqb receiver e mine) rx)) ∙ not_bound)
+            true≢false (sym (and_from _ _ is (and_from _ _ (ap is_none passed) (and_from _ _ (eq-eqb receiver e mine) rx))) ∙ not_bound)
         | inr differ ↦ of_another receiver b known buffers differ same
       ])
     where
@@ -80,20 +80,20 @@ module _ (s : State) (steady : IsSteady s) (e p : ℕ) (owned : owner_of s p ≡
       receiver = (header_in (tx_bytes s s.runner)).receiver
 
       known : is_known s receiver ≡ true
-      known = guard-passes (send2_guards s.parties s.buffers s.runner (header_in (tx_bytes s s.runner))) 4 InvalidParameters (sym none)
+      known = guard-passes (send2_guards s.parties s.buffers s.runner (header_in (tx_bytes s s.runner))) 4 InvalidParameters (sym passed)
 
-  bytes-kept-call : (call : calls.Call) → is_lawful_call call ≡ true → (is_send2 call && is_bound_for s e p) ≡ false → page_bytes (serve s call).state p ≡ page_bytes s p
+  bytes-kept-call : (call : calls.Call) → is_lawful_call call ≡ true → (is_send2 call && fills_rx_page s e p) ≡ false → page_bytes (serve s call).state p ≡ page_bytes s p
   bytes-kept-call call lawful not_bound =
       kept-call (λ t. page_bytes t p ≡ page_bytes s p) (λ ps. bytes_in ps p ≡ bytes_in s.pages p) s refl (λ ps bs c n same. same) refl
       (λ bytes. elsewhere-filled s.runner bytes steady.runner (λ b is. of_another s.runner b steady.runner is other)) call lawful
       (delivered_elsewhere (is_send2 call) not_bound)
 
-  bytes-kept : (op : Op) → (is_message op && is_bound_for s e p) ≡ false → page_bytes (step s op).state p ≡ page_bytes s p
+  bytes-kept : (op : Op) → (is_indirect_message op && fills_rx_page s e p) ≡ false → page_bytes (step s op).state p ≡ page_bytes s p
   bytes-kept op not_bound =
       kept-step (λ t. page_bytes t p ≡ page_bytes s p) (λ ps. bytes_in ps p ≡ bytes_in s.pages p) s refl (λ ps bs c n same. same) refl
       (λ bytes. elsewhere-filled s.runner bytes steady.runner (λ b is. of_another s.runner b steady.runner is other)) op
       (λ address size value none. elsewhere s.pages ((address - s.ram_base) / 4096) p (address % 4096) (little_bytes (size_of size) value) (stored_elsewhere address (size_of size) none))
-      (delivered_elsewhere (is_message op) not_bound)
+      (delivered_elsewhere (is_indirect_message op) not_bound)
 
 pub integrity : (s : State) (op : Op) → IsSteady s → Integrity s op
 integrity s op steady e p owned unnamed other not_bound = bytes-kept s steady e p owned unnamed other op not_bound

@@ -11,7 +11,7 @@ use Rattle.ffa_model.specs.declared.operation.Size.{Size}
 use Rattle.ffa_model.specs.declared.schedule.Status.TheVariants.{Yielded}
 use Rattle.ffa_model.specs.declared.call.Call as calls
 use Rattle.ffa_model.specs.declared.call.Call.TheVariants.{Version, Features, RxRelease, RxtxMap, RxtxUnmap, PartitionInfoGet, IdGet, MsgWait, Yield, Run, DirectRequest, DirectResponse, MemDonate, MemLend, MemShare, MemRetrieve, MemRelinquish, MemReclaim, BitmapCreate, BitmapDestroy, NotificationBind, NotificationUnbind, NotificationSet, NotificationGet, SpmIdGet, MsgSend2, Unknown}
-use Rattle.ffa_model.specs.Bits.{bits_of, high_half, joined, low_half}
+use Rattle.ffa_model.specs.Bits.{bits_of, high_half, word_of_halves, low_half}
 use Rattle.ffa_model.specs.Registers.{served_call}
 use Rattle.ffa_model.specs.State.{State, Page, Buffers, buffers_of, is_known}
 use Rattle.ffa_model.specs.Calls.{first_failure}
@@ -22,7 +22,7 @@ use Rattle.ffa_model.specs.RunStates.{Schedule, finished, given_cycles, requeste
 use Rattle.ffa_model.specs.Notifications.{Notifications, class_of, notifications_of, with_bitmaps, with_bound, with_framework_bit, with_notifications, with_pending, without_bitmaps, without_bound, without_pending}
 use Rattle.ffa_model.specs.Messages.{header_in, message_in, send2_guards, tx_bytes}
 use Rattle.ffa_model.specs.Step.{serve, service, step}
-use Rattle.ffa_laws.specs.Isolation.{is_lawful_call, is_message, is_send2}
+use Rattle.ffa_laws.specs.Isolation.{is_lawful_call, is_indirect_message, is_send2}
 use Rattle.ffa_laws.proofs.Lawful.{lawful as served_lawful}
 use Rattle.ffa_laws.proofs.Form.{accessed-kept, served-kept}
 use Rattle.ffa_laws.proofs.Changes.{AreRewritten, unwritten, with_parts}
@@ -73,9 +73,9 @@ module _ (P : State → Type 0) (R : List (Option Page) → Type 0) (s : State) 
   kept-service (MemReclaim low high flags) lawful by_send none = absurd (false≢true lawful)
   kept-service (BitmapCreate endpoint contexts) lawful by_send none = new s.pages s.buffers (schedule_of s) (with_bitmaps (notifications_of s) 0) same
   kept-service (BitmapDestroy endpoint) lawful by_send none = new s.pages s.buffers (schedule_of s) (without_bitmaps (notifications_of s) 0) same
-  kept-service (NotificationBind word flags low high) lawful by_send none = new s.pages s.buffers (schedule_of s) (with_bound (notifications_of s) s.runner (high_half word) (bits_of (joined low high))) same
-  kept-service (NotificationUnbind word flags low high) lawful by_send none = new s.pages s.buffers (schedule_of s) (without_bound (notifications_of s) s.runner (high_half word) (bits_of (joined low high))) same
-  kept-service (NotificationSet word flags low high) lawful by_send none = new s.pages s.buffers (schedule_of s) (with_pending (notifications_of s) (low_half word) (class_of s.runner) (bits_of (joined low high))) same
+  kept-service (NotificationBind word flags low high) lawful by_send none = new s.pages s.buffers (schedule_of s) (with_bound (notifications_of s) s.runner (high_half word) (bits_of (word_of_halves low high))) same
+  kept-service (NotificationUnbind word flags low high) lawful by_send none = new s.pages s.buffers (schedule_of s) (without_bound (notifications_of s) s.runner (high_half word) (bits_of (word_of_halves low high))) same
+  kept-service (NotificationSet word flags low high) lawful by_send none = new s.pages s.buffers (schedule_of s) (with_pending (notifications_of s) (low_half word) (class_of s.runner) (bits_of (word_of_halves low high))) same
   kept-service (NotificationGet word flags) lawful by_send none = new s.pages s.buffers (schedule_of s) (without_pending (notifications_of s) s.runner flags) same
   kept-service MsgSend2 lawful by_send none =
       new sent_pages (buffers_with_rx s.buffers (header_in (tx_bytes s s.runner)).receiver true) (schedule_of s) (with_framework_bit (notifications_of s) (header_in (tx_bytes s s.runner)).receiver) (by_send refl none)
@@ -85,7 +85,7 @@ module _ (P : State → Type 0) (R : List (Option Page) → Type 0) (s : State) 
   kept-call call lawful by_send = served-kept P s (service s call) old (kept-service call lawful by_send)
 
   pub kept-step : (op : Op) → ((address : ℕ) (size : Size) (value : ℕ) → store_fault s address (size_of size) ≡ None → R (stored_pages address size value))
-      → (is_message op ≡ true → send_failure ≡ None → R sent_pages) → P (step s op).state
+      → (is_indirect_message op ≡ true → send_failure ≡ None → R sent_pages) → P (step s op).state
   kept-step (Call x) by_store by_send = kept-call (served_call x) (served_lawful x) by_send
   kept-step (Load address size) by_store by_send = accessed-kept P s s (Data (number_at s address (size_of size))) (read_fault s address (size_of size)) old (λ none. old)
   kept-step (Store address size value) by_store by_send =

@@ -1,7 +1,7 @@
 -- The laws of a step, call by call, and of a run by induction.
 use Rattle.std.proofs.Common.{◌≡◌, ◌≢◌, ◌∙◌, ℕ, true, false, cond, List, [], ◌∷◌, ◌++◌, map, Some, None, refl, sym, ap, subst}
 use Rattle.std.specs.Prelude.{◌==◌}
-use Rattle.std.proofs.lemmas.Bool.{and_parts, eq-eqb, eqb-true, false≢true, true≢false}
+use Rattle.std.proofs.lemmas.Bool.{eq-eqb, eqb-true, false≢true, true≢false}
 use Rattle.std.proofs.lemmas.List.{append_assoc}
 use Rattle.ffa_model.specs.declared.operation.Op.{Op}
 use Rattle.ffa_model.specs.declared.operation.Op.TheVariants.{Call, Load, Store, Fetch}
@@ -12,7 +12,7 @@ use Rattle.ffa_model.specs.State.{State, is_known}
 use Rattle.ffa_model.specs.Calls.{Stepped, first_failure}
 use Rattle.ffa_model.specs.Registers.{served_call}
 use Rattle.ffa_model.specs.declared.schedule.Status.TheVariants.{Yielded}
-use Rattle.ffa_model.specs.Bits.{bits_of, high_half, joined, low_half}
+use Rattle.ffa_model.specs.Bits.{bits_of, high_half, word_of_halves, low_half}
 use Rattle.ffa_model.specs.Buffers.{new_buffers}
 use Rattle.ffa_model.specs.RunStates.{direct_request, direct_response, finished, given_cycles, requested, run_partition, schedule_of, status_in, switched, yield_now}
 use Rattle.ffa_model.specs.Notifications.{class_of, notifications_of, with_bitmaps, with_pending, without_pending}
@@ -135,7 +135,7 @@ steady-service s steady (BitmapCreate endpoint contexts) lawful none = steady-no
 steady-service s steady (BitmapDestroy endpoint) lawful none = steady-destroy s steady
 steady-service s steady (NotificationBind word flags low high) lawful none = steady-bind s steady word low high
 steady-service s steady (NotificationUnbind word flags low high) lawful none = steady-unbind s steady word low high
-steady-service s steady (NotificationSet word flags low high) lawful none = steady-notified s steady (with_pending (notifications_of s) (low_half word) (class_of s.runner) (bits_of (joined low high))) steady.bound
+steady-service s steady (NotificationSet word flags low high) lawful none = steady-notified s steady (with_pending (notifications_of s) (low_half word) (class_of s.runner) (bits_of (word_of_halves low high))) steady.bound
 steady-service s steady (NotificationGet word flags) lawful none = steady-notified s steady (without_pending (notifications_of s) s.runner flags) steady.bound
 steady-service s steady MsgSend2 lawful none = steady-send2 s steady
 steady-service s steady Unknown lawful none = steady

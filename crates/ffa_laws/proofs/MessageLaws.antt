@@ -12,7 +12,7 @@ use Rattle.ffa_model.specs.Memory.{page_bytes}
 use Rattle.ffa_model.specs.Buffers.{buffers_in, buffers_with_rx, filled, filled_pages, is_full}
 use Rattle.ffa_model.specs.Calls.{first_failure}
 use Rattle.ffa_model.specs.Messages.{MessageHeader, delivered, header_in, message_in, msg_send2, send2_guards, tx_bytes}
-use Rattle.ffa_model.specs.Notifications.{manager_class, notifications_of, rx_full_bits, with_framework_bit}
+use Rattle.ffa_model.specs.Notifications.{manager_class, notifications_of, message_bits, with_framework_bit}
 use Rattle.ffa_model.specs.RunStates.{schedule_of}
 use Rattle.ffa_laws.specs.Steady.{IsSteady}
 use Rattle.ffa_laws.specs.View.{view, is_near, kept}
@@ -83,9 +83,9 @@ module _ (s : State) (steady : IsSteady s) where
     ap (λ tx. first_failure (send2_guards s.parties (view s.runner s).buffers s.runner (header_in tx))) tx-seen ∙ ap first_failure (same-guards (header_in (tx_bytes s s.runner))),
     λ none. (
       ap (λ tx. delivered (view s.runner s) (header_in tx).receiver (message_in tx)) tx-seen
-          ∙ ap (λ v. raised v receiver manager_class rx_full_bits) (view-filled_other s.runner receiver s bytes steady steady.runner (receiver-known none) (receiver-other none))
-          ∙ raised-absent receiver manager_class rx_full_bits s.runner (filled s receiver bytes) (receiver-known none) (receiver-other none)
-          ∙ sym (raised-hidden receiver manager_class rx_full_bits s.runner (filled s receiver bytes) (receiver-other none)),
+          ∙ ap (λ v. raised v receiver manager_class message_bits) (view-filled_other s.runner receiver s bytes steady steady.runner (receiver-known none) (receiver-other none))
+          ∙ raised-absent receiver manager_class message_bits s.runner (filled s receiver bytes) (receiver-known none) (receiver-other none)
+          ∙ sym (raised-hidden receiver manager_class message_bits s.runner (filled s receiver bytes) (receiver-other none)),
       refl,
     ),
   )
@@ -112,22 +112,22 @@ module _ (s : State) (steady : IsSteady s) where
     to-other none other =
         other-told e s (msg_send2 s).state (view e s) [] each (λ i mine. rx-own (length s.pages) s.buffers receiver true i)
         (length-map_at (λ q page. kept (is_near e s q) page) s.pages) refl refl
-        (raised-hidden receiver manager_class rx_full_bits e (filled s receiver bytes) differ ∙ filled-seen
+        (raised-hidden receiver manager_class message_bits e (filled s receiver bytes) differ ∙ filled-seen
         ∙ ap (λ v. with_public_parts v (schedule_of s) (seen_buffers e (length s.pages) new_buffers)) (far-repaged e receiver s bytes steady (receiver-known none) differ))
       where
         differ : receiver ≢ e
         differ same = true≢false (sym (eq-eqb receiver e same) ∙ other)
 
     to-receiver : (receiver == e) ≡ true → view e (msg_send2 s).state
-        ≡ apply_all e (view e s) ((Filled bytes ∷ where_true (has_bitmaps s e) (Pending manager_class rx_full_bits ∷ [])) ++ public_change s (msg_send2 s).state)
+        ≡ apply_all e (view e s) ((Filled bytes ∷ where_true (has_bitmaps s e) (Pending manager_class message_bits ∷ [])) ++ public_change s (msg_send2 s).state)
     to-receiver mine =
-        other-told e s (msg_send2 s).state (raised (repaged e s new_pages) e manager_class rx_full_bits) (Filled bytes ∷ where_true (has_bitmaps s e) (Pending manager_class rx_full_bits ∷ [])) each (λ i own. rx-own (length s.pages) s.buffers receiver true i)
+        other-told e s (msg_send2 s).state (raised (repaged e s new_pages) e manager_class message_bits) (Filled bytes ∷ where_true (has_bitmaps s e) (Pending manager_class message_bits ∷ [])) each (λ i own. rx-own (length s.pages) s.buffers receiver true i)
         (length-map_at (λ q page. kept (is_near e s q) page) new_pages ∙ (rewritten-filled s.pages bytes (buffers_of s receiver)).each) refl
-        (ap (λ v. apply_all e v (where_true (has_bitmaps s e) (Pending manager_class rx_full_bits ∷ []))) by_filled
-        ∙ pending-applied e manager_class rx_full_bits (repaged e s new_pages) (has_bitmaps s e) (own-bitmaps e s known))
-        (ap (λ f. view e (raised (filled s receiver bytes) f manager_class rx_full_bits)) same
-        ∙ sym (raised-own e manager_class rx_full_bits (filled s receiver bytes) known)
-        ∙ ap (λ v. raised v e manager_class rx_full_bits) filled-seen)
+        (ap (λ v. apply_all e v (where_true (has_bitmaps s e) (Pending manager_class message_bits ∷ []))) by_filled
+        ∙ pending-applied e manager_class message_bits (repaged e s new_pages) (has_bitmaps s e) (own-bitmaps e s known))
+        (ap (λ f. view e (raised (filled s receiver bytes) f manager_class message_bits)) same
+        ∙ sym (raised-own e manager_class message_bits (filled s receiver bytes) known)
+        ∙ ap (λ v. raised v e manager_class message_bits) filled-seen)
       where
         same : receiver ≡ e
         same = eqb-true receiver e mine
@@ -139,7 +139,7 @@ module _ (s : State) (steady : IsSteady s) where
     pub other-send2 : IsTold e s (msg_send2 s) (delivers e s (tx_bytes s s.runner))
     other-send2 none =
         elim (receiver == e) as (λ b. (receiver == e) ≡ b → view e (msg_send2 s).state
-        ≡ apply_all e (view e s) (where_true b (Filled bytes ∷ where_true (has_bitmaps s e) (Pending manager_class rx_full_bits ∷ [])) ++ public_change s (msg_send2 s).state)) [
+        ≡ apply_all e (view e s) (where_true b (Filled bytes ∷ where_true (has_bitmaps s e) (Pending manager_class message_bits ∷ [])) ++ public_change s (msg_send2 s).state)) [
           | true ↦ to-receiver
           | false ↦ to-other none
         ] refl

@@ -13,12 +13,12 @@ use Rattle.std.proofs.lemmas.Cmp.{eq_by_cmp_equiv, nat_list_cmp_total}
 use Rattle.ffa_model.specs.declared.operation.ErrorCode.TheVariants.{InvalidParameters, Denied}
 use Rattle.ffa_model.specs.declared.call.Reply.{Reply}
 use Rattle.ffa_model.specs.declared.call.Reply.TheVariants.{Success}
-use Rattle.ffa_model.specs.Bits.{bits, bits_of, high_half, is_set, joined, low_half, word_where}
+use Rattle.ffa_model.specs.Bits.{bits, bits_of, high_half, is_set, word_of_halves, low_half, word_where}
 use Rattle.ffa_model.specs.Lists.{listed, map_at}
 use Rattle.ffa_model.specs.Identifiers.{identifier}
 use Rattle.ffa_model.specs.State.{State, is_known, is_known_among}
 use Rattle.ffa_model.specs.Calls.{first_failure}
-use Rattle.ffa_model.specs.Notifications.{Notifications, binding, bitmap_create, bitmap_destroy, class_in, class_of, destroy_guards, create_guards, get_reply, has_bitmaps_in, has_pending, is_bindable, is_bound, is_bound_to_another, is_pending, is_unbindable, manager_class, normal_class, notification_bind, notification_get, notification_set, notification_unbind, notifications_of, partition_class, receiver_bit, receiver_in, sender_in, set_guards, with_bound, with_notifications, without_bitmaps, without_bound}
+use Rattle.ffa_model.specs.Notifications.{Notifications, binding, bitmap_create, bitmap_destroy, class_of_entry, class_of, destroy_guards, create_guards, get_reply, has_bitmaps_in, has_pending, is_bindable, is_bound, is_bound_to_another, is_pending, is_unbindable, manager_class, normal_class, notification_bind, notification_get, notification_set, notification_unbind, notifications_of, partition_class, receiver_bit, receiver_of_entry, sender_of_entry, set_guards, with_bound, with_notifications, without_bitmaps, without_bound}
 use Rattle.ffa_laws.specs.Steady.{IsSteady, IsSteadyBinding}
 use Rattle.ffa_laws.specs.View.{view}
 use Rattle.ffa_laws.specs.Events.{Bound, Event, Pending, Unbound, apply_all, binds, public_change, sets, unbinds, where_true}
@@ -36,10 +36,10 @@ not-same a b is same = grind (arith, nat_tests)
 
 -- what e sees of bindings and of pending bits
 abbrev bound_to : ℕ → List ℕ → Bool
-bound_to e x = receiver_in x == e || sender_in x == e
+bound_to e x = receiver_of_entry x == e || sender_of_entry x == e
 
 abbrev pending_to : ℕ → List ℕ → Bool
-pending_to e x = receiver_in x == e
+pending_to e x = receiver_of_entry x == e
 
 or_first : (a b : Bool) → a ≡ true → (a || b) ≡ true
 or_first true b is = refl
@@ -136,7 +136,7 @@ module _ (s : State) (steady : IsSteady s) where
     λ none. (
       (λ i. record v {
         bitmaps = sym (map_at-set (λ j has. identifier j == s.runner && has) s.bitmaps 0 false ∙ ap (set v.bitmaps 0) (and_false (0 == s.runner))) i;
-        bound = retained-commute s.bound (bound_to s.runner) (λ x. not (receiver_in x == 0)) i;
+        bound = retained-commute s.bound (bound_to s.runner) (λ x. not (receiver_of_entry x == 0)) i;
       }),
       refl,
     ),
@@ -147,10 +147,10 @@ module _ (s : State) (steady : IsSteady s) where
     sender = high_half word
 
     abbrev bitmap : ℕ
-    bitmap = joined low high
+    bitmap = word_of_halves low high
 
     abbrev ks : List ℕ
-    ks = bits_of (joined low high)
+    ks = bits_of (word_of_halves low high)
 
     another-seen : (bit : ℕ) → is_bound_to_another (length s.parties) nv s.runner (class_of sender) bit sender ≡ is_bound_to_another (length s.parties) n s.runner (class_of sender) bit sender
     another-seen bit = ap (λ test. list_any test (listed (length s.parties) identifier)) (fun_ext (λ f. ap (λ b. not (f == sender) && b) (received-seen (class_of sender) bit f)))
@@ -233,7 +233,7 @@ module _ (s : State) (steady : IsSteady s) where
         ∷ (own-bitmaps s.runner s steady.runner i, Denied)
         ∷ [])),
     λ none. (
-      (λ i. record v { pending = retained-commute s.pending (pending_to s.runner) (λ x. not (receiver_in x == s.runner && is_set (class_in x) flags)) i }),
+      (λ i. record v { pending = retained-commute s.pending (pending_to s.runner) (λ x. not (receiver_of_entry x == s.runner && is_set (class_of_entry x) flags)) i }),
       reply,
     ),
   )
@@ -244,24 +244,24 @@ module _ (s : State) (steady : IsSteady s) where
   -- ---- steadiness: bindings keep their form
   pub steady-destroy : IsSteady (bitmap_destroy s 0).state
   steady-destroy =
-      steady-notified s steady (without_bitmaps n 0) (λ x is. steady.bound x (and_parts (finite_set.contains s.bound x) (not (receiver_in x == 0)) (sym (contains-retained s.bound (λ y. not (receiver_in y == 0)) x) ∙ is)).0)
+      steady-notified s steady (without_bitmaps n 0) (λ x is. steady.bound x (and_parts (finite_set.contains s.bound x) (not (receiver_of_entry x == 0)) (sym (contains-retained s.bound (λ y. not (receiver_of_entry y == 0)) x) ∙ is)).0)
 
-  pub steady-unbind : (word low high : ℕ) → IsSteady (with_notifications s (without_bound n s.runner (high_half word) (bits_of (joined low high))))
+  pub steady-unbind : (word low high : ℕ) → IsSteady (with_notifications s (without_bound n s.runner (high_half word) (bits_of (word_of_halves low high))))
   steady-unbind word low high =
-      steady-notified s steady (without_bound n s.runner (high_half word) (bits_of (joined low high)))
-      (λ x is. steady.bound x (and_parts (finite_set.contains s.bound x) _ (sym (contains-less s.bound (map (λ k. binding s.runner (class_of (high_half word)) k (high_half word)) (bits_of (joined low high))) x) ∙ is)).0)
+      steady-notified s steady (without_bound n s.runner (high_half word) (bits_of (word_of_halves low high)))
+      (λ x is. steady.bound x (and_parts (finite_set.contains s.bound x) _ (sym (contains-less s.bound (map (λ k. binding s.runner (class_of (high_half word)) k (high_half word)) (bits_of (word_of_halves low high))) x) ∙ is)).0)
 
-  pub steady-bind : (word low high : ℕ) → IsSteady (with_notifications s (with_bound n s.runner (high_half word) (bits_of (joined low high))))
+  pub steady-bind : (word low high : ℕ) → IsSteady (with_notifications s (with_bound n s.runner (high_half word) (bits_of (word_of_halves low high))))
   steady-bind word low high =
-      steady-notified s steady (with_bound n s.runner (high_half word) (bits_of (joined low high)))
-      (λ x is. form x (finite_set.contains s.bound x) refl (sym (contains-more s.bound (map (λ k. binding s.runner (class_of (high_half word)) k (high_half word)) (bits_of (joined low high))) x) ∙ is))
+      steady-notified s steady (with_bound n s.runner (high_half word) (bits_of (word_of_halves low high)))
+      (λ x is. form x (finite_set.contains s.bound x) refl (sym (contains-more s.bound (map (λ k. binding s.runner (class_of (high_half word)) k (high_half word)) (bits_of (word_of_halves low high))) x) ∙ is))
     where
       form : (x : List ℕ) (b : Bool) → finite_set.contains s.bound x ≡ b
-          → (finite_set.contains s.bound x || among x (map (λ k. binding s.runner (class_of (high_half word)) k (high_half word)) (bits_of (joined low high)))) ≡ true → IsSteadyBinding x
+          → (finite_set.contains s.bound x || among x (map (λ k. binding s.runner (class_of (high_half word)) k (high_half word)) (bits_of (word_of_halves low high)))) ≡ true → IsSteadyBinding x
       form x true old is = steady.bound x old
       form x false new is =
-          let (k, lt, same) = among-bits (λ j. is_set j (joined low high)) 64 (λ j. j) (λ j. binding s.runner (class_of (high_half word)) j (high_half word)) x
-          (sym (ap (λ b. b || among x (map (λ j. binding s.runner (class_of (high_half word)) j (high_half word)) (bits_of (joined low high)))) new) ∙ is) in
+          let (k, lt, same) = among-bits (λ j. is_set j (word_of_halves low high)) 64 (λ j. j) (λ j. binding s.runner (class_of (high_half word)) j (high_half word)) x
+          (sym (ap (λ b. b || among x (map (λ j. binding s.runner (class_of (high_half word)) j (high_half word)) (bits_of (word_of_halves low high)))) new) ∙ is) in
           record { receiver = s.runner; bit = k; sender = high_half word; is = same; in_word = lt }
 
 -- ---- to another endpoint
@@ -304,28 +304,28 @@ module _ (e : ℕ) (s : State) where
       (length-map_at _ s.pages) refl (by_told ∙ only_u) (ap (view e) (sym only_t) ∙ new ∙ only_u))
 
   pub other-set : is_known s e ≡ true → (word flags low high : ℕ) → view e (notification_set s word flags low high).state
-      ≡ apply_all e (view e s) (sets e s (low_half word) (bits_of (joined low high)) ++ public_change s (notification_set s word flags low high).state)
+      ≡ apply_all e (view e s) (sets e s (low_half word) (bits_of (word_of_halves low high)) ++ public_change s (notification_set s word flags low high).state)
   other-set known word flags low high =
       elim (low_half word == e) as (λ b. (low_half word == e) ≡ b → view e (notification_set s word flags low high).state
-      ≡ apply_all e (view e s) (where_true b (Pending (class_of s.runner) (bits_of (joined low high)) ∷ []) ++ public_change s (notification_set s word flags low high).state)) [
+      ≡ apply_all e (view e s) (where_true b (Pending (class_of s.runner) (bits_of (word_of_halves low high)) ∷ []) ++ public_change s (notification_set s word flags low high).state)) [
         | true ↦ λ mine.
-            told-notified (notification_set s word flags low high).state (raised (view e s) e (class_of s.runner) (bits_of (joined low high))) (Pending (class_of s.runner) (bits_of (joined low high)) ∷ []) refl refl refl
-            (ap (λ f. view e (raised s f (class_of s.runner) (bits_of (joined low high)))) (eqb-true (low_half word) e mine) ∙ sym (raised-own e (class_of s.runner) (bits_of (joined low high)) s known))
+            told-notified (notification_set s word flags low high).state (raised (view e s) e (class_of s.runner) (bits_of (word_of_halves low high))) (Pending (class_of s.runner) (bits_of (word_of_halves low high)) ∷ []) refl refl refl
+            (ap (λ f. view e (raised s f (class_of s.runner) (bits_of (word_of_halves low high)))) (eqb-true (low_half word) e mine) ∙ sym (raised-own e (class_of s.runner) (bits_of (word_of_halves low high)) s known))
         | false ↦ λ other.
             told-notified (notification_set s word flags low high).state (view e s) [] refl refl refl
-            (raised-hidden (low_half word) (class_of s.runner) (bits_of (joined low high)) e s (λ same. true≢false (sym (eq-eqb (low_half word) e same) ∙ other)))
+            (raised-hidden (low_half word) (class_of s.runner) (bits_of (word_of_halves low high)) e s (λ same. true≢false (sym (eq-eqb (low_half word) e same) ∙ other)))
       ] refl
 
   module _ (other : s.runner ≢ e) where
     pub other-get : (word flags : ℕ) → view e (notification_get s word flags).state ≡ apply_all e (view e s) (public_change s (notification_get s word flags).state)
     other-get word flags =
         told-notified (notification_get s word flags).state (view e s) [] refl refl refl
-        (λ i. record (view e s) { pending = retained-within s.pending (λ x. not (receiver_in x == s.runner && is_set (class_in x) flags)) (pending_to e) (λ x is. kept_in x is) i })
+        (λ i. record (view e s) { pending = retained-within s.pending (λ x. not (receiver_of_entry x == s.runner && is_set (class_of_entry x) flags)) (pending_to e) (λ x is. kept_in x is) i })
       where
-        kept_in : (x : List ℕ) → (receiver_in x == e) ≡ true → not (receiver_in x == s.runner && is_set (class_in x) flags) ≡ true
+        kept_in : (x : List ℕ) → (receiver_of_entry x == e) ≡ true → not (receiver_of_entry x == s.runner && is_set (class_of_entry x) flags) ≡ true
         kept_in x is =
-            let away : (receiver_in x == s.runner) ≡ false = ap (λ f. f == s.runner) (eqb-true (receiver_in x) e is) ∙ ne_eqb e s.runner (λ same. other (sym same)) in
-            ap (λ b. not (b && is_set (class_in x) flags)) away
+            let away : (receiver_of_entry x == s.runner) ≡ false = ap (λ f. f == s.runner) (eqb-true (receiver_of_entry x) e is) ∙ ne_eqb e s.runner (λ same. other (sym same)) in
+            ap (λ b. not (b && is_set (class_of_entry x) flags)) away
 
     -- bindings of the runner as receiver, to a sender
     module _ (word low high : ℕ) where
@@ -333,7 +333,7 @@ module _ (e : ℕ) (s : State) where
       to = high_half word
 
       abbrev its_bits : List ℕ
-      its_bits = bits_of (joined low high)
+      its_bits = bits_of (word_of_halves low high)
 
       abbrev bound_as : ℕ → ℕ → List ℕ
       bound_as g k = binding s.runner (class_of g) k g
@@ -440,29 +440,29 @@ module _ (e : ℕ) (s : State) where
 
     -- which bindings e sees no more
     destroyed-at : IsSteady s → (0 == e) ≡ false → (x : List ℕ) (b : Bool) → finite_set.contains s.bound x ≡ b
-        → (b && (not (receiver_in x == 0) && bound_to e x)) ≡ ((b && bound_to e x) && not (among x (map left_entry left_bits)))
+        → (b && (not (receiver_of_entry x == 0) && bound_to e x)) ≡ ((b && bound_to e x) && not (among x (map left_entry left_bits)))
     destroyed-at steady away x false is = refl
     destroyed-at steady away x true is =
         let good = steady.bound x is in
-        let at_receiver : receiver_in x ≡ good.receiver = ap receiver_in good.is in
-        let at_sender : sender_in x ≡ good.sender = ap sender_in good.is in
-        elim (receiver_in x == 0) as (λ b. (receiver_in x == 0) ≡ b → (not b && bound_to e x) ≡ (bound_to e x && not (among x (map left_entry left_bits)))) [
+        let at_receiver : receiver_of_entry x ≡ good.receiver = ap receiver_of_entry good.is in
+        let at_sender : sender_of_entry x ≡ good.sender = ap sender_of_entry good.is in
+        elim (receiver_of_entry x == 0) as (λ b. (receiver_of_entry x == 0) ≡ b → (not b && bound_to e x) ≡ (bound_to e x && not (among x (map left_entry left_bits)))) [
           | true ↦ λ first.
-              let is_zero : receiver_in x ≡ 0 = eqb-true (receiver_in x) 0 first in
-              let not_e : (receiver_in x == e) ≡ false = ap (λ f. f == e) is_zero ∙ away in
-              elim (sender_in x == e) as (λ b. (sender_in x == e) ≡ b → false ≡ ((receiver_in x == e || b) && not (among x (map left_entry left_bits)))) [
+              let is_zero : receiver_of_entry x ≡ 0 = eqb-true (receiver_of_entry x) 0 first in
+              let not_e : (receiver_of_entry x == e) ≡ false = ap (λ f. f == e) is_zero ∙ away in
+              elim (sender_of_entry x == e) as (λ b. (sender_of_entry x == e) ≡ b → false ≡ ((receiver_of_entry x == e || b) && not (among x (map left_entry left_bits)))) [
                 | true ↦ λ its.
-                    let from_e : good.sender ≡ e = sym at_sender ∙ eqb-true (sender_in x) e its in
+                    let from_e : good.sender ≡ e = sym at_sender ∙ eqb-true (sender_of_entry x) e its in
                     let whole : x ≡ left_entry good.bit = good.is ∙ (λ i. binding ((sym at_receiver ∙ is_zero) i) (class_of (from_e i)) good.bit (from_e i)) in
                     let here : among x (map left_entry left_bits) ≡ true =
                     subst (λ y. among y (map left_entry left_bits) ≡ true) (sym whole) (listed-among is_left 64 (λ k. k) left_entry good.bit good.in_word (ap (finite_set.contains s.bound) (sym whole) ∙ is)) in
-                    sym (ap (λ b. (receiver_in x == e || true) && not b) here ∙ grind (arith, cases_Bool (receiver_in x == e)))
+                    sym (ap (λ b. (receiver_of_entry x == e || true) && not b) here ∙ grind (arith, cases_Bool (receiver_of_entry x == e)))
                 | false ↦ λ differs. sym (ap (λ b. (b || false) && not (among x (map left_entry left_bits))) not_e)
               ] refl
           | false ↦ λ later.
               elim (among x (map left_entry left_bits)) as (λ b. among x (map left_entry left_bits) ≡ b → bound_to e x ≡ (bound_to e x && not b)) [
-                | true ↦ λ here. absurd (false≢true (sym later ∙ eq-eqb (receiver_in x) 0 (among-each (λ y. receiver_in y ≡ 0) left_entry left_bits x (λ k. refl) here)))
-                | false ↦ λ _. grind (arith, cases_Bool (receiver_in x == e), cases_Bool (sender_in x == e))
+                | true ↦ λ here. absurd (false≢true (sym later ∙ eq-eqb (receiver_of_entry x) 0 (among-each (λ y. receiver_of_entry y ≡ 0) left_entry left_bits x (λ k. refl) here)))
+                | false ↦ λ _. grind (arith, cases_Bool (receiver_of_entry x == e), cases_Bool (sender_of_entry x == e))
               ] refl
         ] refl
 
@@ -476,12 +476,12 @@ module _ (e : ℕ) (s : State) where
         away : (0 == e) ≡ false
         away = first-away (guard-passes (destroy_guards (notifications_of s) s.runner endpoint) 0 Denied (sym none))
 
-        bound : finite_set.retain (finite_set.retain s.bound (λ x. not (receiver_in x == 0))) (bound_to e) ≡ finite_set.difference (view e s).bound (finite_set.from_list (map left_entry left_bits))
+        bound : finite_set.retain (finite_set.retain s.bound (λ x. not (receiver_of_entry x == 0))) (bound_to e) ≡ finite_set.difference (view e s).bound (finite_set.from_list (map left_entry left_bits))
         bound = same_bits _ _ (λ x.
-            retained-both s.bound (λ y. not (receiver_in y == 0)) (bound_to e) x
-            ∙ ap (λ c. c && (not (receiver_in x == 0) && bound_to e x)) refl
+            retained-both s.bound (λ y. not (receiver_of_entry y == 0)) (bound_to e) x
+            ∙ ap (λ c. c && (not (receiver_of_entry x == 0) && bound_to e x)) refl
             ∙ go x (finite_set.contains s.bound x) refl
             ∙ sym (contains-less (view e s).bound (map left_entry left_bits) x ∙ ap (λ b. b && not (among x (map left_entry left_bits))) (contains-retained s.bound (bound_to e) x)))
           where
-            go : (x : List ℕ) (b : Bool) → finite_set.contains s.bound x ≡ b → (finite_set.contains s.bound x && (not (receiver_in x == 0) && bound_to e x)) ≡ ((finite_set.contains s.bound x && bound_to e x) && not (among x (map left_entry left_bits)))
-            go x b is = (λ i. is i && (not (receiver_in x == 0) && bound_to e x)) ∙ destroyed-at steady away x b is ∙ (λ i. (sym is i && bound_to e x) && not (among x (map left_entry left_bits)))
+            go : (x : List ℕ) (b : Bool) → finite_set.contains s.bound x ≡ b → (finite_set.contains s.bound x && (not (receiver_of_entry x == 0) && bound_to e x)) ≡ ((finite_set.contains s.bound x && bound_to e x) && not (among x (map left_entry left_bits)))
+            go x b is = (λ i. is i && (not (receiver_of_entry x == 0) && bound_to e x)) ∙ destroyed-at steady away x b is ∙ (λ i. (sym is i && bound_to e x) && not (among x (map left_entry left_bits)))

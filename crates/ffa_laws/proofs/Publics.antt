@@ -4,7 +4,8 @@ use Rattle.std.proofs.lemmas.Bool.{and_parts, eqb-true}
 use Rattle.std.proofs.lemmas.Slice.Eq.{bytes_eq-Decides}
 use Rattle.ffa_model.specs.declared.schedule.Work.{Work}
 use Rattle.ffa_model.specs.declared.schedule.Work.TheVariants.{Run, Request}
-use Rattle.ffa_model.specs.Codes.{status_code, status_from, status_from-code}
+use Rattle.ffa_model.specs.Codes.{status_from, status_from-number}
+use Rattle.ffa_model.specs.RunStates.{status_number}
 use Rattle.ffa_laws.specs.Events.{PublicPart, is_same_public, work_number, fullness_number}
 
 -- a list is known by the numbers of its elements
@@ -43,7 +44,7 @@ same_public a b same =
     let (runner, statuses) = and_parts _ _ two in
     λ i. record {
       runner = eqb-true a.runner b.runner runner i;
-      statuses = same_list status_code status_from status_from-code a.statuses b.statuses statuses i;
+      statuses = same_list status_number status_from status_from-number a.statuses b.statuses statuses i;
       works = same_list work_number work_back work_back-number a.works b.works works i;
       full = same_list fullness_number fullness_back fullness_back-number a.full b.full full i;
     }

@@ -5,7 +5,7 @@ use Rattle.std.specs.FinSet as finite_set
 use Rattle.std.proofs.lemmas.Bool.{eq-eqb, ne_eqb}
 use Rattle.ffa_model.specs.Identifiers.{identifier, place}
 use Rattle.ffa_model.specs.State.{State, is_known}
-use Rattle.ffa_model.specs.Notifications.{has_bitmaps_in, notifications_of, receiver_bit, receiver_in, with_notifications, with_pending}
+use Rattle.ffa_model.specs.Notifications.{has_bitmaps_in, notifications_of, receiver_bit, receiver_of_entry, with_notifications, with_pending}
 use Rattle.ffa_laws.specs.View.{view}
 use Rattle.ffa_laws.specs.Events.{Pending, apply_all, where_true}
 use Rattle.ffa_model.proofs.Places.{known-named}
@@ -34,21 +34,21 @@ raised s f class ks = with_notifications s (with_pending (notifications_of s) f 
 
 -- the pending bits that e sees
 abbrev seen_bits : ℕ → Bits → Bits
-seen_bits e a = finite_set.retain a (λ x. receiver_in x == e)
+seen_bits e a = finite_set.retain a (λ x. receiver_of_entry x == e)
 
 module _ (f class : ℕ) (ks : List ℕ) where
   abbrev these : Bits
   these = finite_set.from_list (map (receiver_bit f class) ks)
 
-  its : (x : List ℕ) → among x (map (receiver_bit f class) ks) ≡ true → receiver_in x ≡ f
-  its x is = among-each (λ y. receiver_in y ≡ f) (receiver_bit f class) ks x (λ k. refl) is
+  its : (x : List ℕ) → among x (map (receiver_bit f class) ks) ≡ true → receiver_of_entry x ≡ f
+  its x is = among-each (λ y. receiver_of_entry y ≡ f) (receiver_bit f class) ks x (λ k. refl) is
 
   -- the receiver sees them
   pub raised-own : (s : State) → is_known s f ≡ true → raised (view f s) f class ks ≡ view f (raised s f class ks)
   raised-own s known = λ i. record (view f s) { pending = same i }
     where
       go : (b : Bool) → cond b (finite_set.union (seen_bits f s.pending) these) (seen_bits f s.pending) ≡ seen_bits f (cond b (finite_set.union s.pending these) s.pending)
-      go true = sym (seen-more (λ x. receiver_in x == f) s.pending (map (receiver_bit f class) ks) (λ x is. eq-eqb (receiver_in x) f (its x is)))
+      go true = sym (seen-more (λ x. receiver_of_entry x == f) s.pending (map (receiver_bit f class) ks) (λ x is. eq-eqb (receiver_of_entry x) f (its x is)))
       go false = refl
 
       same : cond (has_bitmaps_in (notifications_of (view f s)) f) (finite_set.union (seen_bits f s.pending) these) (seen_bits f s.pending) ≡ seen_bits f (cond (has_bitmaps_in (notifications_of s) f) (finite_set.union s.pending these) s.pending)
@@ -59,7 +59,7 @@ module _ (f class : ℕ) (ks : List ℕ) where
   raised-hidden e s differ = λ i. record (view e s) { pending = go (has_bitmaps_in (notifications_of s) f) i }
     where
       go : (b : Bool) → seen_bits e (cond b (finite_set.union s.pending these) s.pending) ≡ seen_bits e s.pending
-      go true = unseen-more (λ x. receiver_in x == e) s.pending (map (receiver_bit f class) ks) (λ x is. ap (λ r. r == e) (its x is) ∙ ne_eqb f e differ)
+      go true = unseen-more (λ x. receiver_of_entry x == e) s.pending (map (receiver_bit f class) ks) (λ x is. ap (λ r. r == e) (its x is) ∙ ne_eqb f e differ)
       go false = refl
 
   -- in another's view f has no bitmaps

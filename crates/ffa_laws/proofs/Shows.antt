@@ -17,7 +17,7 @@ use Rattle.ffa_model.specs.declared.descriptor.RetrieveDesc.{RetrieveDesc}
 use Rattle.ffa_model.specs.declared.descriptor.RelinquishDesc.{RelinquishDesc}
 use Rattle.ffa_model.specs.declared.call.Call as calls
 use Rattle.ffa_model.specs.declared.call.Call.TheVariants.{Version, Features, RxRelease, RxtxMap, RxtxUnmap, PartitionInfoGet, IdGet, MsgWait, Yield, Run, DirectRequest, DirectResponse, MemDonate, MemLend, MemShare, MemRetrieve, MemRelinquish, MemReclaim, BitmapCreate, BitmapDestroy, NotificationBind, NotificationUnbind, NotificationSet, NotificationGet, SpmIdGet, MsgSend2, Unknown}
-use Rattle.ffa_model.specs.Bits.{bits_of, high_half, joined, low_half}
+use Rattle.ffa_model.specs.Bits.{bits_of, high_half, word_of_halves, low_half}
 use Rattle.ffa_model.specs.State.{State, Transaction, has_bitmaps, transaction_of}
 use Rattle.ffa_model.specs.Access.{is_from, is_offered, is_receiver}
 use Rattle.ffa_model.specs.Calls.{Service, Stepped, answered, encode, first_failure}
@@ -26,10 +26,10 @@ use Rattle.ffa_model.specs.Buffers.{filled}
 use Rattle.ffa_model.specs.Setup.{info_bytes, is_count_alone, uuid_bytes}
 use Rattle.ffa_model.specs.RunStates.{direct_request, direct_response, msg_wait, run_partition, yield_now}
 use Rattle.ffa_model.specs.Messages.{header_in, message_in, tx_bytes}
-use Rattle.ffa_model.specs.Notifications.{class_of, manager_class, rx_full_bits}
+use Rattle.ffa_model.specs.Notifications.{class_of, manager_class, message_bits}
 use Rattle.ffa_model.specs.SendDescriptor.{SendRecord}
 use Rattle.ffa_model.specs.Transactions.{handle_of}
-use Rattle.ffa_model.specs.MemorySend.{offered, send_read, transaction_from}
+use Rattle.ffa_model.specs.MemorySend.{memory_sent, send_read, transaction_from}
 use Rattle.ffa_model.specs.MemoryRetrieve.{retrieve_read, retrieved, retrieved_from}
 use Rattle.ffa_model.specs.MemoryReturn.{relinquish_read, relinquished, relinquished_from}
 use Rattle.ffa_model.specs.Registers.{served_call}
@@ -66,7 +66,7 @@ no_messages e true f (k ∷ ks) none = (λ i. none k i ++ messages e (map f ks))
 no_delivery : (e : ℕ) (s : State) (tx : List ℕ) → messages e (delivers e s tx) ≡ []
 no_delivery e s tx = go ((header_in tx).receiver == e) (has_bitmaps s e)
   where
-    go : (b c : Bool) → messages e (where_true b (Filled (message_in tx) ∷ where_true c (Pending manager_class rx_full_bits ∷ []))) ≡ []
+    go : (b c : Bool) → messages e (where_true b (Filled (message_in tx) ∷ where_true c (Pending manager_class message_bits ∷ []))) ≡ []
     go true true = refl
     go true false = refl
     go false c = refl
@@ -95,7 +95,7 @@ no_releases e s (Some d) =
     ∙ (λ i. no_message e (is_from e (transaction_of s d.handle)) (Held d.handle s.runner None) refl i ++ no_message e (d.zero && involves e (transaction_of s d.handle)) (Zeroed d.handle) refl i)
 
 -- who runs on
-runs-offered : (s : State) (kind : Kind) (r : Option SendRecord) → (offered s kind r).runner ≡ s.runner
+runs-offered : (s : State) (kind : Kind) (r : Option SendRecord) → (memory_sent s kind r).runner ≡ s.runner
 runs-offered s kind None = refl
 runs-offered s kind (Some r) = refl
 
@@ -154,7 +154,7 @@ module _ (e : ℕ) (s : State) (differ : s.runner ≢ e) where
   shows-service (BitmapDestroy endpoint) = quiet (service s (BitmapDestroy endpoint)) (told_by e s (BitmapDestroy endpoint)) (no_messages e (e == e) _ _ (λ k. refl)) refl
   shows-service (NotificationBind word flags low high) = quiet (service s (NotificationBind word flags low high)) (told_by e s (NotificationBind word flags low high)) (no_messages e (high_half word == e) _ _ (λ k. refl)) refl
   shows-service (NotificationUnbind word flags low high) = quiet (service s (NotificationUnbind word flags low high)) (told_by e s (NotificationUnbind word flags low high)) (no_messages e (high_half word == e) _ _ (λ k. refl)) refl
-  shows-service (NotificationSet word flags low high) = quiet (service s (NotificationSet word flags low high)) (told_by e s (NotificationSet word flags low high)) (no_message e (low_half word == e) (Pending (class_of s.runner) (bits_of (joined low high))) refl) refl
+  shows-service (NotificationSet word flags low high) = quiet (service s (NotificationSet word flags low high)) (told_by e s (NotificationSet word flags low high)) (no_message e (low_half word == e) (Pending (class_of s.runner) (bits_of (word_of_halves low high))) refl) refl
   shows-service (NotificationGet word flags) = quiet (service s (NotificationGet word flags)) (told_by e s (NotificationGet word flags)) refl refl
   shows-service MsgSend2 = quiet (service s MsgSend2) (told_by e s MsgSend2) (no_delivery e s (tx_bytes s s.runner)) refl
   shows-service Unknown = quiet (service s Unknown) (told_by e s Unknown) refl refl

@@ -24,7 +24,7 @@ module _ (s : State) (sound : IsSoundState s) where
     z = with_parts s ps bs c
 
     same-bases : bases_of z ≡ bases_of s
-    same-bases = λ i. record { base = s.ram_base; count = rewritten.each i; right = λ p. same_base (get_or ps p None) (page_at s p) (rewritten.same p) i }
+    same-bases = λ i. record { ram_base = s.ram_base; pages = rewritten.each i; right = λ p. same_base (get_or ps p None) (page_at s p) (rewritten.same p) i }
 
     same-owners : (p : ℕ) → owner_of z p ≡ owner_of s p
     same-owners p = same_owner (get_or ps p None) (page_at s p) (rewritten.same p)

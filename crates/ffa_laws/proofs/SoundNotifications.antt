@@ -8,12 +8,12 @@ use Rattle.std.specs.FinSet as finite_set
 use Rattle.std.proofs.lemmas.Bool.{and_from, and_parts, cases_eq, eq-eqb, eqb-true, false≢true, lt-ltb, ltb-true, ne_eqb, not-true, not_from_false, not_from_true, or_cases, or_left, or_right, true≢false}
 use Rattle.std.proofs.lemmas.List.{get_or-set_other}
 use Rattle.ffa_model.specs.declared.operation.ErrorCode.TheVariants.{InvalidParameters, Denied}
-use Rattle.ffa_model.specs.Bits.{bits_of, high_half, is_set, joined, low_half}
+use Rattle.ffa_model.specs.Bits.{bits_of, high_half, is_set, word_of_halves, low_half}
 use Rattle.ffa_model.specs.Identifiers.{identifier, place}
 use Rattle.ffa_model.specs.Lists.{listed}
 use Rattle.ffa_model.specs.State.{State}
 use Rattle.ffa_model.specs.Calls.{first_failure}
-use Rattle.ffa_model.specs.Notifications.{Notifications, bind_guards, binding, class_in, class_of, destroy_guards, has_bitmaps_in, has_pending, is_bindable, is_bound, is_bound_to_another, is_pending, is_unbindable, manager_class, normal_class, notifications_of, partition_class, receiver_bit, receiver_in, rx_full_bits, sender_in, set_guards, unbind_guards, with_bitmaps, with_bound, with_framework_bit, with_notifications, with_pending, without_bitmaps, without_bound, without_pending}
+use Rattle.ffa_model.specs.Notifications.{Notifications, bind_guards, binding, class_of_entry, class_of, destroy_guards, has_bitmaps_in, has_pending, is_bindable, is_bound, is_bound_to_another, is_pending, is_unbindable, manager_class, normal_class, notifications_of, partition_class, receiver_bit, receiver_of_entry, message_bits, sender_of_entry, set_guards, unbind_guards, with_bitmaps, with_bound, with_framework_bit, with_notifications, with_pending, without_bitmaps, without_bound, without_pending}
 use Rattle.ffa_model.specs.SoundState.{IsKnown, IsSoundBinding, IsSoundPending, IsSoundState}
 use Rattle.ffa_model.proofs.Guards.{guard-passes}
 use Rattle.ffa_model.proofs.NamedPages.{each-listed}
@@ -110,8 +110,8 @@ module _ (s : State) (sound : IsSoundState s) where
   abbrev left : Notifications
   left = without_bitmaps n 0
 
-  left-bound : (x : List ℕ) → finite_set.contains left.bound x ≡ true → (finite_set.contains s.bound x ≡ true) × (not (receiver_in x == 0) ≡ true)
-  left-bound x is = and_parts (finite_set.contains s.bound x) (not (receiver_in x == 0)) (sym (contains-retained s.bound (λ y. not (receiver_in y == 0)) x) ∙ is)
+  left-bound : (x : List ℕ) → finite_set.contains left.bound x ≡ true → (finite_set.contains s.bound x ≡ true) × (not (receiver_of_entry x == 0) ≡ true)
+  left-bound x is = and_parts (finite_set.contains s.bound x) (not (receiver_of_entry x == 0)) (sym (contains-retained s.bound (λ y. not (receiver_of_entry y == 0)) x) ∙ is)
 
   left-bitmaps : (e : ℕ) → IsKnown s e → not (e == 0) ≡ true → has_bitmaps_in n e ≡ true → has_bitmaps_in left e ≡ true
   left-bitmaps e its other has = get_or-set_other s.bitmaps (place 0) (place e) false false apart ∙ has
@@ -127,7 +127,7 @@ module _ (s : State) (sound : IsSoundState s) where
       bound x is =
           let (before, other) = left-bound x is in
           let good = sound.bound x before in
-          same-binding left x good (left-bitmaps good.receiver good.to_known (sym (ap (λ y. not (receiver_in y == 0)) good.is) ∙ other) good.bitmaps)
+          same-binding left x good (left-bitmaps good.receiver good.to_known (sym (ap (λ y. not (receiver_of_entry y == 0)) good.is) ∙ other) good.bitmaps)
           (λ f its. good.alone f (left-bound (binding good.receiver (class_of good.sender) good.bit f) its).0)
 
       pending : (x : List ℕ) → finite_set.contains s.pending x ≡ true → IsSoundPending (with_notifications s left) x
@@ -135,7 +135,7 @@ module _ (s : State) (sound : IsSoundState s) where
           let good = sound.pending x is in
           same-pending left x good (λ lt.
           let (f, its) = good.bound lt in
-          (f, contains-retained s.bound (λ y. not (receiver_in y == 0)) (binding good.receiver good.class good.bit f) ∙ and_from _ _ its (other x is good)))
+          (f, contains-retained s.bound (λ y. not (receiver_of_entry y == 0)) (binding good.receiver good.class good.bit f) ∙ and_from _ _ its (other x is good)))
         where
           other : (x : List ℕ) → finite_set.contains s.pending x ≡ true → (good : IsSoundPending s x) → not (good.receiver == 0) ≡ true
           other x is good = not_from_false (good.receiver == 0) (elim (cases_eq good.receiver 0) [
@@ -156,7 +156,7 @@ module _ (s : State) (sound : IsSoundState s) where
       from : IsKnown s f
       from =
           let good = sound.bound (binding receiver (class_of sender) bit f) is in
-          subst (IsKnown s) (sym (ap sender_in good.is)) good.from_known
+          subst (IsKnown s) (sym (ap sender_of_entry good.is)) good.from_known
 
       another : f ≢ sender → is_bound_to_another (length s.parties) n receiver (class_of sender) bit sender ≡ true
       another differ =
@@ -169,7 +169,7 @@ module _ (s : State) (sound : IsSoundState s) where
     sender = high_half word
 
     abbrev ks : List ℕ
-    ks = bits_of (joined low high)
+    ks = bits_of (word_of_halves low high)
 
     abbrev entry : ℕ → List ℕ
     entry k = binding s.runner (class_of sender) k sender
@@ -183,13 +183,13 @@ module _ (s : State) (sound : IsSoundState s) where
     abbrev less : Notifications
     less = without_bound n s.runner sender ks
 
-    pub bind-sound : first_failure (bind_guards (length s.parties) n s.runner word flags (joined low high)) ≡ None → IsSoundState (with_notifications s more)
+    pub bind-sound : first_failure (bind_guards (length s.parties) n s.runner word flags (word_of_halves low high)) ≡ None → IsSoundState (with_notifications s more)
     bind-sound none =
         notifications-sound s sound more sound.sized.bitmaps bound
         (λ x is. let good = sound.pending x is in same-pending more x good (λ lt. let (f, its) = good.bound lt in (f, still (binding good.receiver good.class good.bit f) its)))
       where
         all : list_all may ks ≡ true
-        all = bits-pass (is_bindable (length s.parties) n s.runner sender) (joined low high) (guard-passes (bind_guards (length s.parties) n s.runner word flags (joined low high)) 6 Denied (sym none))
+        all = bits-pass (is_bindable (length s.parties) n s.runner sender) (word_of_halves low high) (guard-passes (bind_guards (length s.parties) n s.runner word flags (word_of_halves low high)) 6 Denied (sym none))
 
         still : (x : List ℕ) → finite_set.contains s.bound x ≡ true → finite_set.contains more.bound x ≡ true
         still x is = contains-more s.bound (map entry ks) x ∙ or_left (finite_set.contains s.bound x) (among x (map entry ks)) is
@@ -203,14 +203,14 @@ module _ (s : State) (sound : IsSoundState s) where
         new-alone : (k : ℕ) → may k ≡ true → (f : ℕ) → is_bound more s.runner (class_of sender) k f ≡ true → f ≡ sender
         new-alone k passes f is = elim (cases (binding s.runner (class_of sender) k f) is) [
           | inl old ↦ free-alone s.runner sender k f (and_parts (nat_lt k 64) _ passes).1 old
-          | inr new ↦ ap sender_in new.2
+          | inr new ↦ ap sender_of_entry new.2
         ]
 
         old-alone : (x : List ℕ) → finite_set.contains s.bound x ≡ true → (good : IsSoundBinding s x) → (f : ℕ) → is_bound more good.receiver (class_of good.sender) good.bit f ≡ true → f ≡ good.sender
         old-alone x was good f is = elim (cases (binding good.receiver (class_of good.sender) good.bit f) is) [
           | inl old ↦ good.alone f old
-          | inr new ↦ ap sender_in new.2 ∙ sym (free-alone s.runner sender new.0 good.sender (and_parts (nat_lt new.0 64) _ new.1).1
-              (sym (λ i. is_bound n (receiver_in (new.2 i)) (class_in (new.2 i)) (slice_index (new.2 i) 2) good.sender) ∙ sym (ap (finite_set.contains s.bound) good.is) ∙ was))
+          | inr new ↦ ap sender_of_entry new.2 ∙ sym (free-alone s.runner sender new.0 good.sender (and_parts (nat_lt new.0 64) _ new.1).1
+              (sym (λ i. is_bound n (receiver_of_entry (new.2 i)) (class_of_entry (new.2 i)) (slice_index (new.2 i) 2) good.sender) ∙ sym (ap (finite_set.contains s.bound) good.is) ∙ was))
         ]
 
         bound : (x : List ℕ) → finite_set.contains more.bound x ≡ true → IsSoundBinding (with_notifications s more) x
@@ -222,18 +222,18 @@ module _ (s : State) (sound : IsSoundState s) where
             sender = sender;
             is = new.2;
             to_known = runner-known s sound;
-            from_known = guard-passes (bind_guards (length s.parties) n s.runner word flags (joined low high)) 1 InvalidParameters (sym none);
+            from_known = guard-passes (bind_guards (length s.parties) n s.runner word flags (word_of_halves low high)) 1 InvalidParameters (sym none);
             in_word = ltb-true new.0 64 (and_parts (nat_lt new.0 64) _ new.1).0;
-            bitmaps = guard-passes (bind_guards (length s.parties) n s.runner word flags (joined low high)) 5 Denied (sym none);
+            bitmaps = guard-passes (bind_guards (length s.parties) n s.runner word flags (word_of_halves low high)) 5 Denied (sym none);
             alone = new-alone new.0 new.1;
           }
         ]
 
-    pub unbind-sound : first_failure (unbind_guards (length s.parties) n s.runner word flags (joined low high)) ≡ None → IsSoundState (with_notifications s less)
+    pub unbind-sound : first_failure (unbind_guards (length s.parties) n s.runner word flags (word_of_halves low high)) ≡ None → IsSoundState (with_notifications s less)
     unbind-sound none = notifications-sound s sound less sound.sized.bitmaps bound pending
       where
         all : list_all (is_unbindable n s.runner sender) ks ≡ true
-        all = guard-passes (unbind_guards (length s.parties) n s.runner word flags (joined low high)) 6 Denied (sym none)
+        all = guard-passes (unbind_guards (length s.parties) n s.runner word flags (word_of_halves low high)) 6 Denied (sym none)
 
         before : (x : List ℕ) → finite_set.contains less.bound x ≡ true → finite_set.contains s.bound x ≡ true
         before x is = (and_parts (finite_set.contains s.bound x) (not (among x (map entry ks))) (sym (contains-less s.bound (map entry ks) x) ∙ is)).0
@@ -251,7 +251,7 @@ module _ (s : State) (sound : IsSoundState s) where
             of false listed = refl
             of true listed =
                 let (k, passes, same) = among-passed (is_unbindable n s.runner sender) entry ks (binding good.receiver good.class good.bit f) all listed in
-                let pends : is_pending n s.runner (class_of sender) k ≡ true = sym (λ i. is_pending n (receiver_in (same i)) (class_in (same i)) (slice_index (same i) 2)) ∙ sym (ap (finite_set.contains s.pending) good.is) ∙ is in
+                let pends : is_pending n s.runner (class_of sender) k ≡ true = sym (λ i. is_pending n (receiver_of_entry (same i)) (class_of_entry (same i)) (slice_index (same i) 2)) ∙ sym (ap (finite_set.contains s.pending) good.is) ∙ is in
                 absurd (true≢false (sym pends ∙ not-true (is_pending n s.runner (class_of sender) k) (and_parts (is_bound n s.runner (class_of sender) k sender) _ passes).1))
 
         pending : (x : List ℕ) → finite_set.contains s.pending x ≡ true → IsSoundPending (with_notifications s less) x
@@ -275,28 +275,28 @@ module _ (s : State) (sound : IsSoundState s) where
   abbrev bound_to : ℕ → ℕ → Bool
   bound_to f k = is_bound n f (class_of s.runner) k s.runner
 
-  pub set-sound : (word flags low high : ℕ) → first_failure (set_guards (length s.parties) n s.runner word flags (joined low high)) ≡ None
-      → IsSoundState (with_notifications s (with_pending n (low_half word) (class_of s.runner) (bits_of (joined low high))))
+  pub set-sound : (word flags low high : ℕ) → first_failure (set_guards (length s.parties) n s.runner word flags (word_of_halves low high)) ≡ None
+      → IsSoundState (with_notifications s (with_pending n (low_half word) (class_of s.runner) (bits_of (word_of_halves low high))))
   set-sound word flags low high none =
-      raised-sound (low_half word) (class_of s.runner) (bits_of (joined low high)) (λ x is.
-      let (k, passes, same) = among-passed (is_bit (bound_to (low_half word))) (receiver_bit (low_half word) (class_of s.runner)) (bits_of (joined low high)) x all is in
+      raised-sound (low_half word) (class_of s.runner) (bits_of (word_of_halves low high)) (λ x is.
+      let (k, passes, same) = among-passed (is_bit (bound_to (low_half word))) (receiver_bit (low_half word) (class_of s.runner)) (bits_of (word_of_halves low high)) x all is in
       record {
         receiver = low_half word;
         class = class_of s.runner;
         bit = k;
         is = same;
-        to_known = guard-passes (set_guards (length s.parties) n s.runner word flags (joined low high)) 1 InvalidParameters (sym none);
+        to_known = guard-passes (set_guards (length s.parties) n s.runner word flags (word_of_halves low high)) 1 InvalidParameters (sym none);
         of_class = class-bound s.runner;
         in_word = ltb-true k 64 (and_parts (nat_lt k 64) _ passes).0;
         bound = λ lt. (s.runner, (and_parts (nat_lt k 64) _ passes).1);
       })
     where
-      all : list_all (is_bit (bound_to (low_half word))) (bits_of (joined low high)) ≡ true
-      all = bits-pass (bound_to (low_half word)) (joined low high) (guard-passes (set_guards (length s.parties) n s.runner word flags (joined low high)) 5 Denied (sym none))
+      all : list_all (is_bit (bound_to (low_half word))) (bits_of (word_of_halves low high)) ≡ true
+      all = bits-pass (bound_to (low_half word)) (word_of_halves low high) (guard-passes (set_guards (length s.parties) n s.runner word flags (word_of_halves low high)) 5 Denied (sym none))
 
   pub framework-sound : (f : ℕ) → IsKnown s f → IsSoundState (with_notifications s (with_framework_bit n f))
-  framework-sound f to = raised-sound f manager_class rx_full_bits (λ x is.
-      let (k, passes, same) = among-passed (λ k. k == 0) (receiver_bit f manager_class) rx_full_bits x refl is in
+  framework-sound f to = raised-sound f manager_class message_bits (λ x is.
+      let (k, passes, same) = among-passed (λ k. k == 0) (receiver_bit f manager_class) message_bits x refl is in
       let first = eqb-true k 0 passes in
       record { receiver = f; class = manager_class; bit = k; is = same; to_known = to; of_class = omega arith; in_word = omega (arith, first); bound = λ lt. absurd (omega arith) })
 
@@ -304,4 +304,4 @@ module _ (s : State) (sound : IsSoundState s) where
   pub get-sound : (flags : ℕ) → IsSoundState (with_notifications s (without_pending n s.runner flags))
   get-sound flags =
       pending-sound (without_pending n s.runner flags).pending (λ x is.
-      sound.pending x (and_parts (finite_set.contains s.pending x) _ (sym (contains-retained s.pending (λ y. not (receiver_in y == s.runner && is_set (class_in y) flags)) x) ∙ is)).0)
+      sound.pending x (and_parts (finite_set.contains s.pending x) _ (sym (contains-retained s.pending (λ y. not (receiver_of_entry y == s.runner && is_set (class_of_entry y) flags)) x) ∙ is)).0)

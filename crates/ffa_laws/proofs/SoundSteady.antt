@@ -31,17 +31,17 @@ use Rattle.ffa_laws.proofs.Steadies.{usable}
 abbrev has_address : ℕ → Range → Bool
 has_address address r = nat_le r.address address && nat_lt address (range_end r)
 
-in-range : (ram : Bases) (r : Range) (p : ℕ) → is_inside ram r ≡ true → has_address (ram.base + 4096 * p) r ≡ true → p < ram.count
+in-range : (ram : Bases) (r : Range) (p : ℕ) → is_inside ram r ≡ true → has_address (ram.ram_base + 4096 * p) r ≡ true → p < ram.pages
 in-range ram r p inside covered =
-    let within = leb-true (range_end r) (ram.base + 4096 * ram.count) (and_parts (nat_le ram.base r.address) _ inside).1 in
-    let below = ltb-true (ram.base + 4096 * p) (range_end r) (and_parts (nat_le r.address (ram.base + 4096 * p)) _ covered).1 in
+    let within = leb-true (range_end r) (ram.ram_base + 4096 * ram.pages) (and_parts (nat_le ram.ram_base r.address) _ inside).1 in
+    let below = ltb-true (ram.ram_base + 4096 * p) (range_end r) (and_parts (nat_le r.address (ram.ram_base + 4096 * p)) _ covered).1 in
     omega (arith, within, below)
 
-covered-inside : (ram : Bases) (ranges : List Range) (p : ℕ) → list_all (is_inside ram) ranges ≡ true → covers ranges (ram.base + 4096 * p) ≡ true → p < ram.count
+covered-inside : (ram : Bases) (ranges : List Range) (p : ℕ) → list_all (is_inside ram) ranges ≡ true → covers ranges (ram.ram_base + 4096 * p) ≡ true → p < ram.pages
 covered-inside ram [] p inside covered = absurd (false≢true covered)
 covered-inside ram (r ∷ ranges) p inside covered =
     let (here, rest) = and_parts (is_inside ram r) (list_all (is_inside ram) ranges) inside in
-    elim (or_cases (has_address (ram.base + 4096 * p) r) (covers ranges (ram.base + 4096 * p)) covered) [
+    elim (or_cases (has_address (ram.ram_base + 4096 * p) r) (covers ranges (ram.ram_base + 4096 * p)) covered) [
       | inl at ↦ in-range ram r p here at
       | inr later ↦ covered-inside ram ranges p rest later
     ]

@@ -13,7 +13,7 @@ use Rattle.ffa_model.specs.Identifiers.{identifier, place}
 use Rattle.ffa_model.specs.Lists.{listed}
 use Rattle.ffa_model.specs.State.{is_partition_among, is_known_among}
 use Rattle.ffa_model.specs.RunStates.{Schedule, status_in, work_in}
-use Rattle.ffa_model.specs.Sound.{IsLinked, IsSound, is_known, is_partition, origin}
+use Rattle.ffa_model.specs.Sound.{IsLinked, IsSound, IsEndpoint, IsPartition, origin}
 use Rattle.ffa_model.specs.Links.{IsChain, has_link_at, last_link, link_at, schedule_of, status_at, status_outside, work_at}
 use Rattle.ffa_model.proofs.Links.{link-found, link-has}
 use Rattle.ffa_model.proofs.Chains.{status-last, status-rest}
@@ -29,7 +29,7 @@ linked-blocked c e [] linked k lt = absurd (omega arith)
 linked-blocked c e (f ∷ fs) linked zero lt = linked.0
 linked-blocked c e (f ∷ fs) linked (suc k) lt = linked-blocked c f fs linked.3 k (omega arith)
 
-linked-partition : (c : Schedule) (e : ℕ) (fs : List ℕ) → IsLinked c e fs → (k : ℕ) → k < length fs → is_partition c (link_at fs k)
+linked-partition : (c : Schedule) (e : ℕ) (fs : List ℕ) → IsLinked c e fs → (k : ℕ) → k < length fs → IsPartition c (link_at fs k)
 linked-partition c e [] linked k lt = absurd (omega arith)
 linked-partition c e (f ∷ fs) linked zero lt = linked.1
 linked-partition c e (f ∷ fs) linked (suc k) lt = linked-partition c f fs linked.3 k (omega arith)
@@ -76,7 +76,7 @@ module _ (c : Schedule) (sound : IsSound c) (some : 1 ≤ length c.works) (few :
       last : length links - 1 ≡ length fs
       last = omega arith
 
-  link-known : (k : ℕ) → k < length links → is_known c (link_at links k)
+  link-known : (k : ℕ) → k < length links → IsEndpoint c (link_at links k)
   link-known zero lt = refl
   link-known (suc k) lt = partition-known (length c.works) (link_at fs k) (linked-partition c 0 fs sound.chain.linked k (omega arith))
 
@@ -88,7 +88,7 @@ module _ (c : Schedule) (sound : IsSound c) (some : 1 ≤ length c.works) (few :
   ]
 
   -- whoever neither runs nor is blocked is no link
-  no_link : (e : ℕ) → is_known c e → status_in c e ≢ Running → status_in c e ≢ Blocked → has_link_at links (place e) ≡ false
+  no_link : (e : ℕ) → IsEndpoint c e → status_in c e ≢ Running → status_in c e ≢ Blocked → has_link_at links (place e) ≡ false
   no_link e known not_running not_blocked = elim (cases_Bool (has_link_at links (place e))) [
     | inr none ↦ none
     | inl has ↦ (let (k, lt, at) = link-found links (place e) has in
@@ -145,7 +145,7 @@ module _ (c : Schedule) (sound : IsSound c) (some : 1 ≤ length c.works) (few :
 
   -- ---- by places
   module _ (p : ℕ) (lt : p < length c.works) where
-    e-known : is_known c (identifier p)
+    e-known : IsEndpoint c (identifier p)
     e-known = identifier-known (length c.works) p lt
 
     runs-at : status_in c (identifier p) ≡ Running → place (last_link links) ≡ p

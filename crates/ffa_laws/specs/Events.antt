@@ -20,21 +20,20 @@ use Rattle.ffa_model.specs.declared.operation.Outcome.{Outcome}
 use Rattle.ffa_model.specs.declared.operation.Outcome.TheVariants.{Regs}
 use Rattle.ffa_model.specs.declared.call.Call as calls
 use Rattle.ffa_model.specs.declared.call.Call.TheVariants.{Version, Features, RxRelease, RxtxMap, RxtxUnmap, PartitionInfoGet, IdGet, MsgWait, Yield, Run, DirectRequest, DirectResponse, MemDonate, MemLend, MemShare, MemRetrieve, MemRelinquish, MemReclaim, BitmapCreate, BitmapDestroy, NotificationBind, NotificationUnbind, NotificationSet, NotificationGet, SpmIdGet, MsgSend2, Unknown}
-use Rattle.ffa_model.specs.Bits.{bits_of, high_half, joined, low_half}
+use Rattle.ffa_model.specs.Bits.{bits_of, high_half, word_of_halves, low_half}
 use Rattle.ffa_model.specs.Lists.{listed, map_at}
-use Rattle.ffa_model.specs.Codes.{status_code}
 use Rattle.ffa_model.specs.Registers.{served_call}
 use Rattle.ffa_model.specs.State.{State, Page, Transaction, Buffers, buffers_of, has_bitmaps, transaction_of}
 use Rattle.ffa_model.specs.Access.{is_from, is_offered, is_receiver, names}
 use Rattle.ffa_model.specs.Calls.{Service, encode, first_failure}
 use Rattle.ffa_model.specs.Memory.{changed_pages, size_of, store_fault, stored, with_pages, zeroed_page}
 use Rattle.ffa_model.specs.Buffers.{filled_pages}
-use Rattle.ffa_model.specs.RunStates.{direct_request, direct_response, msg_wait, run_partition, yield_now}
+use Rattle.ffa_model.specs.RunStates.{direct_request, direct_response, msg_wait, run_partition, status_number, yield_now}
 use Rattle.ffa_model.specs.Messages.{header_in, message_in, tx_bytes}
-use Rattle.ffa_model.specs.Notifications.{binding, class_of, is_bound, manager_class, notifications_of, rx_full_bits, with_notifications, with_pending}
+use Rattle.ffa_model.specs.Notifications.{binding, class_of, is_bound, manager_class, notifications_of, message_bits, with_notifications, with_pending}
 use Rattle.ffa_model.specs.SendDescriptor.{SendRecord}
 use Rattle.ffa_model.specs.Transactions.{bases_of, handle_of, holding, next_handle, not_holding, offers_of, with_offers, with_transaction}
-use Rattle.ffa_model.specs.MemorySend.{offered, send_read, transaction_from}
+use Rattle.ffa_model.specs.MemorySend.{memory_sent, send_read, transaction_from}
 use Rattle.ffa_model.specs.MemoryRetrieve.{retrieve_read, right_for}
 use Rattle.ffa_model.specs.MemoryReturn.{ranges_of, relinquish_read}
 use Rattle.ffa_model.specs.Step.{serve, service, step}
@@ -152,14 +151,14 @@ switches e c = where_true (c.state.runner == e) (Message (encode c.reply) ∷ []
 abbrev pub delivers : ℕ → State → List ℕ → List Event
 delivers e s tx =
     where_true ((header_in tx).receiver == e)
-    (Filled (message_in tx) ∷ where_true (has_bitmaps s e) (Pending manager_class rx_full_bits ∷ []))
+    (Filled (message_in tx) ∷ where_true (has_bitmaps s e) (Pending manager_class message_bits ∷ []))
 
 -- a send to e, with the pages after it
 abbrev pub opens : ℕ → State → Kind → Option SendRecord → List Event
 opens e s kind None = []
 opens e s kind (Some r) =
     where_true (is_receiver e (transaction_from kind r))
-    (Opened (next_handle (offers_of s) s.runner) (transaction_from kind r) (named_pages (offered s kind (Some r)) r.ranges) ∷ [])
+    (Opened (next_handle (offers_of s) s.runner) (transaction_from kind r) (named_pages (memory_sent s kind (Some r)) r.ranges) ∷ [])
 
 -- the runner takes what e sent
 abbrev pub taking : Kind → ℕ → ℕ → Rights → Event
@@ -176,14 +175,14 @@ abbrev pub takes : ℕ → State → Option RetrieveDesc → List Event
 takes e s None = []
 takes e s (Some d) = takes_from e s d (transaction_of s d.handle)
 
--- the runner gives up what e sent, and zeroes what e sent or is offered
+-- the runner gives up what e sent, and zeroes what e sent or is memory_sent
 abbrev pub releases : ℕ → State → Option RelinquishDesc → List Event
 releases e s None = []
 releases e s (Some d) =
     where_true (is_from e (transaction_of s d.handle)) (Held d.handle s.runner None ∷ [])
     ++ where_true (d.zero && involves e (transaction_of s d.handle)) (Zeroed d.handle ∷ [])
 
--- the runner ends what e was offered
+-- the runner ends what e was memory_sent
 abbrev pub closes : ℕ → State → ℕ → List Event
 closes e s h = where_true (is_offered e (transaction_of s h)) (Closed h ∷ [])
 
@@ -226,14 +225,14 @@ told_by e s MemRelinquish = releases e s (relinquish_read s)
 told_by e s (MemReclaim low high flags) = closes e s (handle_of high low)
 told_by e s (BitmapCreate endpoint contexts) = []
 told_by e s (BitmapDestroy endpoint) = unbinds e s 0 e (listed 64 (λ k. k))
-told_by e s (NotificationBind word flags low high) = binds e s s.runner (high_half word) (bits_of (joined low high))
-told_by e s (NotificationUnbind word flags low high) = unbinds e s s.runner (high_half word) (bits_of (joined low high))
-told_by e s (NotificationSet word flags low high) = sets e s (low_half word) (bits_of (joined low high))
+told_by e s (NotificationBind word flags low high) = binds e s s.runner (high_half word) (bits_of (word_of_halves low high))
+told_by e s (NotificationUnbind word flags low high) = unbinds e s s.runner (high_half word) (bits_of (word_of_halves low high))
+told_by e s (NotificationSet word flags low high) = sets e s (low_half word) (bits_of (word_of_halves low high))
 told_by e s (NotificationGet receiver flags) = []
 told_by e s MsgSend2 = delivers e s (tx_bytes s s.runner)
 told_by e s Unknown = []
 
--- the public part as numbers, by which two are compared
+-- the public part as numbers, by which two are compared: different parts have different numbers
 abbrev pub work_number : Option Work → ℕ
 work_number None = 0
 work_number (Some WorkRun) = 1
@@ -246,7 +245,7 @@ fullness_number (Some true) = 2
 
 abbrev pub is_same_public : PublicPart → PublicPart → Bool
 is_same_public a b =
-    ((a.runner == b.runner && bytes_eq (map status_code a.statuses) (map status_code b.statuses))
+    ((a.runner == b.runner && bytes_eq (map status_number a.statuses) (map status_number b.statuses))
     && bytes_eq (map work_number a.works) (map work_number b.works))
     && bytes_eq (map fullness_number a.full) (map fullness_number b.full)
 

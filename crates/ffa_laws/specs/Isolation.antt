@@ -1,5 +1,5 @@
 -- The laws over the small machine: isolation, rights that never grow, integrity.
-use Rattle.std.specs.Prelude.{◌≡◌, ◌≢◌, ℕ, ◌==◌, Bool, true, false, ◌&&◌, List, [], ◌∷◌, ◌++◌, Option, None, is_some, if◌then◌else◌}
+use Rattle.std.specs.Prelude.{◌≡◌, ◌≢◌, ℕ, ◌==◌, Bool, true, false, ◌&&◌, List, [], ◌∷◌, ◌++◌, Option, None, is_none, is_some, if◌then◌else◌}
 use Rattle.std.specs.Option.{option_map_or}
 use Rattle.ffa_model.specs.declared.operation.Op.{Op}
 use Rattle.ffa_model.specs.declared.operation.Op.TheVariants.{Call, Load, Store, Fetch}
@@ -12,7 +12,8 @@ use Rattle.ffa_model.specs.State.{State, Transaction, Buffers, page_at, owner_of
 use Rattle.ffa_model.specs.Access.{access, handle_at, transaction_at}
 use Rattle.ffa_model.specs.Memory.{page_bytes}
 use Rattle.ffa_model.specs.Registers.{served_call}
-use Rattle.ffa_model.specs.Messages.{header_in, tx_bytes}
+use Rattle.ffa_model.specs.Calls.{first_failure}
+use Rattle.ffa_model.specs.Messages.{header_in, msg_send2, tx_bytes}
 use Rattle.ffa_model.specs.Step.{outcomes, serve, step}
 use Rattle.ffa_laws.specs.Steady.{IsSteady, page_base, is_joint}
 use Rattle.ffa_laws.specs.View.{view}
@@ -130,22 +131,24 @@ is_send2 SpmIdGet = false
 is_send2 MsgSend2 = true
 is_send2 Unknown = false
 
-abbrev pub is_message : Op → Bool
-is_message (Call x) = is_send2 (served_call x)
-is_message (Load addr size) = false
-is_message (Store addr size value) = false
-is_message (Fetch addr) = false
+abbrev pub is_indirect_message : Op → Bool
+is_indirect_message (Call x) = is_send2 (served_call x)
+is_indirect_message (Load addr size) = false
+is_indirect_message (Store addr size value) = false
+is_indirect_message (Fetch addr) = false
 
--- whether the runner's TX has a message to e, and e's RX is this page
-abbrev pub is_bound_for : State → ℕ → ℕ → Bool
-is_bound_for s e p = (header_in (tx_bytes s s.runner)).receiver == e && option_map_or (λ (b : Buffers). b.rx == p) (buffers_of s e) false
+-- whether an indirect message of the runner isn't refused, and this page is its receiver's RX, where the receiver is e
+abbrev pub fills_rx_page : State → ℕ → ℕ → Bool
+fills_rx_page s e p =
+    is_none (first_failure (msg_send2 s).guards)
+    && ((header_in (tx_bytes s s.runner)).receiver == e && option_map_or (λ (b : Buffers). b.rx == p) (buffers_of s e) false)
 
 -- From s to t the bytes of a page that its owner has alone stay while another endpoint runs, but for a message into the
 -- owner's RX.
 abbrev pub LeavesBytes : Bool → State → State → Type 0
-LeavesBytes is_message s t =
-    (e p : ℕ) → owner_of s p ≡ e → handle_at s p ≡ None → s.runner ≢ e → (is_message && is_bound_for s e p) ≡ false
+LeavesBytes message s t =
+    (e p : ℕ) → owner_of s p ≡ e → handle_at s p ≡ None → s.runner ≢ e → (message && fills_rx_page s e p) ≡ false
     → page_bytes t p ≡ page_bytes s p
 
 abbrev pub Integrity : State → Op → Type 0
-Integrity s op = LeavesBytes (is_message op) s (step s op).state
+Integrity s op = LeavesBytes (is_indirect_message op) s (step s op).state

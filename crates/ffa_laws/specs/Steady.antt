@@ -1,4 +1,4 @@
--- What isolation asks of a state. It holds of every machine's state, and each operation keeps it.
+-- What isolation asks of a state: less than that it is sound.
 use Rattle.std.specs.Prelude.{◌≡◌, ◌≢◌, ℕ, ◌≤◌, ◌<◌, Bool, true, ◌&&◌, ◌||◌, nat_le, List, length, Option, Some, None, slice_index_or}
 use Rattle.std.specs.Option.{option_map}
 use Rattle.std.specs.FinSet as finite_set

@@ -8,13 +8,13 @@ use Rattle.ffa_model.specs.Lists.{map_at}
 use Rattle.ffa_model.specs.Identifiers.{identifier}
 use Rattle.ffa_model.specs.State.{State, Transaction, Buffers, owner_of, transaction_of}
 use Rattle.ffa_model.specs.Access.{is_from, is_offered, transaction_at}
-use Rattle.ffa_model.specs.Notifications.{receiver_in, sender_in}
+use Rattle.ffa_model.specs.Notifications.{receiver_of_entry, sender_of_entry}
 
 -- whether e sent a transaction, or is offered it
 abbrev pub involves : ℕ → Option Transaction → Bool
 involves e t = is_from e t || is_offered e t
 
--- a page that e owns, or that a transaction of e's or offered to e names
+-- a page that e owns, or that a transaction of e's or offered to e names; in a sound state one transaction names it at most
 abbrev pub is_near : ℕ → State → ℕ → Bool
 is_near e s p = owner_of s p == e || involves e (transaction_at s p)
 
@@ -39,7 +39,9 @@ hidden past b = option_map (λ (q : Buffers). record { tx = past; rx = past; ful
 abbrev pub buffers_seen : ℕ → ℕ → ℕ → Option Buffers → Option Buffers
 buffers_seen e past i b = if identifier i == e then b else hidden past b
 
--- The constants, and who runs, each status and work are public. Of the lists by endpoint e has its own element.
+-- The constants are public, and so are who runs, each status and work, and of each endpoint's buffers whether they are
+-- mapped and RX is full. Of the sends and of who has bitmaps e knows its own element; of the bits that are bound, those
+-- that it receives or sends; of those that are pending, its own.
 abbrev pub view : ℕ → State → State
 view e s =
     record {
@@ -53,6 +55,6 @@ view e s =
       statuses = s.statuses;
       works = s.works;
       bitmaps = map_at (λ i has. identifier i == e && has) s.bitmaps;
-      bound = finite_set.retain s.bound (λ x. receiver_in x == e || sender_in x == e);
-      pending = finite_set.retain s.pending (λ x. receiver_in x == e);
+      bound = finite_set.retain s.bound (λ x. receiver_of_entry x == e || sender_of_entry x == e);
+      pending = finite_set.retain s.pending (λ x. receiver_of_entry x == e);
     }

@@ -13,7 +13,7 @@ use Rattle.ffa_model.specs.State.{State, Page, Transaction, page_at, transaction
 use Rattle.ffa_model.specs.Access.{access, handle_at, held_by, is_naming, names, right_by, right_of, transaction_at}
 use Rattle.ffa_model.specs.Memory.{with_pages, zeroed_if, zeroed_page}
 use Rattle.ffa_model.specs.Transactions.{closed, holding, not_holding, offers_of, opened, with_offers, with_transaction}
-use Rattle.ffa_model.specs.MemoryRetrieve.{given_page}
+use Rattle.ffa_model.specs.MemoryRetrieve.{donated_page}
 use Rattle.ffa_model.proofs.Handles.{IsAlone, alone-in, get-beside, get-left, get-put, get-taken, none-in, none-passes, same-in}
 
 -- LISTS
@@ -264,20 +264,20 @@ module _ (s : State) (h : ℕ) (t : Transaction) (was : transaction_of s h ≡ S
     access-still e = ap (right_of e (page_at s p)) in-still
 
 -- GIVING, for a donate that was retrieved
-right-given : (e f : ℕ) (right : Rights) (page : Option Page) → right_of f (given_page e right page) None ≡ option_and_then (λ (_ : Page). if e == f then Some right else None) page
+right-given : (e f : ℕ) (right : Rights) (page : Option Page) → right_of f (donated_page e right page) None ≡ option_and_then (λ (_ : Page). if e == f then Some right else None) page
 right-given e f right None = refl
 right-given e f right (Some page) = refl
 
 -- the new owner has the right, and nobody else has any
 pub access-given : (s : State) (ranges : List Range) (e f : ℕ) (right : Rights) (p : ℕ) → names s ranges p ≡ true → transaction_at s p ≡ None
-    → access (with_pages s ranges (given_page e right)) f p ≡ option_and_then (λ (_ : Page). if e == f then Some right else None) (page_at s p)
+    → access (with_pages s ranges (donated_page e right)) f p ≡ option_and_then (λ (_ : Page). if e == f then Some right else None) (page_at s p)
 access-given s ranges e f right p named none =
-    (λ i. right_of f (page-changed s ranges (given_page e right) p refl i) (none i))
-    ∙ ap (λ b. right_of f (cond b (given_page e right (page_at s p)) (page_at s p)) None) named
+    (λ i. right_of f (page-changed s ranges (donated_page e right) p refl i) (none i))
+    ∙ ap (λ b. right_of f (cond b (donated_page e right (page_at s p)) (page_at s p)) None) named
     ∙ right-given e f right (page_at s p)
 
 pub access-kept : (s : State) (ranges : List Range) (e f : ℕ) (right : Rights) (p : ℕ) → names s ranges p ≡ false
-    → access (with_pages s ranges (given_page e right)) f p ≡ access s f p
+    → access (with_pages s ranges (donated_page e right)) f p ≡ access s f p
 access-kept s ranges e f right p other =
     ap (λ page. right_of f page (transaction_at s p))
-    (page-changed s ranges (given_page e right) p refl ∙ ap (λ b. cond b (given_page e right (page_at s p)) (page_at s p)) other)
+    (page-changed s ranges (donated_page e right) p refl ∙ ap (λ b. cond b (donated_page e right (page_at s p)) (page_at s p)) other)

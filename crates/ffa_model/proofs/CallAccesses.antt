@@ -20,8 +20,8 @@ use Rattle.ffa_model.specs.Buffers.{Candidate, candidate_at, candidates, filled,
 use Rattle.ffa_model.specs.ResponseBytes.{response_bytes}
 use Rattle.ffa_model.specs.SendDescriptor.{SendRecord}
 use Rattle.ffa_model.specs.Transactions.{closed, handle_of, holding, next_handle, not_holding, offers_of, with_offers, with_transaction}
-use Rattle.ffa_model.specs.MemorySend.{is_own, is_sendable, offered, offered_in, transaction_from}
-use Rattle.ffa_model.specs.MemoryRetrieve.{given_if, given_page, response_to, retrieved_right, taken, taken_in}
+use Rattle.ffa_model.specs.MemorySend.{is_own, is_sendable, memory_sent, offered_in, transaction_from}
+use Rattle.ffa_model.specs.MemoryRetrieve.{donated_if, donated_page, response_to, retrieved_right, with_retrieved, taken_in}
 use Rattle.ffa_model.specs.MemoryReturn.{reclaimed, relinquished_from}
 use Rattle.ffa_model.specs.SoundState.{IsKnown, IsSoundState, IsSoundTransaction}
 use Rattle.ffa_model.proofs.Accesses.{IsNamedOnce, access-beside, access-closed, access-given, access-holding, access-holding_beside, access-kept, access-opened, access-released, access-released_beside, access-still, access-unchanged, access-zeroed, in-closed}
@@ -120,14 +120,14 @@ module _ (s : State) (sound : IsSoundState s) where
   -- the pages that a send names give a right to nobody but a share's sender; others are as they were
   pub send-named : (kind : Kind) (r : SendRecord) (e p : ℕ) → list_all (is_sendable s.runner (candidates s) s.buffers) (pages_named s r.ranges) ≡ true
       → p < length s.pages → names s r.ranges p ≡ true
-      → access (offered s kind (Some r)) e p ≡ unheld_right (transaction_from kind r) e (page_at s p)
+      → access (memory_sent s kind (Some r)) e p ≡ unheld_right (transaction_from kind r) e (page_at s p)
   send-named kind r e p free lt named =
       access-zeroed r.zero (with_offers s (offered_in (offers_of s) s.runner kind r)) r.ranges e p
       ∙ access-opened s (next_handle (offers_of s) s.runner) (transaction_from kind r) (handle-new s sound s.runner (runner-known s sound)) p named
       (sendable-unnamed s s.runner p r.ranges free lt named) e (finite.get-empty nat_cmp e)
 
   pub send-other : (kind : Kind) (r : SendRecord) (e p : ℕ) → p < length s.pages → names s r.ranges p ≡ false
-      → access (offered s kind (Some r)) e p ≡ access s e p
+      → access (memory_sent s kind (Some r)) e p ≡ access s e p
   send-other kind r e p lt other =
       access-zeroed r.zero (with_offers s (offered_in (offers_of s) s.runner kind r)) r.ranges e p
       ∙ access-beside s (next_handle (offers_of s) s.runner) (transaction_from kind r) (handle-new s sound s.runner (runner-known s sound)) p other (once p lt) e
@@ -166,11 +166,11 @@ module _ (s : State) (sound : IsSoundState s) where
     abbrev after_taking : ℕ → Rights → State
     after_taking e right = with_offers s (with_transaction (offers_of s) h (holding t e right))
 
-    taking : (e : ℕ) (right : Rights) (f : ℕ) → is_donate t.kind ≡ false → access (taken s h t e right) f p ≡ access (after_taking e right) f p
+    taking : (e : ℕ) (right : Rights) (f : ℕ) → is_donate t.kind ≡ false → access (with_retrieved s h t e right) f p ≡ access (after_taking e right) f p
     taking e right f borrowed = of t.kind borrowed
       where
         of : (kind : Kind) → is_donate kind ≡ false
-            → access (with_offers (given_if (is_donate kind) s t.ranges e right) (taken_in kind (offers_of s) h t e right)) f p ≡ access (after_taking e right) f p
+            → access (with_offers (donated_if (is_donate kind) s t.ranges e right) (taken_in kind (offers_of s) h t e right)) f p ≡ access (after_taking e right) f p
         of Share borrowed = refl
         of Lend borrowed = refl
         of Donate is = absurd (true≢false is)
@@ -178,32 +178,32 @@ module _ (s : State) (sound : IsSoundState s) where
     pub retrieve-named : (e : ℕ) (right : Rights) (page : Page) → is_donate t.kind ≡ false → names s t.ranges p ≡ true → page_at s p ≡ Some page
         → access (retrieved_right s h t e right) e p ≡ Some right
     retrieve-named e right page borrowed named there =
-        access-filled (taken s h t e right) e (response_bytes (response_to h t e right)) e p
+        access-filled (with_retrieved s h t e right) e (response_bytes (response_to h t e right)) e p
         ∙ taking e right e borrowed
         ∙ access-holding s h t was p (once p lt) named e right page there
 
     pub retrieve-beside : (e : ℕ) (right : Rights) (f : ℕ) → is_donate t.kind ≡ false → names s t.ranges p ≡ true → (f ≡ e → ⊥)
         → access (retrieved_right s h t e right) f p ≡ access s f p
     retrieve-beside e right f borrowed named other =
-        access-filled (taken s h t e right) e (response_bytes (response_to h t e right)) f p
+        access-filled (with_retrieved s h t e right) e (response_bytes (response_to h t e right)) f p
         ∙ taking e right f borrowed
         ∙ access-holding_beside s h t was p (once p lt) named e right f other
 
     pub retrieve-other : (e : ℕ) (right : Rights) (f : ℕ) → is_donate t.kind ≡ false → names s t.ranges p ≡ false
         → access (retrieved_right s h t e right) f p ≡ access s f p
     retrieve-other e right f borrowed other =
-        access-filled (taken s h t e right) e (response_bytes (response_to h t e right)) f p
+        access-filled (with_retrieved s h t e right) e (response_bytes (response_to h t e right)) f p
         ∙ taking e right f borrowed
         ∙ access-unchanged s h t (holding t e right) was refl p (once p lt) other f
 
     -- A RETRIEVE of a donate by e: it owns the pages with this right, and nobody else has any
     giving : (e : ℕ) (right : Rights) (f : ℕ) → is_donate t.kind ≡ true
-        → access (taken s h t e right) f p ≡ access (with_pages (with_offers s (closed (offers_of s) h)) t.ranges (given_page e right)) f p
+        → access (with_retrieved s h t e right) f p ≡ access (with_pages (with_offers s (closed (offers_of s) h)) t.ranges (donated_page e right)) f p
     giving e right f donated = of t.kind donated
       where
         of : (kind : Kind) → is_donate kind ≡ true
-            → access (with_offers (given_if (is_donate kind) s t.ranges e right) (taken_in kind (offers_of s) h t e right)) f p
-            ≡ access (with_pages (with_offers s (closed (offers_of s) h)) t.ranges (given_page e right)) f p
+            → access (with_offers (donated_if (is_donate kind) s t.ranges e right) (taken_in kind (offers_of s) h t e right)) f p
+            ≡ access (with_pages (with_offers s (closed (offers_of s) h)) t.ranges (donated_page e right)) f p
         of Share is = absurd (false≢true is)
         of Lend is = absurd (false≢true is)
         of Donate donated = refl
@@ -211,14 +211,14 @@ module _ (s : State) (sound : IsSoundState s) where
     pub donate-named : (e : ℕ) (right : Rights) (f : ℕ) → is_donate t.kind ≡ true → names s t.ranges p ≡ true
         → access (retrieved_right s h t e right) f p ≡ option_and_then (λ (_ : Page). if e == f then Some right else None) (page_at s p)
     donate-named e right f donated named =
-        access-filled (taken s h t e right) e (response_bytes (response_to h t e right)) f p
+        access-filled (with_retrieved s h t e right) e (response_bytes (response_to h t e right)) f p
         ∙ giving e right f donated
         ∙ access-given (with_offers s (closed (offers_of s) h)) t.ranges e f right p named (in-closed s h t was p (once p lt) named)
 
     pub donate-other : (e : ℕ) (right : Rights) (f : ℕ) → is_donate t.kind ≡ true → names s t.ranges p ≡ false
         → access (retrieved_right s h t e right) f p ≡ access s f p
     donate-other e right f donated other =
-        access-filled (taken s h t e right) e (response_bytes (response_to h t e right)) f p
+        access-filled (with_retrieved s h t e right) e (response_bytes (response_to h t e right)) f p
         ∙ giving e right f donated
         ∙ access-kept (with_offers s (closed (offers_of s) h)) t.ranges e f right p other
         ∙ access-still s h t was p (once p lt) other f

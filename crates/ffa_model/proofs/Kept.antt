@@ -19,7 +19,7 @@ use Rattle.ffa_model.specs.Access.{covers, handle_at, held_by, is_naming, is_rec
 use Rattle.ffa_model.specs.Memory.{with_pages, zeroed_page}
 use Rattle.ffa_model.specs.Buffers.{Candidate, candidate_at, is_usable}
 use Rattle.ffa_model.specs.Transactions.{Bases, are_writable, base_of, bases_of, ceiling, ceiling_in, closed, holding, not_holding, offers_of, open_count, pages_in, with_offers, with_transaction}
-use Rattle.ffa_model.specs.MemorySend.{are_grants_within, are_known, is_inside}
+use Rattle.ffa_model.specs.MemorySend.{are_grants_within, is_inside}
 use Rattle.ffa_model.specs.SoundState.{IsKnown, IsSoundPage, IsSoundState, IsSoundTransaction}
 use Rattle.ffa_model.proofs.Accesses.{held-beside, held-itself, length-map_at, page-changed, released-beside, released-itself}
 use Rattle.ffa_model.proofs.Counts.{open-changed, open-closed}
@@ -34,10 +34,9 @@ same-transaction s z h t bases owners parties sent good =
       sender = subst (λ n. is_known_among n t.sender ≡ true) (sym parties) good.sender;
       number = (number.0, number.1, number.2, omega (arith, number.3, sent));
       inside = subst (λ (b : Bases). list_all (is_inside b) t.ranges ≡ true) (sym bases) good.inside;
-      owned = λ p lt named. owners p ∙ good.owned p (subst (λ (b : Bases). p < b.count) bases lt) (subst (λ (b : Bases). covers t.ranges (b.base + 4096 * p) ≡ true) bases named);
+      owned = λ p lt named. owners p ∙ good.owned p (subst (λ (b : Bases). p < b.pages) bases lt) (subst (λ (b : Bases). covers t.ranges (b.ram_base + 4096 * p) ≡ true) bases named);
       grants = subst (λ (b : Bases). list_all (are_grants_within b t.receivers) (pages_in b t.ranges) ≡ true) (sym bases) good.grants;
       zeroed = λ zero. subst (λ (b : Bases). are_writable b t.ranges ≡ true) (sym bases) (good.zeroed zero);
-      receivers = subst (λ n. are_known n t.receivers ≡ true) (sym parties) good.receivers;
       holder = good.holder;
       within = λ e right held. subst (λ (b : Bases). is_at_most right (ceiling b t e) ≡ true) (sym bases) (good.within e right held);
       donate = good.donate;
@@ -79,7 +78,7 @@ module _ (s : State) (ranges : List Range) where
   zeros-size = length-map_at (λ p page. if names s ranges p then zeroed_page page else page) s.pages
 
   pub zeros-bases : bases_of zeros ≡ bases_of s
-  zeros-bases = λ i. record { base = s.ram_base; count = zeros-size i; right = λ p. same p i }
+  zeros-bases = λ i. record { ram_base = s.ram_base; pages = zeros-size i; right = λ p. same p i }
     where
       same : (p : ℕ) → base_of zeros p ≡ base_of s p
       same p = ap (option_map (λ (page : Page). page.base)) (page-changed s ranges zeroed_page p refl) ∙ of (names s ranges p) (page_at s p)
@@ -227,7 +226,6 @@ module _ (s : State) (sound : IsSoundState s) (h : ℕ) (t : Transaction) (was :
         owned = good.owned;
         grants = good.grants;
         zeroed = good.zeroed;
-        receivers = good.receivers;
         holder = λ e right is. (holders e right is).0;
         within = λ e right is. subst (λ (most : Rights). is_at_most right most ≡ true) (sym (ceiling-held (bases_of s) t held e)) (holders e right is).1;
         donate = donate;

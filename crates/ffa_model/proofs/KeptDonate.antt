@@ -19,7 +19,7 @@ use Rattle.ffa_model.specs.Access.{handle_at, is_naming, names}
 use Rattle.ffa_model.specs.Memory.{with_pages}
 use Rattle.ffa_model.specs.Transactions.{Bases, are_writable, base_of, bases_of, ceiling, ceiling_in, grant_to, pages_in}
 use Rattle.ffa_model.specs.MemorySend.{are_grants_within, is_grantable, is_inside}
-use Rattle.ffa_model.specs.MemoryRetrieve.{given_page}
+use Rattle.ffa_model.specs.MemoryRetrieve.{donated_page}
 use Rattle.ffa_model.specs.SoundState.{IsKnown, IsSoundPage, IsSoundState, IsSoundTransaction}
 use Rattle.ffa_model.proofs.Accesses.{length-map_at, page-changed}
 use Rattle.ffa_model.proofs.Handles.{none-passes}
@@ -42,14 +42,14 @@ module _ (s : State) (sound : IsSoundState s) (ranges : List Range) (e : ℕ) (r
     (free : (p : ℕ) → p < length s.pages → names s ranges p ≡ true → handle_at s p ≡ None)
     (unbuffered : (f : ℕ) (b : Buffers) → IsKnown s f → buffers_of s f ≡ Some b → (names s ranges b.tx ≡ false) × (names s ranges b.rx ≡ false)) where
   abbrev pub after_giving : State
-  after_giving = with_pages s ranges (given_page e right)
+  after_giving = with_pages s ranges (donated_page e right)
 
   size : length after_giving.pages ≡ length s.pages
-  size = length-map_at (λ p page. if names s ranges p then given_page e right page else page) s.pages
+  size = length-map_at (λ p page. if names s ranges p then donated_page e right page else page) s.pages
 
   -- other pages are as they were
   page-same : (p : ℕ) → names s ranges p ≡ false → page_at after_giving p ≡ page_at s p
-  page-same p other = page-changed s ranges (given_page e right) p refl ∙ ap (λ b. cond b (given_page e right (page_at s p)) (page_at s p)) other
+  page-same p other = page-changed s ranges (donated_page e right) p refl ∙ ap (λ b. cond b (donated_page e right (page_at s p)) (page_at s p)) other
 
   base-same : (p : ℕ) → names s ranges p ≡ false → base_of after_giving p ≡ base_of s p
   base-same p other = ap (option_map (λ (page : Page). page.base)) (page-same p other)
@@ -59,10 +59,10 @@ module _ (s : State) (sound : IsSoundState s) (ranges : List Range) (e : ℕ) (r
 
   -- RAM as it is then, by the number of pages before
   abbrev given_bases : Bases
-  given_bases = record { base = s.ram_base; count = length s.pages; right = base_of after_giving }
+  given_bases = record { ram_base = s.ram_base; pages = length s.pages; right = base_of after_giving }
 
   given_bases-are : bases_of after_giving ≡ given_bases
-  given_bases-are = λ i. record { base = s.ram_base; count = size i; right = base_of after_giving }
+  given_bases-are = λ i. record { ram_base = s.ram_base; pages = size i; right = base_of after_giving }
 
   module _ (h : ℕ) (t : Transaction) (is : transaction_of s h ≡ Some t) where
     good : IsSoundTransaction s h t
@@ -99,7 +99,6 @@ module _ (s : State) (sound : IsSoundState s) (ranges : List Range) (e : ℕ) (r
           grants = subst (λ (b : Bases). list_all (are_grants_within b t.receivers) (pages_in b t.ranges) ≡ true) (sym given_bases-are)
               (same-all (λ o. list_all (λ (r : Receiver). is_grantable r.grant o) t.receivers) ∙ good.grants);
           zeroed = λ zero. subst (λ (b : Bases). are_writable b t.ranges ≡ true) (sym given_bases-are) (same-all may_store ∙ good.zeroed zero);
-          receivers = good.receivers;
           holder = good.holder;
           within = λ f its held. subst (λ (b : Bases). is_at_most its (ceiling b t f) ≡ true) (sym given_bases-are)
               (subst (λ (most : Rights). is_at_most its most ≡ true) (sym (ceiling-same f)) (good.within f its held));
@@ -112,9 +111,9 @@ module _ (s : State) (sound : IsSoundState s) (ranges : List Range) (e : ℕ) (r
         }
 
   given-pages : (p : ℕ) (page : Page) → page_at after_giving p ≡ Some page → IsSoundPage after_giving page
-  given-pages p page is = of (names s ranges p) (page_at s p) refl (sym (page-changed s ranges (given_page e right) p refl) ∙ is)
+  given-pages p page is = of (names s ranges p) (page_at s p) refl (sym (page-changed s ranges (donated_page e right) p refl) ∙ is)
     where
-      of : (b : Bool) (o : Option Page) → page_at s p ≡ o → cond b (given_page e right o) o ≡ Some page → IsSoundPage after_giving page
+      of : (b : Bool) (o : Option Page) → page_at s p ≡ o → cond b (donated_page e right o) o ≡ Some page → IsSoundPage after_giving page
       of true None there none = absurd (none-some page none)
       of true (Some q) there some =
           let before = sound.pages p q there in

@@ -13,7 +13,7 @@ use Rattle.ffa_model.specs.Access.{handle_at, held_by, is_naming, names, pages_n
 use Rattle.ffa_model.specs.Buffers.{Candidate, candidate_at, candidates, is_usable}
 use Rattle.ffa_model.specs.SendDescriptor.{most_receivers}
 use Rattle.ffa_model.specs.Transactions.{are_writable, bases_of, next_handle, offers_of, open_count, opened, with_offers}
-use Rattle.ffa_model.specs.MemorySend.{are_grants_within, are_known, is_buffer, is_inside, is_own, is_sendable}
+use Rattle.ffa_model.specs.MemorySend.{are_grants_within, is_buffer, is_inside, is_own, is_sendable}
 use Rattle.ffa_model.specs.SoundState.{IsKnown, IsSoundState, IsSoundTransaction}
 use Rattle.ffa_model.proofs.Accesses.{once-beside, once-opened}
 use Rattle.ffa_model.proofs.CallAccesses.{handle-new, sendable-unnamed}
@@ -35,7 +35,6 @@ any-at test (o ∷ list) (suc i) b at passes = of (test o) (any-at test list i b
 -- what a send asks of the transaction that it opens
 pub record IsSendable (s : State) (t : Transaction) : Type 0 where
   pub sender : IsKnown s t.sender
-  pub receivers : are_known (length s.parties) t.receivers ≡ true
   pub inside : list_all (is_inside (bases_of s)) t.ranges ≡ true
   pub free : list_all (is_sendable t.sender (candidates s) s.buffers) (pages_named s t.ranges) ≡ true
   pub grants : list_all (are_grants_within (bases_of s) t.receivers) (pages_named s t.ranges) ≡ true
@@ -103,7 +102,6 @@ module _ (s : State) (sound : IsSoundState s) (t : Transaction) (good : IsSendab
         owned = owned;
         grants = good.grants;
         zeroed = good.zeroed;
-        receivers = good.receivers;
         holder = λ e right is. absurd (none-some right (sym (good.unheld e) ∙ is));
         within = λ e right is. absurd (none-some right (sym (good.unheld e) ∙ is));
         donate = λ e kind. good.unheld e;

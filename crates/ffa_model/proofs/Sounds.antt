@@ -12,7 +12,7 @@ use Rattle.ffa_model.specs.declared.schedule.Work.{Work}
 use Rattle.ffa_model.specs.Identifiers.{place}
 use Rattle.ffa_model.specs.State.{is_partition_among, is_known_among}
 use Rattle.ffa_model.specs.RunStates.{Schedule, is_waiting, is_yielded, status_in, work_in}
-use Rattle.ffa_model.specs.Sound.{IsChained, IsLinked, IsSound, is_known, is_partition, origin}
+use Rattle.ffa_model.specs.Sound.{IsChained, IsLinked, IsSound, IsEndpoint, IsPartition, origin}
 use Rattle.ffa_model.proofs.Listed.{get_or-listed, length-listed}
 use Rattle.ffa_model.specs.Links.{IsChain, has_link_at, last_link, link_at, schedule_of, status_at, status_outside, work_at}
 use Rattle.ffa_model.proofs.Chains.{link-known, link-within, status-last, status-rest}
@@ -43,7 +43,7 @@ outside-yielded w h none = differ (sym (ap status_outside none) ∙ h)
 
 -- by their indexes, links that are blocked for one another
 linked-from : (c : Schedule) (e : ℕ) (fs : List ℕ) → ((k : ℕ) → k < length fs → status_in c (link_at (e ∷ fs) k) ≡ Blocked)
-    → ((k : ℕ) → k < length fs → is_partition c (link_at (e ∷ fs) (suc k)))
+    → ((k : ℕ) → k < length fs → IsPartition c (link_at (e ∷ fs) (suc k)))
     → ((k : ℕ) → k < length fs → origin (work_in c (link_at (e ∷ fs) (suc k))) ≡ Some (link_at (e ∷ fs) k))
     → c.runner ≡ link_at (e ∷ fs) (length fs) → IsLinked c e fs
 linked-from c e [] blocked partition works_for runs = runs
@@ -121,7 +121,7 @@ module _ (links : List ℕ) (works : List (Option Work)) (chain : IsChain links 
   runner-known : is_known_among (length works) (last_link links) ≡ true
   runner-known = link-known links works last chain last-lt
 
-  alone : (e : ℕ) → is_known c e → status_in c e ≡ Running → e ≡ last_link links
+  alone : (e : ℕ) → IsEndpoint c e → status_in c e ≡ Running → e ≡ last_link links
   alone e known runs =
       let lt = known-place (length works) e chain.some known in
       elim (stands-at links works (place e)) [
@@ -142,14 +142,14 @@ module _ (links : List ℕ) (works : List (Option Work)) (chain : IsChain links 
   within : (e : ℕ) → is_partition_among (length works) e ≡ true → place e < length works
   within e partition = (partition-place (length works) e partition).1
 
-  waits : (e : ℕ) → is_partition c e → work_in c e ≡ None → status_in c e ≡ Waiting
+  waits : (e : ℕ) → IsPartition c e → work_in c e ≡ None → status_in c e ≡ Waiting
   waits e partition none = elim (stands-at links works (place e)) [
     | inl (here, is) ↦ absurd (linked-work e partition (last-has (place e) here) none)
     | inr (inl (has, is)) ↦ absurd (linked-work e partition has none)
     | inr (inr (outer, is)) ↦ status-in e (within e partition) ∙ is ∙ ap status_outside none
   ]
 
-  workless : (e : ℕ) → is_partition c e → status_in c e ≡ Waiting → work_in c e ≡ None
+  workless : (e : ℕ) → IsPartition c e → status_in c e ≡ Waiting → work_in c e ≡ None
   workless e partition waiting = elim (stands-at links works (place e)) [
     | inl (here, is) ↦ absurd (differ_running (sym is ∙ sym (status-in e (within e partition)) ∙ waiting))
     | inr (inl (has, is)) ↦ absurd (differ_blocked (sym is ∙ sym (status-in e (within e partition)) ∙ waiting))
@@ -162,7 +162,7 @@ module _ (links : List ℕ) (works : List (Option Work)) (chain : IsChain links 
       differ_blocked : Blocked ≡ Waiting → ⊥
       differ_blocked h = cc
 
-  yielded : (e : ℕ) → is_partition c e → status_in c e ≡ Yielded → origin (work_in c e) ≡ Some 0
+  yielded : (e : ℕ) → IsPartition c e → status_in c e ≡ Yielded → origin (work_in c e) ≡ Some 0
   yielded e partition yields = elim (stands-at links works (place e)) [
     | inl (here, is) ↦ absurd (differ_running (sym is ∙ sym (status-in e (within e partition)) ∙ yields))
     | inr (inl (has, is)) ↦ absurd (differ_blocked (sym is ∙ sym (status-in e (within e partition)) ∙ yields))
@@ -210,7 +210,7 @@ module _ (links : List ℕ) (works : List (Option Work)) (chain : IsChain links 
       running≢blocked : Running ≡ Blocked → ⊥
       running≢blocked h = cc
 
-      blocked-has : (e : ℕ) → is_known c e → status_in c e ≡ Blocked → has_link_at links (place e) ≡ true
+      blocked-has : (e : ℕ) → IsEndpoint c e → status_in c e ≡ Blocked → has_link_at links (place e) ≡ true
       blocked-has e known is_blocked =
           let lt = known-place (length works) e chain.some known in
           elim (stands-at links works (place e)) [

@@ -20,8 +20,8 @@ abbrev pub word_of_two : ℕ → ℕ → ℕ
 word_of_two high low = high * 0x10000 + low
 
 -- the 64-bit word of two halves
-abbrev pub joined : ℕ → ℕ → ℕ
-joined low high = high * 2 ^ 32 + low
+abbrev pub word_of_halves : ℕ → ℕ → ℕ
+word_of_halves low high = high * 2 ^ 32 + low
 
 -- which of the 64 bits of a word are set
 abbrev pub bits_of : ℕ → List ℕ

@@ -41,7 +41,7 @@ pub record Candidates : Type 0 where
 abbrev pub page_number : ℕ → ℕ → ℕ
 page_number base address = (address - base) / 4096
 
--- the address of a page in RAM
+-- whether an address is that of a page in RAM
 abbrev pub is_page_address : Candidates → ℕ → Bool
 is_page_address ram address = (address % 4096 == 0 && nat_le ram.base address) && nat_lt (page_number ram.base address) ram.count
 
@@ -76,7 +76,7 @@ release_guards own = (is_full own, Denied) ∷ []
 abbrev pub new_buffers : ℕ → ℕ → ℕ → Buffers
 new_buffers base tx rx = record { tx = page_number base tx; rx = page_number base rx; full = false }
 
--- the same of a state
+-- ON A STATE
 abbrev pub candidate_at : State → ℕ → Option Candidate
 candidate_at s p =
     option_map (λ (page : Page). record { owner = page.owner; base = page.base; named = is_some (handle_at s p) }) (page_at s p)

@@ -1,4 +1,5 @@
--- Codes, by which a proof tells values apart.
+-- Nothing here is to be believed: a type that clauses see has to have a code, and each code brings the proof that it can be
+-- undone.
 use Rattle.std.specs.Prelude.{◌≡◌, ℕ, ◌==◌, Bool, true, false, List, Option, None, Some, refl, if◌then◌else◌}
 use Rattle.std.specs.Ordering.{nat_cmp}
 use Rattle.std.specs.Cmp.Lexicographic.{slice_cmp}
@@ -18,7 +19,7 @@ use Rattle.ffa_model.specs.declared.schedule.Work.{Work}
 use Rattle.ffa_model.specs.declared.schedule.Work.TheVariants.{Run, Request}
 use Rattle.ffa_model.specs.Rights.{may_write}
 use Rattle.ffa_model.specs.State.{State, Party, Page, Transaction, Buffers}
-use Rattle.ffa_model.specs.RunStates.{Schedule}
+use Rattle.ffa_model.specs.RunStates.{Schedule, status_number}
 use Rattle.ffa_model.specs.Transactions.{Offers}
 use Rattle.ffa_model.specs.Notifications.{Notifications}
 
@@ -52,23 +53,17 @@ kind_from-number Donate = refl
 abbrev pub coded_kind : Coded Kind
 coded_kind = code_by ℕ coded_ℕ kind_number kind_from kind_from-number
 
-abbrev pub status_code : Status → ℕ
-status_code Running = 0
-status_code Waiting = 1
-status_code Yielded = 2
-status_code Blocked = 3
-
 abbrev pub status_from : ℕ → Status
 status_from n = if n == 0 then Running else if n == 1 then Waiting else if n == 2 then Yielded else Blocked
 
-abbrev pub status_from-code : (s : Status) → status_from (status_code s) ≡ s
-status_from-code Running = refl
-status_from-code Waiting = refl
-status_from-code Yielded = refl
-status_from-code Blocked = refl
+abbrev pub status_from-number : (s : Status) → status_from (status_number s) ≡ s
+status_from-number Running = refl
+status_from-number Waiting = refl
+status_from-number Yielded = refl
+status_from-number Blocked = refl
 
 abbrev pub coded_status : Coded Status
-coded_status = code_by ℕ coded_ℕ status_code status_from status_from-code
+coded_status = code_by ℕ coded_ℕ status_number status_from status_from-number
 
 abbrev pub by_of : Work → Option ℕ
 by_of Run = None

@@ -27,7 +27,7 @@ asked_right most d = record { level = unwrap_or d.level most.level; exec = d.exe
 
 -- the right that e gets
 abbrev pub right_for : Bases → Transaction → ℕ → RetrieveDesc → Rights
-right_for ram t e d = asked_right (ceiling ram t e) d
+right_for bases t e d = asked_right (ceiling bases t e) d
 
 -- a kind that isn't specified is any
 abbrev pub is_kind_right : Kind → Option Kind → Bool
@@ -36,23 +36,23 @@ is_kind_right kind (Some k) = is_same_kind kind k
 
 -- the checks of the transaction that is asked for, in order, for an e whose RX is full or not
 abbrev pub holding_guards : Bases → Bool → ℕ → RetrieveDesc → Option Transaction → List (Bool × ErrorCode)
-holding_guards ram full e d None = (false, InvalidParameters) ∷ []
-holding_guards ram full e d (Some t) =
+holding_guards bases full e d None = (false, InvalidParameters) ∷ []
+holding_guards bases full e d (Some t) =
     (is_receiver e t, InvalidParameters)
     ∷ (d.sender.0 == t.sender, InvalidParameters)
     ∷ (d.tag == t.tag, InvalidParameters)
     ∷ (is_kind_right t.kind d.kind, InvalidParameters)
     ∷ (is_none (held_by t e), Denied)
-    ∷ (is_at_most (right_for ram t e d) (ceiling ram t e), Denied)
+    ∷ (is_at_most (right_for bases t e d) (ceiling bases t e), Denied)
     ∷ (not full, Busy)
     ∷ []
 
-abbrev pub request_guards : Scene → ℕ → Option RetrieveDesc → List (Bool × ErrorCode)
-request_guards c e None = (false, InvalidParameters) ∷ []
-request_guards c e (Some d) =
+abbrev pub asking_guards : Scene → ℕ → Option RetrieveDesc → List (Bool × ErrorCode)
+asking_guards c e None = (false, InvalidParameters) ∷ []
+asking_guards c e (Some d) =
     holding_guards c.bases (is_full (buffers_in c.buffers e)) e d (map.get c.offers.transactions d.handle)
 
--- the checks of a retrieve by e in order, where the descriptor says this, if it is one
+-- the checks of a retrieve by e in order, with what the descriptor says, or None where the bytes are none
 abbrev pub retrieve_guards : Scene → ℕ → Transfer → Option RetrieveDesc → List (Bool × ErrorCode)
 retrieve_guards c e x d =
     (is_some (buffers_in c.buffers e), InvalidParameters)
@@ -60,7 +60,7 @@ retrieve_guards c e x d =
     ∷ (nat_le x.total 4096, InvalidParameters)
     ∷ (x.address == 0, InvalidParameters)
     ∷ (x.pages == 0, InvalidParameters)
-    ∷ request_guards c e d
+    ∷ asking_guards c e d
 
 -- what is open after e has retrieved the transaction of a handle: e holds the right, and of a donate nothing is open
 abbrev pub taken_in : Kind → Offers → ℕ → Transaction → ℕ → Rights → Offers
@@ -82,20 +82,21 @@ response_to h t e right =
       ranges = t.ranges;
     }
 
--- the same of a state: the pages of a donate are e's own, with this right
-abbrev pub given_page : ℕ → Rights → Option Page → Option Page
-given_page e right page = option_map (λ (q : Page). record q { owner = e; base = right }) page
+-- ON A STATE
+-- the pages of a donate are e's own, with this right
+abbrev pub donated_page : ℕ → Rights → Option Page → Option Page
+donated_page e right page = option_map (λ (q : Page). record q { owner = e; base = right }) page
 
-abbrev pub given_if : Bool → State → List Range → ℕ → Rights → State
-given_if donated s ranges e right =
-    record s { pages = if donated then changed_pages s ranges (given_page e right) else s.pages }
+abbrev pub donated_if : Bool → State → List Range → ℕ → Rights → State
+donated_if donated s ranges e right =
+    record s { pages = if donated then changed_pages s ranges (donated_page e right) else s.pages }
 
-abbrev pub taken : State → ℕ → Transaction → ℕ → Rights → State
-taken s h t e right = with_offers (given_if (is_donate t.kind) s t.ranges e right) (taken_in t.kind (offers_of s) h t e right)
+abbrev pub with_retrieved : State → ℕ → Transaction → ℕ → Rights → State
+with_retrieved s h t e right = with_offers (donated_if (is_donate t.kind) s t.ranges e right) (taken_in t.kind (offers_of s) h t e right)
 
 -- and RX holds the response
 abbrev pub retrieved_right : State → ℕ → Transaction → ℕ → Rights → State
-retrieved_right s h t e right = filled (taken s h t e right) e (response_bytes (response_to h t e right))
+retrieved_right s h t e right = filled (with_retrieved s h t e right) e (response_bytes (response_to h t e right))
 
 abbrev pub retrieved_from : State → RetrieveDesc → Option Transaction → State
 retrieved_from s d None = s

@@ -26,8 +26,8 @@ is_zeroable e None = false
 is_zeroable e (Some t) = is_lend t.kind && may_store (held_by t e)
 
 -- the checks of the transaction that e gives up, in order
-abbrev pub release_guards : ℕ → RelinquishDesc → Option Transaction → List (Bool × ErrorCode)
-release_guards e d t =
+abbrev pub holder_guards : ℕ → RelinquishDesc → Option Transaction → List (Bool × ErrorCode)
+holder_guards e d t =
     (d.endpoint.0 == e, InvalidParameters)
     ∷ (is_offered e t, InvalidParameters)
     ∷ (is_held_by e t, Denied)
@@ -36,9 +36,9 @@ release_guards e d t =
 
 abbrev pub returned_guards : Offers → ℕ → Option RelinquishDesc → List (Bool × ErrorCode)
 returned_guards offers e None = (false, InvalidParameters) ∷ []
-returned_guards offers e (Some d) = release_guards e d (map.get offers.transactions d.handle)
+returned_guards offers e (Some d) = holder_guards e d (map.get offers.transactions d.handle)
 
--- the checks of an e with these buffers in order, where the descriptor says this, if it is one
+-- the checks of an e with these buffers in order, with what the descriptor says, or None where the bytes are none
 abbrev pub relinquish_guards : Option Buffers → Offers → ℕ → Option RelinquishDesc → List (Bool × ErrorCode)
 relinquish_guards own offers e d = (is_some own, InvalidParameters) ∷ returned_guards offers e d
 
@@ -76,11 +76,11 @@ ranges_of (Some t) = t.ranges
 
 -- the checks of a reclaim by e in order, of the transaction of the handle, if it is open
 abbrev pub reclaim_guards : Bases → ℕ → ℕ → Option Transaction → List (Bool × ErrorCode)
-reclaim_guards ram e flags t =
+reclaim_guards bases e flags t =
     (nat_le flags 1, InvalidParameters)
     ∷ (is_from e t, InvalidParameters)
     ∷ (is_unheld t, Denied)
-    ∷ (not (is_set 0 flags) || are_writable ram (ranges_of t), Denied)
+    ∷ (not (is_set 0 flags) || are_writable bases (ranges_of t), Denied)
     ∷ []
 
 abbrev pub reclaimed : State → ℕ → Bool → State

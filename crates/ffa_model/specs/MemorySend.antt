@@ -18,7 +18,7 @@ use Rattle.ffa_model.specs.Memory.{zeroed_if}
 use Rattle.ffa_model.specs.Buffers.{Candidate, Candidates, buffers_in}
 use Rattle.ffa_model.specs.Messages.{tx_bytes}
 use Rattle.ffa_model.specs.SendDescriptor.{SendRecord, send_of, range_end}
-use Rattle.ffa_model.specs.Transactions.{Bases, Offers, Scene, Transfer, sent_in, next_handle, open_count, opened, pages_in, are_writable, offers_of, scene_of, with_offers}
+use Rattle.ffa_model.specs.Transactions.{Bases, Offers, Scene, Transfer, sends_of, next_handle, open_count, opened, pages_in, are_writable, offers_of, scene_of, with_offers}
 use Rattle.ffa_model.specs.Calls.{Service, success}
 
 abbrev pub are_known : ℕ → List Receiver → Bool
@@ -26,7 +26,7 @@ are_known endpoints receivers = list_all (λ (r : Receiver). is_known_among endp
 
 -- a range that lies in RAM
 abbrev pub is_inside : Bases → Range → Bool
-is_inside ram r = nat_le ram.base r.address && nat_le (range_end r) (ram.base + 4096 * ram.count)
+is_inside bases r = nat_le bases.ram_base r.address && nat_le (range_end r) (bases.ram_base + 4096 * bases.pages)
 
 -- a page that e owns, and that no open transaction names
 abbrev pub is_own : ℕ → Option Candidate → Bool
@@ -47,7 +47,7 @@ is_grantable (Some level) None = false
 is_grantable (Some level) (Some right) = is_data_at_most level right.level
 
 abbrev pub are_grants_within : Bases → List Receiver → ℕ → Bool
-are_grants_within ram receivers p = list_all (λ (r : Receiver). is_grantable r.grant (ram.right p)) receivers
+are_grants_within bases receivers p = list_all (λ (r : Receiver). is_grantable r.grant (bases.right p)) receivers
 
 -- the checks of what a send descriptor says, in order
 abbrev pub offer_guards : Scene → ℕ → Option SendRecord → List (Bool × ErrorCode)
@@ -60,10 +60,10 @@ offer_guards c e (Some r) =
     ∷ (list_all (are_grants_within c.bases r.receivers) (pages_in c.bases r.ranges), Denied)
     ∷ (not r.zero || are_writable c.bases r.ranges, Denied)
     ∷ (nat_lt (open_count c.offers e) 8, NoMemory)
-    ∷ (nat_lt (sent_in c.offers e) 65535, NoMemory)
+    ∷ (nat_lt (sends_of c.offers e) 65535, NoMemory)
     ∷ []
 
--- the checks of a send by e in order, where the descriptor says this, if it is one
+-- the checks of a send by e in order, with what the descriptor says, or None where the bytes are none
 abbrev pub send_guards : Scene → ℕ → Transfer → Option SendRecord → List (Bool × ErrorCode)
 send_guards c e x r =
     (is_some (buffers_in c.buffers e), InvalidParameters)
@@ -94,19 +94,20 @@ offered_in o e kind r = opened o (next_handle o e) (transaction_from kind r)
 abbrev pub handle_reply : ℕ → Reply
 handle_reply h = success (bits 31 0 h) (bits 63 32 h)
 
--- the same of a state: what stands in the first bytes of the runner's TX, and what comes of it
+-- ON A STATE
+-- what stands in the first bytes of the runner's TX, and the state after the send
 abbrev pub send_read : State → Kind → ℕ → Option SendRecord
 send_read s kind total = send_of kind (take total (tx_bytes s s.runner))
 
-abbrev pub offered : State → Kind → Option SendRecord → State
-offered s kind None = s
-offered s kind (Some r) =
+abbrev pub memory_sent : State → Kind → Option SendRecord → State
+memory_sent s kind None = s
+memory_sent s kind (Some r) =
     zeroed_if r.zero (with_offers s (offered_in (offers_of s) s.runner kind r)) r.ranges
 
 abbrev pub memory_send : State → Kind → Transfer → Service
 memory_send s kind x =
     record {
       guards = send_guards (scene_of s) s.runner x (send_read s kind x.total);
-      state = offered s kind (send_read s kind x.total);
+      state = memory_sent s kind (send_read s kind x.total);
       reply = handle_reply (next_handle (offers_of s) s.runner);
     }

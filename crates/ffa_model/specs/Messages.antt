@@ -53,7 +53,7 @@ send2_guards parties buffers caller m =
 abbrev pub message_in : List ℕ → List ℕ
 message_in tx = take ((header_in tx).offset + (header_in tx).size) tx
 
--- the same of a state
+-- ON A STATE
 abbrev pub tx_bytes : State → ℕ → List ℕ
 tx_bytes s e = option_map_or (λ (b : Buffers). page_bytes s b.tx) (buffers_of s e) []
 

@@ -8,7 +8,7 @@ use Rattle.ffa_model.specs.declared.operation.ErrorCode.{ErrorCode}
 use Rattle.ffa_model.specs.declared.operation.ErrorCode.TheVariants.{InvalidParameters, Denied}
 use Rattle.ffa_model.specs.declared.call.Reply.{Reply}
 use Rattle.ffa_model.specs.declared.call.Reply.TheVariants.{Success}
-use Rattle.ffa_model.specs.Bits.{bits, bits_of, high_half, is_set, joined, low_half, word_where}
+use Rattle.ffa_model.specs.Bits.{bits, bits_of, high_half, is_set, word_of_halves, low_half, word_where}
 use Rattle.ffa_model.specs.Identifiers.{identifier, place}
 use Rattle.ffa_model.specs.Lists.{listed}
 use Rattle.ffa_model.specs.State.{State, is_known_among}
@@ -42,14 +42,14 @@ binding receiver class bit sender = receiver ∷ class ∷ bit ∷ sender ∷ []
 abbrev pub receiver_bit : ℕ → ℕ → ℕ → List ℕ
 receiver_bit receiver class bit = receiver ∷ class ∷ bit ∷ []
 
-abbrev pub receiver_in : List ℕ → ℕ
-receiver_in entry = slice_index entry 0
+abbrev pub receiver_of_entry : List ℕ → ℕ
+receiver_of_entry entry = slice_index entry 0
 
-abbrev pub class_in : List ℕ → ℕ
-class_in entry = slice_index entry 1
+abbrev pub class_of_entry : List ℕ → ℕ
+class_of_entry entry = slice_index entry 1
 
-abbrev pub sender_in : List ℕ → ℕ
-sender_in entry = slice_index entry 3
+abbrev pub sender_of_entry : List ℕ → ℕ
+sender_of_entry entry = slice_index entry 3
 
 abbrev pub has_bitmaps_in : Notifications → ℕ → Bool
 has_bitmaps_in n e = slice_index_or n.bitmaps (place e) false
@@ -98,7 +98,7 @@ with_pending n receiver class ks =
 -- the classes of a receiver that the flags ask for have no pending bit
 abbrev pub without_pending : Notifications → ℕ → ℕ → Notifications
 without_pending n receiver flags =
-    record n { pending = finite_set.retain n.pending (λ x. not (receiver_in x == receiver && is_set (class_in x) flags)) }
+    record n { pending = finite_set.retain n.pending (λ x. not (receiver_of_entry x == receiver && is_set (class_of_entry x) flags)) }
 
 abbrev pub with_bitmaps : Notifications → ℕ → Notifications
 with_bitmaps n e = record n { bitmaps = slice_set n.bitmaps (place e) true }
@@ -106,14 +106,14 @@ with_bitmaps n e = record n { bitmaps = slice_set n.bitmaps (place e) true }
 -- the bindings of a receiver's bits go with its bitmaps
 abbrev pub without_bitmaps : Notifications → ℕ → Notifications
 without_bitmaps n e =
-    record n { bitmaps = slice_set n.bitmaps (place e) false; bound = finite_set.retain n.bound (λ x. not (receiver_in x == e)) }
+    record n { bitmaps = slice_set n.bitmaps (place e) false; bound = finite_set.retain n.bound (λ x. not (receiver_of_entry x == e)) }
 
--- by bit 0 of its class the manager tells a receiver that RX has become full
-abbrev pub rx_full_bits : List ℕ
-rx_full_bits = 0 ∷ []
+-- by bit 0 of its class the manager tells a receiver that an indirect message stands in its RX
+abbrev pub message_bits : List ℕ
+message_bits = 0 ∷ []
 
 abbrev pub with_framework_bit : Notifications → ℕ → Notifications
-with_framework_bit n receiver = with_pending n receiver manager_class rx_full_bits
+with_framework_bit n receiver = with_pending n receiver manager_class message_bits
 
 -- the checks of each call in order, by a caller among this many endpoints
 
@@ -191,7 +191,8 @@ get_guards n caller word flags =
 abbrev pub asked_word : Notifications → ℕ → ℕ → ℕ → ℕ
 asked_word n receiver flags class = if is_set class flags then pending_word n receiver class else 0
 
--- a word's low half stands before its high half; of the manager's bits there are 32, and no hypervisor has any
+-- a word's low half stands before its high half; of the manager's bits w6 holds the lowest 32, of which bit 0 alone is ever
+-- set, and there is no hypervisor whose bits w7 would hold
 abbrev pub get_reply : Notifications → ℕ → ℕ → Reply
 get_reply n receiver flags =
     Success (bits 31 0 (asked_word n receiver flags partition_class)
@@ -202,7 +203,7 @@ get_reply n receiver flags =
     ∷ 0
     ∷ [])
 
--- the same of a state
+-- ON A STATE
 abbrev pub notifications_of : State → Notifications
 notifications_of s = record { bitmaps = s.bitmaps; bound = s.bound; pending = s.pending }
 
@@ -228,25 +229,25 @@ bitmap_destroy s endpoint =
 abbrev pub notification_bind : State → ℕ → ℕ → ℕ → ℕ → Service
 notification_bind s word flags low high =
     record {
-      guards = bind_guards (length s.parties) (notifications_of s) s.runner word flags (joined low high);
-      state = with_notifications s (with_bound (notifications_of s) s.runner (high_half word) (bits_of (joined low high)));
+      guards = bind_guards (length s.parties) (notifications_of s) s.runner word flags (word_of_halves low high);
+      state = with_notifications s (with_bound (notifications_of s) s.runner (high_half word) (bits_of (word_of_halves low high)));
       reply = success 0 0;
     }
 
 abbrev pub notification_unbind : State → ℕ → ℕ → ℕ → ℕ → Service
 notification_unbind s word flags low high =
     record {
-      guards = unbind_guards (length s.parties) (notifications_of s) s.runner word flags (joined low high);
-      state = with_notifications s (without_bound (notifications_of s) s.runner (high_half word) (bits_of (joined low high)));
+      guards = unbind_guards (length s.parties) (notifications_of s) s.runner word flags (word_of_halves low high);
+      state = with_notifications s (without_bound (notifications_of s) s.runner (high_half word) (bits_of (word_of_halves low high)));
       reply = success 0 0;
     }
 
 abbrev pub notification_set : State → ℕ → ℕ → ℕ → ℕ → Service
 notification_set s word flags low high =
     record {
-      guards = set_guards (length s.parties) (notifications_of s) s.runner word flags (joined low high);
+      guards = set_guards (length s.parties) (notifications_of s) s.runner word flags (word_of_halves low high);
       state =
-          with_notifications s (with_pending (notifications_of s) (low_half word) (class_of s.runner) (bits_of (joined low high)));
+          with_notifications s (with_pending (notifications_of s) (low_half word) (class_of s.runner) (bits_of (word_of_halves low high)));
       reply = success 0 0;
     }
 

@@ -20,7 +20,7 @@ use Rattle.ffa_model.specs.Calls.{Service, success}
 pub record Schedule : Type 0 where
   pub runner : ℕ
   pub statuses : List Status  -- by endpoint
-  pub works : List (Option Work)  -- by endpoint; whoever waits has none, and neither has the normal world
+  pub works : List (Option Work)  -- by endpoint
 
 abbrev pub status_in : Schedule → ℕ → Status
 status_in c e = slice_index_or c.statuses (place e) Waiting
@@ -43,6 +43,13 @@ is_yielded Running = false
 is_yielded Waiting = false
 is_yielded Yielded = true
 is_yielded Blocked = false
+
+-- statuses as numbers, each another
+abbrev pub status_number : Status → ℕ
+status_number Running = 0
+status_number Waiting = 1
+status_number Yielded = 2
+status_number Blocked = 3
 
 -- whether the normal world gave the cycles
 abbrev pub is_run : Option Work → Bool
@@ -79,7 +86,7 @@ requested c receiver = with_work (switched c Blocked receiver) receiver (Some (R
 abbrev pub finished : Schedule → ℕ → Schedule
 finished c e = with_work (switched c Waiting e) c.runner None
 
--- a waiting target gets work, and a yielded one keeps its own
+-- a waiting target gets work, and a yielded one keeps its own; no other is asked for, since a guard refuses it
 abbrev pub given_cycles : Schedule → ℕ → Status → Schedule
 given_cycles c e Waiting = with_work (switched c Blocked e) e (Some Run)
 given_cycles c e Yielded = switched c Blocked e
@@ -135,7 +142,8 @@ yield_guards c = (is_run (work_in c c.runner) || is_endpoint 0 (requester (work_
 abbrev pub passed : ℕ → ℕ → Reply
 passed w0 w1 = Passed w0 w1 (replicate 5 0)
 
--- a partition that waited sees FFA_RUN, and one that had yielded that its FFA_YIELD is done
+-- a partition that waited sees FFA_RUN, and one that had yielded that its FFA_YIELD is done; no other is asked for, since a
+-- guard refuses it
 abbrev pub run_reply : ℕ → Status → Reply
 run_reply word Waiting = passed 0x8400006D word
 run_reply word Yielded = success 0 0
@@ -148,7 +156,7 @@ wait_reply runner = passed 0x8400006B (word_of_two runner 0)
 abbrev pub yield_reply : ℕ → Reply
 yield_reply runner = passed 0x8400006C (word_of_two runner 0)
 
--- the same of a state
+-- ON A STATE
 abbrev pub schedule_of : State → Schedule
 schedule_of s = record { runner = s.runner; statuses = s.statuses; works = s.works }
 

@@ -1,4 +1,4 @@
--- What holds of every state of the machine.
+-- What a sound state is: the first state is one, and each operation keeps it so.
 use Rattle.std.specs.Prelude.{◌≡◌, ◌≢◌, ◌<◌, ◌≤◌, ℕ, ◌*◌, ◌^◌, true, nat_lt, List, length, Some, None, slice_get}
 use Rattle.std.specs.List.{list_all}
 use Rattle.std.specs.FinSet as finite_set
@@ -13,7 +13,7 @@ use Rattle.ffa_model.specs.SendDescriptor.{most_receivers}
 use Rattle.ffa_model.specs.RunStates.{schedule_of}
 use Rattle.ffa_model.specs.Sound.{IsSound}
 use Rattle.ffa_model.specs.Transactions.{are_writable, bases_of, ceiling, handle_of, offers_of, open_count}
-use Rattle.ffa_model.specs.MemorySend.{are_grants_within, are_known, is_inside}
+use Rattle.ffa_model.specs.MemorySend.{are_grants_within, is_inside}
 use Rattle.ffa_model.specs.Notifications.{binding, class_of, has_bitmaps_in, is_bound, manager_class, notifications_of, receiver_bit}
 
 -- numbers that are bytes
@@ -44,7 +44,6 @@ pub record IsSoundTransaction (s : State) (h : ℕ) (t : Transaction) : Type 0 w
   pub owned : (p : ℕ) → p < length s.pages → names s t.ranges p ≡ true → owner_of s p ≡ t.sender
   pub grants : list_all (are_grants_within (bases_of s) t.receivers) (pages_named s t.ranges) ≡ true
   pub zeroed : t.zero ≡ true → are_writable (bases_of s) t.ranges ≡ true
-  pub receivers : are_known (length s.parties) t.receivers ≡ true
   pub holder : (e : ℕ) (right : Rights) → held_by t e ≡ Some right → is_receiver e t ≡ true
   pub within : (e : ℕ) (right : Rights) → held_by t e ≡ Some right → is_at_most right (ceiling (bases_of s) t e) ≡ true
   pub donate : (e : ℕ) → t.kind ≡ Donate → held_by t e ≡ None

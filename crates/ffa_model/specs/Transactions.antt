@@ -24,11 +24,11 @@ pub record Offers : Type 0 where
   pub transactions : map.FinMap nat_cmp Transaction  -- by handle
   pub sent : List ℕ  -- by endpoint
 
--- RAM as grants and ceilings see it: where it begins, how many pages it has, and the right to each page that its owner
+-- RAM as grants and ceilings see it: where it begins, how many pages it has, and each page's base right, which its owner
 -- has while no transaction names it
 pub record Bases : Type 0 where
-  pub base : ℕ
-  pub count : ℕ
+  pub ram_base : ℕ
+  pub pages : ℕ
   pub right : ℕ → Option Rights
 
 -- what the checks read beside the call: the number of endpoints, RAM with owners and with rights, the buffers, and what
@@ -56,11 +56,11 @@ transfer total fragment address pages = record { total = total; fragment = fragm
 abbrev pub handle_of : ℕ → ℕ → ℕ
 handle_of e number = e * 2 ^ 32 + number
 
-abbrev pub sent_in : Offers → ℕ → ℕ
-sent_in o e = slice_index o.sent (place e)
+abbrev pub sends_of : Offers → ℕ → ℕ
+sends_of o e = slice_index o.sent (place e)
 
 abbrev pub next_handle : Offers → ℕ → ℕ
-next_handle o e = handle_of e (sent_in o e + 1)
+next_handle o e = handle_of e (sends_of o e + 1)
 
 -- how many open transactions e has sent
 abbrev pub open_count : Offers → ℕ → ℕ
@@ -77,7 +77,7 @@ not_holding t e = record t { held = map.remove t.held e }
 -- its sender has made one send more, which is open
 abbrev pub opened : Offers → ℕ → Transaction → Offers
 opened o h t =
-    record o { transactions = map.insert o.transactions h t; sent = slice_set o.sent (place t.sender) (sent_in o t.sender + 1) }
+    record o { transactions = map.insert o.transactions h t; sent = slice_set o.sent (place t.sender) (sends_of o t.sender + 1) }
 
 -- the transaction of a handle is this one, or is open no more
 abbrev pub with_transaction : Offers → ℕ → Transaction → Offers
@@ -89,30 +89,31 @@ closed o h = record o { transactions = map.remove o.transactions h }
 -- CEILINGS
 -- the pages of RAM that the ranges name
 abbrev pub pages_in : Bases → List Range → List ℕ
-pages_in ram ranges = filter (λ p. covers ranges (ram.base + 4096 * p)) (listed ram.count (λ p. p))
+pages_in bases ranges = filter (λ p. covers ranges (bases.ram_base + 4096 * p)) (listed bases.pages (λ p. p))
 
 -- whether all pages that the ranges name have base rw, and whether all have execution
 abbrev pub are_writable : Bases → List Range → Bool
-are_writable ram ranges = list_all (λ p. may_store (ram.right p)) (pages_in ram ranges)
+are_writable bases ranges = list_all (λ p. may_store (bases.right p)) (pages_in bases ranges)
 
 abbrev pub are_executable : Bases → List Range → Bool
-are_executable ram ranges = list_all (λ p. may_fetch (ram.right p)) (pages_in ram ranges)
+are_executable bases ranges = list_all (λ p. may_fetch (bases.right p)) (pages_in bases ranges)
 
--- the data right that e is granted
+-- the data right that e is granted: ro where nothing is, but a send descriptor grants each receiver of a share or a lend one
 abbrev pub grant_to : Transaction → ℕ → Data
 grant_to t e = unwrap_or (option_and_then (λ (r : Receiver). r.grant) (find (λ (r : Receiver). r.endpoint.0 == e) t.receivers)) Ro
 
--- the most that e may hold: what all pages have in a donate; else the grant, with execution in a lend to one alone
+-- the most that e may hold: what all pages have in a donate; else the grant, and a lend to one may be executed where all
+-- pages may
 abbrev pub ceiling_in : Kind → Bases → Transaction → ℕ → Rights
-ceiling_in Donate ram t e =
-    record { level = if are_writable ram t.ranges then Rw else Ro; exec = are_executable ram t.ranges }
-ceiling_in Lend ram t e = record { level = grant_to t e; exec = length t.receivers == 1 && are_executable ram t.ranges }
-ceiling_in Share ram t e = record { level = grant_to t e; exec = false }
+ceiling_in Donate bases t e =
+    record { level = if are_writable bases t.ranges then Rw else Ro; exec = are_executable bases t.ranges }
+ceiling_in Lend bases t e = record { level = grant_to t e; exec = length t.receivers == 1 && are_executable bases t.ranges }
+ceiling_in Share bases t e = record { level = grant_to t e; exec = false }
 
 abbrev pub ceiling : Bases → Transaction → ℕ → Rights
-ceiling ram t e = ceiling_in t.kind ram t e
+ceiling bases t e = ceiling_in t.kind bases t e
 
--- the same of a state
+-- ON A STATE
 abbrev pub offers_of : State → Offers
 offers_of s = record { transactions = s.transactions; sent = s.sent }
 
@@ -123,7 +124,7 @@ abbrev pub base_of : State → ℕ → Option Rights
 base_of s p = option_map (λ (page : Page). page.base) (page_at s p)
 
 abbrev pub bases_of : State → Bases
-bases_of s = record { base = s.ram_base; count = length s.pages; right = base_of s }
+bases_of s = record { ram_base = s.ram_base; pages = length s.pages; right = base_of s }
 
 abbrev pub scene_of : State → Scene
 scene_of s =
