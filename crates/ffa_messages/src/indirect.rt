@@ -129,10 +129,11 @@ pub fn send2<M: PhysMem>(
         Some(mapped) => mapped,
         None => return Err(ErrorCode::InvalidParameters),
     };
-    let mut message = [0; PAGE_SIZE];
-    message.copy_from_slice(ram.page(mapped.tx));
-    let header = MessageHeader::read(&message);
+    let page = ram.page(mapped.tx);
+    let header = MessageHeader::read(page);
     let length = header.checked(buffers, manifest, caller)?;
+    let mut message = [0; PAGE_SIZE];
+    message[..length].copy_from_slice(&page[..length]);
     buffers.fill(ram, header.receiver, &message[..length]);
     Ok(Reply::Success([0; 6]))
 }
