@@ -119,6 +119,19 @@ impl<M: PhysMem + Drop> Machine<M> {
     {
         let mut ram = ram;
         clear(&mut ram);
+        Machine::boot_cleared(manifest, ram)
+    }
+
+    /// The same machine, in RAM of which every byte is zero already, as new RAM is: it builds the tables and clears
+    /// nothing.
+    pub fn boot_cleared(manifest: &Manifest, ram: M) -> Machine<M>
+        requires { M.ram ram ≡ zero_ram manifest.now.ram_base (512 * manifest.now.ram_blocks) }
+        ensures state { result.state ≡ first manifest.now.ram_base manifest.now.ram_blocks manifest.now.endpoints.items }
+        ensures agrees { Agrees result.ram result.state }
+        ensures cleared { (p : ℕ) → length result.state.parties * table_pages manifest.now.ram_blocks ≤ p → p < length result.ram.pages → page_of result.ram p ≡ replicate 4096 0 }
+        ensures sound { IsSoundState result.state }
+    {
+        let mut ram = ram;
         build(&mut ram, &Layout::of(manifest));
         Machine {
             ram,

@@ -1,78 +1,187 @@
--- Writing one page descriptor keeps the tables built, with one right changed.
-use Rattle.std.proofs.Common.{◌≡◌, ◌∙◌, ℕ, ◌+◌, ◌-◌, ◌*◌, ◌/◌, ◌%◌, ◌<◌, true, false, ap, sym, arith, Option, length, inl, inr}
+-- A change in one block of one endpoint keeps the tables built, with one right changed.
+use Rattle.std.proofs.Common.{◌≡◌, ◌≢◌, ◌∙◌, ℕ, ◌+◌, ◌-◌, ◌*◌, ◌/◌, ◌%◌, ◌^◌, ◌<◌, ◌≤◌, true, false, refl, ap, sym, arith, List, Option, length, inl, inr, ◌⊎◌}
 use Rattle.std.specs.Prelude.{◌==◌, ◌&&◌, if◌then◌else◌}
 use Rattle.std.proofs.lemmas.Bool.{cases_eq, cases_Bool}
 use Rattle.std.proofs.lemmas.Bool.Decides.{nat_tests}
-use Rattle.ffa_model.specs.Ram.{Ram, page_of, with_page, with_word}
-use Rattle.ffa_model.specs.Descriptor.{page_word}
+use Rattle.std.proofs.lemmas.Nat.{same_from_place}
+use Rattle.ffa_model.specs.Ram.{Ram, page_of, word_of}
+use Rattle.ffa_model.specs.Manifest.{table_pages}
 use Rattle.ffa_model.specs.Walk.{Answer, is_in_ram, granted}
 use Rattle.ffa_model.specs.declared.rights.Rights.{Rights}
-use Rattle.ffa_stage2.specs.Tables.{IsBuilt, table_page, with_right, answer, is_in_page, WalkChanges, KeepsOthers}
-use Rattle.ffa_stage2.specs.Words.{built_word, built_words}
-use Rattle.ffa_stage2.proofs.Descriptors.{page_word-fits}
+use Rattle.ffa_stage2.specs.declared.blocks.Place.{Place}
+use Rattle.ffa_stage2.specs.Tables.{IsBuilt, InBlock, HasRoom, table_page, table_link, level2_place, level2_word, block_address, rights_of_block, with_right, answer, is_in_page, WalkChanges, KeepsOthers, BlocksWhereOne}
+use Rattle.ffa_stage2.specs.Places.{IsPlace, Maps, KeepsBeside, with_one, word_at, IsPlaceOf}
+use Rattle.ffa_stage2.proofs.Kept.{HasRoom-kept}
+use Rattle.ffa_stage2.proofs.OneBlock.{IsMapped-rights, IsMapped-same, IsBlockWhereOne-of}
+use Rattle.ffa_stage2.proofs.Places.{table_page-below}
 use Rattle.ffa_stage2.proofs.Rights.{with_right-same, with_right-other}
 use Rattle.ffa_stage2.proofs.Walks.{walk-built}
-use Rattle.ffa_stage2.proofs.Words.{words-of_IsBuilt, IsBuilt-of_words, TablesAre-same, built_word-rights, built_word-level3}
-use Rattle.ffa_stage2.proofs.Writes.{put, TablesAre-written, KeepsOthers-written}
 
--- the words with the page's descriptor changed
-put-page_word : (base b : ℕ) (access : ℕ → ℕ → Option Rights) (e p : ℕ) (right : Option Rights) (e' s j : ℕ) → j < 512
-    → put (built_words base b access) e (2 + p / 512) (p % 512) (page_word (base + 4096 * p) right) e' s j
-    ≡ built_words base b (with_right access e p right) e' s j
-put-page_word base b access e p right e' s j hj = elim (cases_eq e' e) [
-  | inr far ↦
-      let test : (e' == e && (s == 2 + p / 512 && j == p % 512)) ≡ false = grind (arith, nat_tests) in
-      rw test (built_word-rights base b e' s j (access e') (with_right access e p right e') (λ k at. sym (with_right-other access e p right e' (512 * k + j) (inl far))))
-  | inl same_e ↦ elim (cases_eq s (2 + p / 512)) [
-    | inr far ↦
-        let test : (e' == e && (s == 2 + p / 512 && j == p % 512)) ≡ false = grind (arith, nat_tests) in
-        rw test (built_word-rights base b e' s j (access e') (with_right access e p right e') (λ k at. sym (with_right-other access e p right e' (512 * k + j) (inr (λ same. far (omega arith))))))
-    | inl same_s ↦ elim (cases_eq j (p % 512)) [
-      | inr far ↦
-          let test : (e' == e && (s == 2 + p / 512 && j == p % 512)) ≡ false = grind (arith, nat_tests) in
-          rw test (built_word-rights base b e' s j (access e') (with_right access e p right e') (λ k at. sym (with_right-other access e p right e' (512 * k + j) (inr (λ same. far (omega arith))))))
-      | inl same_j ↦
-          let test : (e' == e && (s == 2 + p / 512 && j == p % 512)) ≡ true = grind (arith, nat_tests) in
-          let number : 512 * (p / 512) + p % 512 ≡ p = omega arith in
-          rw test (rw (same_e, same_s, same_j) (
-          ap (λ (r : Option Rights). page_word (base + 4096 * p) r) (sym (with_right-same access e p right))
-          ∙ ap (λ (q : ℕ). page_word (base + 4096 * q) (with_right access e p right e q)) (sym number)
-          ∙ sym (built_word-level3 base b e (p / 512) (p % 512) (with_right access e p right e))))
-    ]
-  ]
+-- two table pages
+apart : (b e s e' s' : ℕ) → s < table_pages b → s' < table_pages b → ((e ≢ e') ⊎ (s ≢ s')) → table_page b e s ≢ table_page b e' s'
+apart b e s e' s' hs hs' (inl h) same = h (same_from_place e s e' s' (table_pages b) hs hs' same).0
+apart b e s e' s' hs hs' (inr h) same = h (same_from_place e s e' s' (table_pages b) hs hs' same).1
+
+-- the place of a block
+pub place-of : (ram : Ram) (n b e k : ℕ) (x : Place) → HasRoom ram n b
+    → ((s : ℕ) → s < table_pages b → length (page_of ram (table_page b e s)) ≡ 4096) → e < n → k < b → IsPlaceOf ram b e k x → IsPlace ram x
+place-of ram n b e k x fits whole he hk at =
+    let place : ram.base % 0x4000000 ≡ 0 = fits.place in
+    let few : b ≤ 32 = fits.few in
+    let within : ram.base + 0x200000 * b ≤ 2 ^ 32 = fits.within in
+    let size : length ram.pages ≡ 512 * b = fits.size in
+    let middle : table_page b e 1 < length ram.pages = table_page-below ram n b e 1 fits he (omega arith) in
+    let table : table_page b e (2 + k) < length ram.pages = table_page-below ram n b e (2 + k) fits he (omega arith) in
+    record {
+      middle = rw at.middle middle;
+      table = rw at.table table;
+      apart = λ same. apart b e 1 e (2 + k) (omega arith) (omega arith) (inr (λ h. absurd (omega arith))) (sym at.middle ∙ same ∙ at.table);
+      whole_middle = rw at.middle (whole 1 (omega arith));
+      whole_table = rw at.table (whole (2 + k) (omega arith));
+      entry = rw at.entry (omega arith);
+      link = rw at.link (omega arith);
+      fits = rw at.link (omega arith);
+      aligned = rw at.address (omega arith);
+      within = rw at.address (omega arith);
+    }
+
+-- what built tables say at a place
+pub maps-of : (ram : Ram) (b e k : ℕ) (x : Place) (rights : ℕ → Option Rights) → IsPlaceOf ram b e k x → InBlock ram b e rights k
+    → Maps ram x (rights_of_block rights k)
+maps-of ram b e k x rights at mapped = rw (at.middle, at.entry, at.table, at.link, at.address) mapped
+
+-- the right to one page of a block
+with_right-block : (access : ℕ → ℕ → Option Rights) (e p : ℕ) (right : Option Rights) (j : ℕ) → j < 512
+    → with_one (rights_of_block (access e) (p / 512)) (p % 512) right j ≡ rights_of_block (with_right access e p right e) (p / 512) j
+with_right-block access e p right j hj = elim (cases_eq j (p % 512)) [
+  | inl same ↦
+      let here : (j == p % 512) ≡ true = grind (arith, nat_tests) in
+      let number : 512 * (p / 512) + j ≡ p = omega arith in
+      rw (here, number) (sym (with_right-same access e p right))
+  | inr other ↦
+      let off : (j == p % 512) ≡ false = grind (arith, nat_tests) in
+      rw off (sym (with_right-other access e p right e (512 * (p / 512) + j) (inr (λ same. other (omega arith)))))
 ]
 
-module _ (old new : Ram) (n b : ℕ) (access : ℕ → ℕ → Option Rights) (e p : ℕ) (right : Option Rights) (built : IsBuilt old n b access) (he : e < n) (hp : p < 512 * b)
-    (page place value : ℕ) (wrote : new ≡ with_page old page (with_word (page_of old page) place value))
-    (same_page : page ≡ table_page b e (2 + p / 512)) (same_place : place ≡ p % 512) (address : ℕ) (same_value : value ≡ page_word address right) (same_address : address ≡ old.base + 4096 * p) where
-  -- the descriptor that is written
-  written_word : value ≡ page_word (old.base + 4096 * p) right
-  written_word = same_value ∙ ap (λ (a : ℕ). page_word a right) same_address
+module _ (old new : Ram) (n b e k : ℕ) (f g : ℕ → ℕ → Option Rights) (x : Place) (built : IsBuilt old n b f) (he : e < n) (hk : k < b)
+    (at : IsPlaceOf old b e k x) (beside : KeepsBeside old new x) (mapped : Maps new x (rights_of_block (g e) k))
+    (same : (e' k' j : ℕ) → e' < n → k' < b → j < 512 → ((e' ≢ e) ⊎ (k' ≢ k)) → f e' (512 * k' + j) ≡ g e' (512 * k' + j)) where
+  page-other : (e' s : ℕ) → s < table_pages b → ((e' ≢ e) ⊎ ((s ≢ 1) × (s ≢ 2 + k))) → page_of new (table_page b e' s) ≡ page_of old (table_page b e' s)
+  page-other e' s hs (inl far) =
+      beside.pages (table_page b e' s) (λ h. apart b e' s e 1 hs (omega arith) (inl far) (h ∙ at.middle))
+      (λ h. apart b e' s e (2 + k) hs (omega arith) (inl far) (h ∙ at.table))
+  page-other e' s hs (inr (one, two)) =
+      beside.pages (table_page b e' s) (λ h. apart b e' s e 1 hs (omega arith) (inr one) (h ∙ at.middle))
+      (λ h. apart b e' s e (2 + k) hs (omega arith) (inr two) (h ∙ at.table))
 
-  -- the code's write changes the endpoint's table pages alone
-  pub others-changed : KeepsOthers old new b e
-  others-changed =
-      KeepsOthers-written old n b (built_words old.base b access) e (2 + p / 512) (p % 512) (page_word (old.base + 4096 * p) right)
-      (words-of_IsBuilt old n b access built) he (omega arith) (omega arith) (page_word-fits right (old.base + 4096 * p))
-      new page place value wrote same_page same_place written_word
+  word-other : (e' s j : ℕ) → s < table_pages b → ((e' ≢ e) ⊎ ((s ≢ 1) × (s ≢ 2 + k)))
+      → word_of (page_of new (table_page b e' s)) j ≡ word_of (page_of old (table_page b e' s)) j
+  word-other e' s j hs far = ap (λ (bytes : List ℕ). word_of bytes j) (page-other e' s hs far)
 
+  -- the other words of the endpoint's level 2 page
+  level2-other : (j : ℕ) → j < 512 → j ≢ level2_place old.base + k
+      → word_of (page_of new (table_page b e 1)) j ≡ word_of (page_of old (table_page b e 1)) j
+  level2-other j hj other = rw at.middle at (beside.words j hj (λ h. other (h ∙ at.entry)))
+
+  whole-after : (e' s : ℕ) → e' < n → s < table_pages b → length (page_of new (table_page b e' s)) ≡ 4096
+  whole-after e' s he' hs = elim (cases_eq e' e) [
+    | inr far ↦ ap length (page-other e' s hs (inl far)) ∙ built.whole e' s he' hs
+    | inl same_e ↦ elim (cases_eq s 1) [
+      | inl middle ↦ rw (same_e, middle) (rw at.middle at beside.whole_middle)
+      | inr one ↦ elim (cases_eq s (2 + k)) [
+        | inl table ↦ rw (same_e, table) (rw at.table at beside.whole_table)
+        | inr two ↦ ap length (page-other e' s hs (inr (one, two))) ∙ built.whole e' s he' hs
+      ]
+    ]
+  ]
+
+  outside-after : (e' j : ℕ) → e' < n → j < 512 → ((j < level2_place old.base) ⊎ (level2_place old.base + b ≤ j))
+      → word_of (page_of new (table_page b e' 1)) j ≡ 0
+  outside-after e' j he' hj off = elim (cases_eq e' e) [
+    | inr far ↦ word-other e' 1 j (omega arith) (inl far) ∙ built.outside e' j he' hj off
+    | inl same_e ↦
+        rw same_e (level2-other j hj (λ h. elim off [ inl low ↦ absurd (omega arith) | inr high ↦ absurd (omega arith) ]))
+        ∙ rw same_e at (built.outside e' j he' hj off)
+  ]
+
+  here-after : InBlock new b e (g e) k
+  here-after =
+      IsMapped-same (word_at new x) (level2_word new b e k) x.link (table_link new.base b e (2 + k)) (page_of new x.table.0) (page_of new (table_page b e (2 + k)))
+      x.address (block_address new k) (rights_of_block (g e) k)
+      (rw (at.middle, at.entry, beside.base) refl) (rw (at.link, beside.base) refl) (rw at.table refl) (rw (at.address, beside.base) refl) mapped
+
+  other-after : (e' k' : ℕ) → e' < n → k' < b → ((e' ≢ e) ⊎ (k' ≢ k))
+      → word_of (page_of new (table_page b e' 1)) (level2_place old.base + k') ≡ level2_word old b e' k'
+      → page_of new (table_page b e' (2 + k')) ≡ page_of old (table_page b e' (2 + k')) → InBlock new b e' (g e') k'
+  other-after e' k' he' hk' far word page =
+      IsMapped-same (level2_word old b e' k') (level2_word new b e' k') (table_link old.base b e' (2 + k')) (table_link new.base b e' (2 + k'))
+      (page_of old (table_page b e' (2 + k'))) (page_of new (table_page b e' (2 + k'))) (block_address old k') (block_address new k') (rights_of_block (g e') k')
+      (rw beside.base word) (ap (λ (a : ℕ). table_link a b e' (2 + k')) beside.base) page (ap (λ (a : ℕ). a + 0x200000 * k') beside.base)
+      (IsMapped-rights (level2_word old b e' k') (table_link old.base b e' (2 + k')) (page_of old (table_page b e' (2 + k'))) (block_address old k')
+      (rights_of_block (f e') k') (rights_of_block (g e') k') (λ j hj. same e' k' j he' hk' hj far) (built.each e' k' he' hk'))
+
+  each-after : (e' k' : ℕ) → e' < n → k' < b → InBlock new b e' (g e') k'
+  each-after e' k' he' hk' =
+      let place : old.base % 0x4000000 ≡ 0 = built.fits.place in
+      let within : old.base + 0x200000 * b ≤ 2 ^ 32 = built.fits.within in
+      let few : b ≤ 32 = built.fits.few in
+      elim (cases_eq e' e) [
+        | inr far ↦ other-after e' k' he' hk' (inl far) (word-other e' 1 (level2_place old.base + k') (omega arith) (inl far)) (page-other e' (2 + k') (omega arith) (inl far))
+        | inl same_e ↦ elim (cases_eq k' k) [
+          | inl same_k ↦ rw (same_e, same_k) here-after
+          | inr off ↦
+              other-after e' k' he' hk' (inr off)
+              (rw same_e (level2-other (level2_place old.base + k') (omega arith) (λ h. off (omega arith))))
+              (page-other e' (2 + k') (omega arith) (inr ((λ h. absurd (omega arith)), (λ h. off (omega arith)))))
+        ]
+      ]
+
+  -- tables are built after a change in one block
+  pub built-beside : IsBuilt new n b g
+  built-beside = record {
+    fits = HasRoom-kept old new n b built.fits beside.base beside.size;
+    whole = whole-after;
+    level1 = λ e' j he' hj. rw beside.base (word-other e' 0 j (omega arith) (inr ((λ h. absurd (omega arith)), (λ h. absurd (omega arith)))) ∙ built.level1 e' j he' hj);
+    outside = λ e' j he' hj off. outside-after e' j he' hj (rw beside.base at off);
+    each = each-after;
+  }
+
+-- and no page but the endpoint's table pages changed
+pub others-beside : (old new : Ram) (b e k : ℕ) (x : Place) → k < b → IsPlaceOf old b e k x → KeepsBeside old new x → KeepsOthers old new b e
+others-beside old new b e k x hk at beside = record {
+  base = beside.base;
+  size = beside.size;
+  pages = λ p h. beside.pages p
+      (λ same. elim h [ inl low ↦ absurd (omega (arith, low, same, at.middle)) | inr high ↦ absurd (omega (arith, high, same, at.middle)) ])
+      (λ same. elim h [ inl low ↦ absurd (omega (arith, low, same, at.table)) | inr high ↦ absurd (omega (arith, high, same, at.table)) ]);
+}
+
+-- built tables have blocks where they belong
+pub blocks-built : (ram : Ram) (n b : ℕ) (access : ℕ → ℕ → Option Rights) → IsBuilt ram n b access → BlocksWhereOne ram n b access
+blocks-built ram n b access built e k he hk =
+    let place : ram.base % 0x4000000 ≡ 0 = built.fits.place in
+    let within : ram.base + 0x200000 * b ≤ 2 ^ 32 = built.fits.within in
+    IsBlockWhereOne-of _ _ _ _ _ (omega arith) (omega arith) (omega arith) (built.each e k he hk)
+
+module _ (old new : Ram) (n b : ℕ) (access : ℕ → ℕ → Option Rights) (e p : ℕ) (right : Option Rights) (x : Place) (built : IsBuilt old n b access) (he : e < n) (hp : p < 512 * b)
+    (at : IsPlaceOf old b e (p / 512) x) (beside : KeepsBeside old new x)
+    (mapped : (rights : ℕ → Option Rights) → Maps old x rights → Maps new x (with_one rights (p % 512) right)) where
   pub built-changed : IsBuilt new n b (with_right access e p right)
   built-changed =
-      let written =
-      TablesAre-written old n b (built_words old.base b access) e (2 + p / 512) (p % 512) (page_word (old.base + 4096 * p) right)
-      (words-of_IsBuilt old n b access built) he (omega arith) (omega arith) (page_word-fits right (old.base + 4096 * p))
-      new page place value wrote same_page same_place written_word
-      in
-      let stays : new.base ≡ old.base = others-changed.base in
-      IsBuilt-of_words new n b (with_right access e p right) (TablesAre-same new n b _ (built_words new.base b (with_right access e p right)) written
-      (λ e' s j _ _ hj. put-page_word old.base b access e p right e' s j hj
-      ∙ ap (λ (base : ℕ). built_word base b e' (with_right access e p right e') s j) (sym stays)))
+      built-beside old new n b e (p / 512) access (with_right access e p right) x built he (omega arith) at beside
+      (IsMapped-rights _ _ _ _ (with_one (rights_of_block (access e) (p / 512)) (p % 512) right) (rights_of_block (with_right access e p right e) (p / 512))
+      (with_right-block access e p right)
+      (mapped (rights_of_block (access e) (p / 512)) (maps-of old b e (p / 512) x (access e) at (built.each e (p / 512) he (omega arith)))))
+      (λ e' k' j _ _ hj far. sym (with_right-other access e p right e' (512 * k' + j) (elim far [
+        | inl other ↦ inl other
+        | inr other ↦ inr (λ same. other (omega arith))
+      ])))
 
   -- the answers, old and new
   answer-changed : (e' a : ℕ) → answer new (with_right access e p right) e' a ≡ (if e' == e && is_in_page old p a then granted right a else answer old access e' a)
   answer-changed e' a =
-      let stays : new.base ≡ old.base = others-changed.base in
-      let size : length new.pages ≡ length old.pages = others-changed.size in
+      let stays : new.base ≡ old.base = beside.base in
+      let size : length new.pages ≡ length old.pages = beside.size in
       rw (stays, size) (elim (cases_Bool (is_in_ram old a)) [
         | inl here ↦ elim (cases_eq e' e) [
           | inl same ↦ elim (cases_eq ((a - old.base) / 4096) p) [

@@ -36,7 +36,7 @@ cleared ram n b base fits zeros =
 
 -- all endpoints linked
 pub all-linked : (ram : Ram) (n b base : ℕ) → ram.base ≡ base → TablesAre ram n b (linked base b n) → IsBuilt ram n b no_access
-all-linked ram n b base stands t = IsBuilt-of_words ram n b no_access (record {
+all-linked ram n b base stands t = IsBuilt-of_words ram n b (record {
   fits = t.fits;
   whole = t.whole;
   words = λ e s j he hs hj.

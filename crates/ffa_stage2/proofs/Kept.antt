@@ -1,12 +1,12 @@
 -- What is left of the tables and of the other pages after writes elsewhere.
-use Rattle.std.proofs.Common.{◌≡◌, ◌∙◌, ℕ, ◌+◌, ◌<◌, refl, ap, arith, List, length, Option, inr}
+use Rattle.std.proofs.Common.{◌≡◌, ◌∙◌, ℕ, ◌+◌, ◌*◌, ◌<◌, refl, ap, arith, List, length, Option, inr}
 use Rattle.std.proofs.lemmas.Nat.{mul-add-lt}
 use Rattle.ffa_model.specs.Ram.{Ram, page_of, word_of}
 use Rattle.ffa_model.specs.Manifest.{table_pages}
 use Rattle.ffa_model.specs.declared.rights.Rights.{Rights}
-use Rattle.ffa_stage2.specs.Tables.{IsBuilt, HasRoom, table_page, KeepsOthers, KeepsRest}
+use Rattle.ffa_stage2.specs.Tables.{IsBuilt, HasRoom, table_page, table_link, level2_place, level2_word, block_address, rights_of_block, KeepsOthers, KeepsRest}
 use Rattle.ffa_stage2.proofs.Places.{table_page-below_end}
-use Rattle.ffa_stage2.proofs.Words.{words-of_IsBuilt, IsBuilt-of_words}
+use Rattle.ffa_stage2.proofs.OneBlock.{IsMapped-same}
 
 -- a RAM that stands alike has room alike
 pub HasRoom-kept : (old new : Ram) (n b : ℕ) → HasRoom old n b → new.base ≡ old.base → length new.pages ≡ length old.pages → HasRoom new n b
@@ -22,15 +22,23 @@ HasRoom-kept old new n b fits base size = record {
 pub built-kept : (old new : Ram) (n b : ℕ) (access : ℕ → ℕ → Option Rights) → IsBuilt old n b access → new.base ≡ old.base → length new.pages ≡ length old.pages
     → ((p : ℕ) → p < table_page b n 0 → page_of new p ≡ page_of old p) → IsBuilt new n b access
 built-kept old new n b access built base size same =
-    let t = words-of_IsBuilt old n b access built in
     let page : (e s : ℕ) → e < n → s < table_pages b → page_of new (table_page b e s) ≡ page_of old (table_page b e s) =
     λ e s he hs. same (table_page b e s) (omega (arith, table_page-below_end n b e s he hs))
     in
-    IsBuilt-of_words new n b access (record {
-      fits = HasRoom-kept old new n b t.fits base size;
-      whole = λ e s he hs. ap length (page e s he hs) ∙ t.whole e s he hs;
-      words = λ e s j he hs hj. rw base (ap (λ (bytes : List ℕ). word_of bytes j) (page e s he hs) ∙ t.words e s j he hs hj);
-    })
+    let word : (e s j : ℕ) → e < n → s < table_pages b → word_of (page_of new (table_page b e s)) j ≡ word_of (page_of old (table_page b e s)) j =
+    λ e s j he hs. ap (λ (bytes : List ℕ). word_of bytes j) (page e s he hs)
+    in
+    record {
+      fits = HasRoom-kept old new n b built.fits base size;
+      whole = λ e s he hs. ap length (page e s he hs) ∙ built.whole e s he hs;
+      level1 = λ e j he hj. rw base (word e 0 j he (omega arith) ∙ built.level1 e j he hj);
+      outside = λ e j he hj off. word e 1 j he (omega arith) ∙ built.outside e j he hj (rw base at off);
+      each = λ e k he hk.
+          IsMapped-same (level2_word old b e k) (level2_word new b e k) (table_link old.base b e (2 + k)) (table_link new.base b e (2 + k))
+          (page_of old (table_page b e (2 + k))) (page_of new (table_page b e (2 + k))) (block_address old k) (block_address new k) (rights_of_block (access e) k)
+          (rw base (word e 1 (level2_place old.base + k) he (omega arith))) (ap (λ (a : ℕ). table_link a b e (2 + k)) base)
+          (page e (2 + k) he (omega arith)) (ap (λ (a : ℕ). a + 0x200000 * k) base) (built.each e k he hk);
+    }
 
 pub KeepsRest-same : (ram : Ram) (n b : ℕ) → KeepsRest ram ram n b
 KeepsRest-same ram n b = record { base = refl; size = refl; pages = λ p h. refl }

@@ -8,3 +8,5 @@ pub mod Rights
 pub mod Changes
 pub mod Cleared
 pub mod Links
+pub mod Lanes
+pub mod OneBlock

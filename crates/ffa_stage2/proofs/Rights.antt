@@ -5,9 +5,9 @@ use Rattle.std.proofs.lemmas.Bool.{cases_eq}
 use Rattle.std.proofs.lemmas.Bool.Decides.{nat_tests}
 use Rattle.ffa_model.specs.Ram.{Ram}
 use Rattle.ffa_model.specs.declared.rights.Rights.{Rights}
-use Rattle.ffa_stage2.specs.Tables.{IsBuilt, with_right}
-use Rattle.ffa_stage2.specs.Words.{rights_until, no_access, built_words}
-use Rattle.ffa_stage2.proofs.Words.{words-of_IsBuilt, IsBuilt-of_words, TablesAre-same, built_word-rights}
+use Rattle.ffa_stage2.specs.Tables.{IsBuilt, with_right, rights_of_block}
+use Rattle.ffa_stage2.specs.Words.{rights_until, no_access}
+use Rattle.ffa_stage2.proofs.OneBlock.{IsMapped-rights}
 
 pub with_right-same : (access : ℕ → ℕ → Option Rights) (e p : ℕ) (right : Option Rights) → with_right access e p right e p ≡ right
 with_right-same access e p right = let t : (e == e && p == p) ≡ true = grind (arith, nat_tests) in rw t
@@ -20,9 +20,13 @@ with_right-other access e p right e' p' (inr h) = let t : (e' == e && p' == p) �
 -- tables are built alike for two accesses that agree on every endpoint and page
 pub built-same : (ram : Ram) (n b : ℕ) (f g : ℕ → ℕ → Option Rights) → IsBuilt ram n b f
     → ((e p : ℕ) → e < n → p < 512 * b → f e p ≡ g e p) → IsBuilt ram n b g
-built-same ram n b f g built same =
-    IsBuilt-of_words ram n b g (TablesAre-same ram n b (built_words ram.base b f) (built_words ram.base b g) (words-of_IsBuilt ram n b f built)
-    (λ e s j he hs hj. built_word-rights ram.base b e s j (f e) (g e) (λ k at. same e (512 * k + j) he (omega (arith, hs, hj, at)))))
+built-same ram n b f g built same = record {
+  fits = built.fits;
+  whole = built.whole;
+  level1 = built.level1;
+  outside = built.outside;
+  each = λ e k he hk. IsMapped-rights _ _ _ _ (rights_of_block (f e) k) (rights_of_block (g e) k) (λ j hj. same e (512 * k + j) he (omega arith)) (built.each e k he hk);
+}
 
 -- one more page has its right
 pub rights_until-next : (rights : ℕ → ℕ → Option Rights) (done page e p : ℕ)

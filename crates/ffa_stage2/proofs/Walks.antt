@@ -1,17 +1,18 @@
 -- The walk of built tables gives the access.
-use Rattle.std.proofs.Common.{◌≡◌, ◌∙◌, ℕ, ◌+◌, ◌-◌, ◌*◌, ◌/◌, ◌%◌, ◌^◌, ◌<◌, ◌≤◌, true, false, ap, arith, Option, Err, length, inl, inr}
+use Rattle.std.proofs.Common.{◌≡◌, ◌∙◌, ℕ, ◌+◌, ◌-◌, ◌*◌, ◌/◌, ◌%◌, ◌^◌, ◌<◌, ◌≤◌, true, false, ap, sym, arith, Option, Some, Err, length, inl, inr}
 use Rattle.std.specs.Prelude.{◌==◌, nat_lt}
 use Rattle.std.proofs.lemmas.Bool.{cases_lt, cases_eq}
 use Rattle.std.proofs.lemmas.Bool.Decides.{nat_tests}
 use Rattle.ffa_model.specs.Bits.{bits}
-use Rattle.ffa_model.specs.Ram.{Ram}
+use Rattle.ffa_model.specs.Ram.{Ram, page_of}
 use Rattle.ffa_model.specs.Manifest.{root_of}
 use Rattle.ffa_model.specs.Descriptor.{page_word}
 use Rattle.ffa_model.specs.Walk.{is_in_ram, entry, from_level3, from_level2, from_level1, walk, granted}
 use Rattle.ffa_model.specs.declared.operation.FaultKind.TheVariants.{Translation}
 use Rattle.ffa_model.specs.declared.rights.Rights.{Rights}
-use Rattle.ffa_stage2.specs.Tables.{IsBuilt, InPages, table_page, table_link, level1_place, level2_place, answer}
-use Rattle.ffa_stage2.proofs.Descriptors.{from_level3-page_word, from_level2-zero, from_level1-zero, from_level2-table, from_level1-table, entry-page}
+use Rattle.ffa_stage2.specs.Blocks.{block_word, IsBlock, IsTable}
+use Rattle.ffa_stage2.specs.Tables.{IsBuilt, InBlock, table_page, table_link, level1_place, level2_place, level2_word, block_address, rights_of_block, answer}
+use Rattle.ffa_stage2.proofs.Descriptors.{from_level3-page_word, from_level2-block_word, from_level2-zero, from_level1-zero, from_level2-table, from_level1-table, entry-page}
 use Rattle.ffa_stage2.proofs.Places.{is_in_ram-inside, is_in_ram-outside, table_page-below, table_page-address}
 
 answer-inside : (ram : Ram) (access : ℕ → ℕ → Option Rights) (e p a : ℕ) → a ≡ ram.base + 4096 * p + a % 4096 → p < length ram.pages
@@ -27,11 +28,26 @@ unfolding granted
 answer-outside ram access e a h = let out : is_in_ram ram a ≡ false = is_in_ram-outside ram a h in rw out
 
 module _ (ram : Ram) (n b : ℕ) (access : ℕ → ℕ → Option Rights) (e a : ℕ) (built : IsBuilt ram n b access) (he : e < n) (ha : a < 2 ^ 32) where
-  -- the answer in block k
-  in_pages : (k : ℕ) → k < b → InPages ram b e (access e) k
-      → from_level2 ram (table_link ram.base b e (2 + k)) a
-      ≡ granted (access e (512 * k + bits 20 12 a)) (ram.base + 4096 * (512 * k + bits 20 12 a) + a % 4096)
-  in_pages k hk pages =
+  -- the answer in block k, where a block stands
+  in_block : (k : ℕ) → k < b → (word : ℕ) → IsBlock word (block_address ram k) (rights_of_block (access e) k)
+      → from_level2 ram word a ≡ granted (access e (512 * k + bits 20 12 a)) (ram.base + 4096 * (512 * k + bits 20 12 a) + a % 4096)
+  in_block k hk word block =
+      let j : ℕ = bits 20 12 a in
+      let g : ℕ = (ram.base + 0x200000 * k) / 0x200000 in
+      let aligned : ram.base % 0x4000000 ≡ 0 = built.fits.place in
+      let within : ram.base + 0x200000 * b ≤ 2 ^ 32 = built.fits.within in
+      let address : ram.base + 0x200000 * k ≡ 0x200000 * g = omega arith in
+      let target : g * 2 ^ 21 + bits 20 0 a ≡ ram.base + 4096 * (512 * k + j) + a % 4096 = omega arith in
+      ap (λ (w : ℕ). from_level2 ram w a) (block.is ∙ ap (λ (x : ℕ). block_word x block.right) address)
+      ∙ from_level2-block_word ram block.right g a (omega arith)
+      ∙ ap (λ (x : ℕ). granted (Some block.right) x) target
+      ∙ ap (λ (r : Option Rights). granted r (ram.base + 4096 * (512 * k + j) + a % 4096)) (sym (block.one j (omega arith)))
+
+  -- and where a table stands
+  in_table : (k : ℕ) → k < b → (word : ℕ)
+      → IsTable word (table_link ram.base b e (2 + k)) (page_of ram (table_page b e (2 + k))) (block_address ram k) (rights_of_block (access e) k)
+      → from_level2 ram word a ≡ granted (access e (512 * k + bits 20 12 a)) (ram.base + 4096 * (512 * k + bits 20 12 a) + a % 4096)
+  in_table k hk word table =
       let j : ℕ = bits 20 12 a in
       let f : ℕ = ram.base / 4096 + (512 * k + j) in
       let t : ℕ = ram.base + 4096 * table_page b e (2 + k) in
@@ -39,15 +55,22 @@ module _ (ram : Ram) (n b : ℕ) (access : ℕ → ℕ → Option Rights) (e a :
       let aligned : ram.base % 0x4000000 ≡ 0 = built.fits.place in
       let within : ram.base + 0x200000 * b ≤ 2 ^ 32 = built.fits.within in
       let size : length ram.pages ≡ 512 * b = built.fits.size in
-      let q : ram.base + 4096 * (512 * k + j) ≡ 4096 * f = omega arith in
+      let q : ram.base + 0x200000 * k + 4096 * j ≡ 4096 * f = omega arith in
       let target : f * 2 ^ 12 + bits 11 0 a ≡ ram.base + 4096 * (512 * k + j) + a % 4096 = omega arith in
       let small : f < 2 ^ 36 = omega arith in
       let below : table_page b e (2 + k) < length ram.pages = table_page-below ram n b e (2 + k) built.fits he (omega arith) in
-      from_level2-table ram t a (omega arith) (omega arith) (table_page-address ram n b e (2 + k) built.fits he (omega arith))
-      ∙ ap (λ (w : ℕ). from_level3 w a) (entry-page ram (table_page b e (2 + k)) j ∙ pages.words j hj
+      ap (λ (w : ℕ). from_level2 ram w a) table.is
+      ∙ from_level2-table ram t a (omega arith) (omega arith) (table_page-address ram n b e (2 + k) built.fits he (omega arith))
+      ∙ ap (λ (w : ℕ). from_level3 w a) (entry-page ram (table_page b e (2 + k)) j ∙ table.pages j hj
       ∙ ap (λ (x : ℕ). page_word x (access e (512 * k + j))) q)
       ∙ from_level3-page_word (access e (512 * k + j)) f a small
       ∙ ap (λ (x : ℕ). granted (access e (512 * k + j)) x) target
+
+  in_pages : (k : ℕ) → k < b → InBlock ram b e (access e) k
+      → from_level2 ram (level2_word ram b e k) a
+      ≡ granted (access e (512 * k + bits 20 12 a)) (ram.base + 4096 * (512 * k + bits 20 12 a) + a % 4096)
+  in_pages k hk (inl block) = in_block k hk (level2_word ram b e k) block
+  in_pages k hk (inr (table, mixed)) = in_table k hk (level2_word ram b e k) table
 
   -- from the level 2 page on
   in_level2 : bits 31 30 a ≡ level1_place ram.base
@@ -75,7 +98,7 @@ module _ (ram : Ram) (n b : ℕ) (access : ℕ → ℕ → Option Rights) (e a :
               let jk : j ≡ first + k = omega arith in
               let pages = built.each e k he hk in
               ap (λ (w : ℕ). from_level2 ram w a) (ap (λ (i : ℕ). entry ram (ram.base + 4096 * table_page b e 1) i) jk
-              ∙ entry-page ram (table_page b e 1) (first + k) ∙ pages.table)
+              ∙ entry-page ram (table_page b e 1) (first + k))
               ∙ in_pages k hk pages
               ∙ answer-inside ram access e (512 * k + bits 20 12 a) a (omega arith) (omega arith)
         ]

@@ -1,14 +1,15 @@
 -- Built tables, word by word.
-use Rattle.std.proofs.Common.{◌≡◌, ◌∙◌, ℕ, zero, suc, ◌+◌, ◌-◌, ◌*◌, ◌<◌, ◌≤◌, true, false, refl, ap, sym, arith, Option, inl, inr, ◌⊎◌, ◌%◌, ◌^◌}
-use Rattle.std.specs.Prelude.{◌==◌, ◌&&◌, nat_lt, nat_le, if◌then◌else◌}
-use Rattle.std.proofs.lemmas.Bool.{cases_lt}
+use Rattle.std.proofs.Common.{◌≡◌, ◌∙◌, ℕ, suc, ◌+◌, ◌-◌, ◌*◌, ◌<◌, ◌≤◌, true, false, refl, ap, sym, arith, Option, None, inl, inr, ◌%◌, ◌^◌}
+use Rattle.std.specs.Prelude.{◌==◌, ◌&&◌, nat_lt, nat_le, if◌then◌else◌, is_some}
+use Rattle.std.proofs.lemmas.Bool.{false≢true}
 use Rattle.std.proofs.lemmas.Bool.Decides.{nat_tests}
-use Rattle.ffa_model.specs.Ram.{Ram, page_of, word_of}
+use Rattle.ffa_model.specs.Ram.{Ram}
 use Rattle.ffa_model.specs.Descriptor.{page_word}
 use Rattle.ffa_model.specs.Manifest.{table_pages}
 use Rattle.ffa_model.specs.declared.rights.Rights.{Rights}
-use Rattle.ffa_stage2.specs.Tables.{IsBuilt, table_page, table_link, level1_place, level2_place}
-use Rattle.ffa_stage2.specs.Words.{TablesAre, built_word, built_words}
+use Rattle.ffa_stage2.specs.Blocks.{IsOne}
+use Rattle.ffa_stage2.specs.Tables.{IsBuilt, table_link, level1_place, level2_place, rights_of_block}
+use Rattle.ffa_stage2.specs.Words.{TablesAre, built_word, built_words, no_access}
 
 -- the words of level 1
 pub built_word-level1 : (base b e j : ℕ) (rights : ℕ → Option Rights)
@@ -49,15 +50,6 @@ pub built_word-level3 : (base b e k j : ℕ) (rights : ℕ → Option Rights)
 unfolding built_word
 built_word-level3 base b e k j rights = let two : 2 + k ≡ suc (suc k) = omega arith in rw two
 
--- only a word of level 3 depends on the rights
-pub built_word-rights : (base b e s j : ℕ) (f g : ℕ → Option Rights) → ((k : ℕ) → s ≡ 2 + k → f (512 * k + j) ≡ g (512 * k + j))
-    → built_word base b e f s j ≡ built_word base b e g s j
-unfolding built_word
-built_word-rights base b e zero j f g h = refl
-built_word-rights base b e (suc zero) j f g h = refl
-built_word-rights base b e (suc (suc k)) j f g h =
-    ap (λ (r : Option Rights). page_word (base + 4096 * (512 * k + j)) r) (h k (omega arith))
-
 -- equal words are the same tables
 pub TablesAre-same : (ram : Ram) (n b : ℕ) (f g : ℕ → ℕ → ℕ → ℕ) → TablesAre ram n b f
     → ((e s j : ℕ) → e < n → s < table_pages b → j < 512 → f e s j ≡ g e s j) → TablesAre ram n b g
@@ -67,50 +59,30 @@ TablesAre-same ram n b f g t h = record {
   words = λ e s j he hs hj. t.words e s j he hs hj ∙ h e s j he hs hj;
 }
 
-pub IsBuilt-of_words : (ram : Ram) (n b : ℕ) (access : ℕ → ℕ → Option Rights) → TablesAre ram n b (built_words ram.base b access) → IsBuilt ram n b access
-IsBuilt-of_words ram n b access t = record {
+-- tables with no right are built
+no_right : (rights : ℕ → Option Rights) (r : Rights) → rights 0 ≡ None → IsOne rights r → ⊥
+no_right rights r none one = false≢true (ap is_some (sym none ∙ one 0 (omega arith)))
+
+pub IsBuilt-of_words : (ram : Ram) (n b : ℕ) → TablesAre ram n b (built_words ram.base b no_access) → IsBuilt ram n b no_access
+IsBuilt-of_words ram n b t = record {
   fits = t.fits;
   whole = t.whole;
-  level1 = λ e j he hj. t.words e 0 j he (omega arith) hj ∙ built_word-level1 ram.base b e j (access e);
+  level1 = λ e j he hj. t.words e 0 j he (omega arith) hj ∙ built_word-level1 ram.base b e j (no_access e);
   outside = λ e j he hj off.
       t.words e 1 j he (omega arith) hj
-      ∙ built_word-level2_other ram.base b e j (access e) (λ from below. elim off [ inl low ↦ omega arith | inr high ↦ omega arith ]);
+      ∙ built_word-level2_other ram.base b e j (no_access e) (λ from below. elim off [ inl low ↦ omega arith | inr high ↦ omega arith ]);
   each = λ e k he hk.
       let few : b ≤ 32 = t.fits.few in
       let place : ram.base % 0x4000000 ≡ 0 = t.fits.place in
       let within : ram.base + 0x200000 * b ≤ 2 ^ 32 = t.fits.within in
-      record {
-        table = t.words e 1 (level2_place ram.base + k) he (omega arith) (omega arith) ∙ built_word-level2_here ram.base b e k (access e) hk;
-        words = λ j hj. t.words e (2 + k) j he (omega arith) hj ∙ built_word-level3 ram.base b e k j (access e);
-      };
-}
-
-words-below : (ram : Ram) (n b : ℕ) (access : ℕ → ℕ → Option Rights) (e s j : ℕ) → IsBuilt ram n b access → e < n → s < table_pages b → j < 512
-    → word_of (page_of ram (table_page b e s)) j ≡ built_word ram.base b e (access e) s j
-words-below ram n b access e zero j t he hs hj = t.level1 e j he hj ∙ sym (built_word-level1 ram.base b e j (access e))
-words-below ram n b access e (suc zero) j t he hs hj =
-    let first : ℕ = level2_place ram.base in
-    let off : ((j < first) ⊎ (first + b ≤ j)) → word_of (page_of ram (table_page b e 1)) j ≡ built_word ram.base b e (access e) 1 j =
-    λ h. t.outside e j he hj h ∙ sym (built_word-level2_other ram.base b e j (access e) (λ from below. elim h [ inl low ↦ omega arith | inr high ↦ omega arith ]))
-    in
-    elim (cases_lt j first) [
-      | inl low ↦ off (inl low)
-      | inr from ↦ elim (cases_lt j (first + b)) [
-        | inr high ↦ off (inr high)
-        | inl below ↦
-            let at : j ≡ first + (j - first) = omega arith in
-            let here = t.each e (j - first) he (omega arith) in
-            rw at (here.table ∙ sym (built_word-level2_here ram.base b e (j - first) (access e) (omega arith)))
-      ]
-    ]
-words-below ram n b access e (suc (suc k)) j t he hs hj =
-    let two : suc (suc k) ≡ 2 + k = omega arith in
-    let here = t.each e k he (omega arith) in
-    rw two (here.words j hj ∙ sym (built_word-level3 ram.base b e k j (access e)))
-
-pub words-of_IsBuilt : (ram : Ram) (n b : ℕ) (access : ℕ → ℕ → Option Rights) → IsBuilt ram n b access → TablesAre ram n b (built_words ram.base b access)
-words-of_IsBuilt ram n b access t = record {
-  fits = t.fits;
-  whole = t.whole;
-  words = λ e s j he hs hj. words-below ram n b access e s j t he hs hj;
+      inr (
+        record {
+          is = t.words e 1 (level2_place ram.base + k) he (omega arith) (omega arith) ∙ built_word-level2_here ram.base b e k (no_access e) hk;
+          pages = λ j hj.
+              let address : ram.base + 4096 * (512 * k + j) ≡ ram.base + 0x200000 * k + 4096 * j = omega arith in
+              t.words e (2 + k) j he (omega arith) hj ∙ built_word-level3 ram.base b e k j (no_access e)
+              ∙ ap (λ (a : ℕ). page_word a (no_access e (512 * k + j))) address;
+        },
+        λ r one. no_right (rights_of_block (no_access e) k) r refl one,
+      );
 }

@@ -7,7 +7,7 @@ use Rattle.ffa_model.specs.declared.rights.Rights.{Rights}
 use Rattle.ffa_stage2.specs.declared.layout.Layout.{Layout}
 use Rattle.ffa_stage2.specs.declared.layout.Regions.{Regions}
 use Rattle.ffa_model.specs.Regions.{right_in as right_among}
-use Rattle.ffa_stage2.specs.Tables.{IsBuilt, KeepsRest}
+use Rattle.ffa_stage2.specs.Tables.{IsBuilt, BlocksWhereOne, WalksTo, KeepsRest}
 use Rattle.ffa_stage2.specs.Words.{TablesAre}
 
 abbrev pub lists_of : List Regions → List (List Region)
@@ -24,6 +24,14 @@ right_in layout e p = right_among layout.base (slice_index_or (regions_in layout
 -- the tables of the layout's endpoints stand in the RAM, and endpoint e has `access e p` to page p
 abbrev pub IsBuiltFor : Layout → Ram → (ℕ → ℕ → Option Rights) → Type 0
 IsBuiltFor layout ram access = IsBuilt ram (array_vec_len layout.regions) layout.blocks access
+
+-- the walk of each endpoint's table gives its access at every address
+abbrev pub WalksToFor : Layout → Ram → (ℕ → ℕ → Option Rights) → Type 0
+WalksToFor layout ram access = WalksTo ram (array_vec_len layout.regions) layout.blocks access
+
+-- blocks of 2 MiB stand exactly where 512 pages have one right other than nothing
+abbrev pub BlocksWhereOneFor : Layout → Ram → (ℕ → ℕ → Option Rights) → Type 0
+BlocksWhereOneFor layout ram access = BlocksWhereOne ram (array_vec_len layout.regions) layout.blocks access
 
 -- word j of endpoint e's table page s is `word e s j`
 abbrev pub TablesAreFor : Layout → Ram → (ℕ → ℕ → ℕ → ℕ) → Type 0

@@ -1,3 +1,5 @@
+pub mod Blocks
 pub mod Layout
+pub mod Places
 pub mod Tables
 pub mod Words

@@ -4,9 +4,10 @@ use Rattle.std.specs.Prelude.{◌≡◌, ℕ, ◌+◌, ◌-◌, ◌*◌, ◌/◌
 use Rattle.ffa_model.specs.Bits.{bits}
 use Rattle.ffa_model.specs.Ram.{Ram, page_of, word_of}
 use Rattle.ffa_model.specs.Manifest.{table_pages, root_of}
-use Rattle.ffa_model.specs.Descriptor.{page_word, table_word}
+use Rattle.ffa_model.specs.Descriptor.{table_word}
 use Rattle.ffa_model.specs.Walk.{Answer, walk, is_in_ram, granted}
 use Rattle.ffa_model.specs.declared.rights.Rights.{Rights}
+use Rattle.ffa_stage2.specs.Blocks.{IsMapped, IsBlockWhereOne}
 
 -- the number of endpoint e's table page s: 0 is level 1, 1 is level 2, 2 + k is level 3 of block k
 abbrev pub table_page : ℕ → ℕ → ℕ → ℕ
@@ -31,12 +32,21 @@ pub record HasRoom (ram : Ram) (endpoints blocks : ℕ) : Type 0 where
   pub size : length ram.pages ≡ 512 * blocks
   pub room : endpoints * table_pages blocks ≤ 512 * blocks
 
--- block k of endpoint e names its level 3 page, whose words give these rights to its 512 pages
-pub record InPages (ram : Ram) (blocks e : ℕ) (rights : ℕ → Option Rights) (k : ℕ) : Type 0 where
-  pub table : word_of (page_of ram (table_page blocks e 1)) (level2_place ram.base + k) ≡ table_link ram.base blocks e (2 + k)
-  pub words :
-      (j : ℕ) → j < 512
-      → word_of (page_of ram (table_page blocks e (2 + k))) j ≡ page_word (ram.base + 4096 * (512 * k + j)) (rights (512 * k + j))
+-- the level 2 word, the level 3 page and the address of block k of endpoint e, and the rights to its 512 pages
+abbrev pub level2_word : Ram → ℕ → ℕ → ℕ → ℕ
+level2_word ram blocks e k = word_of (page_of ram (table_page blocks e 1)) (level2_place ram.base + k)
+
+abbrev pub block_address : Ram → ℕ → ℕ
+block_address ram k = ram.base + 0x200000 * k
+
+abbrev pub rights_of_block : (ℕ → Option Rights) → ℕ → ℕ → Option Rights
+rights_of_block rights k j = rights (512 * k + j)
+
+-- block k of endpoint e gives these rights to its 512 pages
+abbrev pub InBlock : Ram → ℕ → ℕ → (ℕ → Option Rights) → ℕ → Type 0
+InBlock ram blocks e rights k =
+    IsMapped (level2_word ram blocks e k) (table_link ram.base blocks e (2 + k)) (page_of ram (table_page blocks e (2 + k)))
+    (block_address ram k) (rights_of_block rights k)
 
 -- the tables of this many endpoints stand in the RAM, and endpoint e has `access e p` to page p
 pub record IsBuilt (ram : Ram) (endpoints blocks : ℕ) (access : ℕ → ℕ → Option Rights) : Type 0 where
@@ -48,7 +58,7 @@ pub record IsBuilt (ram : Ram) (endpoints blocks : ℕ) (access : ℕ → ℕ �
   pub outside :
       (e j : ℕ) → e < endpoints → j < 512 → ((j < level2_place ram.base) ⊎ (level2_place ram.base + blocks ≤ j))
       → word_of (page_of ram (table_page blocks e 1)) j ≡ 0
-  pub each : (e k : ℕ) → e < endpoints → k < blocks → InPages ram blocks e (access e) k
+  pub each : (e k : ℕ) → e < endpoints → k < blocks → InBlock ram blocks e (access e) k
 
 -- the access with one right changed
 abbrev pub with_right : (ℕ → ℕ → Option Rights) → ℕ → ℕ → Option Rights → ℕ → ℕ → Option Rights
@@ -58,6 +68,18 @@ with_right access endpoint page right e p = if e == endpoint && p == page then r
 abbrev pub answer : Ram → (ℕ → ℕ → Option Rights) → ℕ → ℕ → Answer
 answer ram access e address =
     granted (if is_in_ram ram address then access e ((address - ram.base) / 4096) else None) address
+
+-- the walk of each endpoint's table gives its access at every address
+abbrev pub WalksTo : Ram → ℕ → ℕ → (ℕ → ℕ → Option Rights) → Type 0
+WalksTo ram endpoints blocks access =
+    (e address : ℕ) → e < endpoints → address < 2 ^ 32 → walk ram (root_of ram.base blocks e) address ≡ answer ram access e address
+
+-- the level 2 word of every block is a 2 MiB block exactly where its 512 pages have one right other than nothing, and
+-- else names the level 3 page
+abbrev pub BlocksWhereOne : Ram → ℕ → ℕ → (ℕ → ℕ → Option Rights) → Type 0
+BlocksWhereOne ram endpoints blocks access =
+    (e k : ℕ) → e < endpoints → k < blocks
+    → IsBlockWhereOne (level2_word ram blocks e k) (table_link ram.base blocks e (2 + k)) (block_address ram k) (rights_of_block (access e) k)
 
 -- whether an address stands in a page of the RAM
 abbrev pub is_in_page : Ram → ℕ → ℕ → Bool
@@ -84,3 +106,21 @@ pub record KeepsRest (old new : Ram) (endpoints blocks : ℕ) : Type 0 where
   pub base : new.base ≡ old.base
   pub size : length new.pages ≡ length old.pages
   pub pages : (p : ℕ) → table_page blocks endpoints 0 ≤ p → page_of new p ≡ page_of old p
+
+-- the RAM stands where it did, and no table page of this many endpoints changed
+pub record KeepsTables (old new : Ram) (endpoints blocks : ℕ) : Type 0 where
+  pub base : new.base ≡ old.base
+  pub size : length new.pages ≡ length old.pages
+  pub pages : (p : ℕ) → p < table_page blocks endpoints 0 → page_of new p ≡ page_of old p
+
+-- built tables walk to the access
+abbrev pub BuiltTablesWalk : Type 0
+BuiltTablesWalk =
+    (ram : Ram) (endpoints blocks : ℕ) (access : ℕ → ℕ → Option Rights)
+    → IsBuilt ram endpoints blocks access → WalksTo ram endpoints blocks access
+
+-- and stay built where their pages stay
+abbrev pub BuiltTablesStay : Type 0
+BuiltTablesStay =
+    (old new : Ram) (endpoints blocks : ℕ) (access : ℕ → ℕ → Option Rights)
+    → IsBuilt old endpoints blocks access → KeepsTables old new endpoints blocks → IsBuilt new endpoints blocks access

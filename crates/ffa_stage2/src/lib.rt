@@ -1,8 +1,14 @@
 //! Stage 2 tables of all endpoints, in the RAM's first pages.
 #![tactic(auto)]
 
+mod blocks;
 pub mod layout;
+pub mod runs;
 pub mod tables;
 
 pub use layout::{Layout, Regions};
-pub use tables::{build, leaf, set_page};
+pub use runs::uniform;
+pub use tables::{build, built_tables, leaf, set_page};
+
+#[cfg(test)]
+mod tests;

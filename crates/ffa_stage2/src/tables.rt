@@ -4,10 +4,11 @@ ghost use Rattle.std.specs.Prelude.{◌≡◌, ℕ, ◌+◌, ◌*◌, ◌<◌, l
 ghost use Rattle.arrayvec.specs.ArrayVec.{array_vec_len};
 ghost use Rattle.ffa_model.specs.Descriptor.{page_word};
 ghost use Rattle.ffa_model.specs.declared.rights.Rights.{Rights};
-ghost use Rattle.ffa_stage2.specs.Layout.{right_in, IsBuiltFor, TablesAreFor, KeepsRestFor};
-ghost use Rattle.ffa_stage2.specs.Tables.{with_right, WalkChanges, KeepsOthers};
+ghost use Rattle.ffa_stage2.specs.Layout.{right_in, IsBuiltFor, BlocksWhereOneFor, WalksToFor, TablesAreFor, KeepsRestFor};
+ghost use Rattle.ffa_stage2.specs.Tables.{with_right, WalkChanges, KeepsOthers, BuiltTablesWalk, BuiltTablesStay};
 ghost use Rattle.ffa_stage2.specs.Words.{linked, rights_until};
 
+use crate::blocks::{Place, change};
 use crate::layout::Layout;
 use ffa_model::{Data, PageNo, Rights};
 use ffa_physmem::PhysMem;
@@ -60,10 +61,12 @@ pub fn set_page<M: PhysMem>(
     ensures walks { WalkChanges (M.ram memory.old) (M.ram memory.new)
         (array_vec_len layout.now.regions) layout.now.blocks index page.0 right }
     ensures others { KeepsOthers (M.ram memory.old) (M.ram memory.new) layout.now.blocks index }
+    ensures blocks { (access : ℕ → ℕ → Option Rights)
+        → IsBuiltFor layout.now (M.ram memory.old) access
+        → BlocksWhereOneFor layout.now (M.ram memory.new) (with_right access index page.0 right) }
 {
-    let table = layout.table_page(index, 2 + page.0 / 512);
-    let address = u64::from(memory.base()) + 4096 * u64::from(page.0);
-    memory.write_word(table, (page.0 % 512) as usize, leaf(address, right));
+    let place = Place::of(memory, layout, index, page.0 / 512);
+    change(memory, &place, page.0 % 512, right);
 }
 
 // Clears the table pages.
@@ -133,12 +136,21 @@ pub fn build<M: PhysMem>(memory: &mut M, layout: &Layout)
     requires size { length (M.ram memory.old).pages ≡ 512 * layout.now.blocks }
     ensures built { IsBuiltFor layout.now (M.ram memory.new) (right_in layout.now) }
     ensures rest { KeepsRestFor layout.now (M.ram memory.old) (M.ram memory.new) }
+    ensures walks { WalksToFor layout.now (M.ram memory.new) (right_in layout.now) }
+    ensures blocks { BlocksWhereOneFor layout.now (M.ram memory.new) (right_in layout.now) }
 {
     link_all(memory, layout);
     for index in 0..layout.regions.len() {
         grant(memory, layout, index);
     }
 }
+
+/// What built tables give: the walk of each endpoint's table is its access at every address, and they stay built where
+/// no table page changes. It does nothing.
+pub fn built_tables()
+    ensures walk { BuiltTablesWalk }
+    ensures stay { BuiltTablesStay }
+{}
 
 #[cfg(test)]
 mod tests {

@@ -9,7 +9,7 @@ use Rattle.ffa_trace.specs.declared.line.TheConstants.{DIGIT_VALUES}
 abbrev entry : ℕ → ℕ
 entry b = get_or DIGIT_VALUES b 0
 
-tells_value : (b : ℕ) → b < 256 → unwrap_or (digit_value b) 16 ≡ entry b
+pub tells_value : (b : ℕ) → b < 256 → unwrap_or (digit_value b) 16 ≡ entry b
 unfolding digit_value
 tells_value b h = eqb-true (unwrap_or (digit_value b) 16) (entry b) (agree_below_at (λ b. unwrap_or (digit_value b) 16 == entry b) (λ b. true) 256 b refl h)
 
@@ -33,3 +33,7 @@ digit-not_in_table b h none = of (digit_value b) (tells_digits b h ∙ le-ltb (e
       where
         true_false : true ≡ false → ⊥
         true_false e = cc
+
+pub digit_small : (o : Option ℕ) (v : ℕ) → v ≡ unwrap_or o 16 → v < 16 → Some v ≡ o
+digit_small None v e h = absurd (omega (arith, e, h))
+digit_small (Some d) v e h = ap Some e

@@ -1,10 +1,12 @@
 mod DigitTable
 pub mod Feeds
+pub mod Firsts
 pub mod Fronts
 pub mod LineNumbers
 pub mod LineRegisters
 pub mod LineWords
 pub mod Listed
+pub mod NumberFronts
 pub mod OneLine
 pub mod Plays
 pub mod Positions

@@ -1,8 +1,8 @@
 //! The lines of a trace.
-ghost use Rattle.std.specs.Prelude.{◌≡◌, ◌<◌, ◌==◌, [], ◌∷◌, Option, option_map, position, IfSome};
+ghost use Rattle.std.specs.Prelude.{◌≡◌, ◌<◌, ◌==◌, [], ◌∷◌, Option, option_map, position, unwrap_or, IfSome};
 ghost use Rattle.std.specs.Option.{option_map_or};
 ghost use Rattle.ffa_model.specs.TraceLines.{space, digit_value, number_of, size_named, size_written, call_of, load_of, store_of, fetch_of, show_of, command_of, line_of};
-ghost use Rattle.ffa_trace.specs.Parsed.{meaning_of, words_left, at_end};
+ghost use Rattle.ffa_trace.specs.Parsed.{IsNumberFront, meaning_of, words_left, at_end};
 
 use ffa_model::{Op, Size};
 
@@ -17,13 +17,17 @@ pub enum Line {
     Skip,
 }
 
-/// The line that these bytes are, without the LF that ends it, or `None` where they are no line.
-#[tactic(auto, unfolding(ffa_model::specs::TraceLines::line_of))]
+/// The line that these bytes are, without the LF that ends it, or `None` where they are no line. The commands that most
+/// lines have are told by their bytes, and no word is cut for them.
+#[tactic(auto, unfolding(ffa_model::specs::TraceLines::line_of, ffa_model::specs::TraceLines::command_of, ffa_model::specs::TraceLines::words_of))]
 pub fn parse(bytes: &[u8]) -> Option<Line>
     ensures { option_map meaning_of result ≡ line_of bytes.now }
 {
     match bytes {
         [] | [b'#', ..] => Some(Line::Skip),
+        [b'c', b'a', b'l', b'l', b' ', rest @ ..] => call(Words { rest: Some(rest) }),
+        [b'l', b'o', b'a', b'd', b' ', rest @ ..] => load(Words { rest: Some(rest) }),
+        [b's', b't', b'o', b'r', b'e', b' ', rest @ ..] => store(Words { rest: Some(rest) }),
         _ => command(Words { rest: Some(bytes) }),
     }
 }
@@ -48,6 +52,28 @@ impl<'a> Words<'a> {
         }
     }
 
+    // The next word, and the number that it writes.
+    fn next_number(&mut self) -> Option<(&'a [u8], Option<u64>)>
+        ensures word { option_map_or (λ w. w.0.now ∷ words_left self.new) result [] ≡ words_left self.old }
+        ensures number { IfSome result (λ w. w.1 ≡ number_of w.0.now) }
+    {
+        let rest = self.rest?;
+        match number_front(rest) {
+            None => {
+                let word = self.next_word()?;
+                Some((word, number(word)))
+            }
+            Some((number, end)) if end == rest.len() => {
+                self.rest = None;
+                Some((rest, Some(number)))
+            }
+            Some((number, end)) => {
+                self.rest = Some(&rest[end + 1..]);
+                Some((&rest[..end], Some(number)))
+            }
+        }
+    }
+
     // The line that was read, if no word is left.
     fn finish(self, line: Line) -> Option<Line>
         ensures { result ≡ at_end (words_left self.entry) line }
@@ -56,6 +82,34 @@ impl<'a> Words<'a> {
             None => Some(line),
             Some(_) => None,
         }
+    }
+}
+
+// The number that the first word writes, and where the word ends, in one pass. `None` says nothing of the bytes:
+// `next_word` and `number` judge what this doesn't take.
+#[inline]
+fn number_front(bytes: &[u8]) -> Option<(u64, usize)>
+    ensures { IfSome result (λ r. IsNumberFront bytes.now r.0 r.1) }
+{
+    let few = bytes.len().min(16);
+    let mut number = 0;
+    let mut end = 0;
+    while end < few {
+        let value = value_or_more(bytes[end]);
+        if value >= NO_DIGIT {
+            break;
+        }
+        number = 16 * number + u64::from(value);
+        end += 1;
+    }
+    if end == 0 {
+        None
+    } else if end == bytes.len() {
+        Some((number, end))
+    } else if bytes[end] == b' ' {
+        Some((number, end))
+    } else {
+        None
     }
 }
 
@@ -70,18 +124,13 @@ fn command(mut words: Words<'_>) -> Option<Line>
     ensures { option_map meaning_of result ≡ command_of (words_left words.entry) }
 {
     let name = words.next_word()?;
-    if name == b"load".as_slice() {
-        load(words)
-    } else if name == b"store".as_slice() {
-        store(words)
-    } else if name == b"call".as_slice() {
-        call(words)
-    } else if name == b"fetch".as_slice() {
-        fetch(words)
-    } else if name == b"show".as_slice() {
-        show(words)
-    } else {
-        None
+    match name {
+        b"load" => load(words),
+        b"store" => store(words),
+        b"call" => call(words),
+        b"fetch" => fetch(words),
+        b"show" => show(words),
+        _ => None,
     }
 }
 
@@ -89,7 +138,8 @@ fn command(mut words: Words<'_>) -> Option<Line>
 fn load(mut words: Words<'_>) -> Option<Line>
     ensures { option_map meaning_of result ≡ load_of (words_left words.entry) }
 {
-    let addr = number(words.next_word()?)?;
+    let (_, addr) = words.next_number()?;
+    let addr = addr?;
     let size = size_named(words.next_word()?)?;
     words.finish(Line::Operate(Op::Load { addr, size }))
 }
@@ -98,10 +148,11 @@ fn load(mut words: Words<'_>) -> Option<Line>
 fn store(mut words: Words<'_>) -> Option<Line>
     ensures { option_map meaning_of result ≡ store_of (words_left words.entry) }
 {
-    let addr = number(words.next_word()?)?;
-    let digits = words.next_word()?;
+    let (_, addr) = words.next_number()?;
+    let addr = addr?;
+    let (digits, value) = words.next_number()?;
     let size = size_written(digits)?;
-    let value = number(digits)?;
+    let value = value?;
     words.finish(Line::Operate(Op::Store { addr, size, value }))
 }
 
@@ -109,7 +160,8 @@ fn store(mut words: Words<'_>) -> Option<Line>
 fn fetch(mut words: Words<'_>) -> Option<Line>
     ensures { option_map meaning_of result ≡ fetch_of (words_left words.entry) }
 {
-    let addr = number(words.next_word()?)?;
+    let (_, addr) = words.next_number()?;
+    let addr = addr?;
     words.finish(Line::Operate(Op::Fetch { addr }))
 }
 
@@ -125,11 +177,11 @@ fn call(mut words: Words<'_>) -> Option<Line>
 {
     let mut x = [0; 8];
     let mut count = 0;
-    while let Some(word) = words.next_word() {
+    while let Some((_, number)) = words.next_number() {
         if count == 8 {
             return None;
         }
-        x[count] = number(word)?;
+        x[count] = number?;
         count += 1;
     }
     if count == 0 {
@@ -179,6 +231,15 @@ fn number(word: &[u8]) -> Option<u64>
         number = 16 * number + u64::from(digit_value(*byte)?);
     }
     Some(number)
+}
+
+// The value of a byte as a hexadecimal digit, or 16.
+#[inline(always)]
+fn value_or_more(byte: u8) -> u8
+    ensures { result ≡ unwrap_or (digit_value byte) 16 }
+{
+    let value = DIGIT_VALUES[byte as usize];
+    value
 }
 
 // The value of a byte as a hexadecimal digit. It's a look-up, since digits and letters follow one another without rule.

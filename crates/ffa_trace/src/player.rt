@@ -1,14 +1,18 @@
 //! The player of traces.
 ghost use Rattle.std.specs.Prelude.{◌≡◌, ◌==◌, true, [], ◌++◌, ◌∷◌, position, OnOk};
 ghost use Rattle.ffa_model.specs.TraceLines.{feed, has_no_feed};
+ghost use Rattle.ffa_model.specs.TraceText.{outcome_text};
+ghost use Rattle.ffa_trace.specs.Output.{Writes};
 ghost use Rattle.ffa_trace.specs.Played.{LineDone, LineEnded, Kept, Fed, Played};
 
 use crate::line::{self, Line};
 use crate::output::{self, PlayError};
 use crate::show;
 use crate::text::{self, Text};
+use ffa_model::{Op, Outcome};
 use ffa_physmem::PhysMem;
 use ffa_spmc::Machine;
+use memchr::memchr;
 use std::alloc::Global;
 use std::io::{Read, Write};
 use std::marker::Model;
@@ -110,7 +114,7 @@ fn feed<M: PhysMem + Drop, W: Write>(
 fn first_feed(bytes: &[u8]) -> Option<usize>
     ensures { result ≡ position (λ c. c == feed) bytes.now }
 {
-    bytes.iter().position(|byte| *byte == b'\n')
+    memchr(b'\n', bytes)
 }
 
 fn keep(begun: &mut Vec<u8>, bytes: &[u8]) -> Result<(), PlayError>
@@ -153,14 +157,33 @@ fn do_line<M: PhysMem + Drop, W: Write>(
     match line::parse(bytes) {
         Some(Line::Operate(op)) => {
             let outcome = machine.op(&op);
-            let mut text = Text::new();
-            text::push_outcome(&mut text, &op, &outcome);
-            output::write_text(writer, text.as_slice())
+            write_outcome(writer, &op, &outcome)
         }
         Some(Line::Show) => show::write_show(machine, writer),
         Some(Line::Skip) => Ok(()),
         None => Err(PlayError::BadLine(number)),
     }
+}
+
+// Writes what an operation with this outcome prints.
+#[tactic(auto, unfolding(ffa_model::specs::TraceText::outcome_words))]
+fn write_outcome<W: Write>(writer: &mut W, op: &Op, outcome: &Outcome) -> Result<(), PlayError>
+    ensures { Writes (W.contents writer.old) (W.contents writer.new) (outcome_text op.now outcome.now) result }
+{
+    if let Outcome::Done = outcome {
+        output::write_text(writer, b"done\n")
+    } else {
+        write_made(writer, op, outcome)
+    }
+}
+
+// The same, by a text that is made first. It stands alone, so that no room for a text is made where none is needed.
+fn write_made<W: Write>(writer: &mut W, op: &Op, outcome: &Outcome) -> Result<(), PlayError>
+    ensures { Writes (W.contents writer.old) (W.contents writer.new) (outcome_text op.now outcome.now) result }
+{
+    let mut text = Text::new();
+    text::push_outcome(&mut text, op, outcome);
+    output::write_text(writer, text.as_slice())
 }
 
 #[cfg(test)]

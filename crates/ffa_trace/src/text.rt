@@ -1,5 +1,5 @@
 //! The text of outcomes.
-ghost use Rattle.std.specs.Prelude.{◌≡◌, ◌+◌, ◌*◌, ◌<◌, ◌≤◌, [], ◌++◌, length, codes};
+ghost use Rattle.std.specs.Prelude.{◌≡◌, ◌+◌, ◌*◌, ◌/◌, ◌%◌, ◌^◌, ◌<◌, ◌≤◌, [], ◌++◌, length, codes};
 ghost use Rattle.std.specs.List.{flat_map};
 ghost use Rattle.arrayvec.specs.ArrayVec.{array_vec_len};
 ghost use Rattle.ffa_model.specs.Memory.{size_of};
@@ -41,19 +41,61 @@ pub fn push_digits(text: &mut Text, digits: u32, value: u64)
     ensures items { text.new.items ≡ text.old.items ++ hex digits value }
     ensures len { array_vec_len text.new ≡ array_vec_len text.old + digits }
 {
-    for place in (0..digits).rev() {
-        text.push(digit((value >> (4 * place)) % 16));
-    }
+    let all = all_digits(value);
+    push_word(text, &all[16 - digits as usize..]);
 }
 
-fn digit(value: u64) -> u8
-    requires { value < 16 }
-    ensures { result ≡ digit value }
+// The sixteen digits of a number.
+#[inline]
+fn all_digits(value: u64) -> [u8; 16]
+    ensures { result ≡ hex 16 value }
 {
-    DIGITS[value as usize]
+    let h = two_digits(value, 7);
+    let g = two_digits(value, 6);
+    let f = two_digits(value, 5);
+    let e = two_digits(value, 4);
+    let d = two_digits(value, 3);
+    let c = two_digits(value, 2);
+    let b = two_digits(value, 1);
+    let a = two_digits(value, 0);
+    [
+        h.0, h.1, g.0, g.1, f.0, f.1, e.0, e.1, d.0, d.1, c.0, c.1, b.0, b.1, a.0, a.1,
+    ]
 }
 
-static DIGITS: [u8; 16] = *b"0123456789ABCDEF";
+// The digits of a number's byte at this place, counted from the lowest.
+#[inline]
+fn two_digits(value: u64, place: u32) -> (u8, u8)
+    requires { place < 8 }
+    ensures high { result.0 ≡ digit (value / 16 ^ (2 * place + 1) % 16) }
+    ensures low { result.1 ≡ digit (value / 16 ^ (2 * place) % 16) }
+{
+    let byte = (value >> (8 * place)) % 256;
+    let first = 2 * byte as usize;
+    let high = PAIRS[first];
+    let low = PAIRS[first + 1];
+    (high, low)
+}
+
+// The two digits of each byte.
+#[rattlefmt::skip]
+static PAIRS: [u8; 512] = *b"\
+000102030405060708090A0B0C0D0E0F\
+101112131415161718191A1B1C1D1E1F\
+202122232425262728292A2B2C2D2E2F\
+303132333435363738393A3B3C3D3E3F\
+404142434445464748494A4B4C4D4E4F\
+505152535455565758595A5B5C5D5E5F\
+606162636465666768696A6B6C6D6E6F\
+707172737475767778797A7B7C7D7E7F\
+808182838485868788898A8B8C8D8E8F\
+909192939495969798999A9B9C9D9E9F\
+A0A1A2A3A4A5A6A7A8A9AAABACADAEAF\
+B0B1B2B3B4B5B6B7B8B9BABBBCBDBEBF\
+C0C1C2C3C4C5C6C7C8C9CACBCCCDCECF\
+D0D1D2D3D4D5D6D7D8D9DADBDCDDDEDF\
+E0E1E2E3E4E5E6E7E8E9EAEBECEDEEEF\
+F0F1F2F3F4F5F6F7F8F9FAFBFCFDFEFF";
 
 /// Appends a space and the letters of a right.
 pub fn push_right(text: &mut Text, right: Option<Rights>)
@@ -111,10 +153,56 @@ fn push_registers(text: &mut Text, runner: u16, x: &[u64; 8])
     ensures room { array_vec_len text.new < CAPACITY }
 {
     push_word(text, b"regs");
-    push_hex(text, 4, u64::from(runner));
+    push_runner(text, runner);
     for value in x {
-        push_hex(text, 16, *value);
+        push_register(text, *value);
     }
+}
+
+// Appends a space and four digits. The word has a constant size, so that it is copied without a call.
+#[inline(always)]
+fn push_runner(text: &mut Text, runner: u16)
+    requires { array_vec_len text.old + 4 < CAPACITY }
+    ensures items { text.new.items ≡ text.old.items ++ spaced (hex 4 runner) }
+    ensures len { array_vec_len text.new ≡ array_vec_len text.old + 5 }
+{
+    push_word(text, &runner_word(u64::from(runner)));
+}
+
+// Appends a space and sixteen digits, likewise.
+#[inline(always)]
+fn push_register(text: &mut Text, value: u64)
+    requires { array_vec_len text.old + 16 < CAPACITY }
+    ensures items { text.new.items ≡ text.old.items ++ spaced (hex 16 value) }
+    ensures len { array_vec_len text.new ≡ array_vec_len text.old + 17 }
+{
+    push_word(text, &register_word(value));
+}
+
+#[inline(always)]
+fn runner_word(runner: u64) -> [u8; 5]
+    ensures { result ≡ spaced (hex 4 runner) }
+{
+    let b = two_digits(runner, 1);
+    let a = two_digits(runner, 0);
+    [b' ', b.0, b.1, a.0, a.1]
+}
+
+#[inline(always)]
+fn register_word(value: u64) -> [u8; 17]
+    ensures { result ≡ spaced (hex 16 value) }
+{
+    let h = two_digits(value, 7);
+    let g = two_digits(value, 6);
+    let f = two_digits(value, 5);
+    let e = two_digits(value, 4);
+    let d = two_digits(value, 3);
+    let c = two_digits(value, 2);
+    let b = two_digits(value, 1);
+    let a = two_digits(value, 0);
+    [
+        b' ', h.0, h.1, g.0, g.1, f.0, f.1, e.0, e.1, d.0, d.1, c.0, c.1, b.0, b.1, a.0, a.1,
+    ]
 }
 
 fn fault_words(fault: FaultKind) -> &'static [u8]

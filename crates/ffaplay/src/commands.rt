@@ -150,7 +150,7 @@ fn play<'a, R: Read + Drop, W: Write>(
     let Ok(ram) = FlatRam::new(alloc, manifest.ram_base, 512 * manifest.ram_blocks) else {
         return Err(Failure::NoMemory);
     };
-    let mut player = Player::new(Machine::boot(manifest, ram));
+    let mut player = Player::new(Machine::boot_cleared(manifest, ram));
     match player.play(alloc, &mut trace, out) {
         Ok(()) => Ok(()),
         Err(error) => Err(why(path, error)),

@@ -24,13 +24,17 @@ properties = 15
 regions = [{ base = 0x40030000, pages = 16, rights = \"rw\" }]
 ";
 
-// The highest machine that there is, but for its fourth to eighth endpoint.
+// The highest machine that there is, but for its fourth to eighth endpoint. The normal world has one page, and 512 that
+// are one block of 2 MiB.
 const HIGHEST: &str = "ram_base = 0xFC000000
 ram_blocks = 32
 [[endpoint]]
 version = \"1.1\"
 properties = 6
-regions = [{ base = 0xFFFFF000, pages = 1, rights = \"rw\" }]
+regions = [
+    { base = 0xFFFFF000, pages = 1, rights = \"rw\" },
+    { base = 0xFFC00000, pages = 512, rights = \"rw\" },
+]
 [[endpoint]]
 version = \"1.1\"
 uuid = \"00112233-4455-6677-8899-aabbccddeeff\"
@@ -129,6 +133,17 @@ fn loads_the_highest_word(rt: HostRuntime) -> Result<(), Fail> {
         got,
         wanted(rt.alloc(), 0, "done\ndata 0123456789ABCDEF\n", "")?
     );
+    Ok(())
+}
+
+#[test]
+fn loads_and_stores_in_a_block(rt: HostRuntime) -> Result<(), Fail> {
+    let trace =
+        "store FFC01008 0123456789ABCDEF\nload FFC01008 8\nload FFDFFFF8 8\nfetch FFC01008\nload FFE00000 1\n";
+    let got = performed(rt.alloc(), &RUN, Some(HIGHEST.as_bytes()), Some(trace));
+    let text =
+        "done\ndata 0123456789ABCDEF\ndata 0000000000000000\nfault permission\nfault translation\n";
+    assert_eq!(rt; got, wanted(rt.alloc(), 0, text, "")?);
     Ok(())
 }
 

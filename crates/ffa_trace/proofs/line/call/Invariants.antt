@@ -3,8 +3,8 @@ use Rattle.ffa_trace.specs.Parsed.{words_left}
 use Rattle.ffa_trace.proofs.LineRegisters.{Reading}
 use Rattle.ffa_trace.proofs.line.call.Given as goal
 
-abbrev pub invariant-loop-word : goal.invariant-loop-word
-invariant-loop-word l = Reading (words_left l.fn.words) (words_left l.words) l.x l.count
+abbrev pub invariant-loop-number : goal.invariant-loop-number
+invariant-loop-number l = Reading (words_left l.fn.words) (words_left l.words) l.x l.count
 
-abbrev pub decreases-loop-word : goal.decreases-loop-word
-decreases-loop-word l = length (words_left l.words)
+abbrev pub decreases-loop-number : goal.decreases-loop-number
+decreases-loop-number l = length (words_left l.words)

@@ -1,4 +1,4 @@
-use Rattle.std.proofs.Common.{Ok, ap, ◌∙◌, refl, subst}
+use Rattle.std.proofs.Common.{Ok, ap, refl, subst}
 use Rattle.std.proofs.KnownBytes.{Appends-nil}
 use Rattle.ffa_model.specs.TraceLines.{operate, show, skip}
 use Rattle.ffa_model.specs.TraceText.{outcome_text}
@@ -10,9 +10,9 @@ pub returns-in-Some-Operate : goal.returns-in-Some-Operate
 returns-in-Some-Operate g c =
     let said = rw c.in-Some-Operate.field-0-is at c.in-Some-Operate.ensures in
     let op = c.in-Some-Operate.op in
-    let texts = c.as_slice.ensures.value ∙ c.push_outcome.ensures ∙ ap (outcome_text op) c.op-outcome.ensures.outcome in
-    line_written c.args.machine.now.state _ _ _ c.args.number c.args.bytes.now (operate op) said c.op-outcome.ensures.state c.write_text.result
-    (subst (λ t. Writes (g.W.Write.contents c.args.writer.now) (g.W.Write.contents c.write_text.new.writer) t c.write_text.result) texts c.write_text.ensures)
+    let texts = ap (outcome_text op) c.op-outcome.ensures.outcome in
+    line_written c.args.machine.now.state _ _ _ c.args.number c.args.bytes.now (operate op) said c.op-outcome.ensures.state c.write_outcome.result
+    (subst (λ t. Writes (g.W.Write.contents c.args.writer.now) (g.W.Write.contents c.write_outcome.new.writer) t c.write_outcome.result) texts c.write_outcome.ensures)
 
 pub returns-in-Some-Show : goal.returns-in-Some-Show
 returns-in-Some-Show g c =

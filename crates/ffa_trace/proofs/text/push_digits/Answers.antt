@@ -1,11 +1,7 @@
-use Rattle.std.proofs.Common.{◌≤◌, arith}
-use Rattle.ffa_trace.proofs.TextDigits.{next_digit}
+use Rattle.std.proofs.Common.{◌∙◌, ◌++◌, ap}
+use Rattle.ffa_trace.proofs.TextDigits.{rest_of_all}
 use Rattle.ffa_trace.proofs.text.push_digits.Goals as goal
 
-pub loop-place-preserved : goal.loop-place-preserved
-loop-place-preserved c =
-    let some : 1 ≤ c.loop-place.place = omega arith in
-    record {
-      whole = rw c.push.ensures.items (next_digit c.loop-place.text.items _ c.loop-place.place c.args.value c.digit.result some c.loop-place.invariant.whole c.digit.ensures);
-      room = omega (arith, c.push.ensures.len, c.loop-place.invariant.room);
-    }
+pub returns-clause-items : goal.returns-clause-items
+returns-clause-items c =
+    c.push_word.ensures.items ∙ ap (λ l. c.args.text.now.items ++ l) (rest_of_all c.all_digits-all.result c.args.digits c.args.value c.requires.digits c.all_digits-all.ensures)

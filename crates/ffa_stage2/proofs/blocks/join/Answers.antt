@@ -1,0 +1,34 @@
+use Rattle.std.proofs.Common.{◌∙◌, ℕ, ◌-◌, ap, sym, arith, inr, Option}
+use Rattle.std.proofs.lemmas.Bool.{both_ways}
+use Rattle.ffa_model.specs.Descriptor.{page_word}
+use Rattle.ffa_model.specs.declared.rights.Rights.{Rights}
+use Rattle.ffa_stage2.proofs.OneBlock.{block-first, join-maps, written-middle, KeepsBeside-of_middle}
+use Rattle.ffa_stage2.proofs.blocks.join.Goals as goal
+
+pub overflow_sub-word : goal.overflow_sub-word
+overflow_sub-word g c =
+    let x = c.args.place.now in
+    let (r, is) = c.is_one.ensures.some c.if-is_one.true in
+    let word = c.leaf-word.ensures ∙ ap (λ (q : Option Rights). page_word x.address q) is ∙ block-first x.address r c.requires.place.aligned c.requires.place.within in
+    omega (arith, word)
+
+pub returns-then-is_one-clause-mapped : goal.returns-then-is_one-clause-mapped
+returns-then-is_one-clause-mapped g c rights names is =
+    let old = g.M.PhysMem.ram c.args.memory.now in
+    let new = g.M.PhysMem.ram c.write_word.new.self in
+    let x = c.args.place.now in
+    let (r, one) = (c.is_one.ensures.one rights names is).0 c.if-is_one.true in
+    let word = c.leaf-word.ensures ∙ ap (λ (q : Option Rights). page_word x.address q) (sym is ∙ one c.args.within c.requires.within) in
+    join-maps old new x rights _ r c.requires.place one (written-middle old new x _ c.requires.place (omega (arith, c.leaf-word.type_inv)) c.write_word.ensures)
+    (ap (λ (w : ℕ). w - 2) word)
+
+pub returns-then-is_one-clause-beside : goal.returns-then-is_one-clause-beside
+returns-then-is_one-clause-beside g c =
+    let old = g.M.PhysMem.ram c.args.memory.now in
+    let new = g.M.PhysMem.ram c.write_word.new.self in
+    let x = c.args.place.now in
+    KeepsBeside-of_middle old new x _ c.requires.place (written-middle old new x _ c.requires.place (omega (arith, c.leaf-word.type_inv)) c.write_word.ensures)
+
+pub returns-else-is_one-clause-mapped : goal.returns-else-is_one-clause-mapped
+returns-else-is_one-clause-mapped g c rights names is =
+    inr (names, λ r one. absurd (both_ways _ c.if-is_one.false ((c.is_one.ensures.one rights names is).1 (r, one))))

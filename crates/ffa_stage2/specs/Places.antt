@@ -1,0 +1,65 @@
+-- On the way to a changed block: one place of one endpoint's tables, and what each step leaves there.
+use Rattle.std.specs.Prelude.{◌≡◌, ◌≢◌, ℕ, ◌+◌, ◌*◌, ◌%◌, ◌^◌, ◌<◌, ◌≤◌, ◌==◌, if◌then◌else◌, List, length, Option}
+use Rattle.ffa_model.specs.Ram.{Ram, page_of, word_of}
+use Rattle.ffa_model.specs.declared.rights.Rights.{Rights}
+use Rattle.ffa_stage2.specs.declared.blocks.Place.{Place}
+use Rattle.ffa_stage2.specs.Blocks.{IsTable, IsMapped}
+use Rattle.ffa_stage2.specs.Tables.{table_page, table_link, level2_place, block_address}
+
+-- where endpoint e's tables speak of block k
+pub record IsPlaceOf (ram : Ram) (blocks e k : ℕ) (x : Place) : Type 0 where
+  pub middle : x.middle.0 ≡ table_page blocks e 1
+  pub entry : x.entry ≡ level2_place ram.base + k
+  pub table : x.table.0 ≡ table_page blocks e (2 + k)
+  pub link : x.link ≡ table_link ram.base blocks e (2 + k)
+  pub address : x.address ≡ block_address ram k
+
+-- the rights with that to one page changed
+abbrev pub with_one : (ℕ → Option Rights) → ℕ → Option Rights → ℕ → Option Rights
+with_one rights within right j = if j == within then right else rights j
+
+-- the 8 words from place `at` on are `first`, `first` + 4096, and so on, modulo 2^64
+abbrev pub IsRun : List ℕ → ℕ → ℕ → Type 0
+IsRun page at first = (j : ℕ) → j < 8 → word_of page (at + j) ≡ (first + 4096 * j) % 2 ^ 64
+
+-- the level 2 word of a place
+abbrev pub word_at : Ram → Place → ℕ
+word_at ram x = word_of (page_of ram x.middle.0) x.entry
+
+-- the two pages of a place are whole and two, and its numbers are in range
+pub record IsPlace (ram : Ram) (x : Place) : Type 0 where
+  pub middle : x.middle.0 < length ram.pages
+  pub table : x.table.0 < length ram.pages
+  pub apart : x.middle.0 ≢ x.table.0
+  pub whole_middle : length (page_of ram x.middle.0) ≡ 4096
+  pub whole_table : length (page_of ram x.table.0) ≡ 4096
+  pub entry : x.entry < 512
+  pub link : x.link % 4 ≡ 3
+  pub fits : x.link < 2 ^ 64
+  pub aligned : x.address % 0x200000 ≡ 0
+  pub within : x.address + 0x200000 ≤ 2 ^ 32
+
+-- the law at a place
+abbrev pub Maps : Ram → Place → (ℕ → Option Rights) → Type 0
+Maps ram x rights = IsMapped (word_at ram x) x.link (page_of ram x.table.0) x.address rights
+
+-- the table at a place
+abbrev pub Names : Ram → Place → (ℕ → Option Rights) → Type 0
+Names ram x rights = IsTable (word_at ram x) x.link (page_of ram x.table.0) x.address rights
+
+-- from old to new nothing changed but the level 2 word and the level 3 page of a place
+pub record KeepsBeside (old new : Ram) (x : Place) : Type 0 where
+  pub base : new.base ≡ old.base
+  pub size : length new.pages ≡ length old.pages
+  pub pages : (p : ℕ) → p ≢ x.middle.0 → p ≢ x.table.0 → page_of new p ≡ page_of old p
+  pub words : (j : ℕ) → j < 512 → j ≢ x.entry → word_of (page_of new x.middle.0) j ≡ word_of (page_of old x.middle.0) j
+  pub whole_middle : length (page_of new x.middle.0) ≡ 4096
+  pub whole_table : length (page_of new x.table.0) ≡ 4096
+
+-- from old to new the first words of one page became these, and no other page changed
+pub record IsSpread (old new : Ram) (page word count : ℕ) : Type 0 where
+  pub base : new.base ≡ old.base
+  pub size : length new.pages ≡ length old.pages
+  pub pages : (p : ℕ) → p ≢ page → page_of new p ≡ page_of old p
+  pub whole : length (page_of new page) ≡ 4096
+  pub words : (j : ℕ) → j < count → word_of (page_of new page) j ≡ word + 4096 * j

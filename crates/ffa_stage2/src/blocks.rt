@@ -1,0 +1,178 @@
+//! One block of RAM in an endpoint's tables: a block of 2 MiB where its 512 pages have one right other than nothing, and
+//! else a table of level 3.
+ghost use Rattle.std.specs.Prelude.{◌≡◌, ℕ, ◌+◌, ◌*◌, ◌%◌, ◌^◌, ◌<◌, ◌≤◌, ◌↔◌, IsTrue, length, Option, Some};
+ghost use Rattle.arrayvec.specs.ArrayVec.{array_vec_len};
+ghost use Rattle.ffa_model.specs.Ram.{page_of};
+ghost use Rattle.ffa_model.specs.Descriptor.{page_word};
+ghost use Rattle.ffa_model.specs.declared.rights.Rights.{Rights};
+ghost use Rattle.ffa_stage2.specs.Blocks.{IsOne};
+ghost use Rattle.ffa_stage2.specs.Tables.{HasRoom};
+ghost use Rattle.ffa_stage2.specs.Places.{IsPlace, Maps, Names, KeepsBeside, IsSpread, with_one, word_at, IsPlaceOf};
+
+use crate::layout::Layout;
+use crate::runs::uniform;
+use crate::tables::leaf;
+use ffa_model::{PageNo, Rights};
+use ffa_physmem::PhysMem;
+
+/// The type of a block's descriptor, in bits 1:0.
+const BLOCK: u64 = 0b01;
+
+/// What a page's descriptor (type 11) has above that of a block.
+const PAGE: u64 = 0b10;
+
+/// Where one endpoint's tables speak of one block of RAM.
+#[derive(Clone, Copy)]
+pub(crate) struct Place {
+    // The level 2 page, and the block's place in it.
+    middle: PageNo,
+    entry: usize,
+    // The level 3 page, and the descriptor that names it.
+    table: PageNo,
+    link: u64,
+    // The address of the block's first page.
+    address: u64,
+}
+
+impl Place {
+    // The place of a block in an endpoint's tables.
+    pub(crate) fn of<M: PhysMem>(memory: &M, layout: &Layout, index: usize, block: u32) -> Place
+        requires fits { HasRoom (M.ram memory.now) (array_vec_len layout.now.regions) layout.now.blocks }
+        requires index { index < array_vec_len layout.now.regions }
+        requires block { block < layout.now.blocks }
+        ensures { IsPlaceOf (M.ram memory.now) layout.now.blocks index block result }
+    {
+        let base = memory.base();
+        let table = layout.table_page(index, 2 + block);
+        Place {
+            middle: layout.table_page(index, 1),
+            entry: ((base >> 21) % 512 + block) as usize,
+            table,
+            link: u64::from(base) + 4096 * u64::from(table.0) + 3,
+            address: u64::from(base) + 0x20_0000 * u64::from(block),
+        }
+    }
+
+    // The level 2 word.
+    fn word<M: PhysMem>(&self, memory: &M) -> u64
+        requires place { IsPlace (M.ram memory.now) self.now }
+        ensures { result ≡ word_at (M.ram memory.now) self.now }
+    {
+        memory.read_word(self.middle, self.entry)
+    }
+}
+
+// The descriptor of a page, as the tables have it.
+fn page_now<M: PhysMem>(memory: &M, place: &Place, within: u32) -> u64
+    requires place { IsPlace (M.ram memory.now) place.now }
+    requires mapped { (rights : ℕ → Option Rights) × Maps (M.ram memory.now) place.now rights }
+    requires within { within < 512 }
+    ensures { (rights : ℕ → Option Rights)
+        → Maps (M.ram memory.now) place.now rights
+        → result ≡ page_word (place.now.address + 4096 * within) (rights within) }
+{
+    let word = place.word(memory);
+    if word % 4 == BLOCK {
+        return word + PAGE + 4096 * u64::from(within);
+    }
+    memory.read_word(place.table, within as usize)
+}
+
+// Writes the descriptors of 512 pages, of which this is the first.
+fn spread<M: PhysMem>(memory: &mut M, table: PageNo, word: u64)
+    requires table { table.0 < length (M.ram memory.old).pages }
+    requires whole { length (page_of (M.ram memory.old) table.0) ≡ 4096 }
+    requires word { word + 0x200000 ≤ 2 ^ 64 }
+    ensures { IsSpread (M.ram memory.old) (M.ram memory.new) table.0 word 512 }
+{
+    for page in 0..512u32 {
+        memory.write_word(table, page as usize, word + 4096 * u64::from(page));
+    }
+}
+
+// Puts a table of level 3 where a block stands.
+fn split<M: PhysMem>(memory: &mut M, place: &Place)
+    requires place { IsPlace (M.ram memory.old) place.now }
+    requires mapped { (rights : ℕ → Option Rights) × Maps (M.ram memory.old) place.now rights }
+    ensures named { (rights : ℕ → Option Rights)
+        → Maps (M.ram memory.old) place.now rights
+        → Names (M.ram memory.new) place.now rights }
+    ensures beside { KeepsBeside (M.ram memory.old) (M.ram memory.new) place.now }
+{
+    let word = place.word(memory);
+    if word % 4 == BLOCK {
+        spread(memory, place.table, word + PAGE);
+        memory.write_word(place.middle, place.entry, place.link);
+    }
+}
+
+// Whether a page of a table has this right.
+fn has_right<M: PhysMem>(memory: &M, place: &Place, page: u32, right: Option<Rights>) -> bool
+    requires place { IsPlace (M.ram memory.now) place.now }
+    requires page { page < 512 }
+    ensures { (rights : ℕ → Option Rights)
+        → Names (M.ram memory.now) place.now rights
+        → IsTrue result ↔ (rights page ≡ right) }
+{
+    let word = leaf(place.address + 4096 * u64::from(page), right);
+    memory.read_word(place.table, page as usize) == word
+}
+
+// Whether the 512 pages of a table have the right that one of them has, and that is a right. All are read only where the
+// next page and the first have it: while the pages of a block change one after another, up or down, one of the two
+// hasn't.
+fn is_one<M: PhysMem>(memory: &M, place: &Place, within: u32, right: Option<Rights>) -> bool
+    requires place { IsPlace (M.ram memory.now) place.now }
+    requires within { within < 512 }
+    ensures one { (rights : ℕ → Option Rights)
+        → Names (M.ram memory.now) place.now rights
+        → rights within ≡ right
+        → IsTrue result ↔ (r : Rights) × IsOne rights r }
+    ensures some { IsTrue result → (r : Rights) × right ≡ Some r }
+{
+    if right.is_none() {
+        return false;
+    }
+    if !has_right(memory, place, (within + 1) % 512, right) {
+        return false;
+    }
+    if !has_right(memory, place, 0, right) {
+        return false;
+    }
+    uniform(memory.page(place.table))
+}
+
+// Puts a block where a table stands, if its pages have one right other than nothing.
+fn join<M: PhysMem>(memory: &mut M, place: &Place, within: u32, right: Option<Rights>)
+    requires place { IsPlace (M.ram memory.old) place.now }
+    requires within { within < 512 }
+    ensures mapped { (rights : ℕ → Option Rights)
+        → Names (M.ram memory.old) place.now rights
+        → rights within ≡ right
+        → Maps (M.ram memory.new) place.now rights }
+    ensures beside { KeepsBeside (M.ram memory.old) (M.ram memory.new) place.now }
+{
+    if is_one(memory, place, within, right) {
+        let word = leaf(place.address, right) - PAGE;
+        memory.write_word(place.middle, place.entry, word);
+    }
+}
+
+// Gives another right to one page of a block.
+pub(crate) fn change<M: PhysMem>(memory: &mut M, place: &Place, within: u32, right: Option<Rights>)
+    requires place { IsPlace (M.ram memory.old) place.now }
+    requires mapped { (rights : ℕ → Option Rights) × Maps (M.ram memory.old) place.now rights }
+    requires within { within < 512 }
+    ensures mapped { (rights : ℕ → Option Rights)
+        → Maps (M.ram memory.old) place.now rights
+        → Maps (M.ram memory.new) place.now (with_one rights within right) }
+    ensures beside { KeepsBeside (M.ram memory.old) (M.ram memory.new) place.now }
+{
+    let word = leaf(place.address + 4096 * u64::from(within), right);
+    if page_now(memory, place, within) == word {
+        return;
+    }
+    split(memory, place);
+    memory.write_word(place.table, within as usize, word);
+    join(memory, place, within, right);
+}

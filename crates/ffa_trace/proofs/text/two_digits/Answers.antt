@@ -1,0 +1,10 @@
+use Rattle.std.proofs.Common.{◌∙◌, ap, arith}
+use Rattle.ffa_model.specs.TraceText.{digit}
+use Rattle.ffa_trace.proofs.TextDigits.{pair_high, pair_low, digit_high, digit_low}
+use Rattle.ffa_trace.proofs.text.two_digits.Goals as goal
+
+pub returns-clause-high : goal.returns-clause-high
+returns-clause-high c = pair_high _ (omega arith) ∙ ap digit (digit_high c.args.value c.args.place)
+
+pub returns-clause-low : goal.returns-clause-low
+returns-clause-low c = pair_low _ (omega arith) ∙ ap digit (digit_low c.args.value c.args.place)
