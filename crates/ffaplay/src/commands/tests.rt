@@ -5,6 +5,9 @@ use std::alloc::AllocError;
 use std::io;
 use std::test::Fail;
 
+// The worked example of the manual.
+mod manual;
+
 // A machine with two partitions.
 const ROW: &str = "ram_base = 0x40000000
 ram_blocks = 1
