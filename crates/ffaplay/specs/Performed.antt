@@ -1,5 +1,5 @@
 -- What a command of the program leaves.
-use Rattle.std.specs.Prelude.{◌≡◌, ◌⊎◌, ℕ, true, List, codes, IsUtf8, Option, None, Some, Ok, Err, ⊤}
+use Rattle.std.specs.Prelude.{◌≡◌, ◌⊎◌, ℕ, Bool, true, false, List, codes, IsUtf8, Option, None, Some, Ok, Err, ⊤}
 use Rattle.std.specs.Io.KnownBytes.{Appends, Keeps}
 use Rattle.ffa_model.specs.State.{State}
 use Rattle.ffa_model.specs.First.{first}
@@ -28,7 +28,7 @@ Describes (Some bytes) m = IsUtf8 bytes × (machine_of bytes ≡ Ok m)
 -- they aren't, for this cause
 abbrev pub IsRefused : Option (List ℕ) → ManifestError → Type 0
 IsRefused None cause = ⊥
-IsRefused (Some bytes) cause = ((IsUtf8 bytes → ⊥) × (cause ≡ Toml)) ⊎ (machine_of bytes ≡ Err cause)
+IsRefused (Some bytes) cause = ((IsUtf8 bytes → ⊥) × (cause ≡ Toml)) ⊎ (IsUtf8 bytes × (machine_of bytes ≡ Err cause))
 
 abbrev pub SomeCause : Option (List ℕ) → Type 0
 SomeCause manifest = (cause : ManifestError) × IsRefused manifest cause
@@ -45,6 +45,13 @@ pub record IsPlayed (start : State) (trace held holds : Option (List ℕ)) : Typ
   pub each : are_lines lines ≡ true
   pub all : IsAll trace (joined lines)
   pub written : Appends held holds (text start lines)
+
+-- whether a command plays a trace
+abbrev pub needs_trace : Request → Bool
+needs_trace (Run m t) = true
+needs_trace (Demo t) = true
+needs_trace (Check m) = false
+needs_trace (Layout m) = false
 
 -- A command was done: `manifest` are the bytes of the manifest's file, if it could be read, `trace` those that the
 -- trace's reader had, where known, and `held` and `holds` those that the writer held before, and holds.

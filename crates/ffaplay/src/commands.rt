@@ -1,9 +1,11 @@
 //! The commands of the program.
-ghost use Rattle.std.specs.Prelude.{◌≡◌, ◌≤◌, None, OnOk, IfErr, IfOk, option_map};
+ghost use Rattle.std.specs.Prelude.{◌≡◌, ◌≤◌, ◌⊎◌, true, codes, None, OnOk, IfErr, IfOk, is_some, option_map};
 ghost use Rattle.std.specs.Option.{option_and_then};
 ghost use Rattle.std.specs.Io.KnownBytes.{Appends, Keeps};
-ghost use Rattle.ffa_manifest.specs.Document.{parts_of};
-ghost use Rattle.ffaplay.specs.Performed.{Describes, IsRefused, SomeCause, IsPlayed, IsDone, IsOther, FailsFor, first_of, status_of};
+ghost use Rattle.ffa_model.specs.TraceText.{ended};
+ghost use Rattle.ffa_manifest.specs.Document.{Parts, parts_of};
+ghost use Rattle.ffaplay.specs.Layouts.{layout_text};
+ghost use Rattle.ffaplay.specs.Performed.{Describes, IsRefused, SomeCause, IsPlayed, IsDone, IsOther, FailsFor, first_of, needs_trace, status_of};
 
 use crate::layout;
 use ffa_command::Request;
@@ -14,6 +16,7 @@ use ffa_spmc::Machine;
 use ffa_trace::text::Text;
 use ffa_trace::{PlayError, Player, output};
 use std::alloc::Global;
+use std::fmt::Display;
 use std::io::{Read, Write};
 use thiserror::Error;
 
@@ -56,7 +59,8 @@ impl Failure<'_> {
 /// What the request doesn't name is left alone. All output goes to `out`, which is flushed, and to `err` a line that says
 /// why a command isn't done. The status is 0 for a command that was done, 1 for a manifest that is refused, 2 for a line
 /// that is none of a trace, and 3 where a file can't be read, `out` can't be written or memory is short. Faults are found
-/// in this order: the manifest's file, the manifest, the trace's file, RAM, the trace.
+/// in this order: the manifest's file, the manifest, the trace's file, RAM, the trace. An `out` that can't be flushed
+/// can't be written, whatever else went wrong.
 pub fn perform<R: Read + Drop, W: Write, E: Write>(
     alloc: Global,
     request: &Request<'_>,
@@ -66,21 +70,40 @@ pub fn perform<R: Read + Drop, W: Write, E: Write>(
     err: &mut E,
 ) -> u8
     ensures done { result ≡ 0 → IsDone request.now (option_map (λ bytes. bytes.now) manifest.entry) (option_and_then (λ reader. R.remaining reader) trace) (W.contents out.old) (W.contents out.new) }
+    ensures read { result ≡ 0 → needs_trace request.now ≡ true → is_some trace ≡ true }
     ensures refused { result ≡ 1 → SomeCause (option_map (λ bytes. bytes.now) manifest.entry) × Keeps (W.contents out.old) (W.contents out.new) }
     ensures quiet { result ≡ 0 → Keeps (E.contents err.old) (E.contents err.new) }
     ensures status { result ≤ 3 }
 {
-    let done = do_request(alloc, request, manifest, trace, out);
-    let flushed = out.flush();
-    let failure = match done {
-        Ok(()) if flushed.is_ok() => return 0,
-        Ok(()) => Failure::Write,
-        Err(failure) => failure,
-    };
+    match do_request(alloc, request, manifest, trace, out) {
+        Ok(()) => 0,
+        Err(failure) => tell(err, &failure),
+    }
+}
+
+/// Writes the help that was asked for, and answers the status with which the program ends: 0, or 3 where `out` can't be
+/// written, which `err` is told.
+pub fn show<T: Display, W: Write, E: Write>(help: &T, out: &mut W, err: &mut E) -> u8
+    ensures quiet { result ≡ 0 → Keeps (E.contents err.old) (E.contents err.new) }
+    ensures status { (result ≡ 0) ⊎ (result ≡ 3) }
+{
+    let written = write!(out, "{help}");
+    if written.is_ok() && out.flush().is_ok() {
+        0
+    } else {
+        tell(err, &Failure::Write)
+    }
+}
+
+// Says why a command isn't done, and answers the status.
+fn tell<E: Write>(err: &mut E, failure: &Failure<'_>) -> u8
+    ensures { result ≡ status_of failure.now }
+{
     let _ = writeln!(err, "ffaplay: {failure}");
     failure.status()
 }
 
+// Does what was asked for, and flushes what it wrote.
 fn do_request<'a, R: Read + Drop, W: Write>(
     alloc: Global,
     request: &Request<'a>,
@@ -89,6 +112,25 @@ fn do_request<'a, R: Read + Drop, W: Write>(
     out: &mut W,
 ) -> Result<(), Failure<'a>>
     ensures done { OnOk result (IsDone request.now (option_map (λ bytes. bytes.now) manifest.entry) (option_and_then (λ reader. R.remaining reader) trace) (W.contents out.old) (W.contents out.new)) }
+    ensures read { OnOk result (needs_trace request.now ≡ true → is_some trace ≡ true) }
+    ensures failed { IfErr result (FailsFor (option_map (λ bytes. bytes.now) manifest.entry) (W.contents out.old) (W.contents out.new)) }
+{
+    let done = do_command(alloc, request, manifest, trace, out);
+    match out.flush() {
+        Ok(()) => done,
+        Err(_) => Err(Failure::Write),
+    }
+}
+
+fn do_command<'a, R: Read + Drop, W: Write>(
+    alloc: Global,
+    request: &Request<'a>,
+    manifest: Option<&[u8]>,
+    trace: Option<R>,
+    out: &mut W,
+) -> Result<(), Failure<'a>>
+    ensures done { OnOk result (IsDone request.now (option_map (λ bytes. bytes.now) manifest.entry) (option_and_then (λ reader. R.remaining reader) trace) (W.contents out.old) (W.contents out.new)) }
+    ensures read { OnOk result (needs_trace request.now ≡ true → is_some trace ≡ true) }
     ensures failed { IfErr result (FailsFor (option_map (λ bytes. bytes.now) manifest.entry) (W.contents out.old) (W.contents out.new)) }
 {
     match *request {
@@ -100,17 +142,39 @@ fn do_request<'a, R: Read + Drop, W: Write>(
             play(alloc, &manifest, trace_path, trace, out)
         }
         Request::Demo { trace: path } => play(alloc, &built_in(), path, trace, out),
-        Request::Check { manifest: path } => {
-            read_manifest(alloc, path, manifest)?;
-            write(out, b"accepted\n")
-        }
-        Request::Layout { manifest: path } => {
-            let manifest = read_manifest(alloc, path, manifest)?;
-            let mut text = Text::new();
-            layout::push_layout(&mut text, &manifest);
-            write(out, text.as_slice())
-        }
+        Request::Check { manifest: path } => accept(alloc, path, manifest, out),
+        Request::Layout { manifest: path } => lay_out(alloc, path, manifest, out),
     }
+}
+
+// Says that a manifest is accepted.
+fn accept<'a, W: Write>(
+    alloc: Global,
+    path: &'a str,
+    manifest: Option<&[u8]>,
+    out: &mut W,
+) -> Result<(), Failure<'a>>
+    ensures done { OnOk result ((parts : Parts) × Describes (option_map (λ bytes. bytes.now) manifest.entry) parts × Appends (W.contents out.old) (W.contents out.new) (ended (codes "accepted"))) }
+    ensures failed { IfErr result (FailsFor (option_map (λ bytes. bytes.now) manifest.entry) (W.contents out.old) (W.contents out.new)) }
+{
+    read_manifest(alloc, path, manifest)?;
+    write(out, b"accepted\n")
+}
+
+// Prints where the tables of a manifest's machine stand.
+fn lay_out<'a, W: Write>(
+    alloc: Global,
+    path: &'a str,
+    manifest: Option<&[u8]>,
+    out: &mut W,
+) -> Result<(), Failure<'a>>
+    ensures done { OnOk result ((parts : Parts) × Describes (option_map (λ bytes. bytes.now) manifest.entry) parts × Appends (W.contents out.old) (W.contents out.new) (layout_text parts)) }
+    ensures failed { IfErr result (FailsFor (option_map (λ bytes. bytes.now) manifest.entry) (W.contents out.old) (W.contents out.new)) }
+{
+    let manifest = read_manifest(alloc, path, manifest)?;
+    let mut text = Text::new();
+    layout::push_layout(&mut text, &manifest);
+    write(out, text.as_slice())
 }
 
 fn read_manifest<'a>(
@@ -141,6 +205,7 @@ fn play<'a, R: Read + Drop, W: Write>(
     trace: Option<R>,
     out: &mut W,
 ) -> Result<(), Failure<'a>>
+    ensures read { OnOk result (is_some trace ≡ true) }
     ensures played { OnOk result (IsPlayed (first_of (parts_of manifest.now)) (option_and_then (λ reader. R.remaining reader) trace) (W.contents out.old) (W.contents out.new)) }
     ensures failed { IfErr result IsOther }
 {

@@ -4,7 +4,7 @@
 mod commands;
 pub mod layout;
 
-pub use commands::perform;
+pub use commands::{perform, show};
 use ffa_command::ErrorKind;
 pub use ffa_command::{Request, request};
 use std::alloc::AllocError;
@@ -46,13 +46,10 @@ fn status(rt: &HostRuntime) -> Result<u8, AllocError> {
         Ok(request) => carry_out(rt, &request),
         Err(error) => match error.kind() {
             ErrorKind::OutOfMemory => Err(AllocError),
-            kind => {
+            ErrorKind::DisplayHelp => Ok(show(&error, &mut rt.stdout(), &mut rt.stderr())),
+            _ => {
                 let _ = error.print(rt);
-                Ok(if kind == ErrorKind::DisplayHelp {
-                    0
-                } else {
-                    64
-                })
+                Ok(64)
             }
         },
     }

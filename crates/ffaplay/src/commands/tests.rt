@@ -257,6 +257,48 @@ fn tells_what_cannot_be_written(rt: HostRuntime) -> Result<(), Fail> {
     Ok(())
 }
 
+// What is written stands in a buffer first, so that only the flush fails: the bad line, the trace that can't be read and
+// the manifest that is refused are not told.
+#[test]
+fn tells_that_the_flush_failed(rt: HostRuntime) -> Result<(), Fail> {
+    let good_and_bad = Some(b"load 40010000 1\nload 4001\n".as_slice());
+    for (request, manifest, trace) in [
+        (RUN, ROW.as_bytes(), good_and_bad),
+        (RUN, ROW.as_bytes(), None),
+        (CHECK, b"\xff".as_slice(), None),
+    ] {
+        let mut err = Vec::new(rt.alloc());
+        let mut out = Stuck { room: 1000 };
+        let status = perform(
+            rt.alloc(),
+            &request,
+            Some(manifest),
+            trace,
+            &mut out,
+            &mut err,
+        );
+        assert_eq!(rt; status, 3);
+        assert_eq!(rt; err.as_slice(), b"ffaplay: cannot write\n".as_slice());
+    }
+    Ok(())
+}
+
+#[test]
+fn shows_help(rt: HostRuntime) -> Result<(), Fail> {
+    let mut out = Vec::new(rt.alloc());
+    let mut err = Vec::new(rt.alloc());
+    assert_eq!(rt; show(&"Usage: ffaplay", &mut out, &mut err), 0);
+    assert_eq!(rt; out.as_slice(), b"Usage: ffaplay".as_slice());
+    assert_eq!(rt; err.as_slice(), b"".as_slice());
+    for room in [0, 3, 1000] {
+        let mut err = Vec::new(rt.alloc());
+        let status = show(&"Usage: ffaplay", &mut Stuck { room }, &mut err);
+        assert_eq!(rt; status, 3);
+        assert_eq!(rt; err.as_slice(), b"ffaplay: cannot write\n".as_slice());
+    }
+    Ok(())
+}
+
 // With the tool's option that makes the Nth allocation fail, for each N in turn.
 #[test]
 fn whole_or_no_memory(rt: HostRuntime) -> Result<(), Fail> {
