@@ -133,6 +133,7 @@ module _ (ram : Ram) (m : Manifest) (kept : Kept) (machine : IsMachine ram m kep
   pub store-machine : (address : ℕ) (size : Size) (value : ℕ) → IsMachine (stored ram runner_root address (size_of size) value) m kept
   store-machine address size value =
       record {
+        laws = machine.laws;
         tables = store-tables address size value;
         owners = machine.owners;
         sound = subst IsSoundState (sym (store-state address size value)) (step-sound s machine.sound (Store address size value));

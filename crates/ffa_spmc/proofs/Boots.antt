@@ -22,8 +22,7 @@ use Rattle.ffa_model.proofs.Owners.{owned-behind}
 use Rattle.ffa_stage2.specs.declared.layout.Layout.{Layout}
 use Rattle.ffa_stage2.specs.declared.layout.Regions.{Regions}
 use Rattle.ffa_stage2.specs.Layout.{regions_in, right_in}
-use Rattle.ffa_stage2.specs.Tables.{IsBuilt, KeepsRest, table_page}
-use Rattle.ffa_stage2.proofs.Rights.{built-same}
+use Rattle.ffa_stage2.specs.Tables.{IsBuilt, KeepsRest, TableLaws, table_page}
 use Rattle.ffa_spmc.specs.declared.kept.Kept.{Kept}
 use Rattle.ffa_spmc.specs.Owners.{first_owners}
 use Rattle.ffa_model.specs.Endpoints.{have_uuids}
@@ -59,7 +58,7 @@ module _ (zeros ram : Ram) (m : Manifest) (layout : Layout) (kept : Kept)
     (built : IsBuilt ram (array_vec_len layout.regions) layout.blocks (right_in layout))
     (rest : KeepsRest zeros ram (array_vec_len layout.regions) layout.blocks)
     (owners : kept.pages ≡ first_owners m) (none : kept.buffers ≡ replicate (length m.endpoints.items) None) (schedule : kept.chain ≡ first_schedule (length m.endpoints.items))
-    (uuids : have_uuids m.endpoints.items ≡ true) where
+    (uuids : have_uuids m.endpoints.items ≡ true) (laws : TableLaws) where
   abbrev es : List Endpoint
   es = m.endpoints.items
 
@@ -83,7 +82,7 @@ module _ (zeros ram : Ram) (m : Manifest) (layout : Layout) (kept : Kept)
   built-is =
       subst (λ (n : ℕ). IsBuilt ram n m.ram_blocks (own_right m.ram_base es)) many
       (subst (λ (b : ℕ). IsBuilt ram (array_vec_len layout.regions) b (own_right m.ram_base es)) blocks
-      (built-same ram (array_vec_len layout.regions) layout.blocks (right_in layout) (own_right m.ram_base es) built (λ e p _ _. right-is e p)))
+      (subst (IsBuilt ram (array_vec_len layout.regions) layout.blocks) (λ i e p. right-is e p i) built))
 
   tables-first : HasTables ram m
   tables-first = record { base = base-is; size = size-is; built = built-is }
@@ -134,6 +133,7 @@ module _ (zeros ram : Ram) (m : Manifest) (layout : Layout) (kept : Kept)
   pub machine-first : IsMachine ram m kept
   machine-first =
       record {
+        laws = laws;
         tables = tables-first;
         owners = owners;
         sound = subst IsSoundState (sym state-first) (first-state-sound m.ram_base m.ram_blocks es m.accepted (uuid-at es uuids));

@@ -11,9 +11,6 @@ use Rattle.ffa_model.specs.Walk.{is_page_address}
 use Rattle.ffa_model.specs.First.{page_with_bytes}
 use Rattle.ffa_model.proofs.Accepted.{accepted}
 use Rattle.ffa_model.proofs.Owners.{owned-behind}
-use Rattle.ffa_stage2.proofs.Kept.{built-kept}
-use Rattle.ffa_stage2.proofs.Places.{root-address}
-use Rattle.ffa_stage2.proofs.Walks.{walk-built}
 use Rattle.ffa_spmc.specs.declared.kept.Kept.{Kept}
 use Rattle.ffa_model.specs.declared.call.Call as calls
 use Rattle.ffa_model.specs.SoundState.{IsSoundState}
@@ -27,7 +24,7 @@ use Rattle.ffa_spmc.proofs.Agreements.{WalksGive, agrees-held, root-is}
 module _ (ram : Ram) (m : Manifest) (kept : Kept) (machine : IsMachine ram m kept) where
   walks-give : WalksGive ram m
   walks-give i address known low =
-      walk-built ram (length m.endpoints.items) m.ram_blocks (own_right m.ram_base m.endpoints.items) i address machine.tables.built known low
+      machine.laws.walk ram (length m.endpoints.items) m.ram_blocks (own_right m.ram_base m.endpoints.items) machine.tables.built i address known low
 
   -- the RAM of a machine agrees with its state
   pub agrees : Agrees ram (state_of ram m kept)
@@ -37,7 +34,7 @@ module _ (ram : Ram) (m : Manifest) (kept : Kept) (machine : IsMachine ram m kep
   pub runner-root : is_page_address ram (root (state_of ram m kept) (place kept.chain.runner)) ≡ true
   runner-root =
       ap (is_page_address ram) (root-is ram m kept machine (place kept.chain.runner))
-      ∙ root-address ram (length m.endpoints.items) m.ram_blocks (place kept.chain.runner) machine.tables.built.fits (runner-known ram m kept machine kept.chain.runner refl)
+      ∙ machine.laws.begin ram (length m.endpoints.items) m.ram_blocks (own_right m.ram_base m.endpoints.items) (place kept.chain.runner) machine.tables.built (runner-known ram m kept machine kept.chain.runner refl)
 
 -- a write to a page that an endpoint owns leaves the tables as they are
 pub tables-written : (ram : Ram) (m : Manifest) (kept : Kept) → IsMachine ram m kept → (p at : ℕ) (bytes : List ℕ) (page : Page)
@@ -51,8 +48,13 @@ tables-written ram m kept machine p at bytes page inside there =
     record {
       base = machine.tables.base;
       size = size ∙ machine.tables.size;
-      built = built-kept ram (with_page ram p (with_bytes (page_of ram p) at bytes)) (length m.endpoints.items) m.ram_blocks (own_right m.ram_base m.endpoints.items) machine.tables.built refl size
-          (λ q low. get_or-set_other ram.pages p q (with_bytes (page_of ram p) at bytes) [] (λ same. absurd (omega (arith, low, behind, same))));
+      built =
+          machine.laws.stay ram (with_page ram p (with_bytes (page_of ram p) at bytes)) (length m.endpoints.items) m.ram_blocks (own_right m.ram_base m.endpoints.items) machine.tables.built
+          (record {
+            base = refl;
+            size = size;
+            pages = λ q low. get_or-set_other ram.pages p q (with_bytes (page_of ram p) at bytes) [] (λ same. absurd (omega (arith, low, behind, same)));
+          });
     }
 
 -- a machine is one after a call whose laws are proved, where the tables still are there
@@ -60,6 +62,7 @@ pub machine-called : (ram new : Ram) (m : Manifest) (kept next : Kept) → IsMac
     → (call : calls.Call) → is_lawful_call call ≡ true → state_of new m next ≡ (serve (state_of ram m kept) call).state → IsMachine new m next
 machine-called ram new m kept next machine tables same call lawful is =
     record {
+      laws = machine.laws;
       tables = tables;
       owners = same ∙ machine.owners;
       sound = subst IsSoundState (sym is) (call-sound (state_of ram m kept) machine.sound call lawful);

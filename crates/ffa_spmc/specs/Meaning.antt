@@ -7,7 +7,7 @@ use Rattle.ffa_model.specs.declared.rights.Rights.{Rights}
 use Rattle.ffa_model.specs.Lists.{listed}
 use Rattle.ffa_model.specs.Regions.{right_in, regions_at}
 use Rattle.ffa_pages.specs.Entry.{Entry, entry_at}
-use Rattle.ffa_stage2.specs.Tables.{IsBuilt}
+use Rattle.ffa_stage2.specs.Tables.{IsBuilt, TableLaws}
 use Rattle.ffa_model.specs.Ram.{Ram, page_of}
 use Rattle.ffa_model.specs.State.{State, Page}
 use Rattle.ffa_model.specs.First.{first}
@@ -41,8 +41,9 @@ pub record HasTables (ram : Ram) (m : Manifest) : Type 0 where
   pub size : length ram.pages ≡ 512 * m.ram_blocks
   pub built : IsBuilt ram (length m.endpoints.items) m.ram_blocks (own_right m.ram_base m.endpoints.items)
 
--- besides the owners are the manifest's, and the state is sound
+-- besides the owners are the manifest's, and the state is sound; what built tables give is noted once and for all
 pub record IsMachine (ram : Ram) (m : Manifest) (kept : Kept) : Type 0 where
+  pub laws : TableLaws
   pub tables : HasTables ram m
   pub owners : kept.pages ≡ first_owners m
   pub sound : IsSoundState (state_of ram m kept)

@@ -28,7 +28,7 @@ use crate::kept::Kept;
 use ffa_messages::{DirectMessage, direct_req, direct_resp, send2};
 use ffa_model::{Call, EndpointId, ErrorCode, Manifest, Op, Outcome, PageNo, Reply, Rights, Size};
 use ffa_physmem::PhysMem;
-use ffa_stage2::{Layout, build};
+use ffa_stage2::{Layout, build, built_tables};
 use std::marker::Model;
 
 /// The reply to a call that answers no more than that it is done.
@@ -133,6 +133,8 @@ impl<M: PhysMem + Drop> Machine<M> {
     {
         let mut ram = ram;
         build(&mut ram, &Layout::of(manifest));
+        // What built tables give holds from here on: the machine's invariant has it.
+        built_tables();
         Machine {
             ram,
             manifest: manifest.copied(),

@@ -1,11 +1,11 @@
 -- The tables of all endpoints in the RAM's first pages: for each endpoint in order one page of level 1, one of level 2,
 -- and one of level 3 for each block of 2 MiB.
-use Rattle.std.specs.Prelude.{◌≡◌, ℕ, ◌+◌, ◌-◌, ◌*◌, ◌/◌, ◌%◌, ◌^◌, ◌<◌, ◌≤◌, ◌⊎◌, ◌==◌, ◌&&◌, nat_le, nat_lt, Bool, if◌then◌else◌, length, Option, None}
+use Rattle.std.specs.Prelude.{◌≡◌, true, ℕ, ◌+◌, ◌-◌, ◌*◌, ◌/◌, ◌%◌, ◌^◌, ◌<◌, ◌≤◌, ◌⊎◌, ◌==◌, ◌&&◌, nat_le, nat_lt, Bool, if◌then◌else◌, length, Option, None}
 use Rattle.ffa_model.specs.Bits.{bits}
 use Rattle.ffa_model.specs.Ram.{Ram, page_of, word_of}
 use Rattle.ffa_model.specs.Manifest.{table_pages, root_of}
 use Rattle.ffa_model.specs.Descriptor.{table_word}
-use Rattle.ffa_model.specs.Walk.{Answer, walk, is_in_ram, granted}
+use Rattle.ffa_model.specs.Walk.{Answer, walk, is_in_ram, is_page_address, granted}
 use Rattle.ffa_model.specs.declared.rights.Rights.{Rights}
 use Rattle.ffa_stage2.specs.Blocks.{IsMapped, IsBlockWhereOne}
 
@@ -124,3 +124,15 @@ abbrev pub BuiltTablesStay : Type 0
 BuiltTablesStay =
     (old new : Ram) (endpoints blocks : ℕ) (access : ℕ → ℕ → Option Rights)
     → IsBuilt old endpoints blocks access → KeepsTables old new endpoints blocks → IsBuilt new endpoints blocks access
+
+-- and each endpoint's level 1 table begins at a page of the RAM
+abbrev pub BuiltTablesBegin : Type 0
+BuiltTablesBegin =
+    (ram : Ram) (endpoints blocks : ℕ) (access : ℕ → ℕ → Option Rights) (e : ℕ)
+    → IsBuilt ram endpoints blocks access → e < endpoints → is_page_address ram (root_of ram.base blocks e) ≡ true
+
+-- all that built tables give
+pub record TableLaws : Type 0 where
+  pub walk : BuiltTablesWalk
+  pub stay : BuiltTablesStay
+  pub begin : BuiltTablesBegin

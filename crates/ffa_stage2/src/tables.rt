@@ -5,7 +5,7 @@ ghost use Rattle.arrayvec.specs.ArrayVec.{array_vec_len};
 ghost use Rattle.ffa_model.specs.Descriptor.{page_word};
 ghost use Rattle.ffa_model.specs.declared.rights.Rights.{Rights};
 ghost use Rattle.ffa_stage2.specs.Layout.{right_in, IsBuiltFor, BlocksWhereOneFor, WalksToFor, TablesAreFor, KeepsRestFor};
-ghost use Rattle.ffa_stage2.specs.Tables.{with_right, WalkChanges, KeepsOthers, BuiltTablesWalk, BuiltTablesStay};
+ghost use Rattle.ffa_stage2.specs.Tables.{with_right, WalkChanges, KeepsOthers, TableLaws};
 ghost use Rattle.ffa_stage2.specs.Words.{linked, rights_until};
 
 use crate::blocks::{Place, change};
@@ -145,11 +145,10 @@ pub fn build<M: PhysMem>(memory: &mut M, layout: &Layout)
     }
 }
 
-/// What built tables give: the walk of each endpoint's table is its access at every address, and they stay built where
-/// no table page changes. It does nothing.
+/// What built tables give: the walk of each endpoint's table is its access at every address, they stay built where no
+/// table page changes, and each root is the address of a page of the RAM. It does nothing.
 pub fn built_tables()
-    ensures walk { BuiltTablesWalk }
-    ensures stay { BuiltTablesStay }
+    ensures { TableLaws }
 {}
 
 #[cfg(test)]

@@ -15,7 +15,7 @@ invariant_of-result g c =
     let ram : Ram = g.M.PhysMem.ram c.build.new.memory in
     let m : Manifest = c.args.manifest.now in
     subst (λ (m : Manifest). IsMachine ram m c.first.result) (sym c.copied.ensures.same)
-    (machine-first zeros ram m c.of.result c.first.result c.requires c.of.ensures.base c.of.ensures.blocks c.of.ensures.regions c.build.ensures.built c.build.ensures.rest c.first.ensures.pages c.first.ensures.buffers c.first.ensures.chain c.copied.ensures.uuids)
+    (machine-first zeros ram m c.of.result c.first.result c.requires c.of.ensures.base c.of.ensures.blocks c.of.ensures.regions c.build.ensures.built c.build.ensures.rest c.first.ensures.pages c.first.ensures.buffers c.first.ensures.chain c.copied.ensures.uuids c.built_tables.ensures)
 
 pub returns-clause-state : goal.returns-clause-state
 returns-clause-state g c =
@@ -23,7 +23,7 @@ returns-clause-state g c =
     let ram : Ram = g.M.PhysMem.ram c.build.new.memory in
     let m : Manifest = c.args.manifest.now in
     ap (λ (m : Manifest). state_of ram m c.first.result) c.copied.ensures.same
-    ∙ (state-first zeros ram m c.of.result c.first.result c.requires c.of.ensures.base c.of.ensures.blocks c.of.ensures.regions c.build.ensures.built c.build.ensures.rest c.first.ensures.pages c.first.ensures.buffers c.first.ensures.chain c.copied.ensures.uuids)
+    ∙ (state-first zeros ram m c.of.result c.first.result c.requires c.of.ensures.base c.of.ensures.blocks c.of.ensures.regions c.build.ensures.built c.build.ensures.rest c.first.ensures.pages c.first.ensures.buffers c.first.ensures.chain c.copied.ensures.uuids c.built_tables.ensures)
 
 pub returns-clause-agrees : goal.returns-clause-agrees
 returns-clause-agrees g c =
@@ -32,7 +32,7 @@ returns-clause-agrees g c =
     let m : Manifest = c.args.manifest.now in
     subst (λ (m : Manifest). Agrees ram (state_of ram m c.first.result)) (sym c.copied.ensures.same)
     (agrees ram m c.first.result
-    (machine-first zeros ram m c.of.result c.first.result c.requires c.of.ensures.base c.of.ensures.blocks c.of.ensures.regions c.build.ensures.built c.build.ensures.rest c.first.ensures.pages c.first.ensures.buffers c.first.ensures.chain c.copied.ensures.uuids))
+    (machine-first zeros ram m c.of.result c.first.result c.requires c.of.ensures.base c.of.ensures.blocks c.of.ensures.regions c.build.ensures.built c.build.ensures.rest c.first.ensures.pages c.first.ensures.buffers c.first.ensures.chain c.copied.ensures.uuids c.built_tables.ensures))
 
 pub returns-clause-cleared : goal.returns-clause-cleared
 returns-clause-cleared g c =
@@ -40,7 +40,7 @@ returns-clause-cleared g c =
     let ram : Ram = g.M.PhysMem.ram c.build.new.memory in
     let m : Manifest = c.args.manifest.now in
     λ p behind inside.
-    (cleared-behind zeros ram m c.of.result c.first.result c.requires c.of.ensures.base c.of.ensures.blocks c.of.ensures.regions c.build.ensures.built c.build.ensures.rest c.first.ensures.pages c.first.ensures.buffers c.first.ensures.chain c.copied.ensures.uuids) p
+    (cleared-behind zeros ram m c.of.result c.first.result c.requires c.of.ensures.base c.of.ensures.blocks c.of.ensures.regions c.build.ensures.built c.build.ensures.rest c.first.ensures.pages c.first.ensures.buffers c.first.ensures.chain c.copied.ensures.uuids c.built_tables.ensures) p
     (subst (λ (w : Manifest). length (state_of ram w c.first.result).parties * table_pages m.ram_blocks ≤ p) c.copied.ensures.same behind) inside
 
 pub returns-clause-sound : goal.returns-clause-sound
@@ -49,4 +49,4 @@ returns-clause-sound g c =
     let ram : Ram = g.M.PhysMem.ram c.build.new.memory in
     let m : Manifest = c.args.manifest.now in
     subst (λ (m : Manifest). IsSoundState (state_of ram m c.first.result)) (sym c.copied.ensures.same)
-    (let first = (machine-first zeros ram m c.of.result c.first.result c.requires c.of.ensures.base c.of.ensures.blocks c.of.ensures.regions c.build.ensures.built c.build.ensures.rest c.first.ensures.pages c.first.ensures.buffers c.first.ensures.chain c.copied.ensures.uuids) in first.sound)
+    (let first = (machine-first zeros ram m c.of.result c.first.result c.requires c.of.ensures.base c.of.ensures.blocks c.of.ensures.regions c.build.ensures.built c.build.ensures.rest c.first.ensures.pages c.first.ensures.buffers c.first.ensures.chain c.copied.ensures.uuids c.built_tables.ensures) in first.sound)
