@@ -9,7 +9,6 @@ use Rattle.ffa_model.specs.Identifiers.{identifier, place}
 use Rattle.ffa_model.specs.State.{State, Page, Buffers}
 use Rattle.ffa_model.specs.Access.{transaction_at}
 use Rattle.ffa_model.specs.RunStates.{Schedule, schedule_of}
-use Rattle.ffa_laws.specs.Steady.{page_base}
 use Rattle.ffa_laws.specs.View.{view, is_near, involves, kept, buffers_seen, hidden}
 use Rattle.ffa_laws.specs.Events.{Event, Public, public_part, public_change, is_same_public, fullness, with_fullness, with_public, apply, apply_all}
 use Rattle.ffa_laws.proofs.Maps.{length-map_at, at-map_at, map_at-alike, get_or-map}
@@ -44,6 +43,10 @@ same_owner x y same = owner-standing x ∙ ap owner_in same ∙ sym (owner-stand
 
 base_in : Option (ℕ × Rights) → Option Rights
 base_in x = option_map (λ (t : ℕ × Rights). t.1) x
+
+-- the base right of a page, if it is not the manager's
+abbrev pub page_base : Option Page → Option Rights
+page_base page = option_map (λ (q : Page). q.base) page
 
 base-standing : (page : Option Page) → page_base page ≡ base_in (standing page)
 unfolding base_in

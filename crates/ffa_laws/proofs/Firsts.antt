@@ -1,28 +1,21 @@
--- The state in which a machine starts is sound; one of an accepted manifest is so in full.
-use Rattle.std.proofs.Common.{◌≡◌, ◌∙◌, ℕ, zero, suc, ◌<◌, ◌≤◌, Bool, true, false, cond, List, [], ◌∷◌, length, map, replicate, get_or, Option, Some, None, refl, sym, ap, ap₂, subst, inl, arith}
+-- The state in which the machine of an accepted manifest starts is sound.
+use Rattle.std.proofs.Common.{◌≡◌, ◌∙◌, ℕ, zero, suc, ◌<◌, ◌≤◌, Bool, true, false, cond, List, [], ◌∷◌, length, map, replicate, get_or, Option, Some, None, refl, ap, ap₂, subst, inl, arith}
 use Rattle.std.specs.Prelude.{◌||◌, ◌&&◌, nat_lt, slice_get}
 use Rattle.std.specs.List.{list_all}
-use Rattle.std.specs.Ordering.{nat_cmp}
-use Rattle.std.specs.FinMap as finite
-use Rattle.std.specs.FinSet as finite_set
-use Rattle.std.specs.Cmp.Lexicographic.{slice_cmp}
 use Rattle.std.proofs.lemmas.Bool.{and_parts, false≢true, ltb-true, ne_eqb}
-use Rattle.std.proofs.lemmas.List.{length-map, length-replicate}
+use Rattle.std.proofs.lemmas.List.{length-replicate}
 use Rattle.std.proofs.lemmas.Option.{none-some, same_Some}
 use Rattle.ffa_model.specs.declared.endpoint.Endpoint.{Endpoint}
 use Rattle.ffa_model.specs.declared.schedule.Status.TheVariants.{Blocked}
 use Rattle.ffa_model.specs.declared.schedule.Work.{Work}
-use Rattle.ffa_model.specs.Identifiers.{place}
 use Rattle.ffa_model.specs.Lists.{listed}
 use Rattle.ffa_model.specs.First.{first, first_status, party_of}
-use Rattle.ffa_model.specs.State.{Party, Transaction, Buffers}
-use Rattle.ffa_model.specs.Access.{is_naming}
+use Rattle.ffa_model.specs.State.{Party}
 use Rattle.ffa_model.specs.Manifest.{are_identified, is_accepted, is_nil, is_normal_world, is_partition}
-use Rattle.ffa_model.specs.RunStates.{first_schedule, requester}
+use Rattle.ffa_model.specs.RunStates.{first_schedule}
 use Rattle.ffa_model.specs.Links as links
 use Rattle.ffa_model.specs.Sound.{IsSound}
 use Rattle.ffa_model.specs.SoundState.{IsSoundParty, IsSoundState, are_bytes}
-use Rattle.ffa_laws.specs.Steady.{IsScheduled}
 use Rattle.ffa_model.proofs.Accepted.{accepted}
 use Rattle.ffa_model.proofs.FirstSound.{first-sound as accepted_sound}
 use Rattle.ffa_model.proofs.Listed.{listed-same}
@@ -64,37 +57,6 @@ first-schedule-sound n some few =
       works = replicate n None;
     })
     (sound (0 ∷ []) (replicate n None) (first-chain n some few))
-
-pub first-sound : (base blocks : ℕ) (es : List Endpoint) → 1 ≤ length es → length es ≤ 8 → IsScheduled (first base blocks es)
-unfolding first
-first-sound base blocks es some few =
-    record {
-      steady = record {
-        some = omega (arith, parties);
-        few = omega (arith, parties);
-        each = length-replicate {A = Option Buffers} (length es) None ∙ sym parties;
-        runner = refl;
-        requesters = λ i by is. absurd (none_some (sym (ap requester (none-at (length es) i)) ∙ is));
-        one = λ p h k a b. absurd (false≢true (sym (ap (is_naming (first base blocks es) p) (finite.get-empty nat_cmp h)) ∙ a));
-        transactions = λ h t is. absurd (no_transaction (sym (finite.get-empty nat_cmp h) ∙ is));
-        buffers = λ e b known is. absurd (no_buffers (sym (none-at (length es) (place e)) ∙ is));
-        bound = λ entry is. absurd (false≢true (sym (finite_set.contains-empty (slice_cmp nat_cmp) entry) ∙ is));
-      };
-      works = length-replicate {A = Option Work} (length es) None ∙ sym parties;
-      schedule = first-schedule-sound (length es) some few;
-    }
-  where
-    parties : length (map party_of es) ≡ length es
-    parties = length-map es party_of
-
-    none_some : {x : ℕ} → None ≡ Some x → ⊥
-    none_some e = cc
-
-    no_transaction : {t : Transaction} → None ≡ Some t → ⊥
-    no_transaction e = cc
-
-    no_buffers : {b : Buffers} → None ≡ Some b → ⊥
-    no_buffers e = cc
 
 -- ---- of an accepted manifest
 all-get : {X : Type 0} (test : X → Bool) (xs : List X) (i : ℕ) (x : X) → list_all test xs ≡ true → slice_get xs i ≡ Some x → test x ≡ true

@@ -13,10 +13,10 @@ use Rattle.ffa_model.specs.Rights.{is_lend, is_data_at_most, is_share, is_within
 use Rattle.ffa_model.specs.State.{State, Buffers, Page, Transaction, page_at}
 use Rattle.ffa_model.specs.Access.{access, held_by, right_by, right_of, transaction_at}
 use Rattle.ffa_model.specs.Step.{serve, state_after, step}
-use Rattle.ffa_laws.specs.Steady.{IsSteady, page_base, is_joint}
+use Rattle.ffa_laws.specs.Steady.{IsSteady, is_joint}
 use Rattle.ffa_laws.specs.Isolation.{NeverGrow, is_joint_at, is_lawful_call}
 use Rattle.ffa_laws.proofs.Views.{found}
-use Rattle.ffa_laws.proofs.Changes.{AreRewritten, same_base, standing}
+use Rattle.ffa_laws.proofs.Changes.{AreRewritten, same_base, standing, page_base}
 use Rattle.ffa_laws.proofs.Kept.{rewritten-call, rewritten-step, with_all_parts}
 use Rattle.ffa_laws.proofs.Laws.{steady-call, steady-step}
 

@@ -7,12 +7,12 @@ use Rattle.std.proofs.lemmas.Bool.Decides.{nat_tests}
 use Rattle.ffa_model.specs.declared.operation.ErrorCode.{ErrorCode}
 use Rattle.ffa_model.specs.declared.operation.ErrorCode.TheVariants.{InvalidParameters, Busy, Denied}
 use Rattle.ffa_model.specs.Identifiers.{place}
-use Rattle.ffa_model.specs.State.{State, Page, Buffers, buffers_of, has_bitmaps, has_property, is_known, is_known_among}
+use Rattle.ffa_model.specs.State.{State, Page, Buffers, buffers_of, has_property, is_known, is_known_among}
 use Rattle.ffa_model.specs.Memory.{page_bytes}
 use Rattle.ffa_model.specs.Buffers.{buffers_in, buffers_with_rx, filled, filled_pages, is_full}
 use Rattle.ffa_model.specs.Calls.{first_failure}
 use Rattle.ffa_model.specs.Messages.{MessageHeader, delivered, header_in, message_in, msg_send2, send2_guards, tx_bytes}
-use Rattle.ffa_model.specs.Notifications.{manager_class, notifications_of, message_bits, with_framework_bit}
+use Rattle.ffa_model.specs.Notifications.{manager_class, notifications_of, message_bits, with_framework_bit, has_bitmaps_in}
 use Rattle.ffa_model.specs.RunStates.{schedule_of}
 use Rattle.ffa_laws.specs.Steady.{IsSteady}
 use Rattle.ffa_laws.specs.View.{view, is_near, kept}
@@ -119,12 +119,12 @@ module _ (s : State) (steady : IsSteady s) where
         differ same = true≢false (sym (eq-eqb receiver e same) ∙ other)
 
     to-receiver : (receiver == e) ≡ true → view e (msg_send2 s).state
-        ≡ apply_all e (view e s) ((Filled bytes ∷ where_true (has_bitmaps s e) (Pending manager_class message_bits ∷ [])) ++ public_change s (msg_send2 s).state)
+        ≡ apply_all e (view e s) ((Filled bytes ∷ where_true (has_bitmaps_in (notifications_of s) e) (Pending manager_class message_bits ∷ [])) ++ public_change s (msg_send2 s).state)
     to-receiver mine =
-        other-told e s (msg_send2 s).state (raised (repaged e s new_pages) e manager_class message_bits) (Filled bytes ∷ where_true (has_bitmaps s e) (Pending manager_class message_bits ∷ [])) each (λ i own. rx-own (length s.pages) s.buffers receiver true i)
+        other-told e s (msg_send2 s).state (raised (repaged e s new_pages) e manager_class message_bits) (Filled bytes ∷ where_true (has_bitmaps_in (notifications_of s) e) (Pending manager_class message_bits ∷ [])) each (λ i own. rx-own (length s.pages) s.buffers receiver true i)
         (length-map_at (λ q page. kept (is_near e s q) page) new_pages ∙ (rewritten-filled s.pages bytes (buffers_of s receiver)).each) refl
-        (ap (λ v. apply_all e v (where_true (has_bitmaps s e) (Pending manager_class message_bits ∷ []))) by_filled
-        ∙ pending-applied e manager_class message_bits (repaged e s new_pages) (has_bitmaps s e) (own-bitmaps e s known))
+        (ap (λ v. apply_all e v (where_true (has_bitmaps_in (notifications_of s) e) (Pending manager_class message_bits ∷ []))) by_filled
+        ∙ pending-applied e manager_class message_bits (repaged e s new_pages) (has_bitmaps_in (notifications_of s) e) (own-bitmaps e s known))
         (ap (λ f. view e (raised (filled s receiver bytes) f manager_class message_bits)) same
         ∙ sym (raised-own e manager_class message_bits (filled s receiver bytes) known)
         ∙ ap (λ v. raised v e manager_class message_bits) filled-seen)
@@ -139,7 +139,7 @@ module _ (s : State) (steady : IsSteady s) where
     pub other-send2 : IsTold e s (msg_send2 s) (delivers e s (tx_bytes s s.runner))
     other-send2 none =
         elim (receiver == e) as (λ b. (receiver == e) ≡ b → view e (msg_send2 s).state
-        ≡ apply_all e (view e s) (where_true b (Filled bytes ∷ where_true (has_bitmaps s e) (Pending manager_class message_bits ∷ [])) ++ public_change s (msg_send2 s).state)) [
+        ≡ apply_all e (view e s) (where_true b (Filled bytes ∷ where_true (has_bitmaps_in (notifications_of s) e) (Pending manager_class message_bits ∷ [])) ++ public_change s (msg_send2 s).state)) [
           | true ↦ to-receiver
           | false ↦ to-other none
         ] refl

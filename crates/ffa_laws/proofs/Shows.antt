@@ -18,7 +18,7 @@ use Rattle.ffa_model.specs.declared.descriptor.RelinquishDesc.{RelinquishDesc}
 use Rattle.ffa_model.specs.declared.call.Call as calls
 use Rattle.ffa_model.specs.declared.call.Call.TheVariants.{Version, Features, RxRelease, RxtxMap, RxtxUnmap, PartitionInfoGet, IdGet, MsgWait, Yield, Run, DirectRequest, DirectResponse, MemDonate, MemLend, MemShare, MemRetrieve, MemRelinquish, MemReclaim, BitmapCreate, BitmapDestroy, NotificationBind, NotificationUnbind, NotificationSet, NotificationGet, SpmIdGet, MsgSend2, Unknown}
 use Rattle.ffa_model.specs.Bits.{bits_of, high_half, word_of_halves, low_half}
-use Rattle.ffa_model.specs.State.{State, Transaction, has_bitmaps, transaction_of}
+use Rattle.ffa_model.specs.State.{State, Transaction, transaction_of}
 use Rattle.ffa_model.specs.Access.{is_from, is_offered, is_receiver}
 use Rattle.ffa_model.specs.Calls.{Service, Stepped, answered, encode, first_failure}
 use Rattle.ffa_model.specs.Memory.{accessed, fetch_fault, number_at, read_fault, size_of, store_fault, stored}
@@ -26,7 +26,7 @@ use Rattle.ffa_model.specs.Buffers.{filled}
 use Rattle.ffa_model.specs.Setup.{info_bytes, is_count_alone, uuid_bytes}
 use Rattle.ffa_model.specs.RunStates.{direct_request, direct_response, msg_wait, run_partition, yield_now}
 use Rattle.ffa_model.specs.Messages.{header_in, message_in, tx_bytes}
-use Rattle.ffa_model.specs.Notifications.{class_of, manager_class, message_bits}
+use Rattle.ffa_model.specs.Notifications.{class_of, manager_class, message_bits, has_bitmaps_in, notifications_of}
 use Rattle.ffa_model.specs.SendDescriptor.{SendRecord}
 use Rattle.ffa_model.specs.Transactions.{handle_of}
 use Rattle.ffa_model.specs.MemorySend.{memory_sent, send_read, transaction_from}
@@ -64,7 +64,7 @@ no_messages e true f [] none = refl
 no_messages e true f (k ∷ ks) none = (λ i. none k i ++ messages e (map f ks)) ∙ no_messages e true f ks none
 
 no_delivery : (e : ℕ) (s : State) (tx : List ℕ) → messages e (delivers e s tx) ≡ []
-no_delivery e s tx = go ((header_in tx).receiver == e) (has_bitmaps s e)
+no_delivery e s tx = go ((header_in tx).receiver == e) (has_bitmaps_in (notifications_of s) e)
   where
     go : (b c : Bool) → messages e (where_true b (Filled (message_in tx) ∷ where_true c (Pending manager_class message_bits ∷ []))) ≡ []
     go true true = refl

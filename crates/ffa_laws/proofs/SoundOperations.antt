@@ -22,7 +22,6 @@ use Rattle.ffa_model.specs.RunStates.{Schedule, finished, given_cycles, requeste
 use Rattle.ffa_model.specs.Messages.{header_in, message_in, msg_send2, send2_guards, tx_bytes}
 use Rattle.ffa_model.specs.SoundState.{IsSoundState}
 use Rattle.ffa_model.specs.Step.{service, step}
-use Rattle.ffa_laws.specs.Steady.{IsScheduled}
 use Rattle.ffa_laws.specs.Isolation.{is_lawful_call}
 use Rattle.ffa_model.proofs.Guards.{guard-passes}
 use Rattle.ffa_laws.proofs.Form.{accessed-kept, served-kept}
@@ -32,7 +31,7 @@ use Rattle.ffa_laws.proofs.SoundKept.{pages-sound, schedule-sound}
 use Rattle.ffa_laws.proofs.SoundNotifications.{bind-sound, create-sound, destroy-sound, framework-sound, get-sound, set-sound, unbind-sound}
 use Rattle.ffa_laws.proofs.SoundPages.{informed-sound, sent-sound, stored-sound}
 use Rattle.ffa_laws.proofs.SoundSteady.{sound-steady}
-use Rattle.ffa_laws.proofs.SoundSteps.{AreSound, sound-service}
+use Rattle.ffa_laws.proofs.SoundSteps.{AreSound, IsScheduled, sound-service}
 use Rattle.ffa_laws.proofs.Written.{rewritten-written}
 
 module _ (s : State) (sound : IsSoundState s) where

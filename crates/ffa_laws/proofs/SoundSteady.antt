@@ -21,11 +21,12 @@ use Rattle.ffa_model.specs.Transactions.{Bases, are_executable, are_writable, ba
 use Rattle.ffa_model.specs.MemorySend.{are_grants_within, is_grantable, is_inside}
 use Rattle.ffa_model.specs.SendDescriptor.{range_end}
 use Rattle.ffa_model.specs.SoundState.{IsSoundState, IsSoundTransaction}
-use Rattle.ffa_laws.specs.Steady.{IsSteady, IsSteadyTransaction, is_joint, page_base}
+use Rattle.ffa_laws.specs.Steady.{IsSteady, IsSteadyTransaction, is_joint}
 use Rattle.ffa_model.proofs.NamedPages.{listed-each}
 use Rattle.ffa_laws.proofs.Growth.{within-through}
 use Rattle.ffa_laws.proofs.SoundLaws.{requester-known}
 use Rattle.ffa_laws.proofs.Steadies.{usable}
+use Rattle.ffa_laws.proofs.Changes.{page_base}
 
 -- a page of ranges that lie in RAM is in RAM
 abbrev has_address : ℕ → Range → Bool
@@ -137,7 +138,7 @@ module _ (s : State) (sound : IsSoundState s) where
     steady-transaction =
         record {
           owned = owned;
-          offered = good.holder;
+          receiver = good.holder;
           within = λ p e right named held. within-through (Some right) (Some (ceiling (bases_of s) t e)) (page_base (page_at s p)) (good.within e right held) (ceiling-within p e named);
           alone = λ e f one other differ of_e of_f. joint e f one other differ of_e of_f t.kind refl;
         }

@@ -1,10 +1,6 @@
--- Each operation keeps a state sound.
+-- Each lawful call keeps run states sound.
 use Rattle.std.proofs.Common.{◌≡◌, ◌∙◌, ℕ, ◌≤◌, true, false, cond, length, Some, None, refl, sym, ap, subst, arith, length-set}
-use Rattle.byteorder.specs.Endian.{little_bytes}
 use Rattle.std.proofs.lemmas.Bool.{false≢true}
-use Rattle.ffa_model.specs.declared.operation.Op.{Op}
-use Rattle.ffa_model.specs.declared.operation.Op.TheVariants.{Call, Load, Store, Fetch}
-use Rattle.ffa_model.specs.declared.operation.Outcome.TheVariants.{Data, Done}
 use Rattle.ffa_model.specs.declared.schedule.Status.{Status}
 use Rattle.ffa_model.specs.declared.schedule.Status.TheVariants.{Running, Waiting, Yielded, Blocked}
 use Rattle.ffa_model.specs.declared.schedule.Work.TheVariants.{Run as WorkRun, Request}
@@ -12,28 +8,28 @@ use Rattle.ffa_model.specs.declared.call.Call as calls
 use Rattle.ffa_model.specs.declared.call.Call.TheVariants.{Version, Features, RxRelease, RxtxMap, RxtxUnmap, PartitionInfoGet, IdGet, MsgWait, Yield, Run, DirectRequest, DirectResponse, MemDonate, MemLend, MemShare, MemRetrieve, MemRelinquish, MemReclaim, BitmapCreate, BitmapDestroy, NotificationBind, NotificationUnbind, NotificationSet, NotificationGet, SpmIdGet, MsgSend2, Unknown}
 use Rattle.ffa_model.specs.Bits.{high_half, low_half}
 use Rattle.ffa_model.specs.Identifiers.{place}
-use Rattle.ffa_model.specs.Registers.{served_call}
 use Rattle.ffa_model.specs.State.{State}
 use Rattle.ffa_model.specs.Calls.{first_failure}
-use Rattle.ffa_model.specs.Memory.{fetch_fault, number_at, read_fault, size_of, store_fault, stored}
 use Rattle.ffa_model.specs.Buffers.{filled}
 use Rattle.ffa_model.specs.Setup.{info_bytes, is_count_alone, uuid_bytes}
 use Rattle.ffa_model.specs.RunStates.{Schedule, finished, given_cycles, run_guards, schedule_of, status_in}
 use Rattle.ffa_model.specs.Sound.{IsSound}
-use Rattle.ffa_laws.specs.Steady.{IsScheduled}
-use Rattle.ffa_model.specs.Step.{service, step}
+use Rattle.ffa_laws.specs.Steady.{IsSteady}
+use Rattle.ffa_model.specs.Step.{service}
 use Rattle.ffa_laws.specs.Isolation.{is_lawful_call}
-use Rattle.ffa_laws.proofs.Lawful.{lawful as served_lawful}
-use Rattle.ffa_laws.proofs.Form.{accessed-kept, served-kept}
 use Rattle.ffa_laws.proofs.ScheduleLaws.{answerer}
 use Rattle.ffa_laws.proofs.SoundLaws.{sound-request, sound-response, sound-run, sound-wait, sound-yield}
-use Rattle.ffa_laws.proofs.Kept.{rewritten-step}
-use Rattle.ffa_laws.proofs.Laws.{steady-step}
 
 -- run states that are sound, of as many endpoints
 pub record AreSound (n : ℕ) (c : Schedule) : Type 0 where
   pub sound : IsSound c
   pub works : length c.works ≡ n
+
+-- a steady state with sound run states
+pub record IsScheduled (s : State) : Type 0 where
+  pub steady : IsSteady s
+  pub works : length s.works ≡ length s.parties
+  pub schedule : IsSound (schedule_of s)
 
 module _ (s : State) (is : IsScheduled s) where
   abbrev c : Schedule
@@ -94,18 +90,3 @@ module _ (s : State) (is : IsScheduled s) where
   sound-service (NotificationGet word flags) lawful none = old
   sound-service MsgSend2 lawful none = old
   sound-service Unknown lawful none = old
-
-  sound-op : (op : Op) → P (step s op).state
-  sound-op (Call x) = served-kept P s (service s (served_call x)) old (sound-service (served_call x) (served_lawful x))
-  sound-op (Load address size) = accessed-kept P s s (Data (number_at s address (size_of size))) (read_fault s address (size_of size)) old (λ none. old)
-  sound-op (Store address size value) = accessed-kept P s (stored s address (little_bytes (size_of size) value)) Done (store_fault s address (size_of size)) old (λ none. old)
-  sound-op (Fetch address) = accessed-kept P s s (Data (number_at s address 4)) (fetch_fault s address) old (λ none. old)
-
-  pub sound-step : (op : Op) → IsScheduled (step s op).state
-  sound-step op =
-      let after = sound-op op in
-      record {
-        steady = steady-step s is.steady op;
-        works = after.works ∙ sym (rewritten-step (λ t. length t.parties ≡ n) s refl (λ ps bs c n rewritten. refl) op);
-        schedule = after.sound;
-      }

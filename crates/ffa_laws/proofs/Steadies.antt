@@ -64,7 +64,7 @@ module _ (s : State) (steady : IsSteady s) (ps : List (Option Page)) (bs : List 
         one = steady.one;
         transactions = λ h t is. record {
           owned = λ p named. same_owner (get_or ps p None) (page_at s p) (rewritten.same p) ∙ (steady.transactions h t is).owned p named;
-          offered = (steady.transactions h t is).offered;
+          receiver = (steady.transactions h t is).receiver;
           within = λ p e right named holds. ap (is_within (Some right)) (same_base (get_or ps p None) (page_at s p) (rewritten.same p)) ∙ (steady.transactions h t is).within p e right named holds;
           alone = (steady.transactions h t is).alone;
         };
@@ -82,7 +82,7 @@ steady-notified s steady n bound =
       runner = steady.runner;
       requesters = steady.requesters;
       one = steady.one;
-      transactions = λ h t is. (let good = steady.transactions h t is in record { owned = good.owned; offered = good.offered; within = good.within; alone = good.alone });
+      transactions = λ h t is. (let good = steady.transactions h t is in record { owned = good.owned; receiver = good.receiver; within = good.within; alone = good.alone });
       buffers = λ e b known is.
           let own = steady.buffers e b known is in
           record { tx = record { owner = own.tx.owner; unnamed = own.tx.unnamed }; rx = record { owner = own.rx.owner; unnamed = own.rx.unnamed } };

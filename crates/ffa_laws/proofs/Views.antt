@@ -170,7 +170,7 @@ module _ (e : ℕ) (s : State) (steady : IsSteady s) where
   of_page p =
       record {
         owner = λ u is. (let (h, open_h, named) = found s p u is in (steady.transactions h u open_h).owned p named);
-        holders = λ u is. (let (h, open_h, named) = found s p u is in (steady.transactions h u open_h).offered);
+        holders = λ u is. (let (h, open_h, named) = found s p u is in (steady.transactions h u open_h).receiver);
       }
 
   pub view-access : (p : ℕ) → access (view e s) e p ≡ access s e p

@@ -19,18 +19,18 @@ use Rattle.ffa_model.specs.declared.operation.Op.TheVariants.{Call, Load, Store,
 use Rattle.ffa_model.specs.declared.operation.Outcome.{Outcome}
 use Rattle.ffa_model.specs.declared.operation.Outcome.TheVariants.{Regs}
 use Rattle.ffa_model.specs.declared.call.Call as calls
-use Rattle.ffa_model.specs.declared.call.Call.TheVariants.{Version, Features, RxRelease, RxtxMap, RxtxUnmap, PartitionInfoGet, IdGet, MsgWait, Yield, Run, DirectRequest, DirectResponse, MemDonate, MemLend, MemShare, MemRetrieve, MemRelinquish, MemReclaim, BitmapCreate, BitmapDestroy, NotificationBind, NotificationUnbind, NotificationSet, NotificationGet, SpmIdGet, MsgSend2, Unknown}
+use Rattle.ffa_model.specs.declared.call.Call.TheVariants.{MsgWait, Yield, Run, DirectRequest, DirectResponse, MemDonate, MemLend, MemShare, MemRetrieve, MemRelinquish, MemReclaim, BitmapDestroy, NotificationBind, NotificationUnbind, NotificationSet, MsgSend2}
 use Rattle.ffa_model.specs.Bits.{bits_of, high_half, word_of_halves, low_half}
 use Rattle.ffa_model.specs.Lists.{listed, map_at}
 use Rattle.ffa_model.specs.Registers.{served_call}
-use Rattle.ffa_model.specs.State.{State, Page, Transaction, Buffers, buffers_of, has_bitmaps, transaction_of}
+use Rattle.ffa_model.specs.State.{State, Page, Transaction, Buffers, buffers_of, transaction_of}
 use Rattle.ffa_model.specs.Access.{is_from, is_offered, is_receiver, names}
 use Rattle.ffa_model.specs.Calls.{Service, encode, first_failure}
 use Rattle.ffa_model.specs.Memory.{changed_pages, size_of, store_fault, stored, with_pages, zeroed_page}
 use Rattle.ffa_model.specs.Buffers.{filled_pages}
 use Rattle.ffa_model.specs.RunStates.{direct_request, direct_response, msg_wait, run_partition, status_number, yield_now}
 use Rattle.ffa_model.specs.Messages.{header_in, message_in, tx_bytes}
-use Rattle.ffa_model.specs.Notifications.{binding, class_of, is_bound, manager_class, notifications_of, message_bits, with_notifications, with_pending}
+use Rattle.ffa_model.specs.Notifications.{binding, class_of, has_bitmaps_in, is_bound, manager_class, notifications_of, message_bits, with_notifications, with_pending}
 use Rattle.ffa_model.specs.SendDescriptor.{SendRecord}
 use Rattle.ffa_model.specs.Transactions.{bases_of, handle_of, holding, next_handle, not_holding, offers_of, with_offers, with_transaction}
 use Rattle.ffa_model.specs.MemorySend.{memory_sent, send_read, transaction_from}
@@ -151,7 +151,7 @@ switches e c = where_true (c.state.runner == e) (Message (encode c.reply) ∷ []
 abbrev pub delivers : ℕ → State → List ℕ → List Event
 delivers e s tx =
     where_true ((header_in tx).receiver == e)
-    (Filled (message_in tx) ∷ where_true (has_bitmaps s e) (Pending manager_class message_bits ∷ []))
+    (Filled (message_in tx) ∷ where_true (has_bitmaps_in (notifications_of s) e) (Pending manager_class message_bits ∷ []))
 
 -- a send to e, with the pages after it
 abbrev pub opens : ℕ → State → Kind → Option SendRecord → List Event
@@ -202,16 +202,8 @@ unbinds e s receiver sender ks =
 abbrev pub sets : ℕ → State → ℕ → List ℕ → List Event
 sets e s receiver ks = where_true (receiver == e) (Pending (class_of s.runner) ks ∷ [])
 
--- what a call that nothing refuses tells e besides the public part
+-- what a call that nothing refuses tells e besides the public part; those that are not listed tell nothing
 abbrev pub told_by : ℕ → State → calls.Call → List Event
-told_by e s (Version version) = []
-told_by e s (Features function) = []
-told_by e s RxRelease = []
-told_by e s (RxtxMap tx rx pages) = []
-told_by e s (RxtxUnmap endpoint) = []
-told_by e s (PartitionInfoGet uuid flags) = []
-told_by e s IdGet = []
-told_by e s SpmIdGet = []
 told_by e s MsgWait = switches e (msg_wait s)
 told_by e s Yield = switches e (yield_now s)
 told_by e s (Run target) = switches e (run_partition s target)
@@ -223,14 +215,12 @@ told_by e s (MemShare total fragment address pages) = opens e s Share (send_read
 told_by e s (MemRetrieve total fragment address pages) = takes e s (retrieve_read s total)
 told_by e s MemRelinquish = releases e s (relinquish_read s)
 told_by e s (MemReclaim low high flags) = closes e s (handle_of high low)
-told_by e s (BitmapCreate endpoint contexts) = []
 told_by e s (BitmapDestroy endpoint) = unbinds e s 0 e (listed 64 (λ k. k))
 told_by e s (NotificationBind word flags low high) = binds e s s.runner (high_half word) (bits_of (word_of_halves low high))
 told_by e s (NotificationUnbind word flags low high) = unbinds e s s.runner (high_half word) (bits_of (word_of_halves low high))
 told_by e s (NotificationSet word flags low high) = sets e s (low_half word) (bits_of (word_of_halves low high))
-told_by e s (NotificationGet receiver flags) = []
 told_by e s MsgSend2 = delivers e s (tx_bytes s s.runner)
-told_by e s Unknown = []
+told_by e s call = []
 
 -- the public part as numbers, by which two are compared: different parts have different numbers
 abbrev pub work_number : Option Work → ℕ
@@ -280,17 +270,8 @@ items e s (op ∷ ops) =
 
 -- the registers of a message to e
 abbrev pub message : ℕ → Event → List Outcome
-message e (Wrote address bytes) = []
 message e (Message x) = Regs (record { 0 = e }) x ∷ []
-message e (Filled bytes) = []
-message e (Pending class bits) = []
-message e (Bound receiver class bit) = []
-message e (Unbound receiver class bit) = []
-message e (Opened h t pages) = []
-message e (Held h f right) = []
-message e (Zeroed h) = []
-message e (Closed h) = []
-message e (Public values) = []
+message e event = []
 
 abbrev pub messages : ℕ → List Event → List Outcome
 messages e [] = []

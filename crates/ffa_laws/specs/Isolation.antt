@@ -1,6 +1,7 @@
 -- The laws over the small machine: isolation, rights that never grow, integrity.
 use Rattle.std.specs.Prelude.{◌≡◌, ◌≢◌, ℕ, ◌==◌, Bool, true, false, ◌&&◌, List, [], ◌∷◌, ◌++◌, Option, None, is_none, is_some, if◌then◌else◌}
 use Rattle.std.specs.Option.{option_map_or}
+use Rattle.ffa_model.specs.Transactions.{base_of}
 use Rattle.ffa_model.specs.declared.operation.Op.{Op}
 use Rattle.ffa_model.specs.declared.operation.Op.TheVariants.{Call, Load, Store, Fetch}
 use Rattle.ffa_model.specs.declared.operation.Outcome.{Outcome}
@@ -15,7 +16,7 @@ use Rattle.ffa_model.specs.Registers.{served_call}
 use Rattle.ffa_model.specs.Calls.{first_failure}
 use Rattle.ffa_model.specs.Messages.{header_in, msg_send2, tx_bytes}
 use Rattle.ffa_model.specs.Step.{outcomes, serve, step}
-use Rattle.ffa_laws.specs.Steady.{IsSteady, page_base, is_joint}
+use Rattle.ffa_laws.specs.Steady.{IsSteady, is_joint}
 use Rattle.ffa_laws.specs.View.{view}
 use Rattle.ffa_laws.specs.Events.{apply_all, call_events, events, items, seen}
 
@@ -94,8 +95,8 @@ is_joint_at t = option_map_or is_joint t false
 
 -- from one state to a later one
 pub record NeverGrow (s t : State) : Type 0 where
-  pub base : (p : ℕ) → is_within (page_base (page_at t p)) (page_base (page_at s p)) ≡ true
-  pub within : (e p : ℕ) → is_within (access t e p) (page_base (page_at t p)) ≡ true
+  pub base : (p : ℕ) → is_within (base_of t p) (base_of s p) ≡ true
+  pub within : (e p : ℕ) → is_within (access t e p) (base_of t p) ≡ true
   pub manager : (p : ℕ) → page_at s p ≡ None → page_at t p ≡ None
   pub alone : (e f p : ℕ) → e ≢ f → is_some (access t e p) ≡ true → is_some (access t f p) ≡ true → is_joint_at (transaction_at t p) ≡ true
 
@@ -103,33 +104,8 @@ pub record NeverGrow (s t : State) : Type 0 where
 
 -- whether a call is an indirect message
 abbrev pub is_send2 : calls.Call → Bool
-is_send2 (Version version) = false
-is_send2 (Features function) = false
-is_send2 RxRelease = false
-is_send2 (RxtxMap tx rx pages) = false
-is_send2 (RxtxUnmap endpoint) = false
-is_send2 (PartitionInfoGet uuid flags) = false
-is_send2 IdGet = false
-is_send2 MsgWait = false
-is_send2 Yield = false
-is_send2 (Run target) = false
-is_send2 (DirectRequest function word flags payload) = false
-is_send2 (DirectResponse function word flags payload) = false
-is_send2 (MemDonate total fragment address pages) = false
-is_send2 (MemLend total fragment address pages) = false
-is_send2 (MemShare total fragment address pages) = false
-is_send2 (MemRetrieve total fragment address pages) = false
-is_send2 MemRelinquish = false
-is_send2 (MemReclaim low high flags) = false
-is_send2 (BitmapCreate endpoint contexts) = false
-is_send2 (BitmapDestroy endpoint) = false
-is_send2 (NotificationBind word flags low high) = false
-is_send2 (NotificationUnbind word flags low high) = false
-is_send2 (NotificationSet word flags low high) = false
-is_send2 (NotificationGet receiver flags) = false
-is_send2 SpmIdGet = false
 is_send2 MsgSend2 = true
-is_send2 Unknown = false
+is_send2 call = false
 
 abbrev pub is_indirect_message : Op → Bool
 is_indirect_message (Call x) = is_send2 (served_call x)

@@ -1,17 +1,13 @@
 -- What isolation asks of a state: less than that it is sound.
-use Rattle.std.specs.Prelude.{◌≡◌, ◌≢◌, ℕ, ◌≤◌, ◌<◌, Bool, true, ◌&&◌, ◌||◌, nat_le, List, length, Option, Some, None, slice_index_or}
-use Rattle.std.specs.Option.{option_map}
+use Rattle.std.specs.Prelude.{◌≡◌, ◌≢◌, ℕ, ◌≤◌, ◌<◌, Bool, true, ◌&&◌, ◌||◌, nat_le, List, length, Some, None, slice_index_or}
 use Rattle.std.specs.FinSet as finite_set
+use Rattle.ffa_model.specs.Transactions.{base_of}
 use Rattle.ffa_model.specs.declared.rights.Rights.{Rights}
 use Rattle.ffa_model.specs.Rights.{is_share, is_lend, is_within}
-use Rattle.ffa_model.specs.State.{State, Page, Transaction, Buffers, page_at, is_known, owner_of, buffers_of, transaction_of}
+use Rattle.ffa_model.specs.State.{State, Transaction, Buffers, is_known, owner_of, buffers_of, transaction_of}
 use Rattle.ffa_model.specs.Access.{handle_at, names, is_naming, is_receiver, held_by}
-use Rattle.ffa_model.specs.RunStates.{requester, schedule_of}
-use Rattle.ffa_model.specs.Sound.{IsSound}
+use Rattle.ffa_model.specs.RunStates.{requester}
 use Rattle.ffa_model.specs.Notifications.{binding, class_of}
-
-abbrev pub page_base : Option Page → Option Rights
-page_base page = option_map (λ (q : Page). q.base) page
 
 -- whether a transaction lets several endpoints have its pages: a share, or a lend to several
 abbrev pub is_joint : Transaction → Bool
@@ -21,8 +17,8 @@ is_joint t = is_share t.kind || (is_lend t.kind && nat_le 2 (length t.receivers)
 -- and is alone with it, unless the transaction lets several have the pages.
 pub record IsSteadyTransaction (s : State) (t : Transaction) : Type 0 where
   pub owned : (p : ℕ) → names s t.ranges p ≡ true → owner_of s p ≡ t.sender
-  pub offered : (e : ℕ) (right : Rights) → held_by t e ≡ Some right → is_receiver e t ≡ true
-  pub within : (p e : ℕ) (right : Rights) → names s t.ranges p ≡ true → held_by t e ≡ Some right → is_within (Some right) (page_base (page_at s p)) ≡ true
+  pub receiver : (e : ℕ) (right : Rights) → held_by t e ≡ Some right → is_receiver e t ≡ true
+  pub within : (p e : ℕ) (right : Rights) → names s t.ranges p ≡ true → held_by t e ≡ Some right → is_within (Some right) (base_of s p) ≡ true
   pub alone : (e f : ℕ) (one other : Rights) → e ≢ f → held_by t e ≡ Some one → held_by t f ≡ Some other → is_joint t ≡ true
 
 -- a page that its owner has alone: no open transaction names it
@@ -54,9 +50,3 @@ pub record IsSteady (s : State) : Type 0 where
   pub transactions : (h : ℕ) (t : Transaction) → transaction_of s h ≡ Some t → IsSteadyTransaction s t
   pub buffers : (e : ℕ) (b : Buffers) → is_known s e ≡ true → buffers_of s e ≡ Some b → AreSteadyBuffers s e b
   pub bound : (entry : List ℕ) → finite_set.contains s.bound entry ≡ true → IsSteadyBinding entry
-
--- a steady state with sound run states
-pub record IsScheduled (s : State) : Type 0 where
-  pub steady : IsSteady s
-  pub works : length s.works ≡ length s.parties
-  pub schedule : IsSound (schedule_of s)

@@ -9,7 +9,7 @@ ghost use Rattle.ffa_model.specs.Manifest.{is_accepted};
 ghost use Rattle.ffa_model.specs.SoundState.{IsSoundState, are_bytes};
 ghost use Rattle.ffa_model.specs.State.{State};
 ghost use Rattle.ffa_model.specs.Step.{serve, state_after, step};
-ghost use Rattle.ffa_laws.specs.Steady.{IsScheduled, IsSteady};
+ghost use Rattle.ffa_laws.specs.Steady.{IsSteady};
 ghost use Rattle.ffa_laws.specs.Isolation.{Integrity, Isolated, LeavesBytes, NeverGrow, OneCall, OneStep, Shown, is_lawful_call, is_send2};
 
 /// One call, served yet or not: it tells another endpoint its events, and its outcome depends on the runner's view alone. A
@@ -24,12 +24,11 @@ pub fn one_call()
 {}
 
 /// One operation: it tells another endpoint its events, and its outcome depends on the runner's view alone. A state that
-/// is steady or sound stays so, and sound run states stay sound.
+/// is steady or sound stays so.
 pub fn one_step()
     ensures step { (s : State) (op : Op) → IsSteady s → OneStep s op }
     ensures steady { (s : State) (op : Op) → IsSteady s → IsSteady (step s op).state }
     ensures sound { (s : State) (op : Op) → IsSoundState s → IsSoundState (step s op).state }
-    ensures scheduled { (s : State) (op : Op) → IsScheduled s → IsScheduled (step s op).state }
 {}
 
 /// A list of operations: what an endpoint sees of it depends on its view at the start, on its own operations and on the
@@ -54,11 +53,9 @@ pub fn sound_is_steady()
     ensures { (s : State) → IsSoundState s → IsSteady s }
 {}
 
-/// The state in which a machine starts is steady, with sound run states. That of an accepted manifest, whose UUIDs have 16
-/// bytes each, is sound.
+/// The state in which the machine of an accepted manifest starts, whose UUIDs have 16 bytes each, is sound.
 pub fn first_is_sound()
-    ensures scheduled { (base blocks : ℕ) (es : List Endpoint) → 1 ≤ length es → length es ≤ 8 → IsScheduled (first base blocks es) }
-    ensures sound { (base blocks : ℕ) (es : List Endpoint) → is_accepted base blocks es ≡ true
+    ensures { (base blocks : ℕ) (es : List Endpoint) → is_accepted base blocks es ≡ true
         → ((i : ℕ) (e : Endpoint) → slice_get es i ≡ Some e → (length e.uuid ≡ 16) × are_bytes e.uuid)
         → IsSoundState (first base blocks es) }
 {}

@@ -14,12 +14,12 @@ use Rattle.ffa_model.specs.declared.rights.Rights.{Rights}
 use Rattle.ffa_model.specs.declared.transaction.Range.{Range}
 use Rattle.ffa_model.specs.Rights.{is_donate, is_share}
 use Rattle.ffa_model.specs.State.{State, Page, Transaction, Buffers, buffers_of, is_known_among, page_at, sent_by, transaction_of}
-use Rattle.ffa_model.specs.Access.{access, handle_at, held_by, names, pages_named, right_by, right_of, transaction_at}
+use Rattle.ffa_model.specs.Access.{access, handle_at, held_by, names, right_by, right_of, transaction_at}
 use Rattle.ffa_model.specs.Memory.{page_with, with_pages, written}
 use Rattle.ffa_model.specs.Buffers.{Candidate, candidate_at, candidates, filled, filled_pages}
 use Rattle.ffa_model.specs.ResponseBytes.{response_bytes}
 use Rattle.ffa_model.specs.SendDescriptor.{SendRecord}
-use Rattle.ffa_model.specs.Transactions.{closed, handle_of, holding, next_handle, not_holding, offers_of, with_offers, with_transaction}
+use Rattle.ffa_model.specs.Transactions.{closed, handle_of, holding, next_handle, not_holding, offers_of, with_offers, with_transaction, bases_of, pages_in}
 use Rattle.ffa_model.specs.MemorySend.{is_own, is_sendable, memory_sent, offered_in, transaction_from}
 use Rattle.ffa_model.specs.MemoryRetrieve.{donated_if, donated_page, response_to, retrieved_right, with_retrieved, taken_in}
 use Rattle.ffa_model.specs.MemoryReturn.{reclaimed, relinquished_from}
@@ -70,7 +70,7 @@ right-past s e p t past = ap (λ page. right_of e page t) (get_or_past s.pages p
 
 -- A SEND
 -- a page that may be sent stands in no transaction
-pub sendable-unnamed : (s : State) (e p : ℕ) (ranges : List Range) → list_all (is_sendable e (candidates s) s.buffers) (pages_named s ranges) ≡ true
+pub sendable-unnamed : (s : State) (e p : ℕ) (ranges : List Range) → list_all (is_sendable e (candidates s) s.buffers) (pages_in (bases_of s) ranges) ≡ true
     → p < length s.pages → names s ranges p ≡ true → handle_at s p ≡ None
 sendable-unnamed s e p ranges all lt named =
     let one : is_sendable e (candidates s) s.buffers p ≡ true =
@@ -118,7 +118,7 @@ module _ (s : State) (sound : IsSoundState s) where
   once p lt h k at_h at_k = sound.one p h k lt at_h at_k
 
   -- the pages that a send names give a right to nobody but a share's sender; others are as they were
-  pub send-named : (kind : Kind) (r : SendRecord) (e p : ℕ) → list_all (is_sendable s.runner (candidates s) s.buffers) (pages_named s r.ranges) ≡ true
+  pub send-named : (kind : Kind) (r : SendRecord) (e p : ℕ) → list_all (is_sendable s.runner (candidates s) s.buffers) (pages_in (bases_of s) r.ranges) ≡ true
       → p < length s.pages → names s r.ranges p ≡ true
       → access (memory_sent s kind (Some r)) e p ≡ unheld_right (transaction_from kind r) e (page_at s p)
   send-named kind r e p free lt named =

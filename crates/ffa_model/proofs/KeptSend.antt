@@ -9,10 +9,10 @@ use Rattle.std.proofs.lemmas.List.{get_or-set_same, get_or-set_other, get_or_pas
 use Rattle.std.proofs.lemmas.Option.{none-some, same_Some}
 use Rattle.ffa_model.specs.Identifiers.{manager, place}
 use Rattle.ffa_model.specs.State.{State, Page, Transaction, Buffers, owner_of, page_at, sent_by, transaction_of}
-use Rattle.ffa_model.specs.Access.{handle_at, held_by, is_naming, names, pages_named}
+use Rattle.ffa_model.specs.Access.{handle_at, held_by, is_naming, names}
 use Rattle.ffa_model.specs.Buffers.{Candidate, candidate_at, candidates, is_usable}
 use Rattle.ffa_model.specs.SendDescriptor.{most_receivers}
-use Rattle.ffa_model.specs.Transactions.{are_writable, bases_of, next_handle, offers_of, open_count, opened, with_offers}
+use Rattle.ffa_model.specs.Transactions.{are_writable, bases_of, next_handle, offers_of, open_count, opened, with_offers, pages_in}
 use Rattle.ffa_model.specs.MemorySend.{are_grants_within, is_buffer, is_inside, is_own, is_sendable}
 use Rattle.ffa_model.specs.SoundState.{IsKnown, IsSoundState, IsSoundTransaction}
 use Rattle.ffa_model.proofs.Accesses.{once-beside, once-opened}
@@ -36,8 +36,8 @@ any-at test (o ∷ list) (suc i) b at passes = of (test o) (any-at test list i b
 pub record IsSendable (s : State) (t : Transaction) : Type 0 where
   pub sender : IsKnown s t.sender
   pub inside : list_all (is_inside (bases_of s)) t.ranges ≡ true
-  pub free : list_all (is_sendable t.sender (candidates s) s.buffers) (pages_named s t.ranges) ≡ true
-  pub grants : list_all (are_grants_within (bases_of s) t.receivers) (pages_named s t.ranges) ≡ true
+  pub free : list_all (is_sendable t.sender (candidates s) s.buffers) (pages_in (bases_of s) t.ranges) ≡ true
+  pub grants : list_all (are_grants_within (bases_of s) t.receivers) (pages_in (bases_of s) t.ranges) ≡ true
   pub zeroed : t.zero ≡ true → are_writable (bases_of s) t.ranges ≡ true
   pub few : open_count (offers_of s) t.sender < 8
   pub sent : sent_by s t.sender < 65535

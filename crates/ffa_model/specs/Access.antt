@@ -1,13 +1,12 @@
 -- Access, computed from the open transactions whenever it is asked.
-use Rattle.std.specs.Prelude.{ℕ, ◌+◌, ◌*◌, ◌==◌, Bool, false, ◌&&◌, nat_lt, nat_le, List, Option, Some, None, is_some, find, length, if◌then◌else◌}
+use Rattle.std.specs.Prelude.{ℕ, ◌+◌, ◌*◌, ◌==◌, Bool, false, ◌&&◌, nat_lt, nat_le, List, Option, Some, None, is_some, find, if◌then◌else◌}
 use Rattle.std.specs.Ordering.{nat_cmp}
-use Rattle.std.specs.List.{list_any, filter}
+use Rattle.std.specs.List.{list_any}
 use Rattle.std.specs.Option.{option_and_then}
 use Rattle.std.specs.FinMap as map
 use Rattle.ffa_model.specs.declared.rights.Rights.{Rights}
 use Rattle.ffa_model.specs.declared.transaction.Range.{Range}
 use Rattle.ffa_model.specs.declared.transaction.Receiver.{Receiver}
-use Rattle.ffa_model.specs.Lists.{listed}
 use Rattle.ffa_model.specs.Rights.{is_share}
 use Rattle.ffa_model.specs.State.{State, Page, Transaction, page_at, address_of}
 
@@ -17,10 +16,6 @@ covers ranges address = list_any (λ (r : Range). nat_le r.address address && na
 
 abbrev pub names : State → List Range → ℕ → Bool
 names s ranges p = covers ranges (address_of s p)
-
--- the RAM pages that the ranges name
-abbrev pub pages_named : State → List Range → List ℕ
-pages_named s ranges = filter (names s ranges) (listed (length s.pages) (λ p. p))
 
 abbrev pub is_naming : State → ℕ → Option Transaction → Bool
 is_naming s p None = false

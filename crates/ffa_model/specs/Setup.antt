@@ -1,6 +1,6 @@
 -- Version, features, identifiers and partition information (DEN0077A, 13).
 use Rattle.byteorder.specs.Endian.{little_bytes}
-use Rattle.std.specs.Prelude.{ℕ, ◌+◌, ◌==◌, Bool, true, false, not, ◌&&◌, ◌||◌, List, [], ◌∷◌, ◌++◌, length, replicate, if◌then◌else◌}
+use Rattle.std.specs.Prelude.{ℕ, ◌+◌, ◌==◌, Bool, true, false, not, ◌&&◌, ◌||◌, List, [], ◌∷◌, ◌++◌, length, replicate, is_some, if◌then◌else◌}
 use Rattle.std.specs.Str.{bytes_eq}
 use Rattle.std.specs.List.{filter, flat_map, enumerate_from}
 use Rattle.ffa_model.specs.declared.operation.ErrorCode.{ErrorCode}
@@ -11,8 +11,8 @@ use Rattle.ffa_model.specs.Bits.{bits, is_set}
 use Rattle.ffa_model.specs.Identifiers.{manager, identifier}
 use Rattle.ffa_model.specs.Manifest.{is_nil}
 use Rattle.ffa_model.specs.Registers.{is_served}
-use Rattle.ffa_model.specs.State.{State, Party, has_buffers, is_rx_full}
-use Rattle.ffa_model.specs.Buffers.{filled}
+use Rattle.ffa_model.specs.State.{State, Party, buffers_of}
+use Rattle.ffa_model.specs.Buffers.{filled, is_full}
 use Rattle.ffa_model.specs.Calls.{Service, success}
 
 abbrev pub version_reply : ℕ → Reply
@@ -58,8 +58,8 @@ is_any (x ∷ xs) = true
 abbrev pub info_guards : State → List ℕ → ℕ → List (Bool × ErrorCode)
 info_guards s uuid flags =
     (is_nil uuid || is_any (selected s.parties uuid), InvalidParameters)
-    ∷ (is_count_alone flags || has_buffers s s.runner, InvalidParameters)
-    ∷ (is_count_alone flags || not (is_rx_full s s.runner), Busy)
+    ∷ (is_count_alone flags || is_some (buffers_of s s.runner), InvalidParameters)
+    ∷ (is_count_alone flags || not (is_full (buffers_of s s.runner)), Busy)
     ∷ []
 
 abbrev pub informed : State → List ℕ → ℕ → State

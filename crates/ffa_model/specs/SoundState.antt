@@ -7,12 +7,12 @@ use Rattle.ffa_model.specs.declared.rights.Kind.TheVariants.{Donate}
 use Rattle.ffa_model.specs.Manifest.{is_ram_base}
 use Rattle.ffa_model.specs.Rights.{is_at_most}
 use Rattle.ffa_model.specs.State.{State, Page, Party, Transaction, Buffers, buffers_of, is_known, owner_of, page_at, sent_by, transaction_of}
-use Rattle.ffa_model.specs.Access.{held_by, is_naming, is_receiver, names, pages_named}
+use Rattle.ffa_model.specs.Access.{held_by, is_naming, is_receiver, names}
 use Rattle.ffa_model.specs.Buffers.{candidate_at, is_usable}
 use Rattle.ffa_model.specs.SendDescriptor.{most_receivers}
 use Rattle.ffa_model.specs.RunStates.{schedule_of}
 use Rattle.ffa_model.specs.Sound.{IsSound}
-use Rattle.ffa_model.specs.Transactions.{are_writable, bases_of, ceiling, handle_of, offers_of, open_count}
+use Rattle.ffa_model.specs.Transactions.{are_writable, bases_of, ceiling, handle_of, offers_of, open_count, pages_in}
 use Rattle.ffa_model.specs.MemorySend.{are_grants_within, is_inside}
 use Rattle.ffa_model.specs.Notifications.{binding, class_of, has_bitmaps_in, is_bound, manager_class, notifications_of, receiver_bit}
 
@@ -35,18 +35,22 @@ pub record IsSoundPage (s : State) (page : Page) : Type 0 where
   pub size : length page.bytes ≡ 4096
   pub bytes : are_bytes page.bytes
 
--- an open transaction under its handle: its pages are its sender's own, no grant is above the right of a page, pages
--- that were zeroed may be written, and a holder is a receiver that holds at most its ceiling. Nobody holds a donate
+-- an open transaction under its handle
 pub record IsSoundTransaction (s : State) (h : ℕ) (t : Transaction) : Type 0 where
+  -- the handle has the sender and the number of one of its sends
   pub sender : IsKnown s t.sender
   pub number : (n : ℕ) × (h ≡ handle_of t.sender n) × (1 ≤ n) × (n ≤ sent_by s t.sender)
+  -- its ranges lie in RAM, and its pages are its sender's
   pub inside : list_all (is_inside (bases_of s)) t.ranges ≡ true
   pub owned : (p : ℕ) → p < length s.pages → names s t.ranges p ≡ true → owner_of s p ≡ t.sender
-  pub grants : list_all (are_grants_within (bases_of s) t.receivers) (pages_named s t.ranges) ≡ true
+  -- each grant is at most each page's base data right, and each page of one that zeroes has base rw
+  pub grants : list_all (are_grants_within (bases_of s) t.receivers) (pages_in (bases_of s) t.ranges) ≡ true
   pub zeroed : t.zero ≡ true → are_writable (bases_of s) t.ranges ≡ true
+  -- a holder is a receiver, and holds at most its ceiling; nobody holds a donate
   pub holder : (e : ℕ) (right : Rights) → held_by t e ≡ Some right → is_receiver e t ≡ true
   pub within : (e : ℕ) (right : Rights) → held_by t e ≡ Some right → is_at_most right (ceiling (bases_of s) t e) ≡ true
   pub donate : (e : ℕ) → t.kind ≡ Donate → held_by t e ≡ None
+  -- how many receivers and ranges it may have, and that its tag is a word
   pub some_receivers : 1 ≤ length t.receivers
   pub few_receivers : length t.receivers ≤ most_receivers t.kind
   pub some_ranges : 1 ≤ length t.ranges
@@ -94,14 +98,17 @@ pub record IsSized (s : State) : Type 0 where
   pub works : length s.works ≡ length s.parties
   pub bitmaps : length s.bitmaps ≡ length s.parties
 
+-- a sound state
 pub record IsSoundState (s : State) : Type 0 where
   pub sized : IsSized s
   pub parties : (i : ℕ) (party : Party) → slice_get s.parties i ≡ Some party → IsSoundParty party
   pub pages : (p : ℕ) (page : Page) → page_at s p ≡ Some page → IsSoundPage s page
   pub transactions : (h : ℕ) (t : Transaction) → transaction_of s h ≡ Some t → IsSoundTransaction s h t
+  -- a page stands in at most one open transaction
   pub one :
       (p h k : ℕ) → p < length s.pages → is_naming s p (transaction_of s h) ≡ true
       → is_naming s p (transaction_of s k) ≡ true → h ≡ k
+  -- an endpoint has at most 8 open transactions, and has sent at most 65535
   pub few : (e : ℕ) → IsKnown s e → open_count (offers_of s) e ≤ 8
   pub sent : (e : ℕ) → IsKnown s e → sent_by s e ≤ 65535
   pub buffers : (e : ℕ) (b : Buffers) → IsKnown s e → buffers_of s e ≡ Some b → IsSoundBuffers s e b

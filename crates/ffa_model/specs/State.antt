@@ -1,5 +1,5 @@
 -- The state of the small machine: maps, sets and lists by page or endpoint, and no table, slot or stack.
-use Rattle.std.specs.Prelude.{ℕ, ◌+◌, ◌*◌, ◌==◌, Bool, false, ◌&&◌, ◌||◌, nat_lt, List, length, Option, None, is_some, slice_index, slice_index_or, slice_get}
+use Rattle.std.specs.Prelude.{ℕ, ◌+◌, ◌*◌, ◌==◌, Bool, ◌&&◌, ◌||◌, nat_lt, List, length, Option, None, slice_index, slice_index_or, slice_get}
 use Rattle.std.specs.Ordering.{nat_cmp}
 use Rattle.std.specs.Cmp.Lexicographic.{slice_cmp}
 use Rattle.std.specs.Option.{option_map_or}
@@ -10,7 +10,6 @@ use Rattle.ffa_model.specs.declared.rights.Kind.{Kind}
 use Rattle.ffa_model.specs.declared.transaction.Range.{Range}
 use Rattle.ffa_model.specs.declared.transaction.Receiver.{Receiver}
 use Rattle.ffa_model.specs.declared.schedule.Status.{Status}
-use Rattle.ffa_model.specs.declared.schedule.Status.TheVariants.{Waiting}
 use Rattle.ffa_model.specs.declared.schedule.Work.{Work}
 use Rattle.ffa_model.specs.Bits.{is_set}
 use Rattle.ffa_model.specs.Identifiers.{manager, identifier, place}
@@ -96,18 +95,3 @@ sent_by s e = slice_index s.sent (place e)
 
 abbrev pub buffers_of : State → ℕ → Option Buffers
 buffers_of s e = slice_index_or s.buffers (place e) None
-
-abbrev pub has_buffers : State → ℕ → Bool
-has_buffers s e = is_some (buffers_of s e)
-
-abbrev pub is_rx_full : State → ℕ → Bool
-is_rx_full s e = option_map_or (λ (b : Buffers). b.full) (buffers_of s e) false
-
-abbrev pub status_of : State → ℕ → Status
-status_of s e = slice_index_or s.statuses (place e) Waiting
-
-abbrev pub work_of : State → ℕ → Option Work
-work_of s e = slice_index_or s.works (place e) None
-
-abbrev pub has_bitmaps : State → ℕ → Bool
-has_bitmaps s e = slice_index_or s.bitmaps (place e) false

@@ -29,7 +29,7 @@ impl EndpointId {
         }
     }
 
-    /// The place in the manifest of the endpoint with this identifier, if there is one.
+    /// The place in the manifest of the endpoint with this identifier; place 0 for each one below the first partition's.
     pub fn place(self) -> usize
         ensures { result ≡ place self.0 }
     {

@@ -1,6 +1,5 @@
 use Rattle.ffa_laws.proofs.Laws.{one_step, steady-step}
 use Rattle.ffa_laws.proofs.SoundOperations.{step-sound}
-use Rattle.ffa_laws.proofs.SoundSteps.{sound-step}
 use Rattle.ffa_laws.proofs.isolation.one_step.Goals as goal
 
 pub returns-clause-step : goal.returns-clause-step
@@ -11,6 +10,3 @@ returns-clause-steady c = λ s op steady. steady-step s steady op
 
 pub returns-clause-sound : goal.returns-clause-sound
 returns-clause-sound c = λ s op sound. step-sound s sound op
-
-pub returns-clause-scheduled : goal.returns-clause-scheduled
-returns-clause-scheduled c = λ s op is. sound-step s is op
