@@ -1,6 +1,6 @@
 -- The checks of a call in groups, as the code makes them.
-use Rattle.std.proofs.Common.{◌≡◌, ◌∙◌, ◌+◌, ℕ, Bool, List, [], ◌∷◌, Option, Some, None, length, ap}
-use Rattle.std.specs.Prelude.{◌==◌, not, ◌&&◌, nat_le, is_some, if◌then◌else◌}
+use Rattle.std.proofs.Common.{◌≡◌, ◌∙◌, ◌+◌, ℕ, Bool, true, List, [], ◌∷◌, Option, Some, None, length, ap}
+use Rattle.std.specs.Prelude.{◌==◌, not, nat_le, is_some, if◌then◌else◌}
 use Rattle.ffa_model.specs.declared.operation.ErrorCode.{ErrorCode}
 use Rattle.ffa_model.specs.declared.operation.ErrorCode.TheVariants.{InvalidParameters, Busy, Denied}
 use Rattle.ffa_model.specs.Bits.{high_half, low_half}
@@ -10,7 +10,7 @@ use Rattle.ffa_model.specs.Messages.{MessageHeader, send2_guards}
 use Rattle.ffa_model.specs.RunStates.{Schedule, is_waiting, request_guards, status_in}
 use Rattle.ffa_model.specs.State.{Party, Buffers, has_property, is_known_among}
 use Rattle.ffa_model.proofs.Guards.{one-code}
-use Rattle.ffa_messages.specs.Parts.{is_addressed, is_from, is_whole, may_request}
+use Rattle.ffa_messages.specs.Parts.{is_addressed, is_free, is_from, is_whole, may_request, take_part}
 
 pub request_refusal : (parties : List Party) (c : Schedule) (word flags : ℕ) → first_failure (request_guards parties c word flags)
     ≡ (if is_addressed parties c.runner word flags
@@ -28,8 +28,8 @@ pub send2_refusal : (parties : List Party) (buffers : List (Option Buffers)) (ca
     ≡ (if is_some (buffers_in buffers caller)
     then (if is_from parties caller m
     then (if is_whole m
-    then (if has_property parties caller 2 && has_property parties m.receiver 2
-    then (if is_some (buffers_in buffers m.receiver) && not (is_full (buffers_in buffers m.receiver)) then None else Some Busy)
+    then (if take_part parties caller m.receiver
+    then (if is_free buffers m.receiver then None else Some Busy)
     else Some Denied)
     else Some InvalidParameters)
     else Some InvalidParameters)
@@ -46,5 +46,12 @@ send2_refusal parties buffers caller m =
     (one-code InvalidParameters (nat_le 20 m.offset) (not (m.size == 0) ∷ nat_le (m.offset + m.size) 4096 ∷ []) denied
     ∙ ap (λ (next : Option ErrorCode). if is_whole m then next else Some InvalidParameters)
     (one-code Denied (has_property parties caller 2) (has_property parties m.receiver 2 ∷ []) busy
-    ∙ ap (λ (next : Option ErrorCode). if has_property parties caller 2 && has_property parties m.receiver 2 then next else Some Denied)
+    ∙ ap (λ (next : Option ErrorCode). if take_part parties caller m.receiver then next else Some Denied)
     (one-code Busy (is_some (buffers_in buffers m.receiver)) (not (is_full (buffers_in buffers m.receiver)) ∷ []) []))))
+
+-- a message that is whole and from the caller is refused for its ends alone
+pub send2-ends : (parties : List Party) (buffers : List (Option Buffers)) (caller : ℕ) (m : MessageHeader)
+    → is_some (buffers_in buffers caller) ≡ true → is_from parties caller m ≡ true → is_whole m ≡ true
+    → first_failure (send2_guards parties buffers caller m)
+    ≡ (if take_part parties caller m.receiver then (if is_free buffers m.receiver then None else Some Busy) else Some Denied)
+send2-ends parties buffers caller m has from whole = send2_refusal parties buffers caller m ∙ rw (has, from, whole)

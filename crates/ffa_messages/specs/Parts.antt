@@ -1,8 +1,8 @@
 -- What a message is read from, over the parts of the machine, and its checks by what they are about.
-use Rattle.std.specs.Prelude.{◌≡◌, ℕ, ◌+◌, ◌<◌, ◌==◌, Bool, not, ◌&&◌, nat_le, List, [], length, Option, Some, None, slice_index_or}
+use Rattle.std.specs.Prelude.{◌≡◌, ℕ, ◌+◌, ◌<◌, ◌==◌, Bool, not, ◌&&◌, nat_le, List, [], length, Option, Some, None, slice_index_or, is_some}
 use Rattle.std.specs.Option.{option_map_or}
 use Rattle.ffa_model.specs.Bits.{high_half, low_half}
-use Rattle.ffa_model.specs.Buffers.{buffers_in}
+use Rattle.ffa_model.specs.Buffers.{buffers_in, is_full}
 use Rattle.ffa_model.specs.Messages.{MessageHeader, header_in}
 use Rattle.ffa_model.specs.Ram.{Ram, page_of}
 use Rattle.ffa_model.specs.State.{Party, Buffers, is_known_among, has_property}
@@ -55,3 +55,11 @@ is_from parties caller m =
 -- the payload has bytes, which stand behind the header and end within the page
 abbrev pub is_whole : MessageHeader → Bool
 is_whole m = nat_le 20 m.offset && (not (m.size == 0) && nat_le (m.offset + m.size) 4096)
+
+-- both ends of a message take part in indirect messages
+abbrev pub take_part : List Party → ℕ → ℕ → Bool
+take_part parties sender receiver = has_property parties sender 2 && has_property parties receiver 2
+
+-- an endpoint has an RX that isn't full
+abbrev pub is_free : List (Option Buffers) → ℕ → Bool
+is_free buffers e = is_some (buffers_in buffers e) && not (is_full (buffers_in buffers e))

@@ -138,10 +138,17 @@ fn free_receiver(
     if !may_request(manifest, runner, receiver) {
         return Err(ErrorCode::Denied);
     }
-    match chain.status(receiver) {
-        Status::Waiting => Ok(receiver),
-        _ => Err(ErrorCode::Busy),
+    if !is_waiting(chain, receiver) {
+        return Err(ErrorCode::Busy);
     }
+    Ok(receiver)
+}
+
+// Whether an endpoint waits.
+fn is_waiting(chain: &Chain, endpoint: EndpointId) -> bool
+    ensures { result ≡ is_waiting (status_in chain.now endpoint.0) }
+{
+    matches!(chain.status(endpoint), Status::Waiting)
 }
 
 // Whether both ends of a direct request take part in such requests. The normal world receives none.

@@ -1,14 +1,14 @@
 //! Indirect messages (DEN0077A, 7.1 and 15).
-ghost use Rattle.std.specs.Prelude.{◌≡◌, ◌+◌, ◌<◌, ◌≤◌, ◌&&◌, length, map, not, take, true, is_some, OnOk, OnErr, IfOk, IsSomeAnd};
+ghost use Rattle.std.specs.Prelude.{◌≡◌, ◌+◌, ◌<◌, ◌≤◌, length, map, take, true, is_some, if◌then◌else◌, None, Some, OnOk, OnErr, IfOk, IsSomeAnd};
 ghost use Rattle.std.specs.Result.{result_err};
-ghost use Rattle.ffa_model.specs.Buffers.{buffers_in, buffers_with_rx, is_full};
+ghost use Rattle.ffa_model.specs.Buffers.{buffers_in, buffers_with_rx};
 ghost use Rattle.ffa_model.specs.Calls.{first_failure, success};
 ghost use Rattle.ffa_model.specs.First.{party_of};
 ghost use Rattle.ffa_model.specs.Messages.{header_in, message_in, send2_guards};
 ghost use Rattle.ffa_model.specs.Ram.{number_in, page_of};
-ghost use Rattle.ffa_model.specs.State.{has_property, is_known_among};
+ghost use Rattle.ffa_model.specs.State.{is_known_among};
 ghost use Rattle.ffa_rxtx.specs.Parts.{with_rx_bytes};
-ghost use Rattle.ffa_messages.specs.Parts.{AreInRam, is_from, is_whole, receiver_in, sent_in};
+ghost use Rattle.ffa_messages.specs.Parts.{AreInRam, is_free, is_from, is_whole, receiver_in, sent_in, take_part};
 
 use crate::parties::{has_indirect_messages, is_known};
 use byteorder::{ByteOrder, LittleEndian};
@@ -70,12 +70,7 @@ impl MessageHeader {
         if !self.is_from(manifest, caller) || !self.is_whole() {
             return Err(ErrorCode::InvalidParameters);
         }
-        if !take_part(manifest, caller, self.receiver) {
-            return Err(ErrorCode::Denied);
-        }
-        if !is_free(buffers, self.receiver) {
-            return Err(ErrorCode::Busy);
-        }
+        check_ends(manifest, buffers, caller, self.receiver)?;
         Ok((self.offset + self.size) as usize)
     }
 
@@ -99,16 +94,34 @@ impl MessageHeader {
     }
 }
 
+// Whether a message may go from one endpoint to another, or why not.
+fn check_ends(
+    manifest: &Manifest,
+    buffers: &Buffers,
+    sender: EndpointId,
+    receiver: EndpointId,
+) -> Result<(), ErrorCode>
+    ensures { result_err result ≡ (if take_part (map party_of manifest.now.endpoints.items) sender.0 receiver.0 then (if is_free buffers.now receiver.0 then None else Some ErrorCode.Busy) else Some ErrorCode.Denied) }
+{
+    if !take_part(manifest, sender, receiver) {
+        return Err(ErrorCode::Denied);
+    }
+    if !is_free(buffers, receiver) {
+        return Err(ErrorCode::Busy);
+    }
+    Ok(())
+}
+
 // Whether both ends of a message take part in indirect messages.
 fn take_part(manifest: &Manifest, sender: EndpointId, receiver: EndpointId) -> bool
-    ensures { result ≡ (has_property (map party_of manifest.now.endpoints.items) sender.0 2 && has_property (map party_of manifest.now.endpoints.items) receiver.0 2) }
+    ensures { result ≡ take_part (map party_of manifest.now.endpoints.items) sender.0 receiver.0 }
 {
     has_indirect_messages(manifest, sender) && has_indirect_messages(manifest, receiver)
 }
 
 // Whether an endpoint has an RX that isn't full.
 fn is_free(buffers: &Buffers, endpoint: EndpointId) -> bool
-    ensures { result ≡ (is_some (buffers_in buffers.now endpoint.0) && not (is_full (buffers_in buffers.now endpoint.0))) }
+    ensures { result ≡ is_free buffers.now endpoint.0 }
 {
     buffers.has(endpoint) && !buffers.is_full(endpoint)
 }

@@ -29,7 +29,8 @@ impl EndpointId {
         }
     }
 
-    /// The place in the manifest of the endpoint with this identifier; place 0 for each one below the first partition's.
+    /// The place in the manifest of the endpoint with this identifier. Each identifier up to 0x8000 has place 0, the normal
+    /// world's: whether it names an endpoint is to be tested first.
     pub fn place(self) -> usize
         ensures { result ≡ place self.0 }
     {

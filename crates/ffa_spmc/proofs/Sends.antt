@@ -20,7 +20,7 @@ use Rattle.ffa_model.specs.First.{first, has_first_bitmaps, party_of}
 use Rattle.ffa_model.specs.Identifiers.{identifier, place}
 use Rattle.ffa_model.specs.Memory.{page_bytes}
 use Rattle.ffa_model.specs.Messages.{delivered, header_in, message_in, msg_send2, send2_guards, tx_bytes}
-use Rattle.ffa_model.specs.Notifications.{has_bitmaps_in, manager_class, notifications_of, receiver_bit, rx_full_bits}
+use Rattle.ffa_model.specs.Notifications.{has_bitmaps_in, manager_class, notifications_of, receiver_bit, message_bits}
 use Rattle.ffa_model.specs.Ram.{Ram}
 use Rattle.ffa_model.specs.State.{State, Page, Party, Buffers, is_known, is_known_among}
 use Rattle.ffa_model.proofs.Guards.{guard-passes}
@@ -73,7 +73,7 @@ module _ (ram : Ram) (m : Manifest) (kept : Kept) (machine : IsMachine ram m kep
   unnotified f message =
       let none : has_bitmaps_in (notifications_of s) f ≡ false = bitless (enumerate_from 0 m.endpoints.items) (place f) in
       λ i. record (filled s f message) {
-        pending = cond (sym none i) (finite_set.union s.pending (finite_set.from_list (map (receiver_bit f manager_class) rx_full_bits))) s.pending;
+        pending = cond (sym none i) (finite_set.union s.pending (finite_set.from_list (map (receiver_bit f manager_class) message_bits))) s.pending;
       }
 
   module _ (e : ℕ) (at : e ≡ kept.chain.runner) where
