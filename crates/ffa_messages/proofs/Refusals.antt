@@ -10,7 +10,7 @@ use Rattle.ffa_model.specs.Messages.{MessageHeader, send2_guards}
 use Rattle.ffa_model.specs.RunStates.{Schedule, is_waiting, request_guards, status_in}
 use Rattle.ffa_model.specs.State.{Party, Buffers, has_property, is_known_among}
 use Rattle.ffa_model.proofs.Guards.{one-code}
-use Rattle.ffa_messages.specs.Parts.{is_addressed, is_free, is_from, is_whole, may_request, take_part}
+use Rattle.ffa_messages.specs.Parts.{is_addressed, has_free_rx, is_header_from, is_whole, may_request, take_part}
 
 pub request_refusal : (parties : List Party) (c : Schedule) (word flags : ℕ) → first_failure (request_guards parties c word flags)
     ≡ (if is_addressed parties c.runner word flags
@@ -26,10 +26,10 @@ request_refusal parties c word flags =
 
 pub send2_refusal : (parties : List Party) (buffers : List (Option Buffers)) (caller : ℕ) (m : MessageHeader) → first_failure (send2_guards parties buffers caller m)
     ≡ (if is_some (buffers_in buffers caller)
-    then (if is_from parties caller m
+    then (if is_header_from parties caller m
     then (if is_whole m
     then (if take_part parties caller m.receiver
-    then (if is_free buffers m.receiver then None else Some Busy)
+    then (if has_free_rx buffers m.receiver then None else Some Busy)
     else Some Denied)
     else Some InvalidParameters)
     else Some InvalidParameters)
@@ -42,7 +42,7 @@ send2_refusal parties buffers caller m =
     (nat_le 20 m.offset, InvalidParameters) ∷ (not (m.size == 0), InvalidParameters) ∷ (nat_le (m.offset + m.size) 4096, InvalidParameters) ∷ denied in
     ap (λ (next : Option ErrorCode). if is_some (buffers_in buffers caller) then next else Some InvalidParameters)
     (one-code InvalidParameters (m.flags == 0) ((m.reserved == 0) ∷ (m.sender == caller) ∷ is_known_among (length parties) m.receiver ∷ not (m.receiver == caller) ∷ []) cut
-    ∙ ap (λ (next : Option ErrorCode). if is_from parties caller m then next else Some InvalidParameters)
+    ∙ ap (λ (next : Option ErrorCode). if is_header_from parties caller m then next else Some InvalidParameters)
     (one-code InvalidParameters (nat_le 20 m.offset) (not (m.size == 0) ∷ nat_le (m.offset + m.size) 4096 ∷ []) denied
     ∙ ap (λ (next : Option ErrorCode). if is_whole m then next else Some InvalidParameters)
     (one-code Denied (has_property parties caller 2) (has_property parties m.receiver 2 ∷ []) busy
@@ -51,7 +51,7 @@ send2_refusal parties buffers caller m =
 
 -- a message that is whole and from the caller is refused for its ends alone
 pub send2-ends : (parties : List Party) (buffers : List (Option Buffers)) (caller : ℕ) (m : MessageHeader)
-    → is_some (buffers_in buffers caller) ≡ true → is_from parties caller m ≡ true → is_whole m ≡ true
+    → is_some (buffers_in buffers caller) ≡ true → is_header_from parties caller m ≡ true → is_whole m ≡ true
     → first_failure (send2_guards parties buffers caller m)
-    ≡ (if take_part parties caller m.receiver then (if is_free buffers m.receiver then None else Some Busy) else Some Denied)
+    ≡ (if take_part parties caller m.receiver then (if has_free_rx buffers m.receiver then None else Some Busy) else Some Denied)
 send2-ends parties buffers caller m has from whole = send2_refusal parties buffers caller m ∙ rw (has, from, whole)

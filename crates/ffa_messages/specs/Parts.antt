@@ -47,8 +47,8 @@ may_request parties sender receiver =
     not (receiver == 0) && (has_property parties sender 1 && has_property parties receiver 0)
 
 -- a header is from the caller to another endpoint, without flags
-abbrev pub is_from : List Party → ℕ → MessageHeader → Bool
-is_from parties caller m =
+abbrev pub is_header_from : List Party → ℕ → MessageHeader → Bool
+is_header_from parties caller m =
     m.flags == 0
     && (m.reserved == 0 && (m.sender == caller && (is_known_among (length parties) m.receiver && not (m.receiver == caller))))
 
@@ -61,5 +61,5 @@ abbrev pub take_part : List Party → ℕ → ℕ → Bool
 take_part parties sender receiver = has_property parties sender 2 && has_property parties receiver 2
 
 -- an endpoint has an RX that isn't full
-abbrev pub is_free : List (Option Buffers) → ℕ → Bool
-is_free buffers e = is_some (buffers_in buffers e) && not (is_full (buffers_in buffers e))
+abbrev pub has_free_rx : List (Option Buffers) → ℕ → Bool
+has_free_rx buffers e = is_some (buffers_in buffers e) && not (is_full (buffers_in buffers e))

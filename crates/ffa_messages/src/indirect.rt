@@ -8,7 +8,7 @@ ghost use Rattle.ffa_model.specs.Messages.{header_in, message_in, send2_guards};
 ghost use Rattle.ffa_model.specs.Ram.{number_in, page_of};
 ghost use Rattle.ffa_model.specs.State.{is_known_among};
 ghost use Rattle.ffa_rxtx.specs.Parts.{with_rx_bytes};
-ghost use Rattle.ffa_messages.specs.Parts.{AreInRam, is_free, is_from, is_whole, receiver_in, sent_in, take_part};
+ghost use Rattle.ffa_messages.specs.Parts.{AreInRam, has_free_rx, is_header_from, is_whole, receiver_in, sent_in, take_part};
 
 use crate::parties::{has_indirect_messages, is_known};
 use byteorder::{ByteOrder, LittleEndian};
@@ -76,7 +76,7 @@ impl MessageHeader {
 
     // Whether the message is from the caller to another endpoint, without flags.
     fn is_from(&self, manifest: &Manifest, caller: EndpointId) -> bool
-        ensures { result ≡ is_from (map party_of manifest.now.endpoints.items) caller.0 (header_of self.now) }
+        ensures { result ≡ is_header_from (map party_of manifest.now.endpoints.items) caller.0 (header_of self.now) }
     {
         self.flags == 0
             && self.reserved == 0
@@ -101,12 +101,12 @@ fn check_ends(
     sender: EndpointId,
     receiver: EndpointId,
 ) -> Result<(), ErrorCode>
-    ensures { result_err result ≡ (if take_part (map party_of manifest.now.endpoints.items) sender.0 receiver.0 then (if is_free buffers.now receiver.0 then None else Some ErrorCode.Busy) else Some ErrorCode.Denied) }
+    ensures { result_err result ≡ (if take_part (map party_of manifest.now.endpoints.items) sender.0 receiver.0 then (if has_free_rx buffers.now receiver.0 then None else Some ErrorCode.Busy) else Some ErrorCode.Denied) }
 {
     if !take_part(manifest, sender, receiver) {
         return Err(ErrorCode::Denied);
     }
-    if !is_free(buffers, receiver) {
+    if !has_free_rx(buffers, receiver) {
         return Err(ErrorCode::Busy);
     }
     Ok(())
@@ -120,8 +120,8 @@ fn take_part(manifest: &Manifest, sender: EndpointId, receiver: EndpointId) -> b
 }
 
 // Whether an endpoint has an RX that isn't full.
-fn is_free(buffers: &Buffers, endpoint: EndpointId) -> bool
-    ensures { result ≡ is_free buffers.now endpoint.0 }
+fn has_free_rx(buffers: &Buffers, endpoint: EndpointId) -> bool
+    ensures { result ≡ has_free_rx buffers.now endpoint.0 }
 {
     buffers.has(endpoint) && !buffers.is_full(endpoint)
 }
