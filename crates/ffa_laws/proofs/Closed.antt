@@ -17,7 +17,7 @@ use Rattle.ffa_model.specs.RunStates.{schedule_of}
 use Rattle.ffa_laws.specs.Steady.{IsSteady}
 use Rattle.ffa_laws.specs.View.{view, involves, is_near, kept, seen_by, transactions_of}
 use Rattle.ffa_model.specs.Memory.{changed_pages, with_pages, zeroed_page}
-use Rattle.ffa_model.specs.MemoryReturn.{ranges_of}
+use Rattle.ffa_model.specs.MemoryReturn.{named_ranges}
 use Rattle.ffa_laws.specs.Events.{Closed, apply, with_held}
 use Rattle.ffa_laws.proofs.Maps.{first_no, first_none, first_one, first_some, at-map_at, length-map_at, map_at-alike, map_at-same, map_at-twice}
 use Rattle.ffa_laws.proofs.Views.{shown, view-page, view-transaction}
@@ -155,8 +155,8 @@ module _ (s : State) (steady : IsSteady s) (h : ℕ) (t : Transaction) (there : 
       knows : involves e (Some t) ≡ true
       knows = ap (λ b. (t.sender == e) || b) offered ∙ grind (arith, cases_Bool (t.sender == e))
 
-      ranges : ranges_of (transaction_of (view e s) h) ≡ t.ranges
-      ranges = ap ranges_of (view-transaction e s h ∙ ap (shown e) there ∙ ap (λ b. option_map (seen_by e) (kept b (Some t))) knows)
+      ranges : named_ranges (transaction_of (view e s) h) ≡ t.ranges
+      ranges = ap named_ranges (view-transaction e s h ∙ ap (shown e) there ∙ ap (λ b. option_map (seen_by e) (kept b (Some t))) knows)
 
       at : (p : ℕ) (b : Bool) → names s t.ranges p ≡ b → kept (is_near e (closed s h) p) (page_at s p) ≡ cond b None (page_at (view e s) p)
       at p true named =

@@ -13,7 +13,7 @@ use Rattle.ffa_model.specs.Access.{is_from, is_offered, is_receiver, names, tran
 use Rattle.ffa_model.specs.Memory.{zeroed_if, zeroed_page}
 use Rattle.ffa_model.specs.Calls.{first_failure}
 use Rattle.ffa_model.specs.Transactions.{are_writable, bases_of, handle_of}
-use Rattle.ffa_model.specs.MemoryReturn.{is_unheld, memory_reclaim, ranges_of, reclaim_guards, reclaimed}
+use Rattle.ffa_model.specs.MemoryReturn.{is_unheld, memory_reclaim, named_ranges, reclaim_guards, reclaimed}
 use Rattle.ffa_laws.specs.Steady.{IsSteady}
 use Rattle.ffa_laws.specs.View.{view, involves, is_near, kept, seen_by}
 use Rattle.ffa_model.specs.RunStates.{schedule_of}
@@ -66,7 +66,7 @@ module _ (s : State) (steady : IsSteady s) (h flags : ℕ) where
             ∷ (not (is_set 0 flags) || writable-seen s.runner s steady h t there known i, Denied)
             ∷ []))
         | false ↦ λ other.
-            second-fails (nat_le flags 1) (is_from s.runner (shown s.runner (Some t))) ((is_unheld (shown s.runner (Some t)), Denied) ∷ (not (is_set 0 flags) || are_writable (bases_of v) (ranges_of (shown s.runner (Some t))), Denied) ∷ []) (from-seen s.runner t other)
+            second-fails (nat_le flags 1) (is_from s.runner (shown s.runner (Some t))) ((is_unheld (shown s.runner (Some t)), Denied) ∷ (not (is_set 0 flags) || are_writable (bases_of v) (named_ranges (shown s.runner (Some t))), Denied) ∷ []) (from-seen s.runner t other)
             ∙ sym (second-fails (nat_le flags 1) (is_from s.runner (Some t)) ((is_unheld (Some t), Denied) ∷ (not (is_set 0 flags) || are_writable (bases_of s) t.ranges, Denied) ∷ []) other)
       ] refl
 
@@ -76,9 +76,9 @@ module _ (s : State) (steady : IsSteady s) (h flags : ℕ) where
   same-state (Some t) there none zero =
       let mine : (t.sender == s.runner) ≡ true = guard-passes (reclaim_guards (bases_of s) s.runner flags (Some t)) 1 InvalidParameters (sym none) in
       let in_view : transaction_of v h ≡ Some t = view-transaction s.runner s h ∙ ap (shown s.runner) there ∙ seen-whole s.runner t mine in
-      (λ i. zeroed_if zero (own-closed s steady h t there s.runner (eqb-true t.sender s.runner mine) i) (ranges_of (in_view i)))
+      (λ i. zeroed_if zero (own-closed s steady h t there s.runner (eqb-true t.sender s.runner mine) i) (named_ranges (in_view i)))
       ∙ zeroed_if-seen s.runner (closed s h) zero t.ranges
-      ∙ (λ i. view s.runner (zeroed_if zero (closed s h) (ranges_of (sym there i))))
+      ∙ (λ i. view s.runner (zeroed_if zero (closed s h) (named_ranges (sym there i))))
 
 pub own-reclaim : (s : State) → IsSteady s → (low high flags : ℕ) → IsOwn s (memory_reclaim (view s.runner s) low high flags) (memory_reclaim s low high flags)
 own-reclaim s steady low high flags = (
@@ -102,7 +102,7 @@ zeroed-far e s true ranges far =
 
 module _ (e : ℕ) (s : State) (steady : IsSteady s) (other : s.runner ≢ e) (h flags : ℕ) where
   told-closed : (o : Option Transaction) → transaction_of s h ≡ o → first_failure (reclaim_guards (bases_of s) s.runner flags o) ≡ None → (asked : Bool)
-      → view e (zeroed_if asked (closed s h) (ranges_of o)) ≡ apply_all e (view e s) (where_true (is_offered e o) (Closed h ∷ []))
+      → view e (zeroed_if asked (closed s h) (named_ranges o)) ≡ apply_all e (view e s) (where_true (is_offered e o) (Closed h ∷ []))
   told-closed None there none asked = absurd (false≢true (guard-passes (reclaim_guards (bases_of s) s.runner flags None) 1 InvalidParameters (sym none)))
   told-closed (Some t) there none asked =
       sym (zeroed_if-seen e (closed s h) asked t.ranges)

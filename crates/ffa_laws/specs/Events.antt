@@ -35,7 +35,7 @@ use Rattle.ffa_model.specs.SendDescriptor.{SendRecord}
 use Rattle.ffa_model.specs.Transactions.{bases_of, handle_of, holding, next_handle, not_holding, offers_of, with_offers, with_transaction}
 use Rattle.ffa_model.specs.MemorySend.{memory_sent, send_read, transaction_from}
 use Rattle.ffa_model.specs.MemoryRetrieve.{retrieve_read, right_for}
-use Rattle.ffa_model.specs.MemoryReturn.{ranges_of, relinquish_read}
+use Rattle.ffa_model.specs.MemoryReturn.{named_ranges, relinquish_read}
 use Rattle.ffa_model.specs.Step.{serve, service, step}
 use Rattle.ffa_laws.specs.View.{involves, is_near, kept}
 
@@ -107,7 +107,7 @@ with_holder v h f right (Some t) = with_offers v (with_transaction (offers_of v)
 abbrev pub without : State → ℕ → State
 without v h =
     record v {
-      pages = changed_pages v (ranges_of (transaction_of v h)) (λ page. None);
+      pages = changed_pages v (named_ranges (transaction_of v h)) (λ page. None);
       transactions = map_of.remove v.transactions h;
     }
 
@@ -120,7 +120,7 @@ apply e v (Bound receiver class bit) = record v { bound = finite_set.insert v.bo
 apply e v (Unbound receiver class bit) = record v { bound = finite_set.remove v.bound (binding receiver class bit e) }
 apply e v (Opened h t pages) = with_opened v h t pages
 apply e v (Held h f right) = with_holder v h f right (transaction_of v h)
-apply e v (Zeroed h) = with_pages v (ranges_of (transaction_of v h)) zeroed_page
+apply e v (Zeroed h) = with_pages v (named_ranges (transaction_of v h)) zeroed_page
 apply e v (Closed h) = without v h
 apply e v (Public values) = with_public v values
 

@@ -70,9 +70,9 @@ abbrev pub is_unheld : Option Transaction → Bool
 is_unheld None = false
 is_unheld (Some t) = list_all (λ (r : Receiver). is_none (held_by t r.endpoint.0)) t.receivers
 
-abbrev pub ranges_of : Option Transaction → List Range
-ranges_of None = []
-ranges_of (Some t) = t.ranges
+abbrev pub named_ranges : Option Transaction → List Range
+named_ranges None = []
+named_ranges (Some t) = t.ranges
 
 -- the checks of a reclaim by e in order, of the transaction of the handle, if it is open
 abbrev pub reclaim_guards : Bases → ℕ → ℕ → Option Transaction → List (Bool × ErrorCode)
@@ -80,11 +80,11 @@ reclaim_guards bases e flags t =
     (nat_le flags 1, InvalidParameters)
     ∷ (is_from e t, InvalidParameters)
     ∷ (is_unheld t, Denied)
-    ∷ (not (is_set 0 flags) || are_writable bases (ranges_of t), Denied)
+    ∷ (not (is_set 0 flags) || are_writable bases (named_ranges t), Denied)
     ∷ []
 
 abbrev pub reclaimed : State → ℕ → Bool → State
-reclaimed s h zero = zeroed_if zero (with_offers s (closed (offers_of s) h)) (ranges_of (transaction_of s h))
+reclaimed s h zero = zeroed_if zero (with_offers s (closed (offers_of s) h)) (named_ranges (transaction_of s h))
 
 -- the handle's low half stands in w1, and its high half in w2
 abbrev pub memory_reclaim : State → ℕ → ℕ → ℕ → Service
