@@ -69,13 +69,13 @@ impl Registers {
             FFA_RUN => Call::Run { target: self.w(1) },
             FFA_MSG_SEND_DIRECT_REQ | FFA_MSG_SEND_DIRECT_REQ_64 => Call::DirectRequest {
                 function: self.w(0),
-                parties: self.w(1),
+                word: self.w(1),
                 flags: self.w(2),
                 payload: self.payload(),
             },
             FFA_MSG_SEND_DIRECT_RESP | FFA_MSG_SEND_DIRECT_RESP_64 => Call::DirectResponse {
                 function: self.w(0),
-                parties: self.w(1),
+                word: self.w(1),
                 flags: self.w(2),
                 payload: self.payload(),
             },
@@ -136,7 +136,7 @@ impl Registers {
     fn notification(&self) -> Option<Call>
         ensures { result ≡ parts.called_in parts.notifications self.now.0 }
     {
-        let (parties, flags, low, high) = (self.w(1), self.w(2), self.w(3), self.w(4));
+        let (word, flags, low, high) = (self.w(1), self.w(2), self.w(3), self.w(4));
         let call = match self.w(0) {
             FFA_NOTIFICATION_BITMAP_CREATE => Call::BitmapCreate {
                 endpoint: self.w(1),
@@ -146,19 +146,19 @@ impl Registers {
                 endpoint: self.w(1),
             },
             FFA_NOTIFICATION_BIND => Call::NotificationBind {
-                parties,
+                word,
                 flags,
                 low,
                 high,
             },
             FFA_NOTIFICATION_UNBIND => Call::NotificationUnbind {
-                parties,
+                word,
                 flags,
                 low,
                 high,
             },
             FFA_NOTIFICATION_SET => Call::NotificationSet {
-                parties,
+                word,
                 flags,
                 low,
                 high,

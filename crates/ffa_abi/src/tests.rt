@@ -70,7 +70,7 @@ fn direct_messages(rt: HostRuntime) {
     for (function, payload) in [(0x8400_006F, narrow), (0xC400_006F, wide)] {
         let call = Call::DirectRequest {
             function,
-            parties: 1,
+            word: 1,
             flags: 2,
             payload,
         };
@@ -79,7 +79,7 @@ fn direct_messages(rt: HostRuntime) {
     for (function, payload) in [(0x8400_0070, narrow), (0xC400_0070, wide)] {
         let call = Call::DirectResponse {
             function,
-            parties: 1,
+            word: 1,
             flags: 2,
             payload,
         };
@@ -149,7 +149,7 @@ fn memory(rt: HostRuntime) {
 
 #[test]
 fn notifications(rt: HostRuntime) {
-    let (parties, flags, low, high) = (1, 2, 3, 4);
+    let (word, flags, low, high) = (1, 2, 3, 4);
     for (function, call) in [
         (
             0x8400_007D,
@@ -162,7 +162,7 @@ fn notifications(rt: HostRuntime) {
         (
             0x8400_007F,
             Call::NotificationBind {
-                parties,
+                word,
                 flags,
                 low,
                 high,
@@ -171,7 +171,7 @@ fn notifications(rt: HostRuntime) {
         (
             0x8400_0080,
             Call::NotificationUnbind {
-                parties,
+                word,
                 flags,
                 low,
                 high,
@@ -180,7 +180,7 @@ fn notifications(rt: HostRuntime) {
         (
             0x8400_0081,
             Call::NotificationSet {
-                parties,
+                word,
                 flags,
                 low,
                 high,

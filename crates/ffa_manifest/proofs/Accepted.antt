@@ -12,7 +12,7 @@ use Rattle.ffa_model.specs.Bits.{is_set}
 use Rattle.ffa_model.specs.Manifest.{is_accepted, is_ram_base, is_from_to, is_placed, are_apart, regions_of, are_counted, are_identified, is_normal_world, is_partition, is_nil}
 use Rattle.ffa_manifest.specs.declared.error.ManifestError.TheVariants.{WrongKind, EndpointCount, Uuid, Property, RamBase, RamBlocks}
 use Rattle.ffa_manifest.specs.Reading.{or_cause, item_count}
-use Rattle.ffa_manifest.specs.Keys.{text_at, number_at}
+use Rattle.ffa_manifest.specs.Keys.{text_at, integer_at}
 use Rattle.ffa_manifest.specs.Regions.{regions_at}
 use Rattle.ffa_manifest.specs.Endpoints.{normal_world, normal_world_keys, normal_world_properties, partition, partition_keys, version_at, identifier, uuid_at, properties_at, endpoint_of, next_endpoint, endpoints_from, endpoint_items}
 use Rattle.ffa_manifest.specs.Document.{ram_base_at, ram_blocks_at}
@@ -32,7 +32,7 @@ uuid_at-some ms uuid h = let (text, _, h1) = bind_ok (text_at (codes "uuid") ms)
 
 properties_at-small : (ms : Members) (n : ℕ) → properties_at ms ≡ Ok n → nat_lt n 16 ≡ true
 unfolding properties_at
-properties_at-small ms n h = let (o, _, h1) = bind_ok (number_at (codes "properties") ms) _ n h in tested_ok (λ m. nat_lt m 16) Property o n h1
+properties_at-small ms n h = let (o, _, h1) = bind_ok (integer_at (codes "properties") ms) _ n h in tested_ok (λ m. nat_lt m 16) Property o n h1
 
 normal_world_properties-pass : (ms : Members) (n : ℕ) → normal_world_properties ms ≡ Ok n → (nat_lt n 16 && (not (is_set 0 n) && not (is_set 3 n))) ≡ true
 unfolding normal_world_properties
@@ -133,8 +133,8 @@ pub accepted_parts : (ms : Members) (base blocks : ℕ) (ds : Items) (es : List 
     → endpoints_from (is_placed base blocks (item_count ds)) ds ≡ Ok es → is_accepted base blocks es ≡ true
 unfolding ram_base_at ram_blocks_at endpoint_items endpoints_from
 accepted_parts ms base blocks ds es base_is blocks_is items read =
-    let (first, _, h1) = bind_ok (number_at (codes "ram_base") ms) _ base base_is in
-    let (second, _, h2) = bind_ok (number_at (codes "ram_blocks") ms) _ blocks blocks_is in
+    let (first, _, h1) = bind_ok (integer_at (codes "ram_base") ms) _ base base_is in
+    let (second, _, h2) = bind_ok (integer_at (codes "ram_blocks") ms) _ blocks blocks_is in
     let count : length es ≡ item_count ds = length-read_all _ ds es read in
     let few : is_from_to 1 8 (length es) ≡ true = ap (is_from_to 1 8) count ∙ items_at-count _ 8 EndpointCount ms ds items in
     let all : EndpointsRead (is_placed base blocks (item_count ds)) es = read_each-keeps (EndpointsRead (is_placed base blocks (item_count ds))) (next_endpoint (is_placed base blocks (item_count ds)))

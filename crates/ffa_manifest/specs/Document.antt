@@ -8,7 +8,7 @@ use Rattle.ffa_model.specs.Manifest.{is_ram_base, is_from_to, is_placed}
 use Rattle.ffa_manifest.specs.declared.error.ManifestError.{ManifestError}
 use Rattle.ffa_manifest.specs.declared.error.ManifestError.TheVariants.{Toml, RamBase, RamBlocks}
 use Rattle.ffa_manifest.specs.Reading.{◌>>=◌, or_cause, tested, item_count}
-use Rattle.ffa_manifest.specs.Keys.{only_keys, number_at}
+use Rattle.ffa_manifest.specs.Keys.{only_keys, integer_at}
 use Rattle.ffa_manifest.specs.Endpoints.{endpoint_items, endpoints_from}
 
 -- a machine's RAM, and its endpoints in order
@@ -24,10 +24,10 @@ unfoldable pub top_keys : Members → Result (Unit {0}) ManifestError
 top_keys ms = only_keys (codes "ram_base" ∷ codes "ram_blocks" ∷ codes "endpoint" ∷ []) ms
 
 unfoldable pub ram_base_at : Members → Result ℕ ManifestError
-ram_base_at ms = number_at (codes "ram_base") ms >>= tested is_ram_base RamBase
+ram_base_at ms = integer_at (codes "ram_base") ms >>= tested is_ram_base RamBase
 
 unfoldable pub ram_blocks_at : Members → Result ℕ ManifestError
-ram_blocks_at ms = number_at (codes "ram_blocks") ms >>= tested (is_from_to 1 32) RamBlocks
+ram_blocks_at ms = integer_at (codes "ram_blocks") ms >>= tested (is_from_to 1 32) RamBlocks
 
 -- the top table
 unfoldable pub machine : Members → Result Parts ManifestError

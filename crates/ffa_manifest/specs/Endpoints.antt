@@ -10,7 +10,7 @@ use Rattle.ffa_model.specs.Manifest.{is_nil, regions_of}
 use Rattle.ffa_manifest.specs.declared.error.ManifestError.{ManifestError}
 use Rattle.ffa_manifest.specs.declared.error.ManifestError.TheVariants.{WrongKind, EndpointCount, Uuid, Property, Version}
 use Rattle.ffa_manifest.specs.Reading.{◌>>=◌, or_cause, tested, read_each}
-use Rattle.ffa_manifest.specs.Keys.{only_keys, number_at, text_at, items_at}
+use Rattle.ffa_manifest.specs.Keys.{only_keys, integer_at, text_at, items_at}
 use Rattle.ffa_manifest.specs.Regions.{regions_at}
 
 unfoldable pub normal_world_keys : Members → Result (Unit {0}) ManifestError
@@ -35,7 +35,7 @@ unfoldable pub uuid_at : Members → Result (List ℕ) ManifestError
 uuid_at ms = text_at (codes "uuid") ms >>= identifier
 
 unfoldable pub properties_at : Members → Result ℕ ManifestError
-properties_at ms = number_at (codes "properties") ms >>= tested (λ n. nat_lt n 16) Property
+properties_at ms = integer_at (codes "properties") ms >>= tested (λ n. nat_lt n 16) Property
 
 -- the normal world receives neither direct requests nor, from boot, notifications
 unfoldable pub normal_world_properties : Members → Result ℕ ManifestError

@@ -32,8 +32,8 @@ unfoldable pub natural : ℤ → Option ℕ
 natural (pos n) = Some n
 natural (negsuc n) = None
 
-unfoldable pub number_at : List ℕ → Members → Result (Option ℕ) ManifestError
-number_at key ms = do
+unfoldable pub integer_at : List ℕ → Members → Result (Option ℕ) ManifestError
+integer_at key ms = do
   d ← value_at key ms
   z ← or_cause WrongKind (as_integer d)
   Ok (natural z)

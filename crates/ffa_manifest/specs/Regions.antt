@@ -10,16 +10,16 @@ use Rattle.ffa_model.specs.Manifest.{is_apart}
 use Rattle.ffa_manifest.specs.declared.error.ManifestError.{ManifestError}
 use Rattle.ffa_manifest.specs.declared.error.ManifestError.TheVariants.{WrongKind, RegionCount, RegionOutside, RegionOverlap}
 use Rattle.ffa_manifest.specs.Reading.{◌>>=◌, or_cause, read_each}
-use Rattle.ffa_manifest.specs.Keys.{only_keys, number_at, text_at, items_at}
+use Rattle.ffa_manifest.specs.Keys.{only_keys, integer_at, text_at, items_at}
 
 unfoldable pub region_keys : Members → Result (Unit {0}) ManifestError
 region_keys ms = only_keys (codes "base" ∷ codes "pages" ∷ codes "rights" ∷ []) ms
 
 unfoldable pub base_at : Members → Result (Option ℕ) ManifestError
-base_at ms = number_at (codes "base") ms
+base_at ms = integer_at (codes "base") ms
 
 unfoldable pub pages_at : Members → Result (Option ℕ) ManifestError
-pages_at ms = number_at (codes "pages") ms
+pages_at ms = integer_at (codes "pages") ms
 
 -- the rights that a word names
 unfoldable pub rights_named : List ℕ → Option Rights

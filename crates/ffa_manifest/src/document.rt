@@ -7,7 +7,7 @@ ghost use Rattle.ffa_manifest.specs.Endpoints.{endpoint_items as endpoint_items_
 
 use crate::endpoints::endpoints_from;
 use crate::error::ManifestError;
-use crate::keys::{items_at, number_at, only_keys};
+use crate::keys::{items_at, integer_at, only_keys};
 use crate::place::Place;
 use ffa_model::Manifest;
 use toml::{Table, Value};
@@ -24,7 +24,7 @@ fn ram_base_at(table: &Table) -> Result<u32, ManifestError>
     ensures number { Exact (λ n. n) result (ram_base_in (table_view table.now)) }
     ensures highest { IfOk result (λ n. n ≤ 0xFC000000) }
 {
-    match number_at(table, "ram_base")? {
+    match integer_at(table, "ram_base")? {
         Some(n) if n % 0x400_0000 == 0 && 0x400_0000 <= n && n <= 0xFC00_0000 => Ok(n as u32),
         _ => Err(ManifestError::RamBase),
     }
@@ -35,7 +35,7 @@ fn ram_blocks_at(table: &Table) -> Result<u32, ManifestError>
     ensures number { Exact (λ n. n) result (ram_blocks_in (table_view table.now)) }
     ensures most { IfOk result (λ n. n ≤ 32) }
 {
-    match number_at(table, "ram_blocks")? {
+    match integer_at(table, "ram_blocks")? {
         Some(n) if 1 <= n && n <= 32 => Ok(n as u32),
         _ => Err(ManifestError::RamBlocks),
     }

@@ -8,7 +8,7 @@ ghost use Rattle.ffa_manifest.specs.Endpoints.{normal_world_keys as normal_world
 
 use crate::error::ManifestError;
 use crate::identifier::identifier;
-use crate::keys::{number_at, only_keys, text_at};
+use crate::keys::{integer_at, only_keys, text_at};
 use crate::place::Place;
 use crate::regions::regions_at;
 use arrayvec::ArrayVec;
@@ -52,7 +52,7 @@ fn uuid_at(table: &Table) -> Result<[u8; 16], ManifestError>
 fn properties_at(table: &Table) -> Result<Properties, ManifestError>
     ensures { Exact (λ p. p.0) result (properties_in (table_view table.now)) }
 {
-    match number_at(table, "properties")? {
+    match integer_at(table, "properties")? {
         Some(bits) if bits < 16 => Ok(Properties::from_bits_retain(bits as u32)),
         _ => Err(ManifestError::Property),
     }

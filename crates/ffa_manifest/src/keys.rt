@@ -5,7 +5,7 @@ ghost use Rattle.std.specs.Str.{bytes_eq};
 ghost use Rattle.std.specs.BTreeMap.{keys};
 ghost use Rattle.toml.specs.View.{table_view, view, items_view};
 ghost use Rattle.ffa_manifest.specs.Reading.{Exact};
-ghost use Rattle.ffa_manifest.specs.Keys.{only_keys as only_keys_in, value_at as value_in, text_at as text_in, natural as natural_of, number_at as number_in, items_at as items_in};
+ghost use Rattle.ffa_manifest.specs.Keys.{only_keys as only_keys_in, value_at as value_in, text_at as text_in, natural as natural_of, integer_at as number_in, items_at as items_in};
 
 use crate::error::ManifestError;
 use toml::{Table, Value};
@@ -62,8 +62,8 @@ fn natural(number: i64) -> Option<u64>
 }
 
 /// The number that the integer at a key is, or `None` for one below 0.
-#[tactic(auto, unfolding(crate::specs::Keys::number_at))]
-pub(crate) fn number_at(table: &Table, key: &str) -> Result<Option<u64>, ManifestError>
+#[tactic(auto, unfolding(crate::specs::Keys::integer_at))]
+pub(crate) fn integer_at(table: &Table, key: &str) -> Result<Option<u64>, ManifestError>
     ensures { Exact (λ n. n) result (number_in key.now (table_view table.now)) }
 {
     match value_at(table, key)?.as_integer() {

@@ -9,7 +9,7 @@ use Rattle.ffa_model.specs.declared.rights.Kind.TheVariants.{Share, Lend, Donate
 use Rattle.ffa_model.specs.declared.descriptor.RetrieveDesc.{RetrieveDesc}
 use Rattle.ffa_model.specs.Bits.{bits}
 use Rattle.ffa_model.specs.DescriptorPlaces.{is_header, flags_field, data_code, data_of, kind_code, kind_of}
-use Rattle.ffa_model.specs.RetrieveDescriptor.{Retrieve, asked, retrieve_in, is_retrieve_header, is_retrieve_access, retrieve_of}
+use Rattle.ffa_model.specs.RetrieveDescriptor.{Retrieve, asked_permissions, retrieve_in, is_retrieve_header, is_retrieve_access, retrieve_of}
 use Rattle.ffa_memdesc.proofs.Decisions.{cond_true, differ, differ_again, either_told, either_again}
 use Rattle.ffa_memdesc.proofs.HeaderLaw.{header_told, header_again}
 
@@ -61,7 +61,7 @@ facts e b header h access =
     let q2 = and_parts _ _ q3.0 in
     let q1 = and_parts _ _ q2.0 in
     let kind_few : bits 4 3 (flags_field b) < 4 = omega arith in
-    let data_few : bits 1 0 (asked b) < 4 = omega arith in
+    let data_few : bits 1 0 (asked_permissions b) < 4 = omega arith in
     record {
       header = header_told b header;
       attributes = either_told _ 0 47 p1.0;
@@ -76,7 +76,7 @@ facts e b header h access =
       handle = refl;
       tag = refl;
       kind = eqb-true _ _ p1.1 ∙ ap (λ (n : ℕ). 8 * n) (sym (kind_code-kind_of (bits 4 3 (flags_field b)) kind_few));
-      level = sym (data_code-data_of (bits 1 0 (asked b)) data_few (differ _ _ q1.1));
+      level = sym (data_code-data_of (bits 1 0 (asked_permissions b)) data_few (differ _ _ q1.1));
       exec = refl;
     }
 
@@ -109,7 +109,7 @@ same_parts r sender handle tag kind level exec s h t k l x = rw (s, h, t, k, l, 
 retrieve_is : (e : ℕ) (b : List ℕ) (r : RetrieveDesc) → Retrieve e b r → retrieve_in b ≡ r
 retrieve_is e b r h =
     let kind : kind_of (bits 4 3 (flags_field b)) ≡ r.kind = ap kind_of (kind_bits (flags_field b) (kind_code r.kind) (kind_code_few r.kind) h.kind) ∙ kind_of-kind_code r.kind in
-    let level : data_of (bits 1 0 (asked b)) ≡ r.level = ap data_of h.level ∙ data_of-data_code r.level in
+    let level : data_of (bits 1 0 (asked_permissions b)) ≡ r.level = ap data_of h.level ∙ data_of-data_code r.level in
     same_parts r _ _ _ _ _ _ (sym h.sender) (sym h.handle) (sym h.tag) kind level (sym h.exec)
 
 pub retrieve_told : (e : ℕ) (b : List ℕ) (r : RetrieveDesc) → retrieve_of e b ≡ Some r → Retrieve e b r

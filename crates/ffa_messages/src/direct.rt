@@ -22,7 +22,7 @@ mod tests;
 pub struct DirectMessage {
     pub function: u32,
     /// The sender in the high half and the receiver in the low half.
-    pub parties: u32,
+    pub word: u32,
     pub flags: u32,
     pub payload: [u64; 5],
 }
@@ -30,21 +30,21 @@ pub struct DirectMessage {
 impl DirectMessage {
     // The endpoint that the message names as its sender.
     fn sender(&self) -> EndpointId
-        ensures { result.0 ≡ high_half self.now.parties }
+        ensures { result.0 ≡ high_half self.now.word }
     {
-        EndpointId((self.parties / 0x1_0000) as u16)
+        EndpointId((self.word / 0x1_0000) as u16)
     }
 
     // The endpoint that the message names as its receiver.
     fn receiver(&self) -> EndpointId
-        ensures { result.0 ≡ low_half self.now.parties }
+        ensures { result.0 ≡ low_half self.now.word }
     {
-        EndpointId((self.parties % 0x1_0000) as u16)
+        EndpointId((self.word % 0x1_0000) as u16)
     }
 
     // Whether the message is from the runner to another endpoint, without flags.
     fn is_addressed(&self, manifest: &Manifest, runner: EndpointId) -> bool
-        ensures { result ≡ is_addressed (map party_of manifest.now.endpoints.items) runner.0 self.now.parties self.now.flags }
+        ensures { result ≡ is_addressed (map party_of manifest.now.endpoints.items) runner.0 self.now.word self.now.flags }
     {
         self.sender() == runner
             && self.flags == 0
@@ -54,11 +54,11 @@ impl DirectMessage {
 
     // What the receiver is passed.
     fn passed(&self) -> Reply
-        ensures { result ≡ Reply.Passed self.now.function self.now.parties self.now.payload }
+        ensures { result ≡ Reply.Passed self.now.function self.now.word self.now.payload }
     {
         Reply::Passed {
             w0: self.function,
-            w1: self.parties,
+            w1: self.word,
             payload: self.payload,
         }
     }
@@ -78,10 +78,10 @@ pub fn direct_req(
     message: &DirectMessage,
 ) -> Result<Reply, ErrorCode>
     requires endpoints { length chain.old.works ≡ length manifest.now.endpoints.items }
-    ensures refusal { result_err result ≡ first_failure (request_guards (map party_of manifest.now.endpoints.items) chain.old message.now.parties message.now.flags) }
-    ensures reply { IfOk result (λ reply. reply ≡ Reply.Passed message.now.function message.now.parties message.now.payload) }
+    ensures refusal { result_err result ≡ first_failure (request_guards (map party_of manifest.now.endpoints.items) chain.old message.now.word message.now.flags) }
+    ensures reply { IfOk result (λ reply. reply ≡ Reply.Passed message.now.function message.now.word message.now.payload) }
     ensures kept { OnErr result (chain.new ≡ chain.old) }
-    ensures changed { OnOk result (chain.new ≡ requested chain.old (low_half message.now.parties)) }
+    ensures changed { OnOk result (chain.new ≡ requested chain.old (low_half message.now.word)) }
     ensures sound { IsSound chain.new }
 {
     let receiver = free_receiver(chain, manifest, message)?;
@@ -97,10 +97,10 @@ pub fn direct_req(
 /// In this order: `Denied` where the runner answers no request; `InvalidParameters` where the message's sender isn't the
 /// runner, its receiver isn't the endpoint that asked, or w2 isn't 0. An error changes nothing.
 pub fn direct_resp(chain: &mut Chain, message: &DirectMessage) -> Result<Reply, ErrorCode>
-    ensures refusal { result_err result ≡ first_failure (response_guards chain.old message.now.parties message.now.flags) }
-    ensures reply { IfOk result (λ reply. reply ≡ Reply.Passed message.now.function message.now.parties message.now.payload) }
+    ensures refusal { result_err result ≡ first_failure (response_guards chain.old message.now.word message.now.flags) }
+    ensures reply { IfOk result (λ reply. reply ≡ Reply.Passed message.now.function message.now.word message.now.payload) }
     ensures kept { OnErr result (chain.new ≡ chain.old) }
-    ensures changed { OnOk result (chain.new ≡ finished chain.old (low_half message.now.parties)) }
+    ensures changed { OnOk result (chain.new ≡ finished chain.old (low_half message.now.word)) }
     ensures sound { IsSound chain.new }
 {
     let requester = match requester(chain) {
@@ -124,8 +124,8 @@ fn free_receiver(
     manifest: &Manifest,
     message: &DirectMessage,
 ) -> Result<EndpointId, ErrorCode>
-    ensures refusal { result_err result ≡ first_failure (request_guards (map party_of manifest.now.endpoints.items) chain.now message.now.parties message.now.flags) }
-    ensures receiver { IfOk result (λ receiver. receiver.0 ≡ low_half message.now.parties) }
+    ensures refusal { result_err result ≡ first_failure (request_guards (map party_of manifest.now.endpoints.items) chain.now message.now.word message.now.flags) }
+    ensures receiver { IfOk result (λ receiver. receiver.0 ≡ low_half message.now.word) }
     ensures partition { IfOk result (λ receiver. is_partition_among (length manifest.now.endpoints.items) receiver.0 ≡ true) }
     ensures waiting { IfOk result (λ receiver. is_waiting (status_in chain.now receiver.0) ≡ true) }
     ensures sound { IsSound chain.now }

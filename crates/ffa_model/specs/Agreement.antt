@@ -3,7 +3,7 @@
 use Rattle.std.specs.Prelude.{◌≡◌, ℕ, ◌<◌, ◌/◌, ◌^◌, length, Some}
 use Rattle.ffa_model.specs.Manifest.{root_of}
 use Rattle.ffa_model.specs.Ram.{Ram, page_of}
-use Rattle.ffa_model.specs.Walk.{walk, granted}
+use Rattle.ffa_model.specs.Walk.{walk, mapped_answer}
 use Rattle.ffa_model.specs.Identifiers.{identifier}
 use Rattle.ffa_model.specs.State.{State, Page, page_at}
 use Rattle.ffa_model.specs.Memory.{access_at}
@@ -21,5 +21,5 @@ pub record Agrees (ram : Ram) (s : State) : Type 0 where
   pub size : length ram.pages ≡ length s.pages
   pub walks :
       (index address : ℕ) → index < length s.parties → address < 2 ^ 32
-      → walk ram (root s index) address ≡ granted (access_at s (identifier index) address) address
+      → walk ram (root s index) address ≡ mapped_answer (access_at s (identifier index) address) address
   pub bytes : (p : ℕ) (page : Page) → page_at s p ≡ Some page → page_of ram p ≡ page.bytes

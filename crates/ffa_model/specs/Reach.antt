@@ -15,8 +15,8 @@ abbrev pub offset : Ram → ℕ → ℕ
 offset ram address = (address - ram.base) % 4096
 
 -- the number in the n bytes at a physical address, the lowest first
-abbrev pub number_at : Ram → ℕ → ℕ → ℕ
-number_at ram address n = number_in (page_of ram (page_index ram address)) (offset ram address) n
+abbrev pub number_in_ram : Ram → ℕ → ℕ → ℕ
+number_in_ram ram address n = number_in (page_of ram (page_index ram address)) (offset ram address) n
 
 -- the RAM with other bytes from a physical address on, all in one page
 abbrev pub with_bytes_at : Ram → ℕ → List ℕ → Ram
@@ -50,7 +50,7 @@ at_end value (Err fault) = Err fault
 
 -- what a load or a fetch of n bytes gives
 abbrev pub loaded : Ram → ℕ → ℕ → ℕ → (Leaf → Bool) → Result ℕ FaultKind
-loaded ram root address n allowed = at_end (λ physical. number_at ram physical n) (reach ram root address n allowed)
+loaded ram root address n allowed = at_end (λ physical. number_in_ram ram physical n) (reach ram root address n allowed)
 
 -- whether a store of n bytes is done, or its fault
 abbrev pub store_answer : Ram → ℕ → ℕ → ℕ → Result ⊤ FaultKind
@@ -62,5 +62,5 @@ with_bytes_reached ram bytes (Ok physical) = with_bytes_at ram physical bytes
 with_bytes_reached ram bytes (Err fault) = ram
 
 -- the RAM after a store of a number's lowest n bytes
-abbrev pub stored : Ram → ℕ → ℕ → ℕ → ℕ → Ram
-stored ram root address n value = with_bytes_reached ram (little_bytes n value) (reach ram root address n may_store_to)
+abbrev pub ram_after_store : Ram → ℕ → ℕ → ℕ → ℕ → Ram
+ram_after_store ram root address n value = with_bytes_reached ram (little_bytes n value) (reach ram root address n may_store_to)

@@ -19,6 +19,6 @@ is_error reply = slice_index (encode reply) 0 == 0x84000060
 
 -- whether what a call passes on is not seen as FFA_ERROR
 abbrev pub passes_no_error : Call → Bool
-passes_no_error (DirectRequest function parties flags payload) = not (function == 0x84000060)
-passes_no_error (DirectResponse function parties flags payload) = not (function == 0x84000060)
+passes_no_error (DirectRequest function word flags payload) = not (function == 0x84000060)
+passes_no_error (DirectResponse function word flags payload) = not (function == 0x84000060)
 passes_no_error call = true

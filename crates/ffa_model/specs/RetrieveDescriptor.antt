@@ -5,8 +5,8 @@ use Rattle.ffa_model.specs.Bits.{bits}
 use Rattle.ffa_model.specs.DescriptorPlaces.{sender_field, attributes_field, flags_field, handle_field, tag_field, receiver_count, array_place, IsHeader, is_header, endpoint_field, permissions_field, access_flags_field, composite_field, access_reserved_field, data_code, data_of, kind_code, kind_of, normal_memory}
 
 -- the permissions that the one access descriptor asks for
-abbrev pub asked : List ℕ → ℕ
-asked b = permissions_field b (array_place b)
+abbrev pub asked_permissions : List ℕ → ℕ
+asked_permissions b = permissions_field b (array_place b)
 
 -- The bytes are a retrieve descriptor for this endpoint, and say this. All other bytes are free
 pub record Retrieve (endpoint : ℕ) (b : List ℕ) (r : RetrieveDesc) : Type 0 where
@@ -14,8 +14,8 @@ pub record Retrieve (endpoint : ℕ) (b : List ℕ) (r : RetrieveDesc) : Type 0 
   pub attributes : (attributes_field b ≡ 0) ⊎ (attributes_field b ≡ normal_memory)
   pub one : receiver_count b ≡ 1
   pub caller : endpoint_field b (array_place b) ≡ endpoint
-  pub known_exec : bits 3 2 (asked b) ≢ 3
-  pub no_more : bits 7 4 (asked b) ≡ 0
+  pub known_exec : bits 3 2 (asked_permissions b) ≢ 3
+  pub no_more : bits 7 4 (asked_permissions b) ≡ 0
   pub access_flags : access_flags_field b (array_place b) ≡ 0
   pub composite : composite_field b (array_place b) ≡ 0
   pub access_reserved : access_reserved_field b (array_place b) ≡ 0
@@ -23,8 +23,8 @@ pub record Retrieve (endpoint : ℕ) (b : List ℕ) (r : RetrieveDesc) : Type 0 
   pub handle : r.handle ≡ handle_field b
   pub tag : r.tag ≡ tag_field b
   pub kind : flags_field b ≡ 8 * kind_code r.kind
-  pub level : bits 1 0 (asked b) ≡ data_code r.level
-  pub exec : r.exec ≡ (bits 3 2 (asked b) == 2)
+  pub level : bits 1 0 (asked_permissions b) ≡ data_code r.level
+  pub exec : r.exec ≡ (bits 3 2 (asked_permissions b) == 2)
 
 -- THE SAME, computed
 
@@ -35,8 +35,8 @@ retrieve_in b =
       handle = handle_field b;
       tag = tag_field b;
       kind = kind_of (bits 4 3 (flags_field b));
-      level = data_of (bits 1 0 (asked b));
-      exec = bits 3 2 (asked b) == 2;
+      level = data_of (bits 1 0 (asked_permissions b));
+      exec = bits 3 2 (asked_permissions b) == 2;
     }
 
 unfoldable pub is_retrieve_header : List ℕ → Bool
@@ -48,9 +48,9 @@ is_retrieve_header b =
 unfoldable pub is_retrieve_access : ℕ → List ℕ → Bool
 is_retrieve_access endpoint b =
     (endpoint_field b (array_place b) == endpoint)
-    && not (bits 1 0 (asked b) == 3)
-    && not (bits 3 2 (asked b) == 3)
-    && (bits 7 4 (asked b) == 0)
+    && not (bits 1 0 (asked_permissions b) == 3)
+    && not (bits 3 2 (asked_permissions b) == 3)
+    && (bits 7 4 (asked_permissions b) == 0)
     && (access_flags_field b (array_place b) == 0)
     && (composite_field b (array_place b) == 0)
     && (access_reserved_field b (array_place b) == 0)

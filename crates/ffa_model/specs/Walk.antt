@@ -70,6 +70,6 @@ walk ram root address =
     if nat_lt address (2 ^ 32) then from_level1 ram (entry ram root (bits 31 30 address)) address else Err Translation
 
 -- what the walk to a page that is mapped to itself has to answer where an endpoint has this right to it
-unfoldable pub granted : Option Rights → ℕ → Answer
-granted None address = Err Translation
-granted (Some r) address = Ok (record { phys = address; read = true; write = may_write r.level; exec = r.exec })
+unfoldable pub mapped_answer : Option Rights → ℕ → Answer
+mapped_answer None address = Err Translation
+mapped_answer (Some r) address = Ok (record { phys = address; read = true; write = may_write r.level; exec = r.exec })

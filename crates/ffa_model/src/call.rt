@@ -44,14 +44,14 @@ pub enum Call {
     /// FFA_MSG_SEND_DIRECT_REQ, by the identifier of either form.
     DirectRequest {
         function: u32,
-        parties: u32,
+        word: u32,
         flags: u32,
         payload: [u64; 5],
     },
     /// FFA_MSG_SEND_DIRECT_RESP, by the identifier of either form.
     DirectResponse {
         function: u32,
-        parties: u32,
+        word: u32,
         flags: u32,
         payload: [u64; 5],
     },
@@ -102,21 +102,21 @@ pub enum Call {
     },
     /// FFA_NOTIFICATION_BIND.
     NotificationBind {
-        parties: u32,
+        word: u32,
         flags: u32,
         low: u32,
         high: u32,
     },
     /// FFA_NOTIFICATION_UNBIND.
     NotificationUnbind {
-        parties: u32,
+        word: u32,
         flags: u32,
         low: u32,
         high: u32,
     },
     /// FFA_NOTIFICATION_SET.
     NotificationSet {
-        parties: u32,
+        word: u32,
         flags: u32,
         low: u32,
         high: u32,

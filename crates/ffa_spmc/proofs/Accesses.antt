@@ -16,7 +16,7 @@ use Rattle.ffa_model.specs.Identifiers.{identifier, place}
 use Rattle.ffa_model.specs.Memory as memory
 use Rattle.ffa_model.specs.Memory.{access_at, accessed, fault_of, size_of, page_bytes, written}
 use Rattle.ffa_model.specs.Ram.{Ram}
-use Rattle.ffa_model.specs.Reach.{at_end, loaded, may_store_to, number_at, reach, store_answer, stored, with_bytes_reached}
+use Rattle.ffa_model.specs.Reach.{at_end, loaded, may_store_to, number_in_ram, reach, store_answer, ram_after_store, with_bytes_reached}
 use Rattle.ffa_model.specs.Rights.{may_write, may_store}
 use Rattle.ffa_model.specs.State.{State, page_at}
 use Rattle.ffa_model.proofs.Accepted.{accepted}
@@ -81,11 +81,11 @@ module _ (ram : Ram) (m : Manifest) (kept : Kept) (machine : IsMachine ram m kep
       → outcome_of (loaded ram runner_root address n allowed)
       ≡ (accessed (fault_of (address % n == 0) (access_at s kept.chain.runner address) may) s s (Data (memory.number_at s address n))).outcome
   loaded-is address n allowed may same =
-      ap (λ (r : Result ℕ FaultKind). outcome_of (at_end (λ physical. number_at ram physical n) r)) (runner-reach address n allowed may same)
+      ap (λ (r : Result ℕ FaultKind). outcome_of (at_end (λ physical. number_in_ram ram physical n) r)) (runner-reach address n allowed may same)
       ∙ ending (fault_of (address % n == 0) (access_at s kept.chain.runner address) may) refl
     where
       ending : (o : Option FaultKind) → fault_of (address % n == 0) (access_at s kept.chain.runner address) may ≡ o
-          → outcome_of (at_end (λ physical. number_at ram physical n) (reached o address)) ≡ (accessed o s s (Data (memory.number_at s address n))).outcome
+          → outcome_of (at_end (λ physical. number_in_ram ram physical n) (reached o address)) ≡ (accessed o s s (Data (memory.number_at s address n))).outcome
       ending (Some fault) is = refl
       ending None is =
           let (r, right) = right-of (address % n == 0) (access_at s kept.chain.runner address) may is in
@@ -116,21 +116,21 @@ module _ (ram : Ram) (m : Manifest) (kept : Kept) (machine : IsMachine ram m kep
       )
 
   stored-reached : (address : ℕ) (size : Size) (value : ℕ)
-      → stored ram runner_root address (size_of size) value
+      → ram_after_store ram runner_root address (size_of size) value
       ≡ with_bytes_reached ram (little_bytes (size_of size) value) (reached (fault_of (address % size_of size == 0) (access_at s kept.chain.runner address) may_store) address)
   stored-reached address size value = ap (with_bytes_reached ram (little_bytes (size_of size) value)) (runner-reach address (size_of size) may_store_to may_store (λ r. refl))
 
-  store-tables : (address : ℕ) (size : Size) (value : ℕ) → HasTables (stored ram runner_root address (size_of size) value) m
+  store-tables : (address : ℕ) (size : Size) (value : ℕ) → HasTables (ram_after_store ram runner_root address (size_of size) value) m
   store-tables address size value =
       subst (λ (r : Ram). HasTables r m) (sym (stored-reached address size value))
       (after address (little_bytes (size_of size) value) (fault_of (address % size_of size == 0) (access_at s kept.chain.runner address) may_store) (size_of size) refl).0
 
-  pub store-state : (address : ℕ) (size : Size) (value : ℕ) → state_of (stored ram runner_root address (size_of size) value) m kept ≡ (memory.store s address size value).state
+  pub store-state : (address : ℕ) (size : Size) (value : ℕ) → state_of (ram_after_store ram runner_root address (size_of size) value) m kept ≡ (memory.store s address size value).state
   store-state address size value =
       ap (λ (r : Ram). state_of r m kept) (stored-reached address size value)
       ∙ (after address (little_bytes (size_of size) value) (fault_of (address % size_of size == 0) (access_at s kept.chain.runner address) may_store) (size_of size) refl).1
 
-  pub store-machine : (address : ℕ) (size : Size) (value : ℕ) → IsMachine (stored ram runner_root address (size_of size) value) m kept
+  pub store-machine : (address : ℕ) (size : Size) (value : ℕ) → IsMachine (ram_after_store ram runner_root address (size_of size) value) m kept
   store-machine address size value =
       record {
         laws = machine.laws;
@@ -163,9 +163,9 @@ module _ (ram : Ram) (m : Manifest) (kept : Kept) (machine : IsMachine ram m kep
         ∙ loaded-is address n allowed may same
         ∙ ap (λ (seen : Snapshot). (accessed (fault_of (address % n == 0) (access_at seen.state seen.state.runner address) may) seen.state seen.state (Data (memory.number_at seen.state address n))).outcome) view
 
-    module _ (address : ℕ) (size : Size) (value : ℕ) (new : Ram) (wrote : new ≡ stored ram r address (size_of size) value) where
-      new-is : new ≡ stored ram runner_root address (size_of size) value
-      new-is = wrote ∙ ap (λ (q : ℕ). stored ram q address (size_of size) value) root-is-runner
+    module _ (address : ℕ) (size : Size) (value : ℕ) (new : Ram) (wrote : new ≡ ram_after_store ram r address (size_of size) value) where
+      new-is : new ≡ ram_after_store ram runner_root address (size_of size) value
+      new-is = wrote ∙ ap (λ (q : ℕ). ram_after_store ram q address (size_of size) value) root-is-runner
 
       pub machine-stored : IsMachine new m kept
       machine-stored = subst (λ (ram : Ram). IsMachine ram m kept) (sym new-is) (store-machine address size value)

@@ -12,7 +12,7 @@ use Rattle.ffa_model.specs.Identifiers.{identifier}
 use Rattle.ffa_model.specs.Manifest.{root_of}
 use Rattle.ffa_model.specs.Ram.{Ram, page_of}
 use Rattle.ffa_model.specs.Regions.{right_in, regions_at}
-use Rattle.ffa_model.specs.Walk.{walk, granted, is_in_ram}
+use Rattle.ffa_model.specs.Walk.{walk, mapped_answer, is_in_ram}
 use Rattle.ffa_model.specs.State.{State, Page, page_at}
 use Rattle.ffa_model.specs.Access.{access}
 use Rattle.ffa_model.specs.Memory.{access_at}
@@ -29,7 +29,7 @@ right_at ram m i address = cond (is_in_ram ram address) (right_in m.ram_base (re
 abbrev pub WalksGive : Ram → Manifest → Type 0
 WalksGive ram m =
     (i address : ℕ) → i < length m.endpoints.items → address < 2 ^ 32
-    → walk ram (root_of ram.base m.ram_blocks i) address ≡ granted (right_at ram m i address) address
+    → walk ram (root_of ram.base m.ram_blocks i) address ≡ mapped_answer (right_at ram m i address) address
 
 module _ (ram : Ram) (m : Manifest) (kept : Kept) (machine : IsMachine ram m kept) where
   abbrev s : State
@@ -87,6 +87,6 @@ module _ (ram : Ram) (m : Manifest) (kept : Kept) (machine : IsMachine ram m kep
         walks = λ i address lt low.
             ap (λ (r : ℕ). walk ram r address) (root-is i)
             ∙ walks i address (subst (λ (n : ℕ). i < n) (parties_are ram m kept) lt) low
-            ∙ ap (λ (o : Option Rights). granted o address) (sym (access_at-is i address low));
+            ∙ ap (λ (o : Option Rights). mapped_answer o address) (sym (access_at-is i address low));
         bytes = bytes-are;
       }

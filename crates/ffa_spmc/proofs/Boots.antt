@@ -21,7 +21,7 @@ use Rattle.ffa_model.proofs.Listed.{listed-same}
 use Rattle.ffa_model.proofs.Owners.{owned-behind}
 use Rattle.ffa_stage2.specs.declared.layout.Layout.{Layout}
 use Rattle.ffa_stage2.specs.declared.layout.Regions.{Regions}
-use Rattle.ffa_stage2.specs.Layout.{regions_in, right_in}
+use Rattle.ffa_stage2.specs.Layout.{regions_in, layout_right}
 use Rattle.ffa_stage2.specs.Tables.{IsBuilt, KeepsRest, TableLaws, table_page}
 use Rattle.ffa_spmc.specs.declared.kept.Kept.{Kept}
 use Rattle.ffa_spmc.specs.Owners.{first_owners}
@@ -55,7 +55,7 @@ zeros-of old zeros m cleared base size = cleared ∙ ap (λ (b : ℕ). zero_ram 
 module _ (zeros ram : Ram) (m : Manifest) (layout : Layout) (kept : Kept)
     (cleared : zeros ≡ zero_ram m.ram_base (512 * m.ram_blocks))
     (base : layout.base ≡ m.ram_base) (blocks : layout.blocks ≡ m.ram_blocks) (regions : regions_in layout ≡ regions_of_each m.endpoints.items)
-    (built : IsBuilt ram (array_vec_len layout.regions) layout.blocks (right_in layout))
+    (built : IsBuilt ram (array_vec_len layout.regions) layout.blocks (layout_right layout))
     (rest : KeepsRest zeros ram (array_vec_len layout.regions) layout.blocks)
     (owners : kept.pages ≡ first_owners m) (none : kept.buffers ≡ replicate (length m.endpoints.items) None) (schedule : kept.chain ≡ first_schedule (length m.endpoints.items))
     (uuids : have_uuids m.endpoints.items ≡ true) (laws : TableLaws) where
@@ -73,7 +73,7 @@ module _ (zeros ram : Ram) (m : Manifest) (layout : Layout) (kept : Kept)
   size-is : length ram.pages ≡ 512 * m.ram_blocks
   size-is = rest.size ∙ ap (λ (r : Ram). length r.pages) cleared ∙ length-replicate (512 * m.ram_blocks) (replicate 4096 0)
 
-  right-is : (e p : ℕ) → right_in layout e p ≡ own_right m.ram_base es e p
+  right-is : (e p : ℕ) → layout_right layout e p ≡ own_right m.ram_base es e p
   right-is e p =
       ap (λ (b : ℕ). right_among b (get_or (regions_in layout) e []) p) base
       ∙ ap (λ (rs : List Region). right_among m.ram_base rs p) (ap (λ (rss : List (List Region)). get_or rss e []) regions ∙ regions-each es e)

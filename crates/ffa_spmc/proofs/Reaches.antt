@@ -13,8 +13,8 @@ use Rattle.ffa_model.specs.declared.operation.FaultKind.TheVariants.{Translation
 use Rattle.ffa_model.specs.Agreement.{Agrees, root}
 use Rattle.ffa_model.specs.Identifiers.{identifier}
 use Rattle.ffa_model.specs.Ram.{Ram, page_of, number_in}
-use Rattle.ffa_model.specs.Walk.{is_in_ram, walk, granted}
-use Rattle.ffa_model.specs.Reach.{at_leaf, reach, number_at as number_in_ram}
+use Rattle.ffa_model.specs.Walk.{is_in_ram, walk, mapped_answer}
+use Rattle.ffa_model.specs.Reach.{at_leaf, reach, number_in_ram}
 use Rattle.ffa_model.specs.Rights.{may_write}
 use Rattle.ffa_model.specs.State.{State, Page, page_at}
 use Rattle.ffa_model.specs.Access.{access, transaction_at, right_of}
@@ -61,14 +61,14 @@ past-end s e address past =
 
 module _ (ram : Ram) (s : State) (agrees : Agrees ram s) (i : ℕ) (known : i < length s.parties) where
   -- every walk gives the access, also past the input's end
-  walk-is : (address : ℕ) → walk ram (root s i) address ≡ granted (access_at s (identifier i) address) address
-  unfolding walk granted
+  walk-is : (address : ℕ) → walk ram (root s i) address ≡ mapped_answer (access_at s (identifier i) address) address
+  unfolding walk mapped_answer
   walk-is address = elim (cases_lt address (2 ^ 32)) [
     | inl lt ↦ agrees.walks i address known lt
     | inr past ↦ (
         let far : nat_lt address (2 ^ 32) ≡ false = grind (arith, nat_tests) in
         let none : walk ram (root s i) address ≡ Err Translation = rw far refl in
-        none ∙ ap (λ (o : Option Rights). granted o address) (sym (past-end s (identifier i) address past)))
+        none ∙ ap (λ (o : Option Rights). mapped_answer o address) (sym (past-end s (identifier i) address past)))
   ]
 
   pub in_ram : (address : ℕ) → Placed s address → is_in_ram ram address ≡ true
@@ -85,14 +85,14 @@ module _ (ram : Ram) (s : State) (agrees : Agrees ram s) (i : ℕ) (known : i < 
   pub reach-is : (address n : ℕ) (allowed : Leaf → Bool) (may : Option Rights → Bool)
       → ((r : Rights) → allowed (record { phys = address; read = true; write = may_write r.level; exec = r.exec }) ≡ may (Some r))
       → reach ram (root s i) address n allowed ≡ reached (fault_of (address % n == 0) (access_at s (identifier i) address) may) address
-  unfolding reach granted
+  unfolding reach mapped_answer
   reach-is address n allowed may same =
       elim (address % n == 0) as (λ b. cond b (at_leaf ram allowed (walk ram (root s i) address)) (Err Alignment) ≡ reached (fault_of b (access_at s (identifier i) address) may) address) [
         | false ↦ refl
         | true ↦ ap (at_leaf ram allowed) (walk-is address) ∙ at_right (access_at s (identifier i) address) refl
       ]
     where
-      at_right : (o : Option Rights) → access_at s (identifier i) address ≡ o → at_leaf ram allowed (granted o address) ≡ reached (cond (is_some o) (cond (may o) None (Some Permission)) (Some Translation)) address
+      at_right : (o : Option Rights) → access_at s (identifier i) address ≡ o → at_leaf ram allowed (mapped_answer o address) ≡ reached (cond (is_some o) (cond (may o) None (Some Permission)) (Some Translation)) address
       at_right None is = refl
       at_right (Some r) is =
           rw (same r, in_ram address (placed s (identifier i) address r is)) (ending (may (Some r)))

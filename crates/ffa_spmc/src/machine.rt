@@ -244,23 +244,23 @@ impl<M: PhysMem + Drop> Machine<M> {
             Call::Run { target } => self.run_partition(target),
             Call::DirectRequest {
                 function,
-                parties,
+                word,
                 flags,
                 payload,
             } => self.request(&DirectMessage {
                 function,
-                parties,
+                word,
                 flags,
                 payload,
             }),
             Call::DirectResponse {
                 function,
-                parties,
+                word,
                 flags,
                 payload,
             } => self.respond(&DirectMessage {
                 function,
-                parties,
+                word,
                 flags,
                 payload,
             }),
@@ -394,7 +394,7 @@ impl<M: PhysMem + Drop> Machine<M> {
     // FFA_MSG_SEND_DIRECT_REQ of the runner.
     fn request(&mut self, message: &DirectMessage) -> Reply
         requires { (message.now.function == 0x84000060) ≡ false }
-        ensures served { replied self.new.state result ≡ served self.old.state (direct_request self.old.state message.now.function message.now.parties message.now.flags message.now.payload) }
+        ensures served { replied self.new.state result ≡ served self.old.state (direct_request self.old.state message.now.function message.now.word message.now.flags message.now.payload) }
         ensures refused { is_error result ≡ true → self.new ≡ self.old }
     {
         reply_or_error(direct_req(&mut self.kept.chain, &self.manifest, message))
@@ -403,7 +403,7 @@ impl<M: PhysMem + Drop> Machine<M> {
     // FFA_MSG_SEND_DIRECT_RESP of the runner.
     fn respond(&mut self, message: &DirectMessage) -> Reply
         requires { (message.now.function == 0x84000060) ≡ false }
-        ensures served { replied self.new.state result ≡ served self.old.state (direct_response self.old.state message.now.function message.now.parties message.now.flags message.now.payload) }
+        ensures served { replied self.new.state result ≡ served self.old.state (direct_response self.old.state message.now.function message.now.word message.now.flags message.now.payload) }
         ensures refused { is_error result ≡ true → self.new ≡ self.old }
     {
         reply_or_error(direct_resp(&mut self.kept.chain, message))

@@ -6,7 +6,7 @@ use Rattle.std.proofs.lemmas.Bool.Decides.{nat_tests}
 use Rattle.std.proofs.lemmas.Nat.{same_from_place}
 use Rattle.ffa_model.specs.Ram.{Ram, page_of, word_of}
 use Rattle.ffa_model.specs.Manifest.{table_pages}
-use Rattle.ffa_model.specs.Walk.{Answer, is_in_ram, granted}
+use Rattle.ffa_model.specs.Walk.{Answer, is_in_ram, mapped_answer}
 use Rattle.ffa_model.specs.declared.rights.Rights.{Rights}
 use Rattle.ffa_stage2.specs.declared.blocks.Place.{Place}
 use Rattle.ffa_stage2.specs.Tables.{IsBuilt, InBlock, HasRoom, table_page, table_link, level2_place, level2_word, block_address, rights_of_block, with_right, answer, is_in_page, WalkChanges, KeepsOthers, BlocksWhereOne}
@@ -178,7 +178,7 @@ module _ (old new : Ram) (n b : ℕ) (access : ℕ → ℕ → Option Rights) (e
       ])))
 
   -- the answers, old and new
-  answer-changed : (e' a : ℕ) → answer new (with_right access e p right) e' a ≡ (if e' == e && is_in_page old p a then granted right a else answer old access e' a)
+  answer-changed : (e' a : ℕ) → answer new (with_right access e p right) e' a ≡ (if e' == e && is_in_page old p a then mapped_answer right a else answer old access e' a)
   answer-changed e' a =
       let stays : new.base ≡ old.base = beside.base in
       let size : length new.pages ≡ length old.pages = beside.size in
@@ -187,14 +187,14 @@ module _ (old new : Ram) (n b : ℕ) (access : ℕ → ℕ → Option Rights) (e
           | inl same ↦ elim (cases_eq ((a - old.base) / 4096) p) [
             | inl at ↦
                 let t : (e' == e && is_in_page old p a) ≡ true = grind (arith, nat_tests) in
-                rw (here, t) (ap (λ (r : Option Rights). granted r a) (rw (same, at) (with_right-same access e p right)))
+                rw (here, t) (ap (λ (r : Option Rights). mapped_answer r a) (rw (same, at) (with_right-same access e p right)))
             | inr off ↦
                 let t : (e' == e && is_in_page old p a) ≡ false = grind (arith, nat_tests) in
-                rw (here, t) (ap (λ (r : Option Rights). granted r a) (with_right-other access e p right e' ((a - old.base) / 4096) (inr off)))
+                rw (here, t) (ap (λ (r : Option Rights). mapped_answer r a) (with_right-other access e p right e' ((a - old.base) / 4096) (inr off)))
           ]
           | inr other ↦
               let t : (e' == e && is_in_page old p a) ≡ false = grind (arith, nat_tests) in
-              rw (here, t) (ap (λ (r : Option Rights). granted r a) (with_right-other access e p right e' ((a - old.base) / 4096) (inl other)))
+              rw (here, t) (ap (λ (r : Option Rights). mapped_answer r a) (with_right-other access e p right e' ((a - old.base) / 4096) (inl other)))
         ]
         | inr out ↦
             let t : (e' == e && is_in_page old p a) ≡ false = grind (arith, nat_tests, built.fits.size) in
@@ -204,4 +204,4 @@ module _ (old new : Ram) (n b : ℕ) (access : ℕ → ℕ → Option Rights) (e
   pub walks-changed : WalkChanges old new n b e p right
   walks-changed e' a he' ha =
       walk-built new n b (with_right access e p right) e' a built-changed he' ha ∙ answer-changed e' a
-      ∙ ap (λ (r : Answer). if e' == e && is_in_page old p a then granted right a else r) (sym (walk-built old n b access e' a built he' ha))
+      ∙ ap (λ (r : Answer). if e' == e && is_in_page old p a then mapped_answer right a else r) (sym (walk-built old n b access e' a built he' ha))

@@ -4,7 +4,7 @@ use Rattle.std.specs.Prelude.{◌==◌, if◌then◌else◌}
 use Rattle.std.proofs.lemmas.Bool.Decides.{nat_tests}
 use Rattle.ffa_model.specs.Bits.{bits}
 use Rattle.ffa_model.specs.Ram.{Ram, page_of, word_of}
-use Rattle.ffa_model.specs.Walk.{is_page_address, entry, leaf_of, from_level3, from_level2, from_level1, granted}
+use Rattle.ffa_model.specs.Walk.{is_page_address, entry, leaf_of, from_level3, from_level2, from_level1, mapped_answer}
 use Rattle.ffa_model.specs.Descriptor.{page_word, table_word}
 use Rattle.ffa_model.specs.declared.operation.FaultKind.TheVariants.{Translation}
 use Rattle.ffa_model.specs.declared.rights.Data.{Data}
@@ -27,8 +27,8 @@ from_level3-fields word f w x address e hf hw hx =
 
 from_level3-some : (level : Data) (exec : Bool) (f address : ℕ) → f < 2 ^ 36
     → from_level3 (page_word (4096 * f) (Some (record { level = level; exec = exec }))) address
-    ≡ granted (Some (record { level = level; exec = exec })) (f * 2 ^ 12 + bits 11 0 address)
-unfolding page_word granted
+    ≡ mapped_answer (Some (record { level = level; exec = exec })) (f * 2 ^ 12 + bits 11 0 address)
+unfolding page_word mapped_answer
 from_level3-some Ro true f address h = from_level3-fields _ f 0 0 address (omega arith) h (omega arith) (omega arith)
 from_level3-some Ro false f address h = from_level3-fields _ f 0 1 address (omega arith) h (omega arith) (omega arith)
 from_level3-some Rw true f address h = from_level3-fields _ f 1 0 address (omega arith) h (omega arith) (omega arith)
@@ -36,8 +36,8 @@ from_level3-some Rw false f address h = from_level3-fields _ f 1 1 address (omeg
 
 -- the descriptor that maps page f to itself
 pub from_level3-page_word : (right : Option Rights) (f address : ℕ) → f < 2 ^ 36
-    → from_level3 (page_word (4096 * f) right) address ≡ granted right (f * 2 ^ 12 + bits 11 0 address)
-unfolding from_level3 page_word granted
+    → from_level3 (page_word (4096 * f) right) address ≡ mapped_answer right (f * 2 ^ 12 + bits 11 0 address)
+unfolding from_level3 page_word mapped_answer
 from_level3-page_word None f address h = refl
 from_level3-page_word (Some r) f address h = from_level3-some r.level r.exec f address h
 
@@ -57,8 +57,8 @@ from_level2-fields ram word g w x address e hg hw hx =
 
 from_level2-some : (ram : Ram) (level : Data) (exec : Bool) (g address : ℕ) → g < 2 ^ 27
     → from_level2 ram (block_word (0x200000 * g) (record { level = level; exec = exec })) address
-    ≡ granted (Some (record { level = level; exec = exec })) (g * 2 ^ 21 + bits 20 0 address)
-unfolding block_word granted
+    ≡ mapped_answer (Some (record { level = level; exec = exec })) (g * 2 ^ 21 + bits 20 0 address)
+unfolding block_word mapped_answer
 from_level2-some ram Ro true g address h = from_level2-fields ram _ g 0 0 address (omega arith) h (omega arith) (omega arith)
 from_level2-some ram Ro false g address h = from_level2-fields ram _ g 0 1 address (omega arith) h (omega arith) (omega arith)
 from_level2-some ram Rw true g address h = from_level2-fields ram _ g 1 0 address (omega arith) h (omega arith) (omega arith)
@@ -66,7 +66,7 @@ from_level2-some ram Rw false g address h = from_level2-fields ram _ g 1 1 addre
 
 -- the descriptor that maps block g to itself
 pub from_level2-block_word : (ram : Ram) (r : Rights) (g address : ℕ) → g < 2 ^ 27
-    → from_level2 ram (block_word (0x200000 * g) r) address ≡ granted (Some r) (g * 2 ^ 21 + bits 20 0 address)
+    → from_level2 ram (block_word (0x200000 * g) r) address ≡ mapped_answer (Some r) (g * 2 ^ 21 + bits 20 0 address)
 from_level2-block_word ram r g address h = from_level2-some ram r.level r.exec g address h
 
 pub from_level2-zero : (ram : Ram) (address : ℕ) → from_level2 ram 0 address ≡ Err Translation

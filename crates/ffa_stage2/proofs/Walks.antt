@@ -7,7 +7,7 @@ use Rattle.ffa_model.specs.Bits.{bits}
 use Rattle.ffa_model.specs.Ram.{Ram, page_of}
 use Rattle.ffa_model.specs.Manifest.{root_of}
 use Rattle.ffa_model.specs.Descriptor.{page_word}
-use Rattle.ffa_model.specs.Walk.{is_in_ram, entry, from_level3, from_level2, from_level1, walk, granted}
+use Rattle.ffa_model.specs.Walk.{is_in_ram, entry, from_level3, from_level2, from_level1, walk, mapped_answer}
 use Rattle.ffa_model.specs.declared.operation.FaultKind.TheVariants.{Translation}
 use Rattle.ffa_model.specs.declared.rights.Rights.{Rights}
 use Rattle.ffa_stage2.specs.Blocks.{block_word, IsBlock, IsTable}
@@ -16,7 +16,7 @@ use Rattle.ffa_stage2.proofs.Descriptors.{from_level3-page_word, from_level2-blo
 use Rattle.ffa_stage2.proofs.Places.{is_in_ram-inside, is_in_ram-outside, table_page-below, table_page-address}
 
 answer-inside : (ram : Ram) (access : ℕ → ℕ → Option Rights) (e p a : ℕ) → a ≡ ram.base + 4096 * p + a % 4096 → p < length ram.pages
-    → granted (access e p) (ram.base + 4096 * p + a % 4096) ≡ answer ram access e a
+    → mapped_answer (access e p) (ram.base + 4096 * p + a % 4096) ≡ answer ram access e a
 answer-inside ram access e p a place h =
     let here : is_in_ram ram a ≡ true = is_in_ram-inside ram a (omega arith) (omega arith) in
     let number : (a - ram.base) / 4096 ≡ p = omega arith in
@@ -24,13 +24,13 @@ answer-inside ram access e p a place h =
 
 answer-outside : (ram : Ram) (access : ℕ → ℕ → Option Rights) (e a : ℕ) → (ram.base ≤ a → a < ram.base + 4096 * length ram.pages → ⊥)
     → Err Translation ≡ answer ram access e a
-unfolding granted
+unfolding mapped_answer
 answer-outside ram access e a h = let out : is_in_ram ram a ≡ false = is_in_ram-outside ram a h in rw out
 
 module _ (ram : Ram) (n b : ℕ) (access : ℕ → ℕ → Option Rights) (e a : ℕ) (built : IsBuilt ram n b access) (he : e < n) (ha : a < 2 ^ 32) where
   -- the answer in block k, where a block stands
   in_block : (k : ℕ) → k < b → (word : ℕ) → IsBlock word (block_address ram k) (rights_of_block (access e) k)
-      → from_level2 ram word a ≡ granted (access e (512 * k + bits 20 12 a)) (ram.base + 4096 * (512 * k + bits 20 12 a) + a % 4096)
+      → from_level2 ram word a ≡ mapped_answer (access e (512 * k + bits 20 12 a)) (ram.base + 4096 * (512 * k + bits 20 12 a) + a % 4096)
   in_block k hk word block =
       let j : ℕ = bits 20 12 a in
       let g : ℕ = (ram.base + 0x200000 * k) / 0x200000 in
@@ -40,13 +40,13 @@ module _ (ram : Ram) (n b : ℕ) (access : ℕ → ℕ → Option Rights) (e a :
       let target : g * 2 ^ 21 + bits 20 0 a ≡ ram.base + 4096 * (512 * k + j) + a % 4096 = omega arith in
       ap (λ (w : ℕ). from_level2 ram w a) (block.is ∙ ap (λ (x : ℕ). block_word x block.right) address)
       ∙ from_level2-block_word ram block.right g a (omega arith)
-      ∙ ap (λ (x : ℕ). granted (Some block.right) x) target
-      ∙ ap (λ (r : Option Rights). granted r (ram.base + 4096 * (512 * k + j) + a % 4096)) (sym (block.one j (omega arith)))
+      ∙ ap (λ (x : ℕ). mapped_answer (Some block.right) x) target
+      ∙ ap (λ (r : Option Rights). mapped_answer r (ram.base + 4096 * (512 * k + j) + a % 4096)) (sym (block.one j (omega arith)))
 
   -- and where a table stands
   in_table : (k : ℕ) → k < b → (word : ℕ)
       → IsTable word (table_link ram.base b e (2 + k)) (page_of ram (table_page b e (2 + k))) (block_address ram k) (rights_of_block (access e) k)
-      → from_level2 ram word a ≡ granted (access e (512 * k + bits 20 12 a)) (ram.base + 4096 * (512 * k + bits 20 12 a) + a % 4096)
+      → from_level2 ram word a ≡ mapped_answer (access e (512 * k + bits 20 12 a)) (ram.base + 4096 * (512 * k + bits 20 12 a) + a % 4096)
   in_table k hk word table =
       let j : ℕ = bits 20 12 a in
       let f : ℕ = ram.base / 4096 + (512 * k + j) in
@@ -64,11 +64,11 @@ module _ (ram : Ram) (n b : ℕ) (access : ℕ → ℕ → Option Rights) (e a :
       ∙ ap (λ (w : ℕ). from_level3 w a) (entry-page ram (table_page b e (2 + k)) j ∙ table.pages j hj
       ∙ ap (λ (x : ℕ). page_word x (access e (512 * k + j))) q)
       ∙ from_level3-page_word (access e (512 * k + j)) f a small
-      ∙ ap (λ (x : ℕ). granted (access e (512 * k + j)) x) target
+      ∙ ap (λ (x : ℕ). mapped_answer (access e (512 * k + j)) x) target
 
   in_pages : (k : ℕ) → k < b → InBlock ram b e (access e) k
       → from_level2 ram (level2_word ram b e k) a
-      ≡ granted (access e (512 * k + bits 20 12 a)) (ram.base + 4096 * (512 * k + bits 20 12 a) + a % 4096)
+      ≡ mapped_answer (access e (512 * k + bits 20 12 a)) (ram.base + 4096 * (512 * k + bits 20 12 a) + a % 4096)
   in_pages k hk (inl block) = in_block k hk (level2_word ram b e k) block
   in_pages k hk (inr (table, mixed)) = in_table k hk (level2_word ram b e k) table
 

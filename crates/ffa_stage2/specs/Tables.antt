@@ -5,7 +5,7 @@ use Rattle.ffa_model.specs.Bits.{bits}
 use Rattle.ffa_model.specs.Ram.{Ram, page_of, word_of}
 use Rattle.ffa_model.specs.Manifest.{table_pages, root_of}
 use Rattle.ffa_model.specs.Descriptor.{table_word}
-use Rattle.ffa_model.specs.Walk.{Answer, walk, is_in_ram, is_page_address, granted}
+use Rattle.ffa_model.specs.Walk.{Answer, walk, is_in_ram, is_page_address, mapped_answer}
 use Rattle.ffa_model.specs.declared.rights.Rights.{Rights}
 use Rattle.ffa_stage2.specs.Blocks.{IsMapped, IsBlockWhereOne}
 
@@ -67,7 +67,7 @@ with_right access endpoint page right e p = if e == endpoint && p == page then r
 -- what the walk of endpoint e's table answers at an address: what its access gives in RAM, and nothing elsewhere
 abbrev pub answer : Ram → (ℕ → ℕ → Option Rights) → ℕ → ℕ → Answer
 answer ram access e address =
-    granted (if is_in_ram ram address then access e ((address - ram.base) / 4096) else None) address
+    mapped_answer (if is_in_ram ram address then access e ((address - ram.base) / 4096) else None) address
 
 -- the walk of each endpoint's table gives its access at every address
 abbrev pub WalksTo : Ram → ℕ → ℕ → (ℕ → ℕ → Option Rights) → Type 0
@@ -91,7 +91,7 @@ WalkChanges old new endpoints blocks endpoint page right =
     (e address : ℕ) → e < endpoints → address < 2 ^ 32
     → walk new (root_of new.base blocks e) address
     ≡ (if e == endpoint && is_in_page old page address
-    then granted right address
+    then mapped_answer right address
     else walk old (root_of old.base blocks e) address)
 
 -- the RAM stands where it did, and no page but the endpoint's table pages changed

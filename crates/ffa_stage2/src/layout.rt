@@ -42,7 +42,7 @@ pub struct Layout {
 }
 
 impl Layout {
-    ghost use Rattle.ffa_stage2.specs.Layout.{regions_in, right_in};
+    ghost use Rattle.ffa_stage2.specs.Layout.{regions_in, layout_right};
     ghost use Rattle.ffa_model.specs.Regions.{regions_of_each};
     ghost use Rattle.ffa_stage2.specs.Tables.{table_page, table_link};
 
@@ -67,7 +67,7 @@ impl Layout {
     pub(crate) fn right(&self, index: usize, page: PageNo) -> Option<Rights>
         requires index { index < array_vec_len self.now.regions }
         requires page { page.0 < 512 * self.now.blocks }
-        ensures { result ≡ right_in self.now index page.0 }
+        ensures { result ≡ layout_right self.now index page.0 }
     {
         right_in(self.regions[index].list.as_slice(), self.base, page)
     }

@@ -4,7 +4,7 @@ ghost use Rattle.std.specs.Prelude.{◌≡◌, ℕ, ◌+◌, ◌*◌, ◌<◌, l
 ghost use Rattle.arrayvec.specs.ArrayVec.{array_vec_len};
 ghost use Rattle.ffa_model.specs.Descriptor.{page_word};
 ghost use Rattle.ffa_model.specs.declared.rights.Rights.{Rights};
-ghost use Rattle.ffa_stage2.specs.Layout.{right_in, IsBuiltFor, BlocksWhereOneFor, WalksToFor, TablesAreFor, KeepsRestFor};
+ghost use Rattle.ffa_stage2.specs.Layout.{layout_right, IsBuiltFor, BlocksWhereOneFor, WalksToFor, TablesAreFor, KeepsRestFor};
 ghost use Rattle.ffa_stage2.specs.Tables.{with_right, WalkChanges, KeepsOthers, TableLaws};
 ghost use Rattle.ffa_stage2.specs.Words.{linked, rights_until};
 
@@ -106,8 +106,8 @@ fn link<M: PhysMem>(memory: &mut M, layout: &Layout, index: usize)
 // Gives one endpoint the rights of its regions.
 fn grant<M: PhysMem>(memory: &mut M, layout: &Layout, index: usize)
     requires index { index < array_vec_len layout.now.regions }
-    requires built { IsBuiltFor layout.now (M.ram memory.old) (rights_until (right_in layout.now) index 0) }
-    ensures built { IsBuiltFor layout.now (M.ram memory.new) (rights_until (right_in layout.now) (index + 1) 0) }
+    requires built { IsBuiltFor layout.now (M.ram memory.old) (rights_until (layout_right layout.now) index 0) }
+    ensures built { IsBuiltFor layout.now (M.ram memory.new) (rights_until (layout_right layout.now) (index + 1) 0) }
     ensures rest { KeepsRestFor layout.now (M.ram memory.old) (M.ram memory.new) }
 {
     for page in 0..512 * layout.blocks {
@@ -120,7 +120,7 @@ fn grant<M: PhysMem>(memory: &mut M, layout: &Layout, index: usize)
 fn link_all<M: PhysMem>(memory: &mut M, layout: &Layout)
     requires base { (M.ram memory.old).base ≡ layout.now.base }
     requires size { length (M.ram memory.old).pages ≡ 512 * layout.now.blocks }
-    ensures built { IsBuiltFor layout.now (M.ram memory.new) (rights_until (right_in layout.now) 0 0) }
+    ensures built { IsBuiltFor layout.now (M.ram memory.new) (rights_until (layout_right layout.now) 0 0) }
     ensures rest { KeepsRestFor layout.now (M.ram memory.old) (M.ram memory.new) }
 {
     clear_tables(memory, layout);
@@ -134,10 +134,10 @@ fn link_all<M: PhysMem>(memory: &mut M, layout: &Layout)
 pub fn build<M: PhysMem>(memory: &mut M, layout: &Layout)
     requires base { (M.ram memory.old).base ≡ layout.now.base }
     requires size { length (M.ram memory.old).pages ≡ 512 * layout.now.blocks }
-    ensures built { IsBuiltFor layout.now (M.ram memory.new) (right_in layout.now) }
+    ensures built { IsBuiltFor layout.now (M.ram memory.new) (layout_right layout.now) }
     ensures rest { KeepsRestFor layout.now (M.ram memory.old) (M.ram memory.new) }
-    ensures walks { WalksToFor layout.now (M.ram memory.new) (right_in layout.now) }
-    ensures blocks { BlocksWhereOneFor layout.now (M.ram memory.new) (right_in layout.now) }
+    ensures walks { WalksToFor layout.now (M.ram memory.new) (layout_right layout.now) }
+    ensures blocks { BlocksWhereOneFor layout.now (M.ram memory.new) (layout_right layout.now) }
 {
     link_all(memory, layout);
     for index in 0..layout.regions.len() {

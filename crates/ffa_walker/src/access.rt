@@ -75,7 +75,7 @@ fn reach<M: PhysMem>(
 fn read_number<M: PhysMem>(memory: &M, physical: u64, size: Size) -> u64
     requires inside { IsTrue (walk.is_in_ram (M.ram memory.now) physical) }
     requires aligned { physical % size_of size ≡ 0 }
-    ensures number { result ≡ spec.number_at (M.ram memory.now) physical (size_of size) }
+    ensures number { result ≡ spec.number_in_ram (M.ram memory.now) physical (size_of size) }
     ensures fits { result < 256 ^ size_of size }
 {
     let place = physical - u64::from(memory.base());
@@ -138,7 +138,7 @@ pub fn store<M: PhysMem>(
 ) -> Result<(), FaultKind>
     requires root { walk.is_page_address (M.ram memory.old) root ≡ true }
     ensures answer { result ≡ spec.store_answer (M.ram memory.old) root address (size_of size) }
-    ensures stored { M.ram memory.new ≡ spec.stored (M.ram memory.old) root address (size_of size) value }
+    ensures stored { M.ram memory.new ≡ spec.ram_after_store (M.ram memory.old) root address (size_of size) value }
     ensures root { walk.is_page_address (M.ram memory.new) root ≡ true }
 {
     let physical = reach(memory, root, address, size, Need::Write)?;

@@ -20,13 +20,13 @@ const REQUEST: u32 = 0xC400_006F;
 const RESPONSE: u32 = 0x8400_0070;
 
 // A request of the runner.
-fn ask(chain: &mut Chain, parties: u32, flags: u32) -> Result<Reply, ErrorCode>
+fn ask(chain: &mut Chain, word: u32, flags: u32) -> Result<Reply, ErrorCode>
     requires { length chain.old.works ≡ 3 }
     ensures { length chain.new.works ≡ 3 }
 {
     let message = DirectMessage {
         function: REQUEST,
-        parties,
+        word,
         flags,
         payload: PAYLOAD,
     };
@@ -34,10 +34,10 @@ fn ask(chain: &mut Chain, parties: u32, flags: u32) -> Result<Reply, ErrorCode>
 }
 
 // A response of the runner.
-fn answer(chain: &mut Chain, parties: u32, flags: u32) -> Result<Reply, ErrorCode> {
+fn answer(chain: &mut Chain, word: u32, flags: u32) -> Result<Reply, ErrorCode> {
     let message = DirectMessage {
         function: RESPONSE,
-        parties,
+        word,
         flags,
         payload: PAYLOAD,
     };
@@ -72,10 +72,10 @@ fn request_and_response(rt: HostRuntime) -> Result<(), Fail> {
 
 #[test]
 fn refused_requests(rt: HostRuntime) -> Result<(), Fail> {
-    for parties in [0x8003, 0x8000, 0, 0x8002_8001] {
+    for word in [0x8003, 0x8000, 0, 0x8002_8001] {
         let mut chain = Chain::first(3);
         assert_eq!(rt;
-            ask(&mut chain, parties, 0),
+            ask(&mut chain, word, 0),
             Err(ErrorCode::InvalidParameters)
         );
     }
@@ -101,9 +101,9 @@ fn refused_responses(rt: HostRuntime) -> Result<(), Fail> {
     assert_eq!(rt; answer(&mut chain, 0, 0), Err(ErrorCode::Denied));
     let mut chain = Chain::first(3);
     assert_eq!(rt; ask(&mut chain, 0x8001, 0), passed(REQUEST, 0x8001));
-    for parties in [0x8001_8002, 0x8002_0000, 0x8001] {
+    for word in [0x8001_8002, 0x8002_0000, 0x8001] {
         assert_eq!(rt;
-            answer(&mut chain, parties, 0),
+            answer(&mut chain, word, 0),
             Err(ErrorCode::InvalidParameters)
         );
     }

@@ -1,6 +1,6 @@
 use Rattle.std.proofs.Common.{arith}
 use Rattle.arrayvec.specs.ArrayVec.{array_vec_len}
-use Rattle.ffa_stage2.specs.Layout.{right_in}
+use Rattle.ffa_stage2.specs.Layout.{layout_right}
 use Rattle.ffa_stage2.specs.Words.{rights_until}
 use Rattle.ffa_stage2.proofs.Changes.{blocks-built}
 use Rattle.ffa_stage2.proofs.Rights.{built-same, rights_until-all}
@@ -10,9 +10,9 @@ use Rattle.ffa_stage2.proofs.tables.build.Goals as goal
 pub returns-clause-built : goal.returns-clause-built
 returns-clause-built g c =
     let l = c.args.layout.now in
-    built-same (g.M.PhysMem.ram c.loop-index.memory) (array_vec_len l.regions) l.blocks (rights_until (right_in l) c.loop-index.index 0) (right_in l)
+    built-same (g.M.PhysMem.ram c.loop-index.memory) (array_vec_len l.regions) l.blocks (rights_until (layout_right l) c.loop-index.index 0) (layout_right l)
     c.loop-index.invariant.built
-    (λ e p he _. rights_until-all (right_in l) c.loop-index.index e p (omega (arith, he)))
+    (λ e p he _. rights_until-all (layout_right l) c.loop-index.index e p (omega (arith, he)))
 
 pub returns-clause-walks : goal.returns-clause-walks
 returns-clause-walks g c e a he ha = walk-built (g.M.PhysMem.ram c.loop-index.memory) _ _ _ e a (returns-clause-built g c) he ha

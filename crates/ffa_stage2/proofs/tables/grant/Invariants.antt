@@ -1,5 +1,5 @@
 use Rattle.arrayvec.specs.ArrayVec.{array_vec_len}
-use Rattle.ffa_stage2.specs.Layout.{right_in}
+use Rattle.ffa_stage2.specs.Layout.{layout_right}
 use Rattle.ffa_stage2.specs.Tables.{IsBuilt, KeepsRest}
 use Rattle.ffa_stage2.specs.Words.{rights_until}
 use Rattle.ffa_stage2.proofs.tables.grant.Given as goal
@@ -7,6 +7,6 @@ use Rattle.ffa_stage2.proofs.tables.grant.Given as goal
 -- the pages so far
 abbrev pub invariant-loop-page : goal.invariant-loop-page
 invariant-loop-page g l = record {
-  built : IsBuilt (g.M.PhysMem.ram l.memory) (array_vec_len l.layout.regions) l.layout.blocks (rights_until (right_in l.layout) l.index l.page);
+  built : IsBuilt (g.M.PhysMem.ram l.memory) (array_vec_len l.layout.regions) l.layout.blocks (rights_until (layout_right l.layout) l.index l.page);
   rest : KeepsRest (g.M.PhysMem.ram l.fn.memory) (g.M.PhysMem.ram l.memory) (array_vec_len l.layout.regions) l.layout.blocks;
 }

@@ -1,6 +1,6 @@
 use Rattle.std.proofs.Common.{◌≡◌, ◌∙◌, arith}
 use Rattle.arrayvec.specs.ArrayVec.{array_vec_len}
-use Rattle.ffa_stage2.specs.Layout.{right_in}
+use Rattle.ffa_stage2.specs.Layout.{layout_right}
 use Rattle.ffa_stage2.specs.Words.{no_access, rights_until}
 use Rattle.ffa_stage2.proofs.Cleared.{all-linked}
 use Rattle.ffa_stage2.proofs.Rights.{built-same, rights_until-none}
@@ -12,6 +12,6 @@ returns-clause-built g c =
     let l = c.args.layout.now in
     let all : c.loop-index.index ≡ array_vec_len l.regions = omega arith in
     let ram = g.M.PhysMem.ram c.loop-index.memory in
-    built-same ram (array_vec_len l.regions) l.blocks no_access (rights_until (right_in l) 0 0)
+    built-same ram (array_vec_len l.regions) l.blocks no_access (rights_until (layout_right l) 0 0)
     (all-linked ram (array_vec_len l.regions) l.blocks l.base (i.rest.base ∙ c.requires.base) (rw all at i.tables))
-    (λ e p _ _. rights_until-none (right_in l) e p)
+    (λ e p _ _. rights_until-none (layout_right l) e p)

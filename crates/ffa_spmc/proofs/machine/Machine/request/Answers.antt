@@ -22,8 +22,8 @@ invariant_of-self g c =
     let ram : Ram = g.M.PhysMem.ram c.self.inside.ram in
     let m : Manifest = c.self.inside.manifest in
     let kept : Kept = c.self.inside.kept in
-    machine-called ram ram m kept (record kept { chain = c.direct_req.new.chain }) c.self.invariant c.self.invariant.tables refl (DirectRequest c.args.message.now.function c.args.message.now.parties c.args.message.now.flags c.args.message.now.payload) refl
-    (ap (λ (st : Stepped). st.state) (scheduled ram m kept (direct_request (state_of ram m kept) c.args.message.now.function c.args.message.now.parties c.args.message.now.flags c.args.message.now.payload) (requested kept.chain (low_half c.args.message.now.parties)) c.direct_req.new.chain c.direct_req.result refl (c.direct_req.ensures.refusal ∙ ap (λ (parties : List Party). first_failure (request_guards parties kept.chain c.args.message.now.parties c.args.message.now.flags)) (parties-listed ram m kept)) c.direct_req.ensures.kept c.direct_req.ensures.changed c.direct_req.ensures.reply))
+    machine-called ram ram m kept (record kept { chain = c.direct_req.new.chain }) c.self.invariant c.self.invariant.tables refl (DirectRequest c.args.message.now.function c.args.message.now.word c.args.message.now.flags c.args.message.now.payload) refl
+    (ap (λ (st : Stepped). st.state) (scheduled ram m kept (direct_request (state_of ram m kept) c.args.message.now.function c.args.message.now.word c.args.message.now.flags c.args.message.now.payload) (requested kept.chain (low_half c.args.message.now.word)) c.direct_req.new.chain c.direct_req.result refl (c.direct_req.ensures.refusal ∙ ap (λ (parties : List Party). first_failure (request_guards parties kept.chain c.args.message.now.word c.args.message.now.flags)) (parties-listed ram m kept)) c.direct_req.ensures.kept c.direct_req.ensures.changed c.direct_req.ensures.reply))
 
 pub returns-clause-served : goal.returns-clause-served
 returns-clause-served g c =
@@ -31,8 +31,8 @@ returns-clause-served g c =
     let m : Manifest = c.self.inside.manifest in
     let kept : Kept = c.self.inside.kept in
     ap (λ (reply : Reply). replied (with_chain ram m kept c.direct_req.new.chain) reply) c.reply_or_error.ensures
-    ∙ (scheduled ram m kept (direct_request (state_of ram m kept) c.args.message.now.function c.args.message.now.parties c.args.message.now.flags c.args.message.now.payload) (requested kept.chain (low_half c.args.message.now.parties)) c.direct_req.new.chain c.direct_req.result refl (c.direct_req.ensures.refusal ∙ ap (λ (parties : List Party). first_failure (request_guards parties kept.chain c.args.message.now.parties c.args.message.now.flags)) (parties-listed ram m kept)) c.direct_req.ensures.kept c.direct_req.ensures.changed c.direct_req.ensures.reply)
-    ∙ ap (λ (seen : Snapshot). served seen.state (direct_request seen.state c.args.message.now.function c.args.message.now.parties c.args.message.now.flags c.args.message.now.payload)) c.self.view_is
+    ∙ (scheduled ram m kept (direct_request (state_of ram m kept) c.args.message.now.function c.args.message.now.word c.args.message.now.flags c.args.message.now.payload) (requested kept.chain (low_half c.args.message.now.word)) c.direct_req.new.chain c.direct_req.result refl (c.direct_req.ensures.refusal ∙ ap (λ (parties : List Party). first_failure (request_guards parties kept.chain c.args.message.now.word c.args.message.now.flags)) (parties-listed ram m kept)) c.direct_req.ensures.kept c.direct_req.ensures.changed c.direct_req.ensures.reply)
+    ∙ ap (λ (seen : Snapshot). served seen.state (direct_request seen.state c.args.message.now.function c.args.message.now.word c.args.message.now.flags c.args.message.now.payload)) c.self.view_is
 
 pub direct_req-requires : goal.direct_req-requires
 direct_req-requires g c = record { endpoints = counted (g.M.PhysMem.ram c.self.inside.ram) c.self.inside.manifest c.self.inside.kept c.self.invariant }

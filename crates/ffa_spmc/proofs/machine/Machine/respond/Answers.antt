@@ -18,8 +18,8 @@ invariant_of-self g c =
     let ram : Ram = g.M.PhysMem.ram c.self.inside.ram in
     let m : Manifest = c.self.inside.manifest in
     let kept : Kept = c.self.inside.kept in
-    machine-called ram ram m kept (record kept { chain = c.direct_resp.new.chain }) c.self.invariant c.self.invariant.tables refl (DirectResponse c.args.message.now.function c.args.message.now.parties c.args.message.now.flags c.args.message.now.payload) refl
-    (ap (λ (st : Stepped). st.state) (scheduled ram m kept (direct_response (state_of ram m kept) c.args.message.now.function c.args.message.now.parties c.args.message.now.flags c.args.message.now.payload) (finished kept.chain (low_half c.args.message.now.parties)) c.direct_resp.new.chain c.direct_resp.result refl c.direct_resp.ensures.refusal c.direct_resp.ensures.kept c.direct_resp.ensures.changed c.direct_resp.ensures.reply))
+    machine-called ram ram m kept (record kept { chain = c.direct_resp.new.chain }) c.self.invariant c.self.invariant.tables refl (DirectResponse c.args.message.now.function c.args.message.now.word c.args.message.now.flags c.args.message.now.payload) refl
+    (ap (λ (st : Stepped). st.state) (scheduled ram m kept (direct_response (state_of ram m kept) c.args.message.now.function c.args.message.now.word c.args.message.now.flags c.args.message.now.payload) (finished kept.chain (low_half c.args.message.now.word)) c.direct_resp.new.chain c.direct_resp.result refl c.direct_resp.ensures.refusal c.direct_resp.ensures.kept c.direct_resp.ensures.changed c.direct_resp.ensures.reply))
 
 pub returns-clause-served : goal.returns-clause-served
 returns-clause-served g c =
@@ -27,5 +27,5 @@ returns-clause-served g c =
     let m : Manifest = c.self.inside.manifest in
     let kept : Kept = c.self.inside.kept in
     ap (λ (reply : Reply). replied (with_chain ram m kept c.direct_resp.new.chain) reply) c.reply_or_error.ensures
-    ∙ (scheduled ram m kept (direct_response (state_of ram m kept) c.args.message.now.function c.args.message.now.parties c.args.message.now.flags c.args.message.now.payload) (finished kept.chain (low_half c.args.message.now.parties)) c.direct_resp.new.chain c.direct_resp.result refl c.direct_resp.ensures.refusal c.direct_resp.ensures.kept c.direct_resp.ensures.changed c.direct_resp.ensures.reply)
-    ∙ ap (λ (seen : Snapshot). served seen.state (direct_response seen.state c.args.message.now.function c.args.message.now.parties c.args.message.now.flags c.args.message.now.payload)) c.self.view_is
+    ∙ (scheduled ram m kept (direct_response (state_of ram m kept) c.args.message.now.function c.args.message.now.word c.args.message.now.flags c.args.message.now.payload) (finished kept.chain (low_half c.args.message.now.word)) c.direct_resp.new.chain c.direct_resp.result refl c.direct_resp.ensures.refusal c.direct_resp.ensures.kept c.direct_resp.ensures.changed c.direct_resp.ensures.reply)
+    ∙ ap (λ (seen : Snapshot). served seen.state (direct_response seen.state c.args.message.now.function c.args.message.now.word c.args.message.now.flags c.args.message.now.payload)) c.self.view_is
