@@ -1,6 +1,6 @@
 //! What the command line asks for.
 ghost use Rattle.std.specs.Prelude.{◌≡◌, IfOk, false, option_map};
-ghost use Rattle.clap.specs.Words.{app_of, rule_of, found_of, first_of, rows_of, subcommand_rows_of};
+ghost use Rattle.clap.specs.Words.{app_of, rule_of, with_rule, found_of, first_of, rows_of, subcommand_rows_of};
 ghost use Rattle.clap.specs.declared.builder.command.Command.TheViews.{out-Command};
 ghost use Rattle.ffa_command.specs.Commands.{manifest_of, trace_of, path_rule, manifest_id, trace_id, run_app, demo_app, check_app, layout_app, bare, program, ask_of, asked, asked_in, asked_run, asked_demo, asked_check, asked_layout};
 
@@ -54,18 +54,22 @@ fn path<'a>(alloc: Global, id: &'a str, help: &'a str) -> Arg<'a>
     Arg::new(alloc, id).required(true).help(help)
 }
 
-fn manifest_path<'a>(alloc: Global) -> Arg<'a>
-    ensures rule { rule_of result ≡ path_rule manifest_id }
-    ensures local { result.global ≡ false }
+// The command with a manifest's path.
+fn with_manifest<'a>(alloc: Global, command: Command<'a>) -> Result<Command<'a>, AllocError>
+    requires local { (out-Command command).has_globals ≡ false }
+    ensures app { IfOk result (λ c. app_of c ≡ with_rule (app_of command.entry) (path_rule manifest_id)) }
+    ensures local { IfOk result (λ c. (out-Command c).has_globals ≡ false) }
 {
-    path(alloc, "manifest", "The machine's manifest, a TOML file")
+    command.arg(path(alloc, "manifest", "The machine's manifest, a TOML file"))
 }
 
-fn trace_path<'a>(alloc: Global) -> Arg<'a>
-    ensures rule { rule_of result ≡ path_rule trace_id }
-    ensures local { result.global ≡ false }
+// The command with a trace's path.
+fn with_trace<'a>(alloc: Global, command: Command<'a>) -> Result<Command<'a>, AllocError>
+    requires local { (out-Command command).has_globals ≡ false }
+    ensures app { IfOk result (λ c. app_of c ≡ with_rule (app_of command.entry) (path_rule trace_id)) }
+    ensures local { IfOk result (λ c. (out-Command c).has_globals ≡ false) }
 {
-    path(alloc, "trace", "The trace: a line for each operation")
+    command.arg(path(alloc, "trace", "The trace: a line for each operation"))
 }
 
 #[tactic(auto, unfolding(crate::specs::Commands::run_app))]
@@ -73,10 +77,8 @@ fn run_command<'a>(alloc: Global) -> Result<Command<'a>, AllocError>
     ensures app { IfOk result (λ c. app_of c ≡ run_app) }
     ensures local { IfOk result (λ c. (out-Command c).has_globals ≡ false) }
 {
-    Command::new(alloc, "run")
-        .about("Plays a trace on the machine of a manifest")
-        .arg(manifest_path(alloc))?
-        .arg(trace_path(alloc))
+    let command = Command::new(alloc, "run").about("Plays a trace on the machine of a manifest");
+    with_trace(alloc, with_manifest(alloc, command)?)
 }
 
 #[tactic(auto, unfolding(crate::specs::Commands::demo_app))]
@@ -84,9 +86,8 @@ fn demo_command<'a>(alloc: Global) -> Result<Command<'a>, AllocError>
     ensures app { IfOk result (λ c. app_of c ≡ demo_app) }
     ensures local { IfOk result (λ c. (out-Command c).has_globals ≡ false) }
 {
-    Command::new(alloc, "demo")
-        .about("Plays a trace on the built-in machine")
-        .arg(trace_path(alloc))
+    let command = Command::new(alloc, "demo").about("Plays a trace on the built-in machine");
+    with_trace(alloc, command)
 }
 
 #[tactic(auto, unfolding(crate::specs::Commands::check_app))]
@@ -94,9 +95,8 @@ fn check_command<'a>(alloc: Global) -> Result<Command<'a>, AllocError>
     ensures app { IfOk result (λ c. app_of c ≡ check_app) }
     ensures local { IfOk result (λ c. (out-Command c).has_globals ≡ false) }
 {
-    Command::new(alloc, "check")
-        .about("Says whether a manifest is accepted")
-        .arg(manifest_path(alloc))
+    let command = Command::new(alloc, "check").about("Says whether a manifest is accepted");
+    with_manifest(alloc, command)
 }
 
 #[tactic(auto, unfolding(crate::specs::Commands::layout_app))]
@@ -104,9 +104,8 @@ fn layout_command<'a>(alloc: Global) -> Result<Command<'a>, AllocError>
     ensures app { IfOk result (λ c. app_of c ≡ layout_app) }
     ensures local { IfOk result (λ c. (out-Command c).has_globals ≡ false) }
 {
-    Command::new(alloc, "layout")
-        .about("Prints where each endpoint's tables stand")
-        .arg(manifest_path(alloc))
+    let command = Command::new(alloc, "layout").about("Prints where each endpoint's tables stand");
+    with_manifest(alloc, command)
 }
 
 // Help names the program by its own name, whatever the first word is.
