@@ -1,7 +1,8 @@
 //! The player of traces.
-ghost use Rattle.std.specs.Prelude.{◌≡◌, ◌==◌, true, [], ◌++◌, ◌∷◌, position, OnOk};
+ghost use Rattle.std.specs.Prelude.{◌≡◌, ◌*◌, codes, ◌==◌, true, [], ◌++◌, ◌∷◌, position, OnOk};
 ghost use Rattle.ffa_model.specs.TraceLines.{feed, has_no_feed};
-ghost use Rattle.ffa_model.specs.TraceText.{outcome_text};
+ghost use Rattle.ffa_model.specs.Memory.{size_of};
+ghost use Rattle.ffa_model.specs.TraceText.{hex, spaced, ended, outcome_text};
 ghost use Rattle.ffa_trace.specs.Output.{Writes};
 ghost use Rattle.ffa_trace.specs.Played.{LineDone, LineEnded, Kept, Fed, Played};
 
@@ -9,7 +10,7 @@ use crate::line::{self, Line};
 use crate::output::{self, PlayError};
 use crate::show;
 use crate::text::{self, Text};
-use ffa_model::{Op, Outcome};
+use ffa_model::{Op, Outcome, Size};
 use ffa_physmem::PhysMem;
 use ffa_spmc::Machine;
 use memchr::memchr;
@@ -170,10 +171,34 @@ fn do_line<M: PhysMem + Drop, W: Write>(
 fn write_outcome<W: Write>(writer: &mut W, op: &Op, outcome: &Outcome) -> Result<(), PlayError>
     ensures { Writes (W.contents writer.old) (W.contents writer.new) (outcome_text op.now outcome.now) result }
 {
-    if let Outcome::Done = outcome {
-        output::write_text(writer, b"done\n")
-    } else {
-        write_made(writer, op, outcome)
+    match outcome {
+        Outcome::Done => output::write_text(writer, b"done\n"),
+        Outcome::Data(value) => write_data(writer, op, *value),
+        _ => write_made(writer, op, outcome),
+    }
+}
+
+// Writes data that an operation read.
+#[tactic(auto, unfolding(ffa_model::specs::TraceText::outcome_words))]
+fn write_data<W: Write>(writer: &mut W, op: &Op, value: u64) -> Result<(), PlayError>
+    ensures { Writes (W.contents writer.old) (W.contents writer.new) (outcome_text op.now (Outcome.Data value)) result }
+{
+    match op {
+        Op::Call(_) => output::write_text(writer, b"data \n"),
+        Op::Load { size, .. } | Op::Store { size, .. } => write_bytes(writer, *size, value),
+        Op::Fetch { .. } => write_bytes(writer, Size::B4, value),
+    }
+}
+
+// Writes the line of data of one size.
+fn write_bytes<W: Write>(writer: &mut W, size: Size, value: u64) -> Result<(), PlayError>
+    ensures { Writes (W.contents writer.old) (W.contents writer.new) (ended (codes "data" ++ spaced (hex (2 * size_of size) value))) result }
+{
+    match size {
+        Size::B1 => output::write_text(writer, &text::byte_line(value)),
+        Size::B2 => output::write_text(writer, &text::two_byte_line(value)),
+        Size::B4 => output::write_text(writer, &text::four_byte_line(value)),
+        Size::B8 => output::write_text(writer, &text::eight_byte_line(value)),
     }
 }
 

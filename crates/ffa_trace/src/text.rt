@@ -205,6 +205,58 @@ fn register_word(value: u64) -> [u8; 17]
     ]
 }
 
+/// The line of one byte of data. Lines of data have constant sizes, so that no room for a text is made for them.
+#[inline(always)]
+pub fn byte_line(value: u64) -> [u8; 8]
+    ensures { result ≡ ended (codes "data" ++ spaced (hex 2 value)) }
+{
+    let a = two_digits(value, 0);
+    [b'd', b'a', b't', b'a', b' ', a.0, a.1, b'\n']
+}
+
+/// The line of two bytes.
+#[inline(always)]
+pub fn two_byte_line(value: u64) -> [u8; 10]
+    ensures { result ≡ ended (codes "data" ++ spaced (hex 4 value)) }
+{
+    let b = two_digits(value, 1);
+    let a = two_digits(value, 0);
+    [b'd', b'a', b't', b'a', b' ', b.0, b.1, a.0, a.1, b'\n']
+}
+
+/// The line of four bytes.
+#[inline(always)]
+pub fn four_byte_line(value: u64) -> [u8; 14]
+    ensures { result ≡ ended (codes "data" ++ spaced (hex 8 value)) }
+{
+    let d = two_digits(value, 3);
+    let c = two_digits(value, 2);
+    let b = two_digits(value, 1);
+    let a = two_digits(value, 0);
+    [
+        b'd', b'a', b't', b'a', b' ', d.0, d.1, c.0, c.1, b.0, b.1, a.0, a.1, b'\n',
+    ]
+}
+
+/// The line of eight bytes.
+#[inline(always)]
+pub fn eight_byte_line(value: u64) -> [u8; 22]
+    ensures { result ≡ ended (codes "data" ++ spaced (hex 16 value)) }
+{
+    let h = two_digits(value, 7);
+    let g = two_digits(value, 6);
+    let f = two_digits(value, 5);
+    let e = two_digits(value, 4);
+    let d = two_digits(value, 3);
+    let c = two_digits(value, 2);
+    let b = two_digits(value, 1);
+    let a = two_digits(value, 0);
+    [
+        b'd', b'a', b't', b'a', b' ', h.0, h.1, g.0, g.1, f.0, f.1, e.0, e.1, d.0, d.1, c.0, c.1,
+        b.0, b.1, a.0, a.1, b'\n',
+    ]
+}
+
 fn fault_words(fault: FaultKind) -> &'static [u8]
     ensures words { result.now ≡ codes "fault" ++ spaced (fault_name fault) }
     ensures short { length result.now ≤ 17 }
