@@ -4,7 +4,6 @@ use Rattle.std.specs.Prelude.{⊤, ◌==◌}
 use Rattle.std.proofs.lemmas.Option.{none-some}
 use Rattle.byteorder.specs.Endian.{little_bytes}
 use Rattle.ffa_model.specs.declared.leaf.Leaf.{Leaf}
-use Rattle.ffa_model.specs.declared.manifest.Manifest.{Manifest}
 use Rattle.ffa_model.specs.declared.operation.FaultKind.{FaultKind}
 use Rattle.ffa_model.specs.declared.operation.FaultKind.TheVariants.{Translation, Alignment}
 use Rattle.ffa_model.specs.declared.operation.Outcome.{Outcome}
@@ -20,11 +19,10 @@ use Rattle.ffa_model.specs.Reach.{at_end, loaded, may_store_to, number_in_ram, r
 use Rattle.ffa_model.specs.Rights.{may_write, may_store}
 use Rattle.ffa_model.specs.State.{State, page_at}
 use Rattle.ffa_model.proofs.Accepted.{accepted}
-use Rattle.ffa_spmc.specs.declared.kept.Kept.{Kept}
 use Rattle.ffa_model.specs.declared.operation.Op.TheVariants.{Store}
 use Rattle.ffa_model.specs.SoundState.{IsSoundState}
 use Rattle.ffa_laws.proofs.SoundOperations.{step-sound}
-use Rattle.ffa_spmc.specs.Meaning.{HasTables, IsMachine, state_of}
+use Rattle.ffa_spmc.specs.Meaning.{HasTables, IsMachine, Parts, state_of}
 use Rattle.ffa_spmc.specs.Snapshot.{Snapshot}
 use Rattle.ffa_spmc.proofs.Held.{base_is, parties_are, size_is, runner-known, runner-named}
 use Rattle.ffa_spmc.proofs.Machines.{agrees, tables-written}
@@ -47,90 +45,87 @@ right-of true (Some r) may none = (r, refl)
 right-of true None may none = absurd (none-some Translation (sym none))
 right-of false right may none = absurd (none-some Alignment (sym none))
 
-module _ (ram : Ram) (m : Manifest) (kept : Kept) (machine : IsMachine ram m kept) where
+module _ (x : Parts) (machine : IsMachine x) where
   abbrev s : State
-  s = state_of ram m kept
+  s = state_of x
 
   -- the root of the runner's table
   abbrev pub runner_root : ℕ
-  runner_root = root s (place kept.chain.runner)
+  runner_root = root s (place x.kept.chain.runner)
 
-  known : place kept.chain.runner < length s.parties
-  known = subst (λ (n : ℕ). place kept.chain.runner < n) (sym (parties_are ram m kept)) (runner-known ram m kept machine kept.chain.runner refl)
+  known : place x.kept.chain.runner < length s.parties
+  known = subst (λ (n : ℕ). place x.kept.chain.runner < n) (sym (parties_are x)) (runner-known x machine x.kept.chain.runner refl)
 
   aligned : s.ram_base % 4096 ≡ 0
   aligned =
-      let base : s.ram_base ≡ m.ram_base = base_is ram m kept in
-      let place = (accepted m.ram_base m.ram_blocks m.endpoints.items m.accepted).aligned in
+      let base : s.ram_base ≡ x.manifest.ram_base = base_is x in
+      let place = (accepted x.manifest.ram_base x.manifest.ram_blocks x.manifest.endpoints.items x.manifest.accepted).aligned in
       omega (arith, base, place)
-
-  runner_access : ℕ → Option Rights
-  runner_access address = access_at s kept.chain.runner address
 
   -- an access of the runner over the walk ends where the state's does
   runner-reach : (address n : ℕ) (allowed : Leaf → Bool) (may : Option Rights → Bool)
       → ((r : Rights) → allowed (record { phys = address; read = true; write = may_write r.level; exec = r.exec }) ≡ may (Some r))
-      → reach ram runner_root address n allowed ≡ reached (fault_of (address % n == 0) (access_at s kept.chain.runner address) may) address
+      → reach x.ram runner_root address n allowed ≡ reached (fault_of (address % n == 0) (access_at s x.kept.chain.runner address) may) address
   runner-reach address n allowed may same =
-      reach-is ram s (agrees ram m kept machine) (place kept.chain.runner) known address n allowed may same
-      ∙ ap (λ (e : ℕ). reached (fault_of (address % n == 0) (access_at s e address) may) address) (runner-named ram m kept machine kept.chain.runner refl)
+      reach-is x.ram s (agrees x machine) (place x.kept.chain.runner) known address n allowed may same
+      ∙ ap (λ (e : ℕ). reached (fault_of (address % n == 0) (access_at s e address) may) address) (runner-named x machine x.kept.chain.runner refl)
 
   -- a load or a fetch of n bytes
   pub loaded-is : (address n : ℕ) (allowed : Leaf → Bool) (may : Option Rights → Bool)
       → ((r : Rights) → allowed (record { phys = address; read = true; write = may_write r.level; exec = r.exec }) ≡ may (Some r))
-      → outcome_of (loaded ram runner_root address n allowed)
-      ≡ (accessed (fault_of (address % n == 0) (access_at s kept.chain.runner address) may) s s (Data (memory.number_at s address n))).outcome
+      → outcome_of (loaded x.ram runner_root address n allowed)
+      ≡ (accessed (fault_of (address % n == 0) (access_at s x.kept.chain.runner address) may) s s (Data (memory.number_at s address n))).outcome
   loaded-is address n allowed may same =
-      ap (λ (r : Result ℕ FaultKind). outcome_of (at_end (λ physical. number_in_ram ram physical n) r)) (runner-reach address n allowed may same)
-      ∙ ending (fault_of (address % n == 0) (access_at s kept.chain.runner address) may) refl
+      ap (λ (r : Result ℕ FaultKind). outcome_of (at_end (λ physical. number_in_ram x.ram physical n) r)) (runner-reach address n allowed may same)
+      ∙ ending (fault_of (address % n == 0) (access_at s x.kept.chain.runner address) may) refl
     where
-      ending : (o : Option FaultKind) → fault_of (address % n == 0) (access_at s kept.chain.runner address) may ≡ o
-          → outcome_of (at_end (λ physical. number_in_ram ram physical n) (reached o address)) ≡ (accessed o s s (Data (memory.number_at s address n))).outcome
+      ending : (o : Option FaultKind) → fault_of (address % n == 0) (access_at s x.kept.chain.runner address) may ≡ o
+          → outcome_of (at_end (λ physical. number_in_ram x.ram physical n) (reached o address)) ≡ (accessed o s s (Data (memory.number_at s address n))).outcome
       ending (Some fault) is = refl
       ending None is =
-          let (r, right) = right-of (address % n == 0) (access_at s kept.chain.runner address) may is in
-          let there : access_at s (identifier (place kept.chain.runner)) address ≡ Some r = ap (λ (e : ℕ). access_at s e address) (runner-named ram m kept machine kept.chain.runner refl) ∙ right in
-          ap Data (number-is ram s (agrees ram m kept machine) (place kept.chain.runner) known address n r aligned there)
+          let (r, right) = right-of (address % n == 0) (access_at s x.kept.chain.runner address) may is in
+          let there : access_at s (identifier (place x.kept.chain.runner)) address ≡ Some r = ap (λ (e : ℕ). access_at s e address) (runner-named x machine x.kept.chain.runner refl) ∙ right in
+          ap Data (number-is x.ram s (agrees x machine) (place x.kept.chain.runner) known address n r aligned there)
 
   -- what a store leaves where its access ended so
-  after : (address : ℕ) (bytes : List ℕ) (o : Option FaultKind) (n : ℕ) → fault_of (address % n == 0) (access_at s kept.chain.runner address) may_store ≡ o
-      → HasTables (with_bytes_reached ram bytes (reached o address)) m
-      × (state_of (with_bytes_reached ram bytes (reached o address)) m kept ≡ (accessed o s (memory.stored s address bytes) Done).state)
+  after : (address : ℕ) (bytes : List ℕ) (o : Option FaultKind) (n : ℕ) → fault_of (address % n == 0) (access_at s x.kept.chain.runner address) may_store ≡ o
+      → HasTables (with_bytes_reached x.ram bytes (reached o address)) x.manifest
+      × (state_of (record x { ram = with_bytes_reached x.ram bytes (reached o address) }) ≡ (accessed o s (memory.stored s address bytes) Done).state)
   after address bytes (Some fault) n is = (machine.tables, refl)
   after address bytes None n is =
-      let (r, right) = right-of (address % n == 0) (access_at s kept.chain.runner address) may_store is in
-      let p = placed s kept.chain.runner address r right in
+      let (r, right) = right-of (address % n == 0) (access_at s x.kept.chain.runner address) may_store is in
+      let p = placed s x.kept.chain.runner address r right in
       let low : s.ram_base ≤ address = p.low in
-      let base : s.ram_base ≡ ram.base = base_is ram m kept ∙ sym machine.tables.base in
-      let number : (address - s.ram_base) / 4096 ≡ (address - ram.base) / 4096 = omega (arith, base) in
+      let base : s.ram_base ≡ x.ram.base = base_is x ∙ sym machine.tables.base in
+      let number : (address - s.ram_base) / 4096 ≡ (address - x.ram.base) / 4096 = omega (arith, base) in
       let whole : s.ram_base % 4096 ≡ 0 = aligned in
-      let at : (address - ram.base) % 4096 ≡ address % 4096 = omega (arith, base, whole, low) in
-      let there : page_at s ((address - ram.base) / 4096) ≡ Some p.page = ap (page_at s) (sym number) ∙ p.there in
-      let inside : (address - ram.base) / 4096 < length ram.pages =
-      subst (λ (n : ℕ). (address - ram.base) / 4096 < n) (size_is ram m kept) (owned-in s ((address - ram.base) / 4096) p.page there)
+      let at : (address - x.ram.base) % 4096 ≡ address % 4096 = omega (arith, base, whole, low) in
+      let there : page_at s ((address - x.ram.base) / 4096) ≡ Some p.page = ap (page_at s) (sym number) ∙ p.there in
+      let inside : (address - x.ram.base) / 4096 < length x.ram.pages =
+      subst (λ (n : ℕ). (address - x.ram.base) / 4096 < n) (size_is x) (owned-in s ((address - x.ram.base) / 4096) p.page there)
       in (
-        tables-written ram m kept machine ((address - ram.base) / 4096) ((address - ram.base) % 4096) bytes p.page inside there,
-        state-written ram m kept ((address - ram.base) / 4096) ((address - ram.base) % 4096) bytes inside
-            ∙ ap (λ (k : ℕ). written s ((address - ram.base) / 4096) k bytes) at
+        tables-written x machine ((address - x.ram.base) / 4096) ((address - x.ram.base) % 4096) bytes p.page inside there,
+        state-written x ((address - x.ram.base) / 4096) ((address - x.ram.base) % 4096) bytes inside
+            ∙ ap (λ (k : ℕ). written s ((address - x.ram.base) / 4096) k bytes) at
             ∙ ap (λ (k : ℕ). written s k (address % 4096) bytes) (sym number),
       )
 
   stored-reached : (address : ℕ) (size : Size) (value : ℕ)
-      → ram_after_store ram runner_root address (size_of size) value
-      ≡ with_bytes_reached ram (little_bytes (size_of size) value) (reached (fault_of (address % size_of size == 0) (access_at s kept.chain.runner address) may_store) address)
-  stored-reached address size value = ap (with_bytes_reached ram (little_bytes (size_of size) value)) (runner-reach address (size_of size) may_store_to may_store (λ r. refl))
+      → ram_after_store x.ram runner_root address (size_of size) value
+      ≡ with_bytes_reached x.ram (little_bytes (size_of size) value) (reached (fault_of (address % size_of size == 0) (access_at s x.kept.chain.runner address) may_store) address)
+  stored-reached address size value = ap (with_bytes_reached x.ram (little_bytes (size_of size) value)) (runner-reach address (size_of size) may_store_to may_store (λ r. refl))
 
-  store-tables : (address : ℕ) (size : Size) (value : ℕ) → HasTables (ram_after_store ram runner_root address (size_of size) value) m
+  store-tables : (address : ℕ) (size : Size) (value : ℕ) → HasTables (ram_after_store x.ram runner_root address (size_of size) value) x.manifest
   store-tables address size value =
-      subst (λ (r : Ram). HasTables r m) (sym (stored-reached address size value))
-      (after address (little_bytes (size_of size) value) (fault_of (address % size_of size == 0) (access_at s kept.chain.runner address) may_store) (size_of size) refl).0
+      subst (λ (r : Ram). HasTables r x.manifest) (sym (stored-reached address size value))
+      (after address (little_bytes (size_of size) value) (fault_of (address % size_of size == 0) (access_at s x.kept.chain.runner address) may_store) (size_of size) refl).0
 
-  pub store-state : (address : ℕ) (size : Size) (value : ℕ) → state_of (ram_after_store ram runner_root address (size_of size) value) m kept ≡ (memory.store s address size value).state
+  pub store-state : (address : ℕ) (size : Size) (value : ℕ) → state_of (record x { ram = ram_after_store x.ram runner_root address (size_of size) value }) ≡ (memory.store s address size value).state
   store-state address size value =
-      ap (λ (r : Ram). state_of r m kept) (stored-reached address size value)
-      ∙ (after address (little_bytes (size_of size) value) (fault_of (address % size_of size == 0) (access_at s kept.chain.runner address) may_store) (size_of size) refl).1
+      ap (λ (r : Ram). state_of (record x { ram = r })) (stored-reached address size value)
+      ∙ (after address (little_bytes (size_of size) value) (fault_of (address % size_of size == 0) (access_at s x.kept.chain.runner address) may_store) (size_of size) refl).1
 
-  pub store-machine : (address : ℕ) (size : Size) (value : ℕ) → IsMachine (ram_after_store ram runner_root address (size_of size) value) m kept
+  pub store-machine : (address : ℕ) (size : Size) (value : ℕ) → IsMachine (record x { ram = ram_after_store x.ram runner_root address (size_of size) value })
   store-machine address size value =
       record {
         laws = machine.laws;
@@ -139,45 +134,45 @@ module _ (ram : Ram) (m : Manifest) (kept : Kept) (machine : IsMachine ram m kep
         sound = subst IsSoundState (sym (store-state address size value)) (step-sound s machine.sound (Store address size value));
       }
 
-  pub store-outcome : (address : ℕ) (size : Size) (value : ℕ) → done_or_fault (store_answer ram runner_root address (size_of size)) ≡ (memory.store s address size value).outcome
+  pub store-outcome : (address : ℕ) (size : Size) (value : ℕ) → done_or_fault (store_answer x.ram runner_root address (size_of size)) ≡ (memory.store s address size value).outcome
   store-outcome address size value =
       ap (λ (r : Result ℕ FaultKind). done_or_fault (at_end (λ physical. tt) r)) (runner-reach address (size_of size) may_store_to may_store (λ r. refl))
-      ∙ ending (fault_of (address % size_of size == 0) (access_at s kept.chain.runner address) may_store)
+      ∙ ending (fault_of (address % size_of size == 0) (access_at s x.kept.chain.runner address) may_store)
     where
       ending : (o : Option FaultKind) → done_or_fault (at_end (λ physical. tt) (reached o address)) ≡ (accessed o s (memory.stored s address (little_bytes (size_of size) value)) Done).outcome
       ending None = refl
       ending (Some fault) = refl
 
   -- The same as callers see it: `now` is what a contract sees of the machine, and r the root that the code took.
-  module _ (now : Snapshot) (view : record { state = s; ram = ram } ≡ now) (r : ℕ) (at : r ≡ root now.state (place now.state.runner)) where
+  module _ (now : Snapshot) (view : record { state = s; ram = x.ram } ≡ now) (r : ℕ) (at : r ≡ root now.state (place now.state.runner)) where
     root-is-runner : r ≡ runner_root
     root-is-runner = at ∙ ap (λ (seen : Snapshot). root seen.state (place seen.state.runner)) (sym view)
 
     pub loaded-seen : (address n : ℕ) (allowed : Leaf → Bool) (may : Option Rights → Bool) (answer : Result ℕ FaultKind)
         → ((right : Rights) → allowed (record { phys = address; read = true; write = may_write right.level; exec = right.exec }) ≡ may (Some right))
-        → answer ≡ loaded ram r address n allowed
+        → answer ≡ loaded x.ram r address n allowed
         → outcome_of answer
         ≡ (accessed (fault_of (address % n == 0) (access_at now.state now.state.runner address) may) now.state now.state (Data (memory.number_at now.state address n))).outcome
     loaded-seen address n allowed may answer same is =
-        ap outcome_of (is ∙ ap (λ (q : ℕ). loaded ram q address n allowed) root-is-runner)
+        ap outcome_of (is ∙ ap (λ (q : ℕ). loaded x.ram q address n allowed) root-is-runner)
         ∙ loaded-is address n allowed may same
         ∙ ap (λ (seen : Snapshot). (accessed (fault_of (address % n == 0) (access_at seen.state seen.state.runner address) may) seen.state seen.state (Data (memory.number_at seen.state address n))).outcome) view
 
-    module _ (address : ℕ) (size : Size) (value : ℕ) (new : Ram) (wrote : new ≡ ram_after_store ram r address (size_of size) value) where
-      new-is : new ≡ ram_after_store ram runner_root address (size_of size) value
-      new-is = wrote ∙ ap (λ (q : ℕ). ram_after_store ram q address (size_of size) value) root-is-runner
+    module _ (address : ℕ) (size : Size) (value : ℕ) (new : Ram) (wrote : new ≡ ram_after_store x.ram r address (size_of size) value) where
+      new-is : new ≡ ram_after_store x.ram runner_root address (size_of size) value
+      new-is = wrote ∙ ap (λ (q : ℕ). ram_after_store x.ram q address (size_of size) value) root-is-runner
 
-      pub machine-stored : IsMachine new m kept
-      machine-stored = subst (λ (ram : Ram). IsMachine ram m kept) (sym new-is) (store-machine address size value)
+      pub machine-stored : IsMachine (record x { ram = new })
+      machine-stored = subst (λ (ram : Ram). IsMachine (record x { ram = ram })) (sym new-is) (store-machine address size value)
 
-      pub state-stored : state_of new m kept ≡ (memory.store now.state address size value).state
+      pub state-stored : state_of (record x { ram = new }) ≡ (memory.store now.state address size value).state
       state-stored =
-          ap (λ (ram : Ram). state_of ram m kept) new-is ∙ store-state address size value
+          ap (λ (ram : Ram). state_of (record x { ram = ram })) new-is ∙ store-state address size value
           ∙ ap (λ (seen : Snapshot). (memory.store seen.state address size value).state) view
 
-    pub answer-stored : (address : ℕ) (size : Size) (value : ℕ) (answer : Result ⊤ FaultKind) → answer ≡ store_answer ram r address (size_of size)
+    pub answer-stored : (address : ℕ) (size : Size) (value : ℕ) (answer : Result ⊤ FaultKind) → answer ≡ store_answer x.ram r address (size_of size)
         → done_or_fault answer ≡ (memory.store now.state address size value).outcome
     answer-stored address size value answer is =
-        ap done_or_fault (is ∙ ap (λ (q : ℕ). store_answer ram q address (size_of size)) root-is-runner)
+        ap done_or_fault (is ∙ ap (λ (q : ℕ). store_answer x.ram q address (size_of size)) root-is-runner)
         ∙ store-outcome address size value
         ∙ ap (λ (seen : Snapshot). (memory.store seen.state address size value).outcome) view

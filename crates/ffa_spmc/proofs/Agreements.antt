@@ -17,8 +17,7 @@ use Rattle.ffa_model.specs.State.{State, Page, page_at}
 use Rattle.ffa_model.specs.Access.{access}
 use Rattle.ffa_model.specs.Memory.{access_at}
 use Rattle.ffa_pages.specs.Entry.{Entry, entry_at}
-use Rattle.ffa_spmc.specs.declared.kept.Kept.{Kept}
-use Rattle.ffa_spmc.specs.Meaning.{IsMachine, state_of}
+use Rattle.ffa_spmc.specs.Meaning.{IsMachine, Parts, state_of}
 use Rattle.ffa_spmc.proofs.Held.{base_is, parties_are, size_is, page-held, page-past, access-in, access-past}
 
 -- the right that the endpoint at a place has to the page of an address, and none outside RAM
@@ -31,62 +30,62 @@ WalksGive ram m =
     (i address : ℕ) → i < length m.endpoints.items → address < 2 ^ 32
     → walk ram (root_of ram.base m.ram_blocks i) address ≡ mapped_answer (right_at ram m i address) address
 
-module _ (ram : Ram) (m : Manifest) (kept : Kept) (machine : IsMachine ram m kept) where
+module _ (x : Parts) (machine : IsMachine x) where
   abbrev s : State
-  s = state_of ram m kept
+  s = state_of x
 
-  pub root-is : (i : ℕ) → root s i ≡ root_of ram.base m.ram_blocks i
+  pub root-is : (i : ℕ) → root s i ≡ root_of x.ram.base x.manifest.ram_blocks i
   root-is i =
-      let many : length s.pages ≡ 512 * m.ram_blocks = size_is ram m kept ∙ machine.tables.size in
-      let blocks : blocks_of s ≡ m.ram_blocks = omega (arith, many) in
-      ap (λ (b : ℕ). root_of s.ram_base b i) blocks ∙ ap (λ (base : ℕ). root_of base m.ram_blocks i) (base_is ram m kept ∙ sym machine.tables.base)
+      let many : length s.pages ≡ 512 * x.manifest.ram_blocks = size_is x ∙ machine.tables.size in
+      let blocks : blocks_of s ≡ x.manifest.ram_blocks = omega (arith, many) in
+      ap (λ (b : ℕ). root_of s.ram_base b i) blocks ∙ ap (λ (base : ℕ). root_of base x.manifest.ram_blocks i) (base_is x ∙ sym machine.tables.base)
 
-  access_at-is : (i address : ℕ) → address < 2 ^ 32 → access_at s (identifier i) address ≡ right_at ram m i address
+  access_at-is : (i address : ℕ) → address < 2 ^ 32 → access_at s (identifier i) address ≡ right_at x.ram x.manifest i address
   access_at-is i address low =
-      let base : s.ram_base ≡ ram.base = base_is ram m kept ∙ sym machine.tables.base in
-      elim (cases_lt address ram.base) [
+      let base : s.ram_base ≡ x.ram.base = base_is x ∙ sym machine.tables.base in
+      elim (cases_lt address x.ram.base) [
         | inl under ↦
-            (let outside : is_in_ram ram address ≡ false = grind (arith, nat_tests) in
+            (let outside : is_in_ram x.ram address ≡ false = grind (arith, nat_tests) in
             let test : (nat_le s.ram_base address && nat_lt address (2 ^ 32)) ≡ false = grind (arith, nat_tests, base) in
             ap (λ b. option_and_then (access s (identifier i)) (cond b (Some ((address - s.ram_base) / 4096)) None)) test
-            ∙ sym (ap (λ b. cond b (right_in m.ram_base (regions_at m.endpoints.items i) ((address - ram.base) / 4096)) None) outside))
+            ∙ sym (ap (λ b. cond b (right_in x.manifest.ram_base (regions_at x.manifest.endpoints.items i) ((address - x.ram.base) / 4096)) None) outside))
         | inr from ↦
             (let test : (nat_le s.ram_base address && nat_lt address (2 ^ 32)) ≡ true = grind (arith, nat_tests, base) in
-            let number : (address - s.ram_base) / 4096 ≡ (address - ram.base) / 4096 = ap (λ (b : ℕ). (address - b) / 4096) base in
-            let here : access_at s (identifier i) address ≡ access s (identifier i) ((address - ram.base) / 4096) =
+            let number : (address - s.ram_base) / 4096 ≡ (address - x.ram.base) / 4096 = ap (λ (b : ℕ). (address - b) / 4096) base in
+            let here : access_at s (identifier i) address ≡ access s (identifier i) ((address - x.ram.base) / 4096) =
             ap (λ b. option_and_then (access s (identifier i)) (cond b (Some ((address - s.ram_base) / 4096)) None)) test ∙ ap (access s (identifier i)) number in
-            elim (cases_lt ((address - ram.base) / 4096) (length ram.pages)) [
+            elim (cases_lt ((address - x.ram.base) / 4096) (length x.ram.pages)) [
               | inl lt ↦
-                  (let under : address < ram.base + 4096 * length ram.pages = omega arith in
-                  let inside : is_in_ram ram address ≡ true = grind (arith, nat_tests) in
-                  here ∙ access-in ram m kept machine i ((address - ram.base) / 4096) lt
-                  ∙ sym (ap (λ b. cond b (right_in m.ram_base (regions_at m.endpoints.items i) ((address - ram.base) / 4096)) None) inside))
+                  (let under : address < x.ram.base + 4096 * length x.ram.pages = omega arith in
+                  let inside : is_in_ram x.ram address ≡ true = grind (arith, nat_tests) in
+                  here ∙ access-in x machine i ((address - x.ram.base) / 4096) lt
+                  ∙ sym (ap (λ b. cond b (right_in x.manifest.ram_base (regions_at x.manifest.endpoints.items i) ((address - x.ram.base) / 4096)) None) inside))
               | inr past ↦
-                  (let over : ram.base + 4096 * length ram.pages ≤ address = omega arith in
-                  let outside : is_in_ram ram address ≡ false = grind (arith, nat_tests) in
-                  here ∙ access-past ram m kept (identifier i) ((address - ram.base) / 4096) past
-                  ∙ sym (ap (λ b. cond b (right_in m.ram_base (regions_at m.endpoints.items i) ((address - ram.base) / 4096)) None) outside))
+                  (let over : x.ram.base + 4096 * length x.ram.pages ≤ address = omega arith in
+                  let outside : is_in_ram x.ram address ≡ false = grind (arith, nat_tests) in
+                  here ∙ access-past x (identifier i) ((address - x.ram.base) / 4096) past
+                  ∙ sym (ap (λ b. cond b (right_in x.manifest.ram_base (regions_at x.manifest.endpoints.items i) ((address - x.ram.base) / 4096)) None) outside))
             ])
       ]
 
-  bytes-are : (p : ℕ) (page : Page) → page_at s p ≡ Some page → page_of ram p ≡ page.bytes
-  bytes-are p page there = elim (cases_lt p (length ram.pages)) [
-    | inl lt ↦ of (entry_at kept.pages p) (sym (page-held ram m kept p lt) ∙ there)
-    | inr past ↦ absurd (none-some page (sym (page-past ram m kept p past) ∙ there))
+  bytes-are : (p : ℕ) (page : Page) → page_at s p ≡ Some page → page_of x.ram p ≡ page.bytes
+  bytes-are p page there = elim (cases_lt p (length x.ram.pages)) [
+    | inl lt ↦ of (entry_at x.kept.pages p) (sym (page-held x p lt) ∙ there)
+    | inr past ↦ absurd (none-some page (sym (page-past x p past) ∙ there))
   ]
     where
-      of : (o : Option Entry) → option_map (λ (e : Entry). let q : Page = record { owner = e.owner; base = e.base; bytes = page_of ram p } in q) o ≡ Some page → page_of ram p ≡ page.bytes
+      of : (o : Option Entry) → option_map (λ (e : Entry). let q : Page = record { owner = e.owner; base = e.base; bytes = page_of x.ram p } in q) o ≡ Some page → page_of x.ram p ≡ page.bytes
       of None e = absurd (none-some page e)
-      of (Some x) e = ap (λ (q : Page). q.bytes) (same_Some _ page e)
+      of (Some entry) e = ap (λ (q : Page). q.bytes) (same_Some _ page e)
 
-  pub agrees-held : WalksGive ram m → Agrees ram s
+  pub agrees-held : WalksGive x.ram x.manifest → Agrees x.ram s
   agrees-held walks =
       record {
-        place = machine.tables.base ∙ sym (base_is ram m kept);
-        size = sym (size_is ram m kept);
+        place = machine.tables.base ∙ sym (base_is x);
+        size = sym (size_is x);
         walks = λ i address lt low.
-            ap (λ (r : ℕ). walk ram r address) (root-is i)
-            ∙ walks i address (subst (λ (n : ℕ). i < n) (parties_are ram m kept) lt) low
+            ap (λ (r : ℕ). walk x.ram r address) (root-is i)
+            ∙ walks i address (subst (λ (n : ℕ). i < n) (parties_are x) lt) low
             ∙ ap (λ (o : Option Rights). mapped_answer o address) (sym (access_at-is i address low));
         bytes = bytes-are;
       }

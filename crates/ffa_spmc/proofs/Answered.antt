@@ -1,13 +1,11 @@
 -- What the machine answers to a call that a part of it has done or refused.
-use Rattle.std.proofs.Common.{◌≡◌, ◌∙◌, ℕ, Bool, true, false, Option, Some, None, Result, Ok, Err, refl, sym, ap}
+use Rattle.std.proofs.Common.{◌≡◌, ◌∙◌, None, Result, Ok, Err, refl, ap}
 use Rattle.std.specs.Prelude.{⊤, IfOk, OnOk, OnErr}
 use Rattle.std.specs.Result.{result_err}
-use Rattle.std.proofs.lemmas.Bool.{false≢true}
 use Rattle.ffa_model.specs.declared.call.Reply.{Reply}
 use Rattle.ffa_model.specs.declared.call.Reply.TheVariants.{Error}
 use Rattle.ffa_model.specs.declared.operation.ErrorCode.{ErrorCode}
-use Rattle.ffa_model.specs.Calls.{Service, Stepped, answered, first_failure, replied, served, success}
-use Rattle.ffa_model.specs.Refusals.{is_error}
+use Rattle.ffa_model.specs.Calls.{Service, answered, first_failure, replied, served, success}
 use Rattle.ffa_model.specs.State.{State}
 use Rattle.ffa_spmc.specs.Replies.{reply_of}
 
@@ -47,9 +45,3 @@ module _ {X : Type 0} (s new : State) (c : Service) (r : Result X ErrorCode) (to
 -- a call that nothing refuses leaves its state
 pub passed-state : (s : State) (c : Service) → first_failure c.guards ≡ None → (served s c).state ≡ c.state
 passed-state s c none = ap (λ o. (answered o s c.state c.reply).state) none
-
--- a reply that is no error comes of what was done
-pub error-refused : {X A : Type 0} (r : Result X ErrorCode) (told : X → Reply) (old new : A) (good : Reply) → is_error good ≡ false
-    → OnErr r (new ≡ old) → IfOk r (λ x. told x ≡ good) → is_error (reply_of told r) ≡ true → new ≡ old
-error-refused (Ok x) told old new good fine same replies error = absurd (false≢true (sym fine ∙ sym (ap is_error replies) ∙ error))
-error-refused (Err code) told old new good fine is replies error = is

@@ -13,9 +13,9 @@ use Rattle.ffa_model.specs.Lists.{listed}
 use Rattle.ffa_model.specs.Manifest.{table_pages}
 use Rattle.ffa_model.specs.Ram.{Ram, page_of, zero_ram}
 use Rattle.ffa_model.specs.Regions.{regions_at, regions_of_each, right_in as right_among}
-use Rattle.ffa_model.specs.State.{Page, Buffers}
+use Rattle.ffa_model.specs.State.{Page}
 use Rattle.ffa_model.specs.First.{first, page_with_bytes}
-use Rattle.ffa_model.specs.RunStates.{Schedule, first_schedule}
+use Rattle.ffa_model.specs.RunStates.{first_schedule}
 use Rattle.ffa_model.proofs.Accepted.{accepted}
 use Rattle.ffa_model.proofs.Listed.{listed-same}
 use Rattle.ffa_model.proofs.Owners.{owned-behind}
@@ -23,13 +23,12 @@ use Rattle.ffa_stage2.specs.declared.layout.Layout.{Layout}
 use Rattle.ffa_stage2.specs.declared.layout.Regions.{Regions}
 use Rattle.ffa_stage2.specs.Layout.{regions_in, layout_right}
 use Rattle.ffa_stage2.specs.Tables.{IsBuilt, KeepsRest, TableLaws, table_page}
-use Rattle.ffa_spmc.specs.declared.kept.Kept.{Kept}
 use Rattle.ffa_spmc.specs.Owners.{first_owners}
 use Rattle.ffa_model.specs.Endpoints.{have_uuids}
 use Rattle.ffa_model.specs.SoundState.{IsSoundState, are_bytes}
 use Rattle.ffa_model.specs.Uuid.{is_uuid}
 use Rattle.ffa_laws.proofs.Firsts.{first-state-sound}
-use Rattle.ffa_spmc.specs.Meaning.{HasTables, IsMachine, held_page, own_right, state_of}
+use Rattle.ffa_spmc.specs.Meaning.{HasTables, IsMachine, Parts, held_page, own_right, state_of}
 use Rattle.ffa_spmc.proofs.Held.{page-at, page-held, parties_are}
 
 regions-each : (es : List Endpoint) (i : ℕ) → get_or (regions_of_each es) i [] ≡ regions_at es i
@@ -52,68 +51,68 @@ pub zeros-of : (old zeros : Ram) (m : Manifest) → zeros ≡ zero_ram old.base 
     → zeros ≡ zero_ram m.ram_base (512 * m.ram_blocks)
 zeros-of old zeros m cleared base size = cleared ∙ ap (λ (b : ℕ). zero_ram b (length old.pages)) base ∙ ap (zero_ram m.ram_base) size
 
-module _ (zeros ram : Ram) (m : Manifest) (layout : Layout) (kept : Kept)
-    (cleared : zeros ≡ zero_ram m.ram_base (512 * m.ram_blocks))
-    (base : layout.base ≡ m.ram_base) (blocks : layout.blocks ≡ m.ram_blocks) (regions : regions_in layout ≡ regions_of_each m.endpoints.items)
-    (built : IsBuilt ram (array_vec_len layout.regions) layout.blocks (layout_right layout))
-    (rest : KeepsRest zeros ram (array_vec_len layout.regions) layout.blocks)
-    (owners : kept.pages ≡ first_owners m) (none : kept.buffers ≡ replicate (length m.endpoints.items) None) (schedule : kept.chain ≡ first_schedule (length m.endpoints.items))
-    (uuids : have_uuids m.endpoints.items ≡ true) (laws : TableLaws) where
+module _ (zeros : Ram) (x : Parts) (layout : Layout)
+    (cleared : zeros ≡ zero_ram x.manifest.ram_base (512 * x.manifest.ram_blocks))
+    (base : layout.base ≡ x.manifest.ram_base) (blocks : layout.blocks ≡ x.manifest.ram_blocks) (regions : regions_in layout ≡ regions_of_each x.manifest.endpoints.items)
+    (built : IsBuilt x.ram (array_vec_len layout.regions) layout.blocks (layout_right layout))
+    (rest : KeepsRest zeros x.ram (array_vec_len layout.regions) layout.blocks)
+    (owners : x.kept.pages ≡ first_owners x.manifest) (none : x.kept.buffers ≡ replicate (length x.manifest.endpoints.items) None) (schedule : x.kept.chain ≡ first_schedule (length x.manifest.endpoints.items))
+    (uuids : have_uuids x.manifest.endpoints.items ≡ true) (laws : TableLaws) where
   abbrev es : List Endpoint
-  es = m.endpoints.items
+  es = x.manifest.endpoints.items
 
   many : array_vec_len layout.regions ≡ length es
   many =
       sym (length-map layout.regions.items (λ (r : Regions). r.list.items)) ∙ ap length regions
       ∙ length-map es (λ (e : Endpoint). e.regions.items)
 
-  base-is : ram.base ≡ m.ram_base
+  base-is : x.ram.base ≡ x.manifest.ram_base
   base-is = rest.base ∙ ap (λ (r : Ram). r.base) cleared
 
-  size-is : length ram.pages ≡ 512 * m.ram_blocks
-  size-is = rest.size ∙ ap (λ (r : Ram). length r.pages) cleared ∙ length-replicate (512 * m.ram_blocks) (replicate 4096 0)
+  size-is : length x.ram.pages ≡ 512 * x.manifest.ram_blocks
+  size-is = rest.size ∙ ap (λ (r : Ram). length r.pages) cleared ∙ length-replicate (512 * x.manifest.ram_blocks) (replicate 4096 0)
 
-  right-is : (e p : ℕ) → layout_right layout e p ≡ own_right m.ram_base es e p
+  right-is : (e p : ℕ) → layout_right layout e p ≡ own_right x.manifest.ram_base es e p
   right-is e p =
       ap (λ (b : ℕ). right_among b (get_or (regions_in layout) e []) p) base
-      ∙ ap (λ (rs : List Region). right_among m.ram_base rs p) (ap (λ (rss : List (List Region)). get_or rss e []) regions ∙ regions-each es e)
+      ∙ ap (λ (rs : List Region). right_among x.manifest.ram_base rs p) (ap (λ (rss : List (List Region)). get_or rss e []) regions ∙ regions-each es e)
 
-  built-is : IsBuilt ram (length es) m.ram_blocks (own_right m.ram_base es)
+  built-is : IsBuilt x.ram (length es) x.manifest.ram_blocks (own_right x.manifest.ram_base es)
   built-is =
-      subst (λ (n : ℕ). IsBuilt ram n m.ram_blocks (own_right m.ram_base es)) many
-      (subst (λ (b : ℕ). IsBuilt ram (array_vec_len layout.regions) b (own_right m.ram_base es)) blocks
-      (subst (IsBuilt ram (array_vec_len layout.regions) layout.blocks) (λ i e p. right-is e p i) built))
+      subst (λ (n : ℕ). IsBuilt x.ram n x.manifest.ram_blocks (own_right x.manifest.ram_base es)) many
+      (subst (λ (b : ℕ). IsBuilt x.ram (array_vec_len layout.regions) b (own_right x.manifest.ram_base es)) blocks
+      (subst (IsBuilt x.ram (array_vec_len layout.regions) layout.blocks) (λ i e p. right-is e p i) built))
 
-  tables-first : HasTables ram m
+  tables-first : HasTables x.ram x.manifest
   tables-first = record { base = base-is; size = size-is; built = built-is }
 
   -- a page behind the tables is zeros
-  behind-zeros : (p : ℕ) → p < length ram.pages → length es * table_pages m.ram_blocks ≤ p → page_of ram p ≡ replicate 4096 0
+  behind-zeros : (p : ℕ) → p < length x.ram.pages → length es * table_pages x.manifest.ram_blocks ≤ p → page_of x.ram p ≡ replicate 4096 0
   behind-zeros p inside behind =
       let end : table_page layout.blocks (array_vec_len layout.regions) 0 ≤ p = of_end many blocks behind in
       rest.pages p end ∙ ap (λ (r : Ram). page_of r p) cleared
-      ∙ get_or-replicate (512 * m.ram_blocks) p (replicate 4096 0) [] (omega (arith, inside, size-is))
+      ∙ get_or-replicate (512 * x.manifest.ram_blocks) p (replicate 4096 0) [] (omega (arith, inside, size-is))
     where
       of_end : {n b k c : ℕ} → n ≡ k → b ≡ c → k * table_pages c ≤ p → table_page b n 0 ≤ p
       of_end same_n same_b h = rw (same_n, same_b) (omega (arith, h))
 
   -- and nobody owns one before
-  page-zeros : (p : ℕ) → p < length ram.pages → held_page ram kept.pages p ≡ page_with_bytes m.ram_base es p (replicate 4096 0)
+  page-zeros : (p : ℕ) → p < length x.ram.pages → held_page x.ram x.kept.pages p ≡ page_with_bytes x.manifest.ram_base es p (replicate 4096 0)
   page-zeros p inside =
-      sym (page-held ram m kept p inside) ∙ page-at ram m kept size-is owners p inside
-      ∙ elim (cases_lt p (length es * table_pages m.ram_blocks)) [
-        | inl low ↦ unowned m p (page_of ram p) low ∙ sym (unowned m p (replicate 4096 0) low)
-        | inr behind ↦ ap (page_with_bytes m.ram_base es p) (behind-zeros p inside behind)
+      sym (page-held x p inside) ∙ page-at x size-is owners p inside
+      ∙ elim (cases_lt p (length es * table_pages x.manifest.ram_blocks)) [
+        | inl low ↦ unowned x.manifest p (page_of x.ram p) low ∙ sym (unowned x.manifest p (replicate 4096 0) low)
+        | inr behind ↦ ap (page_with_bytes x.manifest.ram_base es p) (behind-zeros p inside behind)
       ]
 
-  pages-first : listed (length ram.pages) (held_page ram kept.pages) ≡ listed (512 * m.ram_blocks) (λ p. page_with_bytes m.ram_base es p (replicate 4096 0))
+  pages-first : listed (length x.ram.pages) (held_page x.ram x.kept.pages) ≡ listed (512 * x.manifest.ram_blocks) (λ p. page_with_bytes x.manifest.ram_base es p (replicate 4096 0))
   pages-first =
-      listed-same (length ram.pages) (held_page ram kept.pages) (λ p. page_with_bytes m.ram_base es p (replicate 4096 0)) page-zeros
-      ∙ ap (λ (n : ℕ). listed n (λ p. page_with_bytes m.ram_base es p (replicate 4096 0))) size-is
+      listed-same (length x.ram.pages) (held_page x.ram x.kept.pages) (λ p. page_with_bytes x.manifest.ram_base es p (replicate 4096 0)) page-zeros
+      ∙ ap (λ (n : ℕ). listed n (λ p. page_with_bytes x.manifest.ram_base es p (replicate 4096 0))) size-is
 
-  pub state-first : state_of ram m kept ≡ first m.ram_base m.ram_blocks es
+  pub state-first : state_of x ≡ first x.manifest.ram_base x.manifest.ram_blocks es
   unfolding first
-  state-first = λ i. record (first m.ram_base m.ram_blocks es) {
+  state-first = λ i. record (first x.manifest.ram_base x.manifest.ram_blocks es) {
     pages = pages-first i;
     buffers = none i;
     runner = (schedule i).runner;
@@ -127,18 +126,18 @@ module _ (zeros ram : Ram) (m : Manifest) (layout : Layout) (kept : Kept)
   uuid-at (f ∷ fs) all zero e is =
       let (sixteen, bytes) = and_parts (length f.uuid == 16) (list_all (λ b. nat_lt b 256) f.uuid) (and_parts (is_uuid f.uuid) (have_uuids fs) all).0 in
       let same : f ≡ e = same_Some f e is in
-      subst (λ (x : Endpoint). (length x.uuid ≡ 16) × are_bytes x.uuid) same (eqb-true (length f.uuid) 16 sixteen, bytes)
+      subst (λ (g : Endpoint). (length g.uuid ≡ 16) × are_bytes g.uuid) same (eqb-true (length f.uuid) 16 sixteen, bytes)
   uuid-at (f ∷ fs) all (suc i) e is = uuid-at fs (and_parts (is_uuid f.uuid) (have_uuids fs) all).1 i e is
 
-  pub machine-first : IsMachine ram m kept
+  pub machine-first : IsMachine x
   machine-first =
       record {
         laws = laws;
         tables = tables-first;
         owners = owners;
-        sound = subst IsSoundState (sym state-first) (first-state-sound m.ram_base m.ram_blocks es m.accepted (uuid-at es uuids));
+        sound = subst IsSoundState (sym state-first) (first-state-sound x.manifest.ram_base x.manifest.ram_blocks es x.manifest.accepted (uuid-at es uuids));
       }
 
   -- the pages behind the tables, the manager's too
-  pub cleared-behind : (p : ℕ) → length (state_of ram m kept).parties * table_pages m.ram_blocks ≤ p → p < length ram.pages → page_of ram p ≡ replicate 4096 0
-  cleared-behind p behind inside = behind-zeros p inside (subst (λ (n : ℕ). n * table_pages m.ram_blocks ≤ p) (parties_are ram m kept) behind)
+  pub cleared-behind : (p : ℕ) → length (state_of x).parties * table_pages x.manifest.ram_blocks ≤ p → p < length x.ram.pages → page_of x.ram p ≡ replicate 4096 0
+  cleared-behind p behind inside = behind-zeros p inside (subst (λ (n : ℕ). n * table_pages x.manifest.ram_blocks ≤ p) (parties_are x) behind)

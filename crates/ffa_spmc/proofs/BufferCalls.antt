@@ -1,60 +1,57 @@
 -- Calls on buffers change the state as the small machine's.
-use Rattle.std.proofs.Common.{◌≡◌, ◌∙◌, ℕ, Bool, false, List, Option, Some, None, Result, Ok, Err, refl, sym, ap}
+use Rattle.std.proofs.Common.{◌≡◌, ◌∙◌, ℕ, false, List, Option, Some, None, Result, sym, ap}
 use Rattle.std.specs.Prelude.{⊤, OnOk, OnErr}
 use Rattle.std.specs.Result.{result_err}
-use Rattle.ffa_model.specs.declared.manifest.Manifest.{Manifest}
 use Rattle.ffa_model.specs.declared.operation.ErrorCode.{ErrorCode}
-use Rattle.ffa_model.specs.Buffers.{buffers_in, buffers_with, buffers_with_rx, candidates, map_guards, new_buffers, release_guards, rx_release, rxtx_map, rxtx_unmap, unmap_guards}
+use Rattle.ffa_model.specs.Buffers.{buffers_in, buffers_with, buffers_with_rx, map_guards, new_buffers, release_guards, rx_release, rxtx_map, rxtx_unmap, unmap_guards}
 use Rattle.ffa_model.specs.Calls.{first_failure, replied, served, success}
 use Rattle.ffa_model.specs.First.{first}
-use Rattle.ffa_model.specs.Ram.{Ram}
 use Rattle.ffa_model.specs.State.{State, Buffers}
 use Rattle.ffa_rxtx.specs.Parts.{candidates_in}
-use Rattle.ffa_spmc.specs.declared.kept.Kept.{Kept}
-use Rattle.ffa_spmc.specs.Meaning.{IsMachine, state_of}
+use Rattle.ffa_spmc.specs.Meaning.{IsMachine, Parts, state_of}
 use Rattle.ffa_spmc.specs.Replies.{done_or_error}
 use Rattle.ffa_spmc.proofs.Answered.{answered-by, done-replies, done-so, refused-so}
 use Rattle.ffa_spmc.proofs.Candidates.{candidates-are}
 
 -- the code's runner is that of the run states
-module _ (ram : Ram) (m : Manifest) (kept : Kept) (machine : IsMachine ram m kept) (e : ℕ) (at : e ≡ kept.chain.runner)
-    (r : Result ⊤ ErrorCode) (list : List (Option Buffers)) (same : OnErr r (list ≡ kept.buffers)) where
+module _ (x : Parts) (machine : IsMachine x) (e : ℕ) (at : e ≡ x.kept.chain.runner)
+    (r : Result ⊤ ErrorCode) (list : List (Option Buffers)) (same : OnErr r (list ≡ x.kept.buffers)) where
   abbrev s : State
-  s = state_of ram m kept
+  s = state_of x
 
   -- the state with other buffers
   abbrev pub with_list : List (Option Buffers) → State
-  with_list list = state_of ram m (record kept { buffers = list })
+  with_list list = state_of (record x { kept = record x.kept { buffers = list } })
 
-  pub released : result_err r ≡ first_failure (release_guards (buffers_in kept.buffers e)) → OnOk r (list ≡ buffers_with_rx kept.buffers e false)
+  pub released : result_err r ≡ first_failure (release_guards (buffers_in x.kept.buffers e)) → OnOk r (list ≡ buffers_with_rx x.kept.buffers e false)
       → replied (with_list list) (done_or_error r) ≡ served s (rx_release s)
   unfolding first
   released refusal emptied =
       answered-by s (with_list list) (rx_release s) r (λ done. success 0 0)
-      (refusal ∙ ap (λ (f : ℕ). first_failure (release_guards (buffers_in kept.buffers f))) at)
+      (refusal ∙ ap (λ (f : ℕ). first_failure (release_guards (buffers_in x.kept.buffers f))) at)
       (refused-so r (λ is. ap with_list is) same)
-      (done-so r (λ none is. ap with_list (is ∙ ap (λ (f : ℕ). buffers_with_rx kept.buffers f false) at)) emptied)
+      (done-so r (λ none is. ap with_list (is ∙ ap (λ (f : ℕ). buffers_with_rx x.kept.buffers f false) at)) emptied)
       (done-replies r)
 
-  pub unmapped : (word : ℕ) → result_err r ≡ first_failure (unmap_guards (buffers_in kept.buffers e) word) → OnOk r (list ≡ buffers_with kept.buffers e None)
+  pub unmapped : (word : ℕ) → result_err r ≡ first_failure (unmap_guards (buffers_in x.kept.buffers e) word) → OnOk r (list ≡ buffers_with x.kept.buffers e None)
       → replied (with_list list) (done_or_error r) ≡ served s (rxtx_unmap s word)
   unfolding first
   unmapped word refusal gone =
       answered-by s (with_list list) (rxtx_unmap s word) r (λ done. success 0 0)
-      (refusal ∙ ap (λ (f : ℕ). first_failure (unmap_guards (buffers_in kept.buffers f) word)) at)
+      (refusal ∙ ap (λ (f : ℕ). first_failure (unmap_guards (buffers_in x.kept.buffers f) word)) at)
       (refused-so r (λ is. ap with_list is) same)
-      (done-so r (λ none is. ap with_list (is ∙ ap (λ (f : ℕ). buffers_with kept.buffers f None) at)) gone)
+      (done-so r (λ none is. ap with_list (is ∙ ap (λ (f : ℕ). buffers_with x.kept.buffers f None) at)) gone)
       (done-replies r)
 
-  pub mapped : (tx rx pages : ℕ) → result_err r ≡ first_failure (map_guards e (buffers_in kept.buffers e) (candidates_in kept.pages m.ram_base) tx rx pages)
-      → OnOk r (list ≡ buffers_with kept.buffers e (Some (new_buffers m.ram_base tx rx)))
+  pub mapped : (tx rx pages : ℕ) → result_err r ≡ first_failure (map_guards e (buffers_in x.kept.buffers e) (candidates_in x.kept.pages x.manifest.ram_base) tx rx pages)
+      → OnOk r (list ≡ buffers_with x.kept.buffers e (Some (new_buffers x.manifest.ram_base tx rx)))
       → replied (with_list list) (done_or_error r) ≡ served s (rxtx_map s tx rx pages)
   unfolding first
   mapped tx rx pages refusal there =
       answered-by s (with_list list) (rxtx_map s tx rx pages) r (λ done. success 0 0)
       (refusal
-      ∙ ap (λ (f : ℕ). first_failure (map_guards f (buffers_in kept.buffers f) (candidates_in kept.pages m.ram_base) tx rx pages)) at
-      ∙ sym (ap (λ ram. first_failure (map_guards kept.chain.runner (buffers_in kept.buffers kept.chain.runner) ram tx rx pages)) (candidates-are ram m kept machine)))
+      ∙ ap (λ (f : ℕ). first_failure (map_guards f (buffers_in x.kept.buffers f) (candidates_in x.kept.pages x.manifest.ram_base) tx rx pages)) at
+      ∙ sym (ap (λ ram. first_failure (map_guards x.kept.chain.runner (buffers_in x.kept.buffers x.kept.chain.runner) ram tx rx pages)) (candidates-are x machine)))
       (refused-so r (λ is. ap with_list is) same)
-      (done-so r (λ none is. ap with_list (is ∙ ap (λ (f : ℕ). buffers_with kept.buffers f (Some (new_buffers m.ram_base tx rx))) at)) there)
+      (done-so r (λ none is. ap with_list (is ∙ ap (λ (f : ℕ). buffers_with x.kept.buffers f (Some (new_buffers x.manifest.ram_base tx rx))) at)) there)
       (done-replies r)

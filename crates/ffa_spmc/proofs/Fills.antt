@@ -1,26 +1,23 @@
 -- Bytes in an endpoint's RX: they stand in a page of its own, and the state has them as RAM does.
-use Rattle.std.proofs.Common.{◌≡◌, ◌∙◌, ℕ, ◌<◌, true, List, length, Option, Some, None, refl, sym, ap, subst}
+use Rattle.std.proofs.Common.{◌≡◌, ◌∙◌, ℕ, ◌<◌, true, List, length, Option, Some, None, refl, sym, subst}
 use Rattle.std.specs.Prelude.{IsSomeAnd, is_some}
 use Rattle.std.specs.Option.{option_map}
 use Rattle.std.proofs.lemmas.Bool.{false≢true}
-use Rattle.ffa_model.specs.declared.manifest.Manifest.{Manifest}
 use Rattle.ffa_model.specs.Access.{handle_at}
 use Rattle.ffa_model.specs.Buffers.{Candidate, buffers_in, buffers_with_rx, candidate_at, filled, filled_pages, is_usable}
 use Rattle.ffa_model.specs.First.{first}
-use Rattle.ffa_model.specs.Ram.{Ram, page_of, with_page, with_bytes}
 use Rattle.ffa_model.specs.State.{State, Page, Buffers, is_known, is_known_among, page_at}
 use Rattle.ffa_rxtx.specs.Parts.{with_rx_bytes}
 use Rattle.ffa_laws.proofs.SoundSteady.{runner-known}
-use Rattle.ffa_spmc.specs.declared.kept.Kept.{Kept}
-use Rattle.ffa_spmc.specs.Meaning.{HasTables, IsMachine, state_of}
+use Rattle.ffa_spmc.specs.Meaning.{HasTables, IsMachine, Parts, state_of}
 use Rattle.ffa_spmc.proofs.Held.{each, parties_are, size_is}
 use Rattle.ffa_spmc.proofs.Machines.{tables-written}
 use Rattle.ffa_spmc.proofs.Reaches.{owned-in}
 use Rattle.ffa_spmc.proofs.Stores.{state-written}
 
-module _ (ram : Ram) (m : Manifest) (kept : Kept) (machine : IsMachine ram m kept) where
+module _ (x : Parts) (machine : IsMachine x) where
   abbrev s : State
-  s = state_of ram m kept
+  s = state_of x
 
   -- a page that an endpoint owns
   abbrev pub IsThere : ℕ → Type 0
@@ -36,47 +33,47 @@ module _ (ram : Ram) (m : Manifest) (kept : Kept) (machine : IsMachine ram m kep
       of (Some page) at passes = (page, at)
 
   -- is a page of RAM
-  pub there-inside : (p : ℕ) → IsThere p → p < length ram.pages
-  there-inside p there = subst (λ (n : ℕ). p < n) (size_is ram m kept) (owned-in s p there.0 there.1)
+  pub there-inside : (p : ℕ) → IsThere p → p < length x.ram.pages
+  there-inside p there = subst (λ (n : ℕ). p < n) (size_is x) (owned-in s p there.0 there.1)
 
   -- the pages of an endpoint's buffers
-  pub buffers-there : (f : ℕ) → is_known s f ≡ true → (b : Buffers) → buffers_in kept.buffers f ≡ Some b → IsThere b.tx × IsThere b.rx
+  pub buffers-there : (f : ℕ) → is_known s f ≡ true → (b : Buffers) → buffers_in x.kept.buffers f ≡ Some b → IsThere b.tx × IsThere b.rx
   buffers-there f known b is =
       let sound = machine.sound.buffers f b known is in
       (usable-there f b.tx sound.tx, usable-there f b.rx sound.rx)
 
   -- the runner, as the code has it, is an endpoint
-  pub runner-there : (e : ℕ) → e ≡ kept.chain.runner → is_known s e ≡ true
+  pub runner-there : (e : ℕ) → e ≡ x.kept.chain.runner → is_known s e ≡ true
   runner-there e at = subst (λ (r : ℕ). is_known s r ≡ true) (sym at) (runner-known s machine.sound)
 
   -- and one that may have buffers
-  pub known-buffered : (e : ℕ) → is_known s e ≡ true → is_known_among (length kept.buffers) e ≡ true
-  known-buffered e known = subst (λ (n : ℕ). is_known_among n e ≡ true) (parties_are ram m kept ∙ sym (each ram m kept machine)) known
+  pub known-buffered : (e : ℕ) → is_known s e ≡ true → is_known_among (length x.kept.buffers) e ≡ true
+  known-buffered e known = subst (λ (n : ℕ). is_known_among n e ≡ true) (parties_are x ∙ sym (each x machine)) known
 
   module _ (f : ℕ) (known : is_known s f ≡ true) where
-    pub rx-in-ram : (b : Buffers) → buffers_in kept.buffers f ≡ Some b → IsSomeAnd (buffers_in kept.buffers f) (λ b. b.rx < length ram.pages)
+    pub rx-in-ram : (b : Buffers) → buffers_in x.kept.buffers f ≡ Some b → IsSomeAnd (buffers_in x.kept.buffers f) (λ b. b.rx < length x.ram.pages)
     rx-in-ram b is =
-        subst (λ (o : Option Buffers). IsSomeAnd o (λ b. b.rx < length ram.pages)) (sym is) (there-inside b.rx (buffers-there f known b is).1)
+        subst (λ (o : Option Buffers). IsSomeAnd o (λ b. b.rx < length x.ram.pages)) (sym is) (there-inside b.rx (buffers-there f known b is).1)
 
     module _ (bytes : List ℕ) where
-      abbrev pub after_fill : Kept
-      after_fill = record kept { buffers = buffers_with_rx kept.buffers f true }
+      abbrev pub after_fill : Parts
+      after_fill = record x { ram = with_rx_bytes x.ram (buffers_in x.kept.buffers f) bytes; kept = record x.kept { buffers = buffers_with_rx x.kept.buffers f true } }
 
-      pub tables-filled : HasTables (with_rx_bytes ram (buffers_in kept.buffers f) bytes) m
-      tables-filled = of (buffers_in kept.buffers f) refl
+      pub tables-filled : HasTables after_fill.ram x.manifest
+      tables-filled = of (buffers_in x.kept.buffers f) refl
         where
-          of : (o : Option Buffers) → buffers_in kept.buffers f ≡ o → HasTables (with_rx_bytes ram o bytes) m
+          of : (o : Option Buffers) → buffers_in x.kept.buffers f ≡ o → HasTables (with_rx_bytes x.ram o bytes) x.manifest
           of None is = machine.tables
           of (Some b) is =
               let (page, there) = (buffers-there f known b is).1 in
-              tables-written ram m kept machine b.rx 0 bytes page (there-inside b.rx (page, there)) there
+              tables-written x machine b.rx 0 bytes page (there-inside b.rx (page, there)) there
 
-      pub state-filled : state_of (with_rx_bytes ram (buffers_in kept.buffers f) bytes) m after_fill ≡ filled s f bytes
+      pub state-filled : state_of after_fill ≡ filled s f bytes
       unfolding first
-      state-filled = of (buffers_in kept.buffers f) refl
+      state-filled = of (buffers_in x.kept.buffers f) refl
         where
-          of : (o : Option Buffers) → buffers_in kept.buffers f ≡ o → state_of (with_rx_bytes ram o bytes) m after_fill ≡ filled s f bytes
-          of None is = λ i. record s { pages = filled_pages s.pages bytes (sym is i); buffers = buffers_with_rx kept.buffers f true }
+          of : (o : Option Buffers) → buffers_in x.kept.buffers f ≡ o → state_of (record after_fill { ram = with_rx_bytes x.ram o bytes }) ≡ filled s f bytes
+          of None is = λ i. record s { pages = filled_pages s.pages bytes (sym is i); buffers = buffers_with_rx x.kept.buffers f true }
           of (Some b) is =
-              (λ i. record (state-written ram m kept b.rx 0 bytes (there-inside b.rx (buffers-there f known b is).1) i) { buffers = buffers_with_rx kept.buffers f true })
-              ∙ (λ i. record s { pages = filled_pages s.pages bytes (sym is i); buffers = buffers_with_rx kept.buffers f true })
+              (λ i. record (state-written x b.rx 0 bytes (there-inside b.rx (buffers-there f known b is).1) i) { buffers = buffers_with_rx x.kept.buffers f true })
+              ∙ (λ i. record s { pages = filled_pages s.pages bytes (sym is i); buffers = buffers_with_rx x.kept.buffers f true })

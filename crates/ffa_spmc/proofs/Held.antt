@@ -8,9 +8,8 @@ use Rattle.std.proofs.lemmas.Bool.{cases_lt}
 use Rattle.std.proofs.lemmas.List.{length-map}
 use Rattle.ffa_model.specs.declared.endpoint.Endpoint.{Endpoint}
 use Rattle.ffa_model.specs.declared.endpoint.Region.{Region}
-use Rattle.ffa_model.specs.declared.manifest.Manifest.{Manifest}
 use Rattle.ffa_model.specs.Identifiers.{identifier, manager, place}
-use Rattle.ffa_model.specs.Ram.{Ram, page_of}
+use Rattle.ffa_model.specs.Ram.{page_of}
 use Rattle.ffa_model.specs.Regions.{has_page, owned_regions, owner_in, right_in, regions_at}
 use Rattle.ffa_model.specs.State.{State, Page, Transaction, is_known_among, owner_of, page_at}
 use Rattle.ffa_model.specs.Access.{access, handle_at, is_naming, transaction_at, right_of}
@@ -21,9 +20,8 @@ use Rattle.ffa_model.proofs.Accepted.{accepted}
 use Rattle.ffa_model.proofs.Owners.{right-own, right-unnamed}
 use Rattle.ffa_model.proofs.Places.{known-named, known-place}
 use Rattle.ffa_pages.specs.Entry.{Entry, entry_at, first_entry}
-use Rattle.ffa_spmc.specs.declared.kept.Kept.{Kept}
 use Rattle.ffa_spmc.specs.Owners.{first_owners}
-use Rattle.ffa_spmc.specs.Meaning.{IsMachine, held_page, state_of}
+use Rattle.ffa_spmc.specs.Meaning.{IsMachine, Parts, held_page, state_of}
 
 find_none : (test : ℕ → Bool) (xs : List ℕ) → ((x : ℕ) → test x ≡ false) → find test xs ≡ None
 find_none test [] never = refl
@@ -50,19 +48,19 @@ page-first base p es bytes = of (find (λ (x : ℕ × Region). has_page base p x
     of None = refl
     of (Some x) = refl
 
-module _ (ram : Ram) (m : Manifest) (kept : Kept) where
+module _ (x : Parts) where
   abbrev s : State
-  s = state_of ram m kept
+  s = state_of x
 
-  pub base_is : s.ram_base ≡ m.ram_base
+  pub base_is : s.ram_base ≡ x.manifest.ram_base
   unfolding first
   base_is = refl
 
-  pub parties_are : length s.parties ≡ length m.endpoints.items
+  pub parties_are : length s.parties ≡ length x.manifest.endpoints.items
   unfolding first
-  parties_are = length-map m.endpoints.items party_of
+  parties_are = length-map x.manifest.endpoints.items party_of
 
-  pub parties-listed : map party_of m.endpoints.items ≡ s.parties
+  pub parties-listed : map party_of x.manifest.endpoints.items ≡ s.parties
   unfolding first
   parties-listed = refl
 
@@ -70,92 +68,92 @@ module _ (ram : Ram) (m : Manifest) (kept : Kept) where
   unfolding first
   none_open = refl
 
-  pub size_is : length s.pages ≡ length ram.pages
-  size_is = length-listed (length ram.pages) (held_page ram kept.pages)
+  pub size_is : length s.pages ≡ length x.ram.pages
+  size_is = length-listed (length x.ram.pages) (held_page x.ram x.kept.pages)
 
-  pub page-held : (p : ℕ) → p < length ram.pages → page_at s p ≡ held_page ram kept.pages p
-  page-held p lt = get_or-listed (length ram.pages) (held_page ram kept.pages) p None lt
+  pub page-held : (p : ℕ) → p < length x.ram.pages → page_at s p ≡ held_page x.ram x.kept.pages p
+  page-held p lt = get_or-listed (length x.ram.pages) (held_page x.ram x.kept.pages) p None lt
 
-  pub page-past : (p : ℕ) → length ram.pages ≤ p → page_at s p ≡ None
-  page-past p past = get_or-listed_past (length ram.pages) (held_page ram kept.pages) p None past
+  pub page-past : (p : ℕ) → length x.ram.pages ≤ p → page_at s p ≡ None
+  page-past p past = get_or-listed_past (length x.ram.pages) (held_page x.ram x.kept.pages) p None past
 
   pub access-is : (e p : ℕ) → access s e p ≡ right_of e (page_at s p) None
   access-is e p = ap (right_of e (page_at s p)) (transaction-empty s p none_open)
 
-  pub access-past : (e p : ℕ) → length ram.pages ≤ p → access s e p ≡ None
+  pub access-past : (e p : ℕ) → length x.ram.pages ≤ p → access s e p ≡ None
   access-past e p past = access-is e p ∙ ap (λ (page : Option Page). right_of e page None) (page-past p past)
 
   pub none_named : (p : ℕ) → handle_at s p ≡ None
   none_named p = handle-empty s p none_open
 
   -- where the owners are the manifest's
-  module _ (size : length ram.pages ≡ 512 * m.ram_blocks) (owners : kept.pages ≡ first_owners m) where
-    entry-at : (p : ℕ) → p < length ram.pages → entry_at kept.pages p ≡ first_entry m.ram_base m.endpoints.items p
+  module _ (size : length x.ram.pages ≡ 512 * x.manifest.ram_blocks) (owners : x.kept.pages ≡ first_owners x.manifest) where
+    entry-at : (p : ℕ) → p < length x.ram.pages → entry_at x.kept.pages p ≡ first_entry x.manifest.ram_base x.manifest.endpoints.items p
     entry-at p lt =
         ap (λ (owners : List (Option Entry)). entry_at owners p) owners
-        ∙ get_or-listed (512 * m.ram_blocks) (first_entry m.ram_base m.endpoints.items) p None (subst (λ (n : ℕ). p < n) size lt)
+        ∙ get_or-listed (512 * x.manifest.ram_blocks) (first_entry x.manifest.ram_base x.manifest.endpoints.items) p None (subst (λ (n : ℕ). p < n) size lt)
 
-    pub page-at : (p : ℕ) → p < length ram.pages → page_at s p ≡ page_with_bytes m.ram_base m.endpoints.items p (page_of ram p)
+    pub page-at : (p : ℕ) → p < length x.ram.pages → page_at s p ≡ page_with_bytes x.manifest.ram_base x.manifest.endpoints.items p (page_of x.ram p)
     page-at p lt =
         page-held p lt
-        ∙ ap (option_map (λ (e : Entry). let q : Page = record { owner = e.owner; base = e.base; bytes = page_of ram p } in q)) (entry-at p lt)
-        ∙ page-first m.ram_base p m.endpoints.items (page_of ram p)
+        ∙ ap (option_map (λ (e : Entry). let q : Page = record { owner = e.owner; base = e.base; bytes = page_of x.ram p } in q)) (entry-at p lt)
+        ∙ page-first x.manifest.ram_base p x.manifest.endpoints.items (page_of x.ram p)
 
   -- of a machine
-  module _ (machine : IsMachine ram m kept) where
-    pub entry-in : (p : ℕ) → p < length ram.pages → entry_at kept.pages p ≡ first_entry m.ram_base m.endpoints.items p
+  module _ (machine : IsMachine x) where
+    pub entry-in : (p : ℕ) → p < length x.ram.pages → entry_at x.kept.pages p ≡ first_entry x.manifest.ram_base x.manifest.endpoints.items p
     entry-in p lt = entry-at machine.tables.size machine.owners p lt
 
-    pub page-in : (p : ℕ) → p < length ram.pages → page_at s p ≡ page_with_bytes m.ram_base m.endpoints.items p (page_of ram p)
+    pub page-in : (p : ℕ) → p < length x.ram.pages → page_at s p ≡ page_with_bytes x.manifest.ram_base x.manifest.endpoints.items p (page_of x.ram p)
     page-in p lt = page-at machine.tables.size machine.owners p lt
 
     -- a list by endpoint has an element for each
-    pub each : length kept.buffers ≡ length m.endpoints.items
+    pub each : length x.kept.buffers ≡ length x.manifest.endpoints.items
     each = machine.sound.sized.buffers ∙ parties_are
 
-    pub counted : length kept.chain.works ≡ length m.endpoints.items
+    pub counted : length x.kept.chain.works ≡ length x.manifest.endpoints.items
     counted = machine.sound.sized.works ∙ parties_are
 
-    pub scheduled : IsSound kept.chain
+    pub scheduled : IsSound x.kept.chain
     scheduled = machine.sound.schedule
 
     -- an endpoint of the run states is one of the manifest's
-    pub endpoint-known : (e : ℕ) → is_known_among (length kept.chain.works) e ≡ true → place e < length m.endpoints.items
+    pub endpoint-known : (e : ℕ) → is_known_among (length x.kept.chain.works) e ≡ true → place e < length x.manifest.endpoints.items
     endpoint-known e known =
         subst (λ (n : ℕ). place e < n) counted
-        (known-place (length kept.chain.works) e
-        (subst (λ (n : ℕ). 1 ≤ n) (sym counted) (accepted m.ram_base m.ram_blocks m.endpoints.items m.accepted).some_endpoints)
+        (known-place (length x.kept.chain.works) e
+        (subst (λ (n : ℕ). 1 ≤ n) (sym counted) (accepted x.manifest.ram_base x.manifest.ram_blocks x.manifest.endpoints.items x.manifest.accepted).some_endpoints)
         known)
 
     -- so is the runner
-    pub runner-known : (e : ℕ) → e ≡ kept.chain.runner → place e < length m.endpoints.items
-    runner-known e at = subst (λ (r : ℕ). place r < length m.endpoints.items) (sym at) (endpoint-known kept.chain.runner scheduled.runner)
+    pub runner-known : (e : ℕ) → e ≡ x.kept.chain.runner → place e < length x.manifest.endpoints.items
+    runner-known e at = subst (λ (r : ℕ). place r < length x.manifest.endpoints.items) (sym at) (endpoint-known x.kept.chain.runner scheduled.runner)
 
-    pub runner-named : (e : ℕ) → e ≡ kept.chain.runner → identifier (place e) ≡ e
-    runner-named e at = subst (λ (r : ℕ). identifier (place r) ≡ r) (sym at) (known-named (length kept.chain.works) kept.chain.runner scheduled.runner)
+    pub runner-named : (e : ℕ) → e ≡ x.kept.chain.runner → identifier (place e) ≡ e
+    runner-named e at = subst (λ (r : ℕ). identifier (place r) ≡ r) (sym at) (known-named (length x.kept.chain.works) x.kept.chain.runner scheduled.runner)
 
     -- the access of an endpoint is the right of its own regions
-    pub access-in : (i p : ℕ) → p < length ram.pages → access s (identifier i) p ≡ right_in m.ram_base (regions_at m.endpoints.items i) p
+    pub access-in : (i p : ℕ) → p < length x.ram.pages → access s (identifier i) p ≡ right_in x.manifest.ram_base (regions_at x.manifest.endpoints.items i) p
     access-in i p lt =
         access-is (identifier i) p ∙ ap (λ (page : Option Page). right_of (identifier i) page None) (page-in p lt)
-        ∙ right-own m.ram_base m.endpoints.items p i (page_of ram p) (accepted m.ram_base m.ram_blocks m.endpoints.items m.accepted).apart
+        ∙ right-own x.manifest.ram_base x.manifest.endpoints.items p i (page_of x.ram p) (accepted x.manifest.ram_base x.manifest.ram_blocks x.manifest.endpoints.items x.manifest.accepted).apart
 
     -- who is no endpoint has no access
     pub access-unnamed : (e p : ℕ) → (identifier (place e) ≡ e → ⊥) → access s e p ≡ None
-    access-unnamed e p unnamed = elim (cases_lt p (length ram.pages)) [
+    access-unnamed e p unnamed = elim (cases_lt p (length x.ram.pages)) [
       | inl lt ↦
           access-is e p ∙ ap (λ (page : Option Page). right_of e page None) (page-in p lt)
-          ∙ right-unnamed m.ram_base m.endpoints.items p e (page_of ram p) unnamed
+          ∙ right-unnamed x.manifest.ram_base x.manifest.endpoints.items p e (page_of x.ram p) unnamed
       | inr past ↦ access-past e p past
     ]
 
-    pub owner-is : (p : ℕ) → p < length ram.pages → owner_of s p ≡ owner_in m.ram_base m.endpoints.items p
+    pub owner-is : (p : ℕ) → p < length x.ram.pages → owner_of s p ≡ owner_in x.manifest.ram_base x.manifest.endpoints.items p
     owner-is p lt =
         ap (λ (page : Option Page). option_map_or (λ (q : Page). q.owner) page manager) (page-in p lt)
-        ∙ of (find (λ (x : ℕ × Region). has_page m.ram_base p x.1) (owned_regions m.endpoints.items))
+        ∙ of (find (λ (y : ℕ × Region). has_page x.manifest.ram_base p y.1) (owned_regions x.manifest.endpoints.items))
       where
         of : (o : Option (ℕ × Region))
-            → option_map_or (λ (q : Page). q.owner) (option_map (λ (x : ℕ × Region). let q : Page = record { owner = x.0; base = x.1.rights; bytes = page_of ram p } in q) o) manager
-            ≡ option_map_or (λ (x : ℕ × Region). x.0) o manager
+            → option_map_or (λ (q : Page). q.owner) (option_map (λ (y : ℕ × Region). let q : Page = record { owner = y.0; base = y.1.rights; bytes = page_of x.ram p } in q) o) manager
+            ≡ option_map_or (λ (y : ℕ × Region). y.0) o manager
         of None = refl
-        of (Some x) = refl
+        of (Some y) = refl

@@ -2,23 +2,19 @@
 use Rattle.std.proofs.Common.{◌≡◌, ◌∙◌, ℕ, Bool, true, false, cond, List, length, map, Option, Some, None, refl, sym, ap}
 use Rattle.std.specs.Prelude.{◌||◌, is_some, not}
 use Rattle.std.proofs.lemmas.Option.{none-some}
-use Rattle.ffa_model.specs.declared.manifest.Manifest.{Manifest}
 use Rattle.ffa_model.specs.declared.operation.ErrorCode.{ErrorCode}
 use Rattle.ffa_model.specs.declared.operation.ErrorCode.TheVariants.{InvalidParameters, Busy}
-use Rattle.ffa_model.specs.Buffers.{buffers_in, buffers_with_rx, filled, is_full}
+use Rattle.ffa_model.specs.Buffers.{buffers_in, filled, is_full}
 use Rattle.ffa_model.specs.Calls.{first_failure, success}
 use Rattle.ffa_model.specs.First.{first, party_of}
 use Rattle.ffa_model.specs.Manifest.{is_nil}
-use Rattle.ffa_model.specs.Ram.{Ram}
 use Rattle.ffa_model.specs.Setup.{info_bytes, info_get, info_guards, informed, is_any, is_count_alone, selected, uuid_bytes}
 use Rattle.ffa_model.specs.declared.call.Call.TheVariants.{PartitionInfoGet}
 use Rattle.ffa_model.specs.State.{Party, Buffers}
-use Rattle.ffa_spmc.specs.declared.kept.Kept.{Kept}
-use Rattle.ffa_rxtx.specs.Parts.{with_rx_bytes}
-use Rattle.ffa_spmc.specs.Meaning.{IsMachine, state_of}
+use Rattle.ffa_spmc.specs.Meaning.{IsMachine, Parts, state_of}
 use Rattle.ffa_spmc.specs.Snapshot.{Snapshot}
 use Rattle.ffa_spmc.proofs.Answered.{passed-state}
-use Rattle.ffa_spmc.proofs.Fills.{runner-there, state-filled, tables-filled}
+use Rattle.ffa_spmc.proofs.Fills.{after_fill, runner-there, state-filled, tables-filled}
 use Rattle.ffa_spmc.proofs.Machines.{machine-called}
 
 -- what the checks give where a UUID is recognized, the count alone is asked, there are buffers, and RX is full
@@ -26,27 +22,27 @@ abbrev pub decided : Bool → Bool → Bool → Bool → Option ErrorCode
 decided recognized alone has full =
     cond recognized (cond (alone || has) (cond (alone || not full) None (Some Busy)) (Some InvalidParameters)) (Some InvalidParameters)
 
-module _ (ram : Ram) (m : Manifest) (kept : Kept) (now : Snapshot) (view : record { state = state_of ram m kept; ram = ram } ≡ now) (e : ℕ) (at : e ≡ kept.chain.runner) where
+module _ (x : Parts) (now : Snapshot) (view : record { state = state_of x; ram = x.ram } ≡ now) (e : ℕ) (at : e ≡ x.kept.chain.runner) where
   abbrev own : Option Buffers
-  own = buffers_in kept.buffers e
+  own = buffers_in x.kept.buffers e
 
-  pub parties-seen : map party_of m.endpoints.items ≡ now.state.parties
+  pub parties-seen : map party_of x.manifest.endpoints.items ≡ now.state.parties
   unfolding first
   parties-seen = ap (λ (seen : Snapshot). seen.state.parties) view
 
   failure-is : (uuid : List ℕ) (flags : ℕ)
-      → decided (is_nil uuid || is_any (selected (map party_of m.endpoints.items) uuid)) (is_count_alone flags) (is_some own) (is_full own)
+      → decided (is_nil uuid || is_any (selected (map party_of x.manifest.endpoints.items) uuid)) (is_count_alone flags) (is_some own) (is_full own)
       ≡ first_failure (info_guards now.state uuid flags)
   unfolding first
   failure-is uuid flags =
-      (λ i. decided (is_nil uuid || is_any (selected (map party_of m.endpoints.items) uuid)) (is_count_alone flags) (is_some (buffers_in kept.buffers (at i))) (is_full (buffers_in kept.buffers (at i))))
+      (λ i. decided (is_nil uuid || is_any (selected (map party_of x.manifest.endpoints.items) uuid)) (is_count_alone flags) (is_some (buffers_in x.kept.buffers (at i))) (is_full (buffers_in x.kept.buffers (at i))))
       ∙ ap (λ (seen : Snapshot). first_failure (info_guards seen.state uuid flags)) view
 
-  pub info-unknown : (uuid : List ℕ) (flags : ℕ) → (is_nil uuid || is_any (selected (map party_of m.endpoints.items) uuid)) ≡ false
+  pub info-unknown : (uuid : List ℕ) (flags : ℕ) → (is_nil uuid || is_any (selected (map party_of x.manifest.endpoints.items) uuid)) ≡ false
       → Some InvalidParameters ≡ first_failure (info_guards now.state uuid flags)
   info-unknown uuid flags unknown = sym (λ i. decided (unknown i) (is_count_alone flags) (is_some own) (is_full own)) ∙ failure-is uuid flags
 
-  module _ (uuid : List ℕ) (flags : ℕ) (known : (is_nil uuid || is_any (selected (map party_of m.endpoints.items) uuid)) ≡ true) where
+  module _ (uuid : List ℕ) (flags : ℕ) (known : (is_nil uuid || is_any (selected (map party_of x.manifest.endpoints.items) uuid)) ≡ true) where
     pub info-count : is_count_alone flags ≡ true → None ≡ first_failure (info_guards now.state uuid flags)
     info-count alone = sym (λ i. decided (known i) (alone i) (is_some own) (is_full own)) ∙ failure-is uuid flags
 
@@ -60,15 +56,15 @@ module _ (ram : Ram) (m : Manifest) (kept : Kept) (now : Snapshot) (view : recor
     info-ready alone some empty = sym (λ i. decided (known i) (alone i) (some i) (empty i)) ∙ failure-is uuid flags
 
   -- the reply, by the count and whether it is all that is asked
-  pub info-reply : (count : ℕ) (uuid : List ℕ) (flags : ℕ) (alone : Bool) → count ≡ length (selected (map party_of m.endpoints.items) uuid) → is_count_alone flags ≡ alone
+  pub info-reply : (count : ℕ) (uuid : List ℕ) (flags : ℕ) (alone : Bool) → count ≡ length (selected (map party_of x.manifest.endpoints.items) uuid) → is_count_alone flags ≡ alone
       → success count (cond alone 0 24) ≡ success (length (selected now.state.parties uuid)) (cond (is_count_alone flags) 0 24)
   info-reply count uuid flags alone is asked = λ i. success ((is ∙ ap (λ (parties : List Party). length (selected parties uuid)) parties-seen) i) (cond (sym asked i) 0 24)
 
   -- who is given the descriptors has buffers
   pub informed-own : (uuid : List ℕ) (flags : ℕ) → first_failure (info_guards now.state uuid flags) ≡ None → is_count_alone flags ≡ false → (b : Buffers) × (own ≡ Some b)
   informed-own uuid flags none alone =
-      of own refl (is_nil uuid || is_any (selected (map party_of m.endpoints.items) uuid))
-      (sym (λ i. decided (is_nil uuid || is_any (selected (map party_of m.endpoints.items) uuid)) (alone i) (is_some own) (is_full own)) ∙ failure-is uuid flags ∙ none)
+      of own refl (is_nil uuid || is_any (selected (map party_of x.manifest.endpoints.items) uuid))
+      (sym (λ i. decided (is_nil uuid || is_any (selected (map party_of x.manifest.endpoints.items) uuid)) (alone i) (is_some own) (is_full own)) ∙ failure-is uuid flags ∙ none)
     where
       of : (o : Option Buffers) → own ≡ o → (recognized : Bool) → decided recognized false (is_some o) (is_full o) ≡ None → (b : Buffers) × (own ≡ Some b)
       of (Some b) is recognized none = (b, is)
@@ -76,24 +72,24 @@ module _ (ram : Ram) (m : Manifest) (kept : Kept) (now : Snapshot) (view : recor
       of None is false none = absurd (none-some InvalidParameters (sym none))
 
   -- the descriptors in RX of the runner
-  module _ (machine : IsMachine ram m kept) (words : List ℕ) (flags : ℕ) (bytes : List ℕ)
-      (are : bytes ≡ info_bytes (map party_of m.endpoints.items) (uuid_bytes words)) (asked : is_count_alone flags ≡ false) where
-    abbrev pub after_information : Kept
-    after_information = record kept { buffers = buffers_with_rx kept.buffers e true }
+  module _ (machine : IsMachine x) (words : List ℕ) (flags : ℕ) (bytes : List ℕ)
+      (are : bytes ≡ info_bytes (map party_of x.manifest.endpoints.items) (uuid_bytes words)) (asked : is_count_alone flags ≡ false) where
+    abbrev pub after_information : Parts
+    after_information = after_fill x machine e (runner-there x machine e at) bytes
 
-    informed-is : state_of (with_rx_bytes ram own bytes) m after_information ≡ informed (state_of ram m kept) (uuid_bytes words) flags
+    informed-is : state_of after_information ≡ informed (state_of x) (uuid_bytes words) flags
     unfolding first
     informed-is =
-        state-filled ram m kept machine e (runner-there ram m kept machine e at) bytes
-        ∙ (λ i. filled (state_of ram m kept) (at i) (are i))
-        ∙ (λ i. cond (sym asked i) (state_of ram m kept) (filled (state_of ram m kept) kept.chain.runner (info_bytes (map party_of m.endpoints.items) (uuid_bytes words))))
+        state-filled x machine e (runner-there x machine e at) bytes
+        ∙ (λ i. filled (state_of x) (at i) (are i))
+        ∙ (λ i. cond (sym asked i) (state_of x) (filled (state_of x) x.kept.chain.runner (info_bytes (map party_of x.manifest.endpoints.items) (uuid_bytes words))))
 
-    pub state-informed : state_of (with_rx_bytes ram own bytes) m after_information ≡ informed now.state (uuid_bytes words) flags
+    pub state-informed : state_of after_information ≡ informed now.state (uuid_bytes words) flags
     state-informed = informed-is ∙ ap (λ (seen : Snapshot). informed seen.state (uuid_bytes words) flags) view
 
-    pub machine-informed : first_failure (info_guards now.state (uuid_bytes words) flags) ≡ None → IsMachine (with_rx_bytes ram own bytes) m after_information
+    pub machine-informed : first_failure (info_guards now.state (uuid_bytes words) flags) ≡ None → IsMachine after_information
     machine-informed none =
-        machine-called ram (with_rx_bytes ram own bytes) m kept after_information machine
-        (tables-filled ram m kept machine e (runner-there ram m kept machine e at) bytes) refl (PartitionInfoGet words flags) refl
+        machine-called x after_information.ram after_information.kept machine
+        (tables-filled x machine e (runner-there x machine e at) bytes) refl (PartitionInfoGet words flags) refl
         (informed-is
-        ∙ sym (passed-state (state_of ram m kept) (info_get (state_of ram m kept) words flags) (ap (λ (seen : Snapshot). first_failure (info_guards seen.state (uuid_bytes words) flags)) view ∙ none)))
+        ∙ sym (passed-state (state_of x) (info_get (state_of x) words flags) (ap (λ (seen : Snapshot). first_failure (info_guards seen.state (uuid_bytes words) flags)) view ∙ none)))

@@ -1,9 +1,7 @@
 -- The laws of isolation, of a machine's state.
 use Rattle.std.proofs.Common.{◌≡◌, ◌∙◌, ℕ, List, sym, ap, subst}
-use Rattle.ffa_model.specs.declared.manifest.Manifest.{Manifest}
 use Rattle.ffa_model.specs.declared.operation.Op.{Op}
 use Rattle.ffa_model.specs.declared.operation.Outcome.{Outcome}
-use Rattle.ffa_model.specs.Ram.{Ram}
 use Rattle.ffa_model.specs.SoundState.{IsSoundState}
 use Rattle.ffa_model.specs.State.{State}
 use Rattle.ffa_model.specs.Step.{outcomes, state_after}
@@ -15,12 +13,11 @@ use Rattle.ffa_laws.proofs.Integrities.{integrity}
 use Rattle.ffa_laws.proofs.Laws.{isolated, one_step}
 use Rattle.ffa_laws.proofs.Shows.{shown}
 use Rattle.ffa_laws.proofs.SoundSteady.{sound-steady}
-use Rattle.ffa_spmc.specs.declared.kept.Kept.{Kept}
-use Rattle.ffa_spmc.specs.Meaning.{IsMachine, state_of}
+use Rattle.ffa_spmc.specs.Meaning.{IsMachine, Parts, state_of}
 use Rattle.ffa_spmc.specs.Snapshot.{Snapshot}
 
 -- `now` is what a contract sees of the machine
-module _ (ram : Ram) (m : Manifest) (kept : Kept) (machine : IsMachine ram m kept) (now : Snapshot) (view : record { state = state_of ram m kept; ram = ram } ≡ now) where
+module _ (x : Parts) (machine : IsMachine x) (now : Snapshot) (view : record { state = state_of x; ram = x.ram } ≡ now) where
   pub sound-now : IsSoundState now.state
   sound-now = subst (λ (seen : Snapshot). IsSoundState seen.state) view machine.sound
 

@@ -4,36 +4,23 @@ use Rattle.std.proofs.lemmas.Bool.{false≢true}
 use Rattle.std.specs.Prelude.{IfOk, OnOk, OnErr}
 use Rattle.std.specs.Result.{result_err}
 use Rattle.ffa_model.specs.declared.call.Reply.{Reply}
-use Rattle.ffa_model.specs.declared.manifest.Manifest.{Manifest}
 use Rattle.ffa_model.specs.declared.operation.ErrorCode.{ErrorCode}
-use Rattle.ffa_model.specs.declared.schedule.Status.{Status}
-use Rattle.ffa_model.specs.declared.schedule.Status.TheVariants.{Running, Waiting, Yielded, Blocked}
 use Rattle.ffa_model.specs.Calls.{Service, first_failure, replied, served}
 use Rattle.ffa_model.specs.First.{first}
-use Rattle.ffa_model.specs.Ram.{Ram}
-use Rattle.ffa_model.specs.Refusals.{is_error}
-use Rattle.ffa_model.specs.RunStates.{Schedule, finished, msg_wait, run_reply, wait_guards, with_schedule}
+use Rattle.ffa_model.specs.RunStates.{Schedule, finished, msg_wait, wait_guards, with_schedule}
 use Rattle.ffa_model.specs.Buffers.{buffers_with_rx}
 use Rattle.ffa_model.specs.State.{State, Buffers}
-use Rattle.ffa_spmc.specs.declared.kept.Kept.{Kept}
-use Rattle.ffa_spmc.specs.Meaning.{state_of}
+use Rattle.ffa_spmc.specs.Meaning.{Parts, state_of}
 use Rattle.ffa_spmc.specs.Replies.{reply_or_error}
 use Rattle.ffa_spmc.proofs.Answered.{answered-by, done-so, passed-state, refused-so}
 
--- the reply of FFA_RUN is no error
-pub run_reply-good : (word : ℕ) (status : Status) → is_error (run_reply word status) ≡ false
-run_reply-good word Waiting = refl
-run_reply-good word Yielded = refl
-run_reply-good word Running = refl
-run_reply-good word Blocked = refl
-
-module _ (ram : Ram) (m : Manifest) (kept : Kept) where
+module _ (x : Parts) where
   abbrev s : State
-  s = state_of ram m kept
+  s = state_of x
 
   -- the state with other run states
   abbrev pub with_chain : Schedule → State
-  with_chain c = state_of ram m (record kept { chain = c })
+  with_chain c = state_of (record x { kept = record x.kept { chain = c } })
 
   with_chain-is : (c : Schedule) → with_chain c ≡ with_schedule s c
   unfolding first
@@ -41,7 +28,7 @@ module _ (ram : Ram) (m : Manifest) (kept : Kept) where
 
   -- a call that either keeps the run states or leaves these
   pub scheduled : (c : Service) (changed new : Schedule) (r : Result Reply ErrorCode) → c.state ≡ with_schedule s changed
-      → result_err r ≡ first_failure c.guards → OnErr r (new ≡ kept.chain) → OnOk r (new ≡ changed) → IfOk r (λ reply. reply ≡ c.reply)
+      → result_err r ≡ first_failure c.guards → OnErr r (new ≡ x.kept.chain) → OnOk r (new ≡ changed) → IfOk r (λ reply. reply ≡ c.reply)
       → replied (with_chain new) (reply_or_error r) ≡ served s c
   scheduled c changed new r leaves refusal same done replies =
       answered-by s (with_chain new) c r (λ reply. reply) refusal
@@ -50,11 +37,11 @@ module _ (ram : Ram) (m : Manifest) (kept : Kept) where
       replies
 
   -- FFA_MSG_WAIT that is done also leaves another RX
-  pub waited : (e : ℕ) → e ≡ kept.chain.runner → (r : Result Reply ErrorCode) (new : Schedule) (list : List (Option Buffers)) → is_ok r ≡ true
-      → result_err r ≡ first_failure (wait_guards kept.chain) → OnOk r (new ≡ finished kept.chain 0) → list ≡ buffers_with_rx kept.buffers e false
-      → state_of ram m (record kept { buffers = list; chain = new }) ≡ (served s (msg_wait s)).state
+  pub waited : (e : ℕ) → e ≡ x.kept.chain.runner → (r : Result Reply ErrorCode) (new : Schedule) (list : List (Option Buffers)) → is_ok r ≡ true
+      → result_err r ≡ first_failure (wait_guards x.kept.chain) → OnOk r (new ≡ finished x.kept.chain 0) → list ≡ buffers_with_rx x.kept.buffers e false
+      → state_of (record x { kept = record x.kept { buffers = list; chain = new } }) ≡ (served s (msg_wait s)).state
   unfolding first
   waited e at (Ok reply) new list ok passes is emptied =
-      (λ i. state_of ram m (record kept { buffers = (emptied ∙ ap (λ (f : ℕ). buffers_with_rx kept.buffers f false) at) i; chain = is i }))
+      (λ i. state_of (record x { kept = record x.kept { buffers = (emptied ∙ ap (λ (f : ℕ). buffers_with_rx x.kept.buffers f false) at) i; chain = is i } }))
       ∙ sym (passed-state s (msg_wait s) (sym passes))
   waited e at (Err code) new list ok fails is emptied = absurd (false≢true ok)

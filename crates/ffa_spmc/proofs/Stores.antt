@@ -2,45 +2,43 @@
 use Rattle.std.proofs.Common.{◌≡◌, ◌≢◌, ◌∙◌, ℕ, ◌<◌, List, [], length, set, Option, Some, None, refl, sym, ap, length-set}
 use Rattle.std.specs.Option.{option_map}
 use Rattle.std.proofs.lemmas.List.{get_or-set_same, get_or-set_other}
-use Rattle.ffa_model.specs.declared.manifest.Manifest.{Manifest}
 use Rattle.ffa_model.specs.Lists.{listed}
 use Rattle.ffa_model.specs.Memory.{page_with, written}
 use Rattle.ffa_model.specs.Ram.{Ram, page_of, with_page, with_bytes}
 use Rattle.ffa_pages.specs.Entry.{Entry, entry_at}
 use Rattle.ffa_model.specs.State.{Page, page_at}
 use Rattle.ffa_model.proofs.Listed.{listed-but}
-use Rattle.ffa_spmc.specs.declared.kept.Kept.{Kept}
-use Rattle.ffa_spmc.specs.Meaning.{held_page, state_of}
+use Rattle.ffa_spmc.specs.Meaning.{Parts, held_page, state_of}
 use Rattle.ffa_spmc.proofs.Held.{page-held}
 
-module _ (ram : Ram) (m : Manifest) (kept : Kept) (p at : ℕ) (bytes : List ℕ) (inside : p < length ram.pages) where
+module _ (x : Parts) (p at : ℕ) (bytes : List ℕ) (inside : p < length x.ram.pages) where
   abbrev new : Ram
-  new = with_page ram p (with_bytes (page_of ram p) at bytes)
+  new = with_page x.ram p (with_bytes (page_of x.ram p) at bytes)
 
-  page-here : page_of new p ≡ with_bytes (page_of ram p) at bytes
-  page-here = get_or-set_same ram.pages p (with_bytes (page_of ram p) at bytes) [] inside
+  page-here : page_of new p ≡ with_bytes (page_of x.ram p) at bytes
+  page-here = get_or-set_same x.ram.pages p (with_bytes (page_of x.ram p) at bytes) [] inside
 
-  page-there : (q : ℕ) → q ≢ p → page_of new q ≡ page_of ram q
-  page-there q other = get_or-set_other ram.pages p q (with_bytes (page_of ram p) at bytes) [] other
+  page-there : (q : ℕ) → q ≢ p → page_of new q ≡ page_of x.ram q
+  page-there q other = get_or-set_other x.ram.pages p q (with_bytes (page_of x.ram p) at bytes) [] other
 
-  held-here : held_page new kept.pages p ≡ page_with at bytes (held_page ram kept.pages p)
-  held-here = of (entry_at kept.pages p)
+  held-here : held_page new x.kept.pages p ≡ page_with at bytes (held_page x.ram x.kept.pages p)
+  held-here = of (entry_at x.kept.pages p)
     where
       of : (o : Option Entry)
           → option_map (λ (e : Entry). let q : Page = record { owner = e.owner; base = e.base; bytes = page_of new p } in q) o
-          ≡ page_with at bytes (option_map (λ (e : Entry). let q : Page = record { owner = e.owner; base = e.base; bytes = page_of ram p } in q) o)
+          ≡ page_with at bytes (option_map (λ (e : Entry). let q : Page = record { owner = e.owner; base = e.base; bytes = page_of x.ram p } in q) o)
       of None = refl
       of (Some e) = ap (λ (content : List ℕ). Some (let q : Page = record { owner = e.owner; base = e.base; bytes = content } in q)) page-here
 
-  held-there : (q : ℕ) → q ≢ p → held_page new kept.pages q ≡ held_page ram kept.pages q
-  held-there q other = ap (λ (content : List ℕ). option_map (λ (e : Entry). let r : Page = record { owner = e.owner; base = e.base; bytes = content } in r) (entry_at kept.pages q)) (page-there q other)
+  held-there : (q : ℕ) → q ≢ p → held_page new x.kept.pages q ≡ held_page x.ram x.kept.pages q
+  held-there q other = ap (λ (content : List ℕ). option_map (λ (e : Entry). let r : Page = record { owner = e.owner; base = e.base; bytes = content } in r) (entry_at x.kept.pages q)) (page-there q other)
 
-  pages-written : listed (length new.pages) (held_page new kept.pages) ≡ set (listed (length ram.pages) (held_page ram kept.pages)) p (page_with at bytes (page_at (state_of ram m kept) p))
+  pages-written : listed (length new.pages) (held_page new x.kept.pages) ≡ set (listed (length x.ram.pages) (held_page x.ram x.kept.pages)) p (page_with at bytes (page_at (state_of x) p))
   pages-written =
-      ap (λ (n : ℕ). listed n (held_page new kept.pages)) (length-set ram.pages p (with_bytes (page_of ram p) at bytes))
-      ∙ listed-but (length ram.pages) (held_page ram kept.pages) (held_page new kept.pages) p (λ q _ other. held-there q other)
-      ∙ ap (set (listed (length ram.pages) (held_page ram kept.pages)) p) (held-here ∙ ap (page_with at bytes) (sym (page-held ram m kept p inside)))
+      ap (λ (n : ℕ). listed n (held_page new x.kept.pages)) (length-set x.ram.pages p (with_bytes (page_of x.ram p) at bytes))
+      ∙ listed-but (length x.ram.pages) (held_page x.ram x.kept.pages) (held_page new x.kept.pages) p (λ q _ other. held-there q other)
+      ∙ ap (set (listed (length x.ram.pages) (held_page x.ram x.kept.pages)) p) (held-here ∙ ap (page_with at bytes) (sym (page-held x p inside)))
 
   -- the state is written alike
-  pub state-written : state_of new m kept ≡ written (state_of ram m kept) p at bytes
-  state-written = λ i. record (state_of ram m kept) { pages = pages-written i }
+  pub state-written : state_of (record x { ram = new }) ≡ written (state_of x) p at bytes
+  state-written = λ i. record (state_of x) { pages = pages-written i }

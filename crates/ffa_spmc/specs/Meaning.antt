@@ -20,15 +20,21 @@ abbrev pub held_page : Ram → List (Option Entry) → ℕ → Option Page
 held_page ram owners p =
     option_map (λ (e : Entry). record { owner = e.owner; base = e.base; bytes = page_of ram p }) (entry_at owners p)
 
--- the state that RAM, the manifest and what is kept beside them mean
-abbrev pub state_of : Ram → Manifest → Kept → State
-state_of ram m kept =
-    record (first m.ram_base m.ram_blocks m.endpoints.items) {
-      pages = listed (length ram.pages) (held_page ram kept.pages);
-      buffers = kept.buffers;
-      runner = kept.chain.runner;
-      statuses = kept.chain.statuses;
-      works = kept.chain.works;
+-- the parts of a machine
+pub record Parts : Type 0 where
+  pub ram : Ram
+  pub manifest : Manifest
+  pub kept : Kept
+
+-- the state that they mean
+abbrev pub state_of : Parts → State
+state_of x =
+    record (first x.manifest.ram_base x.manifest.ram_blocks x.manifest.endpoints.items) {
+      pages = listed (length x.ram.pages) (held_page x.ram x.kept.pages);
+      buffers = x.kept.buffers;
+      runner = x.kept.chain.runner;
+      statuses = x.kept.chain.statuses;
+      works = x.kept.chain.works;
     }
 
 -- the right that an endpoint's regions give it, by its place in the manifest
@@ -42,8 +48,8 @@ pub record HasTables (ram : Ram) (m : Manifest) : Type 0 where
   pub built : IsBuilt ram (length m.endpoints.items) m.ram_blocks (own_right m.ram_base m.endpoints.items)
 
 -- besides the owners are the manifest's, and the state is sound; what built tables give is noted once and for all
-pub record IsMachine (ram : Ram) (m : Manifest) (kept : Kept) : Type 0 where
+pub record IsMachine (x : Parts) : Type 0 where
   pub laws : TableLaws
-  pub tables : HasTables ram m
-  pub owners : kept.pages ≡ first_owners m
-  pub sound : IsSoundState (state_of ram m kept)
+  pub tables : HasTables x.ram x.manifest
+  pub owners : x.kept.pages ≡ first_owners x.manifest
+  pub sound : IsSoundState (state_of x)

@@ -52,11 +52,11 @@ impl<M: PhysMem + Drop> Model for Machine<M> {
 
     ghost coded = { coded_snapshot };
 
-    ghost use Rattle.ffa_spmc.specs.Meaning.{state_of, IsMachine};
+    ghost use Rattle.ffa_spmc.specs.Meaning.{Parts, state_of, IsMachine};
 
-    ghost view = { λ m. record { state = state_of (M.ram m.ram) m.manifest m.kept; ram = M.ram m.ram } };
+    ghost view = { λ m. let x : Parts = record { ram = M.ram m.ram; manifest = m.manifest; kept = m.kept } in record { state = state_of x; ram = x.ram } };
 
-    ghost invariant = { λ m. IsMachine (M.ram m.ram) m.manifest m.kept };
+    ghost invariant = { λ m. IsMachine (record { ram = M.ram m.ram; manifest = m.manifest; kept = m.kept }) };
 }
 
 // The reply to a call that only can be done or refused.

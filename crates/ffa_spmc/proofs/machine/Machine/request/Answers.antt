@@ -1,10 +1,7 @@
-use Rattle.std.proofs.Common.{◌≡◌, ◌∙◌, refl, sym, ap, subst}
+use Rattle.std.proofs.Common.{◌∙◌, refl, ap}
 use Rattle.ffa_model.specs.declared.call.Reply.{Reply}
 use Rattle.ffa_model.specs.declared.call.Call.TheVariants.{DirectRequest}
-use Rattle.ffa_model.specs.declared.manifest.Manifest.{Manifest}
 use Rattle.ffa_model.specs.Calls.{Stepped, replied, served}
-use Rattle.ffa_model.specs.Ram.{Ram}
-use Rattle.ffa_spmc.specs.declared.kept.Kept.{Kept}
 use Rattle.ffa_spmc.specs.Meaning.{state_of}
 use Rattle.ffa_spmc.specs.Snapshot.{Snapshot}
 use Rattle.ffa_spmc.proofs.Machines.{machine-called}
@@ -15,24 +12,23 @@ use Rattle.ffa_model.specs.RunStates.{direct_request, request_guards, requested}
 use Rattle.ffa_model.specs.State.{Party}
 use Rattle.ffa_spmc.proofs.Held.{counted, parties-listed}
 use Rattle.ffa_spmc.proofs.Schedules.{scheduled, with_chain}
+use Rattle.ffa_spmc.proofs.Inside.{parts_of}
 use Rattle.ffa_spmc.proofs.machine.Machine.request.Goals as goal
 
 pub invariant_of-self : goal.invariant_of-self
 invariant_of-self g c =
-    let ram : Ram = g.M.PhysMem.ram c.self.inside.ram in
-    let m : Manifest = c.self.inside.manifest in
-    let kept : Kept = c.self.inside.kept in
-    machine-called ram ram m kept (record kept { chain = c.direct_req.new.chain }) c.self.invariant c.self.invariant.tables refl (DirectRequest c.args.message.now.function c.args.message.now.word c.args.message.now.flags c.args.message.now.payload) refl
-    (ap (λ (st : Stepped). st.state) (scheduled ram m kept (direct_request (state_of ram m kept) c.args.message.now.function c.args.message.now.word c.args.message.now.flags c.args.message.now.payload) (requested kept.chain (low_half c.args.message.now.word)) c.direct_req.new.chain c.direct_req.result refl (c.direct_req.ensures.refusal ∙ ap (λ (parties : List Party). first_failure (request_guards parties kept.chain c.args.message.now.word c.args.message.now.flags)) (parties-listed ram m kept)) c.direct_req.ensures.kept c.direct_req.ensures.changed c.direct_req.ensures.reply))
+    let x = parts_of g.M.PhysMem.ram c.self.inside in
+    machine-called x x.ram (record x.kept { chain = c.direct_req.new.chain }) c.self.invariant c.self.invariant.tables refl (DirectRequest c.args.message.now.function c.args.message.now.word c.args.message.now.flags c.args.message.now.payload) refl
+    (ap (λ (st : Stepped). st.state) (scheduled x (direct_request (state_of x) c.args.message.now.function c.args.message.now.word c.args.message.now.flags c.args.message.now.payload) (requested x.kept.chain (low_half c.args.message.now.word)) c.direct_req.new.chain c.direct_req.result refl (c.direct_req.ensures.refusal ∙ ap (λ (parties : List Party). first_failure (request_guards parties x.kept.chain c.args.message.now.word c.args.message.now.flags)) (parties-listed x)) c.direct_req.ensures.kept c.direct_req.ensures.changed c.direct_req.ensures.reply))
 
 pub returns-clause-served : goal.returns-clause-served
 returns-clause-served g c =
-    let ram : Ram = g.M.PhysMem.ram c.self.inside.ram in
-    let m : Manifest = c.self.inside.manifest in
-    let kept : Kept = c.self.inside.kept in
-    ap (λ (reply : Reply). replied (with_chain ram m kept c.direct_req.new.chain) reply) c.reply_or_error.ensures
-    ∙ (scheduled ram m kept (direct_request (state_of ram m kept) c.args.message.now.function c.args.message.now.word c.args.message.now.flags c.args.message.now.payload) (requested kept.chain (low_half c.args.message.now.word)) c.direct_req.new.chain c.direct_req.result refl (c.direct_req.ensures.refusal ∙ ap (λ (parties : List Party). first_failure (request_guards parties kept.chain c.args.message.now.word c.args.message.now.flags)) (parties-listed ram m kept)) c.direct_req.ensures.kept c.direct_req.ensures.changed c.direct_req.ensures.reply)
+    let x = parts_of g.M.PhysMem.ram c.self.inside in
+    ap (λ (reply : Reply). replied (with_chain x c.direct_req.new.chain) reply) c.reply_or_error.ensures
+    ∙ scheduled x (direct_request (state_of x) c.args.message.now.function c.args.message.now.word c.args.message.now.flags c.args.message.now.payload) (requested x.kept.chain (low_half c.args.message.now.word)) c.direct_req.new.chain c.direct_req.result refl (c.direct_req.ensures.refusal ∙ ap (λ (parties : List Party). first_failure (request_guards parties x.kept.chain c.args.message.now.word c.args.message.now.flags)) (parties-listed x)) c.direct_req.ensures.kept c.direct_req.ensures.changed c.direct_req.ensures.reply
     ∙ ap (λ (seen : Snapshot). served seen.state (direct_request seen.state c.args.message.now.function c.args.message.now.word c.args.message.now.flags c.args.message.now.payload)) c.self.view_is
 
 pub direct_req-requires : goal.direct_req-requires
-direct_req-requires g c = record { endpoints = counted (g.M.PhysMem.ram c.self.inside.ram) c.self.inside.manifest c.self.inside.kept c.self.invariant }
+direct_req-requires g c =
+    let x = parts_of g.M.PhysMem.ram c.self.inside in
+    record { endpoints = counted x c.self.invariant }

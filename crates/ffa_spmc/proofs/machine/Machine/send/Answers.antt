@@ -1,35 +1,31 @@
-use Rattle.std.proofs.Common.{◌≡◌, ◌∙◌, refl, sym, ap, subst}
+use Rattle.std.proofs.Common.{◌∙◌, refl, ap}
 use Rattle.ffa_model.specs.declared.call.Reply.{Reply}
 use Rattle.ffa_model.specs.declared.call.Call.TheVariants.{MsgSend2}
-use Rattle.ffa_model.specs.declared.manifest.Manifest.{Manifest}
 use Rattle.ffa_model.specs.Calls.{Stepped, replied, served}
-use Rattle.ffa_model.specs.Ram.{Ram}
-use Rattle.ffa_spmc.specs.declared.kept.Kept.{Kept}
 use Rattle.ffa_spmc.specs.Meaning.{state_of}
 use Rattle.ffa_spmc.specs.Snapshot.{Snapshot}
 use Rattle.ffa_spmc.proofs.Machines.{machine-called}
 use Rattle.ffa_model.specs.Messages.{msg_send2}
 use Rattle.ffa_spmc.proofs.Sends.{buffers-in-ram, sent, tables-sent}
+use Rattle.ffa_spmc.proofs.Inside.{parts_of}
 use Rattle.ffa_spmc.proofs.machine.Machine.send.Goals as goal
 
 pub send2-requires : goal.send2-requires
-send2-requires g c = record { pages = buffers-in-ram (g.M.PhysMem.ram c.self.inside.ram) c.self.inside.manifest c.self.inside.kept c.self.invariant }
+send2-requires g c =
+    let x = parts_of g.M.PhysMem.ram c.self.inside in
+    record { pages = buffers-in-ram x c.self.invariant }
 
 pub invariant_of-self : goal.invariant_of-self
 invariant_of-self g c =
-    let ram : Ram = g.M.PhysMem.ram c.self.inside.ram in
-    let m : Manifest = c.self.inside.manifest in
-    let kept : Kept = c.self.inside.kept in
-    machine-called ram (g.M.PhysMem.ram c.send2.new.ram) m kept (record kept { buffers = c.send2.new.buffers }) c.self.invariant
-    (tables-sent ram m kept c.self.invariant c.runner-runner.result.0 c.runner-runner.ensures.runner c.send2.result (g.M.PhysMem.ram c.send2.new.ram) c.send2.new.buffers c.send2.ensures.refusal c.send2.ensures.kept_ram c.send2.ensures.kept c.send2.ensures.ram c.send2.ensures.full)
+    let x = parts_of g.M.PhysMem.ram c.self.inside in
+    machine-called x (g.M.PhysMem.ram c.send2.new.ram) (record x.kept { buffers = c.send2.new.buffers }) c.self.invariant
+    (tables-sent x c.self.invariant c.runner-runner.result.0 c.runner-runner.ensures.runner c.send2.result (g.M.PhysMem.ram c.send2.new.ram) c.send2.new.buffers c.send2.ensures.refusal c.send2.ensures.kept_ram c.send2.ensures.kept c.send2.ensures.ram c.send2.ensures.full)
     refl MsgSend2 refl
-    (ap (λ (st : Stepped). st.state) (sent ram m kept c.self.invariant c.runner-runner.result.0 c.runner-runner.ensures.runner c.send2.result (g.M.PhysMem.ram c.send2.new.ram) c.send2.new.buffers c.send2.ensures.refusal c.send2.ensures.kept_ram c.send2.ensures.kept c.send2.ensures.ram c.send2.ensures.full c.send2.ensures.reply))
+    (ap (λ (st : Stepped). st.state) (sent x c.self.invariant c.runner-runner.result.0 c.runner-runner.ensures.runner c.send2.result (g.M.PhysMem.ram c.send2.new.ram) c.send2.new.buffers c.send2.ensures.refusal c.send2.ensures.kept_ram c.send2.ensures.kept c.send2.ensures.ram c.send2.ensures.full c.send2.ensures.reply))
 
 pub returns-clause-served : goal.returns-clause-served
 returns-clause-served g c =
-    let ram : Ram = g.M.PhysMem.ram c.self.inside.ram in
-    let m : Manifest = c.self.inside.manifest in
-    let kept : Kept = c.self.inside.kept in
-    ap (λ (reply : Reply). replied (state_of (g.M.PhysMem.ram c.send2.new.ram) m (record kept { buffers = c.send2.new.buffers })) reply) c.reply_or_error.ensures
-    ∙ (sent ram m kept c.self.invariant c.runner-runner.result.0 c.runner-runner.ensures.runner c.send2.result (g.M.PhysMem.ram c.send2.new.ram) c.send2.new.buffers c.send2.ensures.refusal c.send2.ensures.kept_ram c.send2.ensures.kept c.send2.ensures.ram c.send2.ensures.full c.send2.ensures.reply)
+    let x = parts_of g.M.PhysMem.ram c.self.inside in
+    ap (λ (reply : Reply). replied (state_of (record x { ram = g.M.PhysMem.ram c.send2.new.ram; kept = record x.kept { buffers = c.send2.new.buffers } })) reply) c.reply_or_error.ensures
+    ∙ sent x c.self.invariant c.runner-runner.result.0 c.runner-runner.ensures.runner c.send2.result (g.M.PhysMem.ram c.send2.new.ram) c.send2.new.buffers c.send2.ensures.refusal c.send2.ensures.kept_ram c.send2.ensures.kept c.send2.ensures.ram c.send2.ensures.full c.send2.ensures.reply
     ∙ ap (λ (seen : Snapshot). served seen.state (msg_send2 seen.state)) c.self.view_is

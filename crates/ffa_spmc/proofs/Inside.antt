@@ -1,0 +1,8 @@
+-- The parts of a machine, of the fields that the code has.
+use Rattle.ffa_model.specs.Ram.{Ram}
+use Rattle.ffa_spmc.specs.declared.machine.Machine.TheInside.{Inside}
+use Rattle.ffa_spmc.specs.Meaning.{Parts}
+
+-- by what a RAM of this type means
+abbrev pub parts_of : {M : Type 0} → (M → Ram) → Inside M → Parts
+parts_of meaning inside = record { ram = meaning inside.ram; manifest = inside.manifest; kept = inside.kept }
