@@ -1,5 +1,5 @@
 -- Bytes of a block, line by line.
-use Rattle.std.proofs.Common.{◌≡◌, ℕ, ◌+◌, ◌-◌, ◌^◌, true, List, [], ◌∷◌, ◌++◌, length, take, drop, position, Option, Some, None, Result, Ok, Err, sym, ap, ◌∙◌, arith, append_assoc, append-nil, take-append-drop, length-append, take_all, refl}
+use Rattle.std.proofs.Common.{◌≡◌, ℕ, ◌+◌, ◌-◌, ◌^◌, ◌≤◌, true, List, [], ◌∷◌, ◌++◌, length, take, drop, position, Option, Some, None, Result, Ok, Err, sym, ap, ◌∙◌, arith, append_assoc, append-nil, take-append-drop, length-append, take_all, refl}
 use Rattle.std.specs.Prelude.{◌==◌}
 use Rattle.std.proofs.lemmas.List.{drop_more}
 use Rattle.std.proofs.lemmas.List.Folds.{list_all-append}
@@ -7,7 +7,7 @@ use Rattle.std.proofs.lemmas.List.Quantifiers.{position-Some}
 use Rattle.std.proofs.lemmas.Bool.{eqb-true}
 use Rattle.ffa_model.specs.State.{State}
 use Rattle.ffa_model.specs.TraceLines.{feed, joined, has_no_feed}
-use Rattle.ffa_trace.specs.Played.{LineDone, LineEnded, Kept, Feeding, Fed}
+use Rattle.ffa_trace.specs.Feeding.{LineDone, LineEnded, Kept, Feeding, Fed}
 use Rattle.ffa_trace.specs.declared.output.PlayError.{PlayError}
 use Rattle.ffa_trace.specs.declared.output.PlayError.TheVariants.{Read, Write, NoMemory, BadLine}
 use Rattle.ffa_trace.proofs.Positions.{none_pass, none_before}
@@ -80,6 +80,10 @@ module _ (s m : State) (a b : Option (List ℕ)) (number next : ℕ) (old bytes 
   bytes_now : old ++ bytes ≡ joined t.fed.lines ++ (begun ++ rest)
   bytes_now = ap (λ l. old ++ l) t.split ∙ goes_on old t.gone rest (joined t.fed.lines) begun t.fed.whole
 
+  -- a front that has a byte
+  front_some : (end : ℕ) → 1 ≤ length (begun ++ take end rest) → 1 ≤ length (begun ++ rest)
+  front_some end some = omega (arith, some, length-append begun (take end rest), length-append begun rest, length-append (take end rest) (drop end rest), ap length (take-append-drop end rest))
+
   -- a line ended, and it failed
   pub line_failed : (n : State) (c : Option (List ℕ)) (e : PlayError) (end last : ℕ) (left : List ℕ) → Some end ≡ position (λ c. c == feed) rest
       → LineEnded {X = Unit {0}} m n b c next (begun ++ take end rest) (Err e) → Fed {X = Unit {0}} s n a c number last (old ++ bytes) left (Err e)
@@ -89,15 +93,15 @@ module _ (s m : State) (a b : Option (List ℕ)) (number next : ℕ) (old bytes 
     begun ++ take end rest,
     drop (end + 1) rest,
     record {
-      between = m;
-      taken = b;
+      state_between = m;
+      written_between = b;
       did = t.fed.did;
       whole = no_feed-append begun (take end rest) t.fed.unended (piece_free rest end h);
       began = l;
     },
     bytes_at end h,
   )
-  line_failed n c NoMemory end last left h l = (t.fed.lines, begun ++ rest, did_kept s m n a b c t.fed.lines t.fed.did l.0 l.1, bytes_now)
+  line_failed n c NoMemory end last left h (same, kept, some) = (t.fed.lines, begun ++ rest, did_kept s m n a b c t.fed.lines t.fed.did same kept, bytes_now, front_some end some)
   line_failed n c (BadLine k) end last left h l = (
     t.fed.lines,
     begun ++ take end rest,
@@ -125,5 +129,5 @@ module _ (s m : State) (a b : Option (List ℕ)) (number next : ℕ) (old bytes 
   }
   all_taken left (Err Read) h k = absurd k
   all_taken left (Err Write) h k = absurd k
-  all_taken left (Err NoMemory) h k = (t.fed.lines, begun ++ rest, t.fed.did, bytes_now)
+  all_taken left (Err NoMemory) h (same, some) = (t.fed.lines, begun ++ rest, t.fed.did, bytes_now, omega (arith, some, length-append begun rest))
   all_taken left (Err (BadLine n)) h k = absurd k

@@ -7,7 +7,7 @@ use Rattle.ffa_model.specs.State.{State}
 use Rattle.ffa_model.specs.TraceLines.{Line, line_of, is_good}
 use Rattle.ffa_model.specs.TraceText.{line_text, line_after, text_of, after}
 use Rattle.ffa_trace.specs.Output.{TookFront, Writes}
-use Rattle.ffa_trace.specs.Played.{LineDone}
+use Rattle.ffa_trace.specs.Feeding.{LineDone}
 use Rattle.ffa_trace.specs.declared.output.PlayError.{PlayError}
 use Rattle.ffa_trace.specs.declared.output.PlayError.TheVariants.{Read, Write, NoMemory, BadLine}
 

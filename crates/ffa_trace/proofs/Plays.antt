@@ -5,7 +5,8 @@ use Rattle.std.proofs.KnownBytes.{Consumes-nil, Consumes-trans}
 use Rattle.std.proofs.lemmas.List.{nil_from_length}
 use Rattle.ffa_model.specs.State.{State}
 use Rattle.ffa_model.specs.TraceLines.{feed, joined}
-use Rattle.ffa_trace.specs.Played.{Feeding, Fed, Played}
+use Rattle.ffa_trace.specs.Feeding.{Feeding, Fed}
+use Rattle.ffa_trace.specs.Played.{Played}
 use Rattle.ffa_trace.specs.declared.output.PlayError.{PlayError}
 use Rattle.ffa_trace.specs.declared.output.PlayError.TheVariants.{Read, Write, NoMemory, BadLine}
 use Rattle.ffa_trace.proofs.Runs.{joined-append, did_none, did_more, began_more}
@@ -61,11 +62,12 @@ module _ (s m : State) (a b had has : Option (List ℕ)) (number : ℕ) (begun :
     began_more s m n a b c p.fed.lines ms line p.fed.did did,
     subst (Consumes had then) (lines_more p.fed.lines ms p.seen begun block (line ++ feed ∷ more) p.fed.whole whole) (Consumes-trans had has then p.seen block p.read read),
   )
-  block_failed n c NoMemory then next block left read (ms, more, did, whole) = (
+  block_failed n c NoMemory then next block left read (ms, more, did, whole, some) = (
     p.fed.lines ++ ms,
     more,
     did_more p.fed.did did,
     subst (Consumes had then) (lines_more p.fed.lines ms p.seen begun block more p.fed.whole whole) (Consumes-trans had has then p.seen block p.read read),
+    some,
   )
   block_failed n c (BadLine k) then next block left read (ms, bad, more, did, whole, free, wrong, place) = (
     p.fed.lines ++ ms,

@@ -39,8 +39,8 @@ module _ {s m n : State} {a b c : Option (List ℕ)} {ls ms : List (List ℕ)} w
 pub began_more : (s m n : State) (a b c : Option (List ℕ)) (ls ms : List (List ℕ)) (line : List ℕ)
     → Did s m a b ls → DidAndBegan m n b c ms line → DidAndBegan s n a c (ls ++ ms) line
 began_more s m n a b c ls ms line p q = record {
-  between = q.between;
-  taken = q.taken;
+  state_between = q.state_between;
+  written_between = q.written_between;
   did = did_more p q.did;
   whole = q.whole;
   began = q.began;

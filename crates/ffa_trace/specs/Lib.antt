@@ -1,3 +1,4 @@
+pub mod Feeding
 pub mod Output
 pub mod Parsed
 pub mod Played

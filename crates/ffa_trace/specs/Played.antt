@@ -1,6 +1,6 @@
 -- What a play leaves, in the machine and in the writer, for each answer.
 use Rattle.std.specs.Prelude.{◌≡◌, ◌≤◌, ◌⊎◌, ℕ, ◌+◌, ◌-◌, ◌^◌, true, false, List, [], ◌∷◌, ◌++◌, length, Option, Result, Ok, Err}
-use Rattle.std.specs.Io.KnownBytes.{Appends, Consumes, IsAtEnd, Keeps}
+use Rattle.std.specs.Io.KnownBytes.{Appends, Consumes, IsAtEnd}
 use Rattle.ffa_model.specs.State.{State}
 use Rattle.ffa_model.specs.TraceLines.{feed, has_no_feed, is_good, are_lines, joined}
 use Rattle.ffa_model.specs.TraceText.{text, text_of, after, after_all}
@@ -8,92 +8,57 @@ use Rattle.ffa_trace.specs.Output.{TookFront}
 use Rattle.ffa_trace.specs.declared.output.PlayError.{PlayError}
 use Rattle.ffa_trace.specs.declared.output.PlayError.TheVariants.{Read, Write, NoMemory, BadLine}
 
--- What follows speaks of the machine's state before and now (`start`, `now`), and of what the writer held and holds.
+-- What follows speaks of the machine's state before and after, of what was written to the writer before and after,
+-- and of what was unread in the reader before and after.
 
 -- these lines were done, and all their text was written
-pub record Did (start now : State) (held holds : Option (List ℕ)) (lines : List (List ℕ)) : Type 0 where
+pub record Did (state_before state_after : State) (written_before written_after : Option (List ℕ)) (lines : List (List ℕ)) : Type 0 where
   pub each : are_lines lines ≡ true
-  pub state : now ≡ after_all start lines
-  pub written : Appends held holds (text start lines)
+  pub state : state_after ≡ after_all state_before lines
+  pub written : Appends written_before written_after (text state_before lines)
 
 -- a line was done, and the writer took a beginning of its text
-pub record Began (start now : State) (held holds : Option (List ℕ)) (line : List ℕ) : Type 0 where
+pub record Began (state_before state_after : State) (written_before written_after : Option (List ℕ)) (line : List ℕ) : Type 0 where
   pub good : is_good line ≡ true
-  pub state : now ≡ after start line
-  pub written : TookFront held holds (text_of start line)
+  pub state : state_after ≡ after state_before line
+  pub written : TookFront written_before written_after (text_of state_before line)
 
 -- these lines were done and all their text was written, and then one whose text wasn't written whole
-pub record DidAndBegan (start now : State) (held holds : Option (List ℕ)) (lines : List (List ℕ)) (line : List ℕ) : Type 0 where
-  pub between : State
-  pub taken : Option (List ℕ)
-  pub did : Did start between held taken lines
+pub record DidAndBegan (state_before state_after : State) (written_before written_after : Option (List ℕ)) (lines : List (List ℕ)) (line : List ℕ) : Type 0 where
+  pub state_between : State
+  pub written_between : Option (List ℕ)
+  pub did : Did state_before state_between written_before written_between lines
   pub whole : has_no_feed line ≡ true
-  pub began : Began between now taken holds line
+  pub began : Began state_between state_after written_between written_after line
 
--- ONE LINE, of this number and these bytes
-
--- it was done, or it is none: no other error comes
-abbrev pub LineDone : {X : Type 0} → State → State → Option (List ℕ) → Option (List ℕ) → ℕ → List ℕ → Result X PlayError → Type 0
-LineDone start now held holds number line (Ok _) = (is_good line ≡ true) × (now ≡ after start line) × Appends held holds (text_of start line)
-LineDone start now held holds number line (Err Write) = Began start now held holds line
-LineDone start now held holds number line (Err (BadLine n)) = (is_good line ≡ false) × (n ≡ number) × (now ≡ start) × Keeps held holds
-LineDone start now held holds number line (Err Read) = ⊥
-LineDone start now held holds number line (Err NoMemory) = ⊥
-
--- the same where memory was taken for it before
-abbrev pub LineEnded : {X : Type 0} → State → State → Option (List ℕ) → Option (List ℕ) → ℕ → List ℕ → Result X PlayError → Type 0
-LineEnded start now held holds number line (Ok x) = LineDone start now held holds number line (Ok x)
-LineEnded {X} start now held holds number line (Err Write) = LineDone {X = X} start now held holds number line (Err Write)
-LineEnded {X} start now held holds number line (Err (BadLine n)) = LineDone {X = X} start now held holds number line (Err (BadLine n))
-LineEnded start now held holds number line (Err Read) = ⊥
-LineEnded start now held holds number line (Err NoMemory) = (now ≡ start) × Keeps held holds
-
--- bytes were put behind those of a line that has begun, or there is no memory for them
-abbrev pub Kept : {X : Type 0} → List ℕ → List ℕ → List ℕ → Result X PlayError → Type 0
-Kept old new bytes (Ok _) = new ≡ old ++ bytes
-Kept old new bytes (Err NoMemory) = new ≡ old
-Kept old new bytes (Err Read) = ⊥
-Kept old new bytes (Err Write) = ⊥
-Kept old new bytes (Err (BadLine n)) = ⊥
-
--- BYTES OF LINES, of which the first has this number
-
--- whole lines, all done, and then `rest`, which begins the line of number `next`
-pub record Feeding (start now : State) (held holds : Option (List ℕ)) (number next : ℕ) (bytes rest : List ℕ) : Type 0 where
-  pub lines : List (List ℕ)
-  pub did : Did start now held holds lines
-  pub whole : bytes ≡ joined lines ++ rest
-  pub unended : has_no_feed rest ≡ true
-  pub counted : next ≡ number + length lines
-
-abbrev pub Fed : {X : Type 0} → State → State → Option (List ℕ) → Option (List ℕ) → ℕ → ℕ → List ℕ → List ℕ → Result X PlayError → Type 0
-Fed start now held holds number next bytes rest (Ok _) = Feeding start now held holds number next bytes rest
-Fed start now held holds number next bytes rest (Err Read) = (lines : List (List ℕ)) × (more : List ℕ)
-    × Did start now held holds lines × (bytes ≡ joined lines ++ more) × (2 ^ 64 - 1 ≡ number + length lines)
-Fed start now held holds number next bytes rest (Err NoMemory) = (lines : List (List ℕ)) × (more : List ℕ)
-    × Did start now held holds lines × (bytes ≡ joined lines ++ more)
-Fed start now held holds number next bytes rest (Err Write) = (lines : List (List ℕ)) × (line : List ℕ) × (more : List ℕ)
-    × DidAndBegan start now held holds lines line × (bytes ≡ joined lines ++ (line ++ feed ∷ more))
-Fed start now held holds number next bytes rest (Err (BadLine n)) = (lines : List (List ℕ)) × (bad : List ℕ) × (more : List ℕ)
-    × Did start now held holds lines × (bytes ≡ joined lines ++ (bad ++ feed ∷ more))
-    × (has_no_feed bad ≡ true) × (is_good bad ≡ false) × (n ≡ number + length lines)
-
--- A PLAY, by its answer, where `had` are the reader's bytes before it and `has` those after it
-
-abbrev pub Played : {X : Type 0} → State → State → Option (List ℕ) → Option (List ℕ) → Option (List ℕ) → Option (List ℕ) → Result X PlayError → Type 0
+-- a play, by its answer
+abbrev pub Played : {X : Type 0} → (state_before state_after : State) → (written_before written_after unread_before unread_after : Option (List ℕ)) → Result X PlayError → Type 0
 -- the reader was read to its end, and what it gave are these lines
-Played start now held holds had has (Ok _) = (lines : List (List ℕ))
-    × Did start now held holds lines × Consumes had has (joined lines) × IsAtEnd has
+Played state_before state_after written_before written_after unread_before unread_after (Ok _) =
+    (lines : List (List ℕ))
+    × Did state_before state_after written_before written_after lines
+    × Consumes unread_before unread_after (joined lines) × IsAtEnd unread_after
 -- each line that was read whole was done, unless the play can count no further
-Played start now held holds had has (Err Read) = (lines : List (List ℕ)) × (more : List ℕ)
-    × Did start now held holds lines × Consumes had has (joined lines ++ more)
+Played state_before state_after written_before written_after unread_before unread_after (Err Read) =
+    (lines : List (List ℕ)) × (more : List ℕ)
+    × Did state_before state_after written_before written_after lines
+    × Consumes unread_before unread_after (joined lines ++ more)
     × ((has_no_feed more ≡ true) ⊎ (2 ^ 64 - 2 ≤ length lines))
-Played start now held holds had has (Err NoMemory) = (lines : List (List ℕ)) × (more : List ℕ)
-    × Did start now held holds lines × Consumes had has (joined lines ++ more)
-Played start now held holds had has (Err Write) = (lines : List (List ℕ)) × (line : List ℕ) × (more : List ℕ)
-    × DidAndBegan start now held holds lines line × Consumes had has (joined lines ++ (line ++ feed ∷ more))
+-- memory is refused for bytes that were read behind the lines that were done, and never for none
+Played state_before state_after written_before written_after unread_before unread_after (Err NoMemory) =
+    (lines : List (List ℕ)) × (more : List ℕ)
+    × Did state_before state_after written_before written_after lines
+    × Consumes unread_before unread_after (joined lines ++ more)
+    × (1 ≤ length more)
+-- the line after those done was done too, and its text wasn't written whole
+Played state_before state_after written_before written_after unread_before unread_after (Err Write) =
+    (lines : List (List ℕ)) × (line : List ℕ) × (more : List ℕ)
+    × DidAndBegan state_before state_after written_before written_after lines line
+    × Consumes unread_before unread_after (joined lines ++ (line ++ feed ∷ more))
 -- the line after those done has no meaning, or has no LF at the reader's end
-Played start now held holds had has (Err (BadLine n)) = (lines : List (List ℕ)) × (bad : List ℕ) × (more : List ℕ)
-    × Did start now held holds lines × Consumes had has (joined lines ++ (bad ++ more))
+Played state_before state_after written_before written_after unread_before unread_after (Err (BadLine n)) =
+    (lines : List (List ℕ)) × (bad : List ℕ) × (more : List ℕ)
+    × Did state_before state_after written_before written_after lines
+    × Consumes unread_before unread_after (joined lines ++ (bad ++ more))
     × (n ≡ 1 + length lines) × (has_no_feed bad ≡ true)
-    × ((((next : List ℕ) × (more ≡ feed ∷ next)) × (is_good bad ≡ false)) ⊎ ((more ≡ []) × (1 ≤ length bad) × IsAtEnd has))
+    × ((((next : List ℕ) × (more ≡ feed ∷ next)) × (is_good bad ≡ false)) ⊎ ((more ≡ []) × (1 ≤ length bad) × IsAtEnd unread_after))

@@ -3,8 +3,9 @@ ghost use Rattle.std.specs.Prelude.{◌≡◌, ◌*◌, codes, ◌==◌, true, [
 ghost use Rattle.ffa_model.specs.TraceLines.{feed, has_no_feed};
 ghost use Rattle.ffa_model.specs.Memory.{size_of};
 ghost use Rattle.ffa_model.specs.TraceText.{hex, spaced, ended, outcome_text};
+ghost use Rattle.ffa_trace.specs.Feeding.{LineDone, LineEnded, Kept, Fed};
 ghost use Rattle.ffa_trace.specs.Output.{Writes};
-ghost use Rattle.ffa_trace.specs.Played.{LineDone, LineEnded, Kept, Fed, Played};
+ghost use Rattle.ffa_trace.specs.Played.{Played};
 
 use crate::line::{self, Line};
 use crate::output::{self, PlayError};
