@@ -7,7 +7,7 @@ ghost use Rattle.ffa_manifest.specs.Endpoints.{endpoint_items as endpoint_items_
 
 use crate::endpoints::endpoints_from;
 use crate::error::ManifestError;
-use crate::keys::{items_at, integer_at, only_keys};
+use crate::keys::{integer_at, items_at, only_keys};
 use crate::place::Place;
 use ffa_model::Manifest;
 use toml::{Table, Value};

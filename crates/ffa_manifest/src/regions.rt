@@ -8,7 +8,7 @@ ghost use Rattle.ffa_manifest.specs.Place.{is_in};
 ghost use Rattle.ffa_manifest.specs.Regions.{region_keys as keys_in, base_at as base_in, pages_at as pages_in, rights_named as rights_of_word, rights_at as rights_in, region as region_in, is_free as is_free_in, next_region as next_in, regions_from as regions_in, regions_at as regions_of_table};
 
 use crate::error::ManifestError;
-use crate::keys::{items_at, integer_at, only_keys, text_at};
+use crate::keys::{integer_at, items_at, only_keys, text_at};
 use crate::place::Place;
 use arrayvec::ArrayVec;
 use ffa_model::{Data, Endpoint, Region, Rights};

@@ -74,10 +74,7 @@ fn request_and_response(rt: HostRuntime) -> Result<(), Fail> {
 fn refused_requests(rt: HostRuntime) -> Result<(), Fail> {
     for word in [0x8003, 0x8000, 0, 0x8002_8001] {
         let mut chain = Chain::first(3);
-        assert_eq!(rt;
-            ask(&mut chain, word, 0),
-            Err(ErrorCode::InvalidParameters)
-        );
+        assert_eq!(rt; ask(&mut chain, word, 0), Err(ErrorCode::InvalidParameters));
     }
     let mut chain = Chain::first(3);
     assert_eq!(rt;
