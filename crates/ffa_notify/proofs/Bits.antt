@@ -1,12 +1,12 @@
 -- The bits of words, and tests of them.
-use Rattle.std.proofs.Common.{◌≡◌, ◌≢◌, ◌∙◌, ℕ, zero, suc, ◌+◌, ◌-◌, ◌/◌, ◌%◌, ◌^◌, ◌<◌, ◌≤◌, Bool, true, false, List, [], ◌∷◌, map, min, max, refl, sym, ap, arith, inl, inr}
+use Rattle.std.proofs.Common.{◌≡◌, ◌∙◌, ℕ, zero, suc, ◌+◌, ◌-◌, ◌/◌, ◌%◌, ◌^◌, ◌<◌, Bool, true, false, List, [], ◌∷◌, map, min, max, refl, sym, ap, arith}
 use Rattle.std.specs.Prelude.{◌==◌, ◌||◌, ◌&&◌, not, filter, if◌then◌else◌}
 use Rattle.std.specs.List.{list_all, list_any}
 use Rattle.std.specs.Int.{bit_at, bit_not, w64}
 use Rattle.std.specs.Int.RustNames.{bit_or}
 use Rattle.std.specs.Ordering.{eq_by_cmp, nat_cmp}
 use Rattle.std.specs.Cmp.Lexicographic.{slice_cmp}
-use Rattle.std.proofs.lemmas.Bool.{and_from, and_parts, cases_Bool, eq-eqb, eqb-true, false≢true, ne_eqb, or_left, or_right}
+use Rattle.std.proofs.lemmas.Bool.{and_from, and_parts, eq-eqb, false≢true, ne_eqb}
 use Rattle.std.proofs.lemmas.Nat.Bits.{bit_at_and, bit_at_not, bit_at_or, bit_at-lt, bit_at-zero, same_from_bits_below}
 use Rattle.std.proofs.lemmas.Nat.{and_le_l}
 use lib.Bits.{bit_and}
@@ -77,7 +77,7 @@ unset-digit (suc (suc a)) lt _ = absurd (omega arith)
 pub no-bits : (word : ℕ) → word < 2 ^ 64 → ((k : ℕ) → k < 64 → is_set k word ≡ false) → word ≡ 0
 no-bits word fits none =
     same_from_bits_below 64 word 0 fits (omega arith) (λ k lt.
-        unset-digit (bit_at word k) (bit_at-lt word k) (sym (is_set-at k word) ∙ none k lt) ∙ sym (bit_at-zero k))
+    unset-digit (bit_at word k) (bit_at-lt word k) (sym (is_set-at k word) ∙ none k lt) ∙ sym (bit_at-zero k))
 
 -- tests of those elements of a list that pass another
 any-filtered : {X : Type 0} (test q : X → Bool) (xs : List X) → list_any test (filter q xs) ≡ list_any (λ x. q x && test x) xs

@@ -1,16 +1,16 @@
 -- The sets that words mean, when a word changes.
-use Rattle.std.proofs.Common.{◌≡◌, ◌≢◌, ◌∙◌, ℕ, ◌+◌, ◌*◌, ◌^◌, ◌<◌, ◌≤◌, Bool, true, false, List, length, get_or, map, set, refl, sym, ap, subst, arith, inl, inr, get_or-set_other, get_or-set_same}
+use Rattle.std.proofs.Common.{◌≡◌, ◌∙◌, ℕ, ◌+◌, ◌*◌, ◌^◌, ◌<◌, Bool, true, false, List, length, get_or, map, set, refl, sym, ap, subst, inl, inr, get_or-set_other, get_or-set_same}
 use Rattle.std.specs.Prelude.{◌||◌, ◌&&◌, not}
 use Rattle.std.specs.FinSet as finite_set
 use Rattle.std.specs.Int.{bit_not, w64}
 use Rattle.std.specs.Int.RustNames.{bit_or}
-use Rattle.std.proofs.lemmas.Bool.{and_parts, cases_eq, false≢true, or_cases}
+use Rattle.std.proofs.lemmas.Bool.{and_parts, cases_eq, or_cases}
 use lib.Bits.{bit_and}
 use Rattle.ffa_model.specs.Bits.{bits_of, is_set}
 use Rattle.ffa_model.proofs.Sets.{Bits, among, contains-less, contains-more, contains-retained}
 use Rattle.ffa_notify.specs.Stored.{entries}
 use Rattle.ffa_notify.proofs.Bits.{among-found, among-set, set-and, set-not, set-or}
-use Rattle.ffa_notify.proofs.Universe.{all-has, all-is, contains-at, contains-none, kept, retained-is}
+use Rattle.ffa_notify.proofs.Universe.{all-has, contains-at, contains-none, kept, retained-is}
 
 -- an entry has the bit of the word at its place
 pub record AreRead (f : ℕ → ℕ → ℕ → List ℕ) (test : List ℕ → List ℕ → Bool) (stride m : ℕ) : Type 0 where
@@ -39,9 +39,9 @@ module _ (f : ℕ → ℕ → ℕ → List ℕ) (test : List ℕ → List ℕ �
       set-is after (finite_set.retain (set_of words) p)
       (λ x is. contains-none f l m 64 (test words) x (and_parts _ _ (sym (contains-retained (set_of words) p x) ∙ is)).0)
       (λ i j k lt_i lt_j lt_k.
-          same i j k lt_i lt_j lt_k
-          ∙ ap (λ b. b && p (f i j k)) (sym (contains-bit words i j k lt_i lt_j lt_k))
-          ∙ sym (contains-retained (set_of words) p (f i j k)))
+      same i j k lt_i lt_j lt_k
+      ∙ ap (λ b. b && p (f i j k)) (sym (contains-bit words i j k lt_i lt_j lt_k))
+      ∙ sym (contains-retained (set_of words) p (f i j k)))
 
   -- the word at a place gets or loses bits
   module _ (words : List ℕ) (i j bitmap : ℕ) (lt_i : i < l) (lt_j : j < m) (within : stride * i + j < length words) where

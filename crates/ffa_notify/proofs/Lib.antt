@@ -5,3 +5,4 @@ pub mod Changes
 pub mod Stores
 pub mod Tests
 pub mod Views
+pub mod Boots

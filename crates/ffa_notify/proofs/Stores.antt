@@ -1,5 +1,5 @@
 -- What the stored words mean for endpoints, and how it changes with a word.
-use Rattle.std.proofs.Common.{◌≡◌, ◌∙◌, ℕ, zero, suc, ◌+◌, ◌*◌, ◌^◌, ◌<◌, ◌≤◌, Bool, true, false, List, length, get_or, map, set, refl, sym, ap, subst, arith, inl, inr}
+use Rattle.std.proofs.Common.{◌≡◌, ◌∙◌, ℕ, zero, suc, ◌+◌, ◌*◌, ◌^◌, ◌<◌, ◌≤◌, Bool, true, false, List, length, get_or, map, set, refl, sym, ap, arith, inl, inr}
 use Rattle.std.specs.Prelude.{◌==◌, ◌&&◌, not, nat_lt, if◌then◌else◌}
 use Rattle.std.specs.FinSet as finite_set
 use Rattle.std.specs.Int.{bit_not, w64}
@@ -28,25 +28,25 @@ as-before false = refl
 same-places : (i j : ℕ) → identifier i ≡ identifier j → i ≡ j
 same-places i j same = sym (place-identifier i) ∙ ap place same ∙ place-identifier j
 
-bound-read : (n : ℕ) → n ≤ 8 → AreRead entry has_binding 8 n
+pub bound-read : (n : ℕ) → n ≤ 8 → AreRead entry has_binding 8 n
 bound-read n few = record {
   reads = λ words i j k t. is_set k (get_or words (8 * place-identifier i t + place-identifier j t) 0);
   apart = λ i j k i' j' k' same.
-    let first : identifier i ≡ identifier i' = cc in
-    let last : identifier j ≡ identifier j' = cc in
-    let bit : k ≡ k' = cc in
-    (same-places i i' first, same-places j j' last, bit);
+      let first : identifier i ≡ identifier i' = cc in
+      let last : identifier j ≡ identifier j' = cc in
+      let bit : k ≡ k' = cc in
+      (same-places i i' first, same-places j j' last, bit);
   one_place = λ i j i' j' lt lt' same. (omega arith, omega arith);
 }
 
-pending-read : AreRead bit_of has_pending_bit 3 3
+pub pending-read : AreRead bit_of has_pending_bit 3 3
 pending-read = record {
   reads = λ words i j k t. is_set k (get_or words (3 * place-identifier i t + j) 0);
   apart = λ i j k i' j' k' same.
-    let first : identifier i ≡ identifier i' = cc in
-    let class : j ≡ j' = cc in
-    let bit : k ≡ k' = cc in
-    (same-places i i' first, class, bit);
+      let first : identifier i ≡ identifier i' = cc in
+      let class : j ≡ j' = cc in
+      let bit : k ≡ k' = cc in
+      (same-places i i' first, class, bit);
   one_place = λ i j i' j' lt lt' same. (omega arith, omega arith);
 }
 
@@ -147,9 +147,9 @@ module _ (n : ℕ) (words after : List ℕ) (some : 1 ≤ n) (r flags : ℕ) (kn
       unasked = elim (cases_lt i (place r)) [
         | inl before ↦ asked-before (3 * place r) 3 flags (3 * i + j) (omega arith)
         | inr behind ↦ (elim (cases_eq i (place r)) [
-            | inl same ↦ absurd (other same)
-            | inr not_same ↦ asked-behind (3 * place r) 3 flags (3 * i + j) (omega arith)
-          ])
+          | inl same ↦ absurd (other same)
+          | inr not_same ↦ asked-behind (3 * place r) 3 flags (3 * i + j) (omega arith)
+        ])
       ]
 
   pub pending-asked : pending_in n after ≡ finite_set.retain (pending_in n words) remains

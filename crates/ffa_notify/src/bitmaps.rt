@@ -10,7 +10,7 @@ ghost use Rattle.ffa_notify.specs.Stored.{class_number};
 use crate::class::Class;
 use crate::words::{CLASSES, MOST_ENDPOINTS, clear_asked, clear_front};
 use arrayvec::ArrayVec;
-use ffa_model::{EndpointId, Manifest};
+use ffa_model::EndpointId;
 use std::marker::Model;
 
 /// Of each endpoint whether it has bitmaps, which of its bits each other endpoint may set, and which are pending. They
@@ -20,9 +20,9 @@ pub struct Bitmaps {
     // Whether an endpoint has bitmaps.
     pub(crate) has: ArrayVec<bool, MOST_ENDPOINTS>,
     // The bits of a receiver that are bound to a sender: of each receiver a word for each endpoint that there may be.
-    bound: ArrayVec<u64, 64>,
+    pub(crate) bound: ArrayVec<u64, 64>,
     // The bits of a receiver that are pending: of each receiver a word for each class.
-    pending: ArrayVec<u64, 24>,
+    pub(crate) pending: ArrayVec<u64, 24>,
 }
 
 impl Model for Bitmaps {
@@ -50,8 +50,8 @@ impl Bitmaps {
         endpoint.place() < has.len() && has[endpoint.place()]
     }
 
-    /// The number of endpoints.
-    pub fn endpoints(&self) -> usize
+    // The number of endpoints.
+    pub(crate) fn endpoints(&self) -> usize
         ensures number { result ≡ length self.now.bitmaps }
         ensures few { result ≤ 8 }
     {

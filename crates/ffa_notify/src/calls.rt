@@ -1,5 +1,5 @@
 //! The calls of notifications (DEN0077A, 16).
-ghost use Rattle.std.specs.Prelude.{◌≡◌, true, length, OnOk, OnErr, IfOk};
+ghost use Rattle.std.specs.Prelude.{◌≡◌, ◌==◌, ◌||◌, true, length, OnOk, OnErr, IfOk};
 ghost use Rattle.std.specs.Result.{result_err};
 ghost use Rattle.ffa_model.specs.Bits.{bits_of, high_half, low_half};
 ghost use Rattle.ffa_model.specs.Calls.{first_failure};
@@ -34,7 +34,7 @@ impl Bitmaps {
         ensures kept { OnErr result (self.new ≡ self.old) }
         ensures created { OnOk result (self.new ≡ with_bitmaps self.old 0) }
     {
-        if caller != NORMAL_WORLD {
+        if !is_normal_world(caller) {
             return Err(ErrorCode::Denied);
         }
         if endpoint != 0 || contexts != 1 {
@@ -58,7 +58,7 @@ impl Bitmaps {
         ensures kept { OnErr result (self.new ≡ self.old) }
         ensures destroyed { OnOk result (self.new ≡ without_bitmaps self.old 0) }
     {
-        if caller != NORMAL_WORLD {
+        if !is_normal_world(caller) {
             return Err(ErrorCode::Denied);
         }
         if endpoint != 0 {
@@ -92,7 +92,10 @@ impl Bitmaps {
         ensures bound { OnOk result (self.new ≡ with_bound self.old caller.0 (high_half word) (bits_of bitmap)) }
     {
         let sender = high(word);
-        if !self.is_between(caller, low(word), sender) || flags != 0 || bitmap == 0 {
+        if !self.is_between(caller, low(word), sender) {
+            return Err(ErrorCode::InvalidParameters);
+        }
+        if flags != 0 || bitmap == 0 {
             return Err(ErrorCode::InvalidParameters);
         }
         if !self.has(caller) || !self.is_bindable(caller, sender, bitmap) {
@@ -121,7 +124,10 @@ impl Bitmaps {
         ensures unbound { OnOk result (self.new ≡ without_bound self.old caller.0 (high_half word) (bits_of bitmap)) }
     {
         let sender = high(word);
-        if !self.is_between(caller, low(word), sender) || flags != 0 || bitmap == 0 {
+        if !self.is_between(caller, low(word), sender) {
+            return Err(ErrorCode::InvalidParameters);
+        }
+        if flags != 0 || bitmap == 0 {
             return Err(ErrorCode::InvalidParameters);
         }
         if !self.has(caller) || !self.is_unbindable(caller, sender, bitmap) {
@@ -151,8 +157,10 @@ impl Bitmaps {
         ensures pending { OnOk result (self.new ≡ with_pending self.old (low_half word) (class_of caller.0) (bits_of bitmap)) }
     {
         let receiver = low(word);
-        let has_flags = flags != 0 && flags != DELAY_INTERRUPT;
-        if !self.is_between(caller, high(word), receiver) || has_flags || bitmap == 0 {
+        if !self.is_between(caller, high(word), receiver) {
+            return Err(ErrorCode::InvalidParameters);
+        }
+        if !has_set_flags(flags) || bitmap == 0 {
             return Err(ErrorCode::InvalidParameters);
         }
         if !self.is_settable(receiver, caller, bitmap) {
@@ -201,6 +209,20 @@ impl Bitmaps {
     {
         own == caller && self.is_known(other) && other != caller
     }
+}
+
+// Whether this is the normal world.
+fn is_normal_world(endpoint: EndpointId) -> bool
+    ensures { result ≡ (endpoint.0 == 0) }
+{
+    endpoint == NORMAL_WORLD
+}
+
+// Whether these are flags of FFA_NOTIFICATION_SET.
+fn has_set_flags(flags: u32) -> bool
+    ensures { result ≡ (flags == 0 || flags == 2) }
+{
+    flags == 0 || flags == DELAY_INTERRUPT
 }
 
 // The endpoint in the high half of a word.

@@ -21,12 +21,7 @@ impl Bitmaps {
     }
 
     // Whether a sender may get all these bits of a receiver.
-    pub(crate) fn is_bindable(
-        &self,
-        receiver: EndpointId,
-        sender: EndpointId,
-        bitmap: u64,
-    ) -> bool
+    pub(crate) fn is_bindable(&self, receiver: EndpointId, sender: EndpointId, bitmap: u64) -> bool
         requires receiver { is_known_among (length self.now.bitmaps) receiver.0 ≡ true }
         requires sender { is_known_among (length self.now.bitmaps) sender.0 ≡ true }
         ensures { result ≡ list_all (is_bindable (length self.now.bitmaps) self.now receiver.0 sender.0) (bits_of bitmap) }
@@ -53,12 +48,7 @@ impl Bitmaps {
     }
 
     // Whether a sender may set all these bits of a receiver.
-    pub(crate) fn is_settable(
-        &self,
-        receiver: EndpointId,
-        sender: EndpointId,
-        bitmap: u64,
-    ) -> bool
+    pub(crate) fn is_settable(&self, receiver: EndpointId, sender: EndpointId, bitmap: u64) -> bool
         requires receiver { is_known_among (length self.now.bitmaps) receiver.0 ≡ true }
         requires sender { is_known_among (length self.now.bitmaps) sender.0 ≡ true }
         ensures { result ≡ list_all (λ k. is_bound self.now receiver.0 (class_of sender.0) k sender.0) (bits_of bitmap) }
@@ -121,12 +111,7 @@ impl Bitmaps {
     }
 
     // The bits of a receiver, in a sender's class, that this endpoint may set, if it is another.
-    fn bound_to_other(
-        &self,
-        receiver: EndpointId,
-        sender: EndpointId,
-        other: EndpointId,
-    ) -> u64
+    fn bound_to_other(&self, receiver: EndpointId, sender: EndpointId, other: EndpointId) -> u64
         requires receiver { is_known_among (length self.now.bitmaps) receiver.0 ≡ true }
         requires other { is_known_among (length self.now.bitmaps) other.0 ≡ true }
         ensures { (k : ℕ) → k < 64 → is_set k result ≡ (not (other.0 == sender.0) && is_bound self.now receiver.0 (class_of sender.0) k other.0) }

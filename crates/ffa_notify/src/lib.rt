@@ -2,13 +2,10 @@
 #![tactic(auto)]
 
 mod bitmaps;
-
 mod calls;
-
 mod checks;
-
 mod class;
-
+mod first;
 mod words;
 
 pub use bitmaps::Bitmaps;

@@ -1,4 +1,4 @@
-use Rattle.std.proofs.Common.{◌≡◌, ◌∙◌, ◌+◌, ◌<◌, List, ℕ, length, get_or, ap, arith}
+use Rattle.std.proofs.Common.{◌∙◌, ◌+◌, ◌<◌, List, ℕ, length, get_or, ap, arith}
 use Rattle.ffa_notify.proofs.Asked.{asked-cleared, asked-kept, flag-set, flag-unset}
 use Rattle.ffa_notify.proofs.words.clear_asked.Goals as goal
 use Rattle.ffa_notify.proofs.words.clear_asked.Goals.{then-flags-class-eq1, else-flags-class-eq1}

@@ -1,4 +1,4 @@
-use Rattle.std.proofs.Common.{◌≡◌, ℕ, length, get_or}
+use Rattle.std.proofs.Common.{◌≡◌, ℕ, get_or}
 use Rattle.std.specs.Prelude.{if◌then◌else◌}
 use Rattle.ffa_notify.specs.Stored.{is_asked}
 use Rattle.ffa_notify.proofs.words.clear_asked.Given as goal

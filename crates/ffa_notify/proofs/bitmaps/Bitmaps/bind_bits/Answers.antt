@@ -1,4 +1,3 @@
-use Rattle.std.proofs.Common.{◌≡◌}
 use Rattle.ffa_notify.proofs.Views.{bound-changed, bound-within}
 use Rattle.ffa_notify.proofs.bitmaps.Bitmaps.bind_bits.Goals as goal
 

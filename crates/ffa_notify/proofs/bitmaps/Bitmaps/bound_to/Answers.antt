@@ -1,4 +1,3 @@
-use Rattle.std.proofs.Common.{◌≡◌}
 use Rattle.ffa_notify.proofs.Views.{bound-read, bound-within}
 use Rattle.ffa_notify.proofs.bitmaps.Bitmaps.bound_to.Goals as goal
 

@@ -1,4 +1,4 @@
-use Rattle.std.proofs.Common.{◌≡◌, true}
+use Rattle.std.proofs.Common.{true}
 use Rattle.ffa_notify.proofs.Views.{has-changed, has-within}
 use Rattle.ffa_notify.proofs.bitmaps.Bitmaps.give.Goals as goal
 

@@ -1,4 +1,4 @@
-use Rattle.std.proofs.Common.{◌≡◌, ◌<◌, subst}
+use Rattle.std.proofs.Common.{◌<◌, subst}
 use Rattle.ffa_notify.specs.Stored.{class_number}
 use Rattle.ffa_notify.proofs.Views.{pending-read, pending-within}
 use Rattle.ffa_notify.proofs.bitmaps.Bitmaps.pending.Goals as goal

@@ -1,4 +1,4 @@
-use Rattle.std.proofs.Common.{◌≡◌, ◌∙◌, ◌<◌, subst, sym}
+use Rattle.std.proofs.Common.{◌<◌, subst, sym}
 use Rattle.ffa_notify.specs.Stored.{class_number}
 use Rattle.ffa_notify.proofs.Views.{pending-changed, pending-unchanged, pending-within}
 use Rattle.ffa_notify.proofs.bitmaps.Bitmaps.set_bits.Goals as goal

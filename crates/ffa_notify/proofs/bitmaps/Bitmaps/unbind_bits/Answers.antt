@@ -1,4 +1,3 @@
-use Rattle.std.proofs.Common.{◌≡◌}
 use Rattle.ffa_notify.proofs.Views.{bound-cleared, bound-within}
 use Rattle.ffa_notify.proofs.bitmaps.Bitmaps.unbind_bits.Goals as goal
 
