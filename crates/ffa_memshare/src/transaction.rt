@@ -2,10 +2,11 @@
 ghost use Rattle.std.specs.Prelude.{◌≡◌, length, Some, None};
 ghost use Rattle.std.specs.Result.{result_err};
 ghost use Rattle.arrayvec.specs.ArrayVec.{array_vec_len};
-ghost use Rattle.ffa_model.specs.Access.{held_by};
+ghost use Rattle.ffa_model.specs.Access.{held_by, right_by};
 ghost use Rattle.ffa_model.specs.Calls.{first_failure};
 ghost use Rattle.ffa_model.specs.Identifiers.{place};
 ghost use Rattle.ffa_model.specs.MemoryReturn.{is_unheld, reclaim_guards};
+ghost use Rattle.ffa_model.specs.State.{Page};
 ghost use Rattle.ffa_pages.specs.Entry.{base_at};
 ghost use Rattle.ffa_memshare.specs.Changes.{IsMarked, IsMoved};
 ghost use Rattle.ffa_memshare.specs.Named.{bases_in};
@@ -49,6 +50,20 @@ impl OpenTransaction {
             held[place]
         } else {
             None
+        }
+    }
+
+    // What an endpoint may do with one of its pages, to which the sender's own right is this.
+    pub(crate) fn right_to(&self, endpoint: EndpointId, base: Rights) -> Option<Rights>
+        ensures { (page : Page) → page.base ≡ base → result ≡ right_by endpoint.0 page (transaction_of self.now) (held_by (transaction_of self.now) endpoint.0) }
+    {
+        let held = self.held(endpoint);
+        if held.is_some() {
+            return held;
+        }
+        match self.kind {
+            Kind::Share if self.sender == endpoint => Some(base),
+            Kind::Share | Kind::Lend | Kind::Donate => None,
         }
     }
 
