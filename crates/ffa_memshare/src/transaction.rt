@@ -15,6 +15,7 @@ ghost use Rattle.ffa_memshare.specs.Shared.{IsHeld};
 
 use crate::checks::common_of;
 use crate::grants::NewRight;
+use crate::holders::Holders;
 use crate::marks::{Mark, mark_all};
 use crate::moves::move_rights;
 use arrayvec::ArrayVec;
@@ -33,8 +34,7 @@ pub struct OpenTransaction {
     pub zero: bool,
     pub ranges: ArrayVec<Range, 16>,
     pub receivers: ArrayVec<Receiver, 4>,
-    /// The right that each endpoint holds, by its place in the manifest.
-    pub held: ArrayVec<Option<Rights>, 8>,
+    pub held: Holders,
 }
 
 impl OpenTransaction {
@@ -44,13 +44,7 @@ impl OpenTransaction {
     pub(crate) fn held(&self, endpoint: EndpointId) -> Option<Rights>
         ensures { result ≡ held_by (transaction_of self.now) endpoint.0 }
     {
-        let place = endpoint.place();
-        let held = self.held.as_slice();
-        if EndpointId::at(place) == endpoint && place < held.len() {
-            held[place]
-        } else {
-            None
-        }
+        self.held.of(endpoint)
     }
 
     // What an endpoint may do with one of its pages, to which the sender's own right is this.
