@@ -7,6 +7,7 @@ use Rattle.std.specs.FinMap as finite
 use Rattle.ffa_model.specs.declared.rights.Rights.{Rights}
 use Rattle.ffa_model.specs.Identifiers.{identifier}
 use Rattle.ffa_model.specs.Lists.{map_at}
+use Rattle.ffa_model.specs.State.{Transaction}
 
 abbrev pub Held : Type 0
 Held = finite.FinMap nat_cmp Rights
@@ -19,3 +20,6 @@ held_in held = finite.from_entries (filter_map (λ x. x) (map_at (λ i. option_m
 abbrev pub with_held : Held → ℕ → Option Rights → Held
 with_held held e None = finite.remove held e
 with_held held e (Some right) = finite.insert held e right
+
+abbrev pub with_holder : Transaction → ℕ → Option Rights → Transaction
+with_holder t e right = record t { held = with_held t.held e right }
