@@ -120,15 +120,8 @@ impl OpenTransaction {
     {
         let ranges = self.ranges.as_slice();
         let index = caller.place();
-        move_rights(
-            ram,
-            layout,
-            pages,
-            ranges,
-            index,
-            NewRight::Same(Some(right)),
-            false,
-        );
+        let to_caller = NewRight::Same(Some(right));
+        move_rights(ram, layout, pages, ranges, index, to_caller, false);
         let response = self.response(caller, right);
         answer(ram, buffers, caller, &response)
     }
@@ -140,20 +133,16 @@ impl OpenTransaction {
         requires endpoint { endpoint.0 ≢ manager }
         ensures { IsPassedOn self.now.kind pages.old pages.new (in_ranges base self.now.ranges.items) endpoint right }
     {
+        let ranges = self.ranges.as_slice();
         match self.kind {
-            Kind::Donate => mark_all(
-                pages,
-                base,
-                self.ranges.as_slice(),
-                Mark::Given(endpoint, right),
-            ),
+            Kind::Donate => mark_all(pages, base, ranges, Mark::Given(endpoint, right)),
             Kind::Share | Kind::Lend => {}
         }
     }
 
     // What an endpoint is told that has this right to the pages.
-    fn response(&self, endpoint: EndpointId, rights: Rights) -> Response
-        ensures { response_record result ≡ response_to self.now.handle (transaction_of self.now) endpoint.0 rights }
+    fn response(&self, endpoint: EndpointId, right: Rights) -> Response
+        ensures { response_record result ≡ response_to self.now.handle (transaction_of self.now) endpoint.0 right }
     {
         Response {
             sender: self.sender,
@@ -162,7 +151,7 @@ impl OpenTransaction {
             handle: self.handle,
             tag: self.tag,
             endpoint,
-            rights,
+            rights: right,
             ranges: copied(&self.ranges),
         }
     }

@@ -1,10 +1,9 @@
-use Rattle.std.proofs.Common.{◌≡◌, ℕ, Some, subst}
-use Rattle.std.specs.FinMap as finite
+use Rattle.std.proofs.Common.{ℕ, subst}
 use Rattle.arrayvec.specs.ArrayVec.{array_vec_len}
 use Rattle.ffa_model.specs.Buffers.{buffers_in}
 use Rattle.ffa_memshare.specs.Retrieved.{IsAnswered}
-use Rattle.ffa_memshare.specs.Stored.{map_in, slot_at, transaction_of}
-use Rattle.ffa_memshare.proofs.Reclaims.{one-handle}
+use Rattle.ffa_memshare.specs.Stored.{transaction_of}
+use Rattle.ffa_memshare.proofs.Asks.{asked-open, asked-slot, same-handle}
 use Rattle.ffa_memshare.proofs.pool.Pool.retrieve.Goals as goal
 
 pub hand_over-size-requires-clause-held : goal.hand_over-size-requires-clause-held
@@ -14,26 +13,25 @@ hand_over-size-requires-clause-held g c =
 
 pub returns-clause-done : goal.returns-clause-done
 returns-clause-done g c =
-    let (t, at) = c.in-Some.ensures.found in
     let l = c.args.layout.now in
     let slots = c.args.self.now.slots in
+    let k = c.in-Some.slot in
     let asked = c.in_ok-asked.asked in
     let it = c.at-open.result.now in
-    let same : it.handle ≡ asked.handle = one-handle (slot_at slots c.in-Some.slot) asked.handle it.handle t (transaction_of it) at c.at-open.ensures.value in
-    let there : slot_at slots c.in-Some.slot ≡ Some (asked.handle, transaction_of it) =
-    subst (λ (h : ℕ). slot_at slots c.in-Some.slot ≡ Some (h, transaction_of it)) same c.at-open.ensures.value in
+    let there = asked-slot slots k asked.handle it c.in-Some.ensures.found c.at-open.ensures.value in
     record {
       asked = asked;
       transaction = transaction_of it;
       right = c.in_ok-right.right;
       described = c.in_ok-asked.ensures.asked;
-      was = subst (λ (h : ℕ). finite.get (map_in slots) h ≡ Some (transaction_of it)) same c.at-open.ensures.open;
+      was = asked-open slots k asked.handle it c.in-Some.ensures.found c.at-open.ensures.value c.at-open.ensures.open;
       is = c.in_ok-right.ensures.right;
       slot = c.take.ensures.slot asked.handle (transaction_of it) there;
       offers = c.take.ensures.offers asked.handle (transaction_of it) there;
       pages = c.pass_on.ensures;
       answer =
           subst (λ (h : ℕ). IsAnswered (g.M.PhysMem.ram c.args.ram.now) (g.M.PhysMem.ram c.hand_over-size.new.ram) l.base (array_vec_len l.regions) l.blocks
-          (buffers_in c.args.buffers.now c.args.caller.0) h (transaction_of it) c.args.caller.0 c.in_ok-right.right c.hand_over-size.result) same
+          (buffers_in c.args.buffers.now c.args.caller.0) h (transaction_of it) c.args.caller.0 c.in_ok-right.right c.hand_over-size.result)
+          (same-handle slots k asked.handle it c.in-Some.ensures.found c.at-open.ensures.value)
           c.hand_over-size.ensures.answered;
     }

@@ -1,9 +1,8 @@
-use Rattle.std.proofs.Common.{◌≡◌, ◌∙◌, ◌≤◌, ◌<◌, ◌^◌, ℕ, List, length, false, Some, sym, ap, subst, arith}
+use Rattle.std.proofs.Common.{◌∙◌, ◌≤◌, ◌<◌, ◌^◌, ℕ, List, length, false, Some, sym, ap, subst, arith}
 use Rattle.arrayvec.specs.ArrayVec.{array_vec_len}
 use Rattle.ffa_model.specs.declared.transaction.Range.{Range}
 use Rattle.ffa_model.specs.Buffers.{buffers_in}
-use Rattle.ffa_model.specs.Identifiers.{place}
-use Rattle.ffa_model.specs.ResponseBytes.{ResponseRecord, response_bytes, response_record, response_size}
+use Rattle.ffa_model.specs.ResponseBytes.{ResponseRecord, response_bytes, response_size}
 use Rattle.ffa_model.specs.SendDescriptor.{page_total}
 use Rattle.ffa_rxtx.specs.Parts.{with_rx_bytes}
 use Rattle.ffa_memshare.specs.Changes.{IsMoved}
