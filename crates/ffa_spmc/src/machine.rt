@@ -28,7 +28,7 @@ use crate::kept::Kept;
 use ffa_messages::{DirectMessage, direct_req, direct_resp, send2};
 use ffa_model::{Call, EndpointId, ErrorCode, Manifest, Op, Outcome, PageNo, Reply, Rights, Size};
 use ffa_physmem::PhysMem;
-use ffa_stage2::{Layout, build, built_tables};
+use ffa_stage2::{build, built_tables};
 use std::marker::Model;
 
 /// The reply to a call that answers no more than that it is done.
@@ -132,13 +132,14 @@ impl<M: PhysMem + Drop> Machine<M> {
         ensures sound { IsSoundState result.state }
     {
         let mut ram = ram;
-        build(&mut ram, &Layout::of(manifest));
+        let kept = Kept::first(manifest);
+        build(&mut ram, &kept.layout);
         // What built tables give holds from here on: the machine's invariant has it.
         built_tables();
         Machine {
             ram,
             manifest: manifest.copied(),
-            kept: Kept::first(manifest),
+            kept,
         }
     }
 
@@ -171,16 +172,16 @@ impl<M: PhysMem + Drop> Machine<M> {
         requires { page.0 < length self.now.state.pages }
         ensures { result.0 ≡ owner_of self.now.state page.0 }
     {
-        self.manifest.owner_of(page)
+        self.kept.pages.owner_of(page)
     }
 
     /// The right of an endpoint to a page: nothing outside the RAM, or for an endpoint that isn't there.
     pub fn access(&self, endpoint: EndpointId, page: PageNo) -> Option<Rights>
         ensures { result ≡ access self.now.state endpoint.0 page.0 }
     {
-        let place = endpoint.place();
-        if endpoint == EndpointId::at(place) && page.0 < self.ram.pages() {
-            self.manifest.right_to(place, page)
+        let pages = &self.kept.pages;
+        if page.0 < pages.pages() && pages.owner_of(page) == endpoint {
+            pages.base_of(page)
         } else {
             None
         }
