@@ -133,6 +133,7 @@ module _ (x : Parts) (machine : IsMachine x) where
         tables = store-tables address size value;
         layout = machine.layout;
         owners = machine.owners;
+        offers = machine.offers;
         sound = subst IsSoundState (sym (store-state address size value)) (step-sound s machine.sound (Store address size value));
       }
 

@@ -36,7 +36,7 @@ handle-empty s p none =
     find_none (λ h. is_naming s p (finite.get s.transactions h)) (finite.keys s.transactions)
     (λ h. ap (is_naming s p) (ap (λ (m : finite.FinMap nat_cmp Transaction). finite.get m h) none ∙ finite.get-empty nat_cmp h))
 
-pub transaction-empty : (s : State) (p : ℕ) → s.transactions ≡ finite.empty → transaction_at s p ≡ None
+transaction-empty : (s : State) (p : ℕ) → s.transactions ≡ finite.empty → transaction_at s p ≡ None
 transaction-empty s p none = ap (option_and_then (finite.get s.transactions)) (handle-empty s p none)
 
 -- a page that the first owners say, with these bytes
@@ -56,7 +56,6 @@ module _ (x : Parts) where
   s = state_of x
 
   pub base_is : s.ram_base ≡ x.manifest.ram_base
-  unfolding first
   base_is = refl
 
   pub parties_are : length s.parties ≡ length x.manifest.endpoints.items
@@ -66,10 +65,6 @@ module _ (x : Parts) where
   pub parties-listed : map party_of x.manifest.endpoints.items ≡ s.parties
   unfolding first
   parties-listed = refl
-
-  pub none_open : s.transactions ≡ finite.empty
-  unfolding first
-  none_open = refl
 
   pub size_is : length s.pages ≡ length x.ram.pages
   size_is = length-listed (length x.ram.pages) (held_page x.ram x.kept.pages)
@@ -82,12 +77,6 @@ module _ (x : Parts) where
 
   pub access-past : (e p : ℕ) → length x.ram.pages ≤ p → access s e p ≡ None
   access-past e p past = ap (λ (page : Option Page). right_of e page (transaction_at s p)) (page-past p past)
-
-  pub access-is : (e p : ℕ) → access s e p ≡ right_of e (page_at s p) None
-  access-is e p = ap (right_of e (page_at s p)) (transaction-empty s p none_open)
-
-  pub none_named : (p : ℕ) → handle_at s p ≡ None
-  none_named p = handle-empty s p none_open
 
   -- where the owners are the manifest's
   module _ (size : length x.ram.pages ≡ 512 * x.manifest.ram_blocks) (owners : x.kept.pages ≡ first_owners x.manifest) where
@@ -102,10 +91,10 @@ module _ (x : Parts) where
         ∙ ap (option_map (λ (e : Entry). let q : Page = record { owner = e.owner; base = e.base; bytes = page_of x.ram p } in q)) (entry-at p lt)
         ∙ page-first x.manifest.ram_base p x.manifest.endpoints.items (page_of x.ram p)
 
-    -- the access of an endpoint is the right of its own regions
-    pub access-first : (i p : ℕ) → p < length x.ram.pages → access s (identifier i) p ≡ right_in x.manifest.ram_base (regions_at x.manifest.endpoints.items i) p
-    access-first i p lt =
-        access-is (identifier i) p ∙ ap (λ (page : Option Page). right_of (identifier i) page None) (page-at p lt)
+    -- where besides nothing is open, the access of an endpoint is the right of its own regions
+    pub access-first : s.transactions ≡ finite.empty → (i p : ℕ) → p < length x.ram.pages → access s (identifier i) p ≡ right_in x.manifest.ram_base (regions_at x.manifest.endpoints.items i) p
+    access-first none i p lt =
+        ap (right_of (identifier i) (page_at s p)) (transaction-empty s p none) ∙ ap (λ (page : Option Page). right_of (identifier i) page None) (page-at p lt)
         ∙ right-own x.manifest.ram_base x.manifest.endpoints.items p i (page_of x.ram p) (accepted x.manifest.ram_base x.manifest.ram_blocks x.manifest.endpoints.items x.manifest.accepted).apart
 
   -- of a machine
@@ -131,29 +120,6 @@ module _ (x : Parts) where
             ≡ option_map_or (λ (e : Entry). e.owner) o manager
         of None = refl
         of (Some e) = refl
-
-    -- the owner has the page's base right, and nobody else any
-    pub access-in : (e p : ℕ) (owns : Bool) → (owner_at x.kept.pages p == e) ≡ owns → cond owns (base_at x.kept.pages p) None ≡ access s e p
-    access-in e p owns is =
-        ap (λ b. cond b (base_at x.kept.pages p) None) (sym is)
-        ∙ elim (cases_lt p (length x.ram.pages)) [
-          | inl lt ↦ of (entry_at x.kept.pages p) ∙ sym (access-is e p ∙ ap (λ (page : Option Page). right_of e page None) (page-held p lt))
-          | inr past ↦ outside (entry_at x.kept.pages p) (entry-past p past) ∙ sym (access-past e p past)
-        ]
-      where
-        of : (o : Option Entry)
-            → cond (option_map_or (λ (f : Entry). f.owner) o manager == e) (option_map (λ (f : Entry). f.base) o) None
-            ≡ right_of e (option_map (λ (f : Entry). let q : Page = record { owner = f.owner; base = f.base; bytes = page_of x.ram p } in q) o) None
-        of None = none (manager == e)
-          where
-            none : (b : Bool) → cond {A = Option Rights} b None None ≡ None
-            none true = refl
-            none false = refl
-        of (Some f) = refl
-
-        outside : (o : Option Entry) → o ≡ None → cond (option_map_or (λ (f : Entry). f.owner) o manager == e) (option_map (λ (f : Entry). f.base) o) None ≡ None
-        outside None is = of None
-        outside (Some f) is = absurd (none-some f (sym is))
 
     -- a page that an endpoint owns is behind the tables
     pub owned-behind : (p : ℕ) (page : Page) → page_at s p ≡ Some page → table_page x.manifest.ram_blocks (length x.manifest.endpoints.items) 0 ≤ p

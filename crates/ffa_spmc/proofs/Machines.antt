@@ -72,5 +72,6 @@ machine-called x ram buffers chain machine tables call lawful is =
       tables = tables;
       layout = machine.layout;
       owners = machine.owners;
+      offers = machine.offers;
       sound = subst IsSoundState (sym is) (call-sound (state_of x) machine.sound call lawful);
     }

@@ -180,8 +180,8 @@ impl<M: PhysMem + Drop> Machine<M> {
         ensures { result ≡ access self.now.state endpoint.0 page.0 }
     {
         let pages = &self.kept.pages;
-        if page.0 < pages.pages() && pages.owner_of(page) == endpoint {
-            pages.base_of(page)
+        if page.0 < pages.pages() {
+            self.kept.pool.access(pages, endpoint, page)
         } else {
             None
         }

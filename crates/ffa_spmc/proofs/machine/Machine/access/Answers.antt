@@ -1,30 +1,27 @@
-use Rattle.std.proofs.Common.{◌≡◌, ◌∙◌, ◌≤◌, false, true, length, sym, ap, arith}
-use Rattle.std.specs.Prelude.{◌==◌}
+use Rattle.std.proofs.Common.{◌≡◌, ◌∙◌, ◌<◌, ◌≤◌, length, sym, ap, arith}
 use Rattle.ffa_model.specs.Access.{access}
+use Rattle.ffa_model.specs.Ram.{page_of}
 use Rattle.ffa_spmc.specs.Snapshot.{Snapshot}
-use Rattle.ffa_spmc.proofs.Held.{access-in, access-past, owners-size}
+use Rattle.ffa_spmc.proofs.Held.{access-past, owners-size}
 use Rattle.ffa_spmc.proofs.Inside.{parts_of}
+use Rattle.ffa_spmc.proofs.Pools.{access-kept}
 use Rattle.ffa_spmc.proofs.machine.Machine.access.Goals as goal
-use Rattle.ffa_spmc.proofs.machine.Machine.access.Goals.{else-page-pages-via-then-page-pages+else-eq, else-page-pages-via-else-page-pages}
 
-pub returns-then-eq : goal.returns-then-eq
-returns-then-eq g c =
+pub returns-then-page-pages : goal.returns-then-page-pages
+returns-then-page-pages g c =
     let x = parts_of g.M.PhysMem.ram c.self.inside in
-    c.base_of.ensures
-    ∙ access-in x c.self.invariant c.args.endpoint.0 c.args.page.0 true (ap (λ o. o == c.args.endpoint.0) (sym c.owner_of.ensures) ∙ sym c.eq.ensures ∙ c.if-eq.true)
+    let count : c.pages.result ≡ length x.kept.pages = c.pages.ensures.count in
+    let size : length x.kept.pages ≡ length x.ram.pages = owners-size x c.self.invariant in
+    let inside : c.args.page.0 < length x.ram.pages = omega (arith, c.if-page-pages.true, count, size) in
+    c.access.ensures (page_of x.ram c.args.page.0)
+    ∙ access-kept x c.self.invariant c.args.page.0 inside c.args.endpoint.0
     ∙ ap (λ (seen : Snapshot). access seen.state c.args.endpoint.0 c.args.page.0) c.self.view_is
 
 pub returns-else-page-pages : goal.returns-else-page-pages
 returns-else-page-pages g c =
     let x = parts_of g.M.PhysMem.ram c.self.inside in
-    elim c.else-page-pages.branch [
-      | else-page-pages-via-then-page-pages+else-eq w ↦
-          access-in x c.self.invariant c.args.endpoint.0 c.args.page.0 false (ap (λ o. o == c.args.endpoint.0) (sym w.owner_of.ensures) ∙ sym w.eq.ensures ∙ w.if-eq.false)
-          ∙ ap (λ (seen : Snapshot). access seen.state c.args.endpoint.0 c.args.page.0) c.self.view_is
-      | else-page-pages-via-else-page-pages w ↦
-          (let count : c.pages.result ≡ length x.kept.pages = c.pages.ensures.count in
-          let size : length x.kept.pages ≡ length x.ram.pages = owners-size x c.self.invariant in
-          let past : length x.ram.pages ≤ c.args.page.0 = omega (arith, w.if-page-pages.false, count, size) in
-          sym (access-past x c.args.endpoint.0 c.args.page.0 past)
-          ∙ ap (λ (seen : Snapshot). access seen.state c.args.endpoint.0 c.args.page.0) c.self.view_is)
-    ]
+    let count : c.pages.result ≡ length x.kept.pages = c.pages.ensures.count in
+    let size : length x.kept.pages ≡ length x.ram.pages = owners-size x c.self.invariant in
+    let past : length x.ram.pages ≤ c.args.page.0 = omega (arith, c.if-page-pages.false, count, size) in
+    sym (access-past x c.args.endpoint.0 c.args.page.0 past)
+    ∙ ap (λ (seen : Snapshot). access seen.state c.args.endpoint.0 c.args.page.0) c.self.view_is
