@@ -24,7 +24,7 @@ use Rattle.ffa_laws.proofs.Views.{shown, view-page, view-transaction}
 use Rattle.ffa_laws.proofs.Changes.{AreRewritten, standing, unwritten, view-changed, with_parts}
 use Rattle.ffa_laws.proofs.Opened.{Transactions, same_transactions}
 
-get-remove : (m : Transactions) (h k : ℕ) → finite.get (finite.remove m h) k ≡ cond (k == h) None (finite.get m k)
+pub get-remove : (m : Transactions) (h k : ℕ) → finite.get (finite.remove m h) k ≡ cond (k == h) None (finite.get m k)
 get-remove m h k = finite.get-remove nat_cmp_total m h k ∙ ap (λ b. cond b None (finite.get m k)) (grind (arith, nat_tests))
 
 abbrev pub closed : State → ℕ → State

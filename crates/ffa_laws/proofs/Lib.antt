@@ -16,6 +16,8 @@ pub mod MessageLaws
 pub mod NotificationLaws
 pub mod Kept
 pub mod Lawful
+pub mod ReclaimLaws
+pub mod ReturnLaws
 pub mod Laws
 pub mod Growth
 pub mod Integrities
@@ -28,11 +30,11 @@ pub mod Firsts
 pub mod Closed
 pub mod CountSeen
 pub mod Ceilings
-pub mod ReclaimLaws
 pub mod SoundSteady
 pub mod ByteLists
 pub mod SoundKept
 pub mod SoundPages
 pub mod SoundBuffers
 pub mod SoundNotifications
+pub mod SoundReturns
 pub mod SoundOperations

@@ -81,7 +81,7 @@ module _ (s : State) (is : IsScheduled s) where
   sound-service (MemShare total fragment address pages) lawful none = absurd (false≢true lawful)
   sound-service (MemRetrieve total fragment address pages) lawful none = absurd (false≢true lawful)
   sound-service MemRelinquish lawful none = absurd (false≢true lawful)
-  sound-service (MemReclaim low high flags) lawful none = absurd (false≢true lawful)
+  sound-service (MemReclaim low high flags) lawful none = old
   sound-service (BitmapCreate endpoint contexts) lawful none = old
   sound-service (BitmapDestroy endpoint) lawful none = old
   sound-service (NotificationBind word flags low high) lawful none = old
