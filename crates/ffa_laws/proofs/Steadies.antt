@@ -3,6 +3,7 @@ use Rattle.std.proofs.Common.{◌≡◌, ◌≢◌, ◌∙◌, ℕ, Bool, true, 
 use Rattle.std.specs.Prelude.{◌==◌}
 use Rattle.std.specs.Option.{option_map, option_map_or}
 use Rattle.ffa_model.specs.Rights.{is_within}
+use Rattle.ffa_model.specs.Transactions.{Bases, bases_of, ceiling}
 use Rattle.ffa_model.specs.Identifiers.{place}
 use Rattle.ffa_model.specs.State.{State, Page, Buffers, page_at, owner_of, is_known_among, is_known, transaction_of}
 use Rattle.ffa_model.specs.Access.{handle_at, transaction_at}
@@ -50,6 +51,9 @@ module _ (s : State) (steady : IsSteady s) (ps : List (Option Page)) (bs : List 
   alone-kept : (e p : ℕ) → IsAlone s e p → IsAlone (with_parts s ps bs c) e p
   alone-kept e p alone = record { owner = same_owner (get_or ps p None) (page_at s p) (rewritten.same p) ∙ alone.owner; unnamed = alone.unnamed }
 
+  same-bases : bases_of (with_parts s ps bs c) ≡ bases_of s
+  same-bases = λ i. record { ram_base = s.ram_base; pages = rewritten.each i; right = λ p. same_base (get_or ps p None) (page_at s p) (rewritten.same p) i }
+
   pub steady-changed : length bs ≡ length s.buffers → is_known_among (length s.parties) c.runner ≡ true
       → ((i by : ℕ) → requester (get_or c.works i None) ≡ Some by → is_known_among (length s.parties) by ≡ true)
       → ((e : ℕ) (b : Buffers) → is_known s e ≡ true → get_or bs (place e) None ≡ Some b → AreSteadyBuffers s e b)
@@ -67,7 +71,11 @@ module _ (s : State) (steady : IsSteady s) (ps : List (Option Page)) (bs : List 
           receiver = (steady.transactions h t is).receiver;
           within = λ p e right named holds. ap (is_within (Some right)) (same_base (get_or ps p None) (page_at s p) (rewritten.same p)) ∙ (steady.transactions h t is).within p e right named holds;
           alone = (steady.transactions h t is).alone;
+          ceilings = λ p e named. subst (λ (b : Bases). is_within (Some (ceiling b t e)) (b.right p) ≡ true) (sym same-bases) ((steady.transactions h t is).ceilings p e named);
+          taker = (steady.transactions h t is).taker;
         };
+        sends = steady.sends;
+        numbers = steady.numbers;
         buffers = λ e b known is. (let own = buffers e b known is in record { tx = alone-kept e b.tx own.tx; rx = alone-kept e b.rx own.rx });
         bound = steady.bound;
       }
@@ -82,7 +90,9 @@ steady-notified s steady n bound =
       runner = steady.runner;
       requesters = steady.requesters;
       one = steady.one;
-      transactions = λ h t is. (let good = steady.transactions h t is in record { owned = good.owned; receiver = good.receiver; within = good.within; alone = good.alone });
+      transactions = λ h t is. (let good = steady.transactions h t is in record { owned = good.owned; receiver = good.receiver; within = good.within; alone = good.alone; ceilings = good.ceilings; taker = good.taker });
+      sends = steady.sends;
+      numbers = steady.numbers;
       buffers = λ e b known is.
           let own = steady.buffers e b known is in
           record { tx = record { owner = own.tx.owner; unnamed = own.tx.unnamed }; rx = record { owner = own.rx.owner; unnamed = own.rx.unnamed } };
