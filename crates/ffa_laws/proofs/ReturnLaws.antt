@@ -54,7 +54,9 @@ module _ (s : State) (steady : IsSteady s) (h : ℕ) where
         runner = steady.runner;
         requesters = steady.requesters;
         one = λ p i k at_i at_k. steady.one p i k (named-before p i at_i) (named-before p k at_k);
-        transactions = λ k t is. (let good = steady.transactions k t (open-before k t is) in record { owned = good.owned; receiver = good.receiver; within = good.within; alone = good.alone });
+        transactions = λ k t is. (let good = steady.transactions k t (open-before k t is) in record { owned = good.owned; receiver = good.receiver; within = good.within; alone = good.alone; ceilings = good.ceilings; taker = good.taker });
+        sends = steady.sends;
+        numbers = λ k t is. steady.numbers k t (open-before k t is);
         buffers = λ e b known is.
             let own = steady.buffers e b known is in
             record { tx = record { owner = own.tx.owner; unnamed = unnamed-still b.tx own.tx.unnamed }; rx = record { owner = own.rx.owner; unnamed = unnamed-still b.rx own.rx.unnamed } };
