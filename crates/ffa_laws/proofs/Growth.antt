@@ -13,7 +13,7 @@ use Rattle.ffa_model.specs.Bits.{is_set}
 use Rattle.ffa_model.specs.Buffers.{filled_pages}
 use Rattle.ffa_model.specs.Calls.{first_failure}
 use Rattle.ffa_model.specs.Memory.{size_of}
-use Rattle.ffa_model.specs.MemoryReturn.{named_ranges}
+use Rattle.ffa_model.specs.MemoryReturn.{named_ranges, relinquish_read}
 use Rattle.ffa_model.specs.Messages.{header_in, message_in, tx_bytes}
 use Rattle.ffa_model.specs.Registers.{served_call}
 use Rattle.ffa_model.specs.Rights.{is_lend, is_data_at_most, is_share, is_within}
@@ -26,6 +26,7 @@ use Rattle.ffa_laws.specs.Isolation.{NeverGrow, is_joint_at, is_lawful_call}
 use Rattle.ffa_laws.proofs.Views.{found}
 use Rattle.ffa_laws.proofs.Changes.{AreRewritten, same_base, standing, page_base, unwritten}
 use Rattle.ffa_laws.proofs.Closed.{rewritten-zeroed_if}
+use Rattle.ffa_laws.proofs.ReturnLaws.{rewritten-relinquished}
 use Rattle.ffa_laws.proofs.Written.{rewritten-filled, rewritten-written}
 use Rattle.ffa_laws.proofs.Kept.{is_memory_call, kept-call, kept-step}
 use Rattle.ffa_laws.proofs.Lawful.{lawful as served_lawful}
@@ -148,7 +149,7 @@ module _ (s : State) (steady : IsSteady s) where
   memory-rights (MemLend total fragment address pages) lawful memory none = absurd (false≢true lawful)
   memory-rights (MemShare total fragment address pages) lawful memory none = absurd (false≢true lawful)
   memory-rights (MemRetrieve total fragment address pages) lawful memory none = absurd (false≢true lawful)
-  memory-rights MemRelinquish lawful memory none = absurd (false≢true lawful)
+  memory-rights MemRelinquish lawful memory none = rewritten-rights s.pages _ (rewritten-relinquished s (relinquish_read s))
   memory-rights (MemReclaim low high flags) lawful memory none =
       rewritten-rights s.pages _ (rewritten-zeroed_if (is_set 0 flags) s (named_ranges (transaction_of s (handle_of high low))))
   memory-rights call lawful memory none = absurd (false≢true memory)
