@@ -1,6 +1,7 @@
 pub mod Maps
 pub mod Views
 pub mod Form
+pub mod Within
 pub mod Publics
 pub mod Changes
 pub mod Written
@@ -16,6 +17,7 @@ pub mod MessageLaws
 pub mod NotificationLaws
 pub mod Kept
 pub mod Lawful
+pub mod Holders
 pub mod ReclaimLaws
 pub mod ReturnLaws
 pub mod Laws
