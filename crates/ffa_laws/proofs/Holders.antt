@@ -1,30 +1,33 @@
--- A transaction whose holders change: what becomes of views, and of a steady state.
-use Rattle.std.proofs.Common.{◌≡◌, ◌≢◌, ◌∙◌, ℕ, ◌≤◌, Bool, true, false, cond, Some, None, refl, sym, ap, subst}
-use Rattle.std.specs.Prelude.{◌==◌, ◌||◌}
-use Rattle.std.specs.Option.{option_map}
+-- Other holders of an open transaction: what becomes of views, and that a state stays steady.
+use Rattle.std.proofs.Common.{◌≡◌, ◌≢◌, ◌∙◌, ℕ, ◌≤◌, Bool, true, false, cond, length, Option, Some, None, refl, sym, ap, subst}
+use Rattle.std.specs.Prelude.{◌==◌, ◌||◌, ◌&&◌, nat_le}
+use Rattle.std.specs.Option.{option_and_then, option_map}
 use Rattle.std.specs.Ordering.{nat_cmp}
 use Rattle.std.specs.Cmp.{nat_cmp_total, unsigned_tied}
 use Rattle.std.specs.FinMap as finite
 use Rattle.std.proofs.Math.Path.{fun_ext}
-use Rattle.std.proofs.lemmas.Bool.{eqb-true}
+use Rattle.std.proofs.lemmas.Bool.{eqb-true, le-leb}
 use Rattle.std.proofs.lemmas.Option.{same_Some}
 use Rattle.ffa_model.specs.declared.rights.Kind.{Kind}
 use Rattle.ffa_model.specs.declared.rights.Kind.TheVariants.{Share, Lend, Donate}
 use Rattle.ffa_model.specs.declared.rights.Rights.{Rights}
 use Rattle.ffa_model.specs.Lists.{map_at}
-use Rattle.ffa_model.specs.Rights.{is_within}
+use Rattle.ffa_model.specs.Rights.{is_lend, is_share, is_within}
 use Rattle.ffa_model.specs.State.{State, Transaction, owner_of, sent_by, transaction_of}
-use Rattle.ffa_model.specs.Access.{handle_at, held_by, is_naming, is_receiver, names, transaction_at}
-use Rattle.ffa_model.specs.Transactions.{Bases, base_of, bases_of, ceiling, ceiling_in, handle_of, not_holding, offers_of, with_offers, with_transaction}
+use Rattle.ffa_model.specs.Access.{handle_at, held_by, is_naming, is_receiver, names}
+use Rattle.ffa_model.specs.Transactions.{Bases, base_of, bases_of, ceiling, ceiling_in, handle_of, not_holding}
 use Rattle.ffa_laws.specs.Steady.{IsSteady, IsSteadyTransaction, is_joint}
 use Rattle.ffa_laws.specs.View.{view, involves, is_near, kept, seen_by, transactions_of}
-use Rattle.ffa_model.proofs.Accesses.{in-changed, in-unchanged, named-in, once-changed}
-use Rattle.ffa_laws.proofs.Maps.{first_no, first_none}
-use Rattle.ffa_laws.proofs.Opened.{get-insert, same_transactions}
+use Rattle.ffa_laws.proofs.Maps.{first_no, first_none, first_one, first_some}
 use Rattle.ffa_laws.proofs.Views.{shown, view-transaction}
+use Rattle.ffa_laws.proofs.Opened.{get-insert, same_transactions}
+use Rattle.ffa_laws.proofs.Steadies.{two-receivers}
 
-abbrev Holders : Type 0
+abbrev pub Holders : Type 0
 Holders = finite.FinMap nat_cmp Rights
+
+abbrev pub reheld : State → ℕ → Transaction → Holders → State
+reheld s h t held = record s { transactions = finite.insert s.transactions h (record t { held = held }) }
 
 same-holders : (m n : Holders) → ((k : ℕ) → finite.get m k ≡ finite.get n k) → m ≡ n
 same-holders m n same = finite.same_map nat_cmp_total finite.nat_cmp-IsAntisymmetric m n same
@@ -58,13 +61,23 @@ seen-released e f t =
         both false true = refl
         both false false = refl
 
--- the transaction of a handle is another
-abbrev pub with_open : State → ℕ → Transaction → State
-with_open s h t = with_offers s (with_transaction (offers_of s) h t)
+-- who isn't the sender, and holds what it held, sees the holders as before
+pub seen-unheld : (e : ℕ) (t : Transaction) (held : Holders) → (t.sender == e) ≡ false → finite.get held e ≡ held_by t e → seen_by e (record t { held = held }) ≡ seen_by e t
+seen-unheld e t held other same = λ i. record t { held = hidden i }
+  where
+    own : (k : ℕ) (b : Bool) → (k == e) ≡ b → cond b (finite.get held k) None ≡ cond b (finite.get t.held k) None
+    own k true at = let is = eqb-true k e at in ap (finite.get held) is ∙ same ∙ sym (ap (finite.get t.held) is)
+    own k false differ = refl
 
--- ceilings don't ask who holds
-ceiling-anew : (b : Bases) (t : Transaction) (held : Holders) (e : ℕ) → ceiling b (record t { held = held }) e ≡ ceiling b t e
-ceiling-anew b t held e = of t.kind
+    hidden : cond (t.sender == e) held (finite.retain_keys held (λ f. f == e)) ≡ cond (t.sender == e) t.held (finite.retain_keys t.held (λ f. f == e))
+    hidden =
+        ap (λ b. cond b held (finite.retain_keys held (λ f. f == e))) other
+        ∙ same-holders _ _ (λ k. get-own e held k ∙ own k (k == e) refl ∙ sym (get-own e t.held k))
+        ∙ sym (ap (λ b. cond b t.held (finite.retain_keys t.held (λ f. f == e))) other)
+
+-- who holds a transaction doesn't touch ceilings
+ceiling-reheld : (b : Bases) (t : Transaction) (held : Holders) (e : ℕ) → ceiling b (record t { held = held }) e ≡ ceiling b t e
+ceiling-reheld b t held e = of t.kind
   where
     of : (kind : Kind) → ceiling_in kind b (record t { held = held }) e ≡ ceiling_in kind b t e
     of Share = refl
@@ -72,126 +85,119 @@ ceiling-anew b t held e = of t.kind
     of Donate = refl
 
 module _ (s : State) (steady : IsSteady s) (h : ℕ) (t : Transaction) (there : transaction_of s h ≡ Some t) (held : Holders) where
-  abbrev anew : Transaction
-  anew = record t { held = held }
+  abbrev changed : Transaction
+  changed = record t { held = held }
 
   abbrev after : State
-  after = with_open s h anew
+  after = reheld s h t held
 
-  naming-anew : (p k : ℕ) → is_naming s p (transaction_of after k) ≡ is_naming s p (transaction_of s k)
-  naming-anew p k = ap (is_naming s p) (get-insert s.transactions h anew k) ∙ go (k == h) refl
+  -- what doesn't ask for the holders is as it was
+  as-before : {X : Type 0} (ask : Option Transaction → X) → ask (Some changed) ≡ ask (Some t) → (k : ℕ) → ask (transaction_of after k) ≡ ask (transaction_of s k)
+  as-before ask same k =
+      ap ask (get-insert s.transactions h changed k)
+      ∙ elim (k == h) as (λ b. (k == h) ≡ b → ask (cond b (Some changed) (transaction_of s k)) ≡ ask (transaction_of s k)) [
+        | true ↦ λ it. same ∙ sym (ap ask (ap (transaction_of s) (eqb-true k h it) ∙ there))
+        | false ↦ λ other. refl
+      ] refl
+
+  naming-reheld : (p k : ℕ) → is_naming s p (transaction_of after k) ≡ is_naming s p (transaction_of s k)
+  naming-reheld p k = as-before (is_naming s p) refl k
+
+  pub handle_at-reheld : (p : ℕ) → handle_at after p ≡ handle_at s p
+  handle_at-reheld p = go (handle_at s p) refl
     where
-      go : (b : Bool) → (k == h) ≡ b → is_naming s p (cond b (Some anew) (transaction_of s k)) ≡ is_naming s p (transaction_of s k)
-      go true same = sym (ap (λ j. is_naming s p (transaction_of s j)) (eqb-true k h same) ∙ ap (is_naming s p) there)
-      go false differ = refl
+      go : (o : Option ℕ) → handle_at s p ≡ o → handle_at after p ≡ o
+      go None is = first_no (is_naming s p) after.transactions (λ k. naming-reheld p k ∙ first_none (is_naming s p) s.transactions refl is k)
+      go (Some k) is =
+          let here : is_naming s p (transaction_of s k) ≡ true = first_some (is_naming s p) s.transactions k is in
+          first_one (is_naming s p) after.transactions refl k (naming-reheld p k ∙ here) (λ j now. steady.one p j k (sym (naming-reheld p j) ∙ now) here)
 
-  -- ---- views
-  involved-anew : (e p : ℕ) → involves e (transaction_at after p) ≡ involves e (transaction_at s p)
-  involved-anew e p = go (names s t.ranges p) refl
+  pub near-reheld : (e p : ℕ) → is_near e after p ≡ is_near e s p
+  near-reheld e p =
+      ap (λ o. owner_of s p == e || involves e (option_and_then (transaction_of after) o)) (handle_at-reheld p)
+      ∙ ap (λ b. owner_of s p == e || b)
+      (elim (handle_at s p) as (λ o. involves e (option_and_then (transaction_of after) o) ≡ involves e (option_and_then (transaction_of s) o)) [ None ↦ refl | Some k ↦ as-before (involves e) refl k ])
+
+  pages-reheld : (e : ℕ) → (view e after).pages ≡ (view e s).pages
+  pages-reheld e = ap (λ (near : ℕ → Bool). map_at (λ p page. kept (near p) page) s.pages) (fun_ext (near-reheld e))
+
+  -- who knows the transaction sees its holders so
+  pub view-reheld : (e : ℕ) (seen : Transaction) → involves e (Some t) ≡ true → seen_by e changed ≡ seen
+      → view e after ≡ record (view e s) { transactions = finite.insert (transactions_of e s) h seen }
+  view-reheld e seen known is = λ i. record (view e s) { pages = pages-reheld e i; transactions = transactions i }
     where
-      go : (b : Bool) → names s t.ranges p ≡ b → involves e (transaction_at after p) ≡ involves e (transaction_at s p)
-      go true named = ap (involves e) (in-changed s h t anew there refl p (steady.one p) named) ∙ sym (ap (involves e) (named-in s p h t (steady.one p) there named))
-      go false away = ap (involves e) (in-unchanged s h t anew there refl p (steady.one p) away)
-
-  near-anew : (e p : ℕ) → is_near e after p ≡ is_near e s p
-  near-anew e p = ap (λ b. owner_of s p == e || b) (involved-anew e p)
-
-  seen-anew : (e k : ℕ) → finite.get (transactions_of e after) k ≡ cond (k == h) (shown e (Some anew)) (finite.get (transactions_of e s) k)
-  seen-anew e k =
-      view-transaction e after k ∙ ap (shown e) (get-insert s.transactions h anew k)
-      ∙ elim (k == h) as (λ b. shown e (cond b (Some anew) (transaction_of s k)) ≡ cond b (shown e (Some anew)) (finite.get (transactions_of e s) k)) [ true ↦ refl | false ↦ sym (view-transaction e s k) ]
-
-  view-anew : (e : ℕ) → view e after ≡ record (view e s) { transactions = transactions_of e after }
-  view-anew e = λ i. record (view e s) { pages = pages i; transactions = transactions_of e after }
-    where
-      pages : (view e after).pages ≡ (view e s).pages
-      pages = ap (λ (near : ℕ → Bool). map_at (λ p page. kept (near p) page) s.pages) (fun_ext (near-anew e))
-
-  -- whoever is involved sees the change
-  pub view-held : (e : ℕ) → involves e (Some t) ≡ true → view e after ≡ with_open (view e s) h (seen_by e anew)
-  view-held e known = view-anew e ∙ (λ i. record (view e s) { transactions = transactions i })
-    where
-      transactions : transactions_of e after ≡ finite.insert (transactions_of e s) h (seen_by e anew)
+      transactions : transactions_of e after ≡ finite.insert (transactions_of e s) h seen
       transactions = same_transactions _ _ (λ k.
-          seen-anew e k
-          ∙ ap (λ b. cond (k == h) (option_map (seen_by e) (kept b (Some anew))) (finite.get (transactions_of e s) k)) known
-          ∙ sym (get-insert (transactions_of e s) h (seen_by e anew) k))
+          view-transaction e after k ∙ ap (shown e) (get-insert s.transactions h changed k)
+          ∙ elim (k == h) as (λ b. shown e (cond b (Some changed) (transaction_of s k)) ≡ cond b (Some seen) (finite.get (transactions_of e s) k)) [
+            | true ↦ ap (λ b. option_map (seen_by e) (kept b (Some changed))) known ∙ ap Some is
+            | false ↦ sym (view-transaction e s k)
+          ]
+          ∙ sym (get-insert (transactions_of e s) h seen k))
 
-  -- and whoever sees the transaction as before sees nothing
-  pub view-unheld : (e : ℕ) → shown e (Some anew) ≡ shown e (Some t) → view e after ≡ view e s
-  view-unheld e same = view-anew e ∙ (λ i. record (view e s) { transactions = transactions i })
+  -- who sees no change of them sees nothing
+  pub view-untold : (e : ℕ) → seen_by e changed ≡ seen_by e t → view e after ≡ view e s
+  view-untold e same = λ i. record (view e s) { pages = pages-reheld e i; transactions = transactions i }
     where
       transactions : transactions_of e after ≡ transactions_of e s
-      transactions = same_transactions _ _ (λ k. seen-anew e k ∙ go k (k == h) refl)
-        where
-          go : (k : ℕ) (b : Bool) → (k == h) ≡ b → cond b (shown e (Some anew)) (finite.get (transactions_of e s) k) ≡ finite.get (transactions_of e s) k
-          go k true at = same ∙ sym (view-transaction e s k ∙ ap (shown e) (ap (transaction_of s) (eqb-true k h at) ∙ there))
-          go k false other = refl
+      transactions = same_transactions _ _ (λ k.
+          view-transaction e after k
+          ∙ as-before (shown e) (elim (involves e (Some t)) as (λ b. option_map (seen_by e) (kept b (Some changed)) ≡ option_map (seen_by e) (kept b (Some t))) [ true ↦ ap Some same | false ↦ refl ]) k
+          ∙ sym (view-transaction e s k))
 
-  -- as whoever isn't the sender, and holds what it held
-  seen-unheld : (e : ℕ) → (t.sender == e) ≡ false → finite.get held e ≡ held_by t e → seen_by e anew ≡ seen_by e t
-  seen-unheld e other same = λ i. record t { held = hidden i }
-    where
-      own : (k : ℕ) (b : Bool) → (k == e) ≡ b → cond b (finite.get held k) None ≡ cond b (finite.get t.held k) None
-      own k true at = let is = eqb-true k e at in ap (finite.get held) is ∙ same ∙ sym (ap (finite.get t.held) is)
-      own k false differ = refl
+  -- ---- steadiness
+  module _ (receivers : (e : ℕ) (right : Rights) → finite.get held e ≡ Some right → is_receiver e t ≡ true)
+      (rights : (p e : ℕ) (right : Rights) → names s t.ranges p ≡ true → finite.get held e ≡ Some right → is_within (Some right) (base_of s p) ≡ true) where
+    good : IsSteadyTransaction s t
+    good = steady.transactions h t there
 
-      hidden : cond (t.sender == e) held (finite.retain_keys held (λ f. f == e)) ≡ cond (t.sender == e) t.held (finite.retain_keys t.held (λ f. f == e))
-      hidden =
-          ap (λ b. cond b held (finite.retain_keys held (λ f. f == e))) other
-          ∙ same-holders _ _ (λ k. get-own e held k ∙ own k (k == e) refl ∙ sym (get-own e t.held k))
-          ∙ sym (ap (λ b. cond b t.held (finite.retain_keys t.held (λ f. f == e))) other)
+    joint : (e f : ℕ) → e ≢ f → is_receiver e t ≡ true → is_receiver f t ≡ true → (kind : Kind) → t.kind ≡ kind → is_joint t ≡ true
+    joint e f differ of_e of_f Share is = ap (λ k. is_share k || (is_lend k && nat_le 2 (length t.receivers))) is
+    joint e f differ of_e of_f Lend is =
+        ap (λ k. is_share k || (is_lend k && nat_le 2 (length t.receivers))) is ∙ le-leb 2 (length t.receivers) (two-receivers t.receivers e f differ of_e of_f)
+    joint e f differ of_e of_f Donate is = absurd (differ (good.taker e f is of_e of_f))
 
-  pub shown-unheld : (e : ℕ) → (t.sender == e) ≡ false → finite.get held e ≡ held_by t e → shown e (Some anew) ≡ shown e (Some t)
-  shown-unheld e other same = go (involves e (Some t))
-    where
-      go : (b : Bool) → option_map (seen_by e) (kept b (Some anew)) ≡ option_map (seen_by e) (kept b (Some t))
-      go true = ap Some (seen-unheld e other same)
-      go false = refl
+    itself : IsSteadyTransaction after changed
+    itself =
+        record {
+          owned = good.owned;
+          receiver = receivers;
+          within = rights;
+          alone = λ e f one other differ of_e of_f. joint e f differ (receivers e one of_e) (receivers f other of_f) t.kind refl;
+          ceilings = λ p e named. subst (λ (most : Rights). is_within (Some most) (base_of s p) ≡ true) (sym (ceiling-reheld (bases_of s) t held e)) (good.ceilings p e named);
+          taker = good.taker;
+        }
 
-  -- ---- a steady state
-  pub steady-held : ((e : ℕ) (right : Rights) → finite.get held e ≡ Some right → is_receiver e t ≡ true)
-      → ((p e : ℕ) (right : Rights) → names s t.ranges p ≡ true → finite.get held e ≡ Some right → is_within (Some right) (base_of s p) ≡ true)
-      → ((e f : ℕ) (one other : Rights) → e ≢ f → finite.get held e ≡ Some one → finite.get held f ≡ Some other → is_joint t ≡ true)
-      → IsSteady after
-  steady-held receiver within alone =
-      record {
-        some = steady.some;
-        few = steady.few;
-        each = steady.each;
-        runner = steady.runner;
-        requesters = steady.requesters;
-        one = λ p i k at_i at_k. once-changed s h t anew there refl p (steady.one p) i k at_i at_k;
-        transactions = λ k u is. each k u (k == h) refl (sym (get-insert s.transactions h anew k) ∙ is);
-        sends = steady.sends;
-        numbers = λ k u is. number k u (k == h) refl (sym (get-insert s.transactions h anew k) ∙ is);
-        buffers = λ e b known is.
-            let own = steady.buffers e b known is in
-            record { tx = record { owner = own.tx.owner; unnamed = unnamed b.tx own.tx.unnamed }; rx = record { owner = own.rx.owner; unnamed = unnamed b.rx own.rx.unnamed } };
-        bound = steady.bound;
-      }
-    where
-      itself : IsSteadyTransaction after anew
-      itself =
-          let good = steady.transactions h t there in
-          record {
-            owned = good.owned;
-            receiver = receiver;
-            within = within;
-            alone = alone;
-            ceilings = λ p e named. ap (λ (most : Rights). is_within (Some most) (base_of s p)) (ceiling-anew (bases_of s) t held e) ∙ good.ceilings p e named;
-            taker = good.taker;
-          }
+    each : (k : ℕ) (u : Transaction) → transaction_of after k ≡ Some u → IsSteadyTransaction after u
+    each k u is =
+        elim (k == h) as (λ b. cond b (Some changed) (transaction_of s k) ≡ Some u → IsSteadyTransaction after u) [
+          | true ↦ λ its. subst (IsSteadyTransaction after) (same_Some changed u its) itself
+          | false ↦ λ old. (let was = steady.transactions k u old in record { owned = was.owned; receiver = was.receiver; within = was.within; alone = was.alone; ceilings = was.ceilings; taker = was.taker })
+        ] (sym (get-insert s.transactions h changed k) ∙ is)
 
-      each : (k : ℕ) (u : Transaction) (b : Bool) → (k == h) ≡ b → cond b (Some anew) (transaction_of s k) ≡ Some u → IsSteadyTransaction after u
-      each k u true at is = subst (IsSteadyTransaction after) (same_Some anew u is) itself
-      each k u false other is = (let good = steady.transactions k u is in record { owned = good.owned; receiver = good.receiver; within = good.within; alone = good.alone; ceilings = good.ceilings; taker = good.taker })
-
-      number : (k : ℕ) (u : Transaction) (b : Bool) → (k == h) ≡ b → cond b (Some anew) (transaction_of s k) ≡ Some u → (n : ℕ) × (k ≡ handle_of u.sender n) × (n ≤ sent_by s u.sender) × (n ≤ 65535)
-      number k u true at is =
-          let (n, handle, sent, few) = steady.numbers h t there in
-          subst (λ (v : Transaction). (n : ℕ) × (k ≡ handle_of v.sender n) × (n ≤ sent_by s v.sender) × (n ≤ 65535)) (same_Some anew u is) (n, eqb-true k h at ∙ handle, sent, few)
-      number k u false other is = steady.numbers k u is
-
-      unnamed : (p : ℕ) → handle_at s p ≡ None → handle_at after p ≡ None
-      unnamed p none = first_no (is_naming s p) after.transactions (λ k. naming-anew p k ∙ first_none (is_naming s p) s.transactions refl none k)
+    pub steady-reheld : IsSteady after
+    steady-reheld =
+        record {
+          some = steady.some;
+          few = steady.few;
+          each = steady.each;
+          runner = steady.runner;
+          requesters = steady.requesters;
+          one = λ p i k at_i at_k. steady.one p i k (sym (naming-reheld p i) ∙ at_i) (sym (naming-reheld p k) ∙ at_k);
+          transactions = each;
+          sends = steady.sends;
+          numbers = numbered;
+          buffers = λ e b known is.
+              let own = steady.buffers e b known is in
+              record { tx = record { owner = own.tx.owner; unnamed = handle_at-reheld b.tx ∙ own.tx.unnamed }; rx = record { owner = own.rx.owner; unnamed = handle_at-reheld b.rx ∙ own.rx.unnamed } };
+          bound = steady.bound;
+        }
+      where
+        numbered : (k : ℕ) (u : Transaction) → transaction_of after k ≡ Some u → (n : ℕ) × (k ≡ handle_of u.sender n) × (n ≤ sent_by s u.sender) × (n ≤ 65535)
+        numbered k u is =
+            elim (k == h) as (λ b. (k == h) ≡ b → cond b (Some changed) (transaction_of s k) ≡ Some u → (n : ℕ) × (k ≡ handle_of u.sender n) × (n ≤ sent_by s u.sender) × (n ≤ 65535)) [
+              | true ↦ λ same its.
+                  subst (λ f. (n : ℕ) × (k ≡ handle_of f n) × (n ≤ sent_by s f) × (n ≤ 65535)) (ap (λ (v : Transaction). v.sender) (same_Some changed u its))
+                  (steady.numbers k t (ap (transaction_of s) (eqb-true k h same) ∙ there))
+              | false ↦ λ other old. steady.numbers k u old
+            ] refl (sym (get-insert s.transactions h changed k) ∙ is)

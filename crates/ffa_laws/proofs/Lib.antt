@@ -1,6 +1,7 @@
 pub mod Maps
 pub mod Views
 pub mod Form
+pub mod Within
 pub mod Publics
 pub mod Changes
 pub mod Written

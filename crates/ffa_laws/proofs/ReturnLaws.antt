@@ -35,7 +35,7 @@ use Rattle.ffa_laws.proofs.BufferLaws.{own-buffers}
 use Rattle.ffa_laws.proofs.MessageLaws.{tx-seen}
 use Rattle.ffa_laws.proofs.Closed.{closed, get-remove, rewritten-zeroed_if}
 use Rattle.ffa_laws.proofs.Ceilings.{or_true}
-use Rattle.ffa_laws.proofs.Holders.{seen-released, shown-unheld, steady-held, view-held, view-unheld, with_open}
+use Rattle.ffa_laws.proofs.Holders.{reheld, seen-released, seen-unheld, steady-reheld, view-reheld, view-untold}
 use Rattle.ffa_laws.proofs.ReclaimLaws.{second-fails, zeroed-far, zeroed_if-seen}
 use Rattle.ffa_laws.proofs.Steadies.{steady-changed}
 
@@ -99,20 +99,17 @@ module _ (s : State) (steady : IsSteady s) (h : ℕ) (t : Transaction) (there : 
     | inr other ↦ sym (released-beside t f e other) ∙ is
   ]
 
-  steady-released : IsSteady (with_open s h (not_holding t f))
+  steady-released : IsSteady (reheld s h t (finite.remove t.held f))
   steady-released =
       let good = steady.transactions h t there in
-      steady-held s steady h t there (finite.remove t.held f)
-      (λ e right is. good.receiver e right (left e right is))
-      (λ p e right named is. good.within p e right named (left e right is))
-      (λ e g one other differ of_e of_g. good.alone e g one other differ (left e one of_e) (left g other of_g))
+      steady-reheld s steady h t there (finite.remove t.held f) (λ e right is. good.receiver e right (left e right is)) (λ p e right named is. good.within p e right named (left e right is))
 
 pub steady-relinquish : (s : State) → IsSteady s → IsSteady (memory_relinquish s).state
 steady-relinquish s steady = by_descriptor (relinquish_read s)
   where
     of : (d : RelinquishDesc) (o : Option Transaction) → transaction_of s d.handle ≡ o → IsSteady (relinquished_from s d o)
     of d None there = steady
-    of d (Some t) there = steady-zeroed d.zero (with_open s d.handle (not_holding t s.runner)) t.ranges (steady-released s steady d.handle t there s.runner)
+    of d (Some t) there = steady-zeroed d.zero (reheld s d.handle t (finite.remove t.held s.runner)) t.ranges (steady-released s steady d.handle t there s.runner)
 
     by_descriptor : (d : Option RelinquishDesc) → IsSteady (relinquished s d)
     by_descriptor None = steady
@@ -173,9 +170,8 @@ module _ (s : State) (steady : IsSteady s) where
   same-left d None there none = absurd (false≢true (guard-passes (guards d None) 2 InvalidParameters (sym none)))
   same-left d (Some t) there none =
       ap (relinquished_from v d) in_view
-      ∙ (λ i. zeroed_if d.zero (with_open v d.handle (sym (seen-released r r t) i)) t.ranges)
-      ∙ (λ i. zeroed_if d.zero (sym (view-held s steady d.handle t there (finite.remove t.held r) r known) i) t.ranges)
-      ∙ zeroed_if-seen r (with_open s d.handle (not_holding t r)) d.zero t.ranges
+      ∙ (λ i. zeroed_if d.zero (sym (view-reheld s steady d.handle t there (finite.remove t.held r) r (not_holding (seen_by r t) r) known (seen-released r r t)) i) t.ranges)
+      ∙ zeroed_if-seen r (reheld s d.handle t (finite.remove t.held r)) d.zero t.ranges
     where
       offered : is_receiver r t ≡ true
       offered = guard-passes (guards d (Some t)) 2 InvalidParameters (sym none)
@@ -211,12 +207,9 @@ module _ (e : ℕ) (s : State) (steady : IsSteady s) (other : s.runner ≢ e) (d
   abbrev h : ℕ
   h = d.handle
 
-  abbrev left_it : Transaction
-  left_it = not_holding t s.runner
-
   -- the state before pages are zeroed
   abbrev given_up : State
-  given_up = with_open s h left_it
+  given_up = reheld s h t (finite.remove t.held s.runner)
 
   -- the events by what decides of them: whether e sent it, and whether e sent it or is offered it
   abbrev told : Bool → Bool → List Event
@@ -232,9 +225,8 @@ module _ (e : ℕ) (s : State) (steady : IsSteady s) (other : s.runner ≢ e) (d
   to-sender : (t.sender == e) ≡ true → apply_all e (view e s) (told true true) ≡ after
   to-sender mine =
       (λ i. apply_all e (with_holder (view e s) h s.runner None (in_view i)) (where_true (d.zero && true) (Zeroed h ∷ [])))
-      ∙ (λ i. apply_all e (with_open (view e s) h (sym (seen-released e s.runner t) i)) (where_true (d.zero && true) (Zeroed h ∷ [])))
-      ∙ (λ i. apply_all e (sym (view-held s steady h t there (finite.remove t.held s.runner) e known) i) (where_true (d.zero && true) (Zeroed h ∷ [])))
-      ∙ zeroed-told e h d.zero (view e given_up) t.ranges (ranges-seen given_up left_it (get-put s.transactions h left_it) known)
+      ∙ (λ i. apply_all e (sym (view-reheld s steady h t there (finite.remove t.held s.runner) e (not_holding (seen_by e t) s.runner) known (seen-released e s.runner t)) i) (where_true (d.zero && true) (Zeroed h ∷ [])))
+      ∙ zeroed-told e h d.zero (view e given_up) t.ranges (ranges-seen given_up (not_holding t s.runner) (get-put s.transactions h (not_holding t s.runner)) known)
     where
       known : involves e (Some t) ≡ true
       known = ap (λ b. b || is_receiver e t) mine
@@ -244,7 +236,9 @@ module _ (e : ℕ) (s : State) (steady : IsSteady s) (other : s.runner ≢ e) (d
 
   module _ (not_sender : (t.sender == e) ≡ false) where
     unheld : view e given_up ≡ view e s
-    unheld = view-unheld s steady h t there (finite.remove t.held s.runner) e (shown-unheld s steady h t there (finite.remove t.held s.runner) e not_sender (released-beside t s.runner e (λ same. other (sym same))))
+    unheld =
+        view-untold s steady h t there (finite.remove t.held s.runner) e
+        (seen-unheld e t (finite.remove t.held s.runner) not_sender (released-beside t s.runner e (λ same. other (sym same))))
 
     -- another receiver sees zeros alone
     to-receiver : involves e (Some t) ≡ true → apply_all e (view e s) (told false true) ≡ after
