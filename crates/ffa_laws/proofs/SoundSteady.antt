@@ -1,9 +1,9 @@
 -- A sound state is steady: so the laws of isolation hold of each sound state.
 use Rattle.std.proofs.Common.{◌≡◌, ◌≢◌, ◌∙◌, ℕ, ◌+◌, ◌*◌, ◌<◌, ◌≤◌, Bool, true, false, cond, List, [], ◌∷◌, length, Option, Some, None, refl, sym, ap, subst, inl, inr, arith}
 use Rattle.std.specs.Prelude.{◌==◌, ◌&&◌, ◌||◌, find, nat_le, nat_lt, not, unwrap_or}
-use Rattle.std.specs.List.{list_all, list_any}
+use Rattle.std.specs.List.{list_all}
 use Rattle.std.specs.Option.{option_and_then, option_map_or}
-use Rattle.std.proofs.lemmas.Bool.{and_from, and_parts, cases_eq, eqb-true, false≢true, le-leb, leb-true, ltb-true, or_cases}
+use Rattle.std.proofs.lemmas.Bool.{and_from, and_parts, cases_eq, false≢true, le-leb, leb-true, ltb-true, or_cases}
 use Rattle.std.proofs.lemmas.Option.{none-some}
 use Rattle.ffa_model.specs.declared.rights.Data.{Data}
 use Rattle.ffa_model.specs.declared.rights.Data.TheVariants.{Ro, Rw}
@@ -23,9 +23,9 @@ use Rattle.ffa_model.specs.SendDescriptor.{most_receivers, range_end}
 use Rattle.ffa_model.specs.SoundState.{IsSoundState, IsSoundTransaction}
 use Rattle.ffa_laws.specs.Steady.{IsSteady, IsSteadyTransaction, is_joint}
 use Rattle.ffa_model.proofs.NamedPages.{listed-each}
-use Rattle.ffa_laws.proofs.Growth.{within-through}
+use Rattle.ffa_laws.proofs.Within.{within-through}
 use Rattle.ffa_laws.proofs.SoundLaws.{requester-known}
-use Rattle.ffa_laws.proofs.Steadies.{usable}
+use Rattle.ffa_laws.proofs.Steadies.{two-receivers, usable}
 use Rattle.ffa_laws.proofs.Changes.{page_base}
 
 -- a page of ranges that lie in RAM is in RAM
@@ -62,15 +62,6 @@ granted (r ∷ receivers) e right all =
     own : (grant : Option Data) → is_grantable grant (Some right) ≡ true → is_data_at_most (unwrap_or grant Ro) right.level ≡ true
     own None is = refl
     own (Some level) is = is
-
-two-receivers : (receivers : List Receiver) (e f : ℕ) → e ≢ f → list_any (λ (r : Receiver). r.endpoint.0 == e) receivers ≡ true
-    → list_any (λ (r : Receiver). r.endpoint.0 == f) receivers ≡ true → 2 ≤ length receivers
-two-receivers [] e f differ one other = absurd (false≢true one)
-two-receivers (r ∷ []) e f differ one other = absurd (differ (sym (alone e one) ∙ alone f other))
-  where
-    alone : (g : ℕ) → (r.endpoint.0 == g || false) ≡ true → r.endpoint.0 ≡ g
-    alone g is = elim (or_cases _ _ is) [ inl same ↦ eqb-true r.endpoint.0 g same | inr none ↦ absurd (false≢true none) ]
-two-receivers (r ∷ q ∷ receivers) e f differ one other = omega arith
 
 -- execution and level, where a test gives them
 executed : (b c : Bool) → (b ≡ true → c ≡ true) → (not b || c) ≡ true
