@@ -7,6 +7,8 @@ pub mod Reaches
 pub mod Agreements
 pub mod Stores
 pub mod Machines
+pub mod Moves
+pub mod Closes
 pub mod Accesses
 pub mod Boots
 pub mod Candidates
@@ -15,5 +17,6 @@ pub mod Fills
 pub mod Information
 pub mod Schedules
 pub mod Sends
+pub mod Reclaims
 pub mod ServedCalls
 pub mod Laws

@@ -6,18 +6,17 @@ use Rattle.std.proofs.lemmas.Bool.{cases_lt, false≢true}
 use Rattle.std.proofs.lemmas.Bool.Decides.{nat_tests}
 use Rattle.std.proofs.lemmas.Option.{none-some}
 use Rattle.arrayvec.specs.ArrayVec.{array_vec_len}
-use Rattle.ffa_model.specs.declared.rights.Rights.{Rights}
 use Rattle.ffa_model.specs.Access.{access, handle_at, is_naming, names, right_of, transaction_at}
 use Rattle.ffa_model.specs.Identifiers.{manager, place}
 use Rattle.ffa_model.specs.Ram.{page_of}
 use Rattle.ffa_model.specs.State.{State, Page, Transaction, is_known_among, owner_of, page_at, transaction_of}
-use Rattle.ffa_model.specs.Transactions.{Bases, base_of, bases_of}
+use Rattle.ffa_model.specs.Transactions.{base_of, bases_of}
 use Rattle.ffa_model.proofs.Accesses.{IsNamedOnce, named-in, unnamed-in}
 use Rattle.ffa_model.proofs.Handles.{alone-found, unpassed-none}
 use Rattle.ffa_model.proofs.Places.{known-place}
 use Rattle.ffa_model.proofs.Slots.{at-get, get-at}
 use Rattle.ffa_laws.proofs.SoundSteady.{sound-steady}
-use Rattle.ffa_pages.specs.Entry.{Entry, base_at, entry_at, owner_at, slot_at}
+use Rattle.ffa_pages.specs.Entry.{Entry, base_at, entry_at, slot_at}
 use Rattle.ffa_stage2.specs.Tables.{table_page}
 use Rattle.ffa_memshare.specs.Named.{bases_in}
 use Rattle.ffa_memshare.specs.Shared.{IsHeld, IsRoom, IsShared}
