@@ -7,14 +7,16 @@ ghost use Rattle.ffa_model.specs.Calls.{first_failure};
 ghost use Rattle.ffa_model.specs.Identifiers.{place};
 ghost use Rattle.ffa_model.specs.MemoryReturn.{is_unheld, reclaim_guards};
 ghost use Rattle.ffa_model.specs.State.{Page};
+ghost use Rattle.ffa_model.specs.Transactions.{are_executable, are_writable};
 ghost use Rattle.ffa_pages.specs.Entry.{base_at};
 ghost use Rattle.ffa_memshare.specs.Changes.{IsMarked, IsMoved};
 ghost use Rattle.ffa_memshare.specs.Named.{bases_in};
 ghost use Rattle.ffa_memshare.specs.Ranges.{ArePlaced, in_ranges};
 ghost use Rattle.ffa_memshare.specs.Shared.{IsHeld};
 
-use crate::checks::common_of;
+use crate::checks::{Common, common_of};
 use crate::grants::NewRight;
+use crate::holders::Holders;
 use crate::marks::{Mark, mark_all};
 use crate::moves::move_rights;
 use arrayvec::ArrayVec;
@@ -33,8 +35,7 @@ pub struct OpenTransaction {
     pub zero: bool,
     pub ranges: ArrayVec<Range, 16>,
     pub receivers: ArrayVec<Receiver, 4>,
-    /// The right that each endpoint holds, by its place in the manifest.
-    pub held: ArrayVec<Option<Rights>, 8>,
+    pub held: Holders,
 }
 
 impl OpenTransaction {
@@ -44,13 +45,7 @@ impl OpenTransaction {
     pub(crate) fn held(&self, endpoint: EndpointId) -> Option<Rights>
         ensures { result ≡ held_by (transaction_of self.now) endpoint.0 }
     {
-        let place = endpoint.place();
-        let held = self.held.as_slice();
-        if EndpointId::at(place) == endpoint && place < held.len() {
-            held[place]
-        } else {
-            None
-        }
+        self.held.of(endpoint)
     }
 
     // What an endpoint may do with one of its pages, to which the sender's own right is this.
@@ -77,6 +72,15 @@ impl OpenTransaction {
             .all(|receiver| self.held(receiver.endpoint).is_none())
     }
 
+    // What all its pages have.
+    pub(crate) fn common(&self, pages: &PageTable, base: u32) -> Common
+        requires { ArePlaced base (length pages.now) self.now.ranges.items }
+        ensures writable { result.is_writable ≡ are_writable (bases_in pages.now base) self.now.ranges.items }
+        ensures executable { result.is_executable ≡ are_executable (bases_in pages.now base) self.now.ranges.items }
+    {
+        common_of(pages, base, self.ranges.as_slice())
+    }
+
     // Whether its sender may end it, or why not.
     pub(crate) fn check_reclaim(
         &self,
@@ -94,7 +98,7 @@ impl OpenTransaction {
         if !self.is_unheld() {
             return Err(ErrorCode::Denied);
         }
-        if flags == 1 && !common_of(pages, base, self.ranges.as_slice()).is_writable {
+        if flags == 1 && !self.common(pages, base).is_writable {
             return Err(ErrorCode::Denied);
         }
         Ok(())

@@ -177,6 +177,14 @@ impl Buffers {
         }
     }
 
+    /// Says that RX of an endpoint is full, if the endpoint has buffers, once its bytes have been written where they lie.
+    pub fn mark_full(&mut self, endpoint: EndpointId)
+        requires { is_known_among (length self.old) endpoint.0 ≡ true }
+        ensures { self.new ≡ buffers_with_rx self.old endpoint.0 true }
+    {
+        self.set_full(endpoint, true);
+    }
+
     /// Says that RX of an endpoint is empty, if the endpoint has buffers. Its bytes stay.
     pub fn empty(&mut self, endpoint: EndpointId)
         requires { is_known_among (length self.old) endpoint.0 ≡ true }
