@@ -16,15 +16,15 @@ use Rattle.ffa_model.specs.Access.{handle_at, is_naming, is_receiver, names, tra
 use Rattle.ffa_model.specs.RunStates.{schedule_of}
 use Rattle.ffa_laws.specs.Steady.{IsSteady}
 use Rattle.ffa_laws.specs.View.{view, involves, is_near, kept, seen_by, transactions_of}
-use Rattle.ffa_model.specs.Memory.{changed_pages, with_pages, zeroed_page}
+use Rattle.ffa_model.specs.Memory.{changed_pages, with_pages, zeroed_if, zeroed_page}
 use Rattle.ffa_model.specs.MemoryReturn.{named_ranges}
 use Rattle.ffa_laws.specs.Events.{Closed, apply, with_held}
 use Rattle.ffa_laws.proofs.Maps.{first_no, first_none, first_one, first_some, at-map_at, length-map_at, map_at-alike, map_at-same, map_at-twice}
 use Rattle.ffa_laws.proofs.Views.{shown, view-page, view-transaction}
-use Rattle.ffa_laws.proofs.Changes.{AreRewritten, standing, view-changed, with_parts}
+use Rattle.ffa_laws.proofs.Changes.{AreRewritten, standing, unwritten, view-changed, with_parts}
 use Rattle.ffa_laws.proofs.Opened.{Transactions, same_transactions}
 
-get-remove : (m : Transactions) (h k : ℕ) → finite.get (finite.remove m h) k ≡ cond (k == h) None (finite.get m k)
+pub get-remove : (m : Transactions) (h k : ℕ) → finite.get (finite.remove m h) k ≡ cond (k == h) None (finite.get m k)
 get-remove m h k = finite.get-remove nat_cmp_total m h k ∙ ap (λ b. cond b None (finite.get m k)) (grind (arith, nat_tests))
 
 abbrev pub closed : State → ℕ → State
@@ -53,6 +53,10 @@ rewritten-zeroed s ranges =
       each = length-map_at (λ q page. cond (names s ranges q) (zeroed_page page) page) s.pages;
       same = λ p. ap standing (at-map_at (λ q page. cond (names s ranges q) (zeroed_page page) page) s.pages p (λ q. zeroed-none (names s ranges q))) ∙ standing-zeroed (names s ranges p) (page_at s p);
     }
+
+pub rewritten-zeroed_if : (asked : Bool) (s : State) (ranges : List Range) → AreRewritten s.pages (zeroed_if asked s ranges).pages
+rewritten-zeroed_if true s ranges = rewritten-zeroed s ranges
+rewritten-zeroed_if false s ranges = unwritten s.pages
 
 -- whoever knows of the pages or not
 pub view-zeroed : (e : ℕ) (s : State) (ranges : List Range) → view e (zeroed s ranges) ≡ zeroed (view e s) ranges

@@ -4,22 +4,32 @@ use Rattle.std.specs.Prelude.{Bool, is_none, ◌==◌, ◌&&◌, nat_le, nat_lt,
 use Rattle.std.specs.Option.{option_and_then, option_map_or}
 use Rattle.std.proofs.lemmas.Bool.{and_from, cases_eq, eq-eqb, eqb-true, false≢true, true≢false}
 use Rattle.byteorder.specs.Endian.{little_bytes}
+use Rattle.ffa_model.specs.declared.descriptor.RelinquishDesc.{RelinquishDesc}
 use Rattle.ffa_model.specs.declared.operation.Op.{Op}
 use Rattle.ffa_model.specs.declared.call.Call as calls
+use Rattle.ffa_model.specs.declared.call.Call.TheVariants.{MemDonate, MemLend, MemShare, MemRetrieve, MemRelinquish, MemReclaim}
 use Rattle.ffa_model.specs.declared.operation.ErrorCode.TheVariants.{InvalidParameters}
+use Rattle.ffa_model.specs.declared.transaction.Range.{Range}
+use Rattle.ffa_model.specs.Bits.{is_set}
+use Rattle.ffa_model.specs.MemoryReturn.{named_ranges, relinquish_read, relinquished, relinquished_from}
+use Rattle.ffa_model.specs.Registers.{served_call}
 use Rattle.ffa_model.specs.Rights.{may_store}
-use Rattle.ffa_model.specs.State.{State, Page, Buffers, page_at, owner_of, buffers_of, is_known, transaction_of}
-use Rattle.ffa_model.specs.Access.{access, handle_at, right_of}
+use Rattle.ffa_model.specs.State.{State, Page, Transaction, Buffers, page_at, owner_of, buffers_of, is_known, transaction_of}
+use Rattle.ffa_model.specs.Access.{access, handle_at, is_naming, names, right_of}
 use Rattle.ffa_model.specs.Buffers.{filled_pages}
-use Rattle.ffa_model.specs.Memory.{access_at, page_bytes, size_of, store_fault, written_pages}
+use Rattle.ffa_model.specs.Memory.{access_at, page_bytes, size_of, store_fault, written_pages, zeroed_if, zeroed_page}
 use Rattle.ffa_model.specs.Calls.{first_failure}
 use Rattle.ffa_model.specs.Messages.{header_in, message_in, send2_guards, tx_bytes}
-use Rattle.ffa_model.specs.Step.{serve, step}
+use Rattle.ffa_model.specs.Step.{serve, service, step}
+use Rattle.ffa_model.specs.Transactions.{handle_of}
 use Rattle.ffa_laws.specs.Steady.{IsSteady}
 use Rattle.ffa_laws.specs.Isolation.{Integrity, LeavesBytes, fills_rx_page, is_lawful_call, is_indirect_message, is_send2}
 use Rattle.ffa_model.proofs.Guards.{guard-passes}
 use Rattle.ffa_laws.proofs.MemoryLaws.{fault-none}
-use Rattle.ffa_laws.proofs.Kept.{kept-call, kept-step}
+use Rattle.ffa_model.proofs.Accesses.{page-changed}
+use Rattle.ffa_laws.proofs.Maps.{first_none}
+use Rattle.ffa_laws.proofs.Lawful.{lawful as served_lawful}
+use Rattle.ffa_laws.proofs.Kept.{is_memory_call, kept-call, kept-step}
 
 -- the bytes of a page of a list of pages
 abbrev bytes_in : List (Option Page) → ℕ → List ℕ
@@ -82,18 +92,51 @@ module _ (s : State) (steady : IsSteady s) (e p : ℕ) (owned : owner_of s p ≡
       known : is_known s receiver ≡ true
       known = guard-passes (send2_guards s.parties s.buffers s.runner (header_in (tx_bytes s s.runner))) 4 InvalidParameters (sym passed)
 
+  -- the pages of an open transaction are others
+  of_no_transaction : (h : ℕ) → names s (named_ranges (transaction_of s h)) p ≡ false
+  of_no_transaction h = go (transaction_of s h) (first_none (is_naming s p) s.transactions refl unnamed h)
+    where
+      go : (o : Option Transaction) → is_naming s p o ≡ false → names s (named_ranges o) p ≡ false
+      go None is = refl
+      go (Some t) is = is
+
+  elsewhere-zeroed : (asked : Bool) (ranges : List Range) → names s ranges p ≡ false → bytes_in (zeroed_if asked s ranges).pages p ≡ bytes_in s.pages p
+  elsewhere-zeroed false ranges away = refl
+  elsewhere-zeroed true ranges away =
+      ap (λ page. option_map_or (λ (x : Page). x.bytes) page []) (page-changed s ranges zeroed_page p refl ∙ ap (λ b. cond b (zeroed_page (page_at s p)) (page_at s p)) away)
+
+  relinquished-elsewhere : (d : Option RelinquishDesc) → bytes_in (relinquished s d).pages p ≡ bytes_in s.pages p
+  relinquished-elsewhere None = refl
+  relinquished-elsewhere (Some d) = of (transaction_of s d.handle) (of_no_transaction d.handle)
+    where
+      of : (o : Option Transaction) → names s (named_ranges o) p ≡ false → bytes_in (relinquished_from s d o).pages p ≡ bytes_in s.pages p
+      of None away = refl
+      of (Some t) away = elsewhere-zeroed d.zero t.ranges away
+
+  -- the calls on memory transactions
+  memory-bytes : (call : calls.Call) → is_lawful_call call ≡ true → is_memory_call call ≡ true → first_failure (service s call).guards ≡ None → bytes_in (service s call).state.pages p ≡ bytes_in s.pages p
+  memory-bytes (MemDonate total fragment address pages) lawful memory none = absurd (false≢true lawful)
+  memory-bytes (MemLend total fragment address pages) lawful memory none = absurd (false≢true lawful)
+  memory-bytes (MemShare total fragment address pages) lawful memory none = absurd (false≢true lawful)
+  memory-bytes (MemRetrieve total fragment address pages) lawful memory none = absurd (false≢true lawful)
+  memory-bytes MemRelinquish lawful memory none = relinquished-elsewhere (relinquish_read s)
+  memory-bytes (MemReclaim low high flags) lawful memory none =
+      elsewhere-zeroed (is_set 0 flags) (named_ranges (transaction_of s (handle_of high low))) (of_no_transaction (handle_of high low))
+  memory-bytes call lawful memory none = absurd (false≢true memory)
+
+  by-info : (bytes : List ℕ) → bytes_in (filled_pages s.pages bytes (buffers_of s s.runner)) p ≡ bytes_in s.pages p
+  by-info bytes = elsewhere-filled s.runner bytes steady.runner (λ b is. of_another s.runner b steady.runner is other)
+
   bytes-kept-call : (call : calls.Call) → is_lawful_call call ≡ true → (is_send2 call && fills_rx_page s e p) ≡ false → page_bytes (serve s call).state p ≡ page_bytes s p
   bytes-kept-call call lawful not_bound =
-      kept-call (λ t. page_bytes t p ≡ page_bytes s p) (λ ps. bytes_in ps p ≡ bytes_in s.pages p) s refl (λ ps bs c n same. same) refl
-      (λ bytes. elsewhere-filled s.runner bytes steady.runner (λ b is. of_another s.runner b steady.runner is other)) call lawful
-      (delivered_elsewhere (is_send2 call) not_bound)
+      kept-call (λ ps. bytes_in ps p ≡ bytes_in s.pages p) s refl by-info call (delivered_elsewhere (is_send2 call) not_bound) (memory-bytes call lawful)
 
   bytes-kept : (op : Op) → (is_indirect_message op && fills_rx_page s e p) ≡ false → page_bytes (step s op).state p ≡ page_bytes s p
   bytes-kept op not_bound =
-      kept-step (λ t. page_bytes t p ≡ page_bytes s p) (λ ps. bytes_in ps p ≡ bytes_in s.pages p) s refl (λ ps bs c n same. same) refl
-      (λ bytes. elsewhere-filled s.runner bytes steady.runner (λ b is. of_another s.runner b steady.runner is other)) op
+      kept-step (λ ps. bytes_in ps p ≡ bytes_in s.pages p) s refl by-info op
       (λ address size value none. elsewhere s.pages ((address - s.ram_base) / 4096) p (address % 4096) (little_bytes (size_of size) value) (stored_elsewhere address (size_of size) none))
       (delivered_elsewhere (is_indirect_message op) not_bound)
+      (λ x. memory-bytes (served_call x) (served_lawful x))
 
 pub integrity : (s : State) (op : Op) → IsSteady s → Integrity s op
 integrity s op steady e p owned unnamed other not_bound = bytes-kept s steady e p owned unnamed other op not_bound

@@ -1,6 +1,7 @@
 pub mod Maps
 pub mod Views
 pub mod Form
+pub mod Within
 pub mod Publics
 pub mod Changes
 pub mod Written
@@ -16,6 +17,9 @@ pub mod MessageLaws
 pub mod NotificationLaws
 pub mod Kept
 pub mod Lawful
+pub mod Holders
+pub mod ReclaimLaws
+pub mod ReturnLaws
 pub mod Laws
 pub mod Growth
 pub mod Integrities
@@ -28,11 +32,11 @@ pub mod Firsts
 pub mod Closed
 pub mod CountSeen
 pub mod Ceilings
-pub mod ReclaimLaws
 pub mod SoundSteady
 pub mod ByteLists
 pub mod SoundKept
 pub mod SoundPages
 pub mod SoundBuffers
 pub mod SoundNotifications
+pub mod SoundReturns
 pub mod SoundOperations

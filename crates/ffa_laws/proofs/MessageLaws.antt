@@ -32,7 +32,7 @@ not-same : (a b : ℕ) → not (a == b) ≡ true → a ≢ b
 not-same a b is same = grind (arith, nat_tests)
 
 module _ (s : State) (steady : IsSteady s) where
-  tx-seen : tx_bytes (view s.runner s) s.runner ≡ tx_bytes s s.runner
+  pub tx-seen : tx_bytes (view s.runner s) s.runner ≡ tx_bytes s s.runner
   tx-seen = ap (λ o. option_map_or (λ (b : Buffers). page_bytes (view s.runner s) b.tx) o []) (own-buffers s.runner s steady.runner) ∙ go (buffers_of s s.runner) refl
     where
       go : (o : Option Buffers) → buffers_of s s.runner ≡ o → option_map_or (λ (b : Buffers). page_bytes (view s.runner s) b.tx) o [] ≡ option_map_or (λ (b : Buffers). page_bytes s b.tx) o []

@@ -1,9 +1,9 @@
 -- A sound state is steady: so the laws of isolation hold of each sound state.
 use Rattle.std.proofs.Common.{◌≡◌, ◌≢◌, ◌∙◌, ℕ, ◌+◌, ◌*◌, ◌<◌, ◌≤◌, Bool, true, false, cond, List, [], ◌∷◌, length, Option, Some, None, refl, sym, ap, subst, inl, inr, arith}
 use Rattle.std.specs.Prelude.{◌==◌, ◌&&◌, ◌||◌, find, nat_le, nat_lt, not, unwrap_or}
-use Rattle.std.specs.List.{list_all, list_any}
+use Rattle.std.specs.List.{list_all}
 use Rattle.std.specs.Option.{option_and_then, option_map_or}
-use Rattle.std.proofs.lemmas.Bool.{and_from, and_parts, eqb-true, false≢true, le-leb, leb-true, ltb-true, or_cases}
+use Rattle.std.proofs.lemmas.Bool.{and_from, and_parts, cases_eq, false≢true, le-leb, leb-true, ltb-true, or_cases}
 use Rattle.std.proofs.lemmas.Option.{none-some}
 use Rattle.ffa_model.specs.declared.rights.Data.{Data}
 use Rattle.ffa_model.specs.declared.rights.Data.TheVariants.{Ro, Rw}
@@ -15,17 +15,17 @@ use Rattle.ffa_model.specs.declared.transaction.Receiver.{Receiver}
 use Rattle.ffa_model.specs.Identifiers.{manager}
 use Rattle.ffa_model.specs.Rights.{is_at_most, is_data_at_most, is_lend, is_share, is_within, may_fetch, may_store}
 use Rattle.ffa_model.specs.State.{State, Page, Transaction, is_known, is_known_among, owner_of, page_at, transaction_of}
-use Rattle.ffa_model.specs.Access.{covers, held_by, is_naming, names}
+use Rattle.ffa_model.specs.Access.{covers, held_by, is_naming, is_receiver, names}
 use Rattle.ffa_model.specs.RunStates.{schedule_of}
 use Rattle.ffa_model.specs.Transactions.{Bases, are_executable, are_writable, base_of, bases_of, ceiling, ceiling_in, grant_to, pages_in}
 use Rattle.ffa_model.specs.MemorySend.{are_grants_within, is_grantable, is_inside}
-use Rattle.ffa_model.specs.SendDescriptor.{range_end}
+use Rattle.ffa_model.specs.SendDescriptor.{most_receivers, range_end}
 use Rattle.ffa_model.specs.SoundState.{IsSoundState, IsSoundTransaction}
 use Rattle.ffa_laws.specs.Steady.{IsSteady, IsSteadyTransaction, is_joint}
 use Rattle.ffa_model.proofs.NamedPages.{listed-each}
-use Rattle.ffa_laws.proofs.Growth.{within-through}
+use Rattle.ffa_laws.proofs.Within.{within-through}
 use Rattle.ffa_laws.proofs.SoundLaws.{requester-known}
-use Rattle.ffa_laws.proofs.Steadies.{usable}
+use Rattle.ffa_laws.proofs.Steadies.{two-receivers, usable}
 use Rattle.ffa_laws.proofs.Changes.{page_base}
 
 -- a page of ranges that lie in RAM is in RAM
@@ -62,15 +62,6 @@ granted (r ∷ receivers) e right all =
     own : (grant : Option Data) → is_grantable grant (Some right) ≡ true → is_data_at_most (unwrap_or grant Ro) right.level ≡ true
     own None is = refl
     own (Some level) is = is
-
-two-receivers : (receivers : List Receiver) (e f : ℕ) → e ≢ f → list_any (λ (r : Receiver). r.endpoint.0 == e) receivers ≡ true
-    → list_any (λ (r : Receiver). r.endpoint.0 == f) receivers ≡ true → 2 ≤ length receivers
-two-receivers [] e f differ one other = absurd (false≢true one)
-two-receivers (r ∷ []) e f differ one other = absurd (differ (sym (alone e one) ∙ alone f other))
-  where
-    alone : (g : ℕ) → (r.endpoint.0 == g || false) ≡ true → r.endpoint.0 ≡ g
-    alone g is = elim (or_cases _ _ is) [ inl same ↦ eqb-true r.endpoint.0 g same | inr none ↦ absurd (false≢true none) ]
-two-receivers (r ∷ q ∷ receivers) e f differ one other = omega arith
 
 -- execution and level, where a test gives them
 executed : (b c : Bool) → (b ≡ true → c ≡ true) → (not b || c) ≡ true
@@ -141,8 +132,19 @@ module _ (s : State) (sound : IsSoundState s) where
           receiver = good.holder;
           within = λ p e right named held. within-through (Some right) (Some (ceiling (bases_of s) t e)) (page_base (page_at s p)) (good.within e right held) (ceiling-within p e named);
           alone = λ e f one other differ of_e of_f. joint e f one other differ of_e of_f t.kind refl;
+          ceilings = ceiling-within;
+          taker = taker;
         }
       where
+        taker : (e f : ℕ) → t.kind ≡ Donate → is_receiver e t ≡ true → is_receiver f t ≡ true → e ≡ f
+        taker e f is of_e of_f = elim (cases_eq e f) [
+          | inl same ↦ same
+          | inr differ ↦
+              let most : length t.receivers ≤ 1 = subst (λ k. length t.receivers ≤ most_receivers k) is good.few_receivers in
+              let least = two-receivers t.receivers e f differ of_e of_f in
+              absurd (omega (arith, most, least))
+        ]
+
         joint : (e f : ℕ) (one other : Rights) → e ≢ f → held_by t e ≡ Some one → held_by t f ≡ Some other → (kind : Kind) → t.kind ≡ kind → is_joint t ≡ true
         joint e f one other differ of_e of_f Share is = ap (λ k. is_share k || (is_lend k && nat_le 2 (length t.receivers))) is
         joint e f one other differ of_e of_f Lend is =
@@ -170,6 +172,12 @@ module _ (s : State) (sound : IsSoundState s) where
         requesters = λ i by asked. subst (λ n. is_known_among n by ≡ true) sized.works (requester-known (schedule_of s) sound.schedule some few i by asked);
         one = λ p h k at_h at_k. sound.one p h k (naming-inside p h at_h) at_h at_k;
         transactions = λ h t is. steady-transaction h t is;
+        sends = sized.sent;
+        numbers = λ h t is.
+            let good = sound.transactions h t is in
+            let number = good.number in
+            let most = sound.sent t.sender good.sender in
+            (number.0, number.1, number.3, omega (arith, most));
         buffers = λ e b known is.
             let own = sound.buffers e b known is in
             record { tx = usable s e b.tx own.tx; rx = usable s e b.rx own.rx };

@@ -1,8 +1,11 @@
 -- What keeps a state steady.
-use Rattle.std.proofs.Common.{◌≡◌, ◌≢◌, ◌∙◌, ℕ, Bool, true, false, cond, List, length, get_or, Option, Some, None, is_some, refl, sym, ap, subst, arith}
+use Rattle.std.proofs.Common.{◌≡◌, ◌≢◌, ◌∙◌, ℕ, ◌≤◌, Bool, true, false, cond, List, [], ◌∷◌, length, get_or, Option, Some, None, is_some, refl, sym, ap, subst, inl, inr, arith}
 use Rattle.std.specs.Prelude.{◌==◌}
+use Rattle.std.specs.List.{list_any}
 use Rattle.std.specs.Option.{option_map, option_map_or}
+use Rattle.ffa_model.specs.declared.transaction.Receiver.{Receiver}
 use Rattle.ffa_model.specs.Rights.{is_within}
+use Rattle.ffa_model.specs.Transactions.{Bases, bases_of, ceiling}
 use Rattle.ffa_model.specs.Identifiers.{place}
 use Rattle.ffa_model.specs.State.{State, Page, Buffers, page_at, owner_of, is_known_among, is_known, transaction_of}
 use Rattle.ffa_model.specs.Access.{handle_at, transaction_at}
@@ -14,7 +17,7 @@ use Rattle.std.specs.FinSet as finite_set
 use Rattle.ffa_laws.specs.View.{is_near, involves}
 use Rattle.std.specs.Prelude.{◌||◌, not}
 use Rattle.std.specs.Option.{option_and_then}
-use Rattle.std.proofs.lemmas.Bool.{false≢true, eqb-true, and_parts}
+use Rattle.std.proofs.lemmas.Bool.{false≢true, eqb-true, and_parts, or_cases}
 use Rattle.std.proofs.lemmas.Bool.Decides.{nat_tests}
 use Rattle.ffa_laws.proofs.Changes.{AreRewritten, with_parts, same_base, same_owner}
 use Rattle.ffa_laws.proofs.Written.{at-changed, is_at, with_rx_full}
@@ -35,6 +38,16 @@ usable s e p is = go (page_at s p) refl is
         let (mine, free) = and_parts _ _ both in
         record { owner = ap (λ o. option_map_or (λ (x : Page). x.owner) o 0x8000) at ∙ eqb-true q.owner e mine; unnamed = no_handle (handle_at s p) free }
 
+-- two receivers are at least two
+pub two-receivers : (receivers : List Receiver) (e f : ℕ) → e ≢ f → list_any (λ (r : Receiver). r.endpoint.0 == e) receivers ≡ true
+    → list_any (λ (r : Receiver). r.endpoint.0 == f) receivers ≡ true → 2 ≤ length receivers
+two-receivers [] e f differ one other = absurd (false≢true one)
+two-receivers (r ∷ []) e f differ one other = absurd (differ (sym (alone e one) ∙ alone f other))
+  where
+    alone : (g : ℕ) → (r.endpoint.0 == g || false) ≡ true → r.endpoint.0 ≡ g
+    alone g is = elim (or_cases _ _ is) [ inl same ↦ eqb-true r.endpoint.0 g same | inr none ↦ absurd (false≢true none) ]
+two-receivers (r ∷ q ∷ receivers) e f differ one other = omega arith
+
 -- such a page is near to its owner alone
 pub alone-near : (s : State) (e p : ℕ) → IsAlone s e p → is_near e s p ≡ true
 alone-near s e p is = let owner = is.owner in grind (arith, nat_tests)
@@ -49,6 +62,9 @@ alone-far s e f p is differ =
 module _ (s : State) (steady : IsSteady s) (ps : List (Option Page)) (bs : List (Option Buffers)) (c : Schedule) (rewritten : AreRewritten s.pages ps) where
   alone-kept : (e p : ℕ) → IsAlone s e p → IsAlone (with_parts s ps bs c) e p
   alone-kept e p alone = record { owner = same_owner (get_or ps p None) (page_at s p) (rewritten.same p) ∙ alone.owner; unnamed = alone.unnamed }
+
+  same-bases : bases_of (with_parts s ps bs c) ≡ bases_of s
+  same-bases = λ i. record { ram_base = s.ram_base; pages = rewritten.each i; right = λ p. same_base (get_or ps p None) (page_at s p) (rewritten.same p) i }
 
   pub steady-changed : length bs ≡ length s.buffers → is_known_among (length s.parties) c.runner ≡ true
       → ((i by : ℕ) → requester (get_or c.works i None) ≡ Some by → is_known_among (length s.parties) by ≡ true)
@@ -67,7 +83,11 @@ module _ (s : State) (steady : IsSteady s) (ps : List (Option Page)) (bs : List 
           receiver = (steady.transactions h t is).receiver;
           within = λ p e right named holds. ap (is_within (Some right)) (same_base (get_or ps p None) (page_at s p) (rewritten.same p)) ∙ (steady.transactions h t is).within p e right named holds;
           alone = (steady.transactions h t is).alone;
+          ceilings = λ p e named. subst (λ (b : Bases). is_within (Some (ceiling b t e)) (b.right p) ≡ true) (sym same-bases) ((steady.transactions h t is).ceilings p e named);
+          taker = (steady.transactions h t is).taker;
         };
+        sends = steady.sends;
+        numbers = steady.numbers;
         buffers = λ e b known is. (let own = buffers e b known is in record { tx = alone-kept e b.tx own.tx; rx = alone-kept e b.rx own.rx });
         bound = steady.bound;
       }
@@ -82,7 +102,9 @@ steady-notified s steady n bound =
       runner = steady.runner;
       requesters = steady.requesters;
       one = steady.one;
-      transactions = λ h t is. (let good = steady.transactions h t is in record { owned = good.owned; receiver = good.receiver; within = good.within; alone = good.alone });
+      transactions = λ h t is. (let good = steady.transactions h t is in record { owned = good.owned; receiver = good.receiver; within = good.within; alone = good.alone; ceilings = good.ceilings; taker = good.taker });
+      sends = steady.sends;
+      numbers = steady.numbers;
       buffers = λ e b known is.
           let own = steady.buffers e b known is in
           record { tx = record { owner = own.tx.owner; unnamed = own.tx.unnamed }; rx = record { owner = own.rx.owner; unnamed = own.rx.unnamed } };

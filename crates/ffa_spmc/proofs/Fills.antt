@@ -9,9 +9,9 @@ use Rattle.ffa_model.specs.First.{first}
 use Rattle.ffa_model.specs.State.{State, Page, Buffers, is_known, is_known_among, page_at}
 use Rattle.ffa_rxtx.specs.Parts.{with_rx_bytes}
 use Rattle.ffa_laws.proofs.SoundSteady.{runner-known}
-use Rattle.ffa_spmc.specs.Meaning.{HasTables, IsMachine, Parts, state_of}
+use Rattle.ffa_spmc.specs.Meaning.{IsMachine, Parts, state_of}
 use Rattle.ffa_spmc.proofs.Held.{each, parties_are, size_is}
-use Rattle.ffa_spmc.proofs.Machines.{tables-written}
+use Rattle.ffa_spmc.proofs.Machines.{StillHasTables, tables-written}
 use Rattle.ffa_spmc.proofs.Reaches.{owned-in}
 use Rattle.ffa_spmc.proofs.Stores.{state-written}
 
@@ -59,10 +59,10 @@ module _ (x : Parts) (machine : IsMachine x) where
       abbrev pub after_fill : Parts
       after_fill = record x { ram = with_rx_bytes x.ram (buffers_in x.kept.buffers f) bytes; kept = record x.kept { buffers = buffers_with_rx x.kept.buffers f true } }
 
-      pub tables-filled : HasTables after_fill.ram x.manifest
+      pub tables-filled : StillHasTables x after_fill.ram
       tables-filled = of (buffers_in x.kept.buffers f) refl
         where
-          of : (o : Option Buffers) → buffers_in x.kept.buffers f ≡ o → HasTables (with_rx_bytes x.ram o bytes) x.manifest
+          of : (o : Option Buffers) → buffers_in x.kept.buffers f ≡ o → StillHasTables x (with_rx_bytes x.ram o bytes)
           of None is = machine.tables
           of (Some b) is =
               let (page, there) = (buffers-there f known b is).1 in
