@@ -16,6 +16,7 @@ pub mod MessageLaws
 pub mod NotificationLaws
 pub mod Kept
 pub mod Lawful
+pub mod Grants
 pub mod ReclaimLaws
 pub mod ReturnLaws
 pub mod Laws
