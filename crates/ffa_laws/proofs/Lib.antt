@@ -17,6 +17,8 @@ pub mod NotificationLaws
 pub mod Kept
 pub mod Lawful
 pub mod Grants
+pub mod Sends
+pub mod SendLaws
 pub mod ReclaimLaws
 pub mod ReturnLaws
 pub mod Laws
