@@ -40,4 +40,5 @@ pub mod SoundPages
 pub mod SoundBuffers
 pub mod SoundNotifications
 pub mod SoundReturns
+pub mod SoundSends
 pub mod SoundOperations
