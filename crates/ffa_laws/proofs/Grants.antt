@@ -1,9 +1,9 @@
 -- Ranges that lie in RAM, and ceilings within the rights of pages that the grants are within.
-use Rattle.std.proofs.Common.{◌≡◌, ◌≢◌, ◌∙◌, ℕ, ◌+◌, ◌*◌, ◌<◌, ◌≤◌, Bool, true, false, cond, List, [], ◌∷◌, length, Option, Some, None, refl, sym, ap, subst, inl, inr, arith}
+use Rattle.std.proofs.Common.{◌≡◌, ◌∙◌, ℕ, ◌+◌, ◌*◌, ◌<◌, ◌≤◌, Bool, true, false, cond, List, [], ◌∷◌, length, Option, Some, None, refl, sym, ap, subst, inl, inr, arith}
 use Rattle.std.specs.Prelude.{◌==◌, ◌&&◌, ◌||◌, find, nat_le, nat_lt, not, unwrap_or}
-use Rattle.std.specs.List.{list_all, list_any}
+use Rattle.std.specs.List.{list_all}
 use Rattle.std.specs.Option.{option_and_then}
-use Rattle.std.proofs.lemmas.Bool.{and_from, and_parts, cases_eq, eqb-true, false≢true, leb-true, ltb-true, or_cases}
+use Rattle.std.proofs.lemmas.Bool.{and_from, and_parts, cases_eq, false≢true, leb-true, ltb-true, or_cases}
 use Rattle.ffa_model.specs.declared.rights.Data.{Data}
 use Rattle.ffa_model.specs.declared.rights.Data.TheVariants.{Ro, Rw}
 use Rattle.ffa_model.specs.declared.rights.Kind.{Kind}
@@ -19,6 +19,7 @@ use Rattle.ffa_model.specs.MemorySend.{are_grants_within, is_grantable, is_insid
 use Rattle.ffa_model.specs.SendDescriptor.{most_receivers, range_end}
 use Rattle.ffa_model.proofs.NamedPages.{listed-each}
 use Rattle.ffa_laws.proofs.Changes.{page_base}
+use Rattle.ffa_laws.proofs.Steadies.{two-receivers}
 
 -- a page of ranges that lie in RAM is in RAM
 abbrev has_address : ℕ → Range → Bool
@@ -54,15 +55,6 @@ granted (r ∷ receivers) e right all =
     own : (grant : Option Data) → is_grantable grant (Some right) ≡ true → is_data_at_most (unwrap_or grant Ro) right.level ≡ true
     own None is = refl
     own (Some level) is = is
-
-pub two-receivers : (receivers : List Receiver) (e f : ℕ) → e ≢ f → list_any (λ (r : Receiver). r.endpoint.0 == e) receivers ≡ true
-    → list_any (λ (r : Receiver). r.endpoint.0 == f) receivers ≡ true → 2 ≤ length receivers
-two-receivers [] e f differ one other = absurd (false≢true one)
-two-receivers (r ∷ []) e f differ one other = absurd (differ (sym (alone e one) ∙ alone f other))
-  where
-    alone : (g : ℕ) → (r.endpoint.0 == g || false) ≡ true → r.endpoint.0 ≡ g
-    alone g is = elim (or_cases _ _ is) [ inl same ↦ eqb-true r.endpoint.0 g same | inr none ↦ absurd (false≢true none) ]
-two-receivers (r ∷ q ∷ receivers) e f differ one other = omega arith
 
 -- execution and level, where a test gives them
 executed : (b c : Bool) → (b ≡ true → c ≡ true) → (not b || c) ≡ true

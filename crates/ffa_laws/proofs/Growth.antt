@@ -1,10 +1,8 @@
 -- Rights never grow.
 use Rattle.std.proofs.Common.{◌≡◌, ◌≢◌, ◌∙◌, ℕ, ◌-◌, ◌/◌, ◌%◌, Bool, true, false, cond, List, [], ◌∷◌, get_or, Option, Some, None, is_some, refl, sym, ap}
 use Rattle.byteorder.specs.Endian.{little_bytes}
-use Rattle.std.specs.Prelude.{◌==◌, ◌&&◌, ◌||◌, length, nat_le, not}
-use Rattle.std.proofs.lemmas.Bool.{and_from, and_parts, eqb-true, false≢true, true≢false}
-use Rattle.ffa_model.specs.declared.rights.Data.{Data}
-use Rattle.ffa_model.specs.declared.rights.Data.TheVariants.{Ro, Rw}
+use Rattle.std.specs.Prelude.{◌==◌, ◌&&◌, ◌||◌, length, nat_le}
+use Rattle.std.proofs.lemmas.Bool.{and_parts, eqb-true, false≢true, true≢false}
 use Rattle.ffa_model.specs.declared.rights.Rights.{Rights}
 use Rattle.ffa_model.specs.declared.operation.Op.{Op}
 use Rattle.ffa_model.specs.declared.call.Call as calls
@@ -13,10 +11,10 @@ use Rattle.ffa_model.specs.Bits.{is_set}
 use Rattle.ffa_model.specs.Buffers.{filled_pages}
 use Rattle.ffa_model.specs.Calls.{first_failure}
 use Rattle.ffa_model.specs.Memory.{size_of}
-use Rattle.ffa_model.specs.MemoryReturn.{named_ranges}
+use Rattle.ffa_model.specs.MemoryReturn.{named_ranges, relinquish_read}
 use Rattle.ffa_model.specs.Messages.{header_in, message_in, tx_bytes}
 use Rattle.ffa_model.specs.Registers.{served_call}
-use Rattle.ffa_model.specs.Rights.{is_lend, is_data_at_most, is_share, is_within}
+use Rattle.ffa_model.specs.Rights.{is_lend, is_share, is_within}
 use Rattle.ffa_model.specs.State.{State, Page, Transaction, buffers_of, page_at, transaction_of}
 use Rattle.ffa_model.specs.Access.{access, held_by, right_by, right_of, transaction_at}
 use Rattle.ffa_model.specs.Step.{serve, service, state_after, step}
@@ -24,43 +22,14 @@ use Rattle.ffa_model.specs.Transactions.{handle_of}
 use Rattle.ffa_laws.specs.Steady.{IsSteady, is_joint}
 use Rattle.ffa_laws.specs.Isolation.{NeverGrow, is_joint_at, is_lawful_call}
 use Rattle.ffa_laws.proofs.Views.{found}
+use Rattle.ffa_laws.proofs.Within.{within-same, within-through}
 use Rattle.ffa_laws.proofs.Changes.{AreRewritten, same_base, standing, page_base, unwritten}
 use Rattle.ffa_laws.proofs.Closed.{rewritten-zeroed_if}
+use Rattle.ffa_laws.proofs.ReturnLaws.{rewritten-relinquished}
 use Rattle.ffa_laws.proofs.Written.{rewritten-filled, rewritten-written}
 use Rattle.ffa_laws.proofs.Kept.{is_memory_call, kept-call, kept-step}
 use Rattle.ffa_laws.proofs.Lawful.{lawful as served_lawful}
 use Rattle.ffa_laws.proofs.Laws.{steady-call, steady-step}
-
-level-same : (d : Data) → is_data_at_most d d ≡ true
-level-same Ro = refl
-level-same Rw = refl
-
-level-through : (a b c : Data) → is_data_at_most a b ≡ true → is_data_at_most b c ≡ true → is_data_at_most a c ≡ true
-level-through Ro b c ab bc = refl
-level-through Rw Ro c ab bc = absurd (false≢true ab)
-level-through Rw Rw c ab bc = bc
-
-execution-same : (b : Bool) → (not b || b) ≡ true
-execution-same true = refl
-execution-same false = refl
-
-execution-through : (a b c : Bool) → (not a || b) ≡ true → (not b || c) ≡ true → (not a || c) ≡ true
-execution-through false b c ab bc = refl
-execution-through true true c ab bc = bc
-execution-through true false c ab bc = absurd (false≢true ab)
-
-within-same : (r : Option Rights) → is_within r r ≡ true
-within-same None = refl
-within-same (Some r) = and_from (is_data_at_most r.level r.level) (not r.exec || r.exec) (level-same r.level) (execution-same r.exec)
-
-pub within-through : (a b c : Option Rights) → is_within a b ≡ true → is_within b c ≡ true → is_within a c ≡ true
-within-through None b c ab bc = refl
-within-through (Some a) None c ab bc = absurd (false≢true ab)
-within-through (Some a) (Some b) None ab bc = absurd (false≢true bc)
-within-through (Some a) (Some b) (Some c) ab bc =
-    let (level_ab, exec_ab) = and_parts _ _ ab in
-    let (level_bc, exec_bc) = and_parts _ _ bc in
-    and_from _ _ (level-through a.level b.level c.level level_ab level_bc) (execution-through a.exec b.exec c.exec exec_ab exec_bc)
 
 -- ---- in any steady state
 -- a right that is the owner's under a test, or nothing
@@ -148,7 +117,7 @@ module _ (s : State) (steady : IsSteady s) where
   memory-rights (MemLend total fragment address pages) lawful memory none = absurd (false≢true lawful)
   memory-rights (MemShare total fragment address pages) lawful memory none = absurd (false≢true lawful)
   memory-rights (MemRetrieve total fragment address pages) lawful memory none = absurd (false≢true lawful)
-  memory-rights MemRelinquish lawful memory none = absurd (false≢true lawful)
+  memory-rights MemRelinquish lawful memory none = rewritten-rights s.pages _ (rewritten-relinquished s (relinquish_read s))
   memory-rights (MemReclaim low high flags) lawful memory none =
       rewritten-rights s.pages _ (rewritten-zeroed_if (is_set 0 flags) s (named_ranges (transaction_of s (handle_of high low))))
   memory-rights call lawful memory none = absurd (false≢true memory)

@@ -4,13 +4,14 @@ use Rattle.std.specs.Prelude.{Bool, is_none, ◌==◌, ◌&&◌, nat_le, nat_lt,
 use Rattle.std.specs.Option.{option_and_then, option_map_or}
 use Rattle.std.proofs.lemmas.Bool.{and_from, cases_eq, eq-eqb, eqb-true, false≢true, true≢false}
 use Rattle.byteorder.specs.Endian.{little_bytes}
+use Rattle.ffa_model.specs.declared.descriptor.RelinquishDesc.{RelinquishDesc}
 use Rattle.ffa_model.specs.declared.operation.Op.{Op}
 use Rattle.ffa_model.specs.declared.call.Call as calls
 use Rattle.ffa_model.specs.declared.call.Call.TheVariants.{MemDonate, MemLend, MemShare, MemRetrieve, MemRelinquish, MemReclaim}
 use Rattle.ffa_model.specs.declared.operation.ErrorCode.TheVariants.{InvalidParameters}
 use Rattle.ffa_model.specs.declared.transaction.Range.{Range}
 use Rattle.ffa_model.specs.Bits.{is_set}
-use Rattle.ffa_model.specs.MemoryReturn.{named_ranges}
+use Rattle.ffa_model.specs.MemoryReturn.{named_ranges, relinquish_read, relinquished, relinquished_from}
 use Rattle.ffa_model.specs.Registers.{served_call}
 use Rattle.ffa_model.specs.Rights.{may_store}
 use Rattle.ffa_model.specs.State.{State, Page, Transaction, Buffers, page_at, owner_of, buffers_of, is_known, transaction_of}
@@ -104,13 +105,21 @@ module _ (s : State) (steady : IsSteady s) (e p : ℕ) (owned : owner_of s p ≡
   elsewhere-zeroed true ranges away =
       ap (λ page. option_map_or (λ (x : Page). x.bytes) page []) (page-changed s ranges zeroed_page p refl ∙ ap (λ b. cond b (zeroed_page (page_at s p)) (page_at s p)) away)
 
+  relinquished-elsewhere : (d : Option RelinquishDesc) → bytes_in (relinquished s d).pages p ≡ bytes_in s.pages p
+  relinquished-elsewhere None = refl
+  relinquished-elsewhere (Some d) = of (transaction_of s d.handle) (of_no_transaction d.handle)
+    where
+      of : (o : Option Transaction) → names s (named_ranges o) p ≡ false → bytes_in (relinquished_from s d o).pages p ≡ bytes_in s.pages p
+      of None away = refl
+      of (Some t) away = elsewhere-zeroed d.zero t.ranges away
+
   -- the calls on memory transactions
   memory-bytes : (call : calls.Call) → is_lawful_call call ≡ true → is_memory_call call ≡ true → first_failure (service s call).guards ≡ None → bytes_in (service s call).state.pages p ≡ bytes_in s.pages p
   memory-bytes (MemDonate total fragment address pages) lawful memory none = absurd (false≢true lawful)
   memory-bytes (MemLend total fragment address pages) lawful memory none = absurd (false≢true lawful)
   memory-bytes (MemShare total fragment address pages) lawful memory none = absurd (false≢true lawful)
   memory-bytes (MemRetrieve total fragment address pages) lawful memory none = absurd (false≢true lawful)
-  memory-bytes MemRelinquish lawful memory none = absurd (false≢true lawful)
+  memory-bytes MemRelinquish lawful memory none = relinquished-elsewhere (relinquish_read s)
   memory-bytes (MemReclaim low high flags) lawful memory none =
       elsewhere-zeroed (is_set 0 flags) (named_ranges (transaction_of s (handle_of high low))) (of_no_transaction (handle_of high low))
   memory-bytes call lawful memory none = absurd (false≢true memory)

@@ -32,7 +32,7 @@ use Rattle.ffa_laws.proofs.BufferLaws.{other-buffers, other-release, own-map, ow
 use Rattle.ffa_laws.proofs.SetupLaws.{other-info, own-info, steady-info}
 use Rattle.ffa_laws.proofs.ScheduleLaws.{other-scheduled, other-wait, own-request, own-response, own-run, own-wait, own-yield, steady-request, steady-response, steady-run, steady-wait, steady-yield}
 use Rattle.ffa_laws.proofs.ReclaimLaws.{other-reclaim, own-reclaim}
-use Rattle.ffa_laws.proofs.ReturnLaws.{steady-reclaim}
+use Rattle.ffa_laws.proofs.ReturnLaws.{other-relinquish, own-relinquish, steady-reclaim, steady-relinquish}
 use Rattle.ffa_laws.proofs.MessageLaws.{other-send2, own-send2, steady-send2}
 
 -- ---- one step, by calls
@@ -54,7 +54,7 @@ own-service s steady (MemDonate total fragment address pages) lawful = absurd (f
 own-service s steady (MemLend total fragment address pages) lawful = absurd (false≢true lawful)
 own-service s steady (MemShare total fragment address pages) lawful = absurd (false≢true lawful)
 own-service s steady (MemRetrieve total fragment address pages) lawful = absurd (false≢true lawful)
-own-service s steady MemRelinquish lawful = absurd (false≢true lawful)
+own-service s steady MemRelinquish lawful = own-relinquish s steady
 own-service s steady (MemReclaim low high flags) lawful = own-reclaim s steady low high flags
 own-service s steady (BitmapCreate endpoint contexts) lawful = own-create s steady endpoint contexts
 own-service s steady (BitmapDestroy endpoint) lawful = own-destroy s steady endpoint
@@ -93,7 +93,7 @@ module _ (e : ℕ) (s : State) (steady : IsSteady s) (known : is_known s e ≡ t
   other-service (MemLend total fragment address pages) lawful = absurd (false≢true lawful)
   other-service (MemShare total fragment address pages) lawful = absurd (false≢true lawful)
   other-service (MemRetrieve total fragment address pages) lawful = absurd (false≢true lawful)
-  other-service MemRelinquish lawful = absurd (false≢true lawful)
+  other-service MemRelinquish lawful = other-relinquish e s steady other
   other-service (MemReclaim low high flags) lawful = other-reclaim e s steady other low high flags
   other-service (BitmapCreate endpoint contexts) lawful = other-create e s other endpoint contexts
   other-service (BitmapDestroy endpoint) lawful = other-destroy e s other steady endpoint
@@ -131,7 +131,7 @@ steady-service s steady (MemDonate total fragment address pages) lawful none = a
 steady-service s steady (MemLend total fragment address pages) lawful none = absurd (false≢true lawful)
 steady-service s steady (MemShare total fragment address pages) lawful none = absurd (false≢true lawful)
 steady-service s steady (MemRetrieve total fragment address pages) lawful none = absurd (false≢true lawful)
-steady-service s steady MemRelinquish lawful none = absurd (false≢true lawful)
+steady-service s steady MemRelinquish lawful none = steady-relinquish s steady
 steady-service s steady (MemReclaim low high flags) lawful none = steady-reclaim s steady low high flags
 steady-service s steady (BitmapCreate endpoint contexts) lawful none = steady-notified s steady (with_bitmaps (notifications_of s) 0) steady.bound
 steady-service s steady (BitmapDestroy endpoint) lawful none = steady-destroy s steady

@@ -1,6 +1,7 @@
 pub mod Maps
 pub mod Views
 pub mod Form
+pub mod Within
 pub mod Publics
 pub mod Changes
 pub mod Written
@@ -19,6 +20,7 @@ pub mod Lawful
 pub mod Grants
 pub mod Sends
 pub mod SendLaws
+pub mod Holders
 pub mod ReclaimLaws
 pub mod ReturnLaws
 pub mod Laws

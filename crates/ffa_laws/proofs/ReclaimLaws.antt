@@ -38,7 +38,7 @@ from-seen e t other =
     ap (λ b. is_from e (option_map (seen_by e) (kept (b || is_receiver e t) (Some t)))) other
     ∙ elim (is_receiver e t) as (λ b. is_from e (option_map (seen_by e) (kept b (Some t))) ≡ false) [ true ↦ other | false ↦ refl ]
 
-second-fails : (a b : Bool) (guards : List (Bool × ErrorCode)) → b ≡ false → first_failure ((a, InvalidParameters) ∷ (b, InvalidParameters) ∷ guards) ≡ Some InvalidParameters
+pub second-fails : (a b : Bool) (guards : List (Bool × ErrorCode)) → b ≡ false → first_failure ((a, InvalidParameters) ∷ (b, InvalidParameters) ∷ guards) ≡ Some InvalidParameters
 second-fails true false guards is = refl
 second-fails false b guards is = refl
 second-fails true true guards is = absurd (false≢true (sym is))

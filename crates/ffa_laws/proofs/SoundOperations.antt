@@ -30,7 +30,7 @@ use Rattle.ffa_laws.proofs.SoundBuffers.{filled-state-sound, map-sound, rx-sound
 use Rattle.ffa_laws.proofs.SoundKept.{pages-sound, schedule-sound}
 use Rattle.ffa_laws.proofs.SoundNotifications.{bind-sound, create-sound, destroy-sound, framework-sound, get-sound, set-sound, unbind-sound}
 use Rattle.ffa_laws.proofs.SoundPages.{informed-sound, sent-sound, stored-sound}
-use Rattle.ffa_laws.proofs.SoundReturns.{reclaim-sound}
+use Rattle.ffa_laws.proofs.SoundReturns.{reclaim-sound, relinquish-sound}
 use Rattle.ffa_laws.proofs.SoundSteady.{sound-steady}
 use Rattle.ffa_laws.proofs.SoundSteps.{AreSound, IsScheduled, sound-service}
 use Rattle.ffa_laws.proofs.Written.{rewritten-written}
@@ -76,7 +76,7 @@ module _ (s : State) (sound : IsSoundState s) where
   service-sound (MemLend total fragment address pages) lawful none = absurd (false≢true lawful)
   service-sound (MemShare total fragment address pages) lawful none = absurd (false≢true lawful)
   service-sound (MemRetrieve total fragment address pages) lawful none = absurd (false≢true lawful)
-  service-sound MemRelinquish lawful none = absurd (false≢true lawful)
+  service-sound MemRelinquish lawful none = relinquish-sound s sound
   service-sound (MemReclaim low high flags) lawful none = reclaim-sound s sound low high flags none
   service-sound (BitmapCreate endpoint contexts) lawful none = create-sound s sound
   service-sound (BitmapDestroy endpoint) lawful none = destroy-sound s sound endpoint none

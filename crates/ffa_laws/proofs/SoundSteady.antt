@@ -15,10 +15,10 @@ use Rattle.ffa_model.specs.RunStates.{schedule_of}
 use Rattle.ffa_model.specs.Transactions.{bases_of, ceiling}
 use Rattle.ffa_model.specs.SoundState.{IsSoundState, IsSoundTransaction}
 use Rattle.ffa_laws.specs.Steady.{IsSteady, IsSteadyTransaction, is_joint}
-use Rattle.ffa_laws.proofs.Grants.{covered-inside, granted-ceiling, one-taker, two-receivers}
-use Rattle.ffa_laws.proofs.Growth.{within-through}
+use Rattle.ffa_laws.proofs.Grants.{covered-inside, granted-ceiling, one-taker}
+use Rattle.ffa_laws.proofs.Within.{within-through}
 use Rattle.ffa_laws.proofs.SoundLaws.{requester-known}
-use Rattle.ffa_laws.proofs.Steadies.{usable}
+use Rattle.ffa_laws.proofs.Steadies.{two-receivers, usable}
 use Rattle.ffa_laws.proofs.Changes.{page_base}
 
 module _ (s : State) (sound : IsSoundState s) where

@@ -1,7 +1,9 @@
 -- What keeps a state steady.
-use Rattle.std.proofs.Common.{◌≡◌, ◌≢◌, ◌∙◌, ℕ, Bool, true, false, cond, List, length, get_or, Option, Some, None, is_some, refl, sym, ap, subst, arith}
+use Rattle.std.proofs.Common.{◌≡◌, ◌≢◌, ◌∙◌, ℕ, ◌≤◌, Bool, true, false, cond, List, [], ◌∷◌, length, get_or, Option, Some, None, is_some, refl, sym, ap, subst, inl, inr, arith}
 use Rattle.std.specs.Prelude.{◌==◌}
+use Rattle.std.specs.List.{list_any}
 use Rattle.std.specs.Option.{option_map, option_map_or}
+use Rattle.ffa_model.specs.declared.transaction.Receiver.{Receiver}
 use Rattle.ffa_model.specs.Rights.{is_within}
 use Rattle.ffa_model.specs.Transactions.{Bases, bases_of, ceiling}
 use Rattle.ffa_model.specs.Identifiers.{place}
@@ -15,7 +17,7 @@ use Rattle.std.specs.FinSet as finite_set
 use Rattle.ffa_laws.specs.View.{is_near, involves}
 use Rattle.std.specs.Prelude.{◌||◌, not}
 use Rattle.std.specs.Option.{option_and_then}
-use Rattle.std.proofs.lemmas.Bool.{false≢true, eqb-true, and_parts}
+use Rattle.std.proofs.lemmas.Bool.{false≢true, eqb-true, and_parts, or_cases}
 use Rattle.std.proofs.lemmas.Bool.Decides.{nat_tests}
 use Rattle.ffa_laws.proofs.Changes.{AreRewritten, with_parts, same_base, same_owner}
 use Rattle.ffa_laws.proofs.Written.{at-changed, is_at, with_rx_full}
@@ -35,6 +37,16 @@ usable s e p is = go (page_at s p) refl is
         let (both, writable) = and_parts _ _ is in
         let (mine, free) = and_parts _ _ both in
         record { owner = ap (λ o. option_map_or (λ (x : Page). x.owner) o 0x8000) at ∙ eqb-true q.owner e mine; unnamed = no_handle (handle_at s p) free }
+
+-- two receivers are at least two
+pub two-receivers : (receivers : List Receiver) (e f : ℕ) → e ≢ f → list_any (λ (r : Receiver). r.endpoint.0 == e) receivers ≡ true
+    → list_any (λ (r : Receiver). r.endpoint.0 == f) receivers ≡ true → 2 ≤ length receivers
+two-receivers [] e f differ one other = absurd (false≢true one)
+two-receivers (r ∷ []) e f differ one other = absurd (differ (sym (alone e one) ∙ alone f other))
+  where
+    alone : (g : ℕ) → (r.endpoint.0 == g || false) ≡ true → r.endpoint.0 ≡ g
+    alone g is = elim (or_cases _ _ is) [ inl same ↦ eqb-true r.endpoint.0 g same | inr none ↦ absurd (false≢true none) ]
+two-receivers (r ∷ q ∷ receivers) e f differ one other = omega arith
 
 -- such a page is near to its owner alone
 pub alone-near : (s : State) (e p : ℕ) → IsAlone s e p → is_near e s p ≡ true
