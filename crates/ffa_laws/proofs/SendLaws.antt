@@ -24,7 +24,7 @@ use Rattle.ffa_model.specs.Calls.{first_failure}
 use Rattle.ffa_model.specs.Messages.{tx_bytes}
 use Rattle.ffa_model.specs.RunStates.{schedule_of}
 use Rattle.ffa_model.specs.SendDescriptor.{SendRecord, most_receivers, send_of}
-use Rattle.ffa_model.specs.Transactions.{Transfer, are_writable, base_of, bases_of, handle_of, next_handle, offers_of, open_count, pages_in, scene_of, sends_of}
+use Rattle.ffa_model.specs.Transactions.{Bases, Scene, Transfer, are_writable, base_of, bases_of, handle_of, next_handle, offers_of, open_count, pages_in, scene_of, sends_of}
 use Rattle.ffa_model.specs.MemorySend.{are_grants_within, are_known, handle_reply, is_buffer, is_grantable, is_inside, is_own, is_sendable, memory_send, memory_sent, send_guards, send_read, transaction_from}
 use Rattle.ffa_laws.specs.Steady.{IsAlone, IsSteady, IsSteadyTransaction}
 use Rattle.ffa_laws.specs.View.{view, buffers_seen, hidden, involves, is_near, kept}
@@ -117,6 +117,27 @@ same-later : (code : ErrorCode) (before : List (Bool × ErrorCode)) (passes : Bo
 same-later code [] passes xs ys same = same-first passes code xs ys same
 same-later code ((test, other) ∷ before) passes xs ys same = same-first test other (before ++ (passes, code) ∷ xs) (before ++ (passes, code) ∷ ys) (λ is. same-later code before passes xs ys same)
 
+-- the guards of a send before the one that asks whether all pages may be sent, and those behind it
+abbrev asked_first : Bool → ℕ → Bases → ℕ → Transfer → SendRecord → List (Bool × ErrorCode)
+asked_first mapped endpoints bases e x r =
+    (mapped, InvalidParameters)
+    ∷ (x.total == x.fragment, InvalidParameters)
+    ∷ (nat_le x.total 4096, InvalidParameters)
+    ∷ (x.address == 0, InvalidParameters)
+    ∷ (x.pages == 0, InvalidParameters)
+    ∷ (r.sender == e, InvalidParameters)
+    ∷ (are_known endpoints r.receivers, InvalidParameters)
+    ∷ (list_all (is_inside bases) r.ranges, Denied)
+    ∷ []
+
+abbrev asked_of_pages : Scene → ℕ → SendRecord → List (Bool × ErrorCode)
+asked_of_pages c e r =
+    (list_all (are_grants_within c.bases r.receivers) (pages_in c.bases r.ranges), Denied)
+    ∷ (not r.zero || are_writable c.bases r.ranges, Denied)
+    ∷ (nat_lt (open_count c.offers e) 8, NoMemory)
+    ∷ (nat_lt (sends_of c.offers e) 65535, NoMemory)
+    ∷ []
+
 module _ (s : State) (steady : IsSteady s) where
   abbrev v : State
   v = view s.runner s
@@ -195,7 +216,6 @@ module _ (s : State) (steady : IsSteady s) where
             (λ i. (own-page-seen p ∙ own) i && not (buffer-seen p lt alone.owner i))
         | false ↦ λ not_own. ap (λ b. b && not (is_buffer v.buffers p)) (own-page-seen p ∙ not_own)
       ] refl
-      ∙ ap (λ b. b && not (is_buffer s.buffers p)) refl
 
   module _ (ranges : List Range) where
     -- tests of all pages that are named
@@ -245,41 +265,12 @@ module _ (s : State) (steady : IsSteady s) where
       ∷ (false, InvalidParameters)
       ∷ [])
   same-failure x (Some r) =
-      (λ i. first_failure (
-      (some-seen s steady s.runner i, InvalidParameters)
-      ∷ (x.total == x.fragment, InvalidParameters)
-      ∷ (nat_le x.total 4096, InvalidParameters)
-      ∷ (x.address == 0, InvalidParameters)
-      ∷ (x.pages == 0, InvalidParameters)
-      ∷ (r.sender == s.runner, InvalidParameters)
-      ∷ (are_known (length s.parties) r.receivers, InvalidParameters)
-      ∷ (list_all (is_inside (record { ram_base = s.ram_base; pages = size-seen i; right = base_of s })) r.ranges, Denied)
-      ∷ (all-sendable-seen r.ranges i, Denied)
-      ∷ (list_all (are_grants_within (bases_of v) r.receivers) (pages_in (bases_of v) r.ranges), Denied)
-      ∷ (not r.zero || are_writable (bases_of v) r.ranges, Denied)
-      ∷ (nat_lt (open_count (offers_of v) s.runner) 8, NoMemory)
-      ∷ (nat_lt (sends_of (offers_of v) s.runner) 65535, NoMemory)
-      ∷ []))
-      ∙ same-later Denied (
-      (is_some (buffers_in s.buffers s.runner), InvalidParameters)
-      ∷ (x.total == x.fragment, InvalidParameters)
-      ∷ (nat_le x.total 4096, InvalidParameters)
-      ∷ (x.address == 0, InvalidParameters)
-      ∷ (x.pages == 0, InvalidParameters)
-      ∷ (r.sender == s.runner, InvalidParameters)
-      ∷ (are_known (length s.parties) r.receivers, InvalidParameters)
-      ∷ (list_all (is_inside (bases_of s)) r.ranges, Denied)
-      ∷ []) (list_all (is_sendable s.runner (candidates s) s.buffers) (pages_in (bases_of s) r.ranges)) (
-      (list_all (are_grants_within (bases_of v) r.receivers) (pages_in (bases_of v) r.ranges), Denied)
-      ∷ (not r.zero || are_writable (bases_of v) r.ranges, Denied)
-      ∷ (nat_lt (open_count (offers_of v) s.runner) 8, NoMemory)
-      ∷ (nat_lt (sends_of (offers_of v) s.runner) 65535, NoMemory)
-      ∷ []) (
-      (list_all (are_grants_within (bases_of s) r.receivers) (pages_in (bases_of s) r.ranges), Denied)
-      ∷ (not r.zero || are_writable (bases_of s) r.ranges, Denied)
-      ∷ (nat_lt (open_count (offers_of s) s.runner) 8, NoMemory)
-      ∷ (nat_lt (sends_of (offers_of s) s.runner) 65535, NoMemory)
-      ∷ []) (λ free i. first_failure (
+      (λ i. first_failure (asked_first (some-seen s steady s.runner i) (length s.parties) (record { ram_base = s.ram_base; pages = size-seen i; right = base_of s }) s.runner x r
+      ++ (all-sendable-seen r.ranges i, Denied)
+      ∷ asked_of_pages (scene_of v) s.runner r))
+      ∙ same-later Denied (asked_first (is_some (buffers_in s.buffers s.runner)) (length s.parties) (bases_of s) s.runner x r)
+      (list_all (is_sendable s.runner (candidates s) s.buffers) (pages_in (bases_of s) r.ranges)) (asked_of_pages (scene_of v) s.runner r) (asked_of_pages (scene_of s) s.runner r)
+      (λ free i. first_failure (
       (grants-seen r.ranges free r.receivers i, Denied)
       ∷ (not r.zero || writable-seen r.ranges free i, Denied)
       ∷ (nat_lt (count-seen s.runner s i) 8, NoMemory)
