@@ -18,6 +18,7 @@ pub mod NotificationLaws
 pub mod Kept
 pub mod Lawful
 pub mod Holders
+pub mod Given
 pub mod ReclaimLaws
 pub mod ReturnLaws
 pub mod Laws
