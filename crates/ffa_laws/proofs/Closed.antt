@@ -199,7 +199,7 @@ module _ (s : State) (steady : IsSteady s) (h : ℕ) (t : Transaction) (there : 
           ] refl)
 
 -- ---- holders: the sender sees each, a receiver itself alone
-get-held : (m : finite.FinMap nat_cmp Rights) (f : ℕ) (right : Rights) (k : ℕ) → finite.get (finite.insert m f right) k ≡ cond (k == f) (Some right) (finite.get m k)
+pub get-held : (m : finite.FinMap nat_cmp Rights) (f : ℕ) (right : Rights) (k : ℕ) → finite.get (finite.insert m f right) k ≡ cond (k == f) (Some right) (finite.get m k)
 get-held m f right k = finite.get-insert nat_cmp_total m f right k ∙ ap (λ b. cond b (Some right) (finite.get m k)) (grind (arith, nat_tests))
 
 -- what another receiver holds is hidden

@@ -41,8 +41,8 @@ module _ (s : State) (steady : IsSteady s) (h : ℕ) (t : Transaction) (there : 
   abbrev pub given : State
   given = with_pages (closed s h) t.ranges (donated_page r right)
 
-  size : length given.pages ≡ length s.pages
-  size = length-map_at (λ q page. cond (names s t.ranges q) (donated_page r right page) page) s.pages
+  pub size-given : length given.pages ≡ length s.pages
+  size-given = length-map_at (λ q page. cond (names s t.ranges q) (donated_page r right page) page) s.pages
 
   pub page-given : (p : ℕ) → page_at given p ≡ cond (names s t.ranges p) (donated_page r right (page_at s p)) (page_at s p)
   page-given p = page-changed (closed s h) t.ranges (donated_page r right) p refl
@@ -77,7 +77,7 @@ module _ (s : State) (steady : IsSteady s) (h : ℕ) (t : Transaction) (there : 
   view-changed : (e : ℕ) (change : Option Page → Option Page) → (view e given).pages ≡ changed_pages (view e s) t.ranges change
       → view e given ≡ with_pages (closed (view e s) h) t.ranges change
   view-changed e change pages =
-      λ i. record (view e s) { pages = pages i; transactions = transactions-closed s steady h t there e i; buffers = map_at (buffers_seen e (size i)) s.buffers }
+      λ i. record (view e s) { pages = pages i; transactions = transactions-closed s steady h t there e i; buffers = map_at (buffers_seen e (size-given i)) s.buffers }
 
   -- to the receiver they are its own
   pub view-taken : involves r (Some t) ≡ true → view r given ≡ with_pages (closed (view r s) h) t.ranges (donated_page r right)
@@ -133,7 +133,7 @@ module _ (s : State) (steady : IsSteady s) (h : ℕ) (t : Transaction) (there : 
             ∙ ap (λ b. b || false) sender))
 
   -- ---- steadiness
-  page-same : (p : ℕ) → names s t.ranges p ≡ false → page_at given p ≡ page_at s p
+  pub page-same : (p : ℕ) → names s t.ranges p ≡ false → page_at given p ≡ page_at s p
   page-same p away = page-given p ∙ ap (λ b. cond b (donated_page r right (page_at s p)) (page_at s p)) away
 
   base-same : (p : ℕ) → names s t.ranges p ≡ false → base_of given p ≡ base_of s p
@@ -162,7 +162,7 @@ module _ (s : State) (steady : IsSteady s) (h : ℕ) (t : Transaction) (there : 
     rights-same : (test : Option Rights → Bool)
         → list_all (λ p. test (base_of given p)) (pages_in (bases_of given) u.ranges) ≡ list_all (λ p. test (base_of s p)) (pages_in (bases_of s) u.ranges)
     rights-same test =
-        ap (λ n. list_all (λ p. test (base_of given p)) (filter (names s u.ranges) (listed n (λ p. p)))) size
+        ap (λ n. list_all (λ p. test (base_of given p)) (filter (names s u.ranges) (listed n (λ p. p)))) size-given
         ∙ same-tests (λ p. test (base_of given p)) (λ p. test (base_of s p)) (names s u.ranges) (length s.pages) (λ p. p) (λ p lt named. ap test (base-same p (apart p named)))
 
     ceiling-same : (f : ℕ) → ceiling (bases_of given) u f ≡ ceiling (bases_of s) u f

@@ -21,6 +21,8 @@ pub mod Holders
 pub mod Given
 pub mod ReclaimLaws
 pub mod ReturnLaws
+pub mod Taken
+pub mod RetrieveLaws
 pub mod Laws
 pub mod Growth
 pub mod Integrities
