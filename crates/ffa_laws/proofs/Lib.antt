@@ -42,4 +42,5 @@ pub mod SoundPages
 pub mod SoundBuffers
 pub mod SoundNotifications
 pub mod SoundReturns
+pub mod SoundRetrieves
 pub mod SoundOperations
