@@ -3,6 +3,7 @@ use Rattle.std.proofs.Common.{◌≡◌, ◌≢◌, ◌∙◌, ℕ, ◌-◌, ◌
 use Rattle.byteorder.specs.Endian.{little_bytes}
 use Rattle.std.specs.Prelude.{◌==◌, ◌&&◌, ◌||◌, length, nat_le}
 use Rattle.std.proofs.lemmas.Bool.{and_parts, eqb-true, false≢true, true≢false}
+use Rattle.ffa_model.specs.declared.rights.Kind.TheVariants.{Share, Lend, Donate}
 use Rattle.ffa_model.specs.declared.rights.Rights.{Rights}
 use Rattle.ffa_model.specs.declared.operation.Op.{Op}
 use Rattle.ffa_model.specs.declared.call.Call as calls
@@ -11,7 +12,8 @@ use Rattle.ffa_model.specs.Bits.{is_set}
 use Rattle.ffa_model.specs.Buffers.{filled_pages}
 use Rattle.ffa_model.specs.Calls.{first_failure}
 use Rattle.ffa_model.specs.Memory.{size_of}
-use Rattle.ffa_model.specs.MemoryReturn.{named_ranges}
+use Rattle.ffa_model.specs.MemoryReturn.{named_ranges, relinquish_read}
+use Rattle.ffa_model.specs.MemorySend.{send_read}
 use Rattle.ffa_model.specs.Messages.{header_in, message_in, tx_bytes}
 use Rattle.ffa_model.specs.Registers.{served_call}
 use Rattle.ffa_model.specs.Rights.{is_lend, is_share, is_within}
@@ -25,6 +27,8 @@ use Rattle.ffa_laws.proofs.Views.{found}
 use Rattle.ffa_laws.proofs.Within.{within-same, within-through}
 use Rattle.ffa_laws.proofs.Changes.{AreRewritten, same_base, standing, page_base, unwritten}
 use Rattle.ffa_laws.proofs.Closed.{rewritten-zeroed_if}
+use Rattle.ffa_laws.proofs.ReturnLaws.{rewritten-relinquished}
+use Rattle.ffa_laws.proofs.SendLaws.{rewritten-sent}
 use Rattle.ffa_laws.proofs.Written.{rewritten-filled, rewritten-written}
 use Rattle.ffa_laws.proofs.Kept.{is_memory_call, kept-call, kept-step}
 use Rattle.ffa_laws.proofs.Lawful.{lawful as served_lawful}
@@ -112,11 +116,11 @@ not_grown s steady =
 module _ (s : State) (steady : IsSteady s) where
   -- the calls on memory transactions
   memory-rights : (call : calls.Call) → is_lawful_call call ≡ true → is_memory_call call ≡ true → first_failure (service s call).guards ≡ None → KeepsRights s.pages (service s call).state.pages
-  memory-rights (MemDonate total fragment address pages) lawful memory none = absurd (false≢true lawful)
-  memory-rights (MemLend total fragment address pages) lawful memory none = absurd (false≢true lawful)
-  memory-rights (MemShare total fragment address pages) lawful memory none = absurd (false≢true lawful)
+  memory-rights (MemDonate total fragment address pages) lawful memory none = rewritten-rights s.pages _ (rewritten-sent s Donate (send_read s Donate total))
+  memory-rights (MemLend total fragment address pages) lawful memory none = rewritten-rights s.pages _ (rewritten-sent s Lend (send_read s Lend total))
+  memory-rights (MemShare total fragment address pages) lawful memory none = rewritten-rights s.pages _ (rewritten-sent s Share (send_read s Share total))
   memory-rights (MemRetrieve total fragment address pages) lawful memory none = absurd (false≢true lawful)
-  memory-rights MemRelinquish lawful memory none = absurd (false≢true lawful)
+  memory-rights MemRelinquish lawful memory none = rewritten-rights s.pages _ (rewritten-relinquished s (relinquish_read s))
   memory-rights (MemReclaim low high flags) lawful memory none =
       rewritten-rights s.pages _ (rewritten-zeroed_if (is_set 0 flags) s (named_ranges (transaction_of s (handle_of high low))))
   memory-rights call lawful memory none = absurd (false≢true memory)

@@ -3,6 +3,7 @@ use Rattle.std.proofs.Common.{◌≡◌, ◌≢◌, ◌∙◌, ℕ, ◌≤◌, B
 use Rattle.std.specs.Prelude.{◌==◌, ◌||◌, ◌&&◌, nat_le}
 use Rattle.std.specs.Option.{option_and_then, option_map}
 use Rattle.std.specs.Ordering.{nat_cmp}
+use Rattle.std.specs.Cmp.{nat_cmp_total, unsigned_tied}
 use Rattle.std.specs.FinMap as finite
 use Rattle.std.proofs.Math.Path.{fun_ext}
 use Rattle.std.proofs.lemmas.Bool.{eqb-true, le-leb}
@@ -13,8 +14,8 @@ use Rattle.ffa_model.specs.declared.rights.Rights.{Rights}
 use Rattle.ffa_model.specs.Lists.{map_at}
 use Rattle.ffa_model.specs.Rights.{is_lend, is_share, is_within}
 use Rattle.ffa_model.specs.State.{State, Transaction, owner_of, sent_by, transaction_of}
-use Rattle.ffa_model.specs.Access.{handle_at, is_naming, is_receiver, names}
-use Rattle.ffa_model.specs.Transactions.{Bases, base_of, bases_of, ceiling, ceiling_in, handle_of}
+use Rattle.ffa_model.specs.Access.{handle_at, held_by, is_naming, is_receiver, names}
+use Rattle.ffa_model.specs.Transactions.{Bases, base_of, bases_of, ceiling, ceiling_in, handle_of, holding, not_holding}
 use Rattle.ffa_laws.specs.Steady.{IsSteady, IsSteadyTransaction, is_joint}
 use Rattle.ffa_laws.specs.View.{view, involves, is_near, kept, seen_by, transactions_of}
 use Rattle.ffa_laws.proofs.Maps.{first_no, first_none, first_one, first_some}
@@ -27,6 +28,76 @@ Holders = finite.FinMap nat_cmp Rights
 
 abbrev pub reheld : State → ℕ → Transaction → Holders → State
 reheld s h t held = record s { transactions = finite.insert s.transactions h (record t { held = held }) }
+
+same-holders : (m n : Holders) → ((k : ℕ) → finite.get m k ≡ finite.get n k) → m ≡ n
+same-holders m n same = finite.same_map nat_cmp_total finite.nat_cmp-IsAntisymmetric m n same
+
+-- what a receiver sees of the holders
+get-own : (e : ℕ) (m : Holders) (k : ℕ) → finite.get (finite.retain_keys m (λ f. f == e)) k ≡ cond (k == e) (finite.get m k) None
+get-own e m k = finite.get-retain_keys m (λ f. f == e) k (λ x tie. ap (λ j. j == e) (sym (finite.nat_cmp-IsAntisymmetric k x tie)))
+
+get-left : (m : Holders) (f k : ℕ) → finite.get (finite.remove m f) k ≡ cond (k == f) None (finite.get m k)
+get-left m f k = finite.get-remove nat_cmp_total m f k ∙ ap (λ b. cond b None (finite.get m k)) (unsigned_tied k f)
+
+pub get-taken : (m : Holders) (f : ℕ) (right : Rights) (k : ℕ) → finite.get (finite.insert m f right) k ≡ cond (k == f) (Some right) (finite.get m k)
+get-taken m f right k = finite.get-insert nat_cmp_total m f right k ∙ ap (λ b. cond b (Some right) (finite.get m k)) (unsigned_tied k f)
+
+-- who takes a right takes it in its own view
+pub seen-taken : (e : ℕ) (t : Transaction) (right : Rights) → seen_by e (holding t e right) ≡ holding (seen_by e t) e right
+seen-taken e t right =
+    λ i. record t {
+      held = (elim (t.sender == e) as (λ b. cond b (finite.insert t.held e right) (finite.retain_keys (finite.insert t.held e right) (λ g. g == e)) ≡ finite.insert (cond b t.held (finite.retain_keys t.held (λ g. g == e))) e right) [
+        | true ↦ refl
+        | false ↦ same-holders _ _ commutes
+      ]) i;
+    }
+  where
+    commutes : (k : ℕ) → finite.get (finite.retain_keys (finite.insert t.held e right) (λ g. g == e)) k ≡ finite.get (finite.insert (finite.retain_keys t.held (λ g. g == e)) e right) k
+    commutes k =
+        get-own e (finite.insert t.held e right) k
+        ∙ ap (λ o. cond (k == e) o None) (get-taken t.held e right k)
+        ∙ both (k == e)
+        ∙ sym (get-taken (finite.retain_keys t.held (λ g. g == e)) e right k ∙ ap (λ o. cond (k == e) (Some right) o) (get-own e t.held k))
+      where
+        both : (b : Bool) → cond b (cond b (Some right) (finite.get t.held k)) None ≡ cond b (Some right) (cond b (finite.get t.held k) None)
+        both true = refl
+        both false = refl
+
+-- what is given up is given up in a view
+pub seen-released : (e f : ℕ) (t : Transaction) → seen_by e (not_holding t f) ≡ not_holding (seen_by e t) f
+seen-released e f t =
+    λ i. record t {
+      held = (elim (t.sender == e) as (λ b. cond b (finite.remove t.held f) (finite.retain_keys (finite.remove t.held f) (λ g. g == e)) ≡ finite.remove (cond b t.held (finite.retain_keys t.held (λ g. g == e))) f) [
+        | true ↦ refl
+        | false ↦ same-holders _ _ commutes
+      ]) i;
+    }
+  where
+    commutes : (k : ℕ) → finite.get (finite.retain_keys (finite.remove t.held f) (λ g. g == e)) k ≡ finite.get (finite.remove (finite.retain_keys t.held (λ g. g == e)) f) k
+    commutes k =
+        get-own e (finite.remove t.held f) k
+        ∙ ap (λ o. cond (k == e) o None) (get-left t.held f k)
+        ∙ both (k == e) (k == f)
+        ∙ sym (get-left (finite.retain_keys t.held (λ g. g == e)) f k ∙ ap (λ o. cond (k == f) None o) (get-own e t.held k))
+      where
+        both : (a b : Bool) → cond a (cond b None (finite.get t.held k)) None ≡ cond b None (cond a (finite.get t.held k) None)
+        both true b = refl
+        both false true = refl
+        both false false = refl
+
+-- who isn't the sender, and holds what it held, sees the holders as before
+pub seen-unheld : (e : ℕ) (t : Transaction) (held : Holders) → (t.sender == e) ≡ false → finite.get held e ≡ held_by t e → seen_by e (record t { held = held }) ≡ seen_by e t
+seen-unheld e t held other same = λ i. record t { held = hidden i }
+  where
+    own : (k : ℕ) (b : Bool) → (k == e) ≡ b → cond b (finite.get held k) None ≡ cond b (finite.get t.held k) None
+    own k true at = let is = eqb-true k e at in ap (finite.get held) is ∙ same ∙ sym (ap (finite.get t.held) is)
+    own k false differ = refl
+
+    hidden : cond (t.sender == e) held (finite.retain_keys held (λ f. f == e)) ≡ cond (t.sender == e) t.held (finite.retain_keys t.held (λ f. f == e))
+    hidden =
+        ap (λ b. cond b held (finite.retain_keys held (λ f. f == e))) other
+        ∙ same-holders _ _ (λ k. get-own e held k ∙ own k (k == e) refl ∙ sym (get-own e t.held k))
+        ∙ sym (ap (λ b. cond b t.held (finite.retain_keys t.held (λ f. f == e))) other)
 
 -- who holds a transaction doesn't touch ceilings
 ceiling-reheld : (b : Bases) (t : Transaction) (held : Holders) (e : ℕ) → ceiling b (record t { held = held }) e ≡ ceiling b t e

@@ -2,29 +2,35 @@
 use Rattle.std.proofs.Common.{◌≡◌, ◌≢◌, ◌∙◌, ℕ, ◌-◌, ◌/◌, ◌%◌, true, false, cond, List, [], get_or, Option, Some, None, is_some, refl, sym, ap, inl, inr, get_or-set_other}
 use Rattle.std.specs.Prelude.{Bool, is_none, ◌==◌, ◌&&◌, nat_le, nat_lt, ◌^◌}
 use Rattle.std.specs.Option.{option_and_then, option_map_or}
-use Rattle.std.proofs.lemmas.Bool.{and_from, cases_eq, eq-eqb, eqb-true, false≢true, true≢false}
+use Rattle.std.proofs.lemmas.Bool.{and_from, cases_Bool, cases_eq, eq-eqb, eqb-true, false≢true, true≢false}
 use Rattle.byteorder.specs.Endian.{little_bytes}
+use Rattle.ffa_model.specs.declared.descriptor.RelinquishDesc.{RelinquishDesc}
 use Rattle.ffa_model.specs.declared.operation.Op.{Op}
 use Rattle.ffa_model.specs.declared.call.Call as calls
 use Rattle.ffa_model.specs.declared.call.Call.TheVariants.{MemDonate, MemLend, MemShare, MemRetrieve, MemRelinquish, MemReclaim}
 use Rattle.ffa_model.specs.declared.operation.ErrorCode.TheVariants.{InvalidParameters}
+use Rattle.ffa_model.specs.declared.rights.Kind.{Kind}
+use Rattle.ffa_model.specs.declared.rights.Kind.TheVariants.{Share, Lend, Donate}
 use Rattle.ffa_model.specs.declared.transaction.Range.{Range}
 use Rattle.ffa_model.specs.Bits.{is_set}
-use Rattle.ffa_model.specs.MemoryReturn.{named_ranges}
+use Rattle.ffa_model.specs.MemoryReturn.{named_ranges, relinquish_read, relinquished, relinquished_from}
 use Rattle.ffa_model.specs.Registers.{served_call}
+use Rattle.ffa_model.specs.SendDescriptor.{SendRecord}
 use Rattle.ffa_model.specs.Rights.{may_store}
 use Rattle.ffa_model.specs.State.{State, Page, Transaction, Buffers, page_at, owner_of, buffers_of, is_known, transaction_of}
 use Rattle.ffa_model.specs.Access.{access, handle_at, is_naming, names, right_of}
 use Rattle.ffa_model.specs.Buffers.{filled_pages}
 use Rattle.ffa_model.specs.Memory.{access_at, page_bytes, size_of, store_fault, written_pages, zeroed_if, zeroed_page}
 use Rattle.ffa_model.specs.Calls.{first_failure}
+use Rattle.ffa_model.specs.MemorySend.{memory_send, memory_sent, send_guards, send_read}
 use Rattle.ffa_model.specs.Messages.{header_in, message_in, send2_guards, tx_bytes}
 use Rattle.ffa_model.specs.Step.{serve, service, step}
-use Rattle.ffa_model.specs.Transactions.{handle_of}
+use Rattle.ffa_model.specs.Transactions.{Transfer, handle_of, scene_of, transfer}
 use Rattle.ffa_laws.specs.Steady.{IsSteady}
 use Rattle.ffa_laws.specs.Isolation.{Integrity, LeavesBytes, fills_rx_page, is_lawful_call, is_indirect_message, is_send2}
 use Rattle.ffa_model.proofs.Guards.{guard-passes}
 use Rattle.ffa_laws.proofs.MemoryLaws.{fault-none}
+use Rattle.ffa_laws.proofs.SendLaws.{offer, offered-owner}
 use Rattle.ffa_model.proofs.Accesses.{page-changed}
 use Rattle.ffa_laws.proofs.Maps.{first_none}
 use Rattle.ffa_laws.proofs.Lawful.{lawful as served_lawful}
@@ -104,13 +110,33 @@ module _ (s : State) (steady : IsSteady s) (e p : ℕ) (owned : owner_of s p ≡
   elsewhere-zeroed true ranges away =
       ap (λ page. option_map_or (λ (x : Page). x.bytes) page []) (page-changed s ranges zeroed_page p refl ∙ ap (λ b. cond b (zeroed_page (page_at s p)) (page_at s p)) away)
 
+  relinquished-elsewhere : (d : Option RelinquishDesc) → bytes_in (relinquished s d).pages p ≡ bytes_in s.pages p
+  relinquished-elsewhere None = refl
+  relinquished-elsewhere (Some d) = of (transaction_of s d.handle) (of_no_transaction d.handle)
+    where
+      of : (o : Option Transaction) → names s (named_ranges o) p ≡ false → bytes_in (relinquished_from s d o).pages p ≡ bytes_in s.pages p
+      of None away = refl
+      of (Some t) away = elsewhere-zeroed d.zero t.ranges away
+
+  -- what a send zeroes is the runner's
+  sent-elsewhere : (kind : Kind) (x : Transfer) → first_failure (memory_send s kind x).guards ≡ None → bytes_in (memory_send s kind x).state.pages p ≡ bytes_in s.pages p
+  sent-elsewhere kind x none = of (send_read s kind x.total) none
+    where
+      of : (o : Option SendRecord) → first_failure (send_guards (scene_of s) s.runner x o) ≡ None → bytes_in (memory_sent s kind o).pages p ≡ bytes_in s.pages p
+      of None none = refl
+      of (Some r) none =
+          elsewhere-zeroed r.zero r.ranges (elim (cases_Bool (names s r.ranges p)) [
+            | inl named ↦ absurd (other (sym (offered-owner s steady kind r (offer s x r none) p named) ∙ owned))
+            | inr away ↦ away
+          ])
+
   -- the calls on memory transactions
   memory-bytes : (call : calls.Call) → is_lawful_call call ≡ true → is_memory_call call ≡ true → first_failure (service s call).guards ≡ None → bytes_in (service s call).state.pages p ≡ bytes_in s.pages p
-  memory-bytes (MemDonate total fragment address pages) lawful memory none = absurd (false≢true lawful)
-  memory-bytes (MemLend total fragment address pages) lawful memory none = absurd (false≢true lawful)
-  memory-bytes (MemShare total fragment address pages) lawful memory none = absurd (false≢true lawful)
+  memory-bytes (MemDonate total fragment address pages) lawful memory none = sent-elsewhere Donate (transfer total fragment address pages) none
+  memory-bytes (MemLend total fragment address pages) lawful memory none = sent-elsewhere Lend (transfer total fragment address pages) none
+  memory-bytes (MemShare total fragment address pages) lawful memory none = sent-elsewhere Share (transfer total fragment address pages) none
   memory-bytes (MemRetrieve total fragment address pages) lawful memory none = absurd (false≢true lawful)
-  memory-bytes MemRelinquish lawful memory none = absurd (false≢true lawful)
+  memory-bytes MemRelinquish lawful memory none = relinquished-elsewhere (relinquish_read s)
   memory-bytes (MemReclaim low high flags) lawful memory none =
       elsewhere-zeroed (is_set 0 flags) (named_ranges (transaction_of s (handle_of high low))) (of_no_transaction (handle_of high low))
   memory-bytes call lawful memory none = absurd (false≢true memory)

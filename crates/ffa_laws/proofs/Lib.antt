@@ -17,6 +17,9 @@ pub mod MessageLaws
 pub mod NotificationLaws
 pub mod Kept
 pub mod Lawful
+pub mod Grants
+pub mod Sends
+pub mod SendLaws
 pub mod Holders
 pub mod Given
 pub mod ReclaimLaws
@@ -43,4 +46,5 @@ pub mod SoundBuffers
 pub mod SoundNotifications
 pub mod SoundReturns
 pub mod SoundRetrieves
+pub mod SoundSends
 pub mod SoundOperations

@@ -2,7 +2,6 @@
 use Rattle.std.proofs.Common.{◌≡◌, ◌≢◌, ◌∙◌, ℕ, Bool, true, false, cond, List, [], ◌∷◌, ◌++◌, length, take, Option, Some, None, refl, sym, ap, inl, inr, arith, length-set}
 use Rattle.std.specs.Prelude.{◌==◌, ◌||◌, not, is_none, nat_le}
 use Rattle.std.specs.Option.{option_map, option_map_or}
-use Rattle.std.specs.Cmp.{nat_cmp_total}
 use Rattle.std.specs.FinMap as finite
 use Rattle.std.proofs.lemmas.Bool.{cases_Bool, false≢true}
 use Rattle.ffa_model.specs.declared.descriptor.RetrieveDesc.{RetrieveDesc}
@@ -26,13 +25,13 @@ use Rattle.ffa_model.specs.MemoryRetrieve.{asked_right, asking_guards, donated_i
 use Rattle.ffa_laws.specs.Steady.{IsSteady}
 use Rattle.ffa_laws.specs.View.{view, involves, is_near, kept, seen_by}
 use Rattle.ffa_laws.specs.Events.{Event, apply_all, public_change, takes, takes_from, taking, where_true, with_holder}
+use Rattle.ffa_model.proofs.Accesses.{held-beside}
 use Rattle.ffa_laws.proofs.BufferLaws.{far-filled, view-filled}
 use Rattle.ffa_laws.proofs.Ceilings.{ceiling-seen}
 use Rattle.ffa_laws.proofs.Changes.{other-told, seen_buffers, view-changed, with_parts, with_public_parts}
-use Rattle.ffa_laws.proofs.Closed.{get-held, holder-hidden}
 use Rattle.ffa_laws.proofs.Form.{IsOwn}
 use Rattle.ffa_laws.proofs.Given.{view-lost, view-taken, view-unlost}
-use Rattle.ffa_laws.proofs.Holders.{Holders, reheld, view-reheld, view-untold}
+use Rattle.ffa_laws.proofs.Holders.{Holders, reheld, seen-taken, seen-unheld, view-reheld, view-untold}
 use Rattle.ffa_laws.proofs.Maps.{length-map_at}
 use Rattle.ffa_laws.proofs.MessageLaws.{full-seen, some-seen, tx-seen}
 use Rattle.ffa_laws.proofs.ReclaimLaws.{seen-whole}
@@ -40,30 +39,6 @@ use Rattle.ffa_laws.proofs.Told.{IsTold}
 use Rattle.ffa_laws.proofs.Views.{held-seen, shown, view-transaction}
 use Rattle.ffa_laws.proofs.Written.{rewritten-filled, rx-own, seen-filled, with_rx_full}
 use Rattle.ffa_laws.proofs.Taken.{Taken, before_response, checks, handle, response, right, size-before, state-taken, steady-before, taken}
-
--- a receiver sees what it holds itself
-retained : (m : Holders) (e k : ℕ) → finite.get (finite.retain_keys m (λ g. g == e)) k ≡ cond (k == e) (finite.get m k) None
-retained m e k = finite.get-retain_keys m (λ g. g == e) k (λ x tie. ap (λ j. j == e) (sym (finite.nat_cmp-IsAntisymmetric k x tie)))
-
-seen-holding : (e : ℕ) (t : Transaction) (right : Rights) → seen_by e (holding t e right) ≡ holding (seen_by e t) e right
-seen-holding e t right = λ i. record t { held = held i }
-  where
-    both : (k : ℕ) (b : Bool) → cond b (cond b (Some right) (finite.get t.held k)) None ≡ cond b (Some right) (cond b (finite.get t.held k) None)
-    both k true = refl
-    both k false = refl
-
-    of_receiver : finite.retain_keys (finite.insert t.held e right) (λ g. g == e) ≡ finite.insert (finite.retain_keys t.held (λ g. g == e)) e right
-    of_receiver = finite.same_map nat_cmp_total finite.nat_cmp-IsAntisymmetric _ _ (λ k.
-        retained (finite.insert t.held e right) e k
-        ∙ ap (λ o. cond (k == e) o None) (get-held t.held e right k)
-        ∙ both k (k == e)
-        ∙ sym (get-held (finite.retain_keys t.held (λ g. g == e)) e right k ∙ ap (λ o. cond (k == e) (Some right) o) (retained t.held e k)))
-
-    held : cond (t.sender == e) (finite.insert t.held e right) (finite.retain_keys (finite.insert t.held e right) (λ g. g == e))
-        ≡ finite.insert (cond (t.sender == e) t.held (finite.retain_keys t.held (λ g. g == e))) e right
-    held = elim (t.sender == e)
-        as (λ b. cond b (finite.insert t.held e right) (finite.retain_keys (finite.insert t.held e right) (λ g. g == e))
-        ≡ finite.insert (cond b t.held (finite.retain_keys t.held (λ g. g == e))) e right) [ true ↦ refl | false ↦ of_receiver ]
 
 -- ---- the guards, in the runner's view
 first-fails : (a : Bool) (code : ErrorCode) (guards : List (Bool × ErrorCode)) → a ≡ false → first_failure ((a, code) ∷ guards) ≡ Some code
@@ -148,7 +123,7 @@ module _ (s : State) (steady : IsSteady s) where
     own-taken = of its.of.kind
       where
         held : with_offers v (with_transaction (offers_of v) (handle s x its) (holding (seen_by s.runner its.of) s.runner (right s x its))) ≡ view s.runner (reheld s (handle s x its) its.of (finite.insert its.of.held s.runner (right s x its)))
-        held = sym (view-reheld s steady (handle s x its) its.of its.is.there (finite.insert its.of.held s.runner (right s x its)) s.runner (holding (seen_by s.runner its.of) s.runner (right s x its)) known (seen-holding s.runner its.of (right s x its)))
+        held = sym (view-reheld s steady (handle s x its) its.of its.is.there (finite.insert its.of.held s.runner (right s x its)) s.runner (holding (seen_by s.runner its.of) s.runner (right s x its)) known (seen-taken s.runner its.of (right s x its)))
 
         of : (kind : Kind) → with_offers (donated_if (is_donate kind) v its.of.ranges s.runner (right s x its)) (taken_in kind (offers_of v) (handle s x its) (seen_by s.runner its.of) s.runner (right s x its))
             ≡ view s.runner (with_offers (donated_if (is_donate kind) s its.of.ranges s.runner (right s x its)) (taken_in kind (offers_of s) (handle s x its) its.of s.runner (right s x its)))
@@ -207,7 +182,7 @@ module _ (s : State) (steady : IsSteady s) (x : Transfer) (its : Taken s x) wher
           | true ↦ λ mine.
               view-reheld s steady h t its.is.there holders e (holding t s.runner its_right) (ap (λ b. b || is_receiver e t) mine) (seen-own (holding t s.runner its_right) mine)
               ∙ (λ i. with_holder (view e s) h s.runner (Some its_right) (sym (view-transaction e s h ∙ ap (shown e) its.is.there ∙ seen-whole e t mine) i))
-          | false ↦ λ not_mine. view-untold s steady h t its.is.there holders e (holder-hidden e s.runner t its_right not_mine other)
+          | false ↦ λ not_mine. view-untold s steady h t its.is.there holders e (seen-unheld e t holders not_mine (held-beside t s.runner its_right e (λ same. other (sym same))))
         ] refl
 
     given-told : t.kind ≡ Donate → view e (taken_as Donate) ≡ apply_all e (view e s) (told Donate)

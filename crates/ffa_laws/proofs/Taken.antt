@@ -22,9 +22,8 @@ use Rattle.ffa_laws.specs.Steady.{IsSteady}
 use Rattle.ffa_model.proofs.Guards.{guard-passes}
 use Rattle.ffa_laws.proofs.BufferLaws.{steady-filled}
 use Rattle.ffa_laws.proofs.Changes.{page_base}
-use Rattle.ffa_laws.proofs.Closed.{get-held}
 use Rattle.ffa_laws.proofs.Given.{page-given, page-same, size-given, steady-given, unnamed-away}
-use Rattle.ffa_laws.proofs.Holders.{Holders, reheld, steady-reheld}
+use Rattle.ffa_laws.proofs.Holders.{Holders, get-taken, reheld, steady-reheld}
 use Rattle.ffa_laws.proofs.Within.{within-same, within-through}
 
 -- ---- what a retrieve that nothing refuses has asked for
@@ -133,7 +132,7 @@ module _ (s : State) (steady : IsSteady s) (x : Transfer) (its : Taken s x) wher
       elim (e == s.runner) as (λ b. (e == s.runner) ≡ b → cond b (Some its_right) (held_by t e) ≡ Some other → P e other) [
         | true ↦ λ same holds. subst (λ f. P f other) (sym (eqb-true e s.runner same)) (subst (P s.runner) (same_Some its_right other holds) new)
         | false ↦ λ differs holds. old e other holds
-      ] refl (sym (get-held t.held s.runner its_right e) ∙ is)
+      ] refl (sym (get-taken t.held s.runner its_right e) ∙ is)
 
   steady-held : IsSteady (reheld s h t holders)
   steady-held =
