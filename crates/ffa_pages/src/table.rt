@@ -1,9 +1,9 @@
 //! The owners of pages.
-ghost use Rattle.std.specs.Prelude.{◌≡◌, ◌≢◌, ◌*◌, ◌<◌, ◌≤◌, length};
+ghost use Rattle.std.specs.Prelude.{◌≡◌, ◌≢◌, ◌*◌, ◌<◌, ◌≤◌, [], length};
 ghost use Rattle.ffa_model.specs.Identifiers.{manager};
 ghost use Rattle.ffa_model.specs.Lists.{listed};
 ghost use Rattle.ffa_pages.specs.Entry.{entry_at, owner_at, base_at, slot_at, given, marked, first_entry};
-ghost use Rattle.ffa_pages.specs.Stored.{base_in, slot_in, standing_of, entry_of};
+ghost use Rattle.ffa_pages.specs.Stored.{base_in, slot_in, standing_of, entry_of, entries_of};
 
 use arrayvec::ArrayVec;
 use ffa_model::{Data, EndpointId, Manifest, PageNo, Rights};
@@ -124,11 +124,26 @@ impl PageTable {
     pub fn of(manifest: &Manifest) -> PageTable
         ensures { result ≡ listed (512 * manifest.now.ram_blocks) (first_entry manifest.now.ram_base manifest.now.endpoints.items) }
     {
-        let mut pages = ArrayVec::new();
-        for page in 0..512 * manifest.ram_blocks {
-            pages.push(first_kept(manifest, PageNo(page)));
+        let mut table = PageTable::none();
+        table.fill(manifest);
+        table
+    }
+
+    /// The table of no RAM at all.
+    pub fn none() -> PageTable
+        ensures { result ≡ [] }
+    {
+        PageTable {
+            pages: ArrayVec::new(),
         }
-        PageTable { pages }
+    }
+
+    /// Makes the table of no RAM the one that `of` gives, where it stands: a table is large to move.
+    pub fn fill(&mut self, manifest: &Manifest)
+        requires { self.old ≡ [] }
+        ensures { self.new ≡ listed (512 * manifest.now.ram_blocks) (first_entry manifest.now.ram_base manifest.now.endpoints.items) }
+    {
+        push_pages(&mut self.pages, manifest);
     }
 
     /// The number of pages.
@@ -193,6 +208,16 @@ impl PageTable {
         ensures { entry_of result ≡ entry_at self.now page.0 }
     {
         self.pages[page.0 as usize]
+    }
+}
+
+// Appends what is kept of each page from the start, to nothing yet.
+fn push_pages(pages: &mut ArrayVec<KeptPage, MOST_PAGES>, manifest: &Manifest)
+    requires { pages.old.items ≡ [] }
+    ensures { entries_of pages.new.items ≡ listed (512 * manifest.now.ram_blocks) (first_entry manifest.now.ram_base manifest.now.endpoints.items) }
+{
+    for page in 0..512 * manifest.ram_blocks {
+        pages.push(first_kept(manifest, PageNo(page)));
     }
 }
 

@@ -27,10 +27,13 @@ impl Kept {
         ensures buffers { result.buffers ≡ replicate (length manifest.now.endpoints.items) None }
         ensures chain { result.chain ≡ first_schedule (length manifest.now.endpoints.items) }
     {
-        Kept {
-            pages: PageTable::of(manifest),
+        let mut kept = Kept {
+            pages: PageTable::none(),
             buffers: Buffers::none(manifest.endpoints.len()),
             chain: Chain::first(manifest.endpoints.len()),
-        }
+        };
+        // Filled in where they stand, since they are large to move.
+        kept.pages.fill(manifest);
+        kept
     }
 }

@@ -5,7 +5,7 @@ use Rattle.ffa_model.proofs.Listed.{listed-more}
 use Rattle.ffa_model.specs.Lists.{listed}
 use Rattle.ffa_pages.specs.Entry.{Entry, first_entry}
 use Rattle.ffa_pages.specs.Stored.{entry_of, entries_of}
-use Rattle.ffa_pages.proofs.table.PageTable.of.Goals as goal
+use Rattle.ffa_pages.proofs.table.push_pages.Goals as goal
 
 pub push-requires : goal.push-requires
 push-requires c =
