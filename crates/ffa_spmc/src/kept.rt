@@ -7,6 +7,7 @@ use ffa_model::Manifest;
 use ffa_pages::PageTable;
 use ffa_rxtx::Buffers;
 use ffa_schedule::Chain;
+use std::mem::size_of;
 
 /// What a machine keeps beside the RAM and the manifest.
 #[derive(Drop)]
@@ -18,6 +19,8 @@ pub struct Kept {
     /// Who runs, and for whom.
     pub chain: Chain,
 }
+
+const _: () = prove!(size_of::<Kept>() <= 98304);
 
 impl Kept {
     /// What the machine of a manifest keeps at first: the owners are those of the regions, nobody has buffers, and the
