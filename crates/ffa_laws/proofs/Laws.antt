@@ -1,7 +1,7 @@
 -- The laws of a step, call by call, and of a run by induction.
 use Rattle.std.proofs.Common.{◌≡◌, ◌≢◌, ◌∙◌, ℕ, true, false, cond, List, [], ◌∷◌, ◌++◌, map, Some, None, refl, sym, ap, subst}
 use Rattle.std.specs.Prelude.{◌==◌}
-use Rattle.std.proofs.lemmas.Bool.{eq-eqb, eqb-true, false≢true, true≢false}
+use Rattle.std.proofs.lemmas.Bool.{eq-eqb, eqb-true, true≢false}
 use Rattle.std.proofs.lemmas.List.{append_assoc}
 use Rattle.ffa_model.specs.declared.operation.Op.{Op}
 use Rattle.ffa_model.specs.declared.operation.Op.TheVariants.{Call, Load, Store, Fetch}
@@ -36,6 +36,8 @@ use Rattle.ffa_laws.proofs.ScheduleLaws.{other-scheduled, other-wait, own-reques
 use Rattle.ffa_laws.proofs.ReclaimLaws.{other-reclaim, own-reclaim}
 use Rattle.ffa_laws.proofs.ReturnLaws.{other-relinquish, own-relinquish, steady-reclaim, steady-relinquish}
 use Rattle.ffa_laws.proofs.SendLaws.{other-send, own-send, steady-send}
+use Rattle.ffa_laws.proofs.RetrieveLaws.{other-retrieve, own-retrieve}
+use Rattle.ffa_laws.proofs.Taken.{steady-retrieve}
 use Rattle.ffa_laws.proofs.MessageLaws.{other-send2, own-send2, steady-send2}
 
 -- ---- one step, by calls
@@ -56,7 +58,7 @@ own-service s steady (DirectResponse function word flags payload) lawful = own-r
 own-service s steady (MemDonate total fragment address pages) lawful = own-send s steady Donate (transfer total fragment address pages)
 own-service s steady (MemLend total fragment address pages) lawful = own-send s steady Lend (transfer total fragment address pages)
 own-service s steady (MemShare total fragment address pages) lawful = own-send s steady Share (transfer total fragment address pages)
-own-service s steady (MemRetrieve total fragment address pages) lawful = absurd (false≢true lawful)
+own-service s steady (MemRetrieve total fragment address pages) lawful = own-retrieve s steady (transfer total fragment address pages)
 own-service s steady MemRelinquish lawful = own-relinquish s steady
 own-service s steady (MemReclaim low high flags) lawful = own-reclaim s steady low high flags
 own-service s steady (BitmapCreate endpoint contexts) lawful = own-create s steady endpoint contexts
@@ -95,7 +97,7 @@ module _ (e : ℕ) (s : State) (steady : IsSteady s) (known : is_known s e ≡ t
   other-service (MemDonate total fragment address pages) lawful = other-send e s steady known other Donate (transfer total fragment address pages)
   other-service (MemLend total fragment address pages) lawful = other-send e s steady known other Lend (transfer total fragment address pages)
   other-service (MemShare total fragment address pages) lawful = other-send e s steady known other Share (transfer total fragment address pages)
-  other-service (MemRetrieve total fragment address pages) lawful = absurd (false≢true lawful)
+  other-service (MemRetrieve total fragment address pages) lawful = other-retrieve e s steady other (transfer total fragment address pages)
   other-service MemRelinquish lawful = other-relinquish e s steady other
   other-service (MemReclaim low high flags) lawful = other-reclaim e s steady other low high flags
   other-service (BitmapCreate endpoint contexts) lawful = other-create e s other endpoint contexts
@@ -133,7 +135,7 @@ steady-service s steady (DirectResponse function word flags payload) lawful none
 steady-service s steady (MemDonate total fragment address pages) lawful none = steady-send s steady Donate (transfer total fragment address pages) none
 steady-service s steady (MemLend total fragment address pages) lawful none = steady-send s steady Lend (transfer total fragment address pages) none
 steady-service s steady (MemShare total fragment address pages) lawful none = steady-send s steady Share (transfer total fragment address pages) none
-steady-service s steady (MemRetrieve total fragment address pages) lawful none = absurd (false≢true lawful)
+steady-service s steady (MemRetrieve total fragment address pages) lawful none = steady-retrieve s steady (transfer total fragment address pages) none
 steady-service s steady MemRelinquish lawful none = steady-relinquish s steady
 steady-service s steady (MemReclaim low high flags) lawful none = steady-reclaim s steady low high flags
 steady-service s steady (BitmapCreate endpoint contexts) lawful none = steady-notified s steady (with_bitmaps (notifications_of s) 0) steady.bound

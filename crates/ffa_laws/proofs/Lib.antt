@@ -21,8 +21,11 @@ pub mod Grants
 pub mod Sends
 pub mod SendLaws
 pub mod Holders
+pub mod Given
 pub mod ReclaimLaws
 pub mod ReturnLaws
+pub mod Taken
+pub mod RetrieveLaws
 pub mod Laws
 pub mod Growth
 pub mod Integrities
@@ -42,5 +45,6 @@ pub mod SoundPages
 pub mod SoundBuffers
 pub mod SoundNotifications
 pub mod SoundReturns
+pub mod SoundRetrieves
 pub mod SoundSends
 pub mod SoundOperations

@@ -42,7 +42,7 @@ module _ (s : State) (steady : IsSteady s) where
   pub some-seen : (f : ℕ) → is_some (buffers_in (view s.runner s).buffers f) ≡ is_some (buffers_in s.buffers f)
   some-seen f = ap is_some (view-buffers s.runner f s) ∙ seen-some s.runner (length s.pages) (place f) (buffers_of s f)
 
-  full-seen : (f : ℕ) → is_full (buffers_in (view s.runner s).buffers f) ≡ is_full (buffers_in s.buffers f)
+  pub full-seen : (f : ℕ) → is_full (buffers_in (view s.runner s).buffers f) ≡ is_full (buffers_in s.buffers f)
   full-seen f = ap is_full (view-buffers s.runner f s) ∙ seen-full s.runner (length s.pages) (place f) (buffers_of s f)
 
   -- that buffers are there, and full, is all that the checks ask of them

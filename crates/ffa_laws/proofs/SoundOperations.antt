@@ -2,7 +2,6 @@
 use Rattle.std.proofs.Common.{◌≡◌, ℕ, true, false, cond, length, None, sym}
 use Rattle.byteorder.specs.Endian.{little_bytes}
 use Rattle.std.specs.Prelude.{◌-◌, ◌/◌, ◌%◌}
-use Rattle.std.proofs.lemmas.Bool.{false≢true}
 use Rattle.ffa_model.specs.declared.operation.Op.{Op}
 use Rattle.ffa_model.specs.declared.operation.Op.TheVariants.{Call, Load, Store, Fetch}
 use Rattle.ffa_model.specs.declared.operation.ErrorCode.TheVariants.{InvalidParameters}
@@ -32,6 +31,7 @@ use Rattle.ffa_laws.proofs.SoundBuffers.{filled-state-sound, map-sound, rx-sound
 use Rattle.ffa_laws.proofs.SoundKept.{pages-sound, schedule-sound}
 use Rattle.ffa_laws.proofs.SoundNotifications.{bind-sound, create-sound, destroy-sound, framework-sound, get-sound, set-sound, unbind-sound}
 use Rattle.ffa_laws.proofs.SoundPages.{informed-sound, sent-sound, stored-sound}
+use Rattle.ffa_laws.proofs.SoundRetrieves.{retrieve-sound}
 use Rattle.ffa_laws.proofs.SoundReturns.{reclaim-sound, relinquish-sound}
 use Rattle.ffa_laws.proofs.SoundSends.{send-sound}
 use Rattle.ffa_laws.proofs.SoundSteady.{sound-steady}
@@ -78,7 +78,7 @@ module _ (s : State) (sound : IsSoundState s) where
   service-sound (MemDonate total fragment address pages) lawful none = send-sound s sound Donate (transfer total fragment address pages) none
   service-sound (MemLend total fragment address pages) lawful none = send-sound s sound Lend (transfer total fragment address pages) none
   service-sound (MemShare total fragment address pages) lawful none = send-sound s sound Share (transfer total fragment address pages) none
-  service-sound (MemRetrieve total fragment address pages) lawful none = absurd (false≢true lawful)
+  service-sound (MemRetrieve total fragment address pages) lawful none = retrieve-sound s sound (transfer total fragment address pages) none
   service-sound MemRelinquish lawful none = relinquish-sound s sound
   service-sound (MemReclaim low high flags) lawful none = reclaim-sound s sound low high flags none
   service-sound (BitmapCreate endpoint contexts) lawful none = create-sound s sound
