@@ -1,31 +1,36 @@
 -- Rights never grow.
-use Rattle.std.proofs.Common.{◌≡◌, ◌≢◌, ◌∙◌, ℕ, ◌-◌, ◌/◌, ◌%◌, Bool, true, false, cond, List, [], ◌∷◌, get_or, Option, Some, None, is_some, refl, sym, ap}
+use Rattle.std.proofs.Common.{◌≡◌, ◌≢◌, ◌∙◌, ℕ, ◌-◌, ◌/◌, ◌%◌, Bool, true, false, cond, List, [], ◌∷◌, get_or, Option, Some, None, is_some, refl, sym, ap, subst}
 use Rattle.byteorder.specs.Endian.{little_bytes}
 use Rattle.std.specs.Prelude.{◌==◌, ◌&&◌, ◌||◌, length, nat_le}
 use Rattle.std.proofs.lemmas.Bool.{and_parts, eqb-true, false≢true, true≢false}
+use Rattle.ffa_model.specs.declared.rights.Kind.TheVariants.{Share, Lend, Donate}
 use Rattle.ffa_model.specs.declared.rights.Rights.{Rights}
 use Rattle.ffa_model.specs.declared.operation.Op.{Op}
 use Rattle.ffa_model.specs.declared.call.Call as calls
 use Rattle.ffa_model.specs.declared.call.Call.TheVariants.{MemDonate, MemLend, MemShare, MemRetrieve, MemRelinquish, MemReclaim}
 use Rattle.ffa_model.specs.Bits.{is_set}
-use Rattle.ffa_model.specs.Buffers.{filled_pages}
+use Rattle.ffa_model.specs.Buffers.{filled, filled_pages}
+use Rattle.ffa_model.specs.MemoryRetrieve.{memory_retrieve}
 use Rattle.ffa_model.specs.Calls.{first_failure}
 use Rattle.ffa_model.specs.Memory.{size_of}
 use Rattle.ffa_model.specs.MemoryReturn.{named_ranges, relinquish_read}
+use Rattle.ffa_model.specs.MemorySend.{send_read}
 use Rattle.ffa_model.specs.Messages.{header_in, message_in, tx_bytes}
 use Rattle.ffa_model.specs.Registers.{served_call}
 use Rattle.ffa_model.specs.Rights.{is_lend, is_share, is_within}
 use Rattle.ffa_model.specs.State.{State, Page, Transaction, buffers_of, page_at, transaction_of}
 use Rattle.ffa_model.specs.Access.{access, held_by, right_by, right_of, transaction_at}
 use Rattle.ffa_model.specs.Step.{serve, service, state_after, step}
-use Rattle.ffa_model.specs.Transactions.{handle_of}
+use Rattle.ffa_model.specs.Transactions.{Transfer, handle_of, transfer}
 use Rattle.ffa_laws.specs.Steady.{IsSteady, is_joint}
 use Rattle.ffa_laws.specs.Isolation.{NeverGrow, is_joint_at, is_lawful_call}
 use Rattle.ffa_laws.proofs.Views.{found}
+use Rattle.ffa_laws.proofs.Taken.{Taken, base-before, before_response, manager-before, response, state-taken, taken}
 use Rattle.ffa_laws.proofs.Within.{within-same, within-through}
 use Rattle.ffa_laws.proofs.Changes.{AreRewritten, same_base, standing, page_base, unwritten}
 use Rattle.ffa_laws.proofs.Closed.{rewritten-zeroed_if}
 use Rattle.ffa_laws.proofs.ReturnLaws.{rewritten-relinquished}
+use Rattle.ffa_laws.proofs.SendLaws.{rewritten-sent}
 use Rattle.ffa_laws.proofs.Written.{rewritten-filled, rewritten-written}
 use Rattle.ffa_laws.proofs.Kept.{is_memory_call, kept-call, kept-step}
 use Rattle.ffa_laws.proofs.Lawful.{lawful as served_lawful}
@@ -111,12 +116,32 @@ not_grown s steady =
     record { base = λ p. within-same (page_base (page_at s p)); within = access-within s steady; manager = λ p none. none; alone = access-alone s steady }
 
 module _ (s : State) (steady : IsSteady s) where
+  -- what a donate gives is within what its sender had
+  retrieved-rights : (x : Transfer) → first_failure (memory_retrieve s x).guards ≡ None → KeepsRights s.pages (memory_retrieve s x).state.pages
+  retrieved-rights x none = subst (λ t. KeepsRights s.pages t.pages) (sym (state-taken s x its)) keeps
+    where
+      its : Taken s x
+      its = taken s x none
+
+      before : State
+      before = before_response s x its
+
+      filling : AreRewritten before.pages (filled before s.runner (response s x its)).pages
+      filling = rewritten-filled before.pages (response s x its) (buffers_of s s.runner)
+
+      keeps : KeepsRights s.pages (filled before s.runner (response s x its)).pages
+      keeps =
+          record {
+            bases = λ p. ap (λ r. is_within r (page_base (page_at s p))) (same_base _ (page_at before p) (filling.same p)) ∙ base-before s steady x its p;
+            manager = λ p none. stands-nowhere _ (filling.same p ∙ ap standing (manager-before s steady x its p none));
+          }
+
   -- the calls on memory transactions
   memory-rights : (call : calls.Call) → is_lawful_call call ≡ true → is_memory_call call ≡ true → first_failure (service s call).guards ≡ None → KeepsRights s.pages (service s call).state.pages
-  memory-rights (MemDonate total fragment address pages) lawful memory none = absurd (false≢true lawful)
-  memory-rights (MemLend total fragment address pages) lawful memory none = absurd (false≢true lawful)
-  memory-rights (MemShare total fragment address pages) lawful memory none = absurd (false≢true lawful)
-  memory-rights (MemRetrieve total fragment address pages) lawful memory none = absurd (false≢true lawful)
+  memory-rights (MemDonate total fragment address pages) lawful memory none = rewritten-rights s.pages _ (rewritten-sent s Donate (send_read s Donate total))
+  memory-rights (MemLend total fragment address pages) lawful memory none = rewritten-rights s.pages _ (rewritten-sent s Lend (send_read s Lend total))
+  memory-rights (MemShare total fragment address pages) lawful memory none = rewritten-rights s.pages _ (rewritten-sent s Share (send_read s Share total))
+  memory-rights (MemRetrieve total fragment address pages) lawful memory none = retrieved-rights (transfer total fragment address pages) none
   memory-rights MemRelinquish lawful memory none = rewritten-rights s.pages _ (rewritten-relinquished s (relinquish_read s))
   memory-rights (MemReclaim low high flags) lawful memory none =
       rewritten-rights s.pages _ (rewritten-zeroed_if (is_set 0 flags) s (named_ranges (transaction_of s (handle_of high low))))

@@ -15,7 +15,7 @@ use Rattle.ffa_model.specs.Lists.{map_at}
 use Rattle.ffa_model.specs.Rights.{is_lend, is_share, is_within}
 use Rattle.ffa_model.specs.State.{State, Transaction, owner_of, sent_by, transaction_of}
 use Rattle.ffa_model.specs.Access.{handle_at, held_by, is_naming, is_receiver, names}
-use Rattle.ffa_model.specs.Transactions.{Bases, base_of, bases_of, ceiling, ceiling_in, handle_of, not_holding}
+use Rattle.ffa_model.specs.Transactions.{Bases, base_of, bases_of, ceiling, ceiling_in, handle_of, holding, not_holding}
 use Rattle.ffa_laws.specs.Steady.{IsSteady, IsSteadyTransaction, is_joint}
 use Rattle.ffa_laws.specs.View.{view, involves, is_near, kept, seen_by, transactions_of}
 use Rattle.ffa_laws.proofs.Maps.{first_no, first_none, first_one, first_some}
@@ -38,6 +38,30 @@ get-own e m k = finite.get-retain_keys m (λ f. f == e) k (λ x tie. ap (λ j. j
 
 get-left : (m : Holders) (f k : ℕ) → finite.get (finite.remove m f) k ≡ cond (k == f) None (finite.get m k)
 get-left m f k = finite.get-remove nat_cmp_total m f k ∙ ap (λ b. cond b None (finite.get m k)) (unsigned_tied k f)
+
+pub get-taken : (m : Holders) (f : ℕ) (right : Rights) (k : ℕ) → finite.get (finite.insert m f right) k ≡ cond (k == f) (Some right) (finite.get m k)
+get-taken m f right k = finite.get-insert nat_cmp_total m f right k ∙ ap (λ b. cond b (Some right) (finite.get m k)) (unsigned_tied k f)
+
+-- who takes a right takes it in its own view
+pub seen-taken : (e : ℕ) (t : Transaction) (right : Rights) → seen_by e (holding t e right) ≡ holding (seen_by e t) e right
+seen-taken e t right =
+    λ i. record t {
+      held = (elim (t.sender == e) as (λ b. cond b (finite.insert t.held e right) (finite.retain_keys (finite.insert t.held e right) (λ g. g == e)) ≡ finite.insert (cond b t.held (finite.retain_keys t.held (λ g. g == e))) e right) [
+        | true ↦ refl
+        | false ↦ same-holders _ _ commutes
+      ]) i;
+    }
+  where
+    commutes : (k : ℕ) → finite.get (finite.retain_keys (finite.insert t.held e right) (λ g. g == e)) k ≡ finite.get (finite.insert (finite.retain_keys t.held (λ g. g == e)) e right) k
+    commutes k =
+        get-own e (finite.insert t.held e right) k
+        ∙ ap (λ o. cond (k == e) o None) (get-taken t.held e right k)
+        ∙ both (k == e)
+        ∙ sym (get-taken (finite.retain_keys t.held (λ g. g == e)) e right k ∙ ap (λ o. cond (k == e) (Some right) o) (get-own e t.held k))
+      where
+        both : (b : Bool) → cond b (cond b (Some right) (finite.get t.held k)) None ≡ cond b (Some right) (cond b (finite.get t.held k) None)
+        both true = refl
+        both false = refl
 
 -- what is given up is given up in a view
 pub seen-released : (e f : ℕ) (t : Transaction) → seen_by e (not_holding t f) ≡ not_holding (seen_by e t) f

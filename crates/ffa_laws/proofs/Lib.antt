@@ -17,9 +17,15 @@ pub mod MessageLaws
 pub mod NotificationLaws
 pub mod Kept
 pub mod Lawful
+pub mod Grants
+pub mod Sends
+pub mod SendLaws
 pub mod Holders
+pub mod Given
 pub mod ReclaimLaws
 pub mod ReturnLaws
+pub mod Taken
+pub mod RetrieveLaws
 pub mod Laws
 pub mod Growth
 pub mod Integrities
@@ -39,4 +45,6 @@ pub mod SoundPages
 pub mod SoundBuffers
 pub mod SoundNotifications
 pub mod SoundReturns
+pub mod SoundRetrieves
+pub mod SoundSends
 pub mod SoundOperations

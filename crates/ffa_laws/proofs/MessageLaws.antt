@@ -39,10 +39,10 @@ module _ (s : State) (steady : IsSteady s) where
       go None is = refl
       go (Some b) is = near-bytes s.runner s b.tx (alone-near s s.runner b.tx (steady.buffers s.runner b steady.runner is).tx)
 
-  some-seen : (f : ℕ) → is_some (buffers_in (view s.runner s).buffers f) ≡ is_some (buffers_in s.buffers f)
+  pub some-seen : (f : ℕ) → is_some (buffers_in (view s.runner s).buffers f) ≡ is_some (buffers_in s.buffers f)
   some-seen f = ap is_some (view-buffers s.runner f s) ∙ seen-some s.runner (length s.pages) (place f) (buffers_of s f)
 
-  full-seen : (f : ℕ) → is_full (buffers_in (view s.runner s).buffers f) ≡ is_full (buffers_in s.buffers f)
+  pub full-seen : (f : ℕ) → is_full (buffers_in (view s.runner s).buffers f) ≡ is_full (buffers_in s.buffers f)
   full-seen f = ap is_full (view-buffers s.runner f s) ∙ seen-full s.runner (length s.pages) (place f) (buffers_of s f)
 
   -- that buffers are there, and full, is all that the checks ask of them

@@ -28,7 +28,7 @@ use Rattle.ffa_laws.proofs.Closed.{closed, closed-untold, near-closed, other-clo
 use Rattle.ffa_laws.proofs.Ceilings.{writable-seen}
 
 -- the sender sees its transaction whole
-seen-whole : (e : ℕ) (t : Transaction) → (t.sender == e) ≡ true → shown e (Some t) ≡ Some t
+pub seen-whole : (e : ℕ) (t : Transaction) → (t.sender == e) ≡ true → shown e (Some t) ≡ Some t
 seen-whole e t mine =
     ap (λ b. option_map (seen_by e) (kept (b || is_receiver e t) (Some t))) mine
     ∙ (λ i. Some (record t { held = cond (mine i) t.held (finite.retain_keys t.held (λ f. f == e)) }))

@@ -47,7 +47,7 @@ steady-zeroed asked s ranges steady =
 -- A CLOSE
 module _ (s : State) (steady : IsSteady s) (h : ℕ) where
   -- what is open then was open before
-  open-before : (k : ℕ) (t : Transaction) → transaction_of (closed s h) k ≡ Some t → transaction_of s k ≡ Some t
+  pub open-before : (k : ℕ) (t : Transaction) → transaction_of (closed s h) k ≡ Some t → transaction_of s k ≡ Some t
   open-before k t is = go (k == h) (sym (get-remove s.transactions h k) ∙ is)
     where
       go : (b : Bool) → cond b None (transaction_of s k) ≡ Some t → transaction_of s k ≡ Some t

@@ -3,11 +3,13 @@ use Rattle.std.proofs.Common.{◌≡◌, ◌∙◌, ℕ, ◌<◌, true, List, le
 use Rattle.std.specs.Prelude.{IsSomeAnd, is_some}
 use Rattle.std.specs.Option.{option_map}
 use Rattle.std.proofs.lemmas.Bool.{false≢true}
+use Rattle.arrayvec.specs.ArrayVec.{array_vec_len}
 use Rattle.ffa_model.specs.Access.{handle_at}
 use Rattle.ffa_model.specs.Buffers.{Candidate, buffers_in, buffers_with_rx, candidate_at, filled, filled_pages, is_usable}
 use Rattle.ffa_model.specs.First.{first}
 use Rattle.ffa_model.specs.State.{State, Page, Buffers, is_known, is_known_among, page_at}
 use Rattle.ffa_rxtx.specs.Parts.{with_rx_bytes}
+use Rattle.ffa_memshare.specs.Callers.{IsCaller}
 use Rattle.ffa_laws.proofs.SoundSteady.{runner-known}
 use Rattle.ffa_spmc.specs.Meaning.{IsMachine, Parts, state_of}
 use Rattle.ffa_spmc.proofs.Held.{each, parties_are, size_is}
@@ -49,6 +51,18 @@ module _ (x : Parts) (machine : IsMachine x) where
   -- and one that may have buffers
   pub known-buffered : (e : ℕ) → is_known s e ≡ true → is_known_among (length x.kept.buffers) e ≡ true
   known-buffered e known = subst (λ (n : ℕ). is_known_among n e ≡ true) (parties_are x ∙ sym (each x machine)) known
+
+  -- what calls with a descriptor in TX ask of their caller
+  pub caller-is : (e : ℕ) → e ≡ x.kept.chain.runner → IsCaller (array_vec_len x.kept.layout.regions) (length x.ram.pages) e x.kept.buffers
+  caller-is e at =
+      subst (λ (n : ℕ). IsCaller n (length x.ram.pages) e x.kept.buffers) (parties_are x ∙ sym machine.layout.endpoints)
+      (record {
+        some = machine.sound.sized.some;
+        few = machine.sound.sized.few;
+        known = runner-there e at;
+        size = machine.sound.sized.buffers;
+        inside = λ b is. let there = buffers-there e (runner-there e at) b is in (there-inside b.tx there.0, there-inside b.rx there.1);
+      })
 
   module _ (f : ℕ) (known : is_known s f ≡ true) where
     pub rx-in-ram : (b : Buffers) → buffers_in x.kept.buffers f ≡ Some b → IsSomeAnd (buffers_in x.kept.buffers f) (λ b. b.rx < length x.ram.pages)

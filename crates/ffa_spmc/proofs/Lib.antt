@@ -18,5 +18,6 @@ pub mod Information
 pub mod Schedules
 pub mod Sends
 pub mod Reclaims
+pub mod Relinquishes
 pub mod ServedCalls
 pub mod Laws

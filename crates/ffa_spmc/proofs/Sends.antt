@@ -92,7 +92,7 @@ module _ (x : Parts) (machine : IsMachine x) where
             let (page, there) = (buffers-there x machine e (runner-there x machine e at) b is).0 in
             (agrees x machine).bytes b.tx page there ∙ sym (ap (λ (o : Option Page). option_map_or (λ (q : Page). q.bytes) o []) there)
 
-    sent-is : tx ≡ tx_bytes s x.kept.chain.runner
+    pub sent-is : tx ≡ tx_bytes s x.kept.chain.runner
     sent-is = tx-is ∙ ap (tx_bytes s) at
 
     receiver-known : first_failure (send2_guards parties x.kept.buffers e (header_in tx)) ≡ None → is_known s receiver ≡ true

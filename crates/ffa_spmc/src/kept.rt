@@ -11,6 +11,7 @@ use ffa_pages::PageTable;
 use ffa_rxtx::Buffers;
 use ffa_schedule::Chain;
 use ffa_stage2::Layout;
+use std::mem::size_of;
 
 /// What a machine keeps beside the RAM and the manifest.
 #[derive(Drop)]
@@ -27,6 +28,8 @@ pub struct Kept {
     pub chain: Chain,
 }
 
+const _: () = prove!(size_of::<Kept>() <= 98304);
+
 impl Kept {
     /// What the machine of a manifest keeps at first: the owners are those of the regions, nothing is open, nobody has buffers, and the
     /// normal world runs.
@@ -40,12 +43,15 @@ impl Kept {
         ensures buffers { result.buffers ≡ replicate (length manifest.now.endpoints.items) None }
         ensures chain { result.chain ≡ first_schedule (length manifest.now.endpoints.items) }
     {
-        Kept {
+        let mut kept = Kept {
             layout: Layout::of(manifest),
-            pages: PageTable::of(manifest),
+            pages: PageTable::none(),
             pool: Pool::first(manifest.endpoints.len()),
             buffers: Buffers::none(manifest.endpoints.len()),
             chain: Chain::first(manifest.endpoints.len()),
-        }
+        };
+        // Filled in where they stand, since they are large to move.
+        kept.pages.fill(manifest);
+        kept
     }
 }

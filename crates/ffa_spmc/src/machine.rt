@@ -15,7 +15,7 @@ ghost use Rattle.ffa_laws.specs.Events.{seen};
 ghost use Rattle.ffa_laws.specs.Isolation.{Integrity, Isolated, NeverGrow, OneStep, shown_to};
 ghost use Rattle.ffa_model.specs.Refusals.{is_error, is_refusal, passes_no_error};
 ghost use Rattle.ffa_model.specs.Registers.{served_call};
-ghost use Rattle.ffa_model.specs.MemoryReturn.{memory_reclaim};
+ghost use Rattle.ffa_model.specs.MemoryReturn.{memory_reclaim, memory_relinquish};
 ghost use Rattle.ffa_model.specs.Messages.{msg_send2};
 ghost use Rattle.ffa_model.specs.RunStates.{direct_request, direct_response, msg_wait, run_partition, yield_now};
 ghost use Rattle.ffa_model.specs.Setup.{info_get, info_guards, informed, is_count_alone, selected, uuid_bytes};
@@ -125,6 +125,8 @@ impl<M: PhysMem + Drop> Machine<M> {
 
     /// The same machine, in RAM of which every byte is zero already, as new RAM is: it builds the tables and clears
     /// nothing.
+    // Not inlined, since its frame holds copies of what the machine keeps, which no caller needs once it runs.
+    #[inline(never)]
     pub fn boot_cleared(manifest: &Manifest, ram: M) -> Machine<M>
         requires { M.ram ram ≡ zero_ram manifest.now.ram_base (512 * manifest.now.ram_blocks) }
         ensures state { result.state ≡ first manifest.now.ram_base manifest.now.ram_blocks manifest.now.endpoints.items }
@@ -267,6 +269,7 @@ impl<M: PhysMem + Drop> Machine<M> {
                 payload,
             }),
             Call::MsgSend2 => self.send(),
+            Call::MemRelinquish => self.relinquish(),
             Call::MemReclaim { low, high, flags } => self.reclaim(low, high, flags),
             Call::SpmIdGet => ffa_setup::spm_id(),
             // No identifier asks for one of these as yet, but for the first.
@@ -275,7 +278,6 @@ impl<M: PhysMem + Drop> Machine<M> {
             | Call::MemLend { .. }
             | Call::MemShare { .. }
             | Call::MemRetrieve { .. }
-            | Call::MemRelinquish
             | Call::BitmapCreate { .. }
             | Call::BitmapDestroy { .. }
             | Call::NotificationBind { .. }
@@ -419,6 +421,23 @@ impl<M: PhysMem + Drop> Machine<M> {
         let runner = self.kept.chain.runner();
         let buffers = &mut self.kept.buffers;
         reply_or_error(send2(&mut self.ram, buffers, &self.manifest, runner))
+    }
+
+    // FFA_MEM_RELINQUISH of the runner.
+    fn relinquish(&mut self) -> Reply
+        ensures served { replied self.new.state result ≡ served self.old.state (memory_relinquish self.old.state) }
+        ensures refused { is_error result ≡ true → self.new ≡ self.old }
+    {
+        let runner = self.kept.chain.runner();
+        let kept = &mut self.kept;
+        let pool = &mut kept.pool;
+        done_or_error(pool.relinquish(
+            &mut self.ram,
+            &kept.layout,
+            &kept.pages,
+            &kept.buffers,
+            runner,
+        ))
     }
 
     // FFA_MEM_RECLAIM of the runner.
