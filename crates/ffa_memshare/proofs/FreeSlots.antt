@@ -4,7 +4,6 @@ use Rattle.std.specs.Prelude.{◌==◌, nat_lt, is_some, filter}
 use Rattle.std.specs.Ordering.{nat_cmp}
 use Rattle.std.specs.FinMap as finite
 use Rattle.std.proofs.lemmas.Bool.{eq-eqb, false≢true, le-ltb, lt-ltb, ne_eqb, true≢false}
-use Rattle.std.proofs.lemmas.Option.{none-some}
 use Rattle.ffa_model.specs.Identifiers.{identifier, place}
 use Rattle.ffa_model.specs.State.{Transaction}
 use Rattle.ffa_model.specs.Transactions.{open_count}
@@ -130,8 +129,8 @@ module _ (kept : Pooled) (pool : IsPool kept) (e : ℕ) (known : identifier (pla
       ap (λ n. n + free_in (8 * place e) 8 kept.slots) (count-slots (λ (t : Transaction). t.sender == e) kept.slots pool.apart)
       ∙ passing-free (λ (t : Transaction). t.sender == e) (8 * place e) 8 kept.slots (omega (arith, pool.size, lt))
       (λ k x at from to. (
-        let here : k / 8 ≡ place e = omega arith in
-        eq-eqb x.1.sender e ((pool.places k x.0 x.1 at).sender ∙ ap identifier here ∙ known)
+      let here : k / 8 ≡ place e = omega arith in
+      eq-eqb x.1.sender e ((pool.places k x.0 x.1 at).sender ∙ ap identifier here ∙ known)
       ))
       (λ k x at less. ne_eqb x.1.sender e (λ same. apart k x at same (λ here. omega (arith, here, less))))
       (λ k x at past. ne_eqb x.1.sender e (λ same. apart k x at same (λ here. omega (arith, here, past))))

@@ -1,9 +1,10 @@
 -- What an endpoint offers that passed the checks.
-use Rattle.std.proofs.Common.{◌≡◌, ◌∙◌, ℕ, zero, suc, ◌+◌, ◌-◌, ◌*◌, ◌/◌, ◌%◌, ◌<◌, ◌≤◌, Bool, true, false, cond, List, [], ◌∷◌, length, get_or, Option, Some, None, refl, sym, ap, arith, inl, inr}
+use Rattle.std.proofs.Common.{◌≡◌, ◌≢◌, ◌∙◌, ℕ, zero, suc, ◌+◌, ◌*◌, ◌%◌, ◌<◌, ◌≤◌, Bool, true, false, cond, List, [], ◌∷◌, length, get_or, Option, Some, None, refl, sym, ap, arith, inl, inr}
 use Rattle.std.specs.Prelude.{◌==◌, not, ◌&&◌, ◌||◌, is_some, filter}
-use Rattle.std.specs.List.{list_all, list_any}
+use Rattle.std.specs.List.{list_all}
 use Rattle.std.specs.Option.{option_map, option_map_or}
-use Rattle.std.proofs.lemmas.Bool.{and_parts, eqb-true, leb-true, ltb-true, or_cases, false≢true}
+use Rattle.std.proofs.lemmas.Bool.{and_parts, cases_lt, eqb-true, leb-true, ltb-true, ne_eqb, or_cases, false≢true}
+use Rattle.std.proofs.lemmas.Option.{none-some}
 use Rattle.ffa_model.specs.declared.rights.Data.{Data}
 use Rattle.ffa_model.specs.declared.rights.Data.TheVariants.{Ro, Rw}
 use Rattle.ffa_model.specs.declared.rights.Rights.{Rights}
@@ -11,19 +12,20 @@ use Rattle.ffa_model.specs.declared.rights.Kind.{Kind}
 use Rattle.ffa_model.specs.declared.transaction.Range.{Range}
 use Rattle.ffa_model.specs.declared.transaction.Receiver.{Receiver}
 use Rattle.ffa_model.specs.Buffers.{Candidate}
-use Rattle.ffa_model.specs.DescriptorPlaces.{range_count}
+use Rattle.ffa_model.specs.DescriptorPlaces.{range_count, receiver_count}
+use Rattle.ffa_model.specs.Identifiers.{manager}
 use Rattle.ffa_model.specs.Lists.{listed}
 use Rattle.ffa_model.specs.MemorySend.{are_grants_within, is_grantable, is_inside, is_own, is_sendable}
 use Rattle.ffa_model.specs.Rights.{may_store, may_write}
-use Rattle.ffa_model.specs.SendDescriptor.{Send, SendRecord, range_end, range_in, ranges_in}
+use Rattle.ffa_model.specs.SendDescriptor.{Send, SendRecord, is_named, range_in, receiver_in}
 use Rattle.ffa_model.specs.State.{Buffers}
 use Rattle.ffa_model.specs.Transactions.{are_writable, pages_in}
 use Rattle.ffa_model.proofs.NamedPages.{listed-each}
-use Rattle.ffa_pages.specs.Entry.{Entry, base_at, entry_at}
+use Rattle.ffa_pages.specs.Entry.{Entry, base_at, entry_at, owner_at}
 use Rattle.ffa_rxtx.specs.Parts.{candidate_in, candidates_in}
 use Rattle.ffa_memshare.specs.Named.{bases_in}
 use Rattle.ffa_memshare.specs.Offers.{AreAligned, IsOwnOffer, grants_writes}
-use Rattle.ffa_memshare.specs.Ranges.{ArePlaced, IsPlaced, first_page, in_range, in_ranges}
+use Rattle.ffa_memshare.specs.Ranges.{ArePlaced, IsPlaced, in_range, in_ranges}
 
 -- an element of a list that a function gives
 listed-at : {X : Type 0} (n : ℕ) (f : ℕ → X) (i : ℕ) (d : X) → i < n → get_or (listed n f) i d ≡ f i
@@ -42,6 +44,18 @@ sent-aligned kind b r send i x lt is =
     let less : i < n = omega (arith, lt, ap (λ (rs : List Range). length rs) send.ranges, length-listed n (range_in b)) in
     let at : x ≡ range_in b i = is ∙ ap (λ (rs : List Range). get_or rs i x) send.ranges ∙ listed-at n (range_in b) i x less in
     ap (λ (q : Range). q.address % 4096) at ∙ (send.each i less).aligned
+
+-- and its receivers are others than its sender
+pub sent-other : (kind : Kind) (b : List ℕ) (r : SendRecord) → Send kind b r → is_named r.sender r.receivers ≡ false
+sent-other kind b r send =
+    ap (is_named r.sender) send.receivers
+    ∙ each (receiver_count b) (receiver_in b) (λ i lt is. (send.accesses i lt).other (is ∙ send.sender))
+  where
+    each : (n : ℕ) (f : ℕ → Receiver) → ((i : ℕ) → i < n → (f i).endpoint.0 ≡ r.sender → ⊥) → is_named r.sender (listed n f) ≡ false
+    each zero f none = refl
+    each (suc n) f none =
+        ap (λ b. b || is_named r.sender (listed n (λ i. f (suc i)))) (ne_eqb (f 0).endpoint.0 r.sender (none 0 (omega arith)))
+        ∙ each n (λ i. f (suc i)) (λ i lt. none (suc i) (omega arith))
 
 -- ranges of whole pages inside RAM
 pub inside-placed : (table : List (Option Entry)) (base : ℕ) (ranges : List Range) → base % 4096 ≡ 0 → AreAligned ranges
@@ -98,6 +112,20 @@ checked-offered table base e buffers r whole aligned sender inside sendable =
           (listed-each (is_sendable e (candidates_in table base) buffers) (in_ranges base r.ranges) (length table) (λ q. q) sendable p
           (named-within base (length table) r.ranges p placed named) named)).0;
     }
+
+-- so no page of it is the manager's, and none is one of the tables
+pub own-owned : (table : List (Option Entry)) (base e : ℕ) (r : SendRecord) → IsOwnOffer table base e r → e ≢ manager
+    → (p : ℕ) → in_ranges base r.ranges p ≡ true → owner_at table p ≢ manager
+own-owned table base e r own other p named is =
+    let (x, at, its) = own.own p named in
+    other (sym its ∙ sym (ap (λ (o : Option Entry). option_map_or (λ (y : Entry). y.owner) o manager) at) ∙ is)
+
+pub own-behind : (table : List (Option Entry)) (base e : ℕ) (r : SendRecord) (first : ℕ) → IsOwnOffer table base e r
+    → ((p : ℕ) → p < first → entry_at table p ≡ None) → (p : ℕ) → in_ranges base r.ranges p ≡ true → first ≤ p
+own-behind table base e r first own none p named = elim (cases_lt p first) [
+  | inl before ↦ (let (x, at, its) = own.own p named in absurd (none-some x (sym (none p before) ∙ at)))
+  | inr behind ↦ behind
+]
 
 -- GRANTS
 both : (m w : Bool) → (m && (not w || m)) ≡ (not true || m)

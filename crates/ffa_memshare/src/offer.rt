@@ -1,5 +1,5 @@
 //! What an endpoint offers: whether the bytes are a descriptor, and whether the endpoint may send what it names.
-ghost use Rattle.std.specs.Prelude.{◌≡◌, ℕ, length, List, OnOk, IfOk, IfErr, Bool, Some, true, not, ◌&&◌, ◌||◌};
+ghost use Rattle.std.specs.Prelude.{◌≡◌, ℕ, length, List, OnOk, IfOk, IfErr, Bool, Some, true, false, not, ◌&&◌, ◌||◌};
 ghost use Rattle.std.specs.List.{list_all};
 ghost use Rattle.std.specs.Option.{option_map};
 ghost use Rattle.std.specs.Result.{result_ok};
@@ -7,7 +7,7 @@ ghost use Rattle.arrayvec.specs.ArrayVec.{array_vec_len};
 ghost use Rattle.ffa_model.specs.declared.operation.ErrorCode.{ErrorCode as Code};
 ghost use Rattle.ffa_model.specs.Calls.{first_failure};
 ghost use Rattle.ffa_model.specs.MemorySend.{are_grants_within, are_known, is_inside};
-ghost use Rattle.ffa_model.specs.SendDescriptor.{send_of, send_record};
+ghost use Rattle.ffa_model.specs.SendDescriptor.{is_named, send_of, send_record};
 ghost use Rattle.ffa_model.specs.State.{is_known_among};
 ghost use Rattle.ffa_model.specs.Transactions.{are_writable, pages_in};
 ghost use Rattle.ffa_rxtx.specs.Parts.{candidates_in};
@@ -26,6 +26,7 @@ pub(crate) fn read_offer(bytes: &[u8], kind: Kind) -> Result<SendDesc, ErrorCode
     ensures computed { option_map send_record (result_ok result) ≡ send_of kind bytes.now }
     ensures code { IfErr result (λ code. code ≡ ErrorCode.InvalidParameters) }
     ensures aligned { IfOk result (λ d. AreAligned d.ranges.items) }
+    ensures other { IfOk result (λ d. is_named d.sender.0 d.receivers.items ≡ false) }
 {
     match read_send(bytes, kind) {
         Ok(offer) => Ok(offer),

@@ -1,9 +1,8 @@
-use Rattle.std.proofs.Common.{◌≡◌, ◌∙◌, ◌*◌, ◌+◌, ◌<◌, ◌≤◌, ℕ, Option, None, Some, List, get_or, map, length, sym, ap, subst, arith, rules, inl, inr}
+use Rattle.std.proofs.Common.{◌≡◌, ◌∙◌, ◌<◌, Option, List, get_or, length, sym, ap, subst, arith, inl, inr}
 use Rattle.std.specs.Prelude.{nat_lt, true, false}
 use Rattle.std.proofs.lemmas.Bool.{cases_eq}
 use Rattle.std.proofs.lemmas.List.{length-map}
 use Rattle.ffa_model.specs.Identifiers.{place}
-use Rattle.ffa_model.specs.State.{Transaction}
 use Rattle.ffa_model.specs.Transactions.{open_count}
 use Rattle.ffa_memshare.specs.declared.transaction.OpenTransaction.{OpenTransaction}
 use Rattle.ffa_memshare.specs.SlotChanges.{IsFree}
@@ -59,3 +58,8 @@ returns-clause-few c =
     (all-open (record { slots = slots_of c.self.inside.slots.items; sent = c.self.inside.sent.items }) c.self.invariant c.args.sender.0 c.requires.known
     (omega (arith, c.requires.place, ap (λ (p : Pooled). length p.sent) c.self.view_is))
     (λ k from to. let (x, at) = c.loop-slot.invariant.taken k from (omega (arith, c.loop-slot-test.false, c.place-first.ensures)) in (x, ap (λ (p : Pooled). slot_at p.slots k) c.self.view_is ∙ at))))
+
+pub returns-then-is_none-clause-fits : goal.returns-then-is_none-clause-fits
+returns-then-is_none-clause-fits c =
+    let size = ap (λ (p : Pooled). length p.sent) c.self.view_is in
+    omega (arith, c.loop-slot-test.true, c.place-first.ensures, c.requires.place, c.self.invariant.few, size)
