@@ -282,6 +282,17 @@ impl<M: PhysMem + Drop> Machine<M> {
                 payload,
             }),
             Call::MsgSend2 => self.send(),
+            Call::MemRetrieve {
+                total,
+                fragment,
+                address,
+                pages,
+            } => self.retrieve(&Transfer {
+                total,
+                fragment,
+                address,
+                pages,
+            }),
             Call::MemRelinquish => self.relinquish(),
             Call::MemReclaim { low, high, flags } => self.reclaim(low, high, flags),
             Call::SpmIdGet => ffa_setup::spm_id(),
@@ -290,7 +301,6 @@ impl<M: PhysMem + Drop> Machine<M> {
             | Call::MemDonate { .. }
             | Call::MemLend { .. }
             | Call::MemShare { .. }
-            | Call::MemRetrieve { .. }
             | Call::BitmapCreate { .. }
             | Call::BitmapDestroy { .. }
             | Call::NotificationBind { .. }
