@@ -45,11 +45,11 @@ use Rattle.ffa_spmc.specs.Replies.{retrieved_or_error}
 use Rattle.ffa_spmc.proofs.Answered.{answered-by, passed-state, refused-so}
 use Rattle.ffa_spmc.proofs.Candidates.{candidates-are}
 use Rattle.ffa_spmc.proofs.Closes.{offers-closed, offers-reheld}
-use Rattle.ffa_spmc.proofs.Donations.{owners-passed, pages-passed, slot-given, tables-granted}
+use Rattle.ffa_spmc.proofs.Donations.{owners-passed, pages-passed}
 use Rattle.ffa_spmc.proofs.Fills.{runner-there, state-filled, tables-filled, after_fill}
 use Rattle.ffa_spmc.proofs.Granted.{donate-granted, retrieve-granted}
 use Rattle.ffa_spmc.proofs.Held.{parties_are}
-use Rattle.ffa_spmc.proofs.Moves.{of-manifest}
+use Rattle.ffa_spmc.proofs.Moves.{of-manifest, same-owners, slot-given, tables-moved}
 use Rattle.ffa_spmc.proofs.Pools.{bases-are, slot-open}
 use Rattle.ffa_spmc.proofs.Sends.{sent-is}
 
@@ -187,7 +187,7 @@ module _ (x : Parts) (machine : IsMachine x) (e : EndpointId) (at : e.0 ≡ x.ke
     machine-taken =
         record {
           laws = machine.laws;
-          tables = tables-granted x machine done.answer.granted pages (place e.0) t.ranges e right moves (state_of before) access-taken;
+          tables = tables-moved x machine done.answer.granted x.kept.pages (place e.0) t.ranges (λ p. Some right) false moves (same-owners x.kept.pages) (state_of before) access-taken;
           layout = machine.layout;
           owners = owners-passed x machine done.answer.granted pages (place e.0) t.ranges e right moves t.kind passed;
           offers = offers-taken;
