@@ -1,8 +1,7 @@
-use Rattle.std.proofs.Common.{◌≡◌, ◌∙◌, ℕ, List, Some, None, sym, ap, subst}
+use Rattle.std.proofs.Common.{◌≡◌, ℕ, List, Some, None, subst}
 use Rattle.std.specs.FinMap as finite
 use Rattle.arrayvec.specs.ArrayVec.{array_vec_len}
 use Rattle.ffa_model.specs.declared.transaction.Range.{Range}
-use Rattle.ffa_model.specs.Identifiers.{place}
 use Rattle.ffa_memshare.specs.Changes.{IsMoved}
 use Rattle.ffa_memshare.specs.Ranges.{in_ranges}
 use Rattle.ffa_memshare.specs.Stored.{map_in, slot_at, transaction_of}
