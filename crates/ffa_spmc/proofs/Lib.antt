@@ -19,5 +19,7 @@ pub mod Schedules
 pub mod Sends
 pub mod Reclaims
 pub mod Relinquishes
+pub mod Donations
+pub mod Retrieves
 pub mod ServedCalls
 pub mod Laws

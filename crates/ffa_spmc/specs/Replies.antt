@@ -1,7 +1,7 @@
 -- What the runner sees of a call that a part of the machine has done or refused.
-use Rattle.std.specs.Prelude.{⊤, Result, Ok, Err}
+use Rattle.std.specs.Prelude.{⊤, ℕ, Result, Ok, Err}
 use Rattle.ffa_model.specs.declared.call.Reply.{Reply}
-use Rattle.ffa_model.specs.declared.call.Reply.TheVariants.{Error}
+use Rattle.ffa_model.specs.declared.call.Reply.TheVariants.{Error, Retrieved}
 use Rattle.ffa_model.specs.declared.operation.ErrorCode.{ErrorCode}
 use Rattle.ffa_model.specs.Calls.{success}
 
@@ -15,3 +15,7 @@ done_or_error r = reply_of (λ done. success 0 0) r
 
 abbrev pub reply_or_error : Result Reply ErrorCode → Reply
 reply_or_error r = reply_of (λ reply. reply) r
+
+-- the length of what RX holds then
+abbrev pub retrieved_or_error : Result ℕ ErrorCode → Reply
+retrieved_or_error r = reply_of (λ size. Retrieved size) r

@@ -15,6 +15,7 @@ ghost use Rattle.ffa_laws.specs.Events.{seen};
 ghost use Rattle.ffa_laws.specs.Isolation.{Integrity, Isolated, NeverGrow, OneStep, shown_to};
 ghost use Rattle.ffa_model.specs.Refusals.{is_error, is_refusal, passes_no_error};
 ghost use Rattle.ffa_model.specs.Registers.{served_call};
+ghost use Rattle.ffa_model.specs.MemoryRetrieve.{memory_retrieve};
 ghost use Rattle.ffa_model.specs.MemoryReturn.{memory_reclaim, memory_relinquish};
 ghost use Rattle.ffa_model.specs.Messages.{msg_send2};
 ghost use Rattle.ffa_model.specs.RunStates.{direct_request, direct_response, msg_wait, run_partition, yield_now};
@@ -23,9 +24,11 @@ ghost use Rattle.ffa_model.specs.State.{owner_of};
 ghost use Rattle.ffa_model.specs.Step.{serve, step, outcomes, state_after};
 ghost use Rattle.ffa_model.specs.Walk.{is_page_address};
 ghost use Rattle.ffa_spmc.specs.Arms.{has_arm};
-ghost use Rattle.ffa_spmc.specs.Replies.{done_or_error, reply_or_error};
+ghost use Rattle.ffa_memshare.specs.Scenes.{transfer_of};
+ghost use Rattle.ffa_spmc.specs.Replies.{done_or_error, reply_or_error, retrieved_or_error};
 
 use crate::kept::Kept;
+use ffa_memshare::Transfer;
 use ffa_messages::{DirectMessage, direct_req, direct_resp, send2};
 use ffa_model::{Call, EndpointId, ErrorCode, Manifest, Op, Outcome, PageNo, Reply, Rights, Size};
 use ffa_physmem::PhysMem;
@@ -76,6 +79,16 @@ fn reply_or_error(answer: Result<Reply, ErrorCode>) -> Reply
 {
     match answer {
         Ok(reply) => reply,
+        Err(code) => Reply::Error(code),
+    }
+}
+
+// The reply to a retrieve: how many bytes RX holds then, or the code for which it was refused.
+fn retrieved_or_error(answer: Result<u32, ErrorCode>) -> Reply
+    ensures { result ≡ retrieved_or_error answer }
+{
+    match answer {
+        Ok(size) => Reply::Retrieved(size),
         Err(code) => Reply::Error(code),
     }
 }
@@ -421,6 +434,24 @@ impl<M: PhysMem + Drop> Machine<M> {
         let runner = self.kept.chain.runner();
         let buffers = &mut self.kept.buffers;
         reply_or_error(send2(&mut self.ram, buffers, &self.manifest, runner))
+    }
+
+    // FFA_MEM_RETRIEVE_REQ of the runner.
+    fn retrieve(&mut self, transfer: &Transfer) -> Reply
+        ensures served { replied self.new.state result ≡ served self.old.state (memory_retrieve self.old.state (transfer_of transfer.now)) }
+        ensures refused { is_error result ≡ true → self.new ≡ self.old }
+    {
+        let runner = self.kept.chain.runner();
+        let kept = &mut self.kept;
+        let pool = &mut kept.pool;
+        retrieved_or_error(pool.retrieve(
+            &mut self.ram,
+            &kept.layout,
+            &mut kept.pages,
+            &mut kept.buffers,
+            runner,
+            transfer,
+        ))
     }
 
     // FFA_MEM_RELINQUISH of the runner.
