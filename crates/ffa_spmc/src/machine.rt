@@ -22,9 +22,10 @@ ghost use Rattle.ffa_model.specs.Messages.{msg_send2};
 ghost use Rattle.ffa_model.specs.RunStates.{direct_request, direct_response, msg_wait, run_partition, yield_now};
 ghost use Rattle.ffa_model.specs.Setup.{info_get, info_guards, informed, is_count_alone, selected, uuid_bytes};
 ghost use Rattle.ffa_model.specs.State.{owner_of};
+ghost use Rattle.ffa_model.specs.Transactions.{transfer};
 ghost use Rattle.ffa_model.specs.Step.{serve, step, outcomes, state_after};
 ghost use Rattle.ffa_model.specs.Walk.{is_page_address};
-ghost use Rattle.ffa_spmc.specs.Arms.{has_arm};
+ghost use Rattle.ffa_spmc.specs.Arms.{has_arm, is_message, is_on_memory};
 ghost use Rattle.ffa_memshare.specs.Scenes.{transfer_of};
 ghost use Rattle.ffa_spmc.specs.Replies.{done_or_error, handle_or_error, reply_or_error, retrieved_or_error};
 
@@ -112,6 +113,18 @@ fn retrieved_or_error(answer: Result<u32, ErrorCode>) -> Reply
     match answer {
         Ok(size) => Reply::Retrieved(size),
         Err(code) => Reply::Error(code),
+    }
+}
+
+// What the registers of a call say whose descriptor stands in TX.
+fn transfer(total: u32, fragment: u32, address: u64, pages: u32) -> Transfer
+    ensures { transfer_of result ≡ transfer total fragment address pages }
+{
+    Transfer {
+        total,
+        fragment,
+        address,
+        pages,
     }
 }
 
@@ -278,6 +291,38 @@ impl<M: PhysMem + Drop> Machine<M> {
             Call::RxtxUnmap { endpoint } => self.unmap(endpoint),
             Call::PartitionInfoGet { uuid, flags } => self.partition_info(uuid, flags),
             Call::IdGet => ffa_setup::id(self.kept.chain.runner()),
+            Call::SpmIdGet => ffa_setup::spm_id(),
+            Call::MsgWait
+            | Call::Yield
+            | Call::Run { .. }
+            | Call::DirectRequest { .. }
+            | Call::DirectResponse { .. }
+            | Call::MsgSend2 => self.message_reply(call),
+            Call::MemDonate { .. }
+            | Call::MemLend { .. }
+            | Call::MemShare { .. }
+            | Call::MemRetrieve { .. }
+            | Call::MemRelinquish
+            | Call::MemReclaim { .. } => self.memory_reply(call),
+            // No identifier asks for one of these as yet, but for the first.
+            Call::Unknown
+            | Call::BitmapCreate { .. }
+            | Call::BitmapDestroy { .. }
+            | Call::NotificationBind { .. }
+            | Call::NotificationUnbind { .. }
+            | Call::NotificationSet { .. }
+            | Call::NotificationGet { .. } => Reply::Error(ErrorCode::NotSupported),
+        }
+    }
+
+    // The reply to a call on run states, or to a message.
+    fn message_reply(&mut self, call: Call) -> Reply
+        requires message { is_message call ≡ true }
+        requires named { passes_no_error call ≡ true }
+        ensures served { replied self.new.state result ≡ serve self.old.state call }
+        ensures refused { is_error result ≡ true → self.new ≡ self.old }
+    {
+        match call {
             Call::MsgWait => self.wait(),
             Call::Yield => self.yield_now(),
             Call::Run { target } => self.run_partition(target),
@@ -304,31 +349,44 @@ impl<M: PhysMem + Drop> Machine<M> {
                 payload,
             }),
             Call::MsgSend2 => self.send(),
+            _ => unreachable!(),
+        }
+    }
+
+    // The reply to a call on memory.
+    fn memory_reply(&mut self, call: Call) -> Reply
+        requires { is_on_memory call ≡ true }
+        ensures served { replied self.new.state result ≡ serve self.old.state call }
+        ensures refused { is_error result ≡ true → self.new ≡ self.old }
+    {
+        match call {
+            Call::MemDonate {
+                total,
+                fragment,
+                address,
+                pages,
+            } => self.offer(Kind::Donate, &transfer(total, fragment, address, pages)),
+            Call::MemLend {
+                total,
+                fragment,
+                address,
+                pages,
+            } => self.offer(Kind::Lend, &transfer(total, fragment, address, pages)),
+            Call::MemShare {
+                total,
+                fragment,
+                address,
+                pages,
+            } => self.offer(Kind::Share, &transfer(total, fragment, address, pages)),
             Call::MemRetrieve {
                 total,
                 fragment,
                 address,
                 pages,
-            } => self.retrieve(&Transfer {
-                total,
-                fragment,
-                address,
-                pages,
-            }),
+            } => self.retrieve(&transfer(total, fragment, address, pages)),
             Call::MemRelinquish => self.relinquish(),
             Call::MemReclaim { low, high, flags } => self.reclaim(low, high, flags),
-            Call::SpmIdGet => ffa_setup::spm_id(),
-            // No identifier asks for one of these as yet, but for the first.
-            Call::Unknown
-            | Call::MemDonate { .. }
-            | Call::MemLend { .. }
-            | Call::MemShare { .. }
-            | Call::BitmapCreate { .. }
-            | Call::BitmapDestroy { .. }
-            | Call::NotificationBind { .. }
-            | Call::NotificationUnbind { .. }
-            | Call::NotificationSet { .. }
-            | Call::NotificationGet { .. } => Reply::Error(ErrorCode::NotSupported),
+            _ => unreachable!(),
         }
     }
 
