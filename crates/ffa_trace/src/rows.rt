@@ -6,6 +6,11 @@ use ffa_spmc::Machine;
 use std::alloc::Global;
 use std::test::Fail;
 
+// Memory transactions.
+mod memory;
+// Notifications.
+mod notifications;
+
 fn rows(alloc: Global) -> Result<Player<FlatRam>, Fail> {
     let manifest = row_machine();
     let ram = FlatRam::new(alloc, manifest.ram_base, 512)?;
@@ -53,9 +58,17 @@ fn push_padded(text: &mut String, digits: &str, width: usize) -> Result<(), Fail
 
 // Plays lines on a fresh machine: the first that doesn't print what is wanted, with what it prints.
 fn difference(alloc: Global, lines: &[(&str, &str)]) -> Result<Option<String>, Fail> {
-    let mut player = rows(alloc)?;
+    difference_on(alloc, &mut rows(alloc)?, lines)
+}
+
+// Plays lines on a machine, alike.
+fn difference_on(
+    alloc: Global,
+    player: &mut Player<FlatRam>,
+    lines: &[(&str, &str)],
+) -> Result<Option<String>, Fail> {
     for (line, want) in lines {
-        let text = played(alloc, &mut player, line)?;
+        let text = played(alloc, player, line)?;
         if text != printed(alloc, want)? {
             return Ok(Some(format!(in alloc; "{line}: {text}")?));
         }
