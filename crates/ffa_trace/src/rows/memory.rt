@@ -380,6 +380,40 @@ fn a_donate_of_two_rights(rt: HostRuntime) -> Result<(), Fail> {
     Ok(())
 }
 
+// The normal world lends three pages to the second partition, which the first isn't told of: it sees the same as without
+// them, its own handle among it.
+#[test]
+fn what_others_lend_is_not_seen(rt: HostRuntime) -> Result<(), Fail> {
+    let waits = [("call 8400006B", "0: 8400006B 80010000")];
+    let lends = [
+        ("store 4001E018 0000000100000010", "done"),
+        ("store 4001E020 0000000000000030", "done"),
+        ("store 4001E030 0000004000028002", "done"),
+        ("store 4001E040 0000000100000001", "done"),
+        ("store 4001E050 0000000040010000", "done"),
+        ("store 4001E058 0000000000000001", "done"),
+        ("call 84000072 60 60", "0: 84000061 0 1"),
+        ("store 4001E050 0000000040011000", "done"),
+        ("call 84000072 60 60", "0: 84000061 0 2"),
+        ("store 4001E050 0000000040012000", "done"),
+        ("call 84000072 60 60", "0: 84000061 0 3"),
+    ];
+    let runs = [RUN_FIRST];
+    let own = [
+        ("load 40010000 1", "fault translation"),
+        ("call 84000068 0 0 0 0 1", "8001: 84000061 0 2"),
+        ("call 84000077 1 0", "8001: 84000060 0 FFFFFFFE"),
+        ("call 84000077 1 8001", "8001: 84000061"),
+        ("load 40021000 1", "data 00"),
+        ("call 84000072 60 60", "8001: 84000061 0 2 8001"),
+    ];
+    let with: [&[(&str, &str)]; 5] = [&waits, &lends, &runs, &LEND, &own];
+    let without: [&[(&str, &str)]; 4] = [&waits, &runs, &LEND, &own];
+    assert_eq!(rt; difference_mapped(rt.alloc(), &with)?, None);
+    assert_eq!(rt; difference_mapped(rt.alloc(), &without)?, None);
+    Ok(())
+}
+
 // The lend at each length that it may be said to have: its 96 bytes, and no more than the page.
 #[test]
 fn a_lend_of_each_length(rt: HostRuntime) -> Result<(), Fail> {
