@@ -1,7 +1,7 @@
 -- FFA_MEM_DONATE, FFA_MEM_LEND and FFA_MEM_SHARE, in the sender's view, and to others.
-use Rattle.std.proofs.Common.{◌≡◌, ◌≢◌, ◌⊎◌, ◌∙◌, ℕ, suc, ◌+◌, ◌<◌, ◌≤◌, Bool, true, false, cond, not, List, [], ◌∷◌, ◌++◌, length, get_or, take, Option, Some, None, is_some, refl, sym, ap, subst, inl, inr, arith, length-set}
+use Rattle.std.proofs.Common.{◌≡◌, ◌≢◌, ◌⊎◌, ◌∙◌, ℕ, ◌+◌, ◌<◌, ◌≤◌, Bool, true, false, cond, not, List, [], ◌∷◌, ◌++◌, length, get_or, take, Option, Some, None, is_some, refl, sym, ap, subst, inl, inr, arith, length-set}
 use Rattle.std.specs.Prelude.{◌==◌, ◌||◌, ◌&&◌, filter, nat_le, nat_lt}
-use Rattle.std.specs.List.{list_all, list_any}
+use Rattle.std.specs.List.{list_all}
 use Rattle.std.specs.Option.{option_map, option_map_or}
 use Rattle.std.specs.Ordering.{nat_cmp}
 use Rattle.std.specs.FinMap as finite
@@ -14,7 +14,7 @@ use Rattle.ffa_model.specs.declared.rights.Kind.{Kind}
 use Rattle.ffa_model.specs.declared.transaction.Range.{Range}
 use Rattle.ffa_model.specs.declared.transaction.Receiver.{Receiver}
 use Rattle.ffa_model.specs.Identifiers.{identifier, place}
-use Rattle.ffa_model.specs.Lists.{listed, map_at}
+use Rattle.ffa_model.specs.Lists.{listed}
 use Rattle.ffa_model.specs.State.{State, Page, Transaction, Buffers, buffers_of, is_known, owner_of, page_at, sent_by, transaction_of}
 use Rattle.ffa_model.specs.Access.{handle_at, held_by, is_receiver, names, transaction_at}
 use Rattle.ffa_model.specs.Rights.{may_store}
@@ -24,7 +24,7 @@ use Rattle.ffa_model.specs.Calls.{first_failure}
 use Rattle.ffa_model.specs.Messages.{tx_bytes}
 use Rattle.ffa_model.specs.RunStates.{schedule_of}
 use Rattle.ffa_model.specs.SendDescriptor.{SendRecord, most_receivers, send_of}
-use Rattle.ffa_model.specs.Transactions.{Transfer, are_writable, base_of, bases_of, handle_of, next_handle, offers_of, open_count, pages_in, scene_of, sends_of}
+use Rattle.ffa_model.specs.Transactions.{Bases, Scene, Transfer, are_writable, base_of, bases_of, handle_of, next_handle, offers_of, open_count, pages_in, scene_of, sends_of}
 use Rattle.ffa_model.specs.MemorySend.{are_grants_within, are_known, handle_reply, is_buffer, is_grantable, is_inside, is_own, is_sendable, memory_send, memory_sent, send_guards, send_read, transaction_from}
 use Rattle.ffa_laws.specs.Steady.{IsAlone, IsSteady, IsSteadyTransaction}
 use Rattle.ffa_laws.specs.View.{view, buffers_seen, hidden, involves, is_near, kept}
@@ -38,15 +38,15 @@ use Rattle.ffa_model.proofs.Places.{known-named, known-place}
 use Rattle.ffa_laws.proofs.Changes.{AreRewritten, buffers_seen-none, other-told, own-same, same_owner, unwritten, with_public_parts}
 use Rattle.ffa_laws.proofs.Closed.{rewritten-zeroed_if}
 use Rattle.ffa_laws.proofs.CountSeen.{count-seen}
-use Rattle.ffa_laws.proofs.Form.{IsOwn, same-first}
+use Rattle.ffa_laws.proofs.Form.{IsOwn, same-later}
 use Rattle.ffa_laws.proofs.Grants.{covered-inside, granted-ceiling, one-taker}
-use Rattle.ffa_laws.proofs.Maps.{get_or-map_at, length-map_at}
+use Rattle.ffa_laws.proofs.Maps.{any-map_at, get_or-map_at, length-map_at}
 use Rattle.ffa_laws.proofs.MessageLaws.{some-seen, tx-seen}
 use Rattle.ffa_laws.proofs.Opened.{get-insert, one-opened, opened, other-opened, other-untold, own-opened, unnamed-opened}
 use Rattle.ffa_laws.proofs.ReclaimLaws.{zeroed-far, zeroed_if-seen}
 use Rattle.ffa_laws.proofs.ReturnLaws.{steady-zeroed}
 use Rattle.ffa_laws.proofs.Sends.{counted}
-use Rattle.ffa_laws.proofs.Steadies.{alone-far, alone-near}
+use Rattle.ffa_laws.proofs.Steadies.{alone-far, alone-near, own-alone}
 use Rattle.ffa_laws.proofs.Told.{IsTold}
 use Rattle.ffa_laws.proofs.Unchained.{identifier-known, place-identifier}
 use Rattle.ffa_laws.proofs.Views.{kept_none, or_true, view-named, view-page}
@@ -82,22 +82,6 @@ pub no-offer : (s : State) (x : Transfer) → first_failure (send_guards (scene_
 no-offer s x none = false≢true (guard-passes (send_guards (scene_of s) s.runner x None) 5 InvalidParameters (sym none))
 
 -- ---- pages that may be sent
--- a page that e owns, and that no transaction names, is there, and e's alone
-own-alone : (s : State) (e p : ℕ) → is_own e (candidate_at s p) ≡ true → (page : Page) × (page_at s p ≡ Some page) × IsAlone s e p
-own-alone s e p is = of (page_at s p) refl is
-  where
-    none : (o : Option ℕ) → not (is_some o) ≡ true → o ≡ None
-    none None h = refl
-    none (Some h) n = absurd (false≢true n)
-
-    of : (o : Option Page) → page_at s p ≡ o
-        → is_own e (option_map (λ (page : Page). let c : Candidate = record { owner = page.owner; base = page.base; named = is_some (handle_at s p) } in c) o) ≡ true
-        → (page : Page) × (page_at s p ≡ Some page) × IsAlone s e p
-    of None at is = absurd (false≢true is)
-    of (Some page) at is =
-        let (mine, free) = and_parts (page.owner == e) _ is in
-        (page, at, record { owner = ap (λ o. option_map_or (λ (q : Page). q.owner) o 0x8000) at ∙ eqb-true page.owner e mine; unnamed = none (handle_at s p) free })
-
 module _ (s : State) (ranges : List Range) (free : list_all (is_sendable s.runner (candidates s) s.buffers) (pages_in (bases_of s) ranges) ≡ true) where
   sendable-each : (p : ℕ) → p < length s.pages → names s ranges p ≡ true → is_sendable s.runner (candidates s) s.buffers p ≡ true
   sendable-each p lt named = listed-each (is_sendable s.runner (candidates s) s.buffers) (names s ranges) (length s.pages) (λ q. q) free p lt named
@@ -106,16 +90,26 @@ module _ (s : State) (ranges : List Range) (free : list_all (is_sendable s.runne
   sendable-alone p lt named = own-alone s s.runner p (and_parts _ _ (sendable-each p lt named)).0
 
 -- ---- the guards, in the runner's view
-any-map_at : (test : Option Buffers → Bool) (f : ℕ → Option Buffers → Option Buffers) (bs : List (Option Buffers)) → ((i : ℕ) → test (f i (get_or bs i None)) ≡ test (get_or bs i None))
-    → list_any test (map_at f bs) ≡ list_any test bs
-any-map_at test f [] same = refl
-any-map_at test f (b ∷ bs) same = λ i. same 0 i || any-map_at test (λ j. f (suc j)) bs (λ j. same (suc j)) i
+-- the guards of a send before the one that asks whether all pages may be sent, and those behind it
+abbrev asked_first : Bool → ℕ → Bases → ℕ → Transfer → SendRecord → List (Bool × ErrorCode)
+asked_first mapped endpoints bases e x r =
+    (mapped, InvalidParameters)
+    ∷ (x.total == x.fragment, InvalidParameters)
+    ∷ (nat_le x.total 4096, InvalidParameters)
+    ∷ (x.address == 0, InvalidParameters)
+    ∷ (x.pages == 0, InvalidParameters)
+    ∷ (r.sender == e, InvalidParameters)
+    ∷ (are_known endpoints r.receivers, InvalidParameters)
+    ∷ (list_all (is_inside bases) r.ranges, Denied)
+    ∷ []
 
--- guards that agree behind one that passes
-same-later : (code : ErrorCode) (before : List (Bool × ErrorCode)) (passes : Bool) (xs ys : List (Bool × ErrorCode)) → (passes ≡ true → first_failure xs ≡ first_failure ys)
-    → first_failure (before ++ (passes, code) ∷ xs) ≡ first_failure (before ++ (passes, code) ∷ ys)
-same-later code [] passes xs ys same = same-first passes code xs ys same
-same-later code ((test, other) ∷ before) passes xs ys same = same-first test other (before ++ (passes, code) ∷ xs) (before ++ (passes, code) ∷ ys) (λ is. same-later code before passes xs ys same)
+abbrev asked_of_pages : Scene → ℕ → SendRecord → List (Bool × ErrorCode)
+asked_of_pages c e r =
+    (list_all (are_grants_within c.bases r.receivers) (pages_in c.bases r.ranges), Denied)
+    ∷ (not r.zero || are_writable c.bases r.ranges, Denied)
+    ∷ (nat_lt (open_count c.offers e) 8, NoMemory)
+    ∷ (nat_lt (sends_of c.offers e) 65535, NoMemory)
+    ∷ []
 
 module _ (s : State) (steady : IsSteady s) where
   abbrev v : State
@@ -155,7 +149,7 @@ module _ (s : State) (steady : IsSteady s) where
             ] refl
 
     buffer-seen : is_buffer v.buffers p ≡ is_buffer s.buffers p
-    buffer-seen = any-map_at holds_page (buffers_seen s.runner (length s.pages)) s.buffers buffer-at
+    buffer-seen = any-map_at holds_page (buffers_seen s.runner (length s.pages)) s.buffers None buffer-at
 
   -- what its own pages are, it sees
   owned-near : (p : ℕ) → owner_of s p ≡ s.runner → is_near s.runner s p ≡ true
@@ -195,7 +189,6 @@ module _ (s : State) (steady : IsSteady s) where
             (λ i. (own-page-seen p ∙ own) i && not (buffer-seen p lt alone.owner i))
         | false ↦ λ not_own. ap (λ b. b && not (is_buffer v.buffers p)) (own-page-seen p ∙ not_own)
       ] refl
-      ∙ ap (λ b. b && not (is_buffer s.buffers p)) refl
 
   module _ (ranges : List Range) where
     -- tests of all pages that are named
@@ -245,41 +238,12 @@ module _ (s : State) (steady : IsSteady s) where
       ∷ (false, InvalidParameters)
       ∷ [])
   same-failure x (Some r) =
-      (λ i. first_failure (
-      (some-seen s steady s.runner i, InvalidParameters)
-      ∷ (x.total == x.fragment, InvalidParameters)
-      ∷ (nat_le x.total 4096, InvalidParameters)
-      ∷ (x.address == 0, InvalidParameters)
-      ∷ (x.pages == 0, InvalidParameters)
-      ∷ (r.sender == s.runner, InvalidParameters)
-      ∷ (are_known (length s.parties) r.receivers, InvalidParameters)
-      ∷ (list_all (is_inside (record { ram_base = s.ram_base; pages = size-seen i; right = base_of s })) r.ranges, Denied)
-      ∷ (all-sendable-seen r.ranges i, Denied)
-      ∷ (list_all (are_grants_within (bases_of v) r.receivers) (pages_in (bases_of v) r.ranges), Denied)
-      ∷ (not r.zero || are_writable (bases_of v) r.ranges, Denied)
-      ∷ (nat_lt (open_count (offers_of v) s.runner) 8, NoMemory)
-      ∷ (nat_lt (sends_of (offers_of v) s.runner) 65535, NoMemory)
-      ∷ []))
-      ∙ same-later Denied (
-      (is_some (buffers_in s.buffers s.runner), InvalidParameters)
-      ∷ (x.total == x.fragment, InvalidParameters)
-      ∷ (nat_le x.total 4096, InvalidParameters)
-      ∷ (x.address == 0, InvalidParameters)
-      ∷ (x.pages == 0, InvalidParameters)
-      ∷ (r.sender == s.runner, InvalidParameters)
-      ∷ (are_known (length s.parties) r.receivers, InvalidParameters)
-      ∷ (list_all (is_inside (bases_of s)) r.ranges, Denied)
-      ∷ []) (list_all (is_sendable s.runner (candidates s) s.buffers) (pages_in (bases_of s) r.ranges)) (
-      (list_all (are_grants_within (bases_of v) r.receivers) (pages_in (bases_of v) r.ranges), Denied)
-      ∷ (not r.zero || are_writable (bases_of v) r.ranges, Denied)
-      ∷ (nat_lt (open_count (offers_of v) s.runner) 8, NoMemory)
-      ∷ (nat_lt (sends_of (offers_of v) s.runner) 65535, NoMemory)
-      ∷ []) (
-      (list_all (are_grants_within (bases_of s) r.receivers) (pages_in (bases_of s) r.ranges), Denied)
-      ∷ (not r.zero || are_writable (bases_of s) r.ranges, Denied)
-      ∷ (nat_lt (open_count (offers_of s) s.runner) 8, NoMemory)
-      ∷ (nat_lt (sends_of (offers_of s) s.runner) 65535, NoMemory)
-      ∷ []) (λ free i. first_failure (
+      (λ i. first_failure (asked_first (some-seen s steady s.runner i) (length s.parties) (record { ram_base = s.ram_base; pages = size-seen i; right = base_of s }) s.runner x r
+      ++ (all-sendable-seen r.ranges i, Denied)
+      ∷ asked_of_pages (scene_of v) s.runner r))
+      ∙ same-later Denied (asked_first (is_some (buffers_in s.buffers s.runner)) (length s.parties) (bases_of s) s.runner x r)
+      (list_all (is_sendable s.runner (candidates s) s.buffers) (pages_in (bases_of s) r.ranges)) (asked_of_pages (scene_of v) s.runner r) (asked_of_pages (scene_of s) s.runner r)
+      (λ free i. first_failure (
       (grants-seen r.ranges free r.receivers i, Denied)
       ∷ (not r.zero || writable-seen r.ranges free i, Denied)
       ∷ (nat_lt (count-seen s.runner s i) 8, NoMemory)

@@ -9,7 +9,8 @@ use Rattle.ffa_model.specs.Transactions.{Bases, bases_of, ceiling}
 use Rattle.ffa_model.specs.Identifiers.{place}
 use Rattle.ffa_model.specs.State.{State, Page, Buffers, page_at, owner_of, is_known_among, is_known, transaction_of}
 use Rattle.ffa_model.specs.Access.{handle_at, transaction_at}
-use Rattle.ffa_model.specs.Buffers.{is_usable, candidate_at, buffers_with_rx}
+use Rattle.ffa_model.specs.Buffers.{Candidate, is_usable, candidate_at, buffers_with_rx}
+use Rattle.ffa_model.specs.MemorySend.{is_own}
 use Rattle.ffa_model.specs.RunStates.{Schedule, requester}
 use Rattle.ffa_model.specs.Notifications.{Notifications, with_notifications}
 use Rattle.ffa_laws.specs.Steady.{AreSteadyBuffers, IsAlone, IsSteady, IsSteadyBinding}
@@ -22,21 +23,29 @@ use Rattle.std.proofs.lemmas.Bool.Decides.{nat_tests}
 use Rattle.ffa_laws.proofs.Changes.{AreRewritten, with_parts, same_base, same_owner}
 use Rattle.ffa_laws.proofs.Written.{at-changed, is_at, with_rx_full}
 
--- a page that may be a buffer of e is e's, and no transaction names it
-pub usable : (s : State) (e p : ℕ) → is_usable e (candidate_at s p) ≡ true → IsAlone s e p
-usable s e p is = go (page_at s p) refl is
+-- a page that e owns, and that no transaction names, is there, and e's alone
+pub own-alone : (s : State) (e p : ℕ) → is_own e (candidate_at s p) ≡ true → (page : Page) × (page_at s p ≡ Some page) × IsAlone s e p
+own-alone s e p is = of (page_at s p) refl is
   where
-    no_handle : (o : Option ℕ) → not (is_some o) ≡ true → o ≡ None
-    no_handle None n = refl
-    no_handle (Some h) n = absurd (false≢true n)
+    none : (o : Option ℕ) → not (is_some o) ≡ true → o ≡ None
+    none None h = refl
+    none (Some h) n = absurd (false≢true n)
 
-    go : (page : Option Page) → page_at s p ≡ page
-        → is_usable e (option_map (λ (q : Page). record { owner = q.owner; base = q.base; named = is_some (handle_at s p) }) page) ≡ true → IsAlone s e p
-    go None at is = absurd (false≢true is)
-    go (Some q) at is =
-        let (both, writable) = and_parts _ _ is in
-        let (mine, free) = and_parts _ _ both in
-        record { owner = ap (λ o. option_map_or (λ (x : Page). x.owner) o 0x8000) at ∙ eqb-true q.owner e mine; unnamed = no_handle (handle_at s p) free }
+    of : (o : Option Page) → page_at s p ≡ o
+        → is_own e (option_map (λ (page : Page). let c : Candidate = record { owner = page.owner; base = page.base; named = is_some (handle_at s p) } in c) o) ≡ true
+        → (page : Page) × (page_at s p ≡ Some page) × IsAlone s e p
+    of None at is = absurd (false≢true is)
+    of (Some page) at is =
+        let (mine, free) = and_parts (page.owner == e) _ is in
+        (page, at, record { owner = ap (λ o. option_map_or (λ (q : Page). q.owner) o 0x8000) at ∙ eqb-true page.owner e mine; unnamed = none (handle_at s p) free })
+
+-- so is one that may be a buffer of e
+pub usable : (s : State) (e p : ℕ) → is_usable e (candidate_at s p) ≡ true → IsAlone s e p
+usable s e p is = (own-alone s e p (of (candidate_at s p) is)).2
+  where
+    of : (c : Option Candidate) → is_usable e c ≡ true → is_own e c ≡ true
+    of None is = is
+    of (Some page) is = (and_parts (is_own e (Some page)) _ is).0
 
 -- two receivers are at least two
 pub two-receivers : (receivers : List Receiver) (e f : ℕ) → e ≢ f → list_any (λ (r : Receiver). r.endpoint.0 == e) receivers ≡ true

@@ -7,6 +7,7 @@ use ffa_model::Manifest;
 use ffa_pages::PageTable;
 use ffa_rxtx::Buffers;
 use ffa_schedule::Chain;
+use std::mem::size_of;
 
 /// What a machine keeps beside the RAM and the manifest.
 #[derive(Drop)]
@@ -19,6 +20,8 @@ pub struct Kept {
     pub chain: Chain,
 }
 
+const _: () = prove!(size_of::<Kept>() <= 98304);
+
 impl Kept {
     /// What the machine of a manifest keeps at first: the owners are those of the regions, nobody has buffers, and the
     /// normal world runs.
@@ -27,10 +30,13 @@ impl Kept {
         ensures buffers { result.buffers ≡ replicate (length manifest.now.endpoints.items) None }
         ensures chain { result.chain ≡ first_schedule (length manifest.now.endpoints.items) }
     {
-        Kept {
-            pages: PageTable::of(manifest),
+        let mut kept = Kept {
+            pages: PageTable::none(),
             buffers: Buffers::none(manifest.endpoints.len()),
             chain: Chain::first(manifest.endpoints.len()),
-        }
+        };
+        // Filled in where they stand, since they are large to move.
+        kept.pages.fill(manifest);
+        kept
     }
 }

@@ -124,6 +124,8 @@ impl<M: PhysMem + Drop> Machine<M> {
 
     /// The same machine, in RAM of which every byte is zero already, as new RAM is: it builds the tables and clears
     /// nothing.
+    // Not inlined, since its frame holds copies of what the machine keeps, which no caller needs once it runs.
+    #[inline(never)]
     pub fn boot_cleared(manifest: &Manifest, ram: M) -> Machine<M>
         requires { M.ram ram ≡ zero_ram manifest.now.ram_base (512 * manifest.now.ram_blocks) }
         ensures state { result.state ≡ first manifest.now.ram_base manifest.now.ram_blocks manifest.now.endpoints.items }
