@@ -1,10 +1,11 @@
 -- What isolation asks of a state: less than that it is sound.
 use Rattle.std.specs.Prelude.{◌≡◌, ◌≢◌, ℕ, ◌≤◌, ◌<◌, Bool, true, ◌&&◌, ◌||◌, nat_le, List, length, Some, None, slice_index_or}
 use Rattle.std.specs.FinSet as finite_set
-use Rattle.ffa_model.specs.Transactions.{base_of}
+use Rattle.ffa_model.specs.Transactions.{base_of, bases_of, ceiling, handle_of}
+use Rattle.ffa_model.specs.declared.rights.Kind.TheVariants.{Donate}
 use Rattle.ffa_model.specs.declared.rights.Rights.{Rights}
 use Rattle.ffa_model.specs.Rights.{is_share, is_lend, is_within}
-use Rattle.ffa_model.specs.State.{State, Transaction, Buffers, is_known, owner_of, buffers_of, transaction_of}
+use Rattle.ffa_model.specs.State.{State, Transaction, Buffers, is_known, owner_of, buffers_of, sent_by, transaction_of}
 use Rattle.ffa_model.specs.Access.{handle_at, names, is_naming, is_receiver, held_by}
 use Rattle.ffa_model.specs.RunStates.{requester}
 use Rattle.ffa_model.specs.Notifications.{binding, class_of}
@@ -14,12 +15,15 @@ abbrev pub is_joint : Transaction → Bool
 is_joint t = is_share t.kind || (is_lend t.kind && nat_le 2 (length t.receivers))
 
 -- An open transaction is of pages of its sender. Who holds it is one of its receivers, has no more than the owner's right,
--- and is alone with it, unless the transaction lets several have the pages.
+-- and is alone with it, unless the transaction lets several have the pages. Nobody could hold more than the owner's right, and
+-- a donate is to one.
 pub record IsSteadyTransaction (s : State) (t : Transaction) : Type 0 where
   pub owned : (p : ℕ) → names s t.ranges p ≡ true → owner_of s p ≡ t.sender
   pub receiver : (e : ℕ) (right : Rights) → held_by t e ≡ Some right → is_receiver e t ≡ true
   pub within : (p e : ℕ) (right : Rights) → names s t.ranges p ≡ true → held_by t e ≡ Some right → is_within (Some right) (base_of s p) ≡ true
   pub alone : (e f : ℕ) (one other : Rights) → e ≢ f → held_by t e ≡ Some one → held_by t f ≡ Some other → is_joint t ≡ true
+  pub ceilings : (p e : ℕ) → names s t.ranges p ≡ true → is_within (Some (ceiling (bases_of s) t e)) (base_of s p) ≡ true
+  pub taker : (e f : ℕ) → t.kind ≡ Donate → is_receiver e t ≡ true → is_receiver f t ≡ true → e ≡ f
 
 -- a page that its owner has alone: no open transaction names it
 pub record IsAlone (s : State) (e p : ℕ) : Type 0 where
@@ -39,7 +43,7 @@ pub record IsSteadyBinding (entry : List ℕ) : Type 0 where
   pub in_word : bit < 64
 
 -- A page stands in one open transaction at most, and a buffer's page in none. Whoever runs, and whoever waits for an
--- answer, is an endpoint.
+-- answer, is an endpoint. A handle is its sender's, of a send that it has made.
 pub record IsSteady (s : State) : Type 0 where
   pub some : 1 ≤ length s.parties
   pub few : length s.parties ≤ 8
@@ -48,5 +52,9 @@ pub record IsSteady (s : State) : Type 0 where
   pub requesters : (i by : ℕ) → requester (slice_index_or s.works i None) ≡ Some by → is_known s by ≡ true
   pub one : (p h k : ℕ) → is_naming s p (transaction_of s h) ≡ true → is_naming s p (transaction_of s k) ≡ true → h ≡ k
   pub transactions : (h : ℕ) (t : Transaction) → transaction_of s h ≡ Some t → IsSteadyTransaction s t
+  pub sends : length s.sent ≡ length s.parties
+  pub numbers :
+      (h : ℕ) (t : Transaction) → transaction_of s h ≡ Some t
+      → (n : ℕ) × (h ≡ handle_of t.sender n) × (n ≤ sent_by s t.sender) × (n ≤ 65535)
   pub buffers : (e : ℕ) (b : Buffers) → is_known s e ≡ true → buffers_of s e ≡ Some b → AreSteadyBuffers s e b
   pub bound : (entry : List ℕ) → finite_set.contains s.bound entry ≡ true → IsSteadyBinding entry

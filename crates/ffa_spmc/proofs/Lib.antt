@@ -1,10 +1,14 @@
 pub mod Answered
+pub mod Granted
 pub mod Inside
 pub mod Held
+pub mod Pools
 pub mod Reaches
 pub mod Agreements
 pub mod Stores
 pub mod Machines
+pub mod Moves
+pub mod Closes
 pub mod Accesses
 pub mod Boots
 pub mod Candidates
@@ -13,5 +17,7 @@ pub mod Fills
 pub mod Information
 pub mod Schedules
 pub mod Sends
+pub mod Reclaims
+pub mod Relinquishes
 pub mod ServedCalls
 pub mod Laws

@@ -1,15 +1,13 @@
 -- The calls for which the machine has an arm.
 use Rattle.std.specs.Prelude.{Bool, true, false}
 use Rattle.ffa_model.specs.declared.call.Call.{Call}
-use Rattle.ffa_model.specs.declared.call.Call.TheVariants.{MemDonate, MemLend, MemShare, MemRetrieve, MemRelinquish, MemReclaim, BitmapCreate, BitmapDestroy, NotificationBind, NotificationUnbind, NotificationSet, NotificationGet}
+use Rattle.ffa_model.specs.declared.call.Call.TheVariants.{MemDonate, MemLend, MemShare, MemRetrieve, BitmapCreate, BitmapDestroy, NotificationBind, NotificationUnbind, NotificationSet, NotificationGet}
 
 abbrev pub has_arm : Call → Bool
 has_arm (MemDonate total fragment address pages) = false
 has_arm (MemLend total fragment address pages) = false
 has_arm (MemShare total fragment address pages) = false
 has_arm (MemRetrieve total fragment address pages) = false
-has_arm MemRelinquish = false
-has_arm (MemReclaim low high flags) = false
 has_arm (BitmapCreate endpoint contexts) = false
 has_arm (BitmapDestroy endpoint) = false
 has_arm (NotificationBind word flags low high) = false

@@ -15,6 +15,7 @@ ghost use Rattle.ffa_laws.specs.Events.{seen};
 ghost use Rattle.ffa_laws.specs.Isolation.{Integrity, Isolated, NeverGrow, OneStep, shown_to};
 ghost use Rattle.ffa_model.specs.Refusals.{is_error, is_refusal, passes_no_error};
 ghost use Rattle.ffa_model.specs.Registers.{served_call};
+ghost use Rattle.ffa_model.specs.MemoryReturn.{memory_reclaim, memory_relinquish};
 ghost use Rattle.ffa_model.specs.Messages.{msg_send2};
 ghost use Rattle.ffa_model.specs.RunStates.{direct_request, direct_response, msg_wait, run_partition, yield_now};
 ghost use Rattle.ffa_model.specs.Setup.{info_get, info_guards, informed, is_count_alone, selected, uuid_bytes};
@@ -28,7 +29,7 @@ use crate::kept::Kept;
 use ffa_messages::{DirectMessage, direct_req, direct_resp, send2};
 use ffa_model::{Call, EndpointId, ErrorCode, Manifest, Op, Outcome, PageNo, Reply, Rights, Size};
 use ffa_physmem::PhysMem;
-use ffa_stage2::{Layout, build, built_tables};
+use ffa_stage2::{build, built_tables};
 use std::marker::Model;
 
 /// The reply to a call that answers no more than that it is done.
@@ -124,6 +125,8 @@ impl<M: PhysMem + Drop> Machine<M> {
 
     /// The same machine, in RAM of which every byte is zero already, as new RAM is: it builds the tables and clears
     /// nothing.
+    // Not inlined, since its frame holds copies of what the machine keeps, which no caller needs once it runs.
+    #[inline(never)]
     pub fn boot_cleared(manifest: &Manifest, ram: M) -> Machine<M>
         requires { M.ram ram ≡ zero_ram manifest.now.ram_base (512 * manifest.now.ram_blocks) }
         ensures state { result.state ≡ first manifest.now.ram_base manifest.now.ram_blocks manifest.now.endpoints.items }
@@ -132,13 +135,14 @@ impl<M: PhysMem + Drop> Machine<M> {
         ensures sound { IsSoundState result.state }
     {
         let mut ram = ram;
-        build(&mut ram, &Layout::of(manifest));
+        let kept = Kept::first(manifest);
+        build(&mut ram, &kept.layout);
         // What built tables give holds from here on: the machine's invariant has it.
         built_tables();
         Machine {
             ram,
             manifest: manifest.copied(),
-            kept: Kept::first(manifest),
+            kept,
         }
     }
 
@@ -171,16 +175,16 @@ impl<M: PhysMem + Drop> Machine<M> {
         requires { page.0 < length self.now.state.pages }
         ensures { result.0 ≡ owner_of self.now.state page.0 }
     {
-        self.manifest.owner_of(page)
+        self.kept.pages.owner_of(page)
     }
 
     /// The right of an endpoint to a page: nothing outside the RAM, or for an endpoint that isn't there.
     pub fn access(&self, endpoint: EndpointId, page: PageNo) -> Option<Rights>
         ensures { result ≡ access self.now.state endpoint.0 page.0 }
     {
-        let place = endpoint.place();
-        if endpoint == EndpointId::at(place) && page.0 < self.ram.pages() {
-            self.manifest.right_to(place, page)
+        let pages = &self.kept.pages;
+        if page.0 < pages.pages() {
+            self.kept.pool.access(pages, endpoint, page)
         } else {
             None
         }
@@ -265,6 +269,8 @@ impl<M: PhysMem + Drop> Machine<M> {
                 payload,
             }),
             Call::MsgSend2 => self.send(),
+            Call::MemRelinquish => self.relinquish(),
+            Call::MemReclaim { low, high, flags } => self.reclaim(low, high, flags),
             Call::SpmIdGet => ffa_setup::spm_id(),
             // No identifier asks for one of these as yet, but for the first.
             Call::Unknown
@@ -272,8 +278,6 @@ impl<M: PhysMem + Drop> Machine<M> {
             | Call::MemLend { .. }
             | Call::MemShare { .. }
             | Call::MemRetrieve { .. }
-            | Call::MemRelinquish
-            | Call::MemReclaim { .. }
             | Call::BitmapCreate { .. }
             | Call::BitmapDestroy { .. }
             | Call::NotificationBind { .. }
@@ -417,6 +421,36 @@ impl<M: PhysMem + Drop> Machine<M> {
         let runner = self.kept.chain.runner();
         let buffers = &mut self.kept.buffers;
         reply_or_error(send2(&mut self.ram, buffers, &self.manifest, runner))
+    }
+
+    // FFA_MEM_RELINQUISH of the runner.
+    fn relinquish(&mut self) -> Reply
+        ensures served { replied self.new.state result ≡ served self.old.state (memory_relinquish self.old.state) }
+        ensures refused { is_error result ≡ true → self.new ≡ self.old }
+    {
+        let runner = self.kept.chain.runner();
+        let kept = &mut self.kept;
+        let pool = &mut kept.pool;
+        done_or_error(pool.relinquish(
+            &mut self.ram,
+            &kept.layout,
+            &kept.pages,
+            &kept.buffers,
+            runner,
+        ))
+    }
+
+    // FFA_MEM_RECLAIM of the runner.
+    fn reclaim(&mut self, low: u32, high: u32, flags: u32) -> Reply
+        ensures served { replied self.new.state result ≡ served self.old.state (memory_reclaim self.old.state low high flags) }
+        ensures refused { is_error result ≡ true → self.new ≡ self.old }
+    {
+        let runner = self.kept.chain.runner();
+        let handle = u64::from(high) * (1 << 32) + u64::from(low);
+        let kept = &mut self.kept;
+        let pages = &mut kept.pages;
+        let pool = &mut kept.pool;
+        done_or_error(pool.reclaim(&mut self.ram, &kept.layout, pages, runner, handle, flags))
     }
 
     // A call of the runner, in its registers.

@@ -1,12 +1,11 @@
 use Rattle.std.proofs.Common.{◌∙◌, ℕ, ◌++◌, [], ◌∷◌, List, Option, sym, ap, arith}
 use Rattle.std.proofs.lemmas.List.{map_push}
-use Rattle.std.specs.Option.{option_map}
 use Rattle.ffa_model.proofs.Accepted.{accepted}
 use Rattle.ffa_model.proofs.Listed.{listed-more}
 use Rattle.ffa_model.specs.Lists.{listed}
 use Rattle.ffa_pages.specs.Entry.{Entry, first_entry}
 use Rattle.ffa_pages.specs.Stored.{entry_of, entries_of}
-use Rattle.ffa_pages.proofs.table.PageTable.of.Goals as goal
+use Rattle.ffa_pages.proofs.table.push_pages.Goals as goal
 
 pub push-requires : goal.push-requires
 push-requires c =
@@ -20,8 +19,8 @@ loop-page-preserved c =
       count = omega (arith, c.push.ensures.len, c.loop-page.invariant.count);
       entries =
           ap entries_of c.push.ensures.items
-          ∙ map_push (option_map entry_of) c.loop-page.pages.items c.first_owned.result
-          ∙ ap (λ (before : List (Option Entry)). before ++ option_map entry_of c.first_owned.result ∷ []) c.loop-page.invariant.entries
-          ∙ ap (λ (last : Option Entry). listed c.loop-page.page first ++ last ∷ []) c.first_owned.ensures
+          ∙ map_push entry_of c.loop-page.pages.items c.first_kept.result
+          ∙ ap (λ (before : List (Option Entry)). before ++ entry_of c.first_kept.result ∷ []) c.loop-page.invariant.entries
+          ∙ ap (λ (last : Option Entry). listed c.loop-page.page first ++ last ∷ []) c.first_kept.ensures
           ∙ sym (listed-more c.loop-page.page first);
     }

@@ -3,7 +3,7 @@ use Rattle.arrayvec.specs.ArrayVec.{array_vec_len}
 use Rattle.ffa_model.specs.Lists.{listed}
 use Rattle.ffa_pages.specs.Entry.{first_entry}
 use Rattle.ffa_pages.specs.Stored.{entries_of}
-use Rattle.ffa_pages.proofs.table.PageTable.of.Given as goal
+use Rattle.ffa_pages.proofs.table.push_pages.Given as goal
 
 -- the pages so far
 abbrev pub invariant-loop-page : goal.invariant-loop-page
