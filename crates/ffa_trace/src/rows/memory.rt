@@ -2,42 +2,15 @@
 //! table say then.
 use super::*;
 
-// All endpoints have buffers, and the first partition runs.
-fn mapped(alloc: Global) -> Result<Player<FlatRam>, Fail> {
-    let mut player = rows(alloc)?;
-    let lines = [
-        MAP_NORMAL,
-        RUN_SECOND,
-        MAP_SECOND,
-        ("call 8400006B", "0: 8400006B 80020000"),
-        RUN_FIRST,
-        MAP_FIRST,
-    ];
-    match difference_on(alloc, &mut player, &lines)? {
-        None => Ok(player),
-        Some(line) => Err(Fail::new(line)),
-    }
-}
-
-// The first line of several lists, played one after another, that doesn't print what is wanted.
-fn difference_after(
-    alloc: Global,
-    player: &mut Player<FlatRam>,
-    parts: &[&[(&str, &str)]],
-) -> Result<Option<String>, Fail> {
-    for part in parts {
-        let found = difference_on(alloc, player, part)?;
-        if found.is_some() {
-            return Ok(found);
-        }
-    }
-    Ok(None)
-}
-
-// The same on a machine with buffers.
-fn difference_mapped(alloc: Global, parts: &[&[(&str, &str)]]) -> Result<Option<String>, Fail> {
-    difference_after(alloc, &mut mapped(alloc)?, parts)
-}
+// All endpoints map their buffers, and the first partition runs.
+const MAPPED: [(&str, &str); 6] = [
+    MAP_NORMAL,
+    RUN_SECOND,
+    MAP_SECOND,
+    ("call 8400006B", "0: 8400006B 80020000"),
+    RUN_FIRST,
+    MAP_FIRST,
+];
 
 // One partition waits, and the normal world runs the other.
 const TO_SECOND: [(&str, &str); 2] = [("call 8400006B", "0: 8400006B 80010000"), RUN_SECOND];
@@ -96,8 +69,8 @@ fn a_lend_and_its_response(rt: HostRuntime) -> Result<(), Fail> {
         ("load 4003F058 8", "data 0000000000000001"),
         ("call 84000074 40 40", "8002: 84000060 0 FFFFFFFA"),
     ];
-    let parts: [&[(&str, &str)]; 4] = [&LEND, &TO_SECOND, &RETRIEVE, &response];
-    assert_eq!(rt; difference_mapped(rt.alloc(), &parts)?, None);
+    let parts: [&[(&str, &str)]; 5] = [&MAPPED, &LEND, &TO_SECOND, &RETRIEVE, &response];
+    assert_eq!(rt; difference_of(rt.alloc(), &parts)?, None);
     Ok(())
 }
 
@@ -110,7 +83,8 @@ fn a_lend_comes_back_with_its_bytes(rt: HostRuntime) -> Result<(), Fail> {
         ("load 40021000 1", "data 5A"),
         ("call 84000077 1 8001", "8001: 84000060 0 FFFFFFFE"),
     ];
-    let parts: [&[(&str, &str)]; 9] = [
+    let parts: [&[(&str, &str)]; 11] = [
+        &MAPPED,
         &LEND,
         &TO_SECOND,
         &RETRIEVE,
@@ -120,10 +94,9 @@ fn a_lend_comes_back_with_its_bytes(rt: HostRuntime) -> Result<(), Fail> {
         &TO_SECOND,
         &RELINQUISH,
         &TO_FIRST,
+        &reclaim,
     ];
-    let mut player = mapped(rt.alloc())?;
-    assert_eq!(rt; difference_after(rt.alloc(), &mut player, &parts)?, None);
-    assert_eq!(rt; difference_on(rt.alloc(), &mut player, &reclaim)?, None);
+    assert_eq!(rt; difference_of(rt.alloc(), &parts)?, None);
     Ok(())
 }
 
@@ -135,7 +108,8 @@ fn a_reclaim_with_zeros(rt: HostRuntime) -> Result<(), Fail> {
         ("call 84000077 1 8001 1", "8001: 84000061"),
         ("load 40021000 1", "data 00"),
     ];
-    let parts: [&[(&str, &str)]; 7] = [
+    let parts: [&[(&str, &str)]; 8] = [
+        &MAPPED,
         &LEND,
         &TO_SECOND,
         &RETRIEVE,
@@ -144,7 +118,7 @@ fn a_reclaim_with_zeros(rt: HostRuntime) -> Result<(), Fail> {
         &TO_FIRST,
         &reclaim,
     ];
-    assert_eq!(rt; difference_mapped(rt.alloc(), &parts)?, None);
+    assert_eq!(rt; difference_of(rt.alloc(), &parts)?, None);
     Ok(())
 }
 
@@ -167,8 +141,8 @@ fn a_lend_with_zeros(rt: HostRuntime) -> Result<(), Fail> {
         ("load 4003F000 8", "data 00000011002F8001"),
         ("load 40021008 1", "data 00"),
     ];
-    let parts: [&[(&str, &str)]; 4] = [&lend, &TO_SECOND, &RETRIEVE, &response];
-    assert_eq!(rt; difference_mapped(rt.alloc(), &parts)?, None);
+    let parts: [&[(&str, &str)]; 5] = [&MAPPED, &lend, &TO_SECOND, &RETRIEVE, &response];
+    assert_eq!(rt; difference_of(rt.alloc(), &parts)?, None);
     Ok(())
 }
 
@@ -194,8 +168,10 @@ fn a_share_for_reading(rt: HostRuntime) -> Result<(), Fail> {
         ("store 40022000 5A", "fault permission"),
     ];
     let own = [("store 40022000 5A", "done")];
-    let parts: [&[(&str, &str)]; 6] = [&share, &TO_SECOND, &RETRIEVE, &retrieve, &TO_FIRST, &own];
-    assert_eq!(rt; difference_mapped(rt.alloc(), &parts)?, None);
+    let parts: [&[(&str, &str)]; 7] = [
+        &MAPPED, &share, &TO_SECOND, &RETRIEVE, &retrieve, &TO_FIRST, &own,
+    ];
+    assert_eq!(rt; difference_of(rt.alloc(), &parts)?, None);
     Ok(())
 }
 
@@ -218,12 +194,10 @@ fn a_share_with_two(rt: HostRuntime) -> Result<(), Fail> {
         RETRIEVED,
         ("load 4003F000 8", "data 00000008002F8001"),
         ("load 4003F030 8", "data 0000004000058002"),
+        ("show", "has pages 40022000 40022FFF 8001 --- rwx r--"),
     ];
-    let parts: [&[(&str, &str)]; 4] = [&share, &TO_SECOND, &RETRIEVE, &retrieve];
-    let mut player = mapped(rt.alloc())?;
-    assert_eq!(rt; difference_after(rt.alloc(), &mut player, &parts)?, None);
-    let table = played(rt.alloc(), &mut player, "show")?;
-    assert!(rt; table.contains("\npages 40022000 40022FFF 8001 --- rwx r--\n"));
+    let parts: [&[(&str, &str)]; 5] = [&MAPPED, &share, &TO_SECOND, &RETRIEVE, &retrieve];
+    assert_eq!(rt; difference_of(rt.alloc(), &parts)?, None);
     Ok(())
 }
 
@@ -244,8 +218,8 @@ fn ranges_that_are_none(rt: HostRuntime) -> Result<(), Fail> {
         ("store 4002E058 0000000000000002", "done"),
         refused,
     ];
-    let parts: [&[(&str, &str)]; 1] = [&lines];
-    assert_eq!(rt; difference_mapped(rt.alloc(), &parts)?, None);
+    let parts: [&[(&str, &str)]; 2] = [&MAPPED, &lines];
+    assert_eq!(rt; difference_of(rt.alloc(), &parts)?, None);
     Ok(())
 }
 
@@ -269,8 +243,8 @@ fn pages_that_may_not_be_shared(rt: HostRuntime) -> Result<(), Fail> {
         ("store 4002E050 0000FFFFFFFFF000", "done"),
         refused,
     ];
-    let parts: [&[(&str, &str)]; 1] = [&lines];
-    assert_eq!(rt; difference_mapped(rt.alloc(), &parts)?, None);
+    let parts: [&[(&str, &str)]; 2] = [&MAPPED, &lines];
+    assert_eq!(rt; difference_of(rt.alloc(), &parts)?, None);
     Ok(())
 }
 
@@ -308,8 +282,8 @@ fn eight_open_transactions(rt: HostRuntime) -> Result<(), Fail> {
         ("call 84000077 3 8001", "8001: 84000061"),
         ("call 84000073 60 60", "8001: 84000061 0 9 8001"),
     ];
-    let parts: [&[(&str, &str)]; 2] = [&descriptor, &shares];
-    assert_eq!(rt; difference_mapped(rt.alloc(), &parts)?, None);
+    let parts: [&[(&str, &str)]; 3] = [&MAPPED, &descriptor, &shares];
+    assert_eq!(rt; difference_of(rt.alloc(), &parts)?, None);
     Ok(())
 }
 
@@ -344,14 +318,14 @@ const TAKEN: [(&str, &str); 3] = [
 
 #[test]
 fn a_donate(rt: HostRuntime) -> Result<(), Fail> {
-    let gone = [("call 84000077 1 8002", "8002: 84000060 0 FFFFFFFE")];
-    let parts: [&[(&str, &str)]; 7] = [
-        &TO_SECOND, &DONATE, &TO_FIRST, &TAKE, &TAKEN, &TO_SECOND, &gone,
+    let gone = [
+        ("show", "has pages 40031000 40031FFF 8001 --- rw- ---"),
+        ("call 84000077 1 8002", "8002: 84000060 0 FFFFFFFE"),
     ];
-    let mut player = mapped(rt.alloc())?;
-    assert_eq!(rt; difference_after(rt.alloc(), &mut player, &parts)?, None);
-    let table = played(rt.alloc(), &mut player, "show")?;
-    assert!(rt; table.contains("\npages 40031000 40031FFF 8001 --- rw- ---\n"));
+    let parts: [&[(&str, &str)]; 8] = [
+        &MAPPED, &TO_SECOND, &DONATE, &TO_FIRST, &TAKE, &TAKEN, &TO_SECOND, &gone,
+    ];
+    assert_eq!(rt; difference_of(rt.alloc(), &parts)?, None);
     Ok(())
 }
 
@@ -373,10 +347,11 @@ fn a_donate_of_two_rights(rt: HostRuntime) -> Result<(), Fail> {
         ("store 4003E030 0000000000088002", "done"),
         ("call 84000074 40 40", "8002: 84000060 0 FFFFFFFA"),
     ];
-    let parts: [&[(&str, &str)]; 9] = [
-        &TO_SECOND, &DONATE, &TO_FIRST, &TAKE, &TAKEN, &donate, &TO_SECOND, &RETRIEVE, &retrieve,
+    let parts: [&[(&str, &str)]; 10] = [
+        &MAPPED, &TO_SECOND, &DONATE, &TO_FIRST, &TAKE, &TAKEN, &donate, &TO_SECOND, &RETRIEVE,
+        &retrieve,
     ];
-    assert_eq!(rt; difference_mapped(rt.alloc(), &parts)?, None);
+    assert_eq!(rt; difference_of(rt.alloc(), &parts)?, None);
     Ok(())
 }
 
@@ -407,10 +382,10 @@ fn what_others_lend_is_not_seen(rt: HostRuntime) -> Result<(), Fail> {
         ("load 40021000 1", "data 00"),
         ("call 84000072 60 60", "8001: 84000061 0 2 8001"),
     ];
-    let with: [&[(&str, &str)]; 5] = [&waits, &lends, &runs, &LEND, &own];
-    let without: [&[(&str, &str)]; 4] = [&waits, &runs, &LEND, &own];
-    assert_eq!(rt; difference_mapped(rt.alloc(), &with)?, None);
-    assert_eq!(rt; difference_mapped(rt.alloc(), &without)?, None);
+    let with: [&[(&str, &str)]; 6] = [&MAPPED, &waits, &lends, &runs, &LEND, &own];
+    let without: [&[(&str, &str)]; 5] = [&MAPPED, &waits, &runs, &LEND, &own];
+    assert_eq!(rt; difference_of(rt.alloc(), &with)?, None);
+    assert_eq!(rt; difference_of(rt.alloc(), &without)?, None);
     Ok(())
 }
 
@@ -418,7 +393,9 @@ fn what_others_lend_is_not_seen(rt: HostRuntime) -> Result<(), Fail> {
 #[test]
 fn a_lend_of_each_length(rt: HostRuntime) -> Result<(), Fail> {
     let alloc = rt.alloc();
-    let mut player = mapped(alloc)?;
+    let ram = FlatRam::new(alloc, 0x4000_0000, 512)?;
+    let mut player = Player::new(Machine::boot(&row_machine(), ram));
+    assert_eq!(rt; difference_on(alloc, &mut player, &MAPPED)?, None);
     assert_eq!(rt; difference_on(alloc, &mut player, &LEND)?, None);
     assert_eq!(rt;
         played(alloc, &mut player, "call 84000077 1 8001")?,
