@@ -1,10 +1,10 @@
 -- A transaction that stays in its slot, and is held otherwise.
-use Rattle.std.proofs.Common.{◌≡◌, ◌∙◌, ℕ, ◌<◌, ◌≤◌, Bool, true, false, cond, List, length, set, set-set, Option, Some, None, refl, sym, ap, subst, arith, inl, inr}
+use Rattle.std.proofs.Common.{◌≡◌, ◌∙◌, ℕ, ◌<◌, Bool, true, false, cond, List, length, set, set-set, Option, Some, None, refl, sym, ap, subst, inl, inr}
 use Rattle.std.specs.List.{refill}
 use Rattle.std.specs.Ordering.{nat_cmp, eq_by_cmp}
 use Rattle.std.specs.FinMap as finite
 use Rattle.std.specs.Cmp.{nat_cmp_total, unsigned_tied}
-use Rattle.std.proofs.lemmas.Bool.{cases_eq, cases_lt, eq-eqb, ne_eqb}
+use Rattle.std.proofs.lemmas.Bool.{cases_eq, cases_lt, eq-eqb}
 use Rattle.std.proofs.lemmas.List.{get_or-set_other, get_or-set_same, length-set}
 use Rattle.std.proofs.lemmas.Option.{none-some, same_Some}
 use Rattle.ffa_model.specs.State.{Transaction}
@@ -15,7 +15,7 @@ use Rattle.ffa_model.proofs.Written.{map-refill-set}
 use Rattle.ffa_memshare.specs.declared.transaction.OpenTransaction.{OpenTransaction}
 use Rattle.ffa_memshare.specs.Held.{Held, with_held, with_holder}
 use Rattle.ffa_memshare.specs.Stored.{IsInPlace, IsPool, Pooled, Slot, map_in, offers_in, slot_at, slot_of, slots_of, transaction_of}
-use Rattle.ffa_memshare.proofs.PoolKept.{freed-pool, past-none}
+use Rattle.ffa_memshare.proofs.PoolKept.{past-none}
 
 -- a slot that has a transaction is one of the slots
 pub slot-within : (slots : List Slot) (k : ℕ) (x : ℕ × Transaction) → slot_at slots k ≡ Some x → k < length slots

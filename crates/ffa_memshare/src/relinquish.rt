@@ -60,15 +60,8 @@ impl Pool {
         open.check_relinquish(caller, &asked)?;
         let ranges = open.ranges.as_slice();
         let index = caller.place();
-        move_rights(
-            ram,
-            layout,
-            pages,
-            ranges,
-            index,
-            NewRight::Same(None),
-            asked.zero,
-        );
+        let nothing = NewRight::Same(None);
+        move_rights(ram, layout, pages, ranges, index, nothing, asked.zero);
         self.set_held(slot, caller, None);
         Ok(())
     }

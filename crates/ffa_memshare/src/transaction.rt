@@ -6,12 +6,16 @@ ghost use Rattle.ffa_model.specs.Access.{held_by, right_by};
 ghost use Rattle.ffa_model.specs.Calls.{first_failure};
 ghost use Rattle.ffa_model.specs.Identifiers.{place};
 ghost use Rattle.ffa_model.specs.MemoryReturn.{is_unheld, reclaim_guards};
+ghost use Rattle.ffa_model.specs.MemorySend.{transaction_from};
+ghost use Rattle.ffa_model.specs.SendDescriptor.{send_record};
 ghost use Rattle.ffa_model.specs.State.{Page};
 ghost use Rattle.ffa_model.specs.Transactions.{are_executable, are_writable};
 ghost use Rattle.ffa_pages.specs.Entry.{base_at};
 ghost use Rattle.ffa_memshare.specs.Changes.{IsMarked, IsMoved};
 ghost use Rattle.ffa_memshare.specs.Named.{bases_in};
 ghost use Rattle.ffa_memshare.specs.Ranges.{ArePlaced, in_ranges};
+ghost use Rattle.ffa_memshare.specs.Grants.{new_right};
+ghost use Rattle.ffa_memshare.specs.Sent.{right_after};
 ghost use Rattle.ffa_memshare.specs.Shared.{IsHeld};
 
 use crate::checks::{Common, common_of};
@@ -20,7 +24,7 @@ use crate::holders::Holders;
 use crate::marks::{Mark, mark_all};
 use crate::moves::move_rights;
 use arrayvec::ArrayVec;
-use ffa_model::{EndpointId, ErrorCode, Kind, Range, Receiver, Rights};
+use ffa_model::{EndpointId, ErrorCode, Kind, Range, Receiver, Rights, SendDesc};
 use ffa_pages::PageTable;
 use ffa_physmem::PhysMem;
 use ffa_stage2::Layout;
@@ -40,6 +44,23 @@ pub struct OpenTransaction {
 
 impl OpenTransaction {
     ghost use Rattle.ffa_memshare.specs.Stored.{transaction_of};
+
+    // What a descriptor offers, under this handle. Nobody holds it.
+    pub(crate) fn of(handle: u64, kind: Kind, offer: SendDesc) -> OpenTransaction
+        ensures handle { result.handle ≡ handle }
+        ensures value { transaction_of result ≡ transaction_from kind (send_record offer) }
+    {
+        OpenTransaction {
+            handle,
+            kind,
+            sender: offer.sender,
+            tag: offer.tag,
+            zero: offer.zero,
+            ranges: offer.ranges,
+            receivers: offer.receivers,
+            held: Holders::none(),
+        }
+    }
 
     // The right that an endpoint holds.
     pub(crate) fn held(&self, endpoint: EndpointId) -> Option<Rights>
@@ -121,5 +142,36 @@ impl OpenTransaction {
         let index = self.sender.place();
         move_rights(ram, layout, pages, ranges, index, NewRight::Base, zero);
         mark_all(pages, layout.base, ranges, Mark::Named(None));
+    }
+
+    // Takes its pages from the sender, who keeps its own right to them in a share alone: they are marked with the slot, and
+    // zeros where that is asked.
+    pub(crate) fn take_pages<M: PhysMem>(
+        &self,
+        ram: &mut M,
+        layout: &Layout,
+        pages: &mut PageTable,
+        slot: u8,
+    )
+        requires { IsHeld (M.ram ram.old) layout.now.base (array_vec_len layout.now.regions) layout.now.blocks pages.old (transaction_of self.now) }
+        ensures moved { IsMoved (M.ram ram.old) (M.ram ram.new) (array_vec_len layout.now.regions) layout.now.blocks
+            (place self.now.sender.0) (in_ranges layout.now.base self.now.ranges.items) (new_right (right_after self.now.kind) pages.old) self.now.zero }
+        ensures marked { IsMarked pages.old pages.new (in_ranges layout.now.base self.now.ranges.items) (Mark.Named (Some slot)) }
+    {
+        let ranges = self.ranges.as_slice();
+        let index = self.sender.place();
+        let right = right_after(self.kind);
+        move_rights(ram, layout, pages, ranges, index, right, self.zero);
+        mark_all(pages, layout.base, ranges, Mark::Named(Some(slot)));
+    }
+}
+
+// What a sender keeps: of a share its own right, and else nothing.
+fn right_after(kind: Kind) -> NewRight
+    ensures { result ≡ right_after kind }
+{
+    match kind {
+        Kind::Share => NewRight::Base,
+        Kind::Lend | Kind::Donate => NewRight::Same(None),
     }
 }

@@ -173,7 +173,7 @@ impl Buffers {
     {
         if let Some(mapped) = self.of(endpoint) {
             put_front(ram.page_mut(mapped.rx), bytes);
-            self.set_full(endpoint, true);
+            self.mark_full(endpoint);
         }
     }
 

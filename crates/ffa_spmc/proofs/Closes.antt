@@ -1,5 +1,5 @@
 -- One slot of the pool is changed: which slot names a page then.
-use Rattle.std.proofs.Common.{◌≡◌, ◌∙◌, ℕ, ◌<◌, Bool, true, false, cond, List, length, set, Option, Some, None, refl, sym, ap, subst, inl, inr}
+use Rattle.std.proofs.Common.{◌≡◌, ◌∙◌, ◌⊎◌, ℕ, ◌<◌, Bool, true, false, cond, List, length, set, Option, Some, None, refl, sym, ap, subst, inl, inr}
 use Rattle.std.specs.Option.{option_and_then, option_map}
 use Rattle.std.proofs.lemmas.Bool.{cases_eq, cases_lt, false≢true}
 use Rattle.std.proofs.lemmas.List.{get_or-set_other, get_or-set_same, get_or_past}
@@ -140,5 +140,90 @@ module _ (m : Manifest) (pages next : List (Option Entry)) (slots : List Slot) (
         marks = λ p j lt. (
           to-slot p (subst (λ (n : ℕ). p < n) size lt) j,
           from-slot p (subst (λ (n : ℕ). p < n) size lt) j,
+        );
+      }
+
+-- the slot of a page after a mark with a slot, of pages that endpoints own
+pub slot-opened : (old new : List (Option Entry)) (named : ℕ → Bool) (k : ℕ) → IsMarked old new named (Named (Some k)) → (p : ℕ)
+    → (named p ≡ true → (e : Entry) × (entry_at old p ≡ Some e)) → slot_at new p ≡ cond (named p) (Some k) (slot_at old p)
+slot-opened old new named k marked p owned = ap (option_and_then (λ (e : Entry). e.slot)) (marked.entries p) ∙ of (named p) owned
+  where
+    of : (b : Bool) → (b ≡ true → (e : Entry) × (entry_at old p ≡ Some e))
+        → option_and_then (λ (e : Entry). e.slot) (cond b (option_map (λ (e : Entry). record e { slot = Some k }) (entry_at old p)) (entry_at old p)) ≡ cond b (Some k) (slot_at old p)
+    of true its =
+        let (e, is) = its refl in
+        ap (λ (o : Option Entry). option_and_then (λ (f : Entry). f.slot) (option_map (λ (f : Entry). record f { slot = Some k }) o)) is
+    of false its = refl
+
+-- a free slot has a new transaction, and the entries of its pages have the slot
+module _ (m : Manifest) (pages next : List (Option Entry)) (slots : List Slot) (offers : AreOffers m pages slots) (k h : ℕ) (t : Transaction)
+    (lt : k < length slots) (free : pool_slot slots k ≡ None) (new : (j : ℕ) (y : ℕ × Transaction) → pool_slot slots j ≡ Some y → y.0 ≡ h → ⊥) (good : IsOffered m t)
+    (unnamed : (p : ℕ) → p < length pages → in_ranges m.ram_base t.ranges p ≡ true → slot_at pages p ≡ None)
+    (marked : (p : ℕ) → p < length pages → slot_at next p ≡ cond (in_ranges m.ram_base t.ranges p) (Some k) (slot_at pages p)) (size : length next ≡ length pages) where
+  abbrev filled : List Slot
+  filled = set slots k (Some (h, t))
+
+  put : pool_slot filled k ≡ Some (h, t)
+  put = get_or-set_same slots k (Some (h, t)) None lt
+
+  rest : (j : ℕ) → (j ≡ k → ⊥) → pool_slot filled j ≡ pool_slot slots j
+  rest j apart = get_or-set_other slots k j (Some (h, t)) None apart
+
+  -- what is in a slot is the new one or was there
+  either : (j : ℕ) (y : ℕ × Transaction) → pool_slot filled j ≡ Some y → ((j ≡ k) × ((h, t) ≡ y)) ⊎ (pool_slot slots j ≡ Some y)
+  either j y is = elim (cases_eq j k) [
+    | inl same ↦ inl (same, same_Some (h, t) y (sym put ∙ ap (pool_slot filled) (sym same) ∙ is))
+    | inr apart ↦ inr (sym (rest j apart) ∙ is)
+  ]
+
+  apart-opened : (i j : ℕ) (y z : ℕ × Transaction) → pool_slot filled i ≡ Some y → pool_slot filled j ≡ Some z → y.0 ≡ z.0 → i ≡ j
+  apart-opened i j y z at_i at_j same = of (either i y at_i) (either j z at_j)
+    where
+      of : ((i ≡ k) × ((h, t) ≡ y)) ⊎ (pool_slot slots i ≡ Some y) → ((j ≡ k) × ((h, t) ≡ z)) ⊎ (pool_slot slots j ≡ Some z) → i ≡ j
+      of (inl a) (inl b) = a.0 ∙ sym b.0
+      of (inl a) (inr b) = absurd (new j z b (sym same ∙ sym (ap (λ (w : ℕ × Transaction). w.0) a.1)))
+      of (inr a) (inl b) = absurd (new i y a (same ∙ sym (ap (λ (w : ℕ × Transaction). w.0) b.1)))
+      of (inr a) (inr b) = offers.apart i j y z a b same
+
+  offered-opened : (j g : ℕ) (u : Transaction) → pool_slot filled j ≡ Some (g, u) → IsOffered m u
+  offered-opened j g u is = of (g, u) (either j (g, u) is)
+    where
+      of : (y : ℕ × Transaction) → ((j ≡ k) × ((h, t) ≡ y)) ⊎ (pool_slot slots j ≡ Some y) → IsOffered m y.1
+      of y (inl a) = subst (λ (w : ℕ × Transaction). IsOffered m w.1) a.1 good
+      of y (inr b) = offers.offered j y.0 y.1 b
+
+  module _ (p : ℕ) (inside : p < length pages) where
+    to-opened : (j : ℕ) → slot_at next p ≡ Some j → slot_names m.ram_base p (pool_slot filled j) ≡ true
+    to-opened j is = of (in_ranges m.ram_base t.ranges p) refl (sym (marked p inside) ∙ is)
+      where
+        of : (b : Bool) → in_ranges m.ram_base t.ranges p ≡ b → cond b (Some k) (slot_at pages p) ≡ Some j → slot_names m.ram_base p (pool_slot filled j) ≡ true
+        of true named at = ap (λ i. slot_names m.ram_base p (pool_slot filled i)) (sym (same_Some k j at)) ∙ ap (slot_names m.ram_base p) put ∙ named
+        of false other was = elim (cases_eq j k) [
+          | inl same ↦ absurd (false≢true (sym (ap (λ i. slot_names m.ram_base p (pool_slot slots i)) same ∙ ap (slot_names m.ram_base p) free) ∙ (offers.marks p j inside).0 was))
+          | inr apart ↦ ap (slot_names m.ram_base p) (rest j apart) ∙ (offers.marks p j inside).0 was
+        ]
+
+    from-opened : (j : ℕ) → slot_names m.ram_base p (pool_slot filled j) ≡ true → slot_at next p ≡ Some j
+    from-opened j names = elim (cases_eq j k) [
+      | inl same ↦
+          (let named : in_ranges m.ram_base t.ranges p ≡ true = sym (ap (λ i. slot_names m.ram_base p (pool_slot filled i)) same ∙ ap (slot_names m.ram_base p) put) ∙ names in
+          marked p inside ∙ ap (λ b. cond b (Some k) (slot_at pages p)) named ∙ ap Some (sym same))
+      | inr apart ↦
+          (let was : slot_at pages p ≡ Some j = (offers.marks p j inside).1 (sym (ap (slot_names m.ram_base p) (rest j apart)) ∙ names) in
+          marked p inside ∙ of (in_ranges m.ram_base t.ranges p) refl was)
+    ]
+      where
+        of : (b : Bool) → in_ranges m.ram_base t.ranges p ≡ b → slot_at pages p ≡ Some j → cond b (Some k) (slot_at pages p) ≡ Some j
+        of true named was = absurd (none-some j (sym (unnamed p inside named) ∙ was))
+        of false other was = was
+
+  pub offers-opened : AreOffers m next filled
+  offers-opened =
+      record {
+        apart = apart-opened;
+        offered = offered-opened;
+        marks = λ p j inside. (
+          to-opened p (subst (λ (n : ℕ). p < n) size inside) j,
+          from-opened p (subst (λ (n : ℕ). p < n) size inside) j,
         );
       }

@@ -19,5 +19,8 @@ pub mod Schedules
 pub mod Sends
 pub mod Reclaims
 pub mod Relinquishes
+pub mod Donations
+pub mod Retrieves
+pub mod Offers
 pub mod ServedCalls
 pub mod Laws

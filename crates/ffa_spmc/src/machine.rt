@@ -15,7 +15,9 @@ ghost use Rattle.ffa_laws.specs.Events.{seen};
 ghost use Rattle.ffa_laws.specs.Isolation.{Integrity, Isolated, NeverGrow, OneStep, shown_to};
 ghost use Rattle.ffa_model.specs.Refusals.{is_error, is_refusal, passes_no_error};
 ghost use Rattle.ffa_model.specs.Registers.{served_call};
+ghost use Rattle.ffa_model.specs.MemoryRetrieve.{memory_retrieve};
 ghost use Rattle.ffa_model.specs.MemoryReturn.{memory_reclaim, memory_relinquish};
+ghost use Rattle.ffa_model.specs.MemorySend.{handle_reply, memory_send};
 ghost use Rattle.ffa_model.specs.Messages.{msg_send2};
 ghost use Rattle.ffa_model.specs.RunStates.{direct_request, direct_response, msg_wait, run_partition, yield_now};
 ghost use Rattle.ffa_model.specs.Setup.{info_get, info_guards, informed, is_count_alone, selected, uuid_bytes};
@@ -23,11 +25,15 @@ ghost use Rattle.ffa_model.specs.State.{owner_of};
 ghost use Rattle.ffa_model.specs.Step.{serve, step, outcomes, state_after};
 ghost use Rattle.ffa_model.specs.Walk.{is_page_address};
 ghost use Rattle.ffa_spmc.specs.Arms.{has_arm};
-ghost use Rattle.ffa_spmc.specs.Replies.{done_or_error, reply_or_error};
+ghost use Rattle.ffa_memshare.specs.Scenes.{transfer_of};
+ghost use Rattle.ffa_spmc.specs.Replies.{done_or_error, handle_or_error, reply_or_error, retrieved_or_error};
 
 use crate::kept::Kept;
+use ffa_memshare::Transfer;
 use ffa_messages::{DirectMessage, direct_req, direct_resp, send2};
-use ffa_model::{Call, EndpointId, ErrorCode, Manifest, Op, Outcome, PageNo, Reply, Rights, Size};
+use ffa_model::{
+    Call, EndpointId, ErrorCode, Kind, Manifest, Op, Outcome, PageNo, Reply, Rights, Size,
+};
 use ffa_physmem::PhysMem;
 use ffa_stage2::{build, built_tables};
 use std::marker::Model;
@@ -76,6 +82,35 @@ fn reply_or_error(answer: Result<Reply, ErrorCode>) -> Reply
 {
     match answer {
         Ok(reply) => reply,
+        Err(code) => Reply::Error(code),
+    }
+}
+
+// The reply to a send: the halves of the handle, the low one first.
+fn handle_reply(handle: u64) -> Reply
+    ensures { result ≡ handle_reply handle }
+{
+    let low = (handle % (1 << 32)) as u32;
+    let high = (handle >> 32) as u32;
+    Reply::Success([low, high, 0, 0, 0, 0])
+}
+
+// The reply to a send: its handle, or the code for which it was refused.
+fn handle_or_error(answer: Result<u64, ErrorCode>) -> Reply
+    ensures { result ≡ handle_or_error answer }
+{
+    match answer {
+        Ok(handle) => handle_reply(handle),
+        Err(code) => Reply::Error(code),
+    }
+}
+
+// The reply to a retrieve: how many bytes RX holds then, or the code for which it was refused.
+fn retrieved_or_error(answer: Result<u32, ErrorCode>) -> Reply
+    ensures { result ≡ retrieved_or_error answer }
+{
+    match answer {
+        Ok(size) => Reply::Retrieved(size),
         Err(code) => Reply::Error(code),
     }
 }
@@ -269,6 +304,17 @@ impl<M: PhysMem + Drop> Machine<M> {
                 payload,
             }),
             Call::MsgSend2 => self.send(),
+            Call::MemRetrieve {
+                total,
+                fragment,
+                address,
+                pages,
+            } => self.retrieve(&Transfer {
+                total,
+                fragment,
+                address,
+                pages,
+            }),
             Call::MemRelinquish => self.relinquish(),
             Call::MemReclaim { low, high, flags } => self.reclaim(low, high, flags),
             Call::SpmIdGet => ffa_setup::spm_id(),
@@ -277,7 +323,6 @@ impl<M: PhysMem + Drop> Machine<M> {
             | Call::MemDonate { .. }
             | Call::MemLend { .. }
             | Call::MemShare { .. }
-            | Call::MemRetrieve { .. }
             | Call::BitmapCreate { .. }
             | Call::BitmapDestroy { .. }
             | Call::NotificationBind { .. }
@@ -421,6 +466,43 @@ impl<M: PhysMem + Drop> Machine<M> {
         let runner = self.kept.chain.runner();
         let buffers = &mut self.kept.buffers;
         reply_or_error(send2(&mut self.ram, buffers, &self.manifest, runner))
+    }
+
+    // FFA_MEM_DONATE, FFA_MEM_LEND or FFA_MEM_SHARE of the runner.
+    fn offer(&mut self, kind: Kind, transfer: &Transfer) -> Reply
+        ensures served { replied self.new.state result ≡ served self.old.state (memory_send self.old.state kind (transfer_of transfer.now)) }
+        ensures refused { is_error result ≡ true → self.new ≡ self.old }
+    {
+        let runner = self.kept.chain.runner();
+        let kept = &mut self.kept;
+        let pool = &mut kept.pool;
+        handle_or_error(pool.send(
+            &mut self.ram,
+            &kept.layout,
+            &mut kept.pages,
+            &kept.buffers,
+            runner,
+            kind,
+            transfer,
+        ))
+    }
+
+    // FFA_MEM_RETRIEVE_REQ of the runner.
+    fn retrieve(&mut self, transfer: &Transfer) -> Reply
+        ensures served { replied self.new.state result ≡ served self.old.state (memory_retrieve self.old.state (transfer_of transfer.now)) }
+        ensures refused { is_error result ≡ true → self.new ≡ self.old }
+    {
+        let runner = self.kept.chain.runner();
+        let kept = &mut self.kept;
+        let pool = &mut kept.pool;
+        retrieved_or_error(pool.retrieve(
+            &mut self.ram,
+            &kept.layout,
+            &mut kept.pages,
+            &mut kept.buffers,
+            runner,
+            transfer,
+        ))
     }
 
     // FFA_MEM_RELINQUISH of the runner.

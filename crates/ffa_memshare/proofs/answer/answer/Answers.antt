@@ -1,6 +1,6 @@
-use Rattle.std.proofs.Common.{◌≡◌, ◌∙◌, ◌++◌, ℕ, List, Option, drop, length, sym, ap}
+use Rattle.std.proofs.Common.{◌∙◌, ◌++◌, ℕ, List, Option, drop, length, sym, ap}
 use Rattle.ffa_model.specs.Ram.{with_page}
-use Rattle.ffa_model.specs.ResponseBytes.{response_bytes, response_record, response_size}
+use Rattle.ffa_model.specs.ResponseBytes.{response_bytes, response_record}
 use Rattle.ffa_model.specs.State.{Buffers}
 use Rattle.ffa_rxtx.specs.Parts.{with_rx_bytes}
 use Rattle.ffa_memshare.proofs.ResponseSize.{length-response_bytes}

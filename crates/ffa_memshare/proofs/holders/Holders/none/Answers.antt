@@ -1,4 +1,4 @@
-use Rattle.std.proofs.Common.{◌≡◌, ◌∙◌, ap, arith, replicate, None}
+use Rattle.std.proofs.Common.{◌∙◌, ap}
 use Rattle.ffa_memshare.specs.Held.{held_in}
 use Rattle.ffa_memshare.proofs.HeldByPlace.{held-nobody}
 use Rattle.ffa_memshare.proofs.holders.Holders.none.Goals as goal

@@ -1,6 +1,4 @@
-use Rattle.std.proofs.Common.{◌≡◌, ◌∙◌, ◌<◌, List, Option, set, length, sym, ap, arith}
-use Rattle.ffa_model.specs.declared.rights.Rights.{Rights}
-use Rattle.ffa_model.specs.Identifiers.{identifier, place}
+use Rattle.std.proofs.Common.{◌∙◌, set, sym, ap, arith}
 use Rattle.ffa_memshare.specs.Held.{held_in, with_held}
 use Rattle.ffa_memshare.proofs.HeldByPlace.{held-set, refill-set}
 use Rattle.ffa_memshare.proofs.holders.Holders.set.Goals as goal
