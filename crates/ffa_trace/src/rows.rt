@@ -11,8 +11,6 @@ use std::test::Fail;
 
 // Memory transactions.
 mod memory;
-// Notifications.
-mod notifications;
 
 // What one more line prints.
 fn played<M: PhysMem + Drop>(
@@ -61,7 +59,7 @@ fn push_padded(text: &mut String, digits: &str, width: usize) -> Result<(), Fail
 fn is_printed(alloc: Global, text: &str, want: &str) -> Result<bool, Fail> {
     match want.strip_prefix("has ") {
         Some(line) => Ok(text.lines().any(|it| it == line)),
-        None => Ok(text == printed(alloc, want)?),
+        None => Ok(text == printed(alloc, want)?.as_str()),
     }
 }
 

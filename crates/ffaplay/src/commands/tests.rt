@@ -5,6 +5,8 @@ use std::alloc::AllocError;
 use std::io;
 use std::test::Fail;
 
+// A block of 2 MiB of which a page is lent.
+mod blocks;
 // The worked example of the manual.
 mod manual;
 
