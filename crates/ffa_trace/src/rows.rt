@@ -1,5 +1,5 @@
 //! Calls worked out by hand, played on the machine with two partitions.
-ghost use Rattle.std.specs.Prelude.{◌≡◌};
+ghost use Rattle.std.specs.Prelude.{◌≡◌, IfOk};
 ghost use Rattle.ffa_model.specs.Ram.{zero_ram};
 
 use crate::Player;
@@ -8,6 +8,22 @@ use ffa_physmem::{FlatRam, FrameRam, PhysMem};
 use ffa_spmc::Machine;
 use std::alloc::Global;
 use std::test::Fail;
+
+// RAM of each kind for the machine of the rows.
+fn kinds(alloc: Global) -> Result<(FlatRam, FrameRam), Fail>
+    ensures flat { IfOk result (λ rams. ⟦<FlatRam as PhysMem>⟧.ram rams.0 ≡ zero_ram 0x40000000 512) }
+    ensures frames { IfOk result (λ rams. ⟦<FrameRam as PhysMem>⟧.ram rams.1 ≡ zero_ram 0x40000000 512) }
+{
+    let flat = FlatRam::new(alloc, 0x4000_0000, 512)?;
+    let frames = FrameRam::new(alloc, 0x4000_0000, 512)?;
+    Ok((flat, frames))
+}
+
+fn rows<M: PhysMem + Drop>(ram: M) -> Player<M>
+    requires { M.ram ram ≡ zero_ram 0x40000000 512 }
+{
+    Player::new(Machine::boot(&row_machine(), ram))
+}
 
 // What one more line prints.
 fn played<M: PhysMem + Drop>(
@@ -52,26 +68,23 @@ fn push_padded(text: &mut String, digits: &str, width: usize) -> Result<(), Fail
     Ok(())
 }
 
-// Plays lines on fresh machines, in RAM of either kind: the first that doesn't print what is wanted, with what it prints.
+// Plays lines on fresh machines, in RAM of each kind: the first that doesn't print what is wanted, with what it prints.
 fn difference(alloc: Global, lines: &[(&str, &str)]) -> Result<Option<String>, Fail> {
-    let flat = FlatRam::new(alloc, 0x4000_0000, 512)?;
-    let frames = FrameRam::new(alloc, 0x4000_0000, 512)?;
-    match difference_in(alloc, flat, lines)? {
-        None => difference_in(alloc, frames, lines),
+    let (flat, frames) = kinds(alloc)?;
+    match difference_on(alloc, &mut rows(flat), lines)? {
+        None => difference_on(alloc, &mut rows(frames), lines),
         found => Ok(found),
     }
 }
 
-fn difference_in<M: PhysMem + Drop>(
+// Plays lines on a machine, alike.
+fn difference_on<M: PhysMem + Drop>(
     alloc: Global,
-    ram: M,
+    player: &mut Player<M>,
     lines: &[(&str, &str)],
-) -> Result<Option<String>, Fail>
-    requires { M.ram ram ≡ zero_ram 0x40000000 512 }
-{
-    let mut player = Player::new(Machine::boot(&row_machine(), ram));
+) -> Result<Option<String>, Fail> {
     for (line, want) in lines {
-        let text = played(alloc, &mut player, line)?;
+        let text = played(alloc, player, line)?;
         if text != printed(alloc, want)? {
             return Ok(Some(format!(in alloc; "{line}: {text}")?));
         }
