@@ -1,5 +1,5 @@
 //! The identifiers and values of the standard.
-use crate::{decode, encode, is_served};
+use ffa_abi::{decode, encode, is_served};
 use ffa_model::{Call, ErrorCode, Reply};
 
 // Registers with something in each upper half, of which the low half of x0 is the identifier.

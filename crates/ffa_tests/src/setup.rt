@@ -1,7 +1,7 @@
 //! Worked values, on the machine with two partitions.
-use crate::{count, features, id, info_bytes, is_recognized, spm_id, version};
 use byteorder::{ByteOrder, LittleEndian};
 use ffa_model::{EndpointId, ErrorCode, Reply, row_machine};
+use ffa_setup::{count, features, id, info_bytes, is_recognized, spm_id, version};
 
 #[test]
 fn versions(rt: HostRuntime) {

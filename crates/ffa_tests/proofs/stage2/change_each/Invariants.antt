@@ -1,7 +1,7 @@
 use Rattle.std.proofs.Common.{◌≡◌, ℕ, length, Option}
 use Rattle.ffa_model.specs.declared.rights.Rights.{Rights}
 use Rattle.ffa_stage2.specs.Layout.{IsBuiltFor}
-use Rattle.ffa_stage2.proofs.tests.change_each.Given as goal
+use Rattle.ffa_tests.proofs.stage2.change_each.Given as goal
 
 -- the tables stay built
 abbrev pub invariant-loop-block : goal.invariant-loop-block

@@ -1,6 +1,6 @@
 //! Run states of the normal world and two partitions.
-use crate::Chain;
 use ffa_model::{EndpointId, ErrorCode, Reply, Status, Work};
+use ffa_schedule::Chain;
 use std::test::Fail;
 
 const NORMAL: EndpointId = EndpointId(0);

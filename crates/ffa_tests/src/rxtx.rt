@@ -1,8 +1,8 @@
 //! Buffers on the pages of the row machine.
-use crate::{Buffers, Mapped};
 use ffa_model::{Data, EndpointId, ErrorCode, PageNo, Rights, row_machine};
 use ffa_pages::PageTable;
 use ffa_physmem::{FlatRam, PhysMem};
+use ffa_rxtx::{Buffers, Mapped};
 use std::test::Fail;
 
 const BASE: u32 = 0x4000_0000;

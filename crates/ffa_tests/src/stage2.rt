@@ -1,14 +1,14 @@
-//! Blocks of 2 MiB, in words of RAM.
+//! Descriptors, tables and blocks of 2 MiB, in words of RAM.
 ghost use Rattle.std.specs.Prelude.{◌≡◌, ℕ, length, Option};
 ghost use Rattle.arrayvec.specs.ArrayVec.{array_vec_len};
 ghost use Rattle.ffa_model.specs.declared.rights.Rights.{Rights};
 ghost use Rattle.ffa_stage2.specs.Layout.{IsBuiltFor};
 
-use crate::{Layout, Regions, build, set_page, uniform};
 use arrayvec::ArrayVec;
 use byteorder::{ByteOrder, LittleEndian};
-use ffa_model::{Data, PageNo, Region, Rights};
+use ffa_model::{Data, PageNo, Region, Rights, built_in, row_machine};
 use ffa_physmem::{FlatRam, NoMemory, PhysMem};
+use ffa_stage2::{Layout, Regions, build, leaf, set_page, uniform};
 
 // Two blocks of RAM, where the first endpoint has the first block's page 16 and the whole second block, and the
 // second endpoint nothing.
@@ -210,4 +210,49 @@ fn uniform_sees_each_word(rt: HostRuntime) {
         page[8 * place + 6] ^= 0x40;
     }
     assert_eq!(rt; uniform(&page), true);
+}
+
+#[test]
+fn leaf_gives_descriptors(rt: HostRuntime) {
+    let level = Data::Rw;
+    let code = Rights { level, exec: true };
+    let data = Rights { level, exec: false };
+    let constant = Rights {
+        level: Data::Ro,
+        exec: false,
+    };
+    assert_eq!(rt; leaf(0x4000_1000, Some(code)), 0x0000_0000_4000_17ff);
+    assert_eq!(rt; leaf(0x4000_1000, Some(data)), 0x0040_0000_4000_17ff);
+    assert_eq!(rt; leaf(0x4000_1000, Some(constant)), 0x0040_0000_4000_177f);
+    assert_eq!(rt; leaf(0x4000_1000, None), 0);
+}
+
+#[test]
+fn build_writes_tables(rt: HostRuntime) -> Result<(), NoMemory> {
+    for manifest in [built_in(), row_machine()] {
+        let mut ram = FlatRam::new(rt.alloc(), manifest.ram_base, 512)?;
+        build(&mut ram, &Layout::of(&manifest));
+        assert_eq!(rt; ram.read_word(PageNo(0), 1), 0x0000_0000_4000_1003);
+        assert_eq!(rt; ram.read_word(PageNo(1), 0), 0x0000_0000_4000_2003);
+        assert_eq!(rt; ram.read_word(PageNo(2), 16), 0x0040_0000_4001_07ff);
+        assert_eq!(rt; ram.read_word(PageNo(5), 32), 0x0000_0000_4002_07ff);
+    }
+    Ok(())
+}
+
+#[test]
+fn set_page_writes_descriptor(rt: HostRuntime) -> Result<(), NoMemory> {
+    let manifest = row_machine();
+    let layout = Layout::of(&manifest);
+    let mut ram = FlatRam::new(rt.alloc(), layout.base, 512)?;
+    build(&mut ram, &layout);
+    let right = Rights {
+        level: Data::Ro,
+        exec: false,
+    };
+    set_page(&mut ram, &layout, 1, PageNo(1), Some(right));
+    assert_eq!(rt; ram.read_word(PageNo(5), 0), 0);
+    assert_eq!(rt; ram.read_word(PageNo(5), 1), 0x0040_0000_4000_177f);
+    assert_eq!(rt; ram.read_word(PageNo(5), 2), 0);
+    Ok(())
 }

@@ -1,6 +1,6 @@
 use Rattle.std.proofs.Common.{◌≡◌}
 use Rattle.arrayvec.specs.ArrayVec.{array_vec_len}
-use Rattle.ffa_stage2.proofs.tests.whole_blocks.Given as goal
+use Rattle.ffa_tests.proofs.stage2.whole_blocks.Given as goal
 
 -- the endpoints so far
 abbrev pub invariant-loop-index : goal.invariant-loop-index

@@ -3,12 +3,12 @@
 ghost use Rattle.std.specs.Prelude.{◌^◌, ◌<◌};
 ghost use Rattle.ffa_model.specs.SendDescriptor.{page_total};
 
-use crate::{
+use arrayvec::ArrayVec;
+use byteorder::{ByteOrder, LittleEndian};
+use ffa_memdesc::{
     RelinquishDesc, Response, RetrieveDesc, SendDesc, read_relinquish, read_retrieve, read_send,
     write_response,
 };
-use arrayvec::ArrayVec;
-use byteorder::{ByteOrder, LittleEndian};
 use ffa_model::{Data, EndpointId, Kind, Range, Receiver, Rights};
 use std::process::Abort;
 use std::test::Fail;

@@ -1,4 +1,4 @@
-use Rattle.ffa_stage2.proofs.tests.lend.Goals as goal
+use Rattle.ffa_tests.proofs.stage2.lend.Goals as goal
 
 pub set_page-requires-2-clause-built : goal.set_page-requires-2-clause-built
 set_page-requires-2-clause-built g c =

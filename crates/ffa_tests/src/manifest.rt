@@ -1,6 +1,6 @@
 //! Worked values: machines as text, and changes of one that have each cause.
 
-use crate::{ManifestError, read};
+use ffa_manifest::{ManifestError, read};
 use ffa_model::{Endpoint, Manifest, row_machine};
 use std::alloc::{AllocError, Global};
 use std::process::Abort;

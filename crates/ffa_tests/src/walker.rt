@@ -2,9 +2,9 @@
 ghost use Rattle.std.specs.Prelude.{◌≡◌, IfOk, true};
 ghost use Rattle.ffa_model.specs.Walk.{is_page_address};
 
-use crate::{FaultKind, Leaf, fetch, load, store, translate};
 use ffa_model::{PageNo, Size};
 use ffa_physmem::{FlatRam, NoMemory, PhysMem};
+use ffa_walker::{FaultKind, Leaf, fetch, load, store, translate};
 use std::alloc::Global;
 use std::test::Fail;
 

@@ -1,5 +1,5 @@
 use Rattle.std.proofs.Common.{◌∙◌}
-use Rattle.ffa_stage2.proofs.tests.change_each.Goals as goal
+use Rattle.ffa_tests.proofs.stage2.change_each.Goals as goal
 
 pub loop-block-preserved : goal.loop-block-preserved
 loop-block-preserved g c =

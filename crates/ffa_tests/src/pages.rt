@@ -1,6 +1,6 @@
 //! The pages of the built-in machine.
-use crate::PageTable;
 use ffa_model::{Data, EndpointId, PageNo, Rights, built_in};
+use ffa_pages::PageTable;
 use std::test::Fail;
 
 #[test]
