@@ -78,7 +78,7 @@ view-filled e s bytes known =
     pages = ap (filled_pages (view e s).pages bytes) (own-buffers e s known) ∙ sym (seen-filled e s bytes (buffers_of s e))
 
 -- RX of another endpoint isn't near
-far-filled : (e f : ℕ) (s : State) (bytes : List ℕ) → IsSteady s → is_known s f ≡ true → f ≢ e → filled_pages (view e s).pages bytes (buffers_of s f) ≡ (view e s).pages
+pub far-filled : (e f : ℕ) (s : State) (bytes : List ℕ) → IsSteady s → is_known s f ≡ true → f ≢ e → filled_pages (view e s).pages bytes (buffers_of s f) ≡ (view e s).pages
 far-filled e f s bytes steady known differ = go (buffers_of s f) refl
   where
     go : (o : Option Buffers) → buffers_of s f ≡ o → filled_pages (view e s).pages bytes o ≡ (view e s).pages

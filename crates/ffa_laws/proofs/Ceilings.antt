@@ -18,7 +18,7 @@ use Rattle.ffa_model.proofs.KeptDonate.{same-tests}
 use Rattle.ffa_laws.proofs.Maps.{first_one, length-map_at}
 use Rattle.ffa_laws.proofs.Views.{view-page}
 
-or_true : (b : Bool) → (b || true) ≡ true
+pub or_true : (b : Bool) → (b || true) ≡ true
 or_true true = refl
 or_true false = refl
 

@@ -1,14 +1,12 @@
--- A transaction that is closed, one that is held or left, and pages that are zeroed: what becomes of views.
-use Rattle.std.proofs.Common.{◌≡◌, ◌≢◌, ◌∙◌, ℕ, Bool, true, false, cond, List, Option, Some, None, refl, sym, ap, inl, inr, arith}
+-- A transaction that is closed, and pages that are zeroed: what becomes of views.
+use Rattle.std.proofs.Common.{◌≡◌, ◌∙◌, ℕ, Bool, true, false, cond, List, Option, Some, None, refl, sym, ap, inl, inr, arith}
 use Rattle.std.specs.Prelude.{◌==◌, ◌||◌}
 use Rattle.std.specs.Option.{option_and_then, option_map}
-use Rattle.std.specs.Ordering.{nat_cmp}
 use Rattle.std.specs.Cmp.{nat_cmp_total}
 use Rattle.std.specs.FinMap as finite
 use Rattle.std.proofs.Math.Path.{fun_ext}
 use Rattle.std.proofs.lemmas.Bool.{cases_Bool, eq-eqb, eqb-true, false≢true}
 use Rattle.std.proofs.lemmas.Bool.Decides.{nat_tests}
-use Rattle.ffa_model.specs.declared.rights.Rights.{Rights}
 use Rattle.ffa_model.specs.declared.transaction.Range.{Range}
 use Rattle.ffa_model.specs.Lists.{map_at}
 use Rattle.ffa_model.specs.State.{State, Page, Transaction, page_at, owner_of, transaction_of}
@@ -16,15 +14,15 @@ use Rattle.ffa_model.specs.Access.{handle_at, is_naming, is_receiver, names, tra
 use Rattle.ffa_model.specs.RunStates.{schedule_of}
 use Rattle.ffa_laws.specs.Steady.{IsSteady}
 use Rattle.ffa_laws.specs.View.{view, involves, is_near, kept, seen_by, transactions_of}
-use Rattle.ffa_model.specs.Memory.{changed_pages, with_pages, zeroed_page}
+use Rattle.ffa_model.specs.Memory.{changed_pages, with_pages, zeroed_if, zeroed_page}
 use Rattle.ffa_model.specs.MemoryReturn.{named_ranges}
-use Rattle.ffa_laws.specs.Events.{Closed, apply, with_held}
+use Rattle.ffa_laws.specs.Events.{Closed, apply}
 use Rattle.ffa_laws.proofs.Maps.{first_no, first_none, first_one, first_some, at-map_at, length-map_at, map_at-alike, map_at-same, map_at-twice}
 use Rattle.ffa_laws.proofs.Views.{shown, view-page, view-transaction}
-use Rattle.ffa_laws.proofs.Changes.{AreRewritten, standing, view-changed, with_parts}
+use Rattle.ffa_laws.proofs.Changes.{AreRewritten, standing, unwritten, view-changed, with_parts}
 use Rattle.ffa_laws.proofs.Opened.{Transactions, same_transactions}
 
-get-remove : (m : Transactions) (h k : ℕ) → finite.get (finite.remove m h) k ≡ cond (k == h) None (finite.get m k)
+pub get-remove : (m : Transactions) (h k : ℕ) → finite.get (finite.remove m h) k ≡ cond (k == h) None (finite.get m k)
 get-remove m h k = finite.get-remove nat_cmp_total m h k ∙ ap (λ b. cond b None (finite.get m k)) (grind (arith, nat_tests))
 
 abbrev pub closed : State → ℕ → State
@@ -53,6 +51,10 @@ rewritten-zeroed s ranges =
       each = length-map_at (λ q page. cond (names s ranges q) (zeroed_page page) page) s.pages;
       same = λ p. ap standing (at-map_at (λ q page. cond (names s ranges q) (zeroed_page page) page) s.pages p (λ q. zeroed-none (names s ranges q))) ∙ standing-zeroed (names s ranges p) (page_at s p);
     }
+
+pub rewritten-zeroed_if : (asked : Bool) (s : State) (ranges : List Range) → AreRewritten s.pages (zeroed_if asked s ranges).pages
+rewritten-zeroed_if true s ranges = rewritten-zeroed s ranges
+rewritten-zeroed_if false s ranges = unwritten s.pages
 
 -- whoever knows of the pages or not
 pub view-zeroed : (e : ℕ) (s : State) (ranges : List Range) → view e (zeroed s ranges) ≡ zeroed (view e s) ranges
@@ -193,30 +195,3 @@ module _ (s : State) (steady : IsSteady s) (h : ℕ) (t : Transaction) (there : 
             | true ↦ λ same. sym (view-transaction e s k ∙ ap (shown e) (ap (transaction_of s) (eqb-true k h same) ∙ there) ∙ ap (λ b. option_map (seen_by e) (kept b (Some t))) unknown)
             | false ↦ λ differ. sym (view-transaction e s k)
           ] refl)
-
--- ---- holders: the sender sees each, a receiver itself alone
-get-held : (m : finite.FinMap nat_cmp Rights) (f : ℕ) (right : Rights) (k : ℕ) → finite.get (finite.insert m f right) k ≡ cond (k == f) (Some right) (finite.get m k)
-get-held m f right k = finite.get-insert nat_cmp_total m f right k ∙ ap (λ b. cond b (Some right) (finite.get m k)) (grind (arith, nat_tests))
-
--- what another receiver holds is hidden
-pub holder-hidden : (e f : ℕ) (t : Transaction) (right : Rights) → (t.sender == e) ≡ false → f ≢ e → seen_by e (with_held t f (Some right)) ≡ seen_by e t
-holder-hidden e f t right other differ = λ i. record t { held = held i }
-  where
-    retained : (m : finite.FinMap nat_cmp Rights) (k : ℕ) → finite.get (finite.retain_keys m (λ g. g == e)) k ≡ cond (k == e) (finite.get m k) None
-    retained m k = finite.get-retain_keys m (λ g. g == e) k (λ x tie. ap (λ j. j == e) (sym (finite.nat_cmp-IsAntisymmetric k x tie)))
-
-    retained-same : finite.retain_keys (finite.insert t.held f right) (λ g. g == e) ≡ finite.retain_keys t.held (λ g. g == e)
-    retained-same = finite.same_map nat_cmp_total finite.nat_cmp-IsAntisymmetric _ _ (λ k.
-        retained (finite.insert t.held f right) k
-        ∙ ap (λ o. cond (k == e) o None) (get-held t.held f right k)
-        ∙ elim (k == e) as (λ b. (k == e) ≡ b → cond b (cond (k == f) (Some right) (finite.get t.held k)) None ≡ cond b (finite.get t.held k) None) [
-          | true ↦ λ same. (let away : (k == f) ≡ false = grind (arith, nat_tests) in ap (λ b. cond b (Some right) (finite.get t.held k)) away)
-          | false ↦ λ not. refl
-        ] refl
-        ∙ sym (retained t.held k))
-
-    held : cond (t.sender == e) (finite.insert t.held f right) (finite.retain_keys (finite.insert t.held f right) (λ g. g == e)) ≡ cond (t.sender == e) t.held (finite.retain_keys t.held (λ g. g == e))
-    held =
-        ap (λ b. cond b (finite.insert t.held f right) (finite.retain_keys (finite.insert t.held f right) (λ g. g == e))) other
-        ∙ retained-same
-        ∙ sym (ap (λ b. cond b t.held (finite.retain_keys t.held (λ g. g == e))) other)

@@ -1,5 +1,5 @@
 -- The form of a call: guards, and a change where none fails.
-use Rattle.std.proofs.Common.{◌≡◌, ◌∙◌, ℕ, Bool, true, false, List, ◌∷◌, Option, Some, None, refl, ap}
+use Rattle.std.proofs.Common.{◌≡◌, ◌∙◌, ℕ, Bool, true, false, List, [], ◌∷◌, ◌++◌, Option, Some, None, refl, ap}
 use Rattle.ffa_model.specs.declared.operation.ErrorCode.{ErrorCode}
 use Rattle.ffa_model.specs.declared.operation.Outcome.{Outcome}
 use Rattle.ffa_model.specs.declared.operation.FaultKind.{FaultKind}
@@ -57,3 +57,9 @@ pub same-first : (passes : Bool) (code : ErrorCode) (xs ys : List (Bool × Error
     → first_failure ((passes, code) ∷ xs) ≡ first_failure ((passes, code) ∷ ys)
 same-first true code xs ys same = same refl
 same-first false code xs ys same = refl
+
+-- guards that agree behind one that passes
+pub same-later : (code : ErrorCode) (before : List (Bool × ErrorCode)) (passes : Bool) (xs ys : List (Bool × ErrorCode)) → (passes ≡ true → first_failure xs ≡ first_failure ys)
+    → first_failure (before ++ (passes, code) ∷ xs) ≡ first_failure (before ++ (passes, code) ∷ ys)
+same-later code [] passes xs ys same = same-first passes code xs ys same
+same-later code ((test, other) ∷ before) passes xs ys same = same-first test other (before ++ (passes, code) ∷ xs) (before ++ (passes, code) ∷ ys) (λ is. same-later code before passes xs ys same)

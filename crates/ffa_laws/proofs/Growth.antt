@@ -1,55 +1,40 @@
 -- Rights never grow.
-use Rattle.std.proofs.Common.{◌≡◌, ◌≢◌, ◌∙◌, ℕ, Bool, true, false, cond, List, [], ◌∷◌, Option, Some, None, is_some, refl, sym, ap}
-use Rattle.std.specs.Prelude.{◌==◌, ◌&&◌, ◌||◌, length, nat_le, not}
-use Rattle.std.proofs.lemmas.Bool.{and_from, and_parts, eqb-true, false≢true, true≢false}
-use Rattle.ffa_model.specs.declared.rights.Data.{Data}
-use Rattle.ffa_model.specs.declared.rights.Data.TheVariants.{Ro, Rw}
+use Rattle.std.proofs.Common.{◌≡◌, ◌≢◌, ◌∙◌, ℕ, ◌-◌, ◌/◌, ◌%◌, Bool, true, false, cond, List, [], ◌∷◌, get_or, Option, Some, None, is_some, refl, sym, ap, subst}
+use Rattle.byteorder.specs.Endian.{little_bytes}
+use Rattle.std.specs.Prelude.{◌==◌, ◌&&◌, ◌||◌, length, nat_le}
+use Rattle.std.proofs.lemmas.Bool.{and_parts, eqb-true, false≢true, true≢false}
+use Rattle.ffa_model.specs.declared.rights.Kind.TheVariants.{Share, Lend, Donate}
 use Rattle.ffa_model.specs.declared.rights.Rights.{Rights}
 use Rattle.ffa_model.specs.declared.operation.Op.{Op}
 use Rattle.ffa_model.specs.declared.call.Call as calls
-use Rattle.ffa_model.specs.RunStates.{Schedule}
-use Rattle.ffa_model.specs.Notifications.{Notifications}
-use Rattle.ffa_model.specs.Rights.{is_lend, is_data_at_most, is_share, is_within}
-use Rattle.ffa_model.specs.State.{State, Buffers, Page, Transaction, page_at}
+use Rattle.ffa_model.specs.declared.call.Call.TheVariants.{MemDonate, MemLend, MemShare, MemRetrieve, MemRelinquish, MemReclaim}
+use Rattle.ffa_model.specs.Bits.{is_set}
+use Rattle.ffa_model.specs.Buffers.{filled, filled_pages}
+use Rattle.ffa_model.specs.MemoryRetrieve.{memory_retrieve}
+use Rattle.ffa_model.specs.Calls.{first_failure}
+use Rattle.ffa_model.specs.Memory.{size_of}
+use Rattle.ffa_model.specs.MemoryReturn.{named_ranges, relinquish_read}
+use Rattle.ffa_model.specs.MemorySend.{send_read}
+use Rattle.ffa_model.specs.Messages.{header_in, message_in, tx_bytes}
+use Rattle.ffa_model.specs.Registers.{served_call}
+use Rattle.ffa_model.specs.Rights.{is_lend, is_share, is_within}
+use Rattle.ffa_model.specs.State.{State, Page, Transaction, buffers_of, page_at, transaction_of}
 use Rattle.ffa_model.specs.Access.{access, held_by, right_by, right_of, transaction_at}
-use Rattle.ffa_model.specs.Step.{serve, state_after, step}
+use Rattle.ffa_model.specs.Step.{serve, service, state_after, step}
+use Rattle.ffa_model.specs.Transactions.{Transfer, handle_of, transfer}
 use Rattle.ffa_laws.specs.Steady.{IsSteady, is_joint}
 use Rattle.ffa_laws.specs.Isolation.{NeverGrow, is_joint_at, is_lawful_call}
 use Rattle.ffa_laws.proofs.Views.{found}
-use Rattle.ffa_laws.proofs.Changes.{AreRewritten, same_base, standing, page_base}
-use Rattle.ffa_laws.proofs.Kept.{rewritten-call, rewritten-step, with_all_parts}
+use Rattle.ffa_laws.proofs.Taken.{Taken, base-before, before, manager-before, response, state-taken, taken}
+use Rattle.ffa_laws.proofs.Within.{within-same, within-through}
+use Rattle.ffa_laws.proofs.Changes.{AreRewritten, same_base, standing, page_base, unwritten}
+use Rattle.ffa_laws.proofs.Closed.{rewritten-zeroed_if}
+use Rattle.ffa_laws.proofs.ReturnLaws.{rewritten-relinquished}
+use Rattle.ffa_laws.proofs.SendLaws.{rewritten-sent}
+use Rattle.ffa_laws.proofs.Written.{rewritten-filled, rewritten-written}
+use Rattle.ffa_laws.proofs.Kept.{is_memory_call, kept-call, kept-step}
+use Rattle.ffa_laws.proofs.Lawful.{lawful as served_lawful}
 use Rattle.ffa_laws.proofs.Laws.{steady-call, steady-step}
-
-level-same : (d : Data) → is_data_at_most d d ≡ true
-level-same Ro = refl
-level-same Rw = refl
-
-level-through : (a b c : Data) → is_data_at_most a b ≡ true → is_data_at_most b c ≡ true → is_data_at_most a c ≡ true
-level-through Ro b c ab bc = refl
-level-through Rw Ro c ab bc = absurd (false≢true ab)
-level-through Rw Rw c ab bc = bc
-
-execution-same : (b : Bool) → (not b || b) ≡ true
-execution-same true = refl
-execution-same false = refl
-
-execution-through : (a b c : Bool) → (not a || b) ≡ true → (not b || c) ≡ true → (not a || c) ≡ true
-execution-through false b c ab bc = refl
-execution-through true true c ab bc = bc
-execution-through true false c ab bc = absurd (false≢true ab)
-
-within-same : (r : Option Rights) → is_within r r ≡ true
-within-same None = refl
-within-same (Some r) = and_from (is_data_at_most r.level r.level) (not r.exec || r.exec) (level-same r.level) (execution-same r.exec)
-
-pub within-through : (a b c : Option Rights) → is_within a b ≡ true → is_within b c ≡ true → is_within a c ≡ true
-within-through None b c ab bc = refl
-within-through (Some a) None c ab bc = absurd (false≢true ab)
-within-through (Some a) (Some b) None ab bc = absurd (false≢true bc)
-within-through (Some a) (Some b) (Some c) ab bc =
-    let (level_ab, exec_ab) = and_parts _ _ ab in
-    let (level_bc, exec_bc) = and_parts _ _ bc in
-    and_from _ _ (level-through a.level b.level c.level level_ab level_bc) (execution-through a.exec b.exec c.exec exec_ab exec_bc)
 
 -- ---- in any steady state
 -- a right that is the owner's under a test, or nothing
@@ -98,29 +83,29 @@ module _ (s : State) (steady : IsSteady s) where
               (steady.transactions h u open_h).alone e f right right_f differ is of_f
 
 -- ---- over a call and over a run
--- base rights and the manager's pages, as they stand in t, are those of s
-record KeepsRights (s t : State) : Type 0 where
-  pub bases : (p : ℕ) → page_base (page_at t p) ≡ page_base (page_at s p)
-  pub manager : (p : ℕ) → page_at s p ≡ None → page_at t p ≡ None
+-- no page has a wider base right than before, and the manager's pages stay
+record KeepsRights (old new : List (Option Page)) : Type 0 where
+  pub bases : (p : ℕ) → is_within (page_base (get_or new p None)) (page_base (get_or old p None)) ≡ true
+  pub manager : (p : ℕ) → get_or old p None ≡ None → get_or new p None ≡ None
 
 stands-nowhere : (x : Option Page) → standing x ≡ None → x ≡ None
 stands-nowhere None is = refl
 stands-nowhere (Some page) is = absurd (true≢false (ap is_some is))
 
-rewritten-rights : (s : State) (ps : List (Option Page)) (bs : List (Option Buffers)) (c : Schedule) (n : Notifications) → AreRewritten s.pages ps → KeepsRights s (with_all_parts s ps bs c n)
-rewritten-rights s ps bs c n rewritten =
+rewritten-rights : (old new : List (Option Page)) → AreRewritten old new → KeepsRights old new
+rewritten-rights old new rewritten =
     record {
-      bases = λ p. same_base _ (page_at s p) (rewritten.same p);
+      bases = λ p. ap (λ r. is_within r (page_base (get_or old p None))) (same_base _ (get_or old p None) (rewritten.same p)) ∙ within-same (page_base (get_or old p None));
       manager = λ p none. stands-nowhere _ (rewritten.same p ∙ ap standing none);
     }
 
-same-rights : (s : State) → KeepsRights s s
-same-rights s = record { bases = λ p. refl; manager = λ p none. none }
+same-rights : (s : State) → KeepsRights s.pages s.pages
+same-rights s = rewritten-rights s.pages s.pages (unwritten s.pages)
 
-grown-from : (s t u : State) → KeepsRights s t → NeverGrow t u → NeverGrow s u
+grown-from : (s t u : State) → KeepsRights s.pages t.pages → NeverGrow t u → NeverGrow s u
 grown-from s t u keeps later =
     record {
-      base = λ p. sym (ap (is_within (page_base (page_at u p))) (keeps.bases p)) ∙ later.base p;
+      base = λ p. within-through (page_base (page_at u p)) (page_base (page_at t p)) (page_base (page_at s p)) (later.base p) (keeps.bases p);
       within = later.within;
       manager = λ p none. later.manager p (keeps.manager p none);
       alone = later.alone;
@@ -130,15 +115,56 @@ not_grown : (s : State) → IsSteady s → NeverGrow s s
 not_grown s steady =
     record { base = λ p. within-same (page_base (page_at s p)); within = access-within s steady; manager = λ p none. none; alone = access-alone s steady }
 
+module _ (s : State) (steady : IsSteady s) where
+  -- what a donate gives is within what its sender had
+  retrieved-rights : (x : Transfer) → first_failure (memory_retrieve s x).guards ≡ None → KeepsRights s.pages (memory_retrieve s x).state.pages
+  retrieved-rights x none = subst (λ t. KeepsRights s.pages t.pages) (sym (state-taken s x its)) keeps
+    where
+      its : Taken s x
+      its = taken s x none
+
+      filling : AreRewritten (before s x its).pages (filled (before s x its) s.runner (response s x its)).pages
+      filling = rewritten-filled (before s x its).pages (response s x its) (buffers_of s s.runner)
+
+      keeps : KeepsRights s.pages (filled (before s x its) s.runner (response s x its)).pages
+      keeps =
+          record {
+            bases = λ p. ap (λ r. is_within r (page_base (page_at s p))) (same_base _ (page_at (before s x its) p) (filling.same p)) ∙ base-before s x its steady p;
+            manager = λ p none. stands-nowhere _ (filling.same p ∙ ap standing (manager-before s x its steady p none));
+          }
+
+  -- the calls on memory transactions
+  memory-rights : (call : calls.Call) → is_lawful_call call ≡ true → is_memory_call call ≡ true → first_failure (service s call).guards ≡ None → KeepsRights s.pages (service s call).state.pages
+  memory-rights (MemDonate total fragment address pages) lawful memory none = rewritten-rights s.pages _ (rewritten-sent s Donate (send_read s Donate total))
+  memory-rights (MemLend total fragment address pages) lawful memory none = rewritten-rights s.pages _ (rewritten-sent s Lend (send_read s Lend total))
+  memory-rights (MemShare total fragment address pages) lawful memory none = rewritten-rights s.pages _ (rewritten-sent s Share (send_read s Share total))
+  memory-rights (MemRetrieve total fragment address pages) lawful memory none = retrieved-rights (transfer total fragment address pages) none
+  memory-rights MemRelinquish lawful memory none = rewritten-rights s.pages _ (rewritten-relinquished s (relinquish_read s))
+  memory-rights (MemReclaim low high flags) lawful memory none =
+      rewritten-rights s.pages _ (rewritten-zeroed_if (is_set 0 flags) s (named_ranges (transaction_of s (handle_of high low))))
+  memory-rights call lawful memory none = absurd (false≢true memory)
+
+  by-info : (bytes : List ℕ) → KeepsRights s.pages (filled_pages s.pages bytes (buffers_of s s.runner))
+  by-info bytes = rewritten-rights s.pages _ (rewritten-filled s.pages bytes (buffers_of s s.runner))
+
+  sent : KeepsRights s.pages (filled_pages s.pages (message_in (tx_bytes s s.runner)) (buffers_of s (header_in (tx_bytes s s.runner)).receiver))
+  sent = rewritten-rights s.pages _ (rewritten-filled s.pages (message_in (tx_bytes s s.runner)) (buffers_of s (header_in (tx_bytes s s.runner)).receiver))
+
+  call-rights : (call : calls.Call) → is_lawful_call call ≡ true → KeepsRights s.pages (serve s call).state.pages
+  call-rights call lawful = kept-call (KeepsRights s.pages) s (same-rights s) by-info call (λ is none. sent) (memory-rights call lawful)
+
+  step-rights : (op : Op) → KeepsRights s.pages (step s op).state.pages
+  step-rights op =
+      kept-step (KeepsRights s.pages) s (same-rights s) by-info op
+      (λ address size value none. rewritten-rights s.pages _ (rewritten-written s.pages ((address - s.ram_base) / 4096) (address % 4096) (little_bytes (size_of size) value)))
+      (λ is none. sent)
+      (λ x. memory-rights (served_call x) (served_lawful x))
+
 pub never_grow : (s : State) (ops : List Op) → IsSteady s → NeverGrow s (state_after s ops)
 never_grow s [] steady = not_grown s steady
 never_grow s (op ∷ ops) steady =
-    grown-from s (step s op).state (state_after (step s op).state ops)
-    (rewritten-step (KeepsRights s) s (same-rights s) (rewritten-rights s) op)
-    (never_grow (step s op).state ops (steady-step s steady op))
+    grown-from s (step s op).state (state_after (step s op).state ops) (step-rights s steady op) (never_grow (step s op).state ops (steady-step s steady op))
 
 pub call_never_grows : (s : State) (call : calls.Call) → is_lawful_call call ≡ true → IsSteady s → NeverGrow s (serve s call).state
 call_never_grows s call lawful steady =
-    grown-from s (serve s call).state (serve s call).state
-    (rewritten-call (KeepsRights s) s (same-rights s) (rewritten-rights s) call lawful)
-    (not_grown (serve s call).state (steady-call s steady call lawful))
+    grown-from s (serve s call).state (serve s call).state (call-rights s steady call lawful) (not_grown (serve s call).state (steady-call s steady call lawful))

@@ -2,24 +2,41 @@
 use Rattle.std.proofs.Common.{◌≡◌, ◌≢◌, ◌∙◌, ℕ, ◌-◌, ◌/◌, ◌%◌, true, false, cond, List, [], get_or, Option, Some, None, is_some, refl, sym, ap, inl, inr, get_or-set_other}
 use Rattle.std.specs.Prelude.{Bool, is_none, ◌==◌, ◌&&◌, nat_le, nat_lt, ◌^◌}
 use Rattle.std.specs.Option.{option_and_then, option_map_or}
-use Rattle.std.proofs.lemmas.Bool.{and_from, cases_eq, eq-eqb, eqb-true, false≢true, true≢false}
+use Rattle.std.proofs.lemmas.Bool.{and_from, cases_Bool, cases_eq, eq-eqb, eqb-true, false≢true, true≢false}
 use Rattle.byteorder.specs.Endian.{little_bytes}
+use Rattle.ffa_model.specs.declared.descriptor.RelinquishDesc.{RelinquishDesc}
 use Rattle.ffa_model.specs.declared.operation.Op.{Op}
 use Rattle.ffa_model.specs.declared.call.Call as calls
+use Rattle.ffa_model.specs.declared.call.Call.TheVariants.{MemDonate, MemLend, MemShare, MemRetrieve, MemRelinquish, MemReclaim}
 use Rattle.ffa_model.specs.declared.operation.ErrorCode.TheVariants.{InvalidParameters}
+use Rattle.ffa_model.specs.declared.rights.Kind.{Kind}
+use Rattle.ffa_model.specs.declared.rights.Kind.TheVariants.{Share, Lend, Donate}
+use Rattle.ffa_model.specs.declared.transaction.Range.{Range}
+use Rattle.ffa_model.specs.Bits.{is_set}
+use Rattle.ffa_model.specs.MemoryReturn.{named_ranges, relinquish_read, relinquished, relinquished_from}
+use Rattle.ffa_model.specs.Registers.{served_call}
+use Rattle.ffa_model.specs.SendDescriptor.{SendRecord}
 use Rattle.ffa_model.specs.Rights.{may_store}
-use Rattle.ffa_model.specs.State.{State, Page, Buffers, page_at, owner_of, buffers_of, is_known, transaction_of}
-use Rattle.ffa_model.specs.Access.{access, handle_at, right_of}
+use Rattle.ffa_model.specs.State.{State, Page, Transaction, Buffers, page_at, owner_of, buffers_of, is_known, transaction_of}
+use Rattle.ffa_model.specs.Access.{access, handle_at, is_naming, names, right_of}
 use Rattle.ffa_model.specs.Buffers.{filled_pages}
-use Rattle.ffa_model.specs.Memory.{access_at, page_bytes, size_of, store_fault, written_pages}
+use Rattle.ffa_model.specs.Memory.{access_at, page_bytes, size_of, store_fault, written_pages, zeroed_if, zeroed_page}
 use Rattle.ffa_model.specs.Calls.{first_failure}
+use Rattle.ffa_model.specs.MemoryRetrieve.{memory_retrieve}
+use Rattle.ffa_model.specs.MemorySend.{memory_send, memory_sent, send_guards, send_read}
 use Rattle.ffa_model.specs.Messages.{header_in, message_in, send2_guards, tx_bytes}
-use Rattle.ffa_model.specs.Step.{serve, step}
+use Rattle.ffa_model.specs.Step.{serve, service, step}
+use Rattle.ffa_model.specs.Transactions.{Transfer, handle_of, scene_of, transfer}
 use Rattle.ffa_laws.specs.Steady.{IsSteady}
 use Rattle.ffa_laws.specs.Isolation.{Integrity, LeavesBytes, fills_rx_page, is_lawful_call, is_indirect_message, is_send2}
 use Rattle.ffa_model.proofs.Guards.{guard-passes}
 use Rattle.ffa_laws.proofs.MemoryLaws.{fault-none}
-use Rattle.ffa_laws.proofs.Kept.{kept-call, kept-step}
+use Rattle.ffa_laws.proofs.SendLaws.{offer, offered-owner}
+use Rattle.ffa_model.proofs.Accesses.{page-changed}
+use Rattle.ffa_laws.proofs.Taken.{before, response, state-taken, taken, unnamed-before}
+use Rattle.ffa_laws.proofs.Maps.{first_none}
+use Rattle.ffa_laws.proofs.Lawful.{lawful as served_lawful}
+use Rattle.ffa_laws.proofs.Kept.{is_memory_call, kept-call, kept-step}
 
 -- the bytes of a page of a list of pages
 abbrev bytes_in : List (Option Page) → ℕ → List ℕ
@@ -30,12 +47,12 @@ elsewhere ps q p at bytes differ = ap (λ page. option_map_or (λ (x : Page). x.
 
 module _ (s : State) (steady : IsSteady s) (e p : ℕ) (owned : owner_of s p ≡ e) (unnamed : handle_at s p ≡ None) (other : s.runner ≢ e) where
   -- a filled RX of another endpoint is another page
-  elsewhere-filled : (f : ℕ) (bytes : List ℕ) → is_known s f ≡ true → ((b : Buffers) → buffers_of s f ≡ Some b → p ≢ b.rx) → bytes_in (filled_pages s.pages bytes (buffers_of s f)) p ≡ bytes_in s.pages p
-  elsewhere-filled f bytes known differ = go (buffers_of s f) refl
+  elsewhere-filled : (ps : List (Option Page)) (f : ℕ) (bytes : List ℕ) → is_known s f ≡ true → ((b : Buffers) → buffers_of s f ≡ Some b → p ≢ b.rx) → bytes_in (filled_pages ps bytes (buffers_of s f)) p ≡ bytes_in ps p
+  elsewhere-filled ps f bytes known differ = go (buffers_of s f) refl
     where
-      go : (o : Option Buffers) → buffers_of s f ≡ o → bytes_in (filled_pages s.pages bytes o) p ≡ bytes_in s.pages p
+      go : (o : Option Buffers) → buffers_of s f ≡ o → bytes_in (filled_pages ps bytes o) p ≡ bytes_in ps p
       go None is = refl
-      go (Some b) is = elsewhere s.pages b.rx p 0 bytes (differ b is)
+      go (Some b) is = elsewhere ps b.rx p 0 bytes (differ b is)
 
   -- RX of an endpoint is its own page
   of_another : (f : ℕ) (b : Buffers) → is_known s f ≡ true → buffers_of s f ≡ Some b → f ≢ e → p ≢ b.rx
@@ -68,7 +85,7 @@ module _ (s : State) (steady : IsSteady s) (e p : ℕ) (owned : owner_of s p ≡
       → first_failure (send2_guards s.parties s.buffers s.runner (header_in (tx_bytes s s.runner))) ≡ None
       → bytes_in (filled_pages s.pages (message_in (tx_bytes s s.runner)) (buffers_of s (header_in (tx_bytes s s.runner)).receiver)) p ≡ bytes_in s.pages p
   delivered_elsewhere message not_bound is passed =
-      elsewhere-filled receiver (message_in (tx_bytes s s.runner)) known (λ b buffers same.
+      elsewhere-filled s.pages receiver (message_in (tx_bytes s s.runner)) known (λ b buffers same.
       elim (cases_eq receiver e) [
         | inl mine ↦
             let rx : option_map_or (λ (x : Buffers). x.rx == p) (buffers_of s e) false ≡ true = ap (λ o. option_map_or (λ (x : Buffers). x.rx == p) o false) (ap (buffers_of s) (sym mine) ∙ buffers) ∙ eq-eqb b.rx p (sym same) in
@@ -82,18 +99,71 @@ module _ (s : State) (steady : IsSteady s) (e p : ℕ) (owned : owner_of s p ≡
       known : is_known s receiver ≡ true
       known = guard-passes (send2_guards s.parties s.buffers s.runner (header_in (tx_bytes s s.runner))) 4 InvalidParameters (sym passed)
 
+  by-runner : (ps : List (Option Page)) (bytes : List ℕ) → bytes_in (filled_pages ps bytes (buffers_of s s.runner)) p ≡ bytes_in ps p
+  by-runner ps bytes = elsewhere-filled ps s.runner bytes steady.runner (λ b is. of_another s.runner b steady.runner is other)
+
+  -- the pages of an open transaction are others
+  of_no_transaction : (h : ℕ) → names s (named_ranges (transaction_of s h)) p ≡ false
+  of_no_transaction h = go (transaction_of s h) (first_none (is_naming s p) s.transactions refl unnamed h)
+    where
+      go : (o : Option Transaction) → is_naming s p o ≡ false → names s (named_ranges o) p ≡ false
+      go None is = refl
+      go (Some t) is = is
+
+  elsewhere-zeroed : (asked : Bool) (ranges : List Range) → names s ranges p ≡ false → bytes_in (zeroed_if asked s ranges).pages p ≡ bytes_in s.pages p
+  elsewhere-zeroed false ranges away = refl
+  elsewhere-zeroed true ranges away =
+      ap (λ page. option_map_or (λ (x : Page). x.bytes) page []) (page-changed s ranges zeroed_page p refl ∙ ap (λ b. cond b (zeroed_page (page_at s p)) (page_at s p)) away)
+
+  relinquished-elsewhere : (d : Option RelinquishDesc) → bytes_in (relinquished s d).pages p ≡ bytes_in s.pages p
+  relinquished-elsewhere None = refl
+  relinquished-elsewhere (Some d) = of (transaction_of s d.handle) (of_no_transaction d.handle)
+    where
+      of : (o : Option Transaction) → names s (named_ranges o) p ≡ false → bytes_in (relinquished_from s d o).pages p ≡ bytes_in s.pages p
+      of None away = refl
+      of (Some t) away = elsewhere-zeroed d.zero t.ranges away
+
+  -- what a send zeroes is the runner's
+  sent-elsewhere : (kind : Kind) (x : Transfer) → first_failure (memory_send s kind x).guards ≡ None → bytes_in (memory_send s kind x).state.pages p ≡ bytes_in s.pages p
+  sent-elsewhere kind x none = of (send_read s kind x.total) none
+    where
+      of : (o : Option SendRecord) → first_failure (send_guards (scene_of s) s.runner x o) ≡ None → bytes_in (memory_sent s kind o).pages p ≡ bytes_in s.pages p
+      of None none = refl
+      of (Some r) none =
+          elsewhere-zeroed r.zero r.ranges (elim (cases_Bool (names s r.ranges p)) [
+            | inl named ↦ absurd (other (sym (offered-owner s steady kind r (offer s x r none) p named) ∙ owned))
+            | inr away ↦ away
+          ])
+
+  -- what a retrieve writes is the runner's RX
+  retrieved-elsewhere : (x : Transfer) → first_failure (memory_retrieve s x).guards ≡ None → bytes_in (memory_retrieve s x).state.pages p ≡ bytes_in s.pages p
+  retrieved-elsewhere x none =
+      let its = taken s x none in
+      ap (λ (t : State). bytes_in t.pages p) (state-taken s x its)
+      ∙ by-runner (before s x its).pages (response s x its)
+      ∙ ap (λ page. option_map_or (λ (q : Page). q.bytes) page []) (unnamed-before s x its steady p unnamed)
+
+  -- the calls on memory transactions
+  memory-bytes : (call : calls.Call) → is_lawful_call call ≡ true → is_memory_call call ≡ true → first_failure (service s call).guards ≡ None → bytes_in (service s call).state.pages p ≡ bytes_in s.pages p
+  memory-bytes (MemDonate total fragment address pages) lawful memory none = sent-elsewhere Donate (transfer total fragment address pages) none
+  memory-bytes (MemLend total fragment address pages) lawful memory none = sent-elsewhere Lend (transfer total fragment address pages) none
+  memory-bytes (MemShare total fragment address pages) lawful memory none = sent-elsewhere Share (transfer total fragment address pages) none
+  memory-bytes (MemRetrieve total fragment address pages) lawful memory none = retrieved-elsewhere (transfer total fragment address pages) none
+  memory-bytes MemRelinquish lawful memory none = relinquished-elsewhere (relinquish_read s)
+  memory-bytes (MemReclaim low high flags) lawful memory none =
+      elsewhere-zeroed (is_set 0 flags) (named_ranges (transaction_of s (handle_of high low))) (of_no_transaction (handle_of high low))
+  memory-bytes call lawful memory none = absurd (false≢true memory)
+
   bytes-kept-call : (call : calls.Call) → is_lawful_call call ≡ true → (is_send2 call && fills_rx_page s e p) ≡ false → page_bytes (serve s call).state p ≡ page_bytes s p
   bytes-kept-call call lawful not_bound =
-      kept-call (λ t. page_bytes t p ≡ page_bytes s p) (λ ps. bytes_in ps p ≡ bytes_in s.pages p) s refl (λ ps bs c n same. same) refl
-      (λ bytes. elsewhere-filled s.runner bytes steady.runner (λ b is. of_another s.runner b steady.runner is other)) call lawful
-      (delivered_elsewhere (is_send2 call) not_bound)
+      kept-call (λ ps. bytes_in ps p ≡ bytes_in s.pages p) s refl (by-runner s.pages) call (delivered_elsewhere (is_send2 call) not_bound) (memory-bytes call lawful)
 
   bytes-kept : (op : Op) → (is_indirect_message op && fills_rx_page s e p) ≡ false → page_bytes (step s op).state p ≡ page_bytes s p
   bytes-kept op not_bound =
-      kept-step (λ t. page_bytes t p ≡ page_bytes s p) (λ ps. bytes_in ps p ≡ bytes_in s.pages p) s refl (λ ps bs c n same. same) refl
-      (λ bytes. elsewhere-filled s.runner bytes steady.runner (λ b is. of_another s.runner b steady.runner is other)) op
+      kept-step (λ ps. bytes_in ps p ≡ bytes_in s.pages p) s refl (by-runner s.pages) op
       (λ address size value none. elsewhere s.pages ((address - s.ram_base) / 4096) p (address % 4096) (little_bytes (size_of size) value) (stored_elsewhere address (size_of size) none))
       (delivered_elsewhere (is_indirect_message op) not_bound)
+      (λ x. memory-bytes (served_call x) (served_lawful x))
 
 pub integrity : (s : State) (op : Op) → IsSteady s → Integrity s op
 integrity s op steady e p owned unnamed other not_bound = bytes-kept s steady e p owned unnamed other op not_bound

@@ -1,7 +1,7 @@
 -- The laws of a step, call by call, and of a run by induction.
 use Rattle.std.proofs.Common.{◌≡◌, ◌≢◌, ◌∙◌, ℕ, true, false, cond, List, [], ◌∷◌, ◌++◌, map, Some, None, refl, sym, ap, subst}
 use Rattle.std.specs.Prelude.{◌==◌}
-use Rattle.std.proofs.lemmas.Bool.{eq-eqb, eqb-true, false≢true, true≢false}
+use Rattle.std.proofs.lemmas.Bool.{eq-eqb, eqb-true, true≢false}
 use Rattle.std.proofs.lemmas.List.{append_assoc}
 use Rattle.ffa_model.specs.declared.operation.Op.{Op}
 use Rattle.ffa_model.specs.declared.operation.Op.TheVariants.{Call, Load, Store, Fetch}
@@ -11,9 +11,11 @@ use Rattle.ffa_model.specs.declared.call.Call.TheVariants.{Version, Features, Rx
 use Rattle.ffa_model.specs.State.{State, is_known}
 use Rattle.ffa_model.specs.Calls.{Stepped, first_failure}
 use Rattle.ffa_model.specs.Registers.{served_call}
+use Rattle.ffa_model.specs.declared.rights.Kind.TheVariants.{Share, Lend, Donate}
 use Rattle.ffa_model.specs.declared.schedule.Status.TheVariants.{Yielded}
 use Rattle.ffa_model.specs.Bits.{bits_of, high_half, word_of_halves, low_half}
 use Rattle.ffa_model.specs.Buffers.{new_buffers}
+use Rattle.ffa_model.specs.Transactions.{transfer}
 use Rattle.ffa_model.specs.RunStates.{direct_request, direct_response, finished, given_cycles, requested, run_partition, schedule_of, status_in, switched, yield_now}
 use Rattle.ffa_model.specs.Notifications.{class_of, notifications_of, with_bitmaps, with_pending, without_pending}
 use Rattle.ffa_laws.proofs.Steadies.{steady-notified}
@@ -31,6 +33,11 @@ use Rattle.ffa_laws.proofs.MemoryLaws.{other-fetch, other-load, other-store, own
 use Rattle.ffa_laws.proofs.BufferLaws.{other-buffers, other-release, own-map, own-release, own-unmap, steady-map, steady-unmap, steady-with_rx}
 use Rattle.ffa_laws.proofs.SetupLaws.{other-info, own-info, steady-info}
 use Rattle.ffa_laws.proofs.ScheduleLaws.{other-scheduled, other-wait, own-request, own-response, own-run, own-wait, own-yield, steady-request, steady-response, steady-run, steady-wait, steady-yield}
+use Rattle.ffa_laws.proofs.ReclaimLaws.{other-reclaim, own-reclaim}
+use Rattle.ffa_laws.proofs.ReturnLaws.{other-relinquish, own-relinquish, steady-reclaim, steady-relinquish}
+use Rattle.ffa_laws.proofs.SendLaws.{other-send, own-send, steady-send}
+use Rattle.ffa_laws.proofs.RetrieveLaws.{other-retrieve, own-retrieve}
+use Rattle.ffa_laws.proofs.Taken.{steady-retrieve}
 use Rattle.ffa_laws.proofs.MessageLaws.{other-send2, own-send2, steady-send2}
 
 -- ---- one step, by calls
@@ -48,12 +55,12 @@ own-service s steady Yield lawful = own-yield s
 own-service s steady (Run target) lawful = own-run s target
 own-service s steady (DirectRequest function word flags payload) lawful = own-request s function word flags payload
 own-service s steady (DirectResponse function word flags payload) lawful = own-response s function word flags payload
-own-service s steady (MemDonate total fragment address pages) lawful = absurd (false≢true lawful)
-own-service s steady (MemLend total fragment address pages) lawful = absurd (false≢true lawful)
-own-service s steady (MemShare total fragment address pages) lawful = absurd (false≢true lawful)
-own-service s steady (MemRetrieve total fragment address pages) lawful = absurd (false≢true lawful)
-own-service s steady MemRelinquish lawful = absurd (false≢true lawful)
-own-service s steady (MemReclaim low high flags) lawful = absurd (false≢true lawful)
+own-service s steady (MemDonate total fragment address pages) lawful = own-send s steady Donate (transfer total fragment address pages)
+own-service s steady (MemLend total fragment address pages) lawful = own-send s steady Lend (transfer total fragment address pages)
+own-service s steady (MemShare total fragment address pages) lawful = own-send s steady Share (transfer total fragment address pages)
+own-service s steady (MemRetrieve total fragment address pages) lawful = own-retrieve s steady (transfer total fragment address pages)
+own-service s steady MemRelinquish lawful = own-relinquish s steady
+own-service s steady (MemReclaim low high flags) lawful = own-reclaim s steady low high flags
 own-service s steady (BitmapCreate endpoint contexts) lawful = own-create s steady endpoint contexts
 own-service s steady (BitmapDestroy endpoint) lawful = own-destroy s steady endpoint
 own-service s steady (NotificationBind word flags low high) lawful = own-bind s steady word flags low high
@@ -87,12 +94,12 @@ module _ (e : ℕ) (s : State) (steady : IsSteady s) (known : is_known s e ≡ t
   other-service (Run target) lawful = λ none. other-scheduled e s (given_cycles (schedule_of s) (high_half target) (status_in (schedule_of s) (high_half target))) (run_partition s target)
   other-service (DirectRequest function word flags payload) lawful = λ none. other-scheduled e s (requested (schedule_of s) (low_half word)) (direct_request s function word flags payload)
   other-service (DirectResponse function word flags payload) lawful = λ none. other-scheduled e s (finished (schedule_of s) (low_half word)) (direct_response s function word flags payload)
-  other-service (MemDonate total fragment address pages) lawful = absurd (false≢true lawful)
-  other-service (MemLend total fragment address pages) lawful = absurd (false≢true lawful)
-  other-service (MemShare total fragment address pages) lawful = absurd (false≢true lawful)
-  other-service (MemRetrieve total fragment address pages) lawful = absurd (false≢true lawful)
-  other-service MemRelinquish lawful = absurd (false≢true lawful)
-  other-service (MemReclaim low high flags) lawful = absurd (false≢true lawful)
+  other-service (MemDonate total fragment address pages) lawful = other-send e s steady known other Donate (transfer total fragment address pages)
+  other-service (MemLend total fragment address pages) lawful = other-send e s steady known other Lend (transfer total fragment address pages)
+  other-service (MemShare total fragment address pages) lawful = other-send e s steady known other Share (transfer total fragment address pages)
+  other-service (MemRetrieve total fragment address pages) lawful = other-retrieve e s steady other (transfer total fragment address pages)
+  other-service MemRelinquish lawful = other-relinquish e s steady other
+  other-service (MemReclaim low high flags) lawful = other-reclaim e s steady other low high flags
   other-service (BitmapCreate endpoint contexts) lawful = other-create e s other endpoint contexts
   other-service (BitmapDestroy endpoint) lawful = other-destroy e s other steady endpoint
   other-service (NotificationBind word flags low high) lawful = λ none. other-bind e s other word low high flags
@@ -125,12 +132,12 @@ steady-service s steady Yield lawful none = steady-yield s steady
 steady-service s steady (Run target) lawful none = steady-run s steady target none
 steady-service s steady (DirectRequest function word flags payload) lawful none = steady-request s steady function word flags payload none
 steady-service s steady (DirectResponse function word flags payload) lawful none = steady-response s steady function word flags payload none
-steady-service s steady (MemDonate total fragment address pages) lawful none = absurd (false≢true lawful)
-steady-service s steady (MemLend total fragment address pages) lawful none = absurd (false≢true lawful)
-steady-service s steady (MemShare total fragment address pages) lawful none = absurd (false≢true lawful)
-steady-service s steady (MemRetrieve total fragment address pages) lawful none = absurd (false≢true lawful)
-steady-service s steady MemRelinquish lawful none = absurd (false≢true lawful)
-steady-service s steady (MemReclaim low high flags) lawful none = absurd (false≢true lawful)
+steady-service s steady (MemDonate total fragment address pages) lawful none = steady-send s steady Donate (transfer total fragment address pages) none
+steady-service s steady (MemLend total fragment address pages) lawful none = steady-send s steady Lend (transfer total fragment address pages) none
+steady-service s steady (MemShare total fragment address pages) lawful none = steady-send s steady Share (transfer total fragment address pages) none
+steady-service s steady (MemRetrieve total fragment address pages) lawful none = steady-retrieve s steady (transfer total fragment address pages) none
+steady-service s steady MemRelinquish lawful none = steady-relinquish s steady
+steady-service s steady (MemReclaim low high flags) lawful none = steady-reclaim s steady low high flags
 steady-service s steady (BitmapCreate endpoint contexts) lawful none = steady-notified s steady (with_bitmaps (notifications_of s) 0) steady.bound
 steady-service s steady (BitmapDestroy endpoint) lawful none = steady-destroy s steady
 steady-service s steady (NotificationBind word flags low high) lawful none = steady-bind s steady word low high

@@ -1,5 +1,6 @@
 -- Lists and finite maps that are read by their keys.
 use Rattle.std.proofs.Common.{◌≡◌, ◌∙◌, ℕ, suc, zero, ◌<◌, Bool, true, false, cond, List, [], ◌∷◌, length, map, get_or, set, Option, Some, None, is_some, refl, sym, ap, arith}
+use Rattle.std.specs.Prelude.{◌||◌}
 use Rattle.std.proofs.Math.Path.{fun_ext}
 use Rattle.std.proofs.lemmas.Bool.{cases_Bool}
 use Rattle.std.proofs.lemmas.Bool.Decides.{nat_tests}
@@ -58,6 +59,11 @@ map_at-alike f g (x ∷ xs) (y ∷ ys) d e each same =
 pub map_at-id : {X : Type 0} (f : ℕ → X → X) (xs : List X) (d : X) → ((i : ℕ) → f i (get_or xs i d) ≡ get_or xs i d) → map_at f xs ≡ xs
 map_at-id f [] d same = refl
 map_at-id f (x ∷ xs) d same = λ i. same 0 i ∷ map_at-id (λ j. f (suc j)) xs d (λ j. same (suc j)) i
+
+-- a test of each element that such a function changes in nothing that is tested
+pub any-map_at : {X : Type 0} (test : X → Bool) (f : ℕ → X → X) (xs : List X) (d : X) → ((i : ℕ) → test (f i (get_or xs i d)) ≡ test (get_or xs i d)) → list_any test (map_at f xs) ≡ list_any test xs
+any-map_at test f [] d same = refl
+any-map_at test f (x ∷ xs) d same = λ i. same 0 i || any-map_at test (λ j. f (suc j)) xs d (λ j. same (suc j)) i
 
 pub get_or-map : {X Y : Type 0} (f : Option X → Option Y) (xs : List (Option X)) (i : ℕ) → f None ≡ None → get_or (map f xs) i None ≡ f (get_or xs i None)
 get_or-map f [] i none = sym none

@@ -32,17 +32,17 @@ not-same : (a b : ℕ) → not (a == b) ≡ true → a ≢ b
 not-same a b is same = grind (arith, nat_tests)
 
 module _ (s : State) (steady : IsSteady s) where
-  tx-seen : tx_bytes (view s.runner s) s.runner ≡ tx_bytes s s.runner
+  pub tx-seen : tx_bytes (view s.runner s) s.runner ≡ tx_bytes s s.runner
   tx-seen = ap (λ o. option_map_or (λ (b : Buffers). page_bytes (view s.runner s) b.tx) o []) (own-buffers s.runner s steady.runner) ∙ go (buffers_of s s.runner) refl
     where
       go : (o : Option Buffers) → buffers_of s s.runner ≡ o → option_map_or (λ (b : Buffers). page_bytes (view s.runner s) b.tx) o [] ≡ option_map_or (λ (b : Buffers). page_bytes s b.tx) o []
       go None is = refl
       go (Some b) is = near-bytes s.runner s b.tx (alone-near s s.runner b.tx (steady.buffers s.runner b steady.runner is).tx)
 
-  some-seen : (f : ℕ) → is_some (buffers_in (view s.runner s).buffers f) ≡ is_some (buffers_in s.buffers f)
+  pub some-seen : (f : ℕ) → is_some (buffers_in (view s.runner s).buffers f) ≡ is_some (buffers_in s.buffers f)
   some-seen f = ap is_some (view-buffers s.runner f s) ∙ seen-some s.runner (length s.pages) (place f) (buffers_of s f)
 
-  full-seen : (f : ℕ) → is_full (buffers_in (view s.runner s).buffers f) ≡ is_full (buffers_in s.buffers f)
+  pub full-seen : (f : ℕ) → is_full (buffers_in (view s.runner s).buffers f) ≡ is_full (buffers_in s.buffers f)
   full-seen f = ap is_full (view-buffers s.runner f s) ∙ seen-full s.runner (length s.pages) (place f) (buffers_of s f)
 
   -- that buffers are there, and full, is all that the checks ask of them

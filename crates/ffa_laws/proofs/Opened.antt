@@ -96,6 +96,16 @@ module _ (s : State) (steady : IsSteady s) (h : ℕ) (t : Transaction) (fresh : 
                 | inr other ↦ other
               ]
 
+  -- a page beside the new transaction's is named as little as before
+  pub unnamed-opened : (p : ℕ) → names s t.ranges p ≡ false → handle_at s p ≡ None → handle_at (opened s h t) p ≡ None
+  unnamed-opened p away none =
+      first_no (is_naming s p) (opened s h t).transactions (λ k.
+      naming-opened p k ∙ (λ i. cond (k == h) (away i) (first_none (is_naming s p) s.transactions refl none k i)) ∙ same-either (k == h))
+    where
+      same-either : (b : Bool) → cond b false false ≡ false
+      same-either true = refl
+      same-either false = refl
+
   -- which pages come near
   pub near-opened : (e p : ℕ) → is_near e (opened s h t) p ≡ (owner_of s p == e || cond (names s t.ranges p) (involves e (Some t)) (involves e (transaction_at s p)))
   near-opened e p =

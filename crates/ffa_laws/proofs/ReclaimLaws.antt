@@ -28,7 +28,7 @@ use Rattle.ffa_laws.proofs.Closed.{closed, closed-untold, near-closed, other-clo
 use Rattle.ffa_laws.proofs.Ceilings.{writable-seen}
 
 -- the sender sees its transaction whole
-seen-whole : (e : ℕ) (t : Transaction) → (t.sender == e) ≡ true → shown e (Some t) ≡ Some t
+pub seen-whole : (e : ℕ) (t : Transaction) → (t.sender == e) ≡ true → shown e (Some t) ≡ Some t
 seen-whole e t mine =
     ap (λ b. option_map (seen_by e) (kept (b || is_receiver e t) (Some t))) mine
     ∙ (λ i. Some (record t { held = cond (mine i) t.held (finite.retain_keys t.held (λ f. f == e)) }))
@@ -38,12 +38,12 @@ from-seen e t other =
     ap (λ b. is_from e (option_map (seen_by e) (kept (b || is_receiver e t) (Some t)))) other
     ∙ elim (is_receiver e t) as (λ b. is_from e (option_map (seen_by e) (kept b (Some t))) ≡ false) [ true ↦ other | false ↦ refl ]
 
-second-fails : (a b : Bool) (guards : List (Bool × ErrorCode)) → b ≡ false → first_failure ((a, InvalidParameters) ∷ (b, InvalidParameters) ∷ guards) ≡ Some InvalidParameters
+pub second-fails : (a b : Bool) (guards : List (Bool × ErrorCode)) → b ≡ false → first_failure ((a, InvalidParameters) ∷ (b, InvalidParameters) ∷ guards) ≡ Some InvalidParameters
 second-fails true false guards is = refl
 second-fails false b guards is = refl
 second-fails true true guards is = absurd (false≢true (sym is))
 
-zeroed_if-seen : (e : ℕ) (s : State) (asked : Bool) (ranges : List Range) → zeroed_if asked (view e s) ranges ≡ view e (zeroed_if asked s ranges)
+pub zeroed_if-seen : (e : ℕ) (s : State) (asked : Bool) (ranges : List Range) → zeroed_if asked (view e s) ranges ≡ view e (zeroed_if asked s ranges)
 zeroed_if-seen e s true ranges = sym (view-zeroed e s ranges)
 zeroed_if-seen e s false ranges = refl
 
@@ -89,7 +89,7 @@ own-reclaim s steady low high flags = (
 
 -- ---- to another endpoint
 -- pages that aren't near are no page of the view, and zeros change none
-zeroed-far : (e : ℕ) (s : State) (asked : Bool) (ranges : List Range) → ((p : ℕ) → names s ranges p ≡ true → is_near e s p ≡ false) → zeroed_if asked (view e s) ranges ≡ view e s
+pub zeroed-far : (e : ℕ) (s : State) (asked : Bool) (ranges : List Range) → ((p : ℕ) → names s ranges p ≡ true → is_near e s p ≡ false) → zeroed_if asked (view e s) ranges ≡ view e s
 zeroed-far e s false ranges far = refl
 zeroed-far e s true ranges far =
     λ i. record (view e s) { pages = map_at-id (λ p page. cond (names s ranges p) (zeroed_page page) page) (view e s).pages None (λ p. at p (names s ranges p) refl) i }

@@ -2,12 +2,12 @@
 use Rattle.std.proofs.Common.{◌≡◌, ℕ, true, false, cond, length, None, sym}
 use Rattle.byteorder.specs.Endian.{little_bytes}
 use Rattle.std.specs.Prelude.{◌-◌, ◌/◌, ◌%◌}
-use Rattle.std.proofs.lemmas.Bool.{false≢true}
 use Rattle.ffa_model.specs.declared.operation.Op.{Op}
 use Rattle.ffa_model.specs.declared.operation.Op.TheVariants.{Call, Load, Store, Fetch}
 use Rattle.ffa_model.specs.declared.operation.ErrorCode.TheVariants.{InvalidParameters}
 use Rattle.ffa_model.specs.declared.operation.Outcome.TheVariants.{Data, Done}
 use Rattle.ffa_model.specs.declared.operation.Size.{Size}
+use Rattle.ffa_model.specs.declared.rights.Kind.TheVariants.{Share, Lend, Donate}
 use Rattle.ffa_model.specs.declared.schedule.Status.TheVariants.{Yielded}
 use Rattle.ffa_model.specs.declared.call.Call as calls
 use Rattle.ffa_model.specs.declared.call.Call.TheVariants.{Version, Features, RxRelease, RxtxMap, RxtxUnmap, PartitionInfoGet, IdGet, MsgWait, Yield, Run, DirectRequest, DirectResponse, MemDonate, MemLend, MemShare, MemRetrieve, MemRelinquish, MemReclaim, BitmapCreate, BitmapDestroy, NotificationBind, NotificationUnbind, NotificationSet, NotificationGet, SpmIdGet, MsgSend2, Unknown}
@@ -22,6 +22,7 @@ use Rattle.ffa_model.specs.RunStates.{Schedule, finished, given_cycles, requeste
 use Rattle.ffa_model.specs.Messages.{header_in, message_in, msg_send2, send2_guards, tx_bytes}
 use Rattle.ffa_model.specs.SoundState.{IsSoundState}
 use Rattle.ffa_model.specs.Step.{service, step}
+use Rattle.ffa_model.specs.Transactions.{transfer}
 use Rattle.ffa_laws.specs.Isolation.{is_lawful_call}
 use Rattle.ffa_model.proofs.Guards.{guard-passes}
 use Rattle.ffa_laws.proofs.Form.{accessed-kept, served-kept}
@@ -30,6 +31,9 @@ use Rattle.ffa_laws.proofs.SoundBuffers.{filled-state-sound, map-sound, rx-sound
 use Rattle.ffa_laws.proofs.SoundKept.{pages-sound, schedule-sound}
 use Rattle.ffa_laws.proofs.SoundNotifications.{bind-sound, create-sound, destroy-sound, framework-sound, get-sound, set-sound, unbind-sound}
 use Rattle.ffa_laws.proofs.SoundPages.{informed-sound, sent-sound, stored-sound}
+use Rattle.ffa_laws.proofs.SoundRetrieves.{retrieve-sound}
+use Rattle.ffa_laws.proofs.SoundReturns.{reclaim-sound, relinquish-sound}
+use Rattle.ffa_laws.proofs.SoundSends.{send-sound}
 use Rattle.ffa_laws.proofs.SoundSteady.{sound-steady}
 use Rattle.ffa_laws.proofs.SoundSteps.{AreSound, IsScheduled, sound-service}
 use Rattle.ffa_laws.proofs.Written.{rewritten-written}
@@ -71,12 +75,12 @@ module _ (s : State) (sound : IsSoundState s) where
       run-states (requested (schedule_of s) (low_half word)) (sound-service s scheduled (DirectRequest function word flags payload) lawful none)
   service-sound (DirectResponse function word flags payload) lawful none =
       run-states (finished (schedule_of s) (low_half word)) (sound-service s scheduled (DirectResponse function word flags payload) lawful none)
-  service-sound (MemDonate total fragment address pages) lawful none = absurd (false≢true lawful)
-  service-sound (MemLend total fragment address pages) lawful none = absurd (false≢true lawful)
-  service-sound (MemShare total fragment address pages) lawful none = absurd (false≢true lawful)
-  service-sound (MemRetrieve total fragment address pages) lawful none = absurd (false≢true lawful)
-  service-sound MemRelinquish lawful none = absurd (false≢true lawful)
-  service-sound (MemReclaim low high flags) lawful none = absurd (false≢true lawful)
+  service-sound (MemDonate total fragment address pages) lawful none = send-sound s sound Donate (transfer total fragment address pages) none
+  service-sound (MemLend total fragment address pages) lawful none = send-sound s sound Lend (transfer total fragment address pages) none
+  service-sound (MemShare total fragment address pages) lawful none = send-sound s sound Share (transfer total fragment address pages) none
+  service-sound (MemRetrieve total fragment address pages) lawful none = retrieve-sound s sound (transfer total fragment address pages) none
+  service-sound MemRelinquish lawful none = relinquish-sound s sound
+  service-sound (MemReclaim low high flags) lawful none = reclaim-sound s sound low high flags none
   service-sound (BitmapCreate endpoint contexts) lawful none = create-sound s sound
   service-sound (BitmapDestroy endpoint) lawful none = destroy-sound s sound endpoint none
   service-sound (NotificationBind word flags low high) lawful none = bind-sound s sound word flags low high none

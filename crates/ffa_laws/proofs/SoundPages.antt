@@ -82,7 +82,7 @@ module _ (s : State) (sound : IsSoundState s) where
       of None at = refl
       of (Some page) at = (sound.pages p page at).bytes
 
-  tx-are-bytes : (e : ℕ) → are_bytes (tx_bytes s e)
+  pub tx-are-bytes : (e : ℕ) → are_bytes (tx_bytes s e)
   tx-are-bytes e = elim (buffers_of s e) as (λ o. are_bytes (option_map_or (λ (b : Buffers). page_bytes s b.tx) o [])) [ None ↦ refl | Some b ↦ page-are-bytes b.tx ]
 
   pub sent-sound : (b : Option Buffers) → first_failure (send2_guards s.parties s.buffers s.runner (header_in (tx_bytes s s.runner))) ≡ None

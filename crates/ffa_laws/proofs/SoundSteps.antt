@@ -1,6 +1,9 @@
 -- Each lawful call keeps run states sound.
-use Rattle.std.proofs.Common.{◌≡◌, ◌∙◌, ℕ, ◌≤◌, true, false, cond, length, Some, None, refl, sym, ap, subst, arith, length-set}
-use Rattle.std.proofs.lemmas.Bool.{false≢true}
+use Rattle.std.proofs.Common.{◌≡◌, ◌∙◌, ℕ, ◌≤◌, true, false, cond, length, Option, Some, None, refl, sym, ap, subst, arith, length-set}
+use Rattle.ffa_model.specs.declared.descriptor.RelinquishDesc.{RelinquishDesc}
+use Rattle.ffa_model.specs.declared.descriptor.RetrieveDesc.{RetrieveDesc}
+use Rattle.ffa_model.specs.declared.rights.Kind.{Kind}
+use Rattle.ffa_model.specs.declared.rights.Kind.TheVariants.{Share, Lend, Donate}
 use Rattle.ffa_model.specs.declared.schedule.Status.{Status}
 use Rattle.ffa_model.specs.declared.schedule.Status.TheVariants.{Running, Waiting, Yielded, Blocked}
 use Rattle.ffa_model.specs.declared.schedule.Work.TheVariants.{Run as WorkRun, Request}
@@ -8,7 +11,11 @@ use Rattle.ffa_model.specs.declared.call.Call as calls
 use Rattle.ffa_model.specs.declared.call.Call.TheVariants.{Version, Features, RxRelease, RxtxMap, RxtxUnmap, PartitionInfoGet, IdGet, MsgWait, Yield, Run, DirectRequest, DirectResponse, MemDonate, MemLend, MemShare, MemRetrieve, MemRelinquish, MemReclaim, BitmapCreate, BitmapDestroy, NotificationBind, NotificationUnbind, NotificationSet, NotificationGet, SpmIdGet, MsgSend2, Unknown}
 use Rattle.ffa_model.specs.Bits.{high_half, low_half}
 use Rattle.ffa_model.specs.Identifiers.{place}
-use Rattle.ffa_model.specs.State.{State}
+use Rattle.ffa_model.specs.State.{State, transaction_of}
+use Rattle.ffa_model.specs.MemorySend.{memory_sent, send_read}
+use Rattle.ffa_model.specs.SendDescriptor.{SendRecord}
+use Rattle.ffa_model.specs.MemoryRetrieve.{retrieve_read, retrieved, retrieved_from}
+use Rattle.ffa_model.specs.MemoryReturn.{relinquish_read, relinquished, relinquished_from}
 use Rattle.ffa_model.specs.Calls.{first_failure}
 use Rattle.ffa_model.specs.Buffers.{filled}
 use Rattle.ffa_model.specs.Setup.{info_bytes, is_count_alone, uuid_bytes}
@@ -59,6 +66,18 @@ module _ (s : State) (is : IsScheduled s) where
   finished-works : (e : ℕ) → length (finished c e).works ≡ n
   finished-works e = length-set s.works (place s.runner) None ∙ is.works
 
+  sent-old : (kind : Kind) (r : Option SendRecord) → P (memory_sent s kind r)
+  sent-old kind None = old
+  sent-old kind (Some r) = old
+
+  retrieved-old : (d : Option RetrieveDesc) → P (retrieved s d)
+  retrieved-old None = old
+  retrieved-old (Some d) = elim (transaction_of s d.handle) as (λ o. P (retrieved_from s d o)) [ None ↦ old | Some t ↦ old ]
+
+  relinquished-old : (d : Option RelinquishDesc) → P (relinquished s d)
+  relinquished-old None = old
+  relinquished-old (Some d) = elim (transaction_of s d.handle) as (λ o. P (relinquished_from s d o)) [ None ↦ old | Some t ↦ old ]
+
   pub sound-service : (call : calls.Call) → is_lawful_call call ≡ true → first_failure (service s call).guards ≡ None → P (service s call).state
   sound-service (Version version) lawful none = old
   sound-service (Features function) lawful none = old
@@ -76,12 +95,12 @@ module _ (s : State) (is : IsScheduled s) where
   sound-service (DirectResponse function word flags payload) lawful none =
       (let (by, asked, low) = answerer s is.steady word flags none in
       subst (λ e. AreSound n (finished c e)) (sym low) (record { sound = sound-response c is.schedule some few by asked; works = finished-works by }))
-  sound-service (MemDonate total fragment address pages) lawful none = absurd (false≢true lawful)
-  sound-service (MemLend total fragment address pages) lawful none = absurd (false≢true lawful)
-  sound-service (MemShare total fragment address pages) lawful none = absurd (false≢true lawful)
-  sound-service (MemRetrieve total fragment address pages) lawful none = absurd (false≢true lawful)
-  sound-service MemRelinquish lawful none = absurd (false≢true lawful)
-  sound-service (MemReclaim low high flags) lawful none = absurd (false≢true lawful)
+  sound-service (MemDonate total fragment address pages) lawful none = sent-old Donate (send_read s Donate total)
+  sound-service (MemLend total fragment address pages) lawful none = sent-old Lend (send_read s Lend total)
+  sound-service (MemShare total fragment address pages) lawful none = sent-old Share (send_read s Share total)
+  sound-service (MemRetrieve total fragment address pages) lawful none = retrieved-old (retrieve_read s total)
+  sound-service MemRelinquish lawful none = relinquished-old (relinquish_read s)
+  sound-service (MemReclaim low high flags) lawful none = old
   sound-service (BitmapCreate endpoint contexts) lawful none = old
   sound-service (BitmapDestroy endpoint) lawful none = old
   sound-service (NotificationBind word flags low high) lawful none = old

@@ -1,13 +1,16 @@
 -- What keeps a state steady.
-use Rattle.std.proofs.Common.{◌≡◌, ◌≢◌, ◌∙◌, ℕ, Bool, true, false, cond, List, length, get_or, Option, Some, None, is_some, refl, sym, ap, subst, arith}
+use Rattle.std.proofs.Common.{◌≡◌, ◌≢◌, ◌∙◌, ℕ, ◌≤◌, Bool, true, false, cond, List, [], ◌∷◌, length, get_or, Option, Some, None, is_some, refl, sym, ap, subst, inl, inr, arith}
 use Rattle.std.specs.Prelude.{◌==◌}
+use Rattle.std.specs.List.{list_any}
 use Rattle.std.specs.Option.{option_map, option_map_or}
+use Rattle.ffa_model.specs.declared.transaction.Receiver.{Receiver}
 use Rattle.ffa_model.specs.Rights.{is_within}
 use Rattle.ffa_model.specs.Transactions.{Bases, bases_of, ceiling}
 use Rattle.ffa_model.specs.Identifiers.{place}
 use Rattle.ffa_model.specs.State.{State, Page, Buffers, page_at, owner_of, is_known_among, is_known, transaction_of}
 use Rattle.ffa_model.specs.Access.{handle_at, transaction_at}
-use Rattle.ffa_model.specs.Buffers.{is_usable, candidate_at, buffers_with_rx}
+use Rattle.ffa_model.specs.Buffers.{Candidate, is_usable, candidate_at, buffers_with_rx}
+use Rattle.ffa_model.specs.MemorySend.{is_own}
 use Rattle.ffa_model.specs.RunStates.{Schedule, requester}
 use Rattle.ffa_model.specs.Notifications.{Notifications, with_notifications}
 use Rattle.ffa_laws.specs.Steady.{AreSteadyBuffers, IsAlone, IsSteady, IsSteadyBinding}
@@ -15,26 +18,44 @@ use Rattle.std.specs.FinSet as finite_set
 use Rattle.ffa_laws.specs.View.{is_near, involves}
 use Rattle.std.specs.Prelude.{◌||◌, not}
 use Rattle.std.specs.Option.{option_and_then}
-use Rattle.std.proofs.lemmas.Bool.{false≢true, eqb-true, and_parts}
+use Rattle.std.proofs.lemmas.Bool.{false≢true, eqb-true, and_parts, or_cases}
 use Rattle.std.proofs.lemmas.Bool.Decides.{nat_tests}
 use Rattle.ffa_laws.proofs.Changes.{AreRewritten, with_parts, same_base, same_owner}
 use Rattle.ffa_laws.proofs.Written.{at-changed, is_at, with_rx_full}
 
--- a page that may be a buffer of e is e's, and no transaction names it
-pub usable : (s : State) (e p : ℕ) → is_usable e (candidate_at s p) ≡ true → IsAlone s e p
-usable s e p is = go (page_at s p) refl is
+-- a page that e owns, and that no transaction names, is there, and e's alone
+pub own-alone : (s : State) (e p : ℕ) → is_own e (candidate_at s p) ≡ true → (page : Page) × (page_at s p ≡ Some page) × IsAlone s e p
+own-alone s e p is = of (page_at s p) refl is
   where
-    no_handle : (o : Option ℕ) → not (is_some o) ≡ true → o ≡ None
-    no_handle None n = refl
-    no_handle (Some h) n = absurd (false≢true n)
+    none : (o : Option ℕ) → not (is_some o) ≡ true → o ≡ None
+    none None h = refl
+    none (Some h) n = absurd (false≢true n)
 
-    go : (page : Option Page) → page_at s p ≡ page
-        → is_usable e (option_map (λ (q : Page). record { owner = q.owner; base = q.base; named = is_some (handle_at s p) }) page) ≡ true → IsAlone s e p
-    go None at is = absurd (false≢true is)
-    go (Some q) at is =
-        let (both, writable) = and_parts _ _ is in
-        let (mine, free) = and_parts _ _ both in
-        record { owner = ap (λ o. option_map_or (λ (x : Page). x.owner) o 0x8000) at ∙ eqb-true q.owner e mine; unnamed = no_handle (handle_at s p) free }
+    of : (o : Option Page) → page_at s p ≡ o
+        → is_own e (option_map (λ (page : Page). let c : Candidate = record { owner = page.owner; base = page.base; named = is_some (handle_at s p) } in c) o) ≡ true
+        → (page : Page) × (page_at s p ≡ Some page) × IsAlone s e p
+    of None at is = absurd (false≢true is)
+    of (Some page) at is =
+        let (mine, free) = and_parts (page.owner == e) _ is in
+        (page, at, record { owner = ap (λ o. option_map_or (λ (q : Page). q.owner) o 0x8000) at ∙ eqb-true page.owner e mine; unnamed = none (handle_at s p) free })
+
+-- so is one that may be a buffer of e
+pub usable : (s : State) (e p : ℕ) → is_usable e (candidate_at s p) ≡ true → IsAlone s e p
+usable s e p is = (own-alone s e p (of (candidate_at s p) is)).2
+  where
+    of : (c : Option Candidate) → is_usable e c ≡ true → is_own e c ≡ true
+    of None is = is
+    of (Some page) is = (and_parts (is_own e (Some page)) _ is).0
+
+-- two receivers are at least two
+pub two-receivers : (receivers : List Receiver) (e f : ℕ) → e ≢ f → list_any (λ (r : Receiver). r.endpoint.0 == e) receivers ≡ true
+    → list_any (λ (r : Receiver). r.endpoint.0 == f) receivers ≡ true → 2 ≤ length receivers
+two-receivers [] e f differ one other = absurd (false≢true one)
+two-receivers (r ∷ []) e f differ one other = absurd (differ (sym (alone e one) ∙ alone f other))
+  where
+    alone : (g : ℕ) → (r.endpoint.0 == g || false) ≡ true → r.endpoint.0 ≡ g
+    alone g is = elim (or_cases _ _ is) [ inl same ↦ eqb-true r.endpoint.0 g same | inr none ↦ absurd (false≢true none) ]
+two-receivers (r ∷ q ∷ receivers) e f differ one other = omega arith
 
 -- such a page is near to its owner alone
 pub alone-near : (s : State) (e p : ℕ) → IsAlone s e p → is_near e s p ≡ true

@@ -56,7 +56,7 @@ pub place-identifier : (p : ℕ) → place (identifier p) ≡ p
 place-identifier zero = refl
 place-identifier (suc p) = omega arith
 
-identifier-known : (n p : ℕ) → p < n → is_known_among n (identifier p) ≡ true
+pub identifier-known : (n p : ℕ) → p < n → is_known_among n (identifier p) ≡ true
 identifier-known n zero lt = refl
 identifier-known n (suc p) lt = grind (arith, nat_tests)
 

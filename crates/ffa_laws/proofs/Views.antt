@@ -105,7 +105,7 @@ right_by-seen : (e : ℕ) (page : Page) (t : Transaction) (held : Option Rights)
 right_by-seen e page t None = refl
 right_by-seen e page t (Some right) = refl
 
-or_true : (b : Bool) → (b || true) ≡ true
+pub or_true : (b : Bool) → (b || true) ≡ true
 or_true true = refl
 or_true false = refl
 

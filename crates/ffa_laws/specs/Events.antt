@@ -175,14 +175,14 @@ abbrev pub takes : ℕ → State → Option RetrieveDesc → List Event
 takes e s None = []
 takes e s (Some d) = takes_from e s d (transaction_of s d.handle)
 
--- the runner gives up what e sent, and zeroes what e sent or is memory_sent
+-- the runner gives up what e sent, and zeroes what e sent or is offered
 abbrev pub releases : ℕ → State → Option RelinquishDesc → List Event
 releases e s None = []
 releases e s (Some d) =
     where_true (is_from e (transaction_of s d.handle)) (Held d.handle s.runner None ∷ [])
     ++ where_true (d.zero && involves e (transaction_of s d.handle)) (Zeroed d.handle ∷ [])
 
--- the runner ends what e was memory_sent
+-- the runner ends what e was offered
 abbrev pub closes : ℕ → State → ℕ → List Event
 closes e s h = where_true (is_offered e (transaction_of s h)) (Closed h ∷ [])
 

@@ -20,7 +20,7 @@ use Rattle.ffa_laws.specs.Steady.{IsSteady, is_joint}
 use Rattle.ffa_laws.specs.View.{view}
 use Rattle.ffa_laws.specs.Events.{apply_all, call_events, events, items, seen}
 
--- THE CALLS whose laws are proved, served yet or not: all but those on memory transactions
+-- THE CALLS whose laws are proved, served yet or not
 abbrev pub is_lawful_call : calls.Call → Bool
 is_lawful_call (Version version) = true
 is_lawful_call (Features function) = true
@@ -35,12 +35,12 @@ is_lawful_call Yield = true
 is_lawful_call (Run target) = true
 is_lawful_call (DirectRequest function word flags payload) = true
 is_lawful_call (DirectResponse function word flags payload) = true
-is_lawful_call (MemDonate total fragment address pages) = false
-is_lawful_call (MemLend total fragment address pages) = false
-is_lawful_call (MemShare total fragment address pages) = false
-is_lawful_call (MemRetrieve total fragment address pages) = false
-is_lawful_call MemRelinquish = false
-is_lawful_call (MemReclaim low high flags) = false
+is_lawful_call (MemDonate total fragment address pages) = true
+is_lawful_call (MemLend total fragment address pages) = true
+is_lawful_call (MemShare total fragment address pages) = true
+is_lawful_call (MemRetrieve total fragment address pages) = true
+is_lawful_call MemRelinquish = true
+is_lawful_call (MemReclaim low high flags) = true
 is_lawful_call (BitmapCreate endpoint contexts) = true
 is_lawful_call (BitmapDestroy endpoint) = true
 is_lawful_call (NotificationBind word flags low high) = true

@@ -89,7 +89,7 @@ sendable-unnamed s e p ranges all lt named =
     of (Some page) h = none (handle_at s p) (and_parts _ _ h).1
 
 -- two handles that are equal have one sender and one number
-handle-parts : (e f a b : ℕ) → handle_of e a ≡ handle_of f b → a ≤ 65536 → b ≤ 65536 → (e ≡ f) × (a ≡ b)
+pub handle-parts : (e f a b : ℕ) → handle_of e a ≡ handle_of f b → a ≤ 65536 → b ≤ 65536 → (e ≡ f) × (a ≡ b)
 handle-parts e f a b same few_a few_b = (omega arith, omega arith)
 
 -- the runner is an endpoint

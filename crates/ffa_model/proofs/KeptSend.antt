@@ -23,7 +23,7 @@ use Rattle.ffa_model.proofs.Kept.{same-transaction, same-usable}
 use Rattle.ffa_model.proofs.NamedPages.{listed-each}
 use Rattle.ffa_model.proofs.Places.{known-place}
 
-any-at : (test : Option Buffers → Bool) (list : List (Option Buffers)) (i : ℕ) (b : Buffers) → get_or list i None ≡ Some b → test (Some b) ≡ true → list_any test list ≡ true
+pub any-at : (test : Option Buffers → Bool) (list : List (Option Buffers)) (i : ℕ) (b : Buffers) → get_or list i None ≡ Some b → test (Some b) ≡ true → list_any test list ≡ true
 any-at test [] i b at passes = absurd (none-some b at)
 any-at test (o ∷ list) zero b at passes = ap (λ c. c || list_any test list) (ap test at ∙ passes)
 any-at test (o ∷ list) (suc i) b at passes = of (test o) (any-at test list i b at passes)

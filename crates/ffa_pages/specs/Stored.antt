@@ -1,11 +1,41 @@
 -- What the code stores, as clauses see it.
-use Rattle.std.specs.Prelude.{List, map, Option}
+use Rattle.std.specs.Prelude.{ℕ, true, false, ◌==◌, if◌then◌else◌, List, map, Option, Some, None}
 use Rattle.std.specs.Option.{option_map}
-use Rattle.ffa_pages.specs.declared.table.OwnedPage.{OwnedPage}
+use Rattle.ffa_model.specs.declared.rights.Data.TheVariants.{Ro, Rw}
+use Rattle.ffa_model.specs.declared.rights.Rights.{Rights}
+use Rattle.ffa_model.specs.Identifiers.{manager}
+use Rattle.ffa_pages.specs.declared.table.KeptPage.{KeptPage}
+use Rattle.ffa_pages.specs.declared.table.Standing.{Standing}
+use Rattle.ffa_pages.specs.declared.table.Standing.TheVariants.{Read, ReadExecute, Write, WriteExecute, NamedRead, NamedReadExecute, NamedWrite, NamedWriteExecute}
 use Rattle.ffa_pages.specs.Entry.{Entry}
 
-abbrev pub entry_of : OwnedPage → Entry
-entry_of page = record { owner = page.owner.0; base = page.base; slot = page.slot }
+abbrev pub base_in : Standing → Rights
+base_in Read = record { level = Ro; exec = false }
+base_in ReadExecute = record { level = Ro; exec = true }
+base_in Write = record { level = Rw; exec = false }
+base_in WriteExecute = record { level = Rw; exec = true }
+base_in (NamedRead _) = record { level = Ro; exec = false }
+base_in (NamedReadExecute _) = record { level = Ro; exec = true }
+base_in (NamedWrite _) = record { level = Rw; exec = false }
+base_in (NamedWriteExecute _) = record { level = Rw; exec = true }
 
-abbrev pub entries_of : List (Option OwnedPage) → List (Option Entry)
-entries_of pages = map (option_map entry_of) pages
+abbrev pub slot_in : Standing → Option ℕ
+slot_in Read = None
+slot_in ReadExecute = None
+slot_in Write = None
+slot_in WriteExecute = None
+slot_in (NamedRead slot) = Some slot
+slot_in (NamedReadExecute slot) = Some slot
+slot_in (NamedWrite slot) = Some slot
+slot_in (NamedWriteExecute slot) = Some slot
+
+-- of a page of the manager nothing is kept
+abbrev pub standing_of : KeptPage → Option Standing
+standing_of page = if page.owner.0 == manager then None else Some page.standing
+
+abbrev pub entry_of : KeptPage → Option Entry
+entry_of page =
+    option_map (λ (s : Standing). record { owner = page.owner.0; base = base_in s; slot = slot_in s }) (standing_of page)
+
+abbrev pub entries_of : List KeptPage → List (Option Entry)
+entries_of pages = map entry_of pages

@@ -1,32 +1,110 @@
 //! The owners of pages.
-ghost use Rattle.std.specs.Prelude.{◌≡◌, ◌≢◌, ◌*◌, ◌<◌, ◌≤◌, length};
-ghost use Rattle.std.specs.Option.{option_map};
+ghost use Rattle.std.specs.Prelude.{◌≡◌, ◌≢◌, ◌*◌, ◌<◌, ◌≤◌, [], length};
 ghost use Rattle.ffa_model.specs.Identifiers.{manager};
 ghost use Rattle.ffa_model.specs.Lists.{listed};
 ghost use Rattle.ffa_pages.specs.Entry.{entry_at, owner_at, base_at, slot_at, given, marked, first_entry};
-ghost use Rattle.ffa_pages.specs.Stored.{entry_of};
+ghost use Rattle.ffa_pages.specs.Stored.{base_in, slot_in, standing_of, entry_of, entries_of};
 
 use arrayvec::ArrayVec;
-use ffa_model::{EndpointId, Manifest, PageNo, Rights};
+use ffa_model::{Data, EndpointId, Manifest, PageNo, Rights};
 use std::marker::Model;
+use std::mem::size_of;
 
 /// The most pages that RAM has: 32 blocks of 512.
 const MOST_PAGES: usize = 16384;
 
-// A page that an endpoint owns.
-#[derive(Clone, Copy)]
-struct OwnedPage {
+// The right of a page's owner while the page stands in no open transaction, and the place in the pool of the open
+// transaction that names the page. One enum has both in two bytes: as two fields they take four.
+#[derive(Clone, Copy, Default)]
+enum Standing {
+    #[default]
+    Read,
+    ReadExecute,
+    Write,
+    WriteExecute,
+    NamedRead(u8),
+    NamedReadExecute(u8),
+    NamedWrite(u8),
+    NamedWriteExecute(u8),
+}
+
+impl Standing {
+    fn of(base: Rights, slot: Option<u8>) -> Standing
+        ensures base { base_in result ≡ base }
+        ensures slot { slot_in result ≡ slot }
+    {
+        match (base.level, base.exec, slot) {
+            (Data::Ro, false, None) => Standing::Read,
+            (Data::Ro, true, None) => Standing::ReadExecute,
+            (Data::Rw, false, None) => Standing::Write,
+            (Data::Rw, true, None) => Standing::WriteExecute,
+            (Data::Ro, false, Some(slot)) => Standing::NamedRead(slot),
+            (Data::Ro, true, Some(slot)) => Standing::NamedReadExecute(slot),
+            (Data::Rw, false, Some(slot)) => Standing::NamedWrite(slot),
+            (Data::Rw, true, Some(slot)) => Standing::NamedWriteExecute(slot),
+        }
+    }
+
+    fn base(self) -> Rights
+        ensures { result ≡ base_in self }
+    {
+        let (level, exec) = match self {
+            Standing::Read | Standing::NamedRead(_) => (Data::Ro, false),
+            Standing::ReadExecute | Standing::NamedReadExecute(_) => (Data::Ro, true),
+            Standing::Write | Standing::NamedWrite(_) => (Data::Rw, false),
+            Standing::WriteExecute | Standing::NamedWriteExecute(_) => (Data::Rw, true),
+        };
+        Rights { level, exec }
+    }
+
+    fn slot(self) -> Option<u8>
+        ensures { result ≡ slot_in self }
+    {
+        match self {
+            Standing::NamedRead(slot)
+            | Standing::NamedReadExecute(slot)
+            | Standing::NamedWrite(slot)
+            | Standing::NamedWriteExecute(slot) => Some(slot),
+            Standing::Read | Standing::ReadExecute | Standing::Write | Standing::WriteExecute =>
+                None,
+        }
+    }
+}
+
+// What is kept of a page, in four bytes. Of a page of the manager, which `EndpointId::MANAGER` owns, the standing says
+// nothing.
+#[derive(Clone, Copy, Default)]
+struct KeptPage {
     owner: EndpointId,
-    base: Rights,
-    // The place in the pool of the open transaction that names the page.
-    slot: Option<u8>,
+    standing: Standing,
+}
+
+const _: () = prove!(size_of::<KeptPage>() == 4);
+
+impl KeptPage {
+    // A page of the manager.
+    const MANAGERS: KeptPage = KeptPage {
+        owner: EndpointId::MANAGER,
+        standing: Standing::Read,
+    };
+
+    // The standing of a page that an endpoint owns.
+    fn owned(self) -> Option<Standing>
+        ensures { result ≡ standing_of self }
+    {
+        if self.owner == EndpointId::MANAGER {
+            None
+        } else {
+            Some(self.standing)
+        }
+    }
 }
 
 /// Of each page of RAM its owner, the owner's right to it while it stands in no open transaction, and the place of the
 /// open transaction that names it in the pool of these. It takes no memory beyond itself.
 #[derive(Drop)]
 pub struct PageTable {
-    pages: ArrayVec<Option<OwnedPage>, MOST_PAGES>,
+    pages: ArrayVec<KeptPage, MOST_PAGES>,
 }
 
 impl Model for PageTable {
@@ -46,11 +124,26 @@ impl PageTable {
     pub fn of(manifest: &Manifest) -> PageTable
         ensures { result ≡ listed (512 * manifest.now.ram_blocks) (first_entry manifest.now.ram_base manifest.now.endpoints.items) }
     {
-        let mut pages = ArrayVec::new();
-        for page in 0..512 * manifest.ram_blocks {
-            pages.push(first_owned(manifest, PageNo(page)));
+        let mut table = PageTable::none();
+        table.fill(manifest);
+        table
+    }
+
+    /// The table of no RAM at all.
+    pub fn none() -> PageTable
+        ensures { result ≡ [] }
+    {
+        PageTable {
+            pages: ArrayVec::new(),
         }
-        PageTable { pages }
+    }
+
+    /// Makes the table of no RAM the one that `of` gives, where it stands: a table is large to move.
+    pub fn fill(&mut self, manifest: &Manifest)
+        requires { self.old ≡ [] }
+        ensures { self.new ≡ listed (512 * manifest.now.ram_blocks) (first_entry manifest.now.ram_base manifest.now.endpoints.items) }
+    {
+        push_pages(&mut self.pages, manifest);
     }
 
     /// The number of pages.
@@ -66,8 +159,7 @@ impl PageTable {
         requires { page.0 < length self.now }
         ensures { result.0 ≡ owner_at self.now page.0 }
     {
-        self.owned(page)
-            .map_or(EndpointId::MANAGER, |owned| owned.owner)
+        self.kept(page).owner
     }
 
     /// The owner's right to a page that stands in no open transaction. A page of the manager has none.
@@ -75,7 +167,7 @@ impl PageTable {
         requires { page.0 < length self.now }
         ensures { result ≡ base_at self.now page.0 }
     {
-        self.owned(page).map(|owned| owned.base)
+        self.kept(page).owned().map(|standing| standing.base())
     }
 
     /// The place in the pool of the open transaction that names a page, if one does.
@@ -83,7 +175,7 @@ impl PageTable {
         requires { page.0 < length self.now }
         ensures { result ≡ slot_at self.now page.0 }
     {
-        self.owned(page).and_then(|owned| owned.slot)
+        self.kept(page).owned().and_then(|standing| standing.slot())
     }
 
     /// Gives a page to an endpoint, with this right. A transaction that names the page goes on naming it.
@@ -93,7 +185,8 @@ impl PageTable {
         ensures { self.new ≡ given self.old page.0 owner.0 base }
     {
         let slot = self.slot_of(page);
-        self.pages[page.0 as usize] = Some(OwnedPage { owner, base, slot });
+        let standing = Standing::of(base, slot);
+        self.pages[page.0 as usize] = KeptPage { owner, standing };
     }
 
     /// Says which open transaction names a page that an endpoint owns, by its place in the pool, or that none does. Of a
@@ -102,32 +195,45 @@ impl PageTable {
         requires { page.0 < length self.old }
         ensures { self.new ≡ marked self.old page.0 slot }
     {
-        if let Some(owned) = self.owned(page) {
-            self.pages[page.0 as usize] = Some(OwnedPage { slot, ..owned });
+        let kept = self.kept(page);
+        if let Some(standing) = kept.owned() {
+            let standing = Standing::of(standing.base(), slot);
+            self.pages[page.0 as usize] = KeptPage { standing, ..kept };
         }
     }
 
     // What is kept of a page.
-    fn owned(&self, page: PageNo) -> Option<OwnedPage>
+    fn kept(&self, page: PageNo) -> KeptPage
         requires { page.0 < length self.now }
-        ensures { option_map entry_of result ≡ entry_at self.now page.0 }
+        ensures { entry_of result ≡ entry_at self.now page.0 }
     {
         self.pages[page.0 as usize]
     }
 }
 
+// Appends what is kept of each page from the start, to nothing yet.
+fn push_pages(pages: &mut ArrayVec<KeptPage, MOST_PAGES>, manifest: &Manifest)
+    requires { pages.old.items ≡ [] }
+    ensures { entries_of pages.new.items ≡ listed (512 * manifest.now.ram_blocks) (first_entry manifest.now.ram_base manifest.now.endpoints.items) }
+{
+    for page in 0..512 * manifest.ram_blocks {
+        pages.push(first_kept(manifest, PageNo(page)));
+    }
+}
+
 // What is kept of a page from the start.
-fn first_owned(manifest: &Manifest, page: PageNo) -> Option<OwnedPage>
-    ensures { option_map entry_of result ≡ first_entry manifest.now.ram_base manifest.now.endpoints.items page.0 }
+fn first_kept(manifest: &Manifest, page: PageNo) -> KeptPage
+    ensures { entry_of result ≡ first_entry manifest.now.ram_base manifest.now.endpoints.items page.0 }
 {
     let owner = manifest.owner_of(page);
     if owner == EndpointId::MANAGER {
-        return None;
+        return KeptPage::MANAGERS;
     }
-    let base = manifest.right_to(owner.place(), page)?;
-    Some(OwnedPage {
-        owner,
-        base,
-        slot: None,
-    })
+    match manifest.right_to(owner.place(), page) {
+        Some(base) => KeptPage {
+            owner,
+            standing: Standing::of(base, None),
+        },
+        None => KeptPage::MANAGERS,
+    }
 }

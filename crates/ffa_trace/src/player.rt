@@ -68,6 +68,8 @@ impl<M: PhysMem + Drop> Player<M> {
     }
 }
 
+// Not inlined: the block would lie on the stack while the caller boots the machine.
+#[inline(never)]
 fn play_lines<M: PhysMem + Drop, R: Read, W: Write>(
     machine: &mut Machine<M>,
     alloc: Global,

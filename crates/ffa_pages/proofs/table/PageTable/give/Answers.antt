@@ -1,10 +1,15 @@
 use Rattle.std.proofs.Common.{◌∙◌}
-use Rattle.std.specs.Option.{option_map}
+use Rattle.std.proofs.lemmas.Bool.{ne_eqb}
 use Rattle.ffa_model.proofs.Written.{map-refill-set}
+use Rattle.ffa_model.specs.Identifiers.{manager}
+use Rattle.ffa_pages.specs.declared.table.KeptPage.{KeptPage}
 use Rattle.ffa_pages.specs.Stored.{entry_of}
+use Rattle.ffa_pages.proofs.Kept.{entry_of-owned}
 use Rattle.ffa_pages.proofs.table.PageTable.give.Goals as goal
 
 pub returns : goal.returns
 returns c =
-    map-refill-set (option_map entry_of) c.self.inside.pages.items c.deref_mut.result.now c.args.page.0 _ c.deref_mut.ensures.value
+    let page : KeptPage = record { owner = c.args.owner; standing = c.of-standing.result } in
+    let kept = entry_of-owned page c.args.base c.slot_of-slot.result (ne_eqb c.args.owner.0 manager c.requires.endpoint) c.of-standing.ensures.base c.of-standing.ensures.slot in
+    map-refill-set entry_of c.self.inside.pages.items c.deref_mut.result.now c.args.page.0 page c.deref_mut.ensures.value
     ∙ cc

@@ -1,0 +1,183 @@
+-- A retrieve that nothing refuses: the state before RX is filled, and that a state stays steady.
+use Rattle.std.proofs.Common.{◌≡◌, ◌∙◌, ℕ, Bool, true, false, cond, List, ◌∷◌, length, Option, Some, None, is_some, refl, sym, ap, subst}
+use Rattle.std.specs.Prelude.{◌==◌, nat_le}
+use Rattle.std.specs.FinMap as finite
+use Rattle.std.proofs.lemmas.Bool.{eqb-true, false≢true}
+use Rattle.std.proofs.lemmas.Option.{same_Some}
+use Rattle.ffa_model.specs.declared.descriptor.RetrieveDesc.{RetrieveDesc}
+use Rattle.ffa_model.specs.declared.operation.ErrorCode.{ErrorCode}
+use Rattle.ffa_model.specs.declared.operation.ErrorCode.TheVariants.{InvalidParameters, Denied}
+use Rattle.ffa_model.specs.declared.rights.Kind.{Kind}
+use Rattle.ffa_model.specs.declared.rights.Kind.TheVariants.{Share, Lend, Donate}
+use Rattle.ffa_model.specs.declared.rights.Rights.{Rights}
+use Rattle.ffa_model.specs.Rights.{is_at_most, is_donate, is_within}
+use Rattle.ffa_model.specs.State.{State, Page, Transaction, page_at, transaction_of}
+use Rattle.ffa_model.specs.Access.{handle_at, held_by, is_receiver, names}
+use Rattle.ffa_model.specs.Buffers.{buffers_in, filled, is_full}
+use Rattle.ffa_model.specs.Calls.{first_failure}
+use Rattle.ffa_model.specs.ResponseBytes.{response_bytes}
+use Rattle.ffa_model.specs.Transactions.{Transfer, base_of, bases_of, ceiling, offers_of, scene_of, with_offers}
+use Rattle.ffa_model.specs.MemoryRetrieve.{asking_guards, donated_if, donated_page, holding_guards, memory_retrieve, response_to, retrieve_read, retrieved, retrieved_from, right_for, taken_in}
+use Rattle.ffa_laws.specs.Steady.{IsSteady}
+use Rattle.ffa_model.proofs.Guards.{guard-passes}
+use Rattle.ffa_laws.proofs.BufferLaws.{steady-filled}
+use Rattle.ffa_laws.proofs.Changes.{page_base}
+use Rattle.ffa_laws.proofs.Given.{page-given, page-same, size-given, steady-given, unnamed-away}
+use Rattle.ffa_laws.proofs.Holders.{Holders, get-taken, reheld, steady-reheld}
+use Rattle.ffa_laws.proofs.Within.{within-same, within-through}
+
+-- ---- what a retrieve that nothing refuses has asked for
+pub record IsTaking (s : State) (d : RetrieveDesc) (t : Transaction) : Type 0 where
+  pub there : transaction_of s d.handle ≡ Some t
+  pub receiver : is_receiver s.runner t ≡ true
+  pub within : is_at_most (right_for (bases_of s) t s.runner d) (ceiling (bases_of s) t s.runner) ≡ true
+
+-- what a retrieve reads, and the transaction it is of
+pub record Taken (s : State) (x : Transfer) : Type 0 where
+  pub asked : RetrieveDesc
+  pub of : Transaction
+  pub read : retrieve_read s x.total ≡ Some asked
+  pub is : IsTaking s asked of
+
+-- the first checks, and the others
+abbrev pub checks : State → Transfer → List (Bool × ErrorCode) → List (Bool × ErrorCode)
+checks s x rest =
+    (is_some (buffers_in s.buffers s.runner), InvalidParameters)
+    ∷ (x.total == x.fragment, InvalidParameters)
+    ∷ (nat_le x.total 4096, InvalidParameters)
+    ∷ (x.address == 0, InvalidParameters)
+    ∷ (x.pages == 0, InvalidParameters)
+    ∷ rest
+
+pub taken : (s : State) (x : Transfer) → first_failure (memory_retrieve s x).guards ≡ None → Taken s x
+taken s x none = read (retrieve_read s x.total) refl none
+  where
+    full : Bool
+    full = is_full (buffers_in s.buffers s.runner)
+
+    naming : (d : RetrieveDesc) (o : Option Transaction) → retrieve_read s x.total ≡ Some d → transaction_of s d.handle ≡ o
+        → first_failure (checks s x (holding_guards (bases_of s) full s.runner d o)) ≡ None → Taken s x
+    naming d None is there passed = absurd (false≢true (guard-passes (checks s x (holding_guards (bases_of s) full s.runner d None)) 5 InvalidParameters (sym passed)))
+    naming d (Some t) is there passed =
+        record {
+          asked = d;
+          of = t;
+          read = is;
+          is =
+              record {
+                there = there;
+                receiver = guard-passes (checks s x (holding_guards (bases_of s) full s.runner d (Some t))) 5 InvalidParameters (sym passed);
+                within = guard-passes (checks s x (holding_guards (bases_of s) full s.runner d (Some t))) 10 Denied (sym passed);
+              };
+        }
+
+    read : (o : Option RetrieveDesc) → retrieve_read s x.total ≡ o → first_failure (checks s x (asking_guards (scene_of s) s.runner o)) ≡ None → Taken s x
+    read None is passed = absurd (false≢true (guard-passes (checks s x (asking_guards (scene_of s) s.runner None)) 5 InvalidParameters (sym passed)))
+    read (Some d) is passed = naming d (transaction_of s d.handle) is refl passed
+
+module _ (s : State) (x : Transfer) (its : Taken s x) where
+  abbrev pub t : Transaction
+  t = its.of
+
+  abbrev pub h : ℕ
+  h = its.asked.handle
+
+  abbrev pub right : Rights
+  right = right_for (bases_of s) t s.runner its.asked
+
+  -- who holds it then
+  abbrev pub holders : Holders
+  holders = finite.insert t.held s.runner right
+
+  -- the state before RX is filled, by the kind
+  abbrev pub taken_as : Kind → State
+  taken_as kind = with_offers (donated_if (is_donate kind) s t.ranges s.runner right) (taken_in kind (offers_of s) h t s.runner right)
+
+  abbrev pub before : State
+  before = taken_as t.kind
+
+  abbrev pub response : List ℕ
+  response = response_bytes (response_to h t s.runner right)
+
+  pub state-taken : (memory_retrieve s x).state ≡ filled before s.runner response
+  state-taken = ap (retrieved s) its.read ∙ ap (retrieved_from s its.asked) its.is.there
+
+  module _ (steady : IsSteady s) where
+    pub size-before : length before.pages ≡ length s.pages
+    size-before = of t.kind
+      where
+        of : (kind : Kind) → length (taken_as kind).pages ≡ length s.pages
+        of Share = refl
+        of Lend = refl
+        of Donate = size-given s steady h t its.is.there s.runner right
+
+    -- the right is within each page's base right
+    right-within : (p : ℕ) → names s t.ranges p ≡ true → is_within (Some right) (base_of s p) ≡ true
+    right-within p named =
+        within-through (Some right) (Some (ceiling (bases_of s) t s.runner)) (base_of s p) its.is.within ((steady.transactions h t its.is.there).ceilings p s.runner named)
+
+    -- ---- steadiness
+    each-holder : (P : ℕ → Rights → Type 0) → P s.runner right → ((e : ℕ) (other : Rights) → held_by t e ≡ Some other → P e other)
+        → (e : ℕ) (other : Rights) → finite.get holders e ≡ Some other → P e other
+    each-holder P new old e other is =
+        elim (e == s.runner) as (λ b. (e == s.runner) ≡ b → cond b (Some right) (held_by t e) ≡ Some other → P e other) [
+          | true ↦ λ same holds. subst (λ f. P f other) (sym (eqb-true e s.runner same)) (subst (P s.runner) (same_Some right other holds) new)
+          | false ↦ λ differs holds. old e other holds
+        ] refl (sym (get-taken t.held s.runner right e) ∙ is)
+
+    steady-held : IsSteady (reheld s h t holders)
+    steady-held =
+        let good = steady.transactions h t its.is.there in
+        steady-reheld s steady h t its.is.there holders
+        (each-holder (λ e other. is_receiver e t ≡ true) its.is.receiver good.receiver)
+        (λ p e other named. each-holder (λ f one. is_within (Some one) (base_of s p) ≡ true) (right-within p named) (λ f one. good.within p f one named) e other)
+
+    pub steady-before : IsSteady before
+    steady-before = of t.kind
+      where
+        of : (kind : Kind) → IsSteady (taken_as kind)
+        of Share = steady-held
+        of Lend = steady-held
+        of Donate = steady-given s steady h t its.is.there s.runner right
+
+    -- ---- pages: a base right is no more than before, the manager's pages stay, and so do those in no transaction
+    pub base-before : (p : ℕ) → is_within (base_of before p) (base_of s p) ≡ true
+    base-before p = of t.kind
+      where
+        given-within : (page : Option Page) → page_at s p ≡ page → names s t.ranges p ≡ true → is_within (page_base (donated_page s.runner right page)) (page_base page) ≡ true
+        given-within None at named = refl
+        given-within (Some q) at named = ap (λ page. is_within (Some right) (page_base page)) (sym at) ∙ right-within p named
+
+        of : (kind : Kind) → is_within (base_of (taken_as kind) p) (base_of s p) ≡ true
+        of Share = within-same (base_of s p)
+        of Lend = within-same (base_of s p)
+        of Donate =
+            ap (λ page. is_within (page_base page) (base_of s p)) (page-given s steady h t its.is.there s.runner right p)
+            ∙ elim (names s t.ranges p) as (λ b. names s t.ranges p ≡ b → is_within (page_base (cond b (donated_page s.runner right (page_at s p)) (page_at s p))) (base_of s p) ≡ true) [
+              | true ↦ given-within (page_at s p) refl
+              | false ↦ λ away. within-same (base_of s p)
+            ] refl
+
+    pub manager-before : (p : ℕ) → page_at s p ≡ None → page_at before p ≡ None
+    manager-before p none = of t.kind
+      where
+        of : (kind : Kind) → page_at (taken_as kind) p ≡ None
+        of Share = none
+        of Lend = none
+        of Donate =
+            page-given s steady h t its.is.there s.runner right p
+            ∙ ap (λ page. cond (names s t.ranges p) (donated_page s.runner right page) page) none
+            ∙ elim (names s t.ranges p) as (λ b. cond b (donated_page s.runner right None) None ≡ None) [ true ↦ refl | false ↦ refl ]
+
+    pub unnamed-before : (p : ℕ) → handle_at s p ≡ None → page_at before p ≡ page_at s p
+    unnamed-before p unnamed = of t.kind
+      where
+        of : (kind : Kind) → page_at (taken_as kind) p ≡ page_at s p
+        of Share = refl
+        of Lend = refl
+        of Donate = page-same s steady h t its.is.there s.runner right p (unnamed-away s steady h t its.is.there s.runner right p unnamed)
+
+pub steady-retrieve : (s : State) → IsSteady s → (x : Transfer) → first_failure (memory_retrieve s x).guards ≡ None → IsSteady (memory_retrieve s x).state
+steady-retrieve s steady x none =
+    let its = taken s x none in
+    subst IsSteady (sym (state-taken s x its)) (steady-filled (before s x its) (steady-before s x its steady) s.runner (response s x its))
