@@ -1,11 +1,12 @@
 //! Who has mapped buffers, and which.
-ghost use Rattle.std.specs.Prelude.{◌≡◌, ◌<◌, ◌≤◌, length, replicate, is_some, if◌then◌else◌, true, false, OnOk, OnErr, IfOk, IsSomeAnd};
-ghost use Rattle.std.specs.Option.{option_map};
+ghost use Rattle.std.specs.Prelude.{◌≡◌, ◌==◌, ◌||◌, ◌<◌, ◌≤◌, length, replicate, is_some, if◌then◌else◌, true, false, OnOk, OnErr, IfOk, IsSomeAnd};
+ghost use Rattle.std.specs.Option.{option_map, option_map_or};
 ghost use Rattle.std.specs.Result.{result_err};
 ghost use Rattle.ffa_model.specs.Buffers.{buffers_in, buffers_with, buffers_with_rx, is_full, is_page_address, is_usable, map_guards, new_buffers, page_number, release_guards, unmap_guards};
 ghost use Rattle.ffa_model.specs.Calls.{first_failure};
 ghost use Rattle.ffa_model.specs.Identifiers.{place};
-ghost use Rattle.ffa_model.specs.State.{is_known_among};
+ghost use Rattle.ffa_model.specs.MemorySend.{is_buffer};
+ghost use Rattle.ffa_model.specs.State.{Buffers as Own, is_known_among};
 ghost use Rattle.ffa_rxtx.specs.Parts.{are_two_pages, candidate_in, candidates_in, with_rx_bytes};
 ghost use Rattle.ffa_rxtx.specs.Stored.{buffers_of};
 
@@ -86,6 +87,16 @@ impl Buffers {
         }
     }
 
+    /// Whether somebody has a buffer in a page.
+    pub fn is_buffer(&self, page: PageNo) -> bool
+        ensures { result ≡ is_buffer self.now page.0 }
+    {
+        self.entries
+            .as_slice()
+            .iter()
+            .any(|entry| has_page(*entry, page))
+    }
+
     /// FFA_RXTX_MAP of an endpoint, in the RAM of this table from `ram_base` on: TX and RX are the pages at these
     /// addresses, and RX is empty. `pages` is the size that the caller names for each.
     ///
@@ -162,8 +173,16 @@ impl Buffers {
     {
         if let Some(mapped) = self.of(endpoint) {
             put_front(ram.page_mut(mapped.rx), bytes);
-            self.set_full(endpoint, true);
+            self.mark_full(endpoint);
         }
+    }
+
+    /// Says that RX of an endpoint is full, if the endpoint has buffers, once its bytes have been written where they lie.
+    pub fn mark_full(&mut self, endpoint: EndpointId)
+        requires { is_known_among (length self.old) endpoint.0 ≡ true }
+        ensures { self.new ≡ buffers_with_rx self.old endpoint.0 true }
+    {
+        self.set_full(endpoint, true);
     }
 
     /// Says that RX of an endpoint is empty, if the endpoint has buffers. Its bytes stay.
@@ -220,6 +239,16 @@ impl Buffers {
             rx: rx_page,
             is_full: false,
         })
+    }
+}
+
+// Whether buffers, if there are any, stand in a page.
+fn has_page(buffers: Option<Mapped>, page: PageNo) -> bool
+    ensures { result ≡ option_map_or (λ (x : Own). x.tx == page.0 || x.rx == page.0) (option_map buffers_of buffers) false }
+{
+    match buffers {
+        Some(mapped) => mapped.tx == page || mapped.rx == page,
+        None => false,
     }
 }
 

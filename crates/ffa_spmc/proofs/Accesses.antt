@@ -22,10 +22,11 @@ use Rattle.ffa_model.proofs.Accepted.{accepted}
 use Rattle.ffa_model.specs.declared.operation.Op.TheVariants.{Store}
 use Rattle.ffa_model.specs.SoundState.{IsSoundState}
 use Rattle.ffa_laws.proofs.SoundOperations.{step-sound}
-use Rattle.ffa_spmc.specs.Meaning.{HasTables, IsMachine, Parts, state_of}
+use Rattle.ffa_spmc.specs.Meaning.{IsMachine, Parts, state_of}
 use Rattle.ffa_spmc.specs.Snapshot.{Snapshot}
 use Rattle.ffa_spmc.proofs.Held.{base_is, parties_are, size_is, runner-known, runner-named}
-use Rattle.ffa_spmc.proofs.Machines.{agrees, tables-written}
+use Rattle.ffa_spmc.proofs.Agreements.{agrees}
+use Rattle.ffa_spmc.proofs.Machines.{StillHasTables, tables-written}
 use Rattle.ffa_spmc.proofs.Reaches.{owned-in, number-is, placed, reach-is, reached}
 use Rattle.ffa_spmc.proofs.Stores.{state-written}
 
@@ -89,7 +90,7 @@ module _ (x : Parts) (machine : IsMachine x) where
 
   -- what a store leaves where its access ended so
   after : (address : ℕ) (bytes : List ℕ) (o : Option FaultKind) (n : ℕ) → fault_of (address % n == 0) (access_at s x.kept.chain.runner address) may_store ≡ o
-      → HasTables (with_bytes_reached x.ram bytes (reached o address)) x.manifest
+      → StillHasTables x (with_bytes_reached x.ram bytes (reached o address))
       × (state_of (record x { ram = with_bytes_reached x.ram bytes (reached o address) }) ≡ (accessed o s (memory.stored s address bytes) Done).state)
   after address bytes (Some fault) n is = (machine.tables, refl)
   after address bytes None n is =
@@ -115,9 +116,9 @@ module _ (x : Parts) (machine : IsMachine x) where
       ≡ with_bytes_reached x.ram (little_bytes (size_of size) value) (reached (fault_of (address % size_of size == 0) (access_at s x.kept.chain.runner address) may_store) address)
   stored-reached address size value = ap (with_bytes_reached x.ram (little_bytes (size_of size) value)) (runner-reach address (size_of size) may_store_to may_store (λ r. refl))
 
-  store-tables : (address : ℕ) (size : Size) (value : ℕ) → HasTables (ram_after_store x.ram runner_root address (size_of size) value) x.manifest
+  store-tables : (address : ℕ) (size : Size) (value : ℕ) → StillHasTables x (ram_after_store x.ram runner_root address (size_of size) value)
   store-tables address size value =
-      subst (λ (r : Ram). HasTables r x.manifest) (sym (stored-reached address size value))
+      subst (StillHasTables x) (sym (stored-reached address size value))
       (after address (little_bytes (size_of size) value) (fault_of (address % size_of size == 0) (access_at s x.kept.chain.runner address) may_store) (size_of size) refl).0
 
   pub store-state : (address : ℕ) (size : Size) (value : ℕ) → state_of (record x { ram = ram_after_store x.ram runner_root address (size_of size) value }) ≡ (memory.store s address size value).state
@@ -130,7 +131,9 @@ module _ (x : Parts) (machine : IsMachine x) where
       record {
         laws = machine.laws;
         tables = store-tables address size value;
+        layout = machine.layout;
         owners = machine.owners;
+        offers = machine.offers;
         sound = subst IsSoundState (sym (store-state address size value)) (step-sound s machine.sound (Store address size value));
       }
 

@@ -1,35 +1,42 @@
 -- A machine in its first state.
-use Rattle.std.specs.Prelude.{◌==◌, nat_lt, slice_get, true}
+use Rattle.std.specs.Prelude.{◌==◌, find, nat_lt, slice_get, true}
+use Rattle.std.specs.Option.{option_and_then, option_map}
+use Rattle.std.specs.FinMap as finite
 use Rattle.std.specs.List.{list_all}
-use Rattle.std.proofs.Common.{◌≡◌, ◌∙◌, ℕ, suc, zero, ◌*◌, ◌<◌, ◌≤◌, List, [], ◌∷◌, length, get_or, replicate, Option, Some, None, refl, sym, ap, subst, arith, inl, inr}
-use Rattle.std.proofs.lemmas.Bool.{and_parts, cases_lt, eqb-true}
+use Rattle.std.proofs.Common.{◌≡◌, ◌∙◌, ◌⊎◌, ℕ, suc, zero, ◌*◌, ◌<◌, ◌≤◌, List, [], ◌∷◌, length, get_or, replicate, Option, Some, None, refl, sym, ap, subst, arith, inl, inr}
+use Rattle.std.proofs.lemmas.Bool.{and_parts, cases_lt, eqb-true, false≢true}
 use Rattle.std.proofs.lemmas.List.{get_or-replicate, length-map, length-replicate}
 use Rattle.std.proofs.lemmas.Option.{none-some, same_Some}
 use Rattle.arrayvec.specs.ArrayVec.{array_vec_len}
 use Rattle.ffa_model.specs.declared.endpoint.Endpoint.{Endpoint}
 use Rattle.ffa_model.specs.declared.endpoint.Region.{Region}
+use Rattle.ffa_model.specs.declared.rights.Rights.{Rights}
 use Rattle.ffa_model.specs.declared.manifest.Manifest.{Manifest}
 use Rattle.ffa_model.specs.Lists.{listed}
 use Rattle.ffa_model.specs.Manifest.{table_pages}
 use Rattle.ffa_model.specs.Ram.{Ram, page_of, zero_ram}
-use Rattle.ffa_model.specs.Regions.{regions_at, regions_of_each, right_in as right_among}
+use Rattle.ffa_model.specs.Regions.{has_page, owned_regions, regions_at, regions_of_each, right_in as right_among}
 use Rattle.ffa_model.specs.State.{Page}
 use Rattle.ffa_model.specs.First.{first, page_with_bytes}
 use Rattle.ffa_model.specs.RunStates.{first_schedule}
 use Rattle.ffa_model.proofs.Accepted.{accepted}
-use Rattle.ffa_model.proofs.Listed.{listed-same}
+use Rattle.ffa_model.proofs.Listed.{get_or-listed, get_or-listed_past, length-listed, listed-same}
 use Rattle.ffa_model.proofs.Owners.{owned-behind}
+use Rattle.ffa_model.proofs.Slots.{entries_in}
 use Rattle.ffa_stage2.specs.declared.layout.Layout.{Layout}
 use Rattle.ffa_stage2.specs.declared.layout.Regions.{Regions}
 use Rattle.ffa_stage2.specs.Layout.{regions_in, layout_right}
 use Rattle.ffa_stage2.specs.Tables.{IsBuilt, KeepsRest, TableLaws, table_page}
+use Rattle.ffa_stage2.proofs.Rights.{built-same}
+use Rattle.ffa_pages.specs.Entry.{Entry, entry_at, first_entry, slot_at}
+use Rattle.ffa_memshare.specs.Stored.{map_in, slot_at as pool_slot}
 use Rattle.ffa_spmc.specs.Owners.{first_owners}
 use Rattle.ffa_model.specs.Endpoints.{have_uuids}
 use Rattle.ffa_model.specs.SoundState.{IsSoundState, are_bytes}
 use Rattle.ffa_model.specs.Uuid.{is_uuid}
 use Rattle.ffa_laws.proofs.Firsts.{first-state-sound}
-use Rattle.ffa_spmc.specs.Meaning.{HasTables, IsMachine, Parts, held_page, own_right, state_of}
-use Rattle.ffa_spmc.proofs.Held.{page-at, page-held, parties_are}
+use Rattle.ffa_spmc.specs.Meaning.{AreOffers, AreOwners, HasTables, IsMachine, Parts, access_by_place, held_page, slot_names, state_of}
+use Rattle.ffa_spmc.proofs.Held.{access-first, page-at, page-held, parties_are}
 
 regions-each : (es : List Endpoint) (i : ℕ) → get_or (regions_of_each es) i [] ≡ regions_at es i
 regions-each [] i = refl
@@ -51,15 +58,80 @@ pub zeros-of : (old zeros : Ram) (m : Manifest) → zeros ≡ zero_ram old.base 
     → zeros ≡ zero_ram m.ram_base (512 * m.ram_blocks)
 zeros-of old zeros m cleared base size = cleared ∙ ap (λ (b : ℕ). zero_ram b (length old.pages)) base ∙ ap (zero_ram m.ram_base) size
 
-module _ (zeros : Ram) (x : Parts) (layout : Layout)
+-- nobody owns a page of the tables at first
+unentered : (m : Manifest) (p : ℕ) → p < length m.endpoints.items * table_pages m.ram_blocks → first_entry m.ram_base m.endpoints.items p ≡ None
+unentered m p low = of (find (λ (x : ℕ × Region). has_page m.ram_base p x.1) (owned_regions m.endpoints.items)) (unowned m p [] low)
+  where
+    of : (o : Option (ℕ × Region)) → option_map (λ (x : ℕ × Region). let q : Page = record { owner = x.0; base = x.1.rights; bytes = [] } in q) o ≡ None
+        → option_map (λ (x : ℕ × Region). let e : Entry = record { owner = x.0; base = x.1.rights; slot = None } in e) o ≡ None
+    of None none = refl
+    of (Some x) some = absurd (none-some _ (sym some))
+
+-- no transaction names a page at first
+unnamed : (m : Manifest) (p : ℕ) → slot_at (first_owners m) p ≡ None
+unnamed m p = elim (cases_lt p (512 * m.ram_blocks)) [
+  | inl lt ↦
+      ap (option_and_then (λ (e : Entry). e.slot)) (get_or-listed (512 * m.ram_blocks) (first_entry m.ram_base m.endpoints.items) p None lt)
+      ∙ of (find (λ (x : ℕ × Region). has_page m.ram_base p x.1) (owned_regions m.endpoints.items))
+  | inr past ↦ ap (option_and_then (λ (e : Entry). e.slot)) (get_or-listed_past (512 * m.ram_blocks) (first_entry m.ram_base m.endpoints.items) p None past)
+]
+  where
+    of : (o : Option (ℕ × Region)) → option_and_then (λ (e : Entry). e.slot) (option_map (λ (x : ℕ × Region). let e : Entry = record { owner = x.0; base = x.1.rights; slot = None } in e) o) ≡ None
+    of None = refl
+    of (Some x) = refl
+
+owners-first : (m : Manifest) → AreOwners m (first_owners m)
+owners-first m =
+    record {
+      size = length-listed (512 * m.ram_blocks) (first_entry m.ram_base m.endpoints.items);
+      tables = λ p low. of p low (cases_lt p (512 * m.ram_blocks));
+    }
+  where
+    of : (p : ℕ) → p < table_page m.ram_blocks (length m.endpoints.items) 0 → (p < 512 * m.ram_blocks) ⊎ (512 * m.ram_blocks ≤ p) → entry_at (first_owners m) p ≡ None
+    of p low (inl lt) = get_or-listed (512 * m.ram_blocks) (first_entry m.ram_base m.endpoints.items) p None lt ∙ unentered m p (omega (arith, low))
+    of p low (inr past) = get_or-listed_past (512 * m.ram_blocks) (first_entry m.ram_base m.endpoints.items) p None past
+
+-- nothing is open where all slots are free
+free : (n k : ℕ) → pool_slot (replicate n None) k ≡ None
+free zero k = refl
+free (suc n) zero = refl
+free (suc n) (suc k) = free n k
+
+none-open : (n : ℕ) → map_in (replicate n None) ≡ finite.empty
+none-open n = ap finite.from_entries (of n)
+  where
+    of : (n : ℕ) → entries_in (replicate n None) ≡ []
+    of zero = refl
+    of (suc n) = of n
+
+offers-first : (m : Manifest) (n : ℕ) → AreOffers m (first_owners m) (replicate n None)
+offers-first m n =
+    record {
+      apart = λ i j y z at_i at_j same. absurd (none-some y (sym (free n i) ∙ at_i));
+      offered = λ k h t at. absurd (none-some (h, t) (sym (free n k) ∙ at));
+      marks = λ p k lt. (
+        λ is. absurd (none-some k (sym (unnamed m p) ∙ is)),
+        λ names. absurd (false≢true (sym (ap (slot_names m.ram_base p) (free n k)) ∙ names)),
+      );
+    }
+
+-- the right that an endpoint's regions give it, by its place in the manifest
+abbrev own_right : Manifest → ℕ → ℕ → Option Rights
+own_right m i p = right_among m.ram_base (regions_at m.endpoints.items i) p
+
+module _ (zeros : Ram) (x : Parts)
     (cleared : zeros ≡ zero_ram x.manifest.ram_base (512 * x.manifest.ram_blocks))
-    (base : layout.base ≡ x.manifest.ram_base) (blocks : layout.blocks ≡ x.manifest.ram_blocks) (regions : regions_in layout ≡ regions_of_each x.manifest.endpoints.items)
-    (built : IsBuilt x.ram (array_vec_len layout.regions) layout.blocks (layout_right layout))
-    (rest : KeepsRest zeros x.ram (array_vec_len layout.regions) layout.blocks)
-    (owners : x.kept.pages ≡ first_owners x.manifest) (none : x.kept.buffers ≡ replicate (length x.manifest.endpoints.items) None) (schedule : x.kept.chain ≡ first_schedule (length x.manifest.endpoints.items))
+    (base : x.kept.layout.base ≡ x.manifest.ram_base) (blocks : x.kept.layout.blocks ≡ x.manifest.ram_blocks) (regions : regions_in x.kept.layout ≡ regions_of_each x.manifest.endpoints.items)
+    (built : IsBuilt x.ram (array_vec_len x.kept.layout.regions) x.kept.layout.blocks (layout_right x.kept.layout))
+    (rest : KeepsRest zeros x.ram (array_vec_len x.kept.layout.regions) x.kept.layout.blocks)
+    (owners : x.kept.pages ≡ first_owners x.manifest) (slots : x.kept.pool.slots ≡ replicate (8 * length x.manifest.endpoints.items) None)
+    (sent : x.kept.pool.sent ≡ replicate (length x.manifest.endpoints.items) 0) (none : x.kept.buffers ≡ replicate (length x.manifest.endpoints.items) None) (schedule : x.kept.chain ≡ first_schedule (length x.manifest.endpoints.items))
     (uuids : have_uuids x.manifest.endpoints.items ≡ true) (laws : TableLaws) where
   abbrev es : List Endpoint
   es = x.manifest.endpoints.items
+
+  abbrev layout : Layout
+  layout = x.kept.layout
 
   many : array_vec_len layout.regions ≡ length es
   many =
@@ -72,18 +144,23 @@ module _ (zeros : Ram) (x : Parts) (layout : Layout)
   size-is : length x.ram.pages ≡ 512 * x.manifest.ram_blocks
   size-is = rest.size ∙ ap (λ (r : Ram). length r.pages) cleared ∙ length-replicate (512 * x.manifest.ram_blocks) (replicate 4096 0)
 
-  right-is : (e p : ℕ) → layout_right layout e p ≡ own_right x.manifest.ram_base es e p
+  right-is : (e p : ℕ) → layout_right layout e p ≡ own_right x.manifest e p
   right-is e p =
       ap (λ (b : ℕ). right_among b (get_or (regions_in layout) e []) p) base
       ∙ ap (λ (rs : List Region). right_among x.manifest.ram_base rs p) (ap (λ (rss : List (List Region)). get_or rss e []) regions ∙ regions-each es e)
 
-  built-is : IsBuilt x.ram (length es) x.manifest.ram_blocks (own_right x.manifest.ram_base es)
-  built-is =
-      subst (λ (n : ℕ). IsBuilt x.ram n x.manifest.ram_blocks (own_right x.manifest.ram_base es)) many
-      (subst (λ (b : ℕ). IsBuilt x.ram (array_vec_len layout.regions) b (own_right x.manifest.ram_base es)) blocks
-      (subst (IsBuilt x.ram (array_vec_len layout.regions) layout.blocks) (λ i e p. right-is e p i) built))
+  access-is : (i p : ℕ) → p < 512 * x.manifest.ram_blocks → own_right x.manifest i p ≡ access_by_place (state_of x) i p
+  access-is i p lt = sym (access-first x size-is owners (ap map_in slots ∙ none-open (8 * length es)) i p (omega (arith, lt, size-is)))
 
-  tables-first : HasTables x.ram x.manifest
+  built-is : IsBuilt x.ram (length es) x.manifest.ram_blocks (access_by_place (state_of x))
+  built-is =
+      built-same x.ram (length es) x.manifest.ram_blocks (own_right x.manifest) (access_by_place (state_of x))
+      (subst (λ (n : ℕ). IsBuilt x.ram n x.manifest.ram_blocks (own_right x.manifest)) many
+      (subst (λ (b : ℕ). IsBuilt x.ram (array_vec_len layout.regions) b (own_right x.manifest)) blocks
+      (subst (IsBuilt x.ram (array_vec_len layout.regions) layout.blocks) (λ i e p. right-is e p i) built)))
+      (λ i p known lt. access-is i p lt)
+
+  tables-first : HasTables x.ram x.manifest (access_by_place (state_of x))
   tables-first = record { base = base-is; size = size-is; built = built-is }
 
   -- a page behind the tables is zeros
@@ -114,6 +191,8 @@ module _ (zeros : Ram) (x : Parts) (layout : Layout)
   unfolding first
   state-first = λ i. record (first x.manifest.ram_base x.manifest.ram_blocks es) {
     pages = pages-first i;
+    transactions = (ap map_in slots ∙ none-open (8 * length es)) i;
+    sent = sent i;
     buffers = none i;
     runner = (schedule i).runner;
     statuses = (schedule i).statuses;
@@ -134,7 +213,11 @@ module _ (zeros : Ram) (x : Parts) (layout : Layout)
       record {
         laws = laws;
         tables = tables-first;
-        owners = owners;
+        layout = record { base = base; blocks = blocks; endpoints = many };
+        owners = subst (AreOwners x.manifest) (sym owners) (owners-first x.manifest);
+        offers =
+            subst (λ (list : List (Option Entry)). AreOffers x.manifest list x.kept.pool.slots) (sym owners)
+            (subst (AreOffers x.manifest (first_owners x.manifest)) (sym slots) (offers-first x.manifest (8 * length es)));
         sound = subst IsSoundState (sym state-first) (first-state-sound x.manifest.ram_base x.manifest.ram_blocks es x.manifest.accepted (uuid-at es uuids));
       }
 

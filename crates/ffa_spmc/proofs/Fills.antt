@@ -3,15 +3,17 @@ use Rattle.std.proofs.Common.{◌≡◌, ◌∙◌, ℕ, ◌<◌, true, List, le
 use Rattle.std.specs.Prelude.{IsSomeAnd, is_some}
 use Rattle.std.specs.Option.{option_map}
 use Rattle.std.proofs.lemmas.Bool.{false≢true}
+use Rattle.arrayvec.specs.ArrayVec.{array_vec_len}
 use Rattle.ffa_model.specs.Access.{handle_at}
 use Rattle.ffa_model.specs.Buffers.{Candidate, buffers_in, buffers_with_rx, candidate_at, filled, filled_pages, is_usable}
 use Rattle.ffa_model.specs.First.{first}
 use Rattle.ffa_model.specs.State.{State, Page, Buffers, is_known, is_known_among, page_at}
 use Rattle.ffa_rxtx.specs.Parts.{with_rx_bytes}
+use Rattle.ffa_memshare.specs.Callers.{IsCaller}
 use Rattle.ffa_laws.proofs.SoundSteady.{runner-known}
-use Rattle.ffa_spmc.specs.Meaning.{HasTables, IsMachine, Parts, state_of}
+use Rattle.ffa_spmc.specs.Meaning.{IsMachine, Parts, state_of}
 use Rattle.ffa_spmc.proofs.Held.{each, parties_are, size_is}
-use Rattle.ffa_spmc.proofs.Machines.{tables-written}
+use Rattle.ffa_spmc.proofs.Machines.{StillHasTables, tables-written}
 use Rattle.ffa_spmc.proofs.Reaches.{owned-in}
 use Rattle.ffa_spmc.proofs.Stores.{state-written}
 
@@ -50,6 +52,18 @@ module _ (x : Parts) (machine : IsMachine x) where
   pub known-buffered : (e : ℕ) → is_known s e ≡ true → is_known_among (length x.kept.buffers) e ≡ true
   known-buffered e known = subst (λ (n : ℕ). is_known_among n e ≡ true) (parties_are x ∙ sym (each x machine)) known
 
+  -- what calls with a descriptor in TX ask of their caller
+  pub caller-is : (e : ℕ) → e ≡ x.kept.chain.runner → IsCaller (array_vec_len x.kept.layout.regions) (length x.ram.pages) e x.kept.buffers
+  caller-is e at =
+      subst (λ (n : ℕ). IsCaller n (length x.ram.pages) e x.kept.buffers) (parties_are x ∙ sym machine.layout.endpoints)
+      (record {
+        some = machine.sound.sized.some;
+        few = machine.sound.sized.few;
+        known = runner-there e at;
+        size = machine.sound.sized.buffers;
+        inside = λ b is. let there = buffers-there e (runner-there e at) b is in (there-inside b.tx there.0, there-inside b.rx there.1);
+      })
+
   module _ (f : ℕ) (known : is_known s f ≡ true) where
     pub rx-in-ram : (b : Buffers) → buffers_in x.kept.buffers f ≡ Some b → IsSomeAnd (buffers_in x.kept.buffers f) (λ b. b.rx < length x.ram.pages)
     rx-in-ram b is =
@@ -59,10 +73,10 @@ module _ (x : Parts) (machine : IsMachine x) where
       abbrev pub after_fill : Parts
       after_fill = record x { ram = with_rx_bytes x.ram (buffers_in x.kept.buffers f) bytes; kept = record x.kept { buffers = buffers_with_rx x.kept.buffers f true } }
 
-      pub tables-filled : HasTables after_fill.ram x.manifest
+      pub tables-filled : StillHasTables x after_fill.ram
       tables-filled = of (buffers_in x.kept.buffers f) refl
         where
-          of : (o : Option Buffers) → buffers_in x.kept.buffers f ≡ o → HasTables (with_rx_bytes x.ram o bytes) x.manifest
+          of : (o : Option Buffers) → buffers_in x.kept.buffers f ≡ o → StillHasTables x (with_rx_bytes x.ram o bytes)
           of None is = machine.tables
           of (Some b) is =
               let (page, there) = (buffers-there f known b is).1 in

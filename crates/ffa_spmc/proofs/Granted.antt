@@ -1,11 +1,10 @@
 -- The rights that tables are given by each call on memory are the access of the state after it.
-use Rattle.std.proofs.Common.{◌≡◌, ◌∙◌, ℕ, ◌+◌, ◌*◌, ◌<◌, ◌≤◌, Bool, true, false, cond, zero, suc, List, length, Option, Some, None, refl, sym, ap, subst, arith, inl, inr}
+use Rattle.std.proofs.Common.{◌≡◌, ◌∙◌, ℕ, ◌<◌, Bool, true, false, cond, zero, suc, length, Option, Some, None, refl, sym, ap, subst, arith, inl, inr}
 use Rattle.std.specs.Prelude.{◌==◌, ◌&&◌, if◌then◌else◌, is_some}
 use Rattle.std.specs.List.{list_all}
 use Rattle.std.specs.Option.{option_and_then, option_map, option_map_or}
 use Rattle.std.specs.FinMap as finite
-use Rattle.std.proofs.lemmas.Bool.{and_parts, cases_eq, eq-eqb, eqb-true, ne_eqb, false≢true, true≢false}
-use Rattle.std.proofs.lemmas.Option.{none-some}
+use Rattle.std.proofs.lemmas.Bool.{and_parts, cases_eq, eq-eqb, eqb-true, ne_eqb, false≢true}
 use Rattle.ffa_model.specs.declared.descriptor.RelinquishDesc.{RelinquishDesc}
 use Rattle.ffa_model.specs.declared.rights.Kind.{Kind}
 use Rattle.ffa_model.specs.declared.rights.Kind.TheVariants.{Share, Lend, Donate}
@@ -13,8 +12,8 @@ use Rattle.ffa_model.specs.declared.rights.Rights.{Rights}
 use Rattle.ffa_model.specs.Identifiers.{identifier, manager, place}
 use Rattle.ffa_model.specs.Rights.{is_donate, is_share}
 use Rattle.ffa_model.specs.State.{State, Page, Transaction, is_known_among, owner_of, page_at, transaction_of}
-use Rattle.ffa_model.specs.Access.{access, handle_at, held_by, is_receiver, names, right_by, right_of, transaction_at}
-use Rattle.ffa_model.specs.Buffers.{Candidate, candidate_at, candidates}
+use Rattle.ffa_model.specs.Access.{access, handle_at, held_by, names, right_by, right_of}
+use Rattle.ffa_model.specs.Buffers.{Candidate, candidates}
 use Rattle.ffa_model.specs.SendDescriptor.{SendRecord}
 use Rattle.ffa_model.specs.MemorySend.{is_own, is_sendable, memory_sent}
 use Rattle.ffa_model.specs.MemoryRetrieve.{retrieved_right}
@@ -22,7 +21,7 @@ use Rattle.ffa_model.specs.MemoryReturn.{relinquished_from}
 use Rattle.ffa_model.specs.Transactions.{base_of, bases_of, pages_in}
 use Rattle.ffa_model.specs.SoundState.{IsKnown, IsSoundState}
 use Rattle.ffa_model.proofs.Accesses.{named-in}
-use Rattle.ffa_model.proofs.CallAccesses.{donate-named, donate-other, relinquish-beside, relinquish-named, relinquish-other, retrieve-beside, retrieve-named, retrieve-other, runner-known, send-named, send-other, sendable-unnamed, unheld_right}
+use Rattle.ffa_model.proofs.CallAccesses.{donate-named, donate-other, relinquish-beside, relinquish-named, relinquish-other, retrieve-beside, retrieve-named, retrieve-other, runner-known, send-named, send-other, sendable-unnamed}
 use Rattle.ffa_model.proofs.NamedPages.{listed-each}
 use Rattle.ffa_model.proofs.Places.{known-named}
 

@@ -5,21 +5,23 @@ use Rattle.std.specs.Option.{option_and_then, option_map, option_map_or}
 use Rattle.std.specs.Ordering.{nat_cmp}
 use Rattle.std.specs.FinMap as finite
 use Rattle.std.proofs.lemmas.Bool.{cases_lt}
-use Rattle.std.proofs.lemmas.List.{length-map}
+use Rattle.std.proofs.lemmas.List.{get_or_past, length-map}
+use Rattle.std.proofs.lemmas.Option.{none-some}
 use Rattle.ffa_model.specs.declared.endpoint.Endpoint.{Endpoint}
 use Rattle.ffa_model.specs.declared.endpoint.Region.{Region}
 use Rattle.ffa_model.specs.Identifiers.{identifier, manager, place}
 use Rattle.ffa_model.specs.Ram.{page_of}
-use Rattle.ffa_model.specs.Regions.{has_page, owned_regions, owner_in, right_in, regions_at}
+use Rattle.ffa_model.specs.Regions.{has_page, owned_regions, right_in, regions_at}
 use Rattle.ffa_model.specs.State.{State, Page, Transaction, is_known_among, owner_of, page_at}
 use Rattle.ffa_model.specs.Access.{access, handle_at, is_naming, transaction_at, right_of}
 use Rattle.ffa_model.specs.First.{first, party_of, page_with_bytes}
 use Rattle.ffa_model.specs.Sound.{IsSound}
 use Rattle.ffa_model.proofs.Listed.{length-listed, get_or-listed, get_or-listed_past}
 use Rattle.ffa_model.proofs.Accepted.{accepted}
-use Rattle.ffa_model.proofs.Owners.{right-own, right-unnamed}
+use Rattle.ffa_model.proofs.Owners.{right-own}
 use Rattle.ffa_model.proofs.Places.{known-named, known-place}
-use Rattle.ffa_pages.specs.Entry.{Entry, entry_at, first_entry}
+use Rattle.ffa_pages.specs.Entry.{Entry, entry_at, first_entry, owner_at}
+use Rattle.ffa_stage2.specs.Tables.{table_page}
 use Rattle.ffa_spmc.specs.Owners.{first_owners}
 use Rattle.ffa_spmc.specs.Meaning.{IsMachine, Parts, held_page, state_of}
 
@@ -33,7 +35,7 @@ handle-empty s p none =
     find_none (λ h. is_naming s p (finite.get s.transactions h)) (finite.keys s.transactions)
     (λ h. ap (is_naming s p) (ap (λ (m : finite.FinMap nat_cmp Transaction). finite.get m h) none ∙ finite.get-empty nat_cmp h))
 
-pub transaction-empty : (s : State) (p : ℕ) → s.transactions ≡ finite.empty → transaction_at s p ≡ None
+transaction-empty : (s : State) (p : ℕ) → s.transactions ≡ finite.empty → transaction_at s p ≡ None
 transaction-empty s p none = ap (option_and_then (finite.get s.transactions)) (handle-empty s p none)
 
 -- a page that the first owners say, with these bytes
@@ -53,7 +55,6 @@ module _ (x : Parts) where
   s = state_of x
 
   pub base_is : s.ram_base ≡ x.manifest.ram_base
-  unfolding first
   base_is = refl
 
   pub parties_are : length s.parties ≡ length x.manifest.endpoints.items
@@ -64,10 +65,6 @@ module _ (x : Parts) where
   unfolding first
   parties-listed = refl
 
-  pub none_open : s.transactions ≡ finite.empty
-  unfolding first
-  none_open = refl
-
   pub size_is : length s.pages ≡ length x.ram.pages
   size_is = length-listed (length x.ram.pages) (held_page x.ram x.kept.pages)
 
@@ -77,14 +74,8 @@ module _ (x : Parts) where
   pub page-past : (p : ℕ) → length x.ram.pages ≤ p → page_at s p ≡ None
   page-past p past = get_or-listed_past (length x.ram.pages) (held_page x.ram x.kept.pages) p None past
 
-  pub access-is : (e p : ℕ) → access s e p ≡ right_of e (page_at s p) None
-  access-is e p = ap (right_of e (page_at s p)) (transaction-empty s p none_open)
-
   pub access-past : (e p : ℕ) → length x.ram.pages ≤ p → access s e p ≡ None
-  access-past e p past = access-is e p ∙ ap (λ (page : Option Page). right_of e page None) (page-past p past)
-
-  pub none_named : (p : ℕ) → handle_at s p ≡ None
-  none_named p = handle-empty s p none_open
+  access-past e p past = ap (λ (page : Option Page). right_of e page (transaction_at s p)) (page-past p past)
 
   -- where the owners are the manifest's
   module _ (size : length x.ram.pages ≡ 512 * x.manifest.ram_blocks) (owners : x.kept.pages ≡ first_owners x.manifest) where
@@ -99,13 +90,47 @@ module _ (x : Parts) where
         ∙ ap (option_map (λ (e : Entry). let q : Page = record { owner = e.owner; base = e.base; bytes = page_of x.ram p } in q)) (entry-at p lt)
         ∙ page-first x.manifest.ram_base p x.manifest.endpoints.items (page_of x.ram p)
 
+    -- where besides nothing is open, the access of an endpoint is the right of its own regions
+    pub access-first : s.transactions ≡ finite.empty → (i p : ℕ) → p < length x.ram.pages → access s (identifier i) p ≡ right_in x.manifest.ram_base (regions_at x.manifest.endpoints.items i) p
+    access-first none i p lt =
+        ap (right_of (identifier i) (page_at s p)) (transaction-empty s p none) ∙ ap (λ (page : Option Page). right_of (identifier i) page None) (page-at p lt)
+        ∙ right-own x.manifest.ram_base x.manifest.endpoints.items p i (page_of x.ram p) (accepted x.manifest.ram_base x.manifest.ram_blocks x.manifest.endpoints.items x.manifest.accepted).apart
+
   -- of a machine
   module _ (machine : IsMachine x) where
-    pub entry-in : (p : ℕ) → p < length x.ram.pages → entry_at x.kept.pages p ≡ first_entry x.manifest.ram_base x.manifest.endpoints.items p
-    entry-in p lt = entry-at machine.tables.size machine.owners p lt
+    -- owners are kept of each page of RAM
+    pub owners-size : length x.kept.pages ≡ length x.ram.pages
+    owners-size = machine.owners.size ∙ sym machine.tables.size
 
-    pub page-in : (p : ℕ) → p < length x.ram.pages → page_at s p ≡ page_with_bytes x.manifest.ram_base x.manifest.endpoints.items p (page_of x.ram p)
-    page-in p lt = page-at machine.tables.size machine.owners p lt
+    pub entry-past : (p : ℕ) → length x.ram.pages ≤ p → entry_at x.kept.pages p ≡ None
+    entry-past p past = get_or_past x.kept.pages p None (subst (λ (n : ℕ). n ≤ p) (sym owners-size) past)
+
+    -- as the state has them
+    pub owner-is : (p : ℕ) → owner_of s p ≡ owner_at x.kept.pages p
+    owner-is p = elim (cases_lt p (length x.ram.pages)) [
+      | inl lt ↦ ap (λ (page : Option Page). option_map_or (λ (q : Page). q.owner) page manager) (page-held p lt) ∙ of (entry_at x.kept.pages p)
+      | inr past ↦
+          ap (λ (page : Option Page). option_map_or (λ (q : Page). q.owner) page manager) (page-past p past)
+          ∙ sym (ap (λ (e : Option Entry). option_map_or (λ (f : Entry). f.owner) e manager) (entry-past p past))
+    ]
+      where
+        of : (o : Option Entry)
+            → option_map_or (λ (q : Page). q.owner) (option_map (λ (e : Entry). let q : Page = record { owner = e.owner; base = e.base; bytes = page_of x.ram p } in q) o) manager
+            ≡ option_map_or (λ (e : Entry). e.owner) o manager
+        of None = refl
+        of (Some e) = refl
+
+    -- a page that an endpoint owns is behind the tables
+    pub owned-behind : (p : ℕ) (page : Page) → page_at s p ≡ Some page → table_page x.manifest.ram_blocks (length x.manifest.endpoints.items) 0 ≤ p
+    owned-behind p page there = elim (cases_lt p (table_page x.manifest.ram_blocks (length x.manifest.endpoints.items) 0)) [
+      | inr behind ↦ behind
+      | inl low ↦ elim (cases_lt p (length x.ram.pages)) [
+        | inl lt ↦
+            absurd (none-some page
+            (sym (page-held p lt ∙ ap (option_map (λ (e : Entry). let q : Page = record { owner = e.owner; base = e.base; bytes = page_of x.ram p } in q)) (machine.owners.tables p low)) ∙ there))
+        | inr past ↦ absurd (none-some page (sym (page-past p past) ∙ there))
+      ]
+    ]
 
     -- a list by endpoint has an element for each
     pub each : length x.kept.buffers ≡ length x.manifest.endpoints.items
@@ -131,29 +156,3 @@ module _ (x : Parts) where
 
     pub runner-named : (e : ℕ) → e ≡ x.kept.chain.runner → identifier (place e) ≡ e
     runner-named e at = subst (λ (r : ℕ). identifier (place r) ≡ r) (sym at) (known-named (length x.kept.chain.works) x.kept.chain.runner scheduled.runner)
-
-    -- the access of an endpoint is the right of its own regions
-    pub access-in : (i p : ℕ) → p < length x.ram.pages → access s (identifier i) p ≡ right_in x.manifest.ram_base (regions_at x.manifest.endpoints.items i) p
-    access-in i p lt =
-        access-is (identifier i) p ∙ ap (λ (page : Option Page). right_of (identifier i) page None) (page-in p lt)
-        ∙ right-own x.manifest.ram_base x.manifest.endpoints.items p i (page_of x.ram p) (accepted x.manifest.ram_base x.manifest.ram_blocks x.manifest.endpoints.items x.manifest.accepted).apart
-
-    -- who is no endpoint has no access
-    pub access-unnamed : (e p : ℕ) → (identifier (place e) ≡ e → ⊥) → access s e p ≡ None
-    access-unnamed e p unnamed = elim (cases_lt p (length x.ram.pages)) [
-      | inl lt ↦
-          access-is e p ∙ ap (λ (page : Option Page). right_of e page None) (page-in p lt)
-          ∙ right-unnamed x.manifest.ram_base x.manifest.endpoints.items p e (page_of x.ram p) unnamed
-      | inr past ↦ access-past e p past
-    ]
-
-    pub owner-is : (p : ℕ) → p < length x.ram.pages → owner_of s p ≡ owner_in x.manifest.ram_base x.manifest.endpoints.items p
-    owner-is p lt =
-        ap (λ (page : Option Page). option_map_or (λ (q : Page). q.owner) page manager) (page-in p lt)
-        ∙ of (find (λ (y : ℕ × Region). has_page x.manifest.ram_base p y.1) (owned_regions x.manifest.endpoints.items))
-      where
-        of : (o : Option (ℕ × Region))
-            → option_map_or (λ (q : Page). q.owner) (option_map (λ (y : ℕ × Region). let q : Page = record { owner = y.0; base = y.1.rights; bytes = page_of x.ram p } in q) o) manager
-            ≡ option_map_or (λ (y : ℕ × Region). y.0) o manager
-        of None = refl
-        of (Some y) = refl

@@ -89,7 +89,7 @@ module _ (x : Parts) (now : Snapshot) (view : record { state = state_of x; ram =
 
     pub machine-informed : first_failure (info_guards now.state (uuid_bytes words) flags) ≡ None → IsMachine after_information
     machine-informed none =
-        machine-called x after_information.ram after_information.kept machine
-        (tables-filled x machine e (runner-there x machine e at) bytes) refl (PartitionInfoGet words flags) refl
+        machine-called x after_information.ram after_information.kept.buffers x.kept.chain machine
+        (tables-filled x machine e (runner-there x machine e at) bytes) (PartitionInfoGet words flags) refl
         (informed-is
         ∙ sym (passed-state (state_of x) (info_get (state_of x) words flags) (ap (λ (seen : Snapshot). first_failure (info_guards seen.state (uuid_bytes words) flags)) view ∙ none)))

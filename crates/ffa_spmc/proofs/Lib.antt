@@ -2,10 +2,13 @@ pub mod Answered
 pub mod Granted
 pub mod Inside
 pub mod Held
+pub mod Pools
 pub mod Reaches
 pub mod Agreements
 pub mod Stores
 pub mod Machines
+pub mod Moves
+pub mod Closes
 pub mod Accesses
 pub mod Boots
 pub mod Candidates
@@ -14,5 +17,10 @@ pub mod Fills
 pub mod Information
 pub mod Schedules
 pub mod Sends
+pub mod Reclaims
+pub mod Relinquishes
+pub mod Donations
+pub mod Retrieves
+pub mod Offers
 pub mod ServedCalls
 pub mod Laws

@@ -1,72 +1,77 @@
--- What holds of a machine's parts, and stays so.
-use Rattle.std.proofs.Common.{◌≡◌, ◌∙◌, ℕ, ◌*◌, ◌<◌, ◌≤◌, true, List, [], length, set, Some, refl, sym, ap, subst, arith, length-set}
+-- A machine keeps its tables through a write to a page that an endpoint owns, and is one after a call.
+use Rattle.std.proofs.Common.{◌≡◌, ◌∙◌, ℕ, ◌<◌, ◌≤◌, true, List, [], length, Option, Some, refl, sym, ap, subst, arith, length-set}
 use Rattle.std.proofs.lemmas.List.{get_or-set_other}
-use Rattle.ffa_model.specs.declared.manifest.Manifest.{Manifest}
-use Rattle.ffa_model.specs.Agreement.{Agrees, root}
-use Rattle.ffa_model.specs.Identifiers.{place}
-use Rattle.ffa_model.specs.Manifest.{table_pages}
+use Rattle.ffa_model.specs.Access.{access}
+use Rattle.ffa_model.specs.Agreement.{root}
+use Rattle.ffa_model.specs.Identifiers.{identifier, place}
 use Rattle.ffa_model.specs.Ram.{Ram, page_of, with_page, with_bytes}
-use Rattle.ffa_model.specs.State.{Page, page_at}
+use Rattle.ffa_model.specs.RunStates.{Schedule}
+use Rattle.ffa_model.specs.State.{State, Page, Buffers, page_at}
 use Rattle.ffa_model.specs.Walk.{is_page_address}
-use Rattle.ffa_model.specs.First.{page_with_bytes}
-use Rattle.ffa_model.proofs.Accepted.{accepted}
-use Rattle.ffa_model.proofs.Owners.{owned-behind}
-use Rattle.ffa_spmc.specs.declared.kept.Kept.{Kept}
 use Rattle.ffa_model.specs.declared.call.Call as calls
 use Rattle.ffa_model.specs.SoundState.{IsSoundState}
 use Rattle.ffa_model.specs.Step.{serve}
+use Rattle.ffa_model.proofs.CallAccesses.{access-written}
 use Rattle.ffa_laws.specs.Isolation.{is_lawful_call}
 use Rattle.ffa_laws.proofs.SoundOperations.{call-sound}
-use Rattle.ffa_spmc.specs.Meaning.{HasTables, IsMachine, Parts, own_right, state_of}
-use Rattle.ffa_spmc.proofs.Held.{page-in, runner-known}
-use Rattle.ffa_spmc.proofs.Agreements.{WalksGive, agrees-held, root-is}
+use Rattle.ffa_stage2.specs.Tables.{IsBuilt, table_page}
+use Rattle.ffa_spmc.specs.Meaning.{HasTables, IsMachine, Parts, access_by_place, state_of}
+use Rattle.ffa_spmc.proofs.Held.{owned-behind, runner-known}
+use Rattle.ffa_spmc.proofs.Agreements.{root-is}
+use Rattle.ffa_spmc.proofs.Stores.{state-written}
+
+-- the tables in this RAM, in place of the machine's own, give the access of the state
+abbrev pub StillHasTables : Parts → Ram → Type 0
+StillHasTables x ram = HasTables ram x.manifest (access_by_place (state_of (record x { ram = ram })))
 
 module _ (x : Parts) (machine : IsMachine x) where
-  walks-give : WalksGive x.ram x.manifest
-  walks-give i address known low =
-      machine.laws.walk x.ram (length x.manifest.endpoints.items) x.manifest.ram_blocks (own_right x.manifest.ram_base x.manifest.endpoints.items) machine.tables.built i address known low
-
-  -- the RAM of a machine agrees with its state
-  pub agrees : Agrees x.ram (state_of x)
-  agrees = agrees-held x machine walks-give
-
   -- the root of the runner's table is a page of the RAM
   pub runner-root : is_page_address x.ram (root (state_of x) (place x.kept.chain.runner)) ≡ true
   runner-root =
       ap (is_page_address x.ram) (root-is x machine (place x.kept.chain.runner))
-      ∙ machine.laws.begin x.ram (length x.manifest.endpoints.items) x.manifest.ram_blocks (own_right x.manifest.ram_base x.manifest.endpoints.items) (place x.kept.chain.runner) machine.tables.built (runner-known x machine x.kept.chain.runner refl)
+      ∙ machine.laws.begin x.ram (length x.manifest.endpoints.items) x.manifest.ram_blocks (access_by_place (state_of x)) (place x.kept.chain.runner) machine.tables.built (runner-known x machine x.kept.chain.runner refl)
 
--- a write to a page that an endpoint owns leaves the tables as they are
-pub tables-written : (x : Parts) → IsMachine x → (p at : ℕ) (bytes : List ℕ) (page : Page)
-    → p < length x.ram.pages → page_at (state_of x) p ≡ Some page
-    → HasTables (with_page x.ram p (with_bytes (page_of x.ram p) at bytes)) x.manifest
-tables-written x machine p at bytes page inside there =
-    let ram : Ram = x.ram in
-    let m : Manifest = x.manifest in
-    let a = accepted m.ram_base m.ram_blocks m.endpoints.items m.accepted in
-    let owned : page_with_bytes m.ram_base m.endpoints.items p (page_of ram p) ≡ Some page = sym (page-in x machine p inside) ∙ there in
-    let behind : length m.endpoints.items * table_pages m.ram_blocks ≤ p = owned-behind m.ram_base m.ram_blocks (length m.endpoints.items) m.endpoints.items p (page_of ram p) page a.placed owned in
-    let size : length (set ram.pages p (with_bytes (page_of ram p) at bytes)) ≡ length ram.pages = length-set ram.pages p (with_bytes (page_of ram p) at bytes) in
-    record {
-      base = machine.tables.base;
-      size = size ∙ machine.tables.size;
-      built =
-          machine.laws.stay ram (with_page ram p (with_bytes (page_of ram p) at bytes)) (length m.endpoints.items) m.ram_blocks (own_right m.ram_base m.endpoints.items) machine.tables.built
-          (record {
-            base = refl;
-            size = size;
-            pages = λ q low. get_or-set_other ram.pages p q (with_bytes (page_of ram p) at bytes) [] (λ same. absurd (omega (arith, low, behind, same)));
-          });
-    }
+  -- a write to a page that an endpoint owns leaves the tables as they are
+  module _ (p at : ℕ) (bytes : List ℕ) (page : Page) (inside : p < length x.ram.pages) (there : page_at (state_of x) p ≡ Some page) where
+    abbrev new : Ram
+    new = with_page x.ram p (with_bytes (page_of x.ram p) at bytes)
 
--- a machine is one after a call whose laws are proved, where the tables still are there
-pub machine-called : (x : Parts) (new : Ram) (next : Kept) → IsMachine x → HasTables new x.manifest → next.pages ≡ x.kept.pages
-    → (call : calls.Call) → is_lawful_call call ≡ true → state_of (record x { ram = new; kept = next }) ≡ (serve (state_of x) call).state
-    → IsMachine (record x { ram = new; kept = next })
-machine-called x new next machine tables same call lawful is =
+    size : length new.pages ≡ length x.ram.pages
+    size = length-set x.ram.pages p (with_bytes (page_of x.ram p) at bytes)
+
+    behind : table_page x.manifest.ram_blocks (length x.manifest.endpoints.items) 0 ≤ p
+    behind = owned-behind x machine p page there
+
+    same-access : (i q : ℕ) → access_by_place (state_of x) i q ≡ access_by_place (state_of (record x { ram = new })) i q
+    same-access i q =
+        sym (ap (λ (s : State). access s (identifier i) q) (state-written x p at bytes inside) ∙ access-written (state_of x) p at bytes (identifier i) q)
+
+    pub tables-written : StillHasTables x new
+    tables-written =
+        record {
+          base = machine.tables.base;
+          size = size ∙ machine.tables.size;
+          built =
+              subst (IsBuilt new (length x.manifest.endpoints.items) x.manifest.ram_blocks) (λ k i q. same-access i q k)
+              (machine.laws.stay x.ram new (length x.manifest.endpoints.items) x.manifest.ram_blocks (access_by_place (state_of x)) machine.tables.built
+              (record {
+                base = refl;
+                size = size;
+                pages = λ q low. get_or-set_other x.ram.pages p q (with_bytes (page_of x.ram p) at bytes) [] (λ same. absurd (omega (arith, low, behind, same)));
+              }));
+        }
+
+-- a machine is one after a call whose laws are proved, and which changed no owner, where the tables give the access
+pub machine-called : (x : Parts) (ram : Ram) (buffers : List (Option Buffers)) (chain : Schedule) → IsMachine x
+    → StillHasTables x ram
+    → (call : calls.Call) → is_lawful_call call ≡ true → state_of (record x { ram = ram; kept = record x.kept { buffers = buffers; chain = chain } }) ≡ (serve (state_of x) call).state
+    → IsMachine (record x { ram = ram; kept = record x.kept { buffers = buffers; chain = chain } })
+machine-called x ram buffers chain machine tables call lawful is =
     record {
       laws = machine.laws;
       tables = tables;
-      owners = same ∙ machine.owners;
+      layout = machine.layout;
+      owners = machine.owners;
+      offers = machine.offers;
       sound = subst IsSoundState (sym is) (call-sound (state_of x) machine.sound call lawful);
     }

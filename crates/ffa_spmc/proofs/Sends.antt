@@ -25,12 +25,13 @@ use Rattle.ffa_model.specs.State.{State, Page, Party, Buffers, is_known, is_know
 use Rattle.ffa_model.proofs.Guards.{guard-passes}
 use Rattle.ffa_rxtx.specs.Parts.{with_rx_bytes}
 use Rattle.ffa_messages.specs.Parts.{AreInRam, receiver_in, sent_in, tx_in}
-use Rattle.ffa_spmc.specs.Meaning.{HasTables, IsMachine, Parts, state_of}
+use Rattle.ffa_spmc.specs.Meaning.{IsMachine, Parts, state_of}
 use Rattle.ffa_spmc.specs.Replies.{reply_or_error}
 use Rattle.ffa_spmc.proofs.Answered.{answered-by, done-both, done-so, refused-both}
 use Rattle.ffa_spmc.proofs.Fills.{buffers-there, runner-there, state-filled, tables-filled, there-inside}
 use Rattle.ffa_spmc.proofs.Held.{each, parties_are}
-use Rattle.ffa_spmc.proofs.Machines.{agrees}
+use Rattle.ffa_spmc.proofs.Agreements.{agrees}
+use Rattle.ffa_spmc.proofs.Machines.{StillHasTables}
 
 -- the endpoint at a place is there, and its place is this one
 known-at : (n i : ℕ) → i < n → is_known_among n (identifier i) ≡ true
@@ -91,7 +92,7 @@ module _ (x : Parts) (machine : IsMachine x) where
             let (page, there) = (buffers-there x machine e (runner-there x machine e at) b is).0 in
             (agrees x machine).bytes b.tx page there ∙ sym (ap (λ (o : Option Page). option_map_or (λ (q : Page). q.bytes) o []) there)
 
-    sent-is : tx ≡ tx_bytes s x.kept.chain.runner
+    pub sent-is : tx ≡ tx_bytes s x.kept.chain.runner
     sent-is = tx-is ∙ ap (tx_bytes s) at
 
     receiver-known : first_failure (send2_guards parties x.kept.buffers e (header_in tx)) ≡ None → is_known s receiver ≡ true
@@ -103,14 +104,14 @@ module _ (x : Parts) (machine : IsMachine x) where
         (kept_ram : OnErr r (new ≡ x.ram)) (kept_buffers : OnErr r (list ≡ x.kept.buffers))
         (filled_ram : OnOk r (new ≡ with_rx_bytes x.ram (buffers_in x.kept.buffers receiver) (message_in tx)))
         (full : OnOk r (list ≡ buffers_with_rx x.kept.buffers receiver true)) where
-      pub tables-sent : HasTables new x.manifest
+      pub tables-sent : StillHasTables x new
       tables-sent = of r refusal kept_ram filled_ram
         where
           of : (r : Result Reply ErrorCode) → result_err r ≡ first_failure (send2_guards parties x.kept.buffers e (header_in tx))
-              → OnErr r (new ≡ x.ram) → OnOk r (new ≡ with_rx_bytes x.ram (buffers_in x.kept.buffers receiver) (message_in tx)) → HasTables new x.manifest
+              → OnErr r (new ≡ x.ram) → OnOk r (new ≡ with_rx_bytes x.ram (buffers_in x.kept.buffers receiver) (message_in tx)) → StillHasTables x new
           of (Ok reply) passes same wrote =
-              subst (λ (ram : Ram). HasTables ram x.manifest) (sym wrote) (tables-filled x machine receiver (receiver-known (sym passes)) (message_in tx))
-          of (Err code) fails same wrote = subst (λ (ram : Ram). HasTables ram x.manifest) (sym same) machine.tables
+              subst (StillHasTables x) (sym wrote) (tables-filled x machine receiver (receiver-known (sym passes)) (message_in tx))
+          of (Err code) fails same wrote = subst (StillHasTables x) (sym same) machine.tables
 
       pub sent : IfOk r (λ reply. reply ≡ success 0 0) → replied (state_of (record x { ram = new; kept = record x.kept { buffers = list } })) (reply_or_error r) ≡ served s (msg_send2 s)
       unfolding first

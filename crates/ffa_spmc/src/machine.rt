@@ -15,20 +15,28 @@ ghost use Rattle.ffa_laws.specs.Events.{seen};
 ghost use Rattle.ffa_laws.specs.Isolation.{Integrity, Isolated, NeverGrow, OneStep, shown_to};
 ghost use Rattle.ffa_model.specs.Refusals.{is_error, is_refusal, passes_no_error};
 ghost use Rattle.ffa_model.specs.Registers.{served_call};
+ghost use Rattle.ffa_model.specs.MemoryRetrieve.{memory_retrieve};
+ghost use Rattle.ffa_model.specs.MemoryReturn.{memory_reclaim, memory_relinquish};
+ghost use Rattle.ffa_model.specs.MemorySend.{handle_reply, memory_send};
 ghost use Rattle.ffa_model.specs.Messages.{msg_send2};
 ghost use Rattle.ffa_model.specs.RunStates.{direct_request, direct_response, msg_wait, run_partition, yield_now};
 ghost use Rattle.ffa_model.specs.Setup.{info_get, info_guards, informed, is_count_alone, selected, uuid_bytes};
 ghost use Rattle.ffa_model.specs.State.{owner_of};
+ghost use Rattle.ffa_model.specs.Transactions.{transfer};
 ghost use Rattle.ffa_model.specs.Step.{serve, step, outcomes, state_after};
 ghost use Rattle.ffa_model.specs.Walk.{is_page_address};
-ghost use Rattle.ffa_spmc.specs.Arms.{has_arm};
-ghost use Rattle.ffa_spmc.specs.Replies.{done_or_error, reply_or_error};
+ghost use Rattle.ffa_spmc.specs.Arms.{has_arm, is_message, is_on_memory};
+ghost use Rattle.ffa_memshare.specs.Scenes.{transfer_of};
+ghost use Rattle.ffa_spmc.specs.Replies.{done_or_error, handle_or_error, reply_or_error, retrieved_or_error};
 
 use crate::kept::Kept;
+use ffa_memshare::Transfer;
 use ffa_messages::{DirectMessage, direct_req, direct_resp, send2};
-use ffa_model::{Call, EndpointId, ErrorCode, Manifest, Op, Outcome, PageNo, Reply, Rights, Size};
+use ffa_model::{
+    Call, EndpointId, ErrorCode, Kind, Manifest, Op, Outcome, PageNo, Reply, Rights, Size,
+};
 use ffa_physmem::PhysMem;
-use ffa_stage2::{Layout, build, built_tables};
+use ffa_stage2::{build, built_tables};
 use std::marker::Model;
 
 /// The reply to a call that answers no more than that it is done.
@@ -76,6 +84,47 @@ fn reply_or_error(answer: Result<Reply, ErrorCode>) -> Reply
     match answer {
         Ok(reply) => reply,
         Err(code) => Reply::Error(code),
+    }
+}
+
+// The reply to a send: the halves of the handle, the low one first.
+fn handle_reply(handle: u64) -> Reply
+    ensures { result ≡ handle_reply handle }
+{
+    let low = (handle % (1 << 32)) as u32;
+    let high = (handle >> 32) as u32;
+    Reply::Success([low, high, 0, 0, 0, 0])
+}
+
+// The reply to a send: its handle, or the code for which it was refused.
+fn handle_or_error(answer: Result<u64, ErrorCode>) -> Reply
+    ensures { result ≡ handle_or_error answer }
+{
+    match answer {
+        Ok(handle) => handle_reply(handle),
+        Err(code) => Reply::Error(code),
+    }
+}
+
+// The reply to a retrieve: how many bytes RX holds then, or the code for which it was refused.
+fn retrieved_or_error(answer: Result<u32, ErrorCode>) -> Reply
+    ensures { result ≡ retrieved_or_error answer }
+{
+    match answer {
+        Ok(size) => Reply::Retrieved(size),
+        Err(code) => Reply::Error(code),
+    }
+}
+
+// What the registers of a call say whose descriptor stands in TX.
+fn transfer(total: u32, fragment: u32, address: u64, pages: u32) -> Transfer
+    ensures { transfer_of result ≡ transfer total fragment address pages }
+{
+    Transfer {
+        total,
+        fragment,
+        address,
+        pages,
     }
 }
 
@@ -134,13 +183,14 @@ impl<M: PhysMem + Drop> Machine<M> {
         ensures sound { IsSoundState result.state }
     {
         let mut ram = ram;
-        build(&mut ram, &Layout::of(manifest));
+        let kept = Kept::first(manifest);
+        build(&mut ram, &kept.layout);
         // What built tables give holds from here on: the machine's invariant has it.
         built_tables();
         Machine {
             ram,
             manifest: manifest.copied(),
-            kept: Kept::first(manifest),
+            kept,
         }
     }
 
@@ -173,16 +223,16 @@ impl<M: PhysMem + Drop> Machine<M> {
         requires { page.0 < length self.now.state.pages }
         ensures { result.0 ≡ owner_of self.now.state page.0 }
     {
-        self.manifest.owner_of(page)
+        self.kept.pages.owner_of(page)
     }
 
     /// The right of an endpoint to a page: nothing outside the RAM, or for an endpoint that isn't there.
     pub fn access(&self, endpoint: EndpointId, page: PageNo) -> Option<Rights>
         ensures { result ≡ access self.now.state endpoint.0 page.0 }
     {
-        let place = endpoint.place();
-        if endpoint == EndpointId::at(place) && page.0 < self.ram.pages() {
-            self.manifest.right_to(place, page)
+        let pages = &self.kept.pages;
+        if page.0 < pages.pages() {
+            self.kept.pool.access(pages, endpoint, page)
         } else {
             None
         }
@@ -241,6 +291,38 @@ impl<M: PhysMem + Drop> Machine<M> {
             Call::RxtxUnmap { endpoint } => self.unmap(endpoint),
             Call::PartitionInfoGet { uuid, flags } => self.partition_info(uuid, flags),
             Call::IdGet => ffa_setup::id(self.kept.chain.runner()),
+            Call::SpmIdGet => ffa_setup::spm_id(),
+            Call::MsgWait
+            | Call::Yield
+            | Call::Run { .. }
+            | Call::DirectRequest { .. }
+            | Call::DirectResponse { .. }
+            | Call::MsgSend2 => self.message_reply(call),
+            Call::MemDonate { .. }
+            | Call::MemLend { .. }
+            | Call::MemShare { .. }
+            | Call::MemRetrieve { .. }
+            | Call::MemRelinquish
+            | Call::MemReclaim { .. } => self.memory_reply(call),
+            // No identifier asks for one of these as yet, but for the first.
+            Call::Unknown
+            | Call::BitmapCreate { .. }
+            | Call::BitmapDestroy { .. }
+            | Call::NotificationBind { .. }
+            | Call::NotificationUnbind { .. }
+            | Call::NotificationSet { .. }
+            | Call::NotificationGet { .. } => Reply::Error(ErrorCode::NotSupported),
+        }
+    }
+
+    // The reply to a call on run states, or to a message.
+    fn message_reply(&mut self, call: Call) -> Reply
+        requires message { is_message call ≡ true }
+        requires named { passes_no_error call ≡ true }
+        ensures served { replied self.new.state result ≡ serve self.old.state call }
+        ensures refused { is_error result ≡ true → self.new ≡ self.old }
+    {
+        match call {
             Call::MsgWait => self.wait(),
             Call::Yield => self.yield_now(),
             Call::Run { target } => self.run_partition(target),
@@ -267,21 +349,44 @@ impl<M: PhysMem + Drop> Machine<M> {
                 payload,
             }),
             Call::MsgSend2 => self.send(),
-            Call::SpmIdGet => ffa_setup::spm_id(),
-            // No identifier asks for one of these as yet, but for the first.
-            Call::Unknown
-            | Call::MemDonate { .. }
-            | Call::MemLend { .. }
-            | Call::MemShare { .. }
-            | Call::MemRetrieve { .. }
-            | Call::MemRelinquish
-            | Call::MemReclaim { .. }
-            | Call::BitmapCreate { .. }
-            | Call::BitmapDestroy { .. }
-            | Call::NotificationBind { .. }
-            | Call::NotificationUnbind { .. }
-            | Call::NotificationSet { .. }
-            | Call::NotificationGet { .. } => Reply::Error(ErrorCode::NotSupported),
+            _ => unreachable!(),
+        }
+    }
+
+    // The reply to a call on memory.
+    fn memory_reply(&mut self, call: Call) -> Reply
+        requires { is_on_memory call ≡ true }
+        ensures served { replied self.new.state result ≡ serve self.old.state call }
+        ensures refused { is_error result ≡ true → self.new ≡ self.old }
+    {
+        match call {
+            Call::MemDonate {
+                total,
+                fragment,
+                address,
+                pages,
+            } => self.offer(Kind::Donate, &transfer(total, fragment, address, pages)),
+            Call::MemLend {
+                total,
+                fragment,
+                address,
+                pages,
+            } => self.offer(Kind::Lend, &transfer(total, fragment, address, pages)),
+            Call::MemShare {
+                total,
+                fragment,
+                address,
+                pages,
+            } => self.offer(Kind::Share, &transfer(total, fragment, address, pages)),
+            Call::MemRetrieve {
+                total,
+                fragment,
+                address,
+                pages,
+            } => self.retrieve(&transfer(total, fragment, address, pages)),
+            Call::MemRelinquish => self.relinquish(),
+            Call::MemReclaim { low, high, flags } => self.reclaim(low, high, flags),
+            _ => unreachable!(),
         }
     }
 
@@ -419,6 +524,73 @@ impl<M: PhysMem + Drop> Machine<M> {
         let runner = self.kept.chain.runner();
         let buffers = &mut self.kept.buffers;
         reply_or_error(send2(&mut self.ram, buffers, &self.manifest, runner))
+    }
+
+    // FFA_MEM_DONATE, FFA_MEM_LEND or FFA_MEM_SHARE of the runner.
+    fn offer(&mut self, kind: Kind, transfer: &Transfer) -> Reply
+        ensures served { replied self.new.state result ≡ served self.old.state (memory_send self.old.state kind (transfer_of transfer.now)) }
+        ensures refused { is_error result ≡ true → self.new ≡ self.old }
+    {
+        let runner = self.kept.chain.runner();
+        let kept = &mut self.kept;
+        let pool = &mut kept.pool;
+        handle_or_error(pool.send(
+            &mut self.ram,
+            &kept.layout,
+            &mut kept.pages,
+            &kept.buffers,
+            runner,
+            kind,
+            transfer,
+        ))
+    }
+
+    // FFA_MEM_RETRIEVE_REQ of the runner.
+    fn retrieve(&mut self, transfer: &Transfer) -> Reply
+        ensures served { replied self.new.state result ≡ served self.old.state (memory_retrieve self.old.state (transfer_of transfer.now)) }
+        ensures refused { is_error result ≡ true → self.new ≡ self.old }
+    {
+        let runner = self.kept.chain.runner();
+        let kept = &mut self.kept;
+        let pool = &mut kept.pool;
+        retrieved_or_error(pool.retrieve(
+            &mut self.ram,
+            &kept.layout,
+            &mut kept.pages,
+            &mut kept.buffers,
+            runner,
+            transfer,
+        ))
+    }
+
+    // FFA_MEM_RELINQUISH of the runner.
+    fn relinquish(&mut self) -> Reply
+        ensures served { replied self.new.state result ≡ served self.old.state (memory_relinquish self.old.state) }
+        ensures refused { is_error result ≡ true → self.new ≡ self.old }
+    {
+        let runner = self.kept.chain.runner();
+        let kept = &mut self.kept;
+        let pool = &mut kept.pool;
+        done_or_error(pool.relinquish(
+            &mut self.ram,
+            &kept.layout,
+            &kept.pages,
+            &kept.buffers,
+            runner,
+        ))
+    }
+
+    // FFA_MEM_RECLAIM of the runner.
+    fn reclaim(&mut self, low: u32, high: u32, flags: u32) -> Reply
+        ensures served { replied self.new.state result ≡ served self.old.state (memory_reclaim self.old.state low high flags) }
+        ensures refused { is_error result ≡ true → self.new ≡ self.old }
+    {
+        let runner = self.kept.chain.runner();
+        let handle = u64::from(high) * (1 << 32) + u64::from(low);
+        let kept = &mut self.kept;
+        let pages = &mut kept.pages;
+        let pool = &mut kept.pool;
+        done_or_error(pool.reclaim(&mut self.ram, &kept.layout, pages, runner, handle, flags))
     }
 
     // A call of the runner, in its registers.

@@ -2,7 +2,7 @@ use Rattle.std.proofs.Common.{subst}
 use Rattle.ffa_model.specs.Agreement.{Agrees}
 use Rattle.ffa_spmc.specs.Snapshot.{Snapshot}
 use Rattle.ffa_spmc.proofs.Laws.{integrity-now, sound-now, step-now}
-use Rattle.ffa_spmc.proofs.Machines.{agrees}
+use Rattle.ffa_spmc.proofs.Agreements.{agrees}
 use Rattle.ffa_spmc.proofs.Inside.{parts_of}
 use Rattle.ffa_spmc.proofs.machine.Machine.op.Goals as goal
 

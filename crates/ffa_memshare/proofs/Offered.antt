@@ -1,0 +1,189 @@
+-- What an endpoint offers that passed the checks.
+use Rattle.std.proofs.Common.{◌≡◌, ◌≢◌, ◌∙◌, ℕ, zero, suc, ◌+◌, ◌*◌, ◌%◌, ◌<◌, ◌≤◌, Bool, true, false, cond, List, [], ◌∷◌, length, get_or, Option, Some, None, refl, sym, ap, arith, inl, inr}
+use Rattle.std.specs.Prelude.{◌==◌, not, ◌&&◌, ◌||◌, is_some, filter}
+use Rattle.std.specs.List.{list_all}
+use Rattle.std.specs.Option.{option_map, option_map_or}
+use Rattle.std.proofs.lemmas.Bool.{and_parts, cases_lt, eqb-true, leb-true, ltb-true, ne_eqb, or_cases, false≢true}
+use Rattle.std.proofs.lemmas.Option.{none-some}
+use Rattle.ffa_model.specs.declared.rights.Data.{Data}
+use Rattle.ffa_model.specs.declared.rights.Data.TheVariants.{Ro, Rw}
+use Rattle.ffa_model.specs.declared.rights.Rights.{Rights}
+use Rattle.ffa_model.specs.declared.rights.Kind.{Kind}
+use Rattle.ffa_model.specs.declared.transaction.Range.{Range}
+use Rattle.ffa_model.specs.declared.transaction.Receiver.{Receiver}
+use Rattle.ffa_model.specs.Buffers.{Candidate}
+use Rattle.ffa_model.specs.DescriptorPlaces.{range_count, receiver_count}
+use Rattle.ffa_model.specs.Identifiers.{manager}
+use Rattle.ffa_model.specs.Lists.{listed}
+use Rattle.ffa_model.specs.MemorySend.{are_grants_within, is_grantable, is_inside, is_own, is_sendable}
+use Rattle.ffa_model.specs.Rights.{may_store, may_write}
+use Rattle.ffa_model.specs.SendDescriptor.{Send, SendRecord, is_named, range_in, receiver_in}
+use Rattle.ffa_model.specs.State.{Buffers}
+use Rattle.ffa_model.specs.Transactions.{are_writable, pages_in}
+use Rattle.ffa_model.proofs.NamedPages.{listed-each}
+use Rattle.ffa_pages.specs.Entry.{Entry, base_at, entry_at, owner_at}
+use Rattle.ffa_rxtx.specs.Parts.{candidate_in, candidates_in}
+use Rattle.ffa_memshare.specs.Named.{bases_in}
+use Rattle.ffa_memshare.specs.Offers.{AreAligned, IsOwnOffer, grants_writes}
+use Rattle.ffa_memshare.specs.Ranges.{ArePlaced, IsPlaced, in_range, in_ranges}
+
+-- an element of a list that a function gives
+listed-at : {X : Type 0} (n : ℕ) (f : ℕ → X) (i : ℕ) (d : X) → i < n → get_or (listed n f) i d ≡ f i
+listed-at zero f i d lt = absurd (omega arith)
+listed-at (suc n) f zero d lt = refl
+listed-at (suc n) f (suc i) d lt = listed-at n (λ j. f (suc j)) i d (omega arith)
+
+length-listed : {X : Type 0} (n : ℕ) (f : ℕ → X) → length (listed n f) ≡ n
+length-listed zero f = refl
+length-listed (suc n) f = ap suc (length-listed n (λ j. f (suc j)))
+
+-- the ranges of a descriptor begin where pages do
+pub sent-aligned : (kind : Kind) (b : List ℕ) (r : SendRecord) → Send kind b r → AreAligned r.ranges
+sent-aligned kind b r send i x lt is =
+    let n = range_count b in
+    let less : i < n = omega (arith, lt, ap (λ (rs : List Range). length rs) send.ranges, length-listed n (range_in b)) in
+    let at : x ≡ range_in b i = is ∙ ap (λ (rs : List Range). get_or rs i x) send.ranges ∙ listed-at n (range_in b) i x less in
+    ap (λ (q : Range). q.address % 4096) at ∙ (send.each i less).aligned
+
+-- and its receivers are others than its sender
+pub sent-other : (kind : Kind) (b : List ℕ) (r : SendRecord) → Send kind b r → is_named r.sender r.receivers ≡ false
+sent-other kind b r send =
+    ap (is_named r.sender) send.receivers
+    ∙ each (receiver_count b) (receiver_in b) (λ i lt is. (send.accesses i lt).other (is ∙ send.sender))
+  where
+    each : (n : ℕ) (f : ℕ → Receiver) → ((i : ℕ) → i < n → (f i).endpoint.0 ≡ r.sender → ⊥) → is_named r.sender (listed n f) ≡ false
+    each zero f none = refl
+    each (suc n) f none =
+        ap (λ b. b || is_named r.sender (listed n (λ i. f (suc i)))) (ne_eqb (f 0).endpoint.0 r.sender (none 0 (omega arith)))
+        ∙ each n (λ i. f (suc i)) (λ i lt. none (suc i) (omega arith))
+
+-- ranges of whole pages inside RAM
+pub inside-placed : (table : List (Option Entry)) (base : ℕ) (ranges : List Range) → base % 4096 ≡ 0 → AreAligned ranges
+    → list_all (is_inside (bases_in table base)) ranges ≡ true → ArePlaced base (length table) ranges
+inside-placed table base [] whole aligned all i r lt is = absurd (omega arith)
+inside-placed table base (q ∷ ranges) whole aligned all zero r lt is = of r (is ∙ refl) (aligned 0 r lt is)
+  where
+    of : (r : Range) → r ≡ q → r.address % 4096 ≡ 0 → IsPlaced base (length table) r
+    of r same own =
+        let (this, rest) = and_parts (is_inside (bases_in table base) q) _ all in
+        let (low, high) = and_parts _ _ this in
+        let from : base ≤ q.address = leb-true _ _ low in
+        let to : q.address + 4096 * q.pages ≤ base + 4096 * length table = leb-true _ _ high in
+        let address : r.address ≡ q.address = ap (λ (x : Range). x.address) same in
+        let pages : r.pages ≡ q.pages = ap (λ (x : Range). x.pages) same in
+        record { aligned = omega (arith, whole, own, from, address); within = omega (arith, whole, own, from, to, address, pages) }
+inside-placed table base (q ∷ ranges) whole aligned all (suc i) r lt is =
+    inside-placed table base ranges whole (λ j x less at. aligned (suc j) x (omega arith) at) (and_parts (is_inside (bases_in table base) q) _ all).1 i r (omega arith) is
+
+-- a page that ranges have is one of RAM's
+pub named-within : (base count : ℕ) (ranges : List Range) (p : ℕ) → ArePlaced base count ranges → in_ranges base ranges p ≡ true → p < count
+named-within base count [] p placed is = absurd (false≢true is)
+named-within base count (q ∷ ranges) p placed is = elim (or_cases (in_range base q p) (in_ranges base ranges p) is) [
+  | inl here ↦
+      let its = placed 0 q (omega arith) refl in
+      let (low, high) = and_parts _ _ here in
+      let from : q.address ≤ base + 4096 * p = leb-true _ _ low in
+      let to : base + 4096 * p < q.address + 4096 * q.pages = ltb-true _ _ high in
+      omega (arith, its.aligned, its.within, from, to)
+  | inr there ↦ named-within base count ranges p (λ i r lt at. placed (suc i) r (omega arith) at) there
+]
+
+abbrev candidate : Option Entry → Option Candidate
+candidate o = option_map (λ (x : Entry). record { owner = x.owner; base = x.base; named = is_some x.slot }) o
+
+-- a page of an endpoint alone
+own-entry : (e : ℕ) (o : Option Entry) → is_own e (candidate o) ≡ true → (x : Entry) × (o ≡ Some x) × (x.owner ≡ e)
+own-entry e None own = absurd (false≢true own)
+own-entry e (Some x) own = (x, refl, eqb-true x.owner e (and_parts (x.owner == e) _ own).0)
+
+-- what passed the checks is the endpoint's own
+pub checked-offered : (table : List (Option Entry)) (base e : ℕ) (buffers : List (Option Buffers)) (r : SendRecord) → base % 4096 ≡ 0 → AreAligned r.ranges → r.sender ≡ e
+    → list_all (is_inside (bases_in table base)) r.ranges ≡ true
+    → list_all (is_sendable e (candidates_in table base) buffers) (pages_in (bases_in table base) r.ranges) ≡ true
+    → IsOwnOffer table base e r
+checked-offered table base e buffers r whole aligned sender inside sendable =
+    let placed = inside-placed table base r.ranges whole aligned inside in
+    record {
+      sender = sender;
+      placed = placed;
+      own = λ p named.
+          own-entry e (entry_at table p)
+          (and_parts (is_own e (candidate_in table p)) _
+          (listed-each (is_sendable e (candidates_in table base) buffers) (in_ranges base r.ranges) (length table) (λ q. q) sendable p
+          (named-within base (length table) r.ranges p placed named) named)).0;
+    }
+
+-- so no page of it is the manager's, and none is one of the tables
+pub own-owned : (table : List (Option Entry)) (base e : ℕ) (r : SendRecord) → IsOwnOffer table base e r → e ≢ manager
+    → (p : ℕ) → in_ranges base r.ranges p ≡ true → owner_at table p ≢ manager
+own-owned table base e r own other p named is =
+    let (x, at, its) = own.own p named in
+    other (sym its ∙ sym (ap (λ (o : Option Entry). option_map_or (λ (y : Entry). y.owner) o manager) at) ∙ is)
+
+pub own-behind : (table : List (Option Entry)) (base e : ℕ) (r : SendRecord) (first : ℕ) → IsOwnOffer table base e r
+    → ((p : ℕ) → p < first → entry_at table p ≡ None) → (p : ℕ) → in_ranges base r.ranges p ≡ true → first ≤ p
+own-behind table base e r first own none p named = elim (cases_lt p first) [
+  | inl before ↦ (let (x, at, its) = own.own p named in absurd (none-some x (sym (none p before) ∙ at)))
+  | inr behind ↦ behind
+]
+
+-- GRANTS
+both : (m w : Bool) → (m && (not w || m)) ≡ (not true || m)
+both true true = refl
+both true false = refl
+both false w = refl
+
+-- grants are within the right to a page where nobody is granted rw or the page has it
+page-grants : (receivers : List Receiver) (right : Rights)
+    → list_all (λ (r : Receiver). is_grantable r.grant (Some right)) receivers ≡ (not (grants_writes receivers) || may_write right.level)
+page-grants [] right = refl
+page-grants (q ∷ receivers) right = of q.grant (page-grants receivers right)
+  where
+    of : (g : Option Data) → list_all (λ (r : Receiver). is_grantable r.grant (Some right)) receivers ≡ (not (grants_writes receivers) || may_write right.level)
+        → (is_grantable g (Some right) && list_all (λ (r : Receiver). is_grantable r.grant (Some right)) receivers)
+        ≡ (not (option_map_or may_write g false || grants_writes receivers) || may_write right.level)
+    of None rest = rest
+    of (Some Ro) rest = rest
+    of (Some Rw) rest = ap (λ b. may_write right.level && b) rest ∙ both (may_write right.level) (grants_writes receivers)
+
+module _ (all one keep : ℕ → Bool) (w : Bool) where
+  each-grants : (xs : List ℕ) → ((p : ℕ) → keep p ≡ true → all p ≡ (not w || one p)) → list_all all (filter keep xs) ≡ (not w || list_all one (filter keep xs))
+  each-grants [] each = of w
+    where
+      of : (w : Bool) → true ≡ (not w || true)
+      of true = refl
+      of false = refl
+  each-grants (p ∷ xs) each = of (keep p) refl (each-grants xs each)
+    where
+      split : (w a b : Bool) → ((not w || a) && (not w || b)) ≡ (not w || (a && b))
+      split true a b = refl
+      split false a b = refl
+
+      of : (b : Bool) → keep p ≡ b → list_all all (filter keep xs) ≡ (not w || list_all one (filter keep xs))
+          → list_all all (cond b (p ∷ filter keep xs) (filter keep xs)) ≡ (not w || list_all one (cond b (p ∷ filter keep xs) (filter keep xs)))
+      of true kept rest = ap (λ b. b && list_all all (filter keep xs)) (each p kept) ∙ ap (λ b. (not w || one p) && b) rest ∙ split w (one p) (list_all one (filter keep xs))
+      of false out rest = rest
+
+-- so are those of all pages that an endpoint owns
+pub writes-enough : (table : List (Option Entry)) (base : ℕ) (ranges : List Range) (receivers : List Receiver) (zeros : Bool)
+    → ((p : ℕ) → in_ranges base ranges p ≡ true → (x : Entry) × (entry_at table p ≡ Some x))
+    → (are_writable (bases_in table base) ranges || not (zeros || grants_writes receivers))
+    ≡ (list_all (are_grants_within (bases_in table base) receivers) (pages_in (bases_in table base) ranges) && (not zeros || are_writable (bases_in table base) ranges))
+writes-enough table base ranges receivers zeros owned =
+    of (are_writable (bases_in table base) ranges) zeros (grants_writes receivers)
+    ∙ ap (λ b. b && (not zeros || are_writable (bases_in table base) ranges))
+    (sym (each-grants (are_grants_within (bases_in table base) receivers) (λ p. may_store (base_at table p)) (in_ranges base ranges) (grants_writes receivers) (listed (length table) (λ p. p))
+    (λ p named. let (x, is) = owned p named in
+    ap (λ (o : Option Entry). list_all (λ (r : Receiver). is_grantable r.grant (option_map (λ (e : Entry). e.base) o)) receivers) is
+    ∙ page-grants receivers x.base
+    ∙ ap (λ (o : Option Entry). not (grants_writes receivers) || may_store (option_map (λ (e : Entry). e.base) o)) (sym is))))
+  where
+    of : (w z g : Bool) → (w || not (z || g)) ≡ ((not g || w) && (not z || w))
+    of true true true = refl
+    of true true false = refl
+    of true false true = refl
+    of true false false = refl
+    of false true true = refl
+    of false true false = refl
+    of false false true = refl
+    of false false false = refl

@@ -1,0 +1,34 @@
+-- How many bytes a response has.
+use Rattle.std.proofs.Common.{◌≡◌, ◌∙◌, ◌*◌, ◌++◌, List, [], ◌∷◌, length, refl, arith, length-append}
+use Rattle.std.specs.List.{flat_map}
+use Rattle.ffa_model.specs.declared.transaction.Range.{Range}
+use Rattle.ffa_model.specs.ResponseBytes.{ResponseRecord, le, header_bytes, access_bytes, composite_bytes, range_bytes, response_bytes, response_size}
+
+length-header : (r : ResponseRecord) → length (header_bytes r) ≡ 48
+unfolding le
+length-header r = refl
+
+length-access : (r : ResponseRecord) → length (access_bytes r) ≡ 16
+unfolding le
+length-access r = refl
+
+length-composite : (ranges : List Range) → length (composite_bytes ranges) ≡ 16
+unfolding le
+length-composite ranges = refl
+
+length-range : (range : Range) → length (range_bytes range) ≡ 16
+unfolding le
+length-range range = refl
+
+length-ranges : (ranges : List Range) → length (flat_map range_bytes ranges) ≡ 16 * length ranges
+length-ranges [] = refl
+length-ranges (range ∷ ranges) =
+    length-append (range_bytes range) (flat_map range_bytes ranges) ∙ omega (arith, length-range range, length-ranges ranges)
+
+pub length-response_bytes : (r : ResponseRecord) → length (response_bytes r) ≡ response_size r.ranges
+unfolding response_bytes
+length-response_bytes r =
+    let a = length-append (header_bytes r ++ access_bytes r ++ composite_bytes r.ranges) (flat_map range_bytes r.ranges) in
+    let b = length-append (header_bytes r ++ access_bytes r) (composite_bytes r.ranges) in
+    let c = length-append (header_bytes r) (access_bytes r) in
+    omega (arith, a, b, c, length-header r, length-access r, length-composite r.ranges, length-ranges r.ranges)

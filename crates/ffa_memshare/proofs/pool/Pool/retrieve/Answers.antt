@@ -1,0 +1,37 @@
+use Rattle.std.proofs.Common.{ℕ, subst}
+use Rattle.arrayvec.specs.ArrayVec.{array_vec_len}
+use Rattle.ffa_model.specs.Buffers.{buffers_in}
+use Rattle.ffa_memshare.specs.Retrieved.{IsAnswered}
+use Rattle.ffa_memshare.specs.Stored.{transaction_of}
+use Rattle.ffa_memshare.proofs.Asks.{asked-open, asked-slot, same-handle}
+use Rattle.ffa_memshare.proofs.pool.Pool.retrieve.Goals as goal
+
+pub hand_over-size-requires-clause-held : goal.hand_over-size-requires-clause-held
+hand_over-size-requires-clause-held g c =
+    let it = c.at-open.result.now in
+    c.requires.shared.each c.in-Some.slot it.handle (transaction_of it) c.at-open.ensures.value
+
+pub returns-clause-done : goal.returns-clause-done
+returns-clause-done g c =
+    let l = c.args.layout.now in
+    let slots = c.args.self.now.slots in
+    let k = c.in-Some.slot in
+    let asked = c.in_ok-asked.asked in
+    let it = c.at-open.result.now in
+    let there = asked-slot slots k asked.handle it c.in-Some.ensures.found c.at-open.ensures.value in
+    record {
+      asked = asked;
+      transaction = transaction_of it;
+      right = c.in_ok-right.right;
+      described = c.in_ok-asked.ensures.asked;
+      was = asked-open slots k asked.handle it c.in-Some.ensures.found c.at-open.ensures.value c.at-open.ensures.open;
+      is = c.in_ok-right.ensures.right;
+      slot = c.take.ensures.slot asked.handle (transaction_of it) there;
+      offers = c.take.ensures.offers asked.handle (transaction_of it) there;
+      pages = c.pass_on.ensures;
+      answer =
+          subst (λ (h : ℕ). IsAnswered (g.M.PhysMem.ram c.args.ram.now) (g.M.PhysMem.ram c.hand_over-size.new.ram) l.base (array_vec_len l.regions) l.blocks
+          (buffers_in c.args.buffers.now c.args.caller.0) h (transaction_of it) c.args.caller.0 c.in_ok-right.right c.hand_over-size.result)
+          (same-handle slots k asked.handle it c.in-Some.ensures.found c.at-open.ensures.value)
+          c.hand_over-size.ensures.answered;
+    }

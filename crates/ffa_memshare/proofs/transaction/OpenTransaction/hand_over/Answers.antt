@@ -1,0 +1,38 @@
+use Rattle.std.proofs.Common.{◌∙◌, ◌≤◌, ◌<◌, ◌^◌, ℕ, List, length, false, Some, sym, ap, subst, arith}
+use Rattle.arrayvec.specs.ArrayVec.{array_vec_len}
+use Rattle.ffa_model.specs.declared.transaction.Range.{Range}
+use Rattle.ffa_model.specs.Buffers.{buffers_in}
+use Rattle.ffa_model.specs.ResponseBytes.{ResponseRecord, response_bytes, response_size}
+use Rattle.ffa_model.specs.SendDescriptor.{page_total}
+use Rattle.ffa_rxtx.specs.Parts.{with_rx_bytes}
+use Rattle.ffa_memshare.specs.Changes.{IsMoved}
+use Rattle.ffa_memshare.specs.Ranges.{in_ranges}
+use Rattle.ffa_memshare.proofs.Retrieves.{few-pages}
+use Rattle.ffa_memshare.proofs.transaction.OpenTransaction.hand_over.Goals as goal
+
+pub answer-requires-clause-total : goal.answer-requires-clause-total
+answer-requires-clause-total g c =
+    let l = c.args.layout.now in
+    let ranges = c.args.self.now.ranges.items in
+    let (access, built) = c.requires.held.room.built in
+    let most : length ranges ≤ 16 = omega (arith, c.as_slice-ranges.ensures.fits, ap (λ (xs : List Range). length xs) c.as_slice-ranges.ensures.value) in
+    subst (λ (xs : List Range). page_total xs < 2 ^ 32) (sym (ap (λ (r : ResponseRecord). r.ranges) c.response-response.ensures))
+    (few-pages l.base l.blocks ranges built.fits.few most c.requires.held.placed)
+
+pub returns-clause-answered : goal.returns-clause-answered
+returns-clause-answered g c =
+    let l = c.args.layout.now in
+    let ranges = c.args.self.now.ranges.items in
+    let old = g.M.PhysMem.ram c.args.ram.now in
+    let granted = g.M.PhysMem.ram c.move_rights.new.ram in
+    record {
+      granted = granted;
+      moved =
+          subst (λ (k : ℕ). IsMoved old granted (array_vec_len l.regions) l.blocks k (in_ranges l.base ranges) (λ p. Some c.args.right) false) c.place-index.ensures
+          (subst (λ (xs : List Range). IsMoved old granted (array_vec_len l.regions) l.blocks c.place-index.result (in_ranges l.base xs) (λ p. Some c.args.right) false)
+          c.as_slice-ranges.ensures.value c.move_rights.ensures);
+      answered =
+          c.answer.ensures.ram
+          ∙ ap (λ (r : ResponseRecord). with_rx_bytes granted (buffers_in c.args.buffers.now c.args.caller.0) (response_bytes r)) c.response-response.ensures;
+      bytes = c.answer.ensures.size ∙ ap (λ (r : ResponseRecord). response_size r.ranges) c.response-response.ensures;
+    }

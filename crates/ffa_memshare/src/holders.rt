@@ -1,0 +1,72 @@
+//! Who holds an open transaction, and with which right.
+ghost use Rattle.std.specs.Prelude.{◌≡◌, ◌<◌, Some, None};
+ghost use Rattle.std.specs.FinMap as finite;
+ghost use Rattle.ffa_model.specs.Identifiers.{identifier, place};
+ghost use Rattle.ffa_memshare.specs.Held.{with_held};
+
+use arrayvec::ArrayVec;
+use ffa_model::{EndpointId, Rights};
+use std::marker::Model;
+
+/// How many endpoints a manifest has at most.
+const MOST_ENDPOINTS: usize = 8;
+
+/// The right that each endpoint holds. It stands at the endpoint's place in the manifest.
+#[derive(Drop)]
+pub struct Holders {
+    rights: ArrayVec<Option<Rights>, MOST_ENDPOINTS>,
+}
+
+impl Model for Holders {
+    ghost use Rattle.std.specs.Prelude.{◌≡◌};
+    ghost use Rattle.std.specs.Ordering.{nat_cmp};
+    ghost use Rattle.std.specs.FinMap as finite;
+    ghost use Rattle.std.specs.Coded.{coded_ℕ};
+    ghost use Rattle.arrayvec.specs.ArrayVec.{array_vec_len};
+    ghost use Rattle.ffa_model.specs.declared.rights.Rights.{Rights};
+    ghost use Rattle.ffa_model.specs.Codes.{coded_rights};
+
+    ghost Value = { finite.FinMap nat_cmp Rights };
+
+    ghost coded = { finite.code coded_ℕ coded_rights };
+
+    ghost use Rattle.ffa_memshare.specs.Held.{held_in};
+
+    ghost view = { λ h. held_in h.rights.items };
+
+    ghost invariant = { λ h. array_vec_len h.rights ≡ 8 };
+}
+
+impl Holders {
+    /// Nobody holds it.
+    pub fn none() -> Holders
+        ensures { result ≡ finite.empty }
+    {
+        let mut rights = ArrayVec::new();
+        for _place in 0..MOST_ENDPOINTS {
+            rights.push(None);
+        }
+        Holders { rights }
+    }
+
+    /// The right that an endpoint holds.
+    pub fn of(&self, endpoint: EndpointId) -> Option<Rights>
+        ensures { result ≡ finite.get self.now endpoint.0 }
+    {
+        let place = endpoint.place();
+        if EndpointId::at(place) == endpoint && place < self.rights.len() {
+            self.rights[place]
+        } else {
+            None
+        }
+    }
+
+    /// Says which right an endpoint holds, or that it holds none.
+    pub fn set(&mut self, endpoint: EndpointId, right: Option<Rights>)
+        requires known { identifier (place endpoint.0) ≡ endpoint.0 }
+        requires few { place endpoint.0 < 8 }
+        ensures { self.new ≡ with_held self.old endpoint.0 right }
+    {
+        self.rights[endpoint.place()] = right;
+    }
+}

@@ -1,0 +1,125 @@
+//! What an endpoint offers: whether the bytes are a descriptor, and whether the endpoint may send what it names.
+ghost use Rattle.std.specs.Prelude.{◌≡◌, ℕ, length, List, OnOk, IfOk, IfErr, Bool, Some, true, false, not, ◌&&◌, ◌||◌};
+ghost use Rattle.std.specs.List.{list_all};
+ghost use Rattle.std.specs.Option.{option_map};
+ghost use Rattle.std.specs.Result.{result_ok};
+ghost use Rattle.arrayvec.specs.ArrayVec.{array_vec_len};
+ghost use Rattle.ffa_model.specs.declared.operation.ErrorCode.{ErrorCode as Code};
+ghost use Rattle.ffa_model.specs.Calls.{first_failure};
+ghost use Rattle.ffa_model.specs.MemorySend.{are_grants_within, are_known, is_inside};
+ghost use Rattle.ffa_model.specs.SendDescriptor.{is_named, send_of, send_record};
+ghost use Rattle.ffa_model.specs.State.{is_known_among};
+ghost use Rattle.ffa_model.specs.Transactions.{are_writable, pages_in};
+ghost use Rattle.ffa_rxtx.specs.Parts.{candidates_in};
+ghost use Rattle.ffa_memshare.specs.Named.{bases_in};
+ghost use Rattle.ffa_memshare.specs.Offers.{AreAligned, IsOwnOffer, after_offer, grants_writes};
+
+use crate::checks::{are_sendable, common_of};
+use ffa_memdesc::read_send;
+use ffa_model::{Data, EndpointId, ErrorCode, Kind, Range, Receiver, SendDesc};
+use ffa_pages::PageTable;
+use ffa_rxtx::Buffers;
+use ffa_stage2::Layout;
+
+// What the bytes offer, or that they are no descriptor.
+pub(crate) fn read_offer(bytes: &[u8], kind: Kind) -> Result<SendDesc, ErrorCode>
+    ensures computed { option_map send_record (result_ok result) ≡ send_of kind bytes.now }
+    ensures code { IfErr result (λ code. code ≡ ErrorCode.InvalidParameters) }
+    ensures aligned { IfOk result (λ d. AreAligned d.ranges.items) }
+    ensures other { IfOk result (λ d. is_named d.sender.0 d.receivers.items ≡ false) }
+{
+    match read_send(bytes, kind) {
+        Ok(offer) => Ok(offer),
+        Err(_) => Err(ErrorCode::InvalidParameters),
+    }
+}
+
+// Whether an identifier names one of this many endpoints.
+fn is_known(endpoint: EndpointId, endpoints: usize) -> bool
+    ensures { result ≡ is_known_among endpoints endpoint.0 }
+{
+    let is_partition = endpoint > EndpointId::MANAGER && endpoint.place() < endpoints;
+    endpoint == EndpointId(0) || is_partition
+}
+
+// Whether all receivers are endpoints, of this many.
+fn are_known(receivers: &[Receiver], endpoints: usize) -> bool
+    ensures { result ≡ are_known endpoints receivers.now }
+{
+    receivers
+        .iter()
+        .all(|receiver| is_known(receiver.endpoint, endpoints))
+}
+
+// Whether a range lies in the RAM of these pages.
+fn is_inside(range: &Range, pages: &PageTable, base: u32) -> bool
+    ensures { result ≡ is_inside (bases_in pages.now base) range.now }
+{
+    let start = u64::from(base);
+    let end = start + 4096 * u64::from(pages.pages());
+    let size = 4096 * u64::from(range.pages);
+    start <= range.address && range.address <= end && size <= end - range.address
+}
+
+// Whether all ranges do.
+fn are_inside(ranges: &[Range], pages: &PageTable, base: u32) -> bool
+    ensures { result ≡ list_all (is_inside (bases_in pages.now base)) ranges.now }
+{
+    ranges.iter().all(|range| is_inside(range, pages, base))
+}
+
+// Whether somebody is granted rw.
+fn grants_writes(receivers: &[Receiver]) -> bool
+    ensures { result ≡ grants_writes receivers.now }
+{
+    receivers
+        .iter()
+        .any(|receiver| receiver.grant == Some(Data::Rw))
+}
+
+// Whether zeros are asked or somebody is granted rw.
+fn asks_for_writes(offer: &SendDesc) -> bool
+    ensures { result ≡ (offer.now.zero || grants_writes offer.now.receivers.items) }
+{
+    offer.zero || grants_writes(offer.receivers.as_slice())
+}
+
+// Whether the pages that are offered have rw themselves, where that is asked for.
+fn are_writable_enough(offer: &SendDesc, pages: &PageTable, base: u32) -> bool
+    requires { (e : ℕ) × IsOwnOffer pages.now base e (send_record offer.now) }
+    ensures { result ≡ (list_all (are_grants_within (bases_in pages.now base) offer.now.receivers.items) (pages_in (bases_in pages.now base) offer.now.ranges.items)
+        && (not offer.now.zero || are_writable (bases_in pages.now base) offer.now.ranges.items)) }
+{
+    let is_writable = common_of(pages, base, offer.ranges.as_slice()).is_writable;
+    is_writable || !asks_for_writes(offer)
+}
+
+// Whether an endpoint may send what it offers, or why not.
+pub(crate) fn check_offer(
+    offer: &SendDesc,
+    layout: &Layout,
+    pages: &PageTable,
+    buffers: &Buffers,
+    caller: EndpointId,
+) -> Result<(), ErrorCode>
+    requires aligned { AreAligned offer.now.ranges.items }
+    ensures refused { IfErr result (λ code. (rest : List (Bool × Code)) → first_failure (after_offer (array_vec_len layout.now.regions) (candidates_in pages.now layout.now.base) (bases_in pages.now layout.now.base) buffers.now caller.0 (send_record offer.now) rest) ≡ Some code) }
+    ensures passed { OnOk result ((rest : List (Bool × Code)) → first_failure (after_offer (array_vec_len layout.now.regions) (candidates_in pages.now layout.now.base) (bases_in pages.now layout.now.base) buffers.now caller.0 (send_record offer.now) rest) ≡ first_failure rest) }
+    ensures offered { OnOk result (IsOwnOffer pages.now layout.now.base caller.0 (send_record offer.now)) }
+{
+    let receivers = offer.receivers.as_slice();
+    let ranges = offer.ranges.as_slice();
+    if offer.sender != caller || !are_known(receivers, layout.regions.len()) {
+        return Err(ErrorCode::InvalidParameters);
+    }
+    if !are_inside(ranges, pages, layout.base) {
+        return Err(ErrorCode::Denied);
+    }
+    if !are_sendable(pages, layout.base, buffers, caller, ranges) {
+        return Err(ErrorCode::Denied);
+    }
+    if !are_writable_enough(offer, pages, layout.base) {
+        return Err(ErrorCode::Denied);
+    }
+    Ok(())
+}

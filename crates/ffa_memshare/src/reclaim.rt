@@ -1,0 +1,65 @@
+//! FFA_MEM_RECLAIM.
+ghost use Rattle.std.specs.Prelude.{◌≡◌, ◌==◌, None, OnOk, OnErr};
+ghost use Rattle.std.specs.FinMap as finite;
+ghost use Rattle.std.specs.Result.{result_err};
+ghost use Rattle.arrayvec.specs.ArrayVec.{array_vec_len};
+ghost use Rattle.ffa_model.specs.Calls.{first_failure};
+ghost use Rattle.ffa_model.specs.Identifiers.{place};
+ghost use Rattle.ffa_model.specs.MemoryReturn.{named_ranges, reclaim_guards};
+ghost use Rattle.ffa_model.specs.Transactions.{closed};
+ghost use Rattle.ffa_pages.specs.Entry.{base_at};
+ghost use Rattle.ffa_memshare.specs.Changes.{IsMarked, IsMoved};
+ghost use Rattle.ffa_memshare.specs.Named.{bases_in};
+ghost use Rattle.ffa_memshare.specs.Ranges.{in_ranges};
+ghost use Rattle.ffa_memshare.specs.Shared.{IsShared};
+ghost use Rattle.ffa_memshare.specs.SlotChanges.{IsClosed};
+ghost use Rattle.ffa_memshare.specs.Stored.{map_in, offers_in};
+
+use crate::marks::Mark;
+use crate::pool::Pool;
+use ffa_model::{EndpointId, ErrorCode};
+use ffa_pages::PageTable;
+use ffa_physmem::PhysMem;
+use ffa_stage2::Layout;
+
+impl Pool {
+    /// FFA_MEM_RECLAIM of an endpoint, with w3: the transaction is open no more, its pages are the sender's with its own
+    /// right, and zeros where bit 0 of the word asks for it.
+    ///
+    /// # Errors
+    ///
+    /// In this order: `InvalidParameters` where the word is above 1 or no transaction of the caller with this handle is
+    /// open; `Denied` where a receiver holds it, or zeros are asked of a page whose own right isn't rw. An error changes
+    /// nothing.
+    pub fn reclaim<M: PhysMem>(
+        &mut self,
+        ram: &mut M,
+        layout: &Layout,
+        pages: &mut PageTable,
+        caller: EndpointId,
+        handle: u64,
+        flags: u32,
+    ) -> Result<(), ErrorCode>
+        requires { IsShared (M.ram ram.old) layout.now.base (array_vec_len layout.now.regions) layout.now.blocks pages.old self.old.slots }
+        ensures refusal { result_err result ≡ first_failure (reclaim_guards (bases_in pages.old layout.now.base) caller.0 flags (finite.get (map_in self.old.slots) handle)) }
+        ensures kept { OnErr result (self.new ≡ self.old) }
+        ensures kept_pages { OnErr result (pages.new ≡ pages.old) }
+        ensures kept_ram { OnErr result (M.ram ram.new ≡ M.ram ram.old) }
+        ensures slot { OnOk result (IsClosed self.old self.new handle) }
+        ensures offers { OnOk result (offers_in self.new ≡ closed (offers_in self.old) handle) }
+        ensures ram { OnOk result (IsMoved (M.ram ram.old) (M.ram ram.new) (array_vec_len layout.now.regions) layout.now.blocks
+            (place caller.0) (in_ranges layout.now.base (named_ranges (finite.get (map_in self.old.slots) handle))) (base_at pages.old) (flags == 1)) }
+        ensures pages { OnOk result (IsMarked pages.old pages.new
+            (in_ranges layout.now.base (named_ranges (finite.get (map_in self.old.slots) handle))) (Mark.Named None)) }
+    {
+        let slot = match self.find(handle) {
+            Some(slot) => slot,
+            None => return Err(ErrorCode::InvalidParameters),
+        };
+        let open = self.at(slot);
+        open.check_reclaim(pages, layout.base, caller, flags)?;
+        open.give_back(ram, layout, pages, flags == 1);
+        self.close(slot);
+        Ok(())
+    }
+}

@@ -1,0 +1,112 @@
+//! FFA_MEM_RELINQUISH.
+ghost use Rattle.std.specs.Prelude.{◌≡◌, ◌<◌, length, true, is_some, Some, IfOk, IfErr, OnOk, OnErr};
+ghost use Rattle.std.specs.Result.{result_err};
+ghost use Rattle.arrayvec.specs.ArrayVec.{array_vec_len};
+ghost use Rattle.ffa_model.specs.Buffers.{buffers_in};
+ghost use Rattle.ffa_model.specs.Calls.{first_failure};
+ghost use Rattle.ffa_model.specs.MemoryReturn.{holder_guards, is_zeroable, relinquish_guards};
+ghost use Rattle.ffa_model.specs.RelinquishDescriptor.{relinquish_of};
+ghost use Rattle.ffa_model.specs.State.{Buffers as Own};
+ghost use Rattle.ffa_model.specs.Transactions.{Offers};
+ghost use Rattle.ffa_memshare.specs.Callers.{IsCaller};
+ghost use Rattle.ffa_memshare.specs.Relinquished.{IsRelinquished};
+ghost use Rattle.ffa_memshare.specs.Scenes.{tx_in};
+ghost use Rattle.ffa_memshare.specs.Shared.{IsShared};
+ghost use Rattle.ffa_memshare.specs.Stored.{offers_in, transaction_of};
+
+use crate::grants::NewRight;
+use crate::moves::move_rights;
+use crate::pool::Pool;
+use crate::transaction::OpenTransaction;
+use ffa_memdesc::read_relinquish;
+use ffa_model::{Data, EndpointId, ErrorCode, Kind, RelinquishDesc};
+use ffa_pages::PageTable;
+use ffa_physmem::PhysMem;
+use ffa_rxtx::Buffers;
+use ffa_stage2::Layout;
+
+impl Pool {
+    /// FFA_MEM_RELINQUISH of an endpoint, with the descriptor in its TX: it holds the transaction no more and has no right
+    /// to the pages, which are zeros where the descriptor asks for it.
+    ///
+    /// # Errors
+    ///
+    /// In this order: `InvalidParameters` where the caller has no buffers, TX has no descriptor, it names another endpoint
+    /// than the caller, or no transaction with its handle is open that is offered to the caller; `Denied` where the caller
+    /// doesn't hold it, or zeros are asked of what the caller doesn't hold in a lend with rw. An error changes nothing.
+    pub fn relinquish<M: PhysMem>(
+        &mut self,
+        ram: &mut M,
+        layout: &Layout,
+        pages: &PageTable,
+        buffers: &Buffers,
+        caller: EndpointId,
+    ) -> Result<(), ErrorCode>
+        requires shared { IsShared (M.ram ram.old) layout.now.base (array_vec_len layout.now.regions) layout.now.blocks pages.now self.old.slots }
+        requires caller { IsCaller (array_vec_len layout.now.regions) (length (M.ram ram.old).pages) caller.0 buffers.now }
+        ensures refusal { result_err result ≡ first_failure (relinquish_guards (buffers_in buffers.now caller.0) (offers_in self.old) caller.0
+            (relinquish_of (tx_in (M.ram ram.old) (buffers_in buffers.now caller.0)))) }
+        ensures kept { OnErr result (self.new ≡ self.old) }
+        ensures kept_ram { OnErr result (M.ram ram.new ≡ M.ram ram.old) }
+        ensures done { OnOk result (IsRelinquished self.old self.new (M.ram ram.old) (M.ram ram.new) layout.now.base
+            (array_vec_len layout.now.regions) layout.now.blocks caller.0 (tx_in (M.ram ram.old) (buffers_in buffers.now caller.0))) }
+    {
+        let asked = asked_in(ram, buffers, caller)?;
+        let slot = match self.find(asked.handle) {
+            Some(slot) => slot,
+            None => return Err(ErrorCode::InvalidParameters),
+        };
+        let open = self.at(slot);
+        open.check_relinquish(caller, &asked)?;
+        let ranges = open.ranges.as_slice();
+        let index = caller.place();
+        let nothing = NewRight::Same(None);
+        move_rights(ram, layout, pages, ranges, index, nothing, asked.zero);
+        self.set_held(slot, caller, None);
+        Ok(())
+    }
+}
+
+impl OpenTransaction {
+    // Whether an endpoint may give up what it asks to, or why not.
+    fn check_relinquish(&self, caller: EndpointId, asked: &RelinquishDesc) -> Result<(), ErrorCode>
+        ensures { result_err result ≡ first_failure (holder_guards caller.0 asked.now (Some (transaction_of self.now))) }
+    {
+        if asked.endpoint != caller || !self.is_receiver(caller) {
+            return Err(ErrorCode::InvalidParameters);
+        }
+        if self.held(caller).is_none() || (asked.zero && !self.is_zeroable(caller)) {
+            return Err(ErrorCode::Denied);
+        }
+        Ok(())
+    }
+
+    // Whether an endpoint may fill the pages with zeros: it holds a lend, and may write to them.
+    fn is_zeroable(&self, endpoint: EndpointId) -> bool
+        ensures { result ≡ is_zeroable endpoint.0 (Some (transaction_of self.now)) }
+    {
+        match self.held(endpoint) {
+            Some(right) => matches!(self.kind, Kind::Lend) && right.level == Data::Rw,
+            None => false,
+        }
+    }
+}
+
+// What the descriptor in the caller's TX says, read where it lies.
+fn asked_in<M: PhysMem>(
+    ram: &M,
+    buffers: &Buffers,
+    caller: EndpointId,
+) -> Result<RelinquishDesc, ErrorCode>
+    requires { (b : Own) → buffers_in buffers.now caller.0 ≡ Some b → b.tx < length (M.ram ram.now).pages }
+    ensures refused { IfErr result (λ code. (offers : Offers) → first_failure (relinquish_guards (buffers_in buffers.now caller.0) offers caller.0
+        (relinquish_of (tx_in (M.ram ram.now) (buffers_in buffers.now caller.0)))) ≡ Some code) }
+    ensures buffers { OnOk result (is_some (buffers_in buffers.now caller.0) ≡ true) }
+    ensures asked { IfOk result (λ asked. relinquish_of (tx_in (M.ram ram.now) (buffers_in buffers.now caller.0)) ≡ Some asked) }
+{
+    let mapped = match buffers.of(caller) {
+        Some(mapped) => mapped,
+        None => return Err(ErrorCode::InvalidParameters),
+    };
+    read_relinquish(&ram.page(mapped.tx)[..]).or(Err(ErrorCode::InvalidParameters))
+}

@@ -1,0 +1,191 @@
+//! FFA_MEM_RETRIEVE_REQ.
+ghost use Rattle.std.specs.Prelude.{List, Bool, ℕ, ◌≡◌, ◌≢◌, ◌≤◌, ◌<◌, ◌*◌, length, true, is_some, Option, Some, IfOk, IfErr, OnOk, OnErr};
+ghost use Rattle.std.specs.FinMap as finite;
+ghost use Rattle.std.specs.Result.{result_err};
+ghost use Rattle.arrayvec.specs.ArrayVec.{array_vec_len};
+ghost use Rattle.ffa_model.specs.Buffers.{buffers_in, buffers_with_rx, is_full};
+ghost use Rattle.ffa_model.specs.Calls.{first_failure};
+ghost use Rattle.ffa_model.specs.Identifiers.{identifier, manager, place};
+ghost use Rattle.ffa_model.specs.MemoryRetrieve.{asking_guards, holding_guards, response_to, retrieve_guards, taken_in};
+ghost use Rattle.ffa_model.specs.ResponseBytes.{response_record};
+ghost use Rattle.ffa_model.specs.RetrieveDescriptor.{retrieve_of};
+ghost use Rattle.ffa_model.specs.State.{Buffers as Own, Transaction};
+ghost use Rattle.ffa_model.specs.Transactions.{Offers};
+ghost use Rattle.ffa_pages.specs.Entry.{Entry, owner_at};
+ghost use Rattle.ffa_memshare.specs.Callers.{IsCaller};
+ghost use Rattle.ffa_memshare.specs.Named.{bases_in};
+ghost use Rattle.ffa_memshare.specs.Ranges.{ArePlaced, in_ranges};
+ghost use Rattle.ffa_memshare.specs.Retrieved.{IsAnswered, IsPassedOn, IsRetrieved, IsTaken};
+ghost use Rattle.ffa_memshare.specs.Scenes.{descriptor_in, scene_in, transfer_of};
+ghost use Rattle.ffa_memshare.specs.Shared.{IsHeld, IsShared};
+ghost use Rattle.ffa_memshare.specs.Stored.{map_in, offers_in, slot_at, transaction_of};
+
+use crate::answer::answer;
+use crate::grants::NewRight;
+use crate::marks::{Mark, mark_all};
+use crate::moves::move_rights;
+use crate::pool::Pool;
+use crate::transaction::OpenTransaction;
+use crate::transfer::Transfer;
+use arrayvec::ArrayVec;
+use ffa_memdesc::read_retrieve;
+use ffa_model::{EndpointId, ErrorCode, Kind, Range, Response, RetrieveDesc, Rights};
+use ffa_pages::PageTable;
+use ffa_physmem::PhysMem;
+use ffa_rxtx::Buffers;
+use ffa_stage2::Layout;
+
+impl Pool {
+    /// FFA_MEM_RETRIEVE_REQ of an endpoint, with the descriptor in its TX: it holds the right that it asked for, which the
+    /// answer in its RX tells, and the pages of a donate are its own. It gives the length of the answer.
+    ///
+    /// # Errors
+    ///
+    /// In this order: `InvalidParameters` where the caller has no buffers, the descriptor doesn't stand whole in TX, the
+    /// bytes are none, no transaction with its handle is open that is offered to the caller, or it describes another sender,
+    /// tag or kind; `Denied` where the caller holds it already, or asks for more than it may hold; `Busy` where RX is full.
+    /// An error changes nothing.
+    pub fn retrieve<M: PhysMem>(
+        &mut self,
+        ram: &mut M,
+        layout: &Layout,
+        pages: &mut PageTable,
+        buffers: &mut Buffers,
+        caller: EndpointId,
+        transfer: &Transfer,
+    ) -> Result<u32, ErrorCode>
+        requires shared { IsShared (M.ram ram.old) layout.now.base (array_vec_len layout.now.regions) layout.now.blocks pages.old self.old.slots }
+        requires caller { IsCaller (array_vec_len layout.now.regions) (length (M.ram ram.old).pages) caller.0 buffers.old }
+        ensures refusal { result_err result ≡ first_failure (retrieve_guards
+            (scene_in (array_vec_len layout.now.regions) pages.old layout.now.base buffers.old (offers_in self.old)) caller.0 (transfer_of transfer.now)
+            (retrieve_of caller.0 (descriptor_in (M.ram ram.old) buffers.old caller.0 transfer.now.total))) }
+        ensures kept { OnErr result (self.new ≡ self.old) }
+        ensures kept_pages { OnErr result (pages.new ≡ pages.old) }
+        ensures kept_buffers { OnErr result (buffers.new ≡ buffers.old) }
+        ensures kept_ram { OnErr result (M.ram ram.new ≡ M.ram ram.old) }
+        ensures full { OnOk result (buffers.new ≡ buffers_with_rx buffers.old caller.0 true) }
+        ensures done { IfOk result (λ size. IsRetrieved self.old self.new (M.ram ram.old) (M.ram ram.new) pages.old pages.new layout.now.base
+            (array_vec_len layout.now.regions) layout.now.blocks (buffers_in buffers.old caller.0) caller
+            (descriptor_in (M.ram ram.old) buffers.old caller.0 transfer.now.total) size) }
+    {
+        let asked = asked_in(ram, buffers, caller, transfer)?;
+        let slot = match self.find(asked.handle) {
+            Some(slot) => slot,
+            None => return Err(ErrorCode::InvalidParameters),
+        };
+        let open = self.at(slot);
+        let is_full = buffers.is_full(caller);
+        let right = open.check_retrieve(pages, layout.base, is_full, caller, &asked)?;
+        let size = open.hand_over(ram, layout, pages, buffers, caller, right);
+        open.pass_on(pages, layout.base, caller, right);
+        let kind = open.kind;
+        self.take(slot, kind, caller, right);
+        Ok(size)
+    }
+
+    // Notes that an endpoint holds the open transaction in a slot, which is of this kind. A donate is open no more.
+    fn take(&mut self, slot: usize, kind: Kind, endpoint: EndpointId, right: Rights)
+        requires open { (x : ℕ × Transaction) × (slot_at self.old.slots slot ≡ Some x) }
+        requires known { identifier (place endpoint.0) ≡ endpoint.0 }
+        requires few { place endpoint.0 < 8 }
+        ensures slot { (h : ℕ) (t : Transaction) → slot_at self.old.slots slot ≡ Some (h, t) → IsTaken kind self.old self.new h endpoint.0 right }
+        ensures offers { (h : ℕ) (t : Transaction) → slot_at self.old.slots slot ≡ Some (h, t)
+            → offers_in self.new ≡ taken_in kind (offers_in self.old) h t endpoint.0 right }
+    {
+        match kind {
+            Kind::Donate => self.close(slot),
+            Kind::Share | Kind::Lend => self.set_held(slot, endpoint, Some(right)),
+        }
+    }
+}
+
+impl OpenTransaction {
+    // Gives an endpoint this right to the pages, and tells the endpoint so in its RX, which is full then. It answers how
+    // many bytes that takes.
+    fn hand_over<M: PhysMem>(
+        &self,
+        ram: &mut M,
+        layout: &Layout,
+        pages: &PageTable,
+        buffers: &mut Buffers,
+        caller: EndpointId,
+        right: Rights,
+    ) -> u32
+        requires held { IsHeld (M.ram ram.old) layout.now.base (array_vec_len layout.now.regions) layout.now.blocks pages.now (transaction_of self.now) }
+        requires caller { IsCaller (array_vec_len layout.now.regions) (length (M.ram ram.old).pages) caller.0 buffers.old }
+        requires buffers { is_some (buffers_in buffers.old caller.0) ≡ true }
+        ensures answered { IsAnswered (M.ram ram.old) (M.ram ram.new) layout.now.base (array_vec_len layout.now.regions) layout.now.blocks
+            (buffers_in buffers.old caller.0) self.now.handle (transaction_of self.now) caller.0 right result }
+        ensures full { buffers.new ≡ buffers_with_rx buffers.old caller.0 true }
+    {
+        let ranges = self.ranges.as_slice();
+        let index = caller.place();
+        let to_caller = NewRight::Same(Some(right));
+        move_rights(ram, layout, pages, ranges, index, to_caller, false);
+        let response = self.response(caller, right);
+        answer(ram, buffers, caller, &response)
+    }
+
+    // Makes the pages of a donate an endpoint's own, with this right.
+    fn pass_on(&self, pages: &mut PageTable, base: u32, endpoint: EndpointId, right: Rights)
+        requires placed { ArePlaced base (length pages.old) self.now.ranges.items }
+        requires owned { (p : ℕ) → in_ranges base self.now.ranges.items p ≡ true → owner_at pages.old p ≢ manager }
+        requires endpoint { endpoint.0 ≢ manager }
+        ensures { IsPassedOn self.now.kind pages.old pages.new (in_ranges base self.now.ranges.items) endpoint right }
+    {
+        let ranges = self.ranges.as_slice();
+        match self.kind {
+            Kind::Donate => mark_all(pages, base, ranges, Mark::Given(endpoint, right)),
+            Kind::Share | Kind::Lend => {}
+        }
+    }
+
+    // What an endpoint is told that has this right to the pages.
+    fn response(&self, endpoint: EndpointId, right: Rights) -> Response
+        ensures { response_record result ≡ response_to self.now.handle (transaction_of self.now) endpoint.0 right }
+    {
+        Response {
+            sender: self.sender,
+            kind: self.kind,
+            zero: self.zero,
+            handle: self.handle,
+            tag: self.tag,
+            endpoint,
+            rights: right,
+            ranges: copied(&self.ranges),
+        }
+    }
+}
+
+// The same ranges.
+fn copied(ranges: &ArrayVec<Range, 16>) -> ArrayVec<Range, 16>
+    ensures { result.items ≡ ranges.now.items }
+{
+    let mut copied = ArrayVec::new();
+    for range in ranges.as_slice() {
+        copied.push(*range);
+    }
+    copied
+}
+
+// What the descriptor in the caller's TX says, read where it lies.
+fn asked_in<M: PhysMem>(
+    ram: &M,
+    buffers: &Buffers,
+    caller: EndpointId,
+    transfer: &Transfer,
+) -> Result<RetrieveDesc, ErrorCode>
+    requires { (b : Own) → buffers_in buffers.now caller.0 ≡ Some b → b.tx < length (M.ram ram.now).pages }
+    ensures refused { IfErr result (λ code. (n base : ℕ) (table : List (Option Entry)) (offers : Offers)
+        → first_failure (retrieve_guards (scene_in n table base buffers.now offers) caller.0 (transfer_of transfer.now)
+        (retrieve_of caller.0 (descriptor_in (M.ram ram.now) buffers.now caller.0 transfer.now.total))) ≡ Some code) }
+    ensures passed { IfOk result (λ asked. (n base : ℕ) (table : List (Option Entry)) (offers : Offers)
+        → first_failure (retrieve_guards (scene_in n table base buffers.now offers) caller.0 (transfer_of transfer.now)
+        (retrieve_of caller.0 (descriptor_in (M.ram ram.now) buffers.now caller.0 transfer.now.total)))
+        ≡ first_failure (holding_guards (bases_in table base) (is_full (buffers_in buffers.now caller.0)) caller.0 asked (finite.get offers.transactions asked.handle))) }
+    ensures buffers { OnOk result (is_some (buffers_in buffers.now caller.0) ≡ true) }
+    ensures asked { IfOk result (λ asked. retrieve_of caller.0 (descriptor_in (M.ram ram.now) buffers.now caller.0 transfer.now.total) ≡ Some asked) }
+{
+    let bytes = transfer.descriptor(ram, buffers, caller)?;
+    read_retrieve(bytes, caller).or(Err(ErrorCode::InvalidParameters))
+}

@@ -1,0 +1,102 @@
+//! FFA_MEM_DONATE, FFA_MEM_LEND and FFA_MEM_SHARE.
+ghost use Rattle.std.specs.Prelude.{◌≡◌, ◌<◌, ℕ, length, false, None, Some, IfOk, IfErr, OnOk, OnErr};
+ghost use Rattle.std.specs.Result.{result_err};
+ghost use Rattle.arrayvec.specs.ArrayVec.{array_vec_len};
+ghost use Rattle.ffa_model.specs.Buffers.{buffers_in};
+ghost use Rattle.ffa_model.specs.Calls.{first_failure};
+ghost use Rattle.ffa_model.specs.MemorySend.{send_guards};
+ghost use Rattle.ffa_model.specs.SendDescriptor.{is_named, send_of, send_record};
+ghost use Rattle.ffa_model.specs.State.{Buffers as Own};
+ghost use Rattle.ffa_model.specs.Transactions.{Offers, next_handle};
+ghost use Rattle.ffa_pages.specs.Entry.{entry_at};
+ghost use Rattle.ffa_stage2.specs.Tables.{table_page};
+ghost use Rattle.ffa_memshare.specs.Callers.{IsCaller};
+ghost use Rattle.ffa_memshare.specs.Offers.{IsOwnOffer, room_guards};
+ghost use Rattle.ffa_memshare.specs.Scenes.{descriptor_in, scene_in, transfer_of};
+ghost use Rattle.ffa_memshare.specs.Sent.{IsSent};
+ghost use Rattle.ffa_memshare.specs.Shared.{IsRoom};
+ghost use Rattle.ffa_memshare.specs.Stored.{offers_in};
+
+use crate::offer::{check_offer, read_offer};
+use crate::pool::Pool;
+use crate::transaction::OpenTransaction;
+use crate::transfer::Transfer;
+use ffa_model::{EndpointId, ErrorCode, Kind, SendDesc};
+use ffa_pages::PageTable;
+use ffa_physmem::PhysMem;
+use ffa_rxtx::Buffers;
+use ffa_stage2::Layout;
+
+impl Pool {
+    /// FFA_MEM_DONATE, FFA_MEM_LEND or FFA_MEM_SHARE of an endpoint, with the descriptor in its TX: the transaction is
+    /// open, and nobody holds it. The sender has no right to the pages, but keeps its own in a share, and they are zeros
+    /// where the descriptor asks for it. Returns the handle.
+    ///
+    /// # Errors
+    ///
+    /// In this order: `InvalidParameters` where the caller has no buffers, the registers don't say that the descriptor
+    /// stands whole in TX, TX has no descriptor of this kind, it names another sender than the caller or a receiver that is
+    /// no endpoint; `Denied` where a range isn't in RAM, a page isn't the caller's, stands in an open transaction or is
+    /// somebody's buffer, or has less itself than is granted or than zeros need; `NoMemory` where eight transactions of the
+    /// caller are open or it has made 65535 sends. An error changes nothing.
+    pub fn send<M: PhysMem>(
+        &mut self,
+        ram: &mut M,
+        layout: &Layout,
+        pages: &mut PageTable,
+        buffers: &Buffers,
+        caller: EndpointId,
+        kind: Kind,
+        transfer: &Transfer,
+    ) -> Result<u64, ErrorCode>
+        requires room { IsRoom (M.ram ram.old) layout.now.base (array_vec_len layout.now.regions) layout.now.blocks pages.old }
+        requires caller { IsCaller (array_vec_len layout.now.regions) (length (M.ram ram.old).pages) caller.0 buffers.now }
+        requires endpoints { length self.old.sent ≡ array_vec_len layout.now.regions }
+        requires tables { (p : ℕ) → p < table_page layout.now.blocks (array_vec_len layout.now.regions) 0 → entry_at pages.old p ≡ None }
+        ensures refusal { result_err result ≡ first_failure (send_guards
+            (scene_in (array_vec_len layout.now.regions) pages.old layout.now.base buffers.now (offers_in self.old))
+            caller.0 (transfer_of transfer.now) (send_of kind (descriptor_in (M.ram ram.old) buffers.now caller.0 transfer.now.total))) }
+        ensures kept { OnErr result (self.new ≡ self.old) }
+        ensures kept_pages { OnErr result (pages.new ≡ pages.old) }
+        ensures kept_ram { OnErr result (M.ram ram.new ≡ M.ram ram.old) }
+        ensures handle { IfOk result (λ handle. handle ≡ next_handle (offers_in self.old) caller.0) }
+        ensures sent { OnOk result (IsSent self.old self.new pages.old pages.new (M.ram ram.old) (M.ram ram.new) layout.now.base
+            (array_vec_len layout.now.regions) layout.now.blocks caller.0 kind (descriptor_in (M.ram ram.old) buffers.now caller.0 transfer.now.total)) }
+    {
+        let offer = checked_offer(ram, layout, pages, buffers, caller, kind, transfer)?;
+        let slot = self.room(caller)?;
+        let handle = self.next_handle(caller);
+        let open = OpenTransaction::of(handle, kind, offer);
+        open.take_pages(ram, layout, pages, slot as u8);
+        self.open(slot, open);
+        Ok(handle)
+    }
+}
+
+// What the descriptor in the caller's TX offers, where the caller may send it but for room.
+fn checked_offer<M: PhysMem>(
+    ram: &M,
+    layout: &Layout,
+    pages: &PageTable,
+    buffers: &Buffers,
+    caller: EndpointId,
+    kind: Kind,
+    transfer: &Transfer,
+) -> Result<SendDesc, ErrorCode>
+    requires { (b : Own) → buffers_in buffers.now caller.0 ≡ Some b → b.tx < length (M.ram ram.now).pages }
+    ensures refused { IfErr result (λ code. (offers : Offers) → first_failure (send_guards
+        (scene_in (array_vec_len layout.now.regions) pages.now layout.now.base buffers.now offers)
+        caller.0 (transfer_of transfer.now) (send_of kind (descriptor_in (M.ram ram.now) buffers.now caller.0 transfer.now.total))) ≡ Some code) }
+    ensures passed { OnOk result ((offers : Offers) → first_failure (send_guards
+        (scene_in (array_vec_len layout.now.regions) pages.now layout.now.base buffers.now offers)
+        caller.0 (transfer_of transfer.now) (send_of kind (descriptor_in (M.ram ram.now) buffers.now caller.0 transfer.now.total)))
+        ≡ first_failure (room_guards offers caller.0)) }
+    ensures described { IfOk result (λ offer. send_of kind (descriptor_in (M.ram ram.now) buffers.now caller.0 transfer.now.total) ≡ Some (send_record offer)) }
+    ensures own { IfOk result (λ offer. IsOwnOffer pages.now layout.now.base caller.0 (send_record offer)) }
+    ensures other { IfOk result (λ offer. is_named offer.sender.0 offer.receivers.items ≡ false) }
+{
+    let bytes = transfer.descriptor(ram, buffers, caller)?;
+    let offer = read_offer(bytes, kind)?;
+    check_offer(&offer, layout, pages, buffers, caller)?;
+    Ok(offer)
+}

@@ -1,0 +1,177 @@
+//! One open transaction.
+ghost use Rattle.std.specs.Prelude.{◌≡◌, length, Some, None};
+ghost use Rattle.std.specs.Result.{result_err};
+ghost use Rattle.arrayvec.specs.ArrayVec.{array_vec_len};
+ghost use Rattle.ffa_model.specs.Access.{held_by, right_by};
+ghost use Rattle.ffa_model.specs.Calls.{first_failure};
+ghost use Rattle.ffa_model.specs.Identifiers.{place};
+ghost use Rattle.ffa_model.specs.MemoryReturn.{is_unheld, reclaim_guards};
+ghost use Rattle.ffa_model.specs.MemorySend.{transaction_from};
+ghost use Rattle.ffa_model.specs.SendDescriptor.{send_record};
+ghost use Rattle.ffa_model.specs.State.{Page};
+ghost use Rattle.ffa_model.specs.Transactions.{are_executable, are_writable};
+ghost use Rattle.ffa_pages.specs.Entry.{base_at};
+ghost use Rattle.ffa_memshare.specs.Changes.{IsMarked, IsMoved};
+ghost use Rattle.ffa_memshare.specs.Named.{bases_in};
+ghost use Rattle.ffa_memshare.specs.Ranges.{ArePlaced, in_ranges};
+ghost use Rattle.ffa_memshare.specs.Grants.{new_right};
+ghost use Rattle.ffa_memshare.specs.Sent.{right_after};
+ghost use Rattle.ffa_memshare.specs.Shared.{IsHeld};
+
+use crate::checks::{Common, common_of};
+use crate::grants::NewRight;
+use crate::holders::Holders;
+use crate::marks::{Mark, mark_all};
+use crate::moves::move_rights;
+use arrayvec::ArrayVec;
+use ffa_model::{EndpointId, ErrorCode, Kind, Range, Receiver, Rights, SendDesc};
+use ffa_pages::PageTable;
+use ffa_physmem::PhysMem;
+use ffa_stage2::Layout;
+
+/// A transaction that is open.
+#[derive(Drop)]
+pub struct OpenTransaction {
+    pub handle: u64,
+    pub kind: Kind,
+    pub sender: EndpointId,
+    pub tag: u64,
+    pub zero: bool,
+    pub ranges: ArrayVec<Range, 16>,
+    pub receivers: ArrayVec<Receiver, 4>,
+    pub held: Holders,
+}
+
+impl OpenTransaction {
+    ghost use Rattle.ffa_memshare.specs.Stored.{transaction_of};
+
+    // What a descriptor offers, under this handle. Nobody holds it.
+    pub(crate) fn of(handle: u64, kind: Kind, offer: SendDesc) -> OpenTransaction
+        ensures handle { result.handle ≡ handle }
+        ensures value { transaction_of result ≡ transaction_from kind (send_record offer) }
+    {
+        OpenTransaction {
+            handle,
+            kind,
+            sender: offer.sender,
+            tag: offer.tag,
+            zero: offer.zero,
+            ranges: offer.ranges,
+            receivers: offer.receivers,
+            held: Holders::none(),
+        }
+    }
+
+    // The right that an endpoint holds.
+    pub(crate) fn held(&self, endpoint: EndpointId) -> Option<Rights>
+        ensures { result ≡ held_by (transaction_of self.now) endpoint.0 }
+    {
+        self.held.of(endpoint)
+    }
+
+    // What an endpoint may do with one of its pages, to which the sender's own right is this.
+    pub(crate) fn right_to(&self, endpoint: EndpointId, base: Rights) -> Option<Rights>
+        ensures { (page : Page) → page.base ≡ base → result ≡ right_by endpoint.0 page (transaction_of self.now) (held_by (transaction_of self.now) endpoint.0) }
+    {
+        let held = self.held(endpoint);
+        if held.is_some() {
+            return held;
+        }
+        match self.kind {
+            Kind::Share if self.sender == endpoint => Some(base),
+            Kind::Share | Kind::Lend | Kind::Donate => None,
+        }
+    }
+
+    // Whether no receiver holds it.
+    fn is_unheld(&self) -> bool
+        ensures { result ≡ is_unheld (Some (transaction_of self.now)) }
+    {
+        self.receivers
+            .as_slice()
+            .iter()
+            .all(|receiver| self.held(receiver.endpoint).is_none())
+    }
+
+    // What all its pages have.
+    pub(crate) fn common(&self, pages: &PageTable, base: u32) -> Common
+        requires { ArePlaced base (length pages.now) self.now.ranges.items }
+        ensures writable { result.is_writable ≡ are_writable (bases_in pages.now base) self.now.ranges.items }
+        ensures executable { result.is_executable ≡ are_executable (bases_in pages.now base) self.now.ranges.items }
+    {
+        common_of(pages, base, self.ranges.as_slice())
+    }
+
+    // Whether its sender may end it, or why not.
+    pub(crate) fn check_reclaim(
+        &self,
+        pages: &PageTable,
+        base: u32,
+        caller: EndpointId,
+        flags: u32,
+    ) -> Result<(), ErrorCode>
+        requires { ArePlaced base (length pages.now) self.now.ranges.items }
+        ensures { result_err result ≡ first_failure (reclaim_guards (bases_in pages.now base) caller.0 flags (Some (transaction_of self.now))) }
+    {
+        if flags > 1 || self.sender != caller {
+            return Err(ErrorCode::InvalidParameters);
+        }
+        if !self.is_unheld() {
+            return Err(ErrorCode::Denied);
+        }
+        if flags == 1 && !self.common(pages, base).is_writable {
+            return Err(ErrorCode::Denied);
+        }
+        Ok(())
+    }
+
+    // Gives its pages back to the sender, who has its own right to them, and zeros where that is asked.
+    pub(crate) fn give_back<M: PhysMem>(
+        &self,
+        ram: &mut M,
+        layout: &Layout,
+        pages: &mut PageTable,
+        zero: bool,
+    )
+        requires { IsHeld (M.ram ram.old) layout.now.base (array_vec_len layout.now.regions) layout.now.blocks pages.old (transaction_of self.now) }
+        ensures moved { IsMoved (M.ram ram.old) (M.ram ram.new) (array_vec_len layout.now.regions) layout.now.blocks
+            (place self.now.sender.0) (in_ranges layout.now.base self.now.ranges.items) (base_at pages.old) zero }
+        ensures marked { IsMarked pages.old pages.new (in_ranges layout.now.base self.now.ranges.items) (Mark.Named None) }
+    {
+        let ranges = self.ranges.as_slice();
+        let index = self.sender.place();
+        move_rights(ram, layout, pages, ranges, index, NewRight::Base, zero);
+        mark_all(pages, layout.base, ranges, Mark::Named(None));
+    }
+
+    // Takes its pages from the sender, who keeps its own right to them in a share alone: they are marked with the slot, and
+    // zeros where that is asked.
+    pub(crate) fn take_pages<M: PhysMem>(
+        &self,
+        ram: &mut M,
+        layout: &Layout,
+        pages: &mut PageTable,
+        slot: u8,
+    )
+        requires { IsHeld (M.ram ram.old) layout.now.base (array_vec_len layout.now.regions) layout.now.blocks pages.old (transaction_of self.now) }
+        ensures moved { IsMoved (M.ram ram.old) (M.ram ram.new) (array_vec_len layout.now.regions) layout.now.blocks
+            (place self.now.sender.0) (in_ranges layout.now.base self.now.ranges.items) (new_right (right_after self.now.kind) pages.old) self.now.zero }
+        ensures marked { IsMarked pages.old pages.new (in_ranges layout.now.base self.now.ranges.items) (Mark.Named (Some slot)) }
+    {
+        let ranges = self.ranges.as_slice();
+        let index = self.sender.place();
+        let right = right_after(self.kind);
+        move_rights(ram, layout, pages, ranges, index, right, self.zero);
+        mark_all(pages, layout.base, ranges, Mark::Named(Some(slot)));
+    }
+}
+
+// What a sender keeps: of a share its own right, and else nothing.
+fn right_after(kind: Kind) -> NewRight
+    ensures { result ≡ right_after kind }
+{
+    match kind {
+        Kind::Share => NewRight::Base,
+        Kind::Lend | Kind::Donate => NewRight::Same(None),
+    }
+}

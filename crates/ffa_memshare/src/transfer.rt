@@ -1,0 +1,60 @@
+//! The registers of a call whose descriptor stands in TX.
+ghost use Rattle.std.specs.Prelude.{◌≡◌, ◌<◌, length, List, OnOk, IfOk, IfErr, Bool, Some};
+ghost use Rattle.ffa_model.specs.declared.operation.ErrorCode.{ErrorCode as Code};
+ghost use Rattle.ffa_model.specs.Buffers.{buffers_in};
+ghost use Rattle.ffa_model.specs.Calls.{first_failure};
+ghost use Rattle.ffa_model.specs.State.{Buffers as Own};
+ghost use Rattle.ffa_memshare.specs.Scenes.{after_transfer, descriptor_in, is_whole};
+
+use ffa_model::{EndpointId, ErrorCode};
+use ffa_physmem::{PAGE_SIZE, PhysMem};
+use ffa_rxtx::Buffers;
+
+/// What the registers of a call say whose descriptor stands in TX.
+#[derive(Clone, Copy, Debug, PartialEq, Eq)]
+pub struct Transfer {
+    /// How many bytes the descriptor has.
+    pub total: u32,
+    /// How many of them stand in TX.
+    pub fragment: u32,
+    /// The address of a buffer beside TX.
+    pub address: u64,
+    /// How many pages that buffer has.
+    pub pages: u32,
+}
+
+impl Transfer {
+    ghost use Rattle.ffa_memshare.specs.Scenes.{transfer_of};
+
+    // The bytes of the caller's descriptor, where they lie in its TX.
+    pub(crate) fn descriptor<'m, M: PhysMem>(
+        &self,
+        ram: &'m M,
+        buffers: &Buffers,
+        caller: EndpointId,
+    ) -> Result<&'m [u8], ErrorCode>
+        requires tx { (b : Own) → buffers_in buffers.now caller.0 ≡ Some b → b.tx < length (M.ram ram.now).pages }
+        ensures refused { IfErr result (λ code. (rest : List (Bool × Code)) → first_failure (after_transfer buffers.now caller.0 (transfer_of self.now) rest) ≡ Some code) }
+        ensures passed { OnOk result ((rest : List (Bool × Code)) → first_failure (after_transfer buffers.now caller.0 (transfer_of self.now) rest) ≡ first_failure rest) }
+        ensures bytes { IfOk result (λ bytes. bytes.now ≡ descriptor_in (M.ram ram.now) buffers.now caller.0 self.now.total) }
+    {
+        let mapped = match buffers.of(caller) {
+            Some(mapped) => mapped,
+            None => return Err(ErrorCode::InvalidParameters),
+        };
+        if !self.is_whole() {
+            return Err(ErrorCode::InvalidParameters);
+        }
+        Ok(&ram.page(mapped.tx)[..self.total as usize])
+    }
+
+    // Whether the whole descriptor stands in TX, and nothing of it elsewhere.
+    fn is_whole(&self) -> bool
+        ensures { result ≡ is_whole (transfer_of self.now) }
+    {
+        self.total == self.fragment
+            && self.total <= PAGE_SIZE as u32
+            && self.address == 0
+            && self.pages == 0
+    }
+}

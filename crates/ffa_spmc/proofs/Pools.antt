@@ -1,0 +1,154 @@
+-- The open transactions of a machine: the slot that a page's entry has is that of the transaction that names the page.
+use Rattle.std.proofs.Common.{◌≡◌, ◌∙◌, ℕ, ◌<◌, ◌≤◌, Bool, true, false, List, length, Option, Some, None, refl, sym, ap, subst, arith, inl, inr}
+use Rattle.std.specs.Prelude.{is_some}
+use Rattle.std.specs.Option.{option_map, option_map_or}
+use Rattle.std.proofs.lemmas.Bool.{cases_lt, false≢true}
+use Rattle.std.proofs.lemmas.Bool.Decides.{nat_tests}
+use Rattle.std.proofs.lemmas.Option.{none-some}
+use Rattle.arrayvec.specs.ArrayVec.{array_vec_len}
+use Rattle.ffa_model.specs.Access.{access, handle_at, is_naming, names, right_of, transaction_at}
+use Rattle.ffa_model.specs.Identifiers.{manager, place}
+use Rattle.ffa_model.specs.Ram.{page_of}
+use Rattle.ffa_model.specs.State.{State, Page, Transaction, is_known_among, owner_of, page_at, transaction_of}
+use Rattle.ffa_model.specs.Transactions.{base_of, bases_of}
+use Rattle.ffa_model.proofs.Accesses.{IsNamedOnce, named-in, unnamed-in}
+use Rattle.ffa_model.proofs.Handles.{alone-found, unpassed-none}
+use Rattle.ffa_model.proofs.Places.{known-place}
+use Rattle.ffa_model.proofs.Slots.{at-get, get-at}
+use Rattle.ffa_laws.proofs.SoundSteady.{sound-steady}
+use Rattle.ffa_pages.specs.Entry.{Entry, base_at, entry_at, slot_at}
+use Rattle.ffa_stage2.specs.Tables.{table_page}
+use Rattle.ffa_memshare.specs.Named.{bases_in}
+use Rattle.ffa_memshare.specs.Shared.{IsHeld, IsRoom, IsShared}
+use Rattle.ffa_memshare.specs.Stored.{Slot, named_in, page_in, slot_at as pool_slot}
+use Rattle.ffa_spmc.specs.Meaning.{IsMachine, Parts, access_by_place, slot_names, state_of}
+use Rattle.ffa_spmc.proofs.Held.{entry-past, owned-behind, owner-is, owners-size, page-held, page-past, parties_are, size_is}
+
+module _ (x : Parts) (machine : IsMachine x) where
+  abbrev s : State
+  s = state_of x
+
+  abbrev slots : List Slot
+  slots = x.kept.pool.slots
+
+  abbrev pages : List (Option Entry)
+  pages = x.kept.pages
+
+  -- what is in a slot is open, and what is open is in a slot
+  pub slot-open : (k h : ℕ) (t : Transaction) → pool_slot slots k ≡ Some (h, t) → transaction_of s h ≡ Some t
+  slot-open k h t at = get-at slots k h t machine.offers.apart at
+
+  pub open-slot : (h : ℕ) (t : Transaction) → transaction_of s h ≡ Some t → (k : ℕ) × (pool_slot slots k ≡ Some (h, t))
+  open-slot h t is = let there = at-get slots h t is in (there.0, there.2)
+
+  once : (p : ℕ) → p < length x.ram.pages → IsNamedOnce s p
+  once p lt h k at_h at_k = machine.sound.one p h k (subst (λ (n : ℕ). p < n) (sym (size_is x)) lt) at_h at_k
+
+  module _ (p : ℕ) (lt : p < length x.ram.pages) where
+    entered : p < length pages
+    entered = subst (λ (n : ℕ). p < n) (sym (owners-size x machine)) lt
+
+    pub named-marked : (k h : ℕ) (t : Transaction) → pool_slot slots k ≡ Some (h, t) → names s t.ranges p ≡ true → slot_at pages p ≡ Some k
+    named-marked k h t at named = (machine.offers.marks p k entered).1 (ap (slot_names x.manifest.ram_base p) at ∙ named)
+
+    pub marked-named : (k : ℕ) → slot_at pages p ≡ Some k → slot_names x.manifest.ram_base p (pool_slot slots k) ≡ true
+    marked-named k is = (machine.offers.marks p k entered).0 is
+
+    abbrev Agree : Option ℕ → Type 0
+    Agree o = (transaction_at s p ≡ named_in slots o) × (is_some (handle_at s p) ≡ is_some o)
+
+    unmarked : slot_at pages p ≡ None → Agree None
+    unmarked none = (unnamed-in s p never, ap is_some (unpassed-none (is_naming s p) refl s.transactions (λ h. of h (transaction_of s h) refl)))
+      where
+        never : (h : ℕ) (t : Transaction) → transaction_of s h ≡ Some t → names s t.ranges p ≡ false
+        never h t opened = by (names s t.ranges p) refl
+          where
+            by : (b : Bool) → names s t.ranges p ≡ b → b ≡ false
+            by false is = refl
+            by true is = let (k, at) = open-slot h t opened in absurd (none-some k (sym none ∙ named-marked k h t at is))
+
+        of : (h : ℕ) (o : Option Transaction) → transaction_of s h ≡ o → is_naming s p o ≡ false
+        of h None is = refl
+        of h (Some t) is = never h t is
+
+    marked : (k : ℕ) → slot_at pages p ≡ Some k → Agree (Some k)
+    marked k is = of (pool_slot slots k) refl (marked-named k is)
+      where
+        of : (o : Slot) → pool_slot slots k ≡ o → slot_names x.manifest.ram_base p o ≡ true → Agree (Some k)
+        of None at named = absurd (false≢true named)
+        of (Some y) at named =
+            let opened : transaction_of s y.0 ≡ Some y.1 = slot-open k y.0 y.1 at in (
+              named-in s p y.0 y.1 (once p lt) opened named ∙ sym (ap (option_map (λ (z : ℕ × Transaction). z.1)) at),
+              ap is_some (alone-found (is_naming s p) refl s.transactions y.0 (once p lt) (ap (is_naming s p) opened ∙ named)),
+            )
+
+    both : Agree (slot_at pages p)
+    both = of (slot_at pages p) refl
+      where
+        of : (o : Option ℕ) → slot_at pages p ≡ o → Agree o
+        of None is = unmarked is
+        of (Some k) is = marked k is
+
+    -- the transaction in which a page stands
+    pub transaction-kept : transaction_at s p ≡ named_in slots (slot_at pages p)
+    transaction-kept = both.0
+
+    pub named-kept : is_some (handle_at s p) ≡ is_some (slot_at pages p)
+    named-kept = both.1
+
+    -- the access that owners and slots give
+    pub access-kept : (e : ℕ) → right_of e (page_in (page_of x.ram p) (entry_at pages p)) (named_in slots (slot_at pages p)) ≡ access s e p
+    access-kept e = λ i. right_of e (sym (page-held x p lt) i) (sym transaction-kept i)
+
+  -- RAM as grants and ceilings see it
+  pub base-is : (p : ℕ) → base_at pages p ≡ base_of s p
+  base-is p = elim (cases_lt p (length x.ram.pages)) [
+    | inl lt ↦ of (entry_at pages p) ∙ sym (ap (option_map (λ (page : Page). page.base)) (page-held x p lt))
+    | inr past ↦ ap (option_map (λ (e : Entry). e.base)) (entry-past x machine p past) ∙ sym (ap (option_map (λ (page : Page). page.base)) (page-past x p past))
+  ]
+    where
+      of : (o : Option Entry) → option_map (λ (e : Entry). e.base) o ≡ option_map (λ (page : Page). page.base) (page_in (page_of x.ram p) o)
+      of None = refl
+      of (Some e) = refl
+
+  pub bases-are : bases_in pages x.manifest.ram_base ≡ bases_of s
+  bases-are = λ i. record { ram_base = x.manifest.ram_base; pages = (owners-size x machine ∙ sym (size_is x)) i; right = λ p. base-is p i }
+
+  -- what the calls of the pool ask
+  room : IsRoom x.ram x.manifest.ram_base (length x.manifest.endpoints.items) x.manifest.ram_blocks pages
+  room = record { place = machine.tables.base; built = (access_by_place s, machine.tables.built); size = machine.owners.size }
+
+  -- no endpoint is the manager
+  known-owner : (n e : ℕ) → is_known_among n e ≡ true → e ≡ manager → ⊥
+  known-owner n e known is = grind (arith, nat_tests)
+
+  module _ (k h : ℕ) (t : Transaction) (at : pool_slot slots k ≡ Some (h, t)) where
+    opened : transaction_of s h ≡ Some t
+    opened = slot-open k h t at
+
+    known : is_known_among (length s.parties) t.sender ≡ true
+    known = (machine.sound.transactions h t opened).sender
+
+    own : (p : ℕ) → names s t.ranges p ≡ true → owner_of s p ≡ t.sender
+    own p named = ((sound-steady s machine.sound).transactions h t opened).owned p named
+
+    pub held-in : IsHeld x.ram x.manifest.ram_base (length x.manifest.endpoints.items) x.manifest.ram_blocks pages t
+    held-in =
+        record {
+          room = room;
+          sender = subst (λ (n : ℕ). place t.sender < n) (parties_are x) (known-place (length s.parties) t.sender machine.sound.sized.some known);
+          placed = (machine.offers.offered k h t at).placed;
+          owned = λ p named is. known-owner (length s.parties) t.sender known (sym (own p named) ∙ owner-is x machine p ∙ is);
+          behind = λ p named. of p named (page_at s p) refl;
+        }
+      where
+        of : (p : ℕ) → names s t.ranges p ≡ true → (o : Option Page) → page_at s p ≡ o → table_page x.manifest.ram_blocks (length x.manifest.endpoints.items) 0 ≤ p
+        of p named None there = absurd (known-owner (length s.parties) t.sender known (sym (own p named) ∙ ap (λ (o : Option Page). option_map_or (λ (q : Page). q.owner) o manager) there))
+        of p named (Some page) there = owned-behind x machine p page there
+
+  pub pool-shared : IsShared x.ram x.kept.layout.base (array_vec_len x.kept.layout.regions) x.kept.layout.blocks pages slots
+  pool-shared =
+      subst (λ (b : ℕ). IsShared x.ram b (array_vec_len x.kept.layout.regions) x.kept.layout.blocks pages slots) (sym machine.layout.base)
+      (subst (λ (n : ℕ). IsShared x.ram x.manifest.ram_base n x.kept.layout.blocks pages slots) (sym machine.layout.endpoints)
+      (subst (λ (b : ℕ). IsShared x.ram x.manifest.ram_base (length x.manifest.endpoints.items) b pages slots) (sym machine.layout.blocks)
+      (record { room = room; each = held-in })))

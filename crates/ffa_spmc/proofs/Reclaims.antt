@@ -1,0 +1,163 @@
+-- FFA_MEM_RECLAIM changes the state as the small machine's.
+use Rattle.std.proofs.Common.{◌≡◌, ◌∙◌, ℕ, ◌<◌, Bool, true, List, length, Option, Some, None, Result, Ok, Err, sym, ap, subst, arith}
+use Rattle.std.specs.Prelude.{⊤, ◌==◌, OnOk, OnErr}
+use Rattle.std.specs.Result.{result_err}
+use Rattle.std.specs.FinMap as finite
+use Rattle.std.proofs.lemmas.Bool.{eqb-true, leb-true}
+use Rattle.std.proofs.lemmas.Bool.Decides.{nat_tests}
+use Rattle.arrayvec.specs.ArrayVec.{array_vec_len}
+use Rattle.ffa_model.specs.declared.operation.ErrorCode.{ErrorCode}
+use Rattle.ffa_model.specs.declared.operation.ErrorCode.TheVariants.{InvalidParameters, Denied}
+use Rattle.ffa_model.specs.Access.{is_from, names}
+use Rattle.ffa_model.specs.Bits.{is_set}
+use Rattle.ffa_model.specs.Calls.{first_failure, replied, served, success}
+use Rattle.ffa_model.specs.Identifiers.{place}
+use Rattle.ffa_model.specs.MemoryReturn.{is_unheld, memory_reclaim, named_ranges, reclaim_guards, reclaimed}
+use Rattle.ffa_model.specs.Memory.{zeroed_if}
+use Rattle.ffa_model.specs.Ram.{Ram}
+use Rattle.ffa_model.specs.SoundState.{IsSoundState}
+use Rattle.ffa_model.specs.State.{State, Transaction, transaction_of}
+use Rattle.ffa_model.specs.Transactions.{Bases, bases_of, closed, handle_of, offers_of, with_offers}
+use Rattle.ffa_model.proofs.Guards.{guard-passes}
+use Rattle.ffa_model.proofs.KeptCalls.{reclaimed-sound}
+use Rattle.ffa_pages.specs.Entry.{Entry, base_at}
+use Rattle.ffa_memshare.specs.Changes.{IsMarked, IsMoved}
+use Rattle.ffa_memshare.specs.Grants.{with_rights}
+use Rattle.ffa_memshare.specs.Named.{bases_in}
+use Rattle.ffa_memshare.specs.Ranges.{in_ranges}
+use Rattle.ffa_memshare.specs.SlotChanges.{IsClosed}
+use Rattle.ffa_memshare.specs.Stored.{Pooled, map_in, offers_in}
+use Rattle.ffa_memshare.specs.declared.marks.Mark.TheVariants.{Named}
+use Rattle.ffa_memshare.proofs.Joined.{reclaim-access}
+use Rattle.ffa_spmc.specs.Meaning.{AreOffers, IsMachine, Parts, access_by_place, state_of}
+use Rattle.ffa_spmc.specs.Replies.{done_or_error}
+use Rattle.ffa_spmc.proofs.Answered.{answered-by, done-replies, done-so, refused-so}
+use Rattle.ffa_spmc.proofs.Closes.{offers-closed, slot-marked}
+use Rattle.ffa_spmc.proofs.Moves.{SameOwners, marked-owners, of-manifest, owners-moved, pages-moved, tables-moved}
+use Rattle.ffa_spmc.proofs.Pools.{base-is, bases-are, slot-open}
+
+-- the code's runner is that of the run states; and the pool has reclaimed a handle, or refused to
+module _ (x : Parts) (machine : IsMachine x) (e : ℕ) (at : e ≡ x.kept.chain.runner) (low high flags h : ℕ) (handle : h ≡ handle_of high low) (ram : Ram) (pages : List (Option Entry)) (pool : Pooled) where
+  abbrev s : State
+  s = state_of x
+
+  abbrev pub after_reclaim : Parts
+  after_reclaim = record x { ram = ram; kept = record x.kept { pages = pages; pool = pool } }
+
+  abbrev guards : List (Bool × ErrorCode)
+  guards = reclaim_guards (bases_of s) s.runner flags (transaction_of s h)
+
+  -- the pages that the handle's transaction names, as the pool sees them
+  abbrev named : ℕ → Bool
+  named = in_ranges x.kept.layout.base (named_ranges (finite.get (map_in x.kept.pool.slots) h))
+
+  -- what the pool has done
+  pub record IsReclaimed : Type 0 where
+    pub slot : IsClosed x.kept.pool pool h
+    pub offers : offers_in pool ≡ closed (offers_in x.kept.pool) h
+    pub moved : IsMoved x.ram ram (array_vec_len x.kept.layout.regions) x.kept.layout.blocks (place e) named (base_at x.kept.pages) (flags == 1)
+    pub marked : IsMarked x.kept.pages pages named (Named None)
+
+  module _ (none : None ≡ first_failure guards) (done : IsReclaimed) where
+    abbrev t : Transaction
+    t = done.slot.transaction
+
+    was : transaction_of s h ≡ Some t
+    was = slot-open x machine done.slot.slot h t done.slot.was
+
+    asked : (flags == 1) ≡ is_set 0 flags
+    asked =
+        let few = leb-true flags 1 (guard-passes guards 0 InvalidParameters none) in
+        grind (arith, nat_tests)
+
+    sender : t.sender ≡ e
+    sender = eqb-true t.sender s.runner (sym (ap (is_from s.runner) was) ∙ guard-passes guards 1 InvalidParameters none) ∙ sym at
+
+    unheld : is_unheld (Some t) ≡ true
+    unheld = sym (ap is_unheld was) ∙ guard-passes guards 2 Denied none
+
+    -- over the manifest and the state
+    moves : IsMoved x.ram ram (length x.manifest.endpoints.items) x.manifest.ram_blocks (place e) (names s t.ranges) (base_at x.kept.pages) (flags == 1)
+    moves =
+        subst (λ o. IsMoved x.ram ram (length x.manifest.endpoints.items) x.manifest.ram_blocks (place e) (names s (named_ranges o)) (base_at x.kept.pages) (flags == 1)) was
+        (of-manifest x machine (λ base n blocks. IsMoved x.ram ram n blocks (place e) (in_ranges base (named_ranges (transaction_of s h))) (base_at x.kept.pages) (flags == 1)) done.moved)
+
+    marks : IsMarked x.kept.pages pages (names s t.ranges) (Named None)
+    marks =
+        subst (λ o. IsMarked x.kept.pages pages (names s (named_ranges o)) (Named None)) was
+        (of-manifest x machine (λ base n blocks. IsMarked x.kept.pages pages (in_ranges base (named_ranges (transaction_of s h))) (Named None)) done.marked)
+
+    owners : SameOwners x.kept.pages pages
+    owners = marked-owners x.kept.pages pages (names s t.ranges) None marks
+
+    pub state-reclaimed : state_of after_reclaim ≡ reclaimed s h (is_set 0 flags)
+    state-reclaimed =
+        (λ i. record s {
+          pages = pages-moved x machine ram pages (place e) t.ranges (base_at x.kept.pages) (flags == 1) moves owners i;
+          transactions = (done.offers i).transactions;
+          sent = (done.offers i).sent;
+        })
+        ∙ (λ i. zeroed_if (asked i) (with_offers s (closed (offers_of s) h)) (named_ranges (sym was i)))
+
+    granted : (i p : ℕ) → p < length s.pages → with_rights (access_by_place s) (place e) (names s t.ranges) (base_at x.kept.pages) i p ≡ access_by_place (state_of after_reclaim) i p
+    granted i p lt =
+        (λ k. with_rights (access_by_place s) (place (sym sender k)) (names s t.ranges) (λ q. base-is x machine q k) i p)
+        ∙ reclaim-access s machine.sound h t was unheld (is_set 0 flags) i p lt
+        ∙ sym (ap (λ (z : State). access_by_place z i p) state-reclaimed)
+
+    pub machine-reclaimed : IsMachine after_reclaim
+    machine-reclaimed =
+        record {
+          laws = machine.laws;
+          tables = tables-moved x machine ram pages (place e) t.ranges (base_at x.kept.pages) (flags == 1) moves owners (state_of after_reclaim) granted;
+          layout = machine.layout;
+          owners = owners-moved x machine ram pages (place e) t.ranges (base_at x.kept.pages) (flags == 1) moves owners;
+          offers =
+              subst (AreOffers x.manifest pages) (sym done.slot.slots)
+              (offers-closed x.manifest x.kept.pages pages x.kept.pool.slots machine.offers done.slot.slot h t done.slot.was (slot-marked x.kept.pages pages (names s t.ranges) marks) marks.size);
+          sound = subst IsSoundState (sym state-reclaimed) (reclaimed-sound s machine.sound h t was (is_set 0 flags));
+        }
+
+  -- the clauses of the pool's call
+  module _ (r : Result ⊤ ErrorCode) (refusal : result_err r ≡ first_failure (reclaim_guards (bases_in x.kept.pages x.kept.layout.base) e flags (finite.get (map_in x.kept.pool.slots) h)))
+      (kept : OnErr r (pool ≡ x.kept.pool)) (kept_pages : OnErr r (pages ≡ x.kept.pages)) (kept_ram : OnErr r (ram ≡ x.ram))
+      (slot : OnOk r (IsClosed x.kept.pool pool h)) (offers : OnOk r (offers_in pool ≡ closed (offers_in x.kept.pool) h))
+      (moved : OnOk r (IsMoved x.ram ram (array_vec_len x.kept.layout.regions) x.kept.layout.blocks (place e) named (base_at x.kept.pages) (flags == 1)))
+      (marked : OnOk r (IsMarked x.kept.pages pages named (Named None))) where
+    unchanged : OnErr r (after_reclaim ≡ x)
+    unchanged = of r kept kept_pages kept_ram
+      where
+        of : (r : Result ⊤ ErrorCode) → OnErr r (pool ≡ x.kept.pool) → OnErr r (pages ≡ x.kept.pages) → OnErr r (ram ≡ x.ram) → OnErr r (after_reclaim ≡ x)
+        of (Ok unit) a b c = tt
+        of (Err code) same_pool same_pages same_ram = λ i. record x { ram = same_ram i; kept = record x.kept { pages = same_pages i; pool = same_pool i } }
+
+    done : OnOk r IsReclaimed
+    done = of r slot offers moved marked
+      where
+        of : (r : Result ⊤ ErrorCode) → OnOk r (IsClosed x.kept.pool pool h) → OnOk r (offers_in pool ≡ closed (offers_in x.kept.pool) h)
+            → OnOk r (IsMoved x.ram ram (array_vec_len x.kept.layout.regions) x.kept.layout.blocks (place e) named (base_at x.kept.pages) (flags == 1))
+            → OnOk r (IsMarked x.kept.pages pages named (Named None)) → OnOk r IsReclaimed
+        of (Ok unit) closes leaves moves marks = record { slot = closes; offers = leaves; moved = moves; marked = marks }
+        of (Err code) a b c d = tt
+
+    refuses : result_err r ≡ first_failure guards
+    refuses =
+        refusal
+        ∙ ap (λ (b : ℕ). first_failure (reclaim_guards (bases_in x.kept.pages b) e flags (transaction_of s h))) machine.layout.base
+        ∙ ap (λ (b : Bases). first_failure (reclaim_guards b e flags (transaction_of s h))) (bases-are x machine)
+        ∙ ap (λ (f : ℕ). first_failure (reclaim_guards (bases_of s) f flags (transaction_of s h))) at
+
+    pub reclaim-served : replied (state_of after_reclaim) (done_or_error r) ≡ served s (memory_reclaim s low high flags)
+    reclaim-served =
+        answered-by s (state_of after_reclaim) (memory_reclaim s low high flags) r (λ done. success 0 0)
+        (refuses ∙ ap (λ (k : ℕ). first_failure (reclaim_guards (bases_of s) s.runner flags (transaction_of s k))) handle)
+        (refused-so r (λ is. ap state_of is) unchanged)
+        (done-so r (λ none facts. state-reclaimed (sym none ∙ refuses) facts ∙ ap (λ (k : ℕ). reclaimed s k (is_set 0 flags)) handle) done)
+        (done-replies r)
+
+    pub reclaim-machine : IsMachine after_reclaim
+    reclaim-machine = of r refuses unchanged done
+      where
+        of : (r : Result ⊤ ErrorCode) → result_err r ≡ first_failure guards → OnErr r (after_reclaim ≡ x) → OnOk r IsReclaimed → IsMachine after_reclaim
+        of (Ok unit) passes same facts = machine-reclaimed passes facts
+        of (Err code) fails same facts = subst IsMachine (sym same) machine

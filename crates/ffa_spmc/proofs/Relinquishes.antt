@@ -1,0 +1,142 @@
+-- FFA_MEM_RELINQUISH changes the state as the small machine's.
+use Rattle.std.proofs.Common.{◌≡◌, ◌∙◌, ℕ, ◌<◌, Bool, true, List, length, Some, None, Result, Ok, Err, refl, sym, ap, subst}
+use Rattle.std.specs.Prelude.{⊤, OnOk, OnErr}
+use Rattle.std.specs.Result.{result_err}
+use Rattle.std.proofs.lemmas.Bool.{false≢true}
+use Rattle.arrayvec.specs.ArrayVec.{array_vec_len}
+use Rattle.ffa_model.specs.declared.operation.ErrorCode.{ErrorCode}
+use Rattle.ffa_model.specs.declared.operation.ErrorCode.TheVariants.{InvalidParameters}
+use Rattle.ffa_model.specs.declared.descriptor.RelinquishDesc.{RelinquishDesc}
+use Rattle.ffa_model.specs.Access.{is_offered, is_receiver, names}
+use Rattle.ffa_model.specs.Buffers.{buffers_in}
+use Rattle.ffa_model.specs.Calls.{first_failure, replied, served, success}
+use Rattle.ffa_model.specs.Identifiers.{place}
+use Rattle.ffa_model.specs.MemoryReturn.{memory_relinquish, relinquish_guards, relinquish_read, relinquished, relinquished_from}
+use Rattle.ffa_model.specs.Memory.{zeroed_if}
+use Rattle.ffa_model.specs.Ram.{Ram}
+use Rattle.ffa_model.specs.RelinquishDescriptor.{relinquish_of}
+use Rattle.ffa_model.specs.SoundState.{IsSoundState}
+use Rattle.ffa_model.specs.State.{State, Transaction, transaction_of}
+use Rattle.ffa_model.specs.Transactions.{not_holding, offers_of, with_offers, with_transaction}
+use Rattle.ffa_model.proofs.Guards.{guard-passes}
+use Rattle.ffa_model.proofs.KeptCalls.{relinquished-sound}
+use Rattle.ffa_memshare.specs.Changes.{IsMoved}
+use Rattle.ffa_memshare.specs.Grants.{with_rights}
+use Rattle.ffa_memshare.specs.Ranges.{in_ranges}
+use Rattle.ffa_memshare.specs.Relinquished.{IsRelinquished}
+use Rattle.ffa_memshare.specs.Stored.{Pooled, offers_in}
+use Rattle.ffa_memshare.specs.Scenes.{tx_in}
+use Rattle.ffa_spmc.specs.Meaning.{AreOffers, IsMachine, Parts, access_by_place, state_of}
+use Rattle.ffa_spmc.specs.Replies.{done_or_error}
+use Rattle.ffa_spmc.proofs.Answered.{answered-by, done-replies, done-so, refused-so}
+use Rattle.ffa_spmc.proofs.Closes.{offers-reheld}
+use Rattle.ffa_spmc.proofs.Granted.{relinquish-granted}
+use Rattle.ffa_spmc.proofs.Moves.{of-manifest, pages-moved, same-owners, tables-moved}
+use Rattle.ffa_spmc.proofs.Pools.{open-slot}
+use Rattle.ffa_spmc.proofs.Sends.{sent-is}
+
+-- the code's runner is that of the run states; and it has given up what its TX describes, or was refused
+module _ (x : Parts) (machine : IsMachine x) (e : ℕ) (at : e ≡ x.kept.chain.runner) (ram : Ram) (pool : Pooled) where
+  abbrev s : State
+  s = state_of x
+
+  abbrev pub after_relinquish : Parts
+  after_relinquish = record x { ram = ram; kept = record x.kept { pool = pool } }
+
+  abbrev bytes : List ℕ
+  bytes = tx_in x.ram (buffers_in x.kept.buffers e)
+
+  abbrev guards : List (Bool × ErrorCode)
+  guards = (memory_relinquish s).guards
+
+  -- what the pool has done
+  abbrev IsDone : Type 0
+  IsDone = IsRelinquished x.kept.pool pool x.ram ram x.kept.layout.base (array_vec_len x.kept.layout.regions) x.kept.layout.blocks e bytes
+
+  module _ (none : None ≡ first_failure guards) (done : IsDone) where
+    abbrev d : RelinquishDesc
+    d = done.asked
+
+    abbrev t : Transaction
+    t = done.transaction
+
+    read : relinquish_read s ≡ Some d
+    read = ap relinquish_of (sym (sent-is x machine e at)) ∙ done.described
+
+    was : transaction_of s d.handle ≡ Some t
+    was = done.was
+
+    -- its receiver isn't its sender
+    offered : is_receiver s.runner t ≡ true
+    offered =
+        sym (ap (is_offered s.runner) was)
+        ∙ guard-passes (relinquish_guards (buffers_in x.kept.buffers s.runner) (offers_of s) s.runner (Some d)) 2 InvalidParameters
+        (none ∙ ap (λ o. first_failure (relinquish_guards (buffers_in x.kept.buffers s.runner) (offers_of s) s.runner o)) read)
+
+    other : t.sender ≡ s.runner → ⊥
+    other same =
+        let slot = open-slot x machine d.handle t was in
+        false≢true (sym (machine.offers.offered slot.0 d.handle t slot.1).other ∙ ap (λ (f : ℕ). is_receiver f t) same ∙ offered)
+
+    moves : IsMoved x.ram ram (length x.manifest.endpoints.items) x.manifest.ram_blocks (place e) (names s t.ranges) (λ p. None) d.zero
+    moves = of-manifest x machine (λ base n blocks. IsMoved x.ram ram n blocks (place e) (in_ranges base t.ranges) (λ p. None) d.zero) done.moved
+
+    state-from : state_of after_relinquish ≡ relinquished_from s d (Some t)
+    state-from =
+        (λ i. record s {
+          pages = pages-moved x machine ram x.kept.pages (place e) t.ranges (λ p. None) d.zero moves (same-owners x.kept.pages) i;
+          transactions = (done.offers i).transactions;
+          sent = (done.offers i).sent;
+        })
+        ∙ (λ i. zeroed_if d.zero (with_offers s (with_transaction (offers_of s) d.handle (not_holding t (at i)))) t.ranges)
+
+    pub state-relinquished : state_of after_relinquish ≡ relinquished s (relinquish_read s)
+    state-relinquished = state-from ∙ sym (ap (relinquished s) read ∙ ap (relinquished_from s d) was)
+
+    granted : (i p : ℕ) → p < length s.pages → with_rights (access_by_place s) (place e) (names s t.ranges) (λ q. None) i p ≡ access_by_place (state_of after_relinquish) i p
+    granted i p lt =
+        ap (λ (f : ℕ). with_rights (access_by_place s) (place f) (names s t.ranges) (λ q. None) i p) at
+        ∙ relinquish-granted s machine.sound d.handle t was (λ q. None) i p lt d refl other refl
+        ∙ sym (ap (λ (z : State). access_by_place z i p) state-from)
+
+    pub machine-relinquished : IsMachine after_relinquish
+    machine-relinquished =
+        record {
+          laws = machine.laws;
+          tables = tables-moved x machine ram x.kept.pages (place e) t.ranges (λ p. None) d.zero moves (same-owners x.kept.pages) (state_of after_relinquish) granted;
+          layout = machine.layout;
+          owners = machine.owners;
+          offers =
+              subst (AreOffers x.manifest x.kept.pages) (sym done.slot.slots)
+              (offers-reheld x.manifest x.kept.pages x.kept.pool.slots machine.offers done.slot.slot d.handle done.slot.transaction done.slot.was e None);
+          sound = subst IsSoundState (sym state-from) (relinquished-sound s machine.sound d t was);
+        }
+
+  -- the clauses of the pool's call
+  module _ (r : Result ⊤ ErrorCode) (refusal : result_err r ≡ first_failure (relinquish_guards (buffers_in x.kept.buffers e) (offers_in x.kept.pool) e (relinquish_of bytes)))
+      (kept : OnErr r (pool ≡ x.kept.pool)) (kept_ram : OnErr r (ram ≡ x.ram)) (done : OnOk r IsDone) where
+    refuses : result_err r ≡ first_failure guards
+    refuses =
+        refusal
+        ∙ (λ i. first_failure (relinquish_guards (buffers_in x.kept.buffers (at i)) (offers_of s) (at i) (relinquish_of (sent-is x machine e at i))))
+
+    unchanged : OnErr r (after_relinquish ≡ x)
+    unchanged = of r kept kept_ram
+      where
+        of : (r : Result ⊤ ErrorCode) → OnErr r (pool ≡ x.kept.pool) → OnErr r (ram ≡ x.ram) → OnErr r (after_relinquish ≡ x)
+        of (Ok unit) a b = tt
+        of (Err code) same_pool same_ram = λ i. record x { ram = same_ram i; kept = record x.kept { pool = same_pool i } }
+
+    pub relinquish-served : replied (state_of after_relinquish) (done_or_error r) ≡ served s (memory_relinquish s)
+    relinquish-served =
+        answered-by s (state_of after_relinquish) (memory_relinquish s) r (λ done. success 0 0) refuses
+        (refused-so r (λ is. ap state_of is) unchanged)
+        (done-so r (λ none facts. state-relinquished (sym none ∙ refuses) facts) done)
+        (done-replies r)
+
+    pub relinquish-machine : IsMachine after_relinquish
+    relinquish-machine = of r refuses unchanged done
+      where
+        of : (r : Result ⊤ ErrorCode) → result_err r ≡ first_failure guards → OnErr r (after_relinquish ≡ x) → OnOk r IsDone → IsMachine after_relinquish
+        of (Ok unit) passes same facts = machine-relinquished passes facts
+        of (Err code) fails same facts = subst IsMachine (sym same) machine

@@ -1,0 +1,275 @@
+-- FFA_MEM_RETRIEVE_REQ changes the state as the small machine's.
+use Rattle.std.proofs.Common.{◌≡◌, ◌∙◌, ℕ, ◌<◌, Bool, true, false, List, length, take, Option, Some, None, Result, Ok, Err, refl, sym, ap, subst}
+use Rattle.std.specs.Prelude.{IfOk, OnOk, OnErr}
+use Rattle.std.specs.Option.{option_map_or}
+use Rattle.std.specs.Result.{result_err}
+use Rattle.std.proofs.lemmas.Option.{same_Some}
+use Rattle.arrayvec.specs.ArrayVec.{array_vec_len}
+use Rattle.ffa_model.specs.declared.call.Call.TheVariants.{MemRetrieve}
+use Rattle.ffa_model.specs.declared.call.Reply.TheVariants.{Retrieved}
+use Rattle.ffa_model.specs.declared.descriptor.RetrieveDesc.{RetrieveDesc}
+use Rattle.ffa_model.specs.declared.endpoint.EndpointId.{EndpointId}
+use Rattle.ffa_model.specs.declared.operation.ErrorCode.{ErrorCode}
+use Rattle.ffa_model.specs.declared.operation.ErrorCode.TheVariants.{InvalidParameters, Denied}
+use Rattle.ffa_model.specs.declared.rights.Kind.{Kind}
+use Rattle.ffa_model.specs.declared.rights.Kind.TheVariants.{Share, Lend, Donate}
+use Rattle.ffa_model.specs.declared.rights.Rights.{Rights}
+use Rattle.ffa_model.specs.Access.{is_receiver, names}
+use Rattle.ffa_model.specs.Buffers.{buffers_in, buffers_with_rx, filled, is_full}
+use Rattle.ffa_model.specs.Calls.{first_failure, replied, served}
+use Rattle.ffa_model.specs.Identifiers.{identifier, place}
+use Rattle.ffa_model.specs.MemoryRetrieve.{holding_guards, memory_retrieve, response_length, response_to, retrieve_guards, retrieve_read, retrieved, retrieved_from, retrieved_right, right_for, with_retrieved}
+use Rattle.ffa_model.specs.Ram.{Ram}
+use Rattle.ffa_model.specs.ResponseBytes.{response_bytes, response_size}
+use Rattle.ffa_model.specs.RetrieveDescriptor.{retrieve_of}
+use Rattle.ffa_model.specs.Rights.{is_at_most, is_donate}
+use Rattle.ffa_model.specs.SoundState.{IsKnown, IsSoundState}
+use Rattle.ffa_model.specs.State.{State, Transaction, Buffers, is_known, transaction_of}
+use Rattle.ffa_model.specs.Transactions.{Transfer, bases_of, ceiling, scene_of, transfer}
+use Rattle.ffa_model.proofs.CallAccesses.{access-filled, runner-known}
+use Rattle.ffa_model.proofs.Guards.{guard-passes}
+use Rattle.ffa_model.proofs.KeptCalls.{taken-sound}
+use Rattle.ffa_laws.proofs.SoundOperations.{call-sound}
+use Rattle.ffa_pages.specs.Entry.{Entry}
+use Rattle.ffa_rxtx.specs.Parts.{candidates_in}
+use Rattle.ffa_memshare.specs.Changes.{IsMoved}
+use Rattle.ffa_memshare.specs.Grants.{with_rights}
+use Rattle.ffa_memshare.specs.Named.{bases_in}
+use Rattle.ffa_memshare.specs.Ranges.{in_ranges}
+use Rattle.ffa_memshare.specs.Retrieved.{IsPassedOn, IsRetrieved, IsTaken}
+use Rattle.ffa_memshare.specs.Scenes.{after_transfer, descriptor_in, scene_in}
+use Rattle.ffa_memshare.specs.SlotChanges.{IsClosed, IsHeldBy}
+use Rattle.ffa_memshare.specs.Stored.{Pooled, offers_in, slot_at as pool_slot}
+use Rattle.ffa_spmc.specs.Meaning.{AreOffers, HasTables, IsMachine, Parts, access_by_place, state_of}
+use Rattle.ffa_spmc.specs.Replies.{retrieved_or_error}
+use Rattle.ffa_spmc.proofs.Answered.{answered-by, passed-state, refused-so}
+use Rattle.ffa_spmc.proofs.Candidates.{candidates-are}
+use Rattle.ffa_spmc.proofs.Closes.{offers-closed, offers-reheld}
+use Rattle.ffa_spmc.proofs.Donations.{owners-passed, pages-passed}
+use Rattle.ffa_spmc.proofs.Fills.{runner-there, state-filled, tables-filled, after_fill}
+use Rattle.ffa_spmc.proofs.Granted.{donate-granted, retrieve-granted}
+use Rattle.ffa_spmc.proofs.Held.{parties_are}
+use Rattle.ffa_spmc.proofs.Moves.{of-manifest, same-owners, slot-given, tables-moved}
+use Rattle.ffa_spmc.proofs.Pools.{bases-are, slot-open}
+use Rattle.ffa_spmc.proofs.Sends.{sent-is}
+
+-- what the checks of a call read is the same in the state
+pub scene-is : (x : Parts) → IsMachine x → scene_in (array_vec_len x.kept.layout.regions) x.kept.pages x.kept.layout.base x.kept.buffers (offers_in x.kept.pool) ≡ scene_of (state_of x)
+scene-is x machine = λ i. record {
+  endpoints = (machine.layout.endpoints ∙ sym (parties_are x)) i;
+  ram = (ap (candidates_in x.kept.pages) machine.layout.base ∙ sym (candidates-are x machine)) i;
+  bases = (ap (bases_in x.kept.pages) machine.layout.base ∙ bases-are x machine) i;
+  buffers = x.kept.buffers;
+  offers = offers_in x.kept.pool;
+}
+
+-- the code's runner is that of the run states; and it has retrieved what its TX describes, or was refused
+module _ (x : Parts) (machine : IsMachine x) (e : EndpointId) (at : e.0 ≡ x.kept.chain.runner) (total fragment address count : ℕ)
+    (ram : Ram) (pages : List (Option Entry)) (pool : Pooled) (buffers : List (Option Buffers)) where
+  abbrev s : State
+  s = state_of x
+
+  abbrev registers : Transfer
+  registers = transfer total fragment address count
+
+  abbrev pub after_retrieve : Parts
+  after_retrieve = record x { ram = ram; kept = record x.kept { pages = pages; pool = pool; buffers = buffers } }
+
+  abbrev bytes : List ℕ
+  bytes = descriptor_in x.ram x.kept.buffers e.0 total
+
+  abbrev guards : List (Bool × ErrorCode)
+  guards = (memory_retrieve s registers).guards
+
+  -- what the pool has done
+  abbrev IsDone : ℕ → Type 0
+  IsDone size = IsRetrieved x.kept.pool pool x.ram ram x.kept.pages pages x.kept.layout.base (array_vec_len x.kept.layout.regions) x.kept.layout.blocks (buffers_in x.kept.buffers e.0) e bytes size
+
+  descriptor-is : retrieve_of e.0 bytes ≡ retrieve_read s total
+  descriptor-is = λ i. retrieve_of (at i) (take total (sent-is x machine e.0 at i))
+
+  module _ (size : ℕ) (none : None ≡ first_failure guards) (done : IsDone size) (full : buffers ≡ buffers_with_rx x.kept.buffers e.0 true) where
+    abbrev d : RetrieveDesc
+    d = done.asked
+
+    abbrev t : Transaction
+    t = done.transaction
+
+    abbrev right : Rights
+    right = done.right
+
+    read : retrieve_read s total ≡ Some d
+    read = sym descriptor-is ∙ done.described
+
+    was : transaction_of s d.handle ≡ Some t
+    was = done.was
+
+    right-is : right ≡ right_for (bases_of s) t s.runner d
+    right-is = done.is ∙ (λ i. right_for ((ap (bases_in x.kept.pages) machine.layout.base ∙ bases-are x machine) i) t (at i) d)
+
+    -- the checks have passed
+    abbrev checked : List (Bool × ErrorCode)
+    checked = after_transfer s.buffers s.runner registers (holding_guards (bases_of s) (is_full (buffers_in s.buffers s.runner)) s.runner d (Some t))
+
+    passes : None ≡ first_failure checked
+    passes =
+        none
+        ∙ ap (λ o. first_failure (retrieve_guards (scene_of s) s.runner registers o)) read
+        ∙ ap (λ o. first_failure (after_transfer s.buffers s.runner registers (holding_guards (bases_of s) (is_full (buffers_in s.buffers s.runner)) s.runner d o))) was
+
+    receiver : is_receiver s.runner t ≡ true
+    receiver = guard-passes checked 5 InvalidParameters passes
+
+    within : is_at_most right (ceiling (bases_of s) t s.runner) ≡ true
+    within = ap (λ (r : Rights). is_at_most r (ceiling (bases_of s) t s.runner)) right-is ∙ guard-passes checked 10 Denied passes
+
+    known : IsKnown s s.runner
+    known = runner-known s machine.sound
+
+    moves : IsMoved x.ram done.answer.granted (length x.manifest.endpoints.items) x.manifest.ram_blocks (place e.0) (names s t.ranges) (λ p. Some right) false
+    moves = of-manifest x machine (λ base n blocks. IsMoved x.ram done.answer.granted n blocks (place e.0) (in_ranges base t.ranges) (λ p. Some right) false) done.answer.moved
+
+    passed : IsPassedOn t.kind x.kept.pages pages (names s t.ranges) e right
+    passed = of-manifest x machine (λ base n blocks. IsPassedOn t.kind x.kept.pages pages (in_ranges base t.ranges) e right) done.pages
+
+    -- before the answer
+    abbrev before : Parts
+    before = record x { ram = done.answer.granted; kept = record x.kept { pages = pages; pool = pool } }
+
+    state-taken : state_of before ≡ with_retrieved s d.handle t s.runner right
+    state-taken =
+        (λ i. record s {
+          pages = pages-passed x machine done.answer.granted pages (place e.0) t.ranges e right moves t.kind passed i;
+          transactions = (done.offers i).transactions;
+          sent = (done.offers i).sent;
+        })
+        ∙ (λ i. with_retrieved s d.handle t (at i) right)
+
+    access-granted : (i p : ℕ) → p < length s.pages
+        → with_rights (access_by_place s) (place s.runner) (names s t.ranges) (λ q. Some right) i p ≡ access_by_place (retrieved_right s d.handle t s.runner right) i p
+    access-granted i p lt = of (is_donate t.kind) refl
+      where
+        of : (b : Bool) → is_donate t.kind ≡ b
+            → with_rights (access_by_place s) (place s.runner) (names s t.ranges) (λ q. Some right) i p ≡ access_by_place (retrieved_right s d.handle t s.runner right) i p
+        of true donated = donate-granted s machine.sound d.handle t was (λ q. Some right) i p lt s.runner right known donated refl
+        of false borrowed = retrieve-granted s machine.sound d.handle t was (λ q. Some right) i p lt s.runner right known borrowed refl
+
+    access-taken : (i p : ℕ) → p < length s.pages
+        → with_rights (access_by_place s) (place e.0) (names s t.ranges) (λ q. Some right) i p ≡ access_by_place (state_of before) i p
+    access-taken i p lt =
+        ap (λ (f : ℕ). with_rights (access_by_place s) (place f) (names s t.ranges) (λ q. Some right) i p) at
+        ∙ access-granted i p lt
+        ∙ access-filled (with_retrieved s d.handle t s.runner right) s.runner (response_bytes (response_to d.handle t s.runner right)) (identifier i) p
+        ∙ sym (ap (λ (z : State). access_by_place z i p) state-taken)
+
+    offers-taken : AreOffers x.manifest pages pool.slots
+    offers-taken = of t.kind refl done.slot passed
+      where
+        of : (kind : Kind) → t.kind ≡ kind → IsTaken kind x.kept.pool pool d.handle e.0 right → IsPassedOn kind x.kept.pages pages (names s t.ranges) e right → AreOffers x.manifest pages pool.slots
+        of Donate is taken marked =
+            let its : IsClosed x.kept.pool pool d.handle = taken in
+            let same : its.transaction ≡ t = same_Some its.transaction t (sym (slot-open x machine its.slot d.handle its.transaction its.was) ∙ was) in
+            let there : pool_slot x.kept.pool.slots its.slot ≡ Some (d.handle, t) = its.was ∙ ap (λ (u : Transaction). Some (d.handle, u)) same in
+            subst (AreOffers x.manifest pages) (sym its.slots)
+            (offers-closed x.manifest x.kept.pages pages x.kept.pool.slots machine.offers its.slot d.handle t there (slot-given x.kept.pages pages (names s t.ranges) e right marked) marked.size)
+        of Lend is taken same =
+            let its : IsHeldBy x.kept.pool pool d.handle e.0 (Some right) = taken in
+            subst (λ (table : List (Option Entry)). AreOffers x.manifest table pool.slots) (sym same)
+            (subst (AreOffers x.manifest x.kept.pages) (sym its.slots)
+            (offers-reheld x.manifest x.kept.pages x.kept.pool.slots machine.offers its.slot d.handle its.transaction its.was e.0 (Some right)))
+        of Share is taken same =
+            let its : IsHeldBy x.kept.pool pool d.handle e.0 (Some right) = taken in
+            subst (λ (table : List (Option Entry)). AreOffers x.manifest table pool.slots) (sym same)
+            (subst (AreOffers x.manifest x.kept.pages) (sym its.slots)
+            (offers-reheld x.manifest x.kept.pages x.kept.pool.slots machine.offers its.slot d.handle its.transaction its.was e.0 (Some right)))
+
+    machine-taken : IsMachine before
+    machine-taken =
+        record {
+          laws = machine.laws;
+          tables = tables-moved x machine done.answer.granted x.kept.pages (place e.0) t.ranges (λ p. Some right) false moves (same-owners x.kept.pages) (state_of before) access-taken;
+          layout = machine.layout;
+          owners = owners-passed x machine done.answer.granted pages (place e.0) t.ranges e right moves t.kind passed;
+          offers = offers-taken;
+          sound = subst IsSoundState (sym state-taken) (taken-sound s machine.sound d.handle t was s.runner right known receiver within);
+        }
+
+    -- and with it
+    abbrev answer : List ℕ
+    answer = response_bytes (response_to d.handle t e.0 right)
+
+    there : is_known (state_of before) e.0 ≡ true
+    there = runner-there x machine e.0 at
+
+    filled-is : after_retrieve ≡ after_fill before machine-taken e.0 there answer
+    filled-is = λ i. record x { ram = done.answer.answered i; kept = record x.kept { pages = pages; pool = pool; buffers = full i } }
+
+    pub state-retrieved : state_of after_retrieve ≡ retrieved s (retrieve_read s total)
+    state-retrieved =
+        ap state_of filled-is
+        ∙ state-filled before machine-taken e.0 there answer
+        ∙ (λ i. filled (state-taken i) (at i) (response_bytes (response_to d.handle t (at i) right)))
+        ∙ ap (retrieved_right s d.handle t s.runner) right-is
+        ∙ sym (ap (retrieved s) read ∙ ap (retrieved_from s d) was)
+
+    pub machine-retrieved : IsMachine after_retrieve
+    machine-retrieved =
+        record {
+          laws = machine.laws;
+          tables = subst (λ (y : Parts). HasTables y.ram y.manifest (access_by_place (state_of y))) (sym filled-is) (tables-filled before machine-taken e.0 there answer);
+          layout = machine.layout;
+          owners = machine-taken.owners;
+          offers = offers-taken;
+          sound =
+              subst IsSoundState (passed-state s (memory_retrieve s registers) (sym none) ∙ sym state-retrieved)
+              (call-sound s machine.sound (MemRetrieve total fragment address count) refl);
+        }
+
+    pub length-retrieved : Retrieved size ≡ (memory_retrieve s registers).reply
+    length-retrieved =
+        ap Retrieved (done.answer.bytes
+        ∙ sym (ap (response_length s) read ∙ ap (λ o. option_map_or (λ (u : Transaction). response_size u.ranges) o 0) was))
+
+  -- the clauses of the pool's call
+  module _ (r : Result ℕ ErrorCode)
+      (refusal : result_err r ≡ first_failure (retrieve_guards
+      (scene_in (array_vec_len x.kept.layout.regions) x.kept.pages x.kept.layout.base x.kept.buffers (offers_in x.kept.pool)) e.0 registers (retrieve_of e.0 bytes)))
+      (kept : OnErr r (pool ≡ x.kept.pool)) (kept_pages : OnErr r (pages ≡ x.kept.pages)) (kept_buffers : OnErr r (buffers ≡ x.kept.buffers)) (kept_ram : OnErr r (ram ≡ x.ram))
+      (full : OnOk r (buffers ≡ buffers_with_rx x.kept.buffers e.0 true)) (done : IfOk r IsDone) where
+    refuses : result_err r ≡ first_failure guards
+    refuses = refusal ∙ (λ i. first_failure (retrieve_guards (scene-is x machine i) (at i) registers (descriptor-is i)))
+
+    unchanged : OnErr r (after_retrieve ≡ x)
+    unchanged = of r kept kept_pages kept_buffers kept_ram
+      where
+        of : (r : Result ℕ ErrorCode) → OnErr r (pool ≡ x.kept.pool) → OnErr r (pages ≡ x.kept.pages) → OnErr r (buffers ≡ x.kept.buffers) → OnErr r (ram ≡ x.ram) → OnErr r (after_retrieve ≡ x)
+        of (Ok size) a b c d = tt
+        of (Err code) same_pool same_pages same_buffers same_ram = λ i. record x { ram = same_ram i; kept = record x.kept { pages = same_pages i; pool = same_pool i; buffers = same_buffers i } }
+
+    state-done : OnOk r (state_of after_retrieve ≡ retrieved s (retrieve_read s total))
+    state-done = of r refuses full done
+      where
+        of : (r : Result ℕ ErrorCode) → result_err r ≡ first_failure guards → OnOk r (buffers ≡ buffers_with_rx x.kept.buffers e.0 true) → IfOk r IsDone
+            → OnOk r (state_of after_retrieve ≡ retrieved s (retrieve_read s total))
+        of (Ok size) none fills facts = state-retrieved size none facts fills
+        of (Err code) fails fills facts = tt
+
+    told : IfOk r (λ size. Retrieved size ≡ (memory_retrieve s registers).reply)
+    told = of r refuses full done
+      where
+        of : (r : Result ℕ ErrorCode) → result_err r ≡ first_failure guards → OnOk r (buffers ≡ buffers_with_rx x.kept.buffers e.0 true) → IfOk r IsDone
+            → IfOk r (λ size. Retrieved size ≡ (memory_retrieve s registers).reply)
+        of (Ok size) none fills facts = length-retrieved size none facts fills
+        of (Err code) fails fills facts = tt
+
+    pub retrieve-served : replied (state_of after_retrieve) (retrieved_or_error r) ≡ served s (memory_retrieve s registers)
+    retrieve-served =
+        answered-by s (state_of after_retrieve) (memory_retrieve s registers) r (λ size. Retrieved size) refuses
+        (refused-so r (λ is. ap state_of is) unchanged) state-done told
+
+    pub retrieve-machine : IsMachine after_retrieve
+    retrieve-machine = of r refuses unchanged full done
+      where
+        of : (r : Result ℕ ErrorCode) → result_err r ≡ first_failure guards → OnErr r (after_retrieve ≡ x) → OnOk r (buffers ≡ buffers_with_rx x.kept.buffers e.0 true) → IfOk r IsDone → IsMachine after_retrieve
+        of (Ok size) none same fills facts = machine-retrieved size none facts fills
+        of (Err code) fails same fills facts = subst IsMachine (sym same) machine
