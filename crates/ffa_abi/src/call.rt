@@ -220,6 +220,16 @@ pub fn is_served(function: u32) -> bool
             | FFA_MSG_SEND_DIRECT_REQ_64
             | FFA_MSG_SEND_DIRECT_RESP
             | FFA_MSG_SEND_DIRECT_RESP_64
+            | FFA_MEM_DONATE
+            | FFA_MEM_DONATE_64
+            | FFA_MEM_LEND
+            | FFA_MEM_LEND_64
+            | FFA_MEM_SHARE
+            | FFA_MEM_SHARE_64
+            | FFA_MEM_RETRIEVE_REQ
+            | FFA_MEM_RETRIEVE_REQ_64
+            | FFA_MEM_RELINQUISH
+            | FFA_MEM_RECLAIM
             | FFA_SPM_ID_GET
             | FFA_MSG_SEND2
     )

@@ -4,8 +4,6 @@
 mod call;
 mod function;
 mod reply;
-#[cfg(test)]
-mod tests;
 
 pub use call::{decode, is_served};
 pub use ffa_model::{Call, Reply};

@@ -1,7 +1,9 @@
 -- The command line of the program, and what its words ask for.
-use Rattle.std.specs.Prelude.{◌≡◌, ◌⊎◌, List, [], true, Option, Some, None, codes, if◌then◌else◌, option_and_then}
+use Rattle.std.specs.Prelude.{◌≡◌, ◌⊎◌, List, [], Bool, true, false, Option, Some, None, codes, if◌then◌else◌, option_and_then}
 use Rattle.std.specs.Str.{bytes_eq}
+use Rattle.std.specs.Option.{option_map_or}
 use Rattle.clap.specs.Words.{App, HasKind, Row, Rule, Text, fault_of, first_of, new_app, new_rule, subcommand_of, with_rule, with_subcommand}
+use Rattle.clap.specs.declared.builder.action.ArgAction.TheVariants.{SetTrue}
 use Rattle.clap.specs.declared.error.Error.{Error}
 use Rattle.ffa_command.specs.declared.command_line.Request.{Request}
 use Rattle.ffa_command.specs.declared.command_line.Request.TheVariants.{Run, Demo, Check, Layout}
@@ -10,17 +12,24 @@ use Rattle.ffa_command.specs.declared.command_line.Request.TheVariants.{Run, Dem
 abbrev pub path_rule : Text → Rule
 path_rule id = record (new_rule id) { required = true }
 
+-- a flag, which may be given by its name
+abbrev pub flag_rule : Text → Rule
+flag_rule id = record (new_rule id) { long = Some id; action = Some SetTrue }
+
 abbrev pub manifest_id : Text
 manifest_id = codes "manifest"
 
 abbrev pub trace_id : Text
 trace_id = codes "trace"
 
+abbrev pub frames_id : Text
+frames_id = codes "frames"
+
 unfoldable pub run_app : App
-run_app = with_rule (with_rule (new_app (codes "run")) (path_rule manifest_id)) (path_rule trace_id)
+run_app = with_rule (with_rule (with_rule (new_app (codes "run")) (path_rule manifest_id)) (path_rule trace_id)) (flag_rule frames_id)
 
 unfoldable pub demo_app : App
-demo_app = with_rule (new_app (codes "demo")) (path_rule trace_id)
+demo_app = with_rule (with_rule (new_app (codes "demo")) (path_rule trace_id)) (flag_rule frames_id)
 
 unfoldable pub check_app : App
 check_app = with_rule (new_app (codes "check")) (path_rule manifest_id)
@@ -36,38 +45,42 @@ bare = record (new_app (codes "ffaplay")) { top = record (new_app (codes "ffapla
 unfoldable pub program : App
 program = with_subcommand (with_subcommand (with_subcommand (with_subcommand bare run_app.top) demo_app.top) check_app.top) layout_app.top
 
--- a command with its paths
+-- a command with its paths, and whether RAM is to lie in frames
 pub data Ask : Type 0 where
-  run : Text → Text → Ask
-  demo : Text → Ask
+  run : Text → Text → Bool → Ask
+  demo : Text → Bool → Ask
   check : Text → Ask
   layout : Text → Ask
 
 abbrev pub ask_of : Request → Ask
-ask_of (Run manifest trace) = run manifest.now trace.now
-ask_of (Demo trace) = demo trace.now
+ask_of (Run manifest trace frames) = run manifest.now trace.now frames
+ask_of (Demo trace frames) = demo trace.now frames
 ask_of (Check manifest) = check manifest.now
 ask_of (Layout manifest) = layout manifest.now
 
 -- the path of the manifest that is asked for, and that of the trace
 abbrev pub manifest_of : Ask → Option Text
-manifest_of (run m t) = Some m
-manifest_of (demo t) = None
+manifest_of (run m t f) = Some m
+manifest_of (demo t f) = None
 manifest_of (check m) = Some m
 manifest_of (layout m) = Some m
 
 abbrev pub trace_of : Ask → Option Text
-trace_of (run m t) = Some t
-trace_of (demo t) = Some t
+trace_of (run m t f) = Some t
+trace_of (demo t f) = Some t
 trace_of (check m) = None
 trace_of (layout m) = None
 
+-- whether a flag was given
+abbrev pub is_given : Text → List Row → Bool
+is_given id rows = option_map_or (λ value. bytes_eq value (codes "true")) (first_of id rows) false
+
 -- what the matches of a command ask for
 unfoldable pub asked_run : List Row → Option Ask
-asked_run rows = option_and_then (λ m. option_and_then (λ t. Some (run m t)) (first_of trace_id rows)) (first_of manifest_id rows)
+asked_run rows = option_and_then (λ m. option_and_then (λ t. Some (run m t (is_given frames_id rows))) (first_of trace_id rows)) (first_of manifest_id rows)
 
 unfoldable pub asked_demo : List Row → Option Ask
-asked_demo rows = option_and_then (λ t. Some (demo t)) (first_of trace_id rows)
+asked_demo rows = option_and_then (λ t. Some (demo t (is_given frames_id rows))) (first_of trace_id rows)
 
 unfoldable pub asked_check : List Row → Option Ask
 asked_check rows = option_and_then (λ m. Some (check m)) (first_of manifest_id rows)

@@ -2,9 +2,9 @@
 ghost use Rattle.std.specs.Prelude.{◌≡◌, IfOk, false, option_map};
 ghost use Rattle.clap.specs.Words.{app_of, rule_of, with_rule, found_of, first_of, rows_of, subcommand_rows_of};
 ghost use Rattle.clap.specs.declared.builder.command.Command.TheViews.{out-Command};
-ghost use Rattle.ffa_command.specs.Commands.{manifest_of, trace_of, path_rule, manifest_id, trace_id, run_app, demo_app, check_app, layout_app, bare, program, ask_of, asked, asked_in, asked_run, asked_demo, asked_check, asked_layout};
+ghost use Rattle.ffa_command.specs.Commands.{manifest_of, trace_of, path_rule, flag_rule, manifest_id, trace_id, frames_id, is_given, run_app, demo_app, check_app, layout_app, bare, program, ask_of, asked, asked_in, asked_run, asked_demo, asked_check, asked_layout};
 
-use clap::{Arg, ArgMatches, Command};
+use clap::{Arg, ArgAction, ArgMatches, Command};
 use std::alloc::{AllocError, Global};
 
 #[cfg(test)]
@@ -13,14 +13,25 @@ mod tests;
 /// A command with its paths, which are words of the command line.
 #[derive(Clone, Copy, Debug, PartialEq, Eq)]
 pub enum Request<'a> {
-    /// To play a trace on the machine of a manifest.
-    Run { manifest: &'a str, trace: &'a str },
-    /// To play a trace on the built-in machine.
-    Demo { trace: &'a str },
+    /// To play a trace on the machine of a manifest, with RAM in frames or in one piece.
+    Run {
+        manifest: &'a str,
+        trace: &'a str,
+        frames: bool,
+    },
+    /// To play a trace on the built-in machine, with RAM in frames or in one piece.
+    Demo {
+        trace: &'a str,
+        frames: bool,
+    },
     /// To say whether a manifest is accepted.
-    Check { manifest: &'a str },
+    Check {
+        manifest: &'a str,
+    },
     /// To print where the tables of a manifest's machine stand.
-    Layout { manifest: &'a str },
+    Layout {
+        manifest: &'a str,
+    },
 }
 
 impl<'a> Request<'a> {
@@ -41,7 +52,7 @@ impl<'a> Request<'a> {
         ensures { option_map (λ path. path.now) result ≡ trace_of (ask_of self.now) }
     {
         match *self {
-            Request::Run { trace, .. } | Request::Demo { trace } => Some(trace),
+            Request::Run { trace, .. } | Request::Demo { trace, .. } => Some(trace),
             Request::Check { .. } | Request::Layout { .. } => None,
         }
     }
@@ -72,13 +83,27 @@ fn with_trace<'a>(alloc: Global, command: Command<'a>) -> Result<Command<'a>, Al
     command.arg(path(alloc, "trace", "The trace: a line for each operation"))
 }
 
+// The command with the flag for RAM in frames.
+fn with_frames<'a>(alloc: Global, command: Command<'a>) -> Result<Command<'a>, AllocError>
+    requires local { (out-Command command).has_globals ≡ false }
+    ensures app { IfOk result (λ c. app_of c ≡ with_rule (app_of command.entry) (flag_rule frames_id)) }
+    ensures local { IfOk result (λ c. (out-Command c).has_globals ≡ false) }
+{
+    let flag = Arg::new(alloc, "frames")
+        .long("frames")
+        .action(ArgAction::SetTrue)
+        .help("Keeps RAM in frames, a piece of memory for each page");
+    command.arg(flag)
+}
+
 #[tactic(auto, unfolding(crate::specs::Commands::run_app))]
 fn run_command<'a>(alloc: Global) -> Result<Command<'a>, AllocError>
     ensures app { IfOk result (λ c. app_of c ≡ run_app) }
     ensures local { IfOk result (λ c. (out-Command c).has_globals ≡ false) }
 {
     let command = Command::new(alloc, "run").about("Plays a trace on the machine of a manifest");
-    with_trace(alloc, with_manifest(alloc, command)?)
+    let command = with_trace(alloc, with_manifest(alloc, command)?)?;
+    with_frames(alloc, command)
 }
 
 #[tactic(auto, unfolding(crate::specs::Commands::demo_app))]
@@ -87,7 +112,7 @@ fn demo_command<'a>(alloc: Global) -> Result<Command<'a>, AllocError>
     ensures local { IfOk result (λ c. (out-Command c).has_globals ≡ false) }
 {
     let command = Command::new(alloc, "demo").about("Plays a trace on the built-in machine");
-    with_trace(alloc, command)
+    with_frames(alloc, with_trace(alloc, command)?)
 }
 
 #[tactic(auto, unfolding(crate::specs::Commands::check_app))]
@@ -137,13 +162,24 @@ fn text_of<'a>(matches: &ArgMatches<'a>, id: &str) -> Option<&'a str>
     matches.get_str(id)
 }
 
+fn is_given(matches: &ArgMatches<'_>, id: &str) -> bool
+    ensures { result ≡ is_given id.now (rows_of (found_of matches.now)) }
+{
+    text_of(matches, id) == Some("true")
+}
+
 #[tactic(auto, unfolding(crate::specs::Commands::asked_run))]
 fn asked_run<'a>(matches: &ArgMatches<'a>) -> Option<Request<'a>>
     ensures { option_map ask_of result ≡ asked_run (rows_of (found_of matches.now)) }
 {
     let manifest = text_of(matches, "manifest")?;
     let trace = text_of(matches, "trace")?;
-    Some(Request::Run { manifest, trace })
+    let frames = is_given(matches, "frames");
+    Some(Request::Run {
+        manifest,
+        trace,
+        frames,
+    })
 }
 
 #[tactic(auto, unfolding(crate::specs::Commands::asked_demo))]
@@ -151,7 +187,8 @@ fn asked_demo<'a>(matches: &ArgMatches<'a>) -> Option<Request<'a>>
     ensures { option_map ask_of result ≡ asked_demo (rows_of (found_of matches.now)) }
 {
     let trace = text_of(matches, "trace")?;
-    Some(Request::Demo { trace })
+    let frames = is_given(matches, "frames");
+    Some(Request::Demo { trace, frames })
 }
 
 #[tactic(auto, unfolding(crate::specs::Commands::asked_check))]

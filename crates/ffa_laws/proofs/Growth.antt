@@ -25,7 +25,7 @@ use Rattle.ffa_model.specs.Transactions.{Transfer, handle_of, transfer}
 use Rattle.ffa_laws.specs.Steady.{IsSteady, is_joint}
 use Rattle.ffa_laws.specs.Isolation.{NeverGrow, is_joint_at, is_lawful_call}
 use Rattle.ffa_laws.proofs.Views.{found}
-use Rattle.ffa_laws.proofs.Taken.{Taken, base-before, before_response, manager-before, response, state-taken, taken}
+use Rattle.ffa_laws.proofs.Taken.{Taken, base-before, before, manager-before, response, state-taken, taken}
 use Rattle.ffa_laws.proofs.Within.{within-same, within-through}
 use Rattle.ffa_laws.proofs.Changes.{AreRewritten, same_base, standing, page_base, unwritten}
 use Rattle.ffa_laws.proofs.Closed.{rewritten-zeroed_if}
@@ -123,17 +123,14 @@ module _ (s : State) (steady : IsSteady s) where
       its : Taken s x
       its = taken s x none
 
-      before : State
-      before = before_response s x its
+      filling : AreRewritten (before s x its).pages (filled (before s x its) s.runner (response s x its)).pages
+      filling = rewritten-filled (before s x its).pages (response s x its) (buffers_of s s.runner)
 
-      filling : AreRewritten before.pages (filled before s.runner (response s x its)).pages
-      filling = rewritten-filled before.pages (response s x its) (buffers_of s s.runner)
-
-      keeps : KeepsRights s.pages (filled before s.runner (response s x its)).pages
+      keeps : KeepsRights s.pages (filled (before s x its) s.runner (response s x its)).pages
       keeps =
           record {
-            bases = λ p. ap (λ r. is_within r (page_base (page_at s p))) (same_base _ (page_at before p) (filling.same p)) ∙ base-before s steady x its p;
-            manager = λ p none. stands-nowhere _ (filling.same p ∙ ap standing (manager-before s steady x its p none));
+            bases = λ p. ap (λ r. is_within r (page_base (page_at s p))) (same_base _ (page_at (before s x its) p) (filling.same p)) ∙ base-before s x its steady p;
+            manager = λ p none. stands-nowhere _ (filling.same p ∙ ap standing (manager-before s x its steady p none));
           }
 
   -- the calls on memory transactions

@@ -33,7 +33,7 @@ use Rattle.ffa_model.proofs.Guards.{guard-passes}
 use Rattle.ffa_laws.proofs.MemoryLaws.{fault-none}
 use Rattle.ffa_laws.proofs.SendLaws.{offer, offered-owner}
 use Rattle.ffa_model.proofs.Accesses.{page-changed}
-use Rattle.ffa_laws.proofs.Taken.{before_response, response, state-taken, taken, unnamed-before}
+use Rattle.ffa_laws.proofs.Taken.{before, response, state-taken, taken, unnamed-before}
 use Rattle.ffa_laws.proofs.Maps.{first_none}
 use Rattle.ffa_laws.proofs.Lawful.{lawful as served_lawful}
 use Rattle.ffa_laws.proofs.Kept.{is_memory_call, kept-call, kept-step}
@@ -140,8 +140,8 @@ module _ (s : State) (steady : IsSteady s) (e p : ℕ) (owned : owner_of s p ≡
   retrieved-elsewhere x none =
       let its = taken s x none in
       ap (λ (t : State). bytes_in t.pages p) (state-taken s x its)
-      ∙ by-runner (before_response s x its).pages (response s x its)
-      ∙ ap (λ page. option_map_or (λ (q : Page). q.bytes) page []) (unnamed-before s steady x its p unnamed)
+      ∙ by-runner (before s x its).pages (response s x its)
+      ∙ ap (λ page. option_map_or (λ (q : Page). q.bytes) page []) (unnamed-before s x its steady p unnamed)
 
   -- the calls on memory transactions
   memory-bytes : (call : calls.Call) → is_lawful_call call ≡ true → is_memory_call call ≡ true → first_failure (service s call).guards ≡ None → bytes_in (service s call).state.pages p ≡ bytes_in s.pages p

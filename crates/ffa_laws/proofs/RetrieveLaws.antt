@@ -38,7 +38,8 @@ use Rattle.ffa_laws.proofs.ReclaimLaws.{seen-whole}
 use Rattle.ffa_laws.proofs.Told.{IsTold}
 use Rattle.ffa_laws.proofs.Views.{held-seen, shown, view-transaction}
 use Rattle.ffa_laws.proofs.Written.{rewritten-filled, rx-own, seen-filled, with_rx_full}
-use Rattle.ffa_laws.proofs.Taken.{Taken, before_response, checks, handle, response, right, size-before, state-taken, steady-before, taken}
+use Rattle.ffa_laws.proofs.Taken as retrieve
+use Rattle.ffa_laws.proofs.Taken.{Taken, checks, size-before, state-taken, steady-before, taken}
 
 -- ---- the guards, in the runner's view
 first-fails : (a : Bool) (code : ErrorCode) (guards : List (Bool × ErrorCode)) → a ≡ false → first_failure ((a, code) ∷ guards) ≡ Some code
@@ -59,6 +60,9 @@ not-offered bases full e d (Some t) is =
     ∷ [])
     is
 
+offered-involved : (e : ℕ) (t : Transaction) → is_receiver e t ≡ true → involves e (Some t) ≡ true
+offered-involved e t receiver = ap (λ b. t.sender == e || b) receiver ∙ grind (arith, cases_Bool (t.sender == e))
+
 module _ (s : State) (steady : IsSteady s) where
   abbrev v : State
   v = view s.runner s
@@ -66,16 +70,13 @@ module _ (s : State) (steady : IsSteady s) where
   abbrev full : Bool
   full = is_full (buffers_in s.buffers s.runner)
 
-  receiver-known : (t : Transaction) → is_receiver s.runner t ≡ true → involves s.runner (Some t) ≡ true
-  receiver-known t receiver = ap (λ b. t.sender == s.runner || b) receiver ∙ grind (arith, cases_Bool (t.sender == s.runner))
-
   same-failure : (d : RetrieveDesc) (o : Option Transaction) → transaction_of s d.handle ≡ o
       → first_failure (holding_guards (bases_of v) full s.runner d (shown s.runner o)) ≡ first_failure (holding_guards (bases_of s) full s.runner d o)
   same-failure d None there = refl
   same-failure d (Some t) there =
       elim (is_receiver s.runner t) as (λ b. is_receiver s.runner t ≡ b → first_failure (holding_guards (bases_of v) full s.runner d (shown s.runner (Some t))) ≡ first_failure (holding_guards (bases_of s) full s.runner d (Some t))) [
         | true ↦ λ receiver.
-            let known = receiver-known t receiver in
+            let known = offered-involved s.runner t receiver in
             ap (λ b. first_failure (holding_guards (bases_of v) full s.runner d (option_map (seen_by s.runner) (kept b (Some t))))) known
             ∙ (λ i. first_failure (
             (is_receiver s.runner t, InvalidParameters)
@@ -111,85 +112,87 @@ module _ (s : State) (steady : IsSteady s) where
       ap (λ d. first_failure (retrieve_guards (scene_of v) s.runner x d)) (same-read x.total)
       ∙ same-checks x (asking_guards (scene_of v) s.runner (retrieve_read s x.total)) (asking_guards (scene_of s) s.runner (retrieve_read s x.total)) (same-asking (retrieve_read s x.total))
 
-  -- ---- the state, in the runner's view
-  module _ (x : Transfer) (its : Taken s x) where
-    known : involves s.runner (Some its.of) ≡ true
-    known = receiver-known its.of its.is.receiver
-
-    seen-there : transaction_of v (handle s x its) ≡ Some (seen_by s.runner its.of)
-    seen-there = view-transaction s.runner s (handle s x its) ∙ ap (shown s.runner) its.is.there ∙ ap (λ b. option_map (seen_by s.runner) (kept b (Some its.of))) known
-
-    own-taken : with_retrieved v (handle s x its) (seen_by s.runner its.of) s.runner (right s x its) ≡ view s.runner (with_retrieved s (handle s x its) its.of s.runner (right s x its))
-    own-taken = of its.of.kind
-      where
-        held : with_offers v (with_transaction (offers_of v) (handle s x its) (holding (seen_by s.runner its.of) s.runner (right s x its))) ≡ view s.runner (reheld s (handle s x its) its.of (finite.insert its.of.held s.runner (right s x its)))
-        held = sym (view-reheld s steady (handle s x its) its.of its.is.there (finite.insert its.of.held s.runner (right s x its)) s.runner (holding (seen_by s.runner its.of) s.runner (right s x its)) known (seen-taken s.runner its.of (right s x its)))
-
-        of : (kind : Kind) → with_offers (donated_if (is_donate kind) v its.of.ranges s.runner (right s x its)) (taken_in kind (offers_of v) (handle s x its) (seen_by s.runner its.of) s.runner (right s x its))
-            ≡ view s.runner (with_offers (donated_if (is_donate kind) s its.of.ranges s.runner (right s x its)) (taken_in kind (offers_of s) (handle s x its) its.of s.runner (right s x its)))
-        of Share = held
-        of Lend = held
-        of Donate = sym (view-taken s steady (handle s x its) its.of its.is.there s.runner (right s x its) known)
-
-    own-state : (memory_retrieve v x).state ≡ view s.runner (memory_retrieve s x).state
-    own-state =
-        ap (retrieved v) (same-read x.total ∙ its.read)
-        ∙ ap (retrieved_from v its.asked) seen-there
-        ∙ ap (λ most. retrieved_right v (handle s x its) (seen_by s.runner its.of) s.runner (asked_right most its.asked)) (ceiling-seen s.runner s steady (handle s x its) its.of its.is.there known s.runner)
-        ∙ ap (λ u. filled u s.runner (response s x its)) own-taken
-        ∙ view-filled s.runner (before_response s x its) (response s x its) steady.runner
-        ∙ sym (ap (view s.runner) (state-taken s x its))
-
-    own-reply : (memory_retrieve v x).reply ≡ (memory_retrieve s x).reply
-    own-reply =
-        ap Retrieved (
-        ap (response_length v) (same-read x.total ∙ its.read) ∙ ap (λ o. option_map_or (λ (u : Transaction). response_size u.ranges) o 0) seen-there
-        ∙ sym (ap (response_length s) its.read ∙ ap (λ o. option_map_or (λ (u : Transaction). response_size u.ranges) o 0) its.is.there))
-
-  pub own-retrieve : (x : Transfer) → IsOwn s (memory_retrieve v x) (memory_retrieve s x)
-  own-retrieve x = (same-guards x, λ none. (own-state x (taken s x none), own-reply x (taken s x none)))
-
--- ---- to another endpoint
+-- ---- the state
 module _ (s : State) (steady : IsSteady s) (x : Transfer) (its : Taken s x) where
+  abbrev seen : State
+  seen = view s.runner s
+
   abbrev t : Transaction
   t = its.of
 
   abbrev h : ℕ
   h = its.asked.handle
 
-  abbrev before : State
-  before = before_response s x its
-
-  abbrev its_right : Rights
-  its_right = right s x its
+  abbrev right : Rights
+  right = retrieve.right s x its
 
   abbrev holders : Holders
-  holders = finite.insert t.held s.runner its_right
+  holders = retrieve.holders s x its
 
   abbrev taken_as : Kind → State
-  taken_as kind = with_offers (donated_if (is_donate kind) s t.ranges s.runner its_right) (taken_in kind (offers_of s) h t s.runner its_right)
+  taken_as kind = retrieve.taken_as s x its kind
 
+  abbrev before : State
+  before = retrieve.before s x its
+
+  abbrev response : List ℕ
+  response = retrieve.response s x its
+
+  known : involves s.runner (Some t) ≡ true
+  known = offered-involved s.runner t its.is.receiver
+
+  seen-there : transaction_of seen h ≡ Some (seen_by s.runner t)
+  seen-there = view-transaction s.runner s h ∙ ap (shown s.runner) its.is.there ∙ ap (λ b. option_map (seen_by s.runner) (kept b (Some t))) known
+
+  own-taken : with_retrieved seen h (seen_by s.runner t) s.runner right ≡ view s.runner (with_retrieved s h t s.runner right)
+  own-taken = kinds t.kind
+    where
+      held : with_offers seen (with_transaction (offers_of seen) h (holding (seen_by s.runner t) s.runner right)) ≡ view s.runner (reheld s h t holders)
+      held = sym (view-reheld s steady h t its.is.there holders s.runner (holding (seen_by s.runner t) s.runner right) known (seen-taken s.runner t right))
+
+      kinds : (kind : Kind) → with_offers (donated_if (is_donate kind) seen t.ranges s.runner right) (taken_in kind (offers_of seen) h (seen_by s.runner t) s.runner right)
+          ≡ view s.runner (taken_as kind)
+      kinds Share = held
+      kinds Lend = held
+      kinds Donate = sym (view-taken s steady h t its.is.there s.runner right known)
+
+  own-state : (memory_retrieve seen x).state ≡ view s.runner (memory_retrieve s x).state
+  own-state =
+      ap (retrieved seen) (same-read s steady x.total ∙ its.read)
+      ∙ ap (retrieved_from seen its.asked) seen-there
+      ∙ ap (λ most. retrieved_right seen h (seen_by s.runner t) s.runner (asked_right most its.asked)) (ceiling-seen s.runner s steady h t its.is.there known s.runner)
+      ∙ ap (λ u. filled u s.runner response) own-taken
+      ∙ view-filled s.runner before response steady.runner
+      ∙ sym (ap (view s.runner) (state-taken s x its))
+
+  own-reply : (memory_retrieve seen x).reply ≡ (memory_retrieve s x).reply
+  own-reply =
+      ap Retrieved (
+      ap (response_length seen) (same-read s steady x.total ∙ its.read) ∙ ap (λ o. option_map_or (λ (u : Transaction). response_size u.ranges) o 0) seen-there
+      ∙ sym (ap (response_length s) its.read ∙ ap (λ o. option_map_or (λ (u : Transaction). response_size u.ranges) o 0) its.is.there))
+
+  -- ---- to another endpoint
   module _ (e : ℕ) (other : s.runner ≢ e) where
     abbrev told : Kind → List Event
-    told kind = where_true (t.sender == e) (taking kind h s.runner its_right ∷ [])
+    told kind = where_true (t.sender == e) (taking kind h s.runner right ∷ [])
 
     seen-own : (u : Transaction) → (u.sender == e) ≡ true → seen_by e u ≡ u
     seen-own u mine = λ i. record u { held = cond (mine i) u.held (finite.retain_keys u.held (λ f. f == e)) }
 
     held-told : view e (reheld s h t holders) ≡ apply_all e (view e s) (told Share)
     held-told =
-        elim (t.sender == e) as (λ b. (t.sender == e) ≡ b → view e (reheld s h t holders) ≡ apply_all e (view e s) (where_true b (taking Share h s.runner its_right ∷ []))) [
+        elim (t.sender == e) as (λ b. (t.sender == e) ≡ b → view e (reheld s h t holders) ≡ apply_all e (view e s) (where_true b (taking Share h s.runner right ∷ []))) [
           | true ↦ λ mine.
-              view-reheld s steady h t its.is.there holders e (holding t s.runner its_right) (ap (λ b. b || is_receiver e t) mine) (seen-own (holding t s.runner its_right) mine)
-              ∙ (λ i. with_holder (view e s) h s.runner (Some its_right) (sym (view-transaction e s h ∙ ap (shown e) its.is.there ∙ seen-whole e t mine) i))
-          | false ↦ λ not_mine. view-untold s steady h t its.is.there holders e (seen-unheld e t holders not_mine (held-beside t s.runner its_right e (λ same. other (sym same))))
+              view-reheld s steady h t its.is.there holders e (holding t s.runner right) (ap (λ b. b || is_receiver e t) mine) (seen-own (holding t s.runner right) mine)
+              ∙ (λ i. with_holder (view e s) h s.runner (Some right) (sym (view-transaction e s h ∙ ap (shown e) its.is.there ∙ seen-whole e t mine) i))
+          | false ↦ λ not_mine. view-untold s steady h t its.is.there holders e (seen-unheld e t holders not_mine (held-beside t s.runner right e (λ same. other (sym same))))
         ] refl
 
     given-told : t.kind ≡ Donate → view e (taken_as Donate) ≡ apply_all e (view e s) (told Donate)
     given-told donate =
-        elim (t.sender == e) as (λ b. (t.sender == e) ≡ b → view e (taken_as Donate) ≡ apply_all e (view e s) (where_true b (taking Donate h s.runner its_right ∷ []))) [
-          | true ↦ λ mine. view-lost s steady h t its.is.there s.runner its_right e other (ap (λ b. b || is_receiver e t) mine)
-          | false ↦ λ not_mine. view-unlost s steady h t its.is.there s.runner its_right e other (λ i. not_mine i || not_offered i)
+        elim (t.sender == e) as (λ b. (t.sender == e) ≡ b → view e (taken_as Donate) ≡ apply_all e (view e s) (where_true b (taking Donate h s.runner right ∷ []))) [
+          | true ↦ λ mine. view-lost s steady h t its.is.there s.runner right e other (ap (λ b. b || is_receiver e t) mine)
+          | false ↦ λ not_mine. view-unlost s steady h t its.is.there s.runner right e other (λ i. not_mine i || not_offered i)
         ] refl
       where
         not_offered : is_receiver e t ≡ false
@@ -210,19 +213,22 @@ module _ (s : State) (steady : IsSteady s) (x : Transfer) (its : Taken s x) wher
     new_buffers = buffers_with_rx s.buffers s.runner true
 
     abbrev filled_before : State
-    filled_before = filled before s.runner (response s x its)
+    filled_before = filled before s.runner response
 
     view-after : view e filled_before ≡ with_public_parts (view e before) (schedule_of s) (seen_buffers e (length s.pages) new_buffers)
     view-after =
-        view-changed e before filled_before.pages new_buffers (schedule_of s) (rewritten-filled before.pages (response s x its) (buffers_of s s.runner))
-        ∙ (λ i. with_parts (view e before) ((seen-filled e before (response s x its) (buffers_of s s.runner) ∙ far-filled e s.runner before (response s x its) (steady-before s steady x its) steady.runner other) i) (seen_buffers e (size-before s steady x its i) new_buffers) (schedule_of s))
+        view-changed e before filled_before.pages new_buffers (schedule_of s) (rewritten-filled before.pages response (buffers_of s s.runner))
+        ∙ (λ i. with_parts (view e before) ((seen-filled e before response (buffers_of s s.runner) ∙ far-filled e s.runner before response (steady-before s x its steady) steady.runner other) i) (seen_buffers e (size-before s x its steady i) new_buffers) (schedule_of s))
 
     told-taken : view e filled_before ≡ apply_all e (view e s) (told t.kind ++ public_change s filled_before)
     told-taken =
         other-told e s filled_before (view e before) (told t.kind) (length-set s.buffers (place s.runner) (with_rx_full true (buffers_of s s.runner))) (λ i mine. rx-own (length s.pages) s.buffers s.runner true i)
-        (length-map_at (λ q page. kept (is_near e before q) page) before.pages ∙ size-before s steady x its)
-        (λ i. record (view e before) { buffers = seen_buffers e (size-before s steady x its i) s.buffers })
+        (length-map_at (λ q page. kept (is_near e before q) page) before.pages ∙ size-before s x its steady)
+        (λ i. record (view e before) { buffers = seen_buffers e (size-before s x its steady i) s.buffers })
         (sym told-before) view-after
+
+pub own-retrieve : (s : State) → IsSteady s → (x : Transfer) → IsOwn s (memory_retrieve (view s.runner s) x) (memory_retrieve s x)
+own-retrieve s steady x = (same-guards s steady x, λ none. (own-state s steady x (taken s x none), own-reply s steady x (taken s x none)))
 
 pub other-retrieve : (e : ℕ) (s : State) → IsSteady s → s.runner ≢ e → (x : Transfer) → IsTold e s (memory_retrieve s x) (takes e s (retrieve_read s x.total))
 other-retrieve e s steady other x none =

@@ -19,7 +19,7 @@ use Rattle.ffa_laws.proofs.ByteLists.{all-append, bytes-pieces, length-pieces, n
 use Rattle.ffa_laws.proofs.SoundBuffers.{filled-state-sound}
 use Rattle.ffa_laws.proofs.SoundPages.{filled-sound}
 use Rattle.ffa_laws.proofs.SoundSteady.{runner-known}
-use Rattle.ffa_laws.proofs.Taken.{Taken, before_response, handle, response, right, state-taken, taken}
+use Rattle.ffa_laws.proofs.Taken.{Taken, before, h, response, right, state-taken, taken}
 
 -- ---- the bytes of a response
 le-bytes : (n x : ℕ) → are_bytes (le n x)
@@ -108,19 +108,16 @@ module _ (r : ResponseRecord) where
 module _ (s : State) (sound : IsSoundState s) where
   pub retrieve-sound : (x : Transfer) → first_failure (memory_retrieve s x).guards ≡ None → IsSoundState (memory_retrieve s x).state
   retrieve-sound x none =
-      subst IsSoundState (sym (state-taken s x its)) (filled-state-sound before before-sound s.runner (response s x its) (filled-sound before before.pages before-sound.pages (response s x its) (response-are_bytes told) fits (buffers_of s s.runner)))
+      subst IsSoundState (sym (state-taken s x its)) (filled-state-sound (before s x its) before-sound s.runner (response s x its) (filled-sound (before s x its) (before s x its).pages before-sound.pages (response s x its) (response-are_bytes told) fits (buffers_of s s.runner)))
     where
       its : Taken s x
       its = taken s x none
 
       told : ResponseRecord
-      told = response_to (handle s x its) its.of s.runner (right s x its)
+      told = response_to (h s x its) its.of s.runner (right s x its)
 
-      before : State
-      before = before_response s x its
-
-      before-sound : IsSoundState before
-      before-sound = taken-sound s sound (handle s x its) its.of its.is.there s.runner (right s x its) (runner-known s sound) its.is.receiver its.is.within
+      before-sound : IsSoundState (before s x its)
+      before-sound = taken-sound s sound (h s x its) its.of its.is.there s.runner (right s x its) (runner-known s sound) its.is.receiver its.is.within
 
       fits : length (response s x its) ≤ 4096
-      fits = response-fits told (sound.transactions (handle s x its) its.of its.is.there).few_ranges
+      fits = response-fits told (sound.transactions (h s x its) its.of its.is.there).few_ranges

@@ -17,7 +17,7 @@ use Rattle.ffa_model.specs.Buffers.{buffers_in, filled, is_full}
 use Rattle.ffa_model.specs.Calls.{first_failure}
 use Rattle.ffa_model.specs.ResponseBytes.{response_bytes}
 use Rattle.ffa_model.specs.Transactions.{Transfer, base_of, bases_of, ceiling, offers_of, scene_of, with_offers}
-use Rattle.ffa_model.specs.MemoryRetrieve.{asking_guards, donated_if, donated_page, holding_guards, memory_retrieve, response_to, retrieve_read, retrieved, retrieved_from, right_for, taken_in, with_retrieved}
+use Rattle.ffa_model.specs.MemoryRetrieve.{asking_guards, donated_if, donated_page, holding_guards, memory_retrieve, response_to, retrieve_read, retrieved, retrieved_from, right_for, taken_in}
 use Rattle.ffa_laws.specs.Steady.{IsSteady}
 use Rattle.ffa_model.proofs.Guards.{guard-passes}
 use Rattle.ffa_laws.proofs.BufferLaws.{steady-filled}
@@ -76,117 +76,108 @@ taken s x none = read (retrieve_read s x.total) refl none
     read (Some d) is passed = naming d (transaction_of s d.handle) is refl passed
 
 module _ (s : State) (x : Transfer) (its : Taken s x) where
-  abbrev pub handle : ℕ
-  handle = its.asked.handle
-
-  abbrev pub right : Rights
-  right = right_for (bases_of s) its.of s.runner its.asked
-
-  -- the state before RX is filled
-  abbrev pub before_response : State
-  before_response = with_retrieved s handle its.of s.runner right
-
-  abbrev pub response : List ℕ
-  response = response_bytes (response_to handle its.of s.runner right)
-
-  pub state-taken : (memory_retrieve s x).state ≡ filled before_response s.runner response
-  state-taken = ap (retrieved s) its.read ∙ ap (retrieved_from s its.asked) its.is.there
-
--- ---- the state before RX is filled
-module _ (s : State) (steady : IsSteady s) (x : Transfer) (its : Taken s x) where
   abbrev pub t : Transaction
   t = its.of
 
-  abbrev h : ℕ
+  abbrev pub h : ℕ
   h = its.asked.handle
 
-  abbrev before : State
-  before = before_response s x its
+  abbrev pub right : Rights
+  right = right_for (bases_of s) t s.runner its.asked
 
-  abbrev its_right : Rights
-  its_right = right s x its
+  -- who holds it then
+  abbrev pub holders : Holders
+  holders = finite.insert t.held s.runner right
 
-  abbrev taken_as : Kind → State
-  taken_as kind = with_offers (donated_if (is_donate kind) s t.ranges s.runner its_right) (taken_in kind (offers_of s) h t s.runner its_right)
+  -- the state before RX is filled, by the kind
+  abbrev pub taken_as : Kind → State
+  taken_as kind = with_offers (donated_if (is_donate kind) s t.ranges s.runner right) (taken_in kind (offers_of s) h t s.runner right)
 
-  pub size-before : length before.pages ≡ length s.pages
-  size-before = of t.kind
-    where
-      of : (kind : Kind) → length (taken_as kind).pages ≡ length s.pages
-      of Share = refl
-      of Lend = refl
-      of Donate = size-given s steady h t its.is.there s.runner its_right
+  abbrev pub before : State
+  before = taken_as t.kind
 
-  -- the right is within each page's base right
-  right-within : (p : ℕ) → names s t.ranges p ≡ true → is_within (Some its_right) (base_of s p) ≡ true
-  right-within p named =
-      within-through (Some its_right) (Some (ceiling (bases_of s) t s.runner)) (base_of s p) its.is.within ((steady.transactions h t its.is.there).ceilings p s.runner named)
+  abbrev pub response : List ℕ
+  response = response_bytes (response_to h t s.runner right)
 
-  -- ---- steadiness
-  abbrev holders : Holders
-  holders = finite.insert t.held s.runner its_right
+  pub state-taken : (memory_retrieve s x).state ≡ filled before s.runner response
+  state-taken = ap (retrieved s) its.read ∙ ap (retrieved_from s its.asked) its.is.there
 
-  each-holder : (P : ℕ → Rights → Type 0) → P s.runner its_right → ((e : ℕ) (other : Rights) → held_by t e ≡ Some other → P e other)
-      → (e : ℕ) (other : Rights) → finite.get holders e ≡ Some other → P e other
-  each-holder P new old e other is =
-      elim (e == s.runner) as (λ b. (e == s.runner) ≡ b → cond b (Some its_right) (held_by t e) ≡ Some other → P e other) [
-        | true ↦ λ same holds. subst (λ f. P f other) (sym (eqb-true e s.runner same)) (subst (P s.runner) (same_Some its_right other holds) new)
-        | false ↦ λ differs holds. old e other holds
-      ] refl (sym (get-taken t.held s.runner its_right e) ∙ is)
+  module _ (steady : IsSteady s) where
+    pub size-before : length before.pages ≡ length s.pages
+    size-before = of t.kind
+      where
+        of : (kind : Kind) → length (taken_as kind).pages ≡ length s.pages
+        of Share = refl
+        of Lend = refl
+        of Donate = size-given s steady h t its.is.there s.runner right
 
-  steady-held : IsSteady (reheld s h t holders)
-  steady-held =
-      let good = steady.transactions h t its.is.there in
-      steady-reheld s steady h t its.is.there holders
-      (each-holder (λ e other. is_receiver e t ≡ true) its.is.receiver good.receiver)
-      (λ p e other named. each-holder (λ f one. is_within (Some one) (base_of s p) ≡ true) (right-within p named) (λ f one. good.within p f one named) e other)
+    -- the right is within each page's base right
+    right-within : (p : ℕ) → names s t.ranges p ≡ true → is_within (Some right) (base_of s p) ≡ true
+    right-within p named =
+        within-through (Some right) (Some (ceiling (bases_of s) t s.runner)) (base_of s p) its.is.within ((steady.transactions h t its.is.there).ceilings p s.runner named)
 
-  pub steady-before : IsSteady before
-  steady-before = of t.kind
-    where
-      of : (kind : Kind) → IsSteady (taken_as kind)
-      of Share = steady-held
-      of Lend = steady-held
-      of Donate = steady-given s steady h t its.is.there s.runner its_right
+    -- ---- steadiness
+    each-holder : (P : ℕ → Rights → Type 0) → P s.runner right → ((e : ℕ) (other : Rights) → held_by t e ≡ Some other → P e other)
+        → (e : ℕ) (other : Rights) → finite.get holders e ≡ Some other → P e other
+    each-holder P new old e other is =
+        elim (e == s.runner) as (λ b. (e == s.runner) ≡ b → cond b (Some right) (held_by t e) ≡ Some other → P e other) [
+          | true ↦ λ same holds. subst (λ f. P f other) (sym (eqb-true e s.runner same)) (subst (P s.runner) (same_Some right other holds) new)
+          | false ↦ λ differs holds. old e other holds
+        ] refl (sym (get-taken t.held s.runner right e) ∙ is)
 
-  -- ---- pages: a base right is no more than before, the manager's pages stay, and so do those in no transaction
-  pub base-before : (p : ℕ) → is_within (base_of before p) (base_of s p) ≡ true
-  base-before p = of t.kind
-    where
-      given-within : (page : Option Page) → page_at s p ≡ page → names s t.ranges p ≡ true → is_within (page_base (donated_page s.runner its_right page)) (page_base page) ≡ true
-      given-within None at named = refl
-      given-within (Some q) at named = ap (λ page. is_within (Some its_right) (page_base page)) (sym at) ∙ right-within p named
+    steady-held : IsSteady (reheld s h t holders)
+    steady-held =
+        let good = steady.transactions h t its.is.there in
+        steady-reheld s steady h t its.is.there holders
+        (each-holder (λ e other. is_receiver e t ≡ true) its.is.receiver good.receiver)
+        (λ p e other named. each-holder (λ f one. is_within (Some one) (base_of s p) ≡ true) (right-within p named) (λ f one. good.within p f one named) e other)
 
-      of : (kind : Kind) → is_within (base_of (taken_as kind) p) (base_of s p) ≡ true
-      of Share = within-same (base_of s p)
-      of Lend = within-same (base_of s p)
-      of Donate =
-          ap (λ page. is_within (page_base page) (base_of s p)) (page-given s steady h t its.is.there s.runner its_right p)
-          ∙ elim (names s t.ranges p) as (λ b. names s t.ranges p ≡ b → is_within (page_base (cond b (donated_page s.runner its_right (page_at s p)) (page_at s p))) (base_of s p) ≡ true) [
-            | true ↦ given-within (page_at s p) refl
-            | false ↦ λ away. within-same (base_of s p)
-          ] refl
+    pub steady-before : IsSteady before
+    steady-before = of t.kind
+      where
+        of : (kind : Kind) → IsSteady (taken_as kind)
+        of Share = steady-held
+        of Lend = steady-held
+        of Donate = steady-given s steady h t its.is.there s.runner right
 
-  pub manager-before : (p : ℕ) → page_at s p ≡ None → page_at before p ≡ None
-  manager-before p none = of t.kind
-    where
-      of : (kind : Kind) → page_at (taken_as kind) p ≡ None
-      of Share = none
-      of Lend = none
-      of Donate =
-          page-given s steady h t its.is.there s.runner its_right p
-          ∙ ap (λ page. cond (names s t.ranges p) (donated_page s.runner its_right page) page) none
-          ∙ elim (names s t.ranges p) as (λ b. cond b (donated_page s.runner its_right None) None ≡ None) [ true ↦ refl | false ↦ refl ]
+    -- ---- pages: a base right is no more than before, the manager's pages stay, and so do those in no transaction
+    pub base-before : (p : ℕ) → is_within (base_of before p) (base_of s p) ≡ true
+    base-before p = of t.kind
+      where
+        given-within : (page : Option Page) → page_at s p ≡ page → names s t.ranges p ≡ true → is_within (page_base (donated_page s.runner right page)) (page_base page) ≡ true
+        given-within None at named = refl
+        given-within (Some q) at named = ap (λ page. is_within (Some right) (page_base page)) (sym at) ∙ right-within p named
 
-  pub unnamed-before : (p : ℕ) → handle_at s p ≡ None → page_at before p ≡ page_at s p
-  unnamed-before p unnamed = of t.kind
-    where
-      of : (kind : Kind) → page_at (taken_as kind) p ≡ page_at s p
-      of Share = refl
-      of Lend = refl
-      of Donate = page-same s steady h t its.is.there s.runner its_right p (unnamed-away s steady h t its.is.there s.runner its_right p unnamed)
+        of : (kind : Kind) → is_within (base_of (taken_as kind) p) (base_of s p) ≡ true
+        of Share = within-same (base_of s p)
+        of Lend = within-same (base_of s p)
+        of Donate =
+            ap (λ page. is_within (page_base page) (base_of s p)) (page-given s steady h t its.is.there s.runner right p)
+            ∙ elim (names s t.ranges p) as (λ b. names s t.ranges p ≡ b → is_within (page_base (cond b (donated_page s.runner right (page_at s p)) (page_at s p))) (base_of s p) ≡ true) [
+              | true ↦ given-within (page_at s p) refl
+              | false ↦ λ away. within-same (base_of s p)
+            ] refl
+
+    pub manager-before : (p : ℕ) → page_at s p ≡ None → page_at before p ≡ None
+    manager-before p none = of t.kind
+      where
+        of : (kind : Kind) → page_at (taken_as kind) p ≡ None
+        of Share = none
+        of Lend = none
+        of Donate =
+            page-given s steady h t its.is.there s.runner right p
+            ∙ ap (λ page. cond (names s t.ranges p) (donated_page s.runner right page) page) none
+            ∙ elim (names s t.ranges p) as (λ b. cond b (donated_page s.runner right None) None ≡ None) [ true ↦ refl | false ↦ refl ]
+
+    pub unnamed-before : (p : ℕ) → handle_at s p ≡ None → page_at before p ≡ page_at s p
+    unnamed-before p unnamed = of t.kind
+      where
+        of : (kind : Kind) → page_at (taken_as kind) p ≡ page_at s p
+        of Share = refl
+        of Lend = refl
+        of Donate = page-same s steady h t its.is.there s.runner right p (unnamed-away s steady h t its.is.there s.runner right p unnamed)
 
 pub steady-retrieve : (s : State) → IsSteady s → (x : Transfer) → first_failure (memory_retrieve s x).guards ≡ None → IsSteady (memory_retrieve s x).state
 steady-retrieve s steady x none =
     let its = taken s x none in
-    subst IsSteady (sym (state-taken s x its)) (steady-filled (before_response s x its) (steady-before s steady x its) s.runner (response s x its))
+    subst IsSteady (sym (state-taken s x its)) (steady-filled (before s x its) (steady-before s x its steady) s.runner (response s x its))

@@ -16,9 +16,6 @@ pub use error::ManifestError;
 pub use ffa_model::Manifest;
 use std::alloc::Global;
 
-#[cfg(test)]
-mod tests;
-
 /// Reads the text of a manifest: a machine's RAM, and its endpoints with their regions.
 ///
 /// A text is refused by the first cause in the order of reading: a table's unknown keys, and then its keys in their

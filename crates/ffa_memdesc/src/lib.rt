@@ -23,6 +23,3 @@ pub use send::read_send;
 /// The bytes are no descriptor of the kind that was asked for.
 #[derive(Clone, Copy, Debug, PartialEq, Eq)]
 pub struct Bad;
-
-#[cfg(test)]
-mod tests;

@@ -4,6 +4,3 @@
 pub mod table;
 
 pub use table::PageTable;
-
-#[cfg(test)]
-mod tests;

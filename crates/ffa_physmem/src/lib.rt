@@ -2,9 +2,11 @@
 #![tactic(auto)]
 
 pub mod flat;
+pub mod frames;
 pub mod memory;
 
 pub use flat::{FlatRam, NoMemory};
+pub use frames::FrameRam;
 pub use memory::{PAGE_SIZE, PhysMem, put_front};
 
 #[cfg(test)]

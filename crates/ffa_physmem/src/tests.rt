@@ -2,7 +2,7 @@
 ghost use Rattle.std.specs.Prelude.{◌≡◌};
 ghost use Rattle.ffa_model.specs.Ram.{zero_ram};
 
-use crate::{FlatRam, PhysMem};
+use crate::{FlatRam, FrameRam, PhysMem};
 use ffa_model::PageNo;
 use std::process::Abort;
 use std::test::Fail;
@@ -29,6 +29,14 @@ fn use_pages<M: PhysMem>(memory: &mut M, rt: &impl Abort)
 #[test]
 fn flat_ram(rt: HostRuntime) -> Result<(), Fail> {
     let mut memory = FlatRam::new(rt.alloc(), 0x4000_0000, 2)?;
+    assert_eq!(rt; (memory.base(), memory.pages()), (0x4000_0000, 2));
+    use_pages(&mut memory, &rt);
+    Ok(())
+}
+
+#[test]
+fn frame_ram(rt: HostRuntime) -> Result<(), Fail> {
+    let mut memory = FrameRam::new(rt.alloc(), 0x4000_0000, 2)?;
     assert_eq!(rt; (memory.base(), memory.pages()), (0x4000_0000, 2));
     use_pages(&mut memory, &rt);
     Ok(())

@@ -4,6 +4,3 @@
 pub mod buffers;
 
 pub use buffers::{Buffers, Mapped};
-
-#[cfg(test)]
-mod tests;

@@ -4,6 +4,3 @@
 pub mod chain;
 
 pub use chain::Chain;
-
-#[cfg(test)]
-mod tests;

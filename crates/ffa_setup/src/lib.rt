@@ -3,8 +3,6 @@
 
 mod partitions;
 mod replies;
-#[cfg(test)]
-mod tests;
 
 pub use partitions::{count, info_bytes, is_recognized};
 pub use replies::{features, id, spm_id, version};

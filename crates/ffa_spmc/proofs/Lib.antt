@@ -21,5 +21,6 @@ pub mod Reclaims
 pub mod Relinquishes
 pub mod Donations
 pub mod Retrieves
+pub mod Offers
 pub mod ServedCalls
 pub mod Laws

@@ -4,6 +4,7 @@ use Rattle.ffa_model.specs.declared.call.Reply.{Reply}
 use Rattle.ffa_model.specs.declared.call.Reply.TheVariants.{Error, Retrieved}
 use Rattle.ffa_model.specs.declared.operation.ErrorCode.{ErrorCode}
 use Rattle.ffa_model.specs.Calls.{success}
+use Rattle.ffa_model.specs.MemorySend.{handle_reply}
 
 -- where `told` is the reply to what is done
 abbrev pub reply_of : {X : Type 0} → (X → Reply) → Result X ErrorCode → Reply
@@ -19,3 +20,7 @@ reply_or_error r = reply_of (λ reply. reply) r
 -- the length of what RX holds then
 abbrev pub retrieved_or_error : Result ℕ ErrorCode → Reply
 retrieved_or_error r = reply_of (λ size. Retrieved size) r
+
+-- the handle of what was sent
+abbrev pub handle_or_error : Result ℕ ErrorCode → Reply
+handle_or_error r = reply_of handle_reply r

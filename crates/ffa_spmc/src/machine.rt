@@ -17,20 +17,24 @@ ghost use Rattle.ffa_model.specs.Refusals.{is_error, is_refusal, passes_no_error
 ghost use Rattle.ffa_model.specs.Registers.{served_call};
 ghost use Rattle.ffa_model.specs.MemoryRetrieve.{memory_retrieve};
 ghost use Rattle.ffa_model.specs.MemoryReturn.{memory_reclaim, memory_relinquish};
+ghost use Rattle.ffa_model.specs.MemorySend.{handle_reply, memory_send};
 ghost use Rattle.ffa_model.specs.Messages.{msg_send2};
 ghost use Rattle.ffa_model.specs.RunStates.{direct_request, direct_response, msg_wait, run_partition, yield_now};
 ghost use Rattle.ffa_model.specs.Setup.{info_get, info_guards, informed, is_count_alone, selected, uuid_bytes};
 ghost use Rattle.ffa_model.specs.State.{owner_of};
+ghost use Rattle.ffa_model.specs.Transactions.{transfer};
 ghost use Rattle.ffa_model.specs.Step.{serve, step, outcomes, state_after};
 ghost use Rattle.ffa_model.specs.Walk.{is_page_address};
-ghost use Rattle.ffa_spmc.specs.Arms.{has_arm};
+ghost use Rattle.ffa_spmc.specs.Arms.{has_arm, is_message, is_on_memory};
 ghost use Rattle.ffa_memshare.specs.Scenes.{transfer_of};
-ghost use Rattle.ffa_spmc.specs.Replies.{done_or_error, reply_or_error, retrieved_or_error};
+ghost use Rattle.ffa_spmc.specs.Replies.{done_or_error, handle_or_error, reply_or_error, retrieved_or_error};
 
 use crate::kept::Kept;
 use ffa_memshare::Transfer;
 use ffa_messages::{DirectMessage, direct_req, direct_resp, send2};
-use ffa_model::{Call, EndpointId, ErrorCode, Manifest, Op, Outcome, PageNo, Reply, Rights, Size};
+use ffa_model::{
+    Call, EndpointId, ErrorCode, Kind, Manifest, Op, Outcome, PageNo, Reply, Rights, Size,
+};
 use ffa_physmem::PhysMem;
 use ffa_stage2::{build, built_tables};
 use std::marker::Model;
@@ -83,6 +87,25 @@ fn reply_or_error(answer: Result<Reply, ErrorCode>) -> Reply
     }
 }
 
+// The reply to a send: the halves of the handle, the low one first.
+fn handle_reply(handle: u64) -> Reply
+    ensures { result ≡ handle_reply handle }
+{
+    let low = (handle % (1 << 32)) as u32;
+    let high = (handle >> 32) as u32;
+    Reply::Success([low, high, 0, 0, 0, 0])
+}
+
+// The reply to a send: its handle, or the code for which it was refused.
+fn handle_or_error(answer: Result<u64, ErrorCode>) -> Reply
+    ensures { result ≡ handle_or_error answer }
+{
+    match answer {
+        Ok(handle) => handle_reply(handle),
+        Err(code) => Reply::Error(code),
+    }
+}
+
 // The reply to a retrieve: how many bytes RX holds then, or the code for which it was refused.
 fn retrieved_or_error(answer: Result<u32, ErrorCode>) -> Reply
     ensures { result ≡ retrieved_or_error answer }
@@ -90,6 +113,18 @@ fn retrieved_or_error(answer: Result<u32, ErrorCode>) -> Reply
     match answer {
         Ok(size) => Reply::Retrieved(size),
         Err(code) => Reply::Error(code),
+    }
+}
+
+// What the registers of a call say whose descriptor stands in TX.
+fn transfer(total: u32, fragment: u32, address: u64, pages: u32) -> Transfer
+    ensures { transfer_of result ≡ transfer total fragment address pages }
+{
+    Transfer {
+        total,
+        fragment,
+        address,
+        pages,
     }
 }
 
@@ -256,6 +291,38 @@ impl<M: PhysMem + Drop> Machine<M> {
             Call::RxtxUnmap { endpoint } => self.unmap(endpoint),
             Call::PartitionInfoGet { uuid, flags } => self.partition_info(uuid, flags),
             Call::IdGet => ffa_setup::id(self.kept.chain.runner()),
+            Call::SpmIdGet => ffa_setup::spm_id(),
+            Call::MsgWait
+            | Call::Yield
+            | Call::Run { .. }
+            | Call::DirectRequest { .. }
+            | Call::DirectResponse { .. }
+            | Call::MsgSend2 => self.message_reply(call),
+            Call::MemDonate { .. }
+            | Call::MemLend { .. }
+            | Call::MemShare { .. }
+            | Call::MemRetrieve { .. }
+            | Call::MemRelinquish
+            | Call::MemReclaim { .. } => self.memory_reply(call),
+            // No identifier asks for one of these as yet, but for the first.
+            Call::Unknown
+            | Call::BitmapCreate { .. }
+            | Call::BitmapDestroy { .. }
+            | Call::NotificationBind { .. }
+            | Call::NotificationUnbind { .. }
+            | Call::NotificationSet { .. }
+            | Call::NotificationGet { .. } => Reply::Error(ErrorCode::NotSupported),
+        }
+    }
+
+    // The reply to a call on run states, or to a message.
+    fn message_reply(&mut self, call: Call) -> Reply
+        requires message { is_message call ≡ true }
+        requires named { passes_no_error call ≡ true }
+        ensures served { replied self.new.state result ≡ serve self.old.state call }
+        ensures refused { is_error result ≡ true → self.new ≡ self.old }
+    {
+        match call {
             Call::MsgWait => self.wait(),
             Call::Yield => self.yield_now(),
             Call::Run { target } => self.run_partition(target),
@@ -282,21 +349,44 @@ impl<M: PhysMem + Drop> Machine<M> {
                 payload,
             }),
             Call::MsgSend2 => self.send(),
+            _ => unreachable!(),
+        }
+    }
+
+    // The reply to a call on memory.
+    fn memory_reply(&mut self, call: Call) -> Reply
+        requires { is_on_memory call ≡ true }
+        ensures served { replied self.new.state result ≡ serve self.old.state call }
+        ensures refused { is_error result ≡ true → self.new ≡ self.old }
+    {
+        match call {
+            Call::MemDonate {
+                total,
+                fragment,
+                address,
+                pages,
+            } => self.offer(Kind::Donate, &transfer(total, fragment, address, pages)),
+            Call::MemLend {
+                total,
+                fragment,
+                address,
+                pages,
+            } => self.offer(Kind::Lend, &transfer(total, fragment, address, pages)),
+            Call::MemShare {
+                total,
+                fragment,
+                address,
+                pages,
+            } => self.offer(Kind::Share, &transfer(total, fragment, address, pages)),
+            Call::MemRetrieve {
+                total,
+                fragment,
+                address,
+                pages,
+            } => self.retrieve(&transfer(total, fragment, address, pages)),
             Call::MemRelinquish => self.relinquish(),
             Call::MemReclaim { low, high, flags } => self.reclaim(low, high, flags),
-            Call::SpmIdGet => ffa_setup::spm_id(),
-            // No identifier asks for one of these as yet, but for the first.
-            Call::Unknown
-            | Call::MemDonate { .. }
-            | Call::MemLend { .. }
-            | Call::MemShare { .. }
-            | Call::MemRetrieve { .. }
-            | Call::BitmapCreate { .. }
-            | Call::BitmapDestroy { .. }
-            | Call::NotificationBind { .. }
-            | Call::NotificationUnbind { .. }
-            | Call::NotificationSet { .. }
-            | Call::NotificationGet { .. } => Reply::Error(ErrorCode::NotSupported),
+            _ => unreachable!(),
         }
     }
 
@@ -434,6 +524,25 @@ impl<M: PhysMem + Drop> Machine<M> {
         let runner = self.kept.chain.runner();
         let buffers = &mut self.kept.buffers;
         reply_or_error(send2(&mut self.ram, buffers, &self.manifest, runner))
+    }
+
+    // FFA_MEM_DONATE, FFA_MEM_LEND or FFA_MEM_SHARE of the runner.
+    fn offer(&mut self, kind: Kind, transfer: &Transfer) -> Reply
+        ensures served { replied self.new.state result ≡ served self.old.state (memory_send self.old.state kind (transfer_of transfer.now)) }
+        ensures refused { is_error result ≡ true → self.new ≡ self.old }
+    {
+        let runner = self.kept.chain.runner();
+        let kept = &mut self.kept;
+        let pool = &mut kept.pool;
+        handle_or_error(pool.send(
+            &mut self.ram,
+            &kept.layout,
+            &mut kept.pages,
+            &kept.buffers,
+            runner,
+            kind,
+            transfer,
+        ))
     }
 
     // FFA_MEM_RETRIEVE_REQ of the runner.

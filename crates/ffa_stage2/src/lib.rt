@@ -9,6 +9,3 @@ pub mod tables;
 pub use layout::{Layout, Regions};
 pub use runs::uniform;
 pub use tables::{build, built_tables, leaf, set_page};
-
-#[cfg(test)]
-mod tests;

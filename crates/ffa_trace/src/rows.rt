@@ -1,19 +1,23 @@
 //! Calls worked out by hand, played on the machine with two partitions.
+ghost use Rattle.std.specs.Prelude.{◌≡◌};
+ghost use Rattle.ffa_model.specs.Ram.{zero_ram};
+
 use crate::Player;
 use ffa_model::row_machine;
-use ffa_physmem::FlatRam;
+use ffa_physmem::{FlatRam, FrameRam, PhysMem};
 use ffa_spmc::Machine;
 use std::alloc::Global;
 use std::test::Fail;
 
-fn rows(alloc: Global) -> Result<Player<FlatRam>, Fail> {
-    let manifest = row_machine();
-    let ram = FlatRam::new(alloc, manifest.ram_base, 512)?;
-    Ok(Player::new(Machine::boot(&manifest, ram)))
-}
+// Memory transactions.
+mod memory;
 
 // What one more line prints.
-fn played(alloc: Global, player: &mut Player<FlatRam>, line: &str) -> Result<String, Fail> {
+fn played<M: PhysMem + Drop>(
+    alloc: Global,
+    player: &mut Player<M>,
+    line: &str,
+) -> Result<String, Fail> {
     let mut trace = String::new(alloc);
     trace.push_str(line)?;
     trace.push_str("\n")?;
@@ -51,12 +55,54 @@ fn push_padded(text: &mut String, digits: &str, width: usize) -> Result<(), Fail
     Ok(())
 }
 
-// Plays lines on a fresh machine: the first that doesn't print what is wanted, with what it prints.
+// Whether a text is what is wanted, or has the line that is wanted, as `has pages 40022000 ..`.
+fn is_printed(alloc: Global, text: &str, want: &str) -> Result<bool, Fail> {
+    match want.strip_prefix("has ") {
+        Some(line) => Ok(text.lines().any(|it| it == line)),
+        None => Ok(text == printed(alloc, want)?.as_str()),
+    }
+}
+
+// Plays lines on fresh machines, in RAM of either kind: the first that doesn't print what is wanted, with what it prints.
 fn difference(alloc: Global, lines: &[(&str, &str)]) -> Result<Option<String>, Fail> {
-    let mut player = rows(alloc)?;
+    difference_of(alloc, &[lines])
+}
+
+// Plays several lists of lines one after another, alike.
+fn difference_of(alloc: Global, parts: &[&[(&str, &str)]]) -> Result<Option<String>, Fail> {
+    let flat = FlatRam::new(alloc, 0x4000_0000, 512)?;
+    let frames = FrameRam::new(alloc, 0x4000_0000, 512)?;
+    match difference_in(alloc, flat, parts)? {
+        None => difference_in(alloc, frames, parts),
+        found => Ok(found),
+    }
+}
+
+fn difference_in<M: PhysMem + Drop>(
+    alloc: Global,
+    ram: M,
+    parts: &[&[(&str, &str)]],
+) -> Result<Option<String>, Fail>
+    requires { M.ram ram ≡ zero_ram 0x40000000 512 }
+{
+    let mut player = Player::new(Machine::boot(&row_machine(), ram));
+    for part in parts {
+        let found = difference_on(alloc, &mut player, part)?;
+        if found.is_some() {
+            return Ok(found);
+        }
+    }
+    Ok(None)
+}
+
+fn difference_on<M: PhysMem + Drop>(
+    alloc: Global,
+    player: &mut Player<M>,
+    lines: &[(&str, &str)],
+) -> Result<Option<String>, Fail> {
     for (line, want) in lines {
-        let text = played(alloc, &mut player, line)?;
-        if text != printed(alloc, want)? {
+        let text = played(alloc, player, line)?;
+        if !is_printed(alloc, &text, want)? {
             return Ok(Some(format!(in alloc; "{line}: {text}")?));
         }
     }

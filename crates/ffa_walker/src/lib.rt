@@ -7,6 +7,3 @@ pub mod translation;
 pub use access::{fetch, load, store};
 pub use ffa_model::{FaultKind, Leaf};
 pub use translation::{is_in_ram, translate};
-
-#[cfg(test)]
-mod tests;

@@ -1,7 +1,8 @@
 //! The commands of the program.
-ghost use Rattle.std.specs.Prelude.{◌≡◌, ◌≤◌, ◌⊎◌, true, codes, None, OnOk, IfErr, IfOk, is_some, option_map};
+ghost use Rattle.std.specs.Prelude.{◌≡◌, ◌*◌, ◌≤◌, ◌⊎◌, true, codes, None, OnOk, IfErr, IfOk, is_some, option_map};
 ghost use Rattle.std.specs.Option.{option_and_then};
 ghost use Rattle.std.specs.Io.KnownBytes.{Appends, Keeps};
+ghost use Rattle.ffa_model.specs.Ram.{zero_ram};
 ghost use Rattle.ffa_model.specs.TraceText.{ended};
 ghost use Rattle.ffa_manifest.specs.Document.{Parts, parts_of};
 ghost use Rattle.ffaplay.specs.Layouts.{layout_text};
@@ -11,7 +12,7 @@ use crate::layout;
 use ffa_command::Request;
 use ffa_manifest::ManifestError;
 use ffa_model::{Manifest, built_in};
-use ffa_physmem::FlatRam;
+use ffa_physmem::{FlatRam, FrameRam, PhysMem};
 use ffa_spmc::Machine;
 use ffa_trace::text::Text;
 use ffa_trace::{PlayError, Player, output};
@@ -137,11 +138,15 @@ fn do_command<'a, R: Read + Drop, W: Write>(
         Request::Run {
             manifest: path,
             trace: trace_path,
+            frames,
         } => {
             let manifest = read_manifest(alloc, path, manifest)?;
-            play(alloc, &manifest, trace_path, trace, out)
+            play(alloc, &manifest, frames, trace_path, trace, out)
         }
-        Request::Demo { trace: path } => play(alloc, &built_in(), path, trace, out),
+        Request::Demo {
+            trace: path,
+            frames,
+        } => play(alloc, &built_in(), frames, path, trace, out),
         Request::Check { manifest: path } => accept(alloc, path, manifest, out),
         Request::Layout { manifest: path } => lay_out(alloc, path, manifest, out),
     }
@@ -197,10 +202,11 @@ fn read_manifest<'a>(
     })
 }
 
-// Plays a trace on a machine that has just booted.
+// Plays a trace on a machine with RAM in frames, or in one piece.
 fn play<'a, R: Read + Drop, W: Write>(
     alloc: Global,
     manifest: &Manifest,
+    frames: bool,
     path: &'a str,
     trace: Option<R>,
     out: &mut W,
@@ -212,11 +218,31 @@ fn play<'a, R: Read + Drop, W: Write>(
     let Some(mut trace) = trace else {
         return Err(Failure::Read(path));
     };
-    let Ok(ram) = FlatRam::new(alloc, manifest.ram_base, 512 * manifest.ram_blocks) else {
-        return Err(Failure::NoMemory);
-    };
+    let (base, pages) = (manifest.ram_base, 512 * manifest.ram_blocks);
+    if frames {
+        let ram = FrameRam::new(alloc, base, pages).map_err(|_| Failure::NoMemory)?;
+        play_in(alloc, manifest, ram, path, &mut trace, out)
+    } else {
+        let ram = FlatRam::new(alloc, base, pages).map_err(|_| Failure::NoMemory)?;
+        play_in(alloc, manifest, ram, path, &mut trace, out)
+    }
+}
+
+// Plays a trace on a machine that boots in this RAM, which is all zeros.
+fn play_in<'a, M: PhysMem + Drop, R: Read, W: Write>(
+    alloc: Global,
+    manifest: &Manifest,
+    ram: M,
+    path: &'a str,
+    trace: &mut R,
+    out: &mut W,
+) -> Result<(), Failure<'a>>
+    requires { M.ram ram ≡ zero_ram manifest.now.ram_base (512 * manifest.now.ram_blocks) }
+    ensures played { OnOk result (IsPlayed (first_of (parts_of manifest.now)) (R.remaining trace.old) (W.contents out.old) (W.contents out.new)) }
+    ensures failed { IfErr result IsOther }
+{
     let mut player = Player::new(Machine::boot_cleared(manifest, ram));
-    match player.play(alloc, &mut trace, out) {
+    match player.play(alloc, trace, out) {
         Ok(()) => Ok(()),
         Err(error) => Err(why(path, error)),
     }

@@ -9,11 +9,22 @@ fn commands_with_their_paths(rt: HostRuntime) -> Result<(), Fail> {
     let (manifest, trace) = ("row.toml", "first.trace");
     let run = ["ffaplay", "run", manifest, trace];
     let demo = ["ffaplay", "demo", trace];
+    let run_in_frames = ["ffaplay", "run", manifest, "--frames", trace];
+    let demo_in_frames = ["ffaplay", "demo", trace, "--frames"];
     let check = ["ffaplay", "check", manifest];
     let layout = ["ffaplay", "layout", "--", manifest];
     let alloc = rt.alloc();
-    assert_eq!(rt; request(alloc, &run)?, Request::Run { manifest, trace });
-    assert_eq!(rt; request(alloc, &demo)?, Request::Demo { trace });
+    for (words, frames) in [(run.as_slice(), false), (run_in_frames.as_slice(), true)] {
+        let wanted = Request::Run {
+            manifest,
+            trace,
+            frames,
+        };
+        assert_eq!(rt; request(alloc, words)?, wanted);
+    }
+    for (words, frames) in [(demo.as_slice(), false), (demo_in_frames.as_slice(), true)] {
+        assert_eq!(rt; request(alloc, words)?, Request::Demo { trace, frames });
+    }
     assert_eq!(rt; request(alloc, &check)?, Request::Check { manifest });
     assert_eq!(rt; request(alloc, &layout)?, Request::Layout { manifest });
     Ok(())
@@ -35,6 +46,10 @@ fn mistakes(rt: HostRuntime) {
         (
             ["ffaplay", "check", "--frames", "a"].as_slice(),
             ErrorKind::UnknownArgument,
+        ),
+        (
+            ["ffaplay", "demo", "--frames=4", "a"].as_slice(),
+            ErrorKind::TooManyValues,
         ),
     ] {
         let found = request(rt.alloc(), words).err().map(|error| error.kind());
@@ -63,16 +78,17 @@ fn help_names_each_command(rt: HostRuntime) -> Result<(), Fail> {
 }
 
 #[test]
-fn help_of_a_command_names_its_paths(rt: HostRuntime) -> Result<(), Fail> {
+fn help_of_a_command_names_its_words(rt: HostRuntime) -> Result<(), Fail> {
     let alloc = rt.alloc();
     let words = ["ffaplay", "run", "--help"];
     let error = request(alloc, &words).err().ok_or("no help")?;
     assert_eq!(rt; error.kind(), ErrorKind::DisplayHelp);
     let text = format!(in alloc; "{error}")?;
     for part in [
-        "Usage: ffaplay run <manifest> <trace>\n",
+        "Usage: ffaplay run [OPTIONS] <manifest> <trace>\n",
         "  <manifest>  The machine's manifest, a TOML file\n",
         "  <trace>     The trace: a line for each operation\n",
+        "  --frames",
     ] {
         assert!(rt; text.contains(part), "lacks {part}");
     }

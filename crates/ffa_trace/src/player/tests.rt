@@ -1,6 +1,9 @@
+ghost use Rattle.std.specs.Prelude.{◌≡◌};
+ghost use Rattle.ffa_model.specs.Ram.{zero_ram};
+
 use super::*;
 use ffa_model::{PageNo, built_in, row_machine};
-use ffa_physmem::{FlatRam, PhysMem};
+use ffa_physmem::{FlatRam, FrameRam, PhysMem};
 use std::io;
 use std::test::Fail;
 
@@ -99,6 +102,16 @@ fn boots_with_tables(rt: HostRuntime) -> Result<(), Fail> {
     Ok(())
 }
 
+// Plays a trace on a fresh machine in this RAM, and what comes of it.
+fn plays<M: PhysMem + Drop>(alloc: Global, ram: M, trace: &str) -> (Vec<u8>, Result<(), PlayError>)
+    requires { M.ram ram ≡ zero_ram 0x40000000 512 }
+{
+    let mut player = Player::new(Machine::boot(&row_machine(), ram));
+    let mut out = Vec::new(alloc);
+    let played = player.play(alloc, &mut trace.as_bytes(), &mut out);
+    (out, played)
+}
+
 #[test]
 fn plays_the_rows(rt: HostRuntime) -> Result<(), Fail> {
     for (trace, want) in [
@@ -125,11 +138,15 @@ fn plays_the_rows(rt: HostRuntime) -> Result<(), Fail> {
         ("# a comment\n\n#\nload 40010000 1\n", "data 00\n"),
         ("", ""),
     ] {
-        let mut player = rows(rt.alloc())?;
-        let mut out = Vec::new(rt.alloc());
-        let played = player.play(rt.alloc(), &mut trace.as_bytes(), &mut out);
-        assert_eq!(rt; out.as_slice(), want.as_bytes(), "{trace}");
-        assert_eq!(rt; played, Ok(()), "{trace}");
+        let flat = FlatRam::new(rt.alloc(), 0x4000_0000, 512)?;
+        let frames = FrameRam::new(rt.alloc(), 0x4000_0000, 512)?;
+        for (out, played) in [
+            plays(rt.alloc(), flat, trace),
+            plays(rt.alloc(), frames, trace),
+        ] {
+            assert_eq!(rt; out.as_slice(), want.as_bytes(), "{trace}");
+            assert_eq!(rt; played, Ok(()), "{trace}");
+        }
     }
     Ok(())
 }

@@ -5,6 +5,8 @@ use std::alloc::AllocError;
 use std::io;
 use std::test::Fail;
 
+// A block of 2 MiB of which a page is lent.
+mod blocks;
 // The worked example of the manual.
 mod manual;
 
@@ -48,9 +50,13 @@ regions = [{ base = 0xFC110000, pages = 1, rights = \"rwx\" }]
 const RUN: Request<'static> = Request::Run {
     manifest: "row.toml",
     trace: "row.trace",
+    frames: false,
 };
 
-const DEMO: Request<'static> = Request::Demo { trace: "no.trace" };
+const DEMO: Request<'static> = Request::Demo {
+    trace: "no.trace",
+    frames: false,
+};
 
 const CHECK: Request<'static> = Request::Check {
     manifest: "row.toml",
@@ -68,7 +74,7 @@ struct Ended {
     err: Vec<u8>,
 }
 
-fn performed(
+fn performed_once(
     alloc: Global,
     request: &Request<'_>,
     manifest: Option<&[u8]>,
@@ -81,11 +87,46 @@ fn performed(
     Ended { status, out, err }
 }
 
-fn wanted(alloc: Global, status: u8, out: &str, err: &str) -> Result<Ended, AllocError> {
-    Ok(Ended {
-        status,
-        out: Vec::from_slice(alloc, out.as_bytes())?,
-        err: Vec::from_slice(alloc, err.as_bytes())?,
+// The same command with RAM in frames, or in one piece.
+fn with_frames<'a>(request: &Request<'a>, frames: bool) -> Request<'a> {
+    match *request {
+        Request::Run {
+            manifest,
+            trace,
+            ..
+        } => Request::Run {
+            manifest,
+            trace,
+            frames,
+        },
+        Request::Demo { trace, .. } => Request::Demo { trace, frames },
+        other => other,
+    }
+}
+
+// How a command ends with RAM in one piece, and with RAM in frames.
+fn performed(
+    alloc: Global,
+    request: &Request<'_>,
+    manifest: Option<&[u8]>,
+    trace: Option<&str>,
+) -> [Ended; 2] {
+    [false, true].map(|frames| performed_once(
+        alloc,
+        &with_frames(request, frames),
+        manifest,
+        trace,
+    ))
+}
+
+// The same end with RAM of either kind.
+fn wanted(alloc: Global, status: u8, out: &str, err: &str) -> Result<[Ended; 2], AllocError> {
+    [false, true].try_map(|_frames| {
+        Ok(Ended {
+            status,
+            out: Vec::from_slice(alloc, out.as_bytes())?,
+            err: Vec::from_slice(alloc, err.as_bytes())?,
+        })
     })
 }
 
@@ -303,12 +344,13 @@ fn shows_help(rt: HostRuntime) -> Result<(), Fail> {
 #[test]
 fn whole_or_no_memory(rt: HostRuntime) -> Result<(), Fail> {
     let trace = Some("load 40010000 1\n");
-    let got = performed(rt.alloc(), &RUN, Some(ROW.as_bytes()), trace);
-    if got.status == 3 {
-        assert!(rt; got.out.is_empty() || got.out.as_slice() == b"data 00\n".as_slice());
-    } else {
-        assert_eq!(rt; got.out.as_slice(), b"data 00\n".as_slice());
-        assert_eq!(rt; got.status, 0);
+    for got in performed(rt.alloc(), &RUN, Some(ROW.as_bytes()), trace) {
+        if got.status == 3 {
+            assert!(rt; got.out.is_empty() || got.out.as_slice() == b"data 00\n".as_slice());
+        } else {
+            assert_eq!(rt; got.out.as_slice(), b"data 00\n".as_slice());
+            assert_eq!(rt; got.status, 0);
+        }
     }
     Ok(())
 }

@@ -1,0 +1,77 @@
+//! RAM in frames: a box of its own for each page.
+ghost use Rattle.std.specs.Prelude.{◌≡◌, ℕ, ◌+◌, ◌*◌, ◌%◌, ◌^◌, ◌<◌, ◌≤◌, length, map, replicate, IfOk, vec_len};
+
+use crate::flat::NoMemory;
+use crate::memory::PhysMem;
+use ffa_model::PageNo;
+use std::alloc::{AllocError, Allocator, Global};
+
+#[cfg(test)]
+mod tests;
+
+/// RAM in frames of one page each, which need not lie side by side in memory.
+#[derive(Drop)]
+pub struct FrameRam {
+    base: u32,
+    frames: Vec<Box<[u8; 4096]>>,
+    ghost aligned: { base % 4096 ≡ 0 },
+    ghost fits: { base + 4096 * vec_len frames ≤ 2 ^ 32 },
+}
+
+impl FrameRam {
+    ghost use Rattle.ffa_model.specs.Ram.{zero_ram};
+
+    /// RAM of this many pages, all zeros, from a page's address on. `NoMemory` comes only where the allocator refuses, and
+    /// then all that was taken is given back.
+    pub fn new(alloc: Global, base: u32, pages: u32) -> Result<FrameRam, NoMemory>
+        requires aligned { base % 4096 ≡ 0 }
+        requires some { 1 ≤ pages }
+        requires fits { base + 4096 * pages ≤ 2 ^ 32 }
+        ensures { IfOk result (λ m. ⟦<FrameRam as PhysMem>⟧.ram m ≡ zero_ram base pages) }
+    {
+        let frames = zero_frames(alloc, pages)?;
+        Ok(FrameRam { base, frames })
+    }
+}
+
+// Frames of zeros.
+fn zero_frames<A: Allocator + Copy>(
+    alloc: A,
+    count: u32,
+) -> Result<Vec<Box<[u8; 4096], A>, A>, AllocError>
+    ensures { IfOk result (λ v. map (λ b. b.value) v.items ≡ replicate count (replicate 4096 0)) }
+{
+    let mut frames = Vec::with_capacity(alloc, count as usize)?;
+    for _index in 0..count {
+        frames.push(Box::new(alloc, [0; 4096])?)?;
+    }
+    Ok(frames)
+}
+
+impl PhysMem for FrameRam {
+    ghost use Rattle.ffa_physmem.specs.FrameRam.{ram_of, with_frame, ram_of-with_frame};
+
+    ghost ram = { ram_of };
+
+    ghost with_bytes = { with_frame };
+
+    ghost one_page = { ram_of-with_frame };
+
+    fn base(&self) -> u32 {
+        self.base
+    }
+
+    fn pages(&self) -> u32 {
+        self.frames.len() as u32
+    }
+
+    fn page(&self, page: PageNo) -> &[u8; 4096] {
+        let bytes = self.frames[page.0 as usize].as_ref();
+        let _whole = &bytes[..];
+        bytes
+    }
+
+    fn page_mut(&mut self, page: PageNo) -> &mut [u8; 4096] {
+        self.frames[page.0 as usize].as_mut()
+    }
+}

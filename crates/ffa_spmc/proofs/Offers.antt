@@ -1,0 +1,202 @@
+-- FFA_MEM_DONATE, FFA_MEM_LEND and FFA_MEM_SHARE change the state as the small machine's.
+use Rattle.std.proofs.Common.{◌≡◌, ◌∙◌, ℕ, ◌<◌, Bool, true, false, List, length, take, Option, Some, None, Result, Ok, Err, refl, sym, ap, subst}
+use Rattle.std.specs.Prelude.{OnOk, OnErr, IfOk, if◌then◌else◌, is_some}
+use Rattle.std.specs.Result.{result_err}
+use Rattle.std.proofs.lemmas.Bool.{false≢true}
+use Rattle.std.proofs.lemmas.Option.{none-some}
+use Rattle.arrayvec.specs.ArrayVec.{array_vec_len}
+use Rattle.ffa_model.specs.declared.operation.ErrorCode.{ErrorCode}
+use Rattle.ffa_model.specs.declared.rights.Kind.{Kind}
+use Rattle.ffa_model.specs.declared.rights.Kind.TheVariants.{Share, Lend, Donate}
+use Rattle.ffa_model.specs.declared.rights.Rights.{Rights}
+use Rattle.ffa_model.specs.Access.{is_receiver, names}
+use Rattle.ffa_model.specs.Calls.{first_failure, replied, served}
+use Rattle.ffa_model.specs.Identifiers.{place}
+use Rattle.ffa_model.specs.Memory.{zeroed_if}
+use Rattle.ffa_model.specs.MemorySend.{handle_reply, memory_send, memory_sent, offered_in, send_guards, send_read, transaction_from}
+use Rattle.ffa_model.specs.Ram.{Ram}
+use Rattle.ffa_model.specs.Rights.{is_share}
+use Rattle.ffa_model.specs.SendDescriptor.{SendRecord, send_of}
+use Rattle.ffa_model.specs.SoundState.{IsSoundState}
+use Rattle.ffa_model.specs.State.{State, Transaction, transaction_of}
+use Rattle.ffa_model.specs.Transactions.{Transfer, base_of, next_handle, offers_of, scene_of, with_offers}
+use Rattle.ffa_model.proofs.CallAccesses.{handle-new, runner-known, sendable-unnamed}
+use Rattle.ffa_laws.proofs.SendLaws.{IsOffer, offer}
+use Rattle.ffa_laws.proofs.SoundSends.{send-sound}
+use Rattle.ffa_pages.specs.Entry.{Entry, entry_at, slot_at}
+use Rattle.ffa_memshare.specs.Changes.{IsMarked, IsMoved}
+use Rattle.ffa_memshare.specs.Grants.{new_right, with_rights}
+use Rattle.ffa_memshare.specs.Ranges.{ArePlaced, in_ranges}
+use Rattle.ffa_memshare.specs.Scenes.{descriptor_in, scene_in}
+use Rattle.ffa_memshare.specs.Sent.{IsSent, right_after}
+use Rattle.ffa_memshare.specs.Stored.{Pooled, offers_in, slot_at as pool_slot}
+use Rattle.ffa_memshare.specs.declared.marks.Mark.TheVariants.{Named}
+use Rattle.ffa_spmc.specs.Meaning.{AreOffers, IsMachine, IsOffered, Parts, access_by_place, state_of}
+use Rattle.ffa_spmc.specs.Replies.{handle_or_error}
+use Rattle.ffa_spmc.proofs.Answered.{answered-by, done-so, refused-so}
+use Rattle.ffa_spmc.proofs.Closes.{offers-opened, slot-opened}
+use Rattle.ffa_spmc.proofs.Granted.{send-granted}
+use Rattle.ffa_spmc.proofs.Held.{owners-size, parties_are, size_is}
+use Rattle.ffa_spmc.proofs.Moves.{SameOwners, marked-owners, of-manifest, owners-moved, pages-moved, tables-moved}
+use Rattle.ffa_spmc.proofs.Pools.{base-is, named-kept, slot-open}
+use Rattle.ffa_spmc.proofs.Retrieves.{scene-is}
+use Rattle.ffa_spmc.proofs.Sends.{sent-is}
+
+-- the pool counts the sends of each endpoint
+pub offer-endpoints : (x : Parts) → IsMachine x → length x.kept.pool.sent ≡ array_vec_len x.kept.layout.regions
+offer-endpoints x machine = machine.sound.sized.sent ∙ parties_are x ∙ sym machine.layout.endpoints
+
+-- the code's runner is that of the run states; and it has sent what its TX describes, or was refused
+module _ (x : Parts) (machine : IsMachine x) (e : ℕ) (at : e ≡ x.kept.chain.runner) (kind : Kind) (a : Transfer) (ram : Ram) (pages : List (Option Entry)) (pool : Pooled) where
+  abbrev s : State
+  s = state_of x
+
+  abbrev pub after_offer : Parts
+  after_offer = record x { ram = ram; kept = record x.kept { pages = pages; pool = pool } }
+
+  abbrev bytes : List ℕ
+  bytes = descriptor_in x.ram x.kept.buffers e a.total
+
+  abbrev guards : List (Bool × ErrorCode)
+  guards = (memory_send s kind a).guards
+
+  -- what the pool has done
+  abbrev IsDone : Type 0
+  IsDone = IsSent x.kept.pool pool x.kept.pages pages x.ram ram x.kept.layout.base (array_vec_len x.kept.layout.regions) x.kept.layout.blocks e kind bytes
+
+  read-is : send_of kind bytes ≡ send_read s kind a.total
+  read-is = ap (λ (tx : List ℕ). send_of kind (take a.total tx)) (sent-is x machine e at)
+
+  -- the right that the sender keeps
+  kept-right : (its : Kind) (p : ℕ) → new_right (right_after its) x.kept.pages p ≡ (if is_share its then base_of s p else None)
+  kept-right Share p = base-is x machine p
+  kept-right Lend p = refl
+  kept-right Donate p = refl
+
+  module _ (none : None ≡ first_failure guards) (done : IsDone) where
+    abbrev r : SendRecord
+    r = done.offer
+
+    abbrev t : Transaction
+    t = transaction_from kind r
+
+    abbrev h : ℕ
+    h = next_handle (offers_of s) e
+
+    abbrev right : ℕ → Option Rights
+    right = new_right (right_after kind) x.kept.pages
+
+    read : send_read s kind a.total ≡ Some r
+    read = sym read-is ∙ done.described
+
+    good : IsOffer s r
+    good = offer s a r (sym (none ∙ ap (λ (o : Option SendRecord). first_failure (send_guards (scene_of s) s.runner a o)) read))
+
+    -- over the manifest and the state
+    moves : IsMoved x.ram ram (length x.manifest.endpoints.items) x.manifest.ram_blocks (place e) (names s r.ranges) right r.zero
+    moves = of-manifest x machine (λ base n blocks. IsMoved x.ram ram n blocks (place e) (in_ranges base r.ranges) right r.zero) done.moved
+
+    marks : IsMarked x.kept.pages pages (names s r.ranges) (Named (Some done.slot))
+    marks = of-manifest x machine (λ base n blocks. IsMarked x.kept.pages pages (in_ranges base r.ranges) (Named (Some done.slot))) done.marks
+
+    owned : (p : ℕ) → names s r.ranges p ≡ true → (f : Entry) × (entry_at x.kept.pages p ≡ Some f)
+    owned p named = let own = done.own.own p (subst (λ (b : ℕ). in_ranges b r.ranges p ≡ true) (sym machine.layout.base) named) in (own.0, own.1)
+
+    owners : SameOwners x.kept.pages pages
+    owners = marked-owners x.kept.pages pages (names s r.ranges) (Some done.slot) marks
+
+    state-from : state_of after_offer ≡ memory_sent s kind (Some r)
+    state-from =
+        (λ i. record s {
+          pages = pages-moved x machine ram pages (place e) r.ranges right r.zero moves owners i;
+          transactions = (done.offers i).transactions;
+          sent = (done.offers i).sent;
+        })
+        ∙ (λ i. zeroed_if r.zero (with_offers s (offered_in (offers_of s) (at i) kind r)) r.ranges)
+
+    pub state-sent : state_of after_offer ≡ memory_sent s kind (send_read s kind a.total)
+    state-sent = state-from ∙ sym (ap (memory_sent s kind) read)
+
+    granted : (i p : ℕ) → p < length s.pages → with_rights (access_by_place s) (place e) (names s r.ranges) right i p ≡ access_by_place (state_of after_offer) i p
+    granted i p lt =
+        ap (λ (f : ℕ). with_rights (access_by_place s) (place f) (names s r.ranges) right i p) at
+        ∙ send-granted s machine.sound kind r right i p good.sender good.free lt (kept-right kind p)
+        ∙ sym (ap (λ (z : State). access_by_place z i p) state-from)
+
+    -- OF THE SLOT
+    -- the handle is new
+    fresh : (j : ℕ) (y : ℕ × Transaction) → pool_slot x.kept.pool.slots j ≡ Some y → y.0 ≡ h → ⊥
+    fresh j y there same =
+        none-some y.1
+        (sym (ap (λ (f : ℕ). transaction_of s (next_handle (offers_of s) f)) at ∙ handle-new s machine.sound s.runner (runner-known s machine.sound))
+        ∙ ap (transaction_of s) (sym same) ∙ slot-open x machine j y.0 y.1 there)
+
+    offered : IsOffered x.manifest t
+    offered =
+        record {
+          placed =
+              subst (λ (n : ℕ). ArePlaced x.manifest.ram_base n r.ranges) machine.owners.size
+              (subst (λ (b : ℕ). ArePlaced b (length x.kept.pages) r.ranges) machine.layout.base done.own.placed);
+          other = ap (λ (f : ℕ). is_receiver f t) done.own.sender ∙ done.other;
+        }
+
+    -- a page that was sent stood in no transaction
+    unnamed : (p : ℕ) → p < length x.kept.pages → names s r.ranges p ≡ true → slot_at x.kept.pages p ≡ None
+    unnamed p lt named =
+        let inside : p < length x.ram.pages = subst (λ (n : ℕ). p < n) (owners-size x machine) lt in
+        let free = sendable-unnamed s s.runner p r.ranges good.free (subst (λ (n : ℕ). p < n) (sym (size_is x)) inside) named in
+        of (slot_at x.kept.pages p) (sym (named-kept x machine p inside) ∙ ap is_some free)
+      where
+        of : (o : Option ℕ) → is_some o ≡ false → o ≡ None
+        of None is = refl
+        of (Some k) is = absurd (false≢true (sym is))
+
+    pub machine-sent : IsMachine after_offer
+    machine-sent =
+        record {
+          laws = machine.laws;
+          tables = tables-moved x machine ram pages (place e) r.ranges right r.zero moves owners (state_of after_offer) granted;
+          layout = machine.layout;
+          owners = owners-moved x machine ram pages (place e) r.ranges right r.zero moves owners;
+          offers =
+              subst (AreOffers x.manifest pages) (sym done.opened.slots)
+              (offers-opened x.manifest x.kept.pages pages x.kept.pool.slots machine.offers done.slot h t done.opened.free.within done.opened.free.free fresh offered unnamed
+              (λ p lt. slot-opened x.kept.pages pages (names s r.ranges) done.slot marks p (owned p)) marks.size);
+          sound = subst IsSoundState (sym state-sent) (send-sound s machine.sound kind a (sym none));
+        }
+
+  -- the clauses of the pool's call
+  module _ (result : Result ℕ ErrorCode)
+      (refusal : result_err result ≡ first_failure (send_guards (scene_in (array_vec_len x.kept.layout.regions) x.kept.pages x.kept.layout.base x.kept.buffers (offers_in x.kept.pool)) e a (send_of kind bytes)))
+      (kept : OnErr result (pool ≡ x.kept.pool)) (kept_pages : OnErr result (pages ≡ x.kept.pages)) (kept_ram : OnErr result (ram ≡ x.ram))
+      (handle : IfOk result (λ given. given ≡ next_handle (offers_in x.kept.pool) e)) (done : OnOk result IsDone) where
+    refuses : result_err result ≡ first_failure guards
+    refuses = refusal ∙ (λ i. first_failure (send_guards (scene-is x machine i) (at i) a (read-is i)))
+
+    unchanged : OnErr result (after_offer ≡ x)
+    unchanged = of result kept kept_pages kept_ram
+      where
+        of : (r : Result ℕ ErrorCode) → OnErr r (pool ≡ x.kept.pool) → OnErr r (pages ≡ x.kept.pages) → OnErr r (ram ≡ x.ram) → OnErr r (after_offer ≡ x)
+        of (Ok given) a b c = tt
+        of (Err code) same_pool same_pages same_ram = λ i. record x { ram = same_ram i; kept = record x.kept { pages = same_pages i; pool = same_pool i } }
+
+    told : IfOk result (λ given. handle_reply given ≡ (memory_send s kind a).reply)
+    told = of result handle
+      where
+        of : (r : Result ℕ ErrorCode) → IfOk r (λ given. given ≡ next_handle (offers_in x.kept.pool) e) → IfOk r (λ given. handle_reply given ≡ (memory_send s kind a).reply)
+        of (Ok given) is = ap handle_reply (is ∙ ap (next_handle (offers_of s)) at)
+        of (Err code) is = tt
+
+    pub offer-served : replied (state_of after_offer) (handle_or_error result) ≡ served s (memory_send s kind a)
+    offer-served =
+        answered-by s (state_of after_offer) (memory_send s kind a) result handle_reply refuses
+        (refused-so result (λ is. ap state_of is) unchanged)
+        (done-so result (λ none facts. state-sent (sym none ∙ refuses) facts) done)
+        told
+
+    pub offer-machine : IsMachine after_offer
+    offer-machine = of result refuses unchanged done
+      where
+        of : (r : Result ℕ ErrorCode) → result_err r ≡ first_failure guards → OnErr r (after_offer ≡ x) → OnOk r IsDone → IsMachine after_offer
+        of (Ok given) passes same facts = machine-sent passes facts
+        of (Err code) fails same facts = subst IsMachine (sym same) machine

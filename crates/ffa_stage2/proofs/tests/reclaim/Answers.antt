@@ -1,6 +1,0 @@
-use Rattle.ffa_stage2.proofs.tests.reclaim.Goals as goal
-
-pub set_page-requires-2-clause-built : goal.set_page-requires-2-clause-built
-set_page-requires-2-clause-built g c =
-    let (access, built) = c.requires.built in
-    (_, c.set_page.ensures.built access built)

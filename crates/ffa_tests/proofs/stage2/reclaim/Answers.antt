@@ -1,0 +1,6 @@
+use Rattle.ffa_tests.proofs.stage2.reclaim.Goals as goal
+
+pub set_page-requires-2-clause-built : goal.set_page-requires-2-clause-built
+set_page-requires-2-clause-built g c =
+    let (access, built) = c.requires.built in
+    (_, c.set_page.ensures.built access built)

@@ -1,0 +1,22 @@
+//! Tests of the crates below the machine, each through what its crate makes public. They stand here and not in their
+//! crates, since a crate with tests is proved twice at each landing.
+#![tactic(auto)]
+
+#[cfg(test)]
+mod abi;
+#[cfg(test)]
+mod manifest;
+#[cfg(test)]
+mod memdesc;
+#[cfg(test)]
+mod pages;
+#[cfg(test)]
+mod rxtx;
+#[cfg(test)]
+mod schedule;
+#[cfg(test)]
+mod setup;
+#[cfg(test)]
+mod stage2;
+#[cfg(test)]
+mod walker;

@@ -1,0 +1,94 @@
+//! Buffers on the pages of the row machine.
+use ffa_model::{Data, EndpointId, ErrorCode, PageNo, Rights, row_machine};
+use ffa_pages::PageTable;
+use ffa_physmem::{FlatRam, PhysMem};
+use ffa_rxtx::{Buffers, Mapped};
+use std::test::Fail;
+
+const BASE: u32 = 0x4000_0000;
+
+const FIRST: EndpointId = EndpointId(0x8001);
+
+const SECOND: EndpointId = EndpointId(0x8002);
+
+#[test]
+fn map_and_unmap(rt: HostRuntime) -> Result<(), Fail> {
+    let table = PageTable::of(&row_machine());
+    let mut buffers = Buffers::none(3);
+    assert_eq!(rt;
+        buffers.map(&table, BASE, FIRST, 0x4002_E000, 0x4002_F000, 1),
+        Ok(())
+    );
+    let mapped = Mapped {
+        tx: PageNo(0x2E),
+        rx: PageNo(0x2F),
+        is_full: false,
+    };
+    assert_eq!(rt; buffers.of(FIRST), Some(mapped));
+    assert_eq!(rt;
+        buffers.map(&table, BASE, FIRST, 0x4002_E000, 0x4002_F000, 1),
+        Err(ErrorCode::Denied)
+    );
+    assert_eq!(rt; buffers.release(FIRST), Err(ErrorCode::Denied));
+    assert_eq!(rt; buffers.unmap(FIRST, 1), Err(ErrorCode::InvalidParameters));
+    assert_eq!(rt; buffers.unmap(FIRST, 0), Ok(()));
+    assert_eq!(rt; buffers.unmap(FIRST, 0), Err(ErrorCode::InvalidParameters));
+    Ok(())
+}
+
+#[test]
+fn refused_mappings(rt: HostRuntime) -> Result<(), Fail> {
+    let mut table = PageTable::of(&row_machine());
+    let mut buffers = Buffers::none(3);
+    assert_eq!(rt;
+        buffers.map(&table, BASE, SECOND, 0x4003_E000, 0x4003_E000, 1),
+        Err(ErrorCode::InvalidParameters)
+    );
+    assert_eq!(rt;
+        buffers.map(&table, BASE, SECOND, 0x4003_E000, 0x4003_F000, 2),
+        Err(ErrorCode::InvalidParameters)
+    );
+    assert_eq!(rt;
+        buffers.map(&table, BASE, SECOND, 0x1_4001_E000, 0x4003_F000, 1),
+        Err(ErrorCode::InvalidParameters)
+    );
+    assert_eq!(rt;
+        buffers.map(&table, BASE, SECOND, 0x4003_E000, 0x4002_F000, 1),
+        Err(ErrorCode::Denied)
+    );
+    assert_eq!(rt;
+        buffers.map(&table, BASE, SECOND, 0x4000_0000, 0x4003_F000, 1),
+        Err(ErrorCode::Denied)
+    );
+    assert_eq!(rt; table.pages(), 512);
+    let base = Rights {
+        level: Data::Rw,
+        exec: false,
+    };
+    table.give(PageNo(0x3F), SECOND, base);
+    table.mark(PageNo(0x3F), Some(0));
+    assert_eq!(rt;
+        buffers.map(&table, BASE, SECOND, 0x4003_E000, 0x4003_F000, 1),
+        Err(ErrorCode::Denied)
+    );
+    Ok(())
+}
+
+#[test]
+fn fill_and_release(rt: HostRuntime) -> Result<(), Fail> {
+    let table = PageTable::of(&row_machine());
+    let mut ram = FlatRam::new(rt.alloc(), BASE, 512)?;
+    let mut buffers = Buffers::none(3);
+    assert_eq!(rt;
+        buffers.map(&table, BASE, SECOND, 0x4003_E000, 0x4003_F000, 1),
+        Ok(())
+    );
+    buffers.fill(&mut ram, SECOND, &[1, 2, 3]);
+    assert_eq!(rt; buffers.is_full(SECOND), true);
+    buffers.fill(&mut ram, SECOND, &[4, 5]);
+    assert_eq!(rt; &ram.page(PageNo(0x3F))[..4], [4, 5, 3, 0].as_slice());
+    assert_eq!(rt; buffers.release(SECOND), Ok(()));
+    assert_eq!(rt; buffers.release(SECOND), Err(ErrorCode::Denied));
+    assert_eq!(rt; buffers.has(SECOND), true);
+    Ok(())
+}

@@ -1,0 +1,106 @@
+//! Run states of the normal world and two partitions.
+use ffa_model::{EndpointId, ErrorCode, Reply, Status, Work};
+use ffa_schedule::Chain;
+use std::test::Fail;
+
+const NORMAL: EndpointId = EndpointId(0);
+
+const FIRST: EndpointId = EndpointId(0x8001);
+
+const SECOND: EndpointId = EndpointId(0x8002);
+
+// What the endpoint that runs next is passed without a payload.
+fn passed(w0: u32, w1: u32) -> Reply {
+    Reply::Passed {
+        w0,
+        w1,
+        payload: [0; 5],
+    }
+}
+
+#[test]
+fn run_and_wait(rt: HostRuntime) -> Result<(), Fail> {
+    let mut chain = Chain::first(3);
+    assert_eq!(rt; chain.runner(), NORMAL);
+    assert_eq!(rt; chain.wait(), Err(ErrorCode::Denied));
+    assert_eq!(rt; chain.yield_now(), Err(ErrorCode::Denied));
+    assert_eq!(rt;
+        chain.run(0x8001_0000),
+        Ok(passed(0x8400_006D, 0x8001_0000))
+    );
+    assert_eq!(rt; chain.runner(), FIRST);
+    assert_eq!(rt; chain.status(FIRST), Status::Running);
+    assert_eq!(rt; chain.status(NORMAL), Status::Blocked);
+    assert_eq!(rt; chain.status(SECOND), Status::Waiting);
+    assert_eq!(rt; chain.work(FIRST), Some(Work::Run));
+    assert_eq!(rt; chain.run(0x8002_0000), Err(ErrorCode::Denied));
+    assert_eq!(rt; chain.wait(), Ok(passed(0x8400_006B, 0x8001_0000)));
+    assert_eq!(rt; chain.runner(), NORMAL);
+    assert_eq!(rt; chain.status(FIRST), Status::Waiting);
+    assert_eq!(rt; chain.work(FIRST), None);
+    Ok(())
+}
+
+#[test]
+fn refused_targets(rt: HostRuntime) -> Result<(), Fail> {
+    let mut chain = Chain::first(3);
+    for word in [0, 0x8000_0000, 0x8003_0000, 0x7FFF_0000, 0x8001_0001] {
+        assert_eq!(rt; chain.run(word), Err(ErrorCode::InvalidParameters));
+    }
+    assert_eq!(rt; chain.runner(), NORMAL);
+    assert_eq!(rt; chain.status(FIRST), Status::Waiting);
+    Ok(())
+}
+
+#[test]
+fn yield_and_run_again(rt: HostRuntime) -> Result<(), Fail> {
+    let mut chain = Chain::first(3);
+    assert_eq!(rt;
+        chain.run(0x8001_0000),
+        Ok(passed(0x8400_006D, 0x8001_0000))
+    );
+    assert_eq!(rt; chain.yield_now(), Ok(passed(0x8400_006C, 0x8001_0000)));
+    assert_eq!(rt; chain.runner(), NORMAL);
+    assert_eq!(rt; chain.status(NORMAL), Status::Running);
+    assert_eq!(rt; chain.status(FIRST), Status::Yielded);
+    assert_eq!(rt; chain.work(FIRST), Some(Work::Run));
+    assert_eq!(rt; chain.run(0x8001_0000), Ok(Reply::Success([0; 6])));
+    assert_eq!(rt; chain.runner(), FIRST);
+    assert_eq!(rt; chain.work(FIRST), Some(Work::Run));
+    Ok(())
+}
+
+#[test]
+fn requests(rt: HostRuntime) -> Result<(), Fail> {
+    let mut chain = Chain::first(3);
+    assert_eq!(rt;
+        chain.run(0x8001_0000),
+        Ok(passed(0x8400_006D, 0x8001_0000))
+    );
+    chain.request(SECOND);
+    assert_eq!(rt; chain.runner(), SECOND);
+    assert_eq!(rt; chain.status(FIRST), Status::Blocked);
+    assert_eq!(rt; chain.work(SECOND), Some(Work::Request(FIRST)));
+    assert_eq!(rt; chain.wait(), Err(ErrorCode::Denied));
+    assert_eq!(rt; chain.yield_now(), Err(ErrorCode::Denied));
+    chain.respond();
+    assert_eq!(rt; chain.runner(), FIRST);
+    assert_eq!(rt; chain.status(FIRST), Status::Running);
+    assert_eq!(rt; chain.status(SECOND), Status::Waiting);
+    assert_eq!(rt; chain.work(SECOND), None);
+    Ok(())
+}
+
+#[test]
+fn request_of_the_normal_world(rt: HostRuntime) -> Result<(), Fail> {
+    let mut chain = Chain::first(3);
+    chain.request(SECOND);
+    assert_eq!(rt; chain.yield_now(), Ok(passed(0x8400_006C, 0x8002_0000)));
+    assert_eq!(rt; chain.status(SECOND), Status::Yielded);
+    assert_eq!(rt; chain.run(0x8002_0000), Ok(Reply::Success([0; 6])));
+    assert_eq!(rt; chain.work(SECOND), Some(Work::Request(NORMAL)));
+    chain.respond();
+    assert_eq!(rt; chain.runner(), NORMAL);
+    assert_eq!(rt; chain.status(SECOND), Status::Waiting);
+    Ok(())
+}

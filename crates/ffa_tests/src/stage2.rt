@@ -1,0 +1,258 @@
+//! Descriptors, tables and blocks of 2 MiB, in words of RAM.
+ghost use Rattle.std.specs.Prelude.{◌≡◌, ℕ, length, Option};
+ghost use Rattle.arrayvec.specs.ArrayVec.{array_vec_len};
+ghost use Rattle.ffa_model.specs.declared.rights.Rights.{Rights};
+ghost use Rattle.ffa_stage2.specs.Layout.{IsBuiltFor};
+
+use arrayvec::ArrayVec;
+use byteorder::{ByteOrder, LittleEndian};
+use ffa_model::{Data, PageNo, Region, Rights, built_in, row_machine};
+use ffa_physmem::{FlatRam, NoMemory, PhysMem};
+use ffa_stage2::{Layout, Regions, build, leaf, set_page, uniform};
+
+// Two blocks of RAM, where the first endpoint has the first block's page 16 and the whole second block, and the
+// second endpoint nothing.
+fn two_blocks(rights: Rights) -> Layout
+    ensures base { result.base ≡ 0x40000000 }
+    ensures blocks { result.blocks ≡ 2 }
+    ensures endpoints { array_vec_len result.regions ≡ 2 }
+{
+    let region = |base, pages| Region {
+        base,
+        pages,
+        rights,
+    };
+    let mut list = ArrayVec::new();
+    list.push(region(0x4001_0000, 1));
+    list.push(region(0x4020_0000, 512));
+    let mut regions = ArrayVec::new();
+    regions.push(Regions { list });
+    regions.push(Regions::default());
+    Layout {
+        base: 0x4000_0000,
+        blocks: 2,
+        regions,
+    }
+}
+
+#[test]
+fn build_writes_blocks(rt: HostRuntime) -> Result<(), NoMemory> {
+    for (level, exec, word) in [
+        (Data::Rw, false, 0x0040_0000_4020_07fd),
+        (Data::Rw, true, 0x0000_0000_4020_07fd),
+        (Data::Ro, false, 0x0040_0000_4020_077d),
+    ] {
+        let layout = two_blocks(Rights { level, exec });
+        let mut ram = FlatRam::new(rt.alloc(), layout.base, 1024)?;
+        build(&mut ram, &layout);
+        assert_eq!(rt; ram.read_word(PageNo(1), 0), 0x0000_0000_4000_2003);
+        assert_eq!(rt; ram.read_word(PageNo(1), 1), word);
+        assert_eq!(rt; ram.read_word(PageNo(5), 1), 0x0000_0000_4000_7003);
+    }
+    Ok(())
+}
+
+// Moves the second page of the second block from the first endpoint to the second.
+fn lend<M: PhysMem>(memory: &mut M, layout: &Layout, right: Rights)
+    requires built { (access : ℕ → ℕ → Option Rights) × IsBuiltFor layout.now (M.ram memory.old) access }
+    requires blocks { layout.now.blocks ≡ 2 }
+    requires endpoints { array_vec_len layout.now.regions ≡ 2 }
+    ensures built { (access : ℕ → ℕ → Option Rights) × IsBuiltFor layout.now (M.ram memory.new) access }
+    ensures size { length (M.ram memory.new).pages ≡ length (M.ram memory.old).pages }
+{
+    set_page(memory, layout, 0, PageNo(513), None);
+    set_page(memory, layout, 1, PageNo(513), Some(right));
+}
+
+// And back.
+fn reclaim<M: PhysMem>(memory: &mut M, layout: &Layout, right: Rights)
+    requires built { (access : ℕ → ℕ → Option Rights) × IsBuiltFor layout.now (M.ram memory.old) access }
+    requires blocks { layout.now.blocks ≡ 2 }
+    requires endpoints { array_vec_len layout.now.regions ≡ 2 }
+    ensures size { length (M.ram memory.new).pages ≡ length (M.ram memory.old).pages }
+{
+    set_page(memory, layout, 1, PageNo(513), None);
+    set_page(memory, layout, 0, PageNo(513), Some(right));
+}
+
+#[test]
+fn set_page_splits_and_joins(rt: HostRuntime) -> Result<(), NoMemory> {
+    for (level, exec, block) in [
+        (Data::Rw, false, 0x0040_0000_4020_07fd),
+        (Data::Rw, true, 0x0000_0000_4020_07fd),
+        (Data::Ro, false, 0x0040_0000_4020_077d),
+    ] {
+        let right = Rights { level, exec };
+        let layout = two_blocks(right);
+        let mut ram = FlatRam::new(rt.alloc(), layout.base, 1024)?;
+        build(&mut ram, &layout);
+        lend(&mut ram, &layout, right);
+        assert_eq!(rt; ram.read_word(PageNo(1), 1), 0x0000_0000_4000_3003);
+        assert_eq!(rt; ram.read_word(PageNo(3), 0), block ^ 2);
+        assert_eq!(rt; ram.read_word(PageNo(3), 1), 0);
+        assert_eq!(rt; ram.read_word(PageNo(5), 1), 0x0000_0000_4000_7003);
+        assert_eq!(rt; ram.read_word(PageNo(7), 1), block ^ 0x1002);
+        reclaim(&mut ram, &layout, right);
+        assert_eq!(rt; ram.read_word(PageNo(1), 1), block);
+        assert_eq!(rt; ram.read_word(PageNo(7), 1), 0);
+    }
+    Ok(())
+}
+
+const DATA: Rights = Rights {
+    level: Data::Rw,
+    exec: false,
+};
+
+// The largest machine: endpoint e has the blocks from 4 e + 1 to 4 e + 3.
+fn whole_blocks() -> Layout
+    ensures base { result.base ≡ 0x40000000 }
+    ensures blocks { result.blocks ≡ 32 }
+    ensures endpoints { array_vec_len result.regions ≡ 8 }
+{
+    let mut regions = ArrayVec::new();
+    for index in 0..8u32 {
+        let mut list = ArrayVec::new();
+        list.push(Region {
+            base: 0x4020_0000 + 0x80_0000 * index,
+            pages: 3 * 512,
+            rights: DATA,
+        });
+        regions.push(Regions { list });
+    }
+    Layout {
+        base: 0x4000_0000,
+        blocks: 32,
+        regions,
+    }
+}
+
+// Gives one page of each block another right.
+fn change_each<M: PhysMem>(memory: &mut M, layout: &Layout, right: Option<Rights>)
+    requires built { (access : ℕ → ℕ → Option Rights) × IsBuiltFor layout.now (M.ram memory.old) access }
+    requires blocks { layout.now.blocks ≡ 32 }
+    requires endpoints { array_vec_len layout.now.regions ≡ 8 }
+    ensures built { (access : ℕ → ℕ → Option Rights) × IsBuiltFor layout.now (M.ram memory.new) access }
+    ensures size { length (M.ram memory.new).pages ≡ length (M.ram memory.old).pages }
+{
+    for block in 0..32u32 {
+        set_page(
+            memory,
+            layout,
+            block as usize / 4,
+            PageNo(519 * block),
+            right,
+        );
+    }
+}
+
+// Whether the level 2 words of the largest machine are right: blocks where the endpoint has them and they are whole, and
+// tables elsewhere.
+fn has_blocks<M: PhysMem>(memory: &M, whole: bool) -> bool
+    requires { length (M.ram memory.now).pages ≡ 16384 }
+{
+    for index in 0..8u32 {
+        for block in 0..32u32 {
+            let wanted = if whole && block / 4 == index && block % 4 > 0 {
+                0x0040_0000_4000_07fd + 0x20_0000 * u64::from(block)
+            } else {
+                0x4000_0003 + 4096 * u64::from(34 * index + 2 + block)
+            };
+            if memory.read_word(PageNo(34 * index + 1), block as usize) != wanted {
+                return false;
+            }
+        }
+    }
+    true
+}
+
+#[test]
+fn blocks_of_the_largest_machine(rt: HostRuntime) -> Result<(), NoMemory> {
+    let layout = whole_blocks();
+    let mut ram = FlatRam::new(rt.alloc(), layout.base, 16384)?;
+    build(&mut ram, &layout);
+    assert!(rt; has_blocks(&ram, true));
+    change_each(&mut ram, &layout, None);
+    assert!(rt; has_blocks(&ram, false));
+    change_each(&mut ram, &layout, Some(DATA));
+    assert!(rt; has_blocks(&ram, true));
+    Ok(())
+}
+
+// A page whose words rise by 4096 from this one, where sums wrap.
+fn rising(first: u64) -> [u8; 4096] {
+    let mut page = [0; 4096];
+    for place in 0..512 {
+        let word = u64::wrapping_add(first, 4096 * place as u64);
+        LittleEndian::write_u64(&mut page[8 * place..], word);
+    }
+    page
+}
+
+#[test]
+fn uniform_counts_without_wrapping(rt: HostRuntime) {
+    for (first, answer) in [
+        (0x0040_0000_4020_07ff, true),
+        (0, true),
+        (u64::MAX - 4096 * 511, true),
+        (u64::MAX - 4096 * 511 + 1, false),
+    ] {
+        assert_eq!(rt; uniform(&rising(first)), answer, "{first:x}");
+    }
+}
+
+#[test]
+fn uniform_sees_each_word(rt: HostRuntime) {
+    let mut page = rising(0x0040_0000_4020_07ff);
+    for place in 0..512 {
+        page[8 * place + 6] ^= 0x40;
+        assert_eq!(rt; uniform(&page), false, "{place}");
+        page[8 * place + 6] ^= 0x40;
+    }
+    assert_eq!(rt; uniform(&page), true);
+}
+
+#[test]
+fn leaf_gives_descriptors(rt: HostRuntime) {
+    let level = Data::Rw;
+    let code = Rights { level, exec: true };
+    let data = Rights { level, exec: false };
+    let constant = Rights {
+        level: Data::Ro,
+        exec: false,
+    };
+    assert_eq!(rt; leaf(0x4000_1000, Some(code)), 0x0000_0000_4000_17ff);
+    assert_eq!(rt; leaf(0x4000_1000, Some(data)), 0x0040_0000_4000_17ff);
+    assert_eq!(rt; leaf(0x4000_1000, Some(constant)), 0x0040_0000_4000_177f);
+    assert_eq!(rt; leaf(0x4000_1000, None), 0);
+}
+
+#[test]
+fn build_writes_tables(rt: HostRuntime) -> Result<(), NoMemory> {
+    for manifest in [built_in(), row_machine()] {
+        let mut ram = FlatRam::new(rt.alloc(), manifest.ram_base, 512)?;
+        build(&mut ram, &Layout::of(&manifest));
+        assert_eq!(rt; ram.read_word(PageNo(0), 1), 0x0000_0000_4000_1003);
+        assert_eq!(rt; ram.read_word(PageNo(1), 0), 0x0000_0000_4000_2003);
+        assert_eq!(rt; ram.read_word(PageNo(2), 16), 0x0040_0000_4001_07ff);
+        assert_eq!(rt; ram.read_word(PageNo(5), 32), 0x0000_0000_4002_07ff);
+    }
+    Ok(())
+}
+
+#[test]
+fn set_page_writes_descriptor(rt: HostRuntime) -> Result<(), NoMemory> {
+    let manifest = row_machine();
+    let layout = Layout::of(&manifest);
+    let mut ram = FlatRam::new(rt.alloc(), layout.base, 512)?;
+    build(&mut ram, &layout);
+    let right = Rights {
+        level: Data::Ro,
+        exec: false,
+    };
+    set_page(&mut ram, &layout, 1, PageNo(1), Some(right));
+    assert_eq!(rt; ram.read_word(PageNo(5), 0), 0);
+    assert_eq!(rt; ram.read_word(PageNo(5), 1), 0x0040_0000_4000_177f);
+    assert_eq!(rt; ram.read_word(PageNo(5), 2), 0);
+    Ok(())
+}
