@@ -53,6 +53,7 @@ impl<'a> Words<'a> {
     }
 
     // The next word, and the number that it writes.
+    #[inline(always)]
     fn next_number(&mut self) -> Option<(&'a [u8], Option<u64>)>
         ensures word { option_map_or (λ w. w.0.now ∷ words_left self.new) result [] ≡ words_left self.old }
         ensures number { IfSome result (λ w. w.1 ≡ number_of w.0.now) }
@@ -123,6 +124,9 @@ fn front_by_fours(bytes: &[u8], few: usize) -> (u64, usize)
     let mut number = 0;
     let mut end = 0;
     while end + 4 <= few {
+        if bytes[end] == b' ' {
+            break;
+        }
         let four = four_or_more(bytes, end);
         if four >= 0x1_0000 {
             break;

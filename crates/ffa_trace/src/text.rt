@@ -177,7 +177,7 @@ fn push_register(text: &mut Text, value: u64)
     ensures len { array_vec_len text.new ≡ array_vec_len text.old + 17 }
 {
     if value == 0 {
-        push_word(text, b" 0000000000000000");
+        push_word(text, &zero_word());
     } else if value < 0x1_0000_0000 {
         push_word(text, &half_word(value));
     } else {
@@ -192,6 +192,13 @@ fn runner_word(runner: u64) -> [u8; 5]
     let b = two_digits(runner, 1);
     let a = two_digits(runner, 0);
     [b' ', b.0, b.1, a.0, a.1]
+}
+
+#[inline(always)]
+fn zero_word() -> [u8; 17]
+    ensures { result ≡ spaced (hex 16 0) }
+{
+    *b" 0000000000000000"
 }
 
 // The word of a register whose upper half is zero.
