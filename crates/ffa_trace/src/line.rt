@@ -156,6 +156,7 @@ fn first_space(bytes: &[u8]) -> Option<usize>
     bytes.iter().position(|byte| *byte == b' ')
 }
 
+#[inline(never)]
 #[tactic(auto, unfolding(ffa_model::specs::TraceLines::command_of))]
 fn command(mut words: Words<'_>) -> Option<Line>
     ensures { option_map meaning_of result ≡ command_of (words_left words.entry) }
@@ -171,6 +172,7 @@ fn command(mut words: Words<'_>) -> Option<Line>
     }
 }
 
+#[inline(always)]
 #[tactic(auto, unfolding(ffa_model::specs::TraceLines::load_of))]
 fn load(mut words: Words<'_>) -> Option<Line>
     ensures { option_map meaning_of result ≡ load_of (words_left words.entry) }
@@ -181,6 +183,7 @@ fn load(mut words: Words<'_>) -> Option<Line>
     words.finish(Line::Operate(Op::Load { addr, size }))
 }
 
+#[inline(always)]
 #[tactic(auto, unfolding(ffa_model::specs::TraceLines::store_of))]
 fn store(mut words: Words<'_>) -> Option<Line>
     ensures { option_map meaning_of result ≡ store_of (words_left words.entry) }
@@ -209,6 +212,7 @@ fn show(words: Words<'_>) -> Option<Line>
     words.finish(Line::Show)
 }
 
+#[inline(always)]
 fn call(mut words: Words<'_>) -> Option<Line>
     ensures { option_map meaning_of result ≡ call_of (words_left words.entry) }
 {
