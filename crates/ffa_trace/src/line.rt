@@ -88,7 +88,7 @@ impl<'a> Words<'a> {
 
 // The number that the first word writes, and where the word ends, in one pass. `None` says nothing of the bytes:
 // `next_word` and `number` judge what this doesn't take.
-#[inline]
+#[inline(always)]
 fn number_front(bytes: &[u8]) -> Option<(u64, usize)>
     ensures { IfSome result (λ r. IsNumberFront bytes.now r.0 r.1) }
 {
