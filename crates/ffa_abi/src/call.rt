@@ -230,6 +230,12 @@ pub fn is_served(function: u32) -> bool
             | FFA_MEM_RETRIEVE_REQ_64
             | FFA_MEM_RELINQUISH
             | FFA_MEM_RECLAIM
+            | FFA_NOTIFICATION_BITMAP_CREATE
+            | FFA_NOTIFICATION_BITMAP_DESTROY
+            | FFA_NOTIFICATION_BIND
+            | FFA_NOTIFICATION_UNBIND
+            | FFA_NOTIFICATION_SET
+            | FFA_NOTIFICATION_GET
             | FFA_SPM_ID_GET
             | FFA_MSG_SEND2
     )

@@ -10,7 +10,6 @@ use Rattle.ffa_model.specs.declared.schedule.Status.{Status}
 use Rattle.ffa_model.specs.declared.schedule.Status.TheVariants.{Running, Waiting}
 use Rattle.ffa_model.specs.Bits.{is_set}
 use Rattle.ffa_model.specs.Lists.{listed}
-use Rattle.ffa_model.specs.Registers.{is_served}
 use Rattle.ffa_model.specs.Regions.{has_page, owned_regions}
 use Rattle.ffa_model.specs.State.{State, Page, Party}
 
@@ -28,9 +27,9 @@ abbrev pub first_status : ℕ → Status
 first_status zero = Running
 first_status (suc i) = Waiting
 
--- a partition that receives notifications has bitmaps from boot, where notifications are served (FFA_NOTIFICATION_GET)
+-- a partition that receives notifications has bitmaps from boot
 abbrev pub has_first_bitmaps : ℕ × Endpoint → Bool
-has_first_bitmaps x = is_served 0x84000082 && (not (x.0 == 0) && is_set 3 x.1.properties.0)
+has_first_bitmaps x = not (x.0 == 0) && is_set 3 x.1.properties.0
 
 -- all bytes are 0, nothing is open, sent, mapped, bound or pending
 unfoldable pub first : ℕ → ℕ → List Endpoint → State

@@ -23,10 +23,6 @@ narrow function call = record { function = function; is_wide = false; is_served 
 abbrev pub wide : ℕ → ((ℕ → ℕ) → (ℕ → ℕ) → Call) → Function
 wide function call = record { function = function; is_wide = true; is_served = true; call = call }
 
--- a call that is read and answered by NOT_SUPPORTED
-abbrev pub unserved : Function → Function
-unserved f = record f { is_served = false }
-
 abbrev pub payload : (ℕ → ℕ) → List ℕ
 payload x = x 3 ∷ x 4 ∷ x 5 ∷ x 6 ∷ x 7 ∷ []
 
@@ -50,12 +46,12 @@ functions =
     ∷ wide 0x84000074 (λ w x. MemRetrieve (w 1) (w 2) (x 3) (w 4))
     ∷ narrow 0x84000076 (λ w. MemRelinquish)
     ∷ narrow 0x84000077 (λ w. MemReclaim (w 1) (w 2) (w 3))
-    ∷ unserved (narrow 0x8400007D (λ w. BitmapCreate (w 1) (w 2)))
-    ∷ unserved (narrow 0x8400007E (λ w. BitmapDestroy (w 1)))
-    ∷ unserved (narrow 0x8400007F (λ w. NotificationBind (w 1) (w 2) (w 3) (w 4)))
-    ∷ unserved (narrow 0x84000080 (λ w. NotificationUnbind (w 1) (w 2) (w 3) (w 4)))
-    ∷ unserved (narrow 0x84000081 (λ w. NotificationSet (w 1) (w 2) (w 3) (w 4)))
-    ∷ unserved (narrow 0x84000082 (λ w. NotificationGet (w 1) (w 2)))
+    ∷ narrow 0x8400007D (λ w. BitmapCreate (w 1) (w 2))
+    ∷ narrow 0x8400007E (λ w. BitmapDestroy (w 1))
+    ∷ narrow 0x8400007F (λ w. NotificationBind (w 1) (w 2) (w 3) (w 4))
+    ∷ narrow 0x84000080 (λ w. NotificationUnbind (w 1) (w 2) (w 3) (w 4))
+    ∷ narrow 0x84000081 (λ w. NotificationSet (w 1) (w 2) (w 3) (w 4))
+    ∷ narrow 0x84000082 (λ w. NotificationGet (w 1) (w 2))
     ∷ narrow 0x84000085 (λ w. SpmIdGet)
     ∷ narrow 0x84000086 (λ w. MsgSend2)
     ∷ []

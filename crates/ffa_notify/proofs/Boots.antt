@@ -8,7 +8,7 @@ use Rattle.std.specs.FinSet as finite_set
 use Rattle.std.proofs.lemmas.Bool.Decides.{nat_tests}
 use Rattle.std.proofs.lemmas.List.{length-take-le, map-append, take_more}
 use Rattle.ffa_model.specs.declared.endpoint.Endpoint.{Endpoint}
-use Rattle.ffa_notify.specs.Boot.{has_bitmaps_at_boot}
+use Rattle.ffa_model.specs.First.{has_first_bitmaps}
 use Rattle.std.proofs.lemmas.Nat.Bits.{and_pow}
 use Rattle.ffa_model.specs.Bits.{is_set}
 use Rattle.ffa_notify.specs.Stored.{bit_of, bound_in, entry, has_binding, has_pending_bit, pending_in}
@@ -50,12 +50,12 @@ none-pending n count =
 
 -- one endpoint more
 pub bitmaps-more : (es : List Endpoint) (i : ℕ) (e d : Endpoint) (has after : List Bool) (b : Bool) → i < length es → e ≡ get_or es i d → after ≡ has ++ b ∷ []
-    → has ≡ map has_bitmaps_at_boot (enumerate_from 0 (take i es)) → b ≡ has_bitmaps_at_boot (i, e) → after ≡ map has_bitmaps_at_boot (enumerate_from 0 (take (i + 1) es))
+    → has ≡ map has_first_bitmaps (enumerate_from 0 (take i es)) → b ≡ has_first_bitmaps (i, e) → after ≡ map has_first_bitmaps (enumerate_from 0 (take (i + 1) es))
 bitmaps-more es i e d has after b lt at is before is_b =
     let from : i ≡ 0 + length (take i es) = omega (arith, length-take-le i es (omega arith)) in
     is
     ∙ (λ t. before t ++ is_b t ∷ [])
-    ∙ sym (map-append has_bitmaps_at_boot (enumerate_from 0 (take i es)) ((i, e) ∷ []))
-    ∙ ap (λ m. map has_bitmaps_at_boot (enumerate_from 0 (take i es) ++ (m, e) ∷ [])) from
-    ∙ ap (map has_bitmaps_at_boot) (sym (enumerate-more 0 (take i es) e))
-    ∙ ap (λ xs. map has_bitmaps_at_boot (enumerate_from 0 xs)) (ap (λ x. take i es ++ x ∷ []) at ∙ sym (take_more es i d lt))
+    ∙ sym (map-append has_first_bitmaps (enumerate_from 0 (take i es)) ((i, e) ∷ []))
+    ∙ ap (λ m. map has_first_bitmaps (enumerate_from 0 (take i es) ++ (m, e) ∷ [])) from
+    ∙ ap (map has_first_bitmaps) (sym (enumerate-more 0 (take i es) e))
+    ∙ ap (λ xs. map has_first_bitmaps (enumerate_from 0 xs)) (ap (λ x. take i es ++ x ∷ []) at ∙ sym (take_more es i d lt))

@@ -2,7 +2,7 @@
 ghost use Rattle.std.specs.Prelude.{◌≡◌, ◌≤◌, length, map, replicate};
 ghost use Rattle.std.specs.FinSet as finite_set;
 ghost use Rattle.std.specs.List.{enumerate_from};
-ghost use Rattle.ffa_notify.specs.Boot.{has_bitmaps_at_boot};
+ghost use Rattle.ffa_model.specs.First.{has_first_bitmaps};
 
 use crate::bitmaps::Bitmaps;
 use crate::words::{CLASSES, MOST_ENDPOINTS};
@@ -13,7 +13,7 @@ use ffa_model::{Endpoint, Manifest, Properties};
 impl Bitmaps {
     /// The bitmaps at boot: each partition that receives notifications has them, and nothing is bound or pending.
     pub fn of(manifest: &Manifest) -> Bitmaps
-        ensures bitmaps { result.bitmaps ≡ map has_bitmaps_at_boot (enumerate_from 0 manifest.now.endpoints.items) }
+        ensures bitmaps { result.bitmaps ≡ map has_first_bitmaps (enumerate_from 0 manifest.now.endpoints.items) }
         ensures bound { result.bound ≡ finite_set.empty }
         ensures pending { result.pending ≡ finite_set.empty }
     {
@@ -29,7 +29,7 @@ impl Bitmaps {
 
 // Of each endpoint whether it has bitmaps from boot.
 fn first_bitmaps(manifest: &Manifest) -> ArrayVec<bool, MOST_ENDPOINTS>
-    ensures { result.items ≡ map has_bitmaps_at_boot (enumerate_from 0 manifest.now.endpoints.items) }
+    ensures { result.items ≡ map has_first_bitmaps (enumerate_from 0 manifest.now.endpoints.items) }
 {
     let mut has = ArrayVec::new();
     for endpoint in manifest.endpoints.as_slice() {
@@ -42,7 +42,7 @@ fn first_bitmaps(manifest: &Manifest) -> ArrayVec<bool, MOST_ENDPOINTS>
 // Whether the endpoint at a place has bitmaps from boot.
 #[tactic(auto, using(crate::proofs::Boots::contains_fourth))]
 fn has_bitmaps(place: usize, endpoint: &Endpoint) -> bool
-    ensures { result ≡ has_bitmaps_at_boot (place, endpoint.now) }
+    ensures { result ≡ has_first_bitmaps (place, endpoint.now) }
 {
     place != 0
         && endpoint

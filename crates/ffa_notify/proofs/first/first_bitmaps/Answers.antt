@@ -1,5 +1,5 @@
 use Rattle.std.proofs.Common.{◌≡◌, ◌∙◌, ℕ, ap, arith}
-use Rattle.ffa_notify.specs.Boot.{has_bitmaps_at_boot}
+use Rattle.ffa_model.specs.First.{has_first_bitmaps}
 use Rattle.ffa_notify.proofs.Boots.{bitmaps-more}
 use Rattle.ffa_notify.proofs.first.first_bitmaps.Goals as goal
 
@@ -12,5 +12,5 @@ loop-endpoint-preserved c =
       has =
           bitmaps-more c.as_slice-endpoint-items.result.now c.loop-endpoint.endpoint-index c.endpoint-item.result c.endpoint-item.result
           c.loop-endpoint.has.items c.push.new.self.items c.has_bitmaps.result c.loop-endpoint-test.true c.endpoint-item.is c.push.ensures.items i.has
-          (c.has_bitmaps.ensures ∙ ap (λ (place : ℕ). has_bitmaps_at_boot (place, c.endpoint-item.result)) at);
+          (c.has_bitmaps.ensures ∙ ap (λ (place : ℕ). has_first_bitmaps (place, c.endpoint-item.result)) at);
     }
