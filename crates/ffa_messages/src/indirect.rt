@@ -2,7 +2,7 @@
 ghost use Rattle.std.specs.Prelude.{◌≡◌, ◌+◌, ◌<◌, ◌≤◌, length, map, take, true, is_some, if◌then◌else◌, None, Some, OnOk, OnErr, IfOk, IsSomeAnd};
 ghost use Rattle.std.specs.Result.{result_err};
 ghost use Rattle.ffa_model.specs.Buffers.{buffers_in, buffers_with_rx};
-ghost use Rattle.ffa_model.specs.Calls.{first_failure, success};
+ghost use Rattle.ffa_model.specs.Calls.{first_failure};
 ghost use Rattle.ffa_model.specs.First.{party_of};
 ghost use Rattle.ffa_model.specs.Messages.{header_in, message_in, send2_guards};
 ghost use Rattle.ffa_model.specs.Ram.{number_in, page_of};
@@ -12,7 +12,7 @@ ghost use Rattle.ffa_messages.specs.Parts.{AreInRam, has_free_rx, is_header_from
 
 use crate::parties::{has_indirect_messages, is_known};
 use byteorder::{ByteOrder, LittleEndian};
-use ffa_model::{EndpointId, ErrorCode, Manifest, PageNo, Reply};
+use ffa_model::{EndpointId, ErrorCode, Manifest, PageNo};
 use ffa_physmem::{PAGE_SIZE, PhysMem};
 use ffa_rxtx::Buffers;
 
@@ -143,7 +143,7 @@ fn u32_at(page: &[u8; 4096], place: usize) -> u32
 }
 
 /// FFA_MSG_SEND2 of an endpoint (DEN0077A, 15): the message in its TX, with the header, goes to the receiver's RX,
-/// which is full then. The other bytes of RX stay.
+/// which is full then. The other bytes of RX stay. Returns the receiver.
 ///
 /// # Errors
 ///
@@ -156,10 +156,10 @@ pub fn send2<M: PhysMem>(
     buffers: &mut Buffers,
     manifest: &Manifest,
     caller: EndpointId,
-) -> Result<Reply, ErrorCode>
+) -> Result<EndpointId, ErrorCode>
     requires pages { AreInRam (length (M.ram ram.old).pages) buffers.old }
     ensures refusal { result_err result ≡ first_failure (send2_guards (map party_of manifest.now.endpoints.items) buffers.old caller.0 (header_in (sent_in (M.ram ram.old) buffers.old caller.0))) }
-    ensures reply { IfOk result (λ reply. reply ≡ success 0 0) }
+    ensures receiver { IfOk result (λ receiver. receiver.0 ≡ receiver_in (M.ram ram.old) buffers.old caller.0) }
     ensures kept_ram { OnErr result (M.ram ram.new ≡ M.ram ram.old) }
     ensures kept { OnErr result (buffers.new ≡ buffers.old) }
     ensures ram { OnOk result (M.ram ram.new ≡ with_rx_bytes (M.ram ram.old) (buffers_in buffers.old (receiver_in (M.ram ram.old) buffers.old caller.0)) (message_in (sent_in (M.ram ram.old) buffers.old caller.0))) }
@@ -172,7 +172,7 @@ pub fn send2<M: PhysMem>(
     let header = MessageHeader::read(ram.page(mapped.tx));
     let length = header.checked(buffers, manifest, caller)?;
     deliver(ram, buffers, mapped.tx, header.receiver, length);
-    Ok(Reply::Success([0; 6]))
+    Ok(header.receiver)
 }
 
 // Copies as many bytes as this size from the start of a page to RX of an endpoint that has buffers.

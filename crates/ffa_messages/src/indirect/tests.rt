@@ -3,7 +3,7 @@ ghost use Rattle.std.specs.Prelude.{◌≡◌, length};
 ghost use Rattle.ffa_messages.specs.Parts.{AreInRam};
 
 use crate::send2;
-use ffa_model::{EndpointId, ErrorCode, PageNo, Reply, row_machine};
+use ffa_model::{EndpointId, ErrorCode, PageNo, row_machine};
 use ffa_pages::PageTable;
 use ffa_physmem::{FlatRam, PhysMem};
 use ffa_rxtx::Buffers;
@@ -44,7 +44,7 @@ fn send<M: PhysMem>(
     buffers: &mut Buffers,
     offset: u32,
     size: u32,
-) -> Result<Reply, ErrorCode>
+) -> Result<EndpointId, ErrorCode>
     requires pages { length (M.ram ram.old).pages ≡ 512 }
     requires buffers { AreInRam 512 buffers.old }
     ensures pages { length (M.ram ram.new).pages ≡ 512 }
@@ -70,7 +70,7 @@ fn whole_page(rt: HostRuntime) -> Result<(), Fail> {
     );
     assert_eq!(rt;
         send(&mut ram, &mut buffers, 20, 4076),
-        Ok(Reply::Success([0; 6]))
+        Ok(SECOND)
     );
     assert_eq!(rt; ram.page(RX).as_slice(), ram.page(TX).as_slice());
     assert_eq!(rt; ram.page(RX)[4095], 7);
@@ -89,7 +89,7 @@ fn part_of_a_page(rt: HostRuntime) -> Result<(), Fail> {
     ram.page_mut(RX).fill(9);
     assert_eq!(rt;
         send(&mut ram, &mut buffers, 24, 2),
-        Ok(Reply::Success([0; 6]))
+        Ok(SECOND)
     );
     assert_eq!(rt;
         &ram.page(RX)[8..28],
