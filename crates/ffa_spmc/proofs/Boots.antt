@@ -2,8 +2,9 @@
 use Rattle.std.specs.Prelude.{◌==◌, find, nat_lt, slice_get, true}
 use Rattle.std.specs.Option.{option_and_then, option_map}
 use Rattle.std.specs.FinMap as finite
-use Rattle.std.specs.List.{list_all}
-use Rattle.std.proofs.Common.{◌≡◌, ◌∙◌, ◌⊎◌, ℕ, suc, zero, ◌*◌, ◌<◌, ◌≤◌, List, [], ◌∷◌, length, get_or, replicate, Option, Some, None, refl, sym, ap, subst, arith, inl, inr}
+use Rattle.std.specs.FinSet as finite_set
+use Rattle.std.specs.List.{enumerate_from, list_all}
+use Rattle.std.proofs.Common.{◌≡◌, ◌∙◌, ◌⊎◌, ℕ, suc, zero, ◌*◌, ◌<◌, ◌≤◌, List, [], ◌∷◌, length, map, get_or, replicate, Option, Some, None, refl, sym, ap, subst, arith, inl, inr}
 use Rattle.std.proofs.lemmas.Bool.{and_parts, cases_lt, eqb-true, false≢true}
 use Rattle.std.proofs.lemmas.List.{get_or-replicate, length-map, length-replicate}
 use Rattle.std.proofs.lemmas.Option.{none-some, same_Some}
@@ -17,7 +18,7 @@ use Rattle.ffa_model.specs.Manifest.{table_pages}
 use Rattle.ffa_model.specs.Ram.{Ram, page_of, zero_ram}
 use Rattle.ffa_model.specs.Regions.{has_page, owned_regions, regions_at, regions_of_each, right_in as right_among}
 use Rattle.ffa_model.specs.State.{Page}
-use Rattle.ffa_model.specs.First.{first, page_with_bytes}
+use Rattle.ffa_model.specs.First.{first, has_first_bitmaps, page_with_bytes}
 use Rattle.ffa_model.specs.RunStates.{first_schedule}
 use Rattle.ffa_model.proofs.Accepted.{accepted}
 use Rattle.ffa_model.proofs.Listed.{get_or-listed, get_or-listed_past, length-listed, listed-same}
@@ -126,6 +127,7 @@ module _ (zeros : Ram) (x : Parts)
     (rest : KeepsRest zeros x.ram (array_vec_len x.kept.layout.regions) x.kept.layout.blocks)
     (owners : x.kept.pages ≡ first_owners x.manifest) (slots : x.kept.pool.slots ≡ replicate (8 * length x.manifest.endpoints.items) None)
     (sent : x.kept.pool.sent ≡ replicate (length x.manifest.endpoints.items) 0) (none : x.kept.buffers ≡ replicate (length x.manifest.endpoints.items) None) (schedule : x.kept.chain ≡ first_schedule (length x.manifest.endpoints.items))
+    (bitmaps : x.kept.bitmaps.bitmaps ≡ map has_first_bitmaps (enumerate_from 0 x.manifest.endpoints.items)) (bound : x.kept.bitmaps.bound ≡ finite_set.empty) (pending : x.kept.bitmaps.pending ≡ finite_set.empty)
     (uuids : have_uuids x.manifest.endpoints.items ≡ true) (laws : TableLaws) where
   abbrev es : List Endpoint
   es = x.manifest.endpoints.items
@@ -197,6 +199,9 @@ module _ (zeros : Ram) (x : Parts)
     runner = (schedule i).runner;
     statuses = (schedule i).statuses;
     works = (schedule i).works;
+    bitmaps = bitmaps i;
+    bound = bound i;
+    pending = pending i;
   }
 
   -- the UUIDs, one by one

@@ -24,3 +24,4 @@ pub mod Retrieves
 pub mod Offers
 pub mod ServedCalls
 pub mod Laws
+pub mod Notified

@@ -5,6 +5,7 @@ use Rattle.ffa_model.specs.Access.{access}
 use Rattle.ffa_model.specs.Agreement.{root}
 use Rattle.ffa_model.specs.Identifiers.{identifier, place}
 use Rattle.ffa_model.specs.Ram.{Ram, page_of, with_page, with_bytes}
+use Rattle.ffa_model.specs.Notifications.{Notifications}
 use Rattle.ffa_model.specs.RunStates.{Schedule}
 use Rattle.ffa_model.specs.State.{State, Page, Buffers, page_at}
 use Rattle.ffa_model.specs.Walk.{is_page_address}
@@ -61,11 +62,11 @@ module _ (x : Parts) (machine : IsMachine x) where
         }
 
 -- a machine is one after a call that changed no owner, where the tables give the access
-pub machine-called : (x : Parts) (ram : Ram) (buffers : List (Option Buffers)) (chain : Schedule) → IsMachine x
+pub machine-served : (x : Parts) (ram : Ram) (buffers : List (Option Buffers)) (chain : Schedule) (bitmaps : Notifications) → IsMachine x
     → StillHasTables x ram
-    → (call : calls.Call) → state_of (record x { ram = ram; kept = record x.kept { buffers = buffers; chain = chain } }) ≡ (serve (state_of x) call).state
-    → IsMachine (record x { ram = ram; kept = record x.kept { buffers = buffers; chain = chain } })
-machine-called x ram buffers chain machine tables call is =
+    → (call : calls.Call) → state_of (record x { ram = ram; kept = record x.kept { buffers = buffers; chain = chain; bitmaps = bitmaps } }) ≡ (serve (state_of x) call).state
+    → IsMachine (record x { ram = ram; kept = record x.kept { buffers = buffers; chain = chain; bitmaps = bitmaps } })
+machine-served x ram buffers chain bitmaps machine tables call is =
     record {
       laws = machine.laws;
       tables = tables;
@@ -74,3 +75,10 @@ machine-called x ram buffers chain machine tables call is =
       offers = machine.offers;
       sound = subst IsSoundState (sym is) (call-sound (state_of x) machine.sound call);
     }
+
+-- and where it changed no notifications either
+pub machine-called : (x : Parts) (ram : Ram) (buffers : List (Option Buffers)) (chain : Schedule) → IsMachine x
+    → StillHasTables x ram
+    → (call : calls.Call) → state_of (record x { ram = ram; kept = record x.kept { buffers = buffers; chain = chain } }) ≡ (serve (state_of x) call).state
+    → IsMachine (record x { ram = ram; kept = record x.kept { buffers = buffers; chain = chain } })
+machine-called x ram buffers chain = machine-served x ram buffers chain x.kept.bitmaps

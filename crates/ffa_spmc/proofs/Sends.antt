@@ -3,31 +3,27 @@ use Rattle.std.proofs.Common.{◌≡◌, ◌∙◌, ℕ, zero, suc, ◌<◌, tru
 use Rattle.std.specs.Prelude.{IfOk, OnOk, OnErr}
 use Rattle.std.specs.Option.{option_map_or}
 use Rattle.std.specs.Result.{result_err}
-use Rattle.std.specs.FinSet as finite_set
 use Rattle.std.proofs.lemmas.Bool.{cases_lt}
 use Rattle.std.proofs.lemmas.Bool.Decides.{nat_tests}
 use Rattle.std.proofs.lemmas.List.{get_or_past}
 use Rattle.std.proofs.lemmas.Option.{none-some}
-use Rattle.std.specs.List.{enumerate_from}
-use Rattle.ffa_model.specs.declared.call.Reply.{Reply}
-use Rattle.ffa_model.specs.declared.endpoint.Endpoint.{Endpoint}
+use Rattle.ffa_model.specs.declared.call.Reply.TheVariants.{Error}
+use Rattle.ffa_model.specs.declared.endpoint.EndpointId.{EndpointId}
 use Rattle.ffa_model.specs.declared.operation.ErrorCode.{ErrorCode}
 use Rattle.ffa_model.specs.declared.operation.ErrorCode.TheVariants.{InvalidParameters}
 use Rattle.ffa_model.specs.Buffers.{buffers_in, buffers_with_rx, filled}
-use Rattle.ffa_model.specs.Calls.{first_failure, replied, served, success}
-use Rattle.ffa_model.specs.First.{first, has_first_bitmaps, party_of}
+use Rattle.ffa_model.specs.Calls.{answered, first_failure, replied, served, success}
+use Rattle.ffa_model.specs.First.{first, party_of}
 use Rattle.ffa_model.specs.Identifiers.{identifier, place}
 use Rattle.ffa_model.specs.Memory.{page_bytes}
 use Rattle.ffa_model.specs.Messages.{delivered, header_in, message_in, msg_send2, send2_guards, tx_bytes}
-use Rattle.ffa_model.specs.Notifications.{has_bitmaps_in, manager_class, notifications_of, receiver_bit, message_bits}
+use Rattle.ffa_model.specs.Notifications.{Notifications, with_framework_bit, with_notifications}
 use Rattle.ffa_model.specs.Ram.{Ram}
 use Rattle.ffa_model.specs.State.{State, Page, Party, Buffers, is_known, is_known_among}
 use Rattle.ffa_model.proofs.Guards.{guard-passes}
 use Rattle.ffa_rxtx.specs.Parts.{with_rx_bytes}
 use Rattle.ffa_messages.specs.Parts.{AreInRam, receiver_in, sent_in, tx_in}
 use Rattle.ffa_spmc.specs.Meaning.{IsMachine, Parts, state_of}
-use Rattle.ffa_spmc.specs.Replies.{reply_or_error}
-use Rattle.ffa_spmc.proofs.Answered.{answered-by, done-both, done-so, refused-both}
 use Rattle.ffa_spmc.proofs.Fills.{buffers-there, runner-there, state-filled, tables-filled, there-inside}
 use Rattle.ffa_spmc.proofs.Held.{each, parties_are}
 use Rattle.ffa_spmc.proofs.Agreements.{agrees}
@@ -41,12 +37,6 @@ known-at n (suc i) lt = grind (arith, nat_tests)
 place-at : (i : ℕ) → place (identifier i) ≡ i
 place-at zero = refl
 place-at (suc i) = omega arith
-
--- nobody has bitmaps at first, as long as notifications aren't served
-bitless : (es : List (ℕ × Endpoint)) (i : ℕ) → get_or (map has_first_bitmaps es) i false ≡ false
-bitless [] i = refl
-bitless (e ∷ es) zero = refl
-bitless (e ∷ es) (suc i) = bitless es i
 
 module _ (x : Parts) (machine : IsMachine x) where
   abbrev s : State
@@ -65,15 +55,6 @@ module _ (x : Parts) (machine : IsMachine x) where
         (there-inside x machine b.tx there.0, there-inside x machine b.rx there.1))
     | inr past ↦ absurd (none-some b (sym (get_or_past x.kept.buffers i None past) ∙ is))
   ]
-
-  -- so a message raises no bit
-  unnotified : (f : ℕ) (message : List ℕ) → filled s f message ≡ delivered s f message
-  unfolding first
-  unnotified f message =
-      let none : has_bitmaps_in (notifications_of s) f ≡ false = bitless (enumerate_from 0 x.manifest.endpoints.items) (place f) in
-      λ i. record (filled s f message) {
-        pending = cond (sym none i) (finite_set.union s.pending (finite_set.from_list (map (receiver_bit f manager_class) message_bits))) s.pending;
-      }
 
   module _ (e : ℕ) (at : e ≡ x.kept.chain.runner) where
     abbrev tx : List ℕ
@@ -99,34 +80,65 @@ module _ (x : Parts) (machine : IsMachine x) where
     unfolding first
     receiver-known none = guard-passes (send2_guards parties x.kept.buffers e (header_in tx)) 4 InvalidParameters (sym none)
 
-    module _ (r : Result Reply ErrorCode) (new : Ram) (list : List (Option Buffers))
+    module _ (r : Result EndpointId ErrorCode) (new : Ram) (list : List (Option Buffers))
         (refusal : result_err r ≡ first_failure (send2_guards parties x.kept.buffers e (header_in tx)))
         (kept_ram : OnErr r (new ≡ x.ram)) (kept_buffers : OnErr r (list ≡ x.kept.buffers))
         (filled_ram : OnOk r (new ≡ with_rx_bytes x.ram (buffers_in x.kept.buffers receiver) (message_in tx)))
-        (full : OnOk r (list ≡ buffers_with_rx x.kept.buffers receiver true)) where
-      pub tables-sent : StillHasTables x new
-      tables-sent = of r refusal kept_ram filled_ram
-        where
-          of : (r : Result Reply ErrorCode) → result_err r ≡ first_failure (send2_guards parties x.kept.buffers e (header_in tx))
-              → OnErr r (new ≡ x.ram) → OnOk r (new ≡ with_rx_bytes x.ram (buffers_in x.kept.buffers receiver) (message_in tx)) → StillHasTables x new
-          of (Ok reply) passes same wrote =
-              subst (StillHasTables x) (sym wrote) (tables-filled x machine receiver (receiver-known (sym passes)) (message_in tx))
-          of (Err code) fails same wrote = subst (StillHasTables x) (sym same) machine.tables
+        (full : OnOk r (list ≡ buffers_with_rx x.kept.buffers receiver true)) (to : IfOk r (λ f. f.0 ≡ receiver)) where
+      -- the parts after it, with these notifications
+      abbrev pub after_send : Notifications → Parts
+      after_send bitmaps = record x { ram = new; kept = record x.kept { buffers = list; bitmaps = bitmaps } }
 
-      pub sent : IfOk r (λ reply. reply ≡ success 0 0) → replied (state_of (record x { ram = new; kept = record x.kept { buffers = list } })) (reply_or_error r) ≡ served s (msg_send2 s)
+      same-refusal : first_failure (send2_guards parties x.kept.buffers e (header_in tx)) ≡ first_failure (msg_send2 s).guards
       unfolding first
-      sent good =
-          answered-by s (state_of (record x { ram = new; kept = record x.kept { buffers = list } })) (msg_send2 s) r (λ reply. reply)
-          (refusal ∙ (λ i. first_failure (send2_guards parties x.kept.buffers (at i) (header_in (sent-is i)))))
-          (refused-both r (λ same is. λ i. state_of (record x { ram = same i; kept = record x.kept { buffers = is i } })) kept_ram kept_buffers)
-          (done-so r (λ none facts. delivers (sym refusal ∙ none) facts) (done-both r (λ wrote is. (wrote, is)) filled_ram full))
-          good
-        where
-          delivers : first_failure (send2_guards parties x.kept.buffers e (header_in tx)) ≡ None
-              → (new ≡ with_rx_bytes x.ram (buffers_in x.kept.buffers receiver) (message_in tx)) × (list ≡ buffers_with_rx x.kept.buffers receiver true)
-              → state_of (record x { ram = new; kept = record x.kept { buffers = list } }) ≡ (msg_send2 s).state
-          delivers none facts =
-              (λ i. state_of (record x { ram = facts.0 i; kept = record x.kept { buffers = facts.1 i } }))
-              ∙ state-filled x machine receiver (receiver-known none) (message_in tx)
-              ∙ unnotified receiver (message_in tx)
+      same-refusal = λ i. first_failure (send2_guards parties x.kept.buffers (at i) (header_in (sent-is i)))
+
+      -- a message that is sent
+      module _ (f : EndpointId) (is : r ≡ Ok f) where
+        passes : first_failure (send2_guards parties x.kept.buffers e (header_in tx)) ≡ None
+        passes = sym (ap result_err (sym is) ∙ refusal)
+
+        to-receiver : f.0 ≡ receiver
+        to-receiver = subst (λ (o : Result EndpointId ErrorCode). IfOk o (λ f. f.0 ≡ receiver)) is to
+
+        wrote : new ≡ with_rx_bytes x.ram (buffers_in x.kept.buffers receiver) (message_in tx)
+        wrote = subst (λ (o : Result EndpointId ErrorCode). OnOk o (new ≡ with_rx_bytes x.ram (buffers_in x.kept.buffers receiver) (message_in tx))) is filled_ram
+
+        fills : list ≡ buffers_with_rx x.kept.buffers receiver true
+        fills = subst (λ (o : Result EndpointId ErrorCode). OnOk o (list ≡ buffers_with_rx x.kept.buffers receiver true)) is full
+
+        pub told-known : is_known s f.0 ≡ true
+        told-known = subst (λ (k : ℕ). is_known s k ≡ true) (sym to-receiver) (receiver-known passes)
+
+        pub tables-sent : StillHasTables x new
+        tables-sent = subst (StillHasTables x) (sym wrote) (tables-filled x machine receiver (receiver-known passes) (message_in tx))
+
+        module _ (bitmaps : Notifications) (raised : bitmaps ≡ with_framework_bit x.kept.bitmaps f.0) where
+          told : (y : State) → state_of (record x { ram = new; kept = record x.kept { buffers = list } }) ≡ y → state_of (after_send bitmaps) ≡ with_notifications y (with_framework_bit x.kept.bitmaps receiver)
+          unfolding first
+          told y same = λ i. with_notifications (same i) ((raised ∙ ap (with_framework_bit x.kept.bitmaps) to-receiver) i)
+
+          delivers : state_of (after_send bitmaps) ≡ (msg_send2 s).state
+          unfolding first
+          delivers =
+              told (filled s receiver (message_in tx))
+              ((λ i. state_of (record x { ram = wrote i; kept = record x.kept { buffers = fills i } }))
+              ∙ state-filled x machine receiver (receiver-known passes) (message_in tx))
               ∙ (λ i. delivered s (header_in (sent-is i)).receiver (message_in (sent-is i)))
+
+          pub sent : replied (state_of (after_send bitmaps)) (success 0 0) ≡ served s (msg_send2 s)
+          sent = ap (λ (t : State). replied t (success 0 0)) delivers ∙ sym (ap (λ o. answered o s (msg_send2 s).state (msg_send2 s).reply) (sym same-refusal ∙ passes))
+
+      -- one that is refused
+      module _ (code : ErrorCode) (is : r ≡ Err code) where
+        pub unsent-parts : after_send x.kept.bitmaps ≡ x
+        unsent-parts =
+            λ i. record x {
+              ram = subst (λ (o : Result EndpointId ErrorCode). OnErr o (new ≡ x.ram)) is kept_ram i;
+              kept = record x.kept { buffers = subst (λ (o : Result EndpointId ErrorCode). OnErr o (list ≡ x.kept.buffers)) is kept_buffers i };
+            }
+
+        pub unsent : replied (state_of (after_send x.kept.bitmaps)) (Error code) ≡ served s (msg_send2 s)
+        unsent =
+            ap (λ (y : Parts). replied (state_of y) (Error code)) unsent-parts
+            ∙ ap (λ o. answered o s (msg_send2 s).state (msg_send2 s).reply) (ap result_err (sym is) ∙ refusal ∙ same-refusal)

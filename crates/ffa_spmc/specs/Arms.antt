@@ -1,16 +1,7 @@
--- The calls for which the machine has an arm.
+-- The calls by what they are about, as the machine has arms for them.
 use Rattle.std.specs.Prelude.{Bool, true, false}
 use Rattle.ffa_model.specs.declared.call.Call.{Call}
 use Rattle.ffa_model.specs.declared.call.Call.TheVariants.{MsgWait, Yield, Run, DirectRequest, DirectResponse, MsgSend2, MemDonate, MemLend, MemShare, MemRetrieve, MemRelinquish, MemReclaim, BitmapCreate, BitmapDestroy, NotificationBind, NotificationUnbind, NotificationSet, NotificationGet}
-
-abbrev pub has_arm : Call → Bool
-has_arm (BitmapCreate endpoint contexts) = false
-has_arm (BitmapDestroy endpoint) = false
-has_arm (NotificationBind word flags low high) = false
-has_arm (NotificationUnbind word flags low high) = false
-has_arm (NotificationSet word flags low high) = false
-has_arm (NotificationGet word flags) = false
-has_arm call = true
 
 -- the calls on run states, and messages
 abbrev pub is_message : Call → Bool
@@ -31,3 +22,13 @@ is_on_memory (MemRetrieve total fragment address pages) = true
 is_on_memory MemRelinquish = true
 is_on_memory (MemReclaim low high flags) = true
 is_on_memory call = false
+
+-- the calls of notifications
+abbrev pub is_notification : Call → Bool
+is_notification (BitmapCreate endpoint contexts) = true
+is_notification (BitmapDestroy endpoint) = true
+is_notification (NotificationBind word flags low high) = true
+is_notification (NotificationUnbind word flags low high) = true
+is_notification (NotificationSet word flags low high) = true
+is_notification (NotificationGet word flags) = true
+is_notification call = false

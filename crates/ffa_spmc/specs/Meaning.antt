@@ -41,6 +41,9 @@ state_of x =
       runner = x.kept.chain.runner;
       statuses = x.kept.chain.statuses;
       works = x.kept.chain.works;
+      bitmaps = x.kept.bitmaps.bitmaps;
+      bound = x.kept.bitmaps.bound;
+      pending = x.kept.bitmaps.pending;
     }
 
 -- the access of the endpoint at a place, computed from owners and open transactions

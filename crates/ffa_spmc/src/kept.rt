@@ -1,5 +1,8 @@
 //! What a machine keeps beside its RAM.
-ghost use Rattle.std.specs.Prelude.{◌≡◌, ◌*◌, None, length, replicate};
+ghost use Rattle.std.specs.Prelude.{◌≡◌, ◌*◌, None, length, map, replicate};
+ghost use Rattle.std.specs.FinSet as finite_set;
+ghost use Rattle.std.specs.List.{enumerate_from};
+ghost use Rattle.ffa_model.specs.First.{has_first_bitmaps};
 ghost use Rattle.ffa_model.specs.Regions.{regions_of_each};
 ghost use Rattle.ffa_model.specs.RunStates.{first_schedule};
 ghost use Rattle.ffa_stage2.specs.Layout.{regions_in};
@@ -7,6 +10,7 @@ ghost use Rattle.ffa_spmc.specs.Owners.{first_owners};
 
 use ffa_memshare::Pool;
 use ffa_model::Manifest;
+use ffa_notify::Bitmaps;
 use ffa_pages::PageTable;
 use ffa_rxtx::Buffers;
 use ffa_schedule::Chain;
@@ -26,13 +30,16 @@ pub struct Kept {
     pub buffers: Buffers,
     /// Who runs, and for whom.
     pub chain: Chain,
+    /// Who has bitmaps of notifications, which bits are bound, and which are pending.
+    pub bitmaps: Bitmaps,
 }
 
 const _: () = prove!(size_of::<Kept>() <= 98304);
 
 impl Kept {
-    /// What the machine of a manifest keeps at first: the owners are those of the regions, nothing is open, nobody has buffers, and the
-    /// normal world runs.
+    /// What the machine of a manifest keeps at first: the owners are those of the regions, nothing is open, nobody has
+    /// buffers, the normal world runs, and partitions that receive notifications have bitmaps, of which no bit is bound
+    /// or pending.
     pub fn first(manifest: &Manifest) -> Kept
         ensures base { result.layout.base ≡ manifest.now.ram_base }
         ensures blocks { result.layout.blocks ≡ manifest.now.ram_blocks }
@@ -42,6 +49,9 @@ impl Kept {
         ensures sent { result.pool.sent ≡ replicate (length manifest.now.endpoints.items) 0 }
         ensures buffers { result.buffers ≡ replicate (length manifest.now.endpoints.items) None }
         ensures chain { result.chain ≡ first_schedule (length manifest.now.endpoints.items) }
+        ensures bitmaps { result.bitmaps.bitmaps ≡ map has_first_bitmaps (enumerate_from 0 manifest.now.endpoints.items) }
+        ensures bound { result.bitmaps.bound ≡ finite_set.empty }
+        ensures pending { result.bitmaps.pending ≡ finite_set.empty }
     {
         let mut kept = Kept {
             layout: Layout::of(manifest),
@@ -49,6 +59,7 @@ impl Kept {
             pool: Pool::first(manifest.endpoints.len()),
             buffers: Buffers::none(manifest.endpoints.len()),
             chain: Chain::first(manifest.endpoints.len()),
+            bitmaps: Bitmaps::of(manifest),
         };
         // Filled in where they stand, since they are large to move.
         kept.pages.fill(manifest);

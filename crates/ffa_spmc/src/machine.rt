@@ -4,6 +4,7 @@ ghost use Rattle.std.specs.Result.{result_err};
 ghost use Rattle.ffa_model.specs.Access.{access};
 ghost use Rattle.ffa_model.specs.Agreement.{Agrees, root};
 ghost use Rattle.ffa_model.specs.Buffers.{rx_release, rxtx_map, rxtx_unmap};
+ghost use Rattle.ffa_model.specs.Bits.{word_of_halves};
 ghost use Rattle.ffa_model.specs.Calls.{first_failure, replied, served, success};
 ghost use Rattle.ffa_model.specs.First.{first};
 ghost use Rattle.ffa_model.specs.Memory as memory;
@@ -19,13 +20,14 @@ ghost use Rattle.ffa_model.specs.MemoryRetrieve.{memory_retrieve};
 ghost use Rattle.ffa_model.specs.MemoryReturn.{memory_reclaim, memory_relinquish};
 ghost use Rattle.ffa_model.specs.MemorySend.{handle_reply, memory_send};
 ghost use Rattle.ffa_model.specs.Messages.{msg_send2};
+ghost use Rattle.ffa_model.specs.Notifications.{bitmap_create, bitmap_destroy, notification_bind, notification_get, notification_set, notification_unbind};
 ghost use Rattle.ffa_model.specs.RunStates.{direct_request, direct_response, msg_wait, run_partition, yield_now};
 ghost use Rattle.ffa_model.specs.Setup.{info_get, info_guards, informed, is_count_alone, selected, uuid_bytes};
 ghost use Rattle.ffa_model.specs.State.{owner_of};
 ghost use Rattle.ffa_model.specs.Transactions.{transfer};
 ghost use Rattle.ffa_model.specs.Step.{serve, step, outcomes, state_after};
 ghost use Rattle.ffa_model.specs.Walk.{is_page_address};
-ghost use Rattle.ffa_spmc.specs.Arms.{has_arm, is_message, is_on_memory};
+ghost use Rattle.ffa_spmc.specs.Arms.{is_message, is_notification, is_on_memory};
 ghost use Rattle.ffa_memshare.specs.Scenes.{transfer_of};
 ghost use Rattle.ffa_spmc.specs.Replies.{done_or_error, handle_or_error, reply_or_error, retrieved_or_error};
 
@@ -114,6 +116,13 @@ fn retrieved_or_error(answer: Result<u32, ErrorCode>) -> Reply
         Ok(size) => Reply::Retrieved(size),
         Err(code) => Reply::Error(code),
     }
+}
+
+// The bitmap of which the registers of a call hold the halves.
+fn bitmap(low: u32, high: u32) -> u64
+    ensures { result ≡ word_of_halves low high }
+{
+    u64::from(high) * (1 << 32) + u64::from(low)
 }
 
 // What the registers of a call say whose descriptor stands in TX.
@@ -278,7 +287,6 @@ impl<M: PhysMem + Drop> Machine<M> {
 
     // The reply to a call of the runner, and what the call changes.
     fn reply(&mut self, call: Call) -> Reply
-        requires arm { has_arm call ≡ true }
         requires named { passes_no_error call ≡ true }
         ensures served { replied self.new.state result ≡ serve self.old.state call }
         ensures refused { is_error result ≡ true → self.new ≡ self.old }
@@ -304,14 +312,13 @@ impl<M: PhysMem + Drop> Machine<M> {
             | Call::MemRetrieve { .. }
             | Call::MemRelinquish
             | Call::MemReclaim { .. } => self.memory_reply(call),
-            // No identifier asks for one of these as yet, but for the first.
-            Call::Unknown
-            | Call::BitmapCreate { .. }
+            Call::BitmapCreate { .. }
             | Call::BitmapDestroy { .. }
             | Call::NotificationBind { .. }
             | Call::NotificationUnbind { .. }
             | Call::NotificationSet { .. }
-            | Call::NotificationGet { .. } => Reply::Error(ErrorCode::NotSupported),
+            | Call::NotificationGet { .. } => self.notification_reply(call),
+            Call::Unknown => Reply::Error(ErrorCode::NotSupported),
         }
     }
 
@@ -386,6 +393,41 @@ impl<M: PhysMem + Drop> Machine<M> {
             } => self.retrieve(&transfer(total, fragment, address, pages)),
             Call::MemRelinquish => self.relinquish(),
             Call::MemReclaim { low, high, flags } => self.reclaim(low, high, flags),
+            _ => unreachable!(),
+        }
+    }
+
+    // The reply to a call of notifications.
+    fn notification_reply(&mut self, call: Call) -> Reply
+        requires { is_notification call ≡ true }
+        ensures served { replied self.new.state result ≡ serve self.old.state call }
+        ensures refused { is_error result ≡ true → self.new ≡ self.old }
+    {
+        match call {
+            Call::BitmapCreate {
+                endpoint,
+                contexts,
+            } => self.create_bitmaps(endpoint, contexts),
+            Call::BitmapDestroy { endpoint } => self.destroy_bitmaps(endpoint),
+            Call::NotificationBind {
+                word,
+                flags,
+                low,
+                high,
+            } => self.bind(word, flags, low, high),
+            Call::NotificationUnbind {
+                word,
+                flags,
+                low,
+                high,
+            } => self.unbind(word, flags, low, high),
+            Call::NotificationSet {
+                word,
+                flags,
+                low,
+                high,
+            } => self.set(word, flags, low, high),
+            Call::NotificationGet { receiver, flags } => self.get(receiver, flags),
             _ => unreachable!(),
         }
     }
@@ -516,14 +558,20 @@ impl<M: PhysMem + Drop> Machine<M> {
         reply_or_error(direct_resp(&mut self.kept.chain, message))
     }
 
-    // FFA_MSG_SEND2 of the runner.
+    // FFA_MSG_SEND2 of the runner. The receiver is told of a message by a bit of the manager's.
     fn send(&mut self) -> Reply
         ensures served { replied self.new.state result ≡ served self.old.state (msg_send2 self.old.state) }
         ensures refused { is_error result ≡ true → self.new ≡ self.old }
     {
         let runner = self.kept.chain.runner();
-        let buffers = &mut self.kept.buffers;
-        reply_or_error(send2(&mut self.ram, buffers, &self.manifest, runner))
+        let kept = &mut self.kept;
+        match send2(&mut self.ram, &mut kept.buffers, &self.manifest, runner) {
+            Ok(receiver) => {
+                kept.bitmaps.raise_framework(receiver);
+                DONE
+            }
+            Err(code) => Reply::Error(code),
+        }
     }
 
     // FFA_MEM_DONATE, FFA_MEM_LEND or FFA_MEM_SHARE of the runner.
@@ -591,6 +639,63 @@ impl<M: PhysMem + Drop> Machine<M> {
         let pages = &mut kept.pages;
         let pool = &mut kept.pool;
         done_or_error(pool.reclaim(&mut self.ram, &kept.layout, pages, runner, handle, flags))
+    }
+
+    // FFA_NOTIFICATION_BITMAP_CREATE of the runner.
+    fn create_bitmaps(&mut self, endpoint: u32, contexts: u32) -> Reply
+        ensures served { replied self.new.state result ≡ served self.old.state (bitmap_create self.old.state endpoint contexts) }
+        ensures refused { is_error result ≡ true → self.new ≡ self.old }
+    {
+        let runner = self.kept.chain.runner();
+        done_or_error(self.kept.bitmaps.create(runner, endpoint, contexts))
+    }
+
+    // FFA_NOTIFICATION_BITMAP_DESTROY of the runner.
+    fn destroy_bitmaps(&mut self, endpoint: u32) -> Reply
+        ensures served { replied self.new.state result ≡ served self.old.state (bitmap_destroy self.old.state endpoint) }
+        ensures refused { is_error result ≡ true → self.new ≡ self.old }
+    {
+        let runner = self.kept.chain.runner();
+        done_or_error(self.kept.bitmaps.destroy(runner, endpoint))
+    }
+
+    // FFA_NOTIFICATION_BIND of the runner.
+    fn bind(&mut self, word: u32, flags: u32, low: u32, high: u32) -> Reply
+        ensures served { replied self.new.state result ≡ served self.old.state (notification_bind self.old.state word flags low high) }
+        ensures refused { is_error result ≡ true → self.new ≡ self.old }
+    {
+        let runner = self.kept.chain.runner();
+        let bitmap = bitmap(low, high);
+        done_or_error(self.kept.bitmaps.bind(runner, word, flags, bitmap))
+    }
+
+    // FFA_NOTIFICATION_UNBIND of the runner.
+    fn unbind(&mut self, word: u32, flags: u32, low: u32, high: u32) -> Reply
+        ensures served { replied self.new.state result ≡ served self.old.state (notification_unbind self.old.state word flags low high) }
+        ensures refused { is_error result ≡ true → self.new ≡ self.old }
+    {
+        let runner = self.kept.chain.runner();
+        let bitmap = bitmap(low, high);
+        done_or_error(self.kept.bitmaps.unbind(runner, word, flags, bitmap))
+    }
+
+    // FFA_NOTIFICATION_SET of the runner.
+    fn set(&mut self, word: u32, flags: u32, low: u32, high: u32) -> Reply
+        ensures served { replied self.new.state result ≡ served self.old.state (notification_set self.old.state word flags low high) }
+        ensures refused { is_error result ≡ true → self.new ≡ self.old }
+    {
+        let runner = self.kept.chain.runner();
+        let bitmap = bitmap(low, high);
+        done_or_error(self.kept.bitmaps.set(runner, word, flags, bitmap))
+    }
+
+    // FFA_NOTIFICATION_GET of the runner.
+    fn get(&mut self, word: u32, flags: u32) -> Reply
+        ensures served { replied self.new.state result ≡ served self.old.state (notification_get self.old.state word flags) }
+        ensures refused { is_error result ≡ true → self.new ≡ self.old }
+    {
+        let runner = self.kept.chain.runner();
+        reply_or_error(self.kept.bitmaps.get(runner, word, flags))
     }
 
     // A call of the runner, in its registers.

@@ -12,6 +12,9 @@ use std::test::Fail;
 // Memory transactions.
 mod memory;
 
+// Notifications.
+mod notifications;
+
 // What one more line prints.
 fn played<M: PhysMem + Drop>(
     alloc: Global,

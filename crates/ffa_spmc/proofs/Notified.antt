@@ -1,0 +1,113 @@
+-- Calls of notifications change the state as the small machine's.
+use Rattle.std.proofs.Common.{◌≡◌, ◌∙◌, ℕ, Bool, true, List, length, Result, refl, sym, ap, subst}
+use Rattle.std.specs.Prelude.{⊤, IfOk, OnOk, OnErr}
+use Rattle.std.specs.Result.{result_err}
+use Rattle.ffa_model.specs.declared.call.Call as calls
+use Rattle.ffa_model.specs.declared.call.Reply.{Reply}
+use Rattle.ffa_model.specs.declared.operation.ErrorCode.{ErrorCode}
+use Rattle.ffa_model.specs.Bits.{bits_of, high_half, low_half, word_of_halves}
+use Rattle.ffa_model.specs.Calls.{Service, Stepped, first_failure, replied, served, success}
+use Rattle.ffa_model.specs.First.{first}
+use Rattle.ffa_model.specs.Notifications.{Notifications, bind_guards, bitmap_create, bitmap_destroy, class_of, create_guards, destroy_guards, get_guards, get_reply, notification_bind, notification_get, notification_set, notification_unbind, set_guards, unbind_guards, with_bitmaps, with_bound, with_notifications, with_pending, without_bitmaps, without_bound, without_pending}
+use Rattle.ffa_model.specs.State.{State, is_known_among}
+use Rattle.ffa_model.specs.Step.{serve}
+use Rattle.ffa_spmc.specs.Meaning.{IsMachine, Parts, state_of}
+use Rattle.ffa_spmc.specs.Replies.{done_or_error, reply_of, reply_or_error}
+use Rattle.ffa_spmc.proofs.Answered.{answered-by, done-replies, done-so, refused-so}
+use Rattle.ffa_spmc.proofs.Fills.{runner-there}
+use Rattle.ffa_spmc.proofs.Machines.{machine-served}
+
+module _ (x : Parts) where
+  abbrev s : State
+  s = state_of x
+
+  -- the state with other notifications
+  abbrev pub with_bits : Notifications → State
+  with_bits n = state_of (record x { kept = record x.kept { bitmaps = n } })
+
+  with_bits-is : (n : Notifications) → with_bits n ≡ with_notifications s n
+  unfolding first
+  with_bits-is n = refl
+
+  -- a call that either keeps the notifications or leaves these
+  notified : {X : Type 0} (c : Service) (changed new : Notifications) (r : Result X ErrorCode) (told : X → Reply) → c.state ≡ with_notifications s changed
+      → result_err r ≡ first_failure c.guards → OnErr r (new ≡ x.kept.bitmaps) → OnOk r (new ≡ changed) → IfOk r (λ y. told y ≡ c.reply)
+      → replied (with_bits new) (reply_of told r) ≡ served s c
+  notified c changed new r told leaves refusal same done replies =
+      answered-by s (with_bits new) c r told refusal
+      (refused-so r (λ is. ap with_bits is) same)
+      (done-so r (λ none is. ap with_bits is ∙ with_bits-is changed ∙ sym leaves) done)
+      replies
+
+  module _ (machine : IsMachine x) where
+    -- a machine is one after it
+    pub machine-notified : (new : Notifications) (reply : Reply) (call : calls.Call) → replied (with_bits new) reply ≡ serve s call → IsMachine (record x { kept = record x.kept { bitmaps = new } })
+    machine-notified new reply call is =
+        machine-served x x.ram x.kept.buffers x.kept.chain new machine machine.tables call (ap (λ (st : Stepped). st.state) is)
+
+    -- there is a place for each endpoint's bitmaps
+    pub each-bitmap : length x.kept.bitmaps.bitmaps ≡ length s.parties
+    each-bitmap = machine.sound.sized.bitmaps
+
+    pub known-notified : (f : ℕ) → is_known_among (length s.parties) f ≡ true → is_known_among (length x.kept.bitmaps.bitmaps) f ≡ true
+    known-notified f known = subst (λ (n : ℕ). is_known_among n f ≡ true) (sym each-bitmap) known
+
+    -- the code's runner is that of the run states
+    module _ (e : ℕ) (at : e ≡ x.kept.chain.runner) where
+      pub runner-notified : is_known_among (length x.kept.bitmaps.bitmaps) e ≡ true
+      runner-notified = known-notified e (runner-there x machine e at)
+
+      pub got : (r : Result Reply ErrorCode) (new : Notifications) (word flags : ℕ) → result_err r ≡ first_failure (get_guards x.kept.bitmaps e word flags)
+          → IfOk r (λ reply. reply ≡ get_reply x.kept.bitmaps e flags) → OnErr r (new ≡ x.kept.bitmaps) → OnOk r (new ≡ without_pending x.kept.bitmaps e flags)
+          → replied (with_bits new) (reply_or_error r) ≡ served s (notification_get s word flags)
+      got r new word flags refusal replies same cleared =
+          notified (notification_get s word flags) (without_pending x.kept.bitmaps x.kept.chain.runner flags) new r (λ reply. reply) refl
+          (refusal ∙ ap (λ (f : ℕ). first_failure (get_guards x.kept.bitmaps f word flags)) at)
+          same
+          (done-so r (λ none is. is ∙ ap (λ (f : ℕ). without_pending x.kept.bitmaps f flags) at) cleared)
+          (subst (λ (f : ℕ). IfOk r (λ reply. reply ≡ get_reply x.kept.bitmaps f flags)) at replies)
+
+      module _ (r : Result ⊤ ErrorCode) (new : Notifications) where
+        pub created : (endpoint contexts : ℕ) → result_err r ≡ first_failure (create_guards x.kept.bitmaps e endpoint contexts)
+            → OnErr r (new ≡ x.kept.bitmaps) → OnOk r (new ≡ with_bitmaps x.kept.bitmaps 0) → replied (with_bits new) (done_or_error r) ≡ served s (bitmap_create s endpoint contexts)
+        created endpoint contexts refusal same done =
+            notified (bitmap_create s endpoint contexts) (with_bitmaps x.kept.bitmaps 0) new r (λ done. success 0 0) refl
+            (refusal ∙ ap (λ (f : ℕ). first_failure (create_guards x.kept.bitmaps f endpoint contexts)) at) same done (done-replies r)
+
+        pub destroyed : (endpoint : ℕ) → result_err r ≡ first_failure (destroy_guards x.kept.bitmaps e endpoint)
+            → OnErr r (new ≡ x.kept.bitmaps) → OnOk r (new ≡ without_bitmaps x.kept.bitmaps 0) → replied (with_bits new) (done_or_error r) ≡ served s (bitmap_destroy s endpoint)
+        destroyed endpoint refusal same done =
+            notified (bitmap_destroy s endpoint) (without_bitmaps x.kept.bitmaps 0) new r (λ done. success 0 0) refl
+            (refusal ∙ ap (λ (f : ℕ). first_failure (destroy_guards x.kept.bitmaps f endpoint)) at) same done (done-replies r)
+
+        -- a call with a bitmap, by its guards and what it leaves
+        halved : (c : Service) (guards : ℕ → ℕ → ℕ → List (Bool × ErrorCode)) (change : ℕ → ℕ → Notifications) (asked : ℕ)
+            → c.guards ≡ guards (length s.parties) x.kept.chain.runner asked → c.state ≡ with_notifications s (change x.kept.chain.runner asked) → c.reply ≡ success 0 0
+            → (bitmap : ℕ) → bitmap ≡ asked
+            → result_err r ≡ first_failure (guards (length x.kept.bitmaps.bitmaps) e bitmap) → OnErr r (new ≡ x.kept.bitmaps) → OnOk r (new ≡ change e bitmap)
+            → replied (with_bits new) (done_or_error r) ≡ served s c
+        halved c guards change asked checks leaves replies bitmap halves refusal same done =
+            notified c (change x.kept.chain.runner asked) new r (λ done. success 0 0) leaves
+            (refusal ∙ (λ i. first_failure (guards (each-bitmap i) (at i) (halves i))) ∙ ap first_failure (sym checks))
+            same
+            (done-so r (λ none is. is ∙ (λ i. change (at i) (halves i))) done)
+            (subst (λ (reply : Reply). IfOk r (λ done. success 0 0 ≡ reply)) (sym replies) (done-replies r))
+
+        module _ (word flags low high bitmap : ℕ) (halves : bitmap ≡ word_of_halves low high) (same : OnErr r (new ≡ x.kept.bitmaps)) where
+          pub bound : result_err r ≡ first_failure (bind_guards (length x.kept.bitmaps.bitmaps) x.kept.bitmaps e word flags bitmap)
+              → OnOk r (new ≡ with_bound x.kept.bitmaps e (high_half word) (bits_of bitmap)) → replied (with_bits new) (done_or_error r) ≡ served s (notification_bind s word flags low high)
+          bound refusal done =
+              halved (notification_bind s word flags low high) (λ n f b. bind_guards n x.kept.bitmaps f word flags b) (λ f b. with_bound x.kept.bitmaps f (high_half word) (bits_of b))
+              (word_of_halves low high) refl refl refl bitmap halves refusal same done
+
+          pub unbound : result_err r ≡ first_failure (unbind_guards (length x.kept.bitmaps.bitmaps) x.kept.bitmaps e word flags bitmap)
+              → OnOk r (new ≡ without_bound x.kept.bitmaps e (high_half word) (bits_of bitmap)) → replied (with_bits new) (done_or_error r) ≡ served s (notification_unbind s word flags low high)
+          unbound refusal done =
+              halved (notification_unbind s word flags low high) (λ n f b. unbind_guards n x.kept.bitmaps f word flags b) (λ f b. without_bound x.kept.bitmaps f (high_half word) (bits_of b))
+              (word_of_halves low high) refl refl refl bitmap halves refusal same done
+
+          pub set : result_err r ≡ first_failure (set_guards (length x.kept.bitmaps.bitmaps) x.kept.bitmaps e word flags bitmap)
+              → OnOk r (new ≡ with_pending x.kept.bitmaps (low_half word) (class_of e) (bits_of bitmap)) → replied (with_bits new) (done_or_error r) ≡ served s (notification_set s word flags low high)
+          set refusal done =
+              halved (notification_set s word flags low high) (λ n f b. set_guards n x.kept.bitmaps f word flags b) (λ f b. with_pending x.kept.bitmaps (low_half word) (class_of f) (bits_of b))
+              (word_of_halves low high) refl refl refl bitmap halves refusal same done
