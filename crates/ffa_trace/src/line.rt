@@ -19,6 +19,7 @@ pub enum Line {
 
 /// The line that these bytes are, without the LF that ends it, or `None` where they are no line. The commands that most
 /// lines have are told by their bytes, and no word is cut for them.
+#[inline(always)]
 #[tactic(auto, unfolding(ffa_model::specs::TraceLines::line_of, ffa_model::specs::TraceLines::command_of, ffa_model::specs::TraceLines::words_of))]
 pub fn parse(bytes: &[u8]) -> Option<Line>
     ensures { option_map meaning_of result ≡ line_of bytes.now }
@@ -232,6 +233,7 @@ fn call(mut words: Words<'_>) -> Option<Line>
 }
 
 // How many bytes to load.
+#[inline(always)]
 #[tactic(auto, unfolding(ffa_model::specs::TraceLines::size_named))]
 fn size_named(word: &[u8]) -> Option<Size>
     ensures { result ≡ size_named word.now }
