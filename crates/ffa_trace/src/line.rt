@@ -1,8 +1,8 @@
 //! The lines of a trace.
-ghost use Rattle.std.specs.Prelude.{◌≡◌, ◌<◌, ◌==◌, [], ◌∷◌, Option, option_map, position, unwrap_or, IfSome};
+ghost use Rattle.std.specs.Prelude.{◌≡◌, ◌<◌, ◌==◌, [], ◌∷◌, Option, option_map, position, length, IfSome, ◌+◌, ◌*◌, ◌^◌, ◌≤◌};
 ghost use Rattle.std.specs.Option.{option_map_or};
 ghost use Rattle.ffa_model.specs.TraceLines.{space, digit_value, number_of, size_named, size_written, call_of, load_of, store_of, fetch_of, show_of, command_of, line_of};
-ghost use Rattle.ffa_trace.specs.Parsed.{IsNumberFront, meaning_of, words_left, at_end};
+ghost use Rattle.ffa_trace.specs.Parsed.{AreDigits, IsNumberFront, meaning_of, value_at, value_of, words_left, at_end};
 
 use ffa_model::{Op, Size};
 
@@ -19,6 +19,8 @@ pub enum Line {
 
 /// The line that these bytes are, without the LF that ends it, or `None` where they are no line. The commands that most
 /// lines have are told by their bytes, and no word is cut for them.
+// Inlined, though plays in RAM of two kinds call it.
+#[inline(always)]
 #[tactic(auto, unfolding(ffa_model::specs::TraceLines::line_of, ffa_model::specs::TraceLines::command_of, ffa_model::specs::TraceLines::words_of))]
 pub fn parse(bytes: &[u8]) -> Option<Line>
     ensures { option_map meaning_of result ≡ line_of bytes.now }
@@ -53,6 +55,7 @@ impl<'a> Words<'a> {
     }
 
     // The next word, and the number that it writes.
+    #[inline(always)]
     fn next_number(&mut self) -> Option<(&'a [u8], Option<u64>)>
         ensures word { option_map_or (λ w. w.0.now ∷ words_left self.new) result [] ≡ words_left self.old }
         ensures number { IfSome result (λ w. w.1 ≡ number_of w.0.now) }
@@ -87,19 +90,18 @@ impl<'a> Words<'a> {
 
 // The number that the first word writes, and where the word ends, in one pass. `None` says nothing of the bytes:
 // `next_word` and `number` judge what this doesn't take.
-#[inline]
+#[inline(always)]
 fn number_front(bytes: &[u8]) -> Option<(u64, usize)>
     ensures { IfSome result (λ r. IsNumberFront bytes.now r.0 r.1) }
 {
     let few = bytes.len().min(16);
-    let mut number = 0;
-    let mut end = 0;
+    let (mut number, mut end) = front_by_fours(bytes, few);
     while end < few {
         let value = value_or_more(bytes[end]);
         if value >= NO_DIGIT {
             break;
         }
-        number = 16 * number + u64::from(value);
+        number = 16 * number + value;
         end += 1;
     }
     if end == 0 {
@@ -113,12 +115,50 @@ fn number_front(bytes: &[u8]) -> Option<(u64, usize)>
     }
 }
 
+// The number that digits at the front write, of which four are taken at a time, and how many they are.
+#[inline(always)]
+fn front_by_fours(bytes: &[u8], few: usize) -> (u64, usize)
+    requires few { few ≤ 16 }
+    requires inside { few ≤ length bytes.now }
+    ensures digits { AreDigits bytes.now result.0 result.1 }
+    ensures few { result.1 ≤ few }
+{
+    let mut number = 0;
+    let mut end = 0;
+    while end + 4 <= few {
+        if bytes[end] == b' ' {
+            break;
+        }
+        let four = four_or_more(bytes, end);
+        if four >= 0x1_0000 {
+            break;
+        }
+        number = 0x1_0000 * number + four;
+        end += 4;
+    }
+    (number, end)
+}
+
+// The number that four bytes write as digits. It is too large for four digits where one of them is none: so one test does.
+#[inline(always)]
+fn four_or_more(bytes: &[u8], first: usize) -> u64
+    requires { first + 4 ≤ length bytes.now }
+    ensures { result ≡ 16 * (16 * (16 * value_at bytes.now first + value_at bytes.now (first + 1)) + value_at bytes.now (first + 2)) + value_at bytes.now (first + 3) }
+{
+    let a = value_or_more(bytes[first]);
+    let b = value_or_more(bytes[first + 1]);
+    let c = value_or_more(bytes[first + 2]);
+    let d = value_or_more(bytes[first + 3]);
+    16 * (16 * (16 * a + b) + c) + d
+}
+
 fn first_space(bytes: &[u8]) -> Option<usize>
     ensures { result ≡ position (λ c. c == space) bytes.now }
 {
     bytes.iter().position(|byte| *byte == b' ')
 }
 
+#[inline(never)]
 #[tactic(auto, unfolding(ffa_model::specs::TraceLines::command_of))]
 fn command(mut words: Words<'_>) -> Option<Line>
     ensures { option_map meaning_of result ≡ command_of (words_left words.entry) }
@@ -134,6 +174,7 @@ fn command(mut words: Words<'_>) -> Option<Line>
     }
 }
 
+#[inline(always)]
 #[tactic(auto, unfolding(ffa_model::specs::TraceLines::load_of))]
 fn load(mut words: Words<'_>) -> Option<Line>
     ensures { option_map meaning_of result ≡ load_of (words_left words.entry) }
@@ -144,6 +185,7 @@ fn load(mut words: Words<'_>) -> Option<Line>
     words.finish(Line::Operate(Op::Load { addr, size }))
 }
 
+#[inline(always)]
 #[tactic(auto, unfolding(ffa_model::specs::TraceLines::store_of))]
 fn store(mut words: Words<'_>) -> Option<Line>
     ensures { option_map meaning_of result ≡ store_of (words_left words.entry) }
@@ -172,6 +214,7 @@ fn show(words: Words<'_>) -> Option<Line>
     words.finish(Line::Show)
 }
 
+#[inline(always)]
 fn call(mut words: Words<'_>) -> Option<Line>
     ensures { option_map meaning_of result ≡ call_of (words_left words.entry) }
 {
@@ -228,22 +271,24 @@ fn number(word: &[u8]) -> Option<u64>
     }
     let mut number = 0;
     for byte in word {
-        number = 16 * number + u64::from(digit_value(*byte)?);
+        let digit = digit_value(*byte)?;
+        number = 16 * number + digit;
     }
     Some(number)
 }
 
-// The value of a byte as a hexadecimal digit, or 16.
+// The value of a byte as a hexadecimal digit, or `NO_DIGIT`.
 #[inline(always)]
-fn value_or_more(byte: u8) -> u8
-    ensures { result ≡ unwrap_or (digit_value byte) 16 }
+fn value_or_more(byte: u8) -> u64
+    ensures value { result ≡ value_of byte }
+    ensures few { result ≤ 2 ^ 32 }
 {
     let value = DIGIT_VALUES[byte as usize];
     value
 }
 
 // The value of a byte as a hexadecimal digit. It's a look-up, since digits and letters follow one another without rule.
-fn digit_value(byte: u8) -> Option<u8>
+fn digit_value(byte: u8) -> Option<u64>
     ensures value { result ≡ digit_value byte }
     ensures small { IfSome result (λ digit. digit < 16) }
 {
@@ -251,26 +296,26 @@ fn digit_value(byte: u8) -> Option<u8>
     if value < NO_DIGIT { Some(value) } else { None }
 }
 
-// What stands in the table for a byte that is no digit.
-const NO_DIGIT: u8 = 16;
+// What stands in the table for a byte that is no digit: more than any four digits write.
+const NO_DIGIT: u64 = 1 << 32;
 
 // The value of each byte as a digit.
 #[rattlefmt::skip]
-static DIGIT_VALUES: [u8; 256] = [
-    16, 16, 16, 16, 16, 16, 16, 16, 16, 16, 16, 16, 16, 16, 16, 16,
-    16, 16, 16, 16, 16, 16, 16, 16, 16, 16, 16, 16, 16, 16, 16, 16,
-    16, 16, 16, 16, 16, 16, 16, 16, 16, 16, 16, 16, 16, 16, 16, 16,
-    0, 1, 2, 3, 4, 5, 6, 7, 8, 9, 16, 16, 16, 16, 16, 16,
-    16, 10, 11, 12, 13, 14, 15, 16, 16, 16, 16, 16, 16, 16, 16, 16,
-    16, 16, 16, 16, 16, 16, 16, 16, 16, 16, 16, 16, 16, 16, 16, 16,
-    16, 10, 11, 12, 13, 14, 15, 16, 16, 16, 16, 16, 16, 16, 16, 16,
-    16, 16, 16, 16, 16, 16, 16, 16, 16, 16, 16, 16, 16, 16, 16, 16,
-    16, 16, 16, 16, 16, 16, 16, 16, 16, 16, 16, 16, 16, 16, 16, 16,
-    16, 16, 16, 16, 16, 16, 16, 16, 16, 16, 16, 16, 16, 16, 16, 16,
-    16, 16, 16, 16, 16, 16, 16, 16, 16, 16, 16, 16, 16, 16, 16, 16,
-    16, 16, 16, 16, 16, 16, 16, 16, 16, 16, 16, 16, 16, 16, 16, 16,
-    16, 16, 16, 16, 16, 16, 16, 16, 16, 16, 16, 16, 16, 16, 16, 16,
-    16, 16, 16, 16, 16, 16, 16, 16, 16, 16, 16, 16, 16, 16, 16, 16,
-    16, 16, 16, 16, 16, 16, 16, 16, 16, 16, 16, 16, 16, 16, 16, 16,
-    16, 16, 16, 16, 16, 16, 16, 16, 16, 16, 16, 16, 16, 16, 16, 16,
+static DIGIT_VALUES: [u64; 256] = [
+    NO_DIGIT, NO_DIGIT, NO_DIGIT, NO_DIGIT, NO_DIGIT, NO_DIGIT, NO_DIGIT, NO_DIGIT, NO_DIGIT, NO_DIGIT, NO_DIGIT, NO_DIGIT, NO_DIGIT, NO_DIGIT, NO_DIGIT, NO_DIGIT,
+    NO_DIGIT, NO_DIGIT, NO_DIGIT, NO_DIGIT, NO_DIGIT, NO_DIGIT, NO_DIGIT, NO_DIGIT, NO_DIGIT, NO_DIGIT, NO_DIGIT, NO_DIGIT, NO_DIGIT, NO_DIGIT, NO_DIGIT, NO_DIGIT,
+    NO_DIGIT, NO_DIGIT, NO_DIGIT, NO_DIGIT, NO_DIGIT, NO_DIGIT, NO_DIGIT, NO_DIGIT, NO_DIGIT, NO_DIGIT, NO_DIGIT, NO_DIGIT, NO_DIGIT, NO_DIGIT, NO_DIGIT, NO_DIGIT,
+    0, 1, 2, 3, 4, 5, 6, 7, 8, 9, NO_DIGIT, NO_DIGIT, NO_DIGIT, NO_DIGIT, NO_DIGIT, NO_DIGIT,
+    NO_DIGIT, 10, 11, 12, 13, 14, 15, NO_DIGIT, NO_DIGIT, NO_DIGIT, NO_DIGIT, NO_DIGIT, NO_DIGIT, NO_DIGIT, NO_DIGIT, NO_DIGIT,
+    NO_DIGIT, NO_DIGIT, NO_DIGIT, NO_DIGIT, NO_DIGIT, NO_DIGIT, NO_DIGIT, NO_DIGIT, NO_DIGIT, NO_DIGIT, NO_DIGIT, NO_DIGIT, NO_DIGIT, NO_DIGIT, NO_DIGIT, NO_DIGIT,
+    NO_DIGIT, 10, 11, 12, 13, 14, 15, NO_DIGIT, NO_DIGIT, NO_DIGIT, NO_DIGIT, NO_DIGIT, NO_DIGIT, NO_DIGIT, NO_DIGIT, NO_DIGIT,
+    NO_DIGIT, NO_DIGIT, NO_DIGIT, NO_DIGIT, NO_DIGIT, NO_DIGIT, NO_DIGIT, NO_DIGIT, NO_DIGIT, NO_DIGIT, NO_DIGIT, NO_DIGIT, NO_DIGIT, NO_DIGIT, NO_DIGIT, NO_DIGIT,
+    NO_DIGIT, NO_DIGIT, NO_DIGIT, NO_DIGIT, NO_DIGIT, NO_DIGIT, NO_DIGIT, NO_DIGIT, NO_DIGIT, NO_DIGIT, NO_DIGIT, NO_DIGIT, NO_DIGIT, NO_DIGIT, NO_DIGIT, NO_DIGIT,
+    NO_DIGIT, NO_DIGIT, NO_DIGIT, NO_DIGIT, NO_DIGIT, NO_DIGIT, NO_DIGIT, NO_DIGIT, NO_DIGIT, NO_DIGIT, NO_DIGIT, NO_DIGIT, NO_DIGIT, NO_DIGIT, NO_DIGIT, NO_DIGIT,
+    NO_DIGIT, NO_DIGIT, NO_DIGIT, NO_DIGIT, NO_DIGIT, NO_DIGIT, NO_DIGIT, NO_DIGIT, NO_DIGIT, NO_DIGIT, NO_DIGIT, NO_DIGIT, NO_DIGIT, NO_DIGIT, NO_DIGIT, NO_DIGIT,
+    NO_DIGIT, NO_DIGIT, NO_DIGIT, NO_DIGIT, NO_DIGIT, NO_DIGIT, NO_DIGIT, NO_DIGIT, NO_DIGIT, NO_DIGIT, NO_DIGIT, NO_DIGIT, NO_DIGIT, NO_DIGIT, NO_DIGIT, NO_DIGIT,
+    NO_DIGIT, NO_DIGIT, NO_DIGIT, NO_DIGIT, NO_DIGIT, NO_DIGIT, NO_DIGIT, NO_DIGIT, NO_DIGIT, NO_DIGIT, NO_DIGIT, NO_DIGIT, NO_DIGIT, NO_DIGIT, NO_DIGIT, NO_DIGIT,
+    NO_DIGIT, NO_DIGIT, NO_DIGIT, NO_DIGIT, NO_DIGIT, NO_DIGIT, NO_DIGIT, NO_DIGIT, NO_DIGIT, NO_DIGIT, NO_DIGIT, NO_DIGIT, NO_DIGIT, NO_DIGIT, NO_DIGIT, NO_DIGIT,
+    NO_DIGIT, NO_DIGIT, NO_DIGIT, NO_DIGIT, NO_DIGIT, NO_DIGIT, NO_DIGIT, NO_DIGIT, NO_DIGIT, NO_DIGIT, NO_DIGIT, NO_DIGIT, NO_DIGIT, NO_DIGIT, NO_DIGIT, NO_DIGIT,
+    NO_DIGIT, NO_DIGIT, NO_DIGIT, NO_DIGIT, NO_DIGIT, NO_DIGIT, NO_DIGIT, NO_DIGIT, NO_DIGIT, NO_DIGIT, NO_DIGIT, NO_DIGIT, NO_DIGIT, NO_DIGIT, NO_DIGIT, NO_DIGIT,
 ];

@@ -169,7 +169,8 @@ fn do_line<M: PhysMem + Drop, W: Write>(
     }
 }
 
-// Writes what an operation with this outcome prints.
+// Writes what an operation with this outcome prints. It is inlined, though plays in RAM of two kinds call it.
+#[inline(always)]
 #[tactic(auto, unfolding(ffa_model::specs::TraceText::outcome_words))]
 fn write_outcome<W: Write>(writer: &mut W, op: &Op, outcome: &Outcome) -> Result<(), PlayError>
     ensures { Writes (W.contents writer.old) (W.contents writer.new) (outcome_text op.now outcome.now) result }
@@ -181,7 +182,8 @@ fn write_outcome<W: Write>(writer: &mut W, op: &Op, outcome: &Outcome) -> Result
     }
 }
 
-// Writes data that an operation read.
+// Writes data that an operation read, alike.
+#[inline(always)]
 #[tactic(auto, unfolding(ffa_model::specs::TraceText::outcome_words))]
 fn write_data<W: Write>(writer: &mut W, op: &Op, value: u64) -> Result<(), PlayError>
     ensures { Writes (W.contents writer.old) (W.contents writer.new) (outcome_text op.now (Outcome.Data value)) result }

@@ -169,14 +169,20 @@ fn push_runner(text: &mut Text, runner: u16)
     push_word(text, &runner_word(u64::from(runner)));
 }
 
-// Appends a space and sixteen digits, likewise.
+// Appends a space and sixteen digits, likewise. Most registers of most calls are zero or have a zero upper half.
 #[inline(always)]
 fn push_register(text: &mut Text, value: u64)
     requires { array_vec_len text.old + 16 < CAPACITY }
     ensures items { text.new.items ≡ text.old.items ++ spaced (hex 16 value) }
     ensures len { array_vec_len text.new ≡ array_vec_len text.old + 17 }
 {
-    push_word(text, &register_word(value));
+    if value == 0 {
+        push_word(text, &zero_word());
+    } else if value < 0x1_0000_0000 {
+        push_word(text, &half_word(value));
+    } else {
+        push_word(text, &register_word(value));
+    }
 }
 
 #[inline(always)]
@@ -186,6 +192,29 @@ fn runner_word(runner: u64) -> [u8; 5]
     let b = two_digits(runner, 1);
     let a = two_digits(runner, 0);
     [b' ', b.0, b.1, a.0, a.1]
+}
+
+#[inline(always)]
+fn zero_word() -> [u8; 17]
+    ensures { result ≡ spaced (hex 16 0) }
+{
+    *b" 0000000000000000"
+}
+
+// The word of a register whose upper half is zero.
+#[inline(always)]
+fn half_word(value: u64) -> [u8; 17]
+    requires { value < 2 ^ 32 }
+    ensures { result ≡ spaced (hex 16 value) }
+{
+    let d = two_digits(value, 3);
+    let c = two_digits(value, 2);
+    let b = two_digits(value, 1);
+    let a = two_digits(value, 0);
+    [
+        b' ', b'0', b'0', b'0', b'0', b'0', b'0', b'0', b'0', d.0, d.1, c.0, c.1, b.0, b.1, a.0,
+        a.1,
+    ]
 }
 
 #[inline(always)]
