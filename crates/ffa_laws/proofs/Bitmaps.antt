@@ -1,42 +1,14 @@
 -- Sets of bits and bindings, and what views see of them.
 use Rattle.std.proofs.Common.{◌≡◌, ◌∙◌, ℕ, Bool, true, false, List, [], ◌∷◌, map, refl, sym, ap, subst, arith}
 use Rattle.std.specs.Prelude.{◌||◌, ◌&&◌, not}
-use Rattle.std.specs.List.{list_any}
-use Rattle.std.specs.Ordering.{eq_by_cmp, is_eq, nat_cmp}
-use Rattle.std.proofs.Common.{Ordering, Less, Equal, Greater}
+use Rattle.std.specs.Ordering.{eq_by_cmp, nat_cmp}
 use Rattle.std.specs.Cmp.Lexicographic.{nat_list_cmp_total, slice_cmp}
 use Rattle.std.specs.FinSet as finite_set
 use Rattle.std.proofs.lemmas.Bool.{cases_Bool, false≢true}
 use Rattle.ffa_model.specs.State.{State}
 use Rattle.ffa_model.specs.Notifications.{binding}
+use Rattle.ffa_model.proofs.Sets.{Bits, among, contains-less, contains-more, contains-retained, same_bits, same_elements}
 use Rattle.ffa_laws.specs.Events.{Bound, Unbound, apply_all}
-
-abbrev pub Bits : Type 0
-Bits = finite_set.FinSet (slice_cmp nat_cmp)
-
-pub same_bits : (a b : Bits) → ((x : List ℕ) → finite_set.contains a x ≡ finite_set.contains b x) → a ≡ b
-same_bits a b same = finite_set.same_set nat_list_cmp_total (finite_set.slice_cmp-IsAntisymmetric finite_set.nat_cmp-IsAntisymmetric) a b same
-
--- whether an entry is in a list
-abbrev pub among : List ℕ → List (List ℕ) → Bool
-among x xs = list_any (eq_by_cmp (slice_cmp nat_cmp) x) xs
-
-pub contains-retained : (a : Bits) (test : List ℕ → Bool) (x : List ℕ) → finite_set.contains (finite_set.retain a test) x ≡ (finite_set.contains a x && test x)
-contains-retained a test x = finite_set.contains-retain a test x (λ y tie. ap test (sym (finite_set.slice_cmp-IsAntisymmetric finite_set.nat_cmp-IsAntisymmetric x y tie)))
-
-pub contains-more : (a : Bits) (xs : List (List ℕ)) (x : List ℕ) → finite_set.contains (finite_set.union a (finite_set.from_list xs)) x ≡ (finite_set.contains a x || among x xs)
-contains-more a xs x = finite_set.contains-union nat_list_cmp_total a (finite_set.from_list xs) x ∙ ap (λ b. finite_set.contains a x || b) (finite_set.contains-from_list nat_list_cmp_total xs x)
-
-pub contains-less : (a : Bits) (xs : List (List ℕ)) (x : List ℕ) → finite_set.contains (finite_set.difference a (finite_set.from_list xs)) x ≡ (finite_set.contains a x && not (among x xs))
-contains-less a xs x = finite_set.contains-difference nat_list_cmp_total a (finite_set.from_list xs) x ∙ ap (λ b. finite_set.contains a x && not b) (finite_set.contains-from_list nat_list_cmp_total xs x)
-
-pub same_elements : (x y : List ℕ) → eq_by_cmp (slice_cmp nat_cmp) x y ≡ true → x ≡ y
-same_elements x y is = finite_set.slice_cmp-IsAntisymmetric finite_set.nat_cmp-IsAntisymmetric x y (go (slice_cmp nat_cmp x y) is)
-  where
-    go : (o : Ordering) → is_eq o ≡ true → o ≡ Equal
-    go Less is = absurd (false≢true is)
-    go Equal is = refl
-    go Greater is = absurd (false≢true is)
 
 -- what holds of each entry of a list holds of an entry that is in it
 pub among-each : (P : List ℕ → Type 0) (f : ℕ → List ℕ) (ks : List ℕ) (x : List ℕ) → ((k : ℕ) → P (f k)) → among x (map f ks) ≡ true → P x

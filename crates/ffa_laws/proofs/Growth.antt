@@ -23,7 +23,7 @@ use Rattle.ffa_model.specs.Access.{access, held_by, right_by, right_of, transact
 use Rattle.ffa_model.specs.Step.{serve, service, state_after, step}
 use Rattle.ffa_model.specs.Transactions.{Transfer, handle_of, transfer}
 use Rattle.ffa_laws.specs.Steady.{IsSteady, is_joint}
-use Rattle.ffa_laws.specs.Isolation.{NeverGrow, is_joint_at, is_lawful_call}
+use Rattle.ffa_laws.specs.Isolation.{NeverGrow, is_joint_at}
 use Rattle.ffa_laws.proofs.Views.{found}
 use Rattle.ffa_laws.proofs.Taken.{Taken, base-before, before, manager-before, response, state-taken, taken}
 use Rattle.ffa_laws.proofs.Within.{within-same, within-through}
@@ -33,7 +33,6 @@ use Rattle.ffa_laws.proofs.ReturnLaws.{rewritten-relinquished}
 use Rattle.ffa_laws.proofs.SendLaws.{rewritten-sent}
 use Rattle.ffa_laws.proofs.Written.{rewritten-filled, rewritten-written}
 use Rattle.ffa_laws.proofs.Kept.{is_memory_call, kept-call, kept-step}
-use Rattle.ffa_laws.proofs.Lawful.{lawful as served_lawful}
 use Rattle.ffa_laws.proofs.Laws.{steady-call, steady-step}
 
 -- ---- in any steady state
@@ -134,15 +133,15 @@ module _ (s : State) (steady : IsSteady s) where
           }
 
   -- the calls on memory transactions
-  memory-rights : (call : calls.Call) → is_lawful_call call ≡ true → is_memory_call call ≡ true → first_failure (service s call).guards ≡ None → KeepsRights s.pages (service s call).state.pages
-  memory-rights (MemDonate total fragment address pages) lawful memory none = rewritten-rights s.pages _ (rewritten-sent s Donate (send_read s Donate total))
-  memory-rights (MemLend total fragment address pages) lawful memory none = rewritten-rights s.pages _ (rewritten-sent s Lend (send_read s Lend total))
-  memory-rights (MemShare total fragment address pages) lawful memory none = rewritten-rights s.pages _ (rewritten-sent s Share (send_read s Share total))
-  memory-rights (MemRetrieve total fragment address pages) lawful memory none = retrieved-rights (transfer total fragment address pages) none
-  memory-rights MemRelinquish lawful memory none = rewritten-rights s.pages _ (rewritten-relinquished s (relinquish_read s))
-  memory-rights (MemReclaim low high flags) lawful memory none =
+  memory-rights : (call : calls.Call) → is_memory_call call ≡ true → first_failure (service s call).guards ≡ None → KeepsRights s.pages (service s call).state.pages
+  memory-rights (MemDonate total fragment address pages) memory none = rewritten-rights s.pages _ (rewritten-sent s Donate (send_read s Donate total))
+  memory-rights (MemLend total fragment address pages) memory none = rewritten-rights s.pages _ (rewritten-sent s Lend (send_read s Lend total))
+  memory-rights (MemShare total fragment address pages) memory none = rewritten-rights s.pages _ (rewritten-sent s Share (send_read s Share total))
+  memory-rights (MemRetrieve total fragment address pages) memory none = retrieved-rights (transfer total fragment address pages) none
+  memory-rights MemRelinquish memory none = rewritten-rights s.pages _ (rewritten-relinquished s (relinquish_read s))
+  memory-rights (MemReclaim low high flags) memory none =
       rewritten-rights s.pages _ (rewritten-zeroed_if (is_set 0 flags) s (named_ranges (transaction_of s (handle_of high low))))
-  memory-rights call lawful memory none = absurd (false≢true memory)
+  memory-rights call memory none = absurd (false≢true memory)
 
   by-info : (bytes : List ℕ) → KeepsRights s.pages (filled_pages s.pages bytes (buffers_of s s.runner))
   by-info bytes = rewritten-rights s.pages _ (rewritten-filled s.pages bytes (buffers_of s s.runner))
@@ -150,21 +149,21 @@ module _ (s : State) (steady : IsSteady s) where
   sent : KeepsRights s.pages (filled_pages s.pages (message_in (tx_bytes s s.runner)) (buffers_of s (header_in (tx_bytes s s.runner)).receiver))
   sent = rewritten-rights s.pages _ (rewritten-filled s.pages (message_in (tx_bytes s s.runner)) (buffers_of s (header_in (tx_bytes s s.runner)).receiver))
 
-  call-rights : (call : calls.Call) → is_lawful_call call ≡ true → KeepsRights s.pages (serve s call).state.pages
-  call-rights call lawful = kept-call (KeepsRights s.pages) s (same-rights s) by-info call (λ is none. sent) (memory-rights call lawful)
+  call-rights : (call : calls.Call) → KeepsRights s.pages (serve s call).state.pages
+  call-rights call = kept-call (KeepsRights s.pages) s (same-rights s) by-info call (λ is none. sent) (memory-rights call)
 
   step-rights : (op : Op) → KeepsRights s.pages (step s op).state.pages
   step-rights op =
       kept-step (KeepsRights s.pages) s (same-rights s) by-info op
       (λ address size value none. rewritten-rights s.pages _ (rewritten-written s.pages ((address - s.ram_base) / 4096) (address % 4096) (little_bytes (size_of size) value)))
       (λ is none. sent)
-      (λ x. memory-rights (served_call x) (served_lawful x))
+      (λ x. memory-rights (served_call x))
 
 pub never_grow : (s : State) (ops : List Op) → IsSteady s → NeverGrow s (state_after s ops)
 never_grow s [] steady = not_grown s steady
 never_grow s (op ∷ ops) steady =
     grown-from s (step s op).state (state_after (step s op).state ops) (step-rights s steady op) (never_grow (step s op).state ops (steady-step s steady op))
 
-pub call_never_grows : (s : State) (call : calls.Call) → is_lawful_call call ≡ true → IsSteady s → NeverGrow s (serve s call).state
-call_never_grows s call lawful steady =
-    grown-from s (serve s call).state (serve s call).state (call-rights s steady call lawful) (not_grown (serve s call).state (steady-call s steady call lawful))
+pub call_never_grows : (s : State) (call : calls.Call) → IsSteady s → NeverGrow s (serve s call).state
+call_never_grows s call steady =
+    grown-from s (serve s call).state (serve s call).state (call-rights s steady call) (not_grown (serve s call).state (steady-call s steady call))

@@ -28,14 +28,13 @@ use Rattle.ffa_model.specs.Messages.{header_in, message_in, send2_guards, tx_byt
 use Rattle.ffa_model.specs.Step.{serve, service, step}
 use Rattle.ffa_model.specs.Transactions.{Transfer, handle_of, scene_of, transfer}
 use Rattle.ffa_laws.specs.Steady.{IsSteady}
-use Rattle.ffa_laws.specs.Isolation.{Integrity, LeavesBytes, fills_rx_page, is_lawful_call, is_indirect_message, is_send2}
+use Rattle.ffa_laws.specs.Isolation.{Integrity, LeavesBytes, fills_rx_page, is_indirect_message, is_send2}
 use Rattle.ffa_model.proofs.Guards.{guard-passes}
 use Rattle.ffa_laws.proofs.MemoryLaws.{fault-none}
 use Rattle.ffa_laws.proofs.SendLaws.{offer, offered-owner}
 use Rattle.ffa_model.proofs.Accesses.{page-changed}
 use Rattle.ffa_laws.proofs.Taken.{before, response, state-taken, taken, unnamed-before}
 use Rattle.ffa_laws.proofs.Maps.{first_none}
-use Rattle.ffa_laws.proofs.Lawful.{lawful as served_lawful}
 use Rattle.ffa_laws.proofs.Kept.{is_memory_call, kept-call, kept-step}
 
 -- the bytes of a page of a list of pages
@@ -144,29 +143,29 @@ module _ (s : State) (steady : IsSteady s) (e p : ℕ) (owned : owner_of s p ≡
       ∙ ap (λ page. option_map_or (λ (q : Page). q.bytes) page []) (unnamed-before s x its steady p unnamed)
 
   -- the calls on memory transactions
-  memory-bytes : (call : calls.Call) → is_lawful_call call ≡ true → is_memory_call call ≡ true → first_failure (service s call).guards ≡ None → bytes_in (service s call).state.pages p ≡ bytes_in s.pages p
-  memory-bytes (MemDonate total fragment address pages) lawful memory none = sent-elsewhere Donate (transfer total fragment address pages) none
-  memory-bytes (MemLend total fragment address pages) lawful memory none = sent-elsewhere Lend (transfer total fragment address pages) none
-  memory-bytes (MemShare total fragment address pages) lawful memory none = sent-elsewhere Share (transfer total fragment address pages) none
-  memory-bytes (MemRetrieve total fragment address pages) lawful memory none = retrieved-elsewhere (transfer total fragment address pages) none
-  memory-bytes MemRelinquish lawful memory none = relinquished-elsewhere (relinquish_read s)
-  memory-bytes (MemReclaim low high flags) lawful memory none =
+  memory-bytes : (call : calls.Call) → is_memory_call call ≡ true → first_failure (service s call).guards ≡ None → bytes_in (service s call).state.pages p ≡ bytes_in s.pages p
+  memory-bytes (MemDonate total fragment address pages) memory none = sent-elsewhere Donate (transfer total fragment address pages) none
+  memory-bytes (MemLend total fragment address pages) memory none = sent-elsewhere Lend (transfer total fragment address pages) none
+  memory-bytes (MemShare total fragment address pages) memory none = sent-elsewhere Share (transfer total fragment address pages) none
+  memory-bytes (MemRetrieve total fragment address pages) memory none = retrieved-elsewhere (transfer total fragment address pages) none
+  memory-bytes MemRelinquish memory none = relinquished-elsewhere (relinquish_read s)
+  memory-bytes (MemReclaim low high flags) memory none =
       elsewhere-zeroed (is_set 0 flags) (named_ranges (transaction_of s (handle_of high low))) (of_no_transaction (handle_of high low))
-  memory-bytes call lawful memory none = absurd (false≢true memory)
+  memory-bytes call memory none = absurd (false≢true memory)
 
-  bytes-kept-call : (call : calls.Call) → is_lawful_call call ≡ true → (is_send2 call && fills_rx_page s e p) ≡ false → page_bytes (serve s call).state p ≡ page_bytes s p
-  bytes-kept-call call lawful not_bound =
-      kept-call (λ ps. bytes_in ps p ≡ bytes_in s.pages p) s refl (by-runner s.pages) call (delivered_elsewhere (is_send2 call) not_bound) (memory-bytes call lawful)
+  bytes-kept-call : (call : calls.Call) → (is_send2 call && fills_rx_page s e p) ≡ false → page_bytes (serve s call).state p ≡ page_bytes s p
+  bytes-kept-call call not_bound =
+      kept-call (λ ps. bytes_in ps p ≡ bytes_in s.pages p) s refl (by-runner s.pages) call (delivered_elsewhere (is_send2 call) not_bound) (memory-bytes call)
 
   bytes-kept : (op : Op) → (is_indirect_message op && fills_rx_page s e p) ≡ false → page_bytes (step s op).state p ≡ page_bytes s p
   bytes-kept op not_bound =
       kept-step (λ ps. bytes_in ps p ≡ bytes_in s.pages p) s refl (by-runner s.pages) op
       (λ address size value none. elsewhere s.pages ((address - s.ram_base) / 4096) p (address % 4096) (little_bytes (size_of size) value) (stored_elsewhere address (size_of size) none))
       (delivered_elsewhere (is_indirect_message op) not_bound)
-      (λ x. memory-bytes (served_call x) (served_lawful x))
+      (λ x. memory-bytes (served_call x))
 
 pub integrity : (s : State) (op : Op) → IsSteady s → Integrity s op
 integrity s op steady e p owned unnamed other not_bound = bytes-kept s steady e p owned unnamed other op not_bound
 
-pub call_integrity : (s : State) (call : calls.Call) → is_lawful_call call ≡ true → IsSteady s → LeavesBytes (is_send2 call) s (serve s call).state
-call_integrity s call lawful steady e p owned unnamed other not_bound = bytes-kept-call s steady e p owned unnamed other call lawful not_bound
+pub call_integrity : (s : State) (call : calls.Call) → IsSteady s → LeavesBytes (is_send2 call) s (serve s call).state
+call_integrity s call steady e p owned unnamed other not_bound = bytes-kept-call s steady e p owned unnamed other call not_bound

@@ -24,8 +24,7 @@ use Rattle.ffa_model.specs.Step.{serve, service, step}
 use Rattle.ffa_laws.specs.Steady.{IsSteady}
 use Rattle.ffa_laws.specs.View.{view}
 use Rattle.ffa_laws.specs.Events.{Event, Item, Own, Told, apply, apply_all, call_events, events, items, message, messages, seen, told_by}
-use Rattle.ffa_laws.specs.Isolation.{Isolated, OneCall, OneStep, is_lawful_call}
-use Rattle.ffa_laws.proofs.Lawful.{lawful as served_lawful}
+use Rattle.ffa_laws.specs.Isolation.{Isolated, OneCall, OneStep}
 use Rattle.ffa_laws.proofs.Form.{IsOwn, served-kept, served-own, viewed}
 use Rattle.ffa_laws.proofs.Told.{IsTold, other-same, served-other}
 use Rattle.ffa_laws.proofs.Kept.{known-step}
@@ -41,117 +40,117 @@ use Rattle.ffa_laws.proofs.Taken.{steady-retrieve}
 use Rattle.ffa_laws.proofs.MessageLaws.{other-send2, own-send2, steady-send2}
 
 -- ---- one step, by calls
-own-service : (s : State) → IsSteady s → (call : calls.Call) → is_lawful_call call ≡ true → IsOwn s (service (view s.runner s) call) (service s call)
-own-service s steady (Version version) lawful = (refl, λ none. (refl, refl))
-own-service s steady (Features function) lawful = (refl, λ none. (refl, refl))
-own-service s steady RxRelease lawful = own-release s steady
-own-service s steady (RxtxMap tx rx pages) lawful = own-map s steady tx rx pages
-own-service s steady (RxtxUnmap endpoint) lawful = own-unmap s steady endpoint
-own-service s steady (PartitionInfoGet uuid flags) lawful = own-info s steady uuid flags
-own-service s steady IdGet lawful = (refl, λ none. (refl, refl))
-own-service s steady SpmIdGet lawful = (refl, λ none. (refl, refl))
-own-service s steady MsgWait lawful = own-wait s
-own-service s steady Yield lawful = own-yield s
-own-service s steady (Run target) lawful = own-run s target
-own-service s steady (DirectRequest function word flags payload) lawful = own-request s function word flags payload
-own-service s steady (DirectResponse function word flags payload) lawful = own-response s function word flags payload
-own-service s steady (MemDonate total fragment address pages) lawful = own-send s steady Donate (transfer total fragment address pages)
-own-service s steady (MemLend total fragment address pages) lawful = own-send s steady Lend (transfer total fragment address pages)
-own-service s steady (MemShare total fragment address pages) lawful = own-send s steady Share (transfer total fragment address pages)
-own-service s steady (MemRetrieve total fragment address pages) lawful = own-retrieve s steady (transfer total fragment address pages)
-own-service s steady MemRelinquish lawful = own-relinquish s steady
-own-service s steady (MemReclaim low high flags) lawful = own-reclaim s steady low high flags
-own-service s steady (BitmapCreate endpoint contexts) lawful = own-create s steady endpoint contexts
-own-service s steady (BitmapDestroy endpoint) lawful = own-destroy s steady endpoint
-own-service s steady (NotificationBind word flags low high) lawful = own-bind s steady word flags low high
-own-service s steady (NotificationUnbind word flags low high) lawful = own-unbind s steady word flags low high
-own-service s steady (NotificationSet word flags low high) lawful = own-set s steady word flags low high
-own-service s steady (NotificationGet word flags) lawful = own-get s steady word flags
-own-service s steady MsgSend2 lawful = own-send2 s steady
-own-service s steady Unknown lawful = (refl, λ none. (refl, refl))
+own-service : (s : State) → IsSteady s → (call : calls.Call) → IsOwn s (service (view s.runner s) call) (service s call)
+own-service s steady (Version version) = (refl, λ none. (refl, refl))
+own-service s steady (Features function) = (refl, λ none. (refl, refl))
+own-service s steady RxRelease = own-release s steady
+own-service s steady (RxtxMap tx rx pages) = own-map s steady tx rx pages
+own-service s steady (RxtxUnmap endpoint) = own-unmap s steady endpoint
+own-service s steady (PartitionInfoGet uuid flags) = own-info s steady uuid flags
+own-service s steady IdGet = (refl, λ none. (refl, refl))
+own-service s steady SpmIdGet = (refl, λ none. (refl, refl))
+own-service s steady MsgWait = own-wait s
+own-service s steady Yield = own-yield s
+own-service s steady (Run target) = own-run s target
+own-service s steady (DirectRequest function word flags payload) = own-request s function word flags payload
+own-service s steady (DirectResponse function word flags payload) = own-response s function word flags payload
+own-service s steady (MemDonate total fragment address pages) = own-send s steady Donate (transfer total fragment address pages)
+own-service s steady (MemLend total fragment address pages) = own-send s steady Lend (transfer total fragment address pages)
+own-service s steady (MemShare total fragment address pages) = own-send s steady Share (transfer total fragment address pages)
+own-service s steady (MemRetrieve total fragment address pages) = own-retrieve s steady (transfer total fragment address pages)
+own-service s steady MemRelinquish = own-relinquish s steady
+own-service s steady (MemReclaim low high flags) = own-reclaim s steady low high flags
+own-service s steady (BitmapCreate endpoint contexts) = own-create s steady endpoint contexts
+own-service s steady (BitmapDestroy endpoint) = own-destroy s steady endpoint
+own-service s steady (NotificationBind word flags low high) = own-bind s steady word flags low high
+own-service s steady (NotificationUnbind word flags low high) = own-unbind s steady word flags low high
+own-service s steady (NotificationSet word flags low high) = own-set s steady word flags low high
+own-service s steady (NotificationGet word flags) = own-get s steady word flags
+own-service s steady MsgSend2 = own-send2 s steady
+own-service s steady Unknown = (refl, λ none. (refl, refl))
 
-own-call : (s : State) → IsSteady s → (call : calls.Call) → is_lawful_call call ≡ true → serve (view s.runner s) call ≡ viewed s.runner (serve s call)
-own-call s steady call lawful = served-own s (service (view s.runner s) call) (service s call) (own-service s steady call lawful)
+own-call : (s : State) → IsSteady s → (call : calls.Call) → serve (view s.runner s) call ≡ viewed s.runner (serve s call)
+own-call s steady call = served-own s (service (view s.runner s) call) (service s call) (own-service s steady call)
 
 pub own-step : (s : State) → IsSteady s → (op : Op) → step (view s.runner s) op ≡ viewed s.runner (step s op)
-own-step s steady (Call x) = own-call s steady (served_call x) (served_lawful x)
+own-step s steady (Call x) = own-call s steady (served_call x)
 own-step s steady (Load addr size) = own-load s steady addr size
 own-step s steady (Store addr size value) = own-store s steady addr size value
 own-step s steady (Fetch addr) = own-fetch s steady addr
 
 module _ (e : ℕ) (s : State) (steady : IsSteady s) (known : is_known s e ≡ true) (other : s.runner ≢ e) where
-  other-service : (call : calls.Call) → is_lawful_call call ≡ true → IsTold e s (service s call) (told_by e s call)
-  other-service (Version version) lawful = λ none. other-same e s
-  other-service (Features function) lawful = λ none. other-same e s
-  other-service RxRelease lawful = λ none. other-release s steady e
-  other-service (RxtxMap tx rx pages) lawful = λ none. other-buffers s steady e known other (Some (new_buffers s.ram_base tx rx))
-  other-service (RxtxUnmap endpoint) lawful = λ none. other-buffers s steady e known other None
-  other-service (PartitionInfoGet uuid flags) lawful = λ none. other-info s steady uuid flags e other
-  other-service IdGet lawful = λ none. other-same e s
-  other-service SpmIdGet lawful = λ none. other-same e s
-  other-service MsgWait lawful = λ none. other-wait e s
-  other-service Yield lawful = λ none. other-scheduled e s (switched (schedule_of s) Yielded 0) (yield_now s)
-  other-service (Run target) lawful = λ none. other-scheduled e s (given_cycles (schedule_of s) (high_half target) (status_in (schedule_of s) (high_half target))) (run_partition s target)
-  other-service (DirectRequest function word flags payload) lawful = λ none. other-scheduled e s (requested (schedule_of s) (low_half word)) (direct_request s function word flags payload)
-  other-service (DirectResponse function word flags payload) lawful = λ none. other-scheduled e s (finished (schedule_of s) (low_half word)) (direct_response s function word flags payload)
-  other-service (MemDonate total fragment address pages) lawful = other-send e s steady known other Donate (transfer total fragment address pages)
-  other-service (MemLend total fragment address pages) lawful = other-send e s steady known other Lend (transfer total fragment address pages)
-  other-service (MemShare total fragment address pages) lawful = other-send e s steady known other Share (transfer total fragment address pages)
-  other-service (MemRetrieve total fragment address pages) lawful = other-retrieve e s steady other (transfer total fragment address pages)
-  other-service MemRelinquish lawful = other-relinquish e s steady other
-  other-service (MemReclaim low high flags) lawful = other-reclaim e s steady other low high flags
-  other-service (BitmapCreate endpoint contexts) lawful = other-create e s other endpoint contexts
-  other-service (BitmapDestroy endpoint) lawful = other-destroy e s other steady endpoint
-  other-service (NotificationBind word flags low high) lawful = λ none. other-bind e s other word low high flags
-  other-service (NotificationUnbind word flags low high) lawful = λ none. other-unbind e s other word low high flags
-  other-service (NotificationSet word flags low high) lawful = λ none. other-set e s known word flags low high
-  other-service (NotificationGet word flags) lawful = λ none. other-get e s other word flags
-  other-service MsgSend2 lawful = other-send2 s steady e known
-  other-service Unknown lawful = λ none. other-same e s
+  other-service : (call : calls.Call) → IsTold e s (service s call) (told_by e s call)
+  other-service (Version version) = λ none. other-same e s
+  other-service (Features function) = λ none. other-same e s
+  other-service RxRelease = λ none. other-release s steady e
+  other-service (RxtxMap tx rx pages) = λ none. other-buffers s steady e known other (Some (new_buffers s.ram_base tx rx))
+  other-service (RxtxUnmap endpoint) = λ none. other-buffers s steady e known other None
+  other-service (PartitionInfoGet uuid flags) = λ none. other-info s steady uuid flags e other
+  other-service IdGet = λ none. other-same e s
+  other-service SpmIdGet = λ none. other-same e s
+  other-service MsgWait = λ none. other-wait e s
+  other-service Yield = λ none. other-scheduled e s (switched (schedule_of s) Yielded 0) (yield_now s)
+  other-service (Run target) = λ none. other-scheduled e s (given_cycles (schedule_of s) (high_half target) (status_in (schedule_of s) (high_half target))) (run_partition s target)
+  other-service (DirectRequest function word flags payload) = λ none. other-scheduled e s (requested (schedule_of s) (low_half word)) (direct_request s function word flags payload)
+  other-service (DirectResponse function word flags payload) = λ none. other-scheduled e s (finished (schedule_of s) (low_half word)) (direct_response s function word flags payload)
+  other-service (MemDonate total fragment address pages) = other-send e s steady known other Donate (transfer total fragment address pages)
+  other-service (MemLend total fragment address pages) = other-send e s steady known other Lend (transfer total fragment address pages)
+  other-service (MemShare total fragment address pages) = other-send e s steady known other Share (transfer total fragment address pages)
+  other-service (MemRetrieve total fragment address pages) = other-retrieve e s steady other (transfer total fragment address pages)
+  other-service MemRelinquish = other-relinquish e s steady other
+  other-service (MemReclaim low high flags) = other-reclaim e s steady other low high flags
+  other-service (BitmapCreate endpoint contexts) = other-create e s other endpoint contexts
+  other-service (BitmapDestroy endpoint) = other-destroy e s other steady endpoint
+  other-service (NotificationBind word flags low high) = λ none. other-bind e s other word low high flags
+  other-service (NotificationUnbind word flags low high) = λ none. other-unbind e s other word low high flags
+  other-service (NotificationSet word flags low high) = λ none. other-set e s known word flags low high
+  other-service (NotificationGet word flags) = λ none. other-get e s other word flags
+  other-service MsgSend2 = other-send2 s steady e known
+  other-service Unknown = λ none. other-same e s
 
-  other-call : (call : calls.Call) → is_lawful_call call ≡ true → view e (serve s call).state ≡ apply_all e (view e s) (call_events e s call)
-  other-call call lawful = served-other e s (service s call) (told_by e s call) (other-service call lawful)
+  other-call : (call : calls.Call) → view e (serve s call).state ≡ apply_all e (view e s) (call_events e s call)
+  other-call call = served-other e s (service s call) (told_by e s call) (other-service call)
 
   pub other-step : (op : Op) → view e (step s op).state ≡ apply_all e (view e s) (events e s op)
-  other-step (Call x) = other-call (served_call x) (served_lawful x)
+  other-step (Call x) = other-call (served_call x)
   other-step (Load addr size) = other-load e s addr size
   other-step (Store addr size value) = other-store e s addr size value
   other-step (Fetch addr) = other-fetch e s addr
 
-steady-service : (s : State) → IsSteady s → (call : calls.Call) → is_lawful_call call ≡ true → first_failure (service s call).guards ≡ None → IsSteady (service s call).state
-steady-service s steady (Version version) lawful none = steady
-steady-service s steady (Features function) lawful none = steady
-steady-service s steady RxRelease lawful none = steady-with_rx s steady s.runner false
-steady-service s steady (RxtxMap tx rx pages) lawful none = steady-map s steady tx rx pages none
-steady-service s steady (RxtxUnmap endpoint) lawful none = steady-unmap s steady
-steady-service s steady (PartitionInfoGet uuid flags) lawful none = steady-info s steady uuid flags
-steady-service s steady IdGet lawful none = steady
-steady-service s steady SpmIdGet lawful none = steady
-steady-service s steady MsgWait lawful none = steady-wait s steady
-steady-service s steady Yield lawful none = steady-yield s steady
-steady-service s steady (Run target) lawful none = steady-run s steady target none
-steady-service s steady (DirectRequest function word flags payload) lawful none = steady-request s steady function word flags payload none
-steady-service s steady (DirectResponse function word flags payload) lawful none = steady-response s steady function word flags payload none
-steady-service s steady (MemDonate total fragment address pages) lawful none = steady-send s steady Donate (transfer total fragment address pages) none
-steady-service s steady (MemLend total fragment address pages) lawful none = steady-send s steady Lend (transfer total fragment address pages) none
-steady-service s steady (MemShare total fragment address pages) lawful none = steady-send s steady Share (transfer total fragment address pages) none
-steady-service s steady (MemRetrieve total fragment address pages) lawful none = steady-retrieve s steady (transfer total fragment address pages) none
-steady-service s steady MemRelinquish lawful none = steady-relinquish s steady
-steady-service s steady (MemReclaim low high flags) lawful none = steady-reclaim s steady low high flags
-steady-service s steady (BitmapCreate endpoint contexts) lawful none = steady-notified s steady (with_bitmaps (notifications_of s) 0) steady.bound
-steady-service s steady (BitmapDestroy endpoint) lawful none = steady-destroy s steady
-steady-service s steady (NotificationBind word flags low high) lawful none = steady-bind s steady word low high
-steady-service s steady (NotificationUnbind word flags low high) lawful none = steady-unbind s steady word low high
-steady-service s steady (NotificationSet word flags low high) lawful none = steady-notified s steady (with_pending (notifications_of s) (low_half word) (class_of s.runner) (bits_of (word_of_halves low high))) steady.bound
-steady-service s steady (NotificationGet word flags) lawful none = steady-notified s steady (without_pending (notifications_of s) s.runner flags) steady.bound
-steady-service s steady MsgSend2 lawful none = steady-send2 s steady
-steady-service s steady Unknown lawful none = steady
+steady-service : (s : State) → IsSteady s → (call : calls.Call) → first_failure (service s call).guards ≡ None → IsSteady (service s call).state
+steady-service s steady (Version version) none = steady
+steady-service s steady (Features function) none = steady
+steady-service s steady RxRelease none = steady-with_rx s steady s.runner false
+steady-service s steady (RxtxMap tx rx pages) none = steady-map s steady tx rx pages none
+steady-service s steady (RxtxUnmap endpoint) none = steady-unmap s steady
+steady-service s steady (PartitionInfoGet uuid flags) none = steady-info s steady uuid flags
+steady-service s steady IdGet none = steady
+steady-service s steady SpmIdGet none = steady
+steady-service s steady MsgWait none = steady-wait s steady
+steady-service s steady Yield none = steady-yield s steady
+steady-service s steady (Run target) none = steady-run s steady target none
+steady-service s steady (DirectRequest function word flags payload) none = steady-request s steady function word flags payload none
+steady-service s steady (DirectResponse function word flags payload) none = steady-response s steady function word flags payload none
+steady-service s steady (MemDonate total fragment address pages) none = steady-send s steady Donate (transfer total fragment address pages) none
+steady-service s steady (MemLend total fragment address pages) none = steady-send s steady Lend (transfer total fragment address pages) none
+steady-service s steady (MemShare total fragment address pages) none = steady-send s steady Share (transfer total fragment address pages) none
+steady-service s steady (MemRetrieve total fragment address pages) none = steady-retrieve s steady (transfer total fragment address pages) none
+steady-service s steady MemRelinquish none = steady-relinquish s steady
+steady-service s steady (MemReclaim low high flags) none = steady-reclaim s steady low high flags
+steady-service s steady (BitmapCreate endpoint contexts) none = steady-notified s steady (with_bitmaps (notifications_of s) 0) steady.bound
+steady-service s steady (BitmapDestroy endpoint) none = steady-destroy s steady
+steady-service s steady (NotificationBind word flags low high) none = steady-bind s steady word low high
+steady-service s steady (NotificationUnbind word flags low high) none = steady-unbind s steady word low high
+steady-service s steady (NotificationSet word flags low high) none = steady-notified s steady (with_pending (notifications_of s) (low_half word) (class_of s.runner) (bits_of (word_of_halves low high))) steady.bound
+steady-service s steady (NotificationGet word flags) none = steady-notified s steady (without_pending (notifications_of s) s.runner flags) steady.bound
+steady-service s steady MsgSend2 none = steady-send2 s steady
+steady-service s steady Unknown none = steady
 
-pub steady-call : (s : State) → IsSteady s → (call : calls.Call) → is_lawful_call call ≡ true → IsSteady (serve s call).state
-steady-call s steady call lawful = served-kept IsSteady s (service s call) steady (steady-service s steady call lawful)
+pub steady-call : (s : State) → IsSteady s → (call : calls.Call) → IsSteady (serve s call).state
+steady-call s steady call = served-kept IsSteady s (service s call) steady (steady-service s steady call)
 
 pub steady-step : (s : State) → IsSteady s → (op : Op) → IsSteady (step s op).state
-steady-step s steady (Call x) = steady-call s steady (served_call x) (served_lawful x)
+steady-step s steady (Call x) = steady-call s steady (served_call x)
 steady-step s steady (Load addr size) = steady-load s steady addr size
 steady-step s steady (Store addr size value) = steady-store s steady addr size value
 steady-step s steady (Fetch addr) = steady-fetch s steady addr
@@ -164,11 +163,11 @@ two_states act own s t steady there same =
     let mine : act (view s.runner t) ≡ viewed s.runner (act t) = subst (λ e. act (view e t) ≡ viewed e (act t)) (ap (λ (v : State). v.runner) same) (own t there) in
     sym mine ∙ ap act same ∙ own s steady
 
-pub one_call : (s : State) (call : calls.Call) → is_lawful_call call ≡ true → IsSteady s → OneCall s call
-one_call s call lawful steady =
-    let alike = two_states (λ u. serve u call) (λ u is. own-call u is call lawful) s in
+pub one_call : (s : State) (call : calls.Call) → IsSteady s → OneCall s call
+one_call s call steady =
+    let alike = two_states (λ u. serve u call) (λ u is. own-call u is call) s in
     record {
-      others = λ e known ne. other-call e s steady known ne call lawful;
+      others = λ e known ne. other-call e s steady known ne call;
       outcome = λ t there same. ap (λ (st : Stepped). st.outcome) (alike t steady there same);
       own = λ t there same. ap (λ (st : Stepped). st.state) (alike t steady there same);
     }

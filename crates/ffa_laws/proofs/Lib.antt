@@ -16,7 +16,6 @@ pub mod ScheduleLaws
 pub mod MessageLaws
 pub mod NotificationLaws
 pub mod Kept
-pub mod Lawful
 pub mod Grants
 pub mod Sends
 pub mod SendLaws

@@ -28,7 +28,8 @@ use Rattle.ffa_laws.proofs.Form.{IsOwn, same-first}
 use Rattle.ffa_laws.proofs.Told.{IsTold}
 use Rattle.ffa_laws.proofs.Changes.{other-told, own-same}
 use Rattle.ffa_laws.proofs.Steadies.{steady-notified}
-use Rattle.ffa_laws.proofs.Bitmaps.{Bits, among, among-each, bound-all, contains-less, contains-more, contains-retained, retained-both, retained-commute, retained-within, same_bits, same_elements, seen-less, seen-more, unbound-all, unseen-less, unseen-more}
+use Rattle.ffa_model.proofs.Sets.{Bits, among, contains-less, contains-more, contains-retained, same_bits, same_elements}
+use Rattle.ffa_laws.proofs.Bitmaps.{among-each, bound-all, retained-both, retained-commute, retained-within, seen-less, seen-more, unbound-all, unseen-less, unseen-more}
 use Rattle.ffa_laws.proofs.Raised.{bitmaps-seen, own-bitmaps, raised, raised-absent, raised-hidden, raised-own}
 
 not-same : (a b : ℕ) → not (a == b) ≡ true → a ≢ b

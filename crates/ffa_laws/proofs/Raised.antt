@@ -10,7 +10,8 @@ use Rattle.ffa_laws.specs.View.{view}
 use Rattle.ffa_laws.specs.Events.{Pending, apply_all, where_true}
 use Rattle.ffa_model.proofs.Places.{known-named}
 use Rattle.ffa_laws.proofs.Maps.{at-map_at-from}
-use Rattle.ffa_laws.proofs.Bitmaps.{Bits, among, among-each, seen-more, unseen-more}
+use Rattle.ffa_model.proofs.Sets.{Bits, among}
+use Rattle.ffa_laws.proofs.Bitmaps.{among-each, seen-more, unseen-more}
 
 false-and : (b : Bool) → (b && false) ≡ false
 false-and true = refl

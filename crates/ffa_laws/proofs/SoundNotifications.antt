@@ -18,7 +18,7 @@ use Rattle.ffa_model.specs.SoundState.{IsKnown, IsSoundBinding, IsSoundPending, 
 use Rattle.ffa_model.proofs.Guards.{guard-passes}
 use Rattle.ffa_model.proofs.NamedPages.{each-listed}
 use Rattle.ffa_model.proofs.Places.{known-named, known-place, same-known}
-use Rattle.ffa_laws.proofs.Bitmaps.{Bits, among, contains-less, contains-more, contains-retained, same_elements}
+use Rattle.ffa_model.proofs.Sets.{Bits, among, contains-less, contains-more, contains-retained, same_elements}
 use Rattle.ffa_laws.proofs.Raised.{raised}
 use Rattle.ffa_laws.proofs.SoundKept.{notifications-sound}
 use Rattle.ffa_laws.proofs.SoundSteady.{runner-known}

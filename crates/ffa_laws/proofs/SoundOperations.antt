@@ -23,10 +23,8 @@ use Rattle.ffa_model.specs.Messages.{header_in, message_in, msg_send2, send2_gua
 use Rattle.ffa_model.specs.SoundState.{IsSoundState}
 use Rattle.ffa_model.specs.Step.{service, step}
 use Rattle.ffa_model.specs.Transactions.{transfer}
-use Rattle.ffa_laws.specs.Isolation.{is_lawful_call}
 use Rattle.ffa_model.proofs.Guards.{guard-passes}
 use Rattle.ffa_laws.proofs.Form.{accessed-kept, served-kept}
-use Rattle.ffa_laws.proofs.Lawful.{lawful as served_lawful}
 use Rattle.ffa_laws.proofs.SoundBuffers.{filled-state-sound, map-sound, rx-sound, unmap-sound}
 use Rattle.ffa_laws.proofs.SoundKept.{pages-sound, schedule-sound}
 use Rattle.ffa_laws.proofs.SoundNotifications.{bind-sound, create-sound, destroy-sound, framework-sound, get-sound, set-sound, unbind-sound}
@@ -53,45 +51,45 @@ module _ (s : State) (sound : IsSoundState s) where
       (header_in (tx_bytes s s.runner)).receiver
       (guard-passes (send2_guards s.parties s.buffers s.runner (header_in (tx_bytes s s.runner))) 4 InvalidParameters (sym none))
 
-  service-sound : (call : calls.Call) → is_lawful_call call ≡ true → first_failure (service s call).guards ≡ None → IsSoundState (service s call).state
-  service-sound (Version version) lawful none = sound
-  service-sound (Features function) lawful none = sound
-  service-sound RxRelease lawful none = rx-sound s sound s.runner false
-  service-sound (RxtxMap tx rx pages) lawful none = map-sound s sound tx rx pages none
-  service-sound (RxtxUnmap endpoint) lawful none = unmap-sound s sound
-  service-sound (PartitionInfoGet uuid flags) lawful none =
+  service-sound : (call : calls.Call) → first_failure (service s call).guards ≡ None → IsSoundState (service s call).state
+  service-sound (Version version) none = sound
+  service-sound (Features function) none = sound
+  service-sound RxRelease none = rx-sound s sound s.runner false
+  service-sound (RxtxMap tx rx pages) none = map-sound s sound tx rx pages none
+  service-sound (RxtxUnmap endpoint) none = unmap-sound s sound
+  service-sound (PartitionInfoGet uuid flags) none =
       elim (is_count_alone flags) as (λ b. IsSoundState (cond b s (filled s s.runner (info_bytes s.parties (uuid_bytes uuid))))) [
         | true ↦ sound
         | false ↦ filled-state-sound s sound s.runner (info_bytes s.parties (uuid_bytes uuid)) (informed-sound s sound (uuid_bytes uuid) (buffers_of s s.runner))
       ]
-  service-sound IdGet lawful none = sound
-  service-sound SpmIdGet lawful none = sound
-  service-sound MsgWait lawful none =
-      rx-sound (with_schedule s (finished (schedule_of s) 0)) (run-states (finished (schedule_of s) 0) (sound-service s scheduled MsgWait lawful none)) s.runner false
-  service-sound Yield lawful none = run-states (switched (schedule_of s) Yielded 0) (sound-service s scheduled Yield lawful none)
-  service-sound (Run word) lawful none =
-      run-states (given_cycles (schedule_of s) (high_half word) (status_in (schedule_of s) (high_half word))) (sound-service s scheduled (Run word) lawful none)
-  service-sound (DirectRequest function word flags payload) lawful none =
-      run-states (requested (schedule_of s) (low_half word)) (sound-service s scheduled (DirectRequest function word flags payload) lawful none)
-  service-sound (DirectResponse function word flags payload) lawful none =
-      run-states (finished (schedule_of s) (low_half word)) (sound-service s scheduled (DirectResponse function word flags payload) lawful none)
-  service-sound (MemDonate total fragment address pages) lawful none = send-sound s sound Donate (transfer total fragment address pages) none
-  service-sound (MemLend total fragment address pages) lawful none = send-sound s sound Lend (transfer total fragment address pages) none
-  service-sound (MemShare total fragment address pages) lawful none = send-sound s sound Share (transfer total fragment address pages) none
-  service-sound (MemRetrieve total fragment address pages) lawful none = retrieve-sound s sound (transfer total fragment address pages) none
-  service-sound MemRelinquish lawful none = relinquish-sound s sound
-  service-sound (MemReclaim low high flags) lawful none = reclaim-sound s sound low high flags none
-  service-sound (BitmapCreate endpoint contexts) lawful none = create-sound s sound
-  service-sound (BitmapDestroy endpoint) lawful none = destroy-sound s sound endpoint none
-  service-sound (NotificationBind word flags low high) lawful none = bind-sound s sound word flags low high none
-  service-sound (NotificationUnbind word flags low high) lawful none = unbind-sound s sound word flags low high none
-  service-sound (NotificationSet word flags low high) lawful none = set-sound s sound word flags low high none
-  service-sound (NotificationGet word flags) lawful none = get-sound s sound flags
-  service-sound MsgSend2 lawful none = sent none
-  service-sound Unknown lawful none = sound
+  service-sound IdGet none = sound
+  service-sound SpmIdGet none = sound
+  service-sound MsgWait none =
+      rx-sound (with_schedule s (finished (schedule_of s) 0)) (run-states (finished (schedule_of s) 0) (sound-service s scheduled MsgWait none)) s.runner false
+  service-sound Yield none = run-states (switched (schedule_of s) Yielded 0) (sound-service s scheduled Yield none)
+  service-sound (Run word) none =
+      run-states (given_cycles (schedule_of s) (high_half word) (status_in (schedule_of s) (high_half word))) (sound-service s scheduled (Run word) none)
+  service-sound (DirectRequest function word flags payload) none =
+      run-states (requested (schedule_of s) (low_half word)) (sound-service s scheduled (DirectRequest function word flags payload) none)
+  service-sound (DirectResponse function word flags payload) none =
+      run-states (finished (schedule_of s) (low_half word)) (sound-service s scheduled (DirectResponse function word flags payload) none)
+  service-sound (MemDonate total fragment address pages) none = send-sound s sound Donate (transfer total fragment address pages) none
+  service-sound (MemLend total fragment address pages) none = send-sound s sound Lend (transfer total fragment address pages) none
+  service-sound (MemShare total fragment address pages) none = send-sound s sound Share (transfer total fragment address pages) none
+  service-sound (MemRetrieve total fragment address pages) none = retrieve-sound s sound (transfer total fragment address pages) none
+  service-sound MemRelinquish none = relinquish-sound s sound
+  service-sound (MemReclaim low high flags) none = reclaim-sound s sound low high flags none
+  service-sound (BitmapCreate endpoint contexts) none = create-sound s sound
+  service-sound (BitmapDestroy endpoint) none = destroy-sound s sound endpoint none
+  service-sound (NotificationBind word flags low high) none = bind-sound s sound word flags low high none
+  service-sound (NotificationUnbind word flags low high) none = unbind-sound s sound word flags low high none
+  service-sound (NotificationSet word flags low high) none = set-sound s sound word flags low high none
+  service-sound (NotificationGet word flags) none = get-sound s sound flags
+  service-sound MsgSend2 none = sent none
+  service-sound Unknown none = sound
 
-  pub call-sound : (call : calls.Call) → is_lawful_call call ≡ true → IsSoundState (served s (service s call)).state
-  call-sound call lawful = served-kept IsSoundState s (service s call) sound (service-sound call lawful)
+  pub call-sound : (call : calls.Call) → IsSoundState (served s (service s call)).state
+  call-sound call = served-kept IsSoundState s (service s call) sound (service-sound call)
 
   store-sound : (address : ℕ) (size : Size) (value : ℕ) → store_fault s address (size_of size) ≡ None → IsSoundState (stored s address (little_bytes (size_of size) value))
   store-sound address size value none =
@@ -100,7 +98,7 @@ module _ (s : State) (sound : IsSoundState s) where
       (stored-sound s sound address ((address - s.ram_base) / 4096) size value none)
 
   pub step-sound : (op : Op) → IsSoundState (step s op).state
-  step-sound (Call x) = call-sound (served_call x) (served_lawful x)
+  step-sound (Call x) = call-sound (served_call x)
   step-sound (Load address size) = accessed-kept IsSoundState s s (Data (number_at s address (size_of size))) (read_fault s address (size_of size)) sound (λ none. sound)
   step-sound (Store address size value) =
       accessed-kept IsSoundState s (stored s address (little_bytes (size_of size) value)) Done (store_fault s address (size_of size)) sound (store-sound address size value)

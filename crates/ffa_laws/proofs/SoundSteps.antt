@@ -1,4 +1,4 @@
--- Each lawful call keeps run states sound.
+-- Each call keeps run states sound.
 use Rattle.std.proofs.Common.{◌≡◌, ◌∙◌, ℕ, ◌≤◌, true, false, cond, length, Option, Some, None, refl, sym, ap, subst, arith, length-set}
 use Rattle.ffa_model.specs.declared.descriptor.RelinquishDesc.{RelinquishDesc}
 use Rattle.ffa_model.specs.declared.descriptor.RetrieveDesc.{RetrieveDesc}
@@ -23,7 +23,6 @@ use Rattle.ffa_model.specs.RunStates.{Schedule, finished, given_cycles, run_guar
 use Rattle.ffa_model.specs.Sound.{IsSound}
 use Rattle.ffa_laws.specs.Steady.{IsSteady}
 use Rattle.ffa_model.specs.Step.{service}
-use Rattle.ffa_laws.specs.Isolation.{is_lawful_call}
 use Rattle.ffa_laws.proofs.ScheduleLaws.{answerer}
 use Rattle.ffa_laws.proofs.SoundLaws.{sound-request, sound-response, sound-run, sound-wait, sound-yield}
 
@@ -78,34 +77,34 @@ module _ (s : State) (is : IsScheduled s) where
   relinquished-old None = old
   relinquished-old (Some d) = elim (transaction_of s d.handle) as (λ o. P (relinquished_from s d o)) [ None ↦ old | Some t ↦ old ]
 
-  pub sound-service : (call : calls.Call) → is_lawful_call call ≡ true → first_failure (service s call).guards ≡ None → P (service s call).state
-  sound-service (Version version) lawful none = old
-  sound-service (Features function) lawful none = old
-  sound-service RxRelease lawful none = old
-  sound-service (RxtxMap tx rx pages) lawful none = old
-  sound-service (RxtxUnmap endpoint) lawful none = old
-  sound-service (PartitionInfoGet uuid flags) lawful none = elim (is_count_alone flags) as (λ b. P (cond b s (filled s s.runner (info_bytes s.parties (uuid_bytes uuid))))) [ true ↦ old | false ↦ old ]
-  sound-service IdGet lawful none = old
-  sound-service SpmIdGet lawful none = old
-  sound-service MsgWait lawful none = record { sound = sound-wait c is.schedule some few none; works = finished-works 0 }
-  sound-service Yield lawful none = record { sound = sound-yield c is.schedule some few none; works = is.works }
-  sound-service (Run word) lawful none = record { sound = sound-run c is.schedule some few word (ap (λ k. first_failure (run_guards k c word)) is.works ∙ none); works = given-works (high_half word) (status_in c (high_half word)) ∙ is.works }
-  sound-service (DirectRequest function word flags payload) lawful none =
+  pub sound-service : (call : calls.Call) → first_failure (service s call).guards ≡ None → P (service s call).state
+  sound-service (Version version) none = old
+  sound-service (Features function) none = old
+  sound-service RxRelease none = old
+  sound-service (RxtxMap tx rx pages) none = old
+  sound-service (RxtxUnmap endpoint) none = old
+  sound-service (PartitionInfoGet uuid flags) none = elim (is_count_alone flags) as (λ b. P (cond b s (filled s s.runner (info_bytes s.parties (uuid_bytes uuid))))) [ true ↦ old | false ↦ old ]
+  sound-service IdGet none = old
+  sound-service SpmIdGet none = old
+  sound-service MsgWait none = record { sound = sound-wait c is.schedule some few none; works = finished-works 0 }
+  sound-service Yield none = record { sound = sound-yield c is.schedule some few none; works = is.works }
+  sound-service (Run word) none = record { sound = sound-run c is.schedule some few word (ap (λ k. first_failure (run_guards k c word)) is.works ∙ none); works = given-works (high_half word) (status_in c (high_half word)) ∙ is.works }
+  sound-service (DirectRequest function word flags payload) none =
       record { sound = sound-request c is.schedule some few s.parties (sym is.works) word flags none; works = length-set s.works (place (low_half word)) (Some (Request (record { 0 = s.runner }))) ∙ is.works }
-  sound-service (DirectResponse function word flags payload) lawful none =
+  sound-service (DirectResponse function word flags payload) none =
       (let (by, asked, low) = answerer s is.steady word flags none in
       subst (λ e. AreSound n (finished c e)) (sym low) (record { sound = sound-response c is.schedule some few by asked; works = finished-works by }))
-  sound-service (MemDonate total fragment address pages) lawful none = sent-old Donate (send_read s Donate total)
-  sound-service (MemLend total fragment address pages) lawful none = sent-old Lend (send_read s Lend total)
-  sound-service (MemShare total fragment address pages) lawful none = sent-old Share (send_read s Share total)
-  sound-service (MemRetrieve total fragment address pages) lawful none = retrieved-old (retrieve_read s total)
-  sound-service MemRelinquish lawful none = relinquished-old (relinquish_read s)
-  sound-service (MemReclaim low high flags) lawful none = old
-  sound-service (BitmapCreate endpoint contexts) lawful none = old
-  sound-service (BitmapDestroy endpoint) lawful none = old
-  sound-service (NotificationBind word flags low high) lawful none = old
-  sound-service (NotificationUnbind word flags low high) lawful none = old
-  sound-service (NotificationSet word flags low high) lawful none = old
-  sound-service (NotificationGet word flags) lawful none = old
-  sound-service MsgSend2 lawful none = old
-  sound-service Unknown lawful none = old
+  sound-service (MemDonate total fragment address pages) none = sent-old Donate (send_read s Donate total)
+  sound-service (MemLend total fragment address pages) none = sent-old Lend (send_read s Lend total)
+  sound-service (MemShare total fragment address pages) none = sent-old Share (send_read s Share total)
+  sound-service (MemRetrieve total fragment address pages) none = retrieved-old (retrieve_read s total)
+  sound-service MemRelinquish none = relinquished-old (relinquish_read s)
+  sound-service (MemReclaim low high flags) none = old
+  sound-service (BitmapCreate endpoint contexts) none = old
+  sound-service (BitmapDestroy endpoint) none = old
+  sound-service (NotificationBind word flags low high) none = old
+  sound-service (NotificationUnbind word flags low high) none = old
+  sound-service (NotificationSet word flags low high) none = old
+  sound-service (NotificationGet word flags) none = old
+  sound-service MsgSend2 none = old
+  sound-service Unknown none = old

@@ -7,7 +7,7 @@ use Rattle.ffa_model.specs.declared.operation.Op.TheVariants.{Call, Load, Store,
 use Rattle.ffa_model.specs.declared.operation.Outcome.{Outcome}
 use Rattle.ffa_model.specs.declared.operation.Outcome.TheVariants.{Regs, Data, Done, Fault}
 use Rattle.ffa_model.specs.declared.call.Call as calls
-use Rattle.ffa_model.specs.declared.call.Call.TheVariants.{Version, Features, RxRelease, RxtxMap, RxtxUnmap, PartitionInfoGet, IdGet, MsgWait, Yield, Run, DirectRequest, DirectResponse, MemDonate, MemLend, MemShare, MemRetrieve, MemRelinquish, MemReclaim, BitmapCreate, BitmapDestroy, NotificationBind, NotificationUnbind, NotificationSet, NotificationGet, SpmIdGet, MsgSend2, Unknown}
+use Rattle.ffa_model.specs.declared.call.Call.TheVariants.{MsgSend2}
 use Rattle.ffa_model.specs.Rights.{is_within}
 use Rattle.ffa_model.specs.State.{State, Transaction, Buffers, page_at, owner_of, buffers_of, is_known}
 use Rattle.ffa_model.specs.Access.{access, handle_at, transaction_at}
@@ -19,36 +19,6 @@ use Rattle.ffa_model.specs.Step.{outcomes, serve, step}
 use Rattle.ffa_laws.specs.Steady.{IsSteady, is_joint}
 use Rattle.ffa_laws.specs.View.{view}
 use Rattle.ffa_laws.specs.Events.{apply_all, call_events, events, items, seen}
-
--- THE CALLS whose laws are proved, served yet or not
-abbrev pub is_lawful_call : calls.Call → Bool
-is_lawful_call (Version version) = true
-is_lawful_call (Features function) = true
-is_lawful_call RxRelease = true
-is_lawful_call (RxtxMap tx rx pages) = true
-is_lawful_call (RxtxUnmap endpoint) = true
-is_lawful_call (PartitionInfoGet uuid flags) = true
-is_lawful_call IdGet = true
-is_lawful_call SpmIdGet = true
-is_lawful_call MsgWait = true
-is_lawful_call Yield = true
-is_lawful_call (Run target) = true
-is_lawful_call (DirectRequest function word flags payload) = true
-is_lawful_call (DirectResponse function word flags payload) = true
-is_lawful_call (MemDonate total fragment address pages) = true
-is_lawful_call (MemLend total fragment address pages) = true
-is_lawful_call (MemShare total fragment address pages) = true
-is_lawful_call (MemRetrieve total fragment address pages) = true
-is_lawful_call MemRelinquish = true
-is_lawful_call (MemReclaim low high flags) = true
-is_lawful_call (BitmapCreate endpoint contexts) = true
-is_lawful_call (BitmapDestroy endpoint) = true
-is_lawful_call (NotificationBind word flags low high) = true
-is_lawful_call (NotificationUnbind word flags low high) = true
-is_lawful_call (NotificationSet word flags low high) = true
-is_lawful_call (NotificationGet word flags) = true
-is_lawful_call MsgSend2 = true
-is_lawful_call Unknown = true
 
 -- ISOLATION
 

@@ -10,17 +10,17 @@ ghost use Rattle.ffa_model.specs.SoundState.{IsSoundState, are_bytes};
 ghost use Rattle.ffa_model.specs.State.{State};
 ghost use Rattle.ffa_model.specs.Step.{serve, state_after, step};
 ghost use Rattle.ffa_laws.specs.Steady.{IsSteady};
-ghost use Rattle.ffa_laws.specs.Isolation.{Integrity, Isolated, LeavesBytes, NeverGrow, OneCall, OneStep, Shown, is_lawful_call, is_send2};
+ghost use Rattle.ffa_laws.specs.Isolation.{Integrity, Isolated, LeavesBytes, NeverGrow, OneCall, OneStep, Shown, is_send2};
 
 /// One call, served yet or not: it tells another endpoint its events, and its outcome depends on the runner's view alone. A
 /// state that is steady or sound stays so, rights don't grow, and a page that its owner has alone keeps its bytes while
 /// another endpoint runs, but for a message into its RX.
 pub fn one_call()
-    ensures call { (s : State) (call : Call) → is_lawful_call call ≡ true → IsSteady s → OneCall s call }
-    ensures steady { (s : State) (call : Call) → is_lawful_call call ≡ true → IsSteady s → IsSteady (serve s call).state }
-    ensures sound { (s : State) (call : Call) → is_lawful_call call ≡ true → IsSoundState s → IsSoundState (serve s call).state }
-    ensures never_grow { (s : State) (call : Call) → is_lawful_call call ≡ true → IsSteady s → NeverGrow s (serve s call).state }
-    ensures integrity { (s : State) (call : Call) → is_lawful_call call ≡ true → IsSteady s → LeavesBytes (is_send2 call) s (serve s call).state }
+    ensures call { (s : State) (call : Call) → IsSteady s → OneCall s call }
+    ensures steady { (s : State) (call : Call) → IsSteady s → IsSteady (serve s call).state }
+    ensures sound { (s : State) (call : Call) → IsSoundState s → IsSoundState (serve s call).state }
+    ensures never_grow { (s : State) (call : Call) → IsSteady s → NeverGrow s (serve s call).state }
+    ensures integrity { (s : State) (call : Call) → IsSteady s → LeavesBytes (is_send2 call) s (serve s call).state }
 {}
 
 /// One operation: it tells another endpoint its events, and its outcome depends on the runner's view alone. A state that

@@ -21,3 +21,4 @@ pub mod Slots
 pub mod Links
 pub mod Chains
 pub mod Sounds
+pub mod Sets

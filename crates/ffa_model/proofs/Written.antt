@@ -3,7 +3,8 @@ use Rattle.std.proofs.Common.{◌≡◌, ◌∙◌, ℕ, List, [], ◌∷◌, le
 use Rattle.std.proofs.lemmas.List.{length-set, map-set}
 use Rattle.std.specs.List.{refill}
 
-refill-whole : {X : Type 0} (xs ws : List X) → length ws ≡ length xs → refill (length xs) xs ws ≡ ws
+-- written whole through a slice
+pub refill-whole : {X : Type 0} (xs ws : List X) → length ws ≡ length xs → refill (length xs) xs ws ≡ ws
 refill-whole [] [] same = refl
 refill-whole [] (w ∷ ws) same = absurd (omega arith)
 refill-whole (x ∷ xs) [] same = absurd (omega arith)

@@ -90,6 +90,6 @@ module _ (x : Parts) (now : Snapshot) (view : record { state = state_of x; ram =
     pub machine-informed : first_failure (info_guards now.state (uuid_bytes words) flags) ≡ None → IsMachine after_information
     machine-informed none =
         machine-called x after_information.ram after_information.kept.buffers x.kept.chain machine
-        (tables-filled x machine e (runner-there x machine e at) bytes) (PartitionInfoGet words flags) refl
+        (tables-filled x machine e (runner-there x machine e at) bytes) (PartitionInfoGet words flags)
         (informed-is
         ∙ sym (passed-state (state_of x) (info_get (state_of x) words flags) (ap (λ (seen : Snapshot). first_failure (info_guards seen.state (uuid_bytes words) flags)) view ∙ none)))

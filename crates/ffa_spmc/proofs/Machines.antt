@@ -12,7 +12,6 @@ use Rattle.ffa_model.specs.declared.call.Call as calls
 use Rattle.ffa_model.specs.SoundState.{IsSoundState}
 use Rattle.ffa_model.specs.Step.{serve}
 use Rattle.ffa_model.proofs.CallAccesses.{access-written}
-use Rattle.ffa_laws.specs.Isolation.{is_lawful_call}
 use Rattle.ffa_laws.proofs.SoundOperations.{call-sound}
 use Rattle.ffa_stage2.specs.Tables.{IsBuilt, table_page}
 use Rattle.ffa_spmc.specs.Meaning.{HasTables, IsMachine, Parts, access_by_place, state_of}
@@ -61,17 +60,17 @@ module _ (x : Parts) (machine : IsMachine x) where
               }));
         }
 
--- a machine is one after a call whose laws are proved, and which changed no owner, where the tables give the access
+-- a machine is one after a call that changed no owner, where the tables give the access
 pub machine-called : (x : Parts) (ram : Ram) (buffers : List (Option Buffers)) (chain : Schedule) → IsMachine x
     → StillHasTables x ram
-    → (call : calls.Call) → is_lawful_call call ≡ true → state_of (record x { ram = ram; kept = record x.kept { buffers = buffers; chain = chain } }) ≡ (serve (state_of x) call).state
+    → (call : calls.Call) → state_of (record x { ram = ram; kept = record x.kept { buffers = buffers; chain = chain } }) ≡ (serve (state_of x) call).state
     → IsMachine (record x { ram = ram; kept = record x.kept { buffers = buffers; chain = chain } })
-machine-called x ram buffers chain machine tables call lawful is =
+machine-called x ram buffers chain machine tables call is =
     record {
       laws = machine.laws;
       tables = tables;
       layout = machine.layout;
       owners = machine.owners;
       offers = machine.offers;
-      sound = subst IsSoundState (sym is) (call-sound (state_of x) machine.sound call lawful);
+      sound = subst IsSoundState (sym is) (call-sound (state_of x) machine.sound call);
     }

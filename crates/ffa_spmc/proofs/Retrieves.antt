@@ -222,7 +222,7 @@ module _ (x : Parts) (machine : IsMachine x) (e : EndpointId) (at : e.0 ≡ x.ke
           offers = offers-taken;
           sound =
               subst IsSoundState (passed-state s (memory_retrieve s registers) (sym none) ∙ sym state-retrieved)
-              (call-sound s machine.sound (MemRetrieve total fragment address count) refl);
+              (call-sound s machine.sound (MemRetrieve total fragment address count));
         }
 
     pub length-retrieved : Retrieved size ≡ (memory_retrieve s registers).reply

@@ -1,8 +1,6 @@
 //! What a machine keeps beside its RAM.
 ghost use Rattle.std.specs.Prelude.{◌≡◌, ◌*◌, None, length, replicate};
-ghost use Rattle.ffa_model.specs.Regions.{regions_of_each};
 ghost use Rattle.ffa_model.specs.RunStates.{first_schedule};
-ghost use Rattle.ffa_stage2.specs.Layout.{regions_in};
 ghost use Rattle.ffa_spmc.specs.Owners.{first_owners};
 
 use ffa_memshare::Pool;
@@ -31,12 +29,10 @@ pub struct Kept {
 const _: () = prove!(size_of::<Kept>() <= 98304);
 
 impl Kept {
-    /// What the machine of a manifest keeps at first: the owners are those of the regions, nothing is open, nobody has buffers, and the
-    /// normal world runs.
-    pub fn first(manifest: &Manifest) -> Kept
-        ensures base { result.layout.base ≡ manifest.now.ram_base }
-        ensures blocks { result.layout.blocks ≡ manifest.now.ram_blocks }
-        ensures regions { regions_in result.layout ≡ regions_of_each manifest.now.endpoints.items }
+    /// What the machine of a manifest with this layout keeps at first: the owners are those of the regions, nothing is
+    /// open, nobody has buffers, and the normal world runs.
+    pub fn first(manifest: &Manifest, layout: Layout) -> Kept
+        ensures layout { result.layout ≡ layout }
         ensures pages { result.pages ≡ first_owners manifest.now }
         ensures slots { result.pool.slots ≡ replicate (8 * length manifest.now.endpoints.items) None }
         ensures sent { result.pool.sent ≡ replicate (length manifest.now.endpoints.items) 0 }
@@ -44,7 +40,7 @@ impl Kept {
         ensures chain { result.chain ≡ first_schedule (length manifest.now.endpoints.items) }
     {
         let mut kept = Kept {
-            layout: Layout::of(manifest),
+            layout,
             pages: PageTable::none(),
             pool: Pool::first(manifest.endpoints.len()),
             buffers: Buffers::none(manifest.endpoints.len()),

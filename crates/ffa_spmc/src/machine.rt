@@ -36,7 +36,7 @@ use ffa_model::{
     Call, EndpointId, ErrorCode, Kind, Manifest, Op, Outcome, PageNo, Reply, Rights, Size,
 };
 use ffa_physmem::PhysMem;
-use ffa_stage2::{build, built_tables};
+use ffa_stage2::{Layout, build, built_tables};
 use std::marker::Model;
 
 /// The reply to a call that answers no more than that it is done.
@@ -183,14 +183,14 @@ impl<M: PhysMem + Drop> Machine<M> {
         ensures sound { IsSoundState result.state }
     {
         let mut ram = ram;
-        let kept = Kept::first(manifest);
-        build(&mut ram, &kept.layout);
+        let layout = Layout::of(manifest);
+        build(&mut ram, &layout);
         // What built tables give holds from here on: the machine's invariant has it.
         built_tables();
         Machine {
             ram,
             manifest: manifest.copied(),
-            kept,
+            kept: Kept::first(manifest, layout),
         }
     }
 

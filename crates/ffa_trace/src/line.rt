@@ -19,6 +19,7 @@ pub enum Line {
 
 /// The line that these bytes are, without the LF that ends it, or `None` where they are no line. The commands that most
 /// lines have are told by their bytes, and no word is cut for them.
+// Inlined, though plays in RAM of two kinds call it.
 #[inline(always)]
 #[tactic(auto, unfolding(ffa_model::specs::TraceLines::line_of, ffa_model::specs::TraceLines::command_of, ffa_model::specs::TraceLines::words_of))]
 pub fn parse(bytes: &[u8]) -> Option<Line>

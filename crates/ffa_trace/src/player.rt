@@ -170,7 +170,7 @@ fn do_line<M: PhysMem + Drop, W: Write>(
     }
 }
 
-// Writes what an operation with this outcome prints.
+// Writes what an operation with this outcome prints. It is inlined, though plays in RAM of two kinds call it.
 #[inline(always)]
 #[tactic(auto, unfolding(ffa_model::specs::TraceText::outcome_words))]
 fn write_outcome<W: Write>(writer: &mut W, op: &Op, outcome: &Outcome) -> Result<(), PlayError>
@@ -183,7 +183,7 @@ fn write_outcome<W: Write>(writer: &mut W, op: &Op, outcome: &Outcome) -> Result
     }
 }
 
-// Writes data that an operation read.
+// Writes data that an operation read, alike.
 #[inline(always)]
 #[tactic(auto, unfolding(ffa_model::specs::TraceText::outcome_words))]
 fn write_data<W: Write>(writer: &mut W, op: &Op, value: u64) -> Result<(), PlayError>

@@ -53,8 +53,8 @@ needs_trace (Demo t f) = true
 needs_trace (Check m) = false
 needs_trace (Layout m) = false
 
--- A command was done, whichever RAM it was done in: `manifest` are the bytes of the manifest's file, if it could be read, `trace` those that the
--- trace's reader had, where known, and `held` and `holds` those that the writer held before, and holds.
+-- A command was done, in whichever RAM: `manifest` are the bytes of the manifest's file, if it could be read, `trace`
+-- those that the trace's reader had, where known, and `held` and `holds` those that the writer held before, and holds.
 abbrev pub IsDone : Request → Option (List ℕ) → Option (List ℕ) → Option (List ℕ) → Option (List ℕ) → Type 0
 IsDone (Run m t f) manifest trace held holds = (parts : Parts) × Describes manifest parts × IsPlayed (first_of parts) trace held holds
 IsDone (Demo t f) manifest trace held holds = IsPlayed (first_of built_in_parts) trace held holds

@@ -8,10 +8,10 @@ pub returns-clause-call : goal.returns-clause-call
 returns-clause-call c = one_call
 
 pub returns-clause-steady : goal.returns-clause-steady
-returns-clause-steady c = λ s call lawful steady. steady-call s steady call lawful
+returns-clause-steady c = λ s call steady. steady-call s steady call
 
 pub returns-clause-sound : goal.returns-clause-sound
-returns-clause-sound c = λ s call lawful sound. call-sound s sound call lawful
+returns-clause-sound c = λ s call sound. call-sound s sound call
 
 pub returns-clause-never_grow : goal.returns-clause-never_grow
 returns-clause-never_grow c = call_never_grows

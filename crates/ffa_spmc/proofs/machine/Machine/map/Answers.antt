@@ -18,7 +18,7 @@ map-requires-clause-known g c =
 pub invariant_of-self : goal.invariant_of-self
 invariant_of-self g c =
     let x = parts_of g.M.PhysMem.ram c.self.inside in
-    machine-called x x.ram c.map.new.self x.kept.chain c.self.invariant c.self.invariant.tables (RxtxMap c.args.tx c.args.rx c.args.pages) refl
+    machine-called x x.ram c.map.new.self x.kept.chain c.self.invariant c.self.invariant.tables (RxtxMap c.args.tx c.args.rx c.args.pages)
     (ap (λ (st : Stepped). st.state) (mapped x c.self.invariant c.runner-runner.result.0 c.runner-runner.ensures.runner c.map.result c.map.new.self c.map.ensures.kept c.args.tx c.args.rx c.args.pages c.map.ensures.refusal c.map.ensures.mapped))
 
 pub returns-clause-served : goal.returns-clause-served

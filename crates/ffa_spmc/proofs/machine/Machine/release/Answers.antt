@@ -18,7 +18,7 @@ release-requires g c =
 pub invariant_of-self : goal.invariant_of-self
 invariant_of-self g c =
     let x = parts_of g.M.PhysMem.ram c.self.inside in
-    machine-called x x.ram c.release.new.self x.kept.chain c.self.invariant c.self.invariant.tables RxRelease refl
+    machine-called x x.ram c.release.new.self x.kept.chain c.self.invariant c.self.invariant.tables RxRelease
     (ap (λ (st : Stepped). st.state) (released x c.self.invariant c.runner-runner.result.0 c.runner-runner.ensures.runner c.release.result c.release.new.self c.release.ensures.kept c.release.ensures.refusal c.release.ensures.emptied))
 
 pub returns-clause-served : goal.returns-clause-served

@@ -18,7 +18,7 @@ use Rattle.ffa_spmc.proofs.machine.Machine.request.Goals as goal
 pub invariant_of-self : goal.invariant_of-self
 invariant_of-self g c =
     let x = parts_of g.M.PhysMem.ram c.self.inside in
-    machine-called x x.ram x.kept.buffers c.direct_req.new.chain c.self.invariant c.self.invariant.tables (DirectRequest c.args.message.now.function c.args.message.now.word c.args.message.now.flags c.args.message.now.payload) refl
+    machine-called x x.ram x.kept.buffers c.direct_req.new.chain c.self.invariant c.self.invariant.tables (DirectRequest c.args.message.now.function c.args.message.now.word c.args.message.now.flags c.args.message.now.payload)
     (ap (λ (st : Stepped). st.state) (scheduled x (direct_request (state_of x) c.args.message.now.function c.args.message.now.word c.args.message.now.flags c.args.message.now.payload) (requested x.kept.chain (low_half c.args.message.now.word)) c.direct_req.new.chain c.direct_req.result refl (c.direct_req.ensures.refusal ∙ ap (λ (parties : List Party). first_failure (request_guards parties x.kept.chain c.args.message.now.word c.args.message.now.flags)) (parties-listed x)) c.direct_req.ensures.kept c.direct_req.ensures.changed c.direct_req.ensures.reply))
 
 pub returns-clause-served : goal.returns-clause-served

@@ -14,7 +14,7 @@ use Rattle.ffa_spmc.proofs.machine.Machine.respond.Goals as goal
 pub invariant_of-self : goal.invariant_of-self
 invariant_of-self g c =
     let x = parts_of g.M.PhysMem.ram c.self.inside in
-    machine-called x x.ram x.kept.buffers c.direct_resp.new.chain c.self.invariant c.self.invariant.tables (DirectResponse c.args.message.now.function c.args.message.now.word c.args.message.now.flags c.args.message.now.payload) refl
+    machine-called x x.ram x.kept.buffers c.direct_resp.new.chain c.self.invariant c.self.invariant.tables (DirectResponse c.args.message.now.function c.args.message.now.word c.args.message.now.flags c.args.message.now.payload)
     (ap (λ (st : Stepped). st.state) (scheduled x (direct_response (state_of x) c.args.message.now.function c.args.message.now.word c.args.message.now.flags c.args.message.now.payload) (finished x.kept.chain (low_half c.args.message.now.word)) c.direct_resp.new.chain c.direct_resp.result refl c.direct_resp.ensures.refusal c.direct_resp.ensures.kept c.direct_resp.ensures.changed c.direct_resp.ensures.reply))
 
 pub returns-clause-served : goal.returns-clause-served

@@ -17,7 +17,7 @@ use Rattle.ffa_spmc.proofs.machine.Machine.run_partition.Goals as goal
 pub invariant_of-self : goal.invariant_of-self
 invariant_of-self g c =
     let x = parts_of g.M.PhysMem.ram c.self.inside in
-    machine-called x x.ram x.kept.buffers c.run.new.self c.self.invariant c.self.invariant.tables (Run c.args.target) refl
+    machine-called x x.ram x.kept.buffers c.run.new.self c.self.invariant c.self.invariant.tables (Run c.args.target)
     (ap (λ (st : Stepped). st.state) (scheduled x (run_partition (state_of x) c.args.target) (given_cycles x.kept.chain (high_half c.args.target) (status_in x.kept.chain (high_half c.args.target))) c.run.new.self c.run.result refl (c.run.ensures.refusal ∙ ap (λ (n : ℕ). first_failure (run_guards n x.kept.chain c.args.target)) (counted x c.self.invariant ∙ sym (parties_are x))) c.run.ensures.kept c.run.ensures.changed c.run.ensures.reply))
 
 pub returns-clause-served : goal.returns-clause-served

@@ -20,7 +20,7 @@ invariant_of-self g c =
     let x = parts_of g.M.PhysMem.ram c.self.inside in
     machine-called x (g.M.PhysMem.ram c.send2.new.ram) c.send2.new.buffers x.kept.chain c.self.invariant
     (tables-sent x c.self.invariant c.runner-runner.result.0 c.runner-runner.ensures.runner c.send2.result (g.M.PhysMem.ram c.send2.new.ram) c.send2.new.buffers c.send2.ensures.refusal c.send2.ensures.kept_ram c.send2.ensures.kept c.send2.ensures.ram c.send2.ensures.full)
-    MsgSend2 refl
+    MsgSend2
     (ap (λ (st : Stepped). st.state) (sent x c.self.invariant c.runner-runner.result.0 c.runner-runner.ensures.runner c.send2.result (g.M.PhysMem.ram c.send2.new.ram) c.send2.new.buffers c.send2.ensures.refusal c.send2.ensures.kept_ram c.send2.ensures.kept c.send2.ensures.ram c.send2.ensures.full c.send2.ensures.reply))
 
 pub returns-clause-served : goal.returns-clause-served

@@ -18,7 +18,7 @@ unmap-requires g c =
 pub invariant_of-self : goal.invariant_of-self
 invariant_of-self g c =
     let x = parts_of g.M.PhysMem.ram c.self.inside in
-    machine-called x x.ram c.unmap.new.self x.kept.chain c.self.invariant c.self.invariant.tables (RxtxUnmap c.args.endpoint) refl
+    machine-called x x.ram c.unmap.new.self x.kept.chain c.self.invariant c.self.invariant.tables (RxtxUnmap c.args.endpoint)
     (ap (λ (st : Stepped). st.state) (unmapped x c.self.invariant c.runner-runner.result.0 c.runner-runner.ensures.runner c.unmap.result c.unmap.new.self c.unmap.ensures.kept c.args.endpoint c.unmap.ensures.refusal c.unmap.ensures.unmapped))
 
 pub returns-clause-served : goal.returns-clause-served

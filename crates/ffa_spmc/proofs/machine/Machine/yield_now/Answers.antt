@@ -14,7 +14,7 @@ use Rattle.ffa_spmc.proofs.machine.Machine.yield_now.Goals as goal
 pub invariant_of-self : goal.invariant_of-self
 invariant_of-self g c =
     let x = parts_of g.M.PhysMem.ram c.self.inside in
-    machine-called x x.ram x.kept.buffers c.yield_now.new.self c.self.invariant c.self.invariant.tables Yield refl
+    machine-called x x.ram x.kept.buffers c.yield_now.new.self c.self.invariant c.self.invariant.tables Yield
     (ap (λ (st : Stepped). st.state) (scheduled x (yield_now (state_of x)) (switched x.kept.chain Yielded 0) c.yield_now.new.self c.yield_now.result refl c.yield_now.ensures.refusal c.yield_now.ensures.kept c.yield_now.ensures.changed c.yield_now.ensures.reply))
 
 pub returns-clause-served : goal.returns-clause-served

@@ -1,0 +1,120 @@
+-- What the calls ask of bits, as tests of words.
+use Rattle.std.proofs.Common.{◌≡◌, ◌∙◌, ℕ, ◌%◌, ◌^◌, ◌<◌, Bool, true, false, [], ◌∷◌, None, Some, refl, sym, ap, arith}
+use Rattle.std.specs.Prelude.{◌==◌, ◌||◌, ◌&&◌, not, if◌then◌else◌}
+use Rattle.std.specs.List.{list_all, list_any}
+use Rattle.std.specs.Int.{bit_not, w64}
+use Rattle.std.specs.Int.RustNames.{bit_or}
+use denote.Enum.Bare.{sameb}
+use lib.Bits.{bit_and}
+use Rattle.ffa_notify.specs.contracts.class.Class.{the_type}
+use Rattle.ffa_notify.specs.declared.class.Class.{Class}
+use Rattle.ffa_notify.specs.declared.class.Class.TheVariants.{Partitions, NormalWorld, Manager}
+use Rattle.ffa_notify.specs.Stored.{class_number}
+use Rattle.ffa_model.specs.Bits.{bits_of, high_half, is_set, low_half}
+use Rattle.ffa_model.specs.Calls.{first_failure}
+use Rattle.ffa_model.specs.declared.operation.ErrorCode.TheVariants.{InvalidParameters, Denied}
+use Rattle.ffa_model.specs.Lists.{listed}
+use Rattle.ffa_model.specs.Notifications.{Notifications, class_of, has_pending, is_bindable, is_bound, is_bound_to_another, is_pending, is_unbindable, manager_class, normal_class, partition_class, pending_word, set_guards}
+use Rattle.ffa_model.proofs.Bitmaps.{word_where-same, word_where-set}
+use Rattle.std.proofs.lemmas.Bool.{and_parts, ne_eqb}
+use Rattle.ffa_model.specs.State.{is_known_among}
+use Rattle.ffa_notify.specs.Guards.{is_between}
+use Rattle.ffa_notify.proofs.Bits.{all_bits, any-same, set-not, set-or, some-bit}
+
+neither-is : (a b : Bool) → (a || b) ≡ not (not a && not b)
+neither-is true b = refl
+neither-is false true = refl
+neither-is false false = refl
+
+pub joined : (a b c : Bool) → ((a || b) || c) ≡ (a || (b || (c || false)))
+joined true b c = refl
+joined false true c = refl
+joined false false true = refl
+joined false false false = refl
+
+only-first : (a b : Bool) → (not a || b) ≡ not (a && not b)
+only-first true true = refl
+only-first true false = refl
+only-first false b = refl
+
+twice-not : (b : Bool) → not (not b) ≡ b
+twice-not true = refl
+twice-not false = refl
+
+module _ (v : Notifications) (r s bitmap : ℕ) (fits : bitmap < 2 ^ 64) where
+  pub bindable : (n others pending : ℕ) → ((k : ℕ) → k < 64 → is_set k others ≡ is_bound_to_another n v r (class_of s) k s)
+      → ((k : ℕ) → k < 64 → is_set k pending ≡ is_pending v r (class_of s) k)
+      → (bit_and bitmap (bit_or others pending) == 0) ≡ list_all (is_bindable n v r s) (bits_of bitmap)
+  bindable n others pending are_others are_pending =
+      all_bits (is_bindable n v r s) bitmap (bit_or others pending) fits (λ k lt.
+      set-or k others pending ∙ (λ t. are_others k lt t || are_pending k lt t)
+      ∙ neither-is (is_bound_to_another n v r (class_of s) k s) (is_pending v r (class_of s) k))
+
+  module _ (bound : ℕ) (fits_bound : bound < 2 ^ 64) (are_bound : (k : ℕ) → k < 64 → is_set k bound ≡ is_bound v r (class_of s) k s) where
+    pub unbindable : (pending : ℕ) → ((k : ℕ) → k < 64 → is_set k pending ≡ is_pending v r (class_of s) k)
+        → (bit_and bitmap (bit_or (bit_not w64 bound) pending) == 0) ≡ list_all (is_unbindable v r s) (bits_of bitmap)
+    unbindable pending are_pending =
+        all_bits (is_unbindable v r s) bitmap (bit_or (bit_not w64 bound) pending) fits (λ k lt.
+        set-or k (bit_not w64 bound) pending
+        ∙ (λ t. (set-not k bound fits_bound lt ∙ ap not (are_bound k lt)) t || are_pending k lt t)
+        ∙ only-first (is_bound v r (class_of s) k s) (is_pending v r (class_of s) k))
+
+    pub settable : (bit_and bitmap (bit_not w64 bound) == 0) ≡ list_all (λ k. is_bound v r (class_of s) k s) (bits_of bitmap)
+    settable = all_bits (λ k. is_bound v r (class_of s) k s) bitmap (bit_not w64 bound) fits (λ k lt. set-not k bound fits_bound lt ∙ ap not (are_bound k lt))
+
+-- the word of a receiver's class
+module _ (v : Notifications) (r class word : ℕ) (fits : word < 2 ^ 64) (are : (k : ℕ) → k < 64 → is_set k word ≡ is_pending v r class k) where
+  pub some-pending : not (word == 0) ≡ list_any (is_pending v r class) (listed 64 (λ k. k))
+  some-pending =
+      ap not (sym (some-bit word fits)) ∙ twice-not (list_any (λ k. is_set k word) (listed 64 (λ k. k)))
+      ∙ any-same (λ k. is_set k word) (is_pending v r class) 64 (λ k. k) are
+
+  pub word-pending : word ≡ pending_word v r class
+  word-pending =
+      let whole : word ≡ word % 2 ^ 64 = omega arith in
+      whole ∙ sym (word_where-set 64 word) ∙ word_where-same 64 (λ k. is_set k word) (is_pending v r class) are
+
+-- an entry of a receiver for another sender
+pub different : (a b : Class) → (class_number a ≡ class_number b) → not (sameb the_type a b) ≡ false
+different Partitions Partitions same = refl
+different NormalWorld NormalWorld same = refl
+different Manager Manager same = refl
+different Partitions NormalWorld same = absurd (omega arith)
+different Partitions Manager same = absurd (omega arith)
+different NormalWorld Partitions same = absurd (omega arith)
+different NormalWorld Manager same = absurd (omega arith)
+different Manager Partitions same = absurd (omega arith)
+different Manager NormalWorld same = absurd (omega arith)
+
+-- whether any bit of three words is set
+pub some-of-three : (v : Notifications) (r : ℕ) (a b c : Bool) → a ≡ list_any (is_pending v r partition_class) (listed 64 (λ k. k))
+    → b ≡ list_any (is_pending v r normal_class) (listed 64 (λ k. k)) → c ≡ list_any (is_pending v r manager_class) (listed 64 (λ k. k))
+    → ((a || b) || c) ≡ has_pending v r
+some-of-three v r a b c is_a is_b is_c = joined a b c ∙ (λ t. is_a t || (is_b t || (is_c t || false)))
+
+-- who is between a caller and another knows the other
+pub between-known : (endpoints caller own other : ℕ) → is_between endpoints caller own other ≡ true → is_known_among endpoints other ≡ true
+between-known endpoints caller own other is = (and_parts _ _ (and_parts (own == caller) _ is).1).0
+
+-- the checks of FFA_NOTIFICATION_SET up to the last
+module _ (endpoints : ℕ) (v : Notifications) (caller word flags bitmap own other : ℕ) (at_own : own ≡ high_half word) (at_other : other ≡ low_half word)
+    (between : is_between endpoints caller own other ≡ true) (flagged : (flags == 0 || flags == 2) ≡ true) (some : bitmap ≡ 0 → ⊥) where
+  pub set-refusal : (b : Bool) → b ≡ list_all (λ k. is_bound v other (class_of caller) k caller) (bits_of bitmap)
+      → (if b then None else Some Denied) ≡ first_failure (set_guards endpoints v caller word flags bitmap)
+  set-refusal b is =
+      let outer = and_parts (own == caller) (is_known_among endpoints other && not (other == caller)) between in
+      let inner = and_parts (is_known_among endpoints other) (not (other == caller)) outer.1 in
+      (λ t. first_failure ((sym outer.0 t, InvalidParameters)
+      ∷ (sym inner.0 t, InvalidParameters)
+      ∷ (sym inner.1 t, InvalidParameters)
+      ∷ (sym flagged t, InvalidParameters)
+      ∷ (sym (ap not (ne_eqb bitmap 0 some)) t, InvalidParameters)
+      ∷ (is t, Denied)
+      ∷ []))
+      ∙ (λ t. first_failure ((at_own t == caller, InvalidParameters)
+      ∷ (is_known_among endpoints (at_other t), InvalidParameters)
+      ∷ (not (at_other t == caller), InvalidParameters)
+      ∷ (flags == 0 || flags == 2, InvalidParameters)
+      ∷ (not (bitmap == 0), InvalidParameters)
+      ∷ (list_all (λ k. is_bound v (at_other t) (class_of caller) k caller) (bits_of bitmap), Denied)
+      ∷ []))

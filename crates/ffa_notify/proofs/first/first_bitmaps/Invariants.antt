@@ -1,0 +1,12 @@
+use Rattle.std.proofs.Common.{◌≡◌, map, take}
+use Rattle.std.specs.List.{enumerate_from}
+use Rattle.arrayvec.specs.ArrayVec.{array_vec_len}
+use Rattle.ffa_notify.specs.Boot.{has_bitmaps_at_boot}
+use Rattle.ffa_notify.proofs.first.first_bitmaps.Given as goal
+
+-- the endpoints so far
+abbrev pub invariant-loop-endpoint : goal.invariant-loop-endpoint
+invariant-loop-endpoint l = record {
+  count : array_vec_len l.has ≡ l.endpoint-index;
+  has : l.has.items ≡ map has_bitmaps_at_boot (enumerate_from 0 (take l.endpoint-index l.endpoint-items));
+}

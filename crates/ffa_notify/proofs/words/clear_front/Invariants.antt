@@ -1,0 +1,7 @@
+use Rattle.std.proofs.Common.{◌≡◌, ℕ, get_or}
+use Rattle.std.specs.Prelude.{nat_lt, if◌then◌else◌}
+use Rattle.ffa_notify.proofs.words.clear_front.Given as goal
+
+-- the words so far
+abbrev pub invariant-loop-sender : goal.invariant-loop-sender
+invariant-loop-sender l = (k : ℕ) → get_or l.words k 0 ≡ (if nat_lt k l.sender then 0 else get_or l.fn.words k 0)

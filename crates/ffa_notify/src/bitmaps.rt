@@ -1,0 +1,129 @@
+//! Who has bitmaps, which bits are bound to whom, and which are pending.
+ghost use Rattle.std.specs.Prelude.{◌≡◌, ◌<◌, ◌≤◌, ℕ, true, false, length, replicate, if◌then◌else◌};
+ghost use Rattle.std.specs.FinSet as finite_set;
+ghost use Rattle.ffa_model.specs.Bits.{bits_of, is_set};
+ghost use Rattle.ffa_model.specs.Identifiers.{place};
+ghost use Rattle.ffa_model.specs.Notifications.{class_of, has_bitmaps_in, is_bound, is_pending, with_bitmaps, with_bound, with_pending, without_bitmaps, without_bound, without_pending};
+ghost use Rattle.ffa_model.specs.State.{is_known_among};
+ghost use Rattle.ffa_notify.specs.Stored.{class_number};
+
+use crate::class::Class;
+use crate::words::{CLASSES, MOST_ENDPOINTS, clear_asked, clear_front};
+use arrayvec::ArrayVec;
+use ffa_model::EndpointId;
+use std::marker::Model;
+
+/// Of each endpoint whether it has bitmaps, which of its bits each other endpoint may set, and which are pending. They
+/// take no memory beyond themselves.
+#[derive(Drop)]
+pub struct Bitmaps {
+    // Whether an endpoint has bitmaps.
+    pub(crate) has: ArrayVec<bool, MOST_ENDPOINTS>,
+    // The bits of a receiver that are bound to a sender: of each receiver a word for each endpoint that there may be.
+    pub(crate) bound: ArrayVec<u64, 64>,
+    // The bits of a receiver that are pending: of each receiver a word for each class.
+    pub(crate) pending: ArrayVec<u64, 24>,
+}
+
+impl Model for Bitmaps {
+    ghost use Rattle.std.specs.Prelude.{◌≡◌};
+    ghost use Rattle.ffa_model.specs.Notifications.{Notifications};
+    ghost use Rattle.ffa_model.specs.Codes.{coded_notifications};
+
+    ghost Value = { Notifications };
+
+    ghost coded = { coded_notifications };
+
+    ghost use Rattle.ffa_notify.specs.Stored.{IsWords, notifications_in};
+
+    ghost view = { λ b. notifications_in (record { has = b.has.items; bound = b.bound.items; pending = b.pending.items }) };
+
+    ghost invariant = { λ b. IsWords (record { has = b.has.items; bound = b.bound.items; pending = b.pending.items }) };
+}
+
+impl Bitmaps {
+    /// Whether an endpoint has bitmaps.
+    pub fn has(&self, endpoint: EndpointId) -> bool
+        ensures { result ≡ has_bitmaps_in self.now endpoint.0 }
+    {
+        let has = self.has.as_slice();
+        endpoint.place() < has.len() && has[endpoint.place()]
+    }
+
+    // The number of endpoints.
+    pub(crate) fn endpoints(&self) -> usize
+        ensures number { result ≡ length self.now.bitmaps }
+        ensures few { result ≤ 8 }
+    {
+        self.has.len()
+    }
+
+    // The bits of a receiver that a sender may set.
+    pub(crate) fn bound_to(&self, receiver: EndpointId, sender: EndpointId) -> u64
+        requires receiver { is_known_among (length self.now.bitmaps) receiver.0 ≡ true }
+        requires sender { is_known_among (length self.now.bitmaps) sender.0 ≡ true }
+        ensures { (k : ℕ) → k < 64 → is_set k result ≡ is_bound self.now receiver.0 (class_of sender.0) k sender.0 }
+    {
+        self.bound[MOST_ENDPOINTS * receiver.place() + sender.place()]
+    }
+
+    // The pending bits of a receiver's class.
+    pub(crate) fn pending(&self, receiver: EndpointId, class: Class) -> u64
+        requires { is_known_among (length self.now.bitmaps) receiver.0 ≡ true }
+        ensures { (k : ℕ) → k < 64 → is_set k result ≡ is_pending self.now receiver.0 (class_number class) k }
+    {
+        self.pending[CLASSES * receiver.place() + class.number()]
+    }
+
+    // Lets a sender set these bits of a receiver.
+    pub(crate) fn bind_bits(&mut self, receiver: EndpointId, sender: EndpointId, bitmap: u64)
+        requires receiver { is_known_among (length self.old.bitmaps) receiver.0 ≡ true }
+        requires sender { is_known_among (length self.old.bitmaps) sender.0 ≡ true }
+        ensures { self.new ≡ with_bound self.old receiver.0 sender.0 (bits_of bitmap) }
+    {
+        self.bound[MOST_ENDPOINTS * receiver.place() + sender.place()] |= bitmap;
+    }
+
+    // Lets a sender set these bits of a receiver no more.
+    pub(crate) fn unbind_bits(&mut self, receiver: EndpointId, sender: EndpointId, bitmap: u64)
+        requires receiver { is_known_among (length self.old.bitmaps) receiver.0 ≡ true }
+        requires sender { is_known_among (length self.old.bitmaps) sender.0 ≡ true }
+        ensures { self.new ≡ without_bound self.old receiver.0 sender.0 (bits_of bitmap) }
+    {
+        self.bound[MOST_ENDPOINTS * receiver.place() + sender.place()] &= !bitmap;
+    }
+
+    // Makes these bits of a receiver's class pending, where the receiver has bitmaps.
+    pub(crate) fn set_bits(&mut self, receiver: EndpointId, class: Class, bitmap: u64)
+        requires { is_known_among (length self.old.bitmaps) receiver.0 ≡ true }
+        ensures { self.new ≡ with_pending self.old receiver.0 (class_number class) (bits_of bitmap) }
+    {
+        if self.has(receiver) {
+            self.pending[CLASSES * receiver.place() + class.number()] |= bitmap;
+        }
+    }
+
+    // Gives an endpoint bitmaps.
+    pub(crate) fn give(&mut self, endpoint: EndpointId)
+        requires { is_known_among (length self.old.bitmaps) endpoint.0 ≡ true }
+        ensures { self.new ≡ with_bitmaps self.old endpoint.0 }
+    {
+        self.has[endpoint.place()] = true;
+    }
+
+    // Takes the normal world's bitmaps away, and with them the bindings of its bits.
+    pub(crate) fn take_away(&mut self)
+        ensures { self.new ≡ without_bitmaps self.old 0 }
+    {
+        self.has[0] = false;
+        clear_front(&mut self.bound);
+    }
+
+    // No bit of those classes of a receiver that the flags ask for is pending any more.
+    pub(crate) fn clear_asked(&mut self, receiver: EndpointId, flags: u32)
+        requires { is_known_among (length self.old.bitmaps) receiver.0 ≡ true }
+        ensures { self.new ≡ without_pending self.old receiver.0 flags }
+    {
+        clear_asked(&mut self.pending, CLASSES * receiver.place(), flags);
+    }
+}

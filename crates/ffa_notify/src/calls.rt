@@ -1,0 +1,240 @@
+//! The calls of notifications (DEN0077A, 16).
+ghost use Rattle.std.specs.Prelude.{◌≡◌, ◌==◌, ◌||◌, true, length, OnOk, OnErr, IfOk};
+ghost use Rattle.std.specs.Result.{result_err};
+ghost use Rattle.ffa_model.specs.Bits.{bits_of, high_half, low_half};
+ghost use Rattle.ffa_model.specs.Calls.{first_failure};
+ghost use Rattle.ffa_model.specs.Notifications.{bind_guards, class_of, create_guards, destroy_guards, get_guards, get_reply, set_guards, unbind_guards, with_bitmaps, with_bound, with_framework_bit, with_pending, without_bitmaps, without_bound, without_pending};
+ghost use Rattle.ffa_model.specs.State.{is_known_among};
+ghost use Rattle.ffa_notify.specs.Guards.{is_between};
+
+use crate::bitmaps::Bitmaps;
+use crate::class::Class;
+use ffa_model::{EndpointId, ErrorCode, Reply};
+
+/// The normal world, for which alone bitmaps are created and destroyed.
+const NORMAL_WORLD: EndpointId = EndpointId(0);
+
+/// The flag of FFA_NOTIFICATION_SET that delays the schedule receiver interrupt, of which there is none.
+const DELAY_INTERRUPT: u32 = 2;
+
+impl Bitmaps {
+    /// FFA_NOTIFICATION_BITMAP_CREATE, with w1 and w2: the normal world has bitmaps then.
+    ///
+    /// # Errors
+    ///
+    /// In this order: `Denied` where the caller isn't the normal world; `InvalidParameters` where w1 doesn't name it or
+    /// it hasn't one execution context; `Denied` where it has bitmaps. An error changes nothing.
+    pub fn create(
+        &mut self,
+        caller: EndpointId,
+        endpoint: u32,
+        contexts: u32,
+    ) -> Result<(), ErrorCode>
+        ensures refusal { result_err result ≡ first_failure (create_guards self.old caller.0 endpoint contexts) }
+        ensures kept { OnErr result (self.new ≡ self.old) }
+        ensures created { OnOk result (self.new ≡ with_bitmaps self.old 0) }
+    {
+        if !is_normal_world(caller) {
+            return Err(ErrorCode::Denied);
+        }
+        if endpoint != 0 || contexts != 1 {
+            return Err(ErrorCode::InvalidParameters);
+        }
+        if self.has(NORMAL_WORLD) {
+            return Err(ErrorCode::Denied);
+        }
+        self.give(NORMAL_WORLD);
+        Ok(())
+    }
+
+    /// FFA_NOTIFICATION_BITMAP_DESTROY, with w1: the normal world has no bitmaps then, and nobody may set its bits.
+    ///
+    /// # Errors
+    ///
+    /// In this order: `Denied` where the caller isn't the normal world; `InvalidParameters` where w1 doesn't name it;
+    /// `Denied` where it has no bitmaps, or a bit of its is pending. An error changes nothing.
+    pub fn destroy(&mut self, caller: EndpointId, endpoint: u32) -> Result<(), ErrorCode>
+        ensures refusal { result_err result ≡ first_failure (destroy_guards self.old caller.0 endpoint) }
+        ensures kept { OnErr result (self.new ≡ self.old) }
+        ensures destroyed { OnOk result (self.new ≡ without_bitmaps self.old 0) }
+    {
+        if !is_normal_world(caller) {
+            return Err(ErrorCode::Denied);
+        }
+        if endpoint != 0 {
+            return Err(ErrorCode::InvalidParameters);
+        }
+        if !self.has(NORMAL_WORLD) || self.has_pending(NORMAL_WORLD) {
+            return Err(ErrorCode::Denied);
+        }
+        self.take_away();
+        Ok(())
+    }
+
+    /// FFA_NOTIFICATION_BIND, with w1, w2 and the bitmap: the sender that the high half of w1 names may set these bits of
+    /// the caller.
+    ///
+    /// # Errors
+    ///
+    /// In this order: `InvalidParameters` where the low half isn't the caller, the high half is no other endpoint, a flag
+    /// is set or no bit is; `Denied` where the caller has no bitmaps, another sender of the class may set one of the bits,
+    /// or one is pending. An error changes nothing.
+    pub fn bind(
+        &mut self,
+        caller: EndpointId,
+        word: u32,
+        flags: u32,
+        bitmap: u64,
+    ) -> Result<(), ErrorCode>
+        requires { is_known_among (length self.old.bitmaps) caller.0 ≡ true }
+        ensures refusal { result_err result ≡ first_failure (bind_guards (length self.old.bitmaps) self.old caller.0 word flags bitmap) }
+        ensures kept { OnErr result (self.new ≡ self.old) }
+        ensures bound { OnOk result (self.new ≡ with_bound self.old caller.0 (high_half word) (bits_of bitmap)) }
+    {
+        let sender = high(word);
+        if !self.is_between(caller, low(word), sender) {
+            return Err(ErrorCode::InvalidParameters);
+        }
+        if flags != 0 || bitmap == 0 {
+            return Err(ErrorCode::InvalidParameters);
+        }
+        if !self.has(caller) || !self.is_bindable(caller, sender, bitmap) {
+            return Err(ErrorCode::Denied);
+        }
+        self.bind_bits(caller, sender, bitmap);
+        Ok(())
+    }
+
+    /// FFA_NOTIFICATION_UNBIND, with the same: the sender may set these bits no more.
+    ///
+    /// # Errors
+    ///
+    /// In this order: `InvalidParameters` as FFA_NOTIFICATION_BIND; `Denied` where the caller has no bitmaps, the sender
+    /// may not set one of the bits, or one is pending. An error changes nothing.
+    pub fn unbind(
+        &mut self,
+        caller: EndpointId,
+        word: u32,
+        flags: u32,
+        bitmap: u64,
+    ) -> Result<(), ErrorCode>
+        requires { is_known_among (length self.old.bitmaps) caller.0 ≡ true }
+        ensures refusal { result_err result ≡ first_failure (unbind_guards (length self.old.bitmaps) self.old caller.0 word flags bitmap) }
+        ensures kept { OnErr result (self.new ≡ self.old) }
+        ensures unbound { OnOk result (self.new ≡ without_bound self.old caller.0 (high_half word) (bits_of bitmap)) }
+    {
+        let sender = high(word);
+        if !self.is_between(caller, low(word), sender) {
+            return Err(ErrorCode::InvalidParameters);
+        }
+        if flags != 0 || bitmap == 0 {
+            return Err(ErrorCode::InvalidParameters);
+        }
+        if !self.has(caller) || !self.is_unbindable(caller, sender, bitmap) {
+            return Err(ErrorCode::Denied);
+        }
+        self.unbind_bits(caller, sender, bitmap);
+        Ok(())
+    }
+
+    /// FFA_NOTIFICATION_SET, with the same: these bits of the receiver that the low half of w1 names are pending.
+    ///
+    /// # Errors
+    ///
+    /// In this order: `InvalidParameters` where the high half isn't the caller, the low half is no other endpoint, there
+    /// is a flag but the one that delays the schedule receiver interrupt, or no bit; `Denied` where the caller may not set
+    /// one of the bits. An error changes nothing.
+    pub fn set(
+        &mut self,
+        caller: EndpointId,
+        word: u32,
+        flags: u32,
+        bitmap: u64,
+    ) -> Result<(), ErrorCode>
+        requires { is_known_among (length self.old.bitmaps) caller.0 ≡ true }
+        ensures refusal { result_err result ≡ first_failure (set_guards (length self.old.bitmaps) self.old caller.0 word flags bitmap) }
+        ensures kept { OnErr result (self.new ≡ self.old) }
+        ensures pending { OnOk result (self.new ≡ with_pending self.old (low_half word) (class_of caller.0) (bits_of bitmap)) }
+    {
+        let receiver = low(word);
+        if !self.is_between(caller, high(word), receiver) {
+            return Err(ErrorCode::InvalidParameters);
+        }
+        if !has_set_flags(flags) || bitmap == 0 {
+            return Err(ErrorCode::InvalidParameters);
+        }
+        if !self.is_settable(receiver, caller, bitmap) {
+            return Err(ErrorCode::Denied);
+        }
+        self.set_bits(receiver, Class::of(caller), bitmap);
+        Ok(())
+    }
+
+    /// FFA_NOTIFICATION_GET, with w1 and w2: the reply has the caller's pending bits of the classes that the flags ask
+    /// for, and they are pending no more.
+    ///
+    /// # Errors
+    ///
+    /// In this order: `InvalidParameters` where the low half of w1 isn't the caller, the high half isn't 0, or the flags ask
+    /// for more than four classes; `Denied` where the caller has no bitmaps. An error changes nothing.
+    pub fn get(&mut self, caller: EndpointId, word: u32, flags: u32) -> Result<Reply, ErrorCode>
+        requires { is_known_among (length self.old.bitmaps) caller.0 ≡ true }
+        ensures refusal { result_err result ≡ first_failure (get_guards self.old caller.0 word flags) }
+        ensures reply { IfOk result (λ reply. reply ≡ get_reply self.old caller.0 flags) }
+        ensures kept { OnErr result (self.new ≡ self.old) }
+        ensures cleared { OnOk result (self.new ≡ without_pending self.old caller.0 flags) }
+    {
+        if low(word) != caller || high(word) != EndpointId(0) || flags > 15 {
+            return Err(ErrorCode::InvalidParameters);
+        }
+        if !self.has(caller) {
+            return Err(ErrorCode::Denied);
+        }
+        let reply = self.asked(caller, flags);
+        self.clear_asked(caller, flags);
+        Ok(reply)
+    }
+
+    /// The manager tells a receiver, if it has bitmaps, that an indirect message stands in its RX.
+    pub fn raise_framework(&mut self, receiver: EndpointId)
+        requires { is_known_among (length self.old.bitmaps) receiver.0 ≡ true }
+        ensures { self.new ≡ with_framework_bit self.old receiver.0 }
+    {
+        self.set_bits(receiver, Class::Manager, 1);
+    }
+
+    // Whether one of two named endpoints is the caller and the other another.
+    fn is_between(&self, caller: EndpointId, own: EndpointId, other: EndpointId) -> bool
+        ensures { result ≡ is_between (length self.now.bitmaps) caller.0 own.0 other.0 }
+    {
+        own == caller && self.is_known(other) && other != caller
+    }
+}
+
+// Whether this is the normal world.
+fn is_normal_world(endpoint: EndpointId) -> bool
+    ensures { result ≡ (endpoint.0 == 0) }
+{
+    endpoint == NORMAL_WORLD
+}
+
+// Whether these are flags of FFA_NOTIFICATION_SET.
+fn has_set_flags(flags: u32) -> bool
+    ensures { result ≡ (flags == 0 || flags == 2) }
+{
+    flags == 0 || flags == DELAY_INTERRUPT
+}
+
+// The endpoint in the high half of a word.
+fn high(word: u32) -> EndpointId
+    ensures { result.0 ≡ high_half word }
+{
+    EndpointId((word / 0x1_0000) as u16)
+}
+
+// The endpoint in the low half of a word.
+fn low(word: u32) -> EndpointId
+    ensures { result.0 ≡ low_half word }
+{
+    EndpointId((word % 0x1_0000) as u16)
+}

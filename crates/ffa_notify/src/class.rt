@@ -1,0 +1,42 @@
+//! The classes of a receiver's bits.
+ghost use Rattle.std.specs.Prelude.{◌≡◌, ◌<◌};
+ghost use Rattle.ffa_model.specs.Notifications.{class_of};
+ghost use Rattle.ffa_notify.specs.Stored.{class_number};
+
+use ffa_model::EndpointId;
+
+/// Who sets the bits of a class.
+#[derive(Clone, Copy, Debug, PartialEq, Eq)]
+pub enum Class {
+    /// Partitions do.
+    Partitions,
+    /// The normal world does.
+    NormalWorld,
+    /// The manager does.
+    Manager,
+}
+
+impl Class {
+    /// The class of the bits that an endpoint sets.
+    pub fn of(sender: EndpointId) -> Class
+        ensures { class_number result ≡ class_of sender.0 }
+    {
+        if sender == EndpointId(0) {
+            Class::NormalWorld
+        } else {
+            Class::Partitions
+        }
+    }
+
+    // Its number, by which FFA_NOTIFICATION_GET asks for it.
+    pub(crate) fn number(self) -> usize
+        ensures value { result ≡ class_number self }
+        ensures few { result < 3 }
+    {
+        match self {
+            Class::Partitions => 0,
+            Class::NormalWorld => 1,
+            Class::Manager => 2,
+        }
+    }
+}

@@ -1,0 +1,63 @@
+//! The bitmaps at boot.
+ghost use Rattle.std.specs.Prelude.{◌≡◌, ◌≤◌, length, map, replicate};
+ghost use Rattle.std.specs.FinSet as finite_set;
+ghost use Rattle.std.specs.List.{enumerate_from};
+ghost use Rattle.ffa_notify.specs.Boot.{has_bitmaps_at_boot};
+
+use crate::bitmaps::Bitmaps;
+use crate::words::{CLASSES, MOST_ENDPOINTS};
+use arrayvec::ArrayVec;
+use bitflags::Flags;
+use ffa_model::{Endpoint, Manifest, Properties};
+
+impl Bitmaps {
+    /// The bitmaps at boot: each partition that receives notifications has them, and nothing is bound or pending.
+    pub fn of(manifest: &Manifest) -> Bitmaps
+        ensures bitmaps { result.bitmaps ≡ map has_bitmaps_at_boot (enumerate_from 0 manifest.now.endpoints.items) }
+        ensures bound { result.bound ≡ finite_set.empty }
+        ensures pending { result.pending ≡ finite_set.empty }
+    {
+        let has = first_bitmaps(manifest);
+        let endpoints = has.len();
+        Bitmaps {
+            has,
+            bound: no_bits(MOST_ENDPOINTS * endpoints),
+            pending: no_bits(CLASSES * endpoints),
+        }
+    }
+}
+
+// Of each endpoint whether it has bitmaps from boot.
+fn first_bitmaps(manifest: &Manifest) -> ArrayVec<bool, MOST_ENDPOINTS>
+    ensures { result.items ≡ map has_bitmaps_at_boot (enumerate_from 0 manifest.now.endpoints.items) }
+{
+    let mut has = ArrayVec::new();
+    for endpoint in manifest.endpoints.as_slice() {
+        let place = has.len();
+        has.push(has_bitmaps(place, endpoint));
+    }
+    has
+}
+
+// Whether the endpoint at a place has bitmaps from boot.
+#[tactic(auto, using(crate::proofs::Boots::contains_fourth))]
+fn has_bitmaps(place: usize, endpoint: &Endpoint) -> bool
+    ensures { result ≡ has_bitmaps_at_boot (place, endpoint.now) }
+{
+    place != 0
+        && endpoint
+            .properties
+            .contains(Properties::RECEIVES_NOTIFICATIONS)
+}
+
+// This many words without a bit.
+fn no_bits<const MOST: usize>(count: usize) -> ArrayVec<u64, MOST>
+    requires { count ≤ MOST }
+    ensures { result.items ≡ replicate count 0 }
+{
+    let mut words = ArrayVec::new();
+    for _word in 0..count {
+        words.push(0);
+    }
+    words
+}

@@ -1,0 +1,12 @@
+//! Notifications (DEN0077A, 10): bits that an endpoint sets for another, and that the other gets when it runs.
+#![tactic(auto)]
+
+mod bitmaps;
+mod calls;
+mod checks;
+mod class;
+mod first;
+mod words;
+
+pub use bitmaps::Bitmaps;
+pub use class::Class;

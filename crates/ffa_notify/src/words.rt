@@ -1,0 +1,49 @@
+//! Words of bits.
+ghost use Rattle.std.specs.Prelude.{◌≡◌, ℕ, ◌+◌, ◌≤◌, nat_lt, not, length, slice_index, if◌then◌else◌};
+ghost use Rattle.std.specs.List.{list_all};
+ghost use Rattle.ffa_model.specs.Bits.{bits};
+ghost use Rattle.ffa_notify.specs.Stored.{is_asked};
+
+/// How many classes of bits there are.
+pub(crate) const CLASSES: usize = 3;
+
+/// How many endpoints a manifest has at most.
+pub(crate) const MOST_ENDPOINTS: usize = 8;
+
+// Clears the first words, a receiver's.
+pub(crate) fn clear_front(words: &mut [u64])
+    requires { 8 ≤ length words.old }
+    ensures count { length words.new ≡ length words.old }
+    ensures cleared { (k : ℕ) → slice_index words.new k ≡ (if nat_lt k 8 then 0 else slice_index words.old k) }
+{
+    for sender in 0..MOST_ENDPOINTS {
+        words[sender] = 0;
+    }
+}
+
+// Clears those of the words of a receiver's classes, which begin at a place, that the flags ask for.
+pub(crate) fn clear_asked(words: &mut [u64], first: usize, flags: u32)
+    requires { first + 3 ≤ length words.old }
+    ensures count { length words.new ≡ length words.old }
+    ensures cleared { (k : ℕ) → slice_index words.new k ≡ (if is_asked first 3 flags k then 0 else slice_index words.old k) }
+{
+    for class in 0..CLASSES {
+        if flags >> class & 1 == 1 {
+            words[first + class] = 0;
+        }
+    }
+}
+
+// The low half of a word.
+pub(crate) fn low_word(word: u64) -> u32
+    ensures { result ≡ bits 31 0 word }
+{
+    (word % 0x1_0000_0000) as u32
+}
+
+// The high half of a word.
+pub(crate) fn high_word(word: u64) -> u32
+    ensures { result ≡ bits 63 32 word }
+{
+    (word / 0x1_0000_0000) as u32
+}
