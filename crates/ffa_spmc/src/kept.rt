@@ -3,9 +3,7 @@ ghost use Rattle.std.specs.Prelude.{◌≡◌, ◌*◌, None, length, map, repli
 ghost use Rattle.std.specs.FinSet as finite_set;
 ghost use Rattle.std.specs.List.{enumerate_from};
 ghost use Rattle.ffa_model.specs.First.{has_first_bitmaps};
-ghost use Rattle.ffa_model.specs.Regions.{regions_of_each};
 ghost use Rattle.ffa_model.specs.RunStates.{first_schedule};
-ghost use Rattle.ffa_stage2.specs.Layout.{regions_in};
 ghost use Rattle.ffa_spmc.specs.Owners.{first_owners};
 
 use ffa_memshare::Pool;
@@ -37,13 +35,11 @@ pub struct Kept {
 const _: () = prove!(size_of::<Kept>() <= 98304);
 
 impl Kept {
-    /// What the machine of a manifest keeps at first: the owners are those of the regions, nothing is open, nobody has
-    /// buffers, the normal world runs, and partitions that receive notifications have bitmaps, of which no bit is bound
-    /// or pending.
-    pub fn first(manifest: &Manifest) -> Kept
-        ensures base { result.layout.base ≡ manifest.now.ram_base }
-        ensures blocks { result.layout.blocks ≡ manifest.now.ram_blocks }
-        ensures regions { regions_in result.layout ≡ regions_of_each manifest.now.endpoints.items }
+    /// What the machine of a manifest with this layout keeps at first: the owners are those of the regions, nothing is
+    /// open, nobody has buffers, the normal world runs, and partitions that receive notifications have bitmaps, of which
+    /// no bit is bound or pending.
+    pub fn first(manifest: &Manifest, layout: Layout) -> Kept
+        ensures layout { result.layout ≡ layout }
         ensures pages { result.pages ≡ first_owners manifest.now }
         ensures slots { result.pool.slots ≡ replicate (8 * length manifest.now.endpoints.items) None }
         ensures sent { result.pool.sent ≡ replicate (length manifest.now.endpoints.items) 0 }
@@ -54,7 +50,7 @@ impl Kept {
         ensures pending { result.bitmaps.pending ≡ finite_set.empty }
     {
         let mut kept = Kept {
-            layout: Layout::of(manifest),
+            layout,
             pages: PageTable::none(),
             pool: Pool::first(manifest.endpoints.len()),
             buffers: Buffers::none(manifest.endpoints.len()),

@@ -38,7 +38,7 @@ use ffa_model::{
     Call, EndpointId, ErrorCode, Kind, Manifest, Op, Outcome, PageNo, Reply, Rights, Size,
 };
 use ffa_physmem::PhysMem;
-use ffa_stage2::{build, built_tables};
+use ffa_stage2::{Layout, build, built_tables};
 use std::marker::Model;
 
 /// The reply to a call that answers no more than that it is done.
@@ -192,14 +192,14 @@ impl<M: PhysMem + Drop> Machine<M> {
         ensures sound { IsSoundState result.state }
     {
         let mut ram = ram;
-        let kept = Kept::first(manifest);
-        build(&mut ram, &kept.layout);
+        let layout = Layout::of(manifest);
+        build(&mut ram, &layout);
         // What built tables give holds from here on: the machine's invariant has it.
         built_tables();
         Machine {
             ram,
             manifest: manifest.copied(),
-            kept,
+            kept: Kept::first(manifest, layout),
         }
     }
 
@@ -404,10 +404,7 @@ impl<M: PhysMem + Drop> Machine<M> {
         ensures refused { is_error result ≡ true → self.new ≡ self.old }
     {
         match call {
-            Call::BitmapCreate {
-                endpoint,
-                contexts,
-            } => self.create_bitmaps(endpoint, contexts),
+            Call::BitmapCreate { endpoint, contexts } => self.create_bitmaps(endpoint, contexts),
             Call::BitmapDestroy { endpoint } => self.destroy_bitmaps(endpoint),
             Call::NotificationBind {
                 word,

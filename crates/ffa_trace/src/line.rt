@@ -234,6 +234,7 @@ fn call(mut words: Words<'_>) -> Option<Line>
 }
 
 // How many bytes to load.
+#[inline(always)]
 #[tactic(auto, unfolding(ffa_model::specs::TraceLines::size_named))]
 fn size_named(word: &[u8]) -> Option<Size>
     ensures { result ≡ size_named word.now }

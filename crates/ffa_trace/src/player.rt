@@ -115,6 +115,7 @@ fn feed<M: PhysMem + Drop, W: Write>(
     keep(begun, rest)
 }
 
+#[inline(always)]
 fn first_feed(bytes: &[u8]) -> Option<usize>
     ensures { result ≡ position (λ c. c == feed) bytes.now }
 {
@@ -208,6 +209,7 @@ fn write_bytes<W: Write>(writer: &mut W, size: Size, value: u64) -> Result<(), P
 }
 
 // The same, by a text that is made first. It stands alone, so that no room for a text is made where none is needed.
+#[inline(always)]
 fn write_made<W: Write>(writer: &mut W, op: &Op, outcome: &Outcome) -> Result<(), PlayError>
     ensures { Writes (W.contents writer.old) (W.contents writer.new) (outcome_text op.now outcome.now) result }
 {

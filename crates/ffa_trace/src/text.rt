@@ -122,6 +122,7 @@ fn right_letters(right: Option<Rights>) -> &'static [u8]
 }
 
 /// Appends what an operation with this outcome prints, to no text yet.
+#[inline(always)]
 pub fn push_outcome(text: &mut Text, op: &Op, outcome: &Outcome)
     requires { text.old.items ≡ [] }
     ensures { text.new.items ≡ outcome_text op.now outcome.now }

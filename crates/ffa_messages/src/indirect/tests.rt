@@ -68,10 +68,7 @@ fn whole_page(rt: HostRuntime) -> Result<(), Fail> {
         send(&mut ram, &mut buffers, 19, 4076),
         Err(ErrorCode::InvalidParameters)
     );
-    assert_eq!(rt;
-        send(&mut ram, &mut buffers, 20, 4076),
-        Ok(SECOND)
-    );
+    assert_eq!(rt; send(&mut ram, &mut buffers, 20, 4076), Ok(SECOND));
     assert_eq!(rt; ram.page(RX).as_slice(), ram.page(TX).as_slice());
     assert_eq!(rt; ram.page(RX)[4095], 7);
     assert_eq!(rt;
@@ -87,10 +84,7 @@ fn part_of_a_page(rt: HostRuntime) -> Result<(), Fail> {
     let mut buffers = mapped(&rt);
     ram.page_mut(TX)[24..].fill(7);
     ram.page_mut(RX).fill(9);
-    assert_eq!(rt;
-        send(&mut ram, &mut buffers, 24, 2),
-        Ok(SECOND)
-    );
+    assert_eq!(rt; send(&mut ram, &mut buffers, 24, 2), Ok(SECOND));
     assert_eq!(rt;
         &ram.page(RX)[8..28],
         [

@@ -112,6 +112,20 @@ fn plays<M: PhysMem + Drop>(alloc: Global, ram: M, trace: &str) -> (Vec<u8>, Res
     (out, played)
 }
 
+// A comment's bytes need be no UTF-8.
+#[test]
+fn passes_over_comments_of_any_bytes(rt: HostRuntime) -> Result<(), Fail> {
+    let mut player = rows(rt.alloc())?;
+    let mut out = Vec::new(rt.alloc());
+    let comment = [0x23, 0xFF, 0x80, 0x20, 0xC3, 0x0A];
+    assert_eq!(rt;
+        player.play(rt.alloc(), &mut comment.as_slice(), &mut out),
+        Ok(())
+    );
+    assert_eq!(rt; out.as_slice(), [].as_slice());
+    Ok(())
+}
+
 #[test]
 fn plays_the_rows(rt: HostRuntime) -> Result<(), Fail> {
     for (trace, want) in [
