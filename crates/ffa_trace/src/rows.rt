@@ -1,5 +1,5 @@
 //! Calls worked out by hand, played on the machine with two partitions.
-ghost use Rattle.std.specs.Prelude.{◌≡◌};
+ghost use Rattle.std.specs.Prelude.{◌≡◌, IfOk};
 ghost use Rattle.ffa_model.specs.Ram.{zero_ram};
 
 use crate::Player;
@@ -14,6 +14,22 @@ mod memory;
 
 // Notifications.
 mod notifications;
+
+// RAM of each kind for the machine of the rows.
+fn kinds(alloc: Global) -> Result<(FlatRam, FrameRam), Fail>
+    ensures flat { IfOk result (λ rams. ⟦<FlatRam as PhysMem>⟧.ram rams.0 ≡ zero_ram 0x40000000 512) }
+    ensures frames { IfOk result (λ rams. ⟦<FrameRam as PhysMem>⟧.ram rams.1 ≡ zero_ram 0x40000000 512) }
+{
+    let flat = FlatRam::new(alloc, 0x4000_0000, 512)?;
+    let frames = FrameRam::new(alloc, 0x4000_0000, 512)?;
+    Ok((flat, frames))
+}
+
+fn rows<M: PhysMem + Drop>(ram: M) -> Player<M>
+    requires { M.ram ram ≡ zero_ram 0x40000000 512 }
+{
+    Player::new(Machine::boot(&row_machine(), ram))
+}
 
 // What one more line prints.
 fn played<M: PhysMem + Drop>(
@@ -68,29 +84,29 @@ fn is_printed(alloc: Global, text: &str, want: &str) -> Result<bool, Fail> {
 
 // Plays lines on fresh machines, in RAM of either kind: the first that doesn't print what is wanted, with what it prints.
 fn difference(alloc: Global, lines: &[(&str, &str)]) -> Result<Option<String>, Fail> {
-    difference_of(alloc, &[lines])
-}
-
-// Plays several lists of lines one after another, alike.
-fn difference_of(alloc: Global, parts: &[&[(&str, &str)]]) -> Result<Option<String>, Fail> {
-    let flat = FlatRam::new(alloc, 0x4000_0000, 512)?;
-    let frames = FrameRam::new(alloc, 0x4000_0000, 512)?;
-    match difference_in(alloc, flat, parts)? {
-        None => difference_in(alloc, frames, parts),
+    let (flat, frames) = kinds(alloc)?;
+    match difference_on(alloc, &mut rows(flat), lines)? {
+        None => difference_on(alloc, &mut rows(frames), lines),
         found => Ok(found),
     }
 }
 
-fn difference_in<M: PhysMem + Drop>(
+// Plays several lists of lines one after another, alike.
+fn difference_of(alloc: Global, parts: &[&[(&str, &str)]]) -> Result<Option<String>, Fail> {
+    let (flat, frames) = kinds(alloc)?;
+    match difference_after(alloc, &mut rows(flat), parts)? {
+        None => difference_after(alloc, &mut rows(frames), parts),
+        found => Ok(found),
+    }
+}
+
+fn difference_after<M: PhysMem + Drop>(
     alloc: Global,
-    ram: M,
+    player: &mut Player<M>,
     parts: &[&[(&str, &str)]],
-) -> Result<Option<String>, Fail>
-    requires { M.ram ram ≡ zero_ram 0x40000000 512 }
-{
-    let mut player = Player::new(Machine::boot(&row_machine(), ram));
+) -> Result<Option<String>, Fail> {
     for part in parts {
-        let found = difference_on(alloc, &mut player, part)?;
+        let found = difference_on(alloc, player, part)?;
         if found.is_some() {
             return Ok(found);
         }
@@ -144,6 +160,33 @@ fn versions_and_features(rt: HostRuntime) -> Result<(), Fail> {
         ("call 84000085", "0: 84000061 0 8000"),
     ];
     assert_eq!(rt; difference(rt.alloc(), &lines)?, None);
+    Ok(())
+}
+
+// FFA_FEATURES of the identifiers from 84000060 to 8400008F, and of their 64-bit forms: the calls, in the forms that they
+// have, and nothing else.
+#[test]
+fn features_of_every_identifier(rt: HostRuntime) -> Result<(), Fail> {
+    let alloc = rt.alloc();
+    let mut player = rows(FlatRam::new(alloc, 0x4000_0000, 512)?);
+    for number in 0x60..0x90 {
+        let is_narrow =
+            matches!(number, 0x63..=0x69 | 0x6B..=0x6D | 0x6F..=0x74 | 0x76 | 0x77 | 0x7D..=0x82 | 0x85 | 0x86);
+        let is_wide = matches!(number, 0x66 | 0x6F..=0x74);
+        for (form, is_call) in [("84", is_narrow), ("C4", is_wide)] {
+            let line = format!(in alloc; "call 84000064 {form}0000{number:X}")?;
+            let want = if is_call {
+                "0: 84000061"
+            } else {
+                NOT_SUPPORTED
+            };
+            assert_eq!(rt;
+                played(alloc, &mut player, &line)?,
+                printed(alloc, want)?,
+                "{line}"
+            );
+        }
+    }
     Ok(())
 }
 

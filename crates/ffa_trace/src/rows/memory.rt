@@ -393,8 +393,7 @@ fn what_others_lend_is_not_seen(rt: HostRuntime) -> Result<(), Fail> {
 #[test]
 fn a_lend_of_each_length(rt: HostRuntime) -> Result<(), Fail> {
     let alloc = rt.alloc();
-    let ram = FlatRam::new(alloc, 0x4000_0000, 512)?;
-    let mut player = Player::new(Machine::boot(&row_machine(), ram));
+    let mut player = rows(FlatRam::new(alloc, 0x4000_0000, 512)?);
     assert_eq!(rt; difference_on(alloc, &mut player, &MAPPED)?, None);
     assert_eq!(rt; difference_on(alloc, &mut player, &LEND)?, None);
     assert_eq!(rt;

@@ -1,10 +1,14 @@
 //! A block of 2 MiB of which one page is lent, and which is a block again once the page is back: the words of the tables in
 //! RAM.
 
-use ffa_model::PageNo;
-use ffa_physmem::{FlatRam, PhysMem};
+ghost use Rattle.std.specs.Prelude.{◌≡◌, ◌*◌};
+ghost use Rattle.ffa_model.specs.Ram.{zero_ram};
+
+use ffa_model::{Manifest, PageNo};
+use ffa_physmem::{FlatRam, FrameRam, PhysMem};
 use ffa_spmc::Machine;
 use ffa_trace::Player;
+use std::alloc::Global;
 use std::test::Fail;
 
 // The machine of the rows, with 4 MiB of RAM, and a block of the normal world's.
@@ -60,7 +64,7 @@ call 84000077 1
 ";
 
 // The word at an address of RAM.
-fn word(player: &Player<FlatRam>, address: u32) -> Option<u64> {
+fn word<M: PhysMem + Drop>(player: &Player<M>, address: u32) -> Option<u64> {
     let ram = player.machine().ram();
     let offset = address.checked_sub(ram.base())?;
     if offset / 4096 < ram.pages() {
@@ -71,23 +75,48 @@ fn word(player: &Player<FlatRam>, address: u32) -> Option<u64> {
     }
 }
 
-// The table at level 2 names a block, a table of level 3 while a page of the block is lent, and the block again.
+// Words of the tables after boot, while the page is lent, while 8001 holds it, and when it is back.
+fn words_of_a_lend<M: PhysMem + Drop>(
+    alloc: Global,
+    manifest: &Manifest,
+    ram: M,
+) -> Result<[Option<u64>; 7], Fail>
+    requires { M.ram ram ≡ zero_ram manifest.now.ram_base (512 * manifest.now.ram_blocks) }
+{
+    let mut player = Player::new(Machine::boot_cleared(manifest, ram));
+    let mut out = Vec::new(alloc);
+    let whole = word(&player, 0x4000_1008);
+    player.play(alloc, &mut LEND.as_bytes(), &mut out)?;
+    let split = word(&player, 0x4000_1008);
+    let first = word(&player, 0x4000_3000);
+    let second = word(&player, 0x4000_3008);
+    player.play(alloc, &mut RETRIEVE.as_bytes(), &mut out)?;
+    let held = word(&player, 0x4000_7008);
+    let table = word(&player, 0x4000_5008);
+    player.play(alloc, &mut GIVE_BACK.as_bytes(), &mut out)?;
+    let again = word(&player, 0x4000_1008);
+    Ok([whole, split, first, second, held, table, again])
+}
+
+// The table at level 2 names a block, a table of level 3 while a page of the block is lent, and the block again; with RAM of
+// either kind.
 #[test]
 fn a_lend_splits_a_block(rt: HostRuntime) -> Result<(), Fail> {
     let alloc = rt.alloc();
     let manifest = ffa_manifest::read(alloc, BLOCK)?;
-    let ram = FlatRam::new(alloc, manifest.ram_base, 512 * manifest.ram_blocks)?;
-    let mut player = Player::new(Machine::boot(&manifest, ram));
-    assert_eq!(rt; word(&player, 0x4000_1008), Some(0x0040_0000_4020_07FD));
-    let mut out = Vec::new(alloc);
-    player.play(alloc, &mut LEND.as_bytes(), &mut out)?;
-    assert_eq!(rt; word(&player, 0x4000_1008), Some(0x0000_0000_4000_3003));
-    assert_eq!(rt; word(&player, 0x4000_3000), Some(0x0040_0000_4020_07FF));
-    assert_eq!(rt; word(&player, 0x4000_3008), Some(0));
-    player.play(alloc, &mut RETRIEVE.as_bytes(), &mut out)?;
-    assert_eq!(rt; word(&player, 0x4000_7008), Some(0x0040_0000_4020_17FF));
-    assert_eq!(rt; word(&player, 0x4000_5008), Some(0x0000_0000_4000_7003));
-    player.play(alloc, &mut GIVE_BACK.as_bytes(), &mut out)?;
-    assert_eq!(rt; word(&player, 0x4000_1008), Some(0x0040_0000_4020_07FD));
+    let (base, pages) = (manifest.ram_base, 512 * manifest.ram_blocks);
+    let flat = FlatRam::new(alloc, base, pages)?;
+    let frames = FrameRam::new(alloc, base, pages)?;
+    let want = [
+        Some(0x0040_0000_4020_07FD),
+        Some(0x0000_0000_4000_3003),
+        Some(0x0040_0000_4020_07FF),
+        Some(0),
+        Some(0x0040_0000_4020_17FF),
+        Some(0x0000_0000_4000_7003),
+        Some(0x0040_0000_4020_07FD),
+    ];
+    assert_eq!(rt; words_of_a_lend(alloc, &manifest, flat)?, want);
+    assert_eq!(rt; words_of_a_lend(alloc, &manifest, frames)?, want);
     Ok(())
 }
