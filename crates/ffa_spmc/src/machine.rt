@@ -15,7 +15,7 @@ ghost use Rattle.ffa_model.specs.SoundState.{IsSoundState};
 ghost use Rattle.ffa_laws.specs.Events.{seen};
 ghost use Rattle.ffa_laws.specs.Isolation.{Integrity, Isolated, NeverGrow, OneStep, shown_to};
 ghost use Rattle.ffa_model.specs.Refusals.{is_error, is_refusal, passes_no_error};
-ghost use Rattle.ffa_model.specs.Registers.{served_call};
+ghost use Rattle.ffa_model.specs.Registers.{decode};
 ghost use Rattle.ffa_model.specs.MemoryRetrieve.{memory_retrieve};
 ghost use Rattle.ffa_model.specs.MemoryReturn.{memory_reclaim, memory_relinquish};
 ghost use Rattle.ffa_model.specs.MemorySend.{handle_reply, memory_send};
@@ -150,17 +150,6 @@ fn clear<M: PhysMem>(ram: &mut M)
 {
     for page in 0..ram.pages() {
         ram.clear_page(PageNo(page));
-    }
-}
-
-// The call that the registers ask for, where it is served.
-fn served_call(x: [u64; 8]) -> Call
-    ensures { result ≡ served_call x }
-{
-    if ffa_abi::is_served((x[0] % (1 << 32)) as u32) {
-        ffa_abi::decode(x)
-    } else {
-        Call::Unknown
     }
 }
 
@@ -697,11 +686,11 @@ impl<M: PhysMem + Drop> Machine<M> {
 
     // A call of the runner, in its registers.
     fn call(&mut self, x: [u64; 8]) -> Outcome
-        ensures outcome { result ≡ (serve self.old.state (served_call x)).outcome }
-        ensures state { self.new.state ≡ (serve self.old.state (served_call x)).state }
+        ensures outcome { result ≡ (serve self.old.state (decode x)).outcome }
+        ensures state { self.new.state ≡ (serve self.old.state (decode x)).state }
         ensures refused { is_refusal result ≡ true → self.new ≡ self.old }
     {
-        let reply = self.reply(served_call(x));
+        let reply = self.reply(ffa_abi::decode(x));
         Outcome::Regs {
             runner: self.kept.chain.runner(),
             x: ffa_abi::encode(&reply),
