@@ -19,30 +19,20 @@ use Rattle.ffa_model.specs.MemorySend.{is_own, is_sendable, memory_sent}
 use Rattle.ffa_model.specs.MemoryRetrieve.{retrieved_right}
 use Rattle.ffa_model.specs.MemoryReturn.{relinquished_from}
 use Rattle.ffa_model.specs.Transactions.{base_of, bases_of, pages_in}
+use Rattle.ffa_memshare.specs.Grants.{with_rights}
 use Rattle.ffa_model.specs.SoundState.{IsKnown, IsSoundState}
+use Rattle.ffa_spmc.specs.Meaning.{access_by_place}
 use Rattle.ffa_model.proofs.Accesses.{named-in}
 use Rattle.ffa_model.proofs.CallAccesses.{donate-named, donate-other, relinquish-beside, relinquish-named, relinquish-other, retrieve-beside, retrieve-named, retrieve-other, runner-known, send-named, send-other, sendable-unnamed}
 use Rattle.ffa_model.proofs.NamedPages.{listed-each}
-use Rattle.ffa_model.proofs.Places.{known-named}
-
--- the access where the endpoint at a place has other rights to the pages that are named
-abbrev pub granted : (ℕ → ℕ → Option Rights) → ℕ → (ℕ → Bool) → (ℕ → Option Rights) → ℕ → ℕ → Option Rights
-granted access index named right e p = if e == index && named p then right p else access e p
-
--- the access of a state, by the endpoint's place
-abbrev pub access_at : State → ℕ → ℕ → Option Rights
-access_at s i p = access s (identifier i) p
-
-pub place-identifier : (i : ℕ) → place (identifier i) ≡ i
-place-identifier zero = refl
-place-identifier (suc i) = omega arith
+use Rattle.ffa_model.proofs.Places.{known-named, place-identifier}
 
 -- by the three cases of a page and an endpoint
 granted-by : (access : ℕ → ℕ → Option Rights) (index : ℕ) (named : ℕ → Bool) (right : ℕ → Option Rights) (i p : ℕ) (target : Option Rights)
     → (i ≡ index → named p ≡ true → right p ≡ target)
     → ((i ≡ index → ⊥) → named p ≡ true → access i p ≡ target)
     → (named p ≡ false → access i p ≡ target)
-    → granted access index named right i p ≡ target
+    → with_rights access index named right i p ≡ target
 granted-by access index named right i p target own others beside = of (named p) refl
   where
     off : (b : Bool) → (b && false) ≡ false
@@ -114,9 +104,9 @@ pub send-granted : (s : State) → IsSoundState s → (kind : Kind) (r : SendRec
     → list_all (is_sendable s.runner (candidates s) s.buffers) (pages_in (bases_of s) r.ranges) ≡ true
     → p < length s.pages
     → right p ≡ (if is_share kind then base_of s p else None)
-    → granted (access_at s) (place s.runner) (names s r.ranges) right i p ≡ access_at (memory_sent s kind (Some r)) i p
+    → with_rights (access_by_place s) (place s.runner) (names s r.ranges) right i p ≡ access_by_place (memory_sent s kind (Some r)) i p
 send-granted s sound kind r right i p own all lt is =
-    granted-by (access_at s) (place s.runner) (names s r.ranges) right i p (access_at (memory_sent s kind (Some r)) i p)
+    granted-by (access_by_place s) (place s.runner) (names s r.ranges) right i p (access_by_place (memory_sent s kind (Some r)) i p)
     (λ at named.
     is
     ∙ own-kept (is_share kind) r.sender (identifier i) (page_at s p) (own ∙ sym (at-place s s.runner i (runner-known s sound) at))
@@ -131,9 +121,9 @@ send-granted s sound kind r right i p own all lt is =
 module _ (s : State) (sound : IsSoundState s) (h : ℕ) (t : Transaction) (was : transaction_of s h ≡ Some t) (right : ℕ → Option Rights) (i p : ℕ) (lt : p < length s.pages) where
   -- the runner has given up what it held
   pub relinquish-granted : (d : RelinquishDesc) → d.handle ≡ h → (t.sender ≡ s.runner → ⊥) → right p ≡ None
-      → granted (access_at s) (place s.runner) (names s t.ranges) right i p ≡ access_at (relinquished_from s d (Some t)) i p
+      → with_rights (access_by_place s) (place s.runner) (names s t.ranges) right i p ≡ access_by_place (relinquished_from s d (Some t)) i p
   relinquish-granted d is other none =
-      granted-by (access_at s) (place s.runner) (names s t.ranges) right i p (access_at (relinquished_from s d (Some t)) i p)
+      granted-by (access_by_place s) (place s.runner) (names s t.ranges) right i p (access_by_place (relinquished_from s d (Some t)) i p)
       (λ at named.
       let e : s.runner ≡ identifier i = sym (at-place s s.runner i (runner-known s sound) at) in
       none
@@ -145,9 +135,9 @@ module _ (s : State) (sound : IsSoundState s) (h : ℕ) (t : Transaction) (was :
 
   -- an endpoint has taken this right
   pub retrieve-granted : (e : ℕ) (its : Rights) → IsKnown s e → is_donate t.kind ≡ false → right p ≡ Some its
-      → granted (access_at s) (place e) (names s t.ranges) right i p ≡ access_at (retrieved_right s h t e its) i p
+      → with_rights (access_by_place s) (place e) (names s t.ranges) right i p ≡ access_by_place (retrieved_right s h t e its) i p
   retrieve-granted e its known borrowed is =
-      granted-by (access_at s) (place e) (names s t.ranges) right i p (access_at (retrieved_right s h t e its) i p)
+      granted-by (access_by_place s) (place e) (names s t.ranges) right i p (access_by_place (retrieved_right s h t e its) i p)
       (λ at named.
       let good = sound.transactions h t was in
       let page = owned-page s t.sender p good.sender (good.owned p lt named) in
@@ -159,9 +149,9 @@ module _ (s : State) (sound : IsSoundState s) (h : ℕ) (t : Transaction) (was :
 
   -- a donate is an endpoint's own, with this right; nobody else had one
   pub donate-granted : (e : ℕ) (its : Rights) → IsKnown s e → is_donate t.kind ≡ true → right p ≡ Some its
-      → granted (access_at s) (place e) (names s t.ranges) right i p ≡ access_at (retrieved_right s h t e its) i p
+      → with_rights (access_by_place s) (place e) (names s t.ranges) right i p ≡ access_by_place (retrieved_right s h t e its) i p
   donate-granted e its known donated is =
-      granted-by (access_at s) (place e) (names s t.ranges) right i p (access_at (retrieved_right s h t e its) i p)
+      granted-by (access_by_place s) (place e) (names s t.ranges) right i p (access_by_place (retrieved_right s h t e its) i p)
       (λ at named.
       let good = sound.transactions h t was in
       let page = owned-page s t.sender p good.sender (good.owned p lt named) in
