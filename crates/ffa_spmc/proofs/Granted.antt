@@ -12,7 +12,7 @@ use Rattle.ffa_model.specs.declared.rights.Rights.{Rights}
 use Rattle.ffa_model.specs.Identifiers.{identifier, manager, place}
 use Rattle.ffa_model.specs.Rights.{is_donate, is_share}
 use Rattle.ffa_model.specs.State.{State, Page, Transaction, is_known_among, owner_of, page_at, transaction_of}
-use Rattle.ffa_model.specs.Access.{access, handle_at, held_by, names, right_by, right_of}
+use Rattle.ffa_model.specs.Access.{access, handle_at, held_by, names, right_of}
 use Rattle.ffa_model.specs.Buffers.{Candidate, candidates}
 use Rattle.ffa_model.specs.SendDescriptor.{SendRecord}
 use Rattle.ffa_model.specs.MemorySend.{is_own, is_sendable, memory_sent}
@@ -24,6 +24,7 @@ use Rattle.ffa_model.proofs.Accesses.{named-in}
 use Rattle.ffa_model.proofs.CallAccesses.{donate-named, donate-other, relinquish-beside, relinquish-named, relinquish-other, retrieve-beside, retrieve-named, retrieve-other, runner-known, send-named, send-other, sendable-unnamed}
 use Rattle.ffa_model.proofs.NamedPages.{listed-each}
 use Rattle.ffa_model.proofs.Places.{known-named}
+use Rattle.ffa_memshare.proofs.Joined.{shareless-right}
 
 -- the access where the endpoint at a place has other rights to the pages that are named
 abbrev pub granted : (ℕ → ℕ → Option Rights) → ℕ → (ℕ → Bool) → (ℕ → Option Rights) → ℕ → ℕ → Option Rights
@@ -102,7 +103,7 @@ own-kept true sender e (Some q) is = sym (ap (λ b. cond b (Some q.base) None) (
 own-kept false sender e None is = refl
 own-kept false sender e (Some q) is = refl
 
-none-kept : (share : Bool) (sender e : ℕ) (page : Option Page) → (sender ≡ e → ⊥)
+pub none-kept : (share : Bool) (sender e : ℕ) (page : Option Page) → (sender ≡ e → ⊥)
     → None ≡ option_and_then (λ (q : Page). if share && sender == e then Some q.base else None) page
 none-kept share sender e None apart = refl
 none-kept true sender e (Some q) apart = sym (ap (λ b. cond b (Some q.base) None) (ne_eqb sender e apart))
@@ -142,7 +143,7 @@ module _ (s : State) (sound : IsSoundState s) (h : ℕ) (t : Transaction) (was :
       → access s f p ≡ access (retrieved_right s h t e its) f p
   donate-beside e f its donated named apart =
       ap (right_of f (page_at s p)) (named-in s p h t (λ k j at_k at_j. sound.one p k j lt at_k at_j) was named)
-      ∙ unheld (page_at s p) (held-none t.kind donated refl)
+      ∙ shareless-right (page_at s p) f t (held-none t.kind donated refl) (no-share t.kind donated)
       ∙ sym (kept (page_at s p))
       ∙ sym (donate-named s sound h t was p lt e its f donated named)
     where
@@ -159,10 +160,6 @@ module _ (s : State) (sound : IsSoundState s) (h : ℕ) (t : Transaction) (was :
       no-share Share is = absurd (false≢true is)
       no-share Lend is = refl
       no-share Donate is = refl
-
-      unheld : (o : Option Page) → held_by t f ≡ None → right_of f o (Some t) ≡ None
-      unheld None none = refl
-      unheld (Some q) none = ap (right_by f q t) none ∙ ap (λ b. cond (b && t.sender == f) (Some q.base) None) (no-share t.kind donated)
 
 module _ (s : State) (sound : IsSoundState s) (h : ℕ) (t : Transaction) (was : transaction_of s h ≡ Some t) (right : ℕ → Option Rights) (i p : ℕ) (lt : p < length s.pages) where
   -- the runner has given up what it held

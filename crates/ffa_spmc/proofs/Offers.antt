@@ -1,5 +1,5 @@
 -- FFA_MEM_DONATE, FFA_MEM_LEND and FFA_MEM_SHARE change the state as the small machine's.
-use Rattle.std.proofs.Common.{◌≡◌, ◌∙◌, ℕ, ◌<◌, Bool, true, false, List, length, take, Option, Some, None, Result, Ok, Err, refl, sym, ap, subst}
+use Rattle.std.proofs.Common.{◌≡◌, ◌∙◌, ℕ, ◌<◌, Bool, true, false, List, length, take, Option, Some, None, Result, Ok, Err, refl, sym, ap, subst, inr}
 use Rattle.std.specs.Prelude.{OnOk, OnErr, ◌&&◌, IfOk, if◌then◌else◌, is_some}
 use Rattle.std.specs.Option.{option_map}
 use Rattle.std.specs.Result.{result_err, result_ok}
@@ -35,14 +35,14 @@ use Rattle.ffa_memshare.specs.Scenes.{descriptor_in, scene_in}
 use Rattle.ffa_memshare.specs.Sent.{IsSent, right_after}
 use Rattle.ffa_memshare.specs.Stored.{Pooled, offers_in, slot_at as pool_slot}
 use Rattle.ffa_memshare.specs.declared.marks.Mark.TheVariants.{Named}
-use Rattle.ffa_spmc.specs.Changed.{AreAccessesKept}
+use Rattle.ffa_spmc.specs.AccessChange.{IsAccessChange, is_whose}
 use Rattle.ffa_spmc.specs.Meaning.{AreOffers, IsManager, IsOffered, Parts, access_by_place, state_of}
 use Rattle.ffa_spmc.specs.Replies.{handle_or_error}
 use Rattle.ffa_spmc.proofs.Answered.{answered-by, done-with, refused-so}
 use Rattle.ffa_spmc.proofs.Closes.{offers-opened, slot-opened}
 use Rattle.ffa_spmc.proofs.Granted.{send-granted}
 use Rattle.ffa_spmc.proofs.Held.{owners-size, parties_are, size_is}
-use Rattle.ffa_spmc.proofs.KeptAccesses.{accesses-kept, is_whose, sent-kept}
+use Rattle.ffa_spmc.proofs.AccessChanges.{access-changed, none-changed, sent-kept, sent-lost}
 use Rattle.ffa_spmc.proofs.Moves.{SameOwners, marked-owners, of-manifest, owners-moved, pages-moved, tables-moved}
 use Rattle.ffa_spmc.proofs.Pools.{base-is, named-kept, slot-open}
 use Rattle.ffa_spmc.proofs.Retrieves.{scene-is}
@@ -171,12 +171,15 @@ module _ (x : Parts) (machine : IsManager x) (e : ℕ) (at : e ≡ x.kept.chain.
           sound = subst IsSoundState (sym state-sent) (send-sound s machine.sound kind a (sym none));
         }
 
-    pub accesses-sent : AreAccessesKept s (state_of after_offer) (Some changed)
-    accesses-sent =
-        accesses-kept x after_offer machine machine-sent refl changed r.ranges (changed_sender kind e) done.access
-        (λ f p lt kept.
-        ap (λ (z : State). access z f p) state-from
-        ∙ sent-kept s machine.sound f p lt kind r good.sender good.free (ap (λ (g : ℕ). names s r.ranges p && is_whose (changed_sender kind g) f) (sym at) ∙ kept))
+    -- of access
+    by-runner : (f p : ℕ) → (names s r.ranges p && is_whose (changed_sender kind s.runner) f) ≡ (names s r.ranges p && is_whose (changed_sender kind e) f)
+    by-runner f p = ap (λ (g : ℕ). names s r.ranges p && is_whose (changed_sender kind g) f) (sym at)
+
+    pub access-sent : IsAccessChange s (state_of after_offer) (Some changed)
+    access-sent =
+        access-changed x after_offer machine machine-sent refl changed r.ranges (changed_sender kind e) done.access offered.placed
+        (λ f p lt its. inr (ap (λ (z : State). access z f p) state-from ∙ sent-lost s machine.sound f p lt kind r good.sender good.free (by-runner f p ∙ its)))
+        (λ f p lt kept. ap (λ (z : State). access z f p) state-from ∙ sent-kept s machine.sound f p lt kind r good.sender good.free (by-runner f p ∙ kept))
 
   -- the clauses of the pool's call
   module _ (result : Result Sent ErrorCode)
@@ -214,10 +217,10 @@ module _ (x : Parts) (machine : IsManager x) (e : ℕ) (at : e ≡ x.kept.chain.
         of (Ok sent) passes same facts = machine-sent sent.changed passes facts
         of (Err code) fails same facts = subst IsManager (sym same) machine
 
-    pub offer-kept : AreAccessesKept s (state_of after_offer) (option_map (λ (sent : Sent). sent.changed) (result_ok result))
-    offer-kept = of result refuses unchanged done
+    pub offer-changes : IsAccessChange s (state_of after_offer) (option_map (λ (sent : Sent). sent.changed) (result_ok result))
+    offer-changes = of result refuses unchanged done
       where
         of : (r : Result Sent ErrorCode) → result_err r ≡ first_failure guards → OnErr r (after_offer ≡ x) → IfOk r (λ sent. IsDone sent.changed)
-            → AreAccessesKept s (state_of after_offer) (option_map (λ (sent : Sent). sent.changed) (result_ok r))
-        of (Ok sent) passes same facts = accesses-sent sent.changed passes facts
-        of (Err code) fails same facts = λ f p none. ap (λ (y : Parts). access (state_of y) f p) same
+            → IsAccessChange s (state_of after_offer) (option_map (λ (sent : Sent). sent.changed) (result_ok r))
+        of (Ok sent) passes same facts = access-sent sent.changed passes facts
+        of (Err code) fails same facts = none-changed s (state_of after_offer) (λ f p. ap (λ (y : Parts). access (state_of y) f p) same)

@@ -1,5 +1,5 @@
 -- FFA_MEM_RECLAIM changes the state as the small machine's.
-use Rattle.std.proofs.Common.{◌≡◌, ◌∙◌, ℕ, ◌<◌, Bool, true, List, length, Option, Some, None, Result, Ok, Err, refl, sym, ap, subst, arith}
+use Rattle.std.proofs.Common.{◌≡◌, ◌∙◌, ℕ, ◌<◌, Bool, true, List, length, Option, Some, None, Result, Ok, Err, refl, sym, ap, subst, arith, inl}
 use Rattle.std.specs.Prelude.{◌==◌, ◌&&◌, IfOk, OnOk, OnErr}
 use Rattle.std.specs.Result.{result_err, result_ok}
 use Rattle.std.specs.FinMap as finite
@@ -31,12 +31,12 @@ use Rattle.ffa_memshare.specs.SlotChanges.{IsClosed}
 use Rattle.ffa_memshare.specs.Stored.{Pooled, map_in, offers_in}
 use Rattle.ffa_memshare.specs.declared.marks.Mark.TheVariants.{Named}
 use Rattle.ffa_memshare.proofs.Joined.{reclaim-access}
-use Rattle.ffa_spmc.specs.Changed.{AreAccessesKept}
+use Rattle.ffa_spmc.specs.AccessChange.{IsAccessChange, is_whose}
 use Rattle.ffa_spmc.specs.Meaning.{AreOffers, IsManager, Parts, access_by_place, state_of}
 use Rattle.ffa_spmc.specs.Replies.{done_or_error}
 use Rattle.ffa_spmc.proofs.Answered.{answered-by, done-replies, done-so, refused-so}
 use Rattle.ffa_spmc.proofs.Closes.{offers-closed, slot-marked}
-use Rattle.ffa_spmc.proofs.KeptAccesses.{accesses-kept, is_whose, reclaimed-kept}
+use Rattle.ffa_spmc.proofs.AccessChanges.{access-changed, none-changed, reclaimed-kept, reclaimed-new}
 use Rattle.ffa_spmc.proofs.Moves.{SameOwners, marked-owners, of-manifest, owners-moved, pages-moved, tables-moved}
 use Rattle.ffa_spmc.proofs.Pools.{base-is, bases-are, slot-open}
 
@@ -126,13 +126,16 @@ module _ (x : Parts) (machine : IsManager x) (e : ℕ) (at : e ≡ x.kept.chain.
           sound = subst IsSoundState (sym state-reclaimed) (reclaimed-sound s machine.sound h t was (is_set 0 flags));
         }
 
-    accesses-reclaimed : (changed : Changed) → IsTold changed → AreAccessesKept s (state_of after_reclaim) (Some changed)
-    accesses-reclaimed changed told =
-        accesses-kept x after_reclaim machine machine-reclaimed refl changed t.ranges (changed_sender t.kind e)
+    by-sender : (f p : ℕ) → (names s t.ranges p && is_whose (changed_sender t.kind t.sender) f) ≡ (names s t.ranges p && is_whose (changed_sender t.kind e) f)
+    by-sender f p = ap (λ (g : ℕ). names s t.ranges p && is_whose (changed_sender t.kind g) f) sender
+
+    access-reclaimed : (changed : Changed) → IsTold changed → IsAccessChange s (state_of after_reclaim) (Some changed)
+    access-reclaimed changed told =
+        access-changed x after_reclaim machine machine-reclaimed refl changed t.ranges (changed_sender t.kind e)
         (subst (λ (o : Option Transaction). IsChanged changed (named_ranges o) (changed_reclaimer o e)) was told)
-        (λ f p lt kept.
-        ap (λ (z : State). access z f p) state-reclaimed
-        ∙ reclaimed-kept s machine.sound f p lt h t was unheld (is_set 0 flags) (ap (λ (g : ℕ). names s t.ranges p && is_whose (changed_sender t.kind g) f) sender ∙ kept))
+        (machine.offers.offered done.slot.slot h t done.slot.was).placed
+        (λ f p lt its. inl (reclaimed-new s machine.sound f p lt h t was unheld (by-sender f p ∙ its)))
+        (λ f p lt kept. ap (λ (z : State). access z f p) state-reclaimed ∙ reclaimed-kept s machine.sound f p lt h t was unheld (is_set 0 flags) (by-sender f p ∙ kept))
 
   -- the clauses of the pool's call
   module _ (r : Result Changed ErrorCode) (refusal : result_err r ≡ first_failure (reclaim_guards (bases_in x.kept.pages x.kept.layout.base) e flags (finite.get (map_in x.kept.pool.slots) h)))
@@ -178,9 +181,9 @@ module _ (x : Parts) (machine : IsManager x) (e : ℕ) (at : e ≡ x.kept.chain.
         of (Ok told) passes same facts = machine-reclaimed passes facts
         of (Err code) fails same facts = subst IsManager (sym same) machine
 
-    pub reclaim-kept : AreAccessesKept s (state_of after_reclaim) (result_ok r)
-    reclaim-kept = of r refuses unchanged done changed
+    pub reclaim-changes : IsAccessChange s (state_of after_reclaim) (result_ok r)
+    reclaim-changes = of r refuses unchanged done changed
       where
-        of : (r : Result Changed ErrorCode) → result_err r ≡ first_failure guards → OnErr r (after_reclaim ≡ x) → OnOk r IsReclaimed → IfOk r IsTold → AreAccessesKept s (state_of after_reclaim) (result_ok r)
-        of (Ok told) passes same facts is = accesses-reclaimed passes facts told is
-        of (Err code) fails same facts is = λ f p none. ap (λ (y : Parts). access (state_of y) f p) same
+        of : (r : Result Changed ErrorCode) → result_err r ≡ first_failure guards → OnErr r (after_reclaim ≡ x) → OnOk r IsReclaimed → IfOk r IsTold → IsAccessChange s (state_of after_reclaim) (result_ok r)
+        of (Ok told) passes same facts is = access-reclaimed passes facts told is
+        of (Err code) fails same facts is = none-changed s (state_of after_reclaim) (λ f p. ap (λ (y : Parts). access (state_of y) f p) same)

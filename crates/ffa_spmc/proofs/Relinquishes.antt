@@ -1,5 +1,5 @@
 -- FFA_MEM_RELINQUISH changes the state as the small machine's.
-use Rattle.std.proofs.Common.{◌≡◌, ◌∙◌, ℕ, ◌<◌, Bool, true, List, length, Some, None, Result, Ok, Err, refl, sym, ap, subst}
+use Rattle.std.proofs.Common.{◌≡◌, ◌∙◌, ℕ, ◌<◌, Bool, true, List, length, Some, None, Result, Ok, Err, refl, sym, ap, subst, inr}
 use Rattle.std.specs.Prelude.{◌==◌, ◌&&◌, IfOk, OnErr}
 use Rattle.std.specs.Result.{result_err, result_ok}
 use Rattle.std.proofs.lemmas.Bool.{false≢true}
@@ -27,13 +27,13 @@ use Rattle.ffa_memshare.specs.Ranges.{in_ranges}
 use Rattle.ffa_memshare.specs.Relinquished.{IsRelinquished}
 use Rattle.ffa_memshare.specs.Stored.{Pooled, offers_in}
 use Rattle.ffa_memshare.specs.Scenes.{tx_in}
-use Rattle.ffa_spmc.specs.Changed.{AreAccessesKept}
+use Rattle.ffa_spmc.specs.AccessChange.{IsAccessChange}
 use Rattle.ffa_spmc.specs.Meaning.{AreOffers, IsManager, Parts, access_by_place, state_of}
 use Rattle.ffa_spmc.specs.Replies.{done_or_error}
 use Rattle.ffa_spmc.proofs.Answered.{answered-by, done-replies, done-with, refused-so}
 use Rattle.ffa_spmc.proofs.Closes.{offers-reheld}
 use Rattle.ffa_spmc.proofs.Granted.{relinquish-granted}
-use Rattle.ffa_spmc.proofs.KeptAccesses.{accesses-kept, relinquished-kept}
+use Rattle.ffa_spmc.proofs.AccessChanges.{access-changed, none-changed, relinquished-kept, relinquished-lost}
 use Rattle.ffa_spmc.proofs.Moves.{of-manifest, pages-moved, same-owners, tables-moved}
 use Rattle.ffa_spmc.proofs.Pools.{open-slot}
 use Rattle.ffa_spmc.proofs.Sends.{sent-is}
@@ -115,12 +115,15 @@ module _ (x : Parts) (machine : IsManager x) (e : ℕ) (at : e ≡ x.kept.chain.
           sound = subst IsSoundState (sym state-from) (relinquished-sound s machine.sound d t was);
         }
 
-    pub accesses-relinquished : AreAccessesKept s (state_of after_relinquish) (Some changed)
-    accesses-relinquished =
-        accesses-kept x after_relinquish machine machine-relinquished refl changed t.ranges (Some (record { 0 = e })) done.access
-        (λ f p lt kept.
-        ap (λ (z : State). access z f p) state-from
-        ∙ relinquished-kept s machine.sound f p lt d.handle t was d refl (ap (λ (g : ℕ). names s t.ranges p && g == f) (sym at) ∙ kept))
+    by-runner : (f p : ℕ) → (names s t.ranges p && s.runner == f) ≡ (names s t.ranges p && e == f)
+    by-runner f p = ap (λ (g : ℕ). names s t.ranges p && g == f) (sym at)
+
+    pub access-relinquished : IsAccessChange s (state_of after_relinquish) (Some changed)
+    access-relinquished =
+        access-changed x after_relinquish machine machine-relinquished refl changed t.ranges (Some (record { 0 = e })) done.access
+        (let slot = open-slot x machine d.handle t was in (machine.offers.offered slot.0 d.handle t slot.1).placed)
+        (λ f p lt its. inr (ap (λ (z : State). access z f p) state-from ∙ relinquished-lost s machine.sound f p lt d.handle t was d refl other (by-runner f p ∙ its)))
+        (λ f p lt kept. ap (λ (z : State). access z f p) state-from ∙ relinquished-kept s machine.sound f p lt d.handle t was d refl (by-runner f p ∙ kept))
 
   -- the clauses of the pool's call
   module _ (r : Result Changed ErrorCode) (refusal : result_err r ≡ first_failure (relinquish_guards (buffers_in x.kept.buffers e) (offers_in x.kept.pool) e (relinquish_of bytes)))
@@ -151,9 +154,9 @@ module _ (x : Parts) (machine : IsManager x) (e : ℕ) (at : e ≡ x.kept.chain.
         of (Ok changed) passes same facts = machine-relinquished changed passes facts
         of (Err code) fails same facts = subst IsManager (sym same) machine
 
-    pub relinquish-kept : AreAccessesKept s (state_of after_relinquish) (result_ok r)
-    relinquish-kept = of r refuses unchanged done
+    pub relinquish-changes : IsAccessChange s (state_of after_relinquish) (result_ok r)
+    relinquish-changes = of r refuses unchanged done
       where
-        of : (r : Result Changed ErrorCode) → result_err r ≡ first_failure guards → OnErr r (after_relinquish ≡ x) → IfOk r IsDone → AreAccessesKept s (state_of after_relinquish) (result_ok r)
-        of (Ok changed) passes same facts = accesses-relinquished changed passes facts
-        of (Err code) fails same facts = λ f p none. ap (λ (y : Parts). access (state_of y) f p) same
+        of : (r : Result Changed ErrorCode) → result_err r ≡ first_failure guards → OnErr r (after_relinquish ≡ x) → IfOk r IsDone → IsAccessChange s (state_of after_relinquish) (result_ok r)
+        of (Ok changed) passes same facts = access-relinquished changed passes facts
+        of (Err code) fails same facts = none-changed s (state_of after_relinquish) (λ f p. ap (λ (y : Parts). access (state_of y) f p) same)

@@ -1,8 +1,9 @@
 -- FFA_MEM_RETRIEVE_REQ changes the state as the small machine's.
-use Rattle.std.proofs.Common.{◌≡◌, ◌∙◌, ℕ, ◌<◌, Bool, true, false, List, length, take, Option, Some, None, Result, Ok, Err, refl, sym, ap, subst}
-use Rattle.std.specs.Prelude.{◌==◌, ◌&&◌, IfOk, OnOk, OnErr}
+use Rattle.std.proofs.Common.{◌≡◌, ◌∙◌, ℕ, ◌<◌, Bool, true, false, List, length, take, Option, Some, None, Result, Ok, Err, refl, sym, ap, subst, inl}
+use Rattle.std.specs.Prelude.{◌==◌, ◌&&◌, is_none, IfOk, OnOk, OnErr}
 use Rattle.std.specs.Option.{option_map, option_map_or}
 use Rattle.std.specs.Result.{result_err, result_ok}
+use Rattle.std.proofs.lemmas.Bool.{false≢true}
 use Rattle.std.proofs.lemmas.Option.{same_Some}
 use Rattle.arrayvec.specs.ArrayVec.{array_vec_len}
 use Rattle.ffa_model.specs.declared.call.Call.TheVariants.{MemRetrieve}
@@ -14,7 +15,7 @@ use Rattle.ffa_model.specs.declared.operation.ErrorCode.TheVariants.{InvalidPara
 use Rattle.ffa_model.specs.declared.rights.Kind.{Kind}
 use Rattle.ffa_model.specs.declared.rights.Kind.TheVariants.{Share, Lend, Donate}
 use Rattle.ffa_model.specs.declared.rights.Rights.{Rights}
-use Rattle.ffa_model.specs.Access.{access, is_receiver, names}
+use Rattle.ffa_model.specs.Access.{access, held_by, is_receiver, names}
 use Rattle.ffa_model.specs.Buffers.{buffers_in, buffers_with_rx, filled, is_full}
 use Rattle.ffa_model.specs.Calls.{first_failure, replied, served}
 use Rattle.ffa_model.specs.Identifiers.{identifier, place}
@@ -41,8 +42,8 @@ use Rattle.ffa_memshare.specs.Retrieved.{IsPassedOn, IsRetrieved, IsTaken}
 use Rattle.ffa_memshare.specs.Scenes.{after_transfer, descriptor_in, scene_in}
 use Rattle.ffa_memshare.specs.SlotChanges.{IsClosed, IsHeldBy}
 use Rattle.ffa_memshare.specs.Stored.{Pooled, offers_in, slot_at as pool_slot}
-use Rattle.ffa_spmc.specs.Changed.{AreAccessesKept}
-use Rattle.ffa_spmc.specs.Meaning.{AreOffers, HasTables, IsManager, Parts, access_by_place, state_of}
+use Rattle.ffa_spmc.specs.AccessChange.{IsAccessChange}
+use Rattle.ffa_spmc.specs.Meaning.{AreOffers, HasTables, IsManager, IsOffered, Parts, access_by_place, state_of}
 use Rattle.ffa_spmc.specs.Replies.{retrieved_or_error}
 use Rattle.ffa_spmc.proofs.Answered.{answered-by, passed-state, refused-so}
 use Rattle.ffa_spmc.proofs.Candidates.{candidates-are}
@@ -51,9 +52,9 @@ use Rattle.ffa_spmc.proofs.Donations.{owners-passed, pages-passed}
 use Rattle.ffa_spmc.proofs.Fills.{runner-there, state-filled, tables-filled, after_fill}
 use Rattle.ffa_spmc.proofs.Granted.{donate-granted, retrieve-granted}
 use Rattle.ffa_spmc.proofs.Held.{parties_are}
-use Rattle.ffa_spmc.proofs.KeptAccesses.{accesses-kept, retrieved-kept}
+use Rattle.ffa_spmc.proofs.AccessChanges.{access-changed, none-changed, retrieved-kept, retrieved-new}
 use Rattle.ffa_spmc.proofs.Moves.{of-manifest, same-owners, slot-given, tables-moved}
-use Rattle.ffa_spmc.proofs.Pools.{bases-are, slot-open}
+use Rattle.ffa_spmc.proofs.Pools.{bases-are, open-slot, slot-open}
 use Rattle.ffa_spmc.proofs.Sends.{sent-is}
 
 -- what the checks of a call read is the same in the state
@@ -233,12 +234,30 @@ module _ (x : Parts) (machine : IsManager x) (e : EndpointId) (at : e.0 ≡ x.ke
         ap Retrieved (done.answer.bytes
         ∙ sym (ap (response_length s) read ∙ ap (λ o. option_map_or (λ (u : Transaction). response_size u.ranges) o 0) was))
 
-    pub accesses-retrieved : AreAccessesKept s (state_of after_retrieve) (Some taken.changed)
-    accesses-retrieved =
-        accesses-kept x after_retrieve machine machine-retrieved refl taken.changed t.ranges (Some e) done.access
+    -- of access
+    offered : IsOffered x.manifest t
+    offered = let slot = open-slot x machine d.handle t was in machine.offers.offered slot.0 d.handle t slot.1
+
+    by-runner : (f p : ℕ) → (names s t.ranges p && s.runner == f) ≡ (names s t.ranges p && e.0 == f)
+    by-runner f p = ap (λ (g : ℕ). names s t.ranges p && g == f) (sym at)
+
+    pub access-retrieved : IsAccessChange s (state_of after_retrieve) (Some taken.changed)
+    access-retrieved =
+        access-changed x after_retrieve machine machine-retrieved refl taken.changed t.ranges (Some e) done.access offered.placed
+        (λ f p lt its. inl (retrieved-new s machine.sound f p lt d.handle t was s.runner unheld other (by-runner f p ∙ its)))
         (λ f p lt kept.
         ap (λ (z : State). access z f p) (state-retrieved ∙ ap (retrieved s) read ∙ ap (retrieved_from s d) was)
-        ∙ retrieved-kept s machine.sound f p lt d.handle t was s.runner (right_for (bases_of s) t s.runner d) (ap (λ (g : ℕ). names s t.ranges p && g == f) (sym at) ∙ kept))
+        ∙ retrieved-kept s machine.sound f p lt d.handle t was s.runner (right_for (bases_of s) t s.runner d) (by-runner f p ∙ kept))
+      where
+        none-of : (o : Option Rights) → is_none o ≡ true → o ≡ None
+        none-of None is = refl
+        none-of (Some its) is = absurd (false≢true is)
+
+        unheld : held_by t s.runner ≡ None
+        unheld = none-of (held_by t s.runner) (guard-passes checked 9 Denied passes)
+
+        other : t.sender ≡ s.runner → ⊥
+        other same = false≢true (sym offered.other ∙ ap (λ (f : ℕ). is_receiver f t) same ∙ receiver)
 
   -- the clauses of the pool's call
   module _ (r : Result Taken ErrorCode)
@@ -284,10 +303,10 @@ module _ (x : Parts) (machine : IsManager x) (e : EndpointId) (at : e.0 ≡ x.ke
         of (Ok taken) none same fills facts = machine-retrieved taken none facts fills
         of (Err code) fails same fills facts = subst IsManager (sym same) machine
 
-    pub retrieve-kept : AreAccessesKept s (state_of after_retrieve) (option_map (λ (taken : Taken). taken.changed) (result_ok r))
-    retrieve-kept = of r refuses unchanged full done
+    pub retrieve-changes : IsAccessChange s (state_of after_retrieve) (option_map (λ (taken : Taken). taken.changed) (result_ok r))
+    retrieve-changes = of r refuses unchanged full done
       where
         of : (r : Result Taken ErrorCode) → result_err r ≡ first_failure guards → OnErr r (after_retrieve ≡ x) → OnOk r (buffers ≡ buffers_with_rx x.kept.buffers e.0 true) → IfOk r IsDone
-            → AreAccessesKept s (state_of after_retrieve) (option_map (λ (taken : Taken). taken.changed) (result_ok r))
-        of (Ok taken) none same fills facts = accesses-retrieved taken none facts fills
-        of (Err code) fails same fills facts = λ f p none. ap (λ (y : Parts). access (state_of y) f p) same
+            → IsAccessChange s (state_of after_retrieve) (option_map (λ (taken : Taken). taken.changed) (result_ok r))
+        of (Ok taken) none same fills facts = access-retrieved taken none facts fills
+        of (Err code) fails same fills facts = none-changed s (state_of after_retrieve) (λ f p. ap (λ (y : Parts). access (state_of y) f p) same)

@@ -1,9 +1,10 @@
 //! Answers to calls: what the caller sees, and whose access to which pages changed.
-ghost use Rattle.std.specs.Prelude.{◌≡◌, None};
+ghost use Rattle.std.specs.Prelude.{true, ◌≡◌, None};
 ghost use Rattle.std.specs.Option.{option_map};
 ghost use Rattle.std.specs.Result.{result_ok};
 ghost use Rattle.ffa_memshare.specs.declared.changed.Retrieved.{Retrieved as Taken};
 ghost use Rattle.ffa_memshare.specs.declared.changed.Sent.{Sent as Given};
+ghost use Rattle.ffa_model.specs.Refusals.{is_error};
 ghost use Rattle.ffa_spmc.specs.Replies.{done_or_error, handle_or_error, retrieved_or_error};
 
 use crate::replies::{DONE, handle_reply};
@@ -32,6 +33,7 @@ impl Answer {
     pub(crate) fn sent(sent: Result<Sent, ErrorCode>) -> Answer
         ensures reply { result.reply ≡ handle_or_error sent }
         ensures changed { result.changed ≡ option_map (λ (x : Given). x.changed) (result_ok sent) }
+        ensures unchanged { is_error result.reply ≡ true → result.changed ≡ None }
     {
         match sent {
             Ok(Sent { handle, changed }) => Answer {
@@ -46,6 +48,7 @@ impl Answer {
     pub(crate) fn retrieved(retrieved: Result<Retrieved, ErrorCode>) -> Answer
         ensures reply { result.reply ≡ retrieved_or_error retrieved }
         ensures changed { result.changed ≡ option_map (λ (x : Taken). x.changed) (result_ok retrieved) }
+        ensures unchanged { is_error result.reply ≡ true → result.changed ≡ None }
     {
         match retrieved {
             Ok(Retrieved { size, changed }) => Answer {
@@ -60,6 +63,7 @@ impl Answer {
     pub(crate) fn returned(changed: Result<Changed, ErrorCode>) -> Answer
         ensures reply { result.reply ≡ done_or_error changed }
         ensures changed { result.changed ≡ result_ok changed }
+        ensures unchanged { is_error result.reply ≡ true → result.changed ≡ None }
     {
         match changed {
             Ok(changed) => Answer {

@@ -1,5 +1,5 @@
 //! The partition manager: what it keeps, and what its calls and accesses do.
-ghost use Rattle.std.specs.Prelude.{true, false, ◌≡◌, ℕ, ◌*◌, ◌<◌, ◌≤◌, length, replicate};
+ghost use Rattle.std.specs.Prelude.{true, false, ◌≡◌, None, ℕ, ◌*◌, ◌<◌, ◌≤◌, length, replicate};
 ghost use Rattle.ffa_model.specs.Access.{access};
 ghost use Rattle.ffa_model.specs.Agreement.{Agrees};
 ghost use Rattle.ffa_model.specs.Calls.{replied, served};
@@ -12,7 +12,7 @@ ghost use Rattle.ffa_model.specs.Registers.{served_call};
 ghost use Rattle.ffa_model.specs.State.{owner_of};
 ghost use Rattle.ffa_model.specs.Step.{serve};
 ghost use Rattle.ffa_spmc.specs.Arms.{is_on_memory};
-ghost use Rattle.ffa_spmc.specs.Changed.{AreAccessesKept};
+ghost use Rattle.ffa_spmc.specs.AccessChange.{IsAccessChange};
 
 mod accesses;
 mod buffers;
@@ -142,7 +142,8 @@ impl<M: PhysMem + Drop> Manager<M> {
         ensures outcome { result.outcome ≡ (serve self.old.state (served_call x)).outcome }
         ensures state { self.new.state ≡ (serve self.old.state (served_call x)).state }
         ensures refused { is_refusal result.outcome ≡ true → self.new ≡ self.old }
-        ensures kept { AreAccessesKept self.old.state self.new.state result.changed }
+        ensures access { IsAccessChange self.old.state self.new.state result.changed }
+        ensures unchanged { is_refusal result.outcome ≡ true → result.changed ≡ None }
     {
         let answer = self.answer(served_call(x));
         Called {
@@ -159,7 +160,8 @@ impl<M: PhysMem + Drop> Manager<M> {
         requires { passes_no_error call ≡ true }
         ensures served { replied self.new.state result.reply ≡ serve self.old.state call }
         ensures refused { is_error result.reply ≡ true → self.new ≡ self.old }
-        ensures kept { AreAccessesKept self.old.state self.new.state result.changed }
+        ensures access { IsAccessChange self.old.state self.new.state result.changed }
+        ensures unchanged { is_error result.reply ≡ true → result.changed ≡ None }
     {
         if is_on_memory(&call) {
             return self.memory_answer(call);

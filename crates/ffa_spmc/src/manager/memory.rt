@@ -1,5 +1,5 @@
 //! The calls on memory.
-ghost use Rattle.std.specs.Prelude.{true, ◌≡◌};
+ghost use Rattle.std.specs.Prelude.{true, ◌≡◌, None};
 ghost use Rattle.ffa_model.specs.Calls.{replied, served};
 ghost use Rattle.ffa_model.specs.Refusals.{is_error};
 ghost use Rattle.ffa_model.specs.MemoryRetrieve.{memory_retrieve};
@@ -8,7 +8,7 @@ ghost use Rattle.ffa_model.specs.MemorySend.{memory_send};
 ghost use Rattle.ffa_model.specs.Transactions.{transfer};
 ghost use Rattle.ffa_model.specs.Step.{serve};
 ghost use Rattle.ffa_spmc.specs.Arms.{is_on_memory};
-ghost use Rattle.ffa_spmc.specs.Changed.{AreAccessesKept};
+ghost use Rattle.ffa_spmc.specs.AccessChange.{IsAccessChange};
 ghost use Rattle.ffa_memshare.specs.Scenes.{transfer_of};
 
 use super::Manager;
@@ -50,7 +50,8 @@ impl<M: PhysMem + Drop> Manager<M> {
         requires { is_on_memory call ≡ true }
         ensures served { replied self.new.state result.reply ≡ serve self.old.state call }
         ensures refused { is_error result.reply ≡ true → self.new ≡ self.old }
-        ensures kept { AreAccessesKept self.old.state self.new.state result.changed }
+        ensures access { IsAccessChange self.old.state self.new.state result.changed }
+        ensures unchanged { is_error result.reply ≡ true → result.changed ≡ None }
     {
         match call {
             Call::MemDonate {
@@ -87,7 +88,8 @@ impl<M: PhysMem + Drop> Manager<M> {
     fn offer(&mut self, kind: Kind, transfer: &Transfer) -> Answer
         ensures served { replied self.new.state result.reply ≡ served self.old.state (memory_send self.old.state kind (transfer_of transfer.now)) }
         ensures refused { is_error result.reply ≡ true → self.new ≡ self.old }
-        ensures kept { AreAccessesKept self.old.state self.new.state result.changed }
+        ensures access { IsAccessChange self.old.state self.new.state result.changed }
+        ensures unchanged { is_error result.reply ≡ true → result.changed ≡ None }
     {
         let runner = self.kept.chain.runner();
         let kept = &mut self.kept;
@@ -107,7 +109,8 @@ impl<M: PhysMem + Drop> Manager<M> {
     fn retrieve(&mut self, transfer: &Transfer) -> Answer
         ensures served { replied self.new.state result.reply ≡ served self.old.state (memory_retrieve self.old.state (transfer_of transfer.now)) }
         ensures refused { is_error result.reply ≡ true → self.new ≡ self.old }
-        ensures kept { AreAccessesKept self.old.state self.new.state result.changed }
+        ensures access { IsAccessChange self.old.state self.new.state result.changed }
+        ensures unchanged { is_error result.reply ≡ true → result.changed ≡ None }
     {
         let runner = self.kept.chain.runner();
         let kept = &mut self.kept;
@@ -126,7 +129,8 @@ impl<M: PhysMem + Drop> Manager<M> {
     fn relinquish(&mut self) -> Answer
         ensures served { replied self.new.state result.reply ≡ served self.old.state (memory_relinquish self.old.state) }
         ensures refused { is_error result.reply ≡ true → self.new ≡ self.old }
-        ensures kept { AreAccessesKept self.old.state self.new.state result.changed }
+        ensures access { IsAccessChange self.old.state self.new.state result.changed }
+        ensures unchanged { is_error result.reply ≡ true → result.changed ≡ None }
     {
         let runner = self.kept.chain.runner();
         let kept = &mut self.kept;
@@ -144,7 +148,8 @@ impl<M: PhysMem + Drop> Manager<M> {
     fn reclaim(&mut self, low: u32, high: u32, flags: u32) -> Answer
         ensures served { replied self.new.state result.reply ≡ served self.old.state (memory_reclaim self.old.state low high flags) }
         ensures refused { is_error result.reply ≡ true → self.new ≡ self.old }
-        ensures kept { AreAccessesKept self.old.state self.new.state result.changed }
+        ensures access { IsAccessChange self.old.state self.new.state result.changed }
+        ensures unchanged { is_error result.reply ≡ true → result.changed ≡ None }
     {
         let runner = self.kept.chain.runner();
         let handle = u64::from(high) * (1 << 32) + u64::from(low);
