@@ -2,6 +2,7 @@ pub mod Answered
 pub mod Granted
 pub mod Inside
 pub mod Held
+pub mod AccessChanges
 pub mod Pools
 pub mod Reaches
 pub mod Agreements

@@ -3,4 +3,5 @@ pub mod Snapshot
 pub mod Owners
 pub mod Meaning
 pub mod Replies
+pub mod AccessChange
 pub mod Arms

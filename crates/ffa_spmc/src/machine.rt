@@ -143,7 +143,7 @@ impl<M: PhysMem + Drop> Machine<M> {
         ensures refused { is_refusal result ≡ true → self.new ≡ self.old }
     {
         match *op {
-            Op::Call(x) => self.manager.call(x),
+            Op::Call(x) => self.manager.call(x).outcome,
             Op::Load { addr, size } => self.manager.load(addr, size),
             Op::Store { addr, size, value } => self.manager.store(addr, size, value),
             Op::Fetch { addr } => self.manager.fetch(addr),
