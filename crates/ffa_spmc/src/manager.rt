@@ -2,6 +2,7 @@
 ghost use Rattle.std.specs.Prelude.{true, false, ◌≡◌, None, ℕ, ◌*◌, ◌<◌, ◌≤◌, length, replicate};
 ghost use Rattle.ffa_model.specs.Access.{access};
 ghost use Rattle.ffa_model.specs.Agreement.{Agrees};
+ghost use Rattle.ffa_model.specs.Bits.{word_of_halves};
 ghost use Rattle.ffa_model.specs.Calls.{replied, served};
 ghost use Rattle.ffa_model.specs.First.{first};
 ghost use Rattle.ffa_model.specs.Manifest.{table_pages};
@@ -198,4 +199,11 @@ impl<M: PhysMem + Drop> Manager<M> {
             Call::Unknown => Reply::Error(ErrorCode::NotSupported),
         }
     }
+}
+
+// The word of which the registers of a call hold the halves.
+fn word_of_halves(low: u32, high: u32) -> u64
+    ensures { result ≡ word_of_halves low high }
+{
+    u64::from(high) * (1 << 32) + u64::from(low)
 }

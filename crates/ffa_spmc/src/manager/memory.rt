@@ -11,7 +11,7 @@ ghost use Rattle.ffa_spmc.specs.Arms.{is_on_memory};
 ghost use Rattle.ffa_spmc.specs.AccessChange.{IsAccessChange};
 ghost use Rattle.ffa_memshare.specs.Scenes.{transfer_of};
 
-use super::Manager;
+use super::{Manager, word_of_halves};
 use crate::answer::Answer;
 use ffa_memshare::Transfer;
 use ffa_model::{Call, Kind};
@@ -152,7 +152,7 @@ impl<M: PhysMem + Drop> Manager<M> {
         ensures unchanged { is_error result.reply ≡ true → result.changed ≡ None }
     {
         let runner = self.kept.chain.runner();
-        let handle = u64::from(high) * (1 << 32) + u64::from(low);
+        let handle = word_of_halves(low, high);
         let kept = &mut self.kept;
         let pages = &mut kept.pages;
         let pool = &mut kept.pool;

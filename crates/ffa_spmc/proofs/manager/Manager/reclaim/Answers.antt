@@ -1,9 +1,8 @@
-use Rattle.std.proofs.Common.{◌∙◌, ◌+◌, ◌*◌, ◌^◌, Option, sym, ap, subst}
+use Rattle.std.proofs.Common.{◌∙◌, Option, sym, ap, subst}
 use Rattle.std.specs.Result.{result_ok}
 use Rattle.ffa_model.specs.declared.call.Reply.{Reply}
 use Rattle.ffa_model.specs.Calls.{replied, served}
 use Rattle.ffa_model.specs.MemoryReturn.{memory_reclaim}
-use Rattle.ffa_model.specs.Transactions.{handle_of}
 use Rattle.ffa_memshare.specs.declared.changed.Changed.{Changed}
 use Rattle.ffa_spmc.specs.AccessChange.{IsAccessChange}
 use Rattle.ffa_spmc.specs.Meaning.{state_of}
@@ -22,7 +21,7 @@ pub invariant_of-self : goal.invariant_of-self
 invariant_of-self g c =
     let x = parts_of g.M.PhysMem.ram c.self.inside in
     reclaim-machine x c.self.invariant c.runner-runner.result.0 c.runner-runner.ensures.runner c.args.low c.args.high c.args.flags
-    (c.from.result * 2 ^ 32 + c.from-2.result) (λ i. handle_of (c.from.ensures i) (c.from-2.ensures i))
+    c.word_of_halves-handle.result c.word_of_halves-handle.ensures
     (g.M.PhysMem.ram c.reclaim.new.ram) c.reclaim.new.pages c.reclaim.new.self c.reclaim.result c.reclaim.ensures.refusal
     c.reclaim.ensures.kept c.reclaim.ensures.kept_pages c.reclaim.ensures.kept_ram
     c.reclaim.ensures.slot c.reclaim.ensures.offers c.reclaim.ensures.ram c.reclaim.ensures.pages c.reclaim.ensures.changed
@@ -35,7 +34,7 @@ returns-clause-served g c =
     replied (state_of (record x { ram = g.M.PhysMem.ram c.reclaim.new.ram; kept = record x.kept { pages = c.reclaim.new.pages; pool = c.reclaim.new.self } })) reply)
     c.returned.ensures.reply
     ∙ reclaim-served x c.self.invariant c.runner-runner.result.0 c.runner-runner.ensures.runner c.args.low c.args.high c.args.flags
-    (c.from.result * 2 ^ 32 + c.from-2.result) (λ i. handle_of (c.from.ensures i) (c.from-2.ensures i))
+    c.word_of_halves-handle.result c.word_of_halves-handle.ensures
     (g.M.PhysMem.ram c.reclaim.new.ram) c.reclaim.new.pages c.reclaim.new.self c.reclaim.result c.reclaim.ensures.refusal
     c.reclaim.ensures.kept c.reclaim.ensures.kept_pages c.reclaim.ensures.kept_ram
     c.reclaim.ensures.slot c.reclaim.ensures.offers c.reclaim.ensures.ram c.reclaim.ensures.pages c.reclaim.ensures.changed
@@ -48,7 +47,7 @@ returns-clause-access g c =
     subst (λ (changed : Option Changed). IsAccessChange c.args.self.now.state next changed) (sym c.returned.ensures.changed)
     (subst (λ (seen : Managed). IsAccessChange seen.state next (result_ok c.reclaim.result)) c.self.view_is
     (reclaim-changes x c.self.invariant c.runner-runner.result.0 c.runner-runner.ensures.runner c.args.low c.args.high c.args.flags
-    (c.from.result * 2 ^ 32 + c.from-2.result) (λ i. handle_of (c.from.ensures i) (c.from-2.ensures i))
+    c.word_of_halves-handle.result c.word_of_halves-handle.ensures
     (g.M.PhysMem.ram c.reclaim.new.ram) c.reclaim.new.pages c.reclaim.new.self c.reclaim.result c.reclaim.ensures.refusal
     c.reclaim.ensures.kept c.reclaim.ensures.kept_pages c.reclaim.ensures.kept_ram
     c.reclaim.ensures.slot c.reclaim.ensures.offers c.reclaim.ensures.ram c.reclaim.ensures.pages c.reclaim.ensures.changed))
