@@ -23,6 +23,5 @@ pub mod Relinquishes
 pub mod Donations
 pub mod Retrieves
 pub mod Offers
-pub mod ServedCalls
 pub mod Laws
 pub mod Notified

@@ -8,7 +8,7 @@ ghost use Rattle.ffa_model.specs.Manifest.{table_pages};
 ghost use Rattle.ffa_model.specs.Ram.{page_of, zero_ram};
 ghost use Rattle.ffa_model.specs.SoundState.{IsSoundState};
 ghost use Rattle.ffa_model.specs.Refusals.{is_error, is_refusal, passes_no_error};
-ghost use Rattle.ffa_model.specs.Registers.{served_call};
+ghost use Rattle.ffa_model.specs.Registers.{decode};
 ghost use Rattle.ffa_model.specs.State.{owner_of};
 ghost use Rattle.ffa_model.specs.Step.{serve};
 ghost use Rattle.ffa_spmc.specs.Arms.{is_on_memory};
@@ -49,17 +49,6 @@ impl<M: PhysMem + Drop> Model for Manager<M> {
     ghost view = { λ m. let x : Parts = record { ram = M.ram m.ram; manifest = m.manifest; kept = m.kept } in record { state = state_of x; ram = x.ram } };
 
     ghost invariant = { λ m. IsManager (record { ram = M.ram m.ram; manifest = m.manifest; kept = m.kept }) };
-}
-
-// The call that the registers ask for, where it is served.
-fn served_call(x: [u64; 8]) -> Call
-    ensures { result ≡ served_call x }
-{
-    if ffa_abi::is_served((x[0] % (1 << 32)) as u32) {
-        ffa_abi::decode(x)
-    } else {
-        Call::Unknown
-    }
 }
 
 impl<M: PhysMem + Drop> Manager<M> {
@@ -139,13 +128,13 @@ impl<M: PhysMem + Drop> Manager<M> {
 
     // A call of the runner, in its registers.
     pub(crate) fn call(&mut self, x: [u64; 8]) -> Called
-        ensures outcome { result.outcome ≡ (serve self.old.state (served_call x)).outcome }
-        ensures state { self.new.state ≡ (serve self.old.state (served_call x)).state }
+        ensures outcome { result.outcome ≡ (serve self.old.state (decode x)).outcome }
+        ensures state { self.new.state ≡ (serve self.old.state (decode x)).state }
         ensures refused { is_refusal result.outcome ≡ true → self.new ≡ self.old }
         ensures access { IsAccessChange self.old.state self.new.state result.changed }
         ensures unchanged { is_refusal result.outcome ≡ true → result.changed ≡ None }
     {
-        let answer = self.answer(served_call(x));
+        let answer = self.answer(ffa_abi::decode(x));
         Called {
             outcome: Outcome::Regs {
                 runner: self.kept.chain.runner(),
