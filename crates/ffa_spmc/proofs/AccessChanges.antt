@@ -16,7 +16,6 @@ use Rattle.ffa_model.specs.declared.rights.Rights.{Rights}
 use Rattle.ffa_model.specs.declared.transaction.Range.{Range}
 use Rattle.ffa_model.specs.Access.{access, held_by, names, right_of, transaction_at}
 use Rattle.ffa_model.specs.Buffers.{candidates, filled}
-use Rattle.ffa_model.specs.Calls.{first_failure}
 use Rattle.ffa_model.specs.MemoryRetrieve.{retrieved_right}
 use Rattle.ffa_model.specs.MemoryReturn.{is_unheld, reclaimed, relinquished_from}
 use Rattle.ffa_model.specs.MemorySend.{is_sendable, memory_sent}
