@@ -16,9 +16,11 @@ abbrev pub is_of : State → Option Changed → ℕ → ℕ → Bool
 is_of s None e p = false
 is_of s (Some changed) e p = names s changed.ranges.items p && is_whose changed.endpoint e
 
--- What changed is whole pages of RAM. Where an access changed there was none before, or there is none now, and every
--- other access is as before
+-- what a call says that it has changed is so
 pub record IsAccessChange (old new : State) (changed : Option Changed) : Type 0 where
+  -- the ranges are whole pages of RAM
   pub placed : IfSome changed (λ c. ArePlaced old.ram_base (length old.pages) c.ranges.items)
+  -- a right is given where there was none, or taken away
   pub exclusive : (e p : ℕ) → is_of old changed e p ≡ true → (access old e p ≡ None) ⊎ (access new e p ≡ None)
+  -- every other access is as before
   pub rest : (e p : ℕ) → is_of old changed e p ≡ false → access new e p ≡ access old e p
