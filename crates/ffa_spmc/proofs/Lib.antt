@@ -25,3 +25,6 @@ pub mod Retrieves
 pub mod Offers
 pub mod Laws
 pub mod Notified
+pub mod HeldWalks
+pub mod CachedAccesses
+pub mod Forgotten

@@ -91,6 +91,13 @@ impl<M: PhysMem + Drop> Manager<M> {
         let _ = &self.kept;
     }
 
+    // The address of RAM's first page.
+    pub(crate) fn ram_base(&self) -> u32
+        ensures { result ≡ self.now.state.ram_base }
+    {
+        self.manifest.ram_base
+    }
+
     // The endpoint that runs.
     pub(crate) fn runner(&self) -> EndpointId
         ensures { result.0 ≡ self.now.state.runner }
