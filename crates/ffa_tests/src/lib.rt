@@ -19,4 +19,6 @@ mod setup;
 #[cfg(test)]
 mod stage2;
 #[cfg(test)]
+mod tlb;
+#[cfg(test)]
 mod walker;
