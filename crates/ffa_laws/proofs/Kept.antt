@@ -13,7 +13,7 @@ use Rattle.ffa_model.specs.declared.rights.Kind.{Kind}
 use Rattle.ffa_model.specs.declared.rights.Kind.TheVariants.{Share, Lend, Donate}
 use Rattle.ffa_model.specs.declared.call.Call as calls
 use Rattle.ffa_model.specs.declared.call.Call.TheVariants.{PartitionInfoGet, MemDonate, MemLend, MemShare, MemRetrieve, MemRelinquish, MemReclaim, MsgSend2}
-use Rattle.ffa_model.specs.Registers.{served_call}
+use Rattle.ffa_model.specs.Registers.{decode}
 use Rattle.ffa_model.specs.SendDescriptor.{SendRecord}
 use Rattle.ffa_model.specs.State.{State, Page, buffers_of, is_known, is_known_among, transaction_of}
 use Rattle.ffa_model.specs.Calls.{first_failure}
@@ -51,7 +51,7 @@ service-parties s MemRelinquish = relinquished-parties s (relinquish_read s)
 service-parties s call = refl
 
 step-parties : (s : State) (op : Op) → (step s op).state.parties ≡ s.parties
-step-parties s (Call x) = served-kept (λ t. t.parties ≡ s.parties) s (service s (served_call x)) refl (λ none. service-parties s (served_call x))
+step-parties s (Call x) = served-kept (λ t. t.parties ≡ s.parties) s (service s (decode x)) refl (λ none. service-parties s (decode x))
 step-parties s (Load address size) = accessed-kept (λ t. t.parties ≡ s.parties) s s (Data (number_at s address (size_of size))) (read_fault s address (size_of size)) refl (λ none. refl)
 step-parties s (Store address size value) = accessed-kept (λ t. t.parties ≡ s.parties) s (stored s address (little_bytes (size_of size) value)) Done (store_fault s address (size_of size)) refl (λ none. refl)
 step-parties s (Fetch address) = accessed-kept (λ t. t.parties ≡ s.parties) s s (Data (number_at s address 4)) (fetch_fault s address) refl (λ none. refl)
@@ -106,8 +106,8 @@ module _ (R : List (Option Page) → Type 0) (s : State) (same : R s.pages) (by_
 
   pub kept-step : (op : Op) → ((address : ℕ) (size : Size) (value : ℕ) → store_fault s address (size_of size) ≡ None → R (stored_pages address size value))
       → (is_indirect_message op ≡ true → send_failure ≡ None → R sent_pages)
-      → ((x : List ℕ) → is_memory_call (served_call x) ≡ true → Leaves (served_call x)) → R (step s op).state.pages
-  kept-step (Call x) by_store by_send by_memory = kept-call (served_call x) by_send (by_memory x)
+      → ((x : List ℕ) → is_memory_call (decode x) ≡ true → Leaves (decode x)) → R (step s op).state.pages
+  kept-step (Call x) by_store by_send by_memory = kept-call (decode x) by_send (by_memory x)
   kept-step (Load address size) by_store by_send by_memory = accessed-kept (λ t. R t.pages) s s (Data (number_at s address (size_of size))) (read_fault s address (size_of size)) same (λ none. same)
   kept-step (Store address size value) by_store by_send by_memory =
       accessed-kept (λ t. R t.pages) s (stored s address (little_bytes (size_of size) value)) Done (store_fault s address (size_of size)) same (by_store address size value)

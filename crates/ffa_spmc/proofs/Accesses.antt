@@ -22,8 +22,8 @@ use Rattle.ffa_model.proofs.Accepted.{accepted}
 use Rattle.ffa_model.specs.declared.operation.Op.TheVariants.{Store}
 use Rattle.ffa_model.specs.SoundState.{IsSoundState}
 use Rattle.ffa_laws.proofs.SoundOperations.{step-sound}
-use Rattle.ffa_spmc.specs.Meaning.{IsMachine, Parts, state_of}
-use Rattle.ffa_spmc.specs.Snapshot.{Snapshot}
+use Rattle.ffa_spmc.specs.Meaning.{IsManager, Parts, state_of}
+use Rattle.ffa_spmc.specs.Managed.{Managed}
 use Rattle.ffa_spmc.proofs.Held.{base_is, parties_are, size_is, runner-known, runner-named}
 use Rattle.ffa_spmc.proofs.Agreements.{agrees}
 use Rattle.ffa_spmc.proofs.Machines.{StillHasTables, tables-written}
@@ -46,7 +46,7 @@ right-of true (Some r) may none = (r, refl)
 right-of true None may none = absurd (none-some Translation (sym none))
 right-of false right may none = absurd (none-some Alignment (sym none))
 
-module _ (x : Parts) (machine : IsMachine x) where
+module _ (x : Parts) (machine : IsManager x) where
   abbrev s : State
   s = state_of x
 
@@ -126,7 +126,7 @@ module _ (x : Parts) (machine : IsMachine x) where
       ap (λ (r : Ram). state_of (record x { ram = r })) (stored-reached address size value)
       ∙ (after address (little_bytes (size_of size) value) (fault_of (address % size_of size == 0) (access_at s x.kept.chain.runner address) may_store) (size_of size) refl).1
 
-  pub store-machine : (address : ℕ) (size : Size) (value : ℕ) → IsMachine (record x { ram = ram_after_store x.ram runner_root address (size_of size) value })
+  pub store-machine : (address : ℕ) (size : Size) (value : ℕ) → IsManager (record x { ram = ram_after_store x.ram runner_root address (size_of size) value })
   store-machine address size value =
       record {
         laws = machine.laws;
@@ -147,9 +147,9 @@ module _ (x : Parts) (machine : IsMachine x) where
       ending (Some fault) = refl
 
   -- The same as callers see it: `now` is what a contract sees of the machine, and r the root that the code took.
-  module _ (now : Snapshot) (view : record { state = s; ram = x.ram } ≡ now) (r : ℕ) (at : r ≡ root now.state (place now.state.runner)) where
+  module _ (now : Managed) (view : record { state = s; ram = x.ram } ≡ now) (r : ℕ) (at : r ≡ root now.state (place now.state.runner)) where
     root-is-runner : r ≡ runner_root
-    root-is-runner = at ∙ ap (λ (seen : Snapshot). root seen.state (place seen.state.runner)) (sym view)
+    root-is-runner = at ∙ ap (λ (seen : Managed). root seen.state (place seen.state.runner)) (sym view)
 
     pub loaded-seen : (address n : ℕ) (allowed : Leaf → Bool) (may : Option Rights → Bool) (answer : Result ℕ FaultKind)
         → ((right : Rights) → allowed (record { phys = address; read = true; write = may_write right.level; exec = right.exec }) ≡ may (Some right))
@@ -159,23 +159,23 @@ module _ (x : Parts) (machine : IsMachine x) where
     loaded-seen address n allowed may answer same is =
         ap outcome_of (is ∙ ap (λ (q : ℕ). loaded x.ram q address n allowed) root-is-runner)
         ∙ loaded-is address n allowed may same
-        ∙ ap (λ (seen : Snapshot). (accessed (fault_of (address % n == 0) (access_at seen.state seen.state.runner address) may) seen.state seen.state (Data (memory.number_at seen.state address n))).outcome) view
+        ∙ ap (λ (seen : Managed). (accessed (fault_of (address % n == 0) (access_at seen.state seen.state.runner address) may) seen.state seen.state (Data (memory.number_at seen.state address n))).outcome) view
 
     module _ (address : ℕ) (size : Size) (value : ℕ) (new : Ram) (wrote : new ≡ ram_after_store x.ram r address (size_of size) value) where
       new-is : new ≡ ram_after_store x.ram runner_root address (size_of size) value
       new-is = wrote ∙ ap (λ (q : ℕ). ram_after_store x.ram q address (size_of size) value) root-is-runner
 
-      pub machine-stored : IsMachine (record x { ram = new })
-      machine-stored = subst (λ (ram : Ram). IsMachine (record x { ram = ram })) (sym new-is) (store-machine address size value)
+      pub machine-stored : IsManager (record x { ram = new })
+      machine-stored = subst (λ (ram : Ram). IsManager (record x { ram = ram })) (sym new-is) (store-machine address size value)
 
       pub state-stored : state_of (record x { ram = new }) ≡ (memory.store now.state address size value).state
       state-stored =
           ap (λ (ram : Ram). state_of (record x { ram = ram })) new-is ∙ store-state address size value
-          ∙ ap (λ (seen : Snapshot). (memory.store seen.state address size value).state) view
+          ∙ ap (λ (seen : Managed). (memory.store seen.state address size value).state) view
 
     pub answer-stored : (address : ℕ) (size : Size) (value : ℕ) (answer : Result ⊤ FaultKind) → answer ≡ store_answer x.ram r address (size_of size)
         → done_or_fault answer ≡ (memory.store now.state address size value).outcome
     answer-stored address size value answer is =
         ap done_or_fault (is ∙ ap (λ (q : ℕ). store_answer x.ram q address (size_of size)) root-is-runner)
         ∙ store-outcome address size value
-        ∙ ap (λ (seen : Snapshot). (memory.store seen.state address size value).outcome) view
+        ∙ ap (λ (seen : Managed). (memory.store seen.state address size value).outcome) view

@@ -23,7 +23,7 @@ use Rattle.ffa_model.proofs.Places.{known-named, known-place}
 use Rattle.ffa_pages.specs.Entry.{Entry, entry_at, first_entry, owner_at}
 use Rattle.ffa_stage2.specs.Tables.{table_page}
 use Rattle.ffa_spmc.specs.Owners.{first_owners}
-use Rattle.ffa_spmc.specs.Meaning.{IsMachine, Parts, held_page, state_of}
+use Rattle.ffa_spmc.specs.Meaning.{IsManager, Parts, held_page, state_of}
 
 find_none : (test : ℕ → Bool) (xs : List ℕ) → ((x : ℕ) → test x ≡ false) → find test xs ≡ None
 find_none test [] never = refl
@@ -97,7 +97,7 @@ module _ (x : Parts) where
         ∙ right-own x.manifest.ram_base x.manifest.endpoints.items p i (page_of x.ram p) (accepted x.manifest.ram_base x.manifest.ram_blocks x.manifest.endpoints.items x.manifest.accepted).apart
 
   -- of a machine
-  module _ (machine : IsMachine x) where
+  module _ (machine : IsManager x) where
     -- owners are kept of each page of RAM
     pub owners-size : length x.kept.pages ≡ length x.ram.pages
     owners-size = machine.owners.size ∙ sym machine.tables.size

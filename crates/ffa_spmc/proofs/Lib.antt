@@ -22,6 +22,5 @@ pub mod Relinquishes
 pub mod Donations
 pub mod Retrieves
 pub mod Offers
-pub mod ServedCalls
 pub mod Laws
 pub mod Notified

@@ -31,7 +31,7 @@ use Rattle.ffa_memshare.specs.Scenes.{descriptor_in, scene_in}
 use Rattle.ffa_memshare.specs.Sent.{IsSent, right_after}
 use Rattle.ffa_memshare.specs.Stored.{Pooled, offers_in, slot_at as pool_slot}
 use Rattle.ffa_memshare.specs.declared.marks.Mark.TheVariants.{Named}
-use Rattle.ffa_spmc.specs.Meaning.{AreOffers, IsMachine, IsOffered, Parts, access_by_place, state_of}
+use Rattle.ffa_spmc.specs.Meaning.{AreOffers, IsManager, IsOffered, Parts, access_by_place, state_of}
 use Rattle.ffa_spmc.specs.Replies.{handle_or_error}
 use Rattle.ffa_spmc.proofs.Answered.{answered-by, done-so, refused-so}
 use Rattle.ffa_spmc.proofs.Closes.{offers-opened, slot-opened}
@@ -43,11 +43,11 @@ use Rattle.ffa_spmc.proofs.Retrieves.{scene-is}
 use Rattle.ffa_spmc.proofs.Sends.{sent-is}
 
 -- the pool counts the sends of each endpoint
-pub offer-endpoints : (x : Parts) → IsMachine x → length x.kept.pool.sent ≡ array_vec_len x.kept.layout.regions
+pub offer-endpoints : (x : Parts) → IsManager x → length x.kept.pool.sent ≡ array_vec_len x.kept.layout.regions
 offer-endpoints x machine = machine.sound.sized.sent ∙ parties_are x ∙ sym machine.layout.endpoints
 
 -- the code's runner is that of the run states; and it has sent what its TX describes, or was refused
-module _ (x : Parts) (machine : IsMachine x) (e : ℕ) (at : e ≡ x.kept.chain.runner) (kind : Kind) (a : Transfer) (ram : Ram) (pages : List (Option Entry)) (pool : Pooled) where
+module _ (x : Parts) (machine : IsManager x) (e : ℕ) (at : e ≡ x.kept.chain.runner) (kind : Kind) (a : Transfer) (ram : Ram) (pages : List (Option Entry)) (pool : Pooled) where
   abbrev s : State
   s = state_of x
 
@@ -151,7 +151,7 @@ module _ (x : Parts) (machine : IsMachine x) (e : ℕ) (at : e ≡ x.kept.chain.
         of None is = refl
         of (Some k) is = absurd (false≢true (sym is))
 
-    pub machine-sent : IsMachine after_offer
+    pub machine-sent : IsManager after_offer
     machine-sent =
         record {
           laws = machine.laws;
@@ -194,9 +194,9 @@ module _ (x : Parts) (machine : IsMachine x) (e : ℕ) (at : e ≡ x.kept.chain.
         (done-so result (λ none facts. state-sent (sym none ∙ refuses) facts) done)
         told
 
-    pub offer-machine : IsMachine after_offer
+    pub offer-machine : IsManager after_offer
     offer-machine = of result refuses unchanged done
       where
-        of : (r : Result ℕ ErrorCode) → result_err r ≡ first_failure guards → OnErr r (after_offer ≡ x) → OnOk r IsDone → IsMachine after_offer
+        of : (r : Result ℕ ErrorCode) → result_err r ≡ first_failure guards → OnErr r (after_offer ≡ x) → OnOk r IsDone → IsManager after_offer
         of (Ok given) passes same facts = machine-sent passes facts
-        of (Err code) fails same facts = subst IsMachine (sym same) machine
+        of (Err code) fails same facts = subst IsManager (sym same) machine

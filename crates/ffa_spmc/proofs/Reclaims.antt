@@ -29,7 +29,7 @@ use Rattle.ffa_memshare.specs.SlotChanges.{IsClosed}
 use Rattle.ffa_memshare.specs.Stored.{Pooled, map_in, offers_in}
 use Rattle.ffa_memshare.specs.declared.marks.Mark.TheVariants.{Named}
 use Rattle.ffa_memshare.proofs.Joined.{reclaim-access}
-use Rattle.ffa_spmc.specs.Meaning.{AreOffers, IsMachine, Parts, access_by_place, state_of}
+use Rattle.ffa_spmc.specs.Meaning.{AreOffers, IsManager, Parts, access_by_place, state_of}
 use Rattle.ffa_spmc.specs.Replies.{done_or_error}
 use Rattle.ffa_spmc.proofs.Answered.{answered-by, done-replies, done-so, refused-so}
 use Rattle.ffa_spmc.proofs.Closes.{offers-closed, slot-marked}
@@ -37,7 +37,7 @@ use Rattle.ffa_spmc.proofs.Moves.{SameOwners, marked-owners, of-manifest, owners
 use Rattle.ffa_spmc.proofs.Pools.{base-is, bases-are, slot-open}
 
 -- the code's runner is that of the run states; and the pool has reclaimed a handle, or refused to
-module _ (x : Parts) (machine : IsMachine x) (e : ℕ) (at : e ≡ x.kept.chain.runner) (low high flags h : ℕ) (handle : h ≡ handle_of high low) (ram : Ram) (pages : List (Option Entry)) (pool : Pooled) where
+module _ (x : Parts) (machine : IsManager x) (e : ℕ) (at : e ≡ x.kept.chain.runner) (low high flags h : ℕ) (handle : h ≡ handle_of high low) (ram : Ram) (pages : List (Option Entry)) (pool : Pooled) where
   abbrev s : State
   s = state_of x
 
@@ -105,7 +105,7 @@ module _ (x : Parts) (machine : IsMachine x) (e : ℕ) (at : e ≡ x.kept.chain.
         ∙ reclaim-access s machine.sound h t was unheld (is_set 0 flags) i p lt
         ∙ sym (ap (λ (z : State). access_by_place z i p) state-reclaimed)
 
-    pub machine-reclaimed : IsMachine after_reclaim
+    pub machine-reclaimed : IsManager after_reclaim
     machine-reclaimed =
         record {
           laws = machine.laws;
@@ -155,9 +155,9 @@ module _ (x : Parts) (machine : IsMachine x) (e : ℕ) (at : e ≡ x.kept.chain.
         (done-so r (λ none facts. state-reclaimed (sym none ∙ refuses) facts ∙ ap (λ (k : ℕ). reclaimed s k (is_set 0 flags)) handle) done)
         (done-replies r)
 
-    pub reclaim-machine : IsMachine after_reclaim
+    pub reclaim-machine : IsManager after_reclaim
     reclaim-machine = of r refuses unchanged done
       where
-        of : (r : Result ⊤ ErrorCode) → result_err r ≡ first_failure guards → OnErr r (after_reclaim ≡ x) → OnOk r IsReclaimed → IsMachine after_reclaim
+        of : (r : Result ⊤ ErrorCode) → result_err r ≡ first_failure guards → OnErr r (after_reclaim ≡ x) → OnOk r IsReclaimed → IsManager after_reclaim
         of (Ok unit) passes same facts = machine-reclaimed passes facts
-        of (Err code) fails same facts = subst IsMachine (sym same) machine
+        of (Err code) fails same facts = subst IsManager (sym same) machine

@@ -26,7 +26,7 @@ use Rattle.ffa_memshare.specs.Ranges.{in_ranges}
 use Rattle.ffa_memshare.specs.Relinquished.{IsRelinquished}
 use Rattle.ffa_memshare.specs.Stored.{Pooled, offers_in}
 use Rattle.ffa_memshare.specs.Scenes.{tx_in}
-use Rattle.ffa_spmc.specs.Meaning.{AreOffers, IsMachine, Parts, access_by_place, state_of}
+use Rattle.ffa_spmc.specs.Meaning.{AreOffers, IsManager, Parts, access_by_place, state_of}
 use Rattle.ffa_spmc.specs.Replies.{done_or_error}
 use Rattle.ffa_spmc.proofs.Answered.{answered-by, done-replies, done-so, refused-so}
 use Rattle.ffa_spmc.proofs.Closes.{offers-reheld}
@@ -36,7 +36,7 @@ use Rattle.ffa_spmc.proofs.Pools.{open-slot}
 use Rattle.ffa_spmc.proofs.Sends.{sent-is}
 
 -- the code's runner is that of the run states; and it has given up what its TX describes, or was refused
-module _ (x : Parts) (machine : IsMachine x) (e : ℕ) (at : e ≡ x.kept.chain.runner) (ram : Ram) (pool : Pooled) where
+module _ (x : Parts) (machine : IsManager x) (e : ℕ) (at : e ≡ x.kept.chain.runner) (ram : Ram) (pool : Pooled) where
   abbrev s : State
   s = state_of x
 
@@ -99,7 +99,7 @@ module _ (x : Parts) (machine : IsMachine x) (e : ℕ) (at : e ≡ x.kept.chain.
         ∙ relinquish-granted s machine.sound d.handle t was (λ q. None) i p lt d refl other refl
         ∙ sym (ap (λ (z : State). access_by_place z i p) state-from)
 
-    pub machine-relinquished : IsMachine after_relinquish
+    pub machine-relinquished : IsManager after_relinquish
     machine-relinquished =
         record {
           laws = machine.laws;
@@ -134,9 +134,9 @@ module _ (x : Parts) (machine : IsMachine x) (e : ℕ) (at : e ≡ x.kept.chain.
         (done-so r (λ none facts. state-relinquished (sym none ∙ refuses) facts) done)
         (done-replies r)
 
-    pub relinquish-machine : IsMachine after_relinquish
+    pub relinquish-machine : IsManager after_relinquish
     relinquish-machine = of r refuses unchanged done
       where
-        of : (r : Result ⊤ ErrorCode) → result_err r ≡ first_failure guards → OnErr r (after_relinquish ≡ x) → OnOk r IsDone → IsMachine after_relinquish
+        of : (r : Result ⊤ ErrorCode) → result_err r ≡ first_failure guards → OnErr r (after_relinquish ≡ x) → OnOk r IsDone → IsManager after_relinquish
         of (Ok unit) passes same facts = machine-relinquished passes facts
-        of (Err code) fails same facts = subst IsMachine (sym same) machine
+        of (Err code) fails same facts = subst IsManager (sym same) machine

@@ -40,7 +40,7 @@ use Rattle.ffa_memshare.specs.Retrieved.{IsPassedOn, IsRetrieved, IsTaken}
 use Rattle.ffa_memshare.specs.Scenes.{after_transfer, descriptor_in, scene_in}
 use Rattle.ffa_memshare.specs.SlotChanges.{IsClosed, IsHeldBy}
 use Rattle.ffa_memshare.specs.Stored.{Pooled, offers_in, slot_at as pool_slot}
-use Rattle.ffa_spmc.specs.Meaning.{AreOffers, HasTables, IsMachine, Parts, access_by_place, state_of}
+use Rattle.ffa_spmc.specs.Meaning.{AreOffers, HasTables, IsManager, Parts, access_by_place, state_of}
 use Rattle.ffa_spmc.specs.Replies.{retrieved_or_error}
 use Rattle.ffa_spmc.proofs.Answered.{answered-by, passed-state, refused-so}
 use Rattle.ffa_spmc.proofs.Candidates.{candidates-are}
@@ -54,7 +54,7 @@ use Rattle.ffa_spmc.proofs.Pools.{bases-are, slot-open}
 use Rattle.ffa_spmc.proofs.Sends.{sent-is}
 
 -- what the checks of a call read is the same in the state
-pub scene-is : (x : Parts) → IsMachine x → scene_in (array_vec_len x.kept.layout.regions) x.kept.pages x.kept.layout.base x.kept.buffers (offers_in x.kept.pool) ≡ scene_of (state_of x)
+pub scene-is : (x : Parts) → IsManager x → scene_in (array_vec_len x.kept.layout.regions) x.kept.pages x.kept.layout.base x.kept.buffers (offers_in x.kept.pool) ≡ scene_of (state_of x)
 scene-is x machine = λ i. record {
   endpoints = (machine.layout.endpoints ∙ sym (parties_are x)) i;
   ram = (ap (candidates_in x.kept.pages) machine.layout.base ∙ sym (candidates-are x machine)) i;
@@ -64,7 +64,7 @@ scene-is x machine = λ i. record {
 }
 
 -- the code's runner is that of the run states; and it has retrieved what its TX describes, or was refused
-module _ (x : Parts) (machine : IsMachine x) (e : EndpointId) (at : e.0 ≡ x.kept.chain.runner) (total fragment address count : ℕ)
+module _ (x : Parts) (machine : IsManager x) (e : EndpointId) (at : e.0 ≡ x.kept.chain.runner) (total fragment address count : ℕ)
     (ram : Ram) (pages : List (Option Entry)) (pool : Pooled) (buffers : List (Option Buffers)) where
   abbrev s : State
   s = state_of x
@@ -183,7 +183,7 @@ module _ (x : Parts) (machine : IsMachine x) (e : EndpointId) (at : e.0 ≡ x.ke
             (subst (AreOffers x.manifest x.kept.pages) (sym its.slots)
             (offers-reheld x.manifest x.kept.pages x.kept.pool.slots machine.offers its.slot d.handle its.transaction its.was e.0 (Some right)))
 
-    machine-taken : IsMachine before
+    machine-taken : IsManager before
     machine-taken =
         record {
           laws = machine.laws;
@@ -212,7 +212,7 @@ module _ (x : Parts) (machine : IsMachine x) (e : EndpointId) (at : e.0 ≡ x.ke
         ∙ ap (retrieved_right s d.handle t s.runner) right-is
         ∙ sym (ap (retrieved s) read ∙ ap (retrieved_from s d) was)
 
-    pub machine-retrieved : IsMachine after_retrieve
+    pub machine-retrieved : IsManager after_retrieve
     machine-retrieved =
         record {
           laws = machine.laws;
@@ -267,9 +267,9 @@ module _ (x : Parts) (machine : IsMachine x) (e : EndpointId) (at : e.0 ≡ x.ke
         answered-by s (state_of after_retrieve) (memory_retrieve s registers) r (λ size. Retrieved size) refuses
         (refused-so r (λ is. ap state_of is) unchanged) state-done told
 
-    pub retrieve-machine : IsMachine after_retrieve
+    pub retrieve-machine : IsManager after_retrieve
     retrieve-machine = of r refuses unchanged full done
       where
-        of : (r : Result ℕ ErrorCode) → result_err r ≡ first_failure guards → OnErr r (after_retrieve ≡ x) → OnOk r (buffers ≡ buffers_with_rx x.kept.buffers e.0 true) → IfOk r IsDone → IsMachine after_retrieve
+        of : (r : Result ℕ ErrorCode) → result_err r ≡ first_failure guards → OnErr r (after_retrieve ≡ x) → OnOk r (buffers ≡ buffers_with_rx x.kept.buffers e.0 true) → IfOk r IsDone → IsManager after_retrieve
         of (Ok size) none same fills facts = machine-retrieved size none facts fills
-        of (Err code) fails same fills facts = subst IsMachine (sym same) machine
+        of (Err code) fails same fills facts = subst IsManager (sym same) machine

@@ -1,3 +1,4 @@
+pub mod Managed
 pub mod Snapshot
 pub mod Owners
 pub mod Meaning

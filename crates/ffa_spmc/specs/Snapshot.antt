@@ -1,18 +1,14 @@
 -- What a contract sees of a machine: its state, and its RAM with every byte.
-use Rattle.std.specs.Prelude.{ℕ, List, refl}
-use Rattle.std.specs.Coded.{Coded, code_by, coded×, coded_ℕ, coded_list}
+use Rattle.std.specs.Prelude.{refl}
+use Rattle.std.specs.Coded.{Coded, code_by, coded×}
 use Rattle.ffa_model.specs.Ram.{Ram}
 use Rattle.ffa_model.specs.State.{State}
 use Rattle.ffa_model.specs.Codes.{coded_state}
+use Rattle.ffa_spmc.specs.Managed.{coded_ram}
 
 pub record Snapshot : Type 0 where
   pub state : State
   pub ram : Ram
-
-abbrev pub coded_ram : Coded Ram
-coded_ram =
-    code_by (ℕ × List (List ℕ)) (coded× coded_ℕ (coded_list (coded_list coded_ℕ)))
-    (λ r. (r.base, r.pages)) (λ p. record { base = p.0; pages = p.1 }) (λ _. refl)
 
 abbrev pub coded_snapshot : Coded Snapshot
 coded_snapshot =

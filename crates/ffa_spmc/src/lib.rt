@@ -3,5 +3,7 @@
 
 mod kept;
 pub mod machine;
+mod manager;
+mod replies;
 
 pub use machine::Machine;

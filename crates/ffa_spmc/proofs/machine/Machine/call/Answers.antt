@@ -1,7 +1,0 @@
-use Rattle.std.proofs.Common.{◌∙◌, ap}
-use Rattle.ffa_model.specs.Refusals.{passes_no_error}
-use Rattle.ffa_spmc.proofs.ServedCalls.{served-named}
-use Rattle.ffa_spmc.proofs.machine.Machine.call.Goals as goal
-
-pub reply-reply-requires : goal.reply-reply-requires
-reply-reply-requires g c = record { named = ap passes_no_error c.served_call.ensures ∙ served-named c.args.x }

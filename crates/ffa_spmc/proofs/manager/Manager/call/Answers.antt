@@ -1,0 +1,7 @@
+use Rattle.std.proofs.Common.{◌∙◌, ap}
+use Rattle.ffa_model.specs.Refusals.{passes_no_error}
+use Rattle.ffa_model.proofs.Named.{decode-named}
+use Rattle.ffa_spmc.proofs.manager.Manager.call.Goals as goal
+
+pub reply-reply-requires : goal.reply-reply-requires
+reply-reply-requires g c = record { named = ap passes_no_error c.decode.ensures ∙ decode-named c.args.x }
