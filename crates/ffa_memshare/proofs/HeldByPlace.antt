@@ -11,7 +11,7 @@ use Rattle.ffa_model.specs.declared.rights.Rights.{Rights}
 use Rattle.ffa_model.specs.Identifiers.{identifier, place}
 use Rattle.ffa_model.specs.Lists.{map_at}
 use Rattle.ffa_memshare.specs.Held.{Held, held_in, with_held}
-use Rattle.ffa_memshare.proofs.PoolKept.{place-identifier}
+use Rattle.ffa_model.proofs.Places.{place-identifier}
 
 -- the holders whose places begin with k
 abbrev from : ℕ → List (Option Rights) → List (ℕ × Rights)

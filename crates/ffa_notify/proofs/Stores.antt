@@ -10,11 +10,11 @@ use Rattle.ffa_model.specs.Bits.{bits_of, is_set}
 use Rattle.ffa_model.specs.Identifiers.{identifier, place}
 use Rattle.ffa_model.specs.Notifications.{binding, bindings, class_of, class_of_entry, receiver_bit, receiver_of_entry}
 use Rattle.ffa_model.specs.State.{is_known_among}
-use Rattle.ffa_model.proofs.Places.{known-named, known-place}
+use Rattle.ffa_model.proofs.Places.{known-named, known-place, place-identifier}
 use Rattle.ffa_notify.specs.Stored.{bit_of, bound_in, entry, has_binding, has_pending_bit, is_asked, pending_in}
 use Rattle.ffa_notify.proofs.Asked.{asked-at, asked-before, asked-behind}
 use Rattle.ffa_notify.proofs.Bits.{set-zero}
-use Rattle.ffa_notify.proofs.Universe.{all-is, contains-none, place-identifier}
+use Rattle.ffa_notify.proofs.Universe.{all-is, contains-none}
 use Rattle.ffa_notify.proofs.Changes.{AreRead, contains-bit, set-less, set-more, set-retained}
 
 pub neither : (b : Bool) → (b && false) ≡ false

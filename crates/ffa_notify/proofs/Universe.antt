@@ -11,10 +11,6 @@ use Rattle.ffa_model.specs.Lists.{listed}
 use Rattle.ffa_model.proofs.Sets.{Bits, among, among-joined, among-mapped, any-found, any-listed, bits_from, contains-listed, contains-retained, same-itself, same_bits, same_elements}
 use Rattle.ffa_notify.specs.Stored.{entries}
 
-pub place-identifier : (i : ℕ) → place (identifier i) ≡ i
-place-identifier zero = refl
-place-identifier (suc i) = omega arith
-
 -- lists of lists, three indexes deep
 module _ (f : ℕ → ℕ → ℕ → List ℕ) (l m n : ℕ) where
   abbrev pub all : List (List ℕ)

@@ -2,6 +2,7 @@ pub mod Answered
 pub mod Granted
 pub mod Inside
 pub mod Held
+pub mod AccessChanges
 pub mod Pools
 pub mod Reaches
 pub mod Agreements
@@ -24,3 +25,6 @@ pub mod Retrieves
 pub mod Offers
 pub mod Laws
 pub mod Notified
+pub mod HeldWalks
+pub mod CachedAccesses
+pub mod Forgotten

@@ -61,7 +61,7 @@ past-end s e address past =
 
 module _ (ram : Ram) (s : State) (agrees : Agrees ram s) (i : ℕ) (known : i < length s.parties) where
   -- every walk gives the access, also past the input's end
-  walk-is : (address : ℕ) → walk ram (root s i) address ≡ mapped_answer (access_at s (identifier i) address) address
+  pub walk-is : (address : ℕ) → walk ram (root s i) address ≡ mapped_answer (access_at s (identifier i) address) address
   unfolding walk mapped_answer
   walk-is address = elim (cases_lt address (2 ^ 32)) [
     | inl lt ↦ agrees.walks i address known lt

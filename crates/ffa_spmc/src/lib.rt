@@ -1,6 +1,7 @@
 //! The machine of the partition manager: RAM with the tables of all endpoints, and what each operation does.
 #![tactic(auto)]
 
+mod answer;
 mod kept;
 pub mod machine;
 mod manager;

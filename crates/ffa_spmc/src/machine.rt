@@ -1,5 +1,5 @@
 //! The machine.
-ghost use Rattle.std.specs.Prelude.{true, ◌≡◌, ℕ, ◌*◌, ◌<◌, ◌≤◌, length, replicate};
+ghost use Rattle.std.specs.Prelude.{true, false, [], ◌≡◌, ℕ, ◌*◌, ◌<◌, ◌≤◌, length, replicate};
 ghost use Rattle.ffa_model.specs.Access.{access};
 ghost use Rattle.ffa_model.specs.Agreement.{Agrees};
 ghost use Rattle.ffa_model.specs.First.{first};
@@ -9,28 +9,41 @@ ghost use Rattle.ffa_model.specs.SoundState.{IsSoundState};
 ghost use Rattle.ffa_laws.specs.Events.{seen};
 ghost use Rattle.ffa_laws.specs.Isolation.{Integrity, Isolated, NeverGrow, OneStep, shown_to};
 ghost use Rattle.ffa_model.specs.Refusals.{is_refusal};
+ghost use Rattle.ffa_model.specs.Registers.{decode};
 ghost use Rattle.ffa_model.specs.State.{owner_of};
-ghost use Rattle.ffa_model.specs.Step.{step, outcomes, state_after};
+ghost use Rattle.ffa_model.specs.Step.{serve, step, outcomes, state_after};
+ghost use Rattle.ffa_spmc.specs.Cached.{AreFilled, AreForgotten, AreKept, AreWalks, is_accessed, is_miss};
+
+mod accesses;
+mod forgetting;
 
 use crate::manager::Manager;
 use ffa_model::{EndpointId, Manifest, Op, Outcome, PageNo, Rights};
 use ffa_physmem::PhysMem;
+use ffa_tlb::{NoTlb, Translations};
+use forgetting::forget;
 use std::marker::Model;
 
-/// A machine over any RAM. Contracts see its state, which is that of the small machine, and its RAM with every byte.
+/// A machine over any RAM, with any cache of leaves. Contracts see its state, which is that of the small machine, its RAM
+/// with every byte, and what the cache holds.
 #[derive(Drop)]
-pub struct Machine<M: PhysMem + Drop> {
+pub struct Machine<M: PhysMem + Drop, T: Translations + Drop = NoTlb> {
     manager: Manager<M>,
+    cache: T,
 }
 
-impl<M: PhysMem + Drop> Model for Machine<M> {
+impl<M: PhysMem + Drop, T: Translations + Drop> Model for Machine<M, T> {
     ghost use Rattle.ffa_spmc.specs.Snapshot.{Snapshot, coded_snapshot};
 
     ghost Value = { Snapshot };
 
     ghost coded = { coded_snapshot };
 
-    ghost view = { λ m. record { state = m.manager.state; ram = m.manager.ram } };
+    ghost use Rattle.ffa_spmc.specs.Cached.{AreWalks};
+
+    ghost view = { λ m. record { state = m.manager.state; ram = m.manager.ram; held = T.entries m.cache } };
+
+    ghost invariant = { λ m. AreWalks (record { state = m.manager.state; ram = m.manager.ram; held = T.entries m.cache }) };
 }
 
 // Fills all pages with zeros.
@@ -44,7 +57,7 @@ fn clear<M: PhysMem>(ram: &mut M)
 
 impl<M: PhysMem + Drop> Machine<M> {
     /// The machine of a manifest in its first state: it clears the RAM and builds the tables. All pages behind the tables
-    /// are zeros, the manager's too.
+    /// are zeros, the manager's too. Each of its accesses walks the tables.
     pub fn boot(manifest: &Manifest, ram: M) -> Machine<M>
         requires base { (M.ram ram).base ≡ manifest.now.ram_base }
         requires size { length (M.ram ram).pages ≡ 512 * manifest.now.ram_blocks }
@@ -53,24 +66,43 @@ impl<M: PhysMem + Drop> Machine<M> {
         ensures cleared { (p : ℕ) → length result.state.parties * table_pages manifest.now.ram_blocks ≤ p → p < length result.ram.pages → page_of result.ram p ≡ replicate 4096 0 }
         ensures sound { IsSoundState result.state }
     {
+        Machine::boot_with(manifest, ram, NoTlb)
+    }
+}
+
+impl<M: PhysMem + Drop, T: Translations + Drop> Machine<M, T> {
+    /// The same machine, with a cache that holds nothing at first.
+    pub fn boot_with(manifest: &Manifest, ram: M, cache: T) -> Machine<M, T>
+        requires base { (M.ram ram).base ≡ manifest.now.ram_base }
+        requires size { length (M.ram ram).pages ≡ 512 * manifest.now.ram_blocks }
+        ensures state { result.state ≡ first manifest.now.ram_base manifest.now.ram_blocks manifest.now.endpoints.items }
+        ensures agrees { Agrees result.ram result.state }
+        ensures cleared { (p : ℕ) → length result.state.parties * table_pages manifest.now.ram_blocks ≤ p → p < length result.ram.pages → page_of result.ram p ≡ replicate 4096 0 }
+        ensures sound { IsSoundState result.state }
+        ensures held { result.held ≡ [] }
+    {
         let mut ram = ram;
         clear(&mut ram);
-        Machine::boot_cleared(manifest, ram)
+        Machine::boot_cleared(manifest, ram, cache)
     }
 
     /// The same machine, in RAM of which every byte is zero already, as new RAM is: it builds the tables and clears
-    /// nothing.
+    /// nothing but the cache.
     // Not inlined, since its frame holds copies of what the machine keeps, which no caller needs once it runs.
     #[inline(never)]
-    pub fn boot_cleared(manifest: &Manifest, ram: M) -> Machine<M>
+    pub fn boot_cleared(manifest: &Manifest, ram: M, cache: T) -> Machine<M, T>
         requires { M.ram ram ≡ zero_ram manifest.now.ram_base (512 * manifest.now.ram_blocks) }
         ensures state { result.state ≡ first manifest.now.ram_base manifest.now.ram_blocks manifest.now.endpoints.items }
         ensures agrees { Agrees result.ram result.state }
         ensures cleared { (p : ℕ) → length result.state.parties * table_pages manifest.now.ram_blocks ≤ p → p < length result.ram.pages → page_of result.ram p ≡ replicate 4096 0 }
         ensures sound { IsSoundState result.state }
+        ensures held { result.held ≡ [] }
     {
+        let mut cache = cache;
+        cache.clear();
         Machine {
             manager: Manager::first(manifest, ram),
+            cache,
         }
     }
 
@@ -80,6 +112,14 @@ impl<M: PhysMem + Drop> Machine<M> {
         ensures agrees { Agrees (M.ram result.now) self.now.state }
     {
         self.manager.ram()
+    }
+
+    /// The cache. Whatever it answers is what the walk of a page's first address answers now.
+    pub fn cache(&self) -> &T
+        ensures held { T.entries result.now ≡ self.now.held }
+        ensures walks { AreWalks self.now }
+    {
+        &self.cache
     }
 
     /// The endpoint that runs.
@@ -123,6 +163,14 @@ impl<M: PhysMem + Drop> Machine<M> {
         ensures agrees { Agrees self.new.ram self.new.state }
         ensures refused { is_refusal result ≡ true → self.new ≡ self.old }
 
+        // What the cache answers is the walk's answer over the bytes of the new RAM. It holds nothing for a page to which
+        // an endpoint's access has changed, and all else stays, but where a page is missed: then at most the runner has
+        // something new, for that page.
+        ensures walks { AreWalks self.new }
+        ensures forgotten { AreForgotten self.old self.new }
+        ensures kept { is_miss self.old op.now ≡ false → AreKept self.old self.new }
+        ensures filled { AreFilled self.old self.new (is_accessed self.old.state op.now) }
+
         // The state stays sound. What another endpoint learns is in its events, what the runner sees depends on its view
         // alone, and a page that its owner has alone is safe from others.
         ensures sound { IsSoundState self.new.state }
@@ -141,13 +189,32 @@ impl<M: PhysMem + Drop> Machine<M> {
         ensures outcome { result ≡ (step self.old.state op.now).outcome }
         ensures state { self.new.state ≡ (step self.old.state op.now).state }
         ensures refused { is_refusal result ≡ true → self.new ≡ self.old }
+        ensures forgotten { AreForgotten self.old self.new }
+        ensures kept { is_miss self.old op.now ≡ false → AreKept self.old self.new }
+        ensures filled { AreFilled self.old self.new (is_accessed self.old.state op.now) }
     {
         match *op {
-            Op::Call(x) => self.manager.call(x),
-            Op::Load { addr, size } => self.manager.load(addr, size),
-            Op::Store { addr, size, value } => self.manager.store(addr, size, value),
-            Op::Fetch { addr } => self.manager.fetch(addr),
+            Op::Call(x) => self.call(x),
+            Op::Load { addr, size } => self.load(addr, size),
+            Op::Store { addr, size, value } => self.store(addr, size, value),
+            Op::Fetch { addr } => self.fetch(addr),
         }
+    }
+
+    // A call of the runner, in its registers. The cache forgets whatever the call has made untrue.
+    fn call(&mut self, x: [u64; 8]) -> Outcome
+        ensures outcome { result ≡ (serve self.old.state (decode x)).outcome }
+        ensures state { self.new.state ≡ (serve self.old.state (decode x)).state }
+        ensures refused { is_refusal result ≡ true → self.new ≡ self.old }
+        ensures forgotten { AreForgotten self.old self.new }
+        ensures kept { AreKept self.old self.new }
+        ensures filled { AreFilled self.old self.new (λ e p. false) }
+    {
+        self.manager.holds();
+        let called = self.manager.call(x);
+        self.manager.holds();
+        forget(&mut self.cache, self.manager.ram_base(), &called.changed);
+        called.outcome
     }
 
     /// Does operations one after another, each of the endpoint that runs then, and fills in their outcomes.
@@ -156,6 +223,7 @@ impl<M: PhysMem + Drop> Machine<M> {
         ensures outcomes { filled.new ≡ outcomes self.old.state ops.now }
         ensures state { self.new.state ≡ state_after self.old.state ops.now }
         ensures agrees { Agrees self.new.ram self.new.state }
+        ensures walks { AreWalks self.new }
         ensures sound { IsSoundState self.new.state }
 
         // What an endpoint sees is the same from every state that it sees alike, with every list of operations that holds

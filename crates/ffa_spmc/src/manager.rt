@@ -1,7 +1,8 @@
 //! The partition manager: what it keeps, and what its calls and accesses do.
-ghost use Rattle.std.specs.Prelude.{true, ◌≡◌, ℕ, ◌*◌, ◌<◌, ◌≤◌, length, replicate};
+ghost use Rattle.std.specs.Prelude.{true, false, ◌≡◌, None, ℕ, ◌*◌, ◌<◌, ◌≤◌, length, replicate};
 ghost use Rattle.ffa_model.specs.Access.{access};
 ghost use Rattle.ffa_model.specs.Agreement.{Agrees};
+ghost use Rattle.ffa_model.specs.Bits.{word_of_halves};
 ghost use Rattle.ffa_model.specs.Calls.{replied, served};
 ghost use Rattle.ffa_model.specs.First.{first};
 ghost use Rattle.ffa_model.specs.Manifest.{table_pages};
@@ -11,6 +12,8 @@ ghost use Rattle.ffa_model.specs.Refusals.{is_error, is_refusal, passes_no_error
 ghost use Rattle.ffa_model.specs.Registers.{decode};
 ghost use Rattle.ffa_model.specs.State.{owner_of};
 ghost use Rattle.ffa_model.specs.Step.{serve};
+ghost use Rattle.ffa_spmc.specs.Arms.{is_on_memory};
+ghost use Rattle.ffa_spmc.specs.AccessChange.{IsAccessChange};
 
 mod accesses;
 mod buffers;
@@ -18,7 +21,9 @@ mod memory;
 mod messages;
 mod notifications;
 
+use crate::answer::{Answer, Called};
 use crate::kept::Kept;
+use crate::manager::memory::is_on_memory;
 use ffa_model::{Call, EndpointId, ErrorCode, Manifest, Outcome, PageNo, Reply, Rights};
 use ffa_physmem::PhysMem;
 use ffa_stage2::{Layout, build, built_tables};
@@ -86,6 +91,13 @@ impl<M: PhysMem + Drop> Manager<M> {
         let _ = &self.kept;
     }
 
+    // The address of RAM's first page.
+    pub(crate) fn ram_base(&self) -> u32
+        ensures { result ≡ self.now.state.ram_base }
+    {
+        self.manifest.ram_base
+    }
+
     // The endpoint that runs.
     pub(crate) fn runner(&self) -> EndpointId
         ensures { result.0 ≡ self.now.state.runner }
@@ -123,20 +135,43 @@ impl<M: PhysMem + Drop> Manager<M> {
     }
 
     // A call of the runner, in its registers.
-    pub(crate) fn call(&mut self, x: [u64; 8]) -> Outcome
-        ensures outcome { result ≡ (serve self.old.state (decode x)).outcome }
+    pub(crate) fn call(&mut self, x: [u64; 8]) -> Called
+        ensures outcome { result.outcome ≡ (serve self.old.state (decode x)).outcome }
         ensures state { self.new.state ≡ (serve self.old.state (decode x)).state }
-        ensures refused { is_refusal result ≡ true → self.new ≡ self.old }
+        ensures refused { is_refusal result.outcome ≡ true → self.new ≡ self.old }
+        ensures access { IsAccessChange self.old.state self.new.state result.changed }
+        ensures unchanged { is_refusal result.outcome ≡ true → result.changed ≡ None }
     {
-        let reply = self.reply(ffa_abi::decode(x));
-        Outcome::Regs {
-            runner: self.kept.chain.runner(),
-            x: ffa_abi::encode(&reply),
+        let answer = self.answer(ffa_abi::decode(x));
+        Called {
+            outcome: Outcome::Regs {
+                runner: self.kept.chain.runner(),
+                x: ffa_abi::encode(&answer.reply),
+            },
+            changed: answer.changed,
         }
     }
 
-    // The reply to a call of the runner, and what the call changes.
+    // The answer to a call of the runner, and what the call changes.
+    fn answer(&mut self, call: Call) -> Answer
+        requires { passes_no_error call ≡ true }
+        ensures served { replied self.new.state result.reply ≡ serve self.old.state call }
+        ensures refused { is_error result.reply ≡ true → self.new ≡ self.old }
+        ensures access { IsAccessChange self.old.state self.new.state result.changed }
+        ensures unchanged { is_error result.reply ≡ true → result.changed ≡ None }
+    {
+        if is_on_memory(&call) {
+            return self.memory_answer(call);
+        }
+        Answer {
+            reply: self.reply(call),
+            changed: None,
+        }
+    }
+
+    // The reply to a call of the runner that isn't on memory, and what the call changes.
     fn reply(&mut self, call: Call) -> Reply
+        requires beside { is_on_memory call ≡ false }
         requires named { passes_no_error call ≡ true }
         ensures served { replied self.new.state result ≡ serve self.old.state call }
         ensures refused { is_error result ≡ true → self.new ≡ self.old }
@@ -161,7 +196,7 @@ impl<M: PhysMem + Drop> Manager<M> {
             | Call::MemShare { .. }
             | Call::MemRetrieve { .. }
             | Call::MemRelinquish
-            | Call::MemReclaim { .. } => self.memory_reply(call),
+            | Call::MemReclaim { .. } => unreachable!(),
             Call::BitmapCreate { .. }
             | Call::BitmapDestroy { .. }
             | Call::NotificationBind { .. }
@@ -171,4 +206,11 @@ impl<M: PhysMem + Drop> Manager<M> {
             Call::Unknown => Reply::Error(ErrorCode::NotSupported),
         }
     }
+}
+
+// The word of which the registers of a call hold the halves.
+fn word_of_halves(low: u32, high: u32) -> u64
+    ensures { result ≡ word_of_halves low high }
+{
+    u64::from(high) * (1 << 32) + u64::from(low)
 }

@@ -1,7 +1,7 @@
 //! Replies to calls that a part of the machine has done or refused.
 ghost use Rattle.std.specs.Prelude.{◌≡◌};
 ghost use Rattle.ffa_model.specs.MemorySend.{handle_reply};
-ghost use Rattle.ffa_spmc.specs.Replies.{done_or_error, handle_or_error, reply_or_error, retrieved_or_error};
+ghost use Rattle.ffa_spmc.specs.Replies.{done_or_error, reply_or_error};
 
 use ffa_model::{ErrorCode, Reply};
 
@@ -28,31 +28,11 @@ pub(crate) fn reply_or_error(answer: Result<Reply, ErrorCode>) -> Reply
     }
 }
 
-// The reply to a send: the halves of the handle, the low one first.
-fn handle_reply(handle: u64) -> Reply
+// The reply to a send that was done: the halves of the handle, the low one first.
+pub(crate) fn handle_reply(handle: u64) -> Reply
     ensures { result ≡ handle_reply handle }
 {
     let low = (handle % (1 << 32)) as u32;
     let high = (handle >> 32) as u32;
     Reply::Success([low, high, 0, 0, 0, 0])
-}
-
-// The reply to a send: its handle, or the code for which it was refused.
-pub(crate) fn handle_or_error(answer: Result<u64, ErrorCode>) -> Reply
-    ensures { result ≡ handle_or_error answer }
-{
-    match answer {
-        Ok(handle) => handle_reply(handle),
-        Err(code) => Reply::Error(code),
-    }
-}
-
-// The reply to a retrieve: how many bytes RX holds then, or the code for which it was refused.
-pub(crate) fn retrieved_or_error(answer: Result<u32, ErrorCode>) -> Reply
-    ensures { result ≡ retrieved_or_error answer }
-{
-    match answer {
-        Ok(size) => Reply::Retrieved(size),
-        Err(code) => Reply::Error(code),
-    }
 }

@@ -1,23 +1,15 @@
 //! The calls of notifications.
 ghost use Rattle.std.specs.Prelude.{true, ◌≡◌};
-ghost use Rattle.ffa_model.specs.Bits.{word_of_halves};
 ghost use Rattle.ffa_model.specs.Calls.{replied, served};
 ghost use Rattle.ffa_model.specs.Refusals.{is_error};
 ghost use Rattle.ffa_model.specs.Notifications.{bitmap_create, bitmap_destroy, notification_bind, notification_get, notification_set, notification_unbind};
 ghost use Rattle.ffa_model.specs.Step.{serve};
 ghost use Rattle.ffa_spmc.specs.Arms.{is_notification};
 
-use super::Manager;
+use super::{Manager, word_of_halves};
 use crate::replies::{done_or_error, reply_or_error};
 use ffa_model::{Call, Reply};
 use ffa_physmem::PhysMem;
-
-// The bitmap of which the registers of a call hold the halves.
-fn bitmap(low: u32, high: u32) -> u64
-    ensures { result ≡ word_of_halves low high }
-{
-    u64::from(high) * (1 << 32) + u64::from(low)
-}
 
 impl<M: PhysMem + Drop> Manager<M> {
     // The reply to a call of notifications.
@@ -76,7 +68,7 @@ impl<M: PhysMem + Drop> Manager<M> {
         ensures refused { is_error result ≡ true → self.new ≡ self.old }
     {
         let runner = self.kept.chain.runner();
-        let bitmap = bitmap(low, high);
+        let bitmap = word_of_halves(low, high);
         done_or_error(self.kept.bitmaps.bind(runner, word, flags, bitmap))
     }
 
@@ -86,7 +78,7 @@ impl<M: PhysMem + Drop> Manager<M> {
         ensures refused { is_error result ≡ true → self.new ≡ self.old }
     {
         let runner = self.kept.chain.runner();
-        let bitmap = bitmap(low, high);
+        let bitmap = word_of_halves(low, high);
         done_or_error(self.kept.bitmaps.unbind(runner, word, flags, bitmap))
     }
 
@@ -96,7 +88,7 @@ impl<M: PhysMem + Drop> Manager<M> {
         ensures refused { is_error result ≡ true → self.new ≡ self.old }
     {
         let runner = self.kept.chain.runner();
-        let bitmap = bitmap(low, high);
+        let bitmap = word_of_halves(low, high);
         done_or_error(self.kept.bitmaps.set(runner, word, flags, bitmap))
     }
 

@@ -28,4 +28,5 @@ returns-clause-done g c =
           subst (λ (i : ℕ). IsMoved old new (array_vec_len l.regions) l.blocks i (in_ranges l.base it.ranges.items) (λ p. None) asked.zero) c.place-index.ensures
           (subst (λ (ranges : List Range). IsMoved old new (array_vec_len l.regions) l.blocks c.place-index.result (in_ranges l.base ranges) (λ p. None) asked.zero)
           c.as_slice-ranges.ensures.value c.move_rights.ensures);
+      access = c.of-changed.ensures;
     }

@@ -1,5 +1,6 @@
 use Rattle.std.proofs.Common.{subst}
 use Rattle.ffa_model.specs.SoundState.{IsSoundState}
+use Rattle.ffa_spmc.specs.Cached.{AreWalks}
 use Rattle.ffa_spmc.specs.Snapshot.{Snapshot}
 use Rattle.ffa_spmc.proofs.Laws.{isolated-now, never_grow-now, shown-now}
 use Rattle.ffa_spmc.proofs.machine.Machine.run.Goals as goal
@@ -16,3 +17,6 @@ pub returns-clause-never_grow : goal.returns-clause-never_grow
 returns-clause-never_grow g c =
     never_grow-now c.args.self.now.state
     (subst (λ (seen : Snapshot). IsSoundState seen.state) c.self.view_is c.holds.ensures.sound) c.args.ops.now _ c.operate_all.ensures.state
+
+pub returns-clause-walks : goal.returns-clause-walks
+returns-clause-walks g c = subst AreWalks c.self-2.view_is c.self-2.invariant

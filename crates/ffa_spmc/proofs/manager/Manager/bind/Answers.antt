@@ -17,11 +17,11 @@ pub invariant_of-self : goal.invariant_of-self
 invariant_of-self g c =
     let x = parts_of g.M.PhysMem.ram c.self.inside in
     machine-notified x c.self.invariant c.bind.new.self _ (NotificationBind c.args.word c.args.flags c.args.low c.args.high)
-    (bound x c.self.invariant c.runner-runner.result.0 c.runner-runner.ensures.runner c.bind.result c.bind.new.self c.args.word c.args.flags c.args.low c.args.high c.bitmap-bitmap.result c.bitmap-bitmap.ensures c.bind.ensures.kept c.bind.ensures.refusal c.bind.ensures.bound)
+    (bound x c.self.invariant c.runner-runner.result.0 c.runner-runner.ensures.runner c.bind.result c.bind.new.self c.args.word c.args.flags c.args.low c.args.high c.word_of_halves-bitmap.result c.word_of_halves-bitmap.ensures c.bind.ensures.kept c.bind.ensures.refusal c.bind.ensures.bound)
 
 pub returns-clause-served : goal.returns-clause-served
 returns-clause-served g c =
     let x = parts_of g.M.PhysMem.ram c.self.inside in
     ap (λ (reply : Reply). replied (with_bits x c.bind.new.self) reply) c.done_or_error.ensures
-    ∙ bound x c.self.invariant c.runner-runner.result.0 c.runner-runner.ensures.runner c.bind.result c.bind.new.self c.args.word c.args.flags c.args.low c.args.high c.bitmap-bitmap.result c.bitmap-bitmap.ensures c.bind.ensures.kept c.bind.ensures.refusal c.bind.ensures.bound
+    ∙ bound x c.self.invariant c.runner-runner.result.0 c.runner-runner.ensures.runner c.bind.result c.bind.new.self c.args.word c.args.flags c.args.low c.args.high c.word_of_halves-bitmap.result c.word_of_halves-bitmap.ensures c.bind.ensures.kept c.bind.ensures.refusal c.bind.ensures.bound
     ∙ ap (λ (seen : Managed). served seen.state (notification_bind seen.state c.args.word c.args.flags c.args.low c.args.high)) c.self.view_is

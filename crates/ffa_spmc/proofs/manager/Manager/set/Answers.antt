@@ -17,11 +17,11 @@ pub invariant_of-self : goal.invariant_of-self
 invariant_of-self g c =
     let x = parts_of g.M.PhysMem.ram c.self.inside in
     machine-notified x c.self.invariant c.set.new.self _ (NotificationSet c.args.word c.args.flags c.args.low c.args.high)
-    (set x c.self.invariant c.runner-runner.result.0 c.runner-runner.ensures.runner c.set.result c.set.new.self c.args.word c.args.flags c.args.low c.args.high c.bitmap-bitmap.result c.bitmap-bitmap.ensures c.set.ensures.kept c.set.ensures.refusal c.set.ensures.pending)
+    (set x c.self.invariant c.runner-runner.result.0 c.runner-runner.ensures.runner c.set.result c.set.new.self c.args.word c.args.flags c.args.low c.args.high c.word_of_halves-bitmap.result c.word_of_halves-bitmap.ensures c.set.ensures.kept c.set.ensures.refusal c.set.ensures.pending)
 
 pub returns-clause-served : goal.returns-clause-served
 returns-clause-served g c =
     let x = parts_of g.M.PhysMem.ram c.self.inside in
     ap (λ (reply : Reply). replied (with_bits x c.set.new.self) reply) c.done_or_error.ensures
-    ∙ set x c.self.invariant c.runner-runner.result.0 c.runner-runner.ensures.runner c.set.result c.set.new.self c.args.word c.args.flags c.args.low c.args.high c.bitmap-bitmap.result c.bitmap-bitmap.ensures c.set.ensures.kept c.set.ensures.refusal c.set.ensures.pending
+    ∙ set x c.self.invariant c.runner-runner.result.0 c.runner-runner.ensures.runner c.set.result c.set.new.self c.args.word c.args.flags c.args.low c.args.high c.word_of_halves-bitmap.result c.word_of_halves-bitmap.ensures c.set.ensures.kept c.set.ensures.refusal c.set.ensures.pending
     ∙ ap (λ (seen : Managed). served seen.state (notification_set seen.state c.args.word c.args.flags c.args.low c.args.high)) c.self.view_is

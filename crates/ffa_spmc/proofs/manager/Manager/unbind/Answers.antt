@@ -17,11 +17,11 @@ pub invariant_of-self : goal.invariant_of-self
 invariant_of-self g c =
     let x = parts_of g.M.PhysMem.ram c.self.inside in
     machine-notified x c.self.invariant c.unbind.new.self _ (NotificationUnbind c.args.word c.args.flags c.args.low c.args.high)
-    (unbound x c.self.invariant c.runner-runner.result.0 c.runner-runner.ensures.runner c.unbind.result c.unbind.new.self c.args.word c.args.flags c.args.low c.args.high c.bitmap-bitmap.result c.bitmap-bitmap.ensures c.unbind.ensures.kept c.unbind.ensures.refusal c.unbind.ensures.unbound)
+    (unbound x c.self.invariant c.runner-runner.result.0 c.runner-runner.ensures.runner c.unbind.result c.unbind.new.self c.args.word c.args.flags c.args.low c.args.high c.word_of_halves-bitmap.result c.word_of_halves-bitmap.ensures c.unbind.ensures.kept c.unbind.ensures.refusal c.unbind.ensures.unbound)
 
 pub returns-clause-served : goal.returns-clause-served
 returns-clause-served g c =
     let x = parts_of g.M.PhysMem.ram c.self.inside in
     ap (λ (reply : Reply). replied (with_bits x c.unbind.new.self) reply) c.done_or_error.ensures
-    ∙ unbound x c.self.invariant c.runner-runner.result.0 c.runner-runner.ensures.runner c.unbind.result c.unbind.new.self c.args.word c.args.flags c.args.low c.args.high c.bitmap-bitmap.result c.bitmap-bitmap.ensures c.unbind.ensures.kept c.unbind.ensures.refusal c.unbind.ensures.unbound
+    ∙ unbound x c.self.invariant c.runner-runner.result.0 c.runner-runner.ensures.runner c.unbind.result c.unbind.new.self c.args.word c.args.flags c.args.low c.args.high c.word_of_halves-bitmap.result c.word_of_halves-bitmap.ensures c.unbind.ensures.kept c.unbind.ensures.refusal c.unbind.ensures.unbound
     ∙ ap (λ (seen : Managed). served seen.state (notification_unbind seen.state c.args.word c.args.flags c.args.low c.args.high)) c.self.view_is

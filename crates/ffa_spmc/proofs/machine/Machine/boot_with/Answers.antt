@@ -1,5 +1,5 @@
 use Rattle.ffa_spmc.proofs.Boots.{zeros-of}
-use Rattle.ffa_spmc.proofs.machine.Machine.boot.Goals as goal
+use Rattle.ffa_spmc.proofs.machine.Machine.boot_with.Goals as goal
 
 pub boot_cleared-requires : goal.boot_cleared-requires
 boot_cleared-requires g c =

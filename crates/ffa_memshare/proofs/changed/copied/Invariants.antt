@@ -1,5 +1,5 @@
 use Rattle.std.proofs.Common.{◌≡◌, take}
-use Rattle.ffa_memshare.proofs.retrieve.copied.Given as goal
+use Rattle.ffa_memshare.proofs.changed.copied.Given as goal
 
 -- the ranges so far
 abbrev pub invariant-loop-range : goal.invariant-loop-range
