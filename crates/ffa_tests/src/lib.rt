@@ -1,4 +1,4 @@
-//! Tests of the crates below the machine, each through what its crate makes public. They stand here and not in their
+//! Tests of the crates below the program, each through what its crate makes public. They stand here and not in their
 //! crates, since a crate with tests is proved twice at each landing.
 #![tactic(auto)]
 
@@ -10,6 +10,10 @@ mod manifest;
 mod memdesc;
 #[cfg(test)]
 mod pages;
+#[cfg(test)]
+mod player;
+#[cfg(test)]
+mod rows;
 #[cfg(test)]
 mod rxtx;
 #[cfg(test)]

@@ -217,6 +217,3 @@ fn write_made<W: Write>(writer: &mut W, op: &Op, outcome: &Outcome) -> Result<()
     text::push_outcome(&mut text, op, outcome);
     output::write_text(writer, text.as_slice())
 }
-
-#[cfg(test)]
-mod tests;
