@@ -3,16 +3,20 @@
 //! A row is a text of steps: a line of the trace, an arrow, and what it prints. Registers are written as
 //! `8001: 84000061 0 1`: the runner, then the registers without their leading zeros and without the last ones that are
 //! zero. What is printed below a first line stands below it.
-ghost use Rattle.std.specs.Prelude.{◌≡◌};
+ghost use Rattle.std.specs.Prelude.{◌≡◌, IfOk};
 ghost use Rattle.ffa_model.specs.Ram.{zero_ram};
 
 use ffa_model::row_machine;
 use ffa_physmem::{FlatRam, FrameRam, PhysMem};
 use ffa_spmc::Machine;
+use ffa_tlb::{InTurn, NoTlb, Tlb, Translations};
 use ffa_trace::Player;
 use std::alloc::Global;
 use std::process::Abort;
 use std::test::Fail;
+
+// Rows on machines with a cache, and what it holds.
+mod cached;
 
 // Memory transactions.
 mod memory;
@@ -52,12 +56,26 @@ impl Row {
         Ok(())
     }
 
-    // Plays the trace on fresh machines: in RAM of each kind it prints the text.
+    // Plays the trace on fresh machines: in RAM of each kind, without a cache and with one, it prints the text.
     fn check(&self, rt: &impl Abort, alloc: Global) -> Result<(), Fail> {
-        let mut flat = machine(FlatRam::new(alloc, 0x4000_0000, 512)?);
-        assert_eq!(rt; played(alloc, &mut flat, &self.trace)?, self.text);
-        let mut frames = machine(FrameRam::new(alloc, 0x4000_0000, 512)?);
-        assert_eq!(rt; played(alloc, &mut frames, &self.trace)?, self.text);
+        self.check_in(rt, alloc, flat_ram(alloc)?, NoTlb)?;
+        self.check_in(rt, alloc, flat_ram(alloc)?, four_in_turn())?;
+        self.check_in(rt, alloc, frame_ram(alloc)?, NoTlb)?;
+        self.check_in(rt, alloc, frame_ram(alloc)?, four_in_turn())
+    }
+
+    // Plays the trace on a fresh machine in this RAM, with this cache.
+    fn check_in<M: PhysMem + Drop, T: Translations + Drop>(
+        &self,
+        rt: &impl Abort,
+        alloc: Global,
+        ram: M,
+        cache: T,
+    ) -> Result<(), Fail>
+        requires { M.ram ram ≡ zero_ram 0x40000000 512 }
+    {
+        let mut player = machine(ram, cache);
+        assert_eq!(rt; played(alloc, &mut player, &self.trace)?, self.text);
         Ok(())
     }
 }
@@ -71,16 +89,34 @@ fn plays(rt: &impl Abort, alloc: Global, parts: &[&str]) -> Result<(), Fail> {
     row.check(rt, alloc)
 }
 
-fn machine<M: PhysMem + Drop>(ram: M) -> Player<M>
+// RAM of either kind for the machine of the rows.
+fn flat_ram(alloc: Global) -> Result<FlatRam, Fail>
+    ensures { IfOk result (λ ram. ⟦<FlatRam as PhysMem>⟧.ram ram ≡ zero_ram 0x40000000 512) }
+{
+    Ok(FlatRam::new(alloc, 0x4000_0000, 512)?)
+}
+
+fn frame_ram(alloc: Global) -> Result<FrameRam, Fail>
+    ensures { IfOk result (λ ram. ⟦<FrameRam as PhysMem>⟧.ram ram ≡ zero_ram 0x40000000 512) }
+{
+    Ok(FrameRam::new(alloc, 0x4000_0000, 512)?)
+}
+
+// The cache of `--tlb`.
+fn four_in_turn() -> Tlb<InTurn, 4> {
+    Tlb::new(InTurn::default())
+}
+
+fn machine<M: PhysMem + Drop, T: Translations + Drop>(ram: M, cache: T) -> Player<M, T>
     requires { M.ram ram ≡ zero_ram 0x40000000 512 }
 {
-    Player::new(Machine::boot(&row_machine(), ram))
+    Player::new(Machine::boot_with(&row_machine(), ram, cache))
 }
 
 // What a trace prints.
-fn played<M: PhysMem + Drop>(
+fn played<M: PhysMem + Drop, T: Translations + Drop>(
     alloc: Global,
-    player: &mut Player<M>,
+    player: &mut Player<M, T>,
     trace: &str,
 ) -> Result<String, Fail> {
     let mut written = Vec::new(alloc);

@@ -9,7 +9,7 @@ const ENDPOINT: EndpointId = EndpointId(0x8001);
 
 // Picks one slot each time.
 #[derive(Drop)]
-struct Always(usize);
+pub(crate) struct Always(pub(crate) usize);
 
 impl Replacement for Always {
     fn pick(&mut self, _endpoint: EndpointId, _page: PageNo) -> usize {

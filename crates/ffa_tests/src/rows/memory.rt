@@ -3,7 +3,7 @@
 use super::*;
 
 // All endpoints map their buffers, and the first partition runs.
-const MAPPED: &str = "\
+pub(super) const MAPPED: &str = "\
 call 84000066 4001E000 4001F000 1 -> 0: 84000061
 call 8400006D 80020000 -> 8002: 8400006D 80020000
 call 84000066 4003E000 4003F000 1 -> 8002: 84000061
@@ -13,18 +13,18 @@ call 84000066 4002E000 4002F000 1 -> 8001: 84000061
 ";
 
 // One partition waits, and the normal world runs the other.
-const TO_SECOND: &str = "\
+pub(super) const TO_SECOND: &str = "\
 call 8400006B -> 0: 8400006B 80010000
 call 8400006D 80020000 -> 8002: 8400006D 80020000
 ";
 
-const TO_FIRST: &str = "\
+pub(super) const TO_FIRST: &str = "\
 call 8400006B -> 0: 8400006B 80020000
 call 8400006D 80010000 -> 8001: 8400006D 80010000
 ";
 
 // The first partition lends the page at 40021000 to the second, for reading and writing.
-const LEND: &str = "\
+pub(super) const LEND: &str = "\
 store 4002E000 0000000000008001 -> done
 store 4002E018 0000000100000010 -> done
 store 4002E020 0000000000000030 -> done
@@ -37,7 +37,7 @@ load 40021000 1 -> fault translation
 ";
 
 // The second retrieves the first transaction of the first.
-const RETRIEVE: &str = "\
+pub(super) const RETRIEVE: &str = "\
 store 4003E000 0000000000008001 -> done
 store 4003E008 0000800100000001 -> done
 store 4003E018 0000000100000010 -> done
@@ -45,10 +45,10 @@ store 4003E020 0000000000000030 -> done
 store 4003E030 0000000000028002 -> done
 ";
 
-const RETRIEVED: &str = "call 84000074 40 40 -> 8002: 84000075 60 60\n";
+pub(super) const RETRIEVED: &str = "call 84000074 40 40 -> 8002: 84000075 60 60\n";
 
 // The second stores into the page, and gives up what it holds.
-const RELINQUISH: &str = "\
+pub(super) const RELINQUISH: &str = "\
 store 40021000 5A -> done
 store 4003E000 0000800100000001 -> done
 store 4003E008 0000000100000000 -> done
