@@ -1,4 +1,4 @@
-//! Tests of the crates below the machine, each through what its crate makes public. They stand here and not in their
+//! Tests of the crates below the program, each through what its crate makes public. They stand here and not in their
 //! crates, since a crate with tests is proved twice at each landing.
 #![tactic(auto)]
 
@@ -11,6 +11,10 @@ mod memdesc;
 #[cfg(test)]
 mod pages;
 #[cfg(test)]
+mod player;
+#[cfg(test)]
+mod rows;
+#[cfg(test)]
 mod rxtx;
 #[cfg(test)]
 mod schedule;
@@ -18,5 +22,7 @@ mod schedule;
 mod setup;
 #[cfg(test)]
 mod stage2;
+#[cfg(test)]
+mod tlb;
 #[cfg(test)]
 mod walker;
