@@ -5,6 +5,8 @@
 #[cfg(test)]
 mod abi;
 #[cfg(test)]
+mod command;
+#[cfg(test)]
 mod direct_messages;
 #[cfg(test)]
 mod indirect_messages;
