@@ -7,7 +7,7 @@ use Rattle.std.proofs.lemmas.List.{get_or_default}
 use Rattle.std.proofs.lemmas.List.Edits.{map_over_more}
 use Rattle.ffa_model.specs.declared.leaf.Leaf.{Leaf}
 use Rattle.ffa_tlb.specs.declared.translations.Entry.{Entry}
-use Rattle.ffa_tlb.specs.Lookups.{is_pair, lookup, IsFilled}
+use Rattle.ffa_tlb.specs.Lookups.{is_pair, lookup, IsFilled, IsForgotten}
 use Rattle.ffa_tlb.specs.Slots.{entries_of, is_distinct, holds, without}
 
 -- empty slots hold nothing
@@ -94,33 +94,28 @@ distinct_put (Some y ∷ slots) (suc i) x distinct none =
         → is_distinct new ≡ true → is_distinct (y ∷ new) ≡ true
     one old new distinct none kept rest = grind (arith, common_steps, distinct, none, kept, rest)
 
--- a slot that is written after the endpoint's page was taken out holds its leaf
-pub written : (slots : List (Option Entry)) (i : ℕ) (x : Entry) → i < length slots
-    → lookup (entries_of (slice_set (without slots x.endpoint.0 x.page.0) i (Some x))) x.endpoint.0 x.page.0 ≡ Some x.leaf
-written slots i x within =
-    lookup_put (without slots x.endpoint.0 x.page.0) i x (grind (arith, common_steps, within))
-    (grind (arith, common_steps, lookup_without slots x.endpoint.0 x.page.0 x.endpoint.0 x.page.0))
+-- what was forgotten is held no more
+pub none_forgotten : (old new : List Entry) (e p : ℕ) → IsForgotten old new e p → lookup new e p ≡ None
+none_forgotten old new e p forgotten = grind (arith, common_steps, forgotten e p)
 
--- so an endpoint's page that is taken out and then written in some slot is filled
+-- one page of one endpoint has one leaf
 same_lookup : (entries : List Entry) (e p f q : ℕ) → is_pair f q e p ≡ true → lookup entries f q ≡ lookup entries e p
 same_lookup entries e p f q same = grind (arith, common_steps, same)
 
-pub is_filled_at : (slots : List (Option Entry)) (i : ℕ) (x : Entry) → i < length slots → is_distinct (entries_of slots) ≡ true
-    → IsFilled (entries_of slots) (entries_of (slice_set (without slots x.endpoint.0 x.page.0) i (Some x))) x.endpoint.0 x.page.0 x.leaf
-is_filled_at slots i x within distinct f q = of (is_pair f q x.endpoint.0 x.page.0) refl
+-- so an endpoint's page that is forgotten, and then written in some slot, is filled
+pub filled_forgotten : (old : List Entry) (slots : List (Option Entry)) (i : ℕ) (x : Entry) → i < length slots → is_distinct (entries_of slots) ≡ true
+    → IsForgotten old (entries_of slots) x.endpoint.0 x.page.0 → IsFilled old (entries_of (slice_set slots i (Some x))) x.endpoint.0 x.page.0 x.leaf
+filled_forgotten old slots i x within distinct forgotten f q = of (is_pair f q x.endpoint.0 x.page.0) refl
   where
-    emptied : List (Option Entry)
-    emptied = without slots x.endpoint.0 x.page.0
-
     new : List Entry
-    new = entries_of (slice_set emptied i (Some x))
+    new = entries_of (slice_set slots i (Some x))
 
-    of : (own : Bool) → is_pair f q x.endpoint.0 x.page.0 ≡ own
-        → (lookup new f q ≡ None) ⊎ (lookup new f q ≡ (if own then Some x.leaf else lookup (entries_of slots) f q))
-    of true own = inr (same_lookup new x.endpoint.0 x.page.0 f q own ∙ written slots i x within)
-    of false own = elim (lookup_put_other emptied i x f q (distinct_without slots x.endpoint.0 x.page.0 distinct) (grind (arith, common_steps, own))) [
+    of : (own : Bool) → is_pair f q x.endpoint.0 x.page.0 ≡ own → (lookup new f q ≡ None) ⊎ (lookup new f q ≡ (if own then Some x.leaf else lookup old f q))
+    of true own =
+        inr (same_lookup new x.endpoint.0 x.page.0 f q own ∙ lookup_put slots i x within (none_forgotten old (entries_of slots) x.endpoint.0 x.page.0 forgotten))
+    of false own = elim (lookup_put_other slots i x f q distinct (grind (arith, common_steps, own))) [
       | inl none ↦ inl none
-      | inr same ↦ inr (same ∙ (rw own at (lookup_without slots x.endpoint.0 x.page.0 f q)))
+      | inr same ↦ inr (same ∙ (rw own at (forgotten f q)))
     ]
 
 -- one more slot, where those before it are without an endpoint's page

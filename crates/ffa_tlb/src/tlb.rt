@@ -54,12 +54,11 @@ impl<P: Replacement, const N: usize> Translations for Tlb<P, N> {
         held_in(&self.slots, endpoint, page)
     }
 
-    #[tactic(auto, using(crate::proofs::Slots::distinct_without, crate::proofs::Slots::lookup_without, crate::proofs::Slots::distinct_put, crate::proofs::Slots::lookup_put))]
     fn fill(&mut self, endpoint: EndpointId, page: PageNo, leaf: Leaf)
         ensures filled { IsFilled self.old self.new endpoint.0 page.0 leaf }
         ensures held { lookup self.new endpoint.0 page.0 ≡ Some leaf }
     {
-        take_out(&mut self.slots, endpoint, page);
+        self.forget(endpoint, page);
         let slot = self.policy.pick(endpoint, page) % N;
         self.slots[slot] = Some(Entry {
             endpoint,

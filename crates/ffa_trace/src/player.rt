@@ -14,6 +14,7 @@ use crate::text::{self, Text};
 use ffa_model::{Op, Outcome, Size};
 use ffa_physmem::PhysMem;
 use ffa_spmc::Machine;
+use ffa_tlb::{NoTlb, Translations};
 use memchr::memchr;
 use std::alloc::Global;
 use std::io::{Read, Write};
@@ -24,11 +25,11 @@ const BLOCK: usize = 65536;
 
 /// Plays traces on a machine, as which contracts see it.
 #[derive(Drop)]
-pub struct Player<M: PhysMem + Drop> {
-    machine: Machine<M>,
+pub struct Player<M: PhysMem + Drop, T: Translations + Drop = NoTlb> {
+    machine: Machine<M, T>,
 }
 
-impl<M: PhysMem + Drop> Model for Player<M> {
+impl<M: PhysMem + Drop, T: Translations + Drop> Model for Player<M, T> {
     ghost use Rattle.ffa_spmc.specs.Snapshot.{Snapshot, coded_snapshot};
 
     ghost Value = { Snapshot };
@@ -38,16 +39,16 @@ impl<M: PhysMem + Drop> Model for Player<M> {
     ghost view = { λ player. player.machine };
 }
 
-impl<M: PhysMem + Drop> Player<M> {
+impl<M: PhysMem + Drop, T: Translations + Drop> Player<M, T> {
     /// A player on this machine, as it is.
-    pub fn new(machine: Machine<M>) -> Player<M>
+    pub fn new(machine: Machine<M, T>) -> Player<M, T>
         ensures { result ≡ machine }
     {
         Player { machine }
     }
 
     /// The machine, as the lines so far left it.
-    pub fn machine(&self) -> &Machine<M>
+    pub fn machine(&self) -> &Machine<M, T>
         ensures { result.now ≡ self.now }
     {
         &self.machine
@@ -70,8 +71,8 @@ impl<M: PhysMem + Drop> Player<M> {
 
 // Not inlined: the block would lie on the stack while the caller boots the machine.
 #[inline(never)]
-fn play_lines<M: PhysMem + Drop, R: Read, W: Write>(
-    machine: &mut Machine<M>,
+fn play_lines<M: PhysMem + Drop, T: Translations + Drop, R: Read, W: Write>(
+    machine: &mut Machine<M, T>,
     alloc: Global,
     reader: &mut R,
     writer: &mut W,
@@ -93,8 +94,8 @@ fn play_lines<M: PhysMem + Drop, R: Read, W: Write>(
 }
 
 // Takes bytes that were read: `begun` are those of the line that hasn't ended, and `number` is its number.
-fn feed<M: PhysMem + Drop, W: Write>(
-    machine: &mut Machine<M>,
+fn feed<M: PhysMem + Drop, T: Translations + Drop, W: Write>(
+    machine: &mut Machine<M, T>,
     writer: &mut W,
     begun: &mut Vec<u8>,
     number: &mut u64,
@@ -131,8 +132,8 @@ fn keep(begun: &mut Vec<u8>, bytes: &[u8]) -> Result<(), PlayError>
 }
 
 // Does the line that begins with `begun` and ends with `piece`. A line that lies in one block isn't copied.
-fn end_line<M: PhysMem + Drop, W: Write>(
-    machine: &mut Machine<M>,
+fn end_line<M: PhysMem + Drop, T: Translations + Drop, W: Write>(
+    machine: &mut Machine<M, T>,
     writer: &mut W,
     begun: &mut Vec<u8>,
     number: u64,
@@ -151,8 +152,8 @@ fn end_line<M: PhysMem + Drop, W: Write>(
 }
 
 // Does a line, and writes its text.
-fn do_line<M: PhysMem + Drop, W: Write>(
-    machine: &mut Machine<M>,
+fn do_line<M: PhysMem + Drop, T: Translations + Drop, W: Write>(
+    machine: &mut Machine<M, T>,
     writer: &mut W,
     number: u64,
     bytes: &[u8],
@@ -217,6 +218,3 @@ fn write_made<W: Write>(writer: &mut W, op: &Op, outcome: &Outcome) -> Result<()
     text::push_outcome(&mut text, op, outcome);
     output::write_text(writer, text.as_slice())
 }
-
-#[cfg(test)]
-mod tests;

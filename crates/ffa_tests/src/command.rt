@@ -1,29 +1,40 @@
 //! Worked command lines.
 
-use crate::{Request, request};
-use clap::error::ErrorKind;
+use ffa_command::{ErrorKind, Request, request};
 use std::test::Fail;
 
 #[test]
 fn commands_with_their_paths(rt: HostRuntime) -> Result<(), Fail> {
     let (manifest, trace) = ("row.toml", "first.trace");
     let run = ["ffaplay", "run", manifest, trace];
-    let demo = ["ffaplay", "demo", trace];
     let run_in_frames = ["ffaplay", "run", manifest, "--frames", trace];
-    let demo_in_frames = ["ffaplay", "demo", trace, "--frames"];
+    let run_with_tlb = ["ffaplay", "run", manifest, "--tlb", trace];
+    let demo = ["ffaplay", "demo", trace];
+    let demo_with_tlb = ["ffaplay", "demo", "--tlb", trace];
+    let demo_with_both = ["ffaplay", "demo", trace, "--tlb", "--frames"];
     let check = ["ffaplay", "check", manifest];
     let layout = ["ffaplay", "layout", "--", manifest];
     let alloc = rt.alloc();
-    for (words, frames) in [(run.as_slice(), false), (run_in_frames.as_slice(), true)] {
+    for (words, frames, tlb) in [
+        (run.as_slice(), false, false),
+        (run_in_frames.as_slice(), true, false),
+        (run_with_tlb.as_slice(), false, true),
+    ] {
         let wanted = Request::Run {
             manifest,
             trace,
             frames,
+            tlb,
         };
         assert_eq!(rt; request(alloc, words)?, wanted);
     }
-    for (words, frames) in [(demo.as_slice(), false), (demo_in_frames.as_slice(), true)] {
-        assert_eq!(rt; request(alloc, words)?, Request::Demo { trace, frames });
+    for (words, frames, tlb) in [
+        (demo.as_slice(), false, false),
+        (demo_with_tlb.as_slice(), false, true),
+        (demo_with_both.as_slice(), true, true),
+    ] {
+        let wanted = Request::Demo { trace, frames, tlb };
+        assert_eq!(rt; request(alloc, words)?, wanted);
     }
     assert_eq!(rt; request(alloc, &check)?, Request::Check { manifest });
     assert_eq!(rt; request(alloc, &layout)?, Request::Layout { manifest });
@@ -45,6 +56,10 @@ fn mistakes(rt: HostRuntime) {
         ),
         (
             ["ffaplay", "check", "--frames", "a"].as_slice(),
+            ErrorKind::UnknownArgument,
+        ),
+        (
+            ["ffaplay", "layout", "--tlb", "a"].as_slice(),
             ErrorKind::UnknownArgument,
         ),
         (
@@ -89,6 +104,7 @@ fn help_of_a_command_names_its_words(rt: HostRuntime) -> Result<(), Fail> {
         "  <manifest>  The machine's manifest, a TOML file\n",
         "  <trace>     The trace: a line for each operation\n",
         "  --frames",
+        "  --tlb",
     ] {
         assert!(rt; text.contains(part), "lacks {part}");
     }

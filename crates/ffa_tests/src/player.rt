@@ -1,10 +1,11 @@
-ghost use Rattle.std.specs.Prelude.{◌≡◌};
-ghost use Rattle.ffa_model.specs.Ram.{zero_ram};
-
-use super::*;
+//! The player over readers and writers that fail, and lines that it refuses.
 use ffa_model::{PageNo, built_in, row_machine};
-use ffa_physmem::{FlatRam, FrameRam, PhysMem};
+use ffa_physmem::{FlatRam, PhysMem};
+use ffa_spmc::Machine;
+use ffa_trace::{PlayError, Player};
+use std::alloc::Global;
 use std::io;
+use std::io::{Read, Write};
 use std::test::Fail;
 
 const FIRST: &str = "call 84000069\nstore 40010000 2A\nload 40010000 1\nload 40020000 1\nshow\n";
@@ -102,13 +103,15 @@ fn boots_with_tables(rt: HostRuntime) -> Result<(), Fail> {
     Ok(())
 }
 
-// Plays a trace on a fresh machine in this RAM, and what comes of it.
-fn plays<M: PhysMem + Drop>(alloc: Global, ram: M, trace: &str) -> (Vec<u8>, Result<(), PlayError>)
-    requires { M.ram ram ≡ zero_ram 0x40000000 512 }
-{
-    let mut player = Player::new(Machine::boot(&row_machine(), ram));
+// Plays a trace, and what comes of it.
+fn play(
+    player: &mut Player<FlatRam>,
+    alloc: Global,
+    trace: &[u8],
+) -> (Vec<u8>, Result<(), PlayError>) {
     let mut out = Vec::new(alloc);
-    let played = player.play(alloc, &mut trace.as_bytes(), &mut out);
+    let mut left = trace;
+    let played = player.play(alloc, &mut left, &mut out);
     (out, played)
 }
 
@@ -126,80 +129,40 @@ fn passes_over_comments_of_any_bytes(rt: HostRuntime) -> Result<(), Fail> {
     Ok(())
 }
 
-#[test]
-fn plays_the_rows(rt: HostRuntime) -> Result<(), Fail> {
-    for (trace, want) in [
-        (
-            "load 40000000 8\nstore 40008FF8 00\n",
-            "fault translation\nfault translation\n",
-        ),
-        (
-            "load 40010001 2\nfetch 40010000\n",
-            "fault alignment\nfault permission\n",
-        ),
-        (
-            "load 4001FFF8 8\nload 100000000 1\n",
-            "data 0000000000000000\nfault translation\n",
-        ),
-        (
-            "store 40010000 11223344\nload 40010000 1\nload 40010002 2\n",
-            "done\ndata 44\ndata 1122\n",
-        ),
-        (
-            "store 4001fff8 0123456789abcDEF\nload 4001FFF8 4\n",
-            "done\ndata 89ABCDEF\n",
-        ),
-        ("# a comment\n\n#\nload 40010000 1\n", "data 00\n"),
-        ("", ""),
-    ] {
-        let flat = FlatRam::new(rt.alloc(), 0x4000_0000, 512)?;
-        let frames = FrameRam::new(rt.alloc(), 0x4000_0000, 512)?;
-        for (out, played) in [
-            plays(rt.alloc(), flat, trace),
-            plays(rt.alloc(), frames, trace),
-        ] {
-            assert_eq!(rt; out.as_slice(), want.as_bytes(), "{trace}");
-            assert_eq!(rt; played, Ok(()), "{trace}");
-        }
-    }
-    Ok(())
-}
+// What is no line, each up to a bar.
+const BAD: &str = "\
+load 4001|
+load 40010000 1 |
+ load 40010000 1|
+load  40010000 1|
+load 40010000 3|
+load 40010000 01|
+load 0x40010000 1|
+load 00000000040010000 1|
+load  1|
+LOAD 40010000 1|
+store 40010000 1|
+store 40010000 123|
+store 40010000|
+store 40010000 00 00|
+fetch|
+fetch 40010000 4|
+call|
+call |
+call 1 2 3 4 5 6 7 8 9|
+call 1 2 G|
+show |
+shows|
+ |
+ # a comment|
+load 40010000 1\r";
 
 #[test]
 fn refuses_what_is_no_line(rt: HostRuntime) -> Result<(), Fail> {
-    for bad in [
-        "load 4001",
-        "load 40010000 1 ",
-        " load 40010000 1",
-        "load  40010000 1",
-        "load 40010000 3",
-        "load 40010000 01",
-        "load 0x40010000 1",
-        "load 00000000040010000 1",
-        "load  1",
-        "LOAD 40010000 1",
-        "store 40010000 1",
-        "store 40010000 123",
-        "store 40010000",
-        "store 40010000 00 00",
-        "fetch",
-        "fetch 40010000 4",
-        "call",
-        "call ",
-        "call 1 2 3 4 5 6 7 8 9",
-        "call 1 2 G",
-        "show ",
-        "shows",
-        " ",
-        " # a comment",
-        "load 40010000 1\r",
-    ] {
+    for bad in BAD.split("|\n") {
         let mut player = rows(rt.alloc())?;
-        let mut trace = Vec::from_slice(rt.alloc(), b"load 40010000 1\n")?;
-        trace.extend_from_slice(bad.as_bytes())?;
-        trace.extend_from_slice(b"\nload 40010000 1\n")?;
-        let mut out = Vec::new(rt.alloc());
-        let played = player.play(rt.alloc(), &mut trace.as_slice(), &mut out);
+        let trace = format!(in rt.alloc(); "load 40010000 1\n{bad}\nload 40010000 1\n")?;
+        let (out, played) = play(&mut player, rt.alloc(), trace.as_bytes());
         assert_eq!(rt; out.as_slice(), b"data 00\n".as_slice(), "{bad}");
         assert_eq!(rt; played, Err(PlayError::BadLine(2)), "{bad}");
     }
