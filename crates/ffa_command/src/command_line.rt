@@ -7,9 +7,6 @@ ghost use Rattle.ffa_command.specs.Commands.{manifest_of, trace_of, path_rule, f
 use clap::{Arg, ArgAction, ArgMatches, Command};
 use std::alloc::{AllocError, Global};
 
-#[cfg(test)]
-mod tests;
-
 /// A command with its paths, which are words of the command line.
 #[derive(Clone, Copy, Debug, PartialEq, Eq)]
 pub enum Request<'a> {

@@ -14,9 +14,6 @@ use crate::parties::{receives_direct_requests, sends_direct_requests};
 use ffa_model::{EndpointId, ErrorCode, Manifest, Reply, Status, Work};
 use ffa_schedule::Chain;
 
-#[cfg(test)]
-mod tests;
-
 /// A direct message in registers: the identifier of the call in w0, w1, w2 and the payload in x3 to x7.
 #[derive(Clone, Copy, Debug, PartialEq, Eq)]
 pub struct DirectMessage {

@@ -16,9 +16,6 @@ use ffa_model::{EndpointId, ErrorCode, Manifest, PageNo};
 use ffa_physmem::{PAGE_SIZE, PhysMem};
 use ffa_rxtx::Buffers;
 
-#[cfg(test)]
-mod tests;
-
 /// How many bytes the header of a message has.
 const HEADER_SIZE: u32 = 20;
 

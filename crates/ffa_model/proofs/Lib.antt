@@ -21,3 +21,5 @@ pub mod Links
 pub mod Chains
 pub mod Sounds
 pub mod Sets
+pub mod FirstChain
+pub mod ResponseSize

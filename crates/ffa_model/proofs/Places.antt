@@ -11,6 +11,9 @@ pub place-identifier : (i : ℕ) → place (identifier i) ≡ i
 place-identifier zero = refl
 place-identifier (suc i) = omega arith
 
+pub same-identifier : (i j : ℕ) → identifier i ≡ identifier j → i ≡ j
+same-identifier i j same = sym (place-identifier i) ∙ ap place same ∙ place-identifier j
+
 -- a partition's identifier is above the manager's, and its place is an endpoint's
 pub partition-place : (n e : ℕ) → is_partition_among n e ≡ true → (0x8000 < e) × (place e < n)
 partition-place n e is =

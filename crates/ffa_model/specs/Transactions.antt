@@ -1,6 +1,6 @@
 -- Memory management transactions that are open (DEN0077A, 5): their handles, who holds them, and the most that a
 -- receiver may hold.
-use Rattle.std.specs.Prelude.{ℕ, ◌+◌, ◌*◌, ◌^◌, ◌==◌, Bool, false, ◌&&◌, List, length, filter, find, Option, slice_index, slice_set, unwrap_or, if◌then◌else◌}
+use Rattle.std.specs.Prelude.{ℕ, ◌+◌, ◌*◌, ◌==◌, Bool, false, ◌&&◌, List, length, filter, find, Option, slice_index, slice_set, unwrap_or, if◌then◌else◌}
 use Rattle.std.specs.Ordering.{nat_cmp}
 use Rattle.std.specs.List.{list_all}
 use Rattle.std.specs.Option.{option_and_then, option_map}

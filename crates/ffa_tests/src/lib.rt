@@ -5,11 +5,19 @@
 #[cfg(test)]
 mod abi;
 #[cfg(test)]
+mod command;
+#[cfg(test)]
+mod direct_messages;
+#[cfg(test)]
+mod indirect_messages;
+#[cfg(test)]
 mod manifest;
 #[cfg(test)]
 mod memdesc;
 #[cfg(test)]
 mod pages;
+#[cfg(test)]
+mod physmem;
 #[cfg(test)]
 mod player;
 #[cfg(test)]

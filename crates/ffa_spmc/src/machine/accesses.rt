@@ -52,13 +52,13 @@ impl<M: PhysMem + Drop, T: Translations + Drop> Machine<M, T> {
     {
         self.manager.holds();
         let page = self.manager.page_of(addr);
-        if let Some(page) = page {
-            if let Some(leaf) = self.cache.lookup(self.manager.runner(), page) {
-                return Walked {
-                    answer: Ok(moved_to(leaf, addr)),
-                    missed: None,
-                };
-            }
+        if let Some(page) = page
+            && let Some(leaf) = self.cache.lookup(self.manager.runner(), page)
+        {
+            return Walked {
+                answer: Ok(moved_to(leaf, addr)),
+                missed: None,
+            };
         }
         Walked {
             answer: self.manager.translate(addr),
@@ -66,10 +66,10 @@ impl<M: PhysMem + Drop, T: Translations + Drop> Machine<M, T> {
         }
     }
 
-    // Holds the leaf that the walk of an address answered, where the access was done and none is held for its page. It is
-    // inlined, alike.
+    // Fills the cache with what the walk of an address answered, where the access was done and no leaf is held for its
+    // page. It is inlined, alike.
     #[inline(always)]
-    fn hold(&mut self, addr: u64, walked: &Walked, outcome: &Outcome)
+    fn fill(&mut self, addr: u64, walked: &Walked, outcome: &Outcome)
         requires answer { walked.now.answer ≡ walk_of self.old.ram self.old.state self.old.state.runner addr }
         requires missed { option_map (λ (page : PageNo). page.0) walked.now.missed ≡ missed_page self.old addr }
         ensures state { self.new.state ≡ self.old.state }
@@ -96,7 +96,7 @@ impl<M: PhysMem + Drop, T: Translations + Drop> Machine<M, T> {
     {
         let walked = self.walk(addr);
         let outcome = self.manager.load(walked.answer, addr, size);
-        self.hold(addr, &walked, &outcome);
+        self.fill(addr, &walked, &outcome);
         outcome
     }
 
@@ -109,7 +109,7 @@ impl<M: PhysMem + Drop, T: Translations + Drop> Machine<M, T> {
     {
         let walked = self.walk(addr);
         let outcome = self.manager.fetch(walked.answer, addr);
-        self.hold(addr, &walked, &outcome);
+        self.fill(addr, &walked, &outcome);
         outcome
     }
 
@@ -124,7 +124,7 @@ impl<M: PhysMem + Drop, T: Translations + Drop> Machine<M, T> {
         self.manager.holds();
         let outcome = self.manager.store(walked.answer, addr, size, value);
         self.manager.holds();
-        self.hold(addr, &walked, &outcome);
+        self.fill(addr, &walked, &outcome);
         outcome
     }
 }

@@ -1,4 +1,4 @@
-use Rattle.std.proofs.Common.{ℕ, List, None, ap, subst}
+use Rattle.std.proofs.Common.{ℕ, List, None, subst}
 use Rattle.arrayvec.specs.ArrayVec.{array_vec_len}
 use Rattle.ffa_model.specs.declared.transaction.Range.{Range}
 use Rattle.ffa_memshare.specs.Changes.{IsMoved}

@@ -1,9 +1,11 @@
-//! RAM through its trait's bound.
+//! RAM through its trait's bound, and frames over a small heap.
 ghost use Rattle.std.specs.Prelude.{◌≡◌};
 ghost use Rattle.ffa_model.specs.Ram.{zero_ram};
 
-use crate::{FlatRam, FrameRam, PhysMem};
 use ffa_model::PageNo;
+use ffa_physmem::frames::zero_frames;
+use ffa_physmem::{FlatRam, FrameRam, PhysMem};
+use linked_list_allocator::LocalHeap;
 use std::process::Abort;
 use std::test::Fail;
 
@@ -39,5 +41,19 @@ fn frame_ram(rt: HostRuntime) -> Result<(), Fail> {
     let mut memory = FrameRam::new(rt.alloc(), 0x4000_0000, 2)?;
     assert_eq!(rt; (memory.base(), memory.pages()), (0x4000_0000, 2));
     use_pages(&mut memory, &rt);
+    Ok(())
+}
+
+// Each allocation is refused in turn: the list of three frames has room first, and then ever more of the frames.
+#[test]
+fn whole_or_given_back(rt: HostRuntime) -> Result<(), Fail> {
+    for room in [16, 64, 4096 + 64, 8192 + 64, 12288 + 64] {
+        let heap = LocalHeap::new(rt.alloc(), room)?;
+        let made = zero_frames(&heap, 3);
+        assert_eq!(rt; made.is_ok(), 3 * 4096 < room);
+        assert_eq!(rt; heap.used() == 0, made.is_err());
+        drop(made);
+        assert_eq!(rt; heap.used(), 0);
+    }
     Ok(())
 }

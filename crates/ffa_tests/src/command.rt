@@ -1,7 +1,6 @@
 //! Worked command lines.
 
-use crate::{Request, request};
-use clap::error::ErrorKind;
+use ffa_command::{ErrorKind, Request, request};
 use std::test::Fail;
 
 #[test]

@@ -4,7 +4,7 @@ use Rattle.ffa_model.specs.declared.endpoint.PageNo.{PageNo}
 use Rattle.ffa_tlb.specs.Lookups.{IsFilled}
 use Rattle.ffa_spmc.specs.Cached.{IsWalk}
 use Rattle.ffa_spmc.proofs.HeldWalks.{runner-back, runner-past, walks-filled}
-use Rattle.ffa_spmc.proofs.machine.Machine.hold.Goals as goal
+use Rattle.ffa_spmc.proofs.machine.Machine.fill.Goals as goal
 
 pub moved_back-requires : goal.moved_back-requires
 moved_back-requires g c =

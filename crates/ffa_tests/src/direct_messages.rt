@@ -1,7 +1,7 @@
 //! Direct messages on the machine with two partitions.
 ghost use Rattle.std.specs.Prelude.{◌≡◌, length};
 
-use crate::{DirectMessage, direct_req, direct_resp};
+use ffa_messages::{DirectMessage, direct_req, direct_resp};
 use ffa_model::{EndpointId, ErrorCode, Reply, Status, Work, row_machine};
 use ffa_schedule::Chain;
 use std::test::Fail;

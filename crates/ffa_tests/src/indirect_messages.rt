@@ -2,7 +2,7 @@
 ghost use Rattle.std.specs.Prelude.{◌≡◌, length};
 ghost use Rattle.ffa_messages.specs.Parts.{AreInRam};
 
-use crate::send2;
+use ffa_messages::send2;
 use ffa_model::{EndpointId, ErrorCode, PageNo, row_machine};
 use ffa_pages::PageTable;
 use ffa_physmem::{FlatRam, PhysMem};

@@ -2,7 +2,7 @@ use Rattle.std.proofs.Common.{◌∙◌, length, ap}
 use Rattle.std.proofs.lemmas.List.{length-set}
 use Rattle.ffa_model.specs.Ram.{Ram}
 use Rattle.ffa_messages.proofs.Pages.{filled_in_ram, length-filled}
-use Rattle.ffa_messages.proofs.indirect.tests.send.Goals as goal
+use Rattle.ffa_tests.proofs.indirect_messages.send.Goals as goal
 
 pub returns-clause-pages : goal.returns-clause-pages
 returns-clause-pages g c =
