@@ -43,7 +43,9 @@ fn moved_back(leaf: Leaf, addr: u64) -> Leaf
 }
 
 impl<M: PhysMem + Drop, T: Translations + Drop> Machine<M, T> {
-    // The walk of an address for the runner: by the leaf that is held for its page, or else by the tables.
+    // The walk of an address for the runner: by the leaf that is held for its page, or else by the tables. It is inlined,
+    // though accesses of three kinds call it.
+    #[inline(always)]
     fn walk(&self, addr: u64) -> Walked
         ensures answer { result.answer ≡ walk_of self.now.ram self.now.state self.now.state.runner addr }
         ensures missed { option_map (λ (page : PageNo). page.0) result.missed ≡ missed_page self.now addr }
@@ -64,7 +66,9 @@ impl<M: PhysMem + Drop, T: Translations + Drop> Machine<M, T> {
         }
     }
 
-    // Fills the cache with what the walk of an address answered, where the access was done and no leaf is held for its page.
+    // Fills the cache with what the walk of an address answered, where the access was done and no leaf is held for its
+    // page. It is inlined, alike.
+    #[inline(always)]
     fn fill(&mut self, addr: u64, walked: &Walked, outcome: &Outcome)
         requires answer { walked.now.answer ≡ walk_of self.old.ram self.old.state self.old.state.runner addr }
         requires missed { option_map (λ (page : PageNo). page.0) walked.now.missed ≡ missed_page self.old addr }
