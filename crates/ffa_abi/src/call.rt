@@ -1,6 +1,6 @@
 //! Calls in registers.
 ghost use Rattle.std.specs.Prelude.{◌≡◌, ◌<◌, slice_index};
-ghost use Rattle.ffa_model.specs.Registers.{decode, is_served, low};
+ghost use Rattle.ffa_model.specs.Registers.{decode, is_function, low};
 ghost use Rattle.ffa_abi.specs.Parts as parts;
 
 use crate::function::*;
@@ -199,9 +199,9 @@ pub fn decode(x: [u64; 8]) -> Call
         .unwrap_or(Call::Unknown)
 }
 
-/// Whether a number is the identifier of a call that is served, in either form that the call has (DEN0077A, 13).
-pub fn is_served(function: u32) -> bool
-    ensures { result ≡ is_served function }
+/// Whether a number is the identifier of a call, in either form that the call has (DEN0077A, 13).
+pub fn is_function(function: u32) -> bool
+    ensures { result ≡ is_function function }
 {
     matches!(
         function,

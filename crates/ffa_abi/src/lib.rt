@@ -5,6 +5,6 @@ mod call;
 mod function;
 mod reply;
 
-pub use call::{decode, is_served};
+pub use call::{decode, is_function};
 pub use ffa_model::{Call, Reply};
 pub use reply::encode;

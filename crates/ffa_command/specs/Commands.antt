@@ -25,11 +25,18 @@ trace_id = codes "trace"
 abbrev pub frames_id : Text
 frames_id = codes "frames"
 
+abbrev pub tlb_id : Text
+tlb_id = codes "tlb"
+
+-- a command that plays a trace has a flag for the kind of RAM, and one for a cache of translations
+abbrev pub with_flags : App → App
+with_flags app = with_rule (with_rule app (flag_rule frames_id)) (flag_rule tlb_id)
+
 unfoldable pub run_app : App
-run_app = with_rule (with_rule (with_rule (new_app (codes "run")) (path_rule manifest_id)) (path_rule trace_id)) (flag_rule frames_id)
+run_app = with_flags (with_rule (with_rule (new_app (codes "run")) (path_rule manifest_id)) (path_rule trace_id))
 
 unfoldable pub demo_app : App
-demo_app = with_rule (with_rule (new_app (codes "demo")) (path_rule trace_id)) (flag_rule frames_id)
+demo_app = with_flags (with_rule (new_app (codes "demo")) (path_rule trace_id))
 
 unfoldable pub check_app : App
 check_app = with_rule (new_app (codes "check")) (path_rule manifest_id)
@@ -45,29 +52,29 @@ bare = record (new_app (codes "ffaplay")) { top = record (new_app (codes "ffapla
 unfoldable pub program : App
 program = with_subcommand (with_subcommand (with_subcommand (with_subcommand bare run_app.top) demo_app.top) check_app.top) layout_app.top
 
--- a command with its paths, and whether RAM is to lie in frames
+-- a command with its paths, whether RAM is to lie in frames, and whether translations are to be held
 pub data Ask : Type 0 where
-  run : Text → Text → Bool → Ask
-  demo : Text → Bool → Ask
+  run : Text → Text → Bool → Bool → Ask
+  demo : Text → Bool → Bool → Ask
   check : Text → Ask
   layout : Text → Ask
 
 abbrev pub ask_of : Request → Ask
-ask_of (Run manifest trace frames) = run manifest.now trace.now frames
-ask_of (Demo trace frames) = demo trace.now frames
+ask_of (Run manifest trace frames tlb) = run manifest.now trace.now frames tlb
+ask_of (Demo trace frames tlb) = demo trace.now frames tlb
 ask_of (Check manifest) = check manifest.now
 ask_of (Layout manifest) = layout manifest.now
 
 -- the path of the manifest that is asked for, and that of the trace
 abbrev pub manifest_of : Ask → Option Text
-manifest_of (run m t f) = Some m
-manifest_of (demo t f) = None
+manifest_of (run m t f c) = Some m
+manifest_of (demo t f c) = None
 manifest_of (check m) = Some m
 manifest_of (layout m) = Some m
 
 abbrev pub trace_of : Ask → Option Text
-trace_of (run m t f) = Some t
-trace_of (demo t f) = Some t
+trace_of (run m t f c) = Some t
+trace_of (demo t f c) = Some t
 trace_of (check m) = None
 trace_of (layout m) = None
 
@@ -77,10 +84,10 @@ is_given id rows = option_map_or (λ value. bytes_eq value (codes "true")) (firs
 
 -- what the matches of a command ask for
 unfoldable pub asked_run : List Row → Option Ask
-asked_run rows = option_and_then (λ m. option_and_then (λ t. Some (run m t (is_given frames_id rows))) (first_of trace_id rows)) (first_of manifest_id rows)
+asked_run rows = option_and_then (λ m. option_and_then (λ t. Some (run m t (is_given frames_id rows) (is_given tlb_id rows))) (first_of trace_id rows)) (first_of manifest_id rows)
 
 unfoldable pub asked_demo : List Row → Option Ask
-asked_demo rows = option_and_then (λ t. Some (demo t (is_given frames_id rows))) (first_of trace_id rows)
+asked_demo rows = option_and_then (λ t. Some (demo t (is_given frames_id rows) (is_given tlb_id rows))) (first_of trace_id rows)
 
 unfoldable pub asked_check : List Row → Option Ask
 asked_check rows = option_and_then (λ m. Some (check m)) (first_of manifest_id rows)

@@ -2,27 +2,28 @@
 ghost use Rattle.std.specs.Prelude.{◌≡◌, IfOk, false, option_map};
 ghost use Rattle.clap.specs.Words.{app_of, rule_of, with_rule, found_of, first_of, rows_of, subcommand_rows_of};
 ghost use Rattle.clap.specs.declared.builder.command.Command.TheViews.{out-Command};
-ghost use Rattle.ffa_command.specs.Commands.{manifest_of, trace_of, path_rule, flag_rule, manifest_id, trace_id, frames_id, is_given, run_app, demo_app, check_app, layout_app, bare, program, ask_of, asked, asked_in, asked_run, asked_demo, asked_check, asked_layout};
+ghost use Rattle.ffa_command.specs.Commands.{manifest_of, trace_of, path_rule, flag_rule, with_flags, manifest_id, trace_id, frames_id, tlb_id, is_given, run_app, demo_app, check_app, layout_app, bare, program, ask_of, asked, asked_in, asked_run, asked_demo, asked_check, asked_layout};
 
 use clap::{Arg, ArgAction, ArgMatches, Command};
 use std::alloc::{AllocError, Global};
 
-#[cfg(test)]
-mod tests;
-
 /// A command with its paths, which are words of the command line.
 #[derive(Clone, Copy, Debug, PartialEq, Eq)]
 pub enum Request<'a> {
-    /// To play a trace on the machine of a manifest, with RAM in frames or in one piece.
+    /// To play a trace on the machine of a manifest, with RAM in frames or in one piece, and with a cache of
+    /// translations or none.
     Run {
         manifest: &'a str,
         trace: &'a str,
         frames: bool,
+        tlb: bool,
     },
-    /// To play a trace on the built-in machine, with RAM in frames or in one piece.
+    /// To play a trace on the built-in machine, with RAM in frames or in one piece, and with a cache of translations or
+    /// none.
     Demo {
         trace: &'a str,
         frames: bool,
+        tlb: bool,
     },
     /// To say whether a manifest is accepted.
     Check {
@@ -83,17 +84,27 @@ fn with_trace<'a>(alloc: Global, command: Command<'a>) -> Result<Command<'a>, Al
     command.arg(path(alloc, "trace", "The trace: a line for each operation"))
 }
 
-// The command with the flag for RAM in frames.
-fn with_frames<'a>(alloc: Global, command: Command<'a>) -> Result<Command<'a>, AllocError>
+fn flag<'a>(alloc: Global, id: &'a str, help: &'a str) -> Arg<'a>
+    ensures rule { rule_of result ≡ flag_rule id.entry.now }
+    ensures local { result.global ≡ false }
+{
+    Arg::new(alloc, id)
+        .long(id)
+        .action(ArgAction::SetTrue)
+        .help(help)
+}
+
+// The command with the flags for RAM in frames and for a cache of translations.
+fn with_flags<'a>(alloc: Global, command: Command<'a>) -> Result<Command<'a>, AllocError>
     requires local { (out-Command command).has_globals ≡ false }
-    ensures app { IfOk result (λ c. app_of c ≡ with_rule (app_of command.entry) (flag_rule frames_id)) }
+    ensures app { IfOk result (λ c. app_of c ≡ with_flags (app_of command.entry)) }
     ensures local { IfOk result (λ c. (out-Command c).has_globals ≡ false) }
 {
-    let flag = Arg::new(alloc, "frames")
-        .long("frames")
-        .action(ArgAction::SetTrue)
-        .help("Keeps RAM in frames, a piece of memory for each page");
-    command.arg(flag)
+    let frames = "Keeps RAM in frames, a piece of memory for each page";
+    let tlb = "Holds the last few translations of addresses, as a TLB does";
+    command
+        .arg(flag(alloc, "frames", frames))?
+        .arg(flag(alloc, "tlb", tlb))
 }
 
 #[tactic(auto, unfolding(crate::specs::Commands::run_app))]
@@ -103,7 +114,7 @@ fn run_command<'a>(alloc: Global) -> Result<Command<'a>, AllocError>
 {
     let command = Command::new(alloc, "run").about("Plays a trace on the machine of a manifest");
     let command = with_trace(alloc, with_manifest(alloc, command)?)?;
-    with_frames(alloc, command)
+    with_flags(alloc, command)
 }
 
 #[tactic(auto, unfolding(crate::specs::Commands::demo_app))]
@@ -112,7 +123,7 @@ fn demo_command<'a>(alloc: Global) -> Result<Command<'a>, AllocError>
     ensures local { IfOk result (λ c. (out-Command c).has_globals ≡ false) }
 {
     let command = Command::new(alloc, "demo").about("Plays a trace on the built-in machine");
-    with_frames(alloc, with_trace(alloc, command)?)
+    with_flags(alloc, with_trace(alloc, command)?)
 }
 
 #[tactic(auto, unfolding(crate::specs::Commands::check_app))]
@@ -175,10 +186,12 @@ fn asked_run<'a>(matches: &ArgMatches<'a>) -> Option<Request<'a>>
     let manifest = text_of(matches, "manifest")?;
     let trace = text_of(matches, "trace")?;
     let frames = is_given(matches, "frames");
+    let tlb = is_given(matches, "tlb");
     Some(Request::Run {
         manifest,
         trace,
         frames,
+        tlb,
     })
 }
 
@@ -188,7 +201,8 @@ fn asked_demo<'a>(matches: &ArgMatches<'a>) -> Option<Request<'a>>
 {
     let trace = text_of(matches, "trace")?;
     let frames = is_given(matches, "frames");
-    Some(Request::Demo { trace, frames })
+    let tlb = is_given(matches, "tlb");
+    Some(Request::Demo { trace, frames, tlb })
 }
 
 #[tactic(auto, unfolding(crate::specs::Commands::asked_check))]

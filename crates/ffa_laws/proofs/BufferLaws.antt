@@ -18,7 +18,8 @@ use Rattle.ffa_laws.specs.View.{view, buffers_seen, hidden, involves, is_near, k
 use Rattle.ffa_laws.specs.Events.{apply_all, fullness, public_change, with_fullness}
 use Rattle.ffa_model.proofs.Guards.{guard-passes}
 use Rattle.ffa_model.proofs.Places.{known-named, known-place, same-known}
-use Rattle.ffa_laws.proofs.Maps.{at-map_at, length-map_at, map_at-set}
+use Rattle.ffa_model.proofs.Accesses.{length-map_at}
+use Rattle.ffa_laws.proofs.Maps.{at-map_at, map_at-set}
 use Rattle.ffa_laws.proofs.Views.{kept_none, view-named, view-page}
 use Rattle.ffa_laws.proofs.Form.{IsOwn}
 use Rattle.ffa_laws.proofs.Changes.{OwnKept, buffers_seen-none, identifier-place, other-changed, own_full, repaged, seen_buffers, unwritten, view-changed, with_parts}

@@ -34,6 +34,9 @@ module _ {X : Type 0} (test : X → Bool) where
         | false ↦ later
       ]
 
+pub both-bytes : (xs ys : List ℕ) → are_bytes xs → are_bytes ys → are_bytes (xs ++ ys)
+both-bytes xs ys = all-append (λ b. nat_lt b 256) xs ys
+
 pub all-enumerated : {X : Type 0} (test : X → Bool) (k : ℕ) (xs : List X) → list_all test xs ≡ true → list_all (λ (x : ℕ × X). test x.1) (enumerate_from k xs) ≡ true
 all-enumerated test k [] all = refl
 all-enumerated test k (x ∷ xs) all = let (here, rest) = and_parts (test x) (list_all test xs) all in and_from (test x) _ here (all-enumerated test (k + 1) xs rest)

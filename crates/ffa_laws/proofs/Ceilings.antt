@@ -15,21 +15,23 @@ use Rattle.ffa_model.specs.Transactions.{are_writable, base_of, bases_of, ceilin
 use Rattle.ffa_laws.specs.Steady.{IsSteady}
 use Rattle.ffa_laws.specs.View.{view, involves, is_near, kept, seen_by}
 use Rattle.ffa_model.proofs.KeptDonate.{same-tests}
-use Rattle.ffa_laws.proofs.Maps.{first_one, length-map_at}
+use Rattle.ffa_model.proofs.Accesses.{length-map_at}
+use Rattle.ffa_laws.proofs.Maps.{first_one}
 use Rattle.ffa_laws.proofs.Views.{view-page}
 
 pub or_true : (b : Bool) → (b || true) ≡ true
 or_true true = refl
 or_true false = refl
 
-module _ (e : ℕ) (s : State) (steady : IsSteady s) (h : ℕ) (t : Transaction) (there : transaction_of s h ≡ Some t) (known : involves e (Some t) ≡ true) where
-  at-named : (p : ℕ) → names s t.ranges p ≡ true → transaction_at s p ≡ Some t
-  at-named p named =
-      let here : is_naming s p (transaction_of s h) ≡ true = ap (is_naming s p) there ∙ named in
-      ap (option_and_then (transaction_of s)) (first_one (is_naming s p) s.transactions refl h here (λ k is. steady.one p k h is here)) ∙ there
+-- an open transaction is the one at its pages
+pub at-named : (s : State) → IsSteady s → (h : ℕ) (t : Transaction) → transaction_of s h ≡ Some t → (p : ℕ) → names s t.ranges p ≡ true → transaction_at s p ≡ Some t
+at-named s steady h t there p named =
+    let here : is_naming s p (transaction_of s h) ≡ true = ap (is_naming s p) there ∙ named in
+    ap (option_and_then (transaction_of s)) (first_one (is_naming s p) s.transactions refl h here (λ k is. steady.one p k h is here)) ∙ there
 
+module _ (e : ℕ) (s : State) (steady : IsSteady s) (h : ℕ) (t : Transaction) (there : transaction_of s h ≡ Some t) (known : involves e (Some t) ≡ true) where
   pub near-named : (p : ℕ) → names s t.ranges p ≡ true → is_near e s p ≡ true
-  near-named p named = ap (λ o. owner_of s p == e || involves e o) (at-named p named) ∙ ap (λ b. owner_of s p == e || b) known ∙ or_true (owner_of s p == e)
+  near-named p named = ap (λ o. owner_of s p == e || involves e o) (at-named s steady h t there p named) ∙ ap (λ b. owner_of s p == e || b) known ∙ or_true (owner_of s p == e)
 
   right-seen : (p : ℕ) → names s t.ranges p ≡ true → base_of (view e s) p ≡ base_of s p
   right-seen p named = ap (option_map (λ (page : Page). page.base)) (view-page e s p ∙ ap (λ b. kept b (page_at s p)) (near-named p named))

@@ -9,9 +9,10 @@ use Rattle.ffa_model.specs.Identifiers.{identifier, place}
 use Rattle.ffa_model.specs.State.{State, Page, Buffers}
 use Rattle.ffa_model.specs.Access.{transaction_at}
 use Rattle.ffa_model.specs.RunStates.{Schedule, schedule_of}
+use Rattle.ffa_model.proofs.Accesses.{length-map_at}
 use Rattle.ffa_laws.specs.View.{view, is_near, involves, kept, buffers_seen, hidden}
 use Rattle.ffa_laws.specs.Events.{Event, Public, public_part, public_change, is_same_public, fullness, with_fullness, with_public, apply, apply_all}
-use Rattle.ffa_laws.proofs.Maps.{length-map_at, at-map_at, map_at-alike, get_or-map}
+use Rattle.ffa_laws.proofs.Maps.{at-map_at, map_at-alike, get_or-map}
 use Rattle.ffa_laws.proofs.Publics.{same_public}
 
 -- a state with other pages, buffers and run states

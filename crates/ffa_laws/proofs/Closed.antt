@@ -16,11 +16,13 @@ use Rattle.ffa_laws.specs.Steady.{IsSteady}
 use Rattle.ffa_laws.specs.View.{view, involves, is_near, kept, seen_by, transactions_of}
 use Rattle.ffa_model.specs.Memory.{changed_pages, with_pages, zeroed_if, zeroed_page}
 use Rattle.ffa_model.specs.MemoryReturn.{named_ranges}
+use Rattle.ffa_model.proofs.Accesses.{length-map_at}
 use Rattle.ffa_laws.specs.Events.{Closed, apply}
-use Rattle.ffa_laws.proofs.Maps.{first_no, first_none, first_one, first_some, at-map_at, length-map_at, map_at-alike, map_at-same, map_at-twice}
+use Rattle.ffa_laws.proofs.Maps.{first_no, first_none, first_one, first_some, at-map_at, map_at-alike, map_at-same, map_at-twice}
 use Rattle.ffa_laws.proofs.Views.{shown, view-page, view-transaction}
 use Rattle.ffa_laws.proofs.Changes.{AreRewritten, standing, unwritten, view-changed, with_parts}
 use Rattle.ffa_laws.proofs.Opened.{Transactions, same_transactions}
+use Rattle.ffa_laws.proofs.Ceilings.{at-named}
 
 pub get-remove : (m : Transactions) (h k : ℕ) → finite.get (finite.remove m h) k ≡ cond (k == h) None (finite.get m k)
 get-remove m h k = finite.get-remove nat_cmp_total m h k ∙ ap (λ b. cond b None (finite.get m k)) (grind (arith, nat_tests))
@@ -118,10 +120,6 @@ module _ (s : State) (steady : IsSteady s) (h : ℕ) (t : Transaction) (there : 
           ap (option_and_then (transaction_of (closed s h))) (first_one (is_naming s p) (closed s h).transactions refl k (kept_off away k ∙ here) (λ j now. steady.one p j k (sym (kept_off away j) ∙ now) here))
           ∙ get-remove s.transactions h k ∙ ap (λ b. cond b None (transaction_of s k)) (other away k here)
 
-  -- the transaction that stands where its pages do
-  at-named : (p : ℕ) → names s t.ranges p ≡ true → transaction_at s p ≡ Some t
-  at-named p named = ap (option_and_then (transaction_of s)) (first_one (is_naming s p) s.transactions refl h (ap (is_naming s p) there ∙ named) (λ k is. named-once p k named is)) ∙ there
-
   pub near-closed : (e p : ℕ) → is_near e (closed s h) p ≡ (owner_of s p == e || cond (names s t.ranges p) false (involves e (transaction_at s p)))
   near-closed e p =
       ap (λ o. owner_of s p == e || involves e o) (transaction_at-closed p)
@@ -181,7 +179,7 @@ module _ (s : State) (steady : IsSteady s) (h : ℕ) (t : Transaction) (there : 
       at p =
           near-closed e p
           ∙ elim (names s t.ranges p) as (λ b. names s t.ranges p ≡ b → (owner_of s p == e || cond b false (involves e (transaction_at s p))) ≡ is_near e s p) [
-            | true ↦ λ named. ap (λ b. owner_of s p == e || b) (sym (ap (involves e) (at-named p named) ∙ unknown))
+            | true ↦ λ named. ap (λ b. owner_of s p == e || b) (sym (ap (involves e) (at-named s steady h t there p named) ∙ unknown))
             | false ↦ λ away. refl
           ] refl
 

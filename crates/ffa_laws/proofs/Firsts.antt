@@ -1,62 +1,17 @@
 -- The state in which the machine of an accepted manifest starts is sound.
-use Rattle.std.proofs.Common.{◌≡◌, ◌∙◌, ℕ, zero, suc, ◌<◌, ◌≤◌, Bool, true, false, cond, List, [], ◌∷◌, length, map, replicate, get_or, Option, Some, None, refl, ap, ap₂, subst, inl, arith}
-use Rattle.std.specs.Prelude.{◌||◌, ◌&&◌, nat_lt, slice_get}
+use Rattle.std.proofs.Common.{◌≡◌, ℕ, zero, suc, ◌<◌, Bool, true, List, [], ◌∷◌, length, map, Some, refl, subst, arith}
+use Rattle.std.specs.Prelude.{◌&&◌, nat_lt, slice_get}
 use Rattle.std.specs.List.{list_all}
-use Rattle.std.proofs.lemmas.Bool.{and_parts, false≢true, ltb-true, ne_eqb}
-use Rattle.std.proofs.lemmas.List.{length-replicate}
+use Rattle.std.proofs.lemmas.Bool.{and_parts, false≢true, ltb-true}
 use Rattle.std.proofs.lemmas.Option.{none-some, same_Some}
 use Rattle.ffa_model.specs.declared.endpoint.Endpoint.{Endpoint}
-use Rattle.ffa_model.specs.declared.schedule.Status.TheVariants.{Blocked}
-use Rattle.ffa_model.specs.declared.schedule.Work.{Work}
-use Rattle.ffa_model.specs.Lists.{listed}
-use Rattle.ffa_model.specs.First.{first, first_status, party_of}
+use Rattle.ffa_model.specs.First.{first, party_of}
 use Rattle.ffa_model.specs.State.{Party}
 use Rattle.ffa_model.specs.Manifest.{are_identified, is_accepted, is_nil, is_normal_world, is_partition}
-use Rattle.ffa_model.specs.RunStates.{first_schedule}
-use Rattle.ffa_model.specs.Links as links
-use Rattle.ffa_model.specs.Sound.{IsSound}
 use Rattle.ffa_model.specs.SoundState.{IsSoundParty, IsSoundState, are_bytes}
 use Rattle.ffa_model.proofs.Accepted.{accepted}
 use Rattle.ffa_model.proofs.FirstSound.{first-sound as accepted_sound}
-use Rattle.ffa_model.proofs.Listed.{listed-same}
-use Rattle.ffa_model.proofs.Chains.{status-rest}
-use Rattle.ffa_model.proofs.Sounds.{sound}
-
-none-at : {X : Type 0} (n p : ℕ) → get_or (replicate {A = Option X} n None) p None ≡ None
-none-at zero p = refl
-none-at (suc n) zero = refl
-none-at (suc n) (suc p) = none-at n p
-
-first-status : (n p : ℕ) → links.status_at (0 ∷ []) (replicate n None) p ≡ first_status p
-first-status n zero = refl
-first-status n (suc p) =
-    status-rest (0 ∷ []) (replicate n None) (suc p) (λ h. absurd (omega arith))
-    ∙ ap₂ (λ b (w : Option Work). cond (b || false) Blocked (links.status_outside w)) (ne_eqb 0 (suc p) (λ h. absurd (omega arith))) (none-at n (suc p))
-
-first-chain : (n : ℕ) → 1 ≤ n → n ≤ 8 → links.IsChain (0 ∷ []) (replicate n None)
-first-chain n some few =
-    let size = length-replicate {A = Option Work} n None in
-    record {
-      some = omega (arith, size);
-      few = omega (arith, size);
-      begins = omega arith;
-      first = refl;
-      no_work = none-at n 0;
-      partitions = λ k lt. absurd (omega arith);
-      origins = λ k lt. absurd (omega arith);
-      once = λ i j ordered lt. absurd (omega arith);
-      outside = λ p none. inl (none-at n p);
-    }
-
-first-schedule-sound : (n : ℕ) → 1 ≤ n → n ≤ 8 → IsSound (first_schedule n)
-first-schedule-sound n some few =
-    subst IsSound
-    (λ i. record {
-      runner = 0;
-      statuses = (ap (λ (k : ℕ). listed k (links.status_at (0 ∷ []) (replicate n None))) (length-replicate {A = Option Work} n None) ∙ listed-same n (links.status_at (0 ∷ []) (replicate n None)) first_status (λ p lt. first-status n p)) i;
-      works = replicate n None;
-    })
-    (sound (0 ∷ []) (replicate n None) (first-chain n some few))
+use Rattle.ffa_model.proofs.FirstChain.{first-schedule-sound}
 
 -- ---- of an accepted manifest
 all-get : {X : Type 0} (test : X → Bool) (xs : List X) (i : ℕ) (x : X) → list_all test xs ≡ true → slice_get xs i ≡ Some x → test x ≡ true

@@ -22,11 +22,11 @@ use Rattle.ffa_model.specs.Transactions.{base_of, bases_of, ceiling, ceiling_in,
 use Rattle.ffa_laws.specs.Events.{Closed, apply}
 use Rattle.ffa_laws.specs.Steady.{IsSteady, IsSteadyTransaction}
 use Rattle.ffa_laws.specs.View.{view, buffers_seen, involves, is_near, kept, seen_by, transactions_of}
-use Rattle.ffa_model.proofs.Accesses.{page-changed}
+use Rattle.ffa_model.proofs.Accesses.{length-map_at, page-changed}
 use Rattle.ffa_model.proofs.KeptDonate.{same-tests}
 use Rattle.ffa_laws.proofs.Ceilings.{near-named}
 use Rattle.ffa_laws.proofs.Closed.{closed, closed-untold, get-remove, near-closed, transaction_at-closed, transactions-closed}
-use Rattle.ffa_laws.proofs.Maps.{first_none, length-map_at, map_at-alike, map_at-id, map_at-twice}
+use Rattle.ffa_laws.proofs.Maps.{first_none, map_at-alike, map_at-id, map_at-twice}
 use Rattle.ffa_laws.proofs.ReturnLaws.{open-before, steady-closed}
 use Rattle.ffa_laws.proofs.Views.{kept_none, shown, view-page, view-transaction}
 

@@ -16,7 +16,7 @@ use Rattle.ffa_model.specs.Memory.{size_of}
 use Rattle.ffa_model.specs.MemoryReturn.{named_ranges, relinquish_read}
 use Rattle.ffa_model.specs.MemorySend.{send_read}
 use Rattle.ffa_model.specs.Messages.{header_in, message_in, tx_bytes}
-use Rattle.ffa_model.specs.Registers.{served_call}
+use Rattle.ffa_model.specs.Registers.{decode}
 use Rattle.ffa_model.specs.Rights.{is_lend, is_share, is_within}
 use Rattle.ffa_model.specs.State.{State, Page, Transaction, buffers_of, page_at, transaction_of}
 use Rattle.ffa_model.specs.Access.{access, held_by, right_by, right_of, transaction_at}
@@ -157,7 +157,7 @@ module _ (s : State) (steady : IsSteady s) where
       kept-step (KeepsRights s.pages) s (same-rights s) by-info op
       (λ address size value none. rewritten-rights s.pages _ (rewritten-written s.pages ((address - s.ram_base) / 4096) (address % 4096) (little_bytes (size_of size) value)))
       (λ is none. sent)
-      (λ x. memory-rights (served_call x))
+      (λ x. memory-rights (decode x))
 
 pub never_grow : (s : State) (ops : List Op) → IsSteady s → NeverGrow s (state_after s ops)
 never_grow s [] steady = not_grown s steady

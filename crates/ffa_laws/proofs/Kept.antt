@@ -1,5 +1,5 @@
 -- What the calls do to pages, and that the endpoints stay.
-use Rattle.std.proofs.Common.{◌≡◌, ℕ, true, false, cond, List, Option, Some, None, refl, sym, subst}
+use Rattle.std.proofs.Common.{◌≡◌, ℕ, true, false, cond, List, Option, Some, None, refl, sym, ap, subst}
 use Rattle.byteorder.specs.Endian.{little_bytes}
 use Rattle.std.specs.Prelude.{◌-◌, ◌/◌, ◌%◌, Bool, length}
 use Rattle.ffa_model.specs.declared.descriptor.RelinquishDesc.{RelinquishDesc}
@@ -13,9 +13,9 @@ use Rattle.ffa_model.specs.declared.rights.Kind.{Kind}
 use Rattle.ffa_model.specs.declared.rights.Kind.TheVariants.{Share, Lend, Donate}
 use Rattle.ffa_model.specs.declared.call.Call as calls
 use Rattle.ffa_model.specs.declared.call.Call.TheVariants.{PartitionInfoGet, MemDonate, MemLend, MemShare, MemRetrieve, MemRelinquish, MemReclaim, MsgSend2}
-use Rattle.ffa_model.specs.Registers.{served_call}
+use Rattle.ffa_model.specs.Registers.{decode}
 use Rattle.ffa_model.specs.SendDescriptor.{SendRecord}
-use Rattle.ffa_model.specs.State.{State, Page, buffers_of, is_known, is_known_among, transaction_of}
+use Rattle.ffa_model.specs.State.{State, Page, Party, buffers_of, is_known, is_known_among, transaction_of}
 use Rattle.ffa_model.specs.Calls.{first_failure}
 use Rattle.ffa_model.specs.Memory.{fetch_fault, number_at, read_fault, size_of, store_fault, stored, written_pages}
 use Rattle.ffa_model.specs.MemoryRetrieve.{retrieve_read, retrieved, retrieved_from}
@@ -28,36 +28,42 @@ use Rattle.ffa_model.specs.Step.{serve, service, step}
 use Rattle.ffa_laws.specs.Isolation.{is_indirect_message, is_send2}
 use Rattle.ffa_laws.proofs.Form.{accessed-kept, served-kept}
 
--- ---- the endpoints stay the same
-sent-parties : (s : State) (kind : Kind) (r : Option SendRecord) → (memory_sent s kind r).parties ≡ s.parties
-sent-parties s kind None = refl
-sent-parties s kind (Some r) = refl
+-- ---- the endpoints stay the same, and where RAM begins
+abbrev fixed : State → List Party × ℕ
+fixed s = (s.parties, s.ram_base)
 
-retrieved-parties : (s : State) (d : Option RetrieveDesc) → (retrieved s d).parties ≡ s.parties
-retrieved-parties s None = refl
-retrieved-parties s (Some d) = elim (transaction_of s d.handle) as (λ o. (retrieved_from s d o).parties ≡ s.parties) [ None ↦ refl | Some t ↦ refl ]
+sent-fixed : (s : State) (kind : Kind) (r : Option SendRecord) → fixed (memory_sent s kind r) ≡ fixed s
+sent-fixed s kind None = refl
+sent-fixed s kind (Some r) = refl
 
-relinquished-parties : (s : State) (d : Option RelinquishDesc) → (relinquished s d).parties ≡ s.parties
-relinquished-parties s None = refl
-relinquished-parties s (Some d) = elim (transaction_of s d.handle) as (λ o. (relinquished_from s d o).parties ≡ s.parties) [ None ↦ refl | Some t ↦ refl ]
+retrieved-fixed : (s : State) (d : Option RetrieveDesc) → fixed (retrieved s d) ≡ fixed s
+retrieved-fixed s None = refl
+retrieved-fixed s (Some d) = elim (transaction_of s d.handle) as (λ o. fixed (retrieved_from s d o) ≡ fixed s) [ None ↦ refl | Some t ↦ refl ]
 
-service-parties : (s : State) (call : calls.Call) → (service s call).state.parties ≡ s.parties
-service-parties s (PartitionInfoGet uuid flags) = elim (is_count_alone flags) as (λ b. (cond b s (filled s s.runner (info_bytes s.parties (uuid_bytes uuid)))).parties ≡ s.parties) [ true ↦ refl | false ↦ refl ]
-service-parties s (MemDonate total fragment address pages) = sent-parties s Donate (send_read s Donate total)
-service-parties s (MemLend total fragment address pages) = sent-parties s Lend (send_read s Lend total)
-service-parties s (MemShare total fragment address pages) = sent-parties s Share (send_read s Share total)
-service-parties s (MemRetrieve total fragment address pages) = retrieved-parties s (retrieve_read s total)
-service-parties s MemRelinquish = relinquished-parties s (relinquish_read s)
-service-parties s call = refl
+relinquished-fixed : (s : State) (d : Option RelinquishDesc) → fixed (relinquished s d) ≡ fixed s
+relinquished-fixed s None = refl
+relinquished-fixed s (Some d) = elim (transaction_of s d.handle) as (λ o. fixed (relinquished_from s d o) ≡ fixed s) [ None ↦ refl | Some t ↦ refl ]
 
-step-parties : (s : State) (op : Op) → (step s op).state.parties ≡ s.parties
-step-parties s (Call x) = served-kept (λ t. t.parties ≡ s.parties) s (service s (served_call x)) refl (λ none. service-parties s (served_call x))
-step-parties s (Load address size) = accessed-kept (λ t. t.parties ≡ s.parties) s s (Data (number_at s address (size_of size))) (read_fault s address (size_of size)) refl (λ none. refl)
-step-parties s (Store address size value) = accessed-kept (λ t. t.parties ≡ s.parties) s (stored s address (little_bytes (size_of size) value)) Done (store_fault s address (size_of size)) refl (λ none. refl)
-step-parties s (Fetch address) = accessed-kept (λ t. t.parties ≡ s.parties) s s (Data (number_at s address 4)) (fetch_fault s address) refl (λ none. refl)
+service-fixed : (s : State) (call : calls.Call) → fixed (service s call).state ≡ fixed s
+service-fixed s (PartitionInfoGet uuid flags) = elim (is_count_alone flags) as (λ b. fixed (cond b s (filled s s.runner (info_bytes s.parties (uuid_bytes uuid)))) ≡ fixed s) [ true ↦ refl | false ↦ refl ]
+service-fixed s (MemDonate total fragment address pages) = sent-fixed s Donate (send_read s Donate total)
+service-fixed s (MemLend total fragment address pages) = sent-fixed s Lend (send_read s Lend total)
+service-fixed s (MemShare total fragment address pages) = sent-fixed s Share (send_read s Share total)
+service-fixed s (MemRetrieve total fragment address pages) = retrieved-fixed s (retrieve_read s total)
+service-fixed s MemRelinquish = relinquished-fixed s (relinquish_read s)
+service-fixed s call = refl
+
+step-fixed : (s : State) (op : Op) → fixed (step s op).state ≡ fixed s
+step-fixed s (Call x) = served-kept (λ t. fixed t ≡ fixed s) s (service s (decode x)) refl (λ none. service-fixed s (decode x))
+step-fixed s (Load address size) = accessed-kept (λ t. fixed t ≡ fixed s) s s (Data (number_at s address (size_of size))) (read_fault s address (size_of size)) refl (λ none. refl)
+step-fixed s (Store address size value) = accessed-kept (λ t. fixed t ≡ fixed s) s (stored s address (little_bytes (size_of size) value)) Done (store_fault s address (size_of size)) refl (λ none. refl)
+step-fixed s (Fetch address) = accessed-kept (λ t. fixed t ≡ fixed s) s s (Data (number_at s address 4)) (fetch_fault s address) refl (λ none. refl)
 
 pub known-step : (s : State) (op : Op) (e : ℕ) → is_known s e ≡ true → is_known (step s op).state e ≡ true
-known-step s op e known = subst (λ parties. is_known_among (length parties) e ≡ true) (sym (step-parties s op)) known
+known-step s op e known = subst (λ parts. is_known_among (length parts.0) e ≡ true) (sym (step-fixed s op)) known
+
+pub base-step : (s : State) (op : Op) → (step s op).state.ram_base ≡ s.ram_base
+base-step s op = ap (λ parts. parts.1) (step-fixed s op)
 
 -- ---- pages
 -- whether a call is one on memory transactions
@@ -106,8 +112,8 @@ module _ (R : List (Option Page) → Type 0) (s : State) (same : R s.pages) (by_
 
   pub kept-step : (op : Op) → ((address : ℕ) (size : Size) (value : ℕ) → store_fault s address (size_of size) ≡ None → R (stored_pages address size value))
       → (is_indirect_message op ≡ true → send_failure ≡ None → R sent_pages)
-      → ((x : List ℕ) → is_memory_call (served_call x) ≡ true → Leaves (served_call x)) → R (step s op).state.pages
-  kept-step (Call x) by_store by_send by_memory = kept-call (served_call x) by_send (by_memory x)
+      → ((x : List ℕ) → is_memory_call (decode x) ≡ true → Leaves (decode x)) → R (step s op).state.pages
+  kept-step (Call x) by_store by_send by_memory = kept-call (decode x) by_send (by_memory x)
   kept-step (Load address size) by_store by_send by_memory = accessed-kept (λ t. R t.pages) s s (Data (number_at s address (size_of size))) (read_fault s address (size_of size)) same (λ none. same)
   kept-step (Store address size value) by_store by_send by_memory =
       accessed-kept (λ t. R t.pages) s (stored s address (little_bytes (size_of size) value)) Done (store_fault s address (size_of size)) same (by_store address size value)

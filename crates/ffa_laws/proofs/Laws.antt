@@ -10,7 +10,7 @@ use Rattle.ffa_model.specs.declared.call.Call as calls
 use Rattle.ffa_model.specs.declared.call.Call.TheVariants.{Version, Features, RxRelease, RxtxMap, RxtxUnmap, PartitionInfoGet, IdGet, MsgWait, Yield, Run, DirectRequest, DirectResponse, MemDonate, MemLend, MemShare, MemRetrieve, MemRelinquish, MemReclaim, BitmapCreate, BitmapDestroy, NotificationBind, NotificationUnbind, NotificationSet, NotificationGet, SpmIdGet, MsgSend2, Unknown}
 use Rattle.ffa_model.specs.State.{State, is_known}
 use Rattle.ffa_model.specs.Calls.{Stepped, first_failure}
-use Rattle.ffa_model.specs.Registers.{served_call}
+use Rattle.ffa_model.specs.Registers.{decode}
 use Rattle.ffa_model.specs.declared.rights.Kind.TheVariants.{Share, Lend, Donate}
 use Rattle.ffa_model.specs.declared.schedule.Status.TheVariants.{Yielded}
 use Rattle.ffa_model.specs.Bits.{bits_of, high_half, word_of_halves, low_half}
@@ -73,7 +73,7 @@ own-call : (s : State) → IsSteady s → (call : calls.Call) → serve (view s.
 own-call s steady call = served-own s (service (view s.runner s) call) (service s call) (own-service s steady call)
 
 pub own-step : (s : State) → IsSteady s → (op : Op) → step (view s.runner s) op ≡ viewed s.runner (step s op)
-own-step s steady (Call x) = own-call s steady (served_call x)
+own-step s steady (Call x) = own-call s steady (decode x)
 own-step s steady (Load addr size) = own-load s steady addr size
 own-step s steady (Store addr size value) = own-store s steady addr size value
 own-step s steady (Fetch addr) = own-fetch s steady addr
@@ -112,7 +112,7 @@ module _ (e : ℕ) (s : State) (steady : IsSteady s) (known : is_known s e ≡ t
   other-call call = served-other e s (service s call) (told_by e s call) (other-service call)
 
   pub other-step : (op : Op) → view e (step s op).state ≡ apply_all e (view e s) (events e s op)
-  other-step (Call x) = other-call (served_call x)
+  other-step (Call x) = other-call (decode x)
   other-step (Load addr size) = other-load e s addr size
   other-step (Store addr size value) = other-store e s addr size value
   other-step (Fetch addr) = other-fetch e s addr
@@ -150,7 +150,7 @@ pub steady-call : (s : State) → IsSteady s → (call : calls.Call) → IsStead
 steady-call s steady call = served-kept IsSteady s (service s call) steady (steady-service s steady call)
 
 pub steady-step : (s : State) → IsSteady s → (op : Op) → IsSteady (step s op).state
-steady-step s steady (Call x) = steady-call s steady (served_call x)
+steady-step s steady (Call x) = steady-call s steady (decode x)
 steady-step s steady (Load addr size) = steady-load s steady addr size
 steady-step s steady (Store addr size value) = steady-store s steady addr size value
 steady-step s steady (Fetch addr) = steady-fetch s steady addr

@@ -14,10 +14,6 @@ use Rattle.ffa_model.specs.Lists.{map_at}
 use Rattle.ffa_laws.specs.View.{map_values}
 use Rattle.ffa_model.specs.Access.{first_handle}
 
-pub length-map_at : {X Y : Type 0} (f : ℕ → X → Y) (xs : List X) → length (map_at f xs) ≡ length xs
-length-map_at f [] = refl
-length-map_at f (x ∷ xs) = let h = length-map_at (λ i. f (suc i)) xs in grind (arith, h)
-
 pub get_or-map_at : {X Y : Type 0} (f : ℕ → X → Y) (xs : List X) (i : ℕ) (d : X) (e : Y) → i < length xs → get_or (map_at f xs) i e ≡ f i (get_or xs i d)
 get_or-map_at f [] i d e lt = absurd (omega arith)
 get_or-map_at f (x ∷ xs) zero d e lt = refl

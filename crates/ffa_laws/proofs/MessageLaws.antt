@@ -18,7 +18,7 @@ use Rattle.ffa_laws.specs.Steady.{IsSteady}
 use Rattle.ffa_laws.specs.View.{view, is_near, kept}
 use Rattle.ffa_laws.specs.Events.{Filled, Pending, apply_all, delivers, public_change, where_true}
 use Rattle.ffa_model.proofs.Guards.{guard-passes}
-use Rattle.ffa_laws.proofs.Maps.{length-map_at}
+use Rattle.ffa_model.proofs.Accesses.{length-map_at}
 use Rattle.ffa_laws.proofs.Views.{near-bytes}
 use Rattle.ffa_laws.proofs.Form.{IsOwn}
 use Rattle.ffa_laws.proofs.Changes.{other-told, repaged, seen_buffers, view-changed, with_parts, with_public_parts}

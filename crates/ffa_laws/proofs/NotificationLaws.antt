@@ -9,7 +9,6 @@ use Rattle.std.proofs.Math.Path.{fun_ext}
 use Rattle.std.proofs.lemmas.Bool.{cases_Bool, and_parts, eq-eqb, eqb-true, false≢true, ne_eqb, true≢false}
 use Rattle.std.proofs.lemmas.Bool.Decides.{nat_tests}
 use Rattle.std.proofs.lemmas.List.{set-get_or}
-use Rattle.std.proofs.lemmas.Cmp.{eq_by_cmp_equiv, nat_list_cmp_total}
 use Rattle.ffa_model.specs.declared.operation.ErrorCode.TheVariants.{InvalidParameters, Denied}
 use Rattle.ffa_model.specs.declared.call.Reply.{Reply}
 use Rattle.ffa_model.specs.declared.call.Reply.TheVariants.{Success}
@@ -23,12 +22,13 @@ use Rattle.ffa_laws.specs.Steady.{IsSteady, IsSteadyBinding}
 use Rattle.ffa_laws.specs.View.{view}
 use Rattle.ffa_laws.specs.Events.{Bound, Event, Pending, Unbound, apply_all, binds, public_change, sets, unbinds, where_true}
 use Rattle.ffa_model.proofs.Guards.{guard-passes}
-use Rattle.ffa_laws.proofs.Maps.{length-map_at, map_at-set}
+use Rattle.ffa_laws.proofs.Maps.{map_at-set}
 use Rattle.ffa_laws.proofs.Form.{IsOwn, same-first}
 use Rattle.ffa_laws.proofs.Told.{IsTold}
 use Rattle.ffa_laws.proofs.Changes.{other-told, own-same}
 use Rattle.ffa_laws.proofs.Steadies.{steady-notified}
-use Rattle.ffa_model.proofs.Sets.{Bits, among, contains-less, contains-more, contains-retained, same_bits, same_elements}
+use Rattle.ffa_model.proofs.Sets.{Bits, among, contains-less, contains-more, contains-retained, same-itself, same_bits, same_elements}
+use Rattle.ffa_model.proofs.Accesses.{length-map_at}
 use Rattle.ffa_laws.proofs.Bitmaps.{among-each, bound-all, retained-both, retained-commute, retained-within, seen-less, seen-more, unbound-all, unseen-less, unseen-more}
 use Rattle.ffa_laws.proofs.Raised.{bitmaps-seen, own-bitmaps, raised, raised-absent, raised-hidden, raised-own}
 
@@ -419,10 +419,7 @@ module _ (e : ℕ) (s : State) where
     -- all bindings of the normal world to e go
     listed-among : (test : ℕ → Bool) (m : ℕ) (g : ℕ → ℕ) (f : ℕ → List ℕ) (k : ℕ) → k < m → test (g k) ≡ true → among (f (g k)) (map f (filter test (listed m g))) ≡ true
     listed-among test zero g f k lt is = absurd (omega arith)
-    listed-among test (suc m) g f zero lt is = ap (λ b. among (f (g 0)) (map f (cond b (g 0 ∷ filter test (listed m (λ i. g (suc i)))) (filter test (listed m (λ i. g (suc i))))))) is ∙ or_first _ _ (itself (f (g 0)))
-      where
-        itself : (x : List ℕ) → eq_by_cmp (slice_cmp nat_cmp) x x ≡ true
-        itself x = (eq_by_cmp_equiv nat_list_cmp_total).refl x
+    listed-among test (suc m) g f zero lt is = ap (λ b. among (f (g 0)) (map f (cond b (g 0 ∷ filter test (listed m (λ i. g (suc i)))) (filter test (listed m (λ i. g (suc i))))))) is ∙ or_first _ _ (same-itself (f (g 0)))
     listed-among test (suc m) g f (suc k) lt is =
         let later = listed-among test m (λ i. g (suc i)) f k (omega arith) is in
         elim (test (g 0)) as (λ b. among (f (g (suc k))) (map f (cond b (g 0 ∷ filter test (listed m (λ i. g (suc i)))) (filter test (listed m (λ i. g (suc i)))))) ≡ true) [

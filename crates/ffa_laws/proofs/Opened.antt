@@ -17,7 +17,8 @@ use Rattle.ffa_laws.specs.Steady.{IsSteady}
 use Rattle.ffa_laws.specs.View.{view, involves, is_near, kept, seen_by, transactions_of}
 use Rattle.ffa_laws.specs.Events.{Opened, apply, named_pages, with_opened}
 use Rattle.ffa_model.proofs.Places.{known-named, known-place}
-use Rattle.ffa_laws.proofs.Maps.{first_none, first_no, first_one, first_some, get_or-map_at, length-map_at, map_at-alike, map_at-set, at-map_at}
+use Rattle.ffa_model.proofs.Accesses.{length-map_at}
+use Rattle.ffa_laws.proofs.Maps.{first_none, first_no, first_one, first_some, get_or-map_at, map_at-alike, map_at-set, at-map_at}
 use Rattle.ffa_laws.proofs.Views.{kept_none, shown, view-page, view-transaction}
 
 abbrev pub Transactions : Type 0

@@ -19,10 +19,11 @@ use Rattle.ffa_laws.specs.View.{view, involves, is_near, kept, seen_by}
 use Rattle.ffa_model.specs.RunStates.{schedule_of}
 use Rattle.ffa_laws.specs.Events.{Closed, apply_all, closes, where_true}
 use Rattle.ffa_model.proofs.Guards.{guard-passes}
+use Rattle.ffa_model.proofs.Accesses.{length-map_at}
 use Rattle.ffa_laws.proofs.Views.{shown, view-page, view-transaction}
 use Rattle.ffa_laws.proofs.Form.{IsOwn}
 use Rattle.ffa_laws.proofs.Told.{IsTold}
-use Rattle.ffa_laws.proofs.Maps.{length-map_at, map_at-id}
+use Rattle.ffa_laws.proofs.Maps.{map_at-id}
 use Rattle.ffa_laws.proofs.Changes.{other-told, own-same, with_public_parts}
 use Rattle.ffa_laws.proofs.Closed.{closed, closed-untold, near-closed, other-closed, own-closed, view-zeroed}
 use Rattle.ffa_laws.proofs.Ceilings.{writable-seen}

@@ -25,14 +25,13 @@ use Rattle.ffa_model.specs.MemoryRetrieve.{asked_right, asking_guards, donated_i
 use Rattle.ffa_laws.specs.Steady.{IsSteady}
 use Rattle.ffa_laws.specs.View.{view, involves, is_near, kept, seen_by}
 use Rattle.ffa_laws.specs.Events.{Event, apply_all, public_change, takes, takes_from, taking, where_true, with_holder}
-use Rattle.ffa_model.proofs.Accesses.{held-beside}
+use Rattle.ffa_model.proofs.Accesses.{held-beside, length-map_at}
 use Rattle.ffa_laws.proofs.BufferLaws.{far-filled, view-filled}
 use Rattle.ffa_laws.proofs.Ceilings.{ceiling-seen}
 use Rattle.ffa_laws.proofs.Changes.{other-told, seen_buffers, view-changed, with_parts, with_public_parts}
 use Rattle.ffa_laws.proofs.Form.{IsOwn}
 use Rattle.ffa_laws.proofs.Given.{view-lost, view-taken, view-unlost}
 use Rattle.ffa_laws.proofs.Holders.{Holders, reheld, seen-taken, seen-unheld, view-reheld, view-untold}
-use Rattle.ffa_laws.proofs.Maps.{length-map_at}
 use Rattle.ffa_laws.proofs.MessageLaws.{full-seen, some-seen, tx-seen}
 use Rattle.ffa_laws.proofs.ReclaimLaws.{seen-whole}
 use Rattle.ffa_laws.proofs.Told.{IsTold}

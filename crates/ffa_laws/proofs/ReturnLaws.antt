@@ -23,10 +23,10 @@ use Rattle.ffa_model.specs.Transactions.{handle_of, not_holding, offers_of}
 use Rattle.ffa_laws.specs.Steady.{IsSteady}
 use Rattle.ffa_laws.specs.View.{view, involves, is_near, kept, seen_by}
 use Rattle.ffa_laws.specs.Events.{Event, Held, Zeroed, apply_all, public_change, releases, where_true, with_holder}
-use Rattle.ffa_model.proofs.Accesses.{named-in, released-beside, released-itself}
+use Rattle.ffa_model.proofs.Accesses.{length-map_at, named-in, released-beside, released-itself}
 use Rattle.ffa_model.proofs.Guards.{guard-passes}
 use Rattle.ffa_model.proofs.Handles.{get-put}
-use Rattle.ffa_laws.proofs.Maps.{first_no, first_none, length-map_at}
+use Rattle.ffa_laws.proofs.Maps.{first_no, first_none}
 use Rattle.ffa_laws.proofs.Views.{held-seen, shown, view-transaction}
 use Rattle.ffa_laws.proofs.Form.{IsOwn, same-first}
 use Rattle.ffa_laws.proofs.Told.{IsTold}

@@ -34,13 +34,14 @@ use Rattle.ffa_model.proofs.Guards.{guard-passes}
 use Rattle.ffa_model.proofs.KeptDonate.{same-tests}
 use Rattle.ffa_model.proofs.KeptSend.{any-at}
 use Rattle.ffa_model.proofs.NamedPages.{listed-each}
-use Rattle.ffa_model.proofs.Places.{known-named, known-place}
+use Rattle.ffa_model.proofs.Places.{known-named, known-place, place-identifier}
+use Rattle.ffa_model.proofs.Accesses.{length-map_at}
 use Rattle.ffa_laws.proofs.Changes.{AreRewritten, buffers_seen-none, other-told, own-same, same_owner, unwritten, with_public_parts}
 use Rattle.ffa_laws.proofs.Closed.{rewritten-zeroed_if}
 use Rattle.ffa_laws.proofs.CountSeen.{count-seen}
 use Rattle.ffa_laws.proofs.Form.{IsOwn, same-later}
 use Rattle.ffa_laws.proofs.Grants.{covered-inside, granted-ceiling, one-taker}
-use Rattle.ffa_laws.proofs.Maps.{any-map_at, get_or-map_at, length-map_at}
+use Rattle.ffa_laws.proofs.Maps.{any-map_at, get_or-map_at}
 use Rattle.ffa_laws.proofs.MessageLaws.{some-seen, tx-seen}
 use Rattle.ffa_laws.proofs.Opened.{get-insert, one-opened, opened, other-opened, other-untold, own-opened, unnamed-opened}
 use Rattle.ffa_laws.proofs.ReclaimLaws.{zeroed-far, zeroed_if-seen}
@@ -48,7 +49,7 @@ use Rattle.ffa_laws.proofs.ReturnLaws.{steady-zeroed}
 use Rattle.ffa_laws.proofs.Sends.{counted}
 use Rattle.ffa_laws.proofs.Steadies.{alone-far, alone-near, own-alone}
 use Rattle.ffa_laws.proofs.Told.{IsTold}
-use Rattle.ffa_laws.proofs.Unchained.{identifier-known, place-identifier}
+use Rattle.ffa_laws.proofs.Unchained.{identifier-known}
 use Rattle.ffa_laws.proofs.Views.{kept_none, or_true, view-named, view-page}
 
 -- ---- what the guards say, where none fails

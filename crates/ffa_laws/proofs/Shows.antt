@@ -32,7 +32,7 @@ use Rattle.ffa_model.specs.Transactions.{handle_of}
 use Rattle.ffa_model.specs.MemorySend.{memory_sent, send_read, transaction_from}
 use Rattle.ffa_model.specs.MemoryRetrieve.{retrieve_read, retrieved, retrieved_from}
 use Rattle.ffa_model.specs.MemoryReturn.{relinquish_read, relinquished, relinquished_from}
-use Rattle.ffa_model.specs.Registers.{served_call}
+use Rattle.ffa_model.specs.Registers.{decode}
 use Rattle.ffa_model.specs.Step.{outcomes, serve, service, step}
 use Rattle.ffa_laws.specs.Events.{Event, Public, Wrote, Message, Filled, Pending, Held, Zeroed, Closed, delivers, events, is_same_public, message, messages, opens, public_change, public_part, releases, seen, switches, takes, takes_from, taking, told_by, where_passed, where_true}
 use Rattle.ffa_laws.specs.View.{involves, is_near}
@@ -176,11 +176,11 @@ module _ (e : ℕ) (s : State) (differ : s.runner ≢ e) where
 
   shows-step : (op : Op) → messages e (events e s op) ≡ cond (runner_after s.runner (step s op).outcome == e) ((step s op).outcome ∷ []) []
   shows-step (Call x) =
-      let told = where_passed (first_failure (service s (served_call x)).guards) (told_by e s (served_call x)) in
-      messages-append e told (public_change s (serve s (served_call x)).state)
-      ∙ ap (λ ys. messages e told ++ ys) (messages-public e s (serve s (served_call x)).state)
+      let told = where_passed (first_failure (service s (decode x)).guards) (told_by e s (decode x)) in
+      messages-append e told (public_change s (serve s (decode x)).state)
+      ∙ ap (λ ys. messages e told ++ ys) (messages-public e s (serve s (decode x)).state)
       ∙ append-nil (messages e told)
-      ∙ shows-answered (service s (served_call x)) (told_by e s (served_call x)) (first_failure (service s (served_call x)).guards) (shows-service (served_call x))
+      ∙ shows-answered (service s (decode x)) (told_by e s (decode x)) (first_failure (service s (decode x)).guards) (shows-service (decode x))
   shows-step (Load address size) = accesses s (Data (number_at s address (size_of size))) (read_fault s address (size_of size)) refl
   shows-step (Store address size value) =
       no_wrote (store_fault s address (size_of size)) (is_near e s ((address - s.ram_base) / 4096)) address (little_bytes (size_of size) value)
@@ -193,7 +193,7 @@ tells-accessed s new outcome None same = same
 tells-accessed s new outcome (Some fault) same = refl
 
 tells-step : (s : State) (op : Op) → Tells s.runner (step s op)
-tells-step s (Call x) = tells-answered s.runner s (service s (served_call x)) (first_failure (service s (served_call x)).guards)
+tells-step s (Call x) = tells-answered s.runner s (service s (decode x)) (first_failure (service s (decode x)).guards)
 tells-step s (Load address size) = tells-accessed s s (Data (number_at s address (size_of size))) (read_fault s address (size_of size)) refl
 tells-step s (Store address size value) = tells-accessed s (stored s address (little_bytes (size_of size) value)) Done (store_fault s address (size_of size)) refl
 tells-step s (Fetch address) = tells-accessed s s (Data (number_at s address 4)) (fetch_fault s address) refl

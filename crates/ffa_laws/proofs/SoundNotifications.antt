@@ -18,17 +18,12 @@ use Rattle.ffa_model.specs.SoundState.{IsKnown, IsSoundBinding, IsSoundPending, 
 use Rattle.ffa_model.proofs.Guards.{guard-passes}
 use Rattle.ffa_model.proofs.NamedPages.{each-listed}
 use Rattle.ffa_model.proofs.Places.{known-named, known-place, same-known}
-use Rattle.ffa_model.proofs.Sets.{Bits, among, contains-less, contains-more, contains-retained, same_elements}
+use Rattle.ffa_model.proofs.Sets.{Bits, among, any-listed, contains-less, contains-more, contains-retained, same_elements}
 use Rattle.ffa_laws.proofs.Raised.{raised}
 use Rattle.ffa_laws.proofs.SoundKept.{notifications-sound}
 use Rattle.ffa_laws.proofs.SoundSteady.{runner-known}
 
 -- ---- lists of bits
-any-listed : {X : Type 0} (test : X → Bool) (n : ℕ) (f : ℕ → X) (i : ℕ) → i < n → test (f i) ≡ true → list_any test (listed n f) ≡ true
-any-listed test zero f i lt passes = absurd (omega arith)
-any-listed test (suc n) f zero lt passes = or_left (test (f 0)) (list_any test (listed n (λ j. f (suc j)))) passes
-any-listed test (suc n) f (suc i) lt passes = or_right (test (f 0)) (list_any test (listed n (λ j. f (suc j)))) (any-listed test n (λ j. f (suc j)) i (omega arith) passes)
-
 -- an entry that is in a list comes from a bit that passes what all its bits pass
 among-passed : (test : ℕ → Bool) (f : ℕ → List ℕ) (ks : List ℕ) (x : List ℕ) → list_all test ks ≡ true → among x (map f ks) ≡ true → (k : ℕ) × (test k ≡ true) × (x ≡ f k)
 among-passed test f [] x all is = absurd (false≢true is)

@@ -12,7 +12,7 @@ use Rattle.ffa_model.specs.declared.schedule.Status.TheVariants.{Yielded}
 use Rattle.ffa_model.specs.declared.call.Call as calls
 use Rattle.ffa_model.specs.declared.call.Call.TheVariants.{Version, Features, RxRelease, RxtxMap, RxtxUnmap, PartitionInfoGet, IdGet, MsgWait, Yield, Run, DirectRequest, DirectResponse, MemDonate, MemLend, MemShare, MemRetrieve, MemRelinquish, MemReclaim, BitmapCreate, BitmapDestroy, NotificationBind, NotificationUnbind, NotificationSet, NotificationGet, SpmIdGet, MsgSend2, Unknown}
 use Rattle.ffa_model.specs.Bits.{high_half, low_half}
-use Rattle.ffa_model.specs.Registers.{served_call}
+use Rattle.ffa_model.specs.Registers.{decode}
 use Rattle.ffa_model.specs.State.{State, buffers_of}
 use Rattle.ffa_model.specs.Calls.{first_failure, served}
 use Rattle.ffa_model.specs.Memory.{fetch_fault, number_at, read_fault, size_of, store_fault, stored, written_pages}
@@ -98,7 +98,7 @@ module _ (s : State) (sound : IsSoundState s) where
       (stored-sound s sound address ((address - s.ram_base) / 4096) size value none)
 
   pub step-sound : (op : Op) → IsSoundState (step s op).state
-  step-sound (Call x) = call-sound (served_call x)
+  step-sound (Call x) = call-sound (decode x)
   step-sound (Load address size) = accessed-kept IsSoundState s s (Data (number_at s address (size_of size))) (read_fault s address (size_of size)) sound (λ none. sound)
   step-sound (Store address size value) =
       accessed-kept IsSoundState s (stored s address (little_bytes (size_of size) value)) Done (store_fault s address (size_of size)) sound (store-sound address size value)

@@ -25,7 +25,7 @@ use Rattle.ffa_model.specs.Setup.{info_bytes, info_of, is_selected, selected}
 use Rattle.ffa_model.specs.Messages.{header_in, message_in, send2_guards, tx_bytes}
 use Rattle.ffa_model.specs.SoundState.{IsSoundPage, IsSoundParty, IsSoundState, are_bytes}
 use Rattle.ffa_model.proofs.Guards.{guard-passes}
-use Rattle.ffa_laws.proofs.ByteLists.{all-append, all-enumerated, all-filter, all-take, bytes-pieces, bytes-with_bytes, length-filter-le, length-pieces, length-with_bytes, number-bytes}
+use Rattle.ffa_laws.proofs.ByteLists.{all-enumerated, all-filter, all-take, both-bytes, bytes-pieces, bytes-with_bytes, length-filter-le, length-pieces, length-with_bytes, number-bytes}
 use Rattle.ffa_laws.proofs.SoundKept.{AreSoundPages}
 use Rattle.ffa_laws.proofs.Written.{at-changed, is_at}
 
@@ -151,13 +151,10 @@ module _ (s : State) (sound : IsSoundState s) where
 
     bytes-info : (x : ℕ × Party) → passes x ≡ true → are_bytes (info_of uuid x)
     bytes-info x good =
-        append (little_bytes 2 (identifier x.0)) (from_contexts x) (number-bytes 0 2 (identifier x.0))
-        (append (little_bytes 2 1) (from_properties x) (number-bytes 0 2 1)
-        (append (little_bytes 4 (x.1.properties + 0x100)) (shown_uuid x) (number-bytes 0 4 (x.1.properties + 0x100)) shown))
+        both-bytes (little_bytes 2 (identifier x.0)) (from_contexts x) (number-bytes 0 2 (identifier x.0))
+        (both-bytes (little_bytes 2 1) (from_properties x) (number-bytes 0 2 1)
+        (both-bytes (little_bytes 4 (x.1.properties + 0x100)) (shown_uuid x) (number-bytes 0 4 (x.1.properties + 0x100)) shown))
       where
-        append : (xs ys : List ℕ) → are_bytes xs → are_bytes ys → are_bytes (xs ++ ys)
-        append xs ys = all-append (λ b. nat_lt b 256) xs ys
-
         shown : are_bytes (shown_uuid x)
         shown = elim (is_nil uuid) as (λ b. are_bytes (cond b x.1.uuid (replicate 16 0))) [ true ↦ (and_parts (length x.1.uuid == 16) _ good).1 | false ↦ refl ]
 

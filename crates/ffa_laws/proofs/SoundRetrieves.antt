@@ -1,5 +1,5 @@
 -- A retrieve keeps a state sound: the response is bytes, and fits in RX.
-use Rattle.std.proofs.Common.{◌≡◌, ℕ, ◌+◌, ◌*◌, ◌<◌, ◌≤◌, Bool, true, false, List, [], ◌∷◌, ◌++◌, length, Some, None, refl, sym, subst, arith, length-append}
+use Rattle.std.proofs.Common.{◌≡◌, ℕ, ◌+◌, ◌*◌, ◌<◌, ◌≤◌, Bool, true, false, List, [], ◌∷◌, ◌++◌, length, Some, None, refl, sym, subst, arith}
 use Rattle.std.specs.Prelude.{nat_lt}
 use Rattle.std.specs.List.{flat_map, list_all}
 use Rattle.std.proofs.lemmas.Bool.{and_from, lt-ltb}
@@ -15,7 +15,8 @@ use Rattle.ffa_model.specs.State.{State, buffers_of}
 use Rattle.ffa_model.specs.Transactions.{Transfer}
 use Rattle.ffa_model.specs.MemoryRetrieve.{memory_retrieve, response_to}
 use Rattle.ffa_model.proofs.KeptCalls.{taken-sound}
-use Rattle.ffa_laws.proofs.ByteLists.{all-append, bytes-pieces, length-pieces, number-bytes}
+use Rattle.ffa_model.proofs.ResponseSize.{length-response_bytes}
+use Rattle.ffa_laws.proofs.ByteLists.{both-bytes, bytes-pieces, number-bytes}
 use Rattle.ffa_laws.proofs.SoundBuffers.{filled-state-sound}
 use Rattle.ffa_laws.proofs.SoundPages.{filled-sound}
 use Rattle.ffa_laws.proofs.SoundSteady.{runner-known}
@@ -25,9 +26,6 @@ use Rattle.ffa_laws.proofs.Taken.{Taken, before, h, response, right, state-taken
 le-bytes : (n x : ℕ) → are_bytes (le n x)
 unfolding le
 le-bytes n x = number-bytes 0 n x
-
-both-bytes : (xs ys : List ℕ) → are_bytes xs → are_bytes ys → are_bytes (xs ++ ys)
-both-bytes xs ys = all-append (λ b. nat_lt b 256) xs ys
 
 -- numbers one after another
 abbrev numbers : List (ℕ × ℕ) → List ℕ
@@ -44,38 +42,13 @@ permissions-byte Ro false = omega arith
 permissions-byte Rw true = omega arith
 permissions-byte Rw false = omega arith
 
-length-header : (r : ResponseRecord) → length (header_bytes r) ≡ 48
-unfolding le
-length-header r = refl
-
-length-access : (r : ResponseRecord) → length (access_bytes r) ≡ 16
-unfolding le
-length-access r = refl
-
-length-composite : (ranges : List Range) → length (composite_bytes ranges) ≡ 16
-unfolding le
-length-composite ranges = refl
-
-length-range : (r : Range) → length (range_bytes r) ≡ 16
-unfolding le
-length-range r = refl
-
 all-ranges : (ranges : List Range) → list_all (λ (r : Range). true) ranges ≡ true
 all-ranges [] = refl
 all-ranges (r ∷ ranges) = all-ranges ranges
 
 module _ (r : ResponseRecord) where
   response-fits : length r.ranges ≤ 16 → length (response_bytes r) ≤ 4096
-  unfolding response_bytes le
-  response-fits few =
-      let ranges = length-pieces range_bytes (λ (range : Range). true) 16 r.ranges (all-ranges r.ranges) (λ range is. let size = length-range range in omega (arith, size)) in
-      let header = length-header r in
-      let access = length-access r in
-      let composite = length-composite r.ranges in
-      let first : length (response_bytes r) ≡ length (header_bytes r) + length (access_bytes r ++ composite_bytes r.ranges ++ flat_map range_bytes r.ranges) = length-append (header_bytes r) (access_bytes r ++ composite_bytes r.ranges ++ flat_map range_bytes r.ranges) in
-      let second = length-append (access_bytes r) (composite_bytes r.ranges ++ flat_map range_bytes r.ranges) in
-      let third = length-append (composite_bytes r.ranges) (flat_map range_bytes r.ranges) in
-      omega (arith, few, ranges, header, access, composite, first, second, third)
+  response-fits few = omega (arith, few, length-response_bytes r)
 
   header-are_bytes : are_bytes (header_bytes r)
   unfolding le

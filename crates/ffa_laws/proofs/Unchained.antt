@@ -17,7 +17,7 @@ use Rattle.ffa_model.specs.Sound.{IsLinked, IsSound, IsEndpoint, IsPartition, or
 use Rattle.ffa_model.specs.Links.{IsChain, has_link_at, last_link, link_at, schedule_of, status_at, status_outside, work_at}
 use Rattle.ffa_model.proofs.Links.{link-found, link-has}
 use Rattle.ffa_model.proofs.Chains.{status-last, status-rest}
-use Rattle.ffa_model.proofs.Places.{partition-known, same-known}
+use Rattle.ffa_model.proofs.Places.{partition-known, place-identifier, same-known}
 
 listed-of : {X : Type 0} (xs : List X) (f : ℕ → X) (d : X) → ((p : ℕ) → p < length xs → f p ≡ get_or xs p d) → listed (length xs) f ≡ xs
 listed-of [] f d same = refl
@@ -51,10 +51,6 @@ member-has e (x ∷ xs) is =
       | true ↦ λ same _. ap (λ b. b || has_link_at xs (place e)) (eq-eqb (place x) (place e) (ap place (sym (eqb-true e x same))))
       | false ↦ λ _ rest. grind (arith, member-has e xs rest, cases_Bool (place x == place e))
     ] refl is
-
-pub place-identifier : (p : ℕ) → place (identifier p) ≡ p
-place-identifier zero = refl
-place-identifier (suc p) = omega arith
 
 pub identifier-known : (n p : ℕ) → p < n → is_known_among n (identifier p) ≡ true
 identifier-known n zero lt = refl

@@ -8,9 +8,10 @@ use Rattle.ffa_model.specs.State.{State, Page, Buffers, page_at}
 use Rattle.ffa_model.specs.Memory.{page_with, written, written_pages}
 use Rattle.ffa_model.specs.Buffers.{buffers_with_rx, filled_pages}
 use Rattle.ffa_model.specs.RunStates.{schedule_of}
+use Rattle.ffa_model.proofs.Accesses.{length-map_at}
 use Rattle.ffa_laws.specs.View.{view, is_near, kept, hidden}
 use Rattle.ffa_laws.specs.Events.{fullness, with_fullness}
-use Rattle.ffa_laws.proofs.Maps.{length-map_at, map_at-set}
+use Rattle.ffa_laws.proofs.Maps.{map_at-set}
 use Rattle.ffa_laws.proofs.Views.{view-page}
 use Rattle.ffa_laws.proofs.Changes.{AreRewritten, standing, unwritten, with_parts, view-changed}
 

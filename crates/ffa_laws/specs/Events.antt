@@ -22,7 +22,7 @@ use Rattle.ffa_model.specs.declared.call.Call as calls
 use Rattle.ffa_model.specs.declared.call.Call.TheVariants.{MsgWait, Yield, Run, DirectRequest, DirectResponse, MemDonate, MemLend, MemShare, MemRetrieve, MemRelinquish, MemReclaim, BitmapDestroy, NotificationBind, NotificationUnbind, NotificationSet, MsgSend2}
 use Rattle.ffa_model.specs.Bits.{bits_of, high_half, word_of_halves, low_half}
 use Rattle.ffa_model.specs.Lists.{listed, map_at}
-use Rattle.ffa_model.specs.Registers.{served_call}
+use Rattle.ffa_model.specs.Registers.{decode}
 use Rattle.ffa_model.specs.State.{State, Page, Transaction, Buffers, buffers_of, transaction_of}
 use Rattle.ffa_model.specs.Access.{is_from, is_offered, is_receiver, names}
 use Rattle.ffa_model.specs.Calls.{Service, encode, first_failure}
@@ -250,7 +250,7 @@ call_events e s call =
 
 -- what an operation of another endpoint tells e
 abbrev pub events : ℕ → State → Op → List Event
-events e s (Call x) = call_events e s (served_call x)
+events e s (Call x) = call_events e s (decode x)
 events e s (Load addr size) = []
 events e s (Store addr size value) =
     where_passed (store_fault s addr (size_of size)) (writes e s addr (little_bytes (size_of size) value))

@@ -12,7 +12,7 @@ use Rattle.ffa_model.specs.Rights.{is_within}
 use Rattle.ffa_model.specs.State.{State, Transaction, Buffers, page_at, owner_of, buffers_of, is_known}
 use Rattle.ffa_model.specs.Access.{access, handle_at, transaction_at}
 use Rattle.ffa_model.specs.Memory.{page_bytes}
-use Rattle.ffa_model.specs.Registers.{served_call}
+use Rattle.ffa_model.specs.Registers.{decode}
 use Rattle.ffa_model.specs.Calls.{first_failure}
 use Rattle.ffa_model.specs.Messages.{header_in, msg_send2, tx_bytes}
 use Rattle.ffa_model.specs.Step.{outcomes, serve, step}
@@ -78,7 +78,7 @@ is_send2 MsgSend2 = true
 is_send2 call = false
 
 abbrev pub is_indirect_message : Op → Bool
-is_indirect_message (Call x) = is_send2 (served_call x)
+is_indirect_message (Call x) = is_send2 (decode x)
 is_indirect_message (Load addr size) = false
 is_indirect_message (Store addr size value) = false
 is_indirect_message (Fetch addr) = false

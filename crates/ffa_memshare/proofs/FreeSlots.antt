@@ -12,7 +12,8 @@ use Rattle.ffa_model.proofs.Slots.{AreApart, entries_in}
 use Rattle.ffa_memshare.specs.SlotChanges.{IsFree}
 use Rattle.ffa_memshare.specs.declared.transaction.OpenTransaction.{OpenTransaction}
 use Rattle.ffa_memshare.specs.Stored.{IsPool, Pooled, Slot, map_in, offers_in, slot_at, slot_of, slots_of, transaction_of}
-use Rattle.ffa_memshare.proofs.PoolKept.{place-identifier, unfound}
+use Rattle.ffa_model.proofs.Places.{place-identifier}
+use Rattle.ffa_memshare.proofs.PoolKept.{unfound}
 
 -- one more where a slot is free
 abbrev vacant : Slot → ℕ

@@ -1,17 +1,17 @@
 -- Who holds a transaction, from the rights by place.
 use Rattle.std.proofs.Common.{◌≡◌, ◌∙◌, ℕ, zero, suc, ◌+◌, ◌<◌, Bool, cond, List, [], ◌∷◌, length, get_or, set, replicate, Option, Some, None, refl, sym, ap, arith, inl, inr}
-use Rattle.std.specs.List.{filter_map, refill}
+use Rattle.std.specs.List.{filter_map}
 use Rattle.std.specs.Option.{option_map}
 use Rattle.std.specs.Ordering.{nat_cmp, eq_by_cmp}
 use Rattle.std.specs.FinMap as finite
 use Rattle.std.specs.Cmp.{nat_cmp_total, unsigned_tied}
 use Rattle.std.proofs.lemmas.Bool.{cases_eq, eq-eqb, ne_eqb}
-use Rattle.std.proofs.lemmas.List.{get_or-set_other, get_or-set_same, length-set}
+use Rattle.std.proofs.lemmas.List.{get_or-set_other, get_or-set_same}
 use Rattle.ffa_model.specs.declared.rights.Rights.{Rights}
 use Rattle.ffa_model.specs.Identifiers.{identifier, place}
 use Rattle.ffa_model.specs.Lists.{map_at}
 use Rattle.ffa_memshare.specs.Held.{Held, held_in, with_held}
-use Rattle.ffa_memshare.proofs.PoolKept.{place-identifier}
+use Rattle.ffa_model.proofs.Places.{place-identifier, same-identifier}
 
 -- the holders whose places begin with k
 abbrev from : ℕ → List (Option Rights) → List (ℕ × Rights)
@@ -22,12 +22,6 @@ next-from k held = ap (λ (f : ℕ → ℕ). filter_map (λ x. x) (map_at (λ i.
   where
     step : (i : ℕ) → k + suc i ≡ k + 1 + i
     step i = omega arith
-
-same-identifier : (i j : ℕ) → identifier i ≡ identifier j → i ≡ j
-same-identifier zero zero is = refl
-same-identifier zero (suc j) is = absurd (omega arith)
-same-identifier (suc i) zero is = absurd (omega arith)
-same-identifier (suc i) (suc j) is = omega arith
 
 absent : (k e : ℕ) (held : List (Option Rights)) → ((j : ℕ) → e ≡ identifier (k + j) → ⊥) → finite.find nat_cmp e (from k held) ≡ None
 absent k e [] none = refl
@@ -122,13 +116,3 @@ held-set held e right known lt =
             ∙ sym (held-by held q is) ∙ sym (apart q other)
       ]
     ]
-
--- one element was written through a slice of all
-refill-whole : {X : Type 0} (xs ws : List X) → length ws ≡ length xs → refill (length xs) xs ws ≡ ws
-refill-whole [] [] same = refl
-refill-whole [] (w ∷ ws) same = absurd (omega arith)
-refill-whole (x ∷ xs) [] same = absurd (omega arith)
-refill-whole (x ∷ xs) (w ∷ ws) same = ap (λ vs. w ∷ vs) (refill-whole xs ws (omega arith))
-
-pub refill-set : {X : Type 0} (xs ys : List X) (i : ℕ) (y : X) → ys ≡ xs → refill (length xs) xs (set ys i y) ≡ set xs i y
-refill-set xs ys i y same = refill-whole xs (set ys i y) (length-set ys i y ∙ ap length same) ∙ ap (λ zs. set zs i y) same

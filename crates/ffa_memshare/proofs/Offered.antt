@@ -21,28 +21,19 @@ use Rattle.ffa_model.specs.SendDescriptor.{Send, SendRecord, is_named, range_in,
 use Rattle.ffa_model.specs.State.{Buffers}
 use Rattle.ffa_model.specs.Transactions.{are_writable, pages_in}
 use Rattle.ffa_model.proofs.NamedPages.{listed-each}
+use Rattle.ffa_model.proofs.Listed.{get_or-listed, length-listed}
 use Rattle.ffa_pages.specs.Entry.{Entry, base_at, entry_at, owner_at}
 use Rattle.ffa_rxtx.specs.Parts.{candidate_in, candidates_in}
 use Rattle.ffa_memshare.specs.Named.{bases_in}
 use Rattle.ffa_memshare.specs.Offers.{AreAligned, IsOwnOffer, grants_writes}
 use Rattle.ffa_memshare.specs.Ranges.{ArePlaced, IsPlaced, in_range, in_ranges}
 
--- an element of a list that a function gives
-listed-at : {X : Type 0} (n : ℕ) (f : ℕ → X) (i : ℕ) (d : X) → i < n → get_or (listed n f) i d ≡ f i
-listed-at zero f i d lt = absurd (omega arith)
-listed-at (suc n) f zero d lt = refl
-listed-at (suc n) f (suc i) d lt = listed-at n (λ j. f (suc j)) i d (omega arith)
-
-length-listed : {X : Type 0} (n : ℕ) (f : ℕ → X) → length (listed n f) ≡ n
-length-listed zero f = refl
-length-listed (suc n) f = ap suc (length-listed n (λ j. f (suc j)))
-
 -- the ranges of a descriptor begin where pages do
 pub sent-aligned : (kind : Kind) (b : List ℕ) (r : SendRecord) → Send kind b r → AreAligned r.ranges
 sent-aligned kind b r send i x lt is =
     let n = range_count b in
     let less : i < n = omega (arith, lt, ap (λ (rs : List Range). length rs) send.ranges, length-listed n (range_in b)) in
-    let at : x ≡ range_in b i = is ∙ ap (λ (rs : List Range). get_or rs i x) send.ranges ∙ listed-at n (range_in b) i x less in
+    let at : x ≡ range_in b i = is ∙ ap (λ (rs : List Range). get_or rs i x) send.ranges ∙ get_or-listed n (range_in b) i x less in
     ap (λ (q : Range). q.address % 4096) at ∙ (send.each i less).aligned
 
 -- and its receivers are others than its sender

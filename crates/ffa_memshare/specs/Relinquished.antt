@@ -7,14 +7,17 @@ use Rattle.ffa_model.specs.Ram.{Ram}
 use Rattle.ffa_model.specs.RelinquishDescriptor.{relinquish_of}
 use Rattle.ffa_model.specs.State.{Transaction}
 use Rattle.ffa_model.specs.Transactions.{not_holding, with_transaction}
+use Rattle.ffa_memshare.specs.declared.changed.Changed.{Changed}
+use Rattle.ffa_memshare.specs.Changed.{IsChanged}
 use Rattle.ffa_memshare.specs.Changes.{IsMoved}
 use Rattle.ffa_memshare.specs.Ranges.{in_ranges}
 use Rattle.ffa_memshare.specs.SlotChanges.{IsHeldBy}
 use Rattle.ffa_memshare.specs.Stored.{Pooled, map_in, offers_in}
 
 -- the open transactions of this many endpoints, and the RAM from an address on with its blocks, after e has given up what
--- these bytes describe: e holds the transaction no more, has no right to its pages, and they are zeros where that is asked
-pub record IsRelinquished (old new : Pooled) (ram after : Ram) (base n blocks e : ℕ) (bytes : List ℕ) : Type 0 where
+-- these bytes describe: e holds the transaction no more, has no right to its pages, and they are zeros where that is asked; this is
+-- the access that changed
+pub record IsRelinquished (old new : Pooled) (ram after : Ram) (base n blocks e : ℕ) (bytes : List ℕ) (changed : Changed) : Type 0 where
   pub asked : RelinquishDesc
   pub transaction : Transaction
   pub described : relinquish_of bytes ≡ Some asked
@@ -22,3 +25,4 @@ pub record IsRelinquished (old new : Pooled) (ram after : Ram) (base n blocks e 
   pub slot : IsHeldBy old new asked.handle e None
   pub offers : offers_in new ≡ with_transaction (offers_in old) asked.handle (not_holding transaction e)
   pub moved : IsMoved ram after n blocks (place e) (in_ranges base transaction.ranges) (λ p. None) asked.zero
+  pub access : IsChanged changed transaction.ranges (Some (record { 0 = e }))

@@ -14,7 +14,9 @@ use Rattle.ffa_model.specs.RetrieveDescriptor.{retrieve_of}
 use Rattle.ffa_model.specs.State.{Buffers, Transaction}
 use Rattle.ffa_pages.specs.Entry.{Entry}
 use Rattle.ffa_rxtx.specs.Parts.{with_rx_bytes}
+use Rattle.ffa_memshare.specs.declared.changed.Changed.{Changed}
 use Rattle.ffa_memshare.specs.declared.marks.Mark.TheVariants.{Given}
+use Rattle.ffa_memshare.specs.Changed.{IsChanged}
 use Rattle.ffa_memshare.specs.Changes.{IsMarked, IsMoved}
 use Rattle.ffa_memshare.specs.Named.{bases_in}
 use Rattle.ffa_memshare.specs.Ranges.{in_ranges}
@@ -42,9 +44,9 @@ pub record IsAnswered (ram after : Ram) (base n blocks : ℕ) (own : Option Buff
   pub bytes : size ≡ response_size t.ranges
 
 -- the open transactions of this many endpoints, the RAM from an address on with its blocks and their pages, after an
--- endpoint has taken what these bytes ask for
+-- endpoint has taken what these bytes ask for; and the access that changed
 pub record IsRetrieved (old new : Pooled) (ram after : Ram) (table given : List (Option Entry)) (base n blocks : ℕ) (own : Option Buffers) (e : EndpointId)
-    (bytes : List ℕ) (size : ℕ) : Type 0 where
+    (bytes : List ℕ) (size : ℕ) (changed : Changed) : Type 0 where
   pub asked : RetrieveDesc
   pub transaction : Transaction
   pub right : Rights
@@ -55,3 +57,4 @@ pub record IsRetrieved (old new : Pooled) (ram after : Ram) (table given : List 
   pub offers : offers_in new ≡ taken_in transaction.kind (offers_in old) asked.handle transaction e.0 right
   pub pages : IsPassedOn transaction.kind table given (in_ranges base transaction.ranges) e right
   pub answer : IsAnswered ram after base n blocks own asked.handle transaction e.0 right size
+  pub access : IsChanged changed transaction.ranges (Some e)

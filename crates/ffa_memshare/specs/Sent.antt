@@ -9,9 +9,11 @@ use Rattle.ffa_model.specs.Ram.{Ram}
 use Rattle.ffa_model.specs.SendDescriptor.{SendRecord, send_of}
 use Rattle.ffa_model.specs.Transactions.{next_handle}
 use Rattle.ffa_pages.specs.Entry.{Entry}
+use Rattle.ffa_memshare.specs.declared.changed.Changed.{Changed}
 use Rattle.ffa_memshare.specs.declared.grants.NewRight.{NewRight}
 use Rattle.ffa_memshare.specs.declared.grants.NewRight.TheVariants.{Same, Base}
 use Rattle.ffa_memshare.specs.declared.marks.Mark.TheVariants.{Named}
+use Rattle.ffa_memshare.specs.Changed.{IsChanged, changed_sender}
 use Rattle.ffa_memshare.specs.Changes.{IsMarked, IsMoved}
 use Rattle.ffa_memshare.specs.Grants.{new_right}
 use Rattle.ffa_memshare.specs.Offers.{IsOwnOffer}
@@ -27,8 +29,9 @@ right_after Donate = Same None
 
 -- the open transactions of this many endpoints, the pages' entries, and the RAM from an address on with its blocks, after
 -- e has sent what these bytes describe: a free slot of e has it, e's pages are marked with that slot, e has the right to
--- them that it keeps, and they are zeros where that is asked
-pub record IsSent (old new : Pooled) (table marked : List (Option Entry)) (ram after : Ram) (base n blocks e : ℕ) (kind : Kind) (bytes : List ℕ) : Type 0 where
+-- them that it keeps, and they are zeros where that is asked; this is the access that changed
+pub record IsSent (old new : Pooled) (table marked : List (Option Entry)) (ram after : Ram) (base n blocks e : ℕ) (kind : Kind) (bytes : List ℕ) (changed : Changed)
+    : Type 0 where
   pub offer : SendRecord
   pub slot : ℕ
   pub described : send_of kind bytes ≡ Some offer
@@ -38,3 +41,4 @@ pub record IsSent (old new : Pooled) (table marked : List (Option Entry)) (ram a
   pub offers : offers_in new ≡ offered_in (offers_in old) e kind offer
   pub marks : IsMarked table marked (in_ranges base offer.ranges) (Named (Some slot))
   pub moved : IsMoved ram after n blocks (place e) (in_ranges base offer.ranges) (new_right (right_after kind) table) offer.zero
+  pub access : IsChanged changed offer.ranges (changed_sender kind e)

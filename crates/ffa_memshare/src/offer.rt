@@ -8,7 +8,6 @@ ghost use Rattle.ffa_model.specs.declared.operation.ErrorCode.{ErrorCode as Code
 ghost use Rattle.ffa_model.specs.Calls.{first_failure};
 ghost use Rattle.ffa_model.specs.MemorySend.{are_grants_within, are_known, is_inside};
 ghost use Rattle.ffa_model.specs.SendDescriptor.{is_named, send_of, send_record};
-ghost use Rattle.ffa_model.specs.State.{is_known_among};
 ghost use Rattle.ffa_model.specs.Transactions.{are_writable, pages_in};
 ghost use Rattle.ffa_rxtx.specs.Parts.{candidates_in};
 ghost use Rattle.ffa_memshare.specs.Named.{bases_in};
@@ -34,21 +33,13 @@ pub(crate) fn read_offer(bytes: &[u8], kind: Kind) -> Result<SendDesc, ErrorCode
     }
 }
 
-// Whether an identifier names one of this many endpoints.
-fn is_known(endpoint: EndpointId, endpoints: usize) -> bool
-    ensures { result ≡ is_known_among endpoints endpoint.0 }
-{
-    let is_partition = endpoint > EndpointId::MANAGER && endpoint.place() < endpoints;
-    endpoint == EndpointId(0) || is_partition
-}
-
 // Whether all receivers are endpoints, of this many.
 fn are_known(receivers: &[Receiver], endpoints: usize) -> bool
     ensures { result ≡ are_known endpoints receivers.now }
 {
     receivers
         .iter()
-        .all(|receiver| is_known(receiver.endpoint, endpoints))
+        .all(|receiver| receiver.endpoint.is_among(endpoints))
 }
 
 // Whether a range lies in the RAM of these pages.

@@ -1,5 +1,5 @@
 //! FFA_MEM_RECLAIM.
-ghost use Rattle.std.specs.Prelude.{◌≡◌, ◌==◌, None, OnOk, OnErr};
+ghost use Rattle.std.specs.Prelude.{◌≡◌, ◌==◌, None, IfOk, OnOk, OnErr};
 ghost use Rattle.std.specs.FinMap as finite;
 ghost use Rattle.std.specs.Result.{result_err};
 ghost use Rattle.arrayvec.specs.ArrayVec.{array_vec_len};
@@ -8,6 +8,7 @@ ghost use Rattle.ffa_model.specs.Identifiers.{place};
 ghost use Rattle.ffa_model.specs.MemoryReturn.{named_ranges, reclaim_guards};
 ghost use Rattle.ffa_model.specs.Transactions.{closed};
 ghost use Rattle.ffa_pages.specs.Entry.{base_at};
+ghost use Rattle.ffa_memshare.specs.Changed.{IsChanged, changed_reclaimer};
 ghost use Rattle.ffa_memshare.specs.Changes.{IsMarked, IsMoved};
 ghost use Rattle.ffa_memshare.specs.Named.{bases_in};
 ghost use Rattle.ffa_memshare.specs.Ranges.{in_ranges};
@@ -15,6 +16,7 @@ ghost use Rattle.ffa_memshare.specs.Shared.{IsShared};
 ghost use Rattle.ffa_memshare.specs.SlotChanges.{IsClosed};
 ghost use Rattle.ffa_memshare.specs.Stored.{map_in, offers_in};
 
+use crate::changed::{Changed, changed_sender};
 use crate::marks::Mark;
 use crate::pool::Pool;
 use ffa_model::{EndpointId, ErrorCode};
@@ -24,7 +26,8 @@ use ffa_stage2::Layout;
 
 impl Pool {
     /// FFA_MEM_RECLAIM of an endpoint, with w3: the transaction is open no more, its pages are the sender's with its own
-    /// right, and zeros where bit 0 of the word asks for it.
+    /// right, and zeros where bit 0 of the word asks for it. It gives whose access changed: the sender's, but nobody's
+    /// of a share.
     ///
     /// # Errors
     ///
@@ -39,7 +42,7 @@ impl Pool {
         caller: EndpointId,
         handle: u64,
         flags: u32,
-    ) -> Result<(), ErrorCode>
+    ) -> Result<Changed, ErrorCode>
         requires { IsShared (M.ram ram.old) layout.now.base (array_vec_len layout.now.regions) layout.now.blocks pages.old self.old.slots }
         ensures refusal { result_err result ≡ first_failure (reclaim_guards (bases_in pages.old layout.now.base) caller.0 flags (finite.get (map_in self.old.slots) handle)) }
         ensures kept { OnErr result (self.new ≡ self.old) }
@@ -51,6 +54,8 @@ impl Pool {
             (place caller.0) (in_ranges layout.now.base (named_ranges (finite.get (map_in self.old.slots) handle))) (base_at pages.old) (flags == 1)) }
         ensures pages { OnOk result (IsMarked pages.old pages.new
             (in_ranges layout.now.base (named_ranges (finite.get (map_in self.old.slots) handle))) (Mark.Named None)) }
+        ensures changed { IfOk result (λ changed. IsChanged changed (named_ranges (finite.get (map_in self.old.slots) handle))
+            (changed_reclaimer (finite.get (map_in self.old.slots) handle) caller.0)) }
     {
         let slot = match self.find(handle) {
             Some(slot) => slot,
@@ -59,7 +64,8 @@ impl Pool {
         let open = self.at(slot);
         open.check_reclaim(pages, layout.base, caller, flags)?;
         open.give_back(ram, layout, pages, flags == 1);
+        let changed = Changed::of(&open.ranges, changed_sender(open.kind, caller));
         self.close(slot);
-        Ok(())
+        Ok(changed)
     }
 }

@@ -14,6 +14,7 @@ ghost use Rattle.ffa_memshare.specs.Scenes.{tx_in};
 ghost use Rattle.ffa_memshare.specs.Shared.{IsShared};
 ghost use Rattle.ffa_memshare.specs.Stored.{offers_in, transaction_of};
 
+use crate::changed::Changed;
 use crate::grants::NewRight;
 use crate::moves::move_rights;
 use crate::pool::Pool;
@@ -27,7 +28,8 @@ use ffa_stage2::Layout;
 
 impl Pool {
     /// FFA_MEM_RELINQUISH of an endpoint, with the descriptor in its TX: it holds the transaction no more and has no right
-    /// to the pages, which are zeros where the descriptor asks for it.
+    /// to the pages, which are zeros where the descriptor asks for it. It gives that the caller's access to the pages
+    /// changed.
     ///
     /// # Errors
     ///
@@ -41,15 +43,15 @@ impl Pool {
         pages: &PageTable,
         buffers: &Buffers,
         caller: EndpointId,
-    ) -> Result<(), ErrorCode>
+    ) -> Result<Changed, ErrorCode>
         requires shared { IsShared (M.ram ram.old) layout.now.base (array_vec_len layout.now.regions) layout.now.blocks pages.now self.old.slots }
         requires caller { IsCaller (array_vec_len layout.now.regions) (length (M.ram ram.old).pages) caller.0 buffers.now }
         ensures refusal { result_err result ≡ first_failure (relinquish_guards (buffers_in buffers.now caller.0) (offers_in self.old) caller.0
             (relinquish_of (tx_in (M.ram ram.old) (buffers_in buffers.now caller.0)))) }
         ensures kept { OnErr result (self.new ≡ self.old) }
         ensures kept_ram { OnErr result (M.ram ram.new ≡ M.ram ram.old) }
-        ensures done { OnOk result (IsRelinquished self.old self.new (M.ram ram.old) (M.ram ram.new) layout.now.base
-            (array_vec_len layout.now.regions) layout.now.blocks caller.0 (tx_in (M.ram ram.old) (buffers_in buffers.now caller.0))) }
+        ensures done { IfOk result (λ changed. IsRelinquished self.old self.new (M.ram ram.old) (M.ram ram.new) layout.now.base
+            (array_vec_len layout.now.regions) layout.now.blocks caller.0 (tx_in (M.ram ram.old) (buffers_in buffers.now caller.0)) changed) }
     {
         let asked = asked_in(ram, buffers, caller)?;
         let slot = match self.find(asked.handle) {
@@ -62,8 +64,9 @@ impl Pool {
         let index = caller.place();
         let nothing = NewRight::Same(None);
         move_rights(ram, layout, pages, ranges, index, nothing, asked.zero);
+        let changed = Changed::of(&open.ranges, Some(caller));
         self.set_held(slot, caller, None);
-        Ok(())
+        Ok(changed)
     }
 }
 

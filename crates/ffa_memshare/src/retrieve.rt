@@ -21,15 +21,15 @@ ghost use Rattle.ffa_memshare.specs.Shared.{IsHeld, IsShared};
 ghost use Rattle.ffa_memshare.specs.Stored.{map_in, offers_in, slot_at, transaction_of};
 
 use crate::answer::answer;
+use crate::changed::{Changed, Retrieved, copied};
 use crate::grants::NewRight;
 use crate::marks::{Mark, mark_all};
 use crate::moves::move_rights;
 use crate::pool::Pool;
 use crate::transaction::OpenTransaction;
 use crate::transfer::Transfer;
-use arrayvec::ArrayVec;
 use ffa_memdesc::read_retrieve;
-use ffa_model::{EndpointId, ErrorCode, Kind, Range, Response, RetrieveDesc, Rights};
+use ffa_model::{EndpointId, ErrorCode, Kind, Response, RetrieveDesc, Rights};
 use ffa_pages::PageTable;
 use ffa_physmem::PhysMem;
 use ffa_rxtx::Buffers;
@@ -37,7 +37,8 @@ use ffa_stage2::Layout;
 
 impl Pool {
     /// FFA_MEM_RETRIEVE_REQ of an endpoint, with the descriptor in its TX: it holds the right that it asked for, which the
-    /// answer in its RX tells, and the pages of a donate are its own. It gives the length of the answer.
+    /// answer in its RX tells, and the pages of a donate are its own. It gives the length of the answer, and that
+    /// the caller's access to the pages changed.
     ///
     /// # Errors
     ///
@@ -53,7 +54,7 @@ impl Pool {
         buffers: &mut Buffers,
         caller: EndpointId,
         transfer: &Transfer,
-    ) -> Result<u32, ErrorCode>
+    ) -> Result<Retrieved, ErrorCode>
         requires shared { IsShared (M.ram ram.old) layout.now.base (array_vec_len layout.now.regions) layout.now.blocks pages.old self.old.slots }
         requires caller { IsCaller (array_vec_len layout.now.regions) (length (M.ram ram.old).pages) caller.0 buffers.old }
         ensures refusal { result_err result ≡ first_failure (retrieve_guards
@@ -64,9 +65,9 @@ impl Pool {
         ensures kept_buffers { OnErr result (buffers.new ≡ buffers.old) }
         ensures kept_ram { OnErr result (M.ram ram.new ≡ M.ram ram.old) }
         ensures full { OnOk result (buffers.new ≡ buffers_with_rx buffers.old caller.0 true) }
-        ensures done { IfOk result (λ size. IsRetrieved self.old self.new (M.ram ram.old) (M.ram ram.new) pages.old pages.new layout.now.base
+        ensures done { IfOk result (λ retrieved. IsRetrieved self.old self.new (M.ram ram.old) (M.ram ram.new) pages.old pages.new layout.now.base
             (array_vec_len layout.now.regions) layout.now.blocks (buffers_in buffers.old caller.0) caller
-            (descriptor_in (M.ram ram.old) buffers.old caller.0 transfer.now.total) size) }
+            (descriptor_in (M.ram ram.old) buffers.old caller.0 transfer.now.total) retrieved.size retrieved.changed) }
     {
         let asked = asked_in(ram, buffers, caller, transfer)?;
         let slot = match self.find(asked.handle) {
@@ -78,9 +79,10 @@ impl Pool {
         let right = open.check_retrieve(pages, layout.base, is_full, caller, &asked)?;
         let size = open.hand_over(ram, layout, pages, buffers, caller, right);
         open.pass_on(pages, layout.base, caller, right);
+        let changed = Changed::of(&open.ranges, Some(caller));
         let kind = open.kind;
         self.take(slot, kind, caller, right);
-        Ok(size)
+        Ok(Retrieved { size, changed })
     }
 
     // Notes that an endpoint holds the open transaction in a slot, which is of this kind. A donate is open no more.
@@ -155,17 +157,6 @@ impl OpenTransaction {
             ranges: copied(&self.ranges),
         }
     }
-}
-
-// The same ranges.
-fn copied(ranges: &ArrayVec<Range, 16>) -> ArrayVec<Range, 16>
-    ensures { result.items ≡ ranges.now.items }
-{
-    let mut copied = ArrayVec::new();
-    for range in ranges.as_slice() {
-        copied.push(*range);
-    }
-    copied
 }
 
 // What the descriptor in the caller's TX says, read where it lies.

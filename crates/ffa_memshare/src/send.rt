@@ -17,6 +17,7 @@ ghost use Rattle.ffa_memshare.specs.Sent.{IsSent};
 ghost use Rattle.ffa_memshare.specs.Shared.{IsRoom};
 ghost use Rattle.ffa_memshare.specs.Stored.{offers_in};
 
+use crate::changed::{Changed, Sent, changed_sender};
 use crate::offer::{check_offer, read_offer};
 use crate::pool::Pool;
 use crate::transaction::OpenTransaction;
@@ -30,7 +31,8 @@ use ffa_stage2::Layout;
 impl Pool {
     /// FFA_MEM_DONATE, FFA_MEM_LEND or FFA_MEM_SHARE of an endpoint, with the descriptor in its TX: the transaction is
     /// open, and nobody holds it. The sender has no right to the pages, but keeps its own in a share, and they are zeros
-    /// where the descriptor asks for it. Returns the handle.
+    /// where the descriptor asks for it. Returns the handle, and whose access changed: the sender's, but nobody's
+    /// where it shares.
     ///
     /// # Errors
     ///
@@ -48,7 +50,7 @@ impl Pool {
         caller: EndpointId,
         kind: Kind,
         transfer: &Transfer,
-    ) -> Result<u64, ErrorCode>
+    ) -> Result<Sent, ErrorCode>
         requires room { IsRoom (M.ram ram.old) layout.now.base (array_vec_len layout.now.regions) layout.now.blocks pages.old }
         requires caller { IsCaller (array_vec_len layout.now.regions) (length (M.ram ram.old).pages) caller.0 buffers.now }
         requires endpoints { length self.old.sent ≡ array_vec_len layout.now.regions }
@@ -59,17 +61,18 @@ impl Pool {
         ensures kept { OnErr result (self.new ≡ self.old) }
         ensures kept_pages { OnErr result (pages.new ≡ pages.old) }
         ensures kept_ram { OnErr result (M.ram ram.new ≡ M.ram ram.old) }
-        ensures handle { IfOk result (λ handle. handle ≡ next_handle (offers_in self.old) caller.0) }
-        ensures sent { OnOk result (IsSent self.old self.new pages.old pages.new (M.ram ram.old) (M.ram ram.new) layout.now.base
-            (array_vec_len layout.now.regions) layout.now.blocks caller.0 kind (descriptor_in (M.ram ram.old) buffers.now caller.0 transfer.now.total)) }
+        ensures handle { IfOk result (λ sent. sent.handle ≡ next_handle (offers_in self.old) caller.0) }
+        ensures sent { IfOk result (λ sent. IsSent self.old self.new pages.old pages.new (M.ram ram.old) (M.ram ram.new) layout.now.base
+            (array_vec_len layout.now.regions) layout.now.blocks caller.0 kind (descriptor_in (M.ram ram.old) buffers.now caller.0 transfer.now.total) sent.changed) }
     {
         let offer = checked_offer(ram, layout, pages, buffers, caller, kind, transfer)?;
         let slot = self.room(caller)?;
         let handle = self.next_handle(caller);
         let open = OpenTransaction::of(handle, kind, offer);
         open.take_pages(ram, layout, pages, slot as u8);
+        let changed = Changed::of(&open.ranges, changed_sender(kind, caller));
         self.open(slot, open);
-        Ok(handle)
+        Ok(Sent { handle, changed })
     }
 }
 

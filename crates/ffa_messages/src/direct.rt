@@ -10,12 +10,9 @@ ghost use Rattle.ffa_model.specs.Sound.{IsSound};
 ghost use Rattle.ffa_model.specs.State.{is_partition_among};
 ghost use Rattle.ffa_messages.specs.Parts.{is_addressed, may_request};
 
-use crate::parties::{is_known, receives_direct_requests, sends_direct_requests};
+use crate::parties::{receives_direct_requests, sends_direct_requests};
 use ffa_model::{EndpointId, ErrorCode, Manifest, Reply, Status, Work};
 use ffa_schedule::Chain;
-
-#[cfg(test)]
-mod tests;
 
 /// A direct message in registers: the identifier of the call in w0, w1, w2 and the payload in x3 to x7.
 #[derive(Clone, Copy, Debug, PartialEq, Eq)]
@@ -32,14 +29,14 @@ impl DirectMessage {
     fn sender(&self) -> EndpointId
         ensures { result.0 ≡ high_half self.now.word }
     {
-        EndpointId((self.word / 0x1_0000) as u16)
+        EndpointId::in_high_half(self.word)
     }
 
     // The endpoint that the message names as its receiver.
     fn receiver(&self) -> EndpointId
         ensures { result.0 ≡ low_half self.now.word }
     {
-        EndpointId((self.word % 0x1_0000) as u16)
+        EndpointId::in_low_half(self.word)
     }
 
     // Whether the message is from the runner to another endpoint, without flags.
@@ -48,7 +45,7 @@ impl DirectMessage {
     {
         self.sender() == runner
             && self.flags == 0
-            && is_known(manifest, self.receiver())
+            && self.receiver().is_among(manifest.endpoints.len())
             && self.receiver() != runner
     }
 

@@ -10,14 +10,11 @@ ghost use Rattle.ffa_model.specs.State.{is_known_among};
 ghost use Rattle.ffa_rxtx.specs.Parts.{with_rx_bytes};
 ghost use Rattle.ffa_messages.specs.Parts.{AreInRam, has_free_rx, is_header_from, is_whole, receiver_in, sent_in, take_part};
 
-use crate::parties::{has_indirect_messages, is_known};
+use crate::parties::has_indirect_messages;
 use byteorder::{ByteOrder, LittleEndian};
 use ffa_model::{EndpointId, ErrorCode, Manifest, PageNo};
 use ffa_physmem::{PAGE_SIZE, PhysMem};
 use ffa_rxtx::Buffers;
-
-#[cfg(test)]
-mod tests;
 
 /// How many bytes the header of a message has.
 const HEADER_SIZE: u32 = 20;
@@ -81,7 +78,7 @@ impl MessageHeader {
         self.flags == 0
             && self.reserved == 0
             && self.sender == caller
-            && is_known(manifest, self.receiver)
+            && self.receiver.is_among(manifest.endpoints.len())
             && self.receiver != caller
     }
 

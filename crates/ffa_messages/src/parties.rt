@@ -1,19 +1,10 @@
-//! Endpoints by their identifiers: which there are, and what each takes part in.
-ghost use Rattle.std.specs.Prelude.{◌≡◌, length, map};
+//! What each endpoint takes part in.
+ghost use Rattle.std.specs.Prelude.{◌≡◌, map};
 ghost use Rattle.ffa_model.specs.First.{party_of};
-ghost use Rattle.ffa_model.specs.State.{has_property, is_known_among, properties_among};
+ghost use Rattle.ffa_model.specs.State.{has_property, properties_among};
 
 use bitflags::Flags;
 use ffa_model::{EndpointId, Manifest, Properties};
-
-/// Whether an identifier names an endpoint of the manifest.
-pub fn is_known(manifest: &Manifest, endpoint: EndpointId) -> bool
-    ensures { result ≡ is_known_among (length manifest.now.endpoints.items) endpoint.0 }
-{
-    let is_partition = endpoint > EndpointId::MANAGER
-        && endpoint.place() < manifest.endpoints.len();
-    endpoint == EndpointId(0) || is_partition
-}
 
 // What an endpoint takes part in. An identifier that is no endpoint's is read at its place, so each up to 0x8000 as the
 // normal world's; where the manifest has no such place it takes part in nothing.

@@ -45,7 +45,7 @@ find-misses test (y ∷ ys) x is among =
           ] refl among
     ] refl is
 
-find_none : (test : ℕ → Bool) (xs : List ℕ) → ((x : ℕ) → test x ≡ false) → find test xs ≡ None
+pub find_none : (test : ℕ → Bool) (xs : List ℕ) → ((x : ℕ) → test x ≡ false) → find test xs ≡ None
 find_none test [] never = refl
 find_none test (x ∷ xs) never = rw (never x) (find_none test xs never)
 

@@ -4,7 +4,6 @@ pub mod Owners
 pub mod Written
 pub mod Places
 pub mod Named
-pub mod Served
 pub mod Guards
 pub mod Handles
 pub mod Bitmaps
@@ -22,3 +21,5 @@ pub mod Links
 pub mod Chains
 pub mod Sounds
 pub mod Sets
+pub mod FirstChain
+pub mod ResponseSize

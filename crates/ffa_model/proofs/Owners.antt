@@ -15,6 +15,7 @@ use Rattle.ffa_model.specs.Regions.{has_page, right_in, regions_at, owned_region
 use Rattle.ffa_model.specs.State.{Page}
 use Rattle.ffa_model.specs.First.{page_with_bytes}
 use Rattle.ffa_model.specs.Access.{right_of}
+use Rattle.ffa_model.proofs.Places.{place-identifier}
 
 -- the regions of an endpoint that is there, and of none
 pub regions_at-there : (es : List Endpoint) (i : ℕ) (e : Endpoint) → e ≡ get_or es i e → i < length es → regions_at es i ≡ e.regions.items
@@ -230,12 +231,6 @@ owned-behind base blocks n es p bytes page placed is = of (find (has base p) (ow
         omega arith
 
 -- each owner is the endpoint at its place
-place-identifier : (i : ℕ) → (identifier (place (identifier i)) == identifier i) ≡ true
-place-identifier zero = refl
-place-identifier (suc i) =
-    let at : place (0x8001 + i) ≡ suc i = omega arith in
-    eq-eqb (identifier (place (0x8001 + i))) (0x8001 + i) (ap identifier at)
-
 all-named : (k : ℕ) (es : List Endpoint) → list_all (λ (x : ℕ × Region). identifier (place x.0) == x.0) (owned_from k es) ≡ true
 all-named k [] = refl
 all-named k (e ∷ es) =
@@ -244,7 +239,7 @@ all-named k (e ∷ es) =
   where
     each : (rs : List Region) → list_all (λ (r : Region). identifier (place (identifier k)) == identifier k) rs ≡ true
     each [] = refl
-    each (r ∷ rs) = rw (place-identifier k) (each rs)
+    each (r ∷ rs) = rw (eq-eqb (identifier (place (identifier k))) (identifier k) (ap identifier (place-identifier k))) (each rs)
 
 -- who is no endpoint has no page
 pub right-unnamed : (base : ℕ) (es : List Endpoint) (p e : ℕ) (bytes : List ℕ) → (identifier (place e) ≡ e → ⊥) → right_of e (page_with_bytes base es p bytes) None ≡ None

@@ -1,10 +1,18 @@
--- Identifiers of endpoints, by their places.
-use Rattle.std.proofs.Common.{◌≡◌, ◌∙◌, ◌⊎◌, ℕ, suc, ◌+◌, ◌-◌, ◌<◌, ◌≤◌, true, inl, inr, sym, ap, arith}
+-- Identifiers of endpoints, and their places.
+use Rattle.std.proofs.Common.{◌≡◌, ◌∙◌, ◌⊎◌, ℕ, zero, suc, ◌+◌, ◌-◌, ◌<◌, ◌≤◌, true, inl, inr, refl, sym, ap, arith}
 use Rattle.std.specs.Prelude.{◌==◌}
 use Rattle.std.proofs.lemmas.Bool.{and_parts, eqb-true, ltb-true, or_cases}
 use Rattle.std.proofs.lemmas.Bool.Decides.{nat_tests}
 use Rattle.ffa_model.specs.Identifiers.{identifier, place}
 use Rattle.ffa_model.specs.State.{is_partition_among, is_known_among}
+
+-- an identifier's place gives it back
+pub place-identifier : (i : ℕ) → place (identifier i) ≡ i
+place-identifier zero = refl
+place-identifier (suc i) = omega arith
+
+pub same-identifier : (i j : ℕ) → identifier i ≡ identifier j → i ≡ j
+same-identifier i j same = sym (place-identifier i) ∙ ap place same ∙ place-identifier j
 
 -- a partition's identifier is above the manager's, and its place is an endpoint's
 pub partition-place : (n e : ℕ) → is_partition_among n e ≡ true → (0x8000 < e) × (place e < n)

@@ -1,4 +1,5 @@
--- Loads, stores and fetches over the walk, of any bytes in RAM.
+-- Loads, stores and fetches over the walk, of any bytes in RAM. What an access comes to is said of what a walk answered,
+-- so that it can be said of an answer that was kept, too.
 use Rattle.std.specs.Prelude.{ℕ, ◌-◌, ◌/◌, ◌%◌, Bool, ◌==◌, if◌then◌else◌, List, Result, Ok, Err, ⊤}
 use Rattle.byteorder.specs.Endian.{little_bytes}
 use Rattle.ffa_model.specs.Ram.{Ram, page_of, with_page, number_in, with_bytes}
@@ -39,9 +40,12 @@ at_leaf ram allowed (Err fault) = Err fault
 at_leaf ram allowed (Ok leaf) =
     if allowed leaf then (if is_in_ram ram leaf.phys then Ok leaf.phys else Err OutsideRam) else Err Permission
 
-unfoldable pub reach : Ram → ℕ → ℕ → ℕ → (Leaf → Bool) → Result ℕ FaultKind
-reach ram root address size allowed =
-    if address % size == 0 then at_leaf ram allowed (walk ram root address) else Err Alignment
+-- where an access of this size ends, by what a walk of its address answered, and over the tables at a root
+unfoldable pub reach_by : Ram → Answer → ℕ → ℕ → (Leaf → Bool) → Result ℕ FaultKind
+reach_by ram walked address size allowed = if address % size == 0 then at_leaf ram allowed walked else Err Alignment
+
+abbrev pub reach : Ram → ℕ → ℕ → ℕ → (Leaf → Bool) → Result ℕ FaultKind
+reach ram root address size allowed = reach_by ram (walk ram root address) address size allowed
 
 -- what an access answers: something of the physical address where it ends, or the fault
 abbrev pub at_end : {X : Type 0} → (ℕ → X) → Result ℕ FaultKind → Result X FaultKind
@@ -49,12 +53,19 @@ at_end value (Ok physical) = Ok (value physical)
 at_end value (Err fault) = Err fault
 
 -- what a load or a fetch of n bytes gives
+abbrev pub loaded_by : Ram → Answer → ℕ → ℕ → (Leaf → Bool) → Result ℕ FaultKind
+loaded_by ram walked address n allowed =
+    at_end (λ physical. number_in_ram ram physical n) (reach_by ram walked address n allowed)
+
 abbrev pub loaded : Ram → ℕ → ℕ → ℕ → (Leaf → Bool) → Result ℕ FaultKind
-loaded ram root address n allowed = at_end (λ physical. number_in_ram ram physical n) (reach ram root address n allowed)
+loaded ram root address n allowed = loaded_by ram (walk ram root address) address n allowed
 
 -- whether a store of n bytes is done, or its fault
+abbrev pub store_answer_by : Ram → Answer → ℕ → ℕ → Result ⊤ FaultKind
+store_answer_by ram walked address n = at_end (λ physical. tt) (reach_by ram walked address n may_store_to)
+
 abbrev pub store_answer : Ram → ℕ → ℕ → ℕ → Result ⊤ FaultKind
-store_answer ram root address n = at_end (λ physical. tt) (reach ram root address n may_store_to)
+store_answer ram root address n = store_answer_by ram (walk ram root address) address n
 
 -- the RAM with other bytes where an access ends: a fault changes nothing
 abbrev pub with_bytes_reached : Ram → List ℕ → Result ℕ FaultKind → Ram
@@ -62,5 +73,9 @@ with_bytes_reached ram bytes (Ok physical) = with_bytes_at ram physical bytes
 with_bytes_reached ram bytes (Err fault) = ram
 
 -- the RAM after a store of a number's lowest n bytes
+abbrev pub ram_after_store_by : Ram → Answer → ℕ → ℕ → ℕ → Ram
+ram_after_store_by ram walked address n value =
+    with_bytes_reached ram (little_bytes n value) (reach_by ram walked address n may_store_to)
+
 abbrev pub ram_after_store : Ram → ℕ → ℕ → ℕ → ℕ → Ram
-ram_after_store ram root address n value = with_bytes_reached ram (little_bytes n value) (reach ram root address n may_store_to)
+ram_after_store ram root address n value = ram_after_store_by ram (walk ram root address) address n value

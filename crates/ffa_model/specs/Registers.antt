@@ -1,7 +1,6 @@
--- Which calls there are, which of them are served, and their arguments in the registers (DEN0028, 2; DEN0077A, 11 to 16).
+-- Which calls there are, and their arguments in the registers (DEN0028, 2; DEN0077A, 11 to 16).
 -- One table says it all: for reading a call, for FFA_FEATURES and for the step.
-use Rattle.std.specs.Prelude.{ℕ, ◌+◌, ◌%◌, ◌^◌, ◌==◌, Bool, true, false, ◌&&◌, ◌||◌, List, [], ◌∷◌, Option, Some, None, find, slice_index, if◌then◌else◌}
-use Rattle.std.specs.Option.{option_map_or}
+use Rattle.std.specs.Prelude.{ℕ, ◌+◌, ◌%◌, ◌^◌, ◌==◌, Bool, true, false, ◌&&◌, ◌||◌, List, [], ◌∷◌, Option, Some, None, find, is_some, slice_index, if◌then◌else◌}
 use Rattle.ffa_model.specs.declared.call.Call.{Call}
 use Rattle.ffa_model.specs.declared.call.Call.TheVariants.{Version, Features, RxRelease, RxtxMap, RxtxUnmap, PartitionInfoGet, IdGet, MsgWait, Yield, Run, DirectRequest, DirectResponse, MemDonate, MemLend, MemShare, MemRetrieve, MemRelinquish, MemReclaim, BitmapCreate, BitmapDestroy, NotificationBind, NotificationUnbind, NotificationSet, NotificationGet, SpmIdGet, MsgSend2, Unknown}
 
@@ -9,19 +8,18 @@ use Rattle.ffa_model.specs.declared.call.Call.TheVariants.{Version, Features, Rx
 abbrev pub low : ℕ → ℕ
 low x = x % 2 ^ 32
 
--- A call: its 32-bit identifier, whether it also has the 64-bit form, whether it is served, and what it is of its
--- arguments: w gives a register's low half, x the whole register in the 64-bit form and else its low half.
+-- A call: its 32-bit identifier, whether it also has the 64-bit form, and what it is of its arguments: w gives a
+-- register's low half, x the whole register in the 64-bit form and else its low half.
 pub record Function : Type 0 where
   pub function : ℕ
   pub is_wide : Bool
-  pub is_served : Bool
   pub call : (ℕ → ℕ) → (ℕ → ℕ) → Call
 
 abbrev pub narrow : ℕ → ((ℕ → ℕ) → Call) → Function
-narrow function call = record { function = function; is_wide = false; is_served = true; call = λ w x. call w }
+narrow function call = record { function = function; is_wide = false; call = λ w x. call w }
 
 abbrev pub wide : ℕ → ((ℕ → ℕ) → (ℕ → ℕ) → Call) → Function
-wide function call = record { function = function; is_wide = true; is_served = true; call = call }
+wide function call = record { function = function; is_wide = true; call = call }
 
 abbrev pub payload : (ℕ → ℕ) → List ℕ
 payload x = x 3 ∷ x 4 ∷ x 5 ∷ x 6 ∷ x 7 ∷ []
@@ -67,9 +65,9 @@ is_form_of w0 f = w0 == f.function || (f.is_wide && w0 == wide_of f.function)
 abbrev pub function_of : ℕ → Option Function
 function_of w0 = find (is_form_of w0) functions
 
--- whether a number is the identifier of a call that is served
-abbrev pub is_served : ℕ → Bool
-is_served w0 = option_map_or (λ (f : Function). f.is_served) (function_of w0) false
+-- whether a number is the identifier of a call
+abbrev pub is_function : ℕ → Bool
+is_function w0 = is_some (function_of w0)
 
 abbrev pub called : List ℕ → Option Function → Call
 called x None = Unknown
@@ -79,7 +77,3 @@ called x (Some f) =
 -- the call in the eight registers
 unfoldable pub decode : List ℕ → Call
 decode x = called x (function_of (low (slice_index x 0)))
-
--- the call that the registers ask for, where it is served
-abbrev pub served_call : List ℕ → Call
-served_call x = if is_served (low (slice_index x 0)) then decode x else Unknown

@@ -10,7 +10,7 @@ use Rattle.ffa_model.specs.declared.call.Reply.TheVariants.{Version, Error}
 use Rattle.ffa_model.specs.Bits.{bits, is_set}
 use Rattle.ffa_model.specs.Identifiers.{manager, identifier}
 use Rattle.ffa_model.specs.Manifest.{is_nil}
-use Rattle.ffa_model.specs.Registers.{is_served}
+use Rattle.ffa_model.specs.Registers.{is_function}
 use Rattle.ffa_model.specs.State.{State, Party, buffers_of}
 use Rattle.ffa_model.specs.Buffers.{filled, is_full}
 use Rattle.ffa_model.specs.Calls.{Service, success}
@@ -19,7 +19,7 @@ abbrev pub version_reply : ℕ → Reply
 version_reply version = if not (is_set 31 version) && bits 30 16 version == 1 then Version 0x10001 else Version 0xFFFFFFFF
 
 abbrev pub features_reply : ℕ → Reply
-features_reply function = if is_served function then success 0 0 else Error NotSupported
+features_reply function = if is_function function then success 0 0 else Error NotSupported
 
 abbrev pub id_reply : State → Reply
 id_reply s = success s.runner 0

@@ -9,7 +9,7 @@ use Rattle.ffa_model.specs.declared.call.Reply.TheVariants.{Error}
 use Rattle.ffa_model.specs.declared.call.Call as calls
 use Rattle.ffa_model.specs.declared.call.Call.TheVariants.{Version, Features, RxRelease, RxtxMap, RxtxUnmap, PartitionInfoGet, IdGet, MsgWait, Yield, Run, DirectRequest, DirectResponse, MemDonate, MemLend, MemShare, MemRetrieve, MemRelinquish, MemReclaim, BitmapCreate, BitmapDestroy, NotificationBind, NotificationUnbind, NotificationSet, NotificationGet, SpmIdGet, MsgSend2, Unknown}
 use Rattle.ffa_model.specs.State.{State}
-use Rattle.ffa_model.specs.Registers.{served_call}
+use Rattle.ffa_model.specs.Registers.{decode}
 use Rattle.ffa_model.specs.Calls.{Service, Stepped, replying, served}
 use Rattle.ffa_model.specs.Memory.{load, store, fetch}
 use Rattle.ffa_model.specs.Setup.{version_reply, features_reply, id_reply, spm_id_reply, info_get}
@@ -60,7 +60,7 @@ serve s call = served s (service s call)
 
 -- one operation of the runner
 abbrev pub step : State → Op → Stepped
-step s (Call x) = serve s (served_call x)
+step s (Call x) = serve s (decode x)
 step s (Load addr size) = load s addr size
 step s (Store addr size value) = store s addr size value
 step s (Fetch addr) = fetch s addr

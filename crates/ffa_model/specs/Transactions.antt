@@ -1,6 +1,6 @@
 -- Memory management transactions that are open (DEN0077A, 5): their handles, who holds them, and the most that a
 -- receiver may hold.
-use Rattle.std.specs.Prelude.{ℕ, ◌+◌, ◌*◌, ◌^◌, ◌==◌, Bool, false, ◌&&◌, List, length, filter, find, Option, slice_index, slice_set, unwrap_or, if◌then◌else◌}
+use Rattle.std.specs.Prelude.{ℕ, ◌+◌, ◌*◌, ◌==◌, Bool, false, ◌&&◌, List, length, filter, find, Option, slice_index, slice_set, unwrap_or, if◌then◌else◌}
 use Rattle.std.specs.Ordering.{nat_cmp}
 use Rattle.std.specs.List.{list_all}
 use Rattle.std.specs.Option.{option_and_then, option_map}
@@ -12,6 +12,7 @@ use Rattle.ffa_model.specs.declared.rights.Kind.{Kind}
 use Rattle.ffa_model.specs.declared.rights.Kind.TheVariants.{Share, Lend, Donate}
 use Rattle.ffa_model.specs.declared.transaction.Range.{Range}
 use Rattle.ffa_model.specs.declared.transaction.Receiver.{Receiver}
+use Rattle.ffa_model.specs.Bits.{word_of_halves}
 use Rattle.ffa_model.specs.Identifiers.{place}
 use Rattle.ffa_model.specs.Lists.{listed}
 use Rattle.ffa_model.specs.Rights.{may_fetch, may_store}
@@ -54,7 +55,7 @@ transfer total fragment address pages = record { total = total; fragment = fragm
 -- HANDLES
 -- the sender in the high half, and in the low half which of its sends it is, counted from 1
 abbrev pub handle_of : ℕ → ℕ → ℕ
-handle_of e number = e * 2 ^ 32 + number
+handle_of e number = word_of_halves number e
 
 abbrev pub sends_of : Offers → ℕ → ℕ
 sends_of o e = slice_index o.sent (place e)

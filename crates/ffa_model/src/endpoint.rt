@@ -1,7 +1,9 @@
 //! Endpoints, pages and regions.
 ghost use Rattle.std.specs.Prelude.{⊤, true, ◌≡◌, ◌<◌, ◌^◌, [], ◌∷◌, codes};
+ghost use Rattle.ffa_model.specs.Bits.{high_half, low_half};
 ghost use Rattle.ffa_model.specs.Identifiers.{identifier, place};
 ghost use Rattle.ffa_model.specs.Regions.{has_page, right_in};
+ghost use Rattle.ffa_model.specs.State.{is_known_among, is_partition_among};
 ghost use Rattle.ffa_model.specs.Uuid.{is_uuid};
 
 use crate::rights::Rights;
@@ -29,12 +31,40 @@ impl EndpointId {
         }
     }
 
+    /// The identifier in the high half of a word that names two endpoints.
+    pub fn in_high_half(word: u32) -> EndpointId
+        ensures { result.0 ≡ high_half word }
+    {
+        EndpointId((word / 0x1_0000) as u16)
+    }
+
+    /// The identifier in the low half of a word that names two endpoints.
+    pub fn in_low_half(word: u32) -> EndpointId
+        ensures { result.0 ≡ low_half word }
+    {
+        EndpointId((word % 0x1_0000) as u16)
+    }
+
     /// The place in the manifest of the endpoint with this identifier. Each identifier up to 0x8000 has place 0, the normal
-    /// world's: whether it names an endpoint is to be tested first.
+    /// world's: whether it names an endpoint is to be tested first, by `is_among`.
     pub fn place(self) -> usize
         ensures { result ≡ place self.0 }
     {
         self.0.saturating_sub(0x8000) as usize
+    }
+
+    /// Whether this names an endpoint of a machine that has so many of them.
+    pub fn is_among(self, endpoints: usize) -> bool
+        ensures { result ≡ is_known_among endpoints self.0 }
+    {
+        self == EndpointId(0) || self.is_partition_among(endpoints)
+    }
+
+    /// Whether this names a partition of a machine that has so many endpoints.
+    pub fn is_partition_among(self, endpoints: usize) -> bool
+        ensures { result ≡ is_partition_among endpoints self.0 }
+    {
+        self > EndpointId::MANAGER && self.place() < endpoints
     }
 }
 

@@ -10,11 +10,11 @@ use Rattle.ffa_model.specs.Bits.{bits_of, is_set}
 use Rattle.ffa_model.specs.Identifiers.{identifier, place}
 use Rattle.ffa_model.specs.Notifications.{binding, bindings, class_of, class_of_entry, receiver_bit, receiver_of_entry}
 use Rattle.ffa_model.specs.State.{is_known_among}
-use Rattle.ffa_model.proofs.Places.{known-named, known-place}
+use Rattle.ffa_model.proofs.Places.{known-named, known-place, place-identifier, same-identifier}
 use Rattle.ffa_notify.specs.Stored.{bit_of, bound_in, entry, has_binding, has_pending_bit, is_asked, pending_in}
 use Rattle.ffa_notify.proofs.Asked.{asked-at, asked-before, asked-behind}
 use Rattle.ffa_notify.proofs.Bits.{set-zero}
-use Rattle.ffa_notify.proofs.Universe.{all-is, contains-none, place-identifier}
+use Rattle.ffa_notify.proofs.Universe.{all-is, contains-none}
 use Rattle.ffa_notify.proofs.Changes.{AreRead, contains-bit, set-less, set-more, set-retained}
 
 pub neither : (b : Bool) → (b && false) ≡ false
@@ -25,9 +25,6 @@ as-before : (b : Bool) → (b && true) ≡ b
 as-before true = refl
 as-before false = refl
 
-same-places : (i j : ℕ) → identifier i ≡ identifier j → i ≡ j
-same-places i j same = sym (place-identifier i) ∙ ap place same ∙ place-identifier j
-
 pub bound-read : (n : ℕ) → n ≤ 8 → AreRead entry has_binding 8 n
 bound-read n few = record {
   reads = λ words i j k t. is_set k (get_or words (8 * place-identifier i t + place-identifier j t) 0);
@@ -35,7 +32,7 @@ bound-read n few = record {
       let first : identifier i ≡ identifier i' = cc in
       let last : identifier j ≡ identifier j' = cc in
       let bit : k ≡ k' = cc in
-      (same-places i i' first, same-places j j' last, bit);
+      (same-identifier i i' first, same-identifier j j' last, bit);
   one_place = λ i j i' j' lt lt' same. (omega arith, omega arith);
 }
 
@@ -46,7 +43,7 @@ pending-read = record {
       let first : identifier i ≡ identifier i' = cc in
       let class : j ≡ j' = cc in
       let bit : k ≡ k' = cc in
-      (same-places i i' first, class, bit);
+      (same-identifier i i' first, class, bit);
   one_place = λ i j i' j' lt lt' same. (omega arith, omega arith);
 }
 

@@ -1,19 +1,14 @@
 -- All bindings and all bits that there may be, and the sets that words mean among them.
-use Rattle.std.proofs.Common.{◌≡◌, ◌∙◌, ℕ, zero, suc, ◌<◌, Bool, true, false, List, map, sym, ap, subst, arith, refl}
+use Rattle.std.proofs.Common.{◌≡◌, ◌∙◌, ℕ, ◌<◌, Bool, true, false, List, map, sym, ap, subst, refl}
 use Rattle.std.specs.Prelude.{◌&&◌}
 use Rattle.std.specs.List.{flat_map, list_any}
 use Rattle.std.specs.Ordering.{eq_by_cmp, nat_cmp}
 use Rattle.std.specs.Cmp.Lexicographic.{slice_cmp}
 use Rattle.std.specs.FinSet as finite_set
 use Rattle.std.proofs.lemmas.Bool.{and_parts, false≢true}
-use Rattle.ffa_model.specs.Identifiers.{identifier, place}
 use Rattle.ffa_model.specs.Lists.{listed}
 use Rattle.ffa_model.proofs.Sets.{Bits, among, among-joined, among-mapped, any-found, any-listed, bits_from, contains-listed, contains-retained, same-itself, same_bits, same_elements}
 use Rattle.ffa_notify.specs.Stored.{entries}
-
-pub place-identifier : (i : ℕ) → place (identifier i) ≡ i
-place-identifier zero = refl
-place-identifier (suc i) = omega arith
 
 -- lists of lists, three indexes deep
 module _ (f : ℕ → ℕ → ℕ → List ℕ) (l m n : ℕ) where

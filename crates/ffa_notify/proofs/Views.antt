@@ -12,13 +12,9 @@ use Rattle.ffa_model.specs.Identifiers.{place}
 use Rattle.ffa_model.specs.Notifications.{Notifications, binding, class_of, has_bitmaps_in, is_bound, is_pending, receiver_bit, with_bound, with_pending, without_bitmaps, without_bound, without_pending}
 use Rattle.ffa_model.specs.State.{is_known_among}
 use Rattle.ffa_model.proofs.Places.{known-place}
-use Rattle.ffa_model.proofs.Written.{refill-whole}
+use Rattle.ffa_model.proofs.Written.{refill-set, refill-whole}
 use Rattle.ffa_notify.specs.Stored.{IsWords, Words, bound_in, is_asked, notifications_in, pending_in}
 use Rattle.ffa_notify.proofs.Stores.{bound-at, bound-emptied, bound-less, bound-more, bound-other_class, pending-asked, pending-at, pending-more}
-
--- a list of which a slice of all elements was written at one place
-written : {X : Type 0} (xs ys : List X) (i j : ℕ) (y : X) → ys ≡ xs → i ≡ j → refill (length xs) xs (set ys i y) ≡ set xs j y
-written {X} xs ys i j y same at = refill-whole xs (set ys i y) (length-set ys i y ∙ ap length same) ∙ (λ t. set (same t) (at t) y)
 
 module _ (w : Words) (are : IsWords w) (v : Notifications) (is : notifications_in w ≡ v) where
   abbrev n : ℕ
@@ -50,12 +46,12 @@ module _ (w : Words) (are : IsWords w) (v : Notifications) (is : notifications_i
         ∙ (λ t. finite_set.contains (is t).bound (binding r (class_of s) k s))
 
     pub bound-kept : (y : ℕ) → length (refill (length w.bound) w.bound (set ws (8 * i + j) y)) ≡ 8 * n
-    bound-kept y = ap length (written w.bound ws (8 * i + j) (8 * i + j) y same refl) ∙ length-set w.bound (8 * i + j) y ∙ are.bound
+    bound-kept y = ap length (refill-set w.bound ws (8 * i + j) (8 * i + j) y same refl) ∙ length-set w.bound (8 * i + j) y ∙ are.bound
 
     pub bound-changed : (bitmap : ℕ) → notifications_in (record w { bound = refill (length w.bound) w.bound (set ws (8 * i + j) (bit_or (get_or ws (8 * i + j) 0) bitmap)) }) ≡ with_bound v r s (bits_of bitmap)
     bound-changed bitmap =
         ap (λ words. record (notifications_in w) { bound = bound_in n words })
-        (written w.bound ws (8 * i + j) (8 * place r + place s) (bit_or (get_or ws (8 * i + j) 0) bitmap) same (λ t. 8 * at_i t + at_j t)
+        (refill-set w.bound ws (8 * i + j) (8 * place r + place s) (bit_or (get_or ws (8 * i + j) 0) bitmap) same (λ t. 8 * at_i t + at_j t)
         ∙ (λ t. set w.bound (8 * place r + place s) (bit_or (get_or (same t) (8 * at_i t + at_j t) 0) bitmap)))
         ∙ ap (λ b. record (notifications_in w) { bound = b }) (bound-more n w.bound are.some are.few r s (known r known_r) (known s known_s) are.bound bitmap)
         ∙ (λ t. with_bound (is t) r s (bits_of bitmap))
@@ -63,7 +59,7 @@ module _ (w : Words) (are : IsWords w) (v : Notifications) (is : notifications_i
     pub bound-cleared : (bitmap : ℕ) → bitmap < 2 ^ 64 → notifications_in (record w { bound = refill (length w.bound) w.bound (set ws (8 * i + j) (bit_and (get_or ws (8 * i + j) 0) (bit_not w64 bitmap))) }) ≡ without_bound v r s (bits_of bitmap)
     bound-cleared bitmap fits =
         ap (λ words. record (notifications_in w) { bound = bound_in n words })
-        (written w.bound ws (8 * i + j) (8 * place r + place s) (bit_and (get_or ws (8 * i + j) 0) (bit_not w64 bitmap)) same (λ t. 8 * at_i t + at_j t)
+        (refill-set w.bound ws (8 * i + j) (8 * place r + place s) (bit_and (get_or ws (8 * i + j) 0) (bit_not w64 bitmap)) same (λ t. 8 * at_i t + at_j t)
         ∙ (λ t. set w.bound (8 * place r + place s) (bit_and (get_or (same t) (8 * at_i t + at_j t) 0) (bit_not w64 bitmap))))
         ∙ ap (λ b. record (notifications_in w) { bound = b }) (bound-less n w.bound are.some are.few r s (known r known_r) (known s known_s) are.bound bitmap fits)
         ∙ (λ t. without_bound (is t) r s (bits_of bitmap))
@@ -83,13 +79,13 @@ module _ (w : Words) (are : IsWords w) (v : Notifications) (is : notifications_i
         ∙ (λ t. finite_set.contains (is t).pending (receiver_bit r class k))
 
     pub pending-kept : (y : ℕ) → length (refill (length w.pending) w.pending (set ws (3 * i + j) y)) ≡ 3 * n
-    pending-kept y = ap length (written w.pending ws (3 * i + j) (3 * i + j) y same refl) ∙ length-set w.pending (3 * i + j) y ∙ are.pending
+    pending-kept y = ap length (refill-set w.pending ws (3 * i + j) (3 * i + j) y same refl) ∙ length-set w.pending (3 * i + j) y ∙ are.pending
 
     pub pending-changed : has_bitmaps_in v r ≡ true → (bitmap : ℕ)
         → notifications_in (record w { pending = refill (length w.pending) w.pending (set ws (3 * i + j) (bit_or (get_or ws (3 * i + j) 0) bitmap)) }) ≡ with_pending v r class (bits_of bitmap)
     pending-changed has bitmap =
         ap (λ words. record (notifications_in w) { pending = pending_in n words })
-        (written w.pending ws (3 * i + j) (3 * place r + class) (bit_or (get_or ws (3 * i + j) 0) bitmap) same (λ t. 3 * at_i t + at_j t)
+        (refill-set w.pending ws (3 * i + j) (3 * place r + class) (bit_or (get_or ws (3 * i + j) 0) bitmap) same (λ t. 3 * at_i t + at_j t)
         ∙ (λ t. set w.pending (3 * place r + class) (bit_or (get_or (same t) (3 * at_i t + at_j t) 0) bitmap)))
         ∙ ap (λ b. record (notifications_in w) { pending = b }) (pending-more n w.pending are.some r class (known r known_r) few are.pending bitmap)
         ∙ (λ t. record (is t) { pending = finite_set.union (is t).pending (finite_set.from_list (map (receiver_bit r class) (bits_of bitmap))) })
@@ -105,7 +101,7 @@ module _ (w : Words) (are : IsWords w) (v : Notifications) (is : notifications_i
 
     pub has-changed : (b : Bool) → notifications_in (record w { has = refill (length w.has) w.has (set hs i b) }) ≡ record v { bitmaps = set v.bitmaps (place r) b }
     has-changed b =
-        ap (λ has. notifications_in (record w { has = has })) (written w.has hs i (place r) b same at_i)
+        ap (λ has. notifications_in (record w { has = has })) (refill-set w.has hs i (place r) b same at_i)
         ∙ ap (λ count. record (notifications_in w) { bitmaps = set w.has (place r) b; bound = bound_in count w.bound; pending = pending_in count w.pending }) (length-set w.has (place r) b)
         ∙ (λ t. record (is t) { bitmaps = set (is t).bitmaps (place r) b })
 
@@ -114,7 +110,7 @@ module _ (w : Words) (are : IsWords w) (v : Notifications) (is : notifications_i
       → ((k : ℕ) → get_or after k 0 ≡ (if nat_lt k 8 then 0 else get_or bs k 0))
       → notifications_in (record w { has = refill (length w.has) w.has (set hs 0 false); bound = refill (length w.bound) w.bound after }) ≡ without_bitmaps v 0
   taken-away hs same bs after alike count cleared =
-      (λ t. notifications_in (record w { has = written w.has hs 0 0 false same refl t; bound = refill-whole w.bound after (count ∙ ap length alike) t }))
+      (λ t. notifications_in (record w { has = refill-set w.has hs 0 0 false same refl t; bound = refill-whole w.bound after (count ∙ ap length alike) t }))
       ∙ ap (λ m. record (notifications_in w) { bitmaps = set w.has 0 false; bound = bound_in m after; pending = pending_in m w.pending }) (length-set w.has 0 false)
       ∙ ap (λ b. record (notifications_in w) { bitmaps = set w.has 0 false; bound = b })
       (bound-emptied n w.bound after are.few (λ k. cleared k ∙ ap (λ (list : List ℕ). if nat_lt k 8 then 0 else get_or list k 0) alike))

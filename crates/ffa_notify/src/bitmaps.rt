@@ -42,8 +42,8 @@ impl Model for Bitmaps {
 }
 
 impl Bitmaps {
-    /// Whether an endpoint has bitmaps.
-    pub fn has(&self, endpoint: EndpointId) -> bool
+    // Whether an endpoint has bitmaps.
+    pub(crate) fn has(&self, endpoint: EndpointId) -> bool
         ensures { result ≡ has_bitmaps_in self.now endpoint.0 }
     {
         let has = self.has.as_slice();

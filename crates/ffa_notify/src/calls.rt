@@ -91,8 +91,8 @@ impl Bitmaps {
         ensures kept { OnErr result (self.new ≡ self.old) }
         ensures bound { OnOk result (self.new ≡ with_bound self.old caller.0 (high_half word) (bits_of bitmap)) }
     {
-        let sender = high(word);
-        if !self.is_between(caller, low(word), sender) {
+        let sender = EndpointId::in_high_half(word);
+        if !self.is_between(caller, EndpointId::in_low_half(word), sender) {
             return Err(ErrorCode::InvalidParameters);
         }
         if flags != 0 || bitmap == 0 {
@@ -123,8 +123,8 @@ impl Bitmaps {
         ensures kept { OnErr result (self.new ≡ self.old) }
         ensures unbound { OnOk result (self.new ≡ without_bound self.old caller.0 (high_half word) (bits_of bitmap)) }
     {
-        let sender = high(word);
-        if !self.is_between(caller, low(word), sender) {
+        let sender = EndpointId::in_high_half(word);
+        if !self.is_between(caller, EndpointId::in_low_half(word), sender) {
             return Err(ErrorCode::InvalidParameters);
         }
         if flags != 0 || bitmap == 0 {
@@ -156,8 +156,8 @@ impl Bitmaps {
         ensures kept { OnErr result (self.new ≡ self.old) }
         ensures pending { OnOk result (self.new ≡ with_pending self.old (low_half word) (class_of caller.0) (bits_of bitmap)) }
     {
-        let receiver = low(word);
-        if !self.is_between(caller, high(word), receiver) {
+        let receiver = EndpointId::in_low_half(word);
+        if !self.is_between(caller, EndpointId::in_high_half(word), receiver) {
             return Err(ErrorCode::InvalidParameters);
         }
         if !has_set_flags(flags) || bitmap == 0 {
@@ -184,7 +184,10 @@ impl Bitmaps {
         ensures kept { OnErr result (self.new ≡ self.old) }
         ensures cleared { OnOk result (self.new ≡ without_pending self.old caller.0 flags) }
     {
-        if low(word) != caller || high(word) != EndpointId(0) || flags > 15 {
+        if EndpointId::in_low_half(word) != caller
+            || EndpointId::in_high_half(word) != EndpointId(0)
+            || flags > 15
+        {
             return Err(ErrorCode::InvalidParameters);
         }
         if !self.has(caller) {
@@ -207,7 +210,7 @@ impl Bitmaps {
     fn is_between(&self, caller: EndpointId, own: EndpointId, other: EndpointId) -> bool
         ensures { result ≡ is_between (length self.now.bitmaps) caller.0 own.0 other.0 }
     {
-        own == caller && self.is_known(other) && other != caller
+        own == caller && other.is_among(self.endpoints()) && other != caller
     }
 }
 
@@ -223,18 +226,4 @@ fn has_set_flags(flags: u32) -> bool
     ensures { result ≡ (flags == 0 || flags == 2) }
 {
     flags == 0 || flags == DELAY_INTERRUPT
-}
-
-// The endpoint in the high half of a word.
-fn high(word: u32) -> EndpointId
-    ensures { result.0 ≡ high_half word }
-{
-    EndpointId((word / 0x1_0000) as u16)
-}
-
-// The endpoint in the low half of a word.
-fn low(word: u32) -> EndpointId
-    ensures { result.0 ≡ low_half word }
-{
-    EndpointId((word % 0x1_0000) as u16)
 }

@@ -13,13 +13,6 @@ use crate::words::{high_word, low_word};
 use ffa_model::{EndpointId, Reply};
 
 impl Bitmaps {
-    // Whether this identifies an endpoint.
-    pub(crate) fn is_known(&self, endpoint: EndpointId) -> bool
-        ensures { result ≡ is_known_among (length self.now.bitmaps) endpoint.0 }
-    {
-        endpoint == EndpointId(0) || endpoint.0 > 0x8000 && endpoint.place() < self.endpoints()
-    }
-
     // Whether a sender may get all these bits of a receiver.
     pub(crate) fn is_bindable(&self, receiver: EndpointId, sender: EndpointId, bitmap: u64) -> bool
         requires receiver { is_known_among (length self.now.bitmaps) receiver.0 ≡ true }

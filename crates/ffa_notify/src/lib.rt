@@ -9,4 +9,3 @@ mod first;
 mod words;
 
 pub use bitmaps::Bitmaps;
-pub use class::Class;

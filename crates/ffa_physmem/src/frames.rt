@@ -6,9 +6,6 @@ use crate::memory::PhysMem;
 use ffa_model::PageNo;
 use std::alloc::{AllocError, Allocator, Global};
 
-#[cfg(test)]
-mod tests;
-
 /// RAM in frames of one page each, which need not lie side by side in memory.
 #[derive(Drop)]
 pub struct FrameRam {
@@ -34,8 +31,8 @@ impl FrameRam {
     }
 }
 
-// Frames of zeros.
-fn zero_frames<A: Allocator + Copy>(
+/// This many frames of zeros. An error is that the allocator refused, and then all that was taken is given back.
+pub fn zero_frames<A: Allocator + Copy>(
     alloc: A,
     count: u32,
 ) -> Result<Vec<Box<[u8; 4096], A>, A>, AllocError>

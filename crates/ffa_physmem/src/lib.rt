@@ -8,6 +8,3 @@ pub mod memory;
 pub use flat::{FlatRam, NoMemory};
 pub use frames::FrameRam;
 pub use memory::{PAGE_SIZE, PhysMem, put_front};
-
-#[cfg(test)]
-mod tests;

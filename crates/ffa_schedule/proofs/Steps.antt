@@ -1,32 +1,24 @@
 -- What the code stores before and after a step, as run states.
-use Rattle.std.proofs.Common.{◌≡◌, ◌≢◌, ◌⊎◌, ◌∙◌, ℕ, zero, suc, ◌<◌, ◌≤◌, Bool, true, false, cond, List, [], ◌∷◌, ◌++◌, length, map-id, replicate, set, Option, Some, None, IsSomeAnd, is_some, refl, sym, ap, ap₂, subst, subst₂, inl, arith}
+use Rattle.std.proofs.Common.{◌≡◌, ◌≢◌, ◌⊎◌, ◌∙◌, ℕ, ◌<◌, ◌≤◌, Bool, true, false, cond, List, [], ◌∷◌, ◌++◌, length, replicate, set, Option, Some, None, IsSomeAnd, is_some, refl, sym, ap, ap₂, subst, subst₂, arith}
 use Rattle.std.specs.Prelude.{◌==◌, ◌||◌}
-use Rattle.std.specs.List.{list_any, refill}
-use Rattle.std.proofs.lemmas.Bool.{eqb-true, ne_eqb}
-use Rattle.std.proofs.lemmas.List.{length-map, length-replicate, set-get_or}
+use Rattle.std.specs.List.{list_any}
+use Rattle.std.proofs.lemmas.Bool.{eqb-true}
+use Rattle.std.proofs.lemmas.List.{length-map, set-get_or}
 use Rattle.ffa_model.specs.declared.endpoint.EndpointId.{EndpointId}
 use Rattle.ffa_model.specs.declared.schedule.Status.TheVariants.{Running, Waiting, Yielded, Blocked}
 use Rattle.ffa_model.specs.declared.schedule.Work.{Work}
 use Rattle.ffa_model.specs.declared.schedule.Work.TheVariants.{Run, Request}
 use Rattle.ffa_model.specs.Identifiers.{place}
-use Rattle.ffa_model.specs.First.{first_status}
-use Rattle.ffa_model.specs.Lists.{listed}
 use Rattle.ffa_model.specs.State.{is_partition_among}
 use Rattle.ffa_model.specs.RunStates.{Schedule, first_schedule, is_endpoint, is_run, is_waiting, is_yielded, requester, status_in, switched, with_work, work_in}
 use Rattle.ffa_model.specs.Sound.{IsSound, origin}
-use Rattle.ffa_model.proofs.Listed.{get_or-listed, get_or-listed_past, listed-same}
-use Rattle.ffa_model.proofs.Written.{map-refill-set}
+use Rattle.ffa_model.proofs.Listed.{get_or-listed, get_or-listed_past}
 use Rattle.ffa_model.specs.Links.{IsChain, has_link_at, identifiers_of, last_link, schedule_of, status_at, status_outside, work_at}
 use Rattle.ffa_model.proofs.Chains.{status-last, status-rest, behind, origin-before, popped, pushed, room, schedule-popped, schedule-pushed}
 use Rattle.ffa_model.proofs.Links.{identifiers-more, last-more}
 use Rattle.ffa_model.proofs.Places.{partition-place}
 use Rattle.ffa_model.proofs.Sounds.{outside-chain, sound}
-
--- an element written through a slice of all
-pub refill-set : {X : Type 0} (xs ys : List X) (i j : ℕ) (y : X) → ys ≡ xs → i ≡ j → refill (length xs) xs (set ys i y) ≡ set xs j y
-refill-set {X} xs ys i j y same at =
-    sym (map-id (refill (length xs) xs (set ys i y))) ∙ map-refill-set (λ (x : X). x) xs ys i y same
-    ∙ ap (λ (zs : List X). set zs i y) (map-id xs) ∙ ap (λ (k : ℕ). set xs k y) at
+use Rattle.ffa_model.proofs.FirstChain.{first-alone, first-schedule-sound}
 
 any-identifiers : (links : List EndpointId) (p : ℕ) → list_any (λ (link : EndpointId). place link.0 == p) links ≡ has_link_at (identifiers_of links) p
 any-identifiers [] p = refl
@@ -131,43 +123,10 @@ yields old new w own normal changed =
     subst (λ (o : Option ℕ). IsSomeAnd o (λ by. new ≡ with_work (switched old Yielded by) old.runner (Some w))) (ap origin own ∙ for-normal w normal) changed
     ∙ λ i. record (switched old Yielded 0) { works = (ap (set old.works (place old.runner)) (sym own) ∙ set-get_or old.works (place old.runner) None) i }
 
--- at first the normal world alone is in the chain, and no endpoint has work
-none-at : (n p : ℕ) → work_at (replicate n None) p ≡ None
-none-at zero p = refl
-none-at (suc n) zero = refl
-none-at (suc n) (suc p) = none-at n p
-
-first-status : (n p : ℕ) → status_at (0 ∷ []) (replicate n None) p ≡ first_status p
-first-status n zero = refl
-first-status n (suc p) =
-    status-rest (0 ∷ []) (replicate n None) (suc p) (λ h. absurd (omega arith))
-    ∙ ap₂ (λ b (w : Option Work). cond (b || false) Blocked (status_outside w)) (ne_eqb 0 (suc p) (λ h. absurd (omega arith))) (none-at n (suc p))
-
-first-chain : (n : ℕ) → 1 ≤ n → n ≤ 8 → IsChain (0 ∷ []) (replicate n None)
-first-chain n some few =
-    let size = length-replicate {A = Option Work} n None in
-    record {
-      some = omega (arith, size);
-      few = omega (arith, size);
-      begins = omega arith;
-      first = refl;
-      no_work = none-at n 0;
-      partitions = λ k lt. absurd (omega arith);
-      origins = λ k lt. absurd (omega arith);
-      once = λ i j ordered lt. absurd (omega arith);
-      outside = λ p none. inl (none-at n p);
-    }
-
+-- at first the normal world alone is in the chain
 pub first-view : (links : List EndpointId) (works : List (Option Work)) (n : ℕ) → links ≡ record { 0 = 0 } ∷ [] → works ≡ replicate n None → schedule_of (identifiers_of links) works ≡ first_schedule n
-first-view links works n links_are works_are =
-    ap₂ schedule_of (ap identifiers_of links_are) works_are
-    ∙ λ i. record (first_schedule n) {
-      statuses = (ap (λ (k : ℕ). listed k (status_at (0 ∷ []) (replicate n None))) (length-replicate {A = Option Work} n None)
-          ∙ listed-same n (status_at (0 ∷ []) (replicate n None)) first_status (λ p lt. first-status n p)) i;
-    }
+first-view links works n links_are works_are = ap₂ schedule_of (ap identifiers_of links_are) works_are ∙ first-alone n
 
 pub first-sound : (links : List EndpointId) (works : List (Option Work)) (n : ℕ) → links ≡ record { 0 = 0 } ∷ [] → works ≡ replicate n None → 1 ≤ n → n ≤ 8
     → IsSound (schedule_of (identifiers_of links) works)
-first-sound links works n links_are works_are some few =
-    subst₂ (λ (xs : List ℕ) (ws : List (Option Work)). IsSound (schedule_of xs ws)) (sym (ap identifiers_of links_are)) (sym works_are)
-    (sound (0 ∷ []) (replicate n None) (first-chain n some few))
+first-sound links works n links_are works_are some few = subst IsSound (sym (first-view links works n links_are works_are)) (first-schedule-sound n some few)

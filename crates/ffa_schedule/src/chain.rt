@@ -208,12 +208,11 @@ impl Chain {
         ensures target { IfOk result (λ target. target.0 ≡ high_half word) }
         ensures sound { IsSound self.now }
     {
-        let target = EndpointId((word / 0x1_0000) as u16);
-        let endpoints = self.works.len();
+        let target = EndpointId::in_high_half(word);
         if self.runner().0 != 0 {
             return Err(ErrorCode::Denied);
         }
-        if target <= EndpointId::MANAGER || target.place() >= endpoints || word % 0x1_0000 != 0 {
+        if !target.is_partition_among(self.works.len()) || word % 0x1_0000 != 0 {
             return Err(ErrorCode::InvalidParameters);
         }
         match self.status(target) {

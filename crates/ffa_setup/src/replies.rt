@@ -3,7 +3,7 @@ ghost use Rattle.std.specs.Prelude.{◌≡◌};
 ghost use Rattle.ffa_model.specs.Calls.{success};
 ghost use Rattle.ffa_model.specs.Setup.{version_reply, features_reply, spm_id_reply};
 
-use ffa_abi::is_served;
+use ffa_abi::is_function;
 use ffa_model::{EndpointId, ErrorCode, Reply};
 
 /// The version that is implemented: the major number in bits 30:16 and the minor one below.
@@ -24,12 +24,12 @@ pub fn version(version: u32) -> Reply
     }
 }
 
-/// FFA_FEATURES (DEN0077A, 13), by the identifier of a call in either form: whether the call is served. No call has
+/// FFA_FEATURES (DEN0077A, 13), by the identifier of a call in either form: whether there is such a call. No call has
 /// further properties.
 pub fn features(function: u32) -> Reply
     ensures { result ≡ features_reply function }
 {
-    if is_served(function) {
+    if is_function(function) {
         Reply::Success([0; 6])
     } else {
         Reply::Error(ErrorCode::NotSupported)

@@ -15,15 +15,19 @@ use Rattle.ffa_model.specs.Identifiers.{identifier, place}
 use Rattle.ffa_model.specs.Memory as memory
 use Rattle.ffa_model.specs.Memory.{access_at, accessed, fault_of, size_of, page_bytes, written}
 use Rattle.ffa_model.specs.Ram.{Ram}
-use Rattle.ffa_model.specs.Reach.{at_end, loaded, may_store_to, number_in_ram, reach, store_answer, ram_after_store, with_bytes_reached}
+use Rattle.ffa_model.specs.Reach.{at_end, loaded, loaded_by, may_store_to, number_in_ram, reach, store_answer, store_answer_by, ram_after_store, ram_after_store_by, with_bytes_reached}
 use Rattle.ffa_model.specs.Rights.{may_write, may_store}
 use Rattle.ffa_model.specs.State.{State, page_at}
+use Rattle.ffa_model.specs.Walk.{Answer, walk}
 use Rattle.ffa_model.proofs.Accepted.{accepted}
 use Rattle.ffa_model.specs.declared.operation.Op.TheVariants.{Store}
 use Rattle.ffa_model.specs.SoundState.{IsSoundState}
 use Rattle.ffa_laws.proofs.SoundOperations.{step-sound}
-use Rattle.ffa_spmc.specs.Meaning.{IsMachine, Parts, state_of}
-use Rattle.ffa_spmc.specs.Snapshot.{Snapshot}
+use Rattle.ffa_walker.specs.Offset.{KeepsOffset}
+use Rattle.ffa_walker.proofs.Offsets.{KeepsOffset-walk}
+use Rattle.ffa_spmc.specs.Meaning.{IsManager, Parts, state_of}
+use Rattle.ffa_spmc.specs.Walks.{walk_of}
+use Rattle.ffa_spmc.specs.Managed.{Managed}
 use Rattle.ffa_spmc.proofs.Held.{base_is, parties_are, size_is, runner-known, runner-named}
 use Rattle.ffa_spmc.proofs.Agreements.{agrees}
 use Rattle.ffa_spmc.proofs.Machines.{StillHasTables, tables-written}
@@ -46,7 +50,7 @@ right-of true (Some r) may none = (r, refl)
 right-of true None may none = absurd (none-some Translation (sym none))
 right-of false right may none = absurd (none-some Alignment (sym none))
 
-module _ (x : Parts) (machine : IsMachine x) where
+module _ (x : Parts) (machine : IsManager x) where
   abbrev s : State
   s = state_of x
 
@@ -126,7 +130,7 @@ module _ (x : Parts) (machine : IsMachine x) where
       ap (λ (r : Ram). state_of (record x { ram = r })) (stored-reached address size value)
       ∙ (after address (little_bytes (size_of size) value) (fault_of (address % size_of size == 0) (access_at s x.kept.chain.runner address) may_store) (size_of size) refl).1
 
-  pub store-machine : (address : ℕ) (size : Size) (value : ℕ) → IsMachine (record x { ram = ram_after_store x.ram runner_root address (size_of size) value })
+  pub store-machine : (address : ℕ) (size : Size) (value : ℕ) → IsManager (record x { ram = ram_after_store x.ram runner_root address (size_of size) value })
   store-machine address size value =
       record {
         laws = machine.laws;
@@ -146,36 +150,42 @@ module _ (x : Parts) (machine : IsMachine x) where
       ending None = refl
       ending (Some fault) = refl
 
-  -- The same as callers see it: `now` is what a contract sees of the machine, and r the root that the code took.
-  module _ (now : Snapshot) (view : record { state = s; ram = x.ram } ≡ now) (r : ℕ) (at : r ≡ root now.state (place now.state.runner)) where
-    root-is-runner : r ≡ runner_root
-    root-is-runner = at ∙ ap (λ (seen : Snapshot). root seen.state (place seen.state.runner)) (sym view)
+  -- The same as callers see it: `now` is what a contract sees of the manager, and this is what the walk of the address
+  -- answered.
+  module _ (now : Managed) (view : record { state = s; ram = x.ram } ≡ now) (address : ℕ) (walked : Answer) (is : walked ≡ walk_of now.ram now.state now.state.runner address) where
+    walked-is : walked ≡ walk x.ram runner_root address
+    walked-is = is ∙ ap (λ (seen : Managed). walk_of seen.ram seen.state seen.state.runner address) (sym view)
 
-    pub loaded-seen : (address n : ℕ) (allowed : Leaf → Bool) (may : Option Rights → Bool) (answer : Result ℕ FaultKind)
+    -- a walk keeps the place in the page
+    pub offset-kept : KeepsOffset address walked
+    offset-kept = subst (KeepsOffset address) (sym walked-is) (KeepsOffset-walk x.ram runner_root address)
+
+    pub loaded-seen : (n : ℕ) (allowed : Leaf → Bool) (may : Option Rights → Bool) (answer : Result ℕ FaultKind)
         → ((right : Rights) → allowed (record { phys = address; read = true; write = may_write right.level; exec = right.exec }) ≡ may (Some right))
-        → answer ≡ loaded x.ram r address n allowed
+        → answer ≡ loaded_by x.ram walked address n allowed
         → outcome_of answer
         ≡ (accessed (fault_of (address % n == 0) (access_at now.state now.state.runner address) may) now.state now.state (Data (memory.number_at now.state address n))).outcome
-    loaded-seen address n allowed may answer same is =
-        ap outcome_of (is ∙ ap (λ (q : ℕ). loaded x.ram q address n allowed) root-is-runner)
+    loaded-seen n allowed may answer same loaded =
+        ap outcome_of (loaded ∙ ap (λ (w : Answer). loaded_by x.ram w address n allowed) walked-is)
         ∙ loaded-is address n allowed may same
-        ∙ ap (λ (seen : Snapshot). (accessed (fault_of (address % n == 0) (access_at seen.state seen.state.runner address) may) seen.state seen.state (Data (memory.number_at seen.state address n))).outcome) view
+        ∙ ap (λ (seen : Managed). (accessed (fault_of (address % n == 0) (access_at seen.state seen.state.runner address) may) seen.state seen.state (Data (memory.number_at seen.state address n))).outcome) view
 
-    module _ (address : ℕ) (size : Size) (value : ℕ) (new : Ram) (wrote : new ≡ ram_after_store x.ram r address (size_of size) value) where
-      new-is : new ≡ ram_after_store x.ram runner_root address (size_of size) value
-      new-is = wrote ∙ ap (λ (q : ℕ). ram_after_store x.ram q address (size_of size) value) root-is-runner
+    module _ (size : Size) (value : ℕ) where
+      module _ (new : Ram) (wrote : new ≡ ram_after_store_by x.ram walked address (size_of size) value) where
+        new-is : new ≡ ram_after_store x.ram runner_root address (size_of size) value
+        new-is = wrote ∙ ap (λ (w : Answer). ram_after_store_by x.ram w address (size_of size) value) walked-is
 
-      pub machine-stored : IsMachine (record x { ram = new })
-      machine-stored = subst (λ (ram : Ram). IsMachine (record x { ram = ram })) (sym new-is) (store-machine address size value)
+        pub machine-stored : IsManager (record x { ram = new })
+        machine-stored = subst (λ (ram : Ram). IsManager (record x { ram = ram })) (sym new-is) (store-machine address size value)
 
-      pub state-stored : state_of (record x { ram = new }) ≡ (memory.store now.state address size value).state
-      state-stored =
-          ap (λ (ram : Ram). state_of (record x { ram = ram })) new-is ∙ store-state address size value
-          ∙ ap (λ (seen : Snapshot). (memory.store seen.state address size value).state) view
+        pub state-stored : state_of (record x { ram = new }) ≡ (memory.store now.state address size value).state
+        state-stored =
+            ap (λ (ram : Ram). state_of (record x { ram = ram })) new-is ∙ store-state address size value
+            ∙ ap (λ (seen : Managed). (memory.store seen.state address size value).state) view
 
-    pub answer-stored : (address : ℕ) (size : Size) (value : ℕ) (answer : Result ⊤ FaultKind) → answer ≡ store_answer x.ram r address (size_of size)
-        → done_or_fault answer ≡ (memory.store now.state address size value).outcome
-    answer-stored address size value answer is =
-        ap done_or_fault (is ∙ ap (λ (q : ℕ). store_answer x.ram q address (size_of size)) root-is-runner)
-        ∙ store-outcome address size value
-        ∙ ap (λ (seen : Snapshot). (memory.store seen.state address size value).outcome) view
+      pub answer-stored : (answer : Result ⊤ FaultKind) → answer ≡ store_answer_by x.ram walked address (size_of size)
+          → done_or_fault answer ≡ (memory.store now.state address size value).outcome
+      answer-stored answer answered =
+          ap done_or_fault (answered ∙ ap (λ (w : Answer). store_answer_by x.ram w address (size_of size)) walked-is)
+          ∙ store-outcome address size value
+          ∙ ap (λ (seen : Managed). (memory.store seen.state address size value).outcome) view

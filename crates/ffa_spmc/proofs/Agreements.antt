@@ -15,10 +15,10 @@ use Rattle.ffa_model.specs.State.{State, Page, page_at}
 use Rattle.ffa_model.specs.Access.{access}
 use Rattle.ffa_model.specs.Memory.{access_at}
 use Rattle.ffa_pages.specs.Entry.{Entry, entry_at}
-use Rattle.ffa_spmc.specs.Meaning.{IsMachine, Parts, access_by_place, state_of}
+use Rattle.ffa_spmc.specs.Meaning.{IsManager, Parts, access_by_place, state_of}
 use Rattle.ffa_spmc.proofs.Held.{base_is, parties_are, size_is, page-held, page-past, access-past}
 
-module _ (x : Parts) (machine : IsMachine x) where
+module _ (x : Parts) (machine : IsManager x) where
   abbrev s : State
   s = state_of x
 

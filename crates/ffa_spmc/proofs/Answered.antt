@@ -1,6 +1,6 @@
 -- What the machine answers to a call that a part of it has done or refused.
 use Rattle.std.proofs.Common.{◌≡◌, ◌∙◌, None, Result, Ok, Err, refl, ap}
-use Rattle.std.specs.Prelude.{⊤, IfOk, OnOk, OnErr}
+use Rattle.std.specs.Prelude.{IfOk, OnOk, OnErr}
 use Rattle.std.specs.Result.{result_err}
 use Rattle.ffa_model.specs.declared.call.Reply.{Reply}
 use Rattle.ffa_model.specs.declared.call.Reply.TheVariants.{Error}
@@ -27,7 +27,12 @@ pub done-so : {X : Type 0} (r : Result X ErrorCode) {P Q : Type 0} → (result_e
 done-so (Ok x) so p = so refl p
 done-so (Err code) so p = tt
 
-pub done-replies : (r : Result ⊤ ErrorCode) → IfOk r (λ done. success 0 0 ≡ success 0 0)
+-- of what was done
+pub done-with : {X : Type 0} (r : Result X ErrorCode) (P : X → Type 0) {Q : Type 0} → ((x : X) → result_err r ≡ None → P x → Q) → IfOk r P → OnOk r Q
+done-with (Ok x) P so p = so x refl p
+done-with (Err code) P so p = tt
+
+pub done-replies : {X : Type 0} (r : Result X ErrorCode) → IfOk r (λ done. success 0 0 ≡ success 0 0)
 done-replies (Ok done) = refl
 done-replies (Err code) = tt
 

@@ -36,7 +36,7 @@ use Rattle.ffa_model.specs.Endpoints.{have_uuids}
 use Rattle.ffa_model.specs.SoundState.{IsSoundState, are_bytes}
 use Rattle.ffa_model.specs.Uuid.{is_uuid}
 use Rattle.ffa_laws.proofs.Firsts.{first-state-sound}
-use Rattle.ffa_spmc.specs.Meaning.{AreOffers, AreOwners, HasTables, IsMachine, Parts, access_by_place, held_page, slot_names, state_of}
+use Rattle.ffa_spmc.specs.Meaning.{AreOffers, AreOwners, HasTables, IsManager, Parts, access_by_place, held_page, slot_names, state_of}
 use Rattle.ffa_spmc.proofs.Held.{access-first, page-at, page-held, parties_are}
 
 regions-each : (es : List Endpoint) (i : ℕ) → get_or (regions_of_each es) i [] ≡ regions_at es i
@@ -213,7 +213,7 @@ module _ (zeros : Ram) (x : Parts)
       subst (λ (g : Endpoint). (length g.uuid ≡ 16) × are_bytes g.uuid) same (eqb-true (length f.uuid) 16 sixteen, bytes)
   uuid-at (f ∷ fs) all (suc i) e is = uuid-at fs (and_parts (is_uuid f.uuid) (have_uuids fs) all).1 i e is
 
-  pub machine-first : IsMachine x
+  pub machine-first : IsManager x
   machine-first =
       record {
         laws = laws;

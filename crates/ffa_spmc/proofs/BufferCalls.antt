@@ -8,13 +8,13 @@ use Rattle.ffa_model.specs.Calls.{first_failure, replied, served, success}
 use Rattle.ffa_model.specs.First.{first}
 use Rattle.ffa_model.specs.State.{State, Buffers}
 use Rattle.ffa_rxtx.specs.Parts.{candidates_in}
-use Rattle.ffa_spmc.specs.Meaning.{IsMachine, Parts, state_of}
+use Rattle.ffa_spmc.specs.Meaning.{IsManager, Parts, state_of}
 use Rattle.ffa_spmc.specs.Replies.{done_or_error}
 use Rattle.ffa_spmc.proofs.Answered.{answered-by, done-replies, done-so, refused-so}
 use Rattle.ffa_spmc.proofs.Candidates.{candidates-are}
 
 -- the code's runner is that of the run states
-module _ (x : Parts) (machine : IsMachine x) (e : ℕ) (at : e ≡ x.kept.chain.runner)
+module _ (x : Parts) (machine : IsManager x) (e : ℕ) (at : e ≡ x.kept.chain.runner)
     (r : Result ⊤ ErrorCode) (list : List (Option Buffers)) (same : OnErr r (list ≡ x.kept.buffers)) where
   abbrev s : State
   s = state_of x

@@ -9,11 +9,11 @@ use Rattle.ffa_model.specs.Ram.{page_of}
 use Rattle.ffa_model.specs.State.{State, Page}
 use Rattle.ffa_pages.specs.Entry.{Entry, entry_at}
 use Rattle.ffa_rxtx.specs.Parts.{candidate_in, candidates_in}
-use Rattle.ffa_spmc.specs.Meaning.{IsMachine, Parts, state_of}
+use Rattle.ffa_spmc.specs.Meaning.{IsManager, Parts, state_of}
 use Rattle.ffa_spmc.proofs.Held.{base_is, entry-past, owners-size, page-held, page-past, size_is}
 use Rattle.ffa_spmc.proofs.Pools.{named-kept}
 
-module _ (x : Parts) (machine : IsMachine x) where
+module _ (x : Parts) (machine : IsManager x) where
   abbrev s : State
   s = state_of x
 

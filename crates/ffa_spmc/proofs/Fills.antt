@@ -11,13 +11,13 @@ use Rattle.ffa_model.specs.State.{State, Page, Buffers, is_known, is_known_among
 use Rattle.ffa_rxtx.specs.Parts.{with_rx_bytes}
 use Rattle.ffa_memshare.specs.Callers.{IsCaller}
 use Rattle.ffa_laws.proofs.SoundSteady.{runner-known}
-use Rattle.ffa_spmc.specs.Meaning.{IsMachine, Parts, state_of}
+use Rattle.ffa_spmc.specs.Meaning.{IsManager, Parts, state_of}
 use Rattle.ffa_spmc.proofs.Held.{each, parties_are, size_is}
 use Rattle.ffa_spmc.proofs.Machines.{StillHasTables, tables-written}
 use Rattle.ffa_spmc.proofs.Reaches.{owned-in}
 use Rattle.ffa_spmc.proofs.Stores.{state-written}
 
-module _ (x : Parts) (machine : IsMachine x) where
+module _ (x : Parts) (machine : IsManager x) where
   abbrev s : State
   s = state_of x
 

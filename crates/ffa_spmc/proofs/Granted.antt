@@ -1,5 +1,5 @@
 -- The rights that tables are given by each call on memory are the access of the state after it.
-use Rattle.std.proofs.Common.{◌≡◌, ◌∙◌, ℕ, ◌<◌, Bool, true, false, cond, zero, suc, length, Option, Some, None, refl, sym, ap, subst, arith, inl, inr}
+use Rattle.std.proofs.Common.{◌≡◌, ◌∙◌, ℕ, ◌<◌, Bool, true, false, cond, length, Option, Some, None, refl, sym, ap, subst, inl, inr}
 use Rattle.std.specs.Prelude.{◌==◌, ◌&&◌, if◌then◌else◌, is_some}
 use Rattle.std.specs.List.{list_all}
 use Rattle.std.specs.Option.{option_and_then, option_map, option_map_or}
@@ -12,37 +12,28 @@ use Rattle.ffa_model.specs.declared.rights.Rights.{Rights}
 use Rattle.ffa_model.specs.Identifiers.{identifier, manager, place}
 use Rattle.ffa_model.specs.Rights.{is_donate, is_share}
 use Rattle.ffa_model.specs.State.{State, Page, Transaction, is_known_among, owner_of, page_at, transaction_of}
-use Rattle.ffa_model.specs.Access.{access, handle_at, held_by, names, right_by, right_of}
+use Rattle.ffa_model.specs.Access.{access, handle_at, held_by, names, right_of}
 use Rattle.ffa_model.specs.Buffers.{Candidate, candidates}
 use Rattle.ffa_model.specs.SendDescriptor.{SendRecord}
 use Rattle.ffa_model.specs.MemorySend.{is_own, is_sendable, memory_sent}
 use Rattle.ffa_model.specs.MemoryRetrieve.{retrieved_right}
 use Rattle.ffa_model.specs.MemoryReturn.{relinquished_from}
 use Rattle.ffa_model.specs.Transactions.{base_of, bases_of, pages_in}
+use Rattle.ffa_memshare.specs.Grants.{with_rights}
 use Rattle.ffa_model.specs.SoundState.{IsKnown, IsSoundState}
+use Rattle.ffa_spmc.specs.Meaning.{access_by_place}
 use Rattle.ffa_model.proofs.Accesses.{named-in}
 use Rattle.ffa_model.proofs.CallAccesses.{donate-named, donate-other, relinquish-beside, relinquish-named, relinquish-other, retrieve-beside, retrieve-named, retrieve-other, runner-known, send-named, send-other, sendable-unnamed}
 use Rattle.ffa_model.proofs.NamedPages.{listed-each}
-use Rattle.ffa_model.proofs.Places.{known-named}
-
--- the access where the endpoint at a place has other rights to the pages that are named
-abbrev pub granted : (ℕ → ℕ → Option Rights) → ℕ → (ℕ → Bool) → (ℕ → Option Rights) → ℕ → ℕ → Option Rights
-granted access index named right e p = if e == index && named p then right p else access e p
-
--- the access of a state, by the endpoint's place
-abbrev pub access_at : State → ℕ → ℕ → Option Rights
-access_at s i p = access s (identifier i) p
-
-pub place-identifier : (i : ℕ) → place (identifier i) ≡ i
-place-identifier zero = refl
-place-identifier (suc i) = omega arith
+use Rattle.ffa_model.proofs.Places.{known-named, place-identifier}
+use Rattle.ffa_memshare.proofs.Joined.{shareless-right}
 
 -- by the three cases of a page and an endpoint
 granted-by : (access : ℕ → ℕ → Option Rights) (index : ℕ) (named : ℕ → Bool) (right : ℕ → Option Rights) (i p : ℕ) (target : Option Rights)
     → (i ≡ index → named p ≡ true → right p ≡ target)
     → ((i ≡ index → ⊥) → named p ≡ true → access i p ≡ target)
     → (named p ≡ false → access i p ≡ target)
-    → granted access index named right i p ≡ target
+    → with_rights access index named right i p ≡ target
 granted-by access index named right i p target own others beside = of (named p) refl
   where
     off : (b : Bool) → (b && false) ≡ false
@@ -73,7 +64,7 @@ owned-page s e p known own = of (page_at s p) refl own
 
 -- A SEND
 -- a page that may be sent is the runner's
-sendable-own : (s : State) (e p : ℕ) (r : SendRecord) → list_all (is_sendable e (candidates s) s.buffers) (pages_in (bases_of s) r.ranges) ≡ true
+pub sendable-own : (s : State) (e p : ℕ) (r : SendRecord) → list_all (is_sendable e (candidates s) s.buffers) (pages_in (bases_of s) r.ranges) ≡ true
     → p < length s.pages → names s r.ranges p ≡ true → owner_of s p ≡ e
 sendable-own s e p r all lt named = of (page_at s p) (and_parts _ _ one).0
   where
@@ -95,18 +86,29 @@ beside-owner s e f p own apart unnamed = ap (λ h. right_of f (page_at s p) (opt
     of (Some q) own = ap (λ b. cond b (Some q.base) None) (ne_eqb q.owner f (λ same. apart (sym same ∙ own)))
 
 -- the right that a sender keeps
-own-kept : (share : Bool) (sender e : ℕ) (page : Option Page) → sender ≡ e
+pub own-kept : (share : Bool) (sender e : ℕ) (page : Option Page) → sender ≡ e
     → (if share then option_map (λ (q : Page). q.base) page else None) ≡ option_and_then (λ (q : Page). if share && sender == e then Some q.base else None) page
 own-kept true sender e None is = refl
 own-kept true sender e (Some q) is = sym (ap (λ b. cond b (Some q.base) None) (eq-eqb sender e is))
 own-kept false sender e None is = refl
 own-kept false sender e (Some q) is = refl
 
-none-kept : (share : Bool) (sender e : ℕ) (page : Option Page) → (sender ≡ e → ⊥)
+pub none-kept : (share : Bool) (sender e : ℕ) (page : Option Page) → (sender ≡ e → ⊥)
     → None ≡ option_and_then (λ (q : Page). if share && sender == e then Some q.base else None) page
 none-kept share sender e None apart = refl
 none-kept true sender e (Some q) apart = sym (ap (λ b. cond b (Some q.base) None) (ne_eqb sender e apart))
 none-kept false sender e (Some q) apart = refl
+
+-- nobody else had a right to the pages, and nobody gets one
+pub send-beside : (s : State) → IsSoundState s → (kind : Kind) (r : SendRecord) (f p : ℕ)
+    → r.sender ≡ s.runner
+    → list_all (is_sendable s.runner (candidates s) s.buffers) (pages_in (bases_of s) r.ranges) ≡ true
+    → p < length s.pages → names s r.ranges p ≡ true → (f ≡ s.runner → ⊥)
+    → access s f p ≡ access (memory_sent s kind (Some r)) f p
+send-beside s sound kind r f p own all lt named apart =
+    beside-owner s s.runner f p (sendable-own s s.runner p r all lt named) apart (sendable-unnamed s s.runner p r.ranges all lt named)
+    ∙ none-kept (is_share kind) r.sender f (page_at s p) (λ same. apart (sym same ∙ own))
+    ∙ sym (send-named s sound kind r f p all lt named)
 
 -- the sender of a share keeps its own right, and of all else it has none
 pub send-granted : (s : State) → IsSoundState s → (kind : Kind) (r : SendRecord) (right : ℕ → Option Rights) (i p : ℕ)
@@ -114,26 +116,47 @@ pub send-granted : (s : State) → IsSoundState s → (kind : Kind) (r : SendRec
     → list_all (is_sendable s.runner (candidates s) s.buffers) (pages_in (bases_of s) r.ranges) ≡ true
     → p < length s.pages
     → right p ≡ (if is_share kind then base_of s p else None)
-    → granted (access_at s) (place s.runner) (names s r.ranges) right i p ≡ access_at (memory_sent s kind (Some r)) i p
+    → with_rights (access_by_place s) (place s.runner) (names s r.ranges) right i p ≡ access_by_place (memory_sent s kind (Some r)) i p
 send-granted s sound kind r right i p own all lt is =
-    granted-by (access_at s) (place s.runner) (names s r.ranges) right i p (access_at (memory_sent s kind (Some r)) i p)
+    granted-by (access_by_place s) (place s.runner) (names s r.ranges) right i p (access_by_place (memory_sent s kind (Some r)) i p)
     (λ at named.
     is
     ∙ own-kept (is_share kind) r.sender (identifier i) (page_at s p) (own ∙ sym (at-place s s.runner i (runner-known s sound) at))
     ∙ sym (send-named s sound kind r (identifier i) p all lt named))
-    (λ apart named.
-    beside-owner s s.runner (identifier i) p (sendable-own s s.runner p r all lt named) (beside-place s.runner i apart) (sendable-unnamed s s.runner p r.ranges all lt named)
-    ∙ none-kept (is_share kind) r.sender (identifier i) (page_at s p) (λ same. beside-place s.runner i apart (sym same ∙ own))
-    ∙ sym (send-named s sound kind r (identifier i) p all lt named))
+    (λ apart named. send-beside s sound kind r (identifier i) p own all lt named (beside-place s.runner i apart))
     (λ other. sym (send-other s sound kind r (identifier i) p lt other))
 
 -- OF AN OPEN TRANSACTION
+-- nobody had a right to a donate, and nobody but its new owner gets one
+module _ (s : State) (sound : IsSoundState s) (h : ℕ) (t : Transaction) (was : transaction_of s h ≡ Some t) (p : ℕ) (lt : p < length s.pages) where
+  pub donate-beside : (e f : ℕ) (its : Rights) → is_donate t.kind ≡ true → names s t.ranges p ≡ true → (f ≡ e → ⊥)
+      → access s f p ≡ access (retrieved_right s h t e its) f p
+  donate-beside e f its donated named apart =
+      ap (right_of f (page_at s p)) (named-in s p h t (λ k j at_k at_j. sound.one p k j lt at_k at_j) was named)
+      ∙ shareless-right (page_at s p) f t (held-none t.kind donated refl) (no-share t.kind donated)
+      ∙ sym (kept (page_at s p))
+      ∙ sym (donate-named s sound h t was p lt e its f donated named)
+    where
+      kept : (o : Option Page) → option_and_then (λ (_ : Page). if e == f then Some its else None) o ≡ None
+      kept None = refl
+      kept (Some q) = ap (λ b. cond b (Some its) None) (ne_eqb e f (λ same. apart (sym same)))
+
+      held-none : (kind : Kind) → is_donate kind ≡ true → t.kind ≡ kind → held_by t f ≡ None
+      held-none Share is same = absurd (false≢true is)
+      held-none Lend is same = absurd (false≢true is)
+      held-none Donate is same = (sound.transactions h t was).donate f same
+
+      no-share : (kind : Kind) → is_donate kind ≡ true → is_share kind ≡ false
+      no-share Share is = absurd (false≢true is)
+      no-share Lend is = refl
+      no-share Donate is = refl
+
 module _ (s : State) (sound : IsSoundState s) (h : ℕ) (t : Transaction) (was : transaction_of s h ≡ Some t) (right : ℕ → Option Rights) (i p : ℕ) (lt : p < length s.pages) where
   -- the runner has given up what it held
   pub relinquish-granted : (d : RelinquishDesc) → d.handle ≡ h → (t.sender ≡ s.runner → ⊥) → right p ≡ None
-      → granted (access_at s) (place s.runner) (names s t.ranges) right i p ≡ access_at (relinquished_from s d (Some t)) i p
+      → with_rights (access_by_place s) (place s.runner) (names s t.ranges) right i p ≡ access_by_place (relinquished_from s d (Some t)) i p
   relinquish-granted d is other none =
-      granted-by (access_at s) (place s.runner) (names s t.ranges) right i p (access_at (relinquished_from s d (Some t)) i p)
+      granted-by (access_by_place s) (place s.runner) (names s t.ranges) right i p (access_by_place (relinquished_from s d (Some t)) i p)
       (λ at named.
       let e : s.runner ≡ identifier i = sym (at-place s s.runner i (runner-known s sound) at) in
       none
@@ -145,9 +168,9 @@ module _ (s : State) (sound : IsSoundState s) (h : ℕ) (t : Transaction) (was :
 
   -- an endpoint has taken this right
   pub retrieve-granted : (e : ℕ) (its : Rights) → IsKnown s e → is_donate t.kind ≡ false → right p ≡ Some its
-      → granted (access_at s) (place e) (names s t.ranges) right i p ≡ access_at (retrieved_right s h t e its) i p
+      → with_rights (access_by_place s) (place e) (names s t.ranges) right i p ≡ access_by_place (retrieved_right s h t e its) i p
   retrieve-granted e its known borrowed is =
-      granted-by (access_at s) (place e) (names s t.ranges) right i p (access_at (retrieved_right s h t e its) i p)
+      granted-by (access_by_place s) (place e) (names s t.ranges) right i p (access_by_place (retrieved_right s h t e its) i p)
       (λ at named.
       let good = sound.transactions h t was in
       let page = owned-page s t.sender p good.sender (good.owned p lt named) in
@@ -159,9 +182,9 @@ module _ (s : State) (sound : IsSoundState s) (h : ℕ) (t : Transaction) (was :
 
   -- a donate is an endpoint's own, with this right; nobody else had one
   pub donate-granted : (e : ℕ) (its : Rights) → IsKnown s e → is_donate t.kind ≡ true → right p ≡ Some its
-      → granted (access_at s) (place e) (names s t.ranges) right i p ≡ access_at (retrieved_right s h t e its) i p
+      → with_rights (access_by_place s) (place e) (names s t.ranges) right i p ≡ access_by_place (retrieved_right s h t e its) i p
   donate-granted e its known donated is =
-      granted-by (access_at s) (place e) (names s t.ranges) right i p (access_at (retrieved_right s h t e its) i p)
+      granted-by (access_by_place s) (place e) (names s t.ranges) right i p (access_by_place (retrieved_right s h t e its) i p)
       (λ at named.
       let good = sound.transactions h t was in
       let page = owned-page s t.sender p good.sender (good.owned p lt named) in
@@ -169,31 +192,8 @@ module _ (s : State) (sound : IsSoundState s) (h : ℕ) (t : Transaction) (was :
       ∙ sym (given page.0 (identifier i) (sym (at-place s e i known at)))
       ∙ ap (λ o. option_and_then (λ (_ : Page). if e == identifier i then Some its else None) o) (sym page.1)
       ∙ sym (donate-named s sound h t was p lt e its (identifier i) donated named))
-      (λ apart named.
-      let good = sound.transactions h t was in
-      ap (right_of (identifier i) (page_at s p)) (named-in s p h t (λ k j at_k at_j. sound.one p k j lt at_k at_j) was named)
-      ∙ unheld (page_at s p) (identifier i) (held-none t.kind donated refl (identifier i))
-      ∙ sym (kept (page_at s p) (λ same. beside-place e i apart (sym same)))
-      ∙ sym (donate-named s sound h t was p lt e its (identifier i) donated named))
+      (λ apart named. donate-beside s sound h t was p lt e (identifier i) its donated named (beside-place e i apart))
       (λ beside. sym (donate-other s sound h t was p lt e its (identifier i) donated beside))
     where
       given : (q : Page) (f : ℕ) → e ≡ f → option_and_then (λ (_ : Page). if e == f then Some its else None) (Some q) ≡ Some its
       given q f same = ap (λ b. cond b (Some its) None) (eq-eqb e f same)
-
-      kept : (o : Option Page) → (e ≡ identifier i → ⊥) → option_and_then (λ (_ : Page). if e == identifier i then Some its else None) o ≡ None
-      kept None apart = refl
-      kept (Some q) apart = ap (λ b. cond b (Some its) None) (ne_eqb e (identifier i) apart)
-
-      held-none : (kind : Kind) → is_donate kind ≡ true → t.kind ≡ kind → (f : ℕ) → held_by t f ≡ None
-      held-none Share is same f = absurd (false≢true is)
-      held-none Lend is same f = absurd (false≢true is)
-      held-none Donate is same f = (sound.transactions h t was).donate f same
-
-      no-share : (kind : Kind) → is_donate kind ≡ true → is_share kind ≡ false
-      no-share Share is = absurd (false≢true is)
-      no-share Lend is = refl
-      no-share Donate is = refl
-
-      unheld : (o : Option Page) (f : ℕ) → held_by t f ≡ None → right_of f o (Some t) ≡ None
-      unheld None f none = refl
-      unheld (Some q) f none = ap (right_by f q t) none ∙ ap (λ b. cond (b && t.sender == f) (Some q.base) None) (no-share t.kind donated)

@@ -1,5 +1,5 @@
 -- The state that RAM and a manifest mean, part by part.
-use Rattle.std.proofs.Common.{◌≡◌, ◌∙◌, ℕ, ◌*◌, ◌<◌, ◌≤◌, Bool, true, false, List, [], ◌∷◌, length, map, Option, Some, None, refl, sym, ap, subst, inl, inr}
+use Rattle.std.proofs.Common.{◌≡◌, ◌∙◌, ℕ, ◌*◌, ◌<◌, ◌≤◌, true, List, length, map, Option, Some, None, refl, sym, ap, subst, inl, inr}
 use Rattle.std.specs.Prelude.{find}
 use Rattle.std.specs.Option.{option_and_then, option_map, option_map_or}
 use Rattle.std.specs.Ordering.{nat_cmp}
@@ -20,14 +20,11 @@ use Rattle.ffa_model.proofs.Listed.{length-listed, get_or-listed, get_or-listed_
 use Rattle.ffa_model.proofs.Accepted.{accepted}
 use Rattle.ffa_model.proofs.Owners.{right-own}
 use Rattle.ffa_model.proofs.Places.{known-named, known-place}
+use Rattle.ffa_model.proofs.Handles.{find_none}
 use Rattle.ffa_pages.specs.Entry.{Entry, entry_at, first_entry, owner_at}
 use Rattle.ffa_stage2.specs.Tables.{table_page}
 use Rattle.ffa_spmc.specs.Owners.{first_owners}
-use Rattle.ffa_spmc.specs.Meaning.{IsMachine, Parts, held_page, state_of}
-
-find_none : (test : ℕ → Bool) (xs : List ℕ) → ((x : ℕ) → test x ≡ false) → find test xs ≡ None
-find_none test [] never = refl
-find_none test (x ∷ xs) never = rw (never x) (find_none test xs never)
+use Rattle.ffa_spmc.specs.Meaning.{IsManager, Parts, held_page, state_of}
 
 -- no transaction is open where the map of them is empty
 handle-empty : (s : State) (p : ℕ) → s.transactions ≡ finite.empty → handle_at s p ≡ None
@@ -97,7 +94,7 @@ module _ (x : Parts) where
         ∙ right-own x.manifest.ram_base x.manifest.endpoints.items p i (page_of x.ram p) (accepted x.manifest.ram_base x.manifest.ram_blocks x.manifest.endpoints.items x.manifest.accepted).apart
 
   -- of a machine
-  module _ (machine : IsMachine x) where
+  module _ (machine : IsManager x) where
     -- owners are kept of each page of RAM
     pub owners-size : length x.kept.pages ≡ length x.ram.pages
     owners-size = machine.owners.size ∙ sym machine.tables.size

@@ -11,8 +11,8 @@ use Rattle.ffa_model.specs.Manifest.{is_nil}
 use Rattle.ffa_model.specs.Setup.{info_bytes, info_get, info_guards, informed, is_any, is_count_alone, selected, uuid_bytes}
 use Rattle.ffa_model.specs.declared.call.Call.TheVariants.{PartitionInfoGet}
 use Rattle.ffa_model.specs.State.{Party, Buffers}
-use Rattle.ffa_spmc.specs.Meaning.{IsMachine, Parts, state_of}
-use Rattle.ffa_spmc.specs.Snapshot.{Snapshot}
+use Rattle.ffa_spmc.specs.Meaning.{IsManager, Parts, state_of}
+use Rattle.ffa_spmc.specs.Managed.{Managed}
 use Rattle.ffa_spmc.proofs.Answered.{passed-state}
 use Rattle.ffa_spmc.proofs.Fills.{after_fill, runner-there, state-filled, tables-filled}
 use Rattle.ffa_spmc.proofs.Machines.{machine-called}
@@ -22,13 +22,13 @@ abbrev pub decided : Bool → Bool → Bool → Bool → Option ErrorCode
 decided recognized alone has full =
     cond recognized (cond (alone || has) (cond (alone || not full) None (Some Busy)) (Some InvalidParameters)) (Some InvalidParameters)
 
-module _ (x : Parts) (now : Snapshot) (view : record { state = state_of x; ram = x.ram } ≡ now) (e : ℕ) (at : e ≡ x.kept.chain.runner) where
+module _ (x : Parts) (now : Managed) (view : record { state = state_of x; ram = x.ram } ≡ now) (e : ℕ) (at : e ≡ x.kept.chain.runner) where
   abbrev own : Option Buffers
   own = buffers_in x.kept.buffers e
 
   pub parties-seen : map party_of x.manifest.endpoints.items ≡ now.state.parties
   unfolding first
-  parties-seen = ap (λ (seen : Snapshot). seen.state.parties) view
+  parties-seen = ap (λ (seen : Managed). seen.state.parties) view
 
   failure-is : (uuid : List ℕ) (flags : ℕ)
       → decided (is_nil uuid || is_any (selected (map party_of x.manifest.endpoints.items) uuid)) (is_count_alone flags) (is_some own) (is_full own)
@@ -36,7 +36,7 @@ module _ (x : Parts) (now : Snapshot) (view : record { state = state_of x; ram =
   unfolding first
   failure-is uuid flags =
       (λ i. decided (is_nil uuid || is_any (selected (map party_of x.manifest.endpoints.items) uuid)) (is_count_alone flags) (is_some (buffers_in x.kept.buffers (at i))) (is_full (buffers_in x.kept.buffers (at i))))
-      ∙ ap (λ (seen : Snapshot). first_failure (info_guards seen.state uuid flags)) view
+      ∙ ap (λ (seen : Managed). first_failure (info_guards seen.state uuid flags)) view
 
   pub info-unknown : (uuid : List ℕ) (flags : ℕ) → (is_nil uuid || is_any (selected (map party_of x.manifest.endpoints.items) uuid)) ≡ false
       → Some InvalidParameters ≡ first_failure (info_guards now.state uuid flags)
@@ -72,7 +72,7 @@ module _ (x : Parts) (now : Snapshot) (view : record { state = state_of x; ram =
       of None is false none = absurd (none-some InvalidParameters (sym none))
 
   -- the descriptors in RX of the runner
-  module _ (machine : IsMachine x) (words : List ℕ) (flags : ℕ) (bytes : List ℕ)
+  module _ (machine : IsManager x) (words : List ℕ) (flags : ℕ) (bytes : List ℕ)
       (are : bytes ≡ info_bytes (map party_of x.manifest.endpoints.items) (uuid_bytes words)) (asked : is_count_alone flags ≡ false) where
     abbrev pub after_information : Parts
     after_information = after_fill x machine e (runner-there x machine e at) bytes
@@ -85,11 +85,11 @@ module _ (x : Parts) (now : Snapshot) (view : record { state = state_of x; ram =
         ∙ (λ i. cond (sym asked i) (state_of x) (filled (state_of x) x.kept.chain.runner (info_bytes (map party_of x.manifest.endpoints.items) (uuid_bytes words))))
 
     pub state-informed : state_of after_information ≡ informed now.state (uuid_bytes words) flags
-    state-informed = informed-is ∙ ap (λ (seen : Snapshot). informed seen.state (uuid_bytes words) flags) view
+    state-informed = informed-is ∙ ap (λ (seen : Managed). informed seen.state (uuid_bytes words) flags) view
 
-    pub machine-informed : first_failure (info_guards now.state (uuid_bytes words) flags) ≡ None → IsMachine after_information
+    pub machine-informed : first_failure (info_guards now.state (uuid_bytes words) flags) ≡ None → IsManager after_information
     machine-informed none =
         machine-called x after_information.ram after_information.kept.buffers x.kept.chain machine
         (tables-filled x machine e (runner-there x machine e at) bytes) (PartitionInfoGet words flags)
         (informed-is
-        ∙ sym (passed-state (state_of x) (info_get (state_of x) words flags) (ap (λ (seen : Snapshot). first_failure (info_guards seen.state (uuid_bytes words) flags)) view ∙ none)))
+        ∙ sym (passed-state (state_of x) (info_get (state_of x) words flags) (ap (λ (seen : Managed). first_failure (info_guards seen.state (uuid_bytes words) flags)) view ∙ none)))

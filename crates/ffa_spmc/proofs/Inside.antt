@@ -1,6 +1,6 @@
 -- The parts of a machine, of the fields that the code has.
 use Rattle.ffa_model.specs.Ram.{Ram}
-use Rattle.ffa_spmc.specs.declared.machine.Machine.TheInside.{Inside}
+use Rattle.ffa_spmc.specs.declared.manager.Manager.TheInside.{Inside}
 use Rattle.ffa_spmc.specs.Meaning.{Parts}
 
 -- by what a RAM of this type means

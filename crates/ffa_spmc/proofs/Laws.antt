@@ -1,4 +1,4 @@
--- The laws of isolation, of a machine's state.
+-- The laws of isolation, of a sound state.
 use Rattle.std.proofs.Common.{◌≡◌, ◌∙◌, ℕ, List, sym, ap, subst}
 use Rattle.ffa_model.specs.declared.operation.Op.{Op}
 use Rattle.ffa_model.specs.declared.operation.Outcome.{Outcome}
@@ -13,28 +13,22 @@ use Rattle.ffa_laws.proofs.Integrities.{integrity}
 use Rattle.ffa_laws.proofs.Laws.{isolated, one_step}
 use Rattle.ffa_laws.proofs.Shows.{shown}
 use Rattle.ffa_laws.proofs.SoundSteady.{sound-steady}
-use Rattle.ffa_spmc.specs.Meaning.{IsMachine, Parts, state_of}
-use Rattle.ffa_spmc.specs.Snapshot.{Snapshot}
 
--- `now` is what a contract sees of the machine
-module _ (x : Parts) (machine : IsMachine x) (now : Snapshot) (view : record { state = state_of x; ram = x.ram } ≡ now) where
-  pub sound-now : IsSoundState now.state
-  sound-now = subst (λ (seen : Snapshot). IsSoundState seen.state) view machine.sound
+module _ (s : State) (sound : IsSoundState s) where
+  steady : IsSteady s
+  steady = sound-steady s sound
 
-  steady-now : IsSteady now.state
-  steady-now = sound-steady now.state sound-now
+  pub step-now : (op : Op) → OneStep s op
+  step-now op = one_step s op steady
 
-  pub step-now : (op : Op) → OneStep now.state op
-  step-now op = one_step now.state op steady-now
+  pub integrity-now : (op : Op) → Integrity s op
+  integrity-now op = integrity s op steady
 
-  pub integrity-now : (op : Op) → Integrity now.state op
-  integrity-now op = integrity now.state op steady-now
+  pub isolated-now : (ops : List Op) → Isolated s ops
+  isolated-now ops = isolated s ops steady
 
-  pub isolated-now : (ops : List Op) → Isolated now.state ops
-  isolated-now ops = isolated now.state ops steady-now
+  pub never_grow-now : (ops : List Op) (after : State) → after ≡ state_after s ops → NeverGrow s after
+  never_grow-now ops after is = subst (NeverGrow s) (sym is) (never_grow s ops steady)
 
-  pub shown-now : (ops : List Op) (filled : List Outcome) → filled ≡ outcomes now.state ops → (e : ℕ) → shown_to e now.state.runner filled ≡ seen e now.state ops
-  shown-now ops filled are e = ap (shown_to e now.state.runner) are ∙ shown now.state ops e
-
-  pub never_grow-now : (ops : List Op) (after : State) → after ≡ state_after now.state ops → NeverGrow now.state after
-  never_grow-now ops after is = subst (NeverGrow now.state) (sym is) (never_grow now.state ops steady-now)
+pub shown-now : (s : State) (ops : List Op) (filled : List Outcome) → filled ≡ outcomes s ops → (e : ℕ) → shown_to e s.runner filled ≡ seen e s ops
+shown-now s ops filled are e = ap (shown_to e s.runner) are ∙ shown s ops e

@@ -2,6 +2,7 @@ pub mod Answered
 pub mod Granted
 pub mod Inside
 pub mod Held
+pub mod AccessChanges
 pub mod Pools
 pub mod Reaches
 pub mod Agreements
@@ -22,6 +23,8 @@ pub mod Relinquishes
 pub mod Donations
 pub mod Retrieves
 pub mod Offers
-pub mod ServedCalls
 pub mod Laws
 pub mod Notified
+pub mod HeldWalks
+pub mod CachedAccesses
+pub mod Forgotten

@@ -15,7 +15,7 @@ use Rattle.ffa_model.specs.Step.{serve}
 use Rattle.ffa_model.proofs.CallAccesses.{access-written}
 use Rattle.ffa_laws.proofs.SoundOperations.{call-sound}
 use Rattle.ffa_stage2.specs.Tables.{IsBuilt, table_page}
-use Rattle.ffa_spmc.specs.Meaning.{HasTables, IsMachine, Parts, access_by_place, state_of}
+use Rattle.ffa_spmc.specs.Meaning.{HasTables, IsManager, Parts, access_by_place, state_of}
 use Rattle.ffa_spmc.proofs.Held.{owned-behind, runner-known}
 use Rattle.ffa_spmc.proofs.Agreements.{root-is}
 use Rattle.ffa_spmc.proofs.Stores.{state-written}
@@ -24,7 +24,7 @@ use Rattle.ffa_spmc.proofs.Stores.{state-written}
 abbrev pub StillHasTables : Parts → Ram → Type 0
 StillHasTables x ram = HasTables ram x.manifest (access_by_place (state_of (record x { ram = ram })))
 
-module _ (x : Parts) (machine : IsMachine x) where
+module _ (x : Parts) (machine : IsManager x) where
   -- the root of the runner's table is a page of the RAM
   pub runner-root : is_page_address x.ram (root (state_of x) (place x.kept.chain.runner)) ≡ true
   runner-root =
@@ -62,10 +62,10 @@ module _ (x : Parts) (machine : IsMachine x) where
         }
 
 -- a machine is one after a call that changed no owner, where the tables give the access
-pub machine-served : (x : Parts) (ram : Ram) (buffers : List (Option Buffers)) (chain : Schedule) (bitmaps : Notifications) → IsMachine x
+pub machine-served : (x : Parts) (ram : Ram) (buffers : List (Option Buffers)) (chain : Schedule) (bitmaps : Notifications) → IsManager x
     → StillHasTables x ram
     → (call : calls.Call) → state_of (record x { ram = ram; kept = record x.kept { buffers = buffers; chain = chain; bitmaps = bitmaps } }) ≡ (serve (state_of x) call).state
-    → IsMachine (record x { ram = ram; kept = record x.kept { buffers = buffers; chain = chain; bitmaps = bitmaps } })
+    → IsManager (record x { ram = ram; kept = record x.kept { buffers = buffers; chain = chain; bitmaps = bitmaps } })
 machine-served x ram buffers chain bitmaps machine tables call is =
     record {
       laws = machine.laws;
@@ -77,8 +77,8 @@ machine-served x ram buffers chain bitmaps machine tables call is =
     }
 
 -- and where it changed no notifications either
-pub machine-called : (x : Parts) (ram : Ram) (buffers : List (Option Buffers)) (chain : Schedule) → IsMachine x
+pub machine-called : (x : Parts) (ram : Ram) (buffers : List (Option Buffers)) (chain : Schedule) → IsManager x
     → StillHasTables x ram
     → (call : calls.Call) → state_of (record x { ram = ram; kept = record x.kept { buffers = buffers; chain = chain } }) ≡ (serve (state_of x) call).state
-    → IsMachine (record x { ram = ram; kept = record x.kept { buffers = buffers; chain = chain } })
+    → IsManager (record x { ram = ram; kept = record x.kept { buffers = buffers; chain = chain } })
 machine-called x ram buffers chain = machine-served x ram buffers chain x.kept.bitmaps

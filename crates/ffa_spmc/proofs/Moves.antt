@@ -22,11 +22,11 @@ use Rattle.ffa_stage2.proofs.Rights.{built-same}
 use Rattle.ffa_memshare.specs.Changes.{IsMarked, IsMoved}
 use Rattle.ffa_memshare.specs.Grants.{with_rights}
 use Rattle.ffa_memshare.specs.declared.marks.Mark.TheVariants.{Given, Named}
-use Rattle.ffa_spmc.specs.Meaning.{AreOwners, HasTables, IsMachine, Parts, access_by_place, held_page, state_of}
+use Rattle.ffa_spmc.specs.Meaning.{AreOwners, HasTables, IsManager, Parts, access_by_place, held_page, state_of}
 use Rattle.ffa_spmc.proofs.Held.{size_is}
 
 -- a fact on the layout's base, number of endpoints and blocks, of the manifest's
-pub of-manifest : (x : Parts) → IsMachine x → (P : ℕ → ℕ → ℕ → Type 0) → P x.kept.layout.base (array_vec_len x.kept.layout.regions) x.kept.layout.blocks
+pub of-manifest : (x : Parts) → IsManager x → (P : ℕ → ℕ → ℕ → Type 0) → P x.kept.layout.base (array_vec_len x.kept.layout.regions) x.kept.layout.blocks
     → P x.manifest.ram_base (length x.manifest.endpoints.items) x.manifest.ram_blocks
 of-manifest x machine P is =
     subst (λ (b : ℕ). P b (length x.manifest.endpoints.items) x.manifest.ram_blocks) machine.layout.base
@@ -54,7 +54,7 @@ marked-owners old new named slot marked =
     of true (Some e) = refl
     of false o = refl
 
-module _ (x : Parts) (machine : IsMachine x) (ram : Ram) (pages : List (Option Entry)) (index : ℕ) (ranges : List Range) (right : ℕ → Option Rights) (zero : Bool)
+module _ (x : Parts) (machine : IsManager x) (ram : Ram) (pages : List (Option Entry)) (index : ℕ) (ranges : List Range) (right : ℕ → Option Rights) (zero : Bool)
     (moved : IsMoved x.ram ram (length x.manifest.endpoints.items) x.manifest.ram_blocks index (names (state_of x) ranges) right zero)
     (same : SameOwners x.kept.pages pages) where
   abbrev s : State
@@ -144,7 +144,7 @@ module _ (old new : List (Option Entry)) (named : ℕ → Bool) (owner : Endpoin
       of true (Some e) is = absurd (none-some e (sym is))
       of false o is = is
 
-module _ (x : Parts) (machine : IsMachine x) (ram : Ram) (pages : List (Option Entry)) (index : ℕ) (ranges : List Range) (right : ℕ → Option Rights)
+module _ (x : Parts) (machine : IsManager x) (ram : Ram) (pages : List (Option Entry)) (index : ℕ) (ranges : List Range) (right : ℕ → Option Rights)
     (moved : IsMoved x.ram ram (length x.manifest.endpoints.items) x.manifest.ram_blocks index (names (state_of x) ranges) right false)
     (owner : EndpointId) (base : Rights) (marked : IsMarked x.kept.pages pages (names (state_of x) ranges) (Given owner base)) where
   abbrev given : State

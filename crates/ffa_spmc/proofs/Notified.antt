@@ -11,7 +11,7 @@ use Rattle.ffa_model.specs.First.{first}
 use Rattle.ffa_model.specs.Notifications.{Notifications, bind_guards, bitmap_create, bitmap_destroy, class_of, create_guards, destroy_guards, get_guards, get_reply, notification_bind, notification_get, notification_set, notification_unbind, set_guards, unbind_guards, with_bitmaps, with_bound, with_notifications, with_pending, without_bitmaps, without_bound, without_pending}
 use Rattle.ffa_model.specs.State.{State, is_known_among}
 use Rattle.ffa_model.specs.Step.{serve}
-use Rattle.ffa_spmc.specs.Meaning.{IsMachine, Parts, state_of}
+use Rattle.ffa_spmc.specs.Meaning.{IsManager, Parts, state_of}
 use Rattle.ffa_spmc.specs.Replies.{done_or_error, reply_of, reply_or_error}
 use Rattle.ffa_spmc.proofs.Answered.{answered-by, done-replies, done-so, refused-so}
 use Rattle.ffa_spmc.proofs.Fills.{runner-there}
@@ -39,9 +39,9 @@ module _ (x : Parts) where
       (done-so r (λ none is. ap with_bits is ∙ with_bits-is changed ∙ sym leaves) done)
       replies
 
-  module _ (machine : IsMachine x) where
+  module _ (machine : IsManager x) where
     -- a machine is one after it
-    pub machine-notified : (new : Notifications) (reply : Reply) (call : calls.Call) → replied (with_bits new) reply ≡ serve s call → IsMachine (record x { kept = record x.kept { bitmaps = new } })
+    pub machine-notified : (new : Notifications) (reply : Reply) (call : calls.Call) → replied (with_bits new) reply ≡ serve s call → IsManager (record x { kept = record x.kept { bitmaps = new } })
     machine-notified new reply call is =
         machine-served x x.ram x.kept.buffers x.kept.chain new machine machine.tables call (ap (λ (st : Stepped). st.state) is)
 

@@ -1,7 +1,8 @@
 -- FFA_MEM_DONATE, FFA_MEM_LEND and FFA_MEM_SHARE change the state as the small machine's.
-use Rattle.std.proofs.Common.{◌≡◌, ◌∙◌, ℕ, ◌<◌, Bool, true, false, List, length, take, Option, Some, None, Result, Ok, Err, refl, sym, ap, subst}
-use Rattle.std.specs.Prelude.{OnOk, OnErr, IfOk, if◌then◌else◌, is_some}
-use Rattle.std.specs.Result.{result_err}
+use Rattle.std.proofs.Common.{◌≡◌, ◌∙◌, ℕ, ◌<◌, Bool, true, false, List, length, take, Option, Some, None, Result, Ok, Err, refl, sym, ap, subst, inr}
+use Rattle.std.specs.Prelude.{OnErr, ◌&&◌, IfOk, if◌then◌else◌, is_some}
+use Rattle.std.specs.Option.{option_map}
+use Rattle.std.specs.Result.{result_err, result_ok}
 use Rattle.std.proofs.lemmas.Bool.{false≢true}
 use Rattle.std.proofs.lemmas.Option.{none-some}
 use Rattle.arrayvec.specs.ArrayVec.{array_vec_len}
@@ -9,7 +10,7 @@ use Rattle.ffa_model.specs.declared.operation.ErrorCode.{ErrorCode}
 use Rattle.ffa_model.specs.declared.rights.Kind.{Kind}
 use Rattle.ffa_model.specs.declared.rights.Kind.TheVariants.{Share, Lend, Donate}
 use Rattle.ffa_model.specs.declared.rights.Rights.{Rights}
-use Rattle.ffa_model.specs.Access.{is_receiver, names}
+use Rattle.ffa_model.specs.Access.{access, is_receiver, names}
 use Rattle.ffa_model.specs.Calls.{first_failure, replied, served}
 use Rattle.ffa_model.specs.Identifiers.{place}
 use Rattle.ffa_model.specs.Memory.{zeroed_if}
@@ -24,6 +25,9 @@ use Rattle.ffa_model.proofs.CallAccesses.{handle-new, runner-known, sendable-unn
 use Rattle.ffa_laws.proofs.SendLaws.{IsOffer, offer}
 use Rattle.ffa_laws.proofs.SoundSends.{send-sound}
 use Rattle.ffa_pages.specs.Entry.{Entry, entry_at, slot_at}
+use Rattle.ffa_memshare.specs.declared.changed.Changed.{Changed}
+use Rattle.ffa_memshare.specs.declared.changed.Sent.{Sent}
+use Rattle.ffa_memshare.specs.Changed.{changed_sender}
 use Rattle.ffa_memshare.specs.Changes.{IsMarked, IsMoved}
 use Rattle.ffa_memshare.specs.Grants.{new_right, with_rights}
 use Rattle.ffa_memshare.specs.Ranges.{ArePlaced, in_ranges}
@@ -31,23 +35,25 @@ use Rattle.ffa_memshare.specs.Scenes.{descriptor_in, scene_in}
 use Rattle.ffa_memshare.specs.Sent.{IsSent, right_after}
 use Rattle.ffa_memshare.specs.Stored.{Pooled, offers_in, slot_at as pool_slot}
 use Rattle.ffa_memshare.specs.declared.marks.Mark.TheVariants.{Named}
-use Rattle.ffa_spmc.specs.Meaning.{AreOffers, IsMachine, IsOffered, Parts, access_by_place, state_of}
+use Rattle.ffa_spmc.specs.AccessChange.{IsAccessChange, is_whose}
+use Rattle.ffa_spmc.specs.Meaning.{AreOffers, IsManager, IsOffered, Parts, access_by_place, state_of}
 use Rattle.ffa_spmc.specs.Replies.{handle_or_error}
-use Rattle.ffa_spmc.proofs.Answered.{answered-by, done-so, refused-so}
+use Rattle.ffa_spmc.proofs.Answered.{answered-by, done-with, refused-so}
 use Rattle.ffa_spmc.proofs.Closes.{offers-opened, slot-opened}
 use Rattle.ffa_spmc.proofs.Granted.{send-granted}
 use Rattle.ffa_spmc.proofs.Held.{owners-size, parties_are, size_is}
+use Rattle.ffa_spmc.proofs.AccessChanges.{access-changed, none-changed, sent-kept, sent-lost}
 use Rattle.ffa_spmc.proofs.Moves.{SameOwners, marked-owners, of-manifest, owners-moved, pages-moved, tables-moved}
 use Rattle.ffa_spmc.proofs.Pools.{base-is, named-kept, slot-open}
 use Rattle.ffa_spmc.proofs.Retrieves.{scene-is}
 use Rattle.ffa_spmc.proofs.Sends.{sent-is}
 
 -- the pool counts the sends of each endpoint
-pub offer-endpoints : (x : Parts) → IsMachine x → length x.kept.pool.sent ≡ array_vec_len x.kept.layout.regions
+pub offer-endpoints : (x : Parts) → IsManager x → length x.kept.pool.sent ≡ array_vec_len x.kept.layout.regions
 offer-endpoints x machine = machine.sound.sized.sent ∙ parties_are x ∙ sym machine.layout.endpoints
 
 -- the code's runner is that of the run states; and it has sent what its TX describes, or was refused
-module _ (x : Parts) (machine : IsMachine x) (e : ℕ) (at : e ≡ x.kept.chain.runner) (kind : Kind) (a : Transfer) (ram : Ram) (pages : List (Option Entry)) (pool : Pooled) where
+module _ (x : Parts) (machine : IsManager x) (e : ℕ) (at : e ≡ x.kept.chain.runner) (kind : Kind) (a : Transfer) (ram : Ram) (pages : List (Option Entry)) (pool : Pooled) where
   abbrev s : State
   s = state_of x
 
@@ -61,8 +67,8 @@ module _ (x : Parts) (machine : IsMachine x) (e : ℕ) (at : e ≡ x.kept.chain.
   guards = (memory_send s kind a).guards
 
   -- what the pool has done
-  abbrev IsDone : Type 0
-  IsDone = IsSent x.kept.pool pool x.kept.pages pages x.ram ram x.kept.layout.base (array_vec_len x.kept.layout.regions) x.kept.layout.blocks e kind bytes
+  abbrev IsDone : Changed → Type 0
+  IsDone changed = IsSent x.kept.pool pool x.kept.pages pages x.ram ram x.kept.layout.base (array_vec_len x.kept.layout.regions) x.kept.layout.blocks e kind bytes changed
 
   read-is : send_of kind bytes ≡ send_read s kind a.total
   read-is = ap (λ (tx : List ℕ). send_of kind (take a.total tx)) (sent-is x machine e at)
@@ -73,7 +79,7 @@ module _ (x : Parts) (machine : IsMachine x) (e : ℕ) (at : e ≡ x.kept.chain.
   kept-right Lend p = refl
   kept-right Donate p = refl
 
-  module _ (none : None ≡ first_failure guards) (done : IsDone) where
+  module _ (changed : Changed) (none : None ≡ first_failure guards) (done : IsDone changed) where
     abbrev r : SendRecord
     r = done.offer
 
@@ -151,7 +157,7 @@ module _ (x : Parts) (machine : IsMachine x) (e : ℕ) (at : e ≡ x.kept.chain.
         of None is = refl
         of (Some k) is = absurd (false≢true (sym is))
 
-    pub machine-sent : IsMachine after_offer
+    pub machine-sent : IsManager after_offer
     machine-sent =
         record {
           laws = machine.laws;
@@ -165,38 +171,56 @@ module _ (x : Parts) (machine : IsMachine x) (e : ℕ) (at : e ≡ x.kept.chain.
           sound = subst IsSoundState (sym state-sent) (send-sound s machine.sound kind a (sym none));
         }
 
+    -- of access
+    by-runner : (f p : ℕ) → (names s r.ranges p && is_whose (changed_sender kind s.runner) f) ≡ (names s r.ranges p && is_whose (changed_sender kind e) f)
+    by-runner f p = ap (λ (g : ℕ). names s r.ranges p && is_whose (changed_sender kind g) f) (sym at)
+
+    pub access-sent : IsAccessChange s (state_of after_offer) (Some changed)
+    access-sent =
+        access-changed x after_offer machine machine-sent refl changed r.ranges (changed_sender kind e) done.access offered.placed
+        (λ f p lt its. inr (ap (λ (z : State). access z f p) state-from ∙ sent-lost s machine.sound f p lt kind r good.sender good.free (by-runner f p ∙ its)))
+        (λ f p lt kept. ap (λ (z : State). access z f p) state-from ∙ sent-kept s machine.sound f p lt kind r good.sender good.free (by-runner f p ∙ kept))
+
   -- the clauses of the pool's call
-  module _ (result : Result ℕ ErrorCode)
+  module _ (result : Result Sent ErrorCode)
       (refusal : result_err result ≡ first_failure (send_guards (scene_in (array_vec_len x.kept.layout.regions) x.kept.pages x.kept.layout.base x.kept.buffers (offers_in x.kept.pool)) e a (send_of kind bytes)))
       (kept : OnErr result (pool ≡ x.kept.pool)) (kept_pages : OnErr result (pages ≡ x.kept.pages)) (kept_ram : OnErr result (ram ≡ x.ram))
-      (handle : IfOk result (λ given. given ≡ next_handle (offers_in x.kept.pool) e)) (done : OnOk result IsDone) where
+      (handle : IfOk result (λ sent. sent.handle ≡ next_handle (offers_in x.kept.pool) e)) (done : IfOk result (λ sent. IsDone sent.changed)) where
     refuses : result_err result ≡ first_failure guards
     refuses = refusal ∙ (λ i. first_failure (send_guards (scene-is x machine i) (at i) a (read-is i)))
 
     unchanged : OnErr result (after_offer ≡ x)
     unchanged = of result kept kept_pages kept_ram
       where
-        of : (r : Result ℕ ErrorCode) → OnErr r (pool ≡ x.kept.pool) → OnErr r (pages ≡ x.kept.pages) → OnErr r (ram ≡ x.ram) → OnErr r (after_offer ≡ x)
+        of : (r : Result Sent ErrorCode) → OnErr r (pool ≡ x.kept.pool) → OnErr r (pages ≡ x.kept.pages) → OnErr r (ram ≡ x.ram) → OnErr r (after_offer ≡ x)
         of (Ok given) a b c = tt
         of (Err code) same_pool same_pages same_ram = λ i. record x { ram = same_ram i; kept = record x.kept { pages = same_pages i; pool = same_pool i } }
 
-    told : IfOk result (λ given. handle_reply given ≡ (memory_send s kind a).reply)
+    told : IfOk result (λ sent. handle_reply sent.handle ≡ (memory_send s kind a).reply)
     told = of result handle
       where
-        of : (r : Result ℕ ErrorCode) → IfOk r (λ given. given ≡ next_handle (offers_in x.kept.pool) e) → IfOk r (λ given. handle_reply given ≡ (memory_send s kind a).reply)
-        of (Ok given) is = ap handle_reply (is ∙ ap (next_handle (offers_of s)) at)
+        of : (r : Result Sent ErrorCode) → IfOk r (λ sent. sent.handle ≡ next_handle (offers_in x.kept.pool) e) → IfOk r (λ sent. handle_reply sent.handle ≡ (memory_send s kind a).reply)
+        of (Ok sent) is = ap handle_reply (is ∙ ap (next_handle (offers_of s)) at)
         of (Err code) is = tt
 
     pub offer-served : replied (state_of after_offer) (handle_or_error result) ≡ served s (memory_send s kind a)
     offer-served =
-        answered-by s (state_of after_offer) (memory_send s kind a) result handle_reply refuses
+        answered-by s (state_of after_offer) (memory_send s kind a) result (λ (sent : Sent). handle_reply sent.handle) refuses
         (refused-so result (λ is. ap state_of is) unchanged)
-        (done-so result (λ none facts. state-sent (sym none ∙ refuses) facts) done)
+        (done-with result (λ sent. IsDone sent.changed) (λ sent none facts. state-sent sent.changed (sym none ∙ refuses) facts) done)
         told
 
-    pub offer-machine : IsMachine after_offer
+    pub offer-machine : IsManager after_offer
     offer-machine = of result refuses unchanged done
       where
-        of : (r : Result ℕ ErrorCode) → result_err r ≡ first_failure guards → OnErr r (after_offer ≡ x) → OnOk r IsDone → IsMachine after_offer
-        of (Ok given) passes same facts = machine-sent passes facts
-        of (Err code) fails same facts = subst IsMachine (sym same) machine
+        of : (r : Result Sent ErrorCode) → result_err r ≡ first_failure guards → OnErr r (after_offer ≡ x) → IfOk r (λ sent. IsDone sent.changed) → IsManager after_offer
+        of (Ok sent) passes same facts = machine-sent sent.changed passes facts
+        of (Err code) fails same facts = subst IsManager (sym same) machine
+
+    pub offer-changes : IsAccessChange s (state_of after_offer) (option_map (λ (sent : Sent). sent.changed) (result_ok result))
+    offer-changes = of result refuses unchanged done
+      where
+        of : (r : Result Sent ErrorCode) → result_err r ≡ first_failure guards → OnErr r (after_offer ≡ x) → IfOk r (λ sent. IsDone sent.changed)
+            → IsAccessChange s (state_of after_offer) (option_map (λ (sent : Sent). sent.changed) (result_ok r))
+        of (Ok sent) passes same facts = access-sent sent.changed passes facts
+        of (Err code) fails same facts = none-changed s (state_of after_offer) (λ f p. ap (λ (y : Parts). access (state_of y) f p) same)

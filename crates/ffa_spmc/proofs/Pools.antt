@@ -21,10 +21,10 @@ use Rattle.ffa_stage2.specs.Tables.{table_page}
 use Rattle.ffa_memshare.specs.Named.{bases_in}
 use Rattle.ffa_memshare.specs.Shared.{IsHeld, IsRoom, IsShared}
 use Rattle.ffa_memshare.specs.Stored.{Slot, named_in, page_in, slot_at as pool_slot}
-use Rattle.ffa_spmc.specs.Meaning.{IsMachine, Parts, access_by_place, slot_names, state_of}
+use Rattle.ffa_spmc.specs.Meaning.{IsManager, Parts, access_by_place, slot_names, state_of}
 use Rattle.ffa_spmc.proofs.Held.{entry-past, owned-behind, owner-is, owners-size, page-held, page-past, parties_are, size_is}
 
-module _ (x : Parts) (machine : IsMachine x) where
+module _ (x : Parts) (machine : IsManager x) where
   abbrev s : State
   s = state_of x
 

@@ -14,7 +14,7 @@ use Rattle.ffa_model.specs.Agreement.{Agrees, root}
 use Rattle.ffa_model.specs.Identifiers.{identifier}
 use Rattle.ffa_model.specs.Ram.{Ram, page_of, number_in}
 use Rattle.ffa_model.specs.Walk.{is_in_ram, walk, mapped_answer}
-use Rattle.ffa_model.specs.Reach.{at_leaf, reach, number_in_ram}
+use Rattle.ffa_model.specs.Reach.{at_leaf, reach, reach_by, number_in_ram}
 use Rattle.ffa_model.specs.Rights.{may_write}
 use Rattle.ffa_model.specs.State.{State, Page, page_at}
 use Rattle.ffa_model.specs.Access.{access, transaction_at, right_of}
@@ -61,7 +61,7 @@ past-end s e address past =
 
 module _ (ram : Ram) (s : State) (agrees : Agrees ram s) (i : ℕ) (known : i < length s.parties) where
   -- every walk gives the access, also past the input's end
-  walk-is : (address : ℕ) → walk ram (root s i) address ≡ mapped_answer (access_at s (identifier i) address) address
+  pub walk-is : (address : ℕ) → walk ram (root s i) address ≡ mapped_answer (access_at s (identifier i) address) address
   unfolding walk mapped_answer
   walk-is address = elim (cases_lt address (2 ^ 32)) [
     | inl lt ↦ agrees.walks i address known lt
@@ -85,7 +85,7 @@ module _ (ram : Ram) (s : State) (agrees : Agrees ram s) (i : ℕ) (known : i < 
   pub reach-is : (address n : ℕ) (allowed : Leaf → Bool) (may : Option Rights → Bool)
       → ((r : Rights) → allowed (record { phys = address; read = true; write = may_write r.level; exec = r.exec }) ≡ may (Some r))
       → reach ram (root s i) address n allowed ≡ reached (fault_of (address % n == 0) (access_at s (identifier i) address) may) address
-  unfolding reach mapped_answer
+  unfolding reach_by mapped_answer
   reach-is address n allowed may same =
       elim (address % n == 0) as (λ b. cond b (at_leaf ram allowed (walk ram (root s i) address)) (Err Alignment) ≡ reached (fault_of b (access_at s (identifier i) address) may) address) [
         | false ↦ refl

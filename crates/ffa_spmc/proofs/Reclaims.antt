@@ -1,14 +1,14 @@
 -- FFA_MEM_RECLAIM changes the state as the small machine's.
-use Rattle.std.proofs.Common.{◌≡◌, ◌∙◌, ℕ, ◌<◌, Bool, true, List, length, Option, Some, None, Result, Ok, Err, sym, ap, subst, arith}
-use Rattle.std.specs.Prelude.{⊤, ◌==◌, OnOk, OnErr}
-use Rattle.std.specs.Result.{result_err}
+use Rattle.std.proofs.Common.{◌≡◌, ◌∙◌, ℕ, ◌<◌, Bool, true, List, length, Option, Some, None, Result, Ok, Err, refl, sym, ap, subst, arith, inl}
+use Rattle.std.specs.Prelude.{◌==◌, ◌&&◌, IfOk, OnOk, OnErr}
+use Rattle.std.specs.Result.{result_err, result_ok}
 use Rattle.std.specs.FinMap as finite
 use Rattle.std.proofs.lemmas.Bool.{eqb-true, leb-true}
 use Rattle.std.proofs.lemmas.Bool.Decides.{nat_tests}
 use Rattle.arrayvec.specs.ArrayVec.{array_vec_len}
 use Rattle.ffa_model.specs.declared.operation.ErrorCode.{ErrorCode}
 use Rattle.ffa_model.specs.declared.operation.ErrorCode.TheVariants.{InvalidParameters, Denied}
-use Rattle.ffa_model.specs.Access.{is_from, names}
+use Rattle.ffa_model.specs.Access.{access, is_from, names}
 use Rattle.ffa_model.specs.Bits.{is_set}
 use Rattle.ffa_model.specs.Calls.{first_failure, replied, served, success}
 use Rattle.ffa_model.specs.Identifiers.{place}
@@ -21,6 +21,8 @@ use Rattle.ffa_model.specs.Transactions.{Bases, bases_of, closed, handle_of, off
 use Rattle.ffa_model.proofs.Guards.{guard-passes}
 use Rattle.ffa_model.proofs.KeptCalls.{reclaimed-sound}
 use Rattle.ffa_pages.specs.Entry.{Entry, base_at}
+use Rattle.ffa_memshare.specs.declared.changed.Changed.{Changed}
+use Rattle.ffa_memshare.specs.Changed.{IsChanged, changed_reclaimer, changed_sender}
 use Rattle.ffa_memshare.specs.Changes.{IsMarked, IsMoved}
 use Rattle.ffa_memshare.specs.Grants.{with_rights}
 use Rattle.ffa_memshare.specs.Named.{bases_in}
@@ -29,15 +31,17 @@ use Rattle.ffa_memshare.specs.SlotChanges.{IsClosed}
 use Rattle.ffa_memshare.specs.Stored.{Pooled, map_in, offers_in}
 use Rattle.ffa_memshare.specs.declared.marks.Mark.TheVariants.{Named}
 use Rattle.ffa_memshare.proofs.Joined.{reclaim-access}
-use Rattle.ffa_spmc.specs.Meaning.{AreOffers, IsMachine, Parts, access_by_place, state_of}
+use Rattle.ffa_spmc.specs.AccessChange.{IsAccessChange, is_whose}
+use Rattle.ffa_spmc.specs.Meaning.{AreOffers, IsManager, Parts, access_by_place, state_of}
 use Rattle.ffa_spmc.specs.Replies.{done_or_error}
 use Rattle.ffa_spmc.proofs.Answered.{answered-by, done-replies, done-so, refused-so}
 use Rattle.ffa_spmc.proofs.Closes.{offers-closed, slot-marked}
+use Rattle.ffa_spmc.proofs.AccessChanges.{access-changed, none-changed, reclaimed-kept, reclaimed-new}
 use Rattle.ffa_spmc.proofs.Moves.{SameOwners, marked-owners, of-manifest, owners-moved, pages-moved, tables-moved}
 use Rattle.ffa_spmc.proofs.Pools.{base-is, bases-are, slot-open}
 
 -- the code's runner is that of the run states; and the pool has reclaimed a handle, or refused to
-module _ (x : Parts) (machine : IsMachine x) (e : ℕ) (at : e ≡ x.kept.chain.runner) (low high flags h : ℕ) (handle : h ≡ handle_of high low) (ram : Ram) (pages : List (Option Entry)) (pool : Pooled) where
+module _ (x : Parts) (machine : IsManager x) (e : ℕ) (at : e ≡ x.kept.chain.runner) (low high flags h : ℕ) (handle : h ≡ handle_of high low) (ram : Ram) (pages : List (Option Entry)) (pool : Pooled) where
   abbrev s : State
   s = state_of x
 
@@ -57,6 +61,10 @@ module _ (x : Parts) (machine : IsMachine x) (e : ℕ) (at : e ≡ x.kept.chain.
     pub offers : offers_in pool ≡ closed (offers_in x.kept.pool) h
     pub moved : IsMoved x.ram ram (array_vec_len x.kept.layout.regions) x.kept.layout.blocks (place e) named (base_at x.kept.pages) (flags == 1)
     pub marked : IsMarked x.kept.pages pages named (Named None)
+
+  -- and what it tells of access
+  abbrev IsTold : Changed → Type 0
+  IsTold changed = IsChanged changed (named_ranges (finite.get (map_in x.kept.pool.slots) h)) (changed_reclaimer (finite.get (map_in x.kept.pool.slots) h) e)
 
   module _ (none : None ≡ first_failure guards) (done : IsReclaimed) where
     abbrev t : Transaction
@@ -105,7 +113,7 @@ module _ (x : Parts) (machine : IsMachine x) (e : ℕ) (at : e ≡ x.kept.chain.
         ∙ reclaim-access s machine.sound h t was unheld (is_set 0 flags) i p lt
         ∙ sym (ap (λ (z : State). access_by_place z i p) state-reclaimed)
 
-    pub machine-reclaimed : IsMachine after_reclaim
+    pub machine-reclaimed : IsManager after_reclaim
     machine-reclaimed =
         record {
           laws = machine.laws;
@@ -118,26 +126,37 @@ module _ (x : Parts) (machine : IsMachine x) (e : ℕ) (at : e ≡ x.kept.chain.
           sound = subst IsSoundState (sym state-reclaimed) (reclaimed-sound s machine.sound h t was (is_set 0 flags));
         }
 
+    by-sender : (f p : ℕ) → (names s t.ranges p && is_whose (changed_sender t.kind t.sender) f) ≡ (names s t.ranges p && is_whose (changed_sender t.kind e) f)
+    by-sender f p = ap (λ (g : ℕ). names s t.ranges p && is_whose (changed_sender t.kind g) f) sender
+
+    access-reclaimed : (changed : Changed) → IsTold changed → IsAccessChange s (state_of after_reclaim) (Some changed)
+    access-reclaimed changed told =
+        access-changed x after_reclaim machine machine-reclaimed refl changed t.ranges (changed_sender t.kind e)
+        (subst (λ (o : Option Transaction). IsChanged changed (named_ranges o) (changed_reclaimer o e)) was told)
+        (machine.offers.offered done.slot.slot h t done.slot.was).placed
+        (λ f p lt its. inl (reclaimed-new s machine.sound f p lt h t was unheld (by-sender f p ∙ its)))
+        (λ f p lt kept. ap (λ (z : State). access z f p) state-reclaimed ∙ reclaimed-kept s machine.sound f p lt h t was unheld (is_set 0 flags) (by-sender f p ∙ kept))
+
   -- the clauses of the pool's call
-  module _ (r : Result ⊤ ErrorCode) (refusal : result_err r ≡ first_failure (reclaim_guards (bases_in x.kept.pages x.kept.layout.base) e flags (finite.get (map_in x.kept.pool.slots) h)))
+  module _ (r : Result Changed ErrorCode) (refusal : result_err r ≡ first_failure (reclaim_guards (bases_in x.kept.pages x.kept.layout.base) e flags (finite.get (map_in x.kept.pool.slots) h)))
       (kept : OnErr r (pool ≡ x.kept.pool)) (kept_pages : OnErr r (pages ≡ x.kept.pages)) (kept_ram : OnErr r (ram ≡ x.ram))
       (slot : OnOk r (IsClosed x.kept.pool pool h)) (offers : OnOk r (offers_in pool ≡ closed (offers_in x.kept.pool) h))
       (moved : OnOk r (IsMoved x.ram ram (array_vec_len x.kept.layout.regions) x.kept.layout.blocks (place e) named (base_at x.kept.pages) (flags == 1)))
-      (marked : OnOk r (IsMarked x.kept.pages pages named (Named None))) where
+      (marked : OnOk r (IsMarked x.kept.pages pages named (Named None))) (changed : IfOk r IsTold) where
     unchanged : OnErr r (after_reclaim ≡ x)
     unchanged = of r kept kept_pages kept_ram
       where
-        of : (r : Result ⊤ ErrorCode) → OnErr r (pool ≡ x.kept.pool) → OnErr r (pages ≡ x.kept.pages) → OnErr r (ram ≡ x.ram) → OnErr r (after_reclaim ≡ x)
-        of (Ok unit) a b c = tt
+        of : (r : Result Changed ErrorCode) → OnErr r (pool ≡ x.kept.pool) → OnErr r (pages ≡ x.kept.pages) → OnErr r (ram ≡ x.ram) → OnErr r (after_reclaim ≡ x)
+        of (Ok told) a b c = tt
         of (Err code) same_pool same_pages same_ram = λ i. record x { ram = same_ram i; kept = record x.kept { pages = same_pages i; pool = same_pool i } }
 
     done : OnOk r IsReclaimed
     done = of r slot offers moved marked
       where
-        of : (r : Result ⊤ ErrorCode) → OnOk r (IsClosed x.kept.pool pool h) → OnOk r (offers_in pool ≡ closed (offers_in x.kept.pool) h)
+        of : (r : Result Changed ErrorCode) → OnOk r (IsClosed x.kept.pool pool h) → OnOk r (offers_in pool ≡ closed (offers_in x.kept.pool) h)
             → OnOk r (IsMoved x.ram ram (array_vec_len x.kept.layout.regions) x.kept.layout.blocks (place e) named (base_at x.kept.pages) (flags == 1))
             → OnOk r (IsMarked x.kept.pages pages named (Named None)) → OnOk r IsReclaimed
-        of (Ok unit) closes leaves moves marks = record { slot = closes; offers = leaves; moved = moves; marked = marks }
+        of (Ok told) closes leaves moves marks = record { slot = closes; offers = leaves; moved = moves; marked = marks }
         of (Err code) a b c d = tt
 
     refuses : result_err r ≡ first_failure guards
@@ -155,9 +174,16 @@ module _ (x : Parts) (machine : IsMachine x) (e : ℕ) (at : e ≡ x.kept.chain.
         (done-so r (λ none facts. state-reclaimed (sym none ∙ refuses) facts ∙ ap (λ (k : ℕ). reclaimed s k (is_set 0 flags)) handle) done)
         (done-replies r)
 
-    pub reclaim-machine : IsMachine after_reclaim
+    pub reclaim-machine : IsManager after_reclaim
     reclaim-machine = of r refuses unchanged done
       where
-        of : (r : Result ⊤ ErrorCode) → result_err r ≡ first_failure guards → OnErr r (after_reclaim ≡ x) → OnOk r IsReclaimed → IsMachine after_reclaim
-        of (Ok unit) passes same facts = machine-reclaimed passes facts
-        of (Err code) fails same facts = subst IsMachine (sym same) machine
+        of : (r : Result Changed ErrorCode) → result_err r ≡ first_failure guards → OnErr r (after_reclaim ≡ x) → OnOk r IsReclaimed → IsManager after_reclaim
+        of (Ok told) passes same facts = machine-reclaimed passes facts
+        of (Err code) fails same facts = subst IsManager (sym same) machine
+
+    pub reclaim-changes : IsAccessChange s (state_of after_reclaim) (result_ok r)
+    reclaim-changes = of r refuses unchanged done changed
+      where
+        of : (r : Result Changed ErrorCode) → result_err r ≡ first_failure guards → OnErr r (after_reclaim ≡ x) → OnOk r IsReclaimed → IfOk r IsTold → IsAccessChange s (state_of after_reclaim) (result_ok r)
+        of (Ok told) passes same facts is = access-reclaimed passes facts told is
+        of (Err code) fails same facts is = none-changed s (state_of after_reclaim) (λ f p. ap (λ (y : Parts). access (state_of y) f p) same)

@@ -1,13 +1,13 @@
 -- FFA_MEM_RELINQUISH changes the state as the small machine's.
-use Rattle.std.proofs.Common.{◌≡◌, ◌∙◌, ℕ, ◌<◌, Bool, true, List, length, Some, None, Result, Ok, Err, refl, sym, ap, subst}
-use Rattle.std.specs.Prelude.{⊤, OnOk, OnErr}
-use Rattle.std.specs.Result.{result_err}
+use Rattle.std.proofs.Common.{◌≡◌, ◌∙◌, ℕ, ◌<◌, Bool, true, List, length, Some, None, Result, Ok, Err, refl, sym, ap, subst, inr}
+use Rattle.std.specs.Prelude.{◌==◌, ◌&&◌, IfOk, OnErr}
+use Rattle.std.specs.Result.{result_err, result_ok}
 use Rattle.std.proofs.lemmas.Bool.{false≢true}
 use Rattle.arrayvec.specs.ArrayVec.{array_vec_len}
 use Rattle.ffa_model.specs.declared.operation.ErrorCode.{ErrorCode}
 use Rattle.ffa_model.specs.declared.operation.ErrorCode.TheVariants.{InvalidParameters}
 use Rattle.ffa_model.specs.declared.descriptor.RelinquishDesc.{RelinquishDesc}
-use Rattle.ffa_model.specs.Access.{is_offered, is_receiver, names}
+use Rattle.ffa_model.specs.Access.{access, is_offered, is_receiver, names}
 use Rattle.ffa_model.specs.Buffers.{buffers_in}
 use Rattle.ffa_model.specs.Calls.{first_failure, replied, served, success}
 use Rattle.ffa_model.specs.Identifiers.{place}
@@ -20,23 +20,26 @@ use Rattle.ffa_model.specs.State.{State, Transaction, transaction_of}
 use Rattle.ffa_model.specs.Transactions.{not_holding, offers_of, with_offers, with_transaction}
 use Rattle.ffa_model.proofs.Guards.{guard-passes}
 use Rattle.ffa_model.proofs.KeptCalls.{relinquished-sound}
+use Rattle.ffa_memshare.specs.declared.changed.Changed.{Changed}
 use Rattle.ffa_memshare.specs.Changes.{IsMoved}
 use Rattle.ffa_memshare.specs.Grants.{with_rights}
 use Rattle.ffa_memshare.specs.Ranges.{in_ranges}
 use Rattle.ffa_memshare.specs.Relinquished.{IsRelinquished}
 use Rattle.ffa_memshare.specs.Stored.{Pooled, offers_in}
 use Rattle.ffa_memshare.specs.Scenes.{tx_in}
-use Rattle.ffa_spmc.specs.Meaning.{AreOffers, IsMachine, Parts, access_by_place, state_of}
+use Rattle.ffa_spmc.specs.AccessChange.{IsAccessChange}
+use Rattle.ffa_spmc.specs.Meaning.{AreOffers, IsManager, Parts, access_by_place, state_of}
 use Rattle.ffa_spmc.specs.Replies.{done_or_error}
-use Rattle.ffa_spmc.proofs.Answered.{answered-by, done-replies, done-so, refused-so}
+use Rattle.ffa_spmc.proofs.Answered.{answered-by, done-replies, done-with, refused-so}
 use Rattle.ffa_spmc.proofs.Closes.{offers-reheld}
 use Rattle.ffa_spmc.proofs.Granted.{relinquish-granted}
+use Rattle.ffa_spmc.proofs.AccessChanges.{access-changed, none-changed, relinquished-kept, relinquished-lost}
 use Rattle.ffa_spmc.proofs.Moves.{of-manifest, pages-moved, same-owners, tables-moved}
 use Rattle.ffa_spmc.proofs.Pools.{open-slot}
 use Rattle.ffa_spmc.proofs.Sends.{sent-is}
 
 -- the code's runner is that of the run states; and it has given up what its TX describes, or was refused
-module _ (x : Parts) (machine : IsMachine x) (e : ℕ) (at : e ≡ x.kept.chain.runner) (ram : Ram) (pool : Pooled) where
+module _ (x : Parts) (machine : IsManager x) (e : ℕ) (at : e ≡ x.kept.chain.runner) (ram : Ram) (pool : Pooled) where
   abbrev s : State
   s = state_of x
 
@@ -50,10 +53,10 @@ module _ (x : Parts) (machine : IsMachine x) (e : ℕ) (at : e ≡ x.kept.chain.
   guards = (memory_relinquish s).guards
 
   -- what the pool has done
-  abbrev IsDone : Type 0
-  IsDone = IsRelinquished x.kept.pool pool x.ram ram x.kept.layout.base (array_vec_len x.kept.layout.regions) x.kept.layout.blocks e bytes
+  abbrev IsDone : Changed → Type 0
+  IsDone changed = IsRelinquished x.kept.pool pool x.ram ram x.kept.layout.base (array_vec_len x.kept.layout.regions) x.kept.layout.blocks e bytes changed
 
-  module _ (none : None ≡ first_failure guards) (done : IsDone) where
+  module _ (changed : Changed) (none : None ≡ first_failure guards) (done : IsDone changed) where
     abbrev d : RelinquishDesc
     d = done.asked
 
@@ -99,7 +102,7 @@ module _ (x : Parts) (machine : IsMachine x) (e : ℕ) (at : e ≡ x.kept.chain.
         ∙ relinquish-granted s machine.sound d.handle t was (λ q. None) i p lt d refl other refl
         ∙ sym (ap (λ (z : State). access_by_place z i p) state-from)
 
-    pub machine-relinquished : IsMachine after_relinquish
+    pub machine-relinquished : IsManager after_relinquish
     machine-relinquished =
         record {
           laws = machine.laws;
@@ -112,9 +115,19 @@ module _ (x : Parts) (machine : IsMachine x) (e : ℕ) (at : e ≡ x.kept.chain.
           sound = subst IsSoundState (sym state-from) (relinquished-sound s machine.sound d t was);
         }
 
+    by-runner : (f p : ℕ) → (names s t.ranges p && s.runner == f) ≡ (names s t.ranges p && e == f)
+    by-runner f p = ap (λ (g : ℕ). names s t.ranges p && g == f) (sym at)
+
+    pub access-relinquished : IsAccessChange s (state_of after_relinquish) (Some changed)
+    access-relinquished =
+        access-changed x after_relinquish machine machine-relinquished refl changed t.ranges (Some (record { 0 = e })) done.access
+        (let slot = open-slot x machine d.handle t was in (machine.offers.offered slot.0 d.handle t slot.1).placed)
+        (λ f p lt its. inr (ap (λ (z : State). access z f p) state-from ∙ relinquished-lost s machine.sound f p lt d.handle t was d refl other (by-runner f p ∙ its)))
+        (λ f p lt kept. ap (λ (z : State). access z f p) state-from ∙ relinquished-kept s machine.sound f p lt d.handle t was d refl (by-runner f p ∙ kept))
+
   -- the clauses of the pool's call
-  module _ (r : Result ⊤ ErrorCode) (refusal : result_err r ≡ first_failure (relinquish_guards (buffers_in x.kept.buffers e) (offers_in x.kept.pool) e (relinquish_of bytes)))
-      (kept : OnErr r (pool ≡ x.kept.pool)) (kept_ram : OnErr r (ram ≡ x.ram)) (done : OnOk r IsDone) where
+  module _ (r : Result Changed ErrorCode) (refusal : result_err r ≡ first_failure (relinquish_guards (buffers_in x.kept.buffers e) (offers_in x.kept.pool) e (relinquish_of bytes)))
+      (kept : OnErr r (pool ≡ x.kept.pool)) (kept_ram : OnErr r (ram ≡ x.ram)) (done : IfOk r IsDone) where
     refuses : result_err r ≡ first_failure guards
     refuses =
         refusal
@@ -123,20 +136,27 @@ module _ (x : Parts) (machine : IsMachine x) (e : ℕ) (at : e ≡ x.kept.chain.
     unchanged : OnErr r (after_relinquish ≡ x)
     unchanged = of r kept kept_ram
       where
-        of : (r : Result ⊤ ErrorCode) → OnErr r (pool ≡ x.kept.pool) → OnErr r (ram ≡ x.ram) → OnErr r (after_relinquish ≡ x)
-        of (Ok unit) a b = tt
+        of : (r : Result Changed ErrorCode) → OnErr r (pool ≡ x.kept.pool) → OnErr r (ram ≡ x.ram) → OnErr r (after_relinquish ≡ x)
+        of (Ok changed) a b = tt
         of (Err code) same_pool same_ram = λ i. record x { ram = same_ram i; kept = record x.kept { pool = same_pool i } }
 
     pub relinquish-served : replied (state_of after_relinquish) (done_or_error r) ≡ served s (memory_relinquish s)
     relinquish-served =
         answered-by s (state_of after_relinquish) (memory_relinquish s) r (λ done. success 0 0) refuses
         (refused-so r (λ is. ap state_of is) unchanged)
-        (done-so r (λ none facts. state-relinquished (sym none ∙ refuses) facts) done)
+        (done-with r IsDone (λ changed none facts. state-relinquished changed (sym none ∙ refuses) facts) done)
         (done-replies r)
 
-    pub relinquish-machine : IsMachine after_relinquish
+    pub relinquish-machine : IsManager after_relinquish
     relinquish-machine = of r refuses unchanged done
       where
-        of : (r : Result ⊤ ErrorCode) → result_err r ≡ first_failure guards → OnErr r (after_relinquish ≡ x) → OnOk r IsDone → IsMachine after_relinquish
-        of (Ok unit) passes same facts = machine-relinquished passes facts
-        of (Err code) fails same facts = subst IsMachine (sym same) machine
+        of : (r : Result Changed ErrorCode) → result_err r ≡ first_failure guards → OnErr r (after_relinquish ≡ x) → IfOk r IsDone → IsManager after_relinquish
+        of (Ok changed) passes same facts = machine-relinquished changed passes facts
+        of (Err code) fails same facts = subst IsManager (sym same) machine
+
+    pub relinquish-changes : IsAccessChange s (state_of after_relinquish) (result_ok r)
+    relinquish-changes = of r refuses unchanged done
+      where
+        of : (r : Result Changed ErrorCode) → result_err r ≡ first_failure guards → OnErr r (after_relinquish ≡ x) → IfOk r IsDone → IsAccessChange s (state_of after_relinquish) (result_ok r)
+        of (Ok changed) passes same facts = access-relinquished changed passes facts
+        of (Err code) fails same facts = none-changed s (state_of after_relinquish) (λ f p. ap (λ (y : Parts). access (state_of y) f p) same)

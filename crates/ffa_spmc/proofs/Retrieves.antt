@@ -1,8 +1,9 @@
 -- FFA_MEM_RETRIEVE_REQ changes the state as the small machine's.
-use Rattle.std.proofs.Common.{◌≡◌, ◌∙◌, ℕ, ◌<◌, Bool, true, false, List, length, take, Option, Some, None, Result, Ok, Err, refl, sym, ap, subst}
-use Rattle.std.specs.Prelude.{IfOk, OnOk, OnErr}
-use Rattle.std.specs.Option.{option_map_or}
-use Rattle.std.specs.Result.{result_err}
+use Rattle.std.proofs.Common.{◌≡◌, ◌∙◌, ℕ, ◌<◌, Bool, true, false, List, length, take, Option, Some, None, Result, Ok, Err, refl, sym, ap, subst, inl}
+use Rattle.std.specs.Prelude.{◌==◌, ◌&&◌, is_none, IfOk, OnOk, OnErr}
+use Rattle.std.specs.Option.{option_map, option_map_or}
+use Rattle.std.specs.Result.{result_err, result_ok}
+use Rattle.std.proofs.lemmas.Bool.{false≢true}
 use Rattle.std.proofs.lemmas.Option.{same_Some}
 use Rattle.arrayvec.specs.ArrayVec.{array_vec_len}
 use Rattle.ffa_model.specs.declared.call.Call.TheVariants.{MemRetrieve}
@@ -14,7 +15,7 @@ use Rattle.ffa_model.specs.declared.operation.ErrorCode.TheVariants.{InvalidPara
 use Rattle.ffa_model.specs.declared.rights.Kind.{Kind}
 use Rattle.ffa_model.specs.declared.rights.Kind.TheVariants.{Share, Lend, Donate}
 use Rattle.ffa_model.specs.declared.rights.Rights.{Rights}
-use Rattle.ffa_model.specs.Access.{is_receiver, names}
+use Rattle.ffa_model.specs.Access.{access, held_by, is_receiver, names}
 use Rattle.ffa_model.specs.Buffers.{buffers_in, buffers_with_rx, filled, is_full}
 use Rattle.ffa_model.specs.Calls.{first_failure, replied, served}
 use Rattle.ffa_model.specs.Identifiers.{identifier, place}
@@ -32,6 +33,7 @@ use Rattle.ffa_model.proofs.KeptCalls.{taken-sound}
 use Rattle.ffa_laws.proofs.SoundOperations.{call-sound}
 use Rattle.ffa_pages.specs.Entry.{Entry}
 use Rattle.ffa_rxtx.specs.Parts.{candidates_in}
+use Rattle.ffa_memshare.specs.declared.changed.Retrieved.{Retrieved as Taken}
 use Rattle.ffa_memshare.specs.Changes.{IsMoved}
 use Rattle.ffa_memshare.specs.Grants.{with_rights}
 use Rattle.ffa_memshare.specs.Named.{bases_in}
@@ -40,7 +42,8 @@ use Rattle.ffa_memshare.specs.Retrieved.{IsPassedOn, IsRetrieved, IsTaken}
 use Rattle.ffa_memshare.specs.Scenes.{after_transfer, descriptor_in, scene_in}
 use Rattle.ffa_memshare.specs.SlotChanges.{IsClosed, IsHeldBy}
 use Rattle.ffa_memshare.specs.Stored.{Pooled, offers_in, slot_at as pool_slot}
-use Rattle.ffa_spmc.specs.Meaning.{AreOffers, HasTables, IsMachine, Parts, access_by_place, state_of}
+use Rattle.ffa_spmc.specs.AccessChange.{IsAccessChange}
+use Rattle.ffa_spmc.specs.Meaning.{AreOffers, HasTables, IsManager, IsOffered, Parts, access_by_place, state_of}
 use Rattle.ffa_spmc.specs.Replies.{retrieved_or_error}
 use Rattle.ffa_spmc.proofs.Answered.{answered-by, passed-state, refused-so}
 use Rattle.ffa_spmc.proofs.Candidates.{candidates-are}
@@ -49,12 +52,13 @@ use Rattle.ffa_spmc.proofs.Donations.{owners-passed, pages-passed}
 use Rattle.ffa_spmc.proofs.Fills.{runner-there, state-filled, tables-filled, after_fill}
 use Rattle.ffa_spmc.proofs.Granted.{donate-granted, retrieve-granted}
 use Rattle.ffa_spmc.proofs.Held.{parties_are}
+use Rattle.ffa_spmc.proofs.AccessChanges.{access-changed, none-changed, retrieved-kept, retrieved-new}
 use Rattle.ffa_spmc.proofs.Moves.{of-manifest, same-owners, slot-given, tables-moved}
-use Rattle.ffa_spmc.proofs.Pools.{bases-are, slot-open}
+use Rattle.ffa_spmc.proofs.Pools.{bases-are, open-slot, slot-open}
 use Rattle.ffa_spmc.proofs.Sends.{sent-is}
 
 -- what the checks of a call read is the same in the state
-pub scene-is : (x : Parts) → IsMachine x → scene_in (array_vec_len x.kept.layout.regions) x.kept.pages x.kept.layout.base x.kept.buffers (offers_in x.kept.pool) ≡ scene_of (state_of x)
+pub scene-is : (x : Parts) → IsManager x → scene_in (array_vec_len x.kept.layout.regions) x.kept.pages x.kept.layout.base x.kept.buffers (offers_in x.kept.pool) ≡ scene_of (state_of x)
 scene-is x machine = λ i. record {
   endpoints = (machine.layout.endpoints ∙ sym (parties_are x)) i;
   ram = (ap (candidates_in x.kept.pages) machine.layout.base ∙ sym (candidates-are x machine)) i;
@@ -64,7 +68,7 @@ scene-is x machine = λ i. record {
 }
 
 -- the code's runner is that of the run states; and it has retrieved what its TX describes, or was refused
-module _ (x : Parts) (machine : IsMachine x) (e : EndpointId) (at : e.0 ≡ x.kept.chain.runner) (total fragment address count : ℕ)
+module _ (x : Parts) (machine : IsManager x) (e : EndpointId) (at : e.0 ≡ x.kept.chain.runner) (total fragment address count : ℕ)
     (ram : Ram) (pages : List (Option Entry)) (pool : Pooled) (buffers : List (Option Buffers)) where
   abbrev s : State
   s = state_of x
@@ -82,13 +86,13 @@ module _ (x : Parts) (machine : IsMachine x) (e : EndpointId) (at : e.0 ≡ x.ke
   guards = (memory_retrieve s registers).guards
 
   -- what the pool has done
-  abbrev IsDone : ℕ → Type 0
-  IsDone size = IsRetrieved x.kept.pool pool x.ram ram x.kept.pages pages x.kept.layout.base (array_vec_len x.kept.layout.regions) x.kept.layout.blocks (buffers_in x.kept.buffers e.0) e bytes size
+  abbrev IsDone : Taken → Type 0
+  IsDone taken = IsRetrieved x.kept.pool pool x.ram ram x.kept.pages pages x.kept.layout.base (array_vec_len x.kept.layout.regions) x.kept.layout.blocks (buffers_in x.kept.buffers e.0) e bytes taken.size taken.changed
 
   descriptor-is : retrieve_of e.0 bytes ≡ retrieve_read s total
   descriptor-is = λ i. retrieve_of (at i) (take total (sent-is x machine e.0 at i))
 
-  module _ (size : ℕ) (none : None ≡ first_failure guards) (done : IsDone size) (full : buffers ≡ buffers_with_rx x.kept.buffers e.0 true) where
+  module _ (taken : Taken) (none : None ≡ first_failure guards) (done : IsDone taken) (full : buffers ≡ buffers_with_rx x.kept.buffers e.0 true) where
     abbrev d : RetrieveDesc
     d = done.asked
 
@@ -183,7 +187,7 @@ module _ (x : Parts) (machine : IsMachine x) (e : EndpointId) (at : e.0 ≡ x.ke
             (subst (AreOffers x.manifest x.kept.pages) (sym its.slots)
             (offers-reheld x.manifest x.kept.pages x.kept.pool.slots machine.offers its.slot d.handle its.transaction its.was e.0 (Some right)))
 
-    machine-taken : IsMachine before
+    machine-taken : IsManager before
     machine-taken =
         record {
           laws = machine.laws;
@@ -212,7 +216,7 @@ module _ (x : Parts) (machine : IsMachine x) (e : EndpointId) (at : e.0 ≡ x.ke
         ∙ ap (retrieved_right s d.handle t s.runner) right-is
         ∙ sym (ap (retrieved s) read ∙ ap (retrieved_from s d) was)
 
-    pub machine-retrieved : IsMachine after_retrieve
+    pub machine-retrieved : IsManager after_retrieve
     machine-retrieved =
         record {
           laws = machine.laws;
@@ -225,13 +229,38 @@ module _ (x : Parts) (machine : IsMachine x) (e : EndpointId) (at : e.0 ≡ x.ke
               (call-sound s machine.sound (MemRetrieve total fragment address count));
         }
 
-    pub length-retrieved : Retrieved size ≡ (memory_retrieve s registers).reply
+    pub length-retrieved : Retrieved taken.size ≡ (memory_retrieve s registers).reply
     length-retrieved =
         ap Retrieved (done.answer.bytes
         ∙ sym (ap (response_length s) read ∙ ap (λ o. option_map_or (λ (u : Transaction). response_size u.ranges) o 0) was))
 
+    -- of access
+    offered : IsOffered x.manifest t
+    offered = let slot = open-slot x machine d.handle t was in machine.offers.offered slot.0 d.handle t slot.1
+
+    by-runner : (f p : ℕ) → (names s t.ranges p && s.runner == f) ≡ (names s t.ranges p && e.0 == f)
+    by-runner f p = ap (λ (g : ℕ). names s t.ranges p && g == f) (sym at)
+
+    pub access-retrieved : IsAccessChange s (state_of after_retrieve) (Some taken.changed)
+    access-retrieved =
+        access-changed x after_retrieve machine machine-retrieved refl taken.changed t.ranges (Some e) done.access offered.placed
+        (λ f p lt its. inl (retrieved-new s machine.sound f p lt d.handle t was s.runner unheld other (by-runner f p ∙ its)))
+        (λ f p lt kept.
+        ap (λ (z : State). access z f p) (state-retrieved ∙ ap (retrieved s) read ∙ ap (retrieved_from s d) was)
+        ∙ retrieved-kept s machine.sound f p lt d.handle t was s.runner (right_for (bases_of s) t s.runner d) (by-runner f p ∙ kept))
+      where
+        none-of : (o : Option Rights) → is_none o ≡ true → o ≡ None
+        none-of None is = refl
+        none-of (Some its) is = absurd (false≢true is)
+
+        unheld : held_by t s.runner ≡ None
+        unheld = none-of (held_by t s.runner) (guard-passes checked 9 Denied passes)
+
+        other : t.sender ≡ s.runner → ⊥
+        other same = false≢true (sym offered.other ∙ ap (λ (f : ℕ). is_receiver f t) same ∙ receiver)
+
   -- the clauses of the pool's call
-  module _ (r : Result ℕ ErrorCode)
+  module _ (r : Result Taken ErrorCode)
       (refusal : result_err r ≡ first_failure (retrieve_guards
       (scene_in (array_vec_len x.kept.layout.regions) x.kept.pages x.kept.layout.base x.kept.buffers (offers_in x.kept.pool)) e.0 registers (retrieve_of e.0 bytes)))
       (kept : OnErr r (pool ≡ x.kept.pool)) (kept_pages : OnErr r (pages ≡ x.kept.pages)) (kept_buffers : OnErr r (buffers ≡ x.kept.buffers)) (kept_ram : OnErr r (ram ≡ x.ram))
@@ -242,34 +271,42 @@ module _ (x : Parts) (machine : IsMachine x) (e : EndpointId) (at : e.0 ≡ x.ke
     unchanged : OnErr r (after_retrieve ≡ x)
     unchanged = of r kept kept_pages kept_buffers kept_ram
       where
-        of : (r : Result ℕ ErrorCode) → OnErr r (pool ≡ x.kept.pool) → OnErr r (pages ≡ x.kept.pages) → OnErr r (buffers ≡ x.kept.buffers) → OnErr r (ram ≡ x.ram) → OnErr r (after_retrieve ≡ x)
-        of (Ok size) a b c d = tt
+        of : (r : Result Taken ErrorCode) → OnErr r (pool ≡ x.kept.pool) → OnErr r (pages ≡ x.kept.pages) → OnErr r (buffers ≡ x.kept.buffers) → OnErr r (ram ≡ x.ram) → OnErr r (after_retrieve ≡ x)
+        of (Ok taken) a b c d = tt
         of (Err code) same_pool same_pages same_buffers same_ram = λ i. record x { ram = same_ram i; kept = record x.kept { pages = same_pages i; pool = same_pool i; buffers = same_buffers i } }
 
     state-done : OnOk r (state_of after_retrieve ≡ retrieved s (retrieve_read s total))
     state-done = of r refuses full done
       where
-        of : (r : Result ℕ ErrorCode) → result_err r ≡ first_failure guards → OnOk r (buffers ≡ buffers_with_rx x.kept.buffers e.0 true) → IfOk r IsDone
+        of : (r : Result Taken ErrorCode) → result_err r ≡ first_failure guards → OnOk r (buffers ≡ buffers_with_rx x.kept.buffers e.0 true) → IfOk r IsDone
             → OnOk r (state_of after_retrieve ≡ retrieved s (retrieve_read s total))
-        of (Ok size) none fills facts = state-retrieved size none facts fills
+        of (Ok taken) none fills facts = state-retrieved taken none facts fills
         of (Err code) fails fills facts = tt
 
-    told : IfOk r (λ size. Retrieved size ≡ (memory_retrieve s registers).reply)
+    told : IfOk r (λ taken. Retrieved taken.size ≡ (memory_retrieve s registers).reply)
     told = of r refuses full done
       where
-        of : (r : Result ℕ ErrorCode) → result_err r ≡ first_failure guards → OnOk r (buffers ≡ buffers_with_rx x.kept.buffers e.0 true) → IfOk r IsDone
-            → IfOk r (λ size. Retrieved size ≡ (memory_retrieve s registers).reply)
-        of (Ok size) none fills facts = length-retrieved size none facts fills
+        of : (r : Result Taken ErrorCode) → result_err r ≡ first_failure guards → OnOk r (buffers ≡ buffers_with_rx x.kept.buffers e.0 true) → IfOk r IsDone
+            → IfOk r (λ taken. Retrieved taken.size ≡ (memory_retrieve s registers).reply)
+        of (Ok taken) none fills facts = length-retrieved taken none facts fills
         of (Err code) fails fills facts = tt
 
     pub retrieve-served : replied (state_of after_retrieve) (retrieved_or_error r) ≡ served s (memory_retrieve s registers)
     retrieve-served =
-        answered-by s (state_of after_retrieve) (memory_retrieve s registers) r (λ size. Retrieved size) refuses
+        answered-by s (state_of after_retrieve) (memory_retrieve s registers) r (λ (taken : Taken). Retrieved taken.size) refuses
         (refused-so r (λ is. ap state_of is) unchanged) state-done told
 
-    pub retrieve-machine : IsMachine after_retrieve
+    pub retrieve-machine : IsManager after_retrieve
     retrieve-machine = of r refuses unchanged full done
       where
-        of : (r : Result ℕ ErrorCode) → result_err r ≡ first_failure guards → OnErr r (after_retrieve ≡ x) → OnOk r (buffers ≡ buffers_with_rx x.kept.buffers e.0 true) → IfOk r IsDone → IsMachine after_retrieve
-        of (Ok size) none same fills facts = machine-retrieved size none facts fills
-        of (Err code) fails same fills facts = subst IsMachine (sym same) machine
+        of : (r : Result Taken ErrorCode) → result_err r ≡ first_failure guards → OnErr r (after_retrieve ≡ x) → OnOk r (buffers ≡ buffers_with_rx x.kept.buffers e.0 true) → IfOk r IsDone → IsManager after_retrieve
+        of (Ok taken) none same fills facts = machine-retrieved taken none facts fills
+        of (Err code) fails same fills facts = subst IsManager (sym same) machine
+
+    pub retrieve-changes : IsAccessChange s (state_of after_retrieve) (option_map (λ (taken : Taken). taken.changed) (result_ok r))
+    retrieve-changes = of r refuses unchanged full done
+      where
+        of : (r : Result Taken ErrorCode) → result_err r ≡ first_failure guards → OnErr r (after_retrieve ≡ x) → OnOk r (buffers ≡ buffers_with_rx x.kept.buffers e.0 true) → IfOk r IsDone
+            → IsAccessChange s (state_of after_retrieve) (option_map (λ (taken : Taken). taken.changed) (result_ok r))
+        of (Ok taken) none same fills facts = access-retrieved taken none facts fills
+        of (Err code) fails same fills facts = none-changed s (state_of after_retrieve) (λ f p. ap (λ (y : Parts). access (state_of y) f p) same)

@@ -1,5 +1,5 @@
 -- An indirect message of the runner: what stands in its TX, and what the call leaves.
-use Rattle.std.proofs.Common.{◌≡◌, ◌∙◌, ℕ, zero, suc, ◌<◌, true, false, cond, List, [], ◌∷◌, length, map, get_or, Option, Some, None, Result, Ok, Err, refl, sym, ap, subst, arith, inl, inr}
+use Rattle.std.proofs.Common.{◌≡◌, ◌∙◌, ℕ, zero, suc, ◌<◌, true, List, [], length, map, get_or, Option, Some, None, Result, Ok, Err, refl, sym, ap, subst, arith, inl, inr}
 use Rattle.std.specs.Prelude.{IfOk, OnOk, OnErr}
 use Rattle.std.specs.Option.{option_map_or}
 use Rattle.std.specs.Result.{result_err}
@@ -23,7 +23,7 @@ use Rattle.ffa_model.specs.State.{State, Page, Party, Buffers, is_known, is_know
 use Rattle.ffa_model.proofs.Guards.{guard-passes}
 use Rattle.ffa_rxtx.specs.Parts.{with_rx_bytes}
 use Rattle.ffa_messages.specs.Parts.{AreInRam, receiver_in, sent_in, tx_in}
-use Rattle.ffa_spmc.specs.Meaning.{IsMachine, Parts, state_of}
+use Rattle.ffa_spmc.specs.Meaning.{IsManager, Parts, state_of}
 use Rattle.ffa_spmc.proofs.Fills.{buffers-there, runner-there, state-filled, tables-filled, there-inside}
 use Rattle.ffa_spmc.proofs.Held.{each, parties_are}
 use Rattle.ffa_spmc.proofs.Agreements.{agrees}
@@ -38,7 +38,7 @@ place-at : (i : ℕ) → place (identifier i) ≡ i
 place-at zero = refl
 place-at (suc i) = omega arith
 
-module _ (x : Parts) (machine : IsMachine x) where
+module _ (x : Parts) (machine : IsManager x) where
   abbrev s : State
   s = state_of x
 

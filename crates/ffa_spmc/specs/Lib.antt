@@ -1,5 +1,10 @@
+pub mod Managed
+pub mod Walks
 pub mod Snapshot
+pub mod Cached
+pub mod Caching
 pub mod Owners
 pub mod Meaning
 pub mod Replies
+pub mod AccessChange
 pub mod Arms

@@ -87,7 +87,7 @@ pub record AreOffers (m : Manifest) (pages : List (Option Entry)) (slots : List 
   pub marks : (p k : ℕ) → p < length pages → (slot_at pages p ≡ Some k) ↔ (slot_names m.ram_base p (pool_slot slots k) ≡ true)
 
 -- the tables give the access of the state, which is sound; what built tables give is noted once and for all
-pub record IsMachine (x : Parts) : Type 0 where
+pub record IsManager (x : Parts) : Type 0 where
   pub laws : TableLaws
   pub tables : HasTables x.ram x.manifest (access_by_place (state_of x))
   pub layout : IsLayoutOf x.manifest x.kept.layout

@@ -1,7 +1,10 @@
 //! The machine of the partition manager: RAM with the tables of all endpoints, and what each operation does.
 #![tactic(auto)]
 
+mod answer;
 mod kept;
 pub mod machine;
+mod manager;
+mod replies;
 
 pub use machine::Machine;

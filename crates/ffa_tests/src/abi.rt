@@ -1,5 +1,5 @@
 //! The identifiers and values of the standard.
-use ffa_abi::{decode, encode, is_served};
+use ffa_abi::{decode, encode, is_function};
 use ffa_model::{Call, ErrorCode, Reply};
 
 // Registers with something in each upper half, of which the low half of x0 is the identifier.
@@ -217,13 +217,13 @@ fn no_calls(rt: HostRuntime) {
             Call::Unknown,
             "at {function:x}"
         );
-        assert!(rt; !is_served(function), "at {function:x}");
+        assert!(rt; !is_function(function), "at {function:x}");
     }
-    assert!(rt; is_served(0x8400_0069));
-    assert!(rt; !is_served(0xC400_0069));
-    assert!(rt; is_served(0x8400_0066));
-    assert!(rt; is_served(0xC400_0066));
-    assert!(rt; !is_served(0x8400_0075));
+    assert!(rt; is_function(0x8400_0069));
+    assert!(rt; !is_function(0xC400_0069));
+    assert!(rt; is_function(0x8400_0066));
+    assert!(rt; is_function(0xC400_0066));
+    assert!(rt; !is_function(0x8400_0075));
 }
 
 #[test]

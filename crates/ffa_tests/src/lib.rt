@@ -1,15 +1,27 @@
-//! Tests of the crates below the machine, each through what its crate makes public. They stand here and not in their
+//! Tests of the crates below the program, each through what its crate makes public. They stand here and not in their
 //! crates, since a crate with tests is proved twice at each landing.
 #![tactic(auto)]
 
 #[cfg(test)]
 mod abi;
 #[cfg(test)]
+mod command;
+#[cfg(test)]
+mod direct_messages;
+#[cfg(test)]
+mod indirect_messages;
+#[cfg(test)]
 mod manifest;
 #[cfg(test)]
 mod memdesc;
 #[cfg(test)]
 mod pages;
+#[cfg(test)]
+mod physmem;
+#[cfg(test)]
+mod player;
+#[cfg(test)]
+mod rows;
 #[cfg(test)]
 mod rxtx;
 #[cfg(test)]
@@ -18,5 +30,7 @@ mod schedule;
 mod setup;
 #[cfg(test)]
 mod stage2;
+#[cfg(test)]
+mod tlb;
 #[cfg(test)]
 mod walker;

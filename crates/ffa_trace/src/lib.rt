@@ -4,8 +4,6 @@
 mod line;
 pub mod output;
 mod player;
-#[cfg(test)]
-mod rows;
 mod show;
 pub mod text;
 

@@ -15,6 +15,7 @@ use crate::{line, show};
 use ffa_model::{Op, Outcome, Size};
 use ffa_physmem::PhysMem;
 use ffa_spmc::Machine;
+use ffa_tlb::{NoTlb, Translations};
 use memchr::memchr;
 use std::alloc::Global;
 use std::io::{Read, Write};
@@ -25,11 +26,11 @@ const BLOCK: usize = 65536;
 
 /// Plays traces on a machine, as which contracts see it.
 #[derive(Drop)]
-pub struct Player<M: PhysMem + Drop> {
-    machine: Machine<M>,
+pub struct Player<M: PhysMem + Drop, T: Translations + Drop = NoTlb> {
+    machine: Machine<M, T>,
 }
 
-impl<M: PhysMem + Drop> Model for Player<M> {
+impl<M: PhysMem + Drop, T: Translations + Drop> Model for Player<M, T> {
     ghost use Rattle.ffa_spmc.specs.Snapshot.{Snapshot, coded_snapshot};
 
     ghost Value = { Snapshot };
@@ -39,16 +40,16 @@ impl<M: PhysMem + Drop> Model for Player<M> {
     ghost view = { λ player. player.machine };
 }
 
-impl<M: PhysMem + Drop> Player<M> {
+impl<M: PhysMem + Drop, T: Translations + Drop> Player<M, T> {
     /// A player on this machine, as it is.
-    pub fn new(machine: Machine<M>) -> Player<M>
+    pub fn new(machine: Machine<M, T>) -> Player<M, T>
         ensures { result ≡ machine }
     {
         Player { machine }
     }
 
     /// The machine, as the lines so far left it.
-    pub fn machine(&self) -> &Machine<M>
+    pub fn machine(&self) -> &Machine<M, T>
         ensures { result.now ≡ self.now }
     {
         &self.machine
@@ -71,8 +72,8 @@ impl<M: PhysMem + Drop> Player<M> {
 
 // Not inlined: the block would lie on the stack while the caller boots the machine.
 #[inline(never)]
-fn play_lines<M: PhysMem + Drop, R: Read, W: Write>(
-    machine: &mut Machine<M>,
+fn play_lines<M: PhysMem + Drop, T: Translations + Drop, R: Read, W: Write>(
+    machine: &mut Machine<M, T>,
     alloc: Global,
     reader: &mut R,
     writer: &mut W,
@@ -94,8 +95,8 @@ fn play_lines<M: PhysMem + Drop, R: Read, W: Write>(
 }
 
 // Takes bytes that were read: `begun` are those of the line that hasn't ended, and `number` is its number.
-fn feed<M: PhysMem + Drop, W: Write>(
-    machine: &mut Machine<M>,
+fn feed<M: PhysMem + Drop, T: Translations + Drop, W: Write>(
+    machine: &mut Machine<M, T>,
     writer: &mut W,
     begun: &mut Vec<u8>,
     number: &mut u64,
@@ -132,8 +133,8 @@ fn keep(begun: &mut Vec<u8>, bytes: &[u8]) -> Result<(), PlayError>
 }
 
 // Does the line that begins with `begun` and ends with `piece`. A line that lies in one block isn't copied.
-fn end_line<M: PhysMem + Drop, W: Write>(
-    machine: &mut Machine<M>,
+fn end_line<M: PhysMem + Drop, T: Translations + Drop, W: Write>(
+    machine: &mut Machine<M, T>,
     writer: &mut W,
     begun: &mut Vec<u8>,
     number: u64,
@@ -153,8 +154,8 @@ fn end_line<M: PhysMem + Drop, W: Write>(
 
 // Does a line, and writes its text. The commands that most lines have are told by their bytes, and each is done where it
 // was read.
-fn do_line<M: PhysMem + Drop, W: Write>(
-    machine: &mut Machine<M>,
+fn do_line<M: PhysMem + Drop, T: Translations + Drop, W: Write>(
+    machine: &mut Machine<M, T>,
     writer: &mut W,
     number: u64,
     bytes: &[u8],
@@ -174,8 +175,8 @@ fn do_line<M: PhysMem + Drop, W: Write>(
 
 // Does a call, by the words behind its name.
 #[inline(always)]
-fn do_call<M: PhysMem + Drop, W: Write>(
-    machine: &mut Machine<M>,
+fn do_call<M: PhysMem + Drop, T: Translations + Drop, W: Write>(
+    machine: &mut Machine<M, T>,
     writer: &mut W,
     number: u64,
     words: &[u8],
@@ -192,8 +193,8 @@ fn do_call<M: PhysMem + Drop, W: Write>(
 
 // Does a load, alike.
 #[inline(always)]
-fn do_load<M: PhysMem + Drop, W: Write>(
-    machine: &mut Machine<M>,
+fn do_load<M: PhysMem + Drop, T: Translations + Drop, W: Write>(
+    machine: &mut Machine<M, T>,
     writer: &mut W,
     number: u64,
     words: &[u8],
@@ -208,8 +209,8 @@ fn do_load<M: PhysMem + Drop, W: Write>(
 
 // Does a store, alike.
 #[inline(always)]
-fn do_store<M: PhysMem + Drop, W: Write>(
-    machine: &mut Machine<M>,
+fn do_store<M: PhysMem + Drop, T: Translations + Drop, W: Write>(
+    machine: &mut Machine<M, T>,
     writer: &mut W,
     number: u64,
     words: &[u8],
@@ -223,8 +224,8 @@ fn do_store<M: PhysMem + Drop, W: Write>(
 }
 
 // Does a fetch, alike.
-fn do_fetch<M: PhysMem + Drop, W: Write>(
-    machine: &mut Machine<M>,
+fn do_fetch<M: PhysMem + Drop, T: Translations + Drop, W: Write>(
+    machine: &mut Machine<M, T>,
     writer: &mut W,
     number: u64,
     words: &[u8],
@@ -239,8 +240,8 @@ fn do_fetch<M: PhysMem + Drop, W: Write>(
 
 // Does a line of another command, of which a trace has few.
 #[inline(never)]
-fn do_other<M: PhysMem + Drop, W: Write>(
-    machine: &mut Machine<M>,
+fn do_other<M: PhysMem + Drop, T: Translations + Drop, W: Write>(
+    machine: &mut Machine<M, T>,
     writer: &mut W,
     number: u64,
     bytes: &[u8],
@@ -259,8 +260,8 @@ fn do_other<M: PhysMem + Drop, W: Write>(
 
 // Does an operation, and writes what comes of it.
 #[inline(always)]
-fn operate<M: PhysMem + Drop, W: Write>(
-    machine: &mut Machine<M>,
+fn operate<M: PhysMem + Drop, T: Translations + Drop, W: Write>(
+    machine: &mut Machine<M, T>,
     writer: &mut W,
     op: &Op,
 ) -> Result<(), PlayError>
@@ -318,6 +319,3 @@ fn write_made<W: Write>(writer: &mut W, op: &Op, outcome: &Outcome) -> Result<()
     text::push_outcome(&mut text, op, outcome);
     output::write_text(writer, text.as_slice())
 }
-
-#[cfg(test)]
-mod tests;

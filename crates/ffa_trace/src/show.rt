@@ -13,11 +13,12 @@ use crate::text::{self, CAPACITY, Text};
 use ffa_model::{EndpointId, PageNo, Rights};
 use ffa_physmem::PhysMem;
 use ffa_spmc::Machine;
+use ffa_tlb::Translations;
 use std::io::Write;
 
 /// Writes the runner, and the longest runs of pages that have one owner and one access of each endpoint.
-pub fn write_show<M: PhysMem + Drop, W: Write>(
-    machine: &Machine<M>,
+pub fn write_show<M: PhysMem + Drop, T: Translations + Drop, W: Write>(
+    machine: &Machine<M, T>,
     writer: &mut W,
 ) -> Result<(), PlayError>
     ensures { Writes (W.contents writer.old) (W.contents writer.new) (show_text machine.now.state) result }
@@ -38,7 +39,7 @@ pub fn write_show<M: PhysMem + Drop, W: Write>(
 }
 
 #[tactic(auto, unfolding(ffa_model::specs::TraceText::runner_text))]
-fn push_runner<M: PhysMem + Drop>(text: &mut Text, machine: &Machine<M>)
+fn push_runner<M: PhysMem + Drop, T: Translations + Drop>(text: &mut Text, machine: &Machine<M, T>)
     requires { text.old.items ≡ [] }
     ensures { text.new.items ≡ runner_text machine.now.state }
 {
@@ -49,7 +50,7 @@ fn push_runner<M: PhysMem + Drop>(text: &mut Text, machine: &Machine<M>)
 
 // Appends the run of pages from `first` to `last` to no text yet.
 #[tactic(auto, unfolding(ffa_model::specs::TraceText::run_text))]
-fn push_run<M: PhysMem + Drop>(text: &mut Text, machine: &Machine<M>, first: u32, last: u32)
+fn push_run<M: PhysMem + Drop, T: Translations + Drop>(text: &mut Text, machine: &Machine<M, T>, first: u32, last: u32)
     requires empty { text.old.items ≡ [] }
     requires first { first < length machine.now.state.pages }
     requires last { last < length machine.now.state.pages }
@@ -66,7 +67,7 @@ fn push_run<M: PhysMem + Drop>(text: &mut Text, machine: &Machine<M>, first: u32
 }
 
 // Appends the access of each endpoint to a page.
-fn push_accesses<M: PhysMem + Drop>(text: &mut Text, machine: &Machine<M>, page: PageNo)
+fn push_accesses<M: PhysMem + Drop, T: Translations + Drop>(text: &mut Text, machine: &Machine<M, T>, page: PageNo)
     requires { array_vec_len text.old ≤ 64 }
     ensures items { text.new.items ≡ text.old.items ++ flat_map (λ e. spaced (rights_text (access machine.now.state e page.0))) (identifiers machine.now.state) }
     ensures room { array_vec_len text.new < CAPACITY }
@@ -77,7 +78,7 @@ fn push_accesses<M: PhysMem + Drop>(text: &mut Text, machine: &Machine<M>, page:
 }
 
 // The access of the endpoint at a place in the manifest.
-fn access<M: PhysMem + Drop>(machine: &Machine<M>, place: usize, page: PageNo) -> Option<Rights>
+fn access<M: PhysMem + Drop, T: Translations + Drop>(machine: &Machine<M, T>, place: usize, page: PageNo) -> Option<Rights>
     requires { place < 8 }
     ensures { result ≡ access machine.now.state (identifier place) page.0 }
 {
@@ -85,7 +86,7 @@ fn access<M: PhysMem + Drop>(machine: &Machine<M>, place: usize, page: PageNo) -
 }
 
 // Whether a run of pages ends with this one.
-fn ends_run<M: PhysMem + Drop>(machine: &Machine<M>, page: u32) -> bool
+fn ends_run<M: PhysMem + Drop, T: Translations + Drop>(machine: &Machine<M, T>, page: u32) -> bool
     requires { page < length machine.now.state.pages }
     ensures { result ≡ ends_run machine.now.state page }
 {
@@ -95,7 +96,7 @@ fn ends_run<M: PhysMem + Drop>(machine: &Machine<M>, page: u32) -> bool
 
 // Whether two pages have the same owner, and each endpoint has the same access to both.
 #[tactic(auto, unfolding(ffa_model::specs::TraceText::is_alike))]
-fn is_alike<M: PhysMem + Drop>(machine: &Machine<M>, page: PageNo, other: PageNo) -> bool
+fn is_alike<M: PhysMem + Drop, T: Translations + Drop>(machine: &Machine<M, T>, page: PageNo, other: PageNo) -> bool
     requires page { page.0 < length machine.now.state.pages }
     requires other { other.0 < length machine.now.state.pages }
     ensures { result ≡ is_alike machine.now.state page.0 other.0 }
@@ -103,7 +104,7 @@ fn is_alike<M: PhysMem + Drop>(machine: &Machine<M>, page: PageNo, other: PageNo
     machine.owner_of(page) == machine.owner_of(other) && has_same_accesses(machine, page, other)
 }
 
-fn has_same_accesses<M: PhysMem + Drop>(machine: &Machine<M>, page: PageNo, other: PageNo) -> bool
+fn has_same_accesses<M: PhysMem + Drop, T: Translations + Drop>(machine: &Machine<M, T>, page: PageNo, other: PageNo) -> bool
     ensures { result ≡ list_all (λ e. is_same_right (access machine.now.state e page.0) (access machine.now.state e other.0)) (identifiers machine.now.state) }
 {
     for place in 0..machine.endpoints() {

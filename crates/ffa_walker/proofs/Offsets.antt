@@ -1,17 +1,14 @@
 -- The walk keeps the low 12 bits of an address, so that an aligned access stays in one page.
 use Rattle.std.proofs.Common.{◌≡◌, ℕ, ◌*◌, ◌%◌, ◌^◌, arith}
 use Rattle.std.proofs.lemmas.Bool.{cond_both}
-use Rattle.std.specs.Prelude.{◌==◌, IfOk, nat_lt}
+use Rattle.std.specs.Prelude.{◌==◌, nat_lt}
 use Rattle.ffa_model.specs.Bits.{bits}
 use Rattle.ffa_model.specs.Ram.{Ram}
 use Rattle.ffa_model.specs.Walk.{Answer, is_page_address, entry, leaf_of, by_type, in_table, from_level3, from_level2, from_level1, walk}
 use Rattle.ffa_model.specs.Memory.{size_of}
+use Rattle.ffa_walker.specs.Offset.{KeepsOffset}
 use Rattle.ffa_model.specs.declared.operation.Size.{Size}
 use Rattle.ffa_model.specs.declared.operation.Size.TheVariants.{B1, B2, B4, B8}
-
--- a leaf in the answer has the address's place in its page
-abbrev pub KeepsOffset : ℕ → Answer → Type 0
-KeepsOffset address answer = IfOk answer (λ leaf. leaf.phys % 4096 ≡ address % 4096)
 
 KeepsOffset-leaf_of : (word phys address : ℕ) → phys % 4096 ≡ address % 4096 → KeepsOffset address (leaf_of word phys)
 unfolding leaf_of
@@ -37,7 +34,7 @@ KeepsOffset-from_level2 ram word address =
     (KeepsOffset-leaf_of word _ address (omega arith))
     (KeepsOffset-in_table ram word address _ (λ table. KeepsOffset-from_level3 (entry ram table (bits 20 12 address)) address))
 
-KeepsOffset-from_level1 : (ram : Ram) (word address : ℕ) → KeepsOffset address (from_level1 ram word address)
+pub KeepsOffset-from_level1 : (ram : Ram) (word address : ℕ) → KeepsOffset address (from_level1 ram word address)
 unfolding from_level1
 KeepsOffset-from_level1 ram word address =
     KeepsOffset-by_type word address _ _

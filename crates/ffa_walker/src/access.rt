@@ -5,6 +5,7 @@ ghost use Rattle.ffa_model.specs.Memory.{size_of};
 ghost use Rattle.ffa_model.specs.Walk as walk;
 ghost use Rattle.ffa_model.specs.Reach as spec;
 ghost use Rattle.ffa_walker.specs.Need.{needs};
+ghost use Rattle.ffa_walker.specs.Offset.{KeepsOffset};
 
 use crate::translation::{is_in_ram, translate};
 use byteorder::{ByteOrder, LittleEndian};
@@ -44,24 +45,24 @@ fn is_aligned(address: u64, size: Size) -> bool
     }
 }
 
-// The physical address where an access ends, in one page with the bytes after it.
-#[tactic(auto, unfolding(ffa_model::specs::Reach::reach))]
+// The physical address where an access ends, in one page with the bytes after it, by what a walk answered.
+#[tactic(auto, unfolding(ffa_model::specs::Reach::reach_by))]
 fn reach<M: PhysMem>(
     memory: &M,
-    root: u32,
+    walked: Result<Leaf, FaultKind>,
     address: u64,
     size: Size,
     need: Need,
 ) -> Result<u64, FaultKind>
-    requires root { walk.is_page_address (M.ram memory.now) root ≡ true }
-    ensures value { result ≡ spec.reach (M.ram memory.now) root address (size_of size) (needs need) }
+    requires offset { KeepsOffset address walked }
+    ensures value { result ≡ spec.reach_by (M.ram memory.now) walked address (size_of size) (needs need) }
     ensures aligned { IfOk result (λ physical. physical % size_of size ≡ 0) }
     ensures inside { IfOk result (λ physical. IsTrue (walk.is_in_ram (M.ram memory.now) physical)) }
 {
     if !is_aligned(address, size) {
         return Err(FaultKind::Alignment);
     }
-    let leaf = translate(memory, root, address)?;
+    let leaf = walked?;
     if !need.is_given_by(&leaf) {
         return Err(FaultKind::Permission);
     }
@@ -113,7 +114,20 @@ pub fn load<M: PhysMem>(memory: &M, root: u32, address: u64, size: Size) -> Resu
     requires root { walk.is_page_address (M.ram memory.now) root ≡ true }
     ensures loaded { result ≡ spec.loaded (M.ram memory.now) root address (size_of size) spec.may_load }
 {
-    let physical = reach(memory, root, address, size, Need::Read)?;
+    load_at(memory, translate(memory, root, address), address, size)
+}
+
+/// Loads as `load` does, where a walk of the address answered this.
+pub fn load_at<M: PhysMem>(
+    memory: &M,
+    walked: Result<Leaf, FaultKind>,
+    address: u64,
+    size: Size,
+) -> Result<u64, FaultKind>
+    requires offset { KeepsOffset address walked }
+    ensures loaded { result ≡ spec.loaded_by (M.ram memory.now) walked address (size_of size) spec.may_load }
+{
+    let physical = reach(memory, walked, address, size, Need::Read)?;
     Ok(read_number(memory, physical, size))
 }
 
@@ -123,7 +137,19 @@ pub fn fetch<M: PhysMem>(memory: &M, root: u32, address: u64) -> Result<u32, Fau
     requires root { walk.is_page_address (M.ram memory.now) root ≡ true }
     ensures fetched { result ≡ spec.loaded (M.ram memory.now) root address 4 spec.may_execute }
 {
-    let physical = reach(memory, root, address, Size::B4, Need::Execute)?;
+    fetch_at(memory, translate(memory, root, address), address)
+}
+
+/// Fetches as `fetch` does, where a walk of the address answered this.
+pub fn fetch_at<M: PhysMem>(
+    memory: &M,
+    walked: Result<Leaf, FaultKind>,
+    address: u64,
+) -> Result<u32, FaultKind>
+    requires offset { KeepsOffset address walked }
+    ensures fetched { result ≡ spec.loaded_by (M.ram memory.now) walked address 4 spec.may_execute }
+{
+    let physical = reach(memory, walked, address, Size::B4, Need::Execute)?;
     Ok(read_number(memory, physical, Size::B4) as u32)
 }
 
@@ -141,7 +167,24 @@ pub fn store<M: PhysMem>(
     ensures stored { M.ram memory.new ≡ spec.ram_after_store (M.ram memory.old) root address (size_of size) value }
     ensures root { walk.is_page_address (M.ram memory.new) root ≡ true }
 {
-    let physical = reach(memory, root, address, size, Need::Write)?;
+    let walked = translate(memory, root, address);
+    store_at(memory, walked, address, size, value)
+}
+
+/// Stores as `store` does, where a walk of the address answered this.
+pub fn store_at<M: PhysMem>(
+    memory: &mut M,
+    walked: Result<Leaf, FaultKind>,
+    address: u64,
+    size: Size,
+    value: u64,
+) -> Result<(), FaultKind>
+    requires offset { KeepsOffset address walked }
+    ensures answer { result ≡ spec.store_answer_by (M.ram memory.old) walked address (size_of size) }
+    ensures stored { M.ram memory.new ≡ spec.ram_after_store_by (M.ram memory.old) walked address (size_of size) value }
+    ensures roots { (root : ℕ) → walk.is_page_address (M.ram memory.new) root ≡ walk.is_page_address (M.ram memory.old) root }
+{
+    let physical = reach(memory, walked, address, size, Need::Write)?;
     write_number(memory, physical, size, value);
     Ok(())
 }

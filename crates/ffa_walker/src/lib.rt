@@ -4,6 +4,6 @@
 pub mod access;
 pub mod translation;
 
-pub use access::{fetch, load, store};
+pub use access::{fetch, fetch_at, load, load_at, store, store_at};
 pub use ffa_model::{FaultKind, Leaf};
 pub use translation::{is_in_ram, translate};

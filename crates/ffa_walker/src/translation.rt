@@ -3,6 +3,7 @@ ghost use Rattle.std.specs.Prelude.{◌≡◌, ℕ, ◌*◌, ◌^◌, ◌<◌, i
 ghost use Rattle.ffa_model.specs.Walk as walk;
 ghost use Rattle.ffa_model.specs.Bits.{bits};
 ghost use Rattle.ffa_model.specs.declared.operation.FaultKind.TheVariants.{OutsideRam};
+ghost use Rattle.ffa_walker.specs.Offset.{KeepsOffset};
 
 use ffa_model::{FaultKind, Leaf, PageNo};
 use ffa_physmem::PhysMem;
@@ -116,6 +117,7 @@ fn walk_from_level1<M: PhysMem>(memory: &M, word: u64, address: u64) -> Result<L
 pub fn translate<M: PhysMem>(memory: &M, root: u32, address: u64) -> Result<Leaf, FaultKind>
     requires root { walk.is_page_address (M.ram memory.now) root ≡ true }
     ensures walk { result ≡ walk.walk (M.ram memory.now) root address }
+    ensures offset { KeepsOffset address result }
 {
     if address >= 1 << 32 {
         return Err(FaultKind::Translation);

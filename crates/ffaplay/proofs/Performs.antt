@@ -1,6 +1,7 @@
 -- What a play that ended well leaves, for the one who asked for it.
 use Rattle.std.proofs.Common.{List, ◌++◌, ℕ, Option, None, Some, Ok, ap, ◌∙◌, append-nil}
-use Rattle.std.specs.Io.KnownBytes.{Consumes, IsAtEnd}
+use Rattle.std.specs.Io.KnownBytes.{Consumes, IsAtEnd, Keeps}
+use Rattle.std.specs.Prelude.{OnOk, Result, Err, refl}
 use Rattle.ffa_model.specs.State.{State}
 use Rattle.ffa_model.specs.TraceLines.{joined}
 use Rattle.ffa_trace.specs.Played.{Played}
@@ -18,3 +19,11 @@ played_whole x start now held holds had has (lines, did, consumed, ended) = reco
   all = all_consumed had has (joined lines) consumed ended;
   written = did.written;
 }
+
+pub on_ok : {T E P Q : Type 0} (result : Result T E) → (P → Q) → OnOk result P → OnOk result Q
+on_ok (Ok x) f p = f p
+on_ok (Err e) f p = tt
+
+pub kept : (held : Option (List ℕ)) → Keeps held held
+kept None = tt
+kept (Some bytes) = refl

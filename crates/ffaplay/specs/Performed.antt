@@ -48,16 +48,16 @@ pub record IsPlayed (start : State) (trace held holds : Option (List ℕ)) : Typ
 
 -- whether a command plays a trace
 abbrev pub needs_trace : Request → Bool
-needs_trace (Run m t f) = true
-needs_trace (Demo t f) = true
+needs_trace (Run m t f c) = true
+needs_trace (Demo t f c) = true
 needs_trace (Check m) = false
 needs_trace (Layout m) = false
 
--- A command was done, in whichever RAM: `manifest` are the bytes of the manifest's file, if it could be read, `trace`
+-- A command was done, in whichever RAM and with whichever cache: `manifest` are the bytes of the manifest's file, if it could be read, `trace`
 -- those that the trace's reader had, where known, and `held` and `holds` those that the writer held before, and holds.
 abbrev pub IsDone : Request → Option (List ℕ) → Option (List ℕ) → Option (List ℕ) → Option (List ℕ) → Type 0
-IsDone (Run m t f) manifest trace held holds = (parts : Parts) × Describes manifest parts × IsPlayed (first_of parts) trace held holds
-IsDone (Demo t f) manifest trace held holds = IsPlayed (first_of built_in_parts) trace held holds
+IsDone (Run m t f c) manifest trace held holds = (parts : Parts) × Describes manifest parts × IsPlayed (first_of parts) trace held holds
+IsDone (Demo t f c) manifest trace held holds = IsPlayed (first_of built_in_parts) trace held holds
 IsDone (Check m) manifest trace held holds = (parts : Parts) × Describes manifest parts × Appends held holds (ended (codes "accepted"))
 IsDone (Layout m) manifest trace held holds = (parts : Parts) × Describes manifest parts × Appends held holds (layout_text parts)
 

@@ -14,12 +14,16 @@ use ffa_manifest::ManifestError;
 use ffa_model::{Manifest, built_in};
 use ffa_physmem::{FlatRam, FrameRam, PhysMem};
 use ffa_spmc::Machine;
+use ffa_tlb::{InTurn, NoTlb, Tlb, Translations};
 use ffa_trace::text::Text;
 use ffa_trace::{PlayError, Player, output};
 use std::alloc::Global;
 use std::fmt::Display;
 use std::io::{Read, Write};
 use thiserror::Error;
+
+/// How many translations `--tlb` holds.
+const ENTRIES: usize = 4;
 
 /// Why a command isn't done.
 #[derive(Clone, Copy, Debug, PartialEq, Eq, Error)]
@@ -139,14 +143,16 @@ fn do_command<'a, R: Read + Drop, W: Write>(
             manifest: path,
             trace: trace_path,
             frames,
+            tlb,
         } => {
             let manifest = read_manifest(alloc, path, manifest)?;
-            play(alloc, &manifest, frames, trace_path, trace, out)
+            play(alloc, &manifest, frames, tlb, trace_path, trace, out)
         }
         Request::Demo {
             trace: path,
             frames,
-        } => play(alloc, &built_in(), frames, path, trace, out),
+            tlb,
+        } => play(alloc, &built_in(), frames, tlb, path, trace, out),
         Request::Check { manifest: path } => accept(alloc, path, manifest, out),
         Request::Layout { manifest: path } => lay_out(alloc, path, manifest, out),
     }
@@ -202,11 +208,12 @@ fn read_manifest<'a>(
     })
 }
 
-// Plays a trace on a machine with RAM in frames, or in one piece.
+// Plays a trace on a machine with RAM in frames or in one piece, and with a cache of translations or none.
 fn play<'a, R: Read + Drop, W: Write>(
     alloc: Global,
     manifest: &Manifest,
     frames: bool,
+    tlb: bool,
     path: &'a str,
     trace: Option<R>,
     out: &mut W,
@@ -221,18 +228,19 @@ fn play<'a, R: Read + Drop, W: Write>(
     let (base, pages) = (manifest.ram_base, 512 * manifest.ram_blocks);
     if frames {
         let ram = FrameRam::new(alloc, base, pages).map_err(|_| Failure::NoMemory)?;
-        play_in(alloc, manifest, ram, path, &mut trace, out)
+        play_on(alloc, manifest, ram, tlb, path, &mut trace, out)
     } else {
         let ram = FlatRam::new(alloc, base, pages).map_err(|_| Failure::NoMemory)?;
-        play_in(alloc, manifest, ram, path, &mut trace, out)
+        play_on(alloc, manifest, ram, tlb, path, &mut trace, out)
     }
 }
 
-// Plays a trace on a machine that boots in this RAM, which is all zeros.
-fn play_in<'a, M: PhysMem + Drop, R: Read, W: Write>(
+// Plays a trace on a machine that boots in this RAM, which is all zeros, with a cache of translations or none.
+fn play_on<'a, M: PhysMem + Drop, R: Read, W: Write>(
     alloc: Global,
     manifest: &Manifest,
     ram: M,
+    tlb: bool,
     path: &'a str,
     trace: &mut R,
     out: &mut W,
@@ -241,7 +249,29 @@ fn play_in<'a, M: PhysMem + Drop, R: Read, W: Write>(
     ensures played { OnOk result (IsPlayed (first_of (parts_of manifest.now)) (R.remaining trace.old) (W.contents out.old) (W.contents out.new)) }
     ensures failed { IfErr result IsOther }
 {
-    let mut player = Player::new(Machine::boot_cleared(manifest, ram));
+    if tlb {
+        let cache = Tlb::<InTurn, ENTRIES>::new(InTurn::default());
+        play_in(alloc, manifest, ram, cache, path, trace, out)
+    } else {
+        play_in(alloc, manifest, ram, NoTlb, path, trace, out)
+    }
+}
+
+// Plays a trace on a machine that boots in this RAM, which is all zeros, with this cache.
+fn play_in<'a, M: PhysMem + Drop, T: Translations + Drop, R: Read, W: Write>(
+    alloc: Global,
+    manifest: &Manifest,
+    ram: M,
+    cache: T,
+    path: &'a str,
+    trace: &mut R,
+    out: &mut W,
+) -> Result<(), Failure<'a>>
+    requires { M.ram ram ≡ zero_ram manifest.now.ram_base (512 * manifest.now.ram_blocks) }
+    ensures played { OnOk result (IsPlayed (first_of (parts_of manifest.now)) (R.remaining trace.old) (W.contents out.old) (W.contents out.new)) }
+    ensures failed { IfErr result IsOther }
+{
+    let mut player = Player::new(Machine::boot_cleared(manifest, ram, cache));
     match player.play(alloc, trace, out) {
         Ok(()) => Ok(()),
         Err(error) => Err(why(path, error)),

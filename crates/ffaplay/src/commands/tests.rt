@@ -51,11 +51,13 @@ const RUN: Request<'static> = Request::Run {
     manifest: "row.toml",
     trace: "row.trace",
     frames: false,
+    tlb: false,
 };
 
 const DEMO: Request<'static> = Request::Demo {
     trace: "no.trace",
     frames: false,
+    tlb: false,
 };
 
 const CHECK: Request<'static> = Request::Check {
@@ -87,8 +89,11 @@ fn performed_once(
     Ended { status, out, err }
 }
 
-// The same command with RAM in frames, or in one piece.
-fn with_frames<'a>(request: &Request<'a>, frames: bool) -> Request<'a> {
+// The kinds of machine that play: with RAM in frames or in one piece, and with a cache of translations or none.
+const KINDS: [(bool, bool); 4] = [(false, false), (true, false), (false, true), (true, true)];
+
+// The same command on a machine of one kind.
+fn on_kind<'a>(request: &Request<'a>, (frames, tlb): (bool, bool)) -> Request<'a> {
     match *request {
         Request::Run {
             manifest,
@@ -98,30 +103,26 @@ fn with_frames<'a>(request: &Request<'a>, frames: bool) -> Request<'a> {
             manifest,
             trace,
             frames,
+            tlb,
         },
-        Request::Demo { trace, .. } => Request::Demo { trace, frames },
+        Request::Demo { trace, .. } => Request::Demo { trace, frames, tlb },
         other => other,
     }
 }
 
-// How a command ends with RAM in one piece, and with RAM in frames.
+// How a command ends on a machine of each kind.
 fn performed(
     alloc: Global,
     request: &Request<'_>,
     manifest: Option<&[u8]>,
     trace: Option<&str>,
-) -> [Ended; 2] {
-    [false, true].map(|frames| performed_once(
-        alloc,
-        &with_frames(request, frames),
-        manifest,
-        trace,
-    ))
+) -> [Ended; 4] {
+    KINDS.map(|kind| performed_once(alloc, &on_kind(request, kind), manifest, trace))
 }
 
-// The same end with RAM of either kind.
-fn wanted(alloc: Global, status: u8, out: &str, err: &str) -> Result<[Ended; 2], AllocError> {
-    [false, true].try_map(|_frames| {
+// The same end on a machine of each kind.
+fn wanted(alloc: Global, status: u8, out: &str, err: &str) -> Result<[Ended; 4], AllocError> {
+    KINDS.try_map(|_kind| {
         Ok(Ended {
             status,
             out: Vec::from_slice(alloc, out.as_bytes())?,

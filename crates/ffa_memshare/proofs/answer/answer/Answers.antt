@@ -3,7 +3,7 @@ use Rattle.ffa_model.specs.Ram.{with_page}
 use Rattle.ffa_model.specs.ResponseBytes.{response_bytes, response_record}
 use Rattle.ffa_model.specs.State.{Buffers}
 use Rattle.ffa_rxtx.specs.Parts.{with_rx_bytes}
-use Rattle.ffa_memshare.proofs.ResponseSize.{length-response_bytes}
+use Rattle.ffa_model.proofs.ResponseSize.{length-response_bytes}
 use Rattle.ffa_memshare.proofs.answer.answer.Goals as goal
 
 pub returns-clause-ram : goal.returns-clause-ram

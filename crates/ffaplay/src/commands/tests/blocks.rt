@@ -7,6 +7,7 @@ ghost use Rattle.ffa_model.specs.Ram.{zero_ram};
 use ffa_model::{Manifest, PageNo};
 use ffa_physmem::{FlatRam, FrameRam, PhysMem};
 use ffa_spmc::Machine;
+use ffa_tlb::NoTlb;
 use ffa_trace::Player;
 use std::alloc::Global;
 use std::test::Fail;
@@ -83,7 +84,7 @@ fn words_of_a_lend<M: PhysMem + Drop>(
 ) -> Result<[Option<u64>; 7], Fail>
     requires { M.ram ram ≡ zero_ram manifest.now.ram_base (512 * manifest.now.ram_blocks) }
 {
-    let mut player = Player::new(Machine::boot_cleared(manifest, ram));
+    let mut player = Player::new(Machine::boot_cleared(manifest, ram, NoTlb));
     let mut out = Vec::new(alloc);
     let whole = word(&player, 0x4000_1008);
     player.play(alloc, &mut LEND.as_bytes(), &mut out)?;

@@ -34,4 +34,5 @@ returns-clause-done g c =
           (buffers_in c.args.buffers.now c.args.caller.0) h (transaction_of it) c.args.caller.0 c.in_ok-right.right c.hand_over-size.result)
           (same-handle slots k asked.handle it c.in-Some.ensures.found c.at-open.ensures.value)
           c.hand_over-size.ensures.answered;
+      access = c.of-changed.ensures;
     }

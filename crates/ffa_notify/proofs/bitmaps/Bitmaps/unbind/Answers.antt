@@ -4,4 +4,4 @@ use Rattle.ffa_notify.proofs.bitmaps.Bitmaps.unbind.Goals as goal
 
 pub unbind_bits-requires-clause-sender : goal.unbind_bits-requires-clause-sender
 unbind_bits-requires-clause-sender c =
-    between-known (length c.args.self.now.bitmaps) c.args.caller.0 c.low.result.0 c.high-sender.result.0 (sym c.is_between.ensures ∙ c.if-not-is_between.false)
+    between-known (length c.args.self.now.bitmaps) c.args.caller.0 c.in_low_half.result.0 c.in_high_half-sender.result.0 (sym c.is_between.ensures ∙ c.if-not-is_between.false)

@@ -1,7 +1,8 @@
 use Rattle.std.proofs.Common.{◌<◌, length, Some, rules}
 use Rattle.ffa_model.specs.Identifiers.{place}
 use Rattle.ffa_model.proofs.Sounds.{sound}
-use Rattle.ffa_schedule.proofs.Steps.{refill-set, start-chain, start-room, start-view}
+use Rattle.ffa_model.proofs.Written.{refill-set}
+use Rattle.ffa_schedule.proofs.Steps.{start-chain, start-room, start-view}
 use Rattle.ffa_schedule.proofs.chain.Chain.start.Goals as goal
 
 pub push-requires : goal.push-requires

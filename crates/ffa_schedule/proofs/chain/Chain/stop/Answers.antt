@@ -1,7 +1,8 @@
 use Rattle.std.proofs.Common.{◌++◌, ◌∙◌, ap, option_to_list}
 use Rattle.ffa_model.specs.Identifiers.{place}
 use Rattle.ffa_model.proofs.Sounds.{sound}
-use Rattle.ffa_schedule.proofs.Steps.{refill-set, stop-chain, stop-view}
+use Rattle.ffa_model.proofs.Written.{refill-set}
+use Rattle.ffa_schedule.proofs.Steps.{stop-chain, stop-view}
 use Rattle.ffa_schedule.proofs.chain.Chain.stop.Goals as goal
 
 pub invariant_of-self : goal.invariant_of-self

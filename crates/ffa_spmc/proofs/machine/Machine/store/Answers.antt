@@ -1,33 +1,53 @@
-use Rattle.std.proofs.Common.{◌∙◌, sym, Ok, Err}
-use Rattle.ffa_spmc.proofs.Accesses.{answer-stored, machine-stored, state-stored}
-use Rattle.ffa_spmc.proofs.Inside.{parts_of}
+use Rattle.std.proofs.Common.{◌∙◌, ℕ, refl, sym, ap, subst}
+use Rattle.ffa_spmc.specs.Cached.{missed_page}
+use Rattle.ffa_spmc.specs.Caching.{IsCached}
+use Rattle.ffa_spmc.specs.Snapshot.{Snapshot}
+use Rattle.ffa_spmc.specs.Walks.{walk_of}
+use Rattle.ffa_spmc.proofs.CachedAccesses.{cached-from, missed-same, store-access, store-base, store-known, store-runner}
+use Rattle.ffa_spmc.proofs.HeldWalks.{answer-after, walks-after}
 use Rattle.ffa_spmc.proofs.machine.Machine.store.Goals as goal
-use Rattle.ffa_spmc.proofs.machine.Machine.store.Goals.{in-Ok, in-Err}
 
 pub invariant_of-self : goal.invariant_of-self
 invariant_of-self g c =
-    let x = parts_of g.M.PhysMem.ram c.self.inside in
-    machine-stored x c.self.invariant
-    c.args.self.now c.self.view_is c.root-root.result c.root-root.ensures.value
-    c.args.addr c.args.size c.args.value (g.M.PhysMem.ram c.store.new.memory) c.store.ensures.stored
+    let s = c.self.inside.manager.state in
+    let t = c.store-outcome.new.self.state in
+    let is = c.store-outcome.ensures.state in
+    let held = g.T.Translations.entries c.self.inside.cache in
+    walks-after c.self.inside.manager.ram c.store-outcome.new.self.ram s t
+    c.holds.ensures.agrees c.holds-2.ensures.agrees c.holds.ensures.sound c.holds-2.ensures.sound
+    (store-base s t c.args.addr c.args.size c.args.value is) (store-known s t c.args.addr c.args.size c.args.value is) held held
+    (λ e p leaf there. (there, store-access s t c.args.addr c.args.size c.args.value is e p)) c.self.invariant
 
-pub returns-clause-state : goal.returns-clause-state
-returns-clause-state g c =
-    let x = parts_of g.M.PhysMem.ram c.self.inside in
-    state-stored x c.self.invariant
-    c.args.self.now c.self.view_is c.root-root.result c.root-root.ensures.value
-    c.args.addr c.args.size c.args.value (g.M.PhysMem.ram c.store.new.memory) c.store.ensures.stored
+pub fill-requires-clause-answer : goal.fill-requires-clause-answer
+fill-requires-clause-answer g c =
+    let s = c.self.inside.manager.state in
+    let t = c.store-outcome.new.self.state in
+    let is = c.store-outcome.ensures.state in
+    c.walk-walked.ensures.answer
+    ∙ ap (λ (seen : Snapshot). walk_of seen.ram seen.state seen.state.runner c.args.addr) (sym c.self.view_is)
+    ∙ answer-after c.self.inside.manager.ram c.store-outcome.new.self.ram s t
+    c.holds.ensures.agrees c.holds-2.ensures.agrees c.holds.ensures.sound c.holds-2.ensures.sound
+    (store-base s t c.args.addr c.args.size c.args.value is) (store-known s t c.args.addr c.args.size c.args.value is)
+    (store-access s t c.args.addr c.args.size c.args.value is) c.args.addr
+    ∙ ap (λ (e : ℕ). walk_of c.store-outcome.new.self.ram t e c.args.addr) (sym (store-runner s t c.args.addr c.args.size c.args.value is))
 
-pub returns-clause-outcome : goal.returns-clause-outcome
-returns-clause-outcome g c =
-    let x = parts_of g.M.PhysMem.ram c.self.inside in
-    elim c.match-store.branch [
-      | in-Ok w ↦ w.result-is
-          ∙ answer-stored x c.self.invariant
-          c.args.self.now c.self.view_is c.root-root.result c.root-root.ensures.value
-          c.args.addr c.args.size c.args.value (Ok tt) (sym w.in-Ok.is ∙ c.store.ensures.answer)
-      | in-Err w ↦ w.result-is
-          ∙ answer-stored x c.self.invariant
-          c.args.self.now c.self.view_is c.root-root.result c.root-root.ensures.value
-          c.args.addr c.args.size c.args.value (Err w.in-Err.fault) (sym w.in-Err.is ∙ c.store.ensures.answer)
-    ]
+pub fill-requires-clause-missed : goal.fill-requires-clause-missed
+fill-requires-clause-missed g c =
+    let s = c.self.inside.manager.state in
+    let t = c.store-outcome.new.self.state in
+    let is = c.store-outcome.ensures.state in
+    let held = g.T.Translations.entries c.self.inside.cache in
+    c.walk-walked.ensures.missed
+    ∙ ap (λ (seen : Snapshot). missed_page seen c.args.addr) (sym c.self.view_is)
+    ∙ missed-same (record { state = s; ram = c.self.inside.manager.ram; held = held }) (record { state = t; ram = c.store-outcome.new.self.ram; held = held })
+    refl (sym (store-runner s t c.args.addr c.args.size c.args.value is)) (sym (store-base s t c.args.addr c.args.size c.args.value is)) c.args.addr
+
+pub returns-clause-held : goal.returns-clause-held
+returns-clause-held g c =
+    let s = c.self.inside.manager.state in
+    let t = c.store-outcome.new.self.state in
+    let is = c.store-outcome.ensures.state in
+    let held = g.T.Translations.entries c.self.inside.cache in
+    subst (λ (seen : Snapshot). IsCached seen c.fill.new.self c.args.addr) c.self.view_is
+    (cached-from (record { state = t; ram = c.store-outcome.new.self.ram; held = held }) (record { state = s; ram = c.self.inside.manager.ram; held = held })
+    refl (store-runner s t c.args.addr c.args.size c.args.value is) (store-base s t c.args.addr c.args.size c.args.value is) c.args.addr c.fill.new.self c.fill.ensures.held)

@@ -1,0 +1,66 @@
+-- What a store leaves of what is held, and of the page that an address misses.
+use Rattle.std.proofs.Common.{◌≡◌, ◌∙◌, ℕ, ◌-◌, ◌/◌, ◌%◌, ◌^◌, true, false, cond, List, Option, Some, None, refl, sym, ap, subst, inl, inr}
+use Rattle.std.specs.Prelude.{◌&&◌, is_some, nat_le, nat_lt}
+use Rattle.std.specs.Option.{option_and_then, option_map_or}
+use Rattle.byteorder.specs.Endian.{little_bytes}
+use Rattle.ffa_model.specs.declared.operation.Outcome.TheVariants.{Done}
+use Rattle.ffa_model.specs.declared.operation.Size.{Size}
+use Rattle.ffa_model.specs.Access.{access}
+use Rattle.ffa_model.specs.Memory as memory
+use Rattle.ffa_model.specs.Memory.{size_of, store_fault, stored}
+use Rattle.ffa_model.specs.State.{State, is_known}
+use Rattle.ffa_model.proofs.CallAccesses.{access-written}
+use Rattle.ffa_laws.proofs.Form.{accessed-kept}
+use Rattle.ffa_tlb.specs.declared.translations.Entry.{Entry}
+use Rattle.ffa_tlb.specs.Lookups.{is_pair, lookup}
+use Rattle.ffa_spmc.specs.Cached.{is_runners, missed_page}
+use Rattle.ffa_spmc.specs.Caching.{IsCached}
+use Rattle.ffa_spmc.specs.Snapshot.{Snapshot}
+
+-- the page of an address in a RAM that begins here
+abbrev page_from : ℕ → ℕ → Option ℕ
+page_from address base = cond (nat_le base address && nat_lt address (2 ^ 32)) (Some ((address - base) / 4096)) None
+
+-- A STORE leaves access, endpoints, the runner and RAM's place.
+module _ (s new : State) (address : ℕ) (size : Size) (value : ℕ) (is : new ≡ (memory.store s address size value).state) where
+  after : (P : State → Type 0) → P s → P (stored s address (little_bytes (size_of size) value)) → P new
+  after P old written =
+      subst P (sym is) (accessed-kept P s (stored s address (little_bytes (size_of size) value)) Done (store_fault s address (size_of size)) old (λ none. written))
+
+  pub store-access : (e p : ℕ) → access new e p ≡ access s e p
+  store-access e p =
+      after (λ t. access t e p ≡ access s e p) refl
+      (access-written s ((address - s.ram_base) / 4096) (address % 4096) (little_bytes (size_of size) value) e p)
+
+  pub store-runner : new.runner ≡ s.runner
+  store-runner = after (λ t. t.runner ≡ s.runner) refl refl
+
+  pub store-base : new.ram_base ≡ s.ram_base
+  store-base = after (λ t. t.ram_base ≡ s.ram_base) refl refl
+
+  pub store-known : (e : ℕ) → is_known s e ≡ true → is_known new e ≡ true
+  store-known e known = after (λ t. is_known t e ≡ true) known known
+
+-- WHERE what is held, the runner and RAM's place are the same, an address misses the same page.
+module _ (x y : Snapshot) (held : x.held ≡ y.held) (runner : x.state.runner ≡ y.state.runner) (base : x.state.ram_base ≡ y.state.ram_base) (address : ℕ) where
+  pub missed-same : missed_page x address ≡ missed_page y address
+  missed-same =
+      ap (λ (list : List Entry). option_and_then (λ p. cond (is_some (lookup list x.state.runner p)) None (Some p)) (page_from address x.state.ram_base)) held
+      ∙ ap (λ (r : ℕ). option_and_then (λ p. cond (is_some (lookup y.held r p)) None (Some p)) (page_from address x.state.ram_base)) runner
+      ∙ ap (λ (b : ℕ). option_and_then (λ p. cond (is_some (lookup y.held y.state.runner p)) None (Some p)) (page_from address b)) base
+
+  runners-same : (e p : ℕ) → is_runners x.state address e p ≡ is_runners y.state address e p
+  runners-same e p =
+      ap (λ (r : ℕ). option_map_or (λ q. is_pair e p r q) (page_from address x.state.ram_base) false) runner
+      ∙ ap (λ (b : ℕ). option_map_or (λ q. is_pair e p y.state.runner q) (page_from address b) false) base
+
+  -- and what is held after one is held after the other
+  pub cached-from : (new : Snapshot) → IsCached x new address → IsCached y new address
+  cached-from new cached =
+      record {
+        hit = λ none. cached.hit (missed-same ∙ none) ∙ held;
+        miss = λ e p other. elim (cached.miss e p (runners-same e p ∙ other)) [
+          | inl none ↦ inl none
+          | inr same ↦ inr (same ∙ ap (λ (list : List Entry). lookup list e p) held)
+        ];
+      }

@@ -1,0 +1,52 @@
+use Rattle.std.proofs.Common.{◌∙◌, List, true, false, refl, sym, ap, subst}
+use Rattle.std.specs.Prelude.{Option}
+use Rattle.ffa_model.specs.Buffers.{buffers_with_rx}
+use Rattle.ffa_model.specs.Ram.{Ram}
+use Rattle.ffa_model.specs.Setup.{uuid_bytes}
+use Rattle.ffa_model.specs.State.{Buffers}
+use Rattle.ffa_spmc.specs.Meaning.{IsManager, state_of}
+use Rattle.ffa_spmc.proofs.Fills.{known-buffered, runner-there, rx-in-ram}
+use Rattle.ffa_spmc.proofs.Information.{info-reply, informed-own, machine-informed, state-informed}
+use Rattle.ffa_spmc.proofs.Inside.{parts_of}
+use Rattle.ffa_spmc.proofs.manager.Manager.inform.Goals as goal
+
+pub returns-then-is_count_alone-clause-reply : goal.returns-then-is_count_alone-clause-reply
+returns-then-is_count_alone-clause-reply g c =
+    let x = parts_of g.M.PhysMem.ram c.self.inside in
+    info-reply x c.args.self.now c.self.view_is x.kept.chain.runner refl
+    c.count-count.result (uuid_bytes c.args.uuid) c.args.flags true c.count-count.ensures (sym c.is_count_alone.ensures ∙ c.if-is_count_alone.true)
+
+pub returns-clause-reply : goal.returns-clause-reply
+returns-clause-reply g c =
+    let x = parts_of g.M.PhysMem.ram c.self.inside in
+    info-reply x c.args.self.now c.self.view_is c.runner-runner.result.0 c.runner-runner.ensures.runner
+    c.count-count.result (uuid_bytes c.args.uuid) c.args.flags false c.count-count.ensures (sym c.is_count_alone.ensures ∙ c.if-is_count_alone.false)
+
+pub fill-requires-clause-rx : goal.fill-requires-clause-rx
+fill-requires-clause-rx g c =
+    let x = parts_of g.M.PhysMem.ram c.self.inside in
+    let (buffers, are) = informed-own x c.args.self.now c.self.view_is c.runner-runner.result.0 c.runner-runner.ensures.runner
+    (uuid_bytes c.args.uuid) c.args.flags c.requires (sym c.is_count_alone.ensures ∙ c.if-is_count_alone.false)
+    in
+    rx-in-ram x c.self.invariant c.runner-runner.result.0 (runner-there x c.self.invariant c.runner-runner.result.0 c.runner-runner.ensures.runner) buffers are
+
+pub fill-requires-clause-known : goal.fill-requires-clause-known
+fill-requires-clause-known g c =
+    let x = parts_of g.M.PhysMem.ram c.self.inside in
+    known-buffered x c.self.invariant c.runner-runner.result.0 (runner-there x c.self.invariant c.runner-runner.result.0 c.runner-runner.ensures.runner)
+
+pub invariant_of-self : goal.invariant_of-self
+invariant_of-self g c =
+    let x = parts_of g.M.PhysMem.ram c.self.inside in
+    subst (λ (list : List (Option Buffers)). IsManager (record x { ram = g.M.PhysMem.ram c.fill.new.ram; kept = record x.kept { buffers = list } })) (sym c.fill.ensures.full)
+    (subst (λ (ram : Ram). IsManager (record x { ram = ram; kept = record x.kept { buffers = buffers_with_rx x.kept.buffers c.runner-runner.result.0 true } })) (sym c.fill.ensures.ram)
+    (machine-informed x c.args.self.now c.self.view_is c.runner-runner.result.0 c.runner-runner.ensures.runner c.self.invariant
+    c.args.uuid c.args.flags c.as_slice.result.now (c.as_slice.ensures.value ∙ c.info_bytes-bytes.ensures) (sym c.is_count_alone.ensures ∙ c.if-is_count_alone.false) c.requires))
+
+pub returns-clause-state : goal.returns-clause-state
+returns-clause-state g c =
+    let x = parts_of g.M.PhysMem.ram c.self.inside in
+    ap (λ (list : List (Option Buffers)). state_of (record x { ram = g.M.PhysMem.ram c.fill.new.ram; kept = record x.kept { buffers = list } })) c.fill.ensures.full
+    ∙ ap (λ (ram : Ram). state_of (record x { ram = ram; kept = record x.kept { buffers = buffers_with_rx x.kept.buffers c.runner-runner.result.0 true } })) c.fill.ensures.ram
+    ∙ state-informed x c.args.self.now c.self.view_is c.runner-runner.result.0 c.runner-runner.ensures.runner c.self.invariant
+    c.args.uuid c.args.flags c.as_slice.result.now (c.as_slice.ensures.value ∙ c.info_bytes-bytes.ensures) (sym c.is_count_alone.ensures ∙ c.if-is_count_alone.false)

@@ -1,0 +1,34 @@
+use Rattle.std.proofs.Common.{◌∙◌, refl, ap}
+use Rattle.ffa_model.specs.declared.call.Reply.{Reply}
+use Rattle.ffa_model.specs.declared.call.Call.TheVariants.{DirectRequest}
+use Rattle.ffa_model.specs.Calls.{Stepped, replied, served}
+use Rattle.ffa_spmc.specs.Meaning.{state_of}
+use Rattle.ffa_spmc.specs.Managed.{Managed}
+use Rattle.ffa_spmc.proofs.Machines.{machine-called}
+use Rattle.std.specs.Prelude.{List}
+use Rattle.ffa_model.specs.Bits.{low_half}
+use Rattle.ffa_model.specs.Calls.{first_failure}
+use Rattle.ffa_model.specs.RunStates.{direct_request, request_guards, requested}
+use Rattle.ffa_model.specs.State.{Party}
+use Rattle.ffa_spmc.proofs.Held.{counted, parties-listed}
+use Rattle.ffa_spmc.proofs.Schedules.{scheduled, with_chain}
+use Rattle.ffa_spmc.proofs.Inside.{parts_of}
+use Rattle.ffa_spmc.proofs.manager.Manager.request.Goals as goal
+
+pub invariant_of-self : goal.invariant_of-self
+invariant_of-self g c =
+    let x = parts_of g.M.PhysMem.ram c.self.inside in
+    machine-called x x.ram x.kept.buffers c.direct_req.new.chain c.self.invariant c.self.invariant.tables (DirectRequest c.args.message.now.function c.args.message.now.word c.args.message.now.flags c.args.message.now.payload)
+    (ap (λ (st : Stepped). st.state) (scheduled x (direct_request (state_of x) c.args.message.now.function c.args.message.now.word c.args.message.now.flags c.args.message.now.payload) (requested x.kept.chain (low_half c.args.message.now.word)) c.direct_req.new.chain c.direct_req.result refl (c.direct_req.ensures.refusal ∙ ap (λ (parties : List Party). first_failure (request_guards parties x.kept.chain c.args.message.now.word c.args.message.now.flags)) (parties-listed x)) c.direct_req.ensures.kept c.direct_req.ensures.changed c.direct_req.ensures.reply))
+
+pub returns-clause-served : goal.returns-clause-served
+returns-clause-served g c =
+    let x = parts_of g.M.PhysMem.ram c.self.inside in
+    ap (λ (reply : Reply). replied (with_chain x c.direct_req.new.chain) reply) c.reply_or_error.ensures
+    ∙ scheduled x (direct_request (state_of x) c.args.message.now.function c.args.message.now.word c.args.message.now.flags c.args.message.now.payload) (requested x.kept.chain (low_half c.args.message.now.word)) c.direct_req.new.chain c.direct_req.result refl (c.direct_req.ensures.refusal ∙ ap (λ (parties : List Party). first_failure (request_guards parties x.kept.chain c.args.message.now.word c.args.message.now.flags)) (parties-listed x)) c.direct_req.ensures.kept c.direct_req.ensures.changed c.direct_req.ensures.reply
+    ∙ ap (λ (seen : Managed). served seen.state (direct_request seen.state c.args.message.now.function c.args.message.now.word c.args.message.now.flags c.args.message.now.payload)) c.self.view_is
+
+pub direct_req-requires : goal.direct_req-requires
+direct_req-requires g c =
+    let x = parts_of g.M.PhysMem.ram c.self.inside in
+    record { endpoints = counted x c.self.invariant }

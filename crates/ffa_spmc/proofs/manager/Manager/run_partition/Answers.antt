@@ -1,0 +1,28 @@
+use Rattle.std.proofs.Common.{◌∙◌, refl, sym, ap}
+use Rattle.ffa_model.specs.declared.call.Reply.{Reply}
+use Rattle.ffa_model.specs.declared.call.Call.TheVariants.{Run}
+use Rattle.ffa_model.specs.Calls.{Stepped, replied, served}
+use Rattle.ffa_spmc.specs.Meaning.{state_of}
+use Rattle.ffa_spmc.specs.Managed.{Managed}
+use Rattle.ffa_spmc.proofs.Machines.{machine-called}
+use Rattle.std.specs.Prelude.{ℕ}
+use Rattle.ffa_model.specs.Bits.{high_half}
+use Rattle.ffa_model.specs.Calls.{first_failure}
+use Rattle.ffa_model.specs.RunStates.{given_cycles, run_guards, run_partition, status_in}
+use Rattle.ffa_spmc.proofs.Held.{counted, parties_are}
+use Rattle.ffa_spmc.proofs.Schedules.{scheduled, with_chain}
+use Rattle.ffa_spmc.proofs.Inside.{parts_of}
+use Rattle.ffa_spmc.proofs.manager.Manager.run_partition.Goals as goal
+
+pub invariant_of-self : goal.invariant_of-self
+invariant_of-self g c =
+    let x = parts_of g.M.PhysMem.ram c.self.inside in
+    machine-called x x.ram x.kept.buffers c.run.new.self c.self.invariant c.self.invariant.tables (Run c.args.target)
+    (ap (λ (st : Stepped). st.state) (scheduled x (run_partition (state_of x) c.args.target) (given_cycles x.kept.chain (high_half c.args.target) (status_in x.kept.chain (high_half c.args.target))) c.run.new.self c.run.result refl (c.run.ensures.refusal ∙ ap (λ (n : ℕ). first_failure (run_guards n x.kept.chain c.args.target)) (counted x c.self.invariant ∙ sym (parties_are x))) c.run.ensures.kept c.run.ensures.changed c.run.ensures.reply))
+
+pub returns-clause-served : goal.returns-clause-served
+returns-clause-served g c =
+    let x = parts_of g.M.PhysMem.ram c.self.inside in
+    ap (λ (reply : Reply). replied (with_chain x c.run.new.self) reply) c.reply_or_error.ensures
+    ∙ scheduled x (run_partition (state_of x) c.args.target) (given_cycles x.kept.chain (high_half c.args.target) (status_in x.kept.chain (high_half c.args.target))) c.run.new.self c.run.result refl (c.run.ensures.refusal ∙ ap (λ (n : ℕ). first_failure (run_guards n x.kept.chain c.args.target)) (counted x c.self.invariant ∙ sym (parties_are x))) c.run.ensures.kept c.run.ensures.changed c.run.ensures.reply
+    ∙ ap (λ (seen : Managed). served seen.state (run_partition seen.state c.args.target)) c.self.view_is

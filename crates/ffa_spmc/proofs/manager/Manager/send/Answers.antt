@@ -1,0 +1,50 @@
+use Rattle.std.proofs.Common.{◌∙◌, sym, ap, subst}
+use Rattle.ffa_model.specs.declared.call.Call.TheVariants.{MsgSend2}
+use Rattle.ffa_model.specs.Calls.{Stepped, replied, served}
+use Rattle.ffa_model.specs.Messages.{msg_send2}
+use Rattle.ffa_spmc.specs.Meaning.{IsManager, state_of}
+use Rattle.ffa_spmc.specs.Managed.{Managed}
+use Rattle.ffa_spmc.proofs.Machines.{machine-served}
+use Rattle.ffa_spmc.proofs.Notified.{known-notified}
+use Rattle.ffa_spmc.proofs.Sends.{buffers-in-ram, sent, tables-sent, told-known, unsent, unsent-parts}
+use Rattle.ffa_spmc.proofs.Inside.{parts_of}
+use Rattle.ffa_spmc.proofs.manager.Manager.send.Goals.{in-Ok, in-Err}
+use Rattle.ffa_spmc.proofs.manager.Manager.send.Goals as goal
+
+pub send2-requires : goal.send2-requires
+send2-requires g c =
+    let x = parts_of g.M.PhysMem.ram c.self.inside in
+    record { pages = buffers-in-ram x c.self.invariant }
+
+pub raise_framework-requires : goal.raise_framework-requires
+raise_framework-requires g c =
+    let x = parts_of g.M.PhysMem.ram c.self.inside in
+    known-notified x c.self.invariant c.in-Ok.receiver.0
+    (told-known x c.self.invariant c.runner-runner.result.0 c.runner-runner.ensures.runner c.send2.result (g.M.PhysMem.ram c.send2.new.ram) c.send2.new.buffers c.send2.ensures.refusal c.send2.ensures.kept_ram c.send2.ensures.kept c.send2.ensures.ram c.send2.ensures.full c.send2.ensures.receiver c.in-Ok.receiver c.in-Ok.is)
+
+pub invariant_of-self : goal.invariant_of-self
+invariant_of-self g c =
+    let x = parts_of g.M.PhysMem.ram c.self.inside in
+    elim c.match-send2.branch [
+      | in-Ok w ↦
+          subst IsManager (ap (parts_of g.M.PhysMem.ram) (sym w.self-inside-is))
+          (machine-served x (g.M.PhysMem.ram c.send2.new.ram) c.send2.new.buffers x.kept.chain w.raise_framework.new.self c.self.invariant
+          (tables-sent x c.self.invariant c.runner-runner.result.0 c.runner-runner.ensures.runner c.send2.result (g.M.PhysMem.ram c.send2.new.ram) c.send2.new.buffers c.send2.ensures.refusal c.send2.ensures.kept_ram c.send2.ensures.kept c.send2.ensures.ram c.send2.ensures.full c.send2.ensures.receiver w.in-Ok.receiver w.in-Ok.is) MsgSend2
+          (ap (λ (st : Stepped). st.state) (sent x c.self.invariant c.runner-runner.result.0 c.runner-runner.ensures.runner c.send2.result (g.M.PhysMem.ram c.send2.new.ram) c.send2.new.buffers c.send2.ensures.refusal c.send2.ensures.kept_ram c.send2.ensures.kept c.send2.ensures.ram c.send2.ensures.full c.send2.ensures.receiver w.in-Ok.receiver w.in-Ok.is w.raise_framework.new.self w.raise_framework.ensures)))
+      | in-Err w ↦
+          subst IsManager (ap (parts_of g.M.PhysMem.ram) (sym w.self-inside-is))
+          (subst IsManager (sym (unsent-parts x c.self.invariant c.runner-runner.result.0 c.runner-runner.ensures.runner c.send2.result (g.M.PhysMem.ram c.send2.new.ram) c.send2.new.buffers c.send2.ensures.refusal c.send2.ensures.kept_ram c.send2.ensures.kept c.send2.ensures.ram c.send2.ensures.full c.send2.ensures.receiver w.in-Err.code w.in-Err.is)) c.self.invariant)
+    ]
+
+pub returns-clause-served : goal.returns-clause-served
+returns-clause-served g c =
+    let x = parts_of g.M.PhysMem.ram c.self.inside in
+    elim c.match-send2.branch [
+      | in-Ok w ↦
+          (λ i. replied (state_of (parts_of g.M.PhysMem.ram (w.self-inside-is i))) (w.result-is i))
+          ∙ sent x c.self.invariant c.runner-runner.result.0 c.runner-runner.ensures.runner c.send2.result (g.M.PhysMem.ram c.send2.new.ram) c.send2.new.buffers c.send2.ensures.refusal c.send2.ensures.kept_ram c.send2.ensures.kept c.send2.ensures.ram c.send2.ensures.full c.send2.ensures.receiver w.in-Ok.receiver w.in-Ok.is w.raise_framework.new.self w.raise_framework.ensures
+      | in-Err w ↦
+          (λ i. replied (state_of (parts_of g.M.PhysMem.ram (w.self-inside-is i))) (w.result-is i))
+          ∙ unsent x c.self.invariant c.runner-runner.result.0 c.runner-runner.ensures.runner c.send2.result (g.M.PhysMem.ram c.send2.new.ram) c.send2.new.buffers c.send2.ensures.refusal c.send2.ensures.kept_ram c.send2.ensures.kept c.send2.ensures.ram c.send2.ensures.full c.send2.ensures.receiver w.in-Err.code w.in-Err.is
+    ]
+    ∙ ap (λ (seen : Managed). served seen.state (msg_send2 seen.state)) c.self.view_is

@@ -1,0 +1,27 @@
+-- What the machine's private steps do to its cache.
+use Rattle.std.specs.Prelude.{◌≡◌, ℕ, ◌+◌, ◌-◌, ◌%◌, ◌==◌, Bool, ◌&&◌, List, None, if◌then◌else◌}
+use Rattle.ffa_model.specs.declared.leaf.Leaf.{Leaf}
+use Rattle.ffa_tlb.specs.declared.translations.Entry.{Entry}
+use Rattle.ffa_tlb.specs.Lookups.{lookup}
+use Rattle.ffa_spmc.specs.Cached.{AreSameOrGone, is_runners, missed_page}
+use Rattle.ffa_spmc.specs.Snapshot.{Snapshot}
+
+-- the leaf of a page's first address, moved to an address of the page; and back
+abbrev pub moved_to : Leaf → ℕ → Leaf
+moved_to leaf address = record leaf { phys = leaf.phys + address % 4096 }
+
+abbrev pub moved_back : Leaf → ℕ → Leaf
+moved_back leaf address = record leaf { phys = leaf.phys - address % 4096 }
+
+-- an access to an address, with the state left out: where a leaf was held for its page nothing changes, and else at most the page is new
+pub record IsCached (old new : Snapshot) (address : ℕ) : Type 0 where
+  pub hit : missed_page old address ≡ None → new.held ≡ old.held
+  pub miss : AreSameOrGone old new (is_runners old.state address)
+
+-- nothing is held any more for e and the pages that pass a test, and each other page has what it had
+abbrev pub AreOut : List Entry → List Entry → ℕ → (ℕ → Bool) → Type 0
+AreOut old new e test = (f q : ℕ) → lookup new f q ≡ (if f == e && test q then None else lookup old f q)
+
+-- the pages of the largest RAM
+abbrev pub most_pages : ℕ
+most_pages = 16384

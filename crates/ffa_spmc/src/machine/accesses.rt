@@ -1,0 +1,126 @@
+//! Loads, stores and fetches through the cache.
+ghost use Rattle.std.specs.Prelude.{true, ◌≡◌, ◌+◌, ◌%◌, ◌<◌, ◌≤◌, ◌^◌};
+ghost use Rattle.std.specs.Option.{option_map};
+ghost use Rattle.ffa_model.specs.declared.endpoint.PageNo.{PageNo};
+ghost use Rattle.ffa_model.specs.Memory as memory;
+ghost use Rattle.ffa_model.specs.Refusals.{is_refusal};
+ghost use Rattle.ffa_spmc.specs.Cached.{missed_page};
+ghost use Rattle.ffa_spmc.specs.Caching.{IsCached, moved_back, moved_to};
+ghost use Rattle.ffa_spmc.specs.Walks.{walk_of};
+
+use super::Machine;
+use ffa_model::{FaultKind, Leaf, Outcome, PageNo, Size};
+use ffa_physmem::PhysMem;
+use ffa_tlb::Translations;
+
+// What the walk of an address answered, and the page of the address where no leaf is held for it yet.
+#[derive(Clone, Copy)]
+struct Walked {
+    answer: Result<Leaf, FaultKind>,
+    missed: Option<PageNo>,
+}
+
+// The leaf of a page's first address, moved to an address of the page.
+fn moved_to(leaf: Leaf, addr: u64) -> Leaf
+    requires { leaf.phys + addr % 4096 < 2 ^ 64 }
+    ensures { result ≡ moved_to leaf addr }
+{
+    Leaf {
+        phys: leaf.phys + addr % 4096,
+        ..leaf
+    }
+}
+
+// The leaf of an address, moved to the first one of its page.
+fn moved_back(leaf: Leaf, addr: u64) -> Leaf
+    requires { addr % 4096 ≤ leaf.phys }
+    ensures { result ≡ moved_back leaf addr }
+{
+    Leaf {
+        phys: leaf.phys - addr % 4096,
+        ..leaf
+    }
+}
+
+impl<M: PhysMem + Drop, T: Translations + Drop> Machine<M, T> {
+    // The walk of an address for the runner: by the leaf that is held for its page, or else by the tables.
+    fn walk(&self, addr: u64) -> Walked
+        ensures answer { result.answer ≡ walk_of self.now.ram self.now.state self.now.state.runner addr }
+        ensures missed { option_map (λ (page : PageNo). page.0) result.missed ≡ missed_page self.now addr }
+    {
+        self.manager.holds();
+        let page = self.manager.page_of(addr);
+        if let Some(page) = page
+            && let Some(leaf) = self.cache.lookup(self.manager.runner(), page)
+        {
+            return Walked {
+                answer: Ok(moved_to(leaf, addr)),
+                missed: None,
+            };
+        }
+        Walked {
+            answer: self.manager.translate(addr),
+            missed: page,
+        }
+    }
+
+    // Fills the cache with what the walk of an address answered, where the access was done and no leaf is held for its page.
+    fn fill(&mut self, addr: u64, walked: &Walked, outcome: &Outcome)
+        requires answer { walked.now.answer ≡ walk_of self.old.ram self.old.state self.old.state.runner addr }
+        requires missed { option_map (λ (page : PageNo). page.0) walked.now.missed ≡ missed_page self.old addr }
+        ensures state { self.new.state ≡ self.old.state }
+        ensures ram { self.new.ram ≡ self.old.ram }
+        ensures held { IsCached self.old self.new addr }
+        ensures refused { is_refusal outcome.now ≡ true → self.new ≡ self.old }
+    {
+        if !matches!(outcome, Outcome::Data(_) | Outcome::Done) {
+            return;
+        }
+        if let (Some(page), Ok(leaf)) = (walked.missed, walked.answer) {
+            self.manager.holds();
+            let runner = self.manager.runner();
+            self.cache.fill(runner, page, moved_back(leaf, addr));
+        }
+    }
+
+    // A load of the runner.
+    pub(super) fn load(&mut self, addr: u64, size: Size) -> Outcome
+        ensures outcome { result ≡ (memory.load self.old.state addr size).outcome }
+        ensures state { self.new.state ≡ self.old.state }
+        ensures refused { is_refusal result ≡ true → self.new ≡ self.old }
+        ensures held { IsCached self.old self.new addr }
+    {
+        let walked = self.walk(addr);
+        let outcome = self.manager.load(walked.answer, addr, size);
+        self.fill(addr, &walked, &outcome);
+        outcome
+    }
+
+    // A fetch of the runner.
+    pub(super) fn fetch(&mut self, addr: u64) -> Outcome
+        ensures outcome { result ≡ (memory.fetch self.old.state addr).outcome }
+        ensures state { self.new.state ≡ self.old.state }
+        ensures refused { is_refusal result ≡ true → self.new ≡ self.old }
+        ensures held { IsCached self.old self.new addr }
+    {
+        let walked = self.walk(addr);
+        let outcome = self.manager.fetch(walked.answer, addr);
+        self.fill(addr, &walked, &outcome);
+        outcome
+    }
+
+    // A store of the runner.
+    pub(super) fn store(&mut self, addr: u64, size: Size, value: u64) -> Outcome
+        ensures outcome { result ≡ (memory.store self.old.state addr size value).outcome }
+        ensures state { self.new.state ≡ (memory.store self.old.state addr size value).state }
+        ensures refused { is_refusal result ≡ true → self.new ≡ self.old }
+        ensures held { IsCached self.old self.new addr }
+    {
+        let walked = self.walk(addr);
+        self.manager.holds();
+        let outcome = self.manager.store(walked.answer, addr, size, value);
+        self.manager.holds();
+        self.fill(addr, &walked, &outcome);
+        outcome
+    }
+}

@@ -1,0 +1,46 @@
+//! What the cache forgets after a call.
+ghost use Rattle.std.specs.Prelude.{◌≡◌, ℕ, None, IfSome, if◌then◌else◌};
+ghost use Rattle.ffa_memshare.specs.Ranges.{ArePlaced, IsPlaced, in_range, in_ranges};
+ghost use Rattle.ffa_model.specs.State.{State};
+ghost use Rattle.ffa_spmc.specs.AccessChange.{is_of};
+ghost use Rattle.ffa_spmc.specs.Caching.{AreOut, most_pages};
+ghost use Rattle.ffa_tlb.specs.Lookups.{lookup};
+
+use ffa_memshare::Changed;
+use ffa_model::{EndpointId, PageNo, Range};
+use ffa_tlb::Translations;
+
+// Forgets what is held for an endpoint and the pages of a range in the RAM at an address.
+fn forget_range<T: Translations>(cache: &mut T, base: u32, endpoint: EndpointId, range: &Range)
+    requires { IsPlaced base most_pages range.now }
+    ensures { AreOut (T.entries cache.old) (T.entries cache.new) endpoint.0 (in_range base range.now) }
+{
+    let first = ((range.address - u64::from(base)) / 4096) as u32;
+    for page in first..first + range.pages {
+        cache.forget(endpoint, PageNo(page));
+    }
+}
+
+// The same of these ranges.
+fn forget_ranges<T: Translations>(cache: &mut T, base: u32, endpoint: EndpointId, ranges: &[Range])
+    requires { ArePlaced base most_pages ranges.now }
+    ensures { AreOut (T.entries cache.old) (T.entries cache.new) endpoint.0 (in_ranges base ranges.now) }
+{
+    for range in ranges {
+        forget_range(cache, base, endpoint, range);
+    }
+}
+
+// Forgets what is held for the endpoint and the pages to which its access changed.
+pub(super) fn forget<T: Translations>(cache: &mut T, base: u32, changed: &Option<Changed>)
+    requires { IfSome changed.now (λ c. ArePlaced base most_pages c.ranges.items) }
+    ensures unchanged { changed.now ≡ None → T.entries cache.new ≡ T.entries cache.old }
+    ensures forgotten { (s : State) → s.ram_base ≡ base → (e p : ℕ) →
+        lookup (T.entries cache.new) e p ≡ (if is_of s changed.now e p then None else lookup (T.entries cache.old) e p) }
+{
+    if let Some(changed) = changed
+        && let Some(endpoint) = changed.endpoint
+    {
+        forget_ranges(cache, base, endpoint, changed.ranges.as_slice());
+    }
+}

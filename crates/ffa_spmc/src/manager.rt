@@ -1,0 +1,216 @@
+//! The partition manager: what it keeps, and what its calls and accesses do.
+ghost use Rattle.std.specs.Prelude.{true, false, ◌≡◌, None, ℕ, ◌*◌, ◌<◌, ◌≤◌, length, replicate};
+ghost use Rattle.ffa_model.specs.Access.{access};
+ghost use Rattle.ffa_model.specs.Agreement.{Agrees};
+ghost use Rattle.ffa_model.specs.Bits.{word_of_halves};
+ghost use Rattle.ffa_model.specs.Calls.{replied, served};
+ghost use Rattle.ffa_model.specs.First.{first};
+ghost use Rattle.ffa_model.specs.Manifest.{table_pages};
+ghost use Rattle.ffa_model.specs.Ram.{page_of, zero_ram};
+ghost use Rattle.ffa_model.specs.SoundState.{IsSoundState};
+ghost use Rattle.ffa_model.specs.Refusals.{is_error, is_refusal, passes_no_error};
+ghost use Rattle.ffa_model.specs.Registers.{decode};
+ghost use Rattle.ffa_model.specs.State.{owner_of};
+ghost use Rattle.ffa_model.specs.Step.{serve};
+ghost use Rattle.ffa_spmc.specs.Arms.{is_on_memory};
+ghost use Rattle.ffa_spmc.specs.AccessChange.{IsAccessChange};
+
+mod accesses;
+mod buffers;
+mod memory;
+mod messages;
+mod notifications;
+
+use crate::answer::{Answer, Called};
+use crate::kept::Kept;
+use crate::manager::memory::is_on_memory;
+use ffa_model::{Call, EndpointId, ErrorCode, Manifest, Outcome, PageNo, Reply, Rights};
+use ffa_physmem::PhysMem;
+use ffa_stage2::{Layout, build, built_tables};
+use std::marker::Model;
+
+/// The partition manager over any RAM. Contracts see its state, which is that of the small machine, and its RAM with
+/// every byte.
+#[derive(Drop)]
+pub(crate) struct Manager<M: PhysMem + Drop> {
+    ram: M,
+    manifest: Manifest,
+    kept: Kept,
+}
+
+impl<M: PhysMem + Drop> Model for Manager<M> {
+    ghost use Rattle.ffa_spmc.specs.Managed.{Managed, coded_managed};
+
+    ghost Value = { Managed };
+
+    ghost coded = { coded_managed };
+
+    ghost use Rattle.ffa_spmc.specs.Meaning.{Parts, state_of, IsManager};
+
+    ghost view = { λ m. let x : Parts = record { ram = M.ram m.ram; manifest = m.manifest; kept = m.kept } in record { state = state_of x; ram = x.ram } };
+
+    ghost invariant = { λ m. IsManager (record { ram = M.ram m.ram; manifest = m.manifest; kept = m.kept }) };
+}
+
+impl<M: PhysMem + Drop> Manager<M> {
+    // The manager of a manifest in its first state, in RAM of which every byte is zero: it builds the tables.
+    #[inline]
+    pub(crate) fn first(manifest: &Manifest, ram: M) -> Manager<M>
+        requires { M.ram ram ≡ zero_ram manifest.now.ram_base (512 * manifest.now.ram_blocks) }
+        ensures state { result.state ≡ first manifest.now.ram_base manifest.now.ram_blocks manifest.now.endpoints.items }
+        ensures agrees { Agrees result.ram result.state }
+        ensures cleared { (p : ℕ) → length result.state.parties * table_pages manifest.now.ram_blocks ≤ p → p < length result.ram.pages → page_of result.ram p ≡ replicate 4096 0 }
+        ensures sound { IsSoundState result.state }
+    {
+        let mut ram = ram;
+        let layout = Layout::of(manifest);
+        build(&mut ram, &layout);
+        // What built tables give holds from here on: the manager's invariant has it.
+        built_tables();
+        Manager {
+            ram,
+            manifest: manifest.copied(),
+            kept: Kept::first(manifest, layout),
+        }
+    }
+
+    // The RAM, whose bytes are all that the machine keeps of tables and data.
+    pub(crate) fn ram(&self) -> &M
+        ensures ram { M.ram result.now ≡ self.now.ram }
+        ensures agrees { Agrees (M.ram result.now) self.now.state }
+    {
+        &self.ram
+    }
+
+    // What holds of every manager: the tables give the access of the state, which is sound.
+    #[inline(always)]
+    pub(crate) fn holds(&self)
+        ensures agrees { Agrees self.now.ram self.now.state }
+        ensures sound { IsSoundState self.now.state }
+    {
+        let _ = &self.kept;
+    }
+
+    // The address of RAM's first page.
+    pub(crate) fn ram_base(&self) -> u32
+        ensures { result ≡ self.now.state.ram_base }
+    {
+        self.manifest.ram_base
+    }
+
+    // The endpoint that runs.
+    pub(crate) fn runner(&self) -> EndpointId
+        ensures { result.0 ≡ self.now.state.runner }
+    {
+        self.kept.chain.runner()
+    }
+
+    // The number of endpoints, from 1 to 8.
+    pub(crate) fn endpoints(&self) -> usize
+        ensures number { result ≡ length self.now.state.parties }
+        ensures some { 1 ≤ result }
+        ensures few { result ≤ 8 }
+    {
+        self.manifest.endpoints.len()
+    }
+
+    // The owner of a page of the RAM; 0x8000 is the manager.
+    pub(crate) fn owner_of(&self, page: PageNo) -> EndpointId
+        requires { page.0 < length self.now.state.pages }
+        ensures { result.0 ≡ owner_of self.now.state page.0 }
+    {
+        self.kept.pages.owner_of(page)
+    }
+
+    // The right of an endpoint to a page: nothing outside the RAM, or for an endpoint that isn't there.
+    pub(crate) fn access(&self, endpoint: EndpointId, page: PageNo) -> Option<Rights>
+        ensures { result ≡ access self.now.state endpoint.0 page.0 }
+    {
+        let pages = &self.kept.pages;
+        if page.0 < pages.pages() {
+            self.kept.pool.access(pages, endpoint, page)
+        } else {
+            None
+        }
+    }
+
+    // A call of the runner, in its registers.
+    pub(crate) fn call(&mut self, x: [u64; 8]) -> Called
+        ensures outcome { result.outcome ≡ (serve self.old.state (decode x)).outcome }
+        ensures state { self.new.state ≡ (serve self.old.state (decode x)).state }
+        ensures refused { is_refusal result.outcome ≡ true → self.new ≡ self.old }
+        ensures access { IsAccessChange self.old.state self.new.state result.changed }
+        ensures unchanged { is_refusal result.outcome ≡ true → result.changed ≡ None }
+    {
+        let answer = self.answer(ffa_abi::decode(x));
+        Called {
+            outcome: Outcome::Regs {
+                runner: self.kept.chain.runner(),
+                x: ffa_abi::encode(&answer.reply),
+            },
+            changed: answer.changed,
+        }
+    }
+
+    // The answer to a call of the runner, and what the call changes.
+    fn answer(&mut self, call: Call) -> Answer
+        requires { passes_no_error call ≡ true }
+        ensures served { replied self.new.state result.reply ≡ serve self.old.state call }
+        ensures refused { is_error result.reply ≡ true → self.new ≡ self.old }
+        ensures access { IsAccessChange self.old.state self.new.state result.changed }
+        ensures unchanged { is_error result.reply ≡ true → result.changed ≡ None }
+    {
+        if is_on_memory(&call) {
+            return self.memory_answer(call);
+        }
+        Answer {
+            reply: self.reply(call),
+            changed: None,
+        }
+    }
+
+    // The reply to a call of the runner that isn't on memory, and what the call changes.
+    fn reply(&mut self, call: Call) -> Reply
+        requires beside { is_on_memory call ≡ false }
+        requires named { passes_no_error call ≡ true }
+        ensures served { replied self.new.state result ≡ serve self.old.state call }
+        ensures refused { is_error result ≡ true → self.new ≡ self.old }
+    {
+        match call {
+            Call::Version { version } => ffa_setup::version(version),
+            Call::Features { function } => ffa_setup::features(function),
+            Call::RxRelease => self.release(),
+            Call::RxtxMap { tx, rx, pages } => self.map(tx, rx, pages),
+            Call::RxtxUnmap { endpoint } => self.unmap(endpoint),
+            Call::PartitionInfoGet { uuid, flags } => self.partition_info(uuid, flags),
+            Call::IdGet => ffa_setup::id(self.kept.chain.runner()),
+            Call::SpmIdGet => ffa_setup::spm_id(),
+            Call::MsgWait
+            | Call::Yield
+            | Call::Run { .. }
+            | Call::DirectRequest { .. }
+            | Call::DirectResponse { .. }
+            | Call::MsgSend2 => self.message_reply(call),
+            Call::MemDonate { .. }
+            | Call::MemLend { .. }
+            | Call::MemShare { .. }
+            | Call::MemRetrieve { .. }
+            | Call::MemRelinquish
+            | Call::MemReclaim { .. } => unreachable!(),
+            Call::BitmapCreate { .. }
+            | Call::BitmapDestroy { .. }
+            | Call::NotificationBind { .. }
+            | Call::NotificationUnbind { .. }
+            | Call::NotificationSet { .. }
+            | Call::NotificationGet { .. } => self.notification_reply(call),
+            Call::Unknown => Reply::Error(ErrorCode::NotSupported),
+        }
+    }
+}
+
+// The word of which the registers of a call hold the halves.
+fn word_of_halves(low: u32, high: u32) -> u64
+    ensures { result ≡ word_of_halves low high }
+{
+    u64::from(high) * (1 << 32) + u64::from(low)
+}

@@ -1,0 +1,84 @@
+//! Loads, stores and fetches, by what the walk of their address answered.
+ghost use Rattle.std.specs.Prelude.{true, ◌≡◌};
+ghost use Rattle.std.specs.Option.{option_map};
+ghost use Rattle.ffa_model.specs.declared.endpoint.PageNo.{PageNo};
+ghost use Rattle.ffa_model.specs.Agreement.{root};
+ghost use Rattle.ffa_model.specs.Memory as memory;
+ghost use Rattle.ffa_model.specs.Identifiers.{place};
+ghost use Rattle.ffa_model.specs.Refusals.{is_refusal};
+ghost use Rattle.ffa_model.specs.Walk.{is_page_address};
+ghost use Rattle.ffa_spmc.specs.Walks.{walk_of};
+
+use super::Manager;
+use ffa_model::{FaultKind, Leaf, Outcome, PageNo, Size};
+use ffa_physmem::PhysMem;
+
+impl<M: PhysMem + Drop> Manager<M> {
+    // The root of the runner's table.
+    fn root(&self) -> u32
+        ensures value { result ≡ root self.now.state (place self.now.state.runner) }
+        ensures page { is_page_address self.now.ram result ≡ true }
+    {
+        self.manifest.root(self.kept.chain.runner().place())
+    }
+
+    // What the walk of an address by the runner's table answers.
+    pub(crate) fn translate(&self, addr: u64) -> Result<Leaf, FaultKind>
+        ensures { result ≡ walk_of self.now.ram self.now.state self.now.state.runner addr }
+    {
+        ffa_walker::translate(&self.ram, self.root(), addr)
+    }
+
+    // The page of an address, counted from RAM's first: none below RAM, and none from 2^32 on.
+    pub(crate) fn page_of(&self, addr: u64) -> Option<PageNo>
+        ensures { option_map (λ (page : PageNo). page.0) result ≡ memory.page_of_address self.now.state addr }
+    {
+        let base = u64::from(self.manifest.ram_base);
+        if base <= addr && addr < 1 << 32 {
+            Some(PageNo(((addr - base) / 4096) as u32))
+        } else {
+            None
+        }
+    }
+
+    // A load of the runner, where the walk of its address answered this.
+    pub(crate) fn load(&self, walked: Result<Leaf, FaultKind>, addr: u64, size: Size) -> Outcome
+        requires { walked ≡ walk_of self.now.ram self.now.state self.now.state.runner addr }
+        ensures { result ≡ (memory.load self.now.state addr size).outcome }
+    {
+        match ffa_walker::load_at(&self.ram, walked, addr, size) {
+            Ok(value) => Outcome::Data(value),
+            Err(fault) => Outcome::Fault(fault),
+        }
+    }
+
+    // A fetch, alike.
+    pub(crate) fn fetch(&self, walked: Result<Leaf, FaultKind>, addr: u64) -> Outcome
+        requires { walked ≡ walk_of self.now.ram self.now.state self.now.state.runner addr }
+        ensures { result ≡ (memory.fetch self.now.state addr).outcome }
+    {
+        match ffa_walker::fetch_at(&self.ram, walked, addr) {
+            Ok(instruction) => Outcome::Data(u64::from(instruction)),
+            Err(fault) => Outcome::Fault(fault),
+        }
+    }
+
+    // A store, alike.
+    pub(crate) fn store(
+        &mut self,
+        walked: Result<Leaf, FaultKind>,
+        addr: u64,
+        size: Size,
+        value: u64,
+    ) -> Outcome
+        requires { walked ≡ walk_of self.old.ram self.old.state self.old.state.runner addr }
+        ensures outcome { result ≡ (memory.store self.old.state addr size value).outcome }
+        ensures state { self.new.state ≡ (memory.store self.old.state addr size value).state }
+        ensures refused { is_refusal result ≡ true → self.new ≡ self.old }
+    {
+        match ffa_walker::store_at(&mut self.ram, walked, addr, size, value) {
+            Ok(()) => Outcome::Done,
+            Err(fault) => Outcome::Fault(fault),
+        }
+    }
+}

@@ -1,0 +1,103 @@
+//! The calls on buffers, and partition information.
+ghost use Rattle.std.specs.Prelude.{true, ◌≡◌, length, None, if◌then◌else◌};
+ghost use Rattle.std.specs.Result.{result_err};
+ghost use Rattle.ffa_model.specs.Buffers.{rx_release, rxtx_map, rxtx_unmap};
+ghost use Rattle.ffa_model.specs.Calls.{first_failure, replied, served, success};
+ghost use Rattle.ffa_model.specs.Refusals.{is_error};
+ghost use Rattle.ffa_model.specs.Setup.{info_get, info_guards, informed, is_count_alone, selected, uuid_bytes};
+
+use super::Manager;
+use crate::replies::done_or_error;
+use ffa_model::{ErrorCode, Reply};
+use ffa_physmem::PhysMem;
+
+/// The bytes of one partition's information.
+const INFO_SIZE: u32 = 24;
+
+// Whether a request for partition information asks for the count alone.
+fn is_count_alone(flags: u32) -> bool
+    ensures { result ≡ is_count_alone flags }
+{
+    flags % 2 == 1
+}
+
+impl<M: PhysMem + Drop> Manager<M> {
+    // FFA_RX_RELEASE of the runner.
+    pub(super) fn release(&mut self) -> Reply
+        ensures served { replied self.new.state result ≡ served self.old.state (rx_release self.old.state) }
+        ensures refused { is_error result ≡ true → self.new ≡ self.old }
+    {
+        let runner = self.kept.chain.runner();
+        done_or_error(self.kept.buffers.release(runner))
+    }
+
+    // FFA_RXTX_MAP of the runner.
+    pub(super) fn map(&mut self, tx: u64, rx: u64, pages: u32) -> Reply
+        ensures served { replied self.new.state result ≡ served self.old.state (rxtx_map self.old.state tx rx pages) }
+        ensures refused { is_error result ≡ true → self.new ≡ self.old }
+    {
+        let ram_base = self.manifest.ram_base;
+        let runner = self.kept.chain.runner();
+        let kept = &mut self.kept;
+        let owners = &kept.pages;
+        done_or_error(kept.buffers.map(owners, ram_base, runner, tx, rx, pages))
+    }
+
+    // FFA_RXTX_UNMAP of the runner.
+    pub(super) fn unmap(&mut self, endpoint: u32) -> Reply
+        ensures served { replied self.new.state result ≡ served self.old.state (rxtx_unmap self.old.state endpoint) }
+        ensures refused { is_error result ≡ true → self.new ≡ self.old }
+    {
+        let runner = self.kept.chain.runner();
+        done_or_error(self.kept.buffers.unmap(runner, endpoint))
+    }
+
+    // FFA_PARTITION_INFO_GET of the runner.
+    pub(super) fn partition_info(&mut self, uuid: [u32; 4], flags: u32) -> Reply
+        ensures served { replied self.new.state result ≡ served self.old.state (info_get self.old.state uuid flags) }
+        ensures refused { is_error result ≡ true → self.new ≡ self.old }
+    {
+        match self.check_info(uuid, flags) {
+            Ok(()) => self.inform(uuid, flags),
+            Err(code) => Reply::Error(code),
+        }
+    }
+
+    // Whether partition information can be given to the runner, or why not.
+    fn check_info(&self, uuid: [u32; 4], flags: u32) -> Result<(), ErrorCode>
+        ensures { result_err result ≡ first_failure (info_guards self.now.state (uuid_bytes uuid) flags) }
+    {
+        let runner = self.kept.chain.runner();
+        if !ffa_setup::is_recognized(&self.manifest, uuid) {
+            return Err(ErrorCode::InvalidParameters);
+        }
+        if is_count_alone(flags) {
+            return Ok(());
+        }
+        if !self.kept.buffers.has(runner) {
+            return Err(ErrorCode::InvalidParameters);
+        }
+        if self.kept.buffers.is_full(runner) {
+            return Err(ErrorCode::Busy);
+        }
+        Ok(())
+    }
+
+    // Gives the runner partition information: its RX has the descriptors, unless it asked for the count alone.
+    fn inform(&mut self, uuid: [u32; 4], flags: u32) -> Reply
+        requires { first_failure (info_guards self.old.state (uuid_bytes uuid) flags) ≡ None }
+        ensures state { self.new.state ≡ informed self.old.state (uuid_bytes uuid) flags }
+        ensures reply { result ≡ success (length (selected self.old.state.parties (uuid_bytes uuid))) (if is_count_alone flags then 0 else 24) }
+    {
+        let count = ffa_setup::count(&self.manifest, uuid);
+        if is_count_alone(flags) {
+            return Reply::Success([count, 0, 0, 0, 0, 0]);
+        }
+        let bytes = ffa_setup::info_bytes(&self.manifest, uuid);
+        let runner = self.kept.chain.runner();
+        self.kept
+            .buffers
+            .fill(&mut self.ram, runner, bytes.as_slice());
+        Reply::Success([count, INFO_SIZE, 0, 0, 0, 0])
+    }
+}

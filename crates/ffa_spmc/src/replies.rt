@@ -1,0 +1,38 @@
+//! Replies to calls that a part of the machine has done or refused.
+ghost use Rattle.std.specs.Prelude.{◌≡◌};
+ghost use Rattle.ffa_model.specs.MemorySend.{handle_reply};
+ghost use Rattle.ffa_spmc.specs.Replies.{done_or_error, reply_or_error};
+
+use ffa_model::{ErrorCode, Reply};
+
+/// The reply to a call that answers no more than that it is done.
+pub(crate) const DONE: Reply = Reply::Success([0; 6]);
+
+// The reply to a call that only can be done or refused.
+pub(crate) fn done_or_error(answer: Result<(), ErrorCode>) -> Reply
+    ensures { result ≡ done_or_error answer }
+{
+    match answer {
+        Ok(()) => DONE,
+        Err(code) => Reply::Error(code),
+    }
+}
+
+// The reply of a call that was done, or the code for which it was refused.
+pub(crate) fn reply_or_error(answer: Result<Reply, ErrorCode>) -> Reply
+    ensures { result ≡ reply_or_error answer }
+{
+    match answer {
+        Ok(reply) => reply,
+        Err(code) => Reply::Error(code),
+    }
+}
+
+// The reply to a send that was done: the halves of the handle, the low one first.
+pub(crate) fn handle_reply(handle: u64) -> Reply
+    ensures { result ≡ handle_reply handle }
+{
+    let low = (handle % (1 << 32)) as u32;
+    let high = (handle >> 32) as u32;
+    Reply::Success([low, high, 0, 0, 0, 0])
+}

@@ -1,0 +1,184 @@
+//! Rows on machines with a cache of translations, and what the cache holds then.
+ghost use Rattle.std.specs.Prelude.{◌≡◌, IfOk};
+ghost use Rattle.ffa_model.specs.Ram.{zero_ram};
+
+use super::memory::{LEND, MAPPED, RELINQUISH, RETRIEVE, RETRIEVED, TO_FIRST, TO_SECOND};
+use super::*;
+use crate::tlb::Always;
+use ffa_model::{EndpointId, PageNo};
+use std::cell::Cell;
+
+const FIRST: EndpointId = EndpointId(0x8001);
+
+const SECOND: EndpointId = EndpointId(0x8002);
+
+// The page that is lent.
+const LENT: PageNo = PageNo(0x21);
+
+const RECLAIM: &str = "\
+call 84000077 1 8001 -> 8001: 84000061
+load 40021000 1 -> data 5A
+";
+
+const LOAD: &str = "load 40021000 1 -> data 00\n";
+
+// The page of RAM that a step has read, if it has read any.
+fn page_read(step: &str) -> Option<PageNo> {
+    let (line, _data) = step.split_once(" -> data ")?;
+    let (address, _size) = line.strip_prefix("load ")?.split_once(' ')?;
+    let mut number: u32 = 0;
+    for digit in address.chars() {
+        number = number.checked_mul(16)?.checked_add(digit.to_digit(16)?)?;
+    }
+    Some(PageNo(number.checked_sub(0x4000_0000)? / 4096))
+}
+
+fn holds<M: PhysMem + Drop, T: Translations + Drop>(
+    player: &Player<M, T>,
+    endpoint: EndpointId,
+    page: PageNo,
+) -> bool {
+    player.machine().cache().lookup(endpoint, page).is_some()
+}
+
+// Plays steps one by one. Each prints what is wanted, and what was loaded has a leaf in the cache.
+fn holds_what_is_read<M: PhysMem + Drop, T: Translations + Drop>(
+    rt: &impl Abort,
+    alloc: Global,
+    player: &mut Player<M, T>,
+    parts: &[&str],
+) -> Result<(), Fail> {
+    for part in parts {
+        for step in part.lines() {
+            let mut row = Row::new(alloc);
+            row.add(step)?;
+            assert_eq!(rt; played(alloc, player, &row.trace)?, row.text);
+            if let Some(page) = page_read(step) {
+                assert!(rt; holds(player, player.machine().runner(), page), "{step}");
+            }
+        }
+    }
+    Ok(())
+}
+
+// A page is read before it is lent, before it is relinquished, and when it is back.
+fn reads_around_a_lend<T: Translations + Drop>(
+    rt: &impl Abort,
+    alloc: Global,
+    cache: T,
+) -> Result<(), Fail> {
+    let mut player = machine(flat_ram(alloc)?, cache);
+    holds_what_is_read(rt, alloc, &mut player, &[MAPPED, LOAD, LEND])?;
+    assert!(rt; !holds(&player, FIRST, LENT));
+    let taken = [TO_SECOND, RETRIEVE, RETRIEVED, LOAD, RELINQUISH];
+    holds_what_is_read(rt, alloc, &mut player, &taken)?;
+    assert!(rt; !holds(&player, SECOND, LENT));
+    holds_what_is_read(rt, alloc, &mut player, &[TO_FIRST, RECLAIM])
+}
+
+#[test]
+fn a_lend_with_one_entry(rt: HostRuntime) -> Result<(), Fail> {
+    reads_around_a_lend(&rt, rt.alloc(), Tlb::<Always, 1>::new(Always(0)))
+}
+
+#[test]
+fn a_lend_with_the_greatest_pick(rt: HostRuntime) -> Result<(), Fail> {
+    reads_around_a_lend(&rt, rt.alloc(), Tlb::<Always, 2>::new(Always(usize::MAX)))
+}
+
+#[test]
+fn a_lend_with_four_in_turn(rt: HostRuntime) -> Result<(), Fail> {
+    reads_around_a_lend(&rt, rt.alloc(), four_in_turn())
+}
+
+#[test]
+fn a_lend_prints_the_same(rt: HostRuntime) -> Result<(), Fail> {
+    let parts = [
+        MAPPED, LOAD, LEND, TO_SECOND, RETRIEVE, RETRIEVED, LOAD, RELINQUISH, TO_FIRST, RECLAIM,
+    ];
+    plays(&rt, rt.alloc(), &parts)
+}
+
+// The pages of the machine's tables.
+const TABLES: u32 = 9;
+
+// RAM that counts the reads of tables.
+#[derive(Drop)]
+struct Counting {
+    ram: FlatRam,
+    reads: Cell<u32>,
+}
+
+impl Counting {
+    fn count(&self, page: PageNo) {
+        if page.0 < TABLES {
+            self.reads.set(self.reads.get().wrapping_add(1));
+        }
+    }
+}
+
+impl PhysMem for Counting {
+    ghost use Rattle.std.specs.Prelude.{refl};
+
+    ghost ram = { λ m. ⟦<FlatRam as PhysMem>⟧.ram m.ram };
+
+    ghost with_bytes = { λ m page bytes. record m { ram = ⟦<FlatRam as PhysMem>⟧.with_bytes m.ram page bytes } };
+
+    ghost one_page = { λ m page bytes. refl };
+
+    fn base(&self) -> u32 {
+        self.ram.base()
+    }
+
+    fn pages(&self) -> u32 {
+        self.ram.pages()
+    }
+
+    fn page(&self, page: PageNo) -> &[u8; 4096] {
+        self.count(page);
+        self.ram.page(page)
+    }
+
+    fn page_mut(&mut self, page: PageNo) -> &mut [u8; 4096] {
+        self.ram.page_mut(page)
+    }
+
+    fn read_word(&self, page: PageNo, index: usize) -> u64 {
+        self.count(page);
+        self.ram.read_word(page, index)
+    }
+}
+
+fn counting_ram(alloc: Global) -> Result<Counting, Fail>
+    ensures { IfOk result (λ ram. ⟦<Counting as PhysMem>⟧.ram ram ≡ zero_ram 0x40000000 512) }
+{
+    Ok(Counting {
+        ram: flat_ram(alloc)?,
+        reads: Cell::new(0),
+    })
+}
+
+// How often a trace reads tables.
+fn reads_of<T: Translations + Drop>(
+    alloc: Global,
+    player: &mut Player<Counting, T>,
+    trace: &str,
+) -> Result<u32, Fail> {
+    player.machine().ram().reads.set(0);
+    played(alloc, player, trace)?;
+    Ok(player.machine().ram().reads.get())
+}
+
+#[test]
+fn a_page_that_is_held_is_not_walked(rt: HostRuntime) -> Result<(), Fail> {
+    let alloc = rt.alloc();
+    let cache = Tlb::<InTurn, 2>::new(InTurn::default());
+    let mut player = machine(counting_ram(alloc)?, cache);
+    played(alloc, &mut player, "call 8400006D 80010000\n")?;
+    assert!(rt; reads_of(alloc, &mut player, "load 40020000 1\n")? > 0);
+    reads_of(alloc, &mut player, "load 40021000 1\n")?;
+    assert_eq!(rt; reads_of(alloc, &mut player, "load 40021000 1\n")?, 0);
+    assert!(rt; holds(&player, FIRST, PageNo(0x20)));
+    assert!(rt; holds(&player, FIRST, LENT));
+    Ok(())
+}

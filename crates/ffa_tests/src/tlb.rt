@@ -1,0 +1,90 @@
+//! Caches of leaves.
+ghost use Rattle.std.specs.Prelude.{◌<◌};
+
+use ffa_model::{EndpointId, Leaf, PageNo};
+use ffa_tlb::{Entry, InTurn, NoTlb, Replacement, Tlb, Translations};
+use std::process::Abort;
+
+const ENDPOINT: EndpointId = EndpointId(0x8001);
+
+// Picks one slot each time.
+#[derive(Drop)]
+pub(crate) struct Always(pub(crate) usize);
+
+impl Replacement for Always {
+    fn pick(&mut self, _endpoint: EndpointId, _page: PageNo) -> usize {
+        self.0
+    }
+}
+
+// A leaf that leads to a page of RAM at 0x40000000.
+fn leaf_of(page: u32) -> Leaf {
+    Leaf {
+        phys: 0x4000_0000 + 4096 * u64::from(page),
+        read: true,
+        write: page % 2 == 0,
+        exec: false,
+    }
+}
+
+// Fills a cache of so many slots and one page more, and sees that the first page alone is lost.
+fn loses_the_oldest<T: Translations>(rt: &impl Abort, cache: &mut T, slots: u32)
+    requires { slots < 100 }
+{
+    for page in 0..=slots {
+        cache.fill(ENDPOINT, PageNo(page), leaf_of(page));
+    }
+    assert!(rt; cache.lookup(ENDPOINT, PageNo(0)).is_none());
+    for page in 1..=slots {
+        assert_eq!(rt; cache.lookup(ENDPOINT, PageNo(page)), Some(leaf_of(page)));
+    }
+    cache.clear();
+    assert!(rt; cache.lookup(ENDPOINT, PageNo(slots)).is_none());
+}
+
+#[test]
+fn slots_are_picked_in_turn(rt: HostRuntime) {
+    let mut policy = InTurn::default();
+    for slot in 0..3 {
+        assert_eq!(rt; policy.pick(ENDPOINT, PageNo(7)), slot);
+    }
+}
+
+#[test]
+fn the_oldest_entry_makes_room(rt: HostRuntime) {
+    loses_the_oldest(&rt, &mut Tlb::<InTurn, 1>::new(InTurn::default()), 1);
+    loses_the_oldest(&rt, &mut Tlb::<InTurn, 2>::new(InTurn::default()), 2);
+    loses_the_oldest(&rt, &mut Tlb::<InTurn, 4>::new(InTurn::default()), 4);
+}
+
+#[test]
+fn any_number_picks_a_slot(rt: HostRuntime) {
+    let mut cache = Tlb::<Always, 2>::new(Always(usize::MAX));
+    cache.fill(ENDPOINT, PageNo(5), leaf_of(5));
+    cache.fill(EndpointId(0), PageNo(5), leaf_of(6));
+    assert!(rt; cache.lookup(ENDPOINT, PageNo(5)).is_none());
+    assert_eq!(rt; cache.lookup(EndpointId(0), PageNo(5)), Some(leaf_of(6)));
+    cache.forget(EndpointId(0), PageNo(5));
+    assert!(rt; cache.lookup(EndpointId(0), PageNo(5)).is_none());
+}
+
+#[test]
+fn no_cache_holds_nothing(rt: HostRuntime) {
+    let mut none = NoTlb;
+    none.fill(ENDPOINT, PageNo(5), leaf_of(5));
+    none.forget(ENDPOINT, PageNo(6));
+    none.clear();
+    assert!(rt; none.lookup(ENDPOINT, PageNo(5)).is_none());
+}
+
+#[test]
+fn an_entry_is_of_its_endpoint_and_page(rt: HostRuntime) {
+    let entry = Entry {
+        endpoint: ENDPOINT,
+        page: PageNo(5),
+        leaf: leaf_of(5),
+    };
+    assert!(rt; entry.is_of(ENDPOINT, PageNo(5)));
+    assert!(rt; !entry.is_of(EndpointId(0), PageNo(5)));
+    assert!(rt; !entry.is_of(ENDPOINT, PageNo(6)));
+}

@@ -1,0 +1,19 @@
+-- Nothing here is to be believed: a type that clauses see has to have a code, and each code brings the proof that it can be
+-- undone.
+use Rattle.std.specs.Prelude.{ℕ, Bool, List, refl}
+use Rattle.std.specs.Coded.{Coded, code_by, coded×, coded_ℕ, coded_bool, coded_list}
+use Rattle.ffa_model.specs.declared.leaf.Leaf.{Leaf}
+use Rattle.ffa_tlb.specs.declared.translations.Entry.{Entry}
+
+abbrev pub coded_leaf : Coded Leaf
+coded_leaf =
+    code_by (ℕ × (Bool × (Bool × Bool))) (coded× coded_ℕ (coded× coded_bool (coded× coded_bool coded_bool)))
+    (λ l. (l.phys, (l.read, (l.write, l.exec)))) (λ p. record { phys = p.0; read = p.1.0; write = p.1.1.0; exec = p.1.1.1 }) (λ _. refl)
+
+abbrev pub coded_entry : Coded Entry
+coded_entry =
+    code_by (ℕ × (ℕ × Leaf)) (coded× coded_ℕ (coded× coded_ℕ coded_leaf)) (λ x. (x.endpoint.0, (x.page.0, x.leaf)))
+    (λ p. record { endpoint = record { 0 = p.0 }; page = record { 0 = p.1.0 }; leaf = p.1.1 }) (λ _. refl)
+
+abbrev pub coded_entries : Coded (List Entry)
+coded_entries = coded_list coded_entry

@@ -1,0 +1,115 @@
+//! A cache of a few leaves.
+ghost use Rattle.std.specs.Prelude.{◌≡◌, ◌<◌, Some, []};
+ghost use Rattle.ffa_tlb.specs.Lookups.{lookup, IsFilled};
+ghost use Rattle.ffa_tlb.specs.Slots.{entries_of, holds, without};
+
+use crate::replacement::Replacement;
+use crate::translations::{Entry, Translations};
+use ffa_model::{EndpointId, Leaf, PageNo};
+use std::marker::Model;
+
+/// A translation lookaside buffer of `N` entries, at least one (DDI 0487, D8). A page of an endpoint has one entry at
+/// most; which one makes room for a new one is up to `P`.
+#[derive(Drop)]
+pub struct Tlb<P: Replacement, const N: usize> {
+    slots: [Option<Entry>; N],
+    policy: P,
+}
+
+impl<P: Replacement, const N: usize> Model for Tlb<P, N> {
+    ghost use Rattle.std.specs.Prelude.{◌≡◌, ◌<◌, true, List};
+    ghost use Rattle.ffa_tlb.specs.declared.translations.Entry.{Entry};
+
+    ghost Value = { List Entry };
+
+    ghost use Rattle.ffa_tlb.specs.Codes.{coded_entries};
+
+    ghost coded = { coded_entries };
+
+    ghost use Rattle.ffa_tlb.specs.Slots.{entries_of, is_distinct};
+
+    ghost view = { λ t. entries_of t.slots };
+
+    ghost invariant = { λ t. (0 < N) × (is_distinct (entries_of t.slots) ≡ true) };
+}
+
+impl<P: Replacement, const N: usize> Tlb<P, N> {
+    /// Holds nothing.
+    #[tactic(auto, using(crate::proofs::Slots::entries_of_empty))]
+    pub fn new(policy: P) -> Tlb<P, N>
+        requires { 0 < N }
+        ensures { result ≡ [] }
+    {
+        Tlb {
+            slots: [None; N],
+            policy,
+        }
+    }
+}
+
+impl<P: Replacement, const N: usize> Translations for Tlb<P, N> {
+    ghost entries = { λ t. t };
+
+    fn lookup(&self, endpoint: EndpointId, page: PageNo) -> Option<Leaf> {
+        held_in(&self.slots, endpoint, page)
+    }
+
+    fn fill(&mut self, endpoint: EndpointId, page: PageNo, leaf: Leaf)
+        ensures filled { IsFilled self.old self.new endpoint.0 page.0 leaf }
+        ensures held { lookup self.new endpoint.0 page.0 ≡ Some leaf }
+    {
+        self.forget(endpoint, page);
+        let slot = self.policy.pick(endpoint, page) % N;
+        self.slots[slot] = Some(Entry {
+            endpoint,
+            page,
+            leaf,
+        });
+    }
+
+    #[tactic(auto, using(crate::proofs::Slots::lookup_without, crate::proofs::Slots::distinct_without))]
+    fn forget(&mut self, endpoint: EndpointId, page: PageNo) {
+        take_out(&mut self.slots, endpoint, page);
+    }
+
+    #[tactic(auto, using(crate::proofs::Slots::entries_of_empty))]
+    fn clear(&mut self) {
+        let empty = [None; N];
+        self.slots = empty;
+    }
+}
+
+// The leaf in the first of these slots that holds one for a page of an endpoint.
+fn held_in(slots: &[Option<Entry>], endpoint: EndpointId, page: PageNo) -> Option<Leaf>
+    ensures { result ≡ lookup (entries_of slots.now) endpoint.0 page.0 }
+{
+    for slot in slots {
+        if let Some(entry) = slot
+            && entry.is_of(endpoint, page)
+        {
+            return Some(entry.leaf);
+        }
+    }
+    None
+}
+
+// Whether a slot has an entry for a page of an endpoint.
+fn has_entry(slot: &Option<Entry>, endpoint: EndpointId, page: PageNo) -> bool
+    ensures { result ≡ holds endpoint.0 page.0 slot.now }
+{
+    match slot {
+        Some(entry) => entry.is_of(endpoint, page),
+        None => false,
+    }
+}
+
+// Empties each of these slots that has an entry for a page of an endpoint.
+fn take_out(slots: &mut [Option<Entry>], endpoint: EndpointId, page: PageNo)
+    ensures { slots.new ≡ without slots.old endpoint.0 page.0 }
+{
+    for slot in slots.iter_mut() {
+        if has_entry(slot, endpoint, page) {
+            *slot = None;
+        }
+    }
+}
