@@ -55,7 +55,7 @@ is_runners s address e p = option_map_or (λ q. is_pair e p s.runner q) (page_of
 abbrev pub is_accessed : State → Op → ℕ → ℕ → Bool
 is_accessed s op e p = option_map_or (λ address. is_runners s address e p) (address_in op) false
 
--- where it hasn't, the page has what it had, or nothing any more
-abbrev pub AreFilled : Snapshot → Snapshot → (ℕ → ℕ → Bool) → Type 0
-AreFilled old new accessed =
+-- where no endpoint has access so, the page has what it had, or nothing any more
+abbrev pub AreSameOrGone : Snapshot → Snapshot → (ℕ → ℕ → Bool) → Type 0
+AreSameOrGone old new accessed =
     (e p : ℕ) → accessed e p ≡ false → (lookup new.held e p ≡ None) ⊎ (lookup new.held e p ≡ lookup old.held e p)

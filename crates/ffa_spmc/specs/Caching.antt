@@ -3,7 +3,7 @@ use Rattle.std.specs.Prelude.{◌≡◌, ℕ, ◌+◌, ◌-◌, ◌%◌, ◌==�
 use Rattle.ffa_model.specs.declared.leaf.Leaf.{Leaf}
 use Rattle.ffa_tlb.specs.declared.translations.Entry.{Entry}
 use Rattle.ffa_tlb.specs.Lookups.{lookup}
-use Rattle.ffa_spmc.specs.Cached.{AreFilled, is_runners, missed_page}
+use Rattle.ffa_spmc.specs.Cached.{AreSameOrGone, is_runners, missed_page}
 use Rattle.ffa_spmc.specs.Snapshot.{Snapshot}
 
 -- the leaf of a page's first address, moved to an address of the page; and back
@@ -16,7 +16,7 @@ moved_back leaf address = record leaf { phys = leaf.phys - address % 4096 }
 -- an access to an address, with the state left out: where a leaf was held for its page nothing changes, and else at most the page is new
 pub record IsCached (old new : Snapshot) (address : ℕ) : Type 0 where
   pub hit : missed_page old address ≡ None → new.held ≡ old.held
-  pub miss : AreFilled old new (is_runners old.state address)
+  pub miss : AreSameOrGone old new (is_runners old.state address)
 
 -- nothing is held any more for e and the pages that pass a test, and each other page has what it had
 abbrev pub AreOut : List Entry → List Entry → ℕ → (ℕ → Bool) → Type 0

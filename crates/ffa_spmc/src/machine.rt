@@ -12,7 +12,7 @@ ghost use Rattle.ffa_model.specs.Refusals.{is_refusal};
 ghost use Rattle.ffa_model.specs.Registers.{decode};
 ghost use Rattle.ffa_model.specs.State.{owner_of};
 ghost use Rattle.ffa_model.specs.Step.{serve, step, outcomes, state_after};
-ghost use Rattle.ffa_spmc.specs.Cached.{AreFilled, AreForgotten, AreKept, AreWalks, is_accessed, is_miss};
+ghost use Rattle.ffa_spmc.specs.Cached.{AreSameOrGone, AreForgotten, AreKept, AreWalks, is_accessed, is_miss};
 
 mod accesses;
 mod forgetting;
@@ -164,12 +164,12 @@ impl<M: PhysMem + Drop, T: Translations + Drop> Machine<M, T> {
         ensures refused { is_refusal result ≡ true → self.new ≡ self.old }
 
         // What the cache answers is the walk's answer over the bytes of the new RAM. It holds nothing for a page to which
-        // an endpoint's access has changed, and all else stays, but where a page is missed: then at most the runner has
-        // something new, for that page.
+        // an endpoint's access has changed. All else stays, but for an access that misses: it may take the place of others,
+        // and only the runner's page is new.
         ensures walks { AreWalks self.new }
         ensures forgotten { AreForgotten self.old self.new }
         ensures kept { is_miss self.old op.now ≡ false → AreKept self.old self.new }
-        ensures filled { AreFilled self.old self.new (is_accessed self.old.state op.now) }
+        ensures others { AreSameOrGone self.old self.new (is_accessed self.old.state op.now) }
 
         // The state stays sound. What another endpoint learns is in its events, what the runner sees depends on its view
         // alone, and a page that its owner has alone is safe from others.
@@ -191,7 +191,7 @@ impl<M: PhysMem + Drop, T: Translations + Drop> Machine<M, T> {
         ensures refused { is_refusal result ≡ true → self.new ≡ self.old }
         ensures forgotten { AreForgotten self.old self.new }
         ensures kept { is_miss self.old op.now ≡ false → AreKept self.old self.new }
-        ensures filled { AreFilled self.old self.new (is_accessed self.old.state op.now) }
+        ensures others { AreSameOrGone self.old self.new (is_accessed self.old.state op.now) }
     {
         match *op {
             Op::Call(x) => self.call(x),
@@ -208,7 +208,7 @@ impl<M: PhysMem + Drop, T: Translations + Drop> Machine<M, T> {
         ensures refused { is_refusal result ≡ true → self.new ≡ self.old }
         ensures forgotten { AreForgotten self.old self.new }
         ensures kept { AreKept self.old self.new }
-        ensures filled { AreFilled self.old self.new (λ e p. false) }
+        ensures others { AreSameOrGone self.old self.new (λ e p. false) }
     {
         self.manager.holds();
         let called = self.manager.call(x);

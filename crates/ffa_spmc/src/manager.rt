@@ -134,7 +134,9 @@ impl<M: PhysMem + Drop> Manager<M> {
         }
     }
 
-    // A call of the runner, in its registers.
+    // A call of the runner, in its registers. It and what makes the answer are inlined, so that no call moves what only a
+    // call on memory answers.
+    #[inline(always)]
     pub(crate) fn call(&mut self, x: [u64; 8]) -> Called
         ensures outcome { result.outcome ≡ (serve self.old.state (decode x)).outcome }
         ensures state { self.new.state ≡ (serve self.old.state (decode x)).state }
@@ -153,6 +155,7 @@ impl<M: PhysMem + Drop> Manager<M> {
     }
 
     // The answer to a call of the runner, and what the call changes.
+    #[inline(always)]
     fn answer(&mut self, call: Call) -> Answer
         requires { passes_no_error call ≡ true }
         ensures served { replied self.new.state result.reply ≡ serve self.old.state call }

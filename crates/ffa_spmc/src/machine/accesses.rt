@@ -43,20 +43,22 @@ fn moved_back(leaf: Leaf, addr: u64) -> Leaf
 }
 
 impl<M: PhysMem + Drop, T: Translations + Drop> Machine<M, T> {
-    // The walk of an address for the runner: by the leaf that is held for its page, or else by the tables.
+    // The walk of an address for the runner: by the leaf that is held for its page, or else by the tables. It is inlined,
+    // though accesses of three kinds call it.
+    #[inline(always)]
     fn walk(&self, addr: u64) -> Walked
         ensures answer { result.answer ≡ walk_of self.now.ram self.now.state self.now.state.runner addr }
         ensures missed { option_map (λ (page : PageNo). page.0) result.missed ≡ missed_page self.now addr }
     {
         self.manager.holds();
         let page = self.manager.page_of(addr);
-        if let Some(page) = page {
-            if let Some(leaf) = self.cache.lookup(self.manager.runner(), page) {
-                return Walked {
-                    answer: Ok(moved_to(leaf, addr)),
-                    missed: None,
-                };
-            }
+        if let Some(page) = page
+            && let Some(leaf) = self.cache.lookup(self.manager.runner(), page)
+        {
+            return Walked {
+                answer: Ok(moved_to(leaf, addr)),
+                missed: None,
+            };
         }
         Walked {
             answer: self.manager.translate(addr),
@@ -64,8 +66,10 @@ impl<M: PhysMem + Drop, T: Translations + Drop> Machine<M, T> {
         }
     }
 
-    // Holds the leaf that the walk of an address answered, where the access was done and none is held for its page.
-    fn hold(&mut self, addr: u64, walked: &Walked, outcome: &Outcome)
+    // Fills the cache with what the walk of an address answered, where the access was done and no leaf is held for its
+    // page. It is inlined, alike.
+    #[inline(always)]
+    fn fill(&mut self, addr: u64, walked: &Walked, outcome: &Outcome)
         requires answer { walked.now.answer ≡ walk_of self.old.ram self.old.state self.old.state.runner addr }
         requires missed { option_map (λ (page : PageNo). page.0) walked.now.missed ≡ missed_page self.old addr }
         ensures state { self.new.state ≡ self.old.state }
@@ -92,7 +96,7 @@ impl<M: PhysMem + Drop, T: Translations + Drop> Machine<M, T> {
     {
         let walked = self.walk(addr);
         let outcome = self.manager.load(walked.answer, addr, size);
-        self.hold(addr, &walked, &outcome);
+        self.fill(addr, &walked, &outcome);
         outcome
     }
 
@@ -105,7 +109,7 @@ impl<M: PhysMem + Drop, T: Translations + Drop> Machine<M, T> {
     {
         let walked = self.walk(addr);
         let outcome = self.manager.fetch(walked.answer, addr);
-        self.hold(addr, &walked, &outcome);
+        self.fill(addr, &walked, &outcome);
         outcome
     }
 
@@ -120,7 +124,7 @@ impl<M: PhysMem + Drop, T: Translations + Drop> Machine<M, T> {
         self.manager.holds();
         let outcome = self.manager.store(walked.answer, addr, size, value);
         self.manager.holds();
-        self.hold(addr, &walked, &outcome);
+        self.fill(addr, &walked, &outcome);
         outcome
     }
 }

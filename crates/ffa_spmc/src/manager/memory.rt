@@ -45,7 +45,8 @@ pub(super) fn is_on_memory(call: &Call) -> bool
 }
 
 impl<M: PhysMem + Drop> Manager<M> {
-    // The answer to a call on memory.
+    // The answer to a call on memory. It stands alone, so that other calls have no room for it.
+    #[inline(never)]
     pub(super) fn memory_answer(&mut self, call: Call) -> Answer
         requires { is_on_memory call ≡ true }
         ensures served { replied self.new.state result.reply ≡ serve self.old.state call }

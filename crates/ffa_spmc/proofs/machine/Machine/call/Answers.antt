@@ -2,7 +2,7 @@ use Rattle.std.proofs.Common.{◌≡◌, ◌∙◌, false, true, sym, ap, subst}
 use Rattle.ffa_model.specs.declared.operation.Op.TheVariants.{Call}
 use Rattle.ffa_model.specs.State.{State, is_known}
 use Rattle.ffa_laws.proofs.Kept.{base-step, known-step}
-use Rattle.ffa_spmc.specs.Cached.{AreFilled, AreForgotten, AreKept}
+use Rattle.ffa_spmc.specs.Cached.{AreSameOrGone, AreForgotten, AreKept}
 use Rattle.ffa_spmc.specs.Snapshot.{Snapshot}
 use Rattle.ffa_spmc.proofs.Forgotten.{change-placed, gone, gone-or-held, same-held, still-held}
 use Rattle.ffa_spmc.proofs.HeldWalks.{walks-after}
@@ -50,13 +50,13 @@ returns-clause-kept g c =
     (same-held s t c.call-called.result.changed c.call-called.ensures.access old new (c.forget.ensures.forgotten s (sym base ∙ sym c.ram_base.ensures))
     c.self.inside.manager.ram c.holds.ensures.agrees c.holds.ensures.sound c.self.invariant)
 
-pub returns-clause-filled : goal.returns-clause-filled
-returns-clause-filled g c =
+pub returns-clause-others : goal.returns-clause-others
+returns-clause-others g c =
     let s = c.self.inside.manager.state in
     let t = c.call-called.new.self.state in
     let old = g.T.Translations.entries c.self.inside.cache in
     let new = g.T.Translations.entries c.forget.new.cache in
     let base : t.ram_base ≡ s.ram_base = ap (λ (state : State). state.ram_base) c.call-called.ensures.state ∙ base-step s (Call c.args.x) in
     let now : Snapshot = record { state = t; ram = c.call-called.new.self.ram; held = new } in
-    subst (λ (seen : Snapshot). AreFilled seen now (λ e p. false)) c.self.view_is
+    subst (λ (seen : Snapshot). AreSameOrGone seen now (λ e p. false)) c.self.view_is
     (λ e p _. gone-or-held s t c.call-called.result.changed c.call-called.ensures.access old new (c.forget.ensures.forgotten s (sym base ∙ sym c.ram_base.ensures)) e p)

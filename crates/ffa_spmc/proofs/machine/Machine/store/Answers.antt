@@ -18,8 +18,8 @@ invariant_of-self g c =
     (store-base s t c.args.addr c.args.size c.args.value is) (store-known s t c.args.addr c.args.size c.args.value is) held held
     (λ e p leaf there. (there, store-access s t c.args.addr c.args.size c.args.value is e p)) c.self.invariant
 
-pub hold-requires-clause-answer : goal.hold-requires-clause-answer
-hold-requires-clause-answer g c =
+pub fill-requires-clause-answer : goal.fill-requires-clause-answer
+fill-requires-clause-answer g c =
     let s = c.self.inside.manager.state in
     let t = c.store-outcome.new.self.state in
     let is = c.store-outcome.ensures.state in
@@ -31,8 +31,8 @@ hold-requires-clause-answer g c =
     (store-access s t c.args.addr c.args.size c.args.value is) c.args.addr
     ∙ ap (λ (e : ℕ). walk_of c.store-outcome.new.self.ram t e c.args.addr) (sym (store-runner s t c.args.addr c.args.size c.args.value is))
 
-pub hold-requires-clause-missed : goal.hold-requires-clause-missed
-hold-requires-clause-missed g c =
+pub fill-requires-clause-missed : goal.fill-requires-clause-missed
+fill-requires-clause-missed g c =
     let s = c.self.inside.manager.state in
     let t = c.store-outcome.new.self.state in
     let is = c.store-outcome.ensures.state in
@@ -48,6 +48,6 @@ returns-clause-held g c =
     let t = c.store-outcome.new.self.state in
     let is = c.store-outcome.ensures.state in
     let held = g.T.Translations.entries c.self.inside.cache in
-    subst (λ (seen : Snapshot). IsCached seen c.hold.new.self c.args.addr) c.self.view_is
+    subst (λ (seen : Snapshot). IsCached seen c.fill.new.self c.args.addr) c.self.view_is
     (cached-from (record { state = t; ram = c.store-outcome.new.self.ram; held = held }) (record { state = s; ram = c.self.inside.manager.ram; held = held })
-    refl (store-runner s t c.args.addr c.args.size c.args.value is) (store-base s t c.args.addr c.args.size c.args.value is) c.args.addr c.hold.new.self c.hold.ensures.held)
+    refl (store-runner s t c.args.addr c.args.size c.args.value is) (store-base s t c.args.addr c.args.size c.args.value is) c.args.addr c.fill.new.self c.fill.ensures.held)

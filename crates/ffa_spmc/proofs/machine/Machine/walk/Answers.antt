@@ -15,8 +15,8 @@ moved_to-requires g c =
     (ap (λ (e : ℕ). lookup (g.T.Translations.entries c.self.inside.cache) e c.in-Some.page.0) (sym c.runner.ensures) ∙ sym c.in-Some-lookup.ensures))
     c.args.addr
 
-pub returns-in-Some-lookup-clause-answer : goal.returns-in-Some-lookup-clause-answer
-returns-in-Some-lookup-clause-answer g c =
+pub returns-clause-answer : goal.returns-clause-answer
+returns-clause-answer g c =
     let m = c.self.inside.manager in
     ap (λ (leaf : Leaf). let answer : Answer = Ok leaf in answer) c.moved_to.ensures
     ∙ sym (held-walk m.ram m.state c.holds.ensures.agrees c.holds.ensures.sound m.state.runner c.in-Some.page.0 c.in-Some-lookup.leaf

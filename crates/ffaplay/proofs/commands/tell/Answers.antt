@@ -1,0 +1,4 @@
+use Rattle.ffaplay.proofs.commands.tell.Goals as goal
+
+pub returns : goal.returns
+returns g c = c.status.ensures
