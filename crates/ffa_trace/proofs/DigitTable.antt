@@ -17,26 +17,9 @@ tells_value b h = eqb-true (value_of b) (entry b) (agree_below_at (λ b. value_o
 pub entry_few : (b : ℕ) → b < 256 → entry b ≤ 2 ^ 32
 entry_few b h = leb-true (entry b) (2 ^ 32) (agree_below_at (λ b. nat_le (entry b) (2 ^ 32)) (λ b. true) 256 b refl h)
 
-tells_digits : (b : ℕ) → b < 256 → is_some (digit_value b) ≡ nat_lt (entry b) (2 ^ 32)
-unfolding digit_value
-tells_digits b h = agree_below_at (λ b. is_some (digit_value b)) (λ b. nat_lt (entry b) (2 ^ 32)) 256 b refl h
-
 pub digit_small : (o : Option ℕ) (v : ℕ) → v ≡ unwrap_or o (2 ^ 32) → v < 2 ^ 32 → Some v ≡ o
 digit_small None v e h = absurd (omega (arith, e, h))
 digit_small (Some d) v e h = ap Some e
-
-pub digit-in_table : (b : ℕ) → b < 256 → entry b < 2 ^ 32 → Some (entry b) ≡ digit_value b
-digit-in_table b h small = digit_small (digit_value b) (entry b) (sym (tells_value b h)) small
-
-pub digit-not_in_table : (b : ℕ) → b < 256 → 2 ^ 32 ≤ entry b → None ≡ digit_value b
-digit-not_in_table b h none = of (digit_value b) (tells_digits b h ∙ le-ltb (entry b) (2 ^ 32) none)
-  where
-    of : (o : Option ℕ) → is_some o ≡ false → None ≡ o
-    of None e = refl
-    of (Some d) e = absurd (true_false e)
-      where
-        true_false : true ≡ false → ⊥
-        true_false e = cc
 
 -- a digit is below 16
 pub digit_below : (b d : ℕ) → Some d ≡ digit_value b → d < 16

@@ -1,5 +1,6 @@
 -- A beginning of a text, piece by piece.
-use Rattle.std.proofs.Common.{ℕ, List, ◌++◌, Option, Err, sym, ap, ◌∙◌, append_assoc, arith, length-append}
+use Rattle.std.proofs.Common.{◌≡◌, ℕ, ◌-◌, List, ◌++◌, length, take, drop, Option, Result, Ok, Err, sym, ap, ◌∙◌, subst, append_assoc, arith, length-append, take-append-drop}
+use Rattle.std.proofs.lemmas.List.{take_rest}
 use Rattle.std.specs.Io.KnownBytes.{Appends}
 use Rattle.std.proofs.KnownBytes.{Appends-trans}
 use Rattle.ffa_trace.specs.Output.{TookFront, Writes}
@@ -33,3 +34,15 @@ writes_failed Read a b c xs ys w more = absurd w
 writes_failed Write a b c xs ys w more = more w
 writes_failed NoMemory a b c xs ys w more = absurd w
 writes_failed (BadLine n) a b c xs ys w more = absurd w
+
+whole : (text : List ℕ) (n : ℕ) → take n text ++ take (length text - n) (drop n text) ≡ text
+whole text n = ap (λ l. take n text ++ l) (take_rest text n) ∙ take-append-drop n text
+
+-- a text whose front was written, and the rest of it
+pub writes_on : {X : Type 0} (a b c : Option (List ℕ)) (text : List ℕ) (n : ℕ) (r : Result X PlayError) → Appends a b (take n text)
+    → Writes b c (take (length text - n) (drop n text)) r → Writes a c text r
+writes_on a b c text n (Ok x) p w = subst (Appends a c) (whole text n) (Appends-trans a b c (take n text) _ p w)
+writes_on a b c text n (Err Read) p w = absurd w
+writes_on a b c text n (Err Write) p w = subst (TookFront a c) (whole text n) (front_after a b c (take n text) _ p w)
+writes_on a b c text n (Err NoMemory) p w = absurd w
+writes_on a b c text n (Err (BadLine k)) p w = absurd w

@@ -2,6 +2,7 @@ mod DigitTable
 pub mod Feeds
 pub mod Firsts
 pub mod Fronts
+pub mod LineCommands
 pub mod LineNumbers
 pub mod LineRegisters
 pub mod LineWords

@@ -10,12 +10,6 @@ fold_none : (cs : List ℕ) → fold with_digit None cs ≡ None
 fold_none [] = refl
 fold_none (c ∷ cs) = fold_none cs
 
-pub digit_more : (word : List ℕ) (n i d : ℕ) → i < length word → Some d ≡ digit_value (get_or word i 0)
-    → fold with_digit (Some n) (drop i word) ≡ fold with_digit (Some (16 * n + d)) (drop (i + 1) word)
-digit_more word n i d h e =
-    ap (fold with_digit (Some n)) (drop_more word i 0 h)
-    ∙ ap (λ o. fold with_digit (option_map (λ x. 16 * n + x) o) (drop (i + 1) word)) (sym e)
-
 pub no_digit : (word : List ℕ) (n i : ℕ) → i < length word → None ≡ digit_value (get_or word i 0)
     → fold with_digit (Some n) (drop i word) ≡ None
 no_digit word n i h e =
@@ -25,10 +19,6 @@ no_digit word n i h e =
 -- a number of i digits has one more
 pub more_digits : (n i d : ℕ) → n < 16 ^ i → d < 16 → 16 * n + d < 16 ^ (i + 1)
 more_digits n i d h k = rw (add-one i, pow-suc 16 i) (omega arith)
-
--- sixteen digits fit 64 bits
-pub fits_word : (i : ℕ) → i < 16 → 16 ^ (i + 1) ≤ 2 ^ 64
-fits_word i h = let few : i + 1 ≤ 16 = omega arith in let some : 0 < 16 = omega arith in pow-le-pow_right some few
 
 pub no_number : (word : List ℕ) → fold with_digit (Some 0) word ≡ None → None ≡ number_of word
 unfolding number_of

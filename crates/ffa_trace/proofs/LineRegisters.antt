@@ -28,9 +28,6 @@ start words = record {
   registers = refl;
 }
 
-pub left_are : (words left right : List (List ℕ)) (x : List ℕ) (count : ℕ) → right ≡ left → Reading words left x count → Reading words right x count
-left_are words left right x count e r = subst (λ l. Reading words l x count) (sym e) r
-
 -- one more number, if each is one
 abbrev with_last : Option ℕ → Option (List ℕ) → Option (List ℕ)
 with_last n numbers = option_and_then (λ ns. option_map (λ m. ns ++ m ∷ []) n) numbers
@@ -88,24 +85,19 @@ at_none : (b : Bool) → None ≡ (if b then option_map (λ given. operate (Call
 at_none true = refl
 at_none false = refl
 
--- a word that is no number, and a ninth word
+-- a word that is no number, and words behind the eighth
 pub bad_word : (words left : List (List ℕ)) (word : List ℕ) (x : List ℕ) (count : ℕ) → Reading words (word ∷ left) x count → None ≡ number_of word → None ≡ call_of words
 unfolding call_of
 bad_word words left word x count r e = rw (r.whole, numbers_none r.taken word left e) (at_none _)
 
-pub ninth_word : (words left : List (List ℕ)) (word : List ℕ) (x : List ℕ) (count : ℕ) → Reading words (word ∷ left) x count → count ≡ 8 → None ≡ call_of words
+pub ninth_word : (words left : List (List ℕ)) (x : List ℕ) → Reading words left x 8 → (left ≡ [] → ⊥) → None ≡ call_of words
 unfolding call_of
-ninth_word words left word x count r e =
-    let many : 8 < length words = omega (arith, ap length r.whole, length-append r.taken (word ∷ left), r.each, r.counted, e) in
+ninth_word words [] x r some = absurd (some refl)
+ninth_word words (word ∷ left) x r some =
+    let many : 8 < length words = omega (arith, ap length r.whole, length-append r.taken (word ∷ left), r.each, r.counted) in
     grind (arith, many)
 
 -- no word is left
-pub no_word : (words : List (List ℕ)) (x : List ℕ) (count : ℕ) → Reading words [] x count → count ≡ 0 → None ≡ call_of words
-unfolding call_of
-no_word words x count r e =
-    let none : length words ≡ 0 = omega (arith, ap length r.whole, length-append {A = List ℕ} r.taken [], r.each, r.counted, e) in
-    grind (arith, none)
-
 pub all_words : (words : List (List ℕ)) (x : List ℕ) (count : ℕ) → Reading words [] x count → count ≢ 0 → Some (operate (Call x)) ≡ call_of words
 unfolding call_of
 all_words words x count r e =

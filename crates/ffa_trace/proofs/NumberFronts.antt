@@ -1,17 +1,19 @@
 -- A number at the front of bytes, digit by digit.
-use Rattle.std.proofs.Common.{◌≡◌, ◌≢◌, ℕ, ◌+◌, ◌*◌, ◌^◌, ◌<◌, ◌≤◌, Bool, true, false, List, [], ◌∷◌, length, take, get_or, fold, position, Some, None, option_map, sym, ap, ◌∙◌, subst, arith, refl, length-take-le}
-use Rattle.std.specs.Prelude.{◌==◌}
-use Rattle.std.specs.List.{position_or_len}
+use Rattle.std.proofs.Common.{◌≡◌, ◌≢◌, ℕ, ◌+◌, ◌-◌, ◌*◌, ◌^◌, ◌<◌, ◌≤◌, Bool, true, false, List, [], ◌∷◌, length, take, get_or, fold, Option, Some, None, option_map, not, drop, inl, inr, sym, ap, ◌∙◌, subst, arith, refl, length-take-le, take_all, take-append-drop}
+use Rattle.std.specs.Prelude.{◌==◌, unwrap_or}
 use Rattle.std.proofs.Math.Seq.{take-suc}
 use Rattle.std.proofs.Math.Nat.{pow-le-pow_right}
 use Rattle.std.proofs.Math.Numerals.{add-one}
-use Rattle.std.proofs.lemmas.List.Sums.{fold-append, position_or_len_is}
-use Rattle.std.proofs.lemmas.Bool.{eqb-true, eq-eqb, ne_eqb}
+use Rattle.std.proofs.lemmas.List.{get_or-take, length-take, nil_from_length, take-take, take_rest}
+use Rattle.std.proofs.lemmas.List.Sums.{fold-append, position_or_len_is, passes_at_first, prefix_len-le-length}
+use Rattle.std.proofs.lemmas.Bool.{cases_lt, cases_Bool, eqb-true, true≢false}
 use borrow.Author.Count.{below_more}
-use Rattle.ffa_model.specs.TraceLines.{digit_value, with_digit, number_of, space}
-use Rattle.ffa_trace.specs.Parsed.{AreDigits, IsNumberFront, value_at}
+use Rattle.ffa_model.specs.TraceLines.{digit_value, with_digit, number_of, space, words_of}
+use Rattle.ffa_trace.specs.Parsed.{AreDigits, GoesOn, IsFront, value_at}
+use Rattle.ffa_trace.specs.declared.line.Front.TheVariants.{Last, More, Other}
 use Rattle.ffa_trace.proofs.DigitTable.{digit_small, digit_below}
-use Rattle.ffa_trace.proofs.LineNumbers.{more_digits}
+use Rattle.ffa_trace.proofs.LineNumbers.{more_digits, no_digit, no_number}
+use Rattle.ffa_trace.proofs.LineWords.{word_end, one_word, more_words}
 
 no_value : None ≡ digit_value 32
 unfolding digit_value
@@ -94,27 +96,94 @@ writes xs n i some few inside f =
     let size : length (take i xs) ≡ i = length-take-le i xs inside in
     grind (arith, size, f)
 
-pub front_at_space : (xs : List ℕ) (n i : ℕ) → 1 ≤ i → i ≤ 16 → i < length xs → AreDigits xs n i
-    → (get_or xs i 0 == space) ≡ true → IsNumberFront xs n i
-front_at_space xs n i some few inside are here =
-    let is : position_or_len (λ c. c == space) xs ≡ i = position_or_len_is (λ c. c == space) xs i 0 (omega arith) are.digits (λ _. here) in
-    record {
-      inside = omega arith;
-      writes = writes xs n i some few (omega arith) are.so_far;
-      ends = grind (arith, is);
-    }
+-- the first word is a number: all bytes, or those before a space
+pub last_front : (xs : List ℕ) (n i : ℕ) → 1 ≤ i → i ≤ 16 → i ≡ length xs → AreDigits xs n i → IsFront xs (Last n)
+last_front xs n i some few whole are =
+    let end : word_end xs ≡ length xs = position_or_len_is (λ c. c == space) xs i 0 (omega arith) are.digits (λ inside. absurd (omega arith)) ∙ whole in
+    (one_word xs end, ap number_of (sym (take_all i xs (omega arith))) ∙ writes xs n i some few (omega arith) are.so_far)
 
-pub front_at_end : (xs : List ℕ) (n i : ℕ) → 1 ≤ i → i ≤ 16 → i ≡ length xs → AreDigits xs n i → IsNumberFront xs n i
-front_at_end xs n i some few whole are =
-    let is : position_or_len (λ c. c == space) xs ≡ i = position_or_len_is (λ c. c == space) xs i 0 (omega arith) are.digits (λ inside. absurd (omega arith)) in
-    record {
-      inside = omega arith;
-      writes = writes xs n i some few (omega arith) are.so_far;
-      ends = grind (arith, is, whole);
-    }
+pub more_front : (xs : List ℕ) (n i : ℕ) → 1 ≤ i → i ≤ 16 → i < length xs → AreDigits xs n i → (get_or xs i 0 == space) ≡ true
+    → (word : List ℕ) × (words_of xs ≡ word ∷ words_of (take (length xs - (i + 1)) (drop (i + 1) xs))) × (number_of word ≡ Some n)
+more_front xs n i some few inside are here =
+    let end : word_end xs ≡ i = position_or_len_is (λ c. c == space) xs i 0 (omega arith) are.digits (λ _. here) in (
+      take i xs,
+      more_words xs (omega arith) ∙ ap (λ k. take k xs ∷ words_of (drop (k + 1) xs)) end ∙ ap (λ l. take i xs ∷ words_of l) (sym (take_rest xs (i + 1))),
+      writes xs n i some few (omega arith) are.so_far,
+    )
 
-pub ends_last : (xs : List ℕ) (n i : ℕ) → IsNumberFront xs n i → i ≡ length xs → None ≡ position (λ c. c == space) xs
-ends_last xs n i front whole = sym (front.ends ∙ rw (eq-eqb i (length xs) whole) refl)
+-- the first word is no number
+other_front : (xs : List ℕ) → number_of (take (word_end xs) xs) ≡ None → IsFront xs Other
+other_front xs none =
+    elim (cases_lt (word_end xs) (length xs)) [
+      | inl h ↦ (take (word_end xs) xs, words_of (drop (word_end xs + 1) xs), more_words xs h, none)
+      | inr h ↦
+          let end : word_end xs ≡ length xs = omega (arith, h, prefix_len-le-length (λ c. not (c == space)) xs) in
+          (xs, [], one_word xs end, ap number_of (sym (take_all (word_end xs) xs (omega arith))) ∙ none)
+    ]
 
-pub ends_first : (xs : List ℕ) (n i : ℕ) → IsNumberFront xs n i → i ≢ length xs → Some i ≡ position (λ c. c == space) xs
-ends_first xs n i front more = sym (front.ends ∙ rw (ne_eqb i (length xs) more) refl)
+-- since there is none
+none_of_none : number_of [] ≡ None
+unfolding number_of
+none_of_none = refl
+
+pub no_bytes : (xs : List ℕ) (i : ℕ) → i ≡ length xs → GoesOn xs i → IsFront xs Other
+no_bytes xs i whole on =
+    let none : i ≡ 0 = elim (cases_lt 0 i) [ inl h ↦ absurd (omega (arith, on.inside (omega arith))) | inr h ↦ omega arith ] in
+    let end : length (take (word_end xs) xs) ≡ 0 = omega (arith, length-take (word_end xs) xs) in
+    other_front xs (ap number_of (nil_from_length (take (word_end xs) xs) end) ∙ none_of_none)
+
+-- the word goes on where no space stands up to a place
+goes_behind : (xs : List ℕ) (i : ℕ) → i < length xs → ((k : ℕ) → k < i + 1 → (get_or xs k 0 == space) ≡ false) → i < word_end xs
+goes_behind xs i inside none =
+    elim (cases_lt i (word_end xs)) [
+      | inl h ↦ h
+      | inr h ↦ absurd (true≢false (sym (passes_at_first (λ c. c == space) xs 0 (omega arith)) ∙ none (word_end xs) (omega arith)))
+    ]
+
+-- since it is too long
+pub too_long : (xs : List ℕ) (n i : ℕ) → 16 ≤ i → AreDigits xs n i → GoesOn xs i → IsFront xs Other
+unfolding number_of
+too_long xs n i many are on =
+    let behind : i < word_end xs = goes_behind xs i (on.inside (omega arith)) (below_more (λ k. (get_or xs k 0 == space) ≡ false) i are.digits (on.no_space (omega arith))) in
+    let long : length (take (word_end xs) xs) ≡ word_end xs = length-take-le (word_end xs) xs (prefix_len-le-length (λ c. not (c == space)) xs) in
+    other_front xs (grind (arith, behind, long, many))
+
+-- since a byte is no digit
+pub no_digit_at : (xs : List ℕ) (n i : ℕ) → AreDigits xs n i → GoesOn xs i → i < length xs → 2 ^ 32 ≤ value_at xs i → IsFront xs Other
+no_digit_at xs n i are on inside large =
+    elim (cases_Bool (get_or xs i 0 == space)) [
+      | inl here ↦
+          let first : i ≡ 0 = at_start here in
+          let end : word_end xs ≡ 0 = position_or_len_is (λ c. c == space) xs 0 0 (omega arith) (λ k below. absurd (omega (arith, below))) (λ _. subst (λ j. (get_or xs j 0 == space) ≡ true) first here) in
+          other_front xs (ap (λ k. number_of (take k xs)) end ∙ none_of_none)
+      | inr here ↦
+          let behind : i < word_end xs = goes_behind xs i inside (below_more (λ k. (get_or xs k 0 == space) ≡ false) i are.digits here) in
+          other_front xs (sym (no_number (take (word_end xs) xs) (stops behind)))
+    ]
+  where
+    at_start : (get_or xs i 0 == space) ≡ true → i ≡ 0
+    at_start here =
+        elim (cases_lt 0 i) [ inl h ↦ absurd (true≢false (sym here ∙ on.no_space (omega arith))) | inr h ↦ omega arith ]
+
+    none_at : None ≡ digit_value (get_or xs i 0)
+    none_at = of (digit_value (get_or xs i 0)) refl
+      where
+        of : (o : Option ℕ) → digit_value (get_or xs i 0) ≡ o → None ≡ o
+        of None is = refl
+        of (Some d) is = absurd (omega (arith, digit_below (get_or xs i 0) d (sym is), ap (λ o. unwrap_or o (2 ^ 32)) is, large))
+
+    stops : i < word_end xs → fold with_digit (Some 0) (take (word_end xs) xs) ≡ None
+    stops behind =
+        let word = take (word_end xs) xs in
+        let long : length word ≡ word_end xs = length-take-le (word_end xs) xs (prefix_len-le-length (λ c. not (c == space)) xs) in
+        ap (fold with_digit (Some 0)) (sym (take-append-drop i word))
+        ∙ fold-append with_digit (Some 0) (take i word) (drop i word)
+        ∙ ap (λ o. fold with_digit o (drop i word)) (ap (fold with_digit (Some 0)) (take-take i (word_end xs) xs (omega arith)) ∙ are.so_far)
+        ∙ no_digit word n i (omega arith) (none_at ∙ ap digit_value (sym (get_or-take (word_end xs) xs i 0 behind)))
+
+-- digits with no space behind them
+pub on_at : (xs : List ℕ) (i : ℕ) → i < length xs → (get_or xs i 0 == space) ≡ false → GoesOn xs i
+on_at xs i h none = record { inside = λ _. h; no_space = λ _. none }
+
+pub on_first : (xs : List ℕ) → GoesOn xs 0
+on_first xs = record { inside = λ some. absurd (omega (arith, some)); no_space = λ some. absurd (omega (arith, some)) }

@@ -1,10 +1,11 @@
 -- One line: what is known once its text was written, or could not be.
-use Rattle.std.proofs.Common.{◌≡◌, ℕ, true, List, [], Option, Some, Result, Ok, Err, sym, ap, ◌∙◌, subst}
+use Rattle.std.proofs.Common.{◌≡◌, ℕ, true, List, [], Option, Some, None, Result, Ok, Err, sym, ap, ◌∙◌, subst, refl}
 use Rattle.std.specs.Prelude.{is_some}
 use Rattle.std.specs.Option.{option_map_or}
-use Rattle.std.specs.Io.KnownBytes.{Appends}
+use Rattle.std.specs.Io.KnownBytes.{Appends, Keeps}
+use Rattle.std.proofs.KnownBytes.{Appends-nil}
 use Rattle.ffa_model.specs.State.{State}
-use Rattle.ffa_model.specs.TraceLines.{Line, line_of, is_good}
+use Rattle.ffa_model.specs.TraceLines.{Line, skip, line_of, is_good}
 use Rattle.ffa_model.specs.TraceText.{line_text, line_after, text_of, after}
 use Rattle.ffa_trace.specs.Output.{TookFront, Writes}
 use Rattle.ffa_trace.specs.Feeding.{LineDone}
@@ -29,3 +30,15 @@ module _ (start now : State) (held holds : Option (List ℕ)) (number : ℕ) (by
   line_written (Err Write) w = record { good = means; state = state_is; written = subst (TookFront held holds) text_is w }
   line_written (Err NoMemory) w = absurd w
   line_written (Err (BadLine n)) w = absurd w
+
+-- an empty line or a comment
+pub line_skipped : (s : State) (a : Option (List ℕ)) (number : ℕ) (bytes : List ℕ) → Some skip ≡ line_of bytes → LineDone {X = Unit {0}} s s a a number bytes (Ok tt)
+line_skipped s a number bytes is = line_written s s a a number bytes skip is refl (Ok tt) (Appends-nil a)
+
+-- what is no line
+pub line_bad : (s : State) (a : Option (List ℕ)) (number : ℕ) (bytes : List ℕ) → None ≡ line_of bytes → LineDone {X = Unit {0}} s s a a number bytes (Err (BadLine number))
+line_bad s a number bytes is = (ap is_some (sym is), refl, refl, kept a)
+  where
+    kept : (a : Option (List ℕ)) → Keeps a a
+    kept None = tt
+    kept (Some xs) = refl

@@ -1,24 +1,9 @@
--- Lines as the program keeps them.
-use Rattle.std.specs.Prelude.{◌≡◌, ℕ, ◌^◌, ◌<◌, ◌≤◌, ◌==◌, false, List, [], ◌∷◌, length, take, get_or, fold, position, unwrap_or, Option, Some, None, if◌then◌else◌}
-use Rattle.std.specs.Option.{option_map_or}
+-- Words as the player reads them.
+use Rattle.std.specs.Prelude.{◌≡◌, ◌≢◌, ℕ, ◌^◌, ◌<◌, ◌≤◌, ◌==◌, false, List, [], ◌∷◌, ◌++◌, length, take, get_or, fold, codes, unwrap_or, Option, Some, None}
+use Rattle.ffa_model.specs.declared.operation.Size.{Size}
 use Rattle.ffa_model.specs.TraceLines as trace
-use Rattle.ffa_trace.specs.declared.line.Line.{Line}
-use Rattle.ffa_trace.specs.declared.line.Line.TheVariants.{Operate, Show, Skip}
-use Rattle.ffa_trace.specs.declared.line.Words.{Words}
-
-abbrev pub meaning_of : Line → trace.Line
-meaning_of (Operate op) = trace.operate op
-meaning_of Show = trace.show
-meaning_of Skip = trace.skip
-
--- the words that were not taken yet
-abbrev pub words_left : Words → List (List ℕ)
-words_left words = option_map_or (λ rest. trace.words_of rest.now) words.rest []
-
--- a line, if nothing follows it
-abbrev pub at_end : List (List ℕ) → Line → Option Line
-at_end [] line = Some line
-at_end (word ∷ words) line = None
+use Rattle.ffa_trace.specs.declared.line.Front.{Front}
+use Rattle.ffa_trace.specs.declared.line.Front.TheVariants.{Last, More, Other}
 
 -- the value of a byte as a hexadecimal digit, and for any other byte more than digits have
 abbrev pub value_of : ℕ → ℕ
@@ -34,8 +19,26 @@ pub record AreDigits (bytes : List ℕ) (number end : ℕ) : Type 0 where
   pub fits : number < 16 ^ end
   pub digits : (k : ℕ) → k < end → (get_or bytes k 0 == trace.space) ≡ false
 
--- the first word of these bytes ends here, and writes this number
-pub record IsNumberFront (bytes : List ℕ) (number end : ℕ) : Type 0 where
-  pub inside : end ≤ length bytes
-  pub writes : trace.number_of (take end bytes) ≡ Some number
-  pub ends : position (λ c. c == trace.space) bytes ≡ (if end == length bytes then None else Some end)
+-- where digits stand at the front, their word goes on behind them
+pub record GoesOn (bytes : List ℕ) (end : ℕ) : Type 0 where
+  pub inside : 1 ≤ end → end < length bytes
+  pub no_space : 1 ≤ end → (get_or bytes end 0 == trace.space) ≡ false
+
+-- what the first word of these bytes is: all of them, a word before others, or none that is a number
+abbrev pub IsFront : List ℕ → Front → Type 0
+IsFront bytes (Last number) = (trace.words_of bytes ≡ bytes ∷ []) × (trace.number_of bytes ≡ Some number)
+IsFront bytes (More number rest) = (word : List ℕ) × (trace.words_of bytes ≡ word ∷ trace.words_of rest.now) × (trace.number_of word ≡ Some number)
+IsFront bytes Other = (word : List ℕ) × (words : List (List ℕ)) × (trace.words_of bytes ≡ word ∷ words) × (trace.number_of word ≡ None)
+
+-- the value that a store's last word writes, with its size, where all bytes are that word
+abbrev pub IsStored : List ℕ → Option (Size × ℕ) → Type 0
+IsStored bytes (Some (size, value)) = (trace.words_of bytes ≡ bytes ∷ []) × (trace.size_written bytes ≡ Some size) × (trace.number_of bytes ≡ Some value)
+IsStored bytes None = (word : List ℕ) → trace.store_of (word ∷ trace.words_of bytes) ≡ None
+
+-- a line of none of the commands that most lines have
+pub record IsOther (bytes : List ℕ) : Type 0 where
+  pub some : bytes ≢ []
+  pub no_comment : (rest : List ℕ) → bytes ≢ trace.hash ∷ rest
+  pub no_call : (words : List ℕ) → bytes ≢ codes "call " ++ words
+  pub no_load : (words : List ℕ) → bytes ≢ codes "load " ++ words
+  pub no_store : (words : List ℕ) → bytes ≢ codes "store " ++ words

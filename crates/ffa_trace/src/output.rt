@@ -23,7 +23,24 @@ pub enum PlayError {
 }
 
 /// Writes all of a text, by as many writes as it takes. No write is tried again after an error.
+// Inlined, so that a text of a constant size is copied without a call.
+#[inline(always)]
 pub fn write_text<W: Write>(writer: &mut W, text: &[u8]) -> Result<(), PlayError>
+    ensures { Writes (W.contents writer.old) (W.contents writer.new) text.now result }
+{
+    if text.is_empty() {
+        return Ok(());
+    }
+    match writer.write(text) {
+        Ok(0) | Err(_) => Err(PlayError::Write),
+        Ok(count) if count == text.len() => Ok(()),
+        Ok(count) => write_rest(writer, &text[count..]),
+    }
+}
+
+// Writes what the first write left.
+#[inline(never)]
+fn write_rest<W: Write>(writer: &mut W, text: &[u8]) -> Result<(), PlayError>
     ensures { Writes (W.contents writer.old) (W.contents writer.new) text.now result }
 {
     let mut rest = text;

@@ -2,15 +2,16 @@
 ghost use Rattle.std.specs.Prelude.{◌≡◌, ◌*◌, codes, ◌==◌, true, [], ◌++◌, ◌∷◌, position, OnOk};
 ghost use Rattle.ffa_model.specs.TraceLines.{feed, has_no_feed};
 ghost use Rattle.ffa_model.specs.Memory.{size_of};
+ghost use Rattle.ffa_model.specs.Step.{step};
 ghost use Rattle.ffa_model.specs.TraceText.{hex, spaced, ended, outcome_text};
 ghost use Rattle.ffa_trace.specs.Feeding.{LineDone, LineEnded, Kept, Fed};
 ghost use Rattle.ffa_trace.specs.Output.{Writes};
+ghost use Rattle.ffa_trace.specs.Parsed.{IsOther};
 ghost use Rattle.ffa_trace.specs.Played.{Played};
 
-use crate::line::{self, Line};
 use crate::output::{self, PlayError};
-use crate::show;
 use crate::text::{self, Text};
+use crate::{line, show};
 use ffa_model::{Op, Outcome, Size};
 use ffa_physmem::PhysMem;
 use ffa_spmc::Machine;
@@ -151,7 +152,8 @@ fn end_line<M: PhysMem + Drop, T: Translations + Drop, W: Write>(
     Ok(())
 }
 
-// Does a line, and writes its text.
+// Does a line, and writes its text. The commands that most lines have are told by their bytes, and each is done where it
+// was read.
 fn do_line<M: PhysMem + Drop, T: Translations + Drop, W: Write>(
     machine: &mut Machine<M, T>,
     writer: &mut W,
@@ -160,15 +162,114 @@ fn do_line<M: PhysMem + Drop, T: Translations + Drop, W: Write>(
 ) -> Result<(), PlayError>
     ensures { LineDone machine.old.state machine.new.state (W.contents writer.old) (W.contents writer.new) number bytes.now result }
 {
-    match line::parse(bytes) {
-        Some(Line::Operate(op)) => {
-            let outcome = machine.op(&op);
-            write_outcome(writer, &op, &outcome)
+    match bytes {
+        [] | [b'#', ..] => Ok(()),
+        [b'c', b'a', b'l', b'l', b' ', words @ ..] => do_call(machine, writer, number, words),
+        [b'l', b'o', b'a', b'd', b' ', words @ ..] => do_load(machine, writer, number, words),
+        [b's', b't', b'o', b'r', b'e', b' ', words @ ..] => {
+            do_store(machine, writer, number, words)
         }
-        Some(Line::Show) => show::write_show(machine, writer),
-        Some(Line::Skip) => Ok(()),
+        _ => do_other(machine, writer, number, bytes),
+    }
+}
+
+// Does a call, by the words behind its name.
+#[inline(always)]
+fn do_call<M: PhysMem + Drop, T: Translations + Drop, W: Write>(
+    machine: &mut Machine<M, T>,
+    writer: &mut W,
+    number: u64,
+    words: &[u8],
+) -> Result<(), PlayError>
+    ensures { LineDone machine.old.state machine.new.state (W.contents writer.old) (W.contents writer.new) number (codes "call " ++ words.now) result }
+{
+    let mut x = [0; 8];
+    if line::registers(words, &mut x) {
+        operate(machine, writer, &Op::Call(x))
+    } else {
+        Err(PlayError::BadLine(number))
+    }
+}
+
+// Does a load, alike.
+#[inline(always)]
+fn do_load<M: PhysMem + Drop, T: Translations + Drop, W: Write>(
+    machine: &mut Machine<M, T>,
+    writer: &mut W,
+    number: u64,
+    words: &[u8],
+) -> Result<(), PlayError>
+    ensures { LineDone machine.old.state machine.new.state (W.contents writer.old) (W.contents writer.new) number (codes "load " ++ words.now) result }
+{
+    match line::load(words) {
+        Some((addr, size)) => operate(machine, writer, &Op::Load { addr, size }),
         None => Err(PlayError::BadLine(number)),
     }
+}
+
+// Does a store, alike.
+#[inline(always)]
+fn do_store<M: PhysMem + Drop, T: Translations + Drop, W: Write>(
+    machine: &mut Machine<M, T>,
+    writer: &mut W,
+    number: u64,
+    words: &[u8],
+) -> Result<(), PlayError>
+    ensures { LineDone machine.old.state machine.new.state (W.contents writer.old) (W.contents writer.new) number (codes "store " ++ words.now) result }
+{
+    match line::store(words) {
+        Some((addr, size, value)) => operate(machine, writer, &Op::Store { addr, size, value }),
+        None => Err(PlayError::BadLine(number)),
+    }
+}
+
+// Does a fetch, alike.
+fn do_fetch<M: PhysMem + Drop, T: Translations + Drop, W: Write>(
+    machine: &mut Machine<M, T>,
+    writer: &mut W,
+    number: u64,
+    words: &[u8],
+) -> Result<(), PlayError>
+    ensures { LineDone machine.old.state machine.new.state (W.contents writer.old) (W.contents writer.new) number (codes "fetch " ++ words.now) result }
+{
+    match line::fetch(words) {
+        Some(addr) => operate(machine, writer, &Op::Fetch { addr }),
+        None => Err(PlayError::BadLine(number)),
+    }
+}
+
+// Does a line of another command, of which a trace has few.
+#[inline(never)]
+fn do_other<M: PhysMem + Drop, T: Translations + Drop, W: Write>(
+    machine: &mut Machine<M, T>,
+    writer: &mut W,
+    number: u64,
+    bytes: &[u8],
+) -> Result<(), PlayError>
+    requires { IsOther bytes.now }
+    ensures { LineDone machine.old.state machine.new.state (W.contents writer.old) (W.contents writer.new) number bytes.now result }
+{
+    if let Some(words) = bytes.strip_prefix(b"fetch ") {
+        do_fetch(machine, writer, number, words)
+    } else if bytes == b"show".as_slice() {
+        show::write_show(machine, writer)
+    } else {
+        Err(PlayError::BadLine(number))
+    }
+}
+
+// Does an operation, and writes what comes of it.
+#[inline(always)]
+fn operate<M: PhysMem + Drop, T: Translations + Drop, W: Write>(
+    machine: &mut Machine<M, T>,
+    writer: &mut W,
+    op: &Op,
+) -> Result<(), PlayError>
+    ensures state { machine.new.state ≡ (step machine.old.state op.now).state }
+    ensures text { Writes (W.contents writer.old) (W.contents writer.new) (outcome_text op.now (step machine.old.state op.now).outcome) result }
+{
+    let outcome = machine.op(op);
+    write_outcome(writer, op, &outcome)
 }
 
 // Writes what an operation with this outcome prints. It is inlined, though plays in RAM of two kinds call it.

@@ -1,25 +1,22 @@
-use Rattle.std.proofs.Common.{Ok, ap, refl, subst}
-use Rattle.std.proofs.KnownBytes.{Appends-nil}
-use Rattle.ffa_model.specs.TraceLines.{operate, show, skip}
-use Rattle.ffa_model.specs.TraceText.{outcome_text}
-use Rattle.ffa_trace.specs.Output.{Writes}
-use Rattle.ffa_trace.proofs.OneLine.{line_written}
+use Rattle.std.proofs.Common.{◌≡◌, get_or, arith}
+use Rattle.ffa_trace.proofs.LineCommands.{empty_line, comment_line}
+use Rattle.ffa_trace.proofs.OneLine.{line_skipped}
 use Rattle.ffa_trace.proofs.player.do_line.Goals as goal
 
-pub returns-in-Some-Operate : goal.returns-in-Some-Operate
-returns-in-Some-Operate g c =
-    let said = rw c.in-Some-Operate.field-0-is at c.in-Some-Operate.ensures in
-    let op = c.in-Some-Operate.op in
-    let texts = ap (outcome_text op) c.op-outcome.ensures.outcome in
-    line_written c.args.machine.now.state _ _ _ c.args.number c.args.bytes.now (operate op) said c.op-outcome.ensures.state c.write_outcome.result
-    (subst (λ t. Writes (g.W.Write.contents c.args.writer.now) (g.W.Write.contents c.write_outcome.new.writer) t c.write_outcome.result) texts c.write_outcome.ensures)
+pub returns-in-empty : goal.returns-in-empty
+returns-in-empty g c = line_skipped _ _ c.args.number c.args.bytes.now (empty_line c.args.bytes.now c.in-empty.len_below)
 
-pub returns-in-Some-Show : goal.returns-in-Some-Show
-returns-in-Some-Show g c =
-    let said = rw c.in-Some-Show.field-0-is at c.in-Some-Show.ensures in
-    line_written c.args.machine.now.state _ _ _ c.args.number c.args.bytes.now show said refl c.write_show.result c.write_show.ensures
+pub returns-in-empty-2 : goal.returns-in-empty-2
+returns-in-empty-2 g c =
+    let first : get_or c.args.bytes.now 0 0 ≡ 35 = omega arith in
+    line_skipped _ _ c.args.number c.args.bytes.now (comment_line c.args.bytes.now (omega arith) first)
 
-pub returns-in-Some-Skip : goal.returns-in-Some-Skip
-returns-in-Some-Skip g c =
-    let said = rw c.in-Some-Skip.field-0-is at c.in-Some-Skip.ensures in
-    line_written c.args.machine.now.state c.args.machine.now.state _ _ c.args.number c.args.bytes.now skip said refl (Ok tt) (Appends-nil _)
+pub returns-in-empty-3 : goal.returns-in-empty-3
+returns-in-empty-3 g c =
+    let first : get_or c.args.bytes.now 0 0 ≡ 35 = omega arith in
+    line_skipped _ _ c.args.number c.args.bytes.now (comment_line c.args.bytes.now (omega arith) first)
+
+pub returns-in-empty-4 : goal.returns-in-empty-4
+returns-in-empty-4 g c =
+    let first : get_or c.args.bytes.now 0 0 ≡ 35 = omega arith in
+    line_skipped _ _ c.args.number c.args.bytes.now (comment_line c.args.bytes.now (omega arith) first)

@@ -1,0 +1,21 @@
+use Rattle.std.proofs.Common.{◌≡◌, ◌≢◌, ◌∙◌, ℕ, List, ◌++◌, codes, refl, sym, ap, subst}
+use Rattle.std.specs.Option.{MatchOption}
+use Rattle.std.proofs.lemmas.Bool.{true≢false}
+use Rattle.std.proofs.lemmas.Bool.Decides.{Decides-eqb}
+use Rattle.std.proofs.lemmas.Slice.Eq.{bytes_eq-Decides, strip_prefix_is}
+use Rattle.ffa_model.specs.TraceLines.{show, line_of}
+use Rattle.ffa_trace.proofs.LineCommands.{show_line, no_line}
+use Rattle.ffa_trace.proofs.OneLine.{line_written, line_bad}
+use Rattle.ffa_trace.proofs.player.do_other.Goals as goal
+
+pub returns-then-eq : goal.returns-then-eq
+returns-then-eq g c =
+    let is = (bytes_eq-Decides c.args.bytes.now c.as_slice.result.now).0 (sym c.if-eq.ensures) ∙ c.as_slice.ensures in
+    line_written _ _ _ _ c.args.number c.args.bytes.now show (show_line ∙ ap line_of (sym is)) refl c.write_show.result c.write_show.ensures
+
+pub returns-else-eq : goal.returns-else-eq
+returns-else-eq g c =
+    let no_fetch = subst (λ r. MatchOption r ((words : List ℕ) → c.args.bytes.now ≢ codes "fetch " ++ words) (λ x. c.args.bytes.now ≡ codes "fetch " ++ x.now)) c.in_default.is
+    (strip_prefix_is Decides-eqb c.args.bytes.now (codes "fetch ") c.strip_prefix.result c.strip_prefix.ensures.cases) in
+    let no_show = λ (is : c.args.bytes.now ≡ codes "show"). true≢false (sym ((bytes_eq-Decides c.args.bytes.now c.as_slice.result.now).1 (is ∙ sym c.as_slice.ensures)) ∙ sym c.if-eq.ensures) in
+    line_bad _ _ c.args.number _ (no_line c.args.bytes.now c.requires no_fetch no_show)
