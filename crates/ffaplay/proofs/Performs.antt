@@ -1,6 +1,6 @@
--- What a play leaves, for the one who asked for it, and how the program ends.
-use Rattle.std.proofs.Common.{◌≡◌, Bool, true, List, [], ◌∷◌, ◌++◌, ℕ, Option, None, Some, Ok, Err, inl, inr, refl, ap, ◌∙◌, subst, append_assoc, append-nil, arith}
-use Rattle.std.specs.Prelude.{OnOk, Result, unwrap_or}
+-- What a play leaves, for the one who asked for it.
+use Rattle.std.proofs.Common.{◌≡◌, Bool, true, List, [], ◌∷◌, ◌++◌, ℕ, Option, None, Some, Ok, Err, Result, inl, inr, refl, ap, ◌∙◌, subst, append_assoc, append-nil, arith}
+use Rattle.std.specs.Prelude.{OnOk, unwrap_or}
 use Rattle.std.specs.Io.KnownBytes.{Consumes, IsAtEnd, Keeps}
 use Rattle.ffa_model.specs.State.{State}
 use Rattle.ffa_model.specs.TraceLines.{feed, joined}
@@ -30,6 +30,14 @@ played_whole x start now held holds had has (lines, did, consumed, ended) = reco
   all = all_consumed had has (joined lines) consumed ended;
   written = did.written;
 }
+
+pub on_ok : {T E P Q : Type 0} (result : Result T E) → (P → Q) → OnOk result P → OnOk result Q
+on_ok (Ok x) f p = f p
+on_ok (Err e) f p = tt
+
+pub kept : (held : Option (List ℕ)) → Keeps held held
+kept None = tt
+kept (Some bytes) = refl
 
 played_to : (start now : State) (held holds had has : Option (List ℕ)) (n : ℕ) → Played {X = Unit {0}} start now held holds had has (Err (play_error.BadLine n)) → IsStopped start had held holds n
 played_to start now held holds had has n (lines, bad, more, did, consumed, number, single, inl ((next, more_is), wrong)) = record {
@@ -71,11 +79,3 @@ told_bad request manifest trace held holds could (BadLine n) status told fails r
 told_bad request manifest trace held holds could (Read path) status told fails read two = absurd (omega (arith, told, two))
 told_bad request manifest trace held holds could Write status told fails read two = absurd (omega (arith, told, two))
 told_bad request manifest trace held holds could NoMemory status told fails read two = absurd (omega (arith, told, two))
-
-pub on_ok : {T E P Q : Type 0} (result : Result T E) → (P → Q) → OnOk result P → OnOk result Q
-on_ok (Ok x) f p = f p
-on_ok (Err e) f p = tt
-
-pub kept : (held : Option (List ℕ)) → Keeps held held
-kept None = tt
-kept (Some bytes) = refl
