@@ -67,10 +67,13 @@ impl<M: PhysMem + Drop> Manager<M> {
         build(&mut ram, &layout);
         // What built tables give holds from here on: the manager's invariant has it.
         built_tables();
+        // The owners are filled in where they stand, since they are large to move.
+        let mut kept = Kept::unfilled(manifest, layout);
+        kept.pages.fill(manifest);
         Manager {
             ram,
             manifest: manifest.copied(),
-            kept: Kept::first(manifest, layout),
+            kept,
         }
     }
 
