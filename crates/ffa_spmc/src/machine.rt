@@ -154,6 +154,7 @@ impl<M: PhysMem + Drop, T: Translations + Drop> Machine<M, T> {
     }
 
     /// Does one operation of the runner. A refusal, which is FFA_ERROR or a fault, changes nothing.
+    #[inline(always)]
     pub fn op(&mut self, op: &Op) -> Outcome
         // The outcome and the next state are those of the small machine.
         ensures outcome { result ≡ (step self.old.state op.now).outcome }
@@ -185,6 +186,7 @@ impl<M: PhysMem + Drop, T: Translations + Drop> Machine<M, T> {
     }
 
     // The operation itself, by its kind.
+    #[inline(always)]
     fn operate(&mut self, op: &Op) -> Outcome
         ensures outcome { result ≡ (step self.old.state op.now).outcome }
         ensures state { self.new.state ≡ (step self.old.state op.now).state }
@@ -202,6 +204,7 @@ impl<M: PhysMem + Drop, T: Translations + Drop> Machine<M, T> {
     }
 
     // A call of the runner, in its registers. The cache forgets whatever the call has made untrue.
+    #[inline(always)]
     fn call(&mut self, x: [u64; 8]) -> Outcome
         ensures outcome { result ≡ (serve self.old.state (decode x)).outcome }
         ensures state { self.new.state ≡ (serve self.old.state (decode x)).state }

@@ -176,6 +176,7 @@ impl<M: PhysMem + Drop> Manager<M> {
     }
 
     // The reply to a call of the runner that isn't on memory, and what the call changes.
+    #[inline(always)]
     fn reply(&mut self, call: Call) -> Reply
         requires beside { is_on_memory call ≡ false }
         requires named { passes_no_error call ≡ true }

@@ -50,7 +50,12 @@ fn push_runner<M: PhysMem + Drop, T: Translations + Drop>(text: &mut Text, machi
 
 // Appends the run of pages from `first` to `last` to no text yet.
 #[tactic(auto, unfolding(ffa_model::specs::TraceText::run_text))]
-fn push_run<M: PhysMem + Drop, T: Translations + Drop>(text: &mut Text, machine: &Machine<M, T>, first: u32, last: u32)
+fn push_run<M: PhysMem + Drop, T: Translations + Drop>(
+    text: &mut Text,
+    machine: &Machine<M, T>,
+    first: u32,
+    last: u32,
+)
     requires empty { text.old.items ≡ [] }
     requires first { first < length machine.now.state.pages }
     requires last { last < length machine.now.state.pages }
@@ -67,7 +72,11 @@ fn push_run<M: PhysMem + Drop, T: Translations + Drop>(text: &mut Text, machine:
 }
 
 // Appends the access of each endpoint to a page.
-fn push_accesses<M: PhysMem + Drop, T: Translations + Drop>(text: &mut Text, machine: &Machine<M, T>, page: PageNo)
+fn push_accesses<M: PhysMem + Drop, T: Translations + Drop>(
+    text: &mut Text,
+    machine: &Machine<M, T>,
+    page: PageNo,
+)
     requires { array_vec_len text.old ≤ 64 }
     ensures items { text.new.items ≡ text.old.items ++ flat_map (λ e. spaced (rights_text (access machine.now.state e page.0))) (identifiers machine.now.state) }
     ensures room { array_vec_len text.new < CAPACITY }
@@ -78,7 +87,11 @@ fn push_accesses<M: PhysMem + Drop, T: Translations + Drop>(text: &mut Text, mac
 }
 
 // The access of the endpoint at a place in the manifest.
-fn access<M: PhysMem + Drop, T: Translations + Drop>(machine: &Machine<M, T>, place: usize, page: PageNo) -> Option<Rights>
+fn access<M: PhysMem + Drop, T: Translations + Drop>(
+    machine: &Machine<M, T>,
+    place: usize,
+    page: PageNo,
+) -> Option<Rights>
     requires { place < 8 }
     ensures { result ≡ access machine.now.state (identifier place) page.0 }
 {
@@ -96,7 +109,11 @@ fn ends_run<M: PhysMem + Drop, T: Translations + Drop>(machine: &Machine<M, T>, 
 
 // Whether two pages have the same owner, and each endpoint has the same access to both.
 #[tactic(auto, unfolding(ffa_model::specs::TraceText::is_alike))]
-fn is_alike<M: PhysMem + Drop, T: Translations + Drop>(machine: &Machine<M, T>, page: PageNo, other: PageNo) -> bool
+fn is_alike<M: PhysMem + Drop, T: Translations + Drop>(
+    machine: &Machine<M, T>,
+    page: PageNo,
+    other: PageNo,
+) -> bool
     requires page { page.0 < length machine.now.state.pages }
     requires other { other.0 < length machine.now.state.pages }
     ensures { result ≡ is_alike machine.now.state page.0 other.0 }
@@ -104,7 +121,11 @@ fn is_alike<M: PhysMem + Drop, T: Translations + Drop>(machine: &Machine<M, T>, 
     machine.owner_of(page) == machine.owner_of(other) && has_same_accesses(machine, page, other)
 }
 
-fn has_same_accesses<M: PhysMem + Drop, T: Translations + Drop>(machine: &Machine<M, T>, page: PageNo, other: PageNo) -> bool
+fn has_same_accesses<M: PhysMem + Drop, T: Translations + Drop>(
+    machine: &Machine<M, T>,
+    page: PageNo,
+    other: PageNo,
+) -> bool
     ensures { result ≡ list_all (λ e. is_same_right (access machine.now.state e page.0) (access machine.now.state e other.0)) (identifiers machine.now.state) }
 {
     for place in 0..machine.endpoints() {

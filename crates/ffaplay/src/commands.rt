@@ -1,12 +1,12 @@
 //! The commands of the program.
-ghost use Rattle.std.specs.Prelude.{◌≡◌, ◌*◌, ◌≤◌, ◌⊎◌, true, codes, None, OnOk, IfErr, IfOk, is_some, option_map};
+ghost use Rattle.std.specs.Prelude.{◌≡◌, ◌*◌, ◌≤◌, ◌⊎◌, true, false, codes, None, Err, OnOk, IfErr, IfOk, IfSome, is_some, option_map};
 ghost use Rattle.std.specs.Option.{option_and_then};
 ghost use Rattle.std.specs.Io.KnownBytes.{Appends, Keeps};
 ghost use Rattle.ffa_model.specs.Ram.{zero_ram};
 ghost use Rattle.ffa_model.specs.TraceText.{ended};
 ghost use Rattle.ffa_manifest.specs.Document.{Parts, parts_of};
 ghost use Rattle.ffaplay.specs.Layouts.{layout_text};
-ghost use Rattle.ffaplay.specs.Performed.{Describes, IsRefused, SomeCause, IsPlayed, IsDone, IsOther, FailsFor, first_of, needs_trace, status_of};
+ghost use Rattle.ffaplay.specs.Performed.{Describes, IsRefused, SomeCause, SomeBadLine, IsPlayed, IsDone, FailsFor, FailsUnplayed, PlayFails, IsRead, failure_of, first_of, needs_manifest, needs_trace, status_of};
 
 use crate::layout;
 use ffa_command::Request;
@@ -77,6 +77,8 @@ pub fn perform<R: Read + Drop, W: Write, E: Write>(
     ensures done { result ≡ 0 → IsDone request.now (option_map (λ bytes. bytes.now) manifest.entry) (option_and_then (λ reader. R.remaining reader) trace) (W.contents out.old) (W.contents out.new) }
     ensures read { result ≡ 0 → needs_trace request.now ≡ true → is_some trace ≡ true }
     ensures refused { result ≡ 1 → SomeCause (option_map (λ bytes. bytes.now) manifest.entry) × Keeps (W.contents out.old) (W.contents out.new) }
+    ensures named { result ≡ 1 → needs_manifest request.now ≡ true }
+    ensures bad { result ≡ 2 → (is_some trace ≡ true) × SomeBadLine request.now (option_map (λ bytes. bytes.now) manifest.entry) (option_and_then (λ reader. R.remaining reader) trace) (W.contents out.old) (W.contents out.new) }
     ensures quiet { result ≡ 0 → Keeps (E.contents err.old) (E.contents err.new) }
     ensures status { result ≤ 3 }
 {
@@ -89,6 +91,7 @@ pub fn perform<R: Read + Drop, W: Write, E: Write>(
 /// Writes the help that was asked for, and answers the status with which the program ends: 0, or 3 where `out` can't be
 /// written, which `err` is told.
 pub fn show<T: Display, W: Write, E: Write>(help: &T, out: &mut W, err: &mut E) -> u8
+    ensures written { result ≡ 0 → IfSome (T.output help.now) (Appends (W.contents out.old) (W.contents out.new)) }
     ensures quiet { result ≡ 0 → Keeps (E.contents err.old) (E.contents err.new) }
     ensures status { (result ≡ 0) ⊎ (result ≡ 3) }
 {
@@ -118,7 +121,8 @@ fn do_request<'a, R: Read + Drop, W: Write>(
 ) -> Result<(), Failure<'a>>
     ensures done { OnOk result (IsDone request.now (option_map (λ bytes. bytes.now) manifest.entry) (option_and_then (λ reader. R.remaining reader) trace) (W.contents out.old) (W.contents out.new)) }
     ensures read { OnOk result (needs_trace request.now ≡ true → is_some trace ≡ true) }
-    ensures failed { IfErr result (FailsFor (option_map (λ bytes. bytes.now) manifest.entry) (W.contents out.old) (W.contents out.new)) }
+    ensures failed { IfErr result (FailsFor request.now (option_map (λ bytes. bytes.now) manifest.entry) (option_and_then (λ reader. R.remaining reader) trace) (W.contents out.old) (W.contents out.new)) }
+    ensures read_bad { IfErr result (IsRead (is_some trace)) }
 {
     let done = do_command(alloc, request, manifest, trace, out);
     match out.flush() {
@@ -136,7 +140,8 @@ fn do_command<'a, R: Read + Drop, W: Write>(
 ) -> Result<(), Failure<'a>>
     ensures done { OnOk result (IsDone request.now (option_map (λ bytes. bytes.now) manifest.entry) (option_and_then (λ reader. R.remaining reader) trace) (W.contents out.old) (W.contents out.new)) }
     ensures read { OnOk result (needs_trace request.now ≡ true → is_some trace ≡ true) }
-    ensures failed { IfErr result (FailsFor (option_map (λ bytes. bytes.now) manifest.entry) (W.contents out.old) (W.contents out.new)) }
+    ensures failed { IfErr result (FailsFor request.now (option_map (λ bytes. bytes.now) manifest.entry) (option_and_then (λ reader. R.remaining reader) trace) (W.contents out.old) (W.contents out.new)) }
+    ensures read_bad { IfErr result (IsRead (is_some trace)) }
 {
     match *request {
         Request::Run {
@@ -166,7 +171,7 @@ fn accept<'a, W: Write>(
     out: &mut W,
 ) -> Result<(), Failure<'a>>
     ensures done { OnOk result ((parts : Parts) × Describes (option_map (λ bytes. bytes.now) manifest.entry) parts × Appends (W.contents out.old) (W.contents out.new) (ended (codes "accepted"))) }
-    ensures failed { IfErr result (FailsFor (option_map (λ bytes. bytes.now) manifest.entry) (W.contents out.old) (W.contents out.new)) }
+    ensures failed { IfErr result (FailsUnplayed (option_map (λ bytes. bytes.now) manifest.entry) (W.contents out.old) (W.contents out.new)) }
 {
     read_manifest(alloc, path, manifest)?;
     write(out, b"accepted\n")
@@ -180,7 +185,7 @@ fn lay_out<'a, W: Write>(
     out: &mut W,
 ) -> Result<(), Failure<'a>>
     ensures done { OnOk result ((parts : Parts) × Describes (option_map (λ bytes. bytes.now) manifest.entry) parts × Appends (W.contents out.old) (W.contents out.new) (layout_text parts)) }
-    ensures failed { IfErr result (FailsFor (option_map (λ bytes. bytes.now) manifest.entry) (W.contents out.old) (W.contents out.new)) }
+    ensures failed { IfErr result (FailsUnplayed (option_map (λ bytes. bytes.now) manifest.entry) (W.contents out.old) (W.contents out.new)) }
 {
     let manifest = read_manifest(alloc, path, manifest)?;
     let mut text = Text::new();
@@ -194,7 +199,7 @@ fn read_manifest<'a>(
     bytes: Option<&[u8]>,
 ) -> Result<Manifest, Failure<'a>>
     ensures described { IfOk result (λ m. Describes (option_map (λ b. b.now) bytes.entry) (parts_of m)) }
-    ensures failed { IfErr result (FailsFor (option_map (λ b. b.now) bytes.entry) None None) }
+    ensures failed { IfErr result (FailsUnplayed (option_map (λ b. b.now) bytes.entry) None None) }
 {
     let Some(bytes) = bytes else {
         return Err(Failure::Read(path));
@@ -219,8 +224,10 @@ fn play<'a, R: Read + Drop, W: Write>(
     out: &mut W,
 ) -> Result<(), Failure<'a>>
     ensures read { OnOk result (is_some trace ≡ true) }
+    ensures read_bad { IfErr result (IsRead (is_some trace)) }
+    ensures unread { is_some trace ≡ false → result ≡ Err (Failure.Read path.entry) }
     ensures played { OnOk result (IsPlayed (first_of (parts_of manifest.now)) (option_and_then (λ reader. R.remaining reader) trace) (W.contents out.old) (W.contents out.new)) }
-    ensures failed { IfErr result IsOther }
+    ensures failed { IfErr result (PlayFails (first_of (parts_of manifest.now)) (option_and_then (λ reader. R.remaining reader) trace) (W.contents out.old) (W.contents out.new)) }
 {
     let Some(mut trace) = trace else {
         return Err(Failure::Read(path));
@@ -247,7 +254,7 @@ fn play_on<'a, M: PhysMem + Drop, R: Read, W: Write>(
 ) -> Result<(), Failure<'a>>
     requires { M.ram ram ≡ zero_ram manifest.now.ram_base (512 * manifest.now.ram_blocks) }
     ensures played { OnOk result (IsPlayed (first_of (parts_of manifest.now)) (R.remaining trace.old) (W.contents out.old) (W.contents out.new)) }
-    ensures failed { IfErr result IsOther }
+    ensures failed { IfErr result (PlayFails (first_of (parts_of manifest.now)) (R.remaining trace.old) (W.contents out.old) (W.contents out.new)) }
 {
     if tlb {
         let cache = Tlb::<InTurn, ENTRIES>::new(InTurn::default());
@@ -269,7 +276,7 @@ fn play_in<'a, M: PhysMem + Drop, T: Translations + Drop, R: Read, W: Write>(
 ) -> Result<(), Failure<'a>>
     requires { M.ram ram ≡ zero_ram manifest.now.ram_base (512 * manifest.now.ram_blocks) }
     ensures played { OnOk result (IsPlayed (first_of (parts_of manifest.now)) (R.remaining trace.old) (W.contents out.old) (W.contents out.new)) }
-    ensures failed { IfErr result IsOther }
+    ensures failed { IfErr result (PlayFails (first_of (parts_of manifest.now)) (R.remaining trace.old) (W.contents out.old) (W.contents out.new)) }
 {
     let mut player = Player::new(Machine::boot_cleared(manifest, ram, cache));
     match player.play(alloc, trace, out) {
@@ -280,14 +287,14 @@ fn play_in<'a, M: PhysMem + Drop, T: Translations + Drop, R: Read, W: Write>(
 
 fn write<'a, W: Write>(out: &mut W, text: &[u8]) -> Result<(), Failure<'a>>
     ensures written { OnOk result (Appends (W.contents out.old) (W.contents out.new) text.now) }
-    ensures failed { IfErr result IsOther }
+    ensures failed { IfErr result (λ failure. failure ≡ Failure.Write) }
 {
     output::write_text(out, text).map_err(|_| Failure::Write)
 }
 
 // Why a play of the trace at this path stopped.
 fn why(path: &str, error: PlayError) -> Failure<'_>
-    ensures { IsOther result }
+    ensures { result ≡ failure_of (Failure.Read path.entry) error }
 {
     match error {
         PlayError::Read => Failure::Read(path),

@@ -88,6 +88,7 @@ impl<M: PhysMem + Drop, T: Translations + Drop> Machine<M, T> {
     }
 
     // A load of the runner.
+    #[inline(always)]
     pub(super) fn load(&mut self, addr: u64, size: Size) -> Outcome
         ensures outcome { result ≡ (memory.load self.old.state addr size).outcome }
         ensures state { self.new.state ≡ self.old.state }
@@ -114,6 +115,7 @@ impl<M: PhysMem + Drop, T: Translations + Drop> Machine<M, T> {
     }
 
     // A store of the runner.
+    #[inline(always)]
     pub(super) fn store(&mut self, addr: u64, size: Size, value: u64) -> Outcome
         ensures outcome { result ≡ (memory.store self.old.state addr size value).outcome }
         ensures state { self.new.state ≡ (memory.store self.old.state addr size value).state }

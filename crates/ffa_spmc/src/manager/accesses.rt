@@ -23,6 +23,7 @@ impl<M: PhysMem + Drop> Manager<M> {
     }
 
     // What the walk of an address by the runner's table answers.
+    #[inline(always)]
     pub(crate) fn translate(&self, addr: u64) -> Result<Leaf, FaultKind>
         ensures { result ≡ walk_of self.now.ram self.now.state self.now.state.runner addr }
     {

@@ -15,6 +15,7 @@ use ffa_physmem::PhysMem;
 
 impl<M: PhysMem + Drop> Manager<M> {
     // The reply to a call on run states, or to a message.
+    #[inline(always)]
     pub(super) fn message_reply(&mut self, call: Call) -> Reply
         requires message { is_message call ≡ true }
         requires named { passes_no_error call ≡ true }

@@ -1,5 +1,8 @@
-use Rattle.ffaplay.proofs.Performs.{kept}
+use Rattle.ffaplay.proofs.Performs.{kept, told_bad}
 use Rattle.ffaplay.proofs.commands.perform.Goals as goal
 
 pub returns-in-Ok-clause-quiet : goal.returns-in-Ok-clause-quiet
 returns-in-Ok-clause-quiet g c = λ done. kept (g.E.Write.contents c.args.err.now)
+
+pub returns-in-Err-clause-bad : goal.returns-in-Err-clause-bad
+returns-in-Err-clause-bad g c = told_bad _ _ _ _ _ _ c.in-Err.failure c.tell.result c.tell.ensures c.in-Err.ensures.failed c.in-Err.ensures.read_bad
