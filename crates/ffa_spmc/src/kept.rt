@@ -37,6 +37,8 @@ impl Kept {
     /// What the machine of a manifest with this layout keeps at first, but for the owners, whose table is still to be
     /// filled in: nothing is open, nobody has buffers, the normal world runs, and partitions that receive notifications
     /// have bitmaps, of which no bit is bound or pending.
+    // Inlined, as `Manager::first` is.
+    #[inline(always)]
     pub fn unfilled(manifest: &Manifest, layout: Layout) -> Kept
         ensures layout { result.layout ≡ layout }
         ensures pages { result.pages ≡ [] }
