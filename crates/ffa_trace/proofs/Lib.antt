@@ -14,3 +14,4 @@ pub mod Positions
 pub mod Runs
 pub mod ShowRuns
 pub mod TextDigits
+pub mod WordsPut

@@ -1,5 +1,6 @@
 //! The player of traces.
 ghost use Rattle.std.specs.Prelude.{◌≡◌, ◌*◌, codes, ◌==◌, true, [], ◌++◌, ◌∷◌, position, OnOk};
+ghost use Rattle.std.specs.List.{flat_map};
 ghost use Rattle.ffa_model.specs.TraceLines.{feed, has_no_feed};
 ghost use Rattle.ffa_model.specs.Memory.{size_of};
 ghost use Rattle.ffa_model.specs.Step.{step};
@@ -10,8 +11,7 @@ ghost use Rattle.ffa_trace.specs.Parsed.{IsOther};
 ghost use Rattle.ffa_trace.specs.Played.{Played};
 
 use crate::output::{self, PlayError};
-use crate::text::{self, Text};
-use crate::{line, show};
+use crate::{line, show, text};
 use ffa_model::{Op, Outcome, Size};
 use ffa_physmem::PhysMem;
 use ffa_spmc::Machine;
@@ -281,7 +281,8 @@ fn write_outcome<W: Write>(writer: &mut W, op: &Op, outcome: &Outcome) -> Result
     match outcome {
         Outcome::Done => output::write_text(writer, b"done\n"),
         Outcome::Data(value) => write_data(writer, op, *value),
-        _ => write_made(writer, op, outcome),
+        Outcome::Regs { runner, x } => write_registers(writer, runner.0, x),
+        Outcome::Fault(fault) => output::write_text(writer, text::fault_line(*fault)),
     }
 }
 
@@ -310,12 +311,12 @@ fn write_bytes<W: Write>(writer: &mut W, size: Size, value: u64) -> Result<(), P
     }
 }
 
-// The same, by a text that is made first. It stands alone, so that no room for a text is made where none is needed.
-#[inline(always)]
-fn write_made<W: Write>(writer: &mut W, op: &Op, outcome: &Outcome) -> Result<(), PlayError>
-    ensures { Writes (W.contents writer.old) (W.contents writer.new) (outcome_text op.now outcome.now) result }
+// Writes the line of the runner and its registers. It stands alone, so that other lines have no room for it.
+#[inline(never)]
+fn write_registers<W: Write>(writer: &mut W, runner: u16, x: &[u64; 8]) -> Result<(), PlayError>
+    ensures { Writes (W.contents writer.old) (W.contents writer.new) (ended (codes "regs" ++ spaced (hex 4 runner) ++ flat_map (λ v. spaced (hex 16 v)) x.now)) result }
 {
-    let mut text = Text::new();
-    text::push_outcome(&mut text, op, outcome);
-    output::write_text(writer, text.as_slice())
+    let mut line = [0; text::REGISTERS];
+    text::put_registers(&mut line, runner, x);
+    output::write_text(writer, &line)
 }

@@ -1,12 +1,11 @@
 //! The text of outcomes.
-ghost use Rattle.std.specs.Prelude.{◌≡◌, ◌+◌, ◌*◌, ◌/◌, ◌%◌, ◌^◌, ◌<◌, ◌≤◌, [], ◌++◌, length, codes};
+ghost use Rattle.std.specs.Prelude.{◌≡◌, ◌+◌, ◌*◌, ◌/◌, ◌%◌, ◌^◌, ◌<◌, ◌≤◌, ◌++◌, length, take, drop, codes};
 ghost use Rattle.std.specs.List.{flat_map};
 ghost use Rattle.arrayvec.specs.ArrayVec.{array_vec_len};
-ghost use Rattle.ffa_model.specs.Memory.{size_of};
-ghost use Rattle.ffa_model.specs.TraceText.{digit, hex, spaced, ended, fault_name, bytes_moved, outcome_words, outcome_text, rights_text};
+ghost use Rattle.ffa_model.specs.TraceText.{digit, hex, spaced, ended, fault_name, rights_text};
 
 use arrayvec::ArrayVec;
-use ffa_model::{Data, FaultKind, Op, Outcome, Rights, Size};
+use ffa_model::{Data, FaultKind, Rights};
 
 /// Room for the longest text that is written at once, which is where the tables of eight endpoints stand.
 pub const CAPACITY: usize = 288;
@@ -121,69 +120,44 @@ fn right_letters(right: Option<Rights>) -> &'static [u8]
     }
 }
 
-/// Appends what an operation with this outcome prints, to no text yet.
-#[inline(always)]
-pub fn push_outcome(text: &mut Text, op: &Op, outcome: &Outcome)
-    requires { text.old.items ≡ [] }
-    ensures { text.new.items ≡ outcome_text op.now outcome.now }
-{
-    push_outcome_words(text, op, outcome);
-    text.push(b'\n');
-}
+/// How long the line of registers is.
+pub const REGISTERS: usize = 146;
 
-#[tactic(auto, unfolding(ffa_model::specs::TraceText::outcome_words))]
-fn push_outcome_words(text: &mut Text, op: &Op, outcome: &Outcome)
-    requires { text.old.items ≡ [] }
-    ensures words { text.new.items ≡ outcome_words op.now outcome.now }
-    ensures room { array_vec_len text.new < CAPACITY }
+/// Puts the line of the runner and its registers where it has room.
+#[inline(always)]
+pub fn put_registers(line: &mut [u8; REGISTERS], runner: u16, x: &[u64; 8])
+    ensures { line.new ≡ ended (codes "regs" ++ spaced (hex 4 runner) ++ flat_map (λ v. spaced (hex 16 v)) x.now) }
 {
-    match outcome {
-        Outcome::Regs { runner, x } => push_registers(text, runner.0, x),
-        Outcome::Data(value) => {
-            push_word(text, b"data");
-            push_hex(text, 2 * bytes_moved(op), *value);
-        }
-        Outcome::Done => push_word(text, b"done"),
-        Outcome::Fault(fault) => push_word(text, fault_words(*fault)),
+    *line = [b'\n'; REGISTERS];
+    line[..4].copy_from_slice(b"regs");
+    line[4..9].copy_from_slice(&runner_word(u64::from(runner)));
+    for place in 0..8 {
+        put_register(line, 9 + 17 * place, x[place]);
     }
 }
 
-fn push_registers(text: &mut Text, runner: u16, x: &[u64; 8])
-    requires { text.old.items ≡ [] }
-    ensures words { text.new.items ≡ codes "regs" ++ spaced (hex 4 runner) ++ flat_map (λ v. spaced (hex 16 v)) x.now }
-    ensures room { array_vec_len text.new < CAPACITY }
-{
-    push_word(text, b"regs");
-    push_runner(text, runner);
-    for value in x {
-        push_register(text, *value);
-    }
-}
-
-// Appends a space and four digits. The word has a constant size, so that it is copied without a call.
+// Puts a space and sixteen digits at a place. Most registers of most calls are zero or have a zero upper half.
 #[inline(always)]
-fn push_runner(text: &mut Text, runner: u16)
-    requires { array_vec_len text.old + 4 < CAPACITY }
-    ensures items { text.new.items ≡ text.old.items ++ spaced (hex 4 runner) }
-    ensures len { array_vec_len text.new ≡ array_vec_len text.old + 5 }
-{
-    push_word(text, &runner_word(u64::from(runner)));
-}
-
-// Appends a space and sixteen digits, likewise. Most registers of most calls are zero or have a zero upper half.
-#[inline(always)]
-fn push_register(text: &mut Text, value: u64)
-    requires { array_vec_len text.old + 16 < CAPACITY }
-    ensures items { text.new.items ≡ text.old.items ++ spaced (hex 16 value) }
-    ensures len { array_vec_len text.new ≡ array_vec_len text.old + 17 }
+fn put_register(line: &mut [u8; REGISTERS], place: usize, value: u64)
+    requires { place + 17 ≤ 146 }
+    ensures { line.new ≡ take place line.old ++ spaced (hex 16 value) ++ drop (place + 17) line.old }
 {
     if value == 0 {
-        push_word(text, &zero_word());
+        put_word(line, place, &zero_word());
     } else if value < 0x1_0000_0000 {
-        push_word(text, &half_word(value));
+        put_word(line, place, &half_word(value));
     } else {
-        push_word(text, &register_word(value));
+        put_word(line, place, &register_word(value));
     }
+}
+
+// Puts a word at a place, alike.
+#[inline(always)]
+fn put_word(line: &mut [u8; REGISTERS], place: usize, word: &[u8; 17])
+    requires { place + 17 ≤ 146 }
+    ensures { line.new ≡ take place line.old ++ word.now ++ drop (place + 17) line.old }
+{
+    line[place..place + 17].copy_from_slice(word);
 }
 
 #[inline(always)]
@@ -287,39 +261,15 @@ pub fn eight_byte_line(value: u64) -> [u8; 22]
     ]
 }
 
-fn fault_words(fault: FaultKind) -> &'static [u8]
-    ensures words { result.now ≡ codes "fault" ++ spaced (fault_name fault) }
-    ensures short { length result.now ≤ 17 }
+/// The line of a fault.
+pub fn fault_line(fault: FaultKind) -> &'static [u8]
+    ensures { result.now ≡ ended (codes "fault" ++ spaced (fault_name fault)) }
 {
     match fault {
-        FaultKind::Translation => b"fault translation",
-        FaultKind::Permission => b"fault permission",
-        FaultKind::Alignment => b"fault alignment",
-        FaultKind::AccessFlag => b"fault access-flag",
-        FaultKind::OutsideRam => b"fault outside-ram",
-    }
-}
-
-// How many bytes an operation moves.
-fn bytes_moved(op: &Op) -> u32
-    ensures value { result ≡ bytes_moved op.now }
-    ensures few { result ≤ 8 }
-{
-    match op {
-        Op::Call(_) => 0,
-        Op::Load { size, .. } | Op::Store { size, .. } => bytes_of(*size),
-        Op::Fetch { .. } => 4,
-    }
-}
-
-fn bytes_of(size: Size) -> u32
-    ensures value { result ≡ size_of size }
-    ensures few { result ≤ 8 }
-{
-    match size {
-        Size::B1 => 1,
-        Size::B2 => 2,
-        Size::B4 => 4,
-        Size::B8 => 8,
+        FaultKind::Translation => b"fault translation\n",
+        FaultKind::Permission => b"fault permission\n",
+        FaultKind::Alignment => b"fault alignment\n",
+        FaultKind::AccessFlag => b"fault access-flag\n",
+        FaultKind::OutsideRam => b"fault outside-ram\n",
     }
 }

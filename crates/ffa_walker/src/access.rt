@@ -46,6 +46,7 @@ fn is_aligned(address: u64, size: Size) -> bool
 }
 
 // The physical address where an access ends, in one page with the bytes after it, by what a walk answered.
+#[inline(always)]
 #[tactic(auto, unfolding(ffa_model::specs::Reach::reach_by))]
 fn reach<M: PhysMem>(
     memory: &M,
@@ -118,6 +119,7 @@ pub fn load<M: PhysMem>(memory: &M, root: u32, address: u64, size: Size) -> Resu
 }
 
 /// Loads as `load` does, where a walk of the address answered this.
+#[inline(always)]
 pub fn load_at<M: PhysMem>(
     memory: &M,
     walked: Result<Leaf, FaultKind>,
@@ -172,6 +174,7 @@ pub fn store<M: PhysMem>(
 }
 
 /// Stores as `store` does, where a walk of the address answered this.
+#[inline(always)]
 pub fn store_at<M: PhysMem>(
     memory: &mut M,
     walked: Result<Leaf, FaultKind>,

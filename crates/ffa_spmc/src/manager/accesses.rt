@@ -43,6 +43,7 @@ impl<M: PhysMem + Drop> Manager<M> {
     }
 
     // A load of the runner, where the walk of its address answered this.
+    #[inline(always)]
     pub(crate) fn load(&self, walked: Result<Leaf, FaultKind>, addr: u64, size: Size) -> Outcome
         requires { walked ≡ walk_of self.now.ram self.now.state self.now.state.runner addr }
         ensures { result ≡ (memory.load self.now.state addr size).outcome }
@@ -65,6 +66,7 @@ impl<M: PhysMem + Drop> Manager<M> {
     }
 
     // A store, alike.
+    #[inline(always)]
     pub(crate) fn store(
         &mut self,
         walked: Result<Leaf, FaultKind>,

@@ -1,0 +1,12 @@
+use Rattle.std.proofs.Common.{◌≡◌, ◌+◌, ◌*◌, ◌++◌, length, take, drop}
+use Rattle.std.specs.Prelude.{codes}
+use Rattle.std.specs.List.{flat_map}
+use Rattle.ffa_model.specs.TraceText.{hex, spaced}
+use Rattle.ffa_trace.proofs.text.put_registers.Given as goal
+
+-- the registers so far, and the line's end
+abbrev pub invariant-loop-place : goal.invariant-loop-place
+invariant-loop-place l = record {
+  so_far : take (9 + 17 * l.place) l.line ≡ (codes "regs" ++ spaced (hex 4 l.runner)) ++ flat_map (λ v. spaced (hex 16 v)) (take l.place l.x);
+  end : drop 145 l.line ≡ codes "\n";
+}
