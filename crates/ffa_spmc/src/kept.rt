@@ -1,10 +1,9 @@
 //! What a machine keeps beside its RAM.
-ghost use Rattle.std.specs.Prelude.{◌≡◌, ◌*◌, None, length, map, replicate};
+ghost use Rattle.std.specs.Prelude.{◌≡◌, ◌*◌, [], None, length, map, replicate};
 ghost use Rattle.std.specs.FinSet as finite_set;
 ghost use Rattle.std.specs.List.{enumerate_from};
 ghost use Rattle.ffa_model.specs.First.{has_first_bitmaps};
 ghost use Rattle.ffa_model.specs.RunStates.{first_schedule};
-ghost use Rattle.ffa_spmc.specs.Owners.{first_owners};
 
 use ffa_memshare::Pool;
 use ffa_model::Manifest;
@@ -35,12 +34,14 @@ pub struct Kept {
 const _: () = prove!(size_of::<Kept>() <= 98304);
 
 impl Kept {
-    /// What the machine of a manifest with this layout keeps at first: the owners are those of the regions, nothing is
-    /// open, nobody has buffers, the normal world runs, and partitions that receive notifications have bitmaps, of which
-    /// no bit is bound or pending.
-    pub fn first(manifest: &Manifest, layout: Layout) -> Kept
+    /// What the machine of a manifest with this layout keeps at first, but for the owners, whose table is still to be
+    /// filled in: nothing is open, nobody has buffers, the normal world runs, and partitions that receive notifications
+    /// have bitmaps, of which no bit is bound or pending.
+    // Inlined, as `Manager::first` is.
+    #[inline(always)]
+    pub fn unfilled(manifest: &Manifest, layout: Layout) -> Kept
         ensures layout { result.layout ≡ layout }
-        ensures pages { result.pages ≡ first_owners manifest.now }
+        ensures pages { result.pages ≡ [] }
         ensures slots { result.pool.slots ≡ replicate (8 * length manifest.now.endpoints.items) None }
         ensures sent { result.pool.sent ≡ replicate (length manifest.now.endpoints.items) 0 }
         ensures buffers { result.buffers ≡ replicate (length manifest.now.endpoints.items) None }
@@ -49,16 +50,13 @@ impl Kept {
         ensures bound { result.bitmaps.bound ≡ finite_set.empty }
         ensures pending { result.bitmaps.pending ≡ finite_set.empty }
     {
-        let mut kept = Kept {
+        Kept {
             layout,
             pages: PageTable::none(),
             pool: Pool::first(manifest.endpoints.len()),
             buffers: Buffers::none(manifest.endpoints.len()),
             chain: Chain::first(manifest.endpoints.len()),
             bitmaps: Bitmaps::of(manifest),
-        };
-        // Filled in where they stand, since they are large to move.
-        kept.pages.fill(manifest);
-        kept
+        }
     }
 }

@@ -53,8 +53,9 @@ impl<M: PhysMem + Drop> Model for Manager<M> {
 }
 
 impl<M: PhysMem + Drop> Manager<M> {
-    // The manager of a manifest in its first state, in RAM of which every byte is zero: it builds the tables.
-    #[inline]
+    // The manager of a manifest in its first state, in RAM of which every byte is zero: it builds the tables. It is inlined
+    // where a machine boots, since a call would hand what it keeps on through a copy more.
+    #[inline(always)]
     pub(crate) fn first(manifest: &Manifest, ram: M) -> Manager<M>
         requires { M.ram ram ≡ zero_ram manifest.now.ram_base (512 * manifest.now.ram_blocks) }
         ensures state { result.state ≡ first manifest.now.ram_base manifest.now.ram_blocks manifest.now.endpoints.items }
@@ -67,10 +68,13 @@ impl<M: PhysMem + Drop> Manager<M> {
         build(&mut ram, &layout);
         // What built tables give holds from here on: the manager's invariant has it.
         built_tables();
+        // The owners are filled in where they stand, since they are large to move.
+        let mut kept = Kept::unfilled(manifest, layout);
+        kept.pages.fill(manifest);
         Manager {
             ram,
             manifest: manifest.copied(),
-            kept: Kept::first(manifest, layout),
+            kept,
         }
     }
 
