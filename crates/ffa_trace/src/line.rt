@@ -1,4 +1,4 @@
-//! The words of a trace's lines. Each function is inlined, though plays in RAM of two kinds call it.
+//! The words of a trace's lines. Each function is inlined, though plays on machines of four kinds call it.
 ghost use Rattle.std.specs.Prelude.{◌≡◌, ◌<◌, ◌≤◌, ◌+◌, ◌*◌, ◌^◌, length, replicate, Some, None, option_map, if◌then◌else◌};
 ghost use Rattle.ffa_model.specs.declared.operation.Op.TheVariants.{Call, Load, Store, Fetch};
 ghost use Rattle.ffa_model.specs.TraceLines.{operate, size_named, size_written, call_of, load_of, store_of, fetch_of, words_of};

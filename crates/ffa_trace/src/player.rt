@@ -272,7 +272,7 @@ fn operate<M: PhysMem + Drop, T: Translations + Drop, W: Write>(
     write_outcome(writer, op, &outcome)
 }
 
-// Writes what an operation with this outcome prints. It is inlined, though plays in RAM of two kinds call it.
+// Writes what an operation with this outcome prints. It is inlined, though plays on machines of four kinds call it.
 #[inline(always)]
 #[tactic(auto, unfolding(ffa_model::specs::TraceText::outcome_words))]
 fn write_outcome<W: Write>(writer: &mut W, op: &Op, outcome: &Outcome) -> Result<(), PlayError>
