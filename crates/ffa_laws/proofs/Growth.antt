@@ -46,7 +46,7 @@ test-holds true r some = refl
 test-holds false r some = absurd (false≢true some)
 
 module _ (s : State) (steady : IsSteady s) where
-  access-within : (e p : ℕ) → is_within (access s e p) (page_base (page_at s p)) ≡ true
+  pub access-within : (e p : ℕ) → is_within (access s e p) (page_base (page_at s p)) ≡ true
   access-within e p = go (page_at s p) refl (transaction_at s p) refl
     where
       go : (page : Option Page) → page_at s p ≡ page → (o : Option Transaction) → transaction_at s p ≡ o → is_within (right_of e page o) (page_base page) ≡ true
@@ -163,6 +163,10 @@ pub never_grow : (s : State) (ops : List Op) → IsSteady s → NeverGrow s (sta
 never_grow s [] steady = not_grown s steady
 never_grow s (op ∷ ops) steady =
     grown-from s (step s op).state (state_after (step s op).state ops) (step-rights s steady op) (never_grow (step s op).state ops (steady-step s steady op))
+
+pub step_never_grows : (s : State) (op : Op) → IsSteady s → NeverGrow s (step s op).state
+step_never_grows s op steady =
+    grown-from s (step s op).state (step s op).state (step-rights s steady op) (not_grown (step s op).state (steady-step s steady op))
 
 pub call_never_grows : (s : State) (call : calls.Call) → IsSteady s → NeverGrow s (serve s call).state
 call_never_grows s call steady =

@@ -1,4 +1,4 @@
--- A page that its owner has alone keeps its bytes, whatever another endpoint does, but for a message into RX.
+-- A page that its owner has alone stays as it is, whatever another endpoint does, but for a message into RX.
 use Rattle.std.proofs.Common.{◌≡◌, ◌≢◌, ◌∙◌, ℕ, ◌-◌, ◌/◌, ◌%◌, true, false, cond, List, [], get_or, Option, Some, None, is_some, refl, sym, ap, inl, inr, get_or-set_other}
 use Rattle.std.specs.Prelude.{Bool, is_none, ◌==◌, ◌&&◌, nat_le, nat_lt, ◌^◌}
 use Rattle.std.specs.Option.{option_and_then, option_map_or}
@@ -20,7 +20,7 @@ use Rattle.ffa_model.specs.Rights.{may_store}
 use Rattle.ffa_model.specs.State.{State, Page, Transaction, Buffers, page_at, owner_of, buffers_of, is_known, transaction_of}
 use Rattle.ffa_model.specs.Access.{access, handle_at, is_naming, names, right_of}
 use Rattle.ffa_model.specs.Buffers.{filled_pages}
-use Rattle.ffa_model.specs.Memory.{access_at, page_bytes, size_of, store_fault, written_pages, zeroed_if, zeroed_page}
+use Rattle.ffa_model.specs.Memory.{access_at, size_of, store_fault, written_pages, zeroed_if, zeroed_page}
 use Rattle.ffa_model.specs.Calls.{first_failure}
 use Rattle.ffa_model.specs.MemoryRetrieve.{memory_retrieve}
 use Rattle.ffa_model.specs.MemorySend.{memory_send, memory_sent, send_guards, send_read}
@@ -37,19 +37,18 @@ use Rattle.ffa_laws.proofs.Taken.{before, response, state-taken, taken, unnamed-
 use Rattle.ffa_laws.proofs.Maps.{first_none}
 use Rattle.ffa_laws.proofs.Kept.{is_memory_call, kept-call, kept-step}
 
--- the bytes of a page of a list of pages
-abbrev bytes_in : List (Option Page) → ℕ → List ℕ
-bytes_in ps p = option_map_or (λ (page : Page). page.bytes) (get_or ps p None) []
+abbrev page_in : List (Option Page) → ℕ → Option Page
+page_in ps p = get_or ps p None
 
-elsewhere : (ps : List (Option Page)) (q p at : ℕ) (bytes : List ℕ) → p ≢ q → bytes_in (written_pages ps q at bytes) p ≡ bytes_in ps p
-elsewhere ps q p at bytes differ = ap (λ page. option_map_or (λ (x : Page). x.bytes) page []) (get_or-set_other ps q p _ None differ)
+elsewhere : (ps : List (Option Page)) (q p at : ℕ) (bytes : List ℕ) → p ≢ q → page_in (written_pages ps q at bytes) p ≡ page_in ps p
+elsewhere ps q p at bytes differ = get_or-set_other ps q p _ None differ
 
 module _ (s : State) (steady : IsSteady s) (e p : ℕ) (owned : owner_of s p ≡ e) (unnamed : handle_at s p ≡ None) (other : s.runner ≢ e) where
   -- a filled RX of another endpoint is another page
-  elsewhere-filled : (ps : List (Option Page)) (f : ℕ) (bytes : List ℕ) → is_known s f ≡ true → ((b : Buffers) → buffers_of s f ≡ Some b → p ≢ b.rx) → bytes_in (filled_pages ps bytes (buffers_of s f)) p ≡ bytes_in ps p
+  elsewhere-filled : (ps : List (Option Page)) (f : ℕ) (bytes : List ℕ) → is_known s f ≡ true → ((b : Buffers) → buffers_of s f ≡ Some b → p ≢ b.rx) → page_in (filled_pages ps bytes (buffers_of s f)) p ≡ page_in ps p
   elsewhere-filled ps f bytes known differ = go (buffers_of s f) refl
     where
-      go : (o : Option Buffers) → buffers_of s f ≡ o → bytes_in (filled_pages ps bytes o) p ≡ bytes_in ps p
+      go : (o : Option Buffers) → buffers_of s f ≡ o → page_in (filled_pages ps bytes o) p ≡ page_in ps p
       go None is = refl
       go (Some b) is = elsewhere ps b.rx p 0 bytes (differ b is)
 
@@ -82,7 +81,7 @@ module _ (s : State) (steady : IsSteady s) (e p : ℕ) (owned : owner_of s p ≡
 
   delivered_elsewhere : (message : Bool) → (message && fills_rx_page s e p) ≡ false → message ≡ true
       → first_failure (send2_guards s.parties s.buffers s.runner (header_in (tx_bytes s s.runner))) ≡ None
-      → bytes_in (filled_pages s.pages (message_in (tx_bytes s s.runner)) (buffers_of s (header_in (tx_bytes s s.runner)).receiver)) p ≡ bytes_in s.pages p
+      → page_in (filled_pages s.pages (message_in (tx_bytes s s.runner)) (buffers_of s (header_in (tx_bytes s s.runner)).receiver)) p ≡ page_in s.pages p
   delivered_elsewhere message not_bound is passed =
       elsewhere-filled s.pages receiver (message_in (tx_bytes s s.runner)) known (λ b buffers same.
       elim (cases_eq receiver e) [
@@ -98,7 +97,7 @@ module _ (s : State) (steady : IsSteady s) (e p : ℕ) (owned : owner_of s p ≡
       known : is_known s receiver ≡ true
       known = guard-passes (send2_guards s.parties s.buffers s.runner (header_in (tx_bytes s s.runner))) 4 InvalidParameters (sym passed)
 
-  by-runner : (ps : List (Option Page)) (bytes : List ℕ) → bytes_in (filled_pages ps bytes (buffers_of s s.runner)) p ≡ bytes_in ps p
+  by-runner : (ps : List (Option Page)) (bytes : List ℕ) → page_in (filled_pages ps bytes (buffers_of s s.runner)) p ≡ page_in ps p
   by-runner ps bytes = elsewhere-filled ps s.runner bytes steady.runner (λ b is. of_another s.runner b steady.runner is other)
 
   -- the pages of an open transaction are others
@@ -109,24 +108,24 @@ module _ (s : State) (steady : IsSteady s) (e p : ℕ) (owned : owner_of s p ≡
       go None is = refl
       go (Some t) is = is
 
-  elsewhere-zeroed : (asked : Bool) (ranges : List Range) → names s ranges p ≡ false → bytes_in (zeroed_if asked s ranges).pages p ≡ bytes_in s.pages p
+  elsewhere-zeroed : (asked : Bool) (ranges : List Range) → names s ranges p ≡ false → page_in (zeroed_if asked s ranges).pages p ≡ page_in s.pages p
   elsewhere-zeroed false ranges away = refl
   elsewhere-zeroed true ranges away =
-      ap (λ page. option_map_or (λ (x : Page). x.bytes) page []) (page-changed s ranges zeroed_page p refl ∙ ap (λ b. cond b (zeroed_page (page_at s p)) (page_at s p)) away)
+      page-changed s ranges zeroed_page p refl ∙ ap (λ b. cond b (zeroed_page (page_at s p)) (page_at s p)) away
 
-  relinquished-elsewhere : (d : Option RelinquishDesc) → bytes_in (relinquished s d).pages p ≡ bytes_in s.pages p
+  relinquished-elsewhere : (d : Option RelinquishDesc) → page_in (relinquished s d).pages p ≡ page_in s.pages p
   relinquished-elsewhere None = refl
   relinquished-elsewhere (Some d) = of (transaction_of s d.handle) (of_no_transaction d.handle)
     where
-      of : (o : Option Transaction) → names s (named_ranges o) p ≡ false → bytes_in (relinquished_from s d o).pages p ≡ bytes_in s.pages p
+      of : (o : Option Transaction) → names s (named_ranges o) p ≡ false → page_in (relinquished_from s d o).pages p ≡ page_in s.pages p
       of None away = refl
       of (Some t) away = elsewhere-zeroed d.zero t.ranges away
 
   -- what a send zeroes is the runner's
-  sent-elsewhere : (kind : Kind) (x : Transfer) → first_failure (memory_send s kind x).guards ≡ None → bytes_in (memory_send s kind x).state.pages p ≡ bytes_in s.pages p
+  sent-elsewhere : (kind : Kind) (x : Transfer) → first_failure (memory_send s kind x).guards ≡ None → page_in (memory_send s kind x).state.pages p ≡ page_in s.pages p
   sent-elsewhere kind x none = of (send_read s kind x.total) none
     where
-      of : (o : Option SendRecord) → first_failure (send_guards (scene_of s) s.runner x o) ≡ None → bytes_in (memory_sent s kind o).pages p ≡ bytes_in s.pages p
+      of : (o : Option SendRecord) → first_failure (send_guards (scene_of s) s.runner x o) ≡ None → page_in (memory_sent s kind o).pages p ≡ page_in s.pages p
       of None none = refl
       of (Some r) none =
           elsewhere-zeroed r.zero r.ranges (elim (cases_Bool (names s r.ranges p)) [
@@ -135,37 +134,40 @@ module _ (s : State) (steady : IsSteady s) (e p : ℕ) (owned : owner_of s p ≡
           ])
 
   -- what a retrieve writes is the runner's RX
-  retrieved-elsewhere : (x : Transfer) → first_failure (memory_retrieve s x).guards ≡ None → bytes_in (memory_retrieve s x).state.pages p ≡ bytes_in s.pages p
+  retrieved-elsewhere : (x : Transfer) → first_failure (memory_retrieve s x).guards ≡ None → page_in (memory_retrieve s x).state.pages p ≡ page_in s.pages p
   retrieved-elsewhere x none =
       let its = taken s x none in
-      ap (λ (t : State). bytes_in t.pages p) (state-taken s x its)
+      ap (λ (t : State). page_in t.pages p) (state-taken s x its)
       ∙ by-runner (before s x its).pages (response s x its)
-      ∙ ap (λ page. option_map_or (λ (q : Page). q.bytes) page []) (unnamed-before s x its steady p unnamed)
+      ∙ unnamed-before s x its steady p unnamed
 
   -- the calls on memory transactions
-  memory-bytes : (call : calls.Call) → is_memory_call call ≡ true → first_failure (service s call).guards ≡ None → bytes_in (service s call).state.pages p ≡ bytes_in s.pages p
-  memory-bytes (MemDonate total fragment address pages) memory none = sent-elsewhere Donate (transfer total fragment address pages) none
-  memory-bytes (MemLend total fragment address pages) memory none = sent-elsewhere Lend (transfer total fragment address pages) none
-  memory-bytes (MemShare total fragment address pages) memory none = sent-elsewhere Share (transfer total fragment address pages) none
-  memory-bytes (MemRetrieve total fragment address pages) memory none = retrieved-elsewhere (transfer total fragment address pages) none
-  memory-bytes MemRelinquish memory none = relinquished-elsewhere (relinquish_read s)
-  memory-bytes (MemReclaim low high flags) memory none =
+  memory-page : (call : calls.Call) → is_memory_call call ≡ true → first_failure (service s call).guards ≡ None → page_in (service s call).state.pages p ≡ page_in s.pages p
+  memory-page (MemDonate total fragment address pages) memory none = sent-elsewhere Donate (transfer total fragment address pages) none
+  memory-page (MemLend total fragment address pages) memory none = sent-elsewhere Lend (transfer total fragment address pages) none
+  memory-page (MemShare total fragment address pages) memory none = sent-elsewhere Share (transfer total fragment address pages) none
+  memory-page (MemRetrieve total fragment address pages) memory none = retrieved-elsewhere (transfer total fragment address pages) none
+  memory-page MemRelinquish memory none = relinquished-elsewhere (relinquish_read s)
+  memory-page (MemReclaim low high flags) memory none =
       elsewhere-zeroed (is_set 0 flags) (named_ranges (transaction_of s (handle_of high low))) (of_no_transaction (handle_of high low))
-  memory-bytes call memory none = absurd (false≢true memory)
+  memory-page call memory none = absurd (false≢true memory)
 
-  bytes-kept-call : (call : calls.Call) → (is_send2 call && fills_rx_page s e p) ≡ false → page_bytes (serve s call).state p ≡ page_bytes s p
-  bytes-kept-call call not_bound =
-      kept-call (λ ps. bytes_in ps p ≡ bytes_in s.pages p) s refl (by-runner s.pages) call (delivered_elsewhere (is_send2 call) not_bound) (memory-bytes call)
+  page-kept-call : (call : calls.Call) → (is_send2 call && fills_rx_page s e p) ≡ false → page_at (serve s call).state p ≡ page_at s p
+  page-kept-call call not_bound =
+      kept-call (λ ps. page_in ps p ≡ page_in s.pages p) s refl (by-runner s.pages) call (delivered_elsewhere (is_send2 call) not_bound) (memory-page call)
 
-  bytes-kept : (op : Op) → (is_indirect_message op && fills_rx_page s e p) ≡ false → page_bytes (step s op).state p ≡ page_bytes s p
-  bytes-kept op not_bound =
-      kept-step (λ ps. bytes_in ps p ≡ bytes_in s.pages p) s refl (by-runner s.pages) op
+  pub page-kept : (op : Op) → (is_indirect_message op && fills_rx_page s e p) ≡ false → page_at (step s op).state p ≡ page_at s p
+  page-kept op not_bound =
+      kept-step (λ ps. page_in ps p ≡ page_in s.pages p) s refl (by-runner s.pages) op
       (λ address size value none. elsewhere s.pages ((address - s.ram_base) / 4096) p (address % 4096) (little_bytes (size_of size) value) (stored_elsewhere address (size_of size) none))
       (delivered_elsewhere (is_indirect_message op) not_bound)
-      (λ x. memory-bytes (decode x))
+      (λ x. memory-page (decode x))
+
+abbrev bytes_of : Option Page → List ℕ
+bytes_of page = option_map_or (λ (q : Page). q.bytes) page []
 
 pub integrity : (s : State) (op : Op) → IsSteady s → Integrity s op
-integrity s op steady e p owned unnamed other not_bound = bytes-kept s steady e p owned unnamed other op not_bound
+integrity s op steady e p owned unnamed other not_bound = ap bytes_of (page-kept s steady e p owned unnamed other op not_bound)
 
 pub call_integrity : (s : State) (call : calls.Call) → IsSteady s → LeavesBytes (is_send2 call) s (serve s call).state
-call_integrity s call steady e p owned unnamed other not_bound = bytes-kept-call s steady e p owned unnamed other call not_bound
+call_integrity s call steady e p owned unnamed other not_bound = ap bytes_of (page-kept-call s steady e p owned unnamed other call not_bound)

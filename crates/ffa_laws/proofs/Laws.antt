@@ -1,11 +1,7 @@
--- The laws of a step, call by call, and of a run by induction.
-use Rattle.std.proofs.Common.{◌≡◌, ◌≢◌, ◌∙◌, ℕ, true, false, cond, List, [], ◌∷◌, ◌++◌, map, Some, None, refl, sym, ap, subst}
-use Rattle.std.specs.Prelude.{◌==◌}
-use Rattle.std.proofs.lemmas.Bool.{eq-eqb, eqb-true, true≢false}
-use Rattle.std.proofs.lemmas.List.{append_assoc}
+-- The laws of a step, call by call.
+use Rattle.std.proofs.Common.{◌≡◌, ◌≢◌, ◌∙◌, ℕ, true, false, Some, None, refl, sym, ap, subst}
 use Rattle.ffa_model.specs.declared.operation.Op.{Op}
 use Rattle.ffa_model.specs.declared.operation.Op.TheVariants.{Call, Load, Store, Fetch}
-use Rattle.ffa_model.specs.declared.operation.Outcome.{Outcome}
 use Rattle.ffa_model.specs.declared.call.Call as calls
 use Rattle.ffa_model.specs.declared.call.Call.TheVariants.{Version, Features, RxRelease, RxtxMap, RxtxUnmap, PartitionInfoGet, IdGet, MsgWait, Yield, Run, DirectRequest, DirectResponse, MemDonate, MemLend, MemShare, MemRetrieve, MemRelinquish, MemReclaim, BitmapCreate, BitmapDestroy, NotificationBind, NotificationUnbind, NotificationSet, NotificationGet, SpmIdGet, MsgSend2, Unknown}
 use Rattle.ffa_model.specs.State.{State, is_known}
@@ -23,11 +19,10 @@ use Rattle.ffa_laws.proofs.NotificationLaws.{other-bind, other-create, other-des
 use Rattle.ffa_model.specs.Step.{serve, service, step}
 use Rattle.ffa_laws.specs.Steady.{IsSteady}
 use Rattle.ffa_laws.specs.View.{view}
-use Rattle.ffa_laws.specs.Events.{Event, Item, Own, Told, apply, apply_all, call_events, events, items, message, messages, seen, told_by}
-use Rattle.ffa_laws.specs.Isolation.{Isolated, OneCall, OneStep}
+use Rattle.ffa_laws.specs.Events.{apply_all, call_events, events, told_by}
+use Rattle.ffa_laws.specs.Isolation.{OneCall, OneStep}
 use Rattle.ffa_laws.proofs.Form.{IsOwn, served-kept, served-own, viewed}
 use Rattle.ffa_laws.proofs.Told.{IsTold, other-same, served-other}
-use Rattle.ffa_laws.proofs.Kept.{known-step}
 use Rattle.ffa_laws.proofs.MemoryLaws.{other-fetch, other-load, other-store, own-fetch, own-load, own-store, steady-fetch, steady-load, steady-store}
 use Rattle.ffa_laws.proofs.BufferLaws.{other-buffers, other-release, own-map, own-release, own-unmap, steady-map, steady-unmap, steady-with_rx}
 use Rattle.ffa_laws.proofs.SetupLaws.{other-info, own-info, steady-info}
@@ -108,7 +103,7 @@ module _ (e : ℕ) (s : State) (steady : IsSteady s) (known : is_known s e ≡ t
   other-service MsgSend2 = other-send2 s steady e known
   other-service Unknown = λ none. other-same e s
 
-  other-call : (call : calls.Call) → view e (serve s call).state ≡ apply_all e (view e s) (call_events e s call)
+  pub other-call : (call : calls.Call) → view e (serve s call).state ≡ apply_all e (view e s) (call_events e s call)
   other-call call = served-other e s (service s call) (told_by e s call) (other-service call)
 
   pub other-step : (op : Op) → view e (step s op).state ≡ apply_all e (view e s) (events e s op)
@@ -180,38 +175,3 @@ one_step s op steady =
       outcome = λ t there same. ap (λ (st : Stepped). st.outcome) (alike t steady there same);
       own = λ t there same. ap (λ (st : Stepped). st.state) (alike t steady there same);
     }
-
--- ---- a run
--- what is seen in a view, by own operations and events alone
-replay : ℕ → State → List Item → List Outcome
-replay e v [] = []
-replay e v (Own op ∷ rest) = (step v op).outcome ∷ replay e (step v op).state rest
-replay e v (Told event ∷ rest) = message e event ++ replay e (apply e v event) rest
-
-replay-told : (e : ℕ) (v : State) (es : List Event) (rest : List Item) → replay e v (map (λ event. Told event) es ++ rest) ≡ messages e es ++ replay e (apply_all e v es) rest
-unfolding replay
-replay-told e v [] rest = refl
-replay-told e v (event ∷ es) rest =
-    ap (λ xs. message e event ++ xs) (replay-told e (apply e v event) es rest)
-    ∙ sym (append_assoc (message e event) (messages e es) (replay e (apply_all e (apply e v event) es) rest))
-
-seen_is : (e : ℕ) (ops : List Op) (s : State) → IsSteady s → is_known s e ≡ true → seen e s ops ≡ replay e (view e s) (items e s ops)
-unfolding replay
-seen_is e [] s steady known = refl
-seen_is e (op ∷ ops) s steady known =
-    let later = seen_is e ops (step s op).state (steady-step s steady op) (known-step s op e known) in
-    elim (s.runner == e) as (λ b. (s.runner == e) ≡ b → cond b ((step s op).outcome ∷ []) (messages e (events e s op)) ++ seen e (step s op).state ops ≡ replay e (view e s) (cond b (Own op ∷ []) (map (λ event. Told event) (events e s op)) ++ items e (step s op).state ops)) [
-      | true ↦ λ mine.
-          let acts : step (view e s) op ≡ viewed e (step s op) = subst (λ f. step (view f s) op ≡ viewed f (step s op)) (eqb-true s.runner e mine) (own-step s steady op) in
-          ap (λ xs. (step s op).outcome ∷ xs) later ∙ ap (λ (st : Stepped). st.outcome ∷ replay e st.state (items e (step s op).state ops)) (sym acts)
-      | false ↦ λ differ.
-          ap (λ xs. messages e (events e s op) ++ xs) (later ∙ ap (λ v. replay e v (items e (step s op).state ops)) (other-step e s steady known (apart differ) op))
-          ∙ sym (replay-told e (view e s) (events e s op) (items e (step s op).state ops))
-    ] refl
-  where
-    apart : (s.runner == e) ≡ false → s.runner ≢ e
-    apart differ same = true≢false (sym (eq-eqb s.runner e same) ∙ differ)
-
-pub isolated : (s : State) (ops : List Op) → IsSteady s → Isolated s ops
-isolated s ops steady e t others known there same same_items =
-    seen_is e others t there (ap (λ (v : State). is_known v e) same ∙ known) ∙ ap (λ v. replay e v (items e t others)) same ∙ ap (replay e (view e s)) same_items ∙ sym (seen_is e ops s steady known)

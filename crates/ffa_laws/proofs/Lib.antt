@@ -26,9 +26,16 @@ pub mod ReturnLaws
 pub mod Taken
 pub mod RetrieveLaws
 pub mod Laws
+pub mod Replays
+pub mod OwnAccesses
+pub mod Blanks
+pub mod Apart
 pub mod Growth
 pub mod Integrities
+pub mod Rows
+pub mod News
 pub mod Shows
+pub mod Alone
 pub mod Opened
 pub mod Unchained
 pub mod SoundLaws
@@ -38,6 +45,7 @@ pub mod Closed
 pub mod CountSeen
 pub mod Ceilings
 pub mod SoundSteady
+pub mod Writers
 pub mod ByteLists
 pub mod SoundKept
 pub mod SoundPages
@@ -47,3 +55,5 @@ pub mod SoundReturns
 pub mod SoundRetrieves
 pub mod SoundSends
 pub mod SoundOperations
+pub mod Readings
+pub mod ReadRuns

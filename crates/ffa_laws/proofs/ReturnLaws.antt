@@ -61,7 +61,7 @@ module _ (s : State) (steady : IsSteady s) (h : ℕ) where
       go true none = absurd (false≢true none)
       go false is = is
 
-  unnamed-still : (p : ℕ) → handle_at s p ≡ None → handle_at (closed s h) p ≡ None
+  pub unnamed-still : (p : ℕ) → handle_at s p ≡ None → handle_at (closed s h) p ≡ None
   unnamed-still p none =
       first_no (is_naming s p) (closed s h).transactions (λ k. elim (cases_Bool (is_naming s p (transaction_of (closed s h) k))) [
         | inl is ↦ absurd (true≢false (sym (named-before p k is) ∙ first_none (is_naming s p) s.transactions refl none k))

@@ -55,6 +55,7 @@ use Rattle.ffa_laws.proofs.Views.{kept_none, or_true, view-named, view-page}
 -- ---- what the guards say, where none fails
 pub record IsOffer (s : State) (r : SendRecord) : Type 0 where
   pub sender : r.sender ≡ s.runner
+  pub known : are_known (length s.parties) r.receivers ≡ true
   pub inside : list_all (is_inside (bases_of s)) r.ranges ≡ true
   pub free : list_all (is_sendable s.runner (candidates s) s.buffers) (pages_in (bases_of s) r.ranges) ≡ true
   pub grants : list_all (are_grants_within (bases_of s) r.receivers) (pages_in (bases_of s) r.ranges) ≡ true
@@ -66,6 +67,7 @@ pub offer : (s : State) (x : Transfer) (r : SendRecord) → first_failure (send_
 offer s x r none =
     record {
       sender = eqb-true r.sender s.runner (guard-passes (send_guards (scene_of s) s.runner x (Some r)) 5 InvalidParameters (sym none));
+      known = guard-passes (send_guards (scene_of s) s.runner x (Some r)) 6 InvalidParameters (sym none);
       inside = guard-passes (send_guards (scene_of s) s.runner x (Some r)) 7 Denied (sym none);
       free = guard-passes (send_guards (scene_of s) s.runner x (Some r)) 8 Denied (sym none);
       grants = guard-passes (send_guards (scene_of s) s.runner x (Some r)) 9 Denied (sym none);
@@ -263,7 +265,7 @@ module _ (s : State) (steady : IsSteady s) (kind : Kind) (r : SendRecord) (good 
   named-inside : (p : ℕ) → names s r.ranges p ≡ true → p < length s.pages
   named-inside p named = covered-inside (bases_of s) r.ranges p good.inside named
 
-  alone : (p : ℕ) → names s r.ranges p ≡ true → (page : Page) × (page_at s p ≡ Some page) × IsAlone s s.runner p
+  pub alone : (p : ℕ) → names s r.ranges p ≡ true → (page : Page) × (page_at s p ≡ Some page) × IsAlone s s.runner p
   alone p named = sendable-alone s r.ranges good.free p (named-inside p named) named
 
   pub offered-owner : (p : ℕ) → names s r.ranges p ≡ true → owner_of s p ≡ s.runner
@@ -272,11 +274,11 @@ module _ (s : State) (steady : IsSteady s) (kind : Kind) (r : SendRecord) (good 
   mine : (p : ℕ) → names s r.ranges p ≡ true → owner_of s p ≡ r.sender
   mine p named = offered-owner p named ∙ sym good.sender
 
-  free : (p : ℕ) → names s r.ranges p ≡ true → handle_at s p ≡ None
+  pub free : (p : ℕ) → names s r.ranges p ≡ true → handle_at s p ≡ None
   free p named = (alone p named).2.unnamed
 
   -- its handle has not been given
-  fresh : transaction_of s h ≡ None
+  pub fresh : transaction_of s h ≡ None
   fresh = of (transaction_of s h) refl
     where
       of : (o : Option Transaction) → transaction_of s h ≡ o → o ≡ None

@@ -38,6 +38,7 @@ module _ (s : State) (sound : IsSoundState s) (kind : Kind) (x : Transfer) where
         few = subst (λ e. open_count (offers_of s) e < 8) (sym good.sender) good.few;
         sent = subst (λ e. sent_by s e < 65535) (sym good.sender) good.sent;
         unheld = λ e. finite.get-empty nat_cmp e;
+        receivers = good.known;
         some_receivers = counts.some_receivers;
         few_receivers = counts.few_receivers;
         some_ranges = counts.some_ranges;

@@ -1,6 +1,6 @@
 -- A retrieve that nothing refuses: the state before RX is filled, and that a state stays steady.
 use Rattle.std.proofs.Common.{◌≡◌, ◌∙◌, ℕ, Bool, true, false, cond, List, ◌∷◌, length, Option, Some, None, is_some, refl, sym, ap, subst}
-use Rattle.std.specs.Prelude.{◌==◌, nat_le}
+use Rattle.std.specs.Prelude.{◌==◌, is_none, nat_le}
 use Rattle.std.specs.FinMap as finite
 use Rattle.std.proofs.lemmas.Bool.{eqb-true, false≢true}
 use Rattle.std.proofs.lemmas.Option.{same_Some}
@@ -30,6 +30,7 @@ use Rattle.ffa_laws.proofs.Within.{within-same, within-through}
 pub record IsTaking (s : State) (d : RetrieveDesc) (t : Transaction) : Type 0 where
   pub there : transaction_of s d.handle ≡ Some t
   pub receiver : is_receiver s.runner t ≡ true
+  pub unheld : is_none (held_by t s.runner) ≡ true
   pub within : is_at_most (right_for (bases_of s) t s.runner d) (ceiling (bases_of s) t s.runner) ≡ true
 
 -- what a retrieve reads, and the transaction it is of
@@ -67,6 +68,7 @@ taken s x none = read (retrieve_read s x.total) refl none
               record {
                 there = there;
                 receiver = guard-passes (checks s x (holding_guards (bases_of s) full s.runner d (Some t))) 5 InvalidParameters (sym passed);
+                unheld = guard-passes (checks s x (holding_guards (bases_of s) full s.runner d (Some t))) 9 Denied (sym passed);
                 within = guard-passes (checks s x (holding_guards (bases_of s) full s.runner d (Some t))) 10 Denied (sym passed);
               };
         }

@@ -15,7 +15,7 @@ use Rattle.ffa_model.specs.Memory.{page_bytes}
 use Rattle.ffa_model.specs.Registers.{decode}
 use Rattle.ffa_model.specs.Calls.{first_failure}
 use Rattle.ffa_model.specs.Messages.{header_in, msg_send2, tx_bytes}
-use Rattle.ffa_model.specs.Step.{outcomes, serve, step}
+use Rattle.ffa_model.specs.Step.{outcomes, serve, state_after, step}
 use Rattle.ffa_laws.specs.Steady.{IsSteady, is_joint}
 use Rattle.ffa_laws.specs.View.{view}
 use Rattle.ffa_laws.specs.Events.{apply_all, call_events, events, items, seen}
@@ -52,11 +52,12 @@ shown_to e r (outcome ∷ rest) =
 abbrev pub Shown : State → List Op → Type 0
 Shown s ops = (e : ℕ) → shown_to e s.runner (outcomes s ops) ≡ seen e s ops
 
--- what e sees of a run depends on its view at the start, its own operations and the events towards it alone
+-- what e sees of a run, and its view after it, depend on its view at the start, its own operations and the events towards
+-- it alone
 abbrev pub Isolated : State → List Op → Type 0
 Isolated s ops =
     (e : ℕ) (t : State) (others : List Op) → is_known s e ≡ true → IsSteady t → view e t ≡ view e s → items e t others ≡ items e s ops
-    → seen e t others ≡ seen e s ops
+    → (seen e t others ≡ seen e s ops) × (view e (state_after t others) ≡ view e (state_after s ops))
 
 -- RIGHTS THAT NEVER GROW
 

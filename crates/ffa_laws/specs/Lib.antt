@@ -1,4 +1,10 @@
 pub mod View
 pub mod Events
 pub mod Steady
+pub mod Replay
+pub mod OwnAccess
+pub mod Readable
+pub mod Silence
+pub mod Writers
+pub mod RunIntegrity
 pub mod Isolation

@@ -10,6 +10,12 @@ ghost use Rattle.ffa_model.specs.SoundState.{IsSoundState, are_bytes};
 ghost use Rattle.ffa_model.specs.State.{State};
 ghost use Rattle.ffa_model.specs.Step.{serve, state_after, step};
 ghost use Rattle.ffa_laws.specs.Steady.{IsSteady};
+ghost use Rattle.ffa_laws.specs.OwnAccess.{AreApart, OwnAccess};
+ghost use Rattle.ffa_laws.specs.Readable.{Confidential, RunConfidential};
+ghost use Rattle.ffa_laws.specs.Replay.{Replays};
+ghost use Rattle.ffa_laws.specs.RunIntegrity.{RunIntegrity};
+ghost use Rattle.ffa_laws.specs.Silence.{Silence};
+ghost use Rattle.ffa_laws.specs.Writers.{OnlyWriters};
 ghost use Rattle.ffa_laws.specs.Isolation.{Integrity, Isolated, LeavesBytes, NeverGrow, OneCall, OneStep, Shown, is_send2};
 
 /// One call, served yet or not: it tells another endpoint its events, and its outcome depends on the runner's view alone. A
@@ -23,18 +29,20 @@ pub fn one_call()
     ensures integrity { (s : State) (call : Call) → IsSteady s → LeavesBytes (is_send2 call) s (serve s call).state }
 {}
 
-/// One operation: it tells another endpoint its events, and its outcome depends on the runner's view alone. A state that
-/// is steady or sound stays so.
+/// One operation: it tells another endpoint its events, and its outcome depends on the runner's view alone. Rights don't
+/// grow, and a state that is steady or sound stays so.
 pub fn one_step()
     ensures step { (s : State) (op : Op) → IsSteady s → OneStep s op }
+    ensures never_grow { (s : State) (op : Op) → IsSteady s → NeverGrow s (step s op).state }
     ensures steady { (s : State) (op : Op) → IsSteady s → IsSteady (step s op).state }
     ensures sound { (s : State) (op : Op) → IsSoundState s → IsSoundState (step s op).state }
 {}
 
-/// A list of operations: what an endpoint sees of it depends on its view at the start, on its own operations and on the
-/// events towards it; and what it sees is in the outcomes.
+/// A list of operations: what an endpoint sees of it, and its view after it, depend on its view at the start, on its own
+/// operations and on the events towards it, and are these replayed on that view; and what it sees is in the outcomes.
 pub fn isolated()
     ensures isolated { (s : State) (ops : List Op) → IsSteady s → Isolated s ops }
+    ensures replays { (s : State) (ops : List Op) → IsSteady s → Replays s ops }
     ensures shown { (s : State) (ops : List Op) → Shown s ops }
 {}
 
@@ -46,6 +54,36 @@ pub fn rights_never_grow()
 /// A page that its owner has alone keeps its bytes while another endpoint runs, but for a message into its RX.
 pub fn integrity()
     ensures { (s : State) (op : Op) → IsSteady s → Integrity s op }
+{}
+
+/// A page that an endpoint has alone is after a run what it was, where it didn't run and got no message into its RX.
+pub fn run_integrity()
+    ensures { (s : State) (ops : List Op) → IsSteady s → RunIntegrity s ops }
+{}
+
+/// The bytes of a page change only where the runner may write to it, or where an indirect message fills its receiver's RX.
+pub fn only_writers()
+    ensures { (s : State) (op : Op) → IsSoundState s → OnlyWriters s op }
+{}
+
+/// Only an endpoint's own calls change its access: which of them give, and which take. That nobody is offered what it sent
+/// itself holds at first, and stays so.
+pub fn own_access()
+    ensures access { (s : State) (op : Op) → IsSteady s → AreApart s → OwnAccess s op }
+    ensures stays { (s : State) (op : Op) → AreApart s → AreApart (step s op).state }
+    ensures first { (base blocks : ℕ) (es : List Endpoint) → AreApart (first base blocks es) }
+{}
+
+/// What an endpoint sees depends on bytes that it can read alone: not on those of a page that it has lent away, or that is
+/// offered to it and not retrieved.
+pub fn confidential()
+    ensures step { (s : State) (op : Op) → IsSteady s → AreApart s → Confidential s op }
+    ensures run { (s : State) (ops : List Op) → IsSteady s → AreApart s → RunConfidential s ops }
+{}
+
+/// No event is told in vain: each operation gives only the events of its row, and what may not repeat changes the view.
+pub fn silence()
+    ensures { (s : State) (op : Op) → IsSteady s → Silence s op }
 {}
 
 /// What isolation asks of a state holds of every sound state.

@@ -4,5 +4,6 @@
 pub mod isolation;
 
 pub use isolation::{
-    first_is_sound, integrity, isolated, one_call, one_step, rights_never_grow, sound_is_steady,
+    confidential, first_is_sound, integrity, isolated, one_call, one_step, only_writers,
+    own_access, rights_never_grow, run_integrity, silence, sound_is_steady,
 };

@@ -19,7 +19,7 @@ use Rattle.ffa_model.specs.Access.{covers, handle_at, held_by, is_naming, is_rec
 use Rattle.ffa_model.specs.Memory.{with_pages, zeroed_page}
 use Rattle.ffa_model.specs.Buffers.{Candidate, candidate_at, is_usable}
 use Rattle.ffa_model.specs.Transactions.{Bases, are_writable, base_of, bases_of, ceiling, ceiling_in, closed, holding, not_holding, offers_of, open_count, pages_in, with_offers, with_transaction}
-use Rattle.ffa_model.specs.MemorySend.{are_grants_within, is_inside}
+use Rattle.ffa_model.specs.MemorySend.{are_grants_within, are_known, is_inside}
 use Rattle.ffa_model.specs.SoundState.{IsKnown, IsSoundPage, IsSoundState, IsSoundTransaction}
 use Rattle.ffa_model.proofs.Accesses.{held-beside, held-itself, length-map_at, page-changed, released-beside, released-itself}
 use Rattle.ffa_model.proofs.Counts.{open-changed, open-closed}
@@ -40,6 +40,7 @@ same-transaction s z h t bases owners parties sent good =
       holder = good.holder;
       within = λ e right held. subst (λ (b : Bases). is_at_most right (ceiling b t e) ≡ true) (sym bases) (good.within e right held);
       donate = good.donate;
+      receivers = subst (λ n. are_known n t.receivers ≡ true) (sym parties) good.receivers;
       some_receivers = good.some_receivers;
       few_receivers = good.few_receivers;
       some_ranges = good.some_ranges;
@@ -229,6 +230,7 @@ module _ (s : State) (sound : IsSoundState s) (h : ℕ) (t : Transaction) (was :
         holder = λ e right is. (holders e right is).0;
         within = λ e right is. subst (λ (most : Rights). is_at_most right most ≡ true) (sym (ceiling-held (bases_of s) t held e)) (holders e right is).1;
         donate = donate;
+        receivers = good.receivers;
         some_receivers = good.some_receivers;
         few_receivers = good.few_receivers;
         some_ranges = good.some_ranges;

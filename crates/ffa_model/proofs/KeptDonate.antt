@@ -103,6 +103,7 @@ module _ (s : State) (sound : IsSoundState s) (ranges : List Range) (e : ℕ) (r
           within = λ f its held. subst (λ (b : Bases). is_at_most its (ceiling b t f) ≡ true) (sym given_bases-are)
               (subst (λ (most : Rights). is_at_most its most ≡ true) (sym (ceiling-same f)) (good.within f its held));
           donate = good.donate;
+          receivers = good.receivers;
           some_receivers = good.some_receivers;
           few_receivers = good.few_receivers;
           some_ranges = good.some_ranges;

@@ -13,7 +13,7 @@ use Rattle.ffa_model.specs.Access.{handle_at, held_by, is_naming, names}
 use Rattle.ffa_model.specs.Buffers.{Candidate, candidate_at, candidates, is_usable}
 use Rattle.ffa_model.specs.SendDescriptor.{most_receivers}
 use Rattle.ffa_model.specs.Transactions.{are_writable, bases_of, next_handle, offers_of, open_count, opened, with_offers, pages_in}
-use Rattle.ffa_model.specs.MemorySend.{are_grants_within, is_buffer, is_inside, is_own, is_sendable}
+use Rattle.ffa_model.specs.MemorySend.{are_grants_within, are_known, is_buffer, is_inside, is_own, is_sendable}
 use Rattle.ffa_model.specs.SoundState.{IsKnown, IsSoundState, IsSoundTransaction}
 use Rattle.ffa_model.proofs.Accesses.{once-beside, once-opened}
 use Rattle.ffa_model.proofs.CallAccesses.{handle-new, sendable-unnamed}
@@ -42,6 +42,7 @@ pub record IsSendable (s : State) (t : Transaction) : Type 0 where
   pub few : open_count (offers_of s) t.sender < 8
   pub sent : sent_by s t.sender < 65535
   pub unheld : (e : ℕ) → held_by t e ≡ None
+  pub receivers : are_known (length s.parties) t.receivers ≡ true
   pub some_receivers : 1 ≤ length t.receivers
   pub few_receivers : length t.receivers ≤ most_receivers t.kind
   pub some_ranges : 1 ≤ length t.ranges
@@ -105,6 +106,7 @@ module _ (s : State) (sound : IsSoundState s) (t : Transaction) (good : IsSendab
         holder = λ e right is. absurd (none-some right (sym (good.unheld e) ∙ is));
         within = λ e right is. absurd (none-some right (sym (good.unheld e) ∙ is));
         donate = λ e kind. good.unheld e;
+        receivers = good.receivers;
         some_receivers = good.some_receivers;
         few_receivers = good.few_receivers;
         some_ranges = good.some_ranges;

@@ -13,7 +13,7 @@ use Rattle.ffa_model.specs.SendDescriptor.{most_receivers}
 use Rattle.ffa_model.specs.RunStates.{schedule_of}
 use Rattle.ffa_model.specs.Sound.{IsSound}
 use Rattle.ffa_model.specs.Transactions.{are_writable, bases_of, ceiling, handle_of, offers_of, open_count, pages_in}
-use Rattle.ffa_model.specs.MemorySend.{are_grants_within, is_inside}
+use Rattle.ffa_model.specs.MemorySend.{are_grants_within, are_known, is_inside}
 use Rattle.ffa_model.specs.Notifications.{binding, class_of, has_bitmaps_in, is_bound, manager_class, notifications_of, receiver_bit}
 
 -- numbers that are bytes
@@ -50,7 +50,8 @@ pub record IsSoundTransaction (s : State) (h : ℕ) (t : Transaction) : Type 0 w
   pub holder : (e : ℕ) (right : Rights) → held_by t e ≡ Some right → is_receiver e t ≡ true
   pub within : (e : ℕ) (right : Rights) → held_by t e ≡ Some right → is_at_most right (ceiling (bases_of s) t e) ≡ true
   pub donate : (e : ℕ) → t.kind ≡ Donate → held_by t e ≡ None
-  -- how many receivers and ranges it may have, and that its tag is a word
+  -- its receivers are endpoints; how many receivers and ranges it may have, and that its tag is a word
+  pub receivers : are_known (length s.parties) t.receivers ≡ true
   pub some_receivers : 1 ≤ length t.receivers
   pub few_receivers : length t.receivers ≤ most_receivers t.kind
   pub some_ranges : 1 ≤ length t.ranges

@@ -15,6 +15,7 @@ use Rattle.ffa_model.proofs.Accesses.{IsNamedOnce, named-in, unnamed-in}
 use Rattle.ffa_model.proofs.Handles.{alone-found, unpassed-none}
 use Rattle.ffa_model.proofs.Places.{known-place}
 use Rattle.ffa_model.proofs.Slots.{at-get, get-at}
+use Rattle.ffa_laws.specs.OwnAccess.{AreApart}
 use Rattle.ffa_laws.proofs.SoundSteady.{sound-steady}
 use Rattle.ffa_pages.specs.Entry.{Entry, base_at, entry_at, slot_at}
 use Rattle.ffa_stage2.specs.Tables.{table_page}
@@ -40,6 +41,10 @@ module _ (x : Parts) (machine : IsManager x) where
 
   pub open-slot : (h : ℕ) (t : Transaction) → transaction_of s h ≡ Some t → (k : ℕ) × (pool_slot slots k ≡ Some (h, t))
   open-slot h t is = let there = at-get slots h t is in (there.0, there.2)
+
+  -- nobody is offered what it has sent itself
+  pub senders-apart : AreApart s
+  senders-apart h t is = let slot = open-slot h t is in (machine.offers.offered slot.0 h t slot.1).other
 
   once : (p : ℕ) → p < length x.ram.pages → IsNamedOnce s p
   once p lt h k at_h at_k = machine.sound.one p h k (subst (λ (n : ℕ). p < n) (sym (size_is x)) lt) at_h at_k

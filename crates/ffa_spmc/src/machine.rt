@@ -8,6 +8,12 @@ ghost use Rattle.ffa_model.specs.Ram.{page_of, zero_ram};
 ghost use Rattle.ffa_model.specs.SoundState.{IsSoundState};
 ghost use Rattle.ffa_laws.specs.Events.{seen};
 ghost use Rattle.ffa_laws.specs.Isolation.{Integrity, Isolated, NeverGrow, OneStep, shown_to};
+ghost use Rattle.ffa_laws.specs.OwnAccess.{OwnAccess};
+ghost use Rattle.ffa_laws.specs.Readable.{Confidential, RunConfidential};
+ghost use Rattle.ffa_laws.specs.Replay.{Replays};
+ghost use Rattle.ffa_laws.specs.RunIntegrity.{RunIntegrity};
+ghost use Rattle.ffa_laws.specs.Silence.{Silence};
+ghost use Rattle.ffa_laws.specs.Writers.{OnlyWriters};
 ghost use Rattle.ffa_model.specs.Refusals.{is_refusal};
 ghost use Rattle.ffa_model.specs.Registers.{decode};
 ghost use Rattle.ffa_model.specs.State.{owner_of};
@@ -177,6 +183,14 @@ impl<M: PhysMem + Drop, T: Translations + Drop> Machine<M, T> {
         ensures sound { IsSoundState self.new.state }
         ensures step { OneStep self.old.state op.now }
         ensures integrity { Integrity self.old.state op.now }
+
+        // Nothing is told in vain, and no byte that can't be read. Rights don't grow, nobody's access changes but the runner's, and only where the runner may
+        // write do bytes change, but for an indirect message into its receiver's RX.
+        ensures silence { Silence self.old.state op.now }
+        ensures confidential { Confidential self.old.state op.now }
+        ensures never_grow { NeverGrow self.old.state self.new.state }
+        ensures own_access { OwnAccess self.old.state op.now }
+        ensures only_writers { OnlyWriters self.old.state op.now }
     {
         // What the clauses rest on holds of every manager, before and after.
         self.manager.holds();
@@ -229,13 +243,19 @@ impl<M: PhysMem + Drop, T: Translations + Drop> Machine<M, T> {
         ensures walks { AreWalks self.new }
         ensures sound { IsSoundState self.new.state }
 
-        // What an endpoint sees is the same from every state that it sees alike, with every list of operations that holds
-        // the same of it; and what it sees is in the outcomes that were filled in.
+        // What an endpoint sees, and its view afterwards, are the same from every state that it sees alike, with every list of
+        // operations that holds the same of it: they are its items, replayed on its view. What it sees is in the outcomes that
+        // were filled in.
         ensures isolated { Isolated self.old.state ops.now }
+        ensures replays { Replays self.old.state ops.now }
+        ensures confidential { RunConfidential self.old.state ops.now }
         ensures shown { (e : ℕ) → shown_to e self.old.state.runner filled.new ≡ seen e self.old.state ops.now }
 
         // No base right is above the one before, no access above the base right, and the manager's pages stay its own.
         ensures never_grow { NeverGrow self.old.state self.new.state }
+
+        // A page that an endpoint has alone is what it was, where the endpoint didn't run and got no message into its RX.
+        ensures integrity { RunIntegrity self.old.state ops.now }
     {
         self.manager.holds();
         self.operate_all(ops, filled);

@@ -8,6 +8,7 @@ ghost use Rattle.ffa_model.specs.First.{first};
 ghost use Rattle.ffa_model.specs.Manifest.{table_pages};
 ghost use Rattle.ffa_model.specs.Ram.{page_of, zero_ram};
 ghost use Rattle.ffa_model.specs.SoundState.{IsSoundState};
+ghost use Rattle.ffa_laws.specs.OwnAccess.{AreApart};
 ghost use Rattle.ffa_model.specs.Refusals.{is_error, is_refusal, passes_no_error};
 ghost use Rattle.ffa_model.specs.Registers.{decode};
 ghost use Rattle.ffa_model.specs.State.{owner_of};
@@ -86,11 +87,13 @@ impl<M: PhysMem + Drop> Manager<M> {
         &self.ram
     }
 
-    // What holds of every manager: the tables give the access of the state, which is sound.
+    // What holds of every manager: the tables give the access of the state, which is sound, and in which nobody is offered
+    // what it has sent itself.
     #[inline(always)]
     pub(crate) fn holds(&self)
         ensures agrees { Agrees self.now.ram self.now.state }
         ensures sound { IsSoundState self.now.state }
+        ensures apart { AreApart self.now.state }
     {
         let _ = &self.kept;
     }

@@ -1,8 +1,9 @@
 use Rattle.std.proofs.Common.{subst}
 use Rattle.ffa_model.specs.SoundState.{IsSoundState}
+use Rattle.ffa_laws.specs.OwnAccess.{AreApart}
 use Rattle.ffa_spmc.specs.Cached.{AreWalks}
 use Rattle.ffa_spmc.specs.Snapshot.{Snapshot}
-use Rattle.ffa_spmc.proofs.Laws.{integrity-now, step-now}
+use Rattle.ffa_spmc.proofs.Laws.{access-now, confidential-now, integrity-now, no_growth-now, silence-now, step-now, writers-now}
 use Rattle.ffa_spmc.proofs.machine.Machine.op.Goals as goal
 
 pub returns-clause-step : goal.returns-clause-step
@@ -17,3 +18,30 @@ returns-clause-integrity g c =
 
 pub returns-clause-walks : goal.returns-clause-walks
 returns-clause-walks g c = subst AreWalks c.self-2.view_is c.self-2.invariant
+
+pub returns-clause-silence : goal.returns-clause-silence
+returns-clause-silence g c =
+    silence-now c.args.self.now.state
+    (subst (λ (seen : Snapshot). IsSoundState seen.state) c.self.view_is c.holds.ensures.sound) c.args.op.now
+
+pub returns-clause-only_writers : goal.returns-clause-only_writers
+returns-clause-only_writers g c =
+    writers-now c.args.self.now.state
+    (subst (λ (seen : Snapshot). IsSoundState seen.state) c.self.view_is c.holds.ensures.sound) c.args.op.now
+
+pub returns-clause-own_access : goal.returns-clause-own_access
+returns-clause-own_access g c =
+    access-now c.args.self.now.state
+    (subst (λ (seen : Snapshot). IsSoundState seen.state) c.self.view_is c.holds.ensures.sound)
+    (subst (λ (seen : Snapshot). AreApart seen.state) c.self.view_is c.holds.ensures.apart) c.args.op.now
+
+pub returns-clause-never_grow : goal.returns-clause-never_grow
+returns-clause-never_grow g c =
+    no_growth-now c.args.self.now.state
+    (subst (λ (seen : Snapshot). IsSoundState seen.state) c.self.view_is c.holds.ensures.sound) c.args.op.now _ c.operate-outcome.ensures.state
+
+pub returns-clause-confidential : goal.returns-clause-confidential
+returns-clause-confidential g c =
+    confidential-now c.args.self.now.state
+    (subst (λ (seen : Snapshot). IsSoundState seen.state) c.self.view_is c.holds.ensures.sound)
+    (subst (λ (seen : Snapshot). AreApart seen.state) c.self.view_is c.holds.ensures.apart) c.args.op.now

@@ -1,8 +1,9 @@
 use Rattle.std.proofs.Common.{subst}
 use Rattle.ffa_model.specs.SoundState.{IsSoundState}
+use Rattle.ffa_laws.specs.OwnAccess.{AreApart}
 use Rattle.ffa_spmc.specs.Cached.{AreWalks}
 use Rattle.ffa_spmc.specs.Snapshot.{Snapshot}
-use Rattle.ffa_spmc.proofs.Laws.{isolated-now, never_grow-now, shown-now}
+use Rattle.ffa_spmc.proofs.Laws.{isolated-now, never_grow-now, replays-now, run_confidential-now, run_integrity-now, shown-now}
 use Rattle.ffa_spmc.proofs.machine.Machine.run.Goals as goal
 
 pub returns-clause-isolated : goal.returns-clause-isolated
@@ -20,3 +21,19 @@ returns-clause-never_grow g c =
 
 pub returns-clause-walks : goal.returns-clause-walks
 returns-clause-walks g c = subst AreWalks c.self-2.view_is c.self-2.invariant
+
+pub returns-clause-replays : goal.returns-clause-replays
+returns-clause-replays g c =
+    replays-now c.args.self.now.state
+    (subst (λ (seen : Snapshot). IsSoundState seen.state) c.self.view_is c.holds.ensures.sound) c.args.ops.now
+
+pub returns-clause-integrity : goal.returns-clause-integrity
+returns-clause-integrity g c =
+    run_integrity-now c.args.self.now.state
+    (subst (λ (seen : Snapshot). IsSoundState seen.state) c.self.view_is c.holds.ensures.sound) c.args.ops.now
+
+pub returns-clause-confidential : goal.returns-clause-confidential
+returns-clause-confidential g c =
+    run_confidential-now c.args.self.now.state
+    (subst (λ (seen : Snapshot). IsSoundState seen.state) c.self.view_is c.holds.ensures.sound)
+    (subst (λ (seen : Snapshot). AreApart seen.state) c.self.view_is c.holds.ensures.apart) c.args.ops.now

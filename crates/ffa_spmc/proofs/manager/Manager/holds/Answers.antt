@@ -1,9 +1,11 @@
 use Rattle.std.proofs.Common.{subst}
 use Rattle.ffa_model.specs.Agreement.{Agrees}
 use Rattle.ffa_model.specs.SoundState.{IsSoundState}
+use Rattle.ffa_laws.specs.OwnAccess.{AreApart}
 use Rattle.ffa_spmc.specs.Managed.{Managed}
 use Rattle.ffa_spmc.proofs.Agreements.{agrees}
 use Rattle.ffa_spmc.proofs.Inside.{parts_of}
+use Rattle.ffa_spmc.proofs.Pools.{senders-apart}
 use Rattle.ffa_spmc.proofs.manager.Manager.holds.Goals as goal
 
 pub returns-clause-agrees : goal.returns-clause-agrees
@@ -14,3 +16,8 @@ returns-clause-agrees g c =
 pub returns-clause-sound : goal.returns-clause-sound
 returns-clause-sound g c =
     subst (λ (seen : Managed). IsSoundState seen.state) c.self.view_is c.self.invariant.sound
+
+pub returns-clause-apart : goal.returns-clause-apart
+returns-clause-apart g c =
+    let x = parts_of g.M.PhysMem.ram c.self.inside in
+    subst (λ (seen : Managed). AreApart seen.state) c.self.view_is (senders-apart x c.self.invariant)

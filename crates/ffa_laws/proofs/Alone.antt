@@ -1,0 +1,160 @@
+-- What an endpoint has alone stays its own, alone and whole, over an operation of another and over a run.
+use Rattle.std.proofs.Common.{◌≡◌, ◌≢◌, ◌∙◌, ℕ, Bool, true, false, cond, List, [], ◌∷◌, ◌++◌, map, Option, Some, None, refl, sym, ap, inl, inr}
+use Rattle.std.specs.Prelude.{◌==◌, ◌&&◌, is_none}
+use Rattle.std.specs.List.{list_all}
+use Rattle.std.specs.FinMap as finite
+use Rattle.std.specs.Option.{option_map_or}
+use Rattle.std.proofs.lemmas.Bool.{and_parts, cases_Bool, eq-eqb, false≢true, true≢false}
+use Rattle.byteorder.specs.Endian.{little_bytes}
+use Rattle.ffa_model.specs.declared.descriptor.RelinquishDesc.{RelinquishDesc}
+use Rattle.ffa_model.specs.declared.operation.Op.{Op}
+use Rattle.ffa_model.specs.declared.operation.Op.TheVariants.{Call, Load, Store, Fetch}
+use Rattle.ffa_model.specs.declared.operation.Outcome.TheVariants.{Data, Done}
+use Rattle.ffa_model.specs.declared.operation.ErrorCode.{ErrorCode}
+use Rattle.ffa_model.specs.declared.call.Call as calls
+use Rattle.ffa_model.specs.declared.call.Call.TheVariants.{PartitionInfoGet, MemDonate, MemLend, MemShare, MemRetrieve, MemRelinquish, MemReclaim, MsgSend2}
+use Rattle.ffa_model.specs.declared.rights.Kind.{Kind}
+use Rattle.ffa_model.specs.declared.rights.Kind.TheVariants.{Share, Lend, Donate}
+use Rattle.ffa_model.specs.SendDescriptor.{SendRecord}
+use Rattle.ffa_model.specs.State.{State, Page, Transaction, page_at, owner_of, transaction_of}
+use Rattle.ffa_model.specs.Access.{handle_at, names}
+use Rattle.ffa_model.specs.Buffers.{filled}
+use Rattle.ffa_model.specs.Calls.{first_failure}
+use Rattle.ffa_model.specs.Memory.{fetch_fault, number_at, read_fault, size_of, store_fault, stored}
+use Rattle.ffa_model.specs.MemoryRetrieve.{memory_retrieve}
+use Rattle.ffa_model.specs.MemoryReturn.{relinquish_read, relinquished, relinquished_from}
+use Rattle.ffa_model.specs.MemorySend.{memory_send, memory_sent, send_guards, send_read, transaction_from}
+use Rattle.ffa_model.specs.Messages.{header_in, message_in, msg_send2, tx_bytes}
+use Rattle.ffa_model.specs.Notifications.{has_bitmaps_in, manager_class, message_bits, notifications_of}
+use Rattle.ffa_model.specs.Registers.{decode}
+use Rattle.ffa_model.specs.Setup.{info_bytes, is_count_alone, uuid_bytes}
+use Rattle.ffa_model.specs.Step.{serve, service, state_after, step}
+use Rattle.ffa_model.specs.Transactions.{Transfer, handle_of, next_handle, offers_of, scene_of, transfer}
+use Rattle.ffa_laws.specs.Steady.{IsSteady}
+use Rattle.ffa_laws.specs.Events.{Event, Filled, Item, Own, Pending, Told, call_events, events, items, public_change, where_passed, where_true}
+use Rattle.ffa_laws.specs.Isolation.{fills_rx_page, is_indirect_message, is_send2}
+use Rattle.ffa_laws.specs.RunIntegrity.{RunIntegrity, is_quiet}
+use Rattle.ffa_laws.proofs.Form.{accessed-kept, served-kept}
+use Rattle.ffa_laws.proofs.Holders.{handle_at-reheld}
+use Rattle.ffa_laws.proofs.Integrities.{page-kept}
+use Rattle.ffa_laws.proofs.Laws.{steady-step}
+use Rattle.ffa_laws.proofs.Opened.{unnamed-opened}
+use Rattle.ffa_laws.proofs.ReturnLaws.{unnamed-still}
+use Rattle.ffa_laws.proofs.SendLaws.{fresh, free, no-offer, offer, offered-owner}
+use Rattle.ffa_laws.proofs.Taken as retrieve
+use Rattle.ffa_laws.proofs.Taken.{Taken, state-taken, taken}
+
+module _ (s : State) (steady : IsSteady s) (e p : ℕ) (owned : owner_of s p ≡ e) (unnamed : handle_at s p ≡ None) (other : s.runner ≢ e) where
+  unnamed-sent : (kind : Kind) (x : Transfer) → first_failure (memory_send s kind x).guards ≡ None → handle_at (memory_send s kind x).state p ≡ None
+  unnamed-sent kind x none = of (send_read s kind x.total) none
+    where
+      of : (o : Option SendRecord) → first_failure (send_guards (scene_of s) s.runner x o) ≡ None → handle_at (memory_sent s kind o) p ≡ None
+      of None none = absurd (no-offer s x none)
+      of (Some r) none =
+          let good = offer s x r none in
+          unnamed-opened s steady (next_handle (offers_of s) s.runner) (transaction_from kind r) (fresh s steady kind r good) (free s steady kind r good) p
+          (elim (cases_Bool (names s r.ranges p)) [
+            | inl named ↦ absurd (other (sym (offered-owner s steady kind r good p named) ∙ owned))
+            | inr away ↦ away
+          ])
+          unnamed
+
+  unnamed-retrieved : (x : Transfer) → Taken s x → handle_at (memory_retrieve s x).state p ≡ None
+  unnamed-retrieved x its = ap (λ t. handle_at t p) (state-taken s x its) ∙ of its.of.kind
+    where
+      held : handle_at (retrieve.taken_as s x its Share) p ≡ None
+      held = handle_at-reheld s steady its.asked.handle its.of its.is.there (retrieve.holders s x its) p ∙ unnamed
+
+      of : (kind : Kind) → handle_at (retrieve.taken_as s x its kind) p ≡ None
+      of Share = held
+      of Lend = held
+      of Donate = unnamed-still s steady its.asked.handle p unnamed
+
+  unnamed-relinquished : (o : Option RelinquishDesc) → handle_at (relinquished s o) p ≡ None
+  unnamed-relinquished None = unnamed
+  unnamed-relinquished (Some d) = of (transaction_of s d.handle) refl
+    where
+      of : (o : Option Transaction) → transaction_of s d.handle ≡ o → handle_at (relinquished_from s d o) p ≡ None
+      of None there = unnamed
+      of (Some t) there = handle_at-reheld s steady d.handle t there (finite.remove t.held s.runner) p ∙ unnamed
+
+  unnamed-service : (call : calls.Call) → first_failure (service s call).guards ≡ None → handle_at (service s call).state p ≡ None
+  unnamed-service (PartitionInfoGet uuid flags) none = elim (is_count_alone flags) as (λ b. handle_at (cond b s (filled s s.runner (info_bytes s.parties (uuid_bytes uuid)))) p ≡ None) [ true ↦ unnamed | false ↦ unnamed ]
+  unnamed-service (MemDonate total fragment address pages) none = unnamed-sent Donate (transfer total fragment address pages) none
+  unnamed-service (MemLend total fragment address pages) none = unnamed-sent Lend (transfer total fragment address pages) none
+  unnamed-service (MemShare total fragment address pages) none = unnamed-sent Share (transfer total fragment address pages) none
+  unnamed-service (MemRetrieve total fragment address pages) none = unnamed-retrieved (transfer total fragment address pages) (taken s (transfer total fragment address pages) none)
+  unnamed-service MemRelinquish none = unnamed-relinquished (relinquish_read s)
+  unnamed-service (MemReclaim low high flags) none = unnamed-still s steady (handle_of high low) p unnamed
+  unnamed-service call none = unnamed
+
+  pub unnamed-kept : (op : Op) → handle_at (step s op).state p ≡ None
+  unnamed-kept (Call x) = served-kept (λ t. handle_at t p ≡ None) s (service s (decode x)) unnamed (unnamed-service (decode x))
+  unnamed-kept (Load address size) = accessed-kept (λ t. handle_at t p ≡ None) s s (Data (number_at s address (size_of size))) (read_fault s address (size_of size)) unnamed (λ none. unnamed)
+  unnamed-kept (Store address size value) = accessed-kept (λ t. handle_at t p ≡ None) s (stored s address (little_bytes (size_of size) value)) Done (store_fault s address (size_of size)) unnamed (λ none. unnamed)
+  unnamed-kept (Fetch address) = accessed-kept (λ t. handle_at t p ≡ None) s s (Data (number_at s address 4)) (fetch_fault s address) unnamed (λ none. unnamed)
+
+-- ---- whoever is told no message into RX gets none
+passed : (o : Option ErrorCode) → is_none o ≡ true → o ≡ None
+passed None is = refl
+passed (Some code) is = absurd (false≢true is)
+
+abbrev are_quiet : List Event → Bool
+are_quiet es = list_all is_quiet (map (λ event. Told event) es)
+
+told-filled : (e : ℕ) (s : State) (p : ℕ) (call : calls.Call) → is_send2 call ≡ true → fills_rx_page s e p ≡ true → are_quiet (call_events e s call) ≡ false
+told-filled e s p MsgSend2 is fills =
+    let (none, its) = and_parts (is_none (first_failure (msg_send2 s).guards)) _ fills in
+    let (receiver, rx) = and_parts ((header_in (tx_bytes s s.runner)).receiver == e) _ its in
+    go (first_failure (msg_send2 s).guards) (passed (first_failure (msg_send2 s).guards) none) ((header_in (tx_bytes s s.runner)).receiver == e) receiver
+  where
+    go : (g : Option ErrorCode) → g ≡ None → (b : Bool) → b ≡ true
+        → are_quiet (where_passed g (where_true b (Filled (message_in (tx_bytes s s.runner)) ∷ where_true (has_bitmaps_in (notifications_of s) e) (Pending manager_class message_bits ∷ []))) ++ public_change s (serve s MsgSend2).state) ≡ false
+    go None none true is = refl
+    go None none false is = absurd (false≢true is)
+    go (Some code) none b is = absurd (some_none none)
+      where
+        some_none : Some code ≡ None → ⊥
+        some_none e = cc
+told-filled e s p call is fills = absurd (false≢true is)
+
+not_filled : (e : ℕ) (s : State) (p : ℕ) (op : Op) → are_quiet (events e s op) ≡ true → (is_indirect_message op && fills_rx_page s e p) ≡ false
+not_filled e s p (Call x) quiet = elim (cases_Bool (is_send2 (decode x) && fills_rx_page s e p)) [
+  | inl both ↦
+      let (is, fills) = and_parts (is_send2 (decode x)) (fills_rx_page s e p) both in
+      absurd (true≢false (sym quiet ∙ told-filled e s p (decode x) is fills))
+  | inr not ↦ not
+]
+not_filled e s p (Load address size) quiet = refl
+not_filled e s p (Store address size value) quiet = refl
+not_filled e s p (Fetch address) quiet = refl
+
+-- ---- over a run
+quiet-parts : (xs ys : List Item) → list_all is_quiet (xs ++ ys) ≡ true → (list_all is_quiet xs ≡ true) × (list_all is_quiet ys ≡ true)
+quiet-parts [] ys all = (refl, all)
+quiet-parts (x ∷ xs) ys all =
+    let (here, rest) = and_parts (is_quiet x) (list_all is_quiet (xs ++ ys)) all in
+    let (before, after) = quiet-parts xs ys rest in
+    ((λ i. here i && before i), after)
+
+stays : (ops : List Op) (s : State) → IsSteady s → (e p : ℕ) → owner_of s p ≡ e → handle_at s p ≡ None → list_all is_quiet (items e s ops) ≡ true
+    → (page_at (state_after s ops) p ≡ page_at s p) × (handle_at (state_after s ops) p ≡ None)
+stays [] s steady e p owned unnamed quiet = (refl, unnamed)
+stays (op ∷ ops) s steady e p owned unnamed quiet =
+    elim (s.runner == e) as (λ b. (s.runner == e) ≡ b → list_all is_quiet (cond b (Own op ∷ []) (map (λ event. Told event) (events e s op)) ++ items e (step s op).state ops) ≡ true
+    → (page_at (state_after (step s op).state ops) p ≡ page_at s p) × (handle_at (state_after (step s op).state ops) p ≡ None)) [
+      | true ↦ λ mine quiet. absurd (false≢true quiet)
+      | false ↦ λ differ quiet.
+          let (here, rest) = quiet-parts (map (λ event. Told event) (events e s op)) (items e (step s op).state ops) quiet in
+          let other : s.runner ≢ e = λ same. true≢false (sym (eq-eqb s.runner e same) ∙ differ) in
+          let page : page_at (step s op).state p ≡ page_at s p = page-kept s steady e p owned unnamed other op (not_filled e s p op here) in
+          let later = stays ops (step s op).state (steady-step s steady op) e p (ap (λ o. option_map_or (λ (q : Page). q.owner) o 0x8000) page ∙ owned) (unnamed-kept s steady e p owned unnamed other op) rest in
+          (later.0 ∙ page, later.1)
+    ] refl quiet
+
+pub run_integrity : (s : State) (ops : List Op) → IsSteady s → RunIntegrity s ops
+run_integrity s ops steady =
+    record {
+      page = λ e p owned unnamed quiet. (stays ops s steady e p owned unnamed quiet).0;
+      alone = λ e p owned unnamed quiet. (stays ops s steady e p owned unnamed quiet).1;
+    }

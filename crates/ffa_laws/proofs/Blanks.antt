@@ -1,0 +1,368 @@
+-- Pages without bytes: what doesn't ask for these bytes is as before, and an operation of who can't read them is alike.
+use Rattle.std.proofs.Common.{◌≡◌, ◌∙◌, ℕ, ◌-◌, ◌/◌, ◌%◌, ◌^◌, Bool, true, false, cond, List, [], length, get_or, set, take, Option, Some, None, is_some, refl, sym, ap, subst}
+use Rattle.std.specs.Prelude.{◌==◌, ◌&&◌, nat_le, nat_lt}
+use Rattle.std.specs.Option.{option_and_then, option_map, option_map_or}
+use Rattle.std.proofs.Math.Path.{fun_ext}
+use Rattle.std.proofs.lemmas.Bool.{eq-eqb, false≢true}
+use Rattle.byteorder.specs.Endian.{little_bytes}
+use Rattle.ffa_model.specs.declared.descriptor.RelinquishDesc.{RelinquishDesc}
+use Rattle.ffa_model.specs.declared.descriptor.RetrieveDesc.{RetrieveDesc}
+use Rattle.ffa_model.specs.declared.operation.ErrorCode.{ErrorCode}
+use Rattle.ffa_model.specs.declared.operation.FaultKind.{FaultKind}
+use Rattle.ffa_model.specs.declared.operation.Op.{Op}
+use Rattle.ffa_model.specs.declared.operation.Op.TheVariants.{Call, Load, Store, Fetch}
+use Rattle.ffa_model.specs.declared.operation.Outcome.{Outcome}
+use Rattle.ffa_model.specs.declared.operation.Outcome.TheVariants.{Regs, Data, Done}
+use Rattle.ffa_model.specs.declared.call.Reply.TheVariants.{Retrieved}
+use Rattle.ffa_model.specs.declared.call.Call as calls
+use Rattle.ffa_model.specs.declared.call.Call.TheVariants.{RxtxMap, PartitionInfoGet, MemDonate, MemLend, MemShare, MemRetrieve, MemRelinquish, MemReclaim, MsgSend2}
+use Rattle.ffa_model.specs.declared.rights.Kind.{Kind}
+use Rattle.ffa_model.specs.declared.rights.Kind.TheVariants.{Share, Lend, Donate}
+use Rattle.ffa_model.specs.declared.rights.Rights.{Rights}
+use Rattle.ffa_model.specs.declared.transaction.Range.{Range}
+use Rattle.ffa_model.specs.Bits.{is_set}
+use Rattle.ffa_model.specs.Lists.{map_at}
+use Rattle.ffa_model.specs.Rights.{is_donate, may_fetch, may_store}
+use Rattle.ffa_model.specs.Ram.{number_in}
+use Rattle.ffa_model.specs.SendDescriptor.{SendRecord, send_of}
+use Rattle.ffa_model.specs.RetrieveDescriptor.{retrieve_of}
+use Rattle.ffa_model.specs.RelinquishDescriptor.{relinquish_of}
+use Rattle.ffa_model.specs.ResponseBytes.{response_bytes}
+use Rattle.ffa_model.specs.State.{State, Page, Transaction, Buffers, buffers_of, page_at, transaction_of}
+use Rattle.ffa_model.specs.Access.{access, handle_at, held_by, names, right_by, right_of, transaction_at}
+use Rattle.ffa_model.specs.Buffers.{Candidate, candidate_at, candidates, filled, filled_pages, map_guards}
+use Rattle.ffa_model.specs.Calls.{Service, Stepped, answered, encode, first_failure, served}
+use Rattle.ffa_model.specs.Memory.{access_at, accessed, changed_pages, fault_of, fetch_fault, number_at, page_of_address, page_with, read_fault, size_of, store_fault, stored, written_pages, zeroed_if, zeroed_page}
+use Rattle.ffa_model.specs.MemoryRetrieve.{donated_page, memory_retrieve, response_length, response_to, retrieve_guards, retrieved, retrieved_from, retrieved_right, right_for}
+use Rattle.ffa_model.specs.MemoryReturn.{memory_reclaim, memory_relinquish, named_ranges, reclaim_guards, relinquish_guards, relinquished, relinquished_from}
+use Rattle.ffa_model.specs.MemorySend.{memory_send, memory_sent, send_guards}
+use Rattle.ffa_model.specs.Messages.{delivered, header_in, message_in, msg_send2, send2_guards, tx_bytes}
+use Rattle.ffa_model.specs.Registers.{decode}
+use Rattle.ffa_model.specs.Setup.{info_bytes, is_count_alone, uuid_bytes}
+use Rattle.ffa_model.specs.Step.{service, step}
+use Rattle.ffa_model.specs.Transactions.{Transfer, base_of, bases_of, handle_of, offers_of, scene_of, transfer}
+use Rattle.ffa_model.proofs.Accesses.{length-map_at}
+use Rattle.ffa_laws.specs.Steady.{IsAlone, IsSteady}
+use Rattle.ffa_laws.specs.Readable.{blank, blank_where, blanked}
+use Rattle.ffa_laws.proofs.Maps.{at-map_at, map_at-same, map_at-set, map_at-twice}
+use Rattle.ffa_laws.proofs.MemoryLaws.{fault-none}
+
+-- ---- one page
+pub blank-none : (b : Bool) → blank_where b None ≡ None
+blank-none true = refl
+blank-none false = refl
+
+pub blank-twice : (b : Bool) (page : Option Page) → blank_where b (blank_where b page) ≡ blank_where b page
+blank-twice true None = refl
+blank-twice true (Some q) = refl
+blank-twice false page = refl
+
+-- a change of a page to which its bytes don't matter, but for the bytes that it leaves
+abbrev pub IsBlind : (Option Page → Option Page) → Type 0
+IsBlind f = (b : Bool) (page : Option Page) → blank_where b (f (blank_where b page)) ≡ blank_where b (f page)
+
+pub blind-written : (at : ℕ) (bytes : List ℕ) → IsBlind (page_with at bytes)
+blind-written at bytes true None = refl
+blind-written at bytes true (Some q) = refl
+blind-written at bytes false page = refl
+
+pub blind-zeroed : IsBlind zeroed_page
+blind-zeroed true None = refl
+blind-zeroed true (Some q) = refl
+blind-zeroed false page = refl
+
+pub blind-donated : (e : ℕ) (right : Rights) → IsBlind (donated_page e right)
+blind-donated e right true None = refl
+blind-donated e right true (Some q) = refl
+blind-donated e right false page = refl
+
+pub blind-same : IsBlind (λ page. page)
+blind-same b page = blank-twice b page
+
+pub blind-where : (n : Bool) (f : Option Page → Option Page) → IsBlind f → IsBlind (λ page. cond n (f page) page)
+blind-where true f blind = blind
+blind-where false f blind = blind-same
+
+right-blank : (e : ℕ) (b : Bool) (page : Option Page) (t : Option Transaction) → right_of e (blank_where b page) t ≡ right_of e page t
+right-blank e false page t = refl
+right-blank e true None t = refl
+right-blank e true (Some q) None = refl
+right-blank e true (Some q) (Some t) = of (held_by t e)
+  where
+    of : (o : Option Rights) → right_by e (record q { bytes = [] }) t o ≡ right_by e q t o
+    of None = refl
+    of (Some right) = refl
+
+-- ---- lists of pages
+module _ (hides : ℕ → Bool) where
+  pub blanked-twice : (ps : List (Option Page)) → blanked hides (blanked hides ps) ≡ blanked hides ps
+  blanked-twice ps = map_at-twice (λ p page. blank_where (hides p) page) (λ p page. blank_where (hides p) page) ps ∙ map_at-same _ _ ps (λ p page. blank-twice (hides p) page)
+
+  pub at-blanked : (ps : List (Option Page)) (p : ℕ) → get_or (blanked hides ps) p None ≡ blank_where (hides p) (get_or ps p None)
+  at-blanked ps p = at-map_at (λ q page. blank_where (hides q) page) ps p (λ q. blank-none (hides q))
+
+  -- each page changed by its number
+  pub each-blind : (f : ℕ → Option Page → Option Page) → ((p : ℕ) → IsBlind (f p)) → (ps : List (Option Page)) → blanked hides (map_at f (blanked hides ps)) ≡ blanked hides (map_at f ps)
+  each-blind f blind ps =
+      map_at-twice (λ p page. blank_where (hides p) page) f (blanked hides ps)
+      ∙ map_at-twice (λ p page. blank_where (hides p) (f p page)) (λ p page. blank_where (hides p) page) ps
+      ∙ map_at-same _ _ ps (λ p page. blind p (hides p) page)
+      ∙ sym (map_at-twice (λ p page. blank_where (hides p) page) f ps)
+
+  -- one page changed
+  pub one-blind : (p : ℕ) (f : Option Page → Option Page) → IsBlind f → (ps : List (Option Page))
+      → blanked hides (set (blanked hides ps) p (f (get_or (blanked hides ps) p None))) ≡ blanked hides (set ps p (f (get_or ps p None)))
+  one-blind p f blind ps =
+      map_at-set (λ q page. blank_where (hides q) page) (blanked hides ps) p (f (get_or (blanked hides ps) p None))
+      ∙ (λ i. set (blanked-twice ps i) p (blank_where (hides p) (f (at-blanked ps p i))))
+      ∙ ap (set (blanked hides ps) p) (blind (hides p) (get_or ps p None))
+      ∙ sym (map_at-set (λ q page. blank_where (hides q) page) ps p (f (get_or ps p None)))
+
+  pub written-blind : (p at : ℕ) (bytes : List ℕ) (ps : List (Option Page)) → blanked hides (written_pages (blanked hides ps) p at bytes) ≡ blanked hides (written_pages ps p at bytes)
+  written-blind p at bytes ps = one-blind p (page_with at bytes) (blind-written at bytes) ps
+
+  pub filled-blind : (bytes : List ℕ) (o : Option Buffers) (ps : List (Option Page)) → blanked hides (filled_pages (blanked hides ps) bytes o) ≡ blanked hides (filled_pages ps bytes o)
+  filled-blind bytes None ps = blanked-twice ps
+  filled-blind bytes (Some b) ps = written-blind b.rx 0 bytes ps
+
+  pub changed-blind : (s : State) (ranges : List Range) (f : Option Page → Option Page) → IsBlind f → blanked hides (changed_pages (blank hides s) ranges f) ≡ blanked hides (changed_pages s ranges f)
+  changed-blind s ranges f blind = each-blind (λ p page. cond (names s ranges p) (f page) page) (λ p. blind-where (names s ranges p) f blind) s.pages
+
+  pub zeroed-blind : (asked : Bool) (s : State) (ranges : List Range) → blanked hides (zeroed_if asked (blank hides s) ranges).pages ≡ blanked hides (zeroed_if asked s ranges).pages
+  zeroed-blind true s ranges = changed-blind s ranges zeroed_page blind-zeroed
+  zeroed-blind false s ranges = blanked-twice s.pages
+
+-- ---- a state, some pages of which are blank
+module _ (s : State) (hides : ℕ → Bool) where
+  abbrev b : State
+  b = blank hides s
+
+  page-b : (p : ℕ) → page_at b p ≡ blank_where (hides p) (page_at s p)
+  page-b p = at-blanked hides s.pages p
+
+  pub access-b : (e p : ℕ) → access b e p ≡ access s e p
+  access-b e p = ap (λ page. right_of e page (transaction_at s p)) (page-b p) ∙ right-blank e (hides p) (page_at s p) (transaction_at s p)
+
+  size-b : length b.pages ≡ length s.pages
+  size-b = length-map_at (λ p page. blank_where (hides p) page) s.pages
+
+  abbrev candidate : Bool → Option Page → Option Candidate
+  candidate named page = option_map (λ (q : Page). let c : Candidate = record { owner = q.owner; base = q.base; named = named } in c) page
+
+  candidate-blank : (named c : Bool) (page : Option Page) → candidate named (blank_where c page) ≡ candidate named page
+  candidate-blank named false page = refl
+  candidate-blank named true None = refl
+  candidate-blank named true (Some q) = refl
+
+  candidates-b : candidates b ≡ candidates s
+  candidates-b =
+      λ i. record {
+        base = s.ram_base;
+        count = size-b i;
+        page = fun_ext {f = candidate_at b} {g = candidate_at s} (λ p. ap (candidate (is_some (handle_at s p))) (page-b p) ∙ candidate-blank (is_some (handle_at s p)) (hides p) (page_at s p)) i;
+      }
+
+  base-blank : (c : Bool) (page : Option Page) → option_map (λ (q : Page). q.base) (blank_where c page) ≡ option_map (λ (q : Page). q.base) page
+  base-blank false page = refl
+  base-blank true None = refl
+  base-blank true (Some q) = refl
+
+  bases-b : bases_of b ≡ bases_of s
+  bases-b =
+      λ i. record {
+        ram_base = s.ram_base;
+        pages = size-b i;
+        right = fun_ext {f = base_of b} {g = base_of s} (λ p. ap (option_map (λ (q : Page). q.base)) (page-b p) ∙ base-blank (hides p) (page_at s p)) i;
+      }
+
+  scene-b : scene_of b ≡ scene_of s
+  scene-b = λ i. record { endpoints = length s.parties; ram = candidates-b i; bases = bases-b i; buffers = s.buffers; offers = offers_of s }
+
+  -- ---- what the runner does, which can read all other pages to which it has access
+  module _ (steady : IsSteady s) (shows : (p : ℕ) → is_some (access s s.runner p) ≡ true → hides p ≡ false) where
+    bytes-shown : (p : ℕ) → is_some (access s s.runner p) ≡ true → option_map_or (λ (q : Page). q.bytes) (page_at b p) [] ≡ option_map_or (λ (q : Page). q.bytes) (page_at s p) []
+    bytes-shown p some = ap (λ page. option_map_or (λ (q : Page). q.bytes) page []) (page-b p ∙ ap (λ c. blank_where c (page_at s p)) (shows p some))
+
+    -- a page that the runner has alone
+    bytes-alone : (p : ℕ) → IsAlone s s.runner p → option_map_or (λ (q : Page). q.bytes) (page_at b p) [] ≡ option_map_or (λ (q : Page). q.bytes) (page_at s p) []
+    bytes-alone p alone = of (page_at s p) refl
+      where
+        of : (page : Option Page) → page_at s p ≡ page → option_map_or (λ (q : Page). q.bytes) (page_at b p) [] ≡ option_map_or (λ (q : Page). q.bytes) (page_at s p) []
+        of None at = ap (λ page. option_map_or (λ (q : Page). q.bytes) page []) (page-b p ∙ ap (blank_where (hides p)) at ∙ blank-none (hides p) ∙ sym at)
+        of (Some q) at =
+            let mine : (q.owner == s.runner) ≡ true = eq-eqb q.owner s.runner (sym (ap (λ o. option_map_or (λ (x : Page). x.owner) o 0x8000) at) ∙ alone.owner) in
+            bytes-shown p
+            (ap is_some ((λ i. right_of s.runner (at i) (option_and_then (transaction_of s) (alone.unnamed i))) ∙ ap (λ c. cond c (Some q.base) None) mine))
+
+    tx-b : tx_bytes b s.runner ≡ tx_bytes s s.runner
+    tx-b = of (buffers_of s s.runner) refl
+      where
+        of : (o : Option Buffers) → buffers_of s s.runner ≡ o
+            → option_map_or (λ (x : Buffers). option_map_or (λ (q : Page). q.bytes) (page_at b x.tx) []) o [] ≡ option_map_or (λ (x : Buffers). option_map_or (λ (q : Page). q.bytes) (page_at s x.tx) []) o []
+        of None is = refl
+        of (Some x) is = bytes-alone x.tx (steady.buffers s.runner x steady.runner is).tx
+
+    -- two services that differ in such bytes at most
+    record Alike (c d : Service) : Type 0 where
+      pub guards : first_failure c.guards ≡ first_failure d.guards
+      pub reply : c.reply ≡ d.reply
+      pub state : blank hides c.state ≡ blank hides d.state
+
+    pub repaged-b : (t : State) (ps qs : List (Option Page)) → blanked hides ps ≡ blanked hides qs → blank hides (record t { pages = ps }) ≡ blank hides (record t { pages = qs })
+    repaged-b t ps qs same = λ i. record t { pages = same i }
+
+    sent-b : (kind : Kind) (o : Option SendRecord) → blank hides (memory_sent b kind o) ≡ blank hides (memory_sent s kind o)
+    sent-b kind None = λ i. record s { pages = blanked-twice hides s.pages i }
+    sent-b kind (Some r) = λ i. record (memory_sent s kind (Some r)) { pages = zeroed-blind hides r.zero s r.ranges i }
+
+    send-b : (kind : Kind) (x : Transfer) → Alike (memory_send b kind x) (memory_send s kind x)
+    send-b kind x =
+        record {
+          guards = λ i. first_failure (send_guards (scene-b i) s.runner x (send_of kind (take x.total (tx-b i))));
+          reply = refl;
+          state = ap (λ tx. blank hides (memory_sent b kind (send_of kind (take x.total tx)))) tx-b ∙ sent-b kind (send_of kind (take x.total (tx_bytes s s.runner)));
+        }
+
+    retrieved-b : (o : Option RetrieveDesc) → blank hides (retrieved b o) ≡ blank hides (retrieved s o)
+    retrieved-b None = λ i. record s { pages = blanked-twice hides s.pages i }
+    retrieved-b (Some d) = from (transaction_of s d.handle)
+      where
+        given : (kind : Kind) (ranges : List Range) (e : ℕ) (right : Rights) (bytes : List ℕ)
+            → blanked hides (filled_pages (cond (is_donate kind) (changed_pages b ranges (donated_page e right)) b.pages) bytes (buffers_of s e))
+            ≡ blanked hides (filled_pages (cond (is_donate kind) (changed_pages s ranges (donated_page e right)) s.pages) bytes (buffers_of s e))
+        given kind ranges e right bytes =
+            sym (filled-blind hides bytes (buffers_of s e) (cond (is_donate kind) (changed_pages b ranges (donated_page e right)) b.pages))
+            ∙ ap (λ ps. blanked hides (filled_pages ps bytes (buffers_of s e))) (by (is_donate kind))
+            ∙ filled-blind hides bytes (buffers_of s e) (cond (is_donate kind) (changed_pages s ranges (donated_page e right)) s.pages)
+          where
+            by : (donated : Bool) → blanked hides (cond donated (changed_pages b ranges (donated_page e right)) b.pages) ≡ blanked hides (cond donated (changed_pages s ranges (donated_page e right)) s.pages)
+            by true = changed-blind hides s ranges (donated_page e right) (blind-donated e right)
+            by false = blanked-twice hides s.pages
+
+        from : (o : Option Transaction) → blank hides (retrieved_from b d o) ≡ blank hides (retrieved_from s d o)
+        from None = λ i. record s { pages = blanked-twice hides s.pages i }
+        from (Some t) =
+            ap (λ bases. blank hides (retrieved_right b d.handle t s.runner (right_for bases t s.runner d))) bases-b
+            ∙ (let right = right_for (bases_of s) t s.runner d in
+            λ i. record (retrieved_right s d.handle t s.runner right) { pages = given t.kind t.ranges s.runner right (response_bytes (response_to d.handle t s.runner right)) i })
+
+    retrieve-b : (x : Transfer) → Alike (memory_retrieve b x) (memory_retrieve s x)
+    retrieve-b x =
+        record {
+          guards = λ i. first_failure (retrieve_guards (scene-b i) s.runner x (retrieve_of s.runner (take x.total (tx-b i))));
+          reply = λ i. Retrieved (response_length s (retrieve_of s.runner (take x.total (tx-b i))));
+          state = ap (λ tx. blank hides (retrieved b (retrieve_of s.runner (take x.total tx)))) tx-b ∙ retrieved-b (retrieve_of s.runner (take x.total (tx_bytes s s.runner)));
+        }
+
+    relinquished-b : (o : Option RelinquishDesc) → blank hides (relinquished b o) ≡ blank hides (relinquished s o)
+    relinquished-b None = λ i. record s { pages = blanked-twice hides s.pages i }
+    relinquished-b (Some d) = from (transaction_of s d.handle)
+      where
+        from : (o : Option Transaction) → blank hides (relinquished_from b d o) ≡ blank hides (relinquished_from s d o)
+        from None = λ i. record s { pages = blanked-twice hides s.pages i }
+        from (Some t) = λ i. record (relinquished_from s d (Some t)) { pages = zeroed-blind hides d.zero s t.ranges i }
+
+    relinquish-b : Alike (memory_relinquish b) (memory_relinquish s)
+    relinquish-b =
+        record {
+          guards = λ i. first_failure (relinquish_guards (buffers_of s s.runner) (offers_of s) s.runner (relinquish_of (tx-b i)));
+          reply = refl;
+          state = ap (λ tx. blank hides (relinquished b (relinquish_of tx))) tx-b ∙ relinquished-b (relinquish_of (tx_bytes s s.runner));
+        }
+
+    reclaim-b : (low high flags : ℕ) → Alike (memory_reclaim b low high flags) (memory_reclaim s low high flags)
+    reclaim-b low high flags =
+        record {
+          guards = λ i. first_failure (reclaim_guards (bases-b i) s.runner flags (transaction_of s (handle_of high low)));
+          reply = refl;
+          state = λ i. record (memory_reclaim s low high flags).state { pages = zeroed-blind hides (is_set 0 flags) s (named_ranges (transaction_of s (handle_of high low))) i };
+        }
+
+    send2-b : Alike (msg_send2 b) (msg_send2 s)
+    send2-b =
+        record {
+          guards = λ i. first_failure (send2_guards s.parties s.buffers s.runner (header_in (tx-b i)));
+          reply = refl;
+          state =
+              ap (λ tx. blank hides (delivered b (header_in tx).receiver (message_in tx))) tx-b
+              ∙ (λ i. record (msg_send2 s).state { pages = filled-blind hides (message_in (tx_bytes s s.runner)) (buffers_of s (header_in (tx_bytes s s.runner)).receiver) s.pages i });
+        }
+
+    service-b : (call : calls.Call) → Alike (service b call) (service s call)
+    service-b (RxtxMap tx rx pages) =
+        record {
+          guards = λ i. first_failure (map_guards s.runner (buffers_of s s.runner) (candidates-b i) tx rx pages);
+          reply = refl;
+          state = λ i. record (service s (RxtxMap tx rx pages)).state { pages = blanked-twice hides s.pages i };
+        }
+    service-b (PartitionInfoGet uuid flags) =
+        record {
+          guards = refl;
+          reply = refl;
+          state = elim (is_count_alone flags) as (λ c. blank hides (cond c b (filled b s.runner (info_bytes s.parties (uuid_bytes uuid)))) ≡ blank hides (cond c s (filled s s.runner (info_bytes s.parties (uuid_bytes uuid))))) [
+            | true ↦ λ i. record s { pages = blanked-twice hides s.pages i }
+            | false ↦ λ i. record (filled s s.runner (info_bytes s.parties (uuid_bytes uuid))) { pages = filled-blind hides (info_bytes s.parties (uuid_bytes uuid)) (buffers_of s s.runner) s.pages i }
+          ];
+        }
+    service-b (MemDonate total fragment address pages) = send-b Donate (transfer total fragment address pages)
+    service-b (MemLend total fragment address pages) = send-b Lend (transfer total fragment address pages)
+    service-b (MemShare total fragment address pages) = send-b Share (transfer total fragment address pages)
+    service-b (MemRetrieve total fragment address pages) = retrieve-b (transfer total fragment address pages)
+    service-b MemRelinquish = relinquish-b
+    service-b (MemReclaim low high flags) = reclaim-b low high flags
+    service-b MsgSend2 = send2-b
+    service-b call = record { guards = refl; reply = refl; state = λ i. record (service s call).state { pages = blanked-twice hides s.pages i } }
+
+    -- one outcome, and states that differ in such bytes at most
+    pub record Steps (c d : Stepped) : Type 0 where
+      pub outcome : c.outcome ≡ d.outcome
+      pub state : blank hides c.state ≡ blank hides d.state
+
+    twice : blank hides b ≡ blank hides s
+    twice = λ i. record s { pages = blanked-twice hides s.pages i }
+
+    served-b : (c d : Service) → Alike c d → Steps (served b c) (served s d)
+    served-b c d alike = subst (λ g. Steps (answered g b c.state c.reply) (served s d)) (sym alike.guards) (of (first_failure d.guards))
+      where
+        of : (g : Option ErrorCode) → Steps (answered g b c.state c.reply) (answered g s d.state d.reply)
+        of None = record { outcome = λ i. Regs (record { 0 = (alike.state i).runner }) (encode (alike.reply i)); state = alike.state }
+        of (Some code) = record { outcome = refl; state = twice }
+
+    access_at-b : (address : ℕ) → access_at b s.runner address ≡ access_at s s.runner address
+    access_at-b address = elim (page_of_address s address) as (λ o. option_and_then (access b s.runner) o ≡ option_and_then (access s s.runner) o) [ None ↦ refl | Some p ↦ access-b s.runner p ]
+
+    number-b : (address n : ℕ) → is_some (access_at s s.runner address) ≡ true → number_at b address n ≡ number_at s address n
+    number-b address n some = ap (λ bytes. number_in bytes (address % 4096) n) (bytes-shown ((address - s.ram_base) / 4096) (reached some))
+      where
+        reached : is_some (access_at s s.runner address) ≡ true → is_some (access s s.runner ((address - s.ram_base) / 4096)) ≡ true
+        reached =
+            elim (nat_le s.ram_base address && nat_lt address (2 ^ 32)) as (λ c. is_some (option_and_then (access s s.runner) (cond c (Some ((address - s.ram_base) / 4096)) None)) ≡ true → is_some (access s s.runner ((address - s.ram_base) / 4096)) ≡ true) [
+              | true ↦ λ is. is
+              | false ↦ λ is. absurd (false≢true is)
+            ]
+
+    accessed-b : (f g : Option FaultKind) (new next : State) (told said : Outcome) → f ≡ g → (g ≡ None → told ≡ said) → blank hides new ≡ blank hides next
+        → Steps (accessed f b new told) (accessed g s next said)
+    accessed-b f g new next told said same outcome states = subst (λ h. Steps (accessed h b new told) (accessed g s next said)) (sym same) (of g outcome)
+      where
+        of : (h : Option FaultKind) → (h ≡ None → told ≡ said) → Steps (accessed h b new told) (accessed h s next said)
+        of None outcome = record { outcome = outcome refl; state = states }
+        of (Some fault) outcome = record { outcome = refl; state = twice }
+
+    pub step-b : (op : Op) → Steps (step b op) (step s op)
+    step-b (Call x) = served-b (service b (decode x)) (service s (decode x)) (service-b (decode x))
+    step-b (Load address size) =
+        accessed-b (read_fault b address (size_of size)) (read_fault s address (size_of size)) b s (Data (number_at b address (size_of size))) (Data (number_at s address (size_of size)))
+        (ap (λ right. fault_of (address % size_of size == 0) right (λ r. true)) (access_at-b address))
+        (λ none. ap Data (number-b address (size_of size) (fault-none (address % size_of size == 0) (access_at s s.runner address) (λ r. true) none)))
+        twice
+    step-b (Store address size value) =
+        accessed-b (store_fault b address (size_of size)) (store_fault s address (size_of size)) (stored b address (little_bytes (size_of size) value)) (stored s address (little_bytes (size_of size) value)) Done Done
+        (ap (λ right. fault_of (address % size_of size == 0) right may_store) (access_at-b address))
+        (λ none. refl)
+        (λ i. record s { pages = written-blind hides ((address - s.ram_base) / 4096) (address % 4096) (little_bytes (size_of size) value) s.pages i })
+    step-b (Fetch address) =
+        accessed-b (fetch_fault b address) (fetch_fault s address) b s (Data (number_at b address 4)) (Data (number_at s address 4))
+        (ap (λ right. fault_of (address % 4 == 0) right may_fetch) (access_at-b address))
+        (λ none. ap Data (number-b address 4 (fault-none (address % 4 == 0) (access_at s s.runner address) may_fetch none)))
+        twice

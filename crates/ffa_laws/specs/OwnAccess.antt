@@ -1,0 +1,41 @@
+-- What an endpoint may do with a page changes by its own calls alone.
+use Rattle.std.specs.Prelude.{◌≡◌, ◌≢◌, ℕ, Bool, true, false, Some}
+use Rattle.ffa_model.specs.declared.operation.Op.{Op}
+use Rattle.ffa_model.specs.declared.operation.Op.TheVariants.{Call, Load, Store, Fetch}
+use Rattle.ffa_model.specs.declared.call.Call as calls
+use Rattle.ffa_model.specs.declared.call.Call.TheVariants.{MemDonate, MemLend, MemRetrieve, MemRelinquish, MemReclaim}
+use Rattle.ffa_model.specs.Rights.{is_within}
+use Rattle.ffa_model.specs.State.{State, Transaction, transaction_of}
+use Rattle.ffa_model.specs.Access.{access, is_receiver}
+use Rattle.ffa_model.specs.Registers.{decode}
+use Rattle.ffa_model.specs.Step.{step}
+
+-- the calls by which a caller may get a right to a page, and those by which it may lose one
+abbrev pub gives_access : calls.Call → Bool
+gives_access (MemRetrieve total fragment address pages) = true
+gives_access (MemReclaim low high flags) = true
+gives_access call = false
+
+abbrev pub takes_access : calls.Call → Bool
+takes_access (MemDonate total fragment address pages) = true
+takes_access (MemLend total fragment address pages) = true
+takes_access MemRelinquish = true
+takes_access call = false
+
+-- whether an operation is a call of which a test holds
+abbrev pub is_call : (calls.Call → Bool) → Op → Bool
+is_call test (Call x) = test (decode x)
+is_call test (Load addr size) = false
+is_call test (Store addr size value) = false
+is_call test (Fetch addr) = false
+
+-- nobody is offered what it has sent itself
+abbrev pub AreApart : State → Type 0
+AreApart s = (h : ℕ) (t : Transaction) → transaction_of s h ≡ Some t → is_receiver t.sender t ≡ false
+
+-- One operation: nobody's access changes but the runner's. The runner's grows only by FFA_MEM_RETRIEVE_REQ and
+-- FFA_MEM_RECLAIM, and shrinks only by FFA_MEM_DONATE, FFA_MEM_LEND and FFA_MEM_RELINQUISH.
+pub record OwnAccess (s : State) (op : Op) : Type 0 where
+  pub others : (e p : ℕ) → s.runner ≢ e → access (step s op).state e p ≡ access s e p
+  pub grows : (p : ℕ) → is_call gives_access op ≡ false → is_within (access (step s op).state s.runner p) (access s s.runner p) ≡ true
+  pub shrinks : (p : ℕ) → is_call takes_access op ≡ false → is_within (access s s.runner p) (access (step s op).state s.runner p) ≡ true

@@ -1,0 +1,81 @@
+-- What nobody is told: the calls that may give each event, and that no event is told in vain.
+use Rattle.std.specs.Prelude.{◌≡◌, ◌≢◌, ℕ, Bool, true, false, List, [], ◌∷◌}
+use Rattle.std.specs.List.{list_all}
+use Rattle.ffa_model.specs.declared.operation.Op.{Op}
+use Rattle.ffa_model.specs.declared.operation.Op.TheVariants.{Call, Store}
+use Rattle.ffa_model.specs.declared.call.Call as calls
+use Rattle.ffa_model.specs.declared.call.Call.TheVariants.{RxRelease, RxtxMap, RxtxUnmap, PartitionInfoGet, MsgWait, Yield, Run, DirectRequest, DirectResponse, MemDonate, MemLend, MemShare, MemRetrieve, MemRelinquish, MemReclaim, BitmapDestroy, NotificationBind, NotificationUnbind, NotificationSet, MsgSend2}
+use Rattle.ffa_model.specs.State.{State, is_known}
+use Rattle.ffa_model.specs.Registers.{decode}
+use Rattle.ffa_model.specs.Step.{step}
+use Rattle.ffa_laws.specs.View.{view}
+use Rattle.ffa_laws.specs.Events.{Event, Wrote, Message, Filled, Pending, Bound, Unbound, Opened, Held, Zeroed, Closed, Public, apply, events, public_part}
+use Rattle.ffa_laws.specs.OwnAccess.{is_call}
+
+-- the calls that may change the public part
+abbrev pub may_change_public : calls.Call → Bool
+may_change_public RxRelease = true
+may_change_public (RxtxMap tx rx pages) = true
+may_change_public (RxtxUnmap endpoint) = true
+may_change_public (PartitionInfoGet uuid flags) = true
+may_change_public MsgWait = true
+may_change_public Yield = true
+may_change_public (Run target) = true
+may_change_public (DirectRequest function word flags payload) = true
+may_change_public (DirectResponse function word flags payload) = true
+may_change_public (MemRetrieve total fragment address pages) = true
+may_change_public MsgSend2 = true
+may_change_public call = false
+
+-- the events that a call may give
+abbrev pub may_tell : calls.Call → Event → Bool
+may_tell call (Public values) = may_change_public call
+may_tell MsgWait (Message x) = true
+may_tell Yield (Message x) = true
+may_tell (Run target) (Message x) = true
+may_tell (DirectRequest function word flags payload) (Message x) = true
+may_tell (DirectResponse function word flags payload) (Message x) = true
+may_tell MsgSend2 (Filled bytes) = true
+may_tell MsgSend2 (Pending class bits) = true
+may_tell (NotificationSet word flags low high) (Pending class bits) = true
+may_tell (NotificationBind word flags low high) (Bound receiver class bit) = true
+may_tell (NotificationUnbind word flags low high) (Unbound receiver class bit) = true
+may_tell (BitmapDestroy endpoint) (Unbound receiver class bit) = true
+may_tell (MemDonate total fragment address pages) (Opened h t named) = true
+may_tell (MemLend total fragment address pages) (Opened h t named) = true
+may_tell (MemShare total fragment address pages) (Opened h t named) = true
+may_tell (MemRetrieve total fragment address pages) (Held h holder right) = true
+may_tell (MemRetrieve total fragment address pages) (Closed h) = true
+may_tell MemRelinquish (Held h holder right) = true
+may_tell MemRelinquish (Zeroed h) = true
+may_tell (MemReclaim low high flags) (Closed h) = true
+may_tell call event = false
+
+-- and an operation: a store may give a write, and a load and a fetch nothing
+abbrev pub may_be_told : Op → Event → Bool
+may_be_told (Call x) event = may_tell (decode x) event
+may_be_told (Store addr size value) (Wrote address bytes) = true
+may_be_told op event = false
+
+-- A message changes no view. Bytes and pending bits are told as they are written, also where they repeat what stands there.
+-- All other events are told only where they change the view.
+abbrev pub may_repeat : Event → Bool
+may_repeat (Wrote address bytes) = true
+may_repeat (Message x) = true
+may_repeat (Filled bytes) = true
+may_repeat (Pending class bits) = true
+may_repeat (Zeroed h) = true
+may_repeat event = false
+
+-- events that are told to e one after another, from a view on: each that may not repeat changes the view that it meets
+abbrev pub AreNews : ℕ → State → List Event → Type 0
+AreNews e v [] = Unit {0}
+AreNews e v (event ∷ later) = (may_repeat event ≡ false → apply e v event ≢ v) × AreNews e (apply e v event) later
+
+pub record Silence (s : State) (op : Op) : Type 0 where
+  -- an operation gives only the events of its row
+  pub rows : (e : ℕ) → list_all (may_be_told op) (events e s op) ≡ true
+  -- all but these calls leave the public part as it was
+  pub public : is_call may_change_public op ≡ false → public_part (step s op).state ≡ public_part s
+  -- what another is told changes its view
+  pub news : (e : ℕ) → is_known s e ≡ true → s.runner ≢ e → AreNews e (view e s) (events e s op)
