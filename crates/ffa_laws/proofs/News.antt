@@ -46,6 +46,7 @@ use Rattle.ffa_laws.specs.Silence.{AreNews, Silence, may_repeat}
 use Rattle.ffa_laws.proofs.Changes.{apply_all-append}
 use Rattle.ffa_laws.proofs.Closed.{get-remove}
 use Rattle.ffa_laws.proofs.Laws.{other-call}
+use Rattle.ffa_laws.proofs.Meets.{are-met}
 use Rattle.ffa_laws.proofs.Opened.{get-insert}
 use Rattle.ffa_laws.proofs.ReclaimLaws.{seen-whole}
 use Rattle.ffa_laws.proofs.Rows.{all-weaker, is_public, passed-row, public-step, row-of, rows, same-as-itself, told_row}
@@ -370,4 +371,5 @@ silence s op steady =
       rows = λ e. rows e s op;
       public = public-step s op;
       news = λ e known other. news-op e s steady known other op;
+      meets = λ sound e known other. are-met e s sound known op;
     }
