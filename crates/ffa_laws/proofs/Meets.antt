@@ -1,18 +1,14 @@
 -- Each event that is told is about something that stands in the view which it meets.
-use Rattle.std.proofs.Common.{◌≡◌, ◌≢◌, ◌∙◌, ℕ, zero, suc, length, ◌+◌, ◌*◌, ◌-◌, ◌/◌, ◌%◌, ◌^◌, ◌<◌, Bool, true, false, cond, List, [], ◌∷◌, ◌++◌, Option, Some, None, is_some, refl, sym, ap, subst, arith, inl, inr}
-use Rattle.std.specs.Prelude.{◌==◌, ◌&&◌, ◌||◌, filter, find, nat_le, nat_lt, not, slice_index, if◌then◌else◌}
+use Rattle.std.proofs.Common.{◌≡◌, ◌∙◌, ℕ, zero, suc, length, ◌+◌, ◌-◌, ◌/◌, ◌%◌, ◌^◌, ◌<◌, Bool, true, false, cond, List, [], ◌∷◌, ◌++◌, Option, Some, None, is_some, refl, sym, ap, arith, inl, inr}
+use Rattle.std.specs.Prelude.{◌==◌, ◌&&◌, filter, find, nat_le, nat_lt, not, slice_index, if◌then◌else◌}
 use Rattle.std.specs.List.{list_all}
 use Rattle.std.specs.Option.{option_and_then, option_map}
 use Rattle.byteorder.specs.Endian.{little_bytes}
 use Rattle.std.proofs.lemmas.Bool.{and_parts, cases_Bool, eq-eqb, eqb-true, false≢true, true≢false}
-use Rattle.std.proofs.lemmas.Bool.Decides.{nat_tests}
 use Rattle.ffa_model.specs.declared.descriptor.RelinquishDesc.{RelinquishDesc}
-use Rattle.ffa_model.specs.declared.operation.ErrorCode.{ErrorCode}
 use Rattle.ffa_model.specs.declared.operation.ErrorCode.TheVariants.{InvalidParameters, Denied, Busy}
-use Rattle.ffa_model.specs.declared.operation.FaultKind.{FaultKind}
 use Rattle.ffa_model.specs.declared.operation.Op.{Op}
 use Rattle.ffa_model.specs.declared.operation.Op.TheVariants.{Call, Load, Store, Fetch}
-use Rattle.ffa_model.specs.declared.rights.Rights.{Rights}
 use Rattle.ffa_model.specs.declared.call.Call as calls
 use Rattle.ffa_model.specs.declared.call.Call.TheVariants.{MemRelinquish, NotificationSet, MsgSend2}
 use Rattle.ffa_model.specs.Rights.{may_store}
@@ -23,8 +19,8 @@ use Rattle.ffa_model.specs.Access.{access, is_from, right_of, transaction_at}
 use Rattle.ffa_model.specs.Bits.{bits_of, is_set, low_half, word_of_halves, word_where}
 use Rattle.ffa_model.specs.Calls.{first_failure}
 use Rattle.ffa_model.specs.Lists.{listed}
-use Rattle.ffa_model.specs.Memory.{access_at, page_of_address, size_of, store_fault}
-use Rattle.ffa_model.specs.MemoryReturn.{memory_relinquish, relinquish_read}
+use Rattle.ffa_model.specs.Memory.{access_at, size_of, store_fault}
+use Rattle.ffa_model.specs.MemoryReturn.{relinquish_read}
 use Rattle.ffa_model.specs.Messages.{header_in, message_in, msg_send2, send2_guards, tx_bytes}
 use Rattle.ffa_model.specs.Notifications.{binding, class_of, has_bitmaps_in, is_bound, manager_class, message_bits, notification_set, notifications_of, set_guards}
 use Rattle.ffa_model.specs.Registers.{Function, called, decode, functions, is_form_of, low}
@@ -41,7 +37,7 @@ use Rattle.ffa_laws.proofs.Opened.{get-insert}
 use Rattle.ffa_laws.proofs.Raised.{own-bitmaps}
 use Rattle.ffa_laws.proofs.Rows.{all-weaker, call-rows}
 use Rattle.ffa_laws.proofs.SoundSteady.{sound-steady}
-use Rattle.ffa_laws.proofs.Views.{access-near, shown, view-page, view-transaction}
+use Rattle.ffa_laws.proofs.Views.{shown, view-page, view-transaction}
 
 -- ---- lists of events
 met-append : (e : ℕ) (v : State) (xs ys : List Event) → AreMet e v xs → AreMet e (apply_all e v xs) ys → AreMet e v (xs ++ ys)

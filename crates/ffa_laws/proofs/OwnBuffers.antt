@@ -14,7 +14,7 @@ use Rattle.ffa_model.specs.declared.call.Call as calls
 use Rattle.ffa_model.specs.declared.call.Call.TheVariants.{PartitionInfoGet, MsgWait, RxRelease, RxtxMap, RxtxUnmap, MemDonate, MemLend, MemShare, MemRetrieve, MemRelinquish, MsgSend2}
 use Rattle.ffa_model.specs.SendDescriptor.{SendRecord}
 use Rattle.ffa_model.specs.Identifiers.{place}
-use Rattle.ffa_model.specs.State.{State, Buffers, buffers_of, is_known, transaction_of}
+use Rattle.ffa_model.specs.State.{State, Buffers, is_known, transaction_of}
 use Rattle.ffa_model.specs.Buffers.{buffers_with, buffers_with_rx, filled, new_buffers}
 use Rattle.ffa_model.specs.Memory.{fetch_fault, number_at, read_fault, size_of, store_fault, stored}
 use Rattle.ffa_model.specs.MemoryRetrieve.{retrieve_read, retrieved, retrieved_from}

@@ -8,14 +8,14 @@ use Rattle.ffa_model.specs.Step.{state_after}
 use Rattle.ffa_laws.specs.Events.{Filled, Item, Own, Told, items}
 use Rattle.ffa_laws.specs.Isolation.{is_rx}
 
--- whether an item of an endpoint leaves a page that is its RX, or isn't: all but the endpoint's own operations and, of RX,
--- messages into it
+-- Whether an item leaves a page that its endpoint has alone, which is its RX or isn't: an own operation may change it,
+-- and of what is told a message changes RX alone.
 abbrev pub is_quiet : Bool → Item → Bool
 is_quiet rx (Own op) = false
 is_quiet rx (Told (Filled bytes)) = not rx
 is_quiet rx (Told event) = true
 
--- whether e doesn't run, and a message fills its RX at most where that isn't page p: while e doesn't run, RX stays where it is
+-- whether e doesn't run and, if page p is its RX, no message fills it; while e doesn't run, RX stays in its page
 abbrev pub are_quiet : ℕ → ℕ → State → List Op → Bool
 are_quiet e p s ops = list_all (is_quiet (is_rx s e p)) (items e s ops)
 

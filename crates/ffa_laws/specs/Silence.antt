@@ -96,6 +96,6 @@ pub record Silence (s : State) (op : Op) : Type 0 where
   pub public : is_call may_change_public op ≡ false → public_part (step s op).state ≡ public_part s
   -- what another is told changes its view, but for events that may repeat
   pub news : (e : ℕ) → is_known s e ≡ true → s.runner ≢ e → AreNews e (view e s) (events e s op)
-  -- and what may repeat, but for a message, is about something in its view; in a sound state, where a bit is bound only to
-  -- whose receiver has bitmaps
+  -- and what may repeat, but for a message, is about something in its view; in a sound state, where a bit is bound only
+  -- to whose receiver has bitmaps
   pub meets : IsSoundState s → (e : ℕ) → is_known s e ≡ true → s.runner ≢ e → AreMet e (view e s) (events e s op)

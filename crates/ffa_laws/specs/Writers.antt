@@ -26,8 +26,9 @@ abbrev pub is_reclaimed_by : Op → State → ℕ → Bool
 is_reclaimed_by op s p = is_call is_reclaim op && may_store (access (step s op).state s.runner p)
 
 -- A page keeps its bytes over an operation where the runner may not write to it before, but for a page that the runner
--- reclaims and may write to after, and for an indirect message into its receiver's RX. So zeros, information and responses go
--- only into pages to which the runner may write already, and the zeros of a reclaim into pages that it then may write to.
+-- reclaims and may write to after, and for an indirect message into its receiver's RX. So zeros, information and
+-- responses go only into pages to which the runner may write already, and the zeros of a reclaim into pages that it
+-- then may write to.
 abbrev pub OnlyWriters : State → Op → Type 0
 OnlyWriters s op =
     (p : ℕ) → may_store (access s s.runner p) ≡ false → is_reclaimed_by op s p ≡ false → is_filled_by op s p ≡ false
