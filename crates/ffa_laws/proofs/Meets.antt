@@ -28,8 +28,8 @@ use Rattle.ffa_model.specs.Step.{serve, service}
 use Rattle.ffa_model.proofs.Bitmaps.{word_where-same, word_where-set}
 use Rattle.ffa_model.proofs.Guards.{guard-passes}
 use Rattle.ffa_laws.specs.Steady.{IsSteady}
-use Rattle.ffa_laws.specs.View.{involves, is_near, kept, seen_by, view}
-use Rattle.ffa_laws.specs.Events.{Event, Wrote, Filled, Pending, Held, Zeroed, apply, apply_all, call_events, delivers, events, is_same_public, public_change, public_part, Public, releases, sets, told_by, where_passed, where_true, with_holder, writes}
+use Rattle.ffa_laws.specs.View.{involves, kept, seen_by, view}
+use Rattle.ffa_laws.specs.Events.{Event, Wrote, Filled, Pending, Held, Zeroed, apply, apply_all, call_events, delivers, events, public_change, public_part, Public, releases, sets, told_by, where_passed, where_true, with_holder, writes}
 use Rattle.ffa_laws.specs.Silence.{AreMet, is_met, may_tell}
 use Rattle.ffa_laws.proofs.BufferLaws.{own-buffers}
 use Rattle.ffa_laws.proofs.MemoryLaws.{fault-none}
@@ -149,7 +149,7 @@ module _ (e : ℕ) (s : State) (sound : IsSoundState s) (known : is_known s e �
 
   met-stored : (address n : ℕ) (bytes : List ℕ) → store_fault s address n ≡ None → AreMet e v (writes e s address bytes)
   met-stored address n bytes none =
-      met-where e v (is_near e s ((address - s.ram_base) / 4096)) (Wrote address bytes ∷ []) (λ near. (
+      met-where e v _ (Wrote address bytes ∷ []) (λ near. (
         ap is_some (view-page e s ((address - s.ram_base) / 4096) ∙ ap (λ b. kept b (page_at s ((address - s.ram_base) / 4096))) near)
             ∙ reached-page address (fault-none (address % n == 0) (access_at s s.runner address) may_store none),
         tt,
@@ -209,16 +209,20 @@ module _ (e : ℕ) (s : State) (sound : IsSoundState s) (known : is_known s e �
   met-released (Some d) =
       let mine = is_from e (transaction_of s d.handle) in
       let held = where_true mine (Held d.handle s.runner None ∷ []) in
-      met-append e v held (where_true (d.zero && involves e (transaction_of s d.handle)) (Zeroed d.handle ∷ []))
+      met-append e v held (where_true _ (Zeroed d.handle ∷ []))
       (met-where e v mine (Held d.handle s.runner None ∷ []) (λ is. (refl, tt)))
-      (met-where e (apply_all e v held) (d.zero && involves e (transaction_of s d.handle)) (Zeroed d.handle ∷ []) (λ both. (
+      (met-where e (apply_all e v held) _ (Zeroed d.handle ∷ []) (λ both. (
         still-open d.handle s.runner mine (known-open d.handle (and_parts d.zero _ both).1),
         tt,
       )))
 
   -- a change of the public part is free
   public-free : (w : State) (next : State) → AreMet e w (public_change s next)
-  public-free w next = elim (is_same_public (public_part s) (public_part next)) as (λ b. AreMet e w (cond b [] (Public (public_part next) ∷ []))) [ true ↦ tt | false ↦ (refl, tt) ]
+  public-free w next = of _
+    where
+      of : (b : Bool) → AreMet e w (cond b [] (Public (public_part next) ∷ []))
+      of true = tt
+      of false = (refl, tt)
 
   met-call : (call : calls.Call) → IsHalved call → AreMet e v (call_events e s call)
   met-call call halved = of call halved

@@ -1,7 +1,7 @@
 -- Each event that is told changes the view, but for messages, and for bytes and pending bits that are told again.
 use Rattle.std.proofs.Common.{◌≡◌, ◌≢◌, ◌∙◌, ℕ, zero, suc, ◌+◌, ◌≤◌, ◌<◌, inl, inr, Bool, true, false, cond, List, [], ◌∷◌, ◌++◌, map, Option, Some, None, is_some, refl, sym, ap, subst, arith}
 use Rattle.byteorder.specs.Endian.{little_bytes}
-use Rattle.std.specs.Prelude.{◌==◌, ◌-◌, ◌/◌, ◌&&◌, ◌||◌, filter, is_none, length, not, slice_index}
+use Rattle.std.specs.Prelude.{◌==◌, ◌&&◌, ◌||◌, filter, is_none, length, not, slice_index}
 use Rattle.std.specs.List.{list_all}
 use Rattle.std.specs.Option.{option_map}
 use Rattle.std.specs.Ordering.{eq_by_cmp, nat_cmp}
@@ -40,7 +40,7 @@ use Rattle.ffa_model.proofs.Accesses.{held-itself, released-itself}
 use Rattle.ffa_model.proofs.Guards.{guard-passes}
 use Rattle.ffa_model.proofs.Sets.{Bits, contains-retained, same-itself, same_elements}
 use Rattle.ffa_laws.specs.Steady.{IsSteady}
-use Rattle.ffa_laws.specs.View.{buffers_seen, hidden, involves, is_near, kept, seen_by, view}
+use Rattle.ffa_laws.specs.View.{buffers_seen, hidden, involves, kept, seen_by, view}
 use Rattle.ffa_laws.specs.Events.{Event, Wrote, Filled, Pending, Bound, Unbound, Opened, Held, Zeroed, Closed, Public, apply, apply_all, call_events, events, fullness, is_same_public, opens, public_change, public_part, releases, takes, takes_from, taking, told_by, where_passed, where_true, with_held, with_holder, writes}
 use Rattle.ffa_laws.specs.Silence.{AreNews, Silence, may_repeat}
 use Rattle.ffa_laws.proofs.Changes.{apply_all-append}
@@ -272,9 +272,9 @@ module _ (e : ℕ) (s : State) (steady : IsSteady s) where
       read : (o : Option RelinquishDesc) → first_failure (relinquish_guards (buffers_of s s.runner) (offers_of s) s.runner o) ≡ None → AreNews e v (releases e s o)
       read None none = tt
       read (Some d) none =
-          news-append e v (where_true (is_from e (transaction_of s d.handle)) (Held d.handle s.runner None ∷ [])) (where_true (d.zero && involves e (transaction_of s d.handle)) (Zeroed d.handle ∷ []))
+          news-append e v (where_true (is_from e (transaction_of s d.handle)) (Held d.handle s.runner None ∷ [])) (where_true _ (Zeroed d.handle ∷ []))
           (of d (transaction_of s d.handle) refl (guard-passes (relinquish_guards (buffers_of s s.runner) (offers_of s) s.runner (Some d)) 3 Denied (sym none)))
-          (repeats e (apply_all e v (where_true (is_from e (transaction_of s d.handle)) (Held d.handle s.runner None ∷ []))) (d.zero && involves e (transaction_of s d.handle)) (Zeroed d.handle) refl)
+          (repeats e (apply_all e v (where_true (is_from e (transaction_of s d.handle)) (Held d.handle s.runner None ∷ []))) _ (Zeroed d.handle) refl)
 
   news-reclaimed : (h : ℕ) → AreNews e v (where_true (is_offered e (transaction_of s h)) (Closed h ∷ []))
   news-reclaimed h = of (transaction_of s h) refl
@@ -361,7 +361,7 @@ module _ (e : ℕ) (s : State) (steady : IsSteady s) where
   news-op known other (Store address size value) = of (store_fault s address (size_of size))
     where
       of : (o : Option FaultKind) → AreNews e v (where_passed o (writes e s address (little_bytes (size_of size) value)))
-      of None = repeats e v (is_near e s ((address - s.ram_base) / 4096)) (Wrote address (little_bytes (size_of size) value)) refl
+      of None = repeats e v _ (Wrote address (little_bytes (size_of size) value)) refl
       of (Some fault) = tt
   news-op known other (Fetch address) = tt
 
