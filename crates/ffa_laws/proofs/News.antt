@@ -41,7 +41,7 @@ use Rattle.ffa_model.proofs.Guards.{guard-passes}
 use Rattle.ffa_model.proofs.Sets.{Bits, contains-retained, same-itself, same_elements}
 use Rattle.ffa_laws.specs.Steady.{IsSteady}
 use Rattle.ffa_laws.specs.View.{buffers_seen, hidden, involves, kept, seen_by, view}
-use Rattle.ffa_laws.specs.Events.{Event, Wrote, Filled, Pending, Bound, Unbound, Opened, Held, Zeroed, Closed, Public, apply, apply_all, call_events, events, fullness, is_same_public, opens, public_change, public_part, releases, takes, takes_from, taking, told_by, where_passed, where_true, with_held, with_holder, writes}
+use Rattle.ffa_laws.specs.Events.{Event, Wrote, Filled, Pending, Bound, Unbound, Opened, Held, Zeroed, Closed, Public, apply, apply_all, binds, call_events, events, fullness, is_same_public, opens, public_change, public_part, releases, takes, takes_from, taking, told_by, where_passed, where_true, with_held, with_holder, writes}
 use Rattle.ffa_laws.specs.Silence.{AreNews, Silence, may_repeat}
 use Rattle.ffa_laws.proofs.Changes.{apply_all-append}
 use Rattle.ffa_laws.proofs.Closed.{get-remove}
@@ -298,13 +298,16 @@ module _ (e : ℕ) (s : State) (steady : IsSteady s) where
       both true false c is = is
       both false b c is = refl
 
-  news-binds : (receiver sender : ℕ) (ks : List ℕ) → Rising 0 ks
-      → AreNews e v (where_true (sender == e) (map (λ k. Bound receiver (class_of e) k) (filter (λ k. not (is_bound (notifications_of s) receiver (class_of e) k e)) ks)))
-  news-binds receiver sender ks rising =
-      let new = λ (k : ℕ). not (is_bound (notifications_of s) receiver (class_of e) k e) in
+  -- bits of which none is bound to e yet
+  news-new : (receiver sender : ℕ) (ks : List ℕ) (new : ℕ → Bool) → ((k : ℕ) → new k ≡ true → is_bound (notifications_of s) receiver (class_of e) k e ≡ false) → Rising 0 ks
+      → AreNews e v (where_true (sender == e) (map (λ k. Bound receiver (class_of e) k) (filter new ks)))
+  news-new receiver sender ks new unbound rising =
       news-where e v (sender == e) _ (λ mine.
       news-bound e receiver (class_of e) v 0 (filter new ks) (rising-filter new 0 ks rising)
-      (are-filter e receiver (class_of e) false v.bound new ks (λ k is. seen-bound receiver k ∙ negated _ is)))
+      (are-filter e receiver (class_of e) false v.bound new ks (λ k is. seen-bound receiver k ∙ unbound k is)))
+
+  news-binds : (receiver sender : ℕ) (ks : List ℕ) → Rising 0 ks → AreNews e v (binds e s receiver sender ks)
+  news-binds receiver sender ks = news-new receiver sender ks _ (λ k is. negated (is_bound (notifications_of s) receiver (class_of e) k e) is)
 
   news-unbinds : (receiver sender : ℕ) (ks : List ℕ) → Rising 0 ks
       → AreNews e v (where_true (sender == e) (map (λ k. Unbound receiver (class_of e) k) (filter (λ k. is_bound (notifications_of s) receiver (class_of e) k e) ks)))
