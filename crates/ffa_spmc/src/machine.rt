@@ -186,13 +186,13 @@ impl<M: PhysMem + Drop, T: Translations + Drop> Machine<M, T> {
 
         // An operation gives only the events of its row, and only some calls change the public part. What is told to
         // another endpoint changes its view, but for messages, and for bytes, zeros and pending bits, which may be told
-        // again: these go to a page, a transaction, and buffers and bitmaps of its own that stand in its view.
+        // again: these are about a page, a transaction, or buffers or bitmaps of its own that stand in its view.
         ensures silence { Silence self.old.state op.now }
 
-        // What an endpoint can read depends on what it could read before, on what its own operation reveals to it, and
-        // on what it is told readably of another's. Events tell more: bytes too that it can't read. An operation that
-        // neither retrieves nor reclaims reveals nothing, where in the other state, too, nobody is offered what it sent
-        // itself.
+        // From another state in which the runner can read the same, the operation has the same outcome, and the runner
+        // can read the same after it, if the same is revealed to it; or if the operation neither retrieves nor reclaims
+        // and in that state, too, nobody is offered what it sent itself. What another endpoint can read changes by what
+        // it is told readably alone. Events tell more: bytes too that it can't read.
         ensures confidential { Confidential self.old.state op.now }
 
         // Rights don't grow, and nobody's access changes but the runner's. A page's bytes change only where the runner
