@@ -27,7 +27,6 @@ use Rattle.ffa_model.specs.Registers.{Function, called, decode, functions, is_fo
 use Rattle.ffa_model.specs.Step.{serve, service}
 use Rattle.ffa_model.proofs.Bitmaps.{word_where-same, word_where-set}
 use Rattle.ffa_model.proofs.Guards.{guard-passes}
-use Rattle.ffa_laws.specs.Steady.{IsSteady}
 use Rattle.ffa_laws.specs.View.{involves, kept, seen_by, view}
 use Rattle.ffa_laws.specs.Events.{Event, Wrote, Filled, Pending, Held, Zeroed, apply, apply_all, call_events, delivers, events, public_change, public_part, Public, releases, sets, told_by, where_passed, where_true, with_holder, writes}
 use Rattle.ffa_laws.specs.Silence.{AreMet, is_met, may_tell}
@@ -36,7 +35,6 @@ use Rattle.ffa_laws.proofs.MemoryLaws.{fault-none}
 use Rattle.ffa_laws.proofs.Opened.{get-insert}
 use Rattle.ffa_laws.proofs.Raised.{own-bitmaps}
 use Rattle.ffa_laws.proofs.Rows.{all-weaker, call-rows}
-use Rattle.ffa_laws.proofs.SoundSteady.{sound-steady}
 use Rattle.ffa_laws.proofs.Views.{shown, view-page, view-transaction}
 
 -- ---- lists of events
@@ -131,9 +129,6 @@ zero-word word lt none =
 module _ (e : ℕ) (s : State) (sound : IsSoundState s) (known : is_known s e ≡ true) where
   abbrev v : State
   v = view e s
-
-  steady : IsSteady s
-  steady = sound-steady s sound
 
   -- a page that the runner writes to is one of RAM that an endpoint owns
   reached-page : (address : ℕ) → is_some (access_at s s.runner address) ≡ true → is_some (page_at s ((address - s.ram_base) / 4096)) ≡ true
