@@ -4,19 +4,20 @@ use Rattle.std.specs.Prelude.{◌==◌, ◌&&◌, is_none}
 use Rattle.std.specs.List.{list_all}
 use Rattle.std.specs.FinMap as finite
 use Rattle.std.specs.Option.{option_map_or}
-use Rattle.std.proofs.lemmas.Bool.{and_parts, cases_Bool, eq-eqb, false≢true, true≢false}
+use Rattle.std.proofs.lemmas.Bool.{and_parts, cases_Bool, eq-eqb, eqb-true, false≢true, true≢false}
 use Rattle.byteorder.specs.Endian.{little_bytes}
 use Rattle.ffa_model.specs.declared.descriptor.RelinquishDesc.{RelinquishDesc}
 use Rattle.ffa_model.specs.declared.operation.Op.{Op}
 use Rattle.ffa_model.specs.declared.operation.Op.TheVariants.{Call, Load, Store, Fetch}
 use Rattle.ffa_model.specs.declared.operation.Outcome.TheVariants.{Data, Done}
 use Rattle.ffa_model.specs.declared.operation.ErrorCode.{ErrorCode}
+use Rattle.ffa_model.specs.declared.operation.ErrorCode.TheVariants.{InvalidParameters}
 use Rattle.ffa_model.specs.declared.call.Call as calls
 use Rattle.ffa_model.specs.declared.call.Call.TheVariants.{PartitionInfoGet, MemDonate, MemLend, MemShare, MemRetrieve, MemRelinquish, MemReclaim, MsgSend2}
 use Rattle.ffa_model.specs.declared.rights.Kind.{Kind}
 use Rattle.ffa_model.specs.declared.rights.Kind.TheVariants.{Share, Lend, Donate}
 use Rattle.ffa_model.specs.SendDescriptor.{SendRecord}
-use Rattle.ffa_model.specs.State.{State, Page, Transaction, page_at, owner_of, transaction_of}
+use Rattle.ffa_model.specs.State.{State, Page, Transaction, is_known, page_at, owner_of, transaction_of}
 use Rattle.ffa_model.specs.Access.{handle_at, names}
 use Rattle.ffa_model.specs.Buffers.{filled}
 use Rattle.ffa_model.specs.Calls.{first_failure}
@@ -24,19 +25,22 @@ use Rattle.ffa_model.specs.Memory.{fetch_fault, number_at, read_fault, size_of, 
 use Rattle.ffa_model.specs.MemoryRetrieve.{memory_retrieve}
 use Rattle.ffa_model.specs.MemoryReturn.{relinquish_read, relinquished, relinquished_from}
 use Rattle.ffa_model.specs.MemorySend.{memory_send, memory_sent, send_guards, send_read, transaction_from}
-use Rattle.ffa_model.specs.Messages.{header_in, message_in, msg_send2, tx_bytes}
+use Rattle.ffa_model.specs.Messages.{header_in, message_in, msg_send2, send2_guards, tx_bytes}
 use Rattle.ffa_model.specs.Notifications.{has_bitmaps_in, manager_class, message_bits, notifications_of}
 use Rattle.ffa_model.specs.Registers.{decode}
 use Rattle.ffa_model.specs.Setup.{info_bytes, is_count_alone, uuid_bytes}
 use Rattle.ffa_model.specs.Step.{serve, service, state_after, step}
 use Rattle.ffa_model.specs.Transactions.{Transfer, handle_of, next_handle, offers_of, scene_of, transfer}
+use Rattle.ffa_model.proofs.Guards.{guard-passes}
 use Rattle.ffa_laws.specs.Steady.{IsSteady}
 use Rattle.ffa_laws.specs.Events.{Event, Filled, Item, Own, Pending, Told, call_events, events, items, public_change, where_passed, where_true}
-use Rattle.ffa_laws.specs.Isolation.{fills_rx_page, is_indirect_message, is_send2}
+use Rattle.ffa_laws.specs.Isolation.{fills_rx_page, is_indirect_message, is_rx, is_send2}
 use Rattle.ffa_laws.specs.RunIntegrity.{RunIntegrity, is_quiet}
 use Rattle.ffa_laws.proofs.Form.{accessed-kept, served-kept}
 use Rattle.ffa_laws.proofs.Holders.{handle_at-reheld}
 use Rattle.ffa_laws.proofs.Integrities.{page-kept}
+use Rattle.ffa_laws.proofs.Kept.{known-before}
+use Rattle.ffa_laws.proofs.OwnBuffers.{rx-kept}
 use Rattle.ffa_laws.proofs.Laws.{steady-step}
 use Rattle.ffa_laws.proofs.Opened.{unnamed-opened}
 use Rattle.ffa_laws.proofs.ReturnLaws.{unnamed-still}
@@ -99,17 +103,17 @@ passed : (o : Option ErrorCode) → is_none o ≡ true → o ≡ None
 passed None is = refl
 passed (Some code) is = absurd (false≢true is)
 
-abbrev are_quiet : List Event → Bool
-are_quiet es = list_all is_quiet (map (λ event. Told event) es)
+abbrev are_quiet_events : Bool → List Event → Bool
+are_quiet_events rx es = list_all (is_quiet rx) (map (λ event. Told event) es)
 
-told-filled : (e : ℕ) (s : State) (p : ℕ) (call : calls.Call) → is_send2 call ≡ true → fills_rx_page s e p ≡ true → are_quiet (call_events e s call) ≡ false
+told-filled : (e : ℕ) (s : State) (p : ℕ) (call : calls.Call) → is_send2 call ≡ true → fills_rx_page s e p ≡ true → are_quiet_events true (call_events e s call) ≡ false
 told-filled e s p MsgSend2 is fills =
     let (none, its) = and_parts (is_none (first_failure (msg_send2 s).guards)) _ fills in
     let (receiver, rx) = and_parts ((header_in (tx_bytes s s.runner)).receiver == e) _ its in
     go (first_failure (msg_send2 s).guards) (passed (first_failure (msg_send2 s).guards) none) ((header_in (tx_bytes s s.runner)).receiver == e) receiver
   where
     go : (g : Option ErrorCode) → g ≡ None → (b : Bool) → b ≡ true
-        → are_quiet (where_passed g (where_true b (Filled (message_in (tx_bytes s s.runner)) ∷ where_true (has_bitmaps_in (notifications_of s) e) (Pending manager_class message_bits ∷ []))) ++ public_change s (serve s MsgSend2).state) ≡ false
+        → are_quiet_events true (where_passed g (where_true b (Filled (message_in (tx_bytes s s.runner)) ∷ where_true (has_bitmaps_in (notifications_of s) e) (Pending manager_class message_bits ∷ []))) ++ public_change s (serve s MsgSend2).state) ≡ false
     go None none true is = refl
     go None none false is = absurd (false≢true is)
     go (Some code) none b is = absurd (some_none none)
@@ -118,43 +122,56 @@ told-filled e s p MsgSend2 is fills =
         some_none e = cc
 told-filled e s p call is fills = absurd (false≢true is)
 
-not_filled : (e : ℕ) (s : State) (p : ℕ) (op : Op) → are_quiet (events e s op) ≡ true → (is_indirect_message op && fills_rx_page s e p) ≡ false
-not_filled e s p (Call x) quiet = elim (cases_Bool (is_send2 (decode x) && fills_rx_page s e p)) [
+-- whoever gets a message into RX is an endpoint, and the page is its RX
+filled-rx : (e : ℕ) (s : State) (p : ℕ) → fills_rx_page s e p ≡ true → (is_known s e ≡ true) × (is_rx s e p ≡ true)
+filled-rx e s p fills =
+    let (none, its) = and_parts (is_none (first_failure (msg_send2 s).guards)) _ fills in
+    let (receiver, rx) = and_parts ((header_in (tx_bytes s s.runner)).receiver == e) _ its in
+    let guards = send2_guards s.parties s.buffers s.runner (header_in (tx_bytes s s.runner)) in
+    let known = guard-passes guards 4 InvalidParameters (sym (passed (first_failure guards) none)) in
+    (ap (is_known s) (sym (eqb-true (header_in (tx_bytes s s.runner)).receiver e receiver)) ∙ known, rx)
+
+not_filled : (e : ℕ) (s : State) (p : ℕ) (rx : Bool) (op : Op) → (is_known s e ≡ true → is_rx s e p ≡ true → rx ≡ true) → are_quiet_events rx (events e s op) ≡ true → (is_indirect_message op && fills_rx_page s e p) ≡ false
+not_filled e s p rx (Call x) its quiet = elim (cases_Bool (is_send2 (decode x) && fills_rx_page s e p)) [
   | inl both ↦
       let (is, fills) = and_parts (is_send2 (decode x)) (fills_rx_page s e p) both in
-      absurd (true≢false (sym quiet ∙ told-filled e s p (decode x) is fills))
+      let (known, of) = filled-rx e s p fills in
+      absurd (true≢false (sym quiet ∙ ap (λ b. are_quiet_events b (call_events e s (decode x))) (its known of) ∙ told-filled e s p (decode x) is fills))
   | inr not ↦ not
 ]
-not_filled e s p (Load address size) quiet = refl
-not_filled e s p (Store address size value) quiet = refl
-not_filled e s p (Fetch address) quiet = refl
+not_filled e s p rx (Load address size) its quiet = refl
+not_filled e s p rx (Store address size value) its quiet = refl
+not_filled e s p rx (Fetch address) its quiet = refl
 
 -- ---- over a run
-quiet-parts : (xs ys : List Item) → list_all is_quiet (xs ++ ys) ≡ true → (list_all is_quiet xs ≡ true) × (list_all is_quiet ys ≡ true)
-quiet-parts [] ys all = (refl, all)
-quiet-parts (x ∷ xs) ys all =
-    let (here, rest) = and_parts (is_quiet x) (list_all is_quiet (xs ++ ys)) all in
-    let (before, after) = quiet-parts xs ys rest in
+quiet-parts : (rx : Bool) (xs ys : List Item) → list_all (is_quiet rx) (xs ++ ys) ≡ true → (list_all (is_quiet rx) xs ≡ true) × (list_all (is_quiet rx) ys ≡ true)
+quiet-parts rx [] ys all = (refl, all)
+quiet-parts rx (x ∷ xs) ys all =
+    let (here, rest) = and_parts (is_quiet rx x) (list_all (is_quiet rx) (xs ++ ys)) all in
+    let (before, after) = quiet-parts rx xs ys rest in
     ((λ i. here i && before i), after)
 
-stays : (ops : List Op) (s : State) → IsSteady s → (e p : ℕ) → owner_of s p ≡ e → handle_at s p ≡ None → list_all is_quiet (items e s ops) ≡ true
+stays : (ops : List Op) (s : State) → IsSteady s → (e p : ℕ) (rx : Bool) → (is_known s e ≡ true → is_rx s e p ≡ true → rx ≡ true)
+    → owner_of s p ≡ e → handle_at s p ≡ None → list_all (is_quiet rx) (items e s ops) ≡ true
     → (page_at (state_after s ops) p ≡ page_at s p) × (handle_at (state_after s ops) p ≡ None)
-stays [] s steady e p owned unnamed quiet = (refl, unnamed)
-stays (op ∷ ops) s steady e p owned unnamed quiet =
-    elim (s.runner == e) as (λ b. (s.runner == e) ≡ b → list_all is_quiet (cond b (Own op ∷ []) (map (λ event. Told event) (events e s op)) ++ items e (step s op).state ops) ≡ true
+stays [] s steady e p rx its owned unnamed quiet = (refl, unnamed)
+stays (op ∷ ops) s steady e p rx its owned unnamed quiet =
+    elim (s.runner == e) as (λ b. (s.runner == e) ≡ b → list_all (is_quiet rx) (cond b (Own op ∷ []) (map (λ event. Told event) (events e s op)) ++ items e (step s op).state ops) ≡ true
     → (page_at (state_after (step s op).state ops) p ≡ page_at s p) × (handle_at (state_after (step s op).state ops) p ≡ None)) [
       | true ↦ λ mine quiet. absurd (false≢true quiet)
       | false ↦ λ differ quiet.
-          let (here, rest) = quiet-parts (map (λ event. Told event) (events e s op)) (items e (step s op).state ops) quiet in
+          let (here, rest) = quiet-parts rx (map (λ event. Told event) (events e s op)) (items e (step s op).state ops) quiet in
           let other : s.runner ≢ e = λ same. true≢false (sym (eq-eqb s.runner e same) ∙ differ) in
-          let page : page_at (step s op).state p ≡ page_at s p = page-kept s steady e p owned unnamed other op (not_filled e s p op here) in
-          let later = stays ops (step s op).state (steady-step s steady op) e p (ap (λ o. option_map_or (λ (q : Page). q.owner) o 0x8000) page ∙ owned) (unnamed-kept s steady e p owned unnamed other op) rest in
+          let page : page_at (step s op).state p ≡ page_at s p = page-kept s steady e p owned unnamed other op (not_filled e s p rx op its here) in
+          let rx_still : is_known (step s op).state e ≡ true → is_rx (step s op).state e p ≡ true → rx ≡ true =
+          λ known is. (let before = known-before s op e known in its before (sym (rx-kept s steady e before other p op) ∙ is)) in
+          let later = stays ops (step s op).state (steady-step s steady op) e p rx rx_still (ap (λ o. option_map_or (λ (q : Page). q.owner) o 0x8000) page ∙ owned) (unnamed-kept s steady e p owned unnamed other op) rest in
           (later.0 ∙ page, later.1)
     ] refl quiet
 
 pub run_integrity : (s : State) (ops : List Op) → IsSteady s → RunIntegrity s ops
 run_integrity s ops steady =
     record {
-      page = λ e p owned unnamed quiet. (stays ops s steady e p owned unnamed quiet).0;
-      alone = λ e p owned unnamed quiet. (stays ops s steady e p owned unnamed quiet).1;
+      page = λ e p owned unnamed quiet. (stays ops s steady e p (is_rx s e p) (λ known is. is) owned unnamed quiet).0;
+      alone = λ e p owned unnamed quiet. (stays ops s steady e p (is_rx s e p) (λ known is. is) owned unnamed quiet).1;
     }

@@ -1,8 +1,8 @@
 -- Changes of pages, buffers and run states, and what they do to a view.
 use Rattle.std.proofs.Common.{◌≡◌, ◌∙◌, ℕ, suc, zero, ◌+◌, true, false, cond, List, [], ◌∷◌, ◌++◌, map, length, get_or, Option, Some, None, refl, sym, ap, arith}
-use Rattle.std.specs.Prelude.{◌==◌, ◌||◌}
+use Rattle.std.specs.Prelude.{◌==◌, ◌||◌, Bool}
 use Rattle.std.specs.Option.{option_map, option_map_or}
-use Rattle.std.proofs.lemmas.Bool.{eqb-true}
+use Rattle.std.proofs.lemmas.Bool.{cases_Bool, eqb-true}
 use Rattle.ffa_model.specs.declared.rights.Rights.{Rights}
 use Rattle.ffa_model.specs.Lists.{map_at}
 use Rattle.ffa_model.specs.Identifiers.{identifier, place}
@@ -146,12 +146,12 @@ module _ (e : ℕ) (s t u : State) (told : List Event) (each : length t.buffers 
       stays = public-is s refl (own-same e s) ∙ sym old
 
       public : apply_all e u (public_change s t) ≡ view e t
-      public =
-          elim (is_same_public (public_part s) (public_part t))
-          as (λ b. is_same_public (public_part s) (public_part t) ≡ b → apply_all e u (cond b [] (Public (public_part t) ∷ [])) ≡ view e t) [
-            | true ↦ λ same. sym stays ∙ ap (with_public u) (same_public (public_part s) (public_part t) same) ∙ changes
-            | false ↦ λ differs. changes
-          ] refl
+      public = of _ (λ untold. grind (arith, untold, cases_Bool (is_same_public (public_part s) (public_part t))))
+        where
+          -- untold where it is the same at most
+          of : (b : Bool) → (b ≡ true → is_same_public (public_part s) (public_part t) ≡ true) → apply_all e u (cond b [] (Public (public_part t) ∷ [])) ≡ view e t
+          of true same = sym stays ∙ ap (with_public u) (same_public (public_part s) (public_part t) (same refl)) ∙ changes
+          of false same = changes
 
 -- so of a change of bytes, buffers and run states
 pub other-changed : (e : ℕ) (s : State) (ps : List (Option Page)) (bs : List (Option Buffers)) (c : Schedule) (told : List Event) → AreRewritten s.pages ps

@@ -62,6 +62,9 @@ step-fixed s (Fetch address) = accessed-kept (λ t. fixed t ≡ fixed s) s s (Da
 pub known-step : (s : State) (op : Op) (e : ℕ) → is_known s e ≡ true → is_known (step s op).state e ≡ true
 known-step s op e known = subst (λ parts. is_known_among (length parts.0) e ≡ true) (sym (step-fixed s op)) known
 
+pub known-before : (s : State) (op : Op) (e : ℕ) → is_known (step s op).state e ≡ true → is_known s e ≡ true
+known-before s op e known = subst (λ parts. is_known_among (length parts.0) e ≡ true) (step-fixed s op) known
+
 pub base-step : (s : State) (op : Op) → (step s op).state.ram_base ≡ s.ram_base
 base-step s op = ap (λ parts. parts.1) (step-fixed s op)
 

@@ -33,8 +33,10 @@ pub mod Apart
 pub mod Growth
 pub mod Integrities
 pub mod Rows
+pub mod Meets
 pub mod News
 pub mod Shows
+pub mod OwnBuffers
 pub mod Alone
 pub mod Opened
 pub mod Unchained

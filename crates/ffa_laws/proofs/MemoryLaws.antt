@@ -1,5 +1,5 @@
 -- Loads, stores and fetches: in the runner's view, and to others.
-use Rattle.std.proofs.Common.{◌≡◌, ◌∙◌, ℕ, ◌-◌, ◌/◌, ◌%◌, Bool, true, false, cond, List, [], ◌∷◌, Option, Some, None, is_some, refl, sym, ap}
+use Rattle.std.proofs.Common.{◌≡◌, ◌∙◌, ℕ, ◌-◌, ◌/◌, ◌%◌, Bool, true, false, cond, List, [], ◌∷◌, Option, Some, None, is_some, refl, sym, ap, arith}
 use Rattle.std.specs.Prelude.{◌==◌, ◌&&◌, nat_le, nat_lt, ◌^◌}
 use Rattle.std.specs.Option.{option_and_then}
 use Rattle.std.proofs.lemmas.Bool.{false≢true}
@@ -89,21 +89,25 @@ other-load e s address size = elim (read_fault s address (size_of size)) as (λ 
 pub other-fetch : (e : ℕ) (s : State) (address : ℕ) → view e (fetch s address).state ≡ view e s
 other-fetch e s address = elim (fetch_fault s address) as (λ f. view e (accessed f s s (Data (number_at s address 4))).state ≡ view e s) [ None ↦ refl | Some fault ↦ refl ]
 
+-- a write that is told wherever its page is near
+told-write : (e : ℕ) (s : State) (address : ℕ) (bytes : List ℕ) (told : Bool) → (is_near e s ((address - s.ram_base) / 4096) ≡ true → told ≡ true)
+    → with_parts (view e s) (written_pages (view e s).pages ((address - s.ram_base) / 4096) (address % 4096) bytes) (view e s).buffers (schedule_of s) ≡ apply_all e (view e s) (where_true told (Wrote address bytes ∷ []))
+told-write e s address bytes true near = refl
+told-write e s address bytes false near =
+    λ i. with_parts (view e s) (far-written e s ((address - s.ram_base) / 4096) (address % 4096) bytes (far (is_near e s ((address - s.ram_base) / 4096)) near) i) (view e s).buffers (schedule_of s)
+  where
+    far : (b : Bool) → (b ≡ true → false ≡ true) → b ≡ false
+    far true none = sym (none refl)
+    far false none = refl
+
 pub other-store : (e : ℕ) (s : State) (address : ℕ) (size : Size) (value : ℕ)
     → view e (store s address size value).state ≡ apply_all e (view e s) (where_passed (store_fault s address (size_of size)) (writes e s address (little_bytes (size_of size) value)))
 other-store e s address size value =
     accessed-other e s (stored s address bytes) Done (store_fault s address (size_of size)) (writes e s address bytes) (
-    view-written e s p (address % 4096) bytes
-    ∙ elim (is_near e s p) as (λ b. is_near e s p ≡ b → with_parts (view e s) (written_pages (view e s).pages p (address % 4096) bytes) (view e s).buffers (schedule_of s) ≡ apply_all e (view e s) (where_true b (Wrote address bytes ∷ []))) [
-      | true ↦ λ near. refl
-      | false ↦ λ far. (λ i. with_parts (view e s) (far-written e s p (address % 4096) bytes far i) (view e s).buffers (schedule_of s))
-    ] refl)
+    view-written e s ((address - s.ram_base) / 4096) (address % 4096) bytes ∙ told-write e s address bytes _ (λ near. grind (arith, near)))
   where
     bytes : List ℕ
     bytes = little_bytes (size_of size) value
-
-    p : ℕ
-    p = (address - s.ram_base) / 4096
 
 pub steady-load : (s : State) → IsSteady s → (address : ℕ) (size : Size) → IsSteady (load s address size).state
 steady-load s steady address size = accessed-kept IsSteady s s (Data (number_at s address (size_of size))) (read_fault s address (size_of size)) steady (λ none. steady)

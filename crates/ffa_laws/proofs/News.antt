@@ -1,7 +1,7 @@
 -- Each event that is told changes the view, but for messages, and for bytes and pending bits that are told again.
 use Rattle.std.proofs.Common.{◌≡◌, ◌≢◌, ◌∙◌, ℕ, zero, suc, ◌+◌, ◌≤◌, ◌<◌, inl, inr, Bool, true, false, cond, List, [], ◌∷◌, ◌++◌, map, Option, Some, None, is_some, refl, sym, ap, subst, arith}
 use Rattle.byteorder.specs.Endian.{little_bytes}
-use Rattle.std.specs.Prelude.{◌==◌, ◌-◌, ◌/◌, ◌&&◌, ◌||◌, filter, is_none, length, not, slice_index}
+use Rattle.std.specs.Prelude.{◌==◌, ◌&&◌, ◌||◌, filter, is_none, length, not, slice_index}
 use Rattle.std.specs.List.{list_all}
 use Rattle.std.specs.Option.{option_map}
 use Rattle.std.specs.Ordering.{eq_by_cmp, nat_cmp}
@@ -40,12 +40,13 @@ use Rattle.ffa_model.proofs.Accesses.{held-itself, released-itself}
 use Rattle.ffa_model.proofs.Guards.{guard-passes}
 use Rattle.ffa_model.proofs.Sets.{Bits, contains-retained, same-itself, same_elements}
 use Rattle.ffa_laws.specs.Steady.{IsSteady}
-use Rattle.ffa_laws.specs.View.{buffers_seen, hidden, involves, is_near, kept, seen_by, view}
-use Rattle.ffa_laws.specs.Events.{Event, Wrote, Filled, Pending, Bound, Unbound, Opened, Held, Zeroed, Closed, Public, apply, apply_all, call_events, events, fullness, is_same_public, opens, public_change, public_part, releases, takes, takes_from, taking, told_by, where_passed, where_true, with_held, with_holder, writes}
+use Rattle.ffa_laws.specs.View.{buffers_seen, hidden, involves, kept, seen_by, view}
+use Rattle.ffa_laws.specs.Events.{Event, Wrote, Filled, Pending, Bound, Unbound, Opened, Held, Zeroed, Closed, Public, apply, apply_all, binds, call_events, events, fullness, is_same_public, opens, public_change, public_part, releases, takes, takes_from, taking, told_by, where_passed, where_true, with_held, with_holder, writes}
 use Rattle.ffa_laws.specs.Silence.{AreNews, Silence, may_repeat}
 use Rattle.ffa_laws.proofs.Changes.{apply_all-append}
 use Rattle.ffa_laws.proofs.Closed.{get-remove}
 use Rattle.ffa_laws.proofs.Laws.{other-call}
+use Rattle.ffa_laws.proofs.Meets.{are-met}
 use Rattle.ffa_laws.proofs.Opened.{get-insert}
 use Rattle.ffa_laws.proofs.ReclaimLaws.{seen-whole}
 use Rattle.ffa_laws.proofs.Rows.{all-weaker, is_public, passed-row, public-step, row-of, rows, same-as-itself, told_row}
@@ -271,9 +272,9 @@ module _ (e : ℕ) (s : State) (steady : IsSteady s) where
       read : (o : Option RelinquishDesc) → first_failure (relinquish_guards (buffers_of s s.runner) (offers_of s) s.runner o) ≡ None → AreNews e v (releases e s o)
       read None none = tt
       read (Some d) none =
-          news-append e v (where_true (is_from e (transaction_of s d.handle)) (Held d.handle s.runner None ∷ [])) (where_true (d.zero && involves e (transaction_of s d.handle)) (Zeroed d.handle ∷ []))
+          news-append e v (where_true (is_from e (transaction_of s d.handle)) (Held d.handle s.runner None ∷ [])) (where_true _ (Zeroed d.handle ∷ []))
           (of d (transaction_of s d.handle) refl (guard-passes (relinquish_guards (buffers_of s s.runner) (offers_of s) s.runner (Some d)) 3 Denied (sym none)))
-          (repeats e (apply_all e v (where_true (is_from e (transaction_of s d.handle)) (Held d.handle s.runner None ∷ []))) (d.zero && involves e (transaction_of s d.handle)) (Zeroed d.handle) refl)
+          (repeats e (apply_all e v (where_true (is_from e (transaction_of s d.handle)) (Held d.handle s.runner None ∷ []))) _ (Zeroed d.handle) refl)
 
   news-reclaimed : (h : ℕ) → AreNews e v (where_true (is_offered e (transaction_of s h)) (Closed h ∷ []))
   news-reclaimed h = of (transaction_of s h) refl
@@ -297,13 +298,16 @@ module _ (e : ℕ) (s : State) (steady : IsSteady s) where
       both true false c is = is
       both false b c is = refl
 
-  news-binds : (receiver sender : ℕ) (ks : List ℕ) → Rising 0 ks
-      → AreNews e v (where_true (sender == e) (map (λ k. Bound receiver (class_of e) k) (filter (λ k. not (is_bound (notifications_of s) receiver (class_of e) k e)) ks)))
-  news-binds receiver sender ks rising =
-      let new = λ (k : ℕ). not (is_bound (notifications_of s) receiver (class_of e) k e) in
+  -- bits of which none is bound to e yet
+  news-new : (receiver sender : ℕ) (ks : List ℕ) (new : ℕ → Bool) → ((k : ℕ) → new k ≡ true → is_bound (notifications_of s) receiver (class_of e) k e ≡ false) → Rising 0 ks
+      → AreNews e v (where_true (sender == e) (map (λ k. Bound receiver (class_of e) k) (filter new ks)))
+  news-new receiver sender ks new unbound rising =
       news-where e v (sender == e) _ (λ mine.
       news-bound e receiver (class_of e) v 0 (filter new ks) (rising-filter new 0 ks rising)
-      (are-filter e receiver (class_of e) false v.bound new ks (λ k is. seen-bound receiver k ∙ negated _ is)))
+      (are-filter e receiver (class_of e) false v.bound new ks (λ k is. seen-bound receiver k ∙ unbound k is)))
+
+  news-binds : (receiver sender : ℕ) (ks : List ℕ) → Rising 0 ks → AreNews e v (binds e s receiver sender ks)
+  news-binds receiver sender ks = news-new receiver sender ks _ (λ k is. negated (is_bound (notifications_of s) receiver (class_of e) k e) is)
 
   news-unbinds : (receiver sender : ℕ) (ks : List ℕ) → Rising 0 ks
       → AreNews e v (where_true (sender == e) (map (λ k. Unbound receiver (class_of e) k) (filter (λ k. is_bound (notifications_of s) receiver (class_of e) k e) ks)))
@@ -360,7 +364,7 @@ module _ (e : ℕ) (s : State) (steady : IsSteady s) where
   news-op known other (Store address size value) = of (store_fault s address (size_of size))
     where
       of : (o : Option FaultKind) → AreNews e v (where_passed o (writes e s address (little_bytes (size_of size) value)))
-      of None = repeats e v (is_near e s ((address - s.ram_base) / 4096)) (Wrote address (little_bytes (size_of size) value)) refl
+      of None = repeats e v _ (Wrote address (little_bytes (size_of size) value)) refl
       of (Some fault) = tt
   news-op known other (Fetch address) = tt
 
@@ -370,4 +374,5 @@ silence s op steady =
       rows = λ e. rows e s op;
       public = public-step s op;
       news = λ e known other. news-op e s steady known other op;
+      meets = λ sound e known other. are-met e s sound known op;
     }

@@ -349,36 +349,34 @@ module _ (e : ℕ) (s : State) where
       seen-bound : (k : ℕ) → finite_set.contains (view e s).bound (bound_as e k) ≡ is_bound (notifications_of s) s.runner (class_of e) k e
       seen-bound k = contains-retained s.bound (bound_to e) (bound_as e k) ∙ and_second (finite_set.contains s.bound (bound_as e k)) _ (or_second (s.runner == e) (e == e) (eq-eqb e e refl))
 
-      abbrev is_new : ℕ → Bool
-      is_new k = not (is_bound (notifications_of s) s.runner (class_of e) k e)
-
       abbrev is_old : ℕ → Bool
       is_old k = is_bound (notifications_of s) s.runner (class_of e) k e
 
-      not_false : (b : Bool) → not b ≡ false → b ≡ true
-      not_false true is = refl
-      not_false false is = absurd (true≢false is)
-
-      pub other-bind : (flags : ℕ) → view e (notification_bind s word flags low high).state
-          ≡ apply_all e (view e s) (binds e s s.runner to its_bits ++ public_change s (notification_bind s word flags low high).state)
-      other-bind flags =
+      -- bits of which those that are new are told at least
+      told-bind : (flags : ℕ) (new : ℕ → Bool) → ((k : ℕ) → new k ≡ false → is_old k ≡ true) → view e (notification_bind s word flags low high).state
+          ≡ apply_all e (view e s) (where_true (to == e) (map (λ k. Bound s.runner (class_of e) k) (filter new its_bits)) ++ public_change s (notification_bind s word flags low high).state)
+      told-bind flags new others_old =
           elim (to == e) as (λ b. (to == e) ≡ b → view e (notification_bind s word flags low high).state
-          ≡ apply_all e (view e s) (where_true b (map (λ k. Bound s.runner (class_of e) k) (filter is_new its_bits)) ++ public_change s (notification_bind s word flags low high).state)) [
+          ≡ apply_all e (view e s) (where_true b (map (λ k. Bound s.runner (class_of e) k) (filter new its_bits)) ++ public_change s (notification_bind s word flags low high).state)) [
             | true ↦ λ mine.
-                told-notified (notification_bind s word flags low high).state (record (view e s) { bound = finite_set.union (view e s).bound (finite_set.from_list (map (bound_as e) (filter is_new its_bits))) }) (map (λ k. Bound s.runner (class_of e) k) (filter is_new its_bits)) refl refl
-                (bound-all e s.runner (class_of e) (view e s) (filter is_new its_bits))
+                told-notified (notification_bind s word flags low high).state (record (view e s) { bound = finite_set.union (view e s).bound (finite_set.from_list (map (bound_as e) (filter new its_bits))) }) (map (λ k. Bound s.runner (class_of e) k) (filter new its_bits)) refl refl
+                (bound-all e s.runner (class_of e) (view e s) (filter new its_bits))
                 (λ i. record (view e s) {
                   bound = (ap (λ g. finite_set.retain (finite_set.union s.bound (finite_set.from_list (map (bound_as g) its_bits))) (bound_to e)) (eqb-true to e mine)
                       ∙ seen-more (bound_to e) s.bound (map (bound_as e) its_bits) seen-own
                       ∙ same_bits _ _ (λ x.
                       contains-more (view e s).bound (map (bound_as e) its_bits) x
-                      ∙ sym (more-new (view e s).bound (bound_as e) is_new its_bits x (λ k old. seen-bound k ∙ not_false (is_old k) old))
-                      ∙ sym (contains-more (view e s).bound (map (bound_as e) (filter is_new its_bits)) x))) i;
+                      ∙ sym (more-new (view e s).bound (bound_as e) new its_bits x (λ k old. seen-bound k ∙ others_old k old))
+                      ∙ sym (contains-more (view e s).bound (map (bound_as e) (filter new its_bits)) x))) i;
                 })
             | false ↦ λ differs.
                 told-notified (notification_bind s word flags low high).state (view e s) [] refl refl refl
                 (λ i. record (view e s) { bound = unseen-more (bound_to e) s.bound (map (bound_as to) its_bits) (unseen to differs) i })
           ] refl
+
+      pub other-bind : (flags : ℕ) → view e (notification_bind s word flags low high).state
+          ≡ apply_all e (view e s) (binds e s s.runner to its_bits ++ public_change s (notification_bind s word flags low high).state)
+      other-bind flags = told-bind flags _ (λ k told. grind (arith, told, cases_Bool (is_old k)))
 
       pub other-unbind : (flags : ℕ) → view e (notification_unbind s word flags low high).state
           ≡ apply_all e (view e s) (unbinds e s s.runner to its_bits ++ public_change s (notification_unbind s word flags low high).state)

@@ -1,9 +1,9 @@
 -- What an endpoint can read: its own operations, and those of others.
-use Rattle.std.proofs.Common.{◌+◌, ◌*◌, ◌≡◌, ◌≢◌, ◌∙◌, ℕ, ◌-◌, ◌/◌, ◌%◌, Bool, true, false, cond, List, [], ◌∷◌, length, get_or, set, Option, Some, None, is_some, refl, sym, ap, subst, ◌++◌, option_map}
+use Rattle.std.proofs.Common.{◌+◌, ◌*◌, ◌≡◌, ◌≢◌, ◌∙◌, ℕ, ◌-◌, ◌/◌, ◌%◌, Bool, true, false, cond, List, [], ◌∷◌, length, get_or, set, Option, Some, None, is_some, refl, sym, ap, subst, ◌++◌, option_map, arith}
 use Rattle.std.specs.Prelude.{◌&&◌, is_none, not, ◌||◌}
 use Rattle.std.specs.List.{list_all}
 use Rattle.std.proofs.Math.Path.{fun_ext}
-use Rattle.std.proofs.lemmas.Bool.{false≢true, true≢false, and_parts, eq-eqb}
+use Rattle.std.proofs.lemmas.Bool.{cases_Bool, false≢true, true≢false, and_parts, eq-eqb}
 use Rattle.std.proofs.lemmas.List.{set-get_or}
 use Rattle.byteorder.specs.Endian.{little_bytes}
 use Rattle.ffa_model.specs.declared.operation.Op.{Op}
@@ -31,7 +31,7 @@ use Rattle.ffa_model.proofs.Accesses.{length-map_at, named-in}
 use Rattle.ffa_model.proofs.Guards.{guard-passes}
 use Rattle.ffa_laws.specs.Steady.{IsSteady}
 use Rattle.ffa_laws.specs.View.{is_near, kept, view, involves, seen_by}
-use Rattle.ffa_laws.specs.Events.{Event, Wrote, Message, Filled, Pending, Bound, Unbound, Opened, Held, Zeroed, Closed, Public, apply, apply_all, events, where_true, with_fullness, with_holder, with_opened, with_public, call_events, is_same_public, public_change, public_part, releases, where_passed, writes}
+use Rattle.ffa_laws.specs.Events.{Event, Wrote, Message, Filled, Pending, Bound, Unbound, Opened, Held, Zeroed, Closed, Public, apply, apply_all, events, where_true, with_fullness, with_holder, with_opened, with_public, call_events, public_change, public_part, releases, where_passed, writes}
 use Rattle.ffa_laws.specs.OwnAccess.{AreApart, gives_access, is_call}
 use Rattle.ffa_laws.specs.Readable.{Confidential, all_readably, blank, blank_page, blank_where, blanked, is_unreadable, readable, readably, revealed}
 use Rattle.ffa_laws.specs.Silence.{may_tell}
@@ -418,11 +418,11 @@ module _ (e : ℕ) (s : State) where
         read None none = tt
         read (Some d) none =
             let held = where_true (is_from e (transaction_of s d.handle)) (Held d.handle s.runner None ∷ []) in
-            fit-append held (where_true (d.zero && involves e (transaction_of s d.handle)) (Zeroed d.handle ∷ [])) (readable e s)
+            fit-append held (where_true _ (Zeroed d.handle ∷ [])) (readable e s)
             (fit-one (readable e s) (is_from e (transaction_of s d.handle)) (Held d.handle s.runner None) (λ is. fits-held d))
-            (fit-one (apply_all e (readable e s) (all_readably e s held)) (d.zero && involves e (transaction_of s d.handle)) (Zeroed d.handle) (λ both.
+            (fit-one (apply_all e (readable e s) (all_readably e s held)) _ (Zeroed d.handle) (λ both.
             zeroing d (transaction_of s d.handle) refl
-            (asks d.zero (is_zeroable s.runner (transaction_of s d.handle)) (guard-passes (relinquish_guards (buffers_of s s.runner) (offers_of s) s.runner (Some d)) 4 Denied (sym none)) (and_parts d.zero _ both).0)
+            (asks d.zero (is_zeroable s.runner (transaction_of s d.handle)) (guard-passes (relinquish_guards (buffers_of s s.runner) (offers_of s) s.runner (Some d)) 4 Denied (sym none)) (grind (arith, cases_Bool d.zero, both)))
             (apply_all e (readable e s) (all_readably e s held)) (base-after d.handle (is_from e (transaction_of s d.handle)))
             (held-ranges d.handle (is_from e (transaction_of s d.handle)))))
           where
@@ -430,7 +430,11 @@ module _ (e : ℕ) (s : State) where
             fits-held d = tt
 
     public-zeros : (next : State) → list_all (λ x. not (may_zero x)) (public_change s next) ≡ true
-    public-zeros next = elim (is_same_public (public_part s) (public_part next)) as (λ b. list_all (λ x. not (may_zero x)) (cond b [] (Public (public_part next) ∷ [])) ≡ true) [ true ↦ refl | false ↦ refl ]
+    public-zeros next = of _
+      where
+        of : (b : Bool) → list_all (λ x. not (may_zero x)) (cond b [] (Public (public_part next) ∷ [])) ≡ true
+        of true = refl
+        of false = refl
 
     fit-call : (call : calls.Call) → AreFit (readable e s) (call_events e s call)
     fit-call call = of call
@@ -456,7 +460,7 @@ module _ (e : ℕ) (s : State) where
     fit-op : (op : Op) → AreFit (readable e s) (events e s op)
     fit-op (Call x) = fit-call (decode x)
     fit-op (Load address size) = tt
-    fit-op (Store address size value) = fit-others (events e s (Store address size value)) (readable e s) (passed-row (λ x. not (may_zero x)) (store_fault s address (size_of size)) (writes e s address (little_bytes (size_of size) value)) (wrote (is_near e s ((address - s.ram_base) / 4096))))
+    fit-op (Store address size value) = fit-others (events e s (Store address size value)) (readable e s) (passed-row (λ x. not (may_zero x)) (store_fault s address (size_of size)) (writes e s address (little_bytes (size_of size) value)) (wrote _))
       where
         wrote : (b : Bool) → list_all (λ x. not (may_zero x)) (where_true b (Wrote address (little_bytes (size_of size) value) ∷ [])) ≡ true
         wrote true = refl

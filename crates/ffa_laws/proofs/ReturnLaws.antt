@@ -1,5 +1,5 @@
 -- FFA_MEM_RELINQUISH in the runner's view, and to others; and what memory that is given back leaves of a steady state.
-use Rattle.std.proofs.Common.{◌≡◌, ◌≢◌, ◌∙◌, ℕ, Bool, true, false, cond, List, [], ◌∷◌, ◌++◌, Option, Some, None, refl, sym, ap, inl, inr}
+use Rattle.std.proofs.Common.{◌≡◌, ◌≢◌, ◌∙◌, ℕ, Bool, true, false, cond, List, [], ◌∷◌, ◌++◌, Option, Some, None, refl, sym, ap, inl, inr, arith}
 use Rattle.std.specs.Prelude.{◌==◌, ◌||◌, ◌&&◌, is_some, not}
 use Rattle.std.specs.FinMap as finite
 use Rattle.std.specs.Option.{option_map}
@@ -26,7 +26,7 @@ use Rattle.ffa_laws.specs.Events.{Event, Held, Zeroed, apply_all, public_change,
 use Rattle.ffa_model.proofs.Accesses.{length-map_at, named-in, released-beside, released-itself}
 use Rattle.ffa_model.proofs.Guards.{guard-passes}
 use Rattle.ffa_model.proofs.Handles.{get-put}
-use Rattle.ffa_laws.proofs.Maps.{first_no, first_none}
+use Rattle.ffa_laws.proofs.Maps.{first_no, first_none, map_at-id}
 use Rattle.ffa_laws.proofs.Views.{held-seen, shown, view-transaction}
 use Rattle.ffa_laws.proofs.Form.{IsOwn, same-first}
 use Rattle.ffa_laws.proofs.Told.{IsTold}
@@ -195,13 +195,19 @@ module _ (s : State) (steady : IsSteady s) where
 -- ---- to another endpoint
 -- the event that pages were zeroed, where they were
 zeroed-told : (e h : ℕ) (asked : Bool) (v : State) (ranges : List Range) → named_ranges (transaction_of v h) ≡ ranges
-    → apply_all e v (where_true (asked && true) (Zeroed h ∷ [])) ≡ zeroed_if asked v ranges
+    → apply_all e v (where_true asked (Zeroed h ∷ [])) ≡ zeroed_if asked v ranges
 zeroed-told e h true v ranges same = ap (λ (rs : List Range). with_pages v rs zeroed_page) same
 zeroed-told e h false v ranges same = refl
 
-untold : (e : ℕ) (asked : Bool) (v : State) (told : List Event) → apply_all e v (where_true (asked && false) told) ≡ v
-untold e true v told = refl
-untold e false v told = refl
+-- of a transaction that isn't there none are
+untold : (e h : ℕ) (asked : Bool) (v : State) → transaction_of v h ≡ None → apply_all e v (where_true asked (Zeroed h ∷ [])) ≡ v
+untold e h true v none = ap (λ o. with_pages v (named_ranges o) zeroed_page) none ∙ (λ i. record v { pages = map_at-id (λ p page. page) v.pages None (λ p. refl) i })
+untold e h false v none = refl
+
+both-ways : (a b : Bool) → (a ≡ true → b ≡ true) → (b ≡ true → a ≡ true) → a ≡ b
+both-ways true b to from = sym (to refl)
+both-ways false true to from = from refl
+both-ways false false to from = refl
 
 module _ (e : ℕ) (s : State) (steady : IsSteady s) (other : s.runner ≢ e) (d : RelinquishDesc) (t : Transaction) (there : transaction_of s d.handle ≡ Some t) where
   abbrev h : ℕ
@@ -211,9 +217,9 @@ module _ (e : ℕ) (s : State) (steady : IsSteady s) (other : s.runner ≢ e) (d
   abbrev given_up : State
   given_up = reheld s h t (finite.remove t.held s.runner)
 
-  -- the events by what decides of them: whether e sent it, and whether e sent it or is offered it
+  -- the events by what decides of them: whether e sent it, and whether e is told zeros
   abbrev told : Bool → Bool → List Event
-  told mine known = where_true mine (Held h s.runner None ∷ []) ++ where_true (d.zero && known) (Zeroed h ∷ [])
+  told mine zeros = where_true mine (Held h s.runner None ∷ []) ++ where_true zeros (Zeroed h ∷ [])
 
   abbrev after : State
   after = zeroed_if d.zero (view e given_up) t.ranges
@@ -222,10 +228,10 @@ module _ (e : ℕ) (s : State) (steady : IsSteady s) (other : s.runner ≢ e) (d
   ranges-seen x u is known = ap named_ranges (view-transaction e x h ∙ ap (shown e) is ∙ ap (λ b. option_map (seen_by e) (kept b (Some u))) known)
 
   -- the sender sees who gives up
-  to-sender : (t.sender == e) ≡ true → apply_all e (view e s) (told true true) ≡ after
+  to-sender : (t.sender == e) ≡ true → apply_all e (view e s) (told true d.zero) ≡ after
   to-sender mine =
-      (λ i. apply_all e (with_holder (view e s) h s.runner None (in_view i)) (where_true (d.zero && true) (Zeroed h ∷ [])))
-      ∙ (λ i. apply_all e (sym (view-reheld s steady h t there (finite.remove t.held s.runner) e (not_holding (seen_by e t) s.runner) known (seen-released e s.runner t)) i) (where_true (d.zero && true) (Zeroed h ∷ [])))
+      (λ i. apply_all e (with_holder (view e s) h s.runner None (in_view i)) (where_true d.zero (Zeroed h ∷ [])))
+      ∙ (λ i. apply_all e (sym (view-reheld s steady h t there (finite.remove t.held s.runner) e (not_holding (seen_by e t) s.runner) known (seen-released e s.runner t)) i) (where_true d.zero (Zeroed h ∷ [])))
       ∙ zeroed-told e h d.zero (view e given_up) t.ranges (ranges-seen given_up (not_holding t s.runner) (get-put s.transactions h (not_holding t s.runner)) known)
     where
       known : involves e (Some t) ≡ true
@@ -241,7 +247,7 @@ module _ (e : ℕ) (s : State) (steady : IsSteady s) (other : s.runner ≢ e) (d
         (seen-unheld e t (finite.remove t.held s.runner) not_sender (released-beside t s.runner e (λ same. other (sym same))))
 
     -- another receiver sees zeros alone
-    to-receiver : involves e (Some t) ≡ true → apply_all e (view e s) (told false true) ≡ after
+    to-receiver : involves e (Some t) ≡ true → apply_all e (view e s) (told false d.zero) ≡ after
     to-receiver known = zeroed-told e h d.zero (view e s) t.ranges (ranges-seen s t there known) ∙ sym (ap (λ x. zeroed_if d.zero x t.ranges) unheld)
 
     far : involves e (Some t) ≡ false → (p : ℕ) → names s t.ranges p ≡ true → is_near e s p ≡ false
@@ -251,38 +257,45 @@ module _ (e : ℕ) (s : State) (steady : IsSteady s) (other : s.runner ≢ e) (d
         ∙ ap (λ b. b || false) not_sender
 
     -- and others nothing
-    to-nobody : involves e (Some t) ≡ false → apply_all e (view e s) (told false false) ≡ after
-    to-nobody unknown =
-        untold e d.zero (view e s) (Zeroed h ∷ [])
+    to-nobody : (zeros : Bool) → involves e (Some t) ≡ false → apply_all e (view e s) (told false zeros) ≡ after
+    to-nobody zeros unknown =
+        untold e h zeros (view e s) (view-transaction e s h ∙ ap (shown e) there ∙ ap (λ b. option_map (seen_by e) (kept b (Some t))) unknown)
         ∙ sym (ap (λ x. zeroed_if d.zero x t.ranges) unheld ∙ zeroed-far e s d.zero t.ranges (far unknown))
 
-  told-given_up : apply_all e (view e s) (told (t.sender == e) (involves e (Some t))) ≡ after
-  told-given_up =
-      elim (t.sender == e) as (λ b. (t.sender == e) ≡ b → apply_all e (view e s) (told b (b || is_receiver e t)) ≡ after) [
-        | true ↦ to-sender
-        | false ↦ λ not_sender.
-            elim (is_receiver e t) as (λ b. is_receiver e t ≡ b → apply_all e (view e s) (told false b) ≡ after) [
-              | true ↦ λ offered. to-receiver not_sender (λ i. not_sender i || offered i)
-              | false ↦ λ unknown. to-nobody not_sender (λ i. not_sender i || unknown i)
-            ] refl
-      ] refl
+  -- e is told zeros where there are some, and it sent the transaction or is offered it
+  module _ (zeros : Bool) (asked : zeros ≡ true → d.zero ≡ true) (tells : involves e (Some t) ≡ true → d.zero ≡ true → zeros ≡ true) where
+    told-known : involves e (Some t) ≡ true → zeros ≡ d.zero
+    told-known known = both-ways zeros d.zero asked (tells known)
 
-  other-left : view e (relinquished_from s d (Some t)) ≡ apply_all e (view e s) (told (t.sender == e) (involves e (Some t)) ++ public_change s (relinquished_from s d (Some t)))
-  other-left =
-      other-told e s (relinquished_from s d (Some t)) after (told (t.sender == e) (involves e (Some t))) refl (own-same e s)
-      ((rewritten-zeroed_if d.zero (view e given_up) t.ranges).each ∙ length-map_at (λ p page. kept (is_near e given_up p) page) s.pages)
-      refl told-given_up (sym (zeroed_if-seen e given_up d.zero t.ranges))
+    told-given_up : apply_all e (view e s) (told (t.sender == e) zeros) ≡ after
+    told-given_up =
+        elim (t.sender == e) as (λ b. (t.sender == e) ≡ b → apply_all e (view e s) (told b zeros) ≡ after) [
+          | true ↦ λ mine. ap (λ z. apply_all e (view e s) (told true z)) (told-known (λ i. mine i || is_receiver e t)) ∙ to-sender mine
+          | false ↦ λ not_sender.
+              elim (is_receiver e t) as (λ b. is_receiver e t ≡ b → apply_all e (view e s) (told false zeros) ≡ after) [
+                | true ↦ λ offered. ap (λ z. apply_all e (view e s) (told false z)) (told-known (λ i. not_sender i || offered i)) ∙ to-receiver not_sender (λ i. not_sender i || offered i)
+                | false ↦ λ unknown. to-nobody not_sender zeros (λ i. not_sender i || unknown i)
+              ] refl
+        ] refl
+
+    other-left : view e (relinquished_from s d (Some t)) ≡ apply_all e (view e s) (told (t.sender == e) zeros ++ public_change s (relinquished_from s d (Some t)))
+    other-left =
+        other-told e s (relinquished_from s d (Some t)) after (told (t.sender == e) zeros) refl (own-same e s)
+        ((rewritten-zeroed_if d.zero (view e given_up) t.ranges).each ∙ length-map_at (λ p page. kept (is_near e given_up p) page) s.pages)
+        refl told-given_up (sym (zeroed_if-seen e given_up d.zero t.ranges))
 
 pub other-relinquish : (e : ℕ) (s : State) → IsSteady s → s.runner ≢ e → IsTold e s (memory_relinquish s) (releases e s (relinquish_read s))
 other-relinquish e s steady other = by_descriptor (relinquish_read s)
   where
-    of : (d : RelinquishDesc) (o : Option Transaction) → transaction_of s d.handle ≡ o → first_failure (guards s steady d o) ≡ None
+    of : (d : RelinquishDesc) (o : Option Transaction) → transaction_of s d.handle ≡ o → (zeros : Bool) → (zeros ≡ true → d.zero ≡ true) → (involves e o ≡ true → d.zero ≡ true → zeros ≡ true)
+        → first_failure (guards s steady d o) ≡ None
         → view e (relinquished_from s d o)
-        ≡ apply_all e (view e s) ((where_true (is_from e o) (Held d.handle s.runner None ∷ []) ++ where_true (d.zero && involves e o) (Zeroed d.handle ∷ [])) ++ public_change s (relinquished_from s d o))
-    of d None there none = absurd (false≢true (guard-passes (guards s steady d None) 2 InvalidParameters (sym none)))
-    of d (Some t) there none = other-left e s steady other d t there
+        ≡ apply_all e (view e s) ((where_true (is_from e o) (Held d.handle s.runner None ∷ []) ++ where_true zeros (Zeroed d.handle ∷ [])) ++ public_change s (relinquished_from s d o))
+    of d None there zeros asked tells none = absurd (false≢true (guard-passes (guards s steady d None) 2 InvalidParameters (sym none)))
+    of d (Some t) there zeros asked tells none = other-left e s steady other d t there zeros asked tells
 
     by_descriptor : (d : Option RelinquishDesc) → first_failure (relinquish_guards (buffers_of s s.runner) (offers_of s) s.runner d) ≡ None
         → view e (relinquished s d) ≡ apply_all e (view e s) (releases e s d ++ public_change s (relinquished s d))
     by_descriptor None none = absurd (false≢true (guard-passes (relinquish_guards (buffers_of s s.runner) (offers_of s) s.runner None) 1 InvalidParameters (sym none)))
-    by_descriptor (Some d) none = of d (transaction_of s d.handle) refl none
+    by_descriptor (Some d) none =
+        of d (transaction_of s d.handle) refl _ (λ told. grind (arith, told, cases_Bool d.zero)) (λ known asked. grind (arith, known, asked)) none

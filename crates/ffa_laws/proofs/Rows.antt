@@ -1,6 +1,6 @@
 -- Which calls give which events, and which change the public part.
 use Rattle.std.proofs.Common.{◌≡◌, ◌∙◌, ℕ, Bool, true, false, cond, List, [], ◌∷◌, ◌++◌, map, Option, Some, None, refl, ap}
-use Rattle.std.specs.Prelude.{◌==◌, ◌&&◌, ◌-◌, ◌/◌, filter, not}
+use Rattle.std.specs.Prelude.{◌==◌, ◌&&◌, filter, not}
 use Rattle.std.specs.List.{list_all}
 use Rattle.std.specs.Str.{bytes_eq}
 use Rattle.std.proofs.lemmas.Bool.{and_from, and_parts, eq-eqb, true≢false}
@@ -15,7 +15,7 @@ use Rattle.ffa_model.specs.declared.call.Call as calls
 use Rattle.ffa_model.specs.declared.call.Call.TheVariants.{RxRelease, RxtxMap, RxtxUnmap, PartitionInfoGet, MsgWait, Yield, Run, DirectRequest, DirectResponse, MemDonate, MemLend, MemShare, MemRetrieve, MemRelinquish, MemReclaim, BitmapDestroy, NotificationBind, NotificationUnbind, NotificationSet, MsgSend2}
 use Rattle.ffa_model.specs.SendDescriptor.{SendRecord}
 use Rattle.ffa_model.specs.State.{State, Page, Transaction, transaction_of}
-use Rattle.ffa_model.specs.Access.{is_from, is_offered, is_receiver}
+use Rattle.ffa_model.specs.Access.{is_offered, is_receiver}
 use Rattle.ffa_model.specs.Bits.{bits_of, high_half, low_half, word_of_halves}
 use Rattle.ffa_model.specs.Calls.{encode, first_failure}
 use Rattle.ffa_model.specs.Lists.{listed}
@@ -31,7 +31,6 @@ use Rattle.ffa_model.specs.Step.{serve, service, step}
 use Rattle.ffa_model.specs.Transactions.{bases_of, handle_of, next_handle, offers_of}
 use Rattle.byteorder.specs.Endian.{little_bytes}
 use Rattle.std.proofs.lemmas.Slice.Eq.{bytes_eq-Decides}
-use Rattle.ffa_laws.specs.View.{involves, is_near}
 use Rattle.ffa_laws.specs.Events.{call_events, Event, Wrote, Message, Filled, Pending, Held, Zeroed, Closed, Opened, Public, PublicPart, Unbound, Bound, binds, events, fullness_number, is_same_public, named_pages, opens, public_change, public_part, releases, takes, takes_from, taking, told_by, unbinds, where_passed, where_true, work_number, writes}
 use Rattle.ffa_laws.specs.OwnAccess.{is_call}
 use Rattle.ffa_laws.specs.Silence.{may_be_told, may_change_public, may_tell}
@@ -119,8 +118,7 @@ opened e s kind call (Some r) is =
 
 bound : (e : ℕ) (s : State) (call : calls.Call) (receiver sender : ℕ) (ks : List ℕ) → ((k : ℕ) → told_row call (Bound receiver (class_of e) k) ≡ true) → list_all (told_row call) (binds e s receiver sender ks) ≡ true
 bound e s call receiver sender ks is =
-    let new = filter (λ k. not (is_bound (notifications_of s) receiver (class_of e) k e)) ks in
-    all-where (told_row call) (sender == e) (map (λ k. Bound receiver (class_of e) k) new) (all-mapped (told_row call) (λ k. Bound receiver (class_of e) k) new is)
+    all-where (told_row call) (sender == e) (map (λ k. Bound receiver (class_of e) k) (filter _ ks)) (all-mapped (told_row call) (λ k. Bound receiver (class_of e) k) (filter _ ks) is)
 
 unbound : (e : ℕ) (s : State) (call : calls.Call) (receiver sender : ℕ) (ks : List ℕ) → ((k : ℕ) → told_row call (Unbound receiver (class_of e) k) ≡ true) → list_all (told_row call) (unbinds e s receiver sender ks) ≡ true
 unbound e s call receiver sender ks is =
@@ -144,9 +142,9 @@ taken-row total fragment address pages e s (Some d) = of (transaction_of s d.han
 released-row : (e : ℕ) (s : State) (d : Option RelinquishDesc) → list_all (told_row MemRelinquish) (releases e s d) ≡ true
 released-row e s None = refl
 released-row e s (Some d) =
-    all-both (told_row MemRelinquish) (where_true (is_from e (transaction_of s d.handle)) (Held d.handle s.runner None ∷ [])) (where_true (d.zero && involves e (transaction_of s d.handle)) (Zeroed d.handle ∷ []))
-    (all-one (told_row MemRelinquish) (is_from e (transaction_of s d.handle)) (Held d.handle s.runner None) refl)
-    (all-one (told_row MemRelinquish) (d.zero && involves e (transaction_of s d.handle)) (Zeroed d.handle) refl)
+    all-both (told_row MemRelinquish) (where_true _ (Held d.handle s.runner None ∷ [])) (where_true _ (Zeroed d.handle ∷ []))
+    (all-one (told_row MemRelinquish) _ (Held d.handle s.runner None) refl)
+    (all-one (told_row MemRelinquish) _ (Zeroed d.handle) refl)
 
 pub row-of : (e : ℕ) (s : State) (call : calls.Call) → list_all (told_row call) (told_by e s call) ≡ true
 row-of e s MsgWait = all-one (told_row MsgWait) ((msg_wait s).state.runner == e) (Message (encode (msg_wait s).reply)) refl
@@ -176,10 +174,7 @@ passed-row f (Some code) es all = refl
 public-row : (s : State) (call : calls.Call) → list_all (may_tell call) (public_change s (serve s call).state) ≡ true
 public-row s call =
     elim (may_change_public call) as (λ b. may_change_public call ≡ b → list_all (may_tell call) (public_change s (serve s call).state) ≡ true) [
-      | true ↦ λ may. elim (is_same_public (public_part s) (public_part (serve s call).state)) as (λ b. list_all (may_tell call) (cond b [] (Public (public_part (serve s call).state) ∷ [])) ≡ true) [
-        | true ↦ refl
-        | false ↦ and_from (may_tell call (Public (public_part (serve s call).state))) true (may_public call (public_part (serve s call).state) ∙ may) refl
-      ]
+      | true ↦ λ may. allowed may _
       | false ↦ λ not.
           ap (λ part. list_all (may_tell call) (cond (is_same_public (public_part s) part) [] (Public part ∷ []))) (public-call s call not)
           ∙ ap (λ b. list_all (may_tell call) (cond b [] (Public (public_part s) ∷ []))) (same-as-itself (public_part s))
@@ -187,6 +182,10 @@ public-row s call =
   where
     may_public : (call : calls.Call) (values : PublicPart) → may_tell call (Public values) ≡ may_change_public call
     may_public call values = refl
+
+    allowed : may_change_public call ≡ true → (same : Bool) → list_all (may_tell call) (cond same [] (Public (public_part (serve s call).state) ∷ [])) ≡ true
+    allowed may true = refl
+    allowed may false = and_from (may_tell call (Public (public_part (serve s call).state))) true (may_public call (public_part (serve s call).state) ∙ may) refl
 
 pub call-rows : (e : ℕ) (s : State) (call : calls.Call) → list_all (may_tell call) (call_events e s call) ≡ true
 call-rows e s call =
@@ -202,5 +201,5 @@ rows e s (Call x) =
 rows e s (Load address size) = refl
 rows e s (Store address size value) =
     passed-row (may_be_told (Store address size value)) (store_fault s address (size_of size)) (writes e s address (little_bytes (size_of size) value))
-    (all-one (may_be_told (Store address size value)) (is_near e s ((address - s.ram_base) / 4096)) (Wrote address (little_bytes (size_of size) value)) refl)
+    (all-one (may_be_told (Store address size value)) _ (Wrote address (little_bytes (size_of size) value)) refl)
 rows e s (Fetch address) = refl

@@ -1,6 +1,6 @@
 -- What an endpoint sees of a run is in the outcomes of the run.
 use Rattle.std.proofs.Common.{◌≡◌, ◌≢◌, ◌∙◌, ℕ, Bool, true, false, cond, List, [], ◌∷◌, ◌++◌, map, Option, Some, None, refl, sym, ap, append-nil}
-use Rattle.std.specs.Prelude.{◌==◌, ◌&&◌, ◌-◌, ◌/◌}
+use Rattle.std.specs.Prelude.{◌==◌}
 use Rattle.std.proofs.lemmas.Bool.{eq-eqb, eqb-true, ne_eqb, true≢false}
 use Rattle.std.proofs.lemmas.List.{append_assoc}
 use Rattle.byteorder.specs.Endian.{little_bytes}
@@ -19,7 +19,7 @@ use Rattle.ffa_model.specs.declared.call.Call as calls
 use Rattle.ffa_model.specs.declared.call.Call.TheVariants.{Version, Features, RxRelease, RxtxMap, RxtxUnmap, PartitionInfoGet, IdGet, MsgWait, Yield, Run, DirectRequest, DirectResponse, MemDonate, MemLend, MemShare, MemRetrieve, MemRelinquish, MemReclaim, BitmapCreate, BitmapDestroy, NotificationBind, NotificationUnbind, NotificationSet, NotificationGet, SpmIdGet, MsgSend2, Unknown}
 use Rattle.ffa_model.specs.Bits.{bits_of, high_half, word_of_halves, low_half}
 use Rattle.ffa_model.specs.State.{State, Transaction, transaction_of}
-use Rattle.ffa_model.specs.Access.{is_from, is_offered, is_receiver}
+use Rattle.ffa_model.specs.Access.{is_offered, is_receiver}
 use Rattle.ffa_model.specs.Calls.{Service, Stepped, answered, encode, first_failure}
 use Rattle.ffa_model.specs.Memory.{accessed, fetch_fault, number_at, read_fault, size_of, store_fault, stored}
 use Rattle.ffa_model.specs.Buffers.{filled}
@@ -34,8 +34,7 @@ use Rattle.ffa_model.specs.MemoryRetrieve.{retrieve_read, retrieved, retrieved_f
 use Rattle.ffa_model.specs.MemoryReturn.{relinquish_read, relinquished, relinquished_from}
 use Rattle.ffa_model.specs.Registers.{decode}
 use Rattle.ffa_model.specs.Step.{outcomes, serve, service, step}
-use Rattle.ffa_laws.specs.Events.{Event, Public, Wrote, Message, Filled, Pending, Held, Zeroed, Closed, delivers, events, is_same_public, message, messages, opens, public_change, public_part, releases, seen, switches, takes, takes_from, taking, told_by, where_passed, where_true}
-use Rattle.ffa_laws.specs.View.{involves, is_near}
+use Rattle.ffa_laws.specs.Events.{Event, Public, Wrote, Message, Filled, Pending, Held, Zeroed, Closed, delivers, events, message, messages, opens, public_change, public_part, releases, seen, switches, takes, takes_from, taking, told_by, where_passed, where_true}
 use Rattle.ffa_laws.specs.Isolation.{Shown, runner_after, shown_to}
 
 -- an outcome names who runs then
@@ -51,7 +50,11 @@ messages-append e [] ys = refl
 messages-append e (x ∷ xs) ys = ap (λ zs. message e x ++ zs) (messages-append e xs ys) ∙ sym (append_assoc (message e x) (messages e xs) (messages e ys))
 
 messages-public : (e : ℕ) (s next : State) → messages e (public_change s next) ≡ []
-messages-public e s next = elim (is_same_public (public_part s) (public_part next)) as (λ b. messages e (cond b [] (Public (public_part next) ∷ [])) ≡ []) [ true ↦ refl | false ↦ refl ]
+messages-public e s next = of _
+  where
+    of : (b : Bool) → messages e (cond b [] (Public (public_part next) ∷ [])) ≡ []
+    of true = refl
+    of false = refl
 
 -- ---- events that are no messages
 no_message : (e : ℕ) (b : Bool) (event : Event) → message e event ≡ [] → messages e (where_true b (event ∷ [])) ≡ []
@@ -90,9 +93,13 @@ no_takes e s (Some d) = go (transaction_of s d.handle)
 
 no_releases : (e : ℕ) (s : State) (d : Option RelinquishDesc) → messages e (releases e s d) ≡ []
 no_releases e s None = refl
-no_releases e s (Some d) =
-    messages-append e (where_true (is_from e (transaction_of s d.handle)) (Held d.handle s.runner None ∷ [])) (where_true (d.zero && involves e (transaction_of s d.handle)) (Zeroed d.handle ∷ []))
-    ∙ (λ i. no_message e (is_from e (transaction_of s d.handle)) (Held d.handle s.runner None) refl i ++ no_message e (d.zero && involves e (transaction_of s d.handle)) (Zeroed d.handle) refl i)
+no_releases e s (Some d) = of _ _
+  where
+    of : (mine zeros : Bool) → messages e (where_true mine (Held d.handle s.runner None ∷ []) ++ where_true zeros (Zeroed d.handle ∷ [])) ≡ []
+    of true true = refl
+    of true false = refl
+    of false true = refl
+    of false false = refl
 
 -- who runs on
 runs-offered : (s : State) (kind : Kind) (r : Option SendRecord) → (memory_sent s kind r).runner ≡ s.runner
@@ -183,7 +190,7 @@ module _ (e : ℕ) (s : State) (differ : s.runner ≢ e) where
       ∙ shows-answered (service s (decode x)) (told_by e s (decode x)) (first_failure (service s (decode x)).guards) (shows-service (decode x))
   shows-step (Load address size) = accesses s (Data (number_at s address (size_of size))) (read_fault s address (size_of size)) refl
   shows-step (Store address size value) =
-      no_wrote (store_fault s address (size_of size)) (is_near e s ((address - s.ram_base) / 4096)) address (little_bytes (size_of size) value)
+      no_wrote (store_fault s address (size_of size)) _ address (little_bytes (size_of size) value)
       ∙ accesses (stored s address (little_bytes (size_of size) value)) Done (store_fault s address (size_of size)) refl
   shows-step (Fetch address) = accesses s (Data (number_at s address 4)) (fetch_fault s address) refl
 

@@ -39,7 +39,7 @@ use Rattle.ffa_model.proofs.Guards.{guard-passes}
 use Rattle.ffa_model.proofs.NamedPages.{listed-each}
 use Rattle.ffa_laws.specs.Isolation.{fills_rx_page, is_send2}
 use Rattle.ffa_laws.specs.Steady.{IsSteady}
-use Rattle.ffa_laws.specs.Writers.{OnlyWriters, is_filled_by}
+use Rattle.ffa_laws.specs.Writers.{OnlyWriters, is_filled_by, is_reclaim, is_reclaimed_by}
 use Rattle.ffa_laws.proofs.Form.{accessed-kept, served-kept}
 use Rattle.ffa_laws.proofs.Given.{page-given}
 use Rattle.ffa_laws.proofs.SendLaws.{IsOffer, free, no-offer, offer, offered-owner}
@@ -219,7 +219,7 @@ module _ (s : State) (sound : IsSoundState s) (p : ℕ) (no_right : may_store (a
       (ap (λ o. option_map_or (λ (x : Buffers). x.rx == p) o false) is ∙ eq-eqb b.rx p (sym same)))) ∙ not_filled))
 
   only-service : (call : calls.Call) → (is_send2 call && fills_rx_page s (header_in (tx_bytes s s.runner)).receiver p) ≡ false → first_failure (service s call).guards ≡ None
-      → may_store (access (service s call).state s.runner p) ≡ false → page_bytes (service s call).state p ≡ page_bytes s p
+      → (is_reclaim call && may_store (access (service s call).state s.runner p)) ≡ false → page_bytes (service s call).state p ≡ page_bytes s p
   only-service (PartitionInfoGet uuid flags) not_filled none later =
       elim (is_count_alone flags) as (λ b. page_bytes (cond b s (filled s s.runner (info_bytes s.parties (uuid_bytes uuid)))) p ≡ page_bytes s p) [
         | true ↦ refl
@@ -234,14 +234,14 @@ module _ (s : State) (sound : IsSoundState s) (p : ℕ) (no_right : may_store (a
   only-service MsgSend2 not_filled none later = delivered-elsewhere none not_filled
   only-service call not_filled none later = refl
 
-  only-op : (op : Op) → is_filled_by op s p ≡ false → may_store (access (step s op).state s.runner p) ≡ false → page_bytes (step s op).state p ≡ page_bytes s p
-  only-op (Call x) not_filled =
-      served-kept (λ t. may_store (access t s.runner p) ≡ false → page_bytes t p ≡ page_bytes s p) s (service s (decode x)) (λ later. refl) (only-service (decode x) not_filled)
-  only-op (Load address size) not_filled = accessed-kept (λ t. may_store (access t s.runner p) ≡ false → page_bytes t p ≡ page_bytes s p) s s (Data (number_at s address (size_of size))) (read_fault s address (size_of size)) (λ later. refl) (λ none later. refl)
-  only-op (Store address size value) not_filled =
-      accessed-kept (λ t. may_store (access t s.runner p) ≡ false → page_bytes t p ≡ page_bytes s p) s (stored s address (little_bytes (size_of size) value)) Done (store_fault s address (size_of size)) (λ later. refl)
-      (λ none later. elsewhere s.pages ((address - s.ram_base) / 4096) p (address % 4096) (little_bytes (size_of size) value) (stored-elsewhere address (size_of size) none))
-  only-op (Fetch address) not_filled = accessed-kept (λ t. may_store (access t s.runner p) ≡ false → page_bytes t p ≡ page_bytes s p) s s (Data (number_at s address 4)) (fetch_fault s address) (λ later. refl) (λ none later. refl)
+  only-op : (op : Op) → is_filled_by op s p ≡ false → is_reclaimed_by op s p ≡ false → page_bytes (step s op).state p ≡ page_bytes s p
+  only-op (Call x) not_filled later =
+      served-kept (λ t. (is_reclaim (decode x) && may_store (access t s.runner p)) ≡ false → page_bytes t p ≡ page_bytes s p) s (service s (decode x)) (λ later. refl) (only-service (decode x) not_filled) later
+  only-op (Load address size) not_filled later = accessed-kept (λ t. page_bytes t p ≡ page_bytes s p) s s (Data (number_at s address (size_of size))) (read_fault s address (size_of size)) refl (λ none. refl)
+  only-op (Store address size value) not_filled later =
+      accessed-kept (λ t. page_bytes t p ≡ page_bytes s p) s (stored s address (little_bytes (size_of size) value)) Done (store_fault s address (size_of size)) refl
+      (λ none. elsewhere s.pages ((address - s.ram_base) / 4096) p (address % 4096) (little_bytes (size_of size) value) (stored-elsewhere address (size_of size) none))
+  only-op (Fetch address) not_filled later = accessed-kept (λ t. page_bytes t p ≡ page_bytes s p) s s (Data (number_at s address 4)) (fetch_fault s address) refl (λ none. refl)
 
 pub only_writers : (s : State) (op : Op) → IsSoundState s → OnlyWriters s op
-only_writers s op sound p no_right later not_filled = only-op s sound p no_right op not_filled later
+only_writers s op sound p no_right not_reclaimed not_filled = only-op s sound p no_right op not_filled not_reclaimed

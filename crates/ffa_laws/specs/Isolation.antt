@@ -84,11 +84,14 @@ is_indirect_message (Load addr size) = false
 is_indirect_message (Store addr size value) = false
 is_indirect_message (Fetch addr) = false
 
+-- whether e has mapped buffers, and this page is its RX
+abbrev pub is_rx : State → ℕ → ℕ → Bool
+is_rx s e p = option_map_or (λ (b : Buffers). b.rx == p) (buffers_of s e) false
+
 -- whether an indirect message of the runner isn't refused, and this page is its receiver's RX, where the receiver is e
 abbrev pub fills_rx_page : State → ℕ → ℕ → Bool
 fills_rx_page s e p =
-    is_none (first_failure (msg_send2 s).guards)
-    && ((header_in (tx_bytes s s.runner)).receiver == e && option_map_or (λ (b : Buffers). b.rx == p) (buffers_of s e) false)
+    is_none (first_failure (msg_send2 s).guards) && ((header_in (tx_bytes s s.runner)).receiver == e && is_rx s e p)
 
 -- From s to t the bytes of a page that its owner has alone stay while another endpoint runs, but for a message into the
 -- owner's RX.

@@ -29,12 +29,14 @@ is_call test (Load addr size) = false
 is_call test (Store addr size value) = false
 is_call test (Fetch addr) = false
 
--- nobody is offered what it has sent itself
+-- Nobody is offered what it has sent itself. So it is at first and after each operation, but not in every sound state.
 abbrev pub AreApart : State → Type 0
 AreApart s = (h : ℕ) (t : Transaction) → transaction_of s h ≡ Some t → is_receiver t.sender t ≡ false
 
--- One operation: nobody's access changes but the runner's. The runner's grows only by FFA_MEM_RETRIEVE_REQ and
--- FFA_MEM_RECLAIM, and shrinks only by FFA_MEM_DONATE, FFA_MEM_LEND and FFA_MEM_RELINQUISH.
+-- One operation, in a state in which nobody is offered what it has sent itself: nobody's access changes but the
+-- runner's. The runner's grows only by FFA_MEM_RETRIEVE_REQ and FFA_MEM_RECLAIM, and shrinks only by FFA_MEM_DONATE,
+-- FFA_MEM_LEND and FFA_MEM_RELINQUISH. Who is offered its own share would get its rights back by giving it up, and lose
+-- them by taking it.
 pub record OwnAccess (s : State) (op : Op) : Type 0 where
   pub others : (e p : ℕ) → s.runner ≢ e → access (step s op).state e p ≡ access s e p
   pub grows : (p : ℕ) → is_call gives_access op ≡ false → is_within (access (step s op).state s.runner p) (access s s.runner p) ≡ true

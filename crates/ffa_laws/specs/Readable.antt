@@ -47,9 +47,11 @@ abbrev pub all_readably : ℕ → State → List Event → List Event
 all_readably e s [] = []
 all_readably e s (event ∷ events) = readably e s event ++ all_readably e s events
 
--- One operation of the runner, from two states in which it can read the same: it has the same outcome, and leaves states
--- in which the runner can read the same, if what becomes readable to it is the same. That is nothing, but where it retrieves or
--- reclaims. And one of another endpoint changes what e can read by what is told to it readably alone.
+-- One operation of the runner, from two states in which it can read the same: it has the same outcome, and leaves
+-- states in which the runner can read the same, if what becomes readable to it is the same. Where it neither retrieves
+-- nor reclaims, and in the other state, too, nobody is offered what it sent itself, no such condition is needed. And an
+-- operation of another endpoint changes what e can read by what is told to it readably alone. All this is of states s
+-- in which nobody is offered what it sent itself.
 pub record Confidential (s : State) (op : Op) : Type 0 where
   pub outcome : (t : State) → IsSteady t → readable s.runner t ≡ readable s.runner s → (step t op).outcome ≡ (step s op).outcome
   pub own :
@@ -75,7 +77,8 @@ readings e s [] = []
 readings e s (op ∷ ops) =
     (if s.runner == e then Did op (revealed e s (step s op).state) ∷ [] else each Heard (all_readably e s (events e s op))) ++ readings e (step s op).state ops
 
--- what e sees of a run, and what it can read after it, depend on what it can read at the start and on these alone
+-- From two states in which nobody is offered what it sent itself: what e sees of a run, and what it can read after it,
+-- depend on what it can read at the start and on these readings alone.
 abbrev pub RunConfidential : State → List Op → Type 0
 RunConfidential s ops =
     (e : ℕ) (t : State) (others : List Op) → is_known s e ≡ true → IsSteady t → AreApart t → readable e t ≡ readable e s → readings e t others ≡ readings e s ops

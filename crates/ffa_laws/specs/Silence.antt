@@ -1,11 +1,14 @@
--- What nobody is told: the calls that may give each event, and that no event is told in vain.
-use Rattle.std.specs.Prelude.{◌≡◌, ◌≢◌, ℕ, Bool, true, false, List, [], ◌∷◌}
+-- What nobody is told: the calls that may give each event, which events change the view, and that the others are about
+-- something that stands in the view.
+use Rattle.std.specs.Prelude.{◌≡◌, ◌≢◌, ◌-◌, ◌/◌, ℕ, Bool, true, false, is_some, List, [], ◌∷◌}
 use Rattle.std.specs.List.{list_all}
 use Rattle.ffa_model.specs.declared.operation.Op.{Op}
 use Rattle.ffa_model.specs.declared.operation.Op.TheVariants.{Call, Store}
 use Rattle.ffa_model.specs.declared.call.Call as calls
 use Rattle.ffa_model.specs.declared.call.Call.TheVariants.{RxRelease, RxtxMap, RxtxUnmap, PartitionInfoGet, MsgWait, Yield, Run, DirectRequest, DirectResponse, MemDonate, MemLend, MemShare, MemRetrieve, MemRelinquish, MemReclaim, BitmapDestroy, NotificationBind, NotificationUnbind, NotificationSet, MsgSend2}
-use Rattle.ffa_model.specs.State.{State, is_known}
+use Rattle.ffa_model.specs.State.{State, buffers_of, is_known, page_at, transaction_of}
+use Rattle.ffa_model.specs.Notifications.{has_bitmaps_in, notifications_of}
+use Rattle.ffa_model.specs.SoundState.{IsSoundState}
 use Rattle.ffa_model.specs.Registers.{decode}
 use Rattle.ffa_model.specs.Step.{step}
 use Rattle.ffa_laws.specs.View.{view}
@@ -72,10 +75,27 @@ abbrev pub AreNews : ℕ → State → List Event → Type 0
 AreNews e v [] = Unit {0}
 AreNews e v (event ∷ later) = (may_repeat event ≡ false → apply e v event ≢ v) × AreNews e (apply e v event) later
 
+-- Whether what an event is about stands in the view of e: the page of a write, e's own buffers, its bitmaps, and the
+-- transaction whose pages are zeroed.
+abbrev pub is_met : ℕ → State → Event → Bool
+is_met e v (Wrote address bytes) = is_some (page_at v ((address - v.ram_base) / 4096))
+is_met e v (Filled bytes) = is_some (buffers_of v e)
+is_met e v (Pending class bits) = has_bitmaps_in (notifications_of v) e
+is_met e v (Zeroed h) = is_some (transaction_of v h)
+is_met e v event = true
+
+-- events that are told to e one after another, from a view on: each meets in its view what it is about
+abbrev pub AreMet : ℕ → State → List Event → Type 0
+AreMet e v [] = Unit {0}
+AreMet e v (event ∷ later) = (is_met e v event ≡ true) × AreMet e (apply e v event) later
+
 pub record Silence (s : State) (op : Op) : Type 0 where
   -- an operation gives only the events of its row
   pub rows : (e : ℕ) → list_all (may_be_told op) (events e s op) ≡ true
   -- all but these calls leave the public part as it was
   pub public : is_call may_change_public op ≡ false → public_part (step s op).state ≡ public_part s
-  -- what another is told changes its view
+  -- what another is told changes its view, but for events that may repeat
   pub news : (e : ℕ) → is_known s e ≡ true → s.runner ≢ e → AreNews e (view e s) (events e s op)
+  -- and what may repeat, but for a message, is about something in its view; in a sound state, where a bit is bound only
+  -- to whose receiver has bitmaps
+  pub meets : IsSoundState s → (e : ℕ) → is_known s e ≡ true → s.runner ≢ e → AreMet e (view e s) (events e s op)

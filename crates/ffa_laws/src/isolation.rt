@@ -18,9 +18,9 @@ ghost use Rattle.ffa_laws.specs.Silence.{Silence};
 ghost use Rattle.ffa_laws.specs.Writers.{OnlyWriters};
 ghost use Rattle.ffa_laws.specs.Isolation.{Integrity, Isolated, LeavesBytes, NeverGrow, OneCall, OneStep, Shown, is_send2};
 
-/// One call, served yet or not: it tells another endpoint its events, and its outcome depends on the runner's view alone. A
-/// state that is steady or sound stays so, rights don't grow, and a page that its owner has alone keeps its bytes while
-/// another endpoint runs, but for a message into its RX.
+/// One call: another endpoint's view changes by the events that the call tells it, and the outcome and the runner's
+/// view afterwards depend on the runner's view alone. A state that is steady or sound stays so, rights don't grow, and
+/// a page that its owner has alone keeps its bytes while another endpoint runs, but for a message into its RX.
 pub fn one_call()
     ensures call { (s : State) (call : Call) → IsSteady s → OneCall s call }
     ensures steady { (s : State) (call : Call) → IsSteady s → IsSteady (serve s call).state }
@@ -29,8 +29,9 @@ pub fn one_call()
     ensures integrity { (s : State) (call : Call) → IsSteady s → LeavesBytes (is_send2 call) s (serve s call).state }
 {}
 
-/// One operation: it tells another endpoint its events, and its outcome depends on the runner's view alone. Rights don't
-/// grow, and a state that is steady or sound stays so.
+/// One operation: another endpoint's view changes by the events that the operation tells it, and the outcome and the
+/// runner's view afterwards depend on the runner's view alone. Rights don't grow, and a state that is steady or sound
+/// stays so.
 pub fn one_step()
     ensures step { (s : State) (op : Op) → IsSteady s → OneStep s op }
     ensures never_grow { (s : State) (op : Op) → IsSteady s → NeverGrow s (step s op).state }
@@ -56,32 +57,39 @@ pub fn integrity()
     ensures { (s : State) (op : Op) → IsSteady s → Integrity s op }
 {}
 
-/// A page that an endpoint has alone is after a run what it was, where it didn't run and got no message into its RX.
+/// A page that an endpoint has alone is after a run what it was, and its own alone, where the endpoint didn't run and,
+/// if the page is its RX, got no message into it.
 pub fn run_integrity()
     ensures { (s : State) (ops : List Op) → IsSteady s → RunIntegrity s ops }
 {}
 
-/// The bytes of a page change only where the runner may write to it, or where an indirect message fills its receiver's RX.
+/// The bytes of a page change only where the runner may write to it before, where it reclaims the page and may write to
+/// it then, or where an indirect message fills its receiver's RX.
 pub fn only_writers()
     ensures { (s : State) (op : Op) → IsSoundState s → OnlyWriters s op }
 {}
 
-/// Only an endpoint's own calls change its access: which of them give, and which take. That nobody is offered what it sent
-/// itself holds at first, and stays so.
+/// In a state in which nobody is offered what it sent itself, only an endpoint's own calls change its access: which of
+/// them may give, and which may take. That nobody is offered what it sent itself holds at first, and stays so.
 pub fn own_access()
     ensures access { (s : State) (op : Op) → IsSteady s → AreApart s → OwnAccess s op }
     ensures stays { (s : State) (op : Op) → AreApart s → AreApart (step s op).state }
     ensures first { (base blocks : ℕ) (es : List Endpoint) → AreApart (first base blocks es) }
 {}
 
-/// What an endpoint sees depends on bytes that it can read alone: not on those of a page that it has lent away, or that is
-/// offered to it and not retrieved.
+/// In states in which nobody is offered what it sent itself, what an endpoint sees, and what it can read afterwards,
+/// depend on what it can read before, on its own operations with what they reveal to it, and on what it is told
+/// readably alone. The bytes of a page are in none of these while it has no access to the page: while it has lent it
+/// away, or is offered it and hasn't retrieved it.
 pub fn confidential()
     ensures step { (s : State) (op : Op) → IsSteady s → AreApart s → Confidential s op }
     ensures run { (s : State) (ops : List Op) → IsSteady s → AreApart s → RunConfidential s ops }
 {}
 
-/// No event is told in vain: each operation gives only the events of its row, and what may not repeat changes the view.
+/// Each operation gives only the events of its row, and only some calls change the public part. What another endpoint
+/// is told changes its view, but for messages, and for writes, filled RX, pending bits and zeros, which may be told
+/// again. These are, in a sound state, about something in its view: the page that is written to, its own buffers and
+/// its own bitmaps, and the transaction whose pages are zeroed.
 pub fn silence()
     ensures { (s : State) (op : Op) → IsSteady s → Silence s op }
 {}

@@ -184,10 +184,20 @@ impl<M: PhysMem + Drop, T: Translations + Drop> Machine<M, T> {
         ensures step { OneStep self.old.state op.now }
         ensures integrity { Integrity self.old.state op.now }
 
-        // Nothing is told in vain, and no byte that can't be read. Rights don't grow, nobody's access changes but the runner's, and only where the runner may
-        // write do bytes change, but for an indirect message into its receiver's RX.
+        // An operation gives only the events of its row, and only some calls change the public part. What is told to
+        // another endpoint changes its view, but for messages, and for bytes, zeros and pending bits, which may be told
+        // again: these are about a page, a transaction, or buffers or bitmaps of its own that stand in its view.
         ensures silence { Silence self.old.state op.now }
+
+        // From another state in which the runner can read the same, the operation has the same outcome, and the runner
+        // can read the same after it, if the same is revealed to it; or if the operation neither retrieves nor reclaims
+        // and in that state, too, nobody is offered what it sent itself. What another endpoint can read changes by what
+        // it is told readably alone. Events tell more: bytes too that it can't read.
         ensures confidential { Confidential self.old.state op.now }
+
+        // Rights don't grow, and nobody's access changes but the runner's. A page's bytes change only where the runner
+        // may write to it before, or reclaims it and may write to it then, or where an indirect message fills its
+        // receiver's RX.
         ensures never_grow { NeverGrow self.old.state self.new.state }
         ensures own_access { OwnAccess self.old.state op.now }
         ensures only_writers { OnlyWriters self.old.state op.now }
@@ -248,14 +258,18 @@ impl<M: PhysMem + Drop, T: Translations + Drop> Machine<M, T> {
         // were filled in.
         ensures isolated { Isolated self.old.state ops.now }
         ensures replays { Replays self.old.state ops.now }
-        ensures confidential { RunConfidential self.old.state ops.now }
         ensures shown { (e : ℕ) → shown_to e self.old.state.runner filled.new ≡ seen e self.old.state ops.now }
+
+        // So too from every state in which it can read the same, and nobody is offered what it sent itself, with every
+        // list of operations that reveals the same to it and tells it the same readably.
+        ensures confidential { RunConfidential self.old.state ops.now }
 
         // No base right is above the one before, no access above the base right, and the manager's pages stay its own.
         ensures never_grow { NeverGrow self.old.state self.new.state }
 
-        // A page that an endpoint has alone is what it was, where the endpoint didn't run and got no message into its RX.
-        ensures integrity { RunIntegrity self.old.state ops.now }
+        // A page that an endpoint has alone is what it was, where the endpoint didn't run and, if the page is its RX,
+        // got no message into it.
+        ensures run_integrity { RunIntegrity self.old.state ops.now }
     {
         self.manager.holds();
         self.operate_all(ops, filled);

@@ -27,8 +27,8 @@ returns-clause-replays g c =
     replays-now c.args.self.now.state
     (subst (λ (seen : Snapshot). IsSoundState seen.state) c.self.view_is c.holds.ensures.sound) c.args.ops.now
 
-pub returns-clause-integrity : goal.returns-clause-integrity
-returns-clause-integrity g c =
+pub returns-clause-run_integrity : goal.returns-clause-run_integrity
+returns-clause-run_integrity g c =
     run_integrity-now c.args.self.now.state
     (subst (λ (seen : Snapshot). IsSoundState seen.state) c.self.view_is c.holds.ensures.sound) c.args.ops.now
 
