@@ -45,7 +45,7 @@ relive-heard e hides (x ∷ es) v rest same =
     ∙ (let later = relive e hides (blank hides (apply_all e (apply e v x) es)) rest in λ i. record later { seen = sym (append_assoc (message e x) (messages e es) later.seen) i })
 
 -- messages are heard as they are told
-heard-messages : (e : ℕ) (s : State) (es : List Event) → messages e (all_readably e s es) ≡ messages e es
+pub heard-messages : (e : ℕ) (s : State) (es : List Event) → messages e (all_readably e s es) ≡ messages e es
 heard-messages e s [] = refl
 heard-messages e s (x ∷ es) = messages-append (readably e s x) (all_readably e s es) ∙ (λ i. one x i ++ heard-messages e s es i)
   where

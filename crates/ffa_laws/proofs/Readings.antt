@@ -52,7 +52,7 @@ standing-blank false page = refl
 standing-blank true None = refl
 standing-blank true (Some q) = refl
 
-kept-blank : (k c : Bool) (page : Option Page) → kept k (blank_where c page) ≡ blank_where c (kept k page)
+pub kept-blank : (k c : Bool) (page : Option Page) → kept k (blank_where c page) ≡ blank_where c (kept k page)
 kept-blank true c page = refl
 kept-blank false c page = sym (blank-none c)
 
@@ -64,7 +64,7 @@ module _ (s : State) (hides : ℕ → Bool) where
         same = λ p. ap standing (at-blanked hides s.pages p) ∙ standing-blank (hides p) (page_at s p);
       }
 
-  view-blank : (e : ℕ) → view e (blank hides s) ≡ blank hides (view e s)
+  pub view-blank : (e : ℕ) → view e (blank hides s) ≡ blank hides (view e s)
   view-blank e =
       view-changed e s (blanked hides s.pages) s.buffers (schedule_of s) rewritten-blanked
       ∙ (λ i. with_parts (view e s) (pages i) (view e s).buffers (schedule_of s))
@@ -78,7 +78,7 @@ module _ (s : State) (hides : ℕ → Bool) where
   steady-blank : IsSteady s → IsSteady (blank hides s)
   steady-blank steady = steady-changed s steady (blanked hides s.pages) s.buffers (schedule_of s) rewritten-blanked refl steady.runner steady.requesters steady.buffers
 
-some-shown : (o : Option Rights) → is_some o ≡ true → is_none o ≡ false
+pub some-shown : (o : Option Rights) → is_some o ≡ true → is_none o ≡ false
 some-shown None is = absurd (false≢true is)
 some-shown (Some right) is = refl
 
@@ -87,7 +87,7 @@ shown-some None is = absurd (true≢false is)
 shown-some (Some right) is = refl
 
 -- the same access where pages differ in such bytes at most
-same-access : (hides : ℕ → Bool) (s t : State) → blank hides s ≡ blank hides t → (e p : ℕ) → access s e p ≡ access t e p
+pub same-access : (hides : ℕ → Bool) (s t : State) → blank hides s ≡ blank hides t → (e p : ℕ) → access s e p ≡ access t e p
 same-access hides s t same e p = sym (access-b s hides e p) ∙ ap (λ u. access u e p) same ∙ access-b t hides e p
 
 -- ---- an operation of the runner
@@ -275,7 +275,7 @@ module _ (e : ℕ) (hides : ℕ → Bool) where
   base-kept v event = refl
 
   -- a write that can't be read
-  write-blank : (w : State) (p at : ℕ) (bytes : List ℕ) → hides p ≡ true → blanked hides (written_pages w.pages p at bytes) ≡ blanked hides w.pages
+  pub write-blank : (w : State) (p at : ℕ) (bytes : List ℕ) → hides p ≡ true → blanked hides (written_pages w.pages p at bytes) ≡ blanked hides w.pages
   write-blank w p at bytes hidden =
       map_at-set (λ q page. blank_where (hides q) page) w.pages p (page_with at bytes (page_at w p))
       ∙ ap (set (blanked hides w.pages) p) (ap (λ c. blank_where c (page_with at bytes (page_at w p))) hidden ∙ without (page_at w p) ∙ sym (at-blanked hides w.pages p ∙ ap (λ c. blank_where c (page_at w p)) hidden))
@@ -369,7 +369,7 @@ module _ (e : ℕ) (s : State) where
     seen-ranges h t there false unknown p named = absurd (false≢true (sym (ap (λ o. names s (named_ranges o) p) (view-transaction e s h ∙ ap (shown e) there ∙ ap (λ b. option_map (seen_by e) (kept b (Some t))) unknown)) ∙ named))
 
     -- pages of a lend that e doesn't hold
-    lent-away : (h : ℕ) (t : Transaction) → transaction_of s h ≡ Some t → is_lend t.kind ≡ true → is_held_by e (transaction_of s h) ≡ false → (p : ℕ) → names s t.ranges p ≡ true → is_unreadable s e p ≡ true
+    pub lent-away : (h : ℕ) (t : Transaction) → transaction_of s h ≡ Some t → is_lend t.kind ≡ true → is_held_by e (transaction_of s h) ≡ false → (p : ℕ) → names s t.ranges p ≡ true → is_unreadable s e p ≡ true
     lent-away h t there lend unheld p named =
         ap is_none (ap (right_of e (page_at s p)) (named-in s p h t (λ k j at_k at_j. steady.one p k j at_k at_j) there named)
         ∙ shareless e (page_at s p) t (none (held_by t e) (sym (ap (is_held_by e) there) ∙ unheld)) (no-share t.kind lend))

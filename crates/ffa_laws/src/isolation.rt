@@ -11,6 +11,7 @@ ghost use Rattle.ffa_model.specs.State.{State};
 ghost use Rattle.ffa_model.specs.Step.{serve, state_after, step};
 ghost use Rattle.ffa_laws.specs.Steady.{IsSteady};
 ghost use Rattle.ffa_laws.specs.OwnAccess.{AreApart, OwnAccess};
+ghost use Rattle.ffa_laws.specs.Loans.{OfferSaysNothing, ZeroedIsForgotten};
 ghost use Rattle.ffa_laws.specs.Readable.{Confidential, RunConfidential};
 ghost use Rattle.ffa_laws.specs.Replay.{Replays};
 ghost use Rattle.ffa_laws.specs.RunIntegrity.{RunIntegrity};
@@ -79,6 +80,13 @@ pub fn own_access()
 pub fn confidential()
     ensures step { (s : State) (op : Op) → IsSteady s → AreApart s → Confidential s op }
     ensures run { (s : State) (ops : List Op) → IsSteady s → AreApart s → RunConfidential s ops }
+{}
+
+/// What a borrower writes into a loan is forgotten once it is zeroed: nothing that comes later depends on it, and nobody else
+/// is told of it. And an offer says nothing of the bytes of its pages to who doesn't retrieve it.
+pub fn loans()
+    ensures zeroed { (s : State) → IsSteady s → ZeroedIsForgotten s }
+    ensures offered { (s : State) (op : Op) (later : List Op) → IsSteady s → AreApart s → OfferSaysNothing s op later }
 {}
 
 /// No event is told in vain: each operation gives only the events of its row, and what may not repeat changes the view.
