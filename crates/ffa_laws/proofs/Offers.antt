@@ -143,8 +143,8 @@ module _ (s : State) (steady : IsSteady s) (op : Op) (h : ℕ) (opened : IsOpene
       ap is_none (ap (λ o. right_of e (page_at s p) (option_and_then (transaction_of s) o)) its.unnamed
       ∙ ownerless e (page_at s p) (ap (λ f. f == e) its.owner ∙ ne_eqb s.runner e other))
 
-pub offer_says_nothing : (s : State) (op : Op) (later : List Op) → IsSteady s → AreApart s → OfferSaysNothing s op later
-offer_says_nothing s op later steady apart e h t other new sealed same = of (comes s h op)
+pub offer_says_nothing : (s : State) (op : Op) → IsSteady s → AreApart s → OfferSaysNothing s op
+offer_says_nothing s op steady apart e h later t other new sealed same = of (comes s h op)
   where
     waiting : IsWaiting e h (step s op).state
     waiting = waits-now e h (step s op).state later sealed

@@ -1,9 +1,9 @@
 -- What an endpoint can read: its own operations, and those of others.
-use Rattle.std.proofs.Common.{◌+◌, ◌*◌, ◌≡◌, ◌≢◌, ◌∙◌, ℕ, ◌-◌, ◌/◌, ◌%◌, Bool, true, false, cond, List, [], ◌∷◌, length, get_or, set, Option, Some, None, is_some, refl, sym, ap, subst, ◌++◌, option_map}
+use Rattle.std.proofs.Common.{arith, ◌+◌, ◌*◌, ◌≡◌, ◌≢◌, ◌∙◌, ℕ, ◌-◌, ◌/◌, ◌%◌, Bool, true, false, cond, List, [], ◌∷◌, length, get_or, set, Option, Some, None, is_some, refl, sym, ap, subst, ◌++◌, option_map}
 use Rattle.std.specs.Prelude.{◌&&◌, is_none, not, ◌||◌}
 use Rattle.std.specs.List.{list_all}
 use Rattle.std.proofs.Math.Path.{fun_ext}
-use Rattle.std.proofs.lemmas.Bool.{false≢true, true≢false, and_parts, eq-eqb}
+use Rattle.std.proofs.lemmas.Bool.{cases_Bool, false≢true, true≢false, and_parts, eq-eqb}
 use Rattle.std.proofs.lemmas.List.{set-get_or}
 use Rattle.byteorder.specs.Endian.{little_bytes}
 use Rattle.ffa_model.specs.declared.operation.Op.{Op}
@@ -298,25 +298,38 @@ module _ (e : ℕ) (s : State) where
   AreFit w [] = Unit {0}
   AreFit w (x ∷ xs) = Fits w x × AreFit (apply_all e w (readably e s x)) xs
 
-  -- what is told readably changes what isn't blank as the event does
-  readably-same : (w : State) → w.ram_base ≡ s.ram_base → (event : Event) → Fits w event → blank hidden (apply e w event) ≡ blank hidden (apply_all e w (readably e s event))
-  readably-same w base (Wrote address bytes) fits =
-      elim (hidden ((address - s.ram_base) / 4096)) as (λ c. hidden ((address - s.ram_base) / 4096) ≡ c → blank hidden (apply e w (Wrote address bytes)) ≡ blank hidden (apply_all e w (where_true (not c) (Wrote address bytes ∷ [])))) [
-        | true ↦ λ is. (λ i. record w { pages = write-blank e hidden w ((address - w.ram_base) / 4096) (address % 4096) bytes (ap (λ base. hidden ((address - base) / 4096)) base ∙ is) i })
-        | false ↦ λ is. refl
-      ] refl
-  readably-same w base (Opened h t pages) fits =
+  -- a write that isn't told goes to a page that e can't read
+  written-readably : (w : State) → w.ram_base ≡ s.ram_base → (address : ℕ) (bytes : List ℕ) (told : Bool) → (told ≡ false → hidden ((address - s.ram_base) / 4096) ≡ true)
+      → blank hidden (apply e w (Wrote address bytes)) ≡ blank hidden (apply_all e w (where_true told (Wrote address bytes ∷ [])))
+  written-readably w base address bytes true untold = refl
+  written-readably w base address bytes false untold =
+      λ i. record w { pages = write-blank e hidden w ((address - w.ram_base) / 4096) (address % 4096) bytes (ap (λ base. hidden ((address - base) / 4096)) base ∙ untold refl) i }
+
+  -- pages that are told without bytes can't be read
+  opened-readably : (w : State) (h : ℕ) (t : Transaction) (pages : List (Option Page)) (without : ℕ → Bool) → ((p : ℕ) → without p ≡ true → hidden p ≡ true)
+      → blank hidden (with_opened w h t pages) ≡ blank hidden (with_opened w h t (blanked without pages))
+  opened-readably w h t pages without far =
       λ i. record (with_opened w h t pages) { pages = each i }
     where
-      at : (p : ℕ) (n : Bool) (page : Option Page) → blank_where (hidden p) (cond n (get_or pages p None) page) ≡ blank_where (hidden p) (cond n (get_or (blanked hidden pages) p None) page)
-      at p true page = sym (ap (blank_where (hidden p)) (at-blanked hidden pages p) ∙ blank-twice (hidden p) (get_or pages p None))
+      once : (c d : Bool) (page : Option Page) → (d ≡ true → c ≡ true) → blank_where c (blank_where d page) ≡ blank_where c page
+      once true true page more = blank-twice true page
+      once false true page more = absurd (false≢true (more refl))
+      once c false page more = refl
+
+      at : (p : ℕ) (n : Bool) (page : Option Page) → blank_where (hidden p) (cond n (get_or pages p None) page) ≡ blank_where (hidden p) (cond n (get_or (blanked without pages) p None) page)
+      at p true page = sym (ap (blank_where (hidden p)) (at-blanked without pages p) ∙ once (hidden p) (without p) (get_or pages p None) (far p))
       at p false page = refl
 
-      each : blanked hidden (with_opened w h t pages).pages ≡ blanked hidden (with_opened w h t (blanked hidden pages)).pages
+      each : blanked hidden (with_opened w h t pages).pages ≡ blanked hidden (with_opened w h t (blanked without pages)).pages
       each =
           map_at-twice (λ p page. blank_where (hidden p) page) (λ p page. cond (names w t.ranges p) (get_or pages p None) page) w.pages
           ∙ map_at-same _ _ w.pages (λ p page. at p (names w t.ranges p) page)
-          ∙ sym (map_at-twice (λ p page. blank_where (hidden p) page) (λ p page. cond (names w t.ranges p) (get_or (blanked hidden pages) p None) page) w.pages)
+          ∙ sym (map_at-twice (λ p page. blank_where (hidden p) page) (λ p page. cond (names w t.ranges p) (get_or (blanked without pages) p None) page) w.pages)
+
+  -- what is told readably changes what isn't blank as the event does
+  readably-same : (w : State) → w.ram_base ≡ s.ram_base → (event : Event) → Fits w event → blank hidden (apply e w event) ≡ blank hidden (apply_all e w (readably e s event))
+  readably-same w base (Wrote address bytes) fits = written-readably w base address bytes _ (grind (arith, cases_Bool (hidden ((address - s.ram_base) / 4096))))
+  readably-same w base (Opened h t pages) fits = opened-readably w h t pages _ (λ p. grind (arith, cases_Bool (hidden p)))
   readably-same w base (Zeroed h) fits =
       elim (is_held_by e (transaction_of s h)) as (λ c. is_held_by e (transaction_of s h) ≡ c → blank hidden (apply e w (Zeroed h)) ≡ blank hidden (apply_all e w (where_true c (Zeroed h ∷ [])))) [
         | true ↦ λ is. refl

@@ -63,6 +63,10 @@ readably-append : (e : ℕ) (s : State) (xs ys : List Event) → all_readably e 
 readably-append e s [] ys = refl
 readably-append e s (x ∷ xs) ys = ap (λ zs. readably e s x ++ zs) (readably-append e s xs ys) ∙ sym (append_assoc (readably e s x) (all_readably e s xs) (all_readably e s ys))
 
+opened-alike : (h : ℕ) (t : Transaction) (pages : List (Option Page)) (few many : ℕ → Bool) → ((p : ℕ) → few p ≡ many p)
+    → Opened h t (blanked few pages) ∷ [] ≡ Opened h t (blanked many pages) ∷ []
+opened-alike h t pages few many alike = ap (λ hides. Opened h t (blanked hides pages) ∷ []) (fun_ext {f = few} {g = many} alike)
+
 owner-blank : (c : Bool) (page : Option Page) → option_map_or (λ (q : Page). q.owner) (blank_where c page) 0x8000 ≡ option_map_or (λ (q : Page). q.owner) page 0x8000
 owner-blank false page = refl
 owner-blank true None = refl
@@ -80,8 +84,8 @@ module _ (e : ℕ) (s : State) (hides : ℕ → Bool) where
   unreadable-b = fun_ext {f = is_unreadable b e} {g = is_unreadable s e} (λ p. ap is_none (access-b s hides e p))
 
   readably-b : (x : Event) → readably e b x ≡ readably e s x
-  readably-b (Wrote address bytes) = ap (λ (u : ℕ → Bool). where_true (not (u ((address - s.ram_base) / 4096))) (Wrote address bytes ∷ [])) unreadable-b
-  readably-b (Opened h t pages) = ap (λ (u : ℕ → Bool). Opened h t (blanked u pages) ∷ []) unreadable-b
+  readably-b (Wrote address bytes) = rw (ap is_none (access-b s hides e ((address - s.ram_base) / 4096))) refl
+  readably-b (Opened h t pages) = opened-alike h t pages _ _ (λ p. rw (ap is_none (access-b s hides e p)) refl)
   readably-b (Zeroed h) = refl
   readably-b x = refl
 

@@ -73,9 +73,9 @@ pub record SaysNothing (e : ℕ) (s t : State) (ops : List Op) : Type 0 where
   pub readable : readable e (state_after t ops) ≡ readable e (state_after s ops)
 
 -- An operation of another endpoint opens a transaction that is offered to e. As long as e doesn't retrieve it, it makes no
--- difference to e which bytes stood in its pages, whatever is done then.
-abbrev pub OfferSaysNothing : State → Op → List Op → Type 0
-OfferSaysNothing s op later =
-    (e h : ℕ) (t : State) → s.runner ≢ e → transaction_of s h ≡ None → IsSealed e h (step s op).state later
+-- difference to e which bytes stood in its pages, whatever is done later.
+abbrev pub OfferSaysNothing : State → Op → Type 0
+OfferSaysNothing s op =
+    (e h : ℕ) (later : List Op) (t : State) → s.runner ≢ e → transaction_of s h ≡ None → IsSealed e h (step s op).state later
     → blank (is_page_of (step s op).state h) t ≡ blank (is_page_of (step s op).state h) s
     → SaysNothing e s t (op ∷ later)

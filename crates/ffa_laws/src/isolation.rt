@@ -86,7 +86,7 @@ pub fn confidential()
 /// is told of it. And an offer says nothing of the bytes of its pages to who doesn't retrieve it.
 pub fn loans()
     ensures zeroed { (s : State) → IsSteady s → ZeroedIsForgotten s }
-    ensures offered { (s : State) (op : Op) (later : List Op) → IsSteady s → AreApart s → OfferSaysNothing s op later }
+    ensures offered { (s : State) (op : Op) → IsSteady s → AreApart s → OfferSaysNothing s op }
 {}
 
 /// No event is told in vain: each operation gives only the events of its row, and what may not repeat changes the view.
