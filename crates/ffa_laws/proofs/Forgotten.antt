@@ -212,6 +212,9 @@ pub zeroed_is_forgotten : (s : State) → IsSteady s → ZeroedIsForgotten s
 zeroed_is_forgotten s steady h x writes others its one two =
     record {
       state = state-forgotten s steady h x its writes one ∙ sym (state-forgotten s steady h x its others two);
-      seen = λ e later other unheld. seen-forgotten s steady h x its writes one e later other unheld ∙ sym (seen-forgotten s steady h x its others two e later other unheld);
-      readings = λ e later other unheld. readings-forgotten s steady h x its writes one e later other unheld ∙ sym (readings-forgotten s steady h x its others two e later other unheld);
+      alike = λ e later other unheld.
+          record {
+            seen = seen-forgotten s steady h x its writes one e later other unheld ∙ sym (seen-forgotten s steady h x its others two e later other unheld);
+            readings = readings-forgotten s steady h x its writes one e later other unheld ∙ sym (readings-forgotten s steady h x its others two e later other unheld);
+          };
     }

@@ -1,5 +1,5 @@
--- What a loan leaves behind, and what an offer says. Both are about bytes that an endpoint can't read, and what never comes of
--- them: a borrower's, which it zeroes as it gives a loan up, and a sender's, which its receiver doesn't retrieve.
+-- What stays of a loan, and what an offer says. A borrower that zeroes a loan as it gives it up leaves no trace of what it
+-- wrote there, and the bytes in the pages of an offer don't reach a receiver that never retrieves it.
 use Rattle.std.specs.Prelude.{◌≡◌, ◌≢◌, ℕ, Bool, true, false, List, [], ◌∷◌, ◌++◌, Some, None}
 use Rattle.std.specs.List.{list_all}
 use Rattle.std.specs.Option.{option_map_or}
@@ -39,20 +39,25 @@ pub record IsZeroing (s : State) (h : ℕ) (x : List ℕ) : Type 0 where
   pub handle : asked.handle ≡ h
   pub zero : asked.zero ≡ true
 
--- whatever was written, the states after the call are one, and who doesn't hold the loan sees and reads the same: of the
--- writes before the call, and of all that comes after it
+-- from one state e sees the same of two runs, and reads the same
+pub record AreAlike (e : ℕ) (s : State) (ops others : List Op) : Type 0 where
+  pub seen : seen e s ops ≡ seen e s others
+  pub readings : readings e s ops ≡ readings e s others
+
+-- Whichever of the two is done before the call, the state after it is the same. And to whoever doesn't hold the loan both
+-- runs are alike: what comes before the call, the call, and all that comes later.
 pub record AreForgotten (s : State) (h : ℕ) (x : List ℕ) (writes others : List Op) : Type 0 where
   pub state : state_after s (writes ++ Call x ∷ []) ≡ state_after s (others ++ Call x ∷ [])
-  pub seen : (e : ℕ) (ops : List Op) → s.runner ≢ e → is_held_by e (transaction_of s h) ≡ false
-      → seen e s (writes ++ Call x ∷ ops) ≡ seen e s (others ++ Call x ∷ ops)
-  pub readings : (e : ℕ) (ops : List Op) → s.runner ≢ e → is_held_by e (transaction_of s h) ≡ false
-      → readings e s (writes ++ Call x ∷ ops) ≡ readings e s (others ++ Call x ∷ ops)
+  pub alike :
+      (e : ℕ) (later : List Op) → s.runner ≢ e → is_held_by e (transaction_of s h) ≡ false
+      → AreAlike e s (writes ++ Call x ∷ later) (others ++ Call x ∷ later)
 
 -- What the runner does in a loan, which it then zeroes as it gives it up, is forgotten.
 abbrev pub ZeroedIsForgotten : State → Type 0
 ZeroedIsForgotten s =
     (h : ℕ) (x : List ℕ) (writes others : List Op) → IsZeroing s h x
-    → list_all (is_in_loan s h) writes ≡ true → list_all (is_in_loan s h) others ≡ true → AreForgotten s h x writes others
+    → list_all (is_in_loan s h) writes ≡ true → list_all (is_in_loan s h) others ≡ true
+    → AreForgotten s h x writes others
 
 -- AN OFFER THAT ISN'T RETRIEVED
 
@@ -66,16 +71,17 @@ abbrev pub IsSealed : ℕ → ℕ → State → List Op → Type 0
 IsSealed e h s [] = IsWaiting e h s
 IsSealed e h s (op ∷ ops) = IsWaiting e h s × IsSealed e h (step s op).state ops
 
--- from two states e sees the same, reads the same, and can read the same in the end
+-- from two states e sees the same of a run, reads the same, and can read the same after it
 pub record SaysNothing (e : ℕ) (s t : State) (ops : List Op) : Type 0 where
   pub seen : seen e t ops ≡ seen e s ops
   pub readings : readings e t ops ≡ readings e s ops
   pub readable : readable e (state_after t ops) ≡ readable e (state_after s ops)
 
--- An operation of another endpoint opens a transaction that is offered to e. As long as e doesn't retrieve it, it makes no
--- difference to e which bytes stood in its pages, whatever is done later.
+-- An operation of another endpoint opens a transaction that is offered to e. As long as e doesn't retrieve it, the bytes
+-- that stood in its pages make no difference to e, whatever is done later: t is s but for these.
 abbrev pub OfferSaysNothing : State → Op → Type 0
 OfferSaysNothing s op =
-    (e h : ℕ) (later : List Op) (t : State) → s.runner ≢ e → transaction_of s h ≡ None → IsSealed e h (step s op).state later
+    (e h : ℕ) (later : List Op) (t : State) → s.runner ≢ e → transaction_of s h ≡ None
+    → IsSealed e h (step s op).state later
     → blank (is_page_of (step s op).state h) t ≡ blank (is_page_of (step s op).state h) s
     → SaysNothing e s t (op ∷ later)

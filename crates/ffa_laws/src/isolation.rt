@@ -82,8 +82,9 @@ pub fn confidential()
     ensures run { (s : State) (ops : List Op) → IsSteady s → AreApart s → RunConfidential s ops }
 {}
 
-/// What a borrower writes into a loan is forgotten once it is zeroed: nothing that comes later depends on it, and nobody else
-/// is told of it. And an offer says nothing of the bytes of its pages to who doesn't retrieve it.
+/// What a borrower writes into a loan is forgotten once it gives the loan up with zeros: nothing that comes later depends on
+/// it, and nobody is told of it who doesn't hold the loan. And an offer says nothing of the bytes of its pages to a receiver
+/// that doesn't retrieve it.
 pub fn loans()
     ensures zeroed { (s : State) → IsSteady s → ZeroedIsForgotten s }
     ensures offered { (s : State) (op : Op) → IsSteady s → AreApart s → OfferSaysNothing s op }

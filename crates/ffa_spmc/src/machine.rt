@@ -193,8 +193,8 @@ impl<M: PhysMem + Drop, T: Translations + Drop> Machine<M, T> {
         ensures own_access { OwnAccess self.old.state op.now }
         ensures only_writers { OnlyWriters self.old.state op.now }
 
-        // Where it opens a transaction, the bytes of its pages make no difference to a receiver that doesn't retrieve it,
-        // whatever is done later.
+        // Where it opens a transaction, the bytes of the pages make no difference to a receiver that doesn't retrieve
+        // them, whatever is done later.
         ensures silent_offers { OfferSaysNothing self.old.state op.now }
     {
         // What the clauses rest on holds of every manager, before and after.
@@ -262,8 +262,8 @@ impl<M: PhysMem + Drop, T: Translations + Drop> Machine<M, T> {
         // A page that an endpoint has alone is what it was, where the endpoint didn't run and got no message into its RX.
         ensures integrity { RunIntegrity self.old.state ops.now }
 
-        // Whatever the runner writes into a loan first, once it gives that up with zeros, the state is one, and so is all that
-        // any endpoint which doesn't hold the loan sees and reads.
+        // The runner may first write what it likes into a loan: after it has given the loan up with zeros, the state is
+        // the same, and so is all that an endpoint sees and reads that doesn't hold the loan.
         ensures forgotten_loans { ZeroedIsForgotten self.old.state }
     {
         self.manager.holds();
