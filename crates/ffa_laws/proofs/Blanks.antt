@@ -39,7 +39,7 @@ use Rattle.ffa_model.specs.MemorySend.{memory_send, memory_sent, send_guards}
 use Rattle.ffa_model.specs.Messages.{delivered, header_in, message_in, msg_send2, send2_guards, tx_bytes}
 use Rattle.ffa_model.specs.Registers.{decode}
 use Rattle.ffa_model.specs.Setup.{info_bytes, is_count_alone, uuid_bytes}
-use Rattle.ffa_model.specs.Step.{service, step}
+use Rattle.ffa_model.specs.Step.{serve, service, step}
 use Rattle.ffa_model.specs.Transactions.{Transfer, base_of, bases_of, handle_of, offers_of, scene_of, transfer}
 use Rattle.ffa_model.proofs.Accesses.{length-map_at}
 use Rattle.ffa_laws.specs.Steady.{IsAlone, IsSteady}
@@ -137,7 +137,7 @@ module _ (s : State) (hides : ℕ → Bool) where
   abbrev b : State
   b = blank hides s
 
-  page-b : (p : ℕ) → page_at b p ≡ blank_where (hides p) (page_at s p)
+  pub page-b : (p : ℕ) → page_at b p ≡ blank_where (hides p) (page_at s p)
   page-b p = at-blanked hides s.pages p
 
   pub access-b : (e p : ℕ) → access b e p ≡ access s e p
@@ -167,7 +167,7 @@ module _ (s : State) (hides : ℕ → Bool) where
   base-blank true None = refl
   base-blank true (Some q) = refl
 
-  bases-b : bases_of b ≡ bases_of s
+  pub bases-b : bases_of b ≡ bases_of s
   bases-b =
       λ i. record {
         ram_base = s.ram_base;
@@ -178,11 +178,34 @@ module _ (s : State) (hides : ℕ → Bool) where
   scene-b : scene_of b ≡ scene_of s
   scene-b = λ i. record { endpoints = length s.parties; ram = candidates-b i; bases = bases-b i; buffers = s.buffers; offers = offers_of s }
 
-  -- ---- what the runner does, which can read all other pages to which it has access
-  module _ (steady : IsSteady s) (shows : (p : ℕ) → is_some (access s s.runner p) ≡ true → hides p ≡ false) where
+  -- two services that differ in such bytes at most
+  pub record Alike (c d : Service) : Type 0 where
+    pub guards : first_failure c.guards ≡ first_failure d.guards
+    pub reply : c.reply ≡ d.reply
+    pub state : blank hides c.state ≡ blank hides d.state
+
+  -- one outcome, and states that differ in such bytes at most
+  pub record Steps (c d : Stepped) : Type 0 where
+    pub outcome : c.outcome ≡ d.outcome
+    pub state : blank hides c.state ≡ blank hides d.state
+
+  pub twice : blank hides b ≡ blank hides s
+  twice = λ i. record s { pages = blanked-twice hides s.pages i }
+
+  pub access_at-b : (address : ℕ) → access_at b s.runner address ≡ access_at s s.runner address
+  access_at-b address = elim (page_of_address s address) as (λ o. option_and_then (access b s.runner) o ≡ option_and_then (access s s.runner) o) [ None ↦ refl | Some p ↦ access-b s.runner p ]
+
+  pub sent-b : (kind : Kind) (o : Option SendRecord) → blank hides (memory_sent b kind o) ≡ blank hides (memory_sent s kind o)
+  sent-b kind None = λ i. record s { pages = blanked-twice hides s.pages i }
+  sent-b kind (Some r) = λ i. record (memory_sent s kind (Some r)) { pages = zeroed-blind hides r.zero s r.ranges i }
+
+  -- a page that the runner has access to has its bytes
+  module _ (shows : (p : ℕ) → is_some (access s s.runner p) ≡ true → hides p ≡ false) where
     bytes-shown : (p : ℕ) → is_some (access s s.runner p) ≡ true → option_map_or (λ (q : Page). q.bytes) (page_at b p) [] ≡ option_map_or (λ (q : Page). q.bytes) (page_at s p) []
     bytes-shown p some = ap (λ page. option_map_or (λ (q : Page). q.bytes) page []) (page-b p ∙ ap (λ c. blank_where c (page_at s p)) (shows p some))
 
+  -- ---- the runner can read its TX
+  module _ (steady : IsSteady s) (shows : (p : ℕ) → is_some (access s s.runner p) ≡ true → hides p ≡ false) where
     -- a page that the runner has alone
     bytes-alone : (p : ℕ) → IsAlone s s.runner p → option_map_or (λ (q : Page). q.bytes) (page_at b p) [] ≡ option_map_or (λ (q : Page). q.bytes) (page_at s p) []
     bytes-alone p alone = of (page_at s p) refl
@@ -191,30 +214,19 @@ module _ (s : State) (hides : ℕ → Bool) where
         of None at = ap (λ page. option_map_or (λ (q : Page). q.bytes) page []) (page-b p ∙ ap (blank_where (hides p)) at ∙ blank-none (hides p) ∙ sym at)
         of (Some q) at =
             let mine : (q.owner == s.runner) ≡ true = eq-eqb q.owner s.runner (sym (ap (λ o. option_map_or (λ (x : Page). x.owner) o 0x8000) at) ∙ alone.owner) in
-            bytes-shown p
+            bytes-shown shows p
             (ap is_some ((λ i. right_of s.runner (at i) (option_and_then (transaction_of s) (alone.unnamed i))) ∙ ap (λ c. cond c (Some q.base) None) mine))
 
-    tx-b : tx_bytes b s.runner ≡ tx_bytes s s.runner
-    tx-b = of (buffers_of s s.runner) refl
+    pub tx-shown : tx_bytes b s.runner ≡ tx_bytes s s.runner
+    tx-shown = of (buffers_of s s.runner) refl
       where
         of : (o : Option Buffers) → buffers_of s s.runner ≡ o
             → option_map_or (λ (x : Buffers). option_map_or (λ (q : Page). q.bytes) (page_at b x.tx) []) o [] ≡ option_map_or (λ (x : Buffers). option_map_or (λ (q : Page). q.bytes) (page_at s x.tx) []) o []
         of None is = refl
         of (Some x) is = bytes-alone x.tx (steady.buffers s.runner x steady.runner is).tx
 
-    -- two services that differ in such bytes at most
-    record Alike (c d : Service) : Type 0 where
-      pub guards : first_failure c.guards ≡ first_failure d.guards
-      pub reply : c.reply ≡ d.reply
-      pub state : blank hides c.state ≡ blank hides d.state
-
-    pub repaged-b : (t : State) (ps qs : List (Option Page)) → blanked hides ps ≡ blanked hides qs → blank hides (record t { pages = ps }) ≡ blank hides (record t { pages = qs })
-    repaged-b t ps qs same = λ i. record t { pages = same i }
-
-    sent-b : (kind : Kind) (o : Option SendRecord) → blank hides (memory_sent b kind o) ≡ blank hides (memory_sent s kind o)
-    sent-b kind None = λ i. record s { pages = blanked-twice hides s.pages i }
-    sent-b kind (Some r) = λ i. record (memory_sent s kind (Some r)) { pages = zeroed-blind hides r.zero s r.ranges i }
-
+  -- ---- what the runner does, whose TX has all its bytes
+  module _ (tx-b : tx_bytes b s.runner ≡ tx_bytes s s.runner) where
     send-b : (kind : Kind) (x : Transfer) → Alike (memory_send b kind x) (memory_send s kind x)
     send-b kind x =
         record {
@@ -288,7 +300,7 @@ module _ (s : State) (hides : ℕ → Bool) where
               ∙ (λ i. record (msg_send2 s).state { pages = filled-blind hides (message_in (tx_bytes s s.runner)) (buffers_of s (header_in (tx_bytes s s.runner)).receiver) s.pages i });
         }
 
-    service-b : (call : calls.Call) → Alike (service b call) (service s call)
+    pub service-b : (call : calls.Call) → Alike (service b call) (service s call)
     service-b (RxtxMap tx rx pages) =
         record {
           guards = λ i. first_failure (map_guards s.runner (buffers_of s s.runner) (candidates-b i) tx rx pages);
@@ -313,14 +325,6 @@ module _ (s : State) (hides : ℕ → Bool) where
     service-b MsgSend2 = send2-b
     service-b call = record { guards = refl; reply = refl; state = λ i. record (service s call).state { pages = blanked-twice hides s.pages i } }
 
-    -- one outcome, and states that differ in such bytes at most
-    pub record Steps (c d : Stepped) : Type 0 where
-      pub outcome : c.outcome ≡ d.outcome
-      pub state : blank hides c.state ≡ blank hides d.state
-
-    twice : blank hides b ≡ blank hides s
-    twice = λ i. record s { pages = blanked-twice hides s.pages i }
-
     served-b : (c d : Service) → Alike c d → Steps (served b c) (served s d)
     served-b c d alike = subst (λ g. Steps (answered g b c.state c.reply) (served s d)) (sym alike.guards) (of (first_failure d.guards))
       where
@@ -328,41 +332,70 @@ module _ (s : State) (hides : ℕ → Bool) where
         of None = record { outcome = λ i. Regs (record { 0 = (alike.state i).runner }) (encode (alike.reply i)); state = alike.state }
         of (Some code) = record { outcome = refl; state = twice }
 
-    access_at-b : (address : ℕ) → access_at b s.runner address ≡ access_at s s.runner address
-    access_at-b address = elim (page_of_address s address) as (λ o. option_and_then (access b s.runner) o ≡ option_and_then (access s s.runner) o) [ None ↦ refl | Some p ↦ access-b s.runner p ]
+    pub call-b : (call : calls.Call) → Steps (serve b call) (serve s call)
+    call-b call = served-b (service b call) (service s call) (service-b call)
 
-    number-b : (address n : ℕ) → is_some (access_at s s.runner address) ≡ true → number_at b address n ≡ number_at s address n
-    number-b address n some = ap (λ bytes. number_in bytes (address % 4096) n) (bytes-shown ((address - s.ram_base) / 4096) (reached some))
+    accessed-state : (f g : Option FaultKind) (new next : State) (told said : Outcome) → f ≡ g → blank hides new ≡ blank hides next
+        → blank hides (accessed f b new told).state ≡ blank hides (accessed g s next said).state
+    accessed-state f g new next told said same states = ap (λ h. blank hides (accessed h b new told).state) same ∙ of g
       where
-        reached : is_some (access_at s s.runner address) ≡ true → is_some (access s s.runner ((address - s.ram_base) / 4096)) ≡ true
-        reached =
-            elim (nat_le s.ram_base address && nat_lt address (2 ^ 32)) as (λ c. is_some (option_and_then (access s s.runner) (cond c (Some ((address - s.ram_base) / 4096)) None)) ≡ true → is_some (access s s.runner ((address - s.ram_base) / 4096)) ≡ true) [
-              | true ↦ λ is. is
-              | false ↦ λ is. absurd (false≢true is)
-            ]
+        of : (h : Option FaultKind) → blank hides (accessed h b new told).state ≡ blank hides (accessed h s next said).state
+        of None = states
+        of (Some fault) = twice
 
-    accessed-b : (f g : Option FaultKind) (new next : State) (told said : Outcome) → f ≡ g → (g ≡ None → told ≡ said) → blank hides new ≡ blank hides next
-        → Steps (accessed f b new told) (accessed g s next said)
-    accessed-b f g new next told said same outcome states = subst (λ h. Steps (accessed h b new told) (accessed g s next said)) (sym same) (of g outcome)
-      where
-        of : (h : Option FaultKind) → (h ≡ None → told ≡ said) → Steps (accessed h b new told) (accessed h s next said)
-        of None outcome = record { outcome = outcome refl; state = states }
-        of (Some fault) outcome = record { outcome = refl; state = twice }
-
-    pub step-b : (op : Op) → Steps (step b op) (step s op)
-    step-b (Call x) = served-b (service b (decode x)) (service s (decode x)) (service-b (decode x))
-    step-b (Load address size) =
-        accessed-b (read_fault b address (size_of size)) (read_fault s address (size_of size)) b s (Data (number_at b address (size_of size))) (Data (number_at s address (size_of size)))
-        (ap (λ right. fault_of (address % size_of size == 0) right (λ r. true)) (access_at-b address))
-        (λ none. ap Data (number-b address (size_of size) (fault-none (address % size_of size == 0) (access_at s s.runner address) (λ r. true) none)))
-        twice
-    step-b (Store address size value) =
-        accessed-b (store_fault b address (size_of size)) (store_fault s address (size_of size)) (stored b address (little_bytes (size_of size) value)) (stored s address (little_bytes (size_of size) value)) Done Done
+    -- the state after it, also where it reads bytes that are blank
+    pub state-b : (op : Op) → blank hides (step b op).state ≡ blank hides (step s op).state
+    state-b (Call x) = (call-b (decode x)).state
+    state-b (Load address size) =
+        accessed-state (read_fault b address (size_of size)) (read_fault s address (size_of size)) b s (Data (number_at b address (size_of size))) (Data (number_at s address (size_of size)))
+        (ap (λ right. fault_of (address % size_of size == 0) right (λ r. true)) (access_at-b address)) twice
+    state-b (Store address size value) =
+        accessed-state (store_fault b address (size_of size)) (store_fault s address (size_of size)) (stored b address (little_bytes (size_of size) value)) (stored s address (little_bytes (size_of size) value)) Done Done
         (ap (λ right. fault_of (address % size_of size == 0) right may_store) (access_at-b address))
-        (λ none. refl)
         (λ i. record s { pages = written-blind hides ((address - s.ram_base) / 4096) (address % 4096) (little_bytes (size_of size) value) s.pages i })
-    step-b (Fetch address) =
-        accessed-b (fetch_fault b address) (fetch_fault s address) b s (Data (number_at b address 4)) (Data (number_at s address 4))
-        (ap (λ right. fault_of (address % 4 == 0) right may_fetch) (access_at-b address))
-        (λ none. ap Data (number-b address 4 (fault-none (address % 4 == 0) (access_at s s.runner address) may_fetch none)))
-        twice
+    state-b (Fetch address) =
+        accessed-state (fetch_fault b address) (fetch_fault s address) b s (Data (number_at b address 4)) (Data (number_at s address 4))
+        (ap (λ right. fault_of (address % 4 == 0) right may_fetch) (access_at-b address)) twice
+
+    -- ---- all pages that it has access to have their bytes
+    module _ (shows : (p : ℕ) → is_some (access s s.runner p) ≡ true → hides p ≡ false) where
+      number-b : (address n : ℕ) → is_some (access_at s s.runner address) ≡ true → number_at b address n ≡ number_at s address n
+      number-b address n some = ap (λ bytes. number_in bytes (address % 4096) n) (bytes-shown shows ((address - s.ram_base) / 4096) (reached some))
+        where
+          reached : is_some (access_at s s.runner address) ≡ true → is_some (access s s.runner ((address - s.ram_base) / 4096)) ≡ true
+          reached =
+              elim (nat_le s.ram_base address && nat_lt address (2 ^ 32)) as (λ c. is_some (option_and_then (access s s.runner) (cond c (Some ((address - s.ram_base) / 4096)) None)) ≡ true → is_some (access s s.runner ((address - s.ram_base) / 4096)) ≡ true) [
+                | true ↦ λ is. is
+                | false ↦ λ is. absurd (false≢true is)
+              ]
+
+      accessed-b : (f g : Option FaultKind) (new next : State) (told said : Outcome) → f ≡ g → (g ≡ None → told ≡ said) → blank hides new ≡ blank hides next
+          → Steps (accessed f b new told) (accessed g s next said)
+      accessed-b f g new next told said same outcome states = subst (λ h. Steps (accessed h b new told) (accessed g s next said)) (sym same) (of g outcome)
+        where
+          of : (h : Option FaultKind) → (h ≡ None → told ≡ said) → Steps (accessed h b new told) (accessed h s next said)
+          of None outcome = record { outcome = outcome refl; state = states }
+          of (Some fault) outcome = record { outcome = refl; state = twice }
+
+      -- and its outcome
+      pub outcome-b : (op : Op) → Steps (step b op) (step s op)
+      outcome-b (Call x) = call-b (decode x)
+      outcome-b (Load address size) =
+          accessed-b (read_fault b address (size_of size)) (read_fault s address (size_of size)) b s (Data (number_at b address (size_of size))) (Data (number_at s address (size_of size)))
+          (ap (λ right. fault_of (address % size_of size == 0) right (λ r. true)) (access_at-b address))
+          (λ none. ap Data (number-b address (size_of size) (fault-none (address % size_of size == 0) (access_at s s.runner address) (λ r. true) none)))
+          twice
+      outcome-b (Store address size value) =
+          accessed-b (store_fault b address (size_of size)) (store_fault s address (size_of size)) (stored b address (little_bytes (size_of size) value)) (stored s address (little_bytes (size_of size) value)) Done Done
+          (ap (λ right. fault_of (address % size_of size == 0) right may_store) (access_at-b address))
+          (λ none. refl)
+          (λ i. record s { pages = written-blind hides ((address - s.ram_base) / 4096) (address % 4096) (little_bytes (size_of size) value) s.pages i })
+      outcome-b (Fetch address) =
+          accessed-b (fetch_fault b address) (fetch_fault s address) b s (Data (number_at b address 4)) (Data (number_at s address 4))
+          (ap (λ right. fault_of (address % 4 == 0) right may_fetch) (access_at-b address))
+          (λ none. ap Data (number-b address 4 (fault-none (address % 4 == 0) (access_at s s.runner address) may_fetch none)))
+          twice
+
+  -- ---- an operation of a runner that can read all other pages to which it has access
+  pub step-b : IsSteady s → ((p : ℕ) → is_some (access s s.runner p) ≡ true → hides p ≡ false) → (op : Op) → Steps (step b op) (step s op)
+  step-b steady shows = outcome-b (tx-shown steady shows) shows

@@ -59,3 +59,7 @@ pub mod SoundSends
 pub mod SoundOperations
 pub mod Readings
 pub mod ReadRuns
+pub mod Tellings
+pub mod Forgotten
+pub mod Origins
+pub mod Offers

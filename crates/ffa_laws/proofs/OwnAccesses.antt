@@ -82,7 +82,7 @@ by_pages s t picked gives takes away others grows shrinks =
 
 -- ---- rights to a page
 -- by a transaction that e neither holds nor has sent
-strangers : (e : ℕ) (page : Option Page) (t : Transaction) → held_by t e ≡ None → (t.sender == e) ≡ false → right_of e page (Some t) ≡ None
+pub strangers : (e : ℕ) (page : Option Page) (t : Transaction) → held_by t e ≡ None → (t.sender == e) ≡ false → right_of e page (Some t) ≡ None
 strangers e None t unheld other = refl
 strangers e (Some q) t unheld other = ap (right_by e q t) unheld ∙ shut (is_share t.kind)
   where
@@ -103,7 +103,7 @@ sharers e (Some q) t unheld sender share own =
     ap (right_by e q t) unheld ∙ (λ i. cond (share i && sender i) (Some q.base) None) ∙ sym (ap (λ b. cond b (Some q.base) None) (eq-eqb q.owner e own))
 
 -- no owner
-ownerless : (e : ℕ) (page : Option Page) → (option_map_or (λ (q : Page). q.owner) page 0x8000 == e) ≡ false → right_of e page None ≡ None
+pub ownerless : (e : ℕ) (page : Option Page) → (option_map_or (λ (q : Page). q.owner) page 0x8000 == e) ≡ false → right_of e page None ≡ None
 ownerless e None other = refl
 ownerless e (Some q) other = ap (λ b. cond b (Some q.base) None) other
 

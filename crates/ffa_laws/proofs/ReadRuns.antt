@@ -1,12 +1,11 @@
 -- What an endpoint can read over a run, by induction.
-use Rattle.std.proofs.Common.{append-nil, ◌≡◌, ◌≢◌, ◌∙◌, ℕ, ◌-◌, ◌/◌, Bool, true, false, cond, List, [], ◌∷◌, ◌++◌, map, refl, sym, ap, subst}
-use Rattle.std.specs.Prelude.{◌==◌, is_none, not}
+use Rattle.std.proofs.Common.{append-nil, ◌≡◌, ◌≢◌, ◌∙◌, ℕ, Bool, true, false, cond, List, [], ◌∷◌, ◌++◌, map, refl, sym, ap, subst}
+use Rattle.std.specs.Prelude.{◌==◌, is_none}
 use Rattle.std.proofs.Math.Path.{fun_ext}
 use Rattle.std.proofs.lemmas.Bool.{eq-eqb, eqb-true, true≢false}
 use Rattle.std.proofs.lemmas.List.{append_assoc}
 use Rattle.ffa_model.specs.declared.operation.Op.{Op}
-use Rattle.ffa_model.specs.State.{State, is_known, transaction_of}
-use Rattle.ffa_model.specs.Access.{is_held_by}
+use Rattle.ffa_model.specs.State.{State, is_known}
 use Rattle.ffa_model.specs.Step.{state_after, step}
 use Rattle.ffa_laws.specs.Steady.{IsSteady}
 use Rattle.ffa_laws.specs.View.{view}
@@ -45,7 +44,7 @@ relive-heard e hides (x ∷ es) v rest same =
     ∙ (let later = relive e hides (blank hides (apply_all e (apply e v x) es)) rest in λ i. record later { seen = sym (append_assoc (message e x) (messages e es) later.seen) i })
 
 -- messages are heard as they are told
-heard-messages : (e : ℕ) (s : State) (es : List Event) → messages e (all_readably e s es) ≡ messages e es
+pub heard-messages : (e : ℕ) (s : State) (es : List Event) → messages e (all_readably e s es) ≡ messages e es
 heard-messages e s [] = refl
 heard-messages e s (x ∷ es) = messages-append (readably e s x) (all_readably e s es) ∙ (λ i. one x i ++ heard-messages e s es i)
   where
@@ -56,10 +55,14 @@ heard-messages e s (x ∷ es) = messages-append (readably e s x) (all_readably e
     alone : (y : Event) → messages e (y ∷ []) ≡ message e y
     alone y = append-nil (message e y)
 
+    no_message : (told : Bool) (y : Event) → message e y ≡ [] → messages e (where_true told (y ∷ [])) ≡ []
+    no_message true y none = alone y ∙ none
+    no_message false y none = refl
+
     one : (y : Event) → messages e (readably e s y) ≡ message e y
-    one (Wrote address bytes) = elim (is_unreadable s e ((address - s.ram_base) / 4096)) as (λ c. messages e (where_true (not c) (Wrote address bytes ∷ [])) ≡ []) [ true ↦ refl | false ↦ refl ]
+    one (Wrote address bytes) = no_message _ (Wrote address bytes) refl
     one (Opened h t pages) = refl
-    one (Zeroed h) = elim (is_held_by e (transaction_of s h)) as (λ c. messages e (where_true c (Zeroed h ∷ [])) ≡ []) [ true ↦ refl | false ↦ refl ]
+    one (Zeroed h) = no_message _ (Zeroed h) refl
     one y = alone y
 
 -- which pages can't be read, from what can be read

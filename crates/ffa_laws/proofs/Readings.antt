@@ -1,5 +1,5 @@
 -- What an endpoint can read: its own operations, and those of others.
-use Rattle.std.proofs.Common.{◌+◌, ◌*◌, ◌≡◌, ◌≢◌, ◌∙◌, ℕ, ◌-◌, ◌/◌, ◌%◌, Bool, true, false, cond, List, [], ◌∷◌, length, get_or, set, Option, Some, None, is_some, refl, sym, ap, subst, ◌++◌, option_map, arith}
+use Rattle.std.proofs.Common.{arith, ◌+◌, ◌*◌, ◌≡◌, ◌≢◌, ◌∙◌, ℕ, ◌-◌, ◌/◌, ◌%◌, Bool, true, false, cond, List, [], ◌∷◌, length, get_or, set, Option, Some, None, is_some, refl, sym, ap, subst, ◌++◌, option_map}
 use Rattle.std.specs.Prelude.{◌&&◌, is_none, not, ◌||◌}
 use Rattle.std.specs.List.{list_all}
 use Rattle.std.proofs.Math.Path.{fun_ext}
@@ -52,7 +52,7 @@ standing-blank false page = refl
 standing-blank true None = refl
 standing-blank true (Some q) = refl
 
-kept-blank : (k c : Bool) (page : Option Page) → kept k (blank_where c page) ≡ blank_where c (kept k page)
+pub kept-blank : (k c : Bool) (page : Option Page) → kept k (blank_where c page) ≡ blank_where c (kept k page)
 kept-blank true c page = refl
 kept-blank false c page = sym (blank-none c)
 
@@ -64,7 +64,7 @@ module _ (s : State) (hides : ℕ → Bool) where
         same = λ p. ap standing (at-blanked hides s.pages p) ∙ standing-blank (hides p) (page_at s p);
       }
 
-  view-blank : (e : ℕ) → view e (blank hides s) ≡ blank hides (view e s)
+  pub view-blank : (e : ℕ) → view e (blank hides s) ≡ blank hides (view e s)
   view-blank e =
       view-changed e s (blanked hides s.pages) s.buffers (schedule_of s) rewritten-blanked
       ∙ (λ i. with_parts (view e s) (pages i) (view e s).buffers (schedule_of s))
@@ -78,7 +78,7 @@ module _ (s : State) (hides : ℕ → Bool) where
   steady-blank : IsSteady s → IsSteady (blank hides s)
   steady-blank steady = steady-changed s steady (blanked hides s.pages) s.buffers (schedule_of s) rewritten-blanked refl steady.runner steady.requesters steady.buffers
 
-some-shown : (o : Option Rights) → is_some o ≡ true → is_none o ≡ false
+pub some-shown : (o : Option Rights) → is_some o ≡ true → is_none o ≡ false
 some-shown None is = absurd (false≢true is)
 some-shown (Some right) is = refl
 
@@ -87,7 +87,7 @@ shown-some None is = absurd (true≢false is)
 shown-some (Some right) is = refl
 
 -- the same access where pages differ in such bytes at most
-same-access : (hides : ℕ → Bool) (s t : State) → blank hides s ≡ blank hides t → (e p : ℕ) → access s e p ≡ access t e p
+pub same-access : (hides : ℕ → Bool) (s t : State) → blank hides s ≡ blank hides t → (e p : ℕ) → access s e p ≡ access t e p
 same-access hides s t same e p = sym (access-b s hides e p) ∙ ap (λ u. access u e p) same ∙ access-b t hides e p
 
 -- ---- an operation of the runner
@@ -275,7 +275,7 @@ module _ (e : ℕ) (hides : ℕ → Bool) where
   base-kept v event = refl
 
   -- a write that can't be read
-  write-blank : (w : State) (p at : ℕ) (bytes : List ℕ) → hides p ≡ true → blanked hides (written_pages w.pages p at bytes) ≡ blanked hides w.pages
+  pub write-blank : (w : State) (p at : ℕ) (bytes : List ℕ) → hides p ≡ true → blanked hides (written_pages w.pages p at bytes) ≡ blanked hides w.pages
   write-blank w p at bytes hidden =
       map_at-set (λ q page. blank_where (hides q) page) w.pages p (page_with at bytes (page_at w p))
       ∙ ap (set (blanked hides w.pages) p) (ap (λ c. blank_where c (page_with at bytes (page_at w p))) hidden ∙ without (page_at w p) ∙ sym (at-blanked hides w.pages p ∙ ap (λ c. blank_where c (page_at w p)) hidden))
@@ -298,25 +298,38 @@ module _ (e : ℕ) (s : State) where
   AreFit w [] = Unit {0}
   AreFit w (x ∷ xs) = Fits w x × AreFit (apply_all e w (readably e s x)) xs
 
-  -- what is told readably changes what isn't blank as the event does
-  readably-same : (w : State) → w.ram_base ≡ s.ram_base → (event : Event) → Fits w event → blank hidden (apply e w event) ≡ blank hidden (apply_all e w (readably e s event))
-  readably-same w base (Wrote address bytes) fits =
-      elim (hidden ((address - s.ram_base) / 4096)) as (λ c. hidden ((address - s.ram_base) / 4096) ≡ c → blank hidden (apply e w (Wrote address bytes)) ≡ blank hidden (apply_all e w (where_true (not c) (Wrote address bytes ∷ [])))) [
-        | true ↦ λ is. (λ i. record w { pages = write-blank e hidden w ((address - w.ram_base) / 4096) (address % 4096) bytes (ap (λ base. hidden ((address - base) / 4096)) base ∙ is) i })
-        | false ↦ λ is. refl
-      ] refl
-  readably-same w base (Opened h t pages) fits =
+  -- a write that isn't told goes to a page that e can't read
+  written-readably : (w : State) → w.ram_base ≡ s.ram_base → (address : ℕ) (bytes : List ℕ) (told : Bool) → (told ≡ false → hidden ((address - s.ram_base) / 4096) ≡ true)
+      → blank hidden (apply e w (Wrote address bytes)) ≡ blank hidden (apply_all e w (where_true told (Wrote address bytes ∷ [])))
+  written-readably w base address bytes true untold = refl
+  written-readably w base address bytes false untold =
+      λ i. record w { pages = write-blank e hidden w ((address - w.ram_base) / 4096) (address % 4096) bytes (ap (λ base. hidden ((address - base) / 4096)) base ∙ untold refl) i }
+
+  -- pages that are told without bytes can't be read
+  opened-readably : (w : State) (h : ℕ) (t : Transaction) (pages : List (Option Page)) (without : ℕ → Bool) → ((p : ℕ) → without p ≡ true → hidden p ≡ true)
+      → blank hidden (with_opened w h t pages) ≡ blank hidden (with_opened w h t (blanked without pages))
+  opened-readably w h t pages without far =
       λ i. record (with_opened w h t pages) { pages = each i }
     where
-      at : (p : ℕ) (n : Bool) (page : Option Page) → blank_where (hidden p) (cond n (get_or pages p None) page) ≡ blank_where (hidden p) (cond n (get_or (blanked hidden pages) p None) page)
-      at p true page = sym (ap (blank_where (hidden p)) (at-blanked hidden pages p) ∙ blank-twice (hidden p) (get_or pages p None))
+      once : (c d : Bool) (page : Option Page) → (d ≡ true → c ≡ true) → blank_where c (blank_where d page) ≡ blank_where c page
+      once true true page more = blank-twice true page
+      once false true page more = absurd (false≢true (more refl))
+      once c false page more = refl
+
+      at : (p : ℕ) (n : Bool) (page : Option Page) → blank_where (hidden p) (cond n (get_or pages p None) page) ≡ blank_where (hidden p) (cond n (get_or (blanked without pages) p None) page)
+      at p true page = sym (ap (blank_where (hidden p)) (at-blanked without pages p) ∙ once (hidden p) (without p) (get_or pages p None) (far p))
       at p false page = refl
 
-      each : blanked hidden (with_opened w h t pages).pages ≡ blanked hidden (with_opened w h t (blanked hidden pages)).pages
+      each : blanked hidden (with_opened w h t pages).pages ≡ blanked hidden (with_opened w h t (blanked without pages)).pages
       each =
           map_at-twice (λ p page. blank_where (hidden p) page) (λ p page. cond (names w t.ranges p) (get_or pages p None) page) w.pages
           ∙ map_at-same _ _ w.pages (λ p page. at p (names w t.ranges p) page)
-          ∙ sym (map_at-twice (λ p page. blank_where (hidden p) page) (λ p page. cond (names w t.ranges p) (get_or (blanked hidden pages) p None) page) w.pages)
+          ∙ sym (map_at-twice (λ p page. blank_where (hidden p) page) (λ p page. cond (names w t.ranges p) (get_or (blanked without pages) p None) page) w.pages)
+
+  -- what is told readably changes what isn't blank as the event does
+  readably-same : (w : State) → w.ram_base ≡ s.ram_base → (event : Event) → Fits w event → blank hidden (apply e w event) ≡ blank hidden (apply_all e w (readably e s event))
+  readably-same w base (Wrote address bytes) fits = written-readably w base address bytes _ (grind (arith, cases_Bool (hidden ((address - s.ram_base) / 4096))))
+  readably-same w base (Opened h t pages) fits = opened-readably w h t pages _ (λ p. grind (arith, cases_Bool (hidden p)))
   readably-same w base (Zeroed h) fits =
       elim (is_held_by e (transaction_of s h)) as (λ c. is_held_by e (transaction_of s h) ≡ c → blank hidden (apply e w (Zeroed h)) ≡ blank hidden (apply_all e w (where_true c (Zeroed h ∷ [])))) [
         | true ↦ λ is. refl
@@ -369,7 +382,7 @@ module _ (e : ℕ) (s : State) where
     seen-ranges h t there false unknown p named = absurd (false≢true (sym (ap (λ o. names s (named_ranges o) p) (view-transaction e s h ∙ ap (shown e) there ∙ ap (λ b. option_map (seen_by e) (kept b (Some t))) unknown)) ∙ named))
 
     -- pages of a lend that e doesn't hold
-    lent-away : (h : ℕ) (t : Transaction) → transaction_of s h ≡ Some t → is_lend t.kind ≡ true → is_held_by e (transaction_of s h) ≡ false → (p : ℕ) → names s t.ranges p ≡ true → is_unreadable s e p ≡ true
+    pub lent-away : (h : ℕ) (t : Transaction) → transaction_of s h ≡ Some t → is_lend t.kind ≡ true → is_held_by e (transaction_of s h) ≡ false → (p : ℕ) → names s t.ranges p ≡ true → is_unreadable s e p ≡ true
     lent-away h t there lend unheld p named =
         ap is_none (ap (right_of e (page_at s p)) (named-in s p h t (λ k j at_k at_j. steady.one p k j at_k at_j) there named)
         ∙ shareless e (page_at s p) t (none (held_by t e) (sym (ap (is_held_by e) there) ∙ unheld)) (no-share t.kind lend))

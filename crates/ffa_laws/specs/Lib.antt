@@ -4,6 +4,7 @@ pub mod Steady
 pub mod Replay
 pub mod OwnAccess
 pub mod Readable
+pub mod Loans
 pub mod Silence
 pub mod Writers
 pub mod RunIntegrity

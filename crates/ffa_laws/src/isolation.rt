@@ -11,6 +11,7 @@ ghost use Rattle.ffa_model.specs.State.{State};
 ghost use Rattle.ffa_model.specs.Step.{serve, state_after, step};
 ghost use Rattle.ffa_laws.specs.Steady.{IsSteady};
 ghost use Rattle.ffa_laws.specs.OwnAccess.{AreApart, OwnAccess};
+ghost use Rattle.ffa_laws.specs.Loans.{OfferSaysNothing, ZeroedIsForgotten};
 ghost use Rattle.ffa_laws.specs.Readable.{Confidential, RunConfidential};
 ghost use Rattle.ffa_laws.specs.Replay.{Replays};
 ghost use Rattle.ffa_laws.specs.RunIntegrity.{RunIntegrity};
@@ -84,6 +85,14 @@ pub fn own_access()
 pub fn confidential()
     ensures step { (s : State) (op : Op) → IsSteady s → AreApart s → Confidential s op }
     ensures run { (s : State) (ops : List Op) → IsSteady s → AreApart s → RunConfidential s ops }
+{}
+
+/// What a borrower writes into a loan is forgotten once it gives the loan up with zeros: nothing that comes later depends on
+/// it, and nobody is told of it who doesn't hold the loan. And an offer says nothing of the bytes of its pages to a receiver
+/// that doesn't retrieve it.
+pub fn loans()
+    ensures zeroed { (s : State) → IsSteady s → ZeroedIsForgotten s }
+    ensures offered { (s : State) (op : Op) → IsSteady s → AreApart s → OfferSaysNothing s op }
 {}
 
 /// Each operation gives only the events of its row, and only some calls change the public part. What another endpoint

@@ -4,6 +4,6 @@
 pub mod isolation;
 
 pub use isolation::{
-    confidential, first_is_sound, integrity, isolated, one_call, one_step, only_writers,
+    confidential, first_is_sound, integrity, isolated, loans, one_call, one_step, only_writers,
     own_access, rights_never_grow, run_integrity, silence, sound_is_steady,
 };

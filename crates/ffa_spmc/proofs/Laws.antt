@@ -7,6 +7,7 @@ use Rattle.ffa_model.specs.State.{State}
 use Rattle.ffa_model.specs.Step.{outcomes, state_after, step}
 use Rattle.ffa_laws.specs.Events.{seen}
 use Rattle.ffa_laws.specs.Isolation.{Integrity, Isolated, NeverGrow, OneStep, shown_to}
+use Rattle.ffa_laws.specs.Loans.{OfferSaysNothing, ZeroedIsForgotten}
 use Rattle.ffa_laws.specs.OwnAccess.{AreApart, OwnAccess}
 use Rattle.ffa_laws.specs.Readable.{Confidential, RunConfidential}
 use Rattle.ffa_laws.specs.Replay.{Replays}
@@ -15,10 +16,12 @@ use Rattle.ffa_laws.specs.Silence.{Silence}
 use Rattle.ffa_laws.specs.Steady.{IsSteady}
 use Rattle.ffa_laws.specs.Writers.{OnlyWriters}
 use Rattle.ffa_laws.proofs.Alone.{run_integrity}
+use Rattle.ffa_laws.proofs.Forgotten.{zeroed_is_forgotten}
 use Rattle.ffa_laws.proofs.Growth.{never_grow, step_never_grows}
 use Rattle.ffa_laws.proofs.Integrities.{integrity}
 use Rattle.ffa_laws.proofs.Laws.{one_step}
 use Rattle.ffa_laws.proofs.News.{silence}
+use Rattle.ffa_laws.proofs.Offers.{offer_says_nothing}
 use Rattle.ffa_laws.proofs.OwnAccesses.{own_access}
 use Rattle.ffa_laws.proofs.ReadRuns.{run_confidential}
 use Rattle.ffa_laws.proofs.Readings.{confidential}
@@ -51,6 +54,12 @@ module _ (s : State) (sound : IsSoundState s) where
 
   pub run_confidential-now : AreApart s → (ops : List Op) → RunConfidential s ops
   run_confidential-now apart ops = run_confidential s ops steady apart
+
+  pub offers-now : AreApart s → (op : Op) → OfferSaysNothing s op
+  offers-now apart op = offer_says_nothing s op steady apart
+
+  pub loans-now : ZeroedIsForgotten s
+  loans-now = zeroed_is_forgotten s steady
 
   pub no_growth-now : (op : Op) (after : State) → after ≡ (step s op).state → NeverGrow s after
   no_growth-now op after is = subst (NeverGrow s) (sym is) (step_never_grows s op steady)

@@ -8,6 +8,7 @@ ghost use Rattle.ffa_model.specs.Ram.{page_of, zero_ram};
 ghost use Rattle.ffa_model.specs.SoundState.{IsSoundState};
 ghost use Rattle.ffa_laws.specs.Events.{seen};
 ghost use Rattle.ffa_laws.specs.Isolation.{Integrity, Isolated, NeverGrow, OneStep, shown_to};
+ghost use Rattle.ffa_laws.specs.Loans.{OfferSaysNothing, ZeroedIsForgotten};
 ghost use Rattle.ffa_laws.specs.OwnAccess.{OwnAccess};
 ghost use Rattle.ffa_laws.specs.Readable.{Confidential, RunConfidential};
 ghost use Rattle.ffa_laws.specs.Replay.{Replays};
@@ -201,6 +202,10 @@ impl<M: PhysMem + Drop, T: Translations + Drop> Machine<M, T> {
         ensures never_grow { NeverGrow self.old.state self.new.state }
         ensures own_access { OwnAccess self.old.state op.now }
         ensures only_writers { OnlyWriters self.old.state op.now }
+
+        // Where it opens a transaction, the bytes of the pages make no difference to a receiver that doesn't retrieve
+        // them, whatever is done later.
+        ensures silent_offers { OfferSaysNothing self.old.state op.now }
     {
         // What the clauses rest on holds of every manager, before and after.
         self.manager.holds();
@@ -270,6 +275,10 @@ impl<M: PhysMem + Drop, T: Translations + Drop> Machine<M, T> {
         // A page that an endpoint has alone is what it was, where the endpoint didn't run and, if the page is its RX,
         // got no message into it.
         ensures run_integrity { RunIntegrity self.old.state ops.now }
+
+        // The runner may first write what it likes into a loan: after it has given the loan up with zeros, the state is
+        // the same, and so is all that an endpoint sees and reads that doesn't hold the loan.
+        ensures forgotten_loans { ZeroedIsForgotten self.old.state }
     {
         self.manager.holds();
         self.operate_all(ops, filled);

@@ -3,7 +3,7 @@ use Rattle.ffa_model.specs.SoundState.{IsSoundState}
 use Rattle.ffa_laws.specs.OwnAccess.{AreApart}
 use Rattle.ffa_spmc.specs.Cached.{AreWalks}
 use Rattle.ffa_spmc.specs.Snapshot.{Snapshot}
-use Rattle.ffa_spmc.proofs.Laws.{isolated-now, never_grow-now, replays-now, run_confidential-now, run_integrity-now, shown-now}
+use Rattle.ffa_spmc.proofs.Laws.{isolated-now, loans-now, never_grow-now, replays-now, run_confidential-now, run_integrity-now, shown-now}
 use Rattle.ffa_spmc.proofs.machine.Machine.run.Goals as goal
 
 pub returns-clause-isolated : goal.returns-clause-isolated
@@ -37,3 +37,8 @@ returns-clause-confidential g c =
     run_confidential-now c.args.self.now.state
     (subst (λ (seen : Snapshot). IsSoundState seen.state) c.self.view_is c.holds.ensures.sound)
     (subst (λ (seen : Snapshot). AreApart seen.state) c.self.view_is c.holds.ensures.apart) c.args.ops.now
+
+pub returns-clause-forgotten_loans : goal.returns-clause-forgotten_loans
+returns-clause-forgotten_loans g c =
+    loans-now c.args.self.now.state
+    (subst (λ (seen : Snapshot). IsSoundState seen.state) c.self.view_is c.holds.ensures.sound)
