@@ -28,3 +28,5 @@ pub mod Notified
 pub mod HeldWalks
 pub mod CachedAccesses
 pub mod Forgotten
+pub mod Unowned
+

@@ -8,3 +8,4 @@ pub mod Meaning
 pub mod Replies
 pub mod AccessChange
 pub mod Arms
+pub mod Unowned
