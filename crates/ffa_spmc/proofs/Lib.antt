@@ -29,4 +29,5 @@ pub mod HeldWalks
 pub mod CachedAccesses
 pub mod Forgotten
 pub mod Unowned
-
+pub mod Sizes
+pub mod Chains

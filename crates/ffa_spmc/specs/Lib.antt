@@ -9,3 +9,4 @@ pub mod Replies
 pub mod AccessChange
 pub mod Arms
 pub mod Unowned
+pub mod Operated

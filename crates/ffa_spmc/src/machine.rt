@@ -19,6 +19,7 @@ ghost use Rattle.ffa_model.specs.Registers.{decode};
 ghost use Rattle.ffa_model.specs.State.{owner_of};
 ghost use Rattle.ffa_model.specs.Step.{serve, step, outcomes, state_after};
 ghost use Rattle.ffa_spmc.specs.Cached.{AreSameOrGone, AreForgotten, AreKept, AreWalks, is_accessed, is_miss};
+ghost use Rattle.ffa_spmc.specs.Operated.{AreOperated};
 ghost use Rattle.ffa_spmc.specs.Unowned.{KeepsUnowned};
 
 mod accesses;
@@ -247,6 +248,10 @@ impl<M: PhysMem + Drop, T: Translations + Drop> Machine<M, T> {
         ensures walks { AreWalks self.new }
         ensures sound { IsSoundState self.new.state }
 
+        // From one operation to the next the RAM and the cache change as `op` says, and nothing is done besides.
+        ensures chain { AreOperated self.old ops.now self.new }
+        ensures unowned { KeepsUnowned self.old.state self.old.ram self.new.ram }
+
         // What an endpoint sees, and its view afterwards, are the same from every state that it sees alike, with every list of
         // operations that holds the same of it: they are its items, replayed on its view. What it sees is in the outcomes that
         // were filled in.
@@ -271,9 +276,10 @@ impl<M: PhysMem + Drop, T: Translations + Drop> Machine<M, T> {
         requires { length ops.now ≡ length filled.old }
         ensures outcomes { filled.new ≡ outcomes self.old.state ops.now }
         ensures state { self.new.state ≡ state_after self.old.state ops.now }
+        ensures chain { AreOperated self.old ops.now self.new }
     {
         for i in 0..ops.len() {
-            filled[i] = self.operate(&ops[i]);
+            filled[i] = self.op(&ops[i]);
         }
     }
 }
