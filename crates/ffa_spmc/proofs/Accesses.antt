@@ -28,11 +28,13 @@ use Rattle.ffa_walker.proofs.Offsets.{KeepsOffset-walk}
 use Rattle.ffa_spmc.specs.Meaning.{IsManager, Parts, state_of}
 use Rattle.ffa_spmc.specs.Walks.{walk_of}
 use Rattle.ffa_spmc.specs.Managed.{Managed}
+use Rattle.ffa_spmc.specs.Unowned.{KeepsUnowned}
 use Rattle.ffa_spmc.proofs.Held.{base_is, parties_are, size_is, runner-known, runner-named}
 use Rattle.ffa_spmc.proofs.Agreements.{agrees}
 use Rattle.ffa_spmc.proofs.Machines.{StillHasTables, tables-written}
 use Rattle.ffa_spmc.proofs.Reaches.{owned-in, number-is, placed, reach-is, reached}
 use Rattle.ffa_spmc.proofs.Stores.{state-written}
+use Rattle.ffa_spmc.proofs.Unowned.{unowned-same, unowned-written}
 
 -- what a load or a fetch that answered this gives
 abbrev pub outcome_of : Result ℕ FaultKind → Outcome
@@ -95,8 +97,9 @@ module _ (x : Parts) (machine : IsManager x) where
   -- what a store leaves where its access ended so
   after : (address : ℕ) (bytes : List ℕ) (o : Option FaultKind) (n : ℕ) → fault_of (address % n == 0) (access_at s x.kept.chain.runner address) may_store ≡ o
       → StillHasTables x (with_bytes_reached x.ram bytes (reached o address))
-      × (state_of (record x { ram = with_bytes_reached x.ram bytes (reached o address) }) ≡ (accessed o s (memory.stored s address bytes) Done).state)
-  after address bytes (Some fault) n is = (machine.tables, refl)
+      × ((state_of (record x { ram = with_bytes_reached x.ram bytes (reached o address) }) ≡ (accessed o s (memory.stored s address bytes) Done).state)
+      × KeepsUnowned s x.ram (with_bytes_reached x.ram bytes (reached o address)))
+  after address bytes (Some fault) n is = (machine.tables, (refl, unowned-same s x.ram x.ram refl))
   after address bytes None n is =
       let (r, right) = right-of (address % n == 0) (access_at s x.kept.chain.runner address) may_store is in
       let p = placed s x.kept.chain.runner address r right in
@@ -110,9 +113,12 @@ module _ (x : Parts) (machine : IsManager x) where
       subst (λ (n : ℕ). (address - x.ram.base) / 4096 < n) (size_is x) (owned-in s ((address - x.ram.base) / 4096) p.page there)
       in (
         tables-written x machine ((address - x.ram.base) / 4096) ((address - x.ram.base) % 4096) bytes p.page inside there,
-        state-written x ((address - x.ram.base) / 4096) ((address - x.ram.base) % 4096) bytes inside
-            ∙ ap (λ (k : ℕ). written s ((address - x.ram.base) / 4096) k bytes) at
-            ∙ ap (λ (k : ℕ). written s k (address % 4096) bytes) (sym number),
+        (
+          state-written x ((address - x.ram.base) / 4096) ((address - x.ram.base) % 4096) bytes inside
+              ∙ ap (λ (k : ℕ). written s ((address - x.ram.base) / 4096) k bytes) at
+              ∙ ap (λ (k : ℕ). written s k (address % 4096) bytes) (sym number),
+          unowned-written s x.ram ((address - x.ram.base) / 4096) ((address - x.ram.base) % 4096) bytes p.page there,
+        ),
       )
 
   stored-reached : (address : ℕ) (size : Size) (value : ℕ)
@@ -128,7 +134,12 @@ module _ (x : Parts) (machine : IsManager x) where
   pub store-state : (address : ℕ) (size : Size) (value : ℕ) → state_of (record x { ram = ram_after_store x.ram runner_root address (size_of size) value }) ≡ (memory.store s address size value).state
   store-state address size value =
       ap (λ (r : Ram). state_of (record x { ram = r })) (stored-reached address size value)
-      ∙ (after address (little_bytes (size_of size) value) (fault_of (address % size_of size == 0) (access_at s x.kept.chain.runner address) may_store) (size_of size) refl).1
+      ∙ (after address (little_bytes (size_of size) value) (fault_of (address % size_of size == 0) (access_at s x.kept.chain.runner address) may_store) (size_of size) refl).1.0
+
+  pub store-unowned : (address : ℕ) (size : Size) (value : ℕ) → KeepsUnowned s x.ram (ram_after_store x.ram runner_root address (size_of size) value)
+  store-unowned address size value =
+      subst (KeepsUnowned s x.ram) (sym (stored-reached address size value))
+      (after address (little_bytes (size_of size) value) (fault_of (address % size_of size == 0) (access_at s x.kept.chain.runner address) may_store) (size_of size) refl).1.1
 
   pub store-machine : (address : ℕ) (size : Size) (value : ℕ) → IsManager (record x { ram = ram_after_store x.ram runner_root address (size_of size) value })
   store-machine address size value =
@@ -182,6 +193,11 @@ module _ (x : Parts) (machine : IsManager x) where
         state-stored =
             ap (λ (ram : Ram). state_of (record x { ram = ram })) new-is ∙ store-state address size value
             ∙ ap (λ (seen : Managed). (memory.store seen.state address size value).state) view
+
+        pub unowned-stored : KeepsUnowned now.state now.ram new
+        unowned-stored =
+            subst (λ (seen : Managed). KeepsUnowned seen.state seen.ram new) view
+            (subst (KeepsUnowned s x.ram) (sym new-is) (store-unowned address size value))
 
       pub answer-stored : (answer : Result ⊤ FaultKind) → answer ≡ store_answer_by x.ram walked address (size_of size)
           → done_or_fault answer ≡ (memory.store now.state address size value).outcome

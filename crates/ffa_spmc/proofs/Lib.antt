@@ -28,3 +28,6 @@ pub mod Notified
 pub mod HeldWalks
 pub mod CachedAccesses
 pub mod Forgotten
+pub mod Unowned
+pub mod Sizes
+pub mod Chains

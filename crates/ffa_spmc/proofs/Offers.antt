@@ -38,6 +38,7 @@ use Rattle.ffa_memshare.specs.declared.marks.Mark.TheVariants.{Named}
 use Rattle.ffa_spmc.specs.AccessChange.{IsAccessChange, is_whose}
 use Rattle.ffa_spmc.specs.Meaning.{AreOffers, IsManager, IsOffered, Parts, access_by_place, state_of}
 use Rattle.ffa_spmc.specs.Replies.{handle_or_error}
+use Rattle.ffa_spmc.specs.Unowned.{KeepsUnowned}
 use Rattle.ffa_spmc.proofs.Answered.{answered-by, done-with, refused-so}
 use Rattle.ffa_spmc.proofs.Closes.{offers-opened, slot-opened}
 use Rattle.ffa_spmc.proofs.Granted.{send-granted}
@@ -47,6 +48,7 @@ use Rattle.ffa_spmc.proofs.Moves.{SameOwners, marked-owners, of-manifest, owners
 use Rattle.ffa_spmc.proofs.Pools.{base-is, named-kept, slot-open}
 use Rattle.ffa_spmc.proofs.Retrieves.{scene-is}
 use Rattle.ffa_spmc.proofs.Sends.{sent-is}
+use Rattle.ffa_spmc.proofs.Unowned.{unowned-moved, unowned-same}
 
 -- the pool counts the sends of each endpoint
 pub offer-endpoints : (x : Parts) → IsManager x → length x.kept.pool.sent ≡ array_vec_len x.kept.layout.regions
@@ -171,6 +173,10 @@ module _ (x : Parts) (machine : IsManager x) (e : ℕ) (at : e ≡ x.kept.chain.
           sound = subst IsSoundState (sym state-sent) (send-sound s machine.sound kind a (sym none));
         }
 
+    -- of what nobody owns
+    pub unowned-sent : KeepsUnowned s x.ram ram
+    unowned-sent = unowned-moved x machine ram (place e) r.ranges right r.zero moves (λ p lt named. owned p named)
+
     -- of access
     by-runner : (f p : ℕ) → (names s r.ranges p && is_whose (changed_sender kind s.runner) f) ≡ (names s r.ranges p && is_whose (changed_sender kind e) f)
     by-runner f p = ap (λ (g : ℕ). names s r.ranges p && is_whose (changed_sender kind g) f) (sym at)
@@ -216,6 +222,13 @@ module _ (x : Parts) (machine : IsManager x) (e : ℕ) (at : e ≡ x.kept.chain.
         of : (r : Result Sent ErrorCode) → result_err r ≡ first_failure guards → OnErr r (after_offer ≡ x) → IfOk r (λ sent. IsDone sent.changed) → IsManager after_offer
         of (Ok sent) passes same facts = machine-sent sent.changed passes facts
         of (Err code) fails same facts = subst IsManager (sym same) machine
+
+    pub offer-unowned : KeepsUnowned s x.ram ram
+    offer-unowned = of result refuses kept_ram done
+      where
+        of : (r : Result Sent ErrorCode) → result_err r ≡ first_failure guards → OnErr r (ram ≡ x.ram) → IfOk r (λ sent. IsDone sent.changed) → KeepsUnowned s x.ram ram
+        of (Ok sent) passes same facts = unowned-sent sent.changed passes facts
+        of (Err code) fails same facts = unowned-same s x.ram ram same
 
     pub offer-changes : IsAccessChange s (state_of after_offer) (option_map (λ (sent : Sent). sent.changed) (result_ok result))
     offer-changes = of result refuses unchanged done

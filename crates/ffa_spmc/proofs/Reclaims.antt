@@ -34,11 +34,13 @@ use Rattle.ffa_memshare.proofs.Joined.{reclaim-access}
 use Rattle.ffa_spmc.specs.AccessChange.{IsAccessChange, is_whose}
 use Rattle.ffa_spmc.specs.Meaning.{AreOffers, IsManager, Parts, access_by_place, state_of}
 use Rattle.ffa_spmc.specs.Replies.{done_or_error}
+use Rattle.ffa_spmc.specs.Unowned.{KeepsUnowned}
 use Rattle.ffa_spmc.proofs.Answered.{answered-by, done-replies, done-so, refused-so}
 use Rattle.ffa_spmc.proofs.Closes.{offers-closed, slot-marked}
 use Rattle.ffa_spmc.proofs.AccessChanges.{access-changed, none-changed, reclaimed-kept, reclaimed-new}
 use Rattle.ffa_spmc.proofs.Moves.{SameOwners, marked-owners, of-manifest, owners-moved, pages-moved, tables-moved}
 use Rattle.ffa_spmc.proofs.Pools.{base-is, bases-are, slot-open}
+use Rattle.ffa_spmc.proofs.Unowned.{open-entered, unowned-moved, unowned-same}
 
 -- the code's runner is that of the run states; and the pool has reclaimed a handle, or refused to
 module _ (x : Parts) (machine : IsManager x) (e : ℕ) (at : e ≡ x.kept.chain.runner) (low high flags h : ℕ) (handle : h ≡ handle_of high low) (ram : Ram) (pages : List (Option Entry)) (pool : Pooled) where
@@ -126,6 +128,9 @@ module _ (x : Parts) (machine : IsManager x) (e : ℕ) (at : e ≡ x.kept.chain.
           sound = subst IsSoundState (sym state-reclaimed) (reclaimed-sound s machine.sound h t was (is_set 0 flags));
         }
 
+    pub unowned-reclaimed : KeepsUnowned s x.ram ram
+    unowned-reclaimed = unowned-moved x machine ram (place e) t.ranges (base_at x.kept.pages) (flags == 1) moves (open-entered x machine h t was)
+
     by-sender : (f p : ℕ) → (names s t.ranges p && is_whose (changed_sender t.kind t.sender) f) ≡ (names s t.ranges p && is_whose (changed_sender t.kind e) f)
     by-sender f p = ap (λ (g : ℕ). names s t.ranges p && is_whose (changed_sender t.kind g) f) sender
 
@@ -180,6 +185,13 @@ module _ (x : Parts) (machine : IsManager x) (e : ℕ) (at : e ≡ x.kept.chain.
         of : (r : Result Changed ErrorCode) → result_err r ≡ first_failure guards → OnErr r (after_reclaim ≡ x) → OnOk r IsReclaimed → IsManager after_reclaim
         of (Ok told) passes same facts = machine-reclaimed passes facts
         of (Err code) fails same facts = subst IsManager (sym same) machine
+
+    pub reclaim-unowned : KeepsUnowned s x.ram ram
+    reclaim-unowned = of r refuses kept_ram done
+      where
+        of : (r : Result Changed ErrorCode) → result_err r ≡ first_failure guards → OnErr r (ram ≡ x.ram) → OnOk r IsReclaimed → KeepsUnowned s x.ram ram
+        of (Ok told) passes same facts = unowned-reclaimed passes facts
+        of (Err code) fails same facts = unowned-same s x.ram ram same
 
     pub reclaim-changes : IsAccessChange s (state_of after_reclaim) (result_ok r)
     reclaim-changes = of r refuses unchanged done changed

@@ -30,6 +30,7 @@ use Rattle.ffa_memshare.specs.Scenes.{tx_in}
 use Rattle.ffa_spmc.specs.AccessChange.{IsAccessChange}
 use Rattle.ffa_spmc.specs.Meaning.{AreOffers, IsManager, Parts, access_by_place, state_of}
 use Rattle.ffa_spmc.specs.Replies.{done_or_error}
+use Rattle.ffa_spmc.specs.Unowned.{KeepsUnowned}
 use Rattle.ffa_spmc.proofs.Answered.{answered-by, done-replies, done-with, refused-so}
 use Rattle.ffa_spmc.proofs.Closes.{offers-reheld}
 use Rattle.ffa_spmc.proofs.Granted.{relinquish-granted}
@@ -37,6 +38,7 @@ use Rattle.ffa_spmc.proofs.AccessChanges.{access-changed, none-changed, relinqui
 use Rattle.ffa_spmc.proofs.Moves.{of-manifest, pages-moved, same-owners, tables-moved}
 use Rattle.ffa_spmc.proofs.Pools.{open-slot}
 use Rattle.ffa_spmc.proofs.Sends.{sent-is}
+use Rattle.ffa_spmc.proofs.Unowned.{open-entered, unowned-moved, unowned-same}
 
 -- the code's runner is that of the run states; and it has given up what its TX describes, or was refused
 module _ (x : Parts) (machine : IsManager x) (e : ℕ) (at : e ≡ x.kept.chain.runner) (ram : Ram) (pool : Pooled) where
@@ -115,6 +117,9 @@ module _ (x : Parts) (machine : IsManager x) (e : ℕ) (at : e ≡ x.kept.chain.
           sound = subst IsSoundState (sym state-from) (relinquished-sound s machine.sound d t was);
         }
 
+    pub unowned-relinquished : KeepsUnowned s x.ram ram
+    unowned-relinquished = unowned-moved x machine ram (place e) t.ranges (λ p. None) d.zero moves (open-entered x machine d.handle t was)
+
     by-runner : (f p : ℕ) → (names s t.ranges p && s.runner == f) ≡ (names s t.ranges p && e == f)
     by-runner f p = ap (λ (g : ℕ). names s t.ranges p && g == f) (sym at)
 
@@ -153,6 +158,13 @@ module _ (x : Parts) (machine : IsManager x) (e : ℕ) (at : e ≡ x.kept.chain.
         of : (r : Result Changed ErrorCode) → result_err r ≡ first_failure guards → OnErr r (after_relinquish ≡ x) → IfOk r IsDone → IsManager after_relinquish
         of (Ok changed) passes same facts = machine-relinquished changed passes facts
         of (Err code) fails same facts = subst IsManager (sym same) machine
+
+    pub relinquish-unowned : KeepsUnowned s x.ram ram
+    relinquish-unowned = of r refuses kept_ram done
+      where
+        of : (r : Result Changed ErrorCode) → result_err r ≡ first_failure guards → OnErr r (ram ≡ x.ram) → IfOk r IsDone → KeepsUnowned s x.ram ram
+        of (Ok changed) passes same facts = unowned-relinquished changed passes facts
+        of (Err code) fails same facts = unowned-same s x.ram ram same
 
     pub relinquish-changes : IsAccessChange s (state_of after_relinquish) (result_ok r)
     relinquish-changes = of r refuses unchanged done

@@ -32,7 +32,7 @@ use Rattle.ffa_model.proofs.Guards.{guard-passes}
 use Rattle.ffa_model.proofs.KeptCalls.{taken-sound}
 use Rattle.ffa_laws.proofs.SoundOperations.{call-sound}
 use Rattle.ffa_pages.specs.Entry.{Entry}
-use Rattle.ffa_rxtx.specs.Parts.{candidates_in}
+use Rattle.ffa_rxtx.specs.Parts.{candidates_in, with_rx_bytes}
 use Rattle.ffa_memshare.specs.declared.changed.Retrieved.{Retrieved as Taken}
 use Rattle.ffa_memshare.specs.Changes.{IsMoved}
 use Rattle.ffa_memshare.specs.Grants.{with_rights}
@@ -45,6 +45,7 @@ use Rattle.ffa_memshare.specs.Stored.{Pooled, offers_in, slot_at as pool_slot}
 use Rattle.ffa_spmc.specs.AccessChange.{IsAccessChange}
 use Rattle.ffa_spmc.specs.Meaning.{AreOffers, HasTables, IsManager, IsOffered, Parts, access_by_place, state_of}
 use Rattle.ffa_spmc.specs.Replies.{retrieved_or_error}
+use Rattle.ffa_spmc.specs.Unowned.{KeepsUnowned}
 use Rattle.ffa_spmc.proofs.Answered.{answered-by, passed-state, refused-so}
 use Rattle.ffa_spmc.proofs.Candidates.{candidates-are}
 use Rattle.ffa_spmc.proofs.Closes.{offers-closed, offers-reheld}
@@ -56,6 +57,7 @@ use Rattle.ffa_spmc.proofs.AccessChanges.{access-changed, none-changed, retrieve
 use Rattle.ffa_spmc.proofs.Moves.{of-manifest, same-owners, slot-given, tables-moved}
 use Rattle.ffa_spmc.proofs.Pools.{bases-are, open-slot, slot-open}
 use Rattle.ffa_spmc.proofs.Sends.{sent-is}
+use Rattle.ffa_spmc.proofs.Unowned.{open-entered, unowned-filled, unowned-moved, unowned-same, unowned-then}
 
 -- what the checks of a call read is the same in the state
 pub scene-is : (x : Parts) → IsManager x → scene_in (array_vec_len x.kept.layout.regions) x.kept.pages x.kept.layout.base x.kept.buffers (offers_in x.kept.pool) ≡ scene_of (state_of x)
@@ -229,6 +231,13 @@ module _ (x : Parts) (machine : IsManager x) (e : EndpointId) (at : e.0 ≡ x.ke
               (call-sound s machine.sound (MemRetrieve total fragment address count));
         }
 
+    pub unowned-retrieved : KeepsUnowned s x.ram ram
+    unowned-retrieved =
+        subst (KeepsUnowned s x.ram) (sym done.answer.answered)
+        (unowned-then s x.ram done.answer.granted (with_rx_bytes done.answer.granted (buffers_in x.kept.buffers e.0) answer)
+        (unowned-moved x machine done.answer.granted (place e.0) t.ranges (λ p. Some right) false moves (open-entered x machine d.handle t was))
+        (unowned-filled x machine e.0 (runner-there x machine e.0 at) done.answer.granted answer))
+
     pub length-retrieved : Retrieved taken.size ≡ (memory_retrieve s registers).reply
     length-retrieved =
         ap Retrieved (done.answer.bytes
@@ -302,6 +311,13 @@ module _ (x : Parts) (machine : IsManager x) (e : EndpointId) (at : e.0 ≡ x.ke
         of : (r : Result Taken ErrorCode) → result_err r ≡ first_failure guards → OnErr r (after_retrieve ≡ x) → OnOk r (buffers ≡ buffers_with_rx x.kept.buffers e.0 true) → IfOk r IsDone → IsManager after_retrieve
         of (Ok taken) none same fills facts = machine-retrieved taken none facts fills
         of (Err code) fails same fills facts = subst IsManager (sym same) machine
+
+    pub retrieve-unowned : KeepsUnowned s x.ram ram
+    retrieve-unowned = of r refuses kept_ram full done
+      where
+        of : (r : Result Taken ErrorCode) → result_err r ≡ first_failure guards → OnErr r (ram ≡ x.ram) → OnOk r (buffers ≡ buffers_with_rx x.kept.buffers e.0 true) → IfOk r IsDone → KeepsUnowned s x.ram ram
+        of (Ok taken) none same fills facts = unowned-retrieved taken none facts fills
+        of (Err code) fails same fills facts = unowned-same s x.ram ram same
 
     pub retrieve-changes : IsAccessChange s (state_of after_retrieve) (option_map (λ (taken : Taken). taken.changed) (result_ok r))
     retrieve-changes = of r refuses unchanged full done

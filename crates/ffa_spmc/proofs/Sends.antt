@@ -24,10 +24,12 @@ use Rattle.ffa_model.proofs.Guards.{guard-passes}
 use Rattle.ffa_rxtx.specs.Parts.{with_rx_bytes}
 use Rattle.ffa_messages.specs.Parts.{AreInRam, receiver_in, sent_in, tx_in}
 use Rattle.ffa_spmc.specs.Meaning.{IsManager, Parts, state_of}
+use Rattle.ffa_spmc.specs.Unowned.{KeepsUnowned}
 use Rattle.ffa_spmc.proofs.Fills.{buffers-there, runner-there, state-filled, tables-filled, there-inside}
 use Rattle.ffa_spmc.proofs.Held.{each, parties_are}
 use Rattle.ffa_spmc.proofs.Agreements.{agrees}
 use Rattle.ffa_spmc.proofs.Machines.{StillHasTables}
+use Rattle.ffa_spmc.proofs.Unowned.{unowned-filled, unowned-same}
 
 -- the endpoint at a place is there, and its place is this one
 known-at : (n i : ℕ) → i < n → is_known_among n (identifier i) ≡ true
@@ -142,3 +144,11 @@ module _ (x : Parts) (machine : IsManager x) where
         unsent =
             ap (λ (y : Parts). replied (state_of y) (Error code)) unsent-parts
             ∙ ap (λ o. answered o s (msg_send2 s).state (msg_send2 s).reply) (ap result_err (sym is) ∙ refusal ∙ same-refusal)
+
+      -- what nobody owns keeps its bytes
+      pub send-unowned : KeepsUnowned s x.ram new
+      send-unowned = of r refl
+        where
+          of : (o : Result EndpointId ErrorCode) → r ≡ o → KeepsUnowned s x.ram new
+          of (Ok f) is = subst (KeepsUnowned s x.ram) (sym (wrote f is)) (unowned-filled x machine receiver (receiver-known (passes f is)) x.ram (message_in tx))
+          of (Err code) is = unowned-same s x.ram new (subst (λ (o : Result EndpointId ErrorCode). OnErr o (new ≡ x.ram)) is kept_ram)

@@ -8,3 +8,5 @@ pub mod Meaning
 pub mod Replies
 pub mod AccessChange
 pub mod Arms
+pub mod Unowned
+pub mod Operated

@@ -20,6 +20,8 @@ ghost use Rattle.ffa_model.specs.Registers.{decode};
 ghost use Rattle.ffa_model.specs.State.{owner_of};
 ghost use Rattle.ffa_model.specs.Step.{serve, step, outcomes, state_after};
 ghost use Rattle.ffa_spmc.specs.Cached.{AreSameOrGone, AreForgotten, AreKept, AreWalks, is_accessed, is_miss};
+ghost use Rattle.ffa_spmc.specs.Operated.{AreOperated};
+ghost use Rattle.ffa_spmc.specs.Unowned.{KeepsUnowned};
 
 mod accesses;
 mod forgetting;
@@ -170,6 +172,7 @@ impl<M: PhysMem + Drop, T: Translations + Drop> Machine<M, T> {
         // Every walk of the new RAM gives exactly the access of the new state, whose bytes it holds.
         ensures agrees { Agrees self.new.ram self.new.state }
         ensures refused { is_refusal result ≡ true → self.new ≡ self.old }
+        ensures unowned { KeepsUnowned self.old.state self.old.ram self.new.ram }
 
         // What the cache answers is the walk's answer over the bytes of the new RAM. It holds nothing for a page to which
         // an endpoint's access has changed. All else stays, but for an access that misses: it may take the place of others,
@@ -220,6 +223,7 @@ impl<M: PhysMem + Drop, T: Translations + Drop> Machine<M, T> {
         ensures outcome { result ≡ (step self.old.state op.now).outcome }
         ensures state { self.new.state ≡ (step self.old.state op.now).state }
         ensures refused { is_refusal result ≡ true → self.new ≡ self.old }
+        ensures unowned { KeepsUnowned self.old.state self.old.ram self.new.ram }
         ensures forgotten { AreForgotten self.old self.new }
         ensures kept { is_miss self.old op.now ≡ false → AreKept self.old self.new }
         ensures others { AreSameOrGone self.old self.new (is_accessed self.old.state op.now) }
@@ -238,6 +242,7 @@ impl<M: PhysMem + Drop, T: Translations + Drop> Machine<M, T> {
         ensures outcome { result ≡ (serve self.old.state (decode x)).outcome }
         ensures state { self.new.state ≡ (serve self.old.state (decode x)).state }
         ensures refused { is_refusal result ≡ true → self.new ≡ self.old }
+        ensures unowned { KeepsUnowned self.old.state self.old.ram self.new.ram }
         ensures forgotten { AreForgotten self.old self.new }
         ensures kept { AreKept self.old self.new }
         ensures others { AreSameOrGone self.old self.new (λ e p. false) }
@@ -257,6 +262,10 @@ impl<M: PhysMem + Drop, T: Translations + Drop> Machine<M, T> {
         ensures agrees { Agrees self.new.ram self.new.state }
         ensures walks { AreWalks self.new }
         ensures sound { IsSoundState self.new.state }
+
+        // From one operation to the next the RAM and the cache change as `op` says, and nothing is done besides.
+        ensures chain { AreOperated self.old ops.now self.new }
+        ensures unowned { KeepsUnowned self.old.state self.old.ram self.new.ram }
 
         // What an endpoint sees, and its view afterwards, are the same from every state that it sees alike, with every list of
         // operations that holds the same of it: they are its items, replayed on its view. What it sees is in the outcomes that
@@ -290,9 +299,10 @@ impl<M: PhysMem + Drop, T: Translations + Drop> Machine<M, T> {
         requires { length ops.now ≡ length filled.old }
         ensures outcomes { filled.new ≡ outcomes self.old.state ops.now }
         ensures state { self.new.state ≡ state_after self.old.state ops.now }
+        ensures chain { AreOperated self.old ops.now self.new }
     {
         for i in 0..ops.len() {
-            filled[i] = self.operate(&ops[i]);
+            filled[i] = self.op(&ops[i]);
         }
     }
 }

@@ -15,6 +15,7 @@ ghost use Rattle.ffa_model.specs.State.{owner_of};
 ghost use Rattle.ffa_model.specs.Step.{serve};
 ghost use Rattle.ffa_spmc.specs.Arms.{is_on_memory};
 ghost use Rattle.ffa_spmc.specs.AccessChange.{IsAccessChange};
+ghost use Rattle.ffa_spmc.specs.Unowned.{KeepsUnowned};
 
 mod accesses;
 mod buffers;
@@ -148,6 +149,7 @@ impl<M: PhysMem + Drop> Manager<M> {
         ensures outcome { result.outcome ≡ (serve self.old.state (decode x)).outcome }
         ensures state { self.new.state ≡ (serve self.old.state (decode x)).state }
         ensures refused { is_refusal result.outcome ≡ true → self.new ≡ self.old }
+        ensures unowned { KeepsUnowned self.old.state self.old.ram self.new.ram }
         ensures access { IsAccessChange self.old.state self.new.state result.changed }
         ensures unchanged { is_refusal result.outcome ≡ true → result.changed ≡ None }
     {
@@ -167,6 +169,7 @@ impl<M: PhysMem + Drop> Manager<M> {
         requires { passes_no_error call ≡ true }
         ensures served { replied self.new.state result.reply ≡ serve self.old.state call }
         ensures refused { is_error result.reply ≡ true → self.new ≡ self.old }
+        ensures unowned { KeepsUnowned self.old.state self.old.ram self.new.ram }
         ensures access { IsAccessChange self.old.state self.new.state result.changed }
         ensures unchanged { is_error result.reply ≡ true → result.changed ≡ None }
     {
@@ -186,6 +189,7 @@ impl<M: PhysMem + Drop> Manager<M> {
         requires named { passes_no_error call ≡ true }
         ensures served { replied self.new.state result ≡ serve self.old.state call }
         ensures refused { is_error result ≡ true → self.new ≡ self.old }
+        ensures unowned { KeepsUnowned self.old.state self.old.ram self.new.ram }
     {
         match call {
             Call::Version { version } => ffa_setup::version(version),

@@ -12,6 +12,10 @@ const ENDPOINT: EndpointId = EndpointId(0x8001);
 pub(crate) struct Always(pub(crate) usize);
 
 impl Replacement for Always {
+    ghost picked = { λ policy e p. policy.0 };
+
+    ghost moved = { λ policy e p. policy };
+
     fn pick(&mut self, _endpoint: EndpointId, _page: PageNo) -> usize {
         self.0
     }

@@ -1,9 +1,10 @@
 -- Nothing here is to be believed: a type that clauses see has to have a code, and each code brings the proof that it can be
 -- undone.
-use Rattle.std.specs.Prelude.{ℕ, Bool, List, refl}
-use Rattle.std.specs.Coded.{Coded, code_by, coded×, coded_ℕ, coded_bool, coded_list}
+use Rattle.std.specs.Prelude.{ℕ, Bool, List, Option, refl}
+use Rattle.std.specs.Coded.{Coded, code_by, coded×, coded_ℕ, coded_bool, coded_list, coded_option}
 use Rattle.ffa_model.specs.declared.leaf.Leaf.{Leaf}
 use Rattle.ffa_tlb.specs.declared.translations.Entry.{Entry}
+use Rattle.ffa_tlb.specs.Slots.{Slotted}
 
 abbrev pub coded_leaf : Coded Leaf
 coded_leaf =
@@ -17,3 +18,8 @@ coded_entry =
 
 abbrev pub coded_entries : Coded (List Entry)
 coded_entries = coded_list coded_entry
+
+abbrev pub coded_slotted : {P : Type 0} → Coded P → Coded (Slotted P)
+coded_slotted {P} coded_policy =
+    code_by (List (Option Entry) × P) (coded× (coded_list (coded_option coded_entry)) coded_policy)
+    (λ t. (t.slots, t.policy)) (λ p. record { slots = p.0; policy = p.1 }) (λ _. refl)

@@ -4,6 +4,11 @@ use Rattle.std.specs.List.{filter_map}
 use Rattle.ffa_tlb.specs.declared.translations.Entry.{Entry}
 use Rattle.ffa_tlb.specs.Lookups.{is_pair, lookup}
 
+-- what contracts see of a cache: its slots, each empty or with an entry, and the policy that picks among them
+pub record Slotted (P : Type 0) : Type 0 where
+  pub slots : List (Option Entry)
+  pub policy : P
+
 -- the entries that stand in slots
 abbrev pub entries_of : List (Option Entry) → List Entry
 entries_of slots = filter_map (λ slot. slot) slots

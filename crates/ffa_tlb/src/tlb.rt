@@ -1,6 +1,6 @@
 //! A cache of a few leaves.
-ghost use Rattle.std.specs.Prelude.{◌≡◌, ◌<◌, Some, []};
-ghost use Rattle.ffa_tlb.specs.Lookups.{lookup, IsFilled};
+ghost use Rattle.std.specs.Prelude.{◌≡◌, ◌<◌, ◌%◌, None, Some, [], replicate, slice_set};
+ghost use Rattle.ffa_tlb.specs.Lookups.{lookup, IsFilled, IsForgotten};
 ghost use Rattle.ffa_tlb.specs.Slots.{entries_of, holds, without};
 
 use crate::replacement::Replacement;
@@ -9,7 +9,8 @@ use ffa_model::{EndpointId, Leaf, PageNo};
 use std::marker::Model;
 
 /// A translation lookaside buffer of `N` entries, at least one (DDI 0487, D8). A page of an endpoint has one entry at
-/// most; which one makes room for a new one is up to `P`.
+/// most; which one makes room for a new one is up to `P`. Contracts see its slots, each empty or with its entry, and its
+/// policy.
 #[derive(Drop)]
 pub struct Tlb<P: Replacement, const N: usize> {
     slots: [Option<Entry>; N],
@@ -17,18 +18,15 @@ pub struct Tlb<P: Replacement, const N: usize> {
 }
 
 impl<P: Replacement, const N: usize> Model for Tlb<P, N> {
-    ghost use Rattle.std.specs.Prelude.{◌≡◌, ◌<◌, true, List};
-    ghost use Rattle.ffa_tlb.specs.declared.translations.Entry.{Entry};
+    ghost use Rattle.std.specs.Prelude.{◌≡◌, ◌<◌, true};
+    ghost use Rattle.ffa_tlb.specs.Codes.{coded_slotted};
+    ghost use Rattle.ffa_tlb.specs.Slots.{Slotted, entries_of, is_distinct};
 
-    ghost Value = { List Entry };
+    ghost Value = { Slotted P };
 
-    ghost use Rattle.ffa_tlb.specs.Codes.{coded_entries};
+    ghost coded = { coded_slotted P.code };
 
-    ghost coded = { coded_entries };
-
-    ghost use Rattle.ffa_tlb.specs.Slots.{entries_of, is_distinct};
-
-    ghost view = { λ t. entries_of t.slots };
+    ghost view = { λ t. record { slots = t.slots; policy = t.policy } };
 
     ghost invariant = { λ t. (0 < N) × (is_distinct (entries_of t.slots) ≡ true) };
 }
@@ -38,7 +36,9 @@ impl<P: Replacement, const N: usize> Tlb<P, N> {
     #[tactic(auto, using(crate::proofs::Slots::entries_of_empty))]
     pub fn new(policy: P) -> Tlb<P, N>
         requires { 0 < N }
-        ensures { result ≡ [] }
+        ensures held { entries_of result.slots ≡ [] }
+        ensures slots { result.slots ≡ replicate N None }
+        ensures policy { result.policy ≡ policy }
     {
         Tlb {
             slots: [None; N],
@@ -48,15 +48,20 @@ impl<P: Replacement, const N: usize> Tlb<P, N> {
 }
 
 impl<P: Replacement, const N: usize> Translations for Tlb<P, N> {
-    ghost entries = { λ t. t };
+    ghost entries = { λ t. entries_of t.slots };
 
     fn lookup(&self, endpoint: EndpointId, page: PageNo) -> Option<Leaf> {
         held_in(&self.slots, endpoint, page)
     }
 
     fn fill(&mut self, endpoint: EndpointId, page: PageNo, leaf: Leaf)
-        ensures filled { IsFilled self.old self.new endpoint.0 page.0 leaf }
-        ensures held { lookup self.new endpoint.0 page.0 ≡ Some leaf }
+        ensures filled { IsFilled (entries_of self.old.slots) (entries_of self.new.slots) endpoint.0 page.0 leaf }
+        ensures held { lookup (entries_of self.new.slots) endpoint.0 page.0 ≡ Some leaf }
+
+        // The new entry stands where the policy says. Each other slot is as before, but that the page's last entry is out.
+        ensures slots { self.new.slots ≡ slice_set (without self.old.slots endpoint.0 page.0) (P.picked self.old.policy endpoint.0 page.0 % N)
+            (Some (record { endpoint = endpoint; page = page; leaf = leaf })) }
+        ensures policy { self.new.policy ≡ P.moved self.old.policy endpoint.0 page.0 }
     {
         self.forget(endpoint, page);
         let slot = self.policy.pick(endpoint, page) % N;
@@ -68,12 +73,20 @@ impl<P: Replacement, const N: usize> Translations for Tlb<P, N> {
     }
 
     #[tactic(auto, using(crate::proofs::Slots::lookup_without, crate::proofs::Slots::distinct_without))]
-    fn forget(&mut self, endpoint: EndpointId, page: PageNo) {
+    fn forget(&mut self, endpoint: EndpointId, page: PageNo)
+        ensures forgotten { IsForgotten (entries_of self.old.slots) (entries_of self.new.slots) endpoint.0 page.0 }
+        ensures slots { self.new.slots ≡ without self.old.slots endpoint.0 page.0 }
+        ensures policy { self.new.policy ≡ self.old.policy }
+    {
         take_out(&mut self.slots, endpoint, page);
     }
 
     #[tactic(auto, using(crate::proofs::Slots::entries_of_empty))]
-    fn clear(&mut self) {
+    fn clear(&mut self)
+        ensures held { entries_of self.new.slots ≡ [] }
+        ensures slots { self.new.slots ≡ replicate N None }
+        ensures policy { self.new.policy ≡ self.old.policy }
+    {
         let empty = [None; N];
         self.slots = empty;
     }

@@ -6,6 +6,7 @@ ghost use Rattle.ffa_model.specs.Memory as memory;
 ghost use Rattle.ffa_model.specs.Refusals.{is_refusal};
 ghost use Rattle.ffa_spmc.specs.Cached.{missed_page};
 ghost use Rattle.ffa_spmc.specs.Caching.{IsCached, moved_back, moved_to};
+ghost use Rattle.ffa_spmc.specs.Unowned.{KeepsUnowned};
 ghost use Rattle.ffa_spmc.specs.Walks.{walk_of};
 
 use super::Machine;
@@ -93,6 +94,7 @@ impl<M: PhysMem + Drop, T: Translations + Drop> Machine<M, T> {
         ensures outcome { result ≡ (memory.load self.old.state addr size).outcome }
         ensures state { self.new.state ≡ self.old.state }
         ensures refused { is_refusal result ≡ true → self.new ≡ self.old }
+        ensures unowned { KeepsUnowned self.old.state self.old.ram self.new.ram }
         ensures held { IsCached self.old self.new addr }
     {
         let walked = self.walk(addr);
@@ -106,6 +108,7 @@ impl<M: PhysMem + Drop, T: Translations + Drop> Machine<M, T> {
         ensures outcome { result ≡ (memory.fetch self.old.state addr).outcome }
         ensures state { self.new.state ≡ self.old.state }
         ensures refused { is_refusal result ≡ true → self.new ≡ self.old }
+        ensures unowned { KeepsUnowned self.old.state self.old.ram self.new.ram }
         ensures held { IsCached self.old self.new addr }
     {
         let walked = self.walk(addr);
@@ -120,6 +123,7 @@ impl<M: PhysMem + Drop, T: Translations + Drop> Machine<M, T> {
         ensures outcome { result ≡ (memory.store self.old.state addr size value).outcome }
         ensures state { self.new.state ≡ (memory.store self.old.state addr size value).state }
         ensures refused { is_refusal result ≡ true → self.new ≡ self.old }
+        ensures unowned { KeepsUnowned self.old.state self.old.ram self.new.ram }
         ensures held { IsCached self.old self.new addr }
     {
         let walked = self.walk(addr);

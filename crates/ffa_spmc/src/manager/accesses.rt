@@ -7,6 +7,7 @@ ghost use Rattle.ffa_model.specs.Memory as memory;
 ghost use Rattle.ffa_model.specs.Identifiers.{place};
 ghost use Rattle.ffa_model.specs.Refusals.{is_refusal};
 ghost use Rattle.ffa_model.specs.Walk.{is_page_address};
+ghost use Rattle.ffa_spmc.specs.Unowned.{KeepsUnowned};
 ghost use Rattle.ffa_spmc.specs.Walks.{walk_of};
 
 use super::Manager;
@@ -78,6 +79,7 @@ impl<M: PhysMem + Drop> Manager<M> {
         ensures outcome { result ≡ (memory.store self.old.state addr size value).outcome }
         ensures state { self.new.state ≡ (memory.store self.old.state addr size value).state }
         ensures refused { is_refusal result ≡ true → self.new ≡ self.old }
+        ensures unowned { KeepsUnowned self.old.state self.old.ram self.new.ram }
     {
         match ffa_walker::store_at(&mut self.ram, walked, addr, size, value) {
             Ok(()) => Outcome::Done,

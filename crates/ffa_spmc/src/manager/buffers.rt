@@ -5,6 +5,7 @@ ghost use Rattle.ffa_model.specs.Buffers.{rx_release, rxtx_map, rxtx_unmap};
 ghost use Rattle.ffa_model.specs.Calls.{first_failure, replied, served, success};
 ghost use Rattle.ffa_model.specs.Refusals.{is_error};
 ghost use Rattle.ffa_model.specs.Setup.{info_get, info_guards, informed, is_count_alone, selected, uuid_bytes};
+ghost use Rattle.ffa_spmc.specs.Unowned.{KeepsUnowned};
 
 use super::Manager;
 use crate::replies::done_or_error;
@@ -26,6 +27,7 @@ impl<M: PhysMem + Drop> Manager<M> {
     pub(super) fn release(&mut self) -> Reply
         ensures served { replied self.new.state result ≡ served self.old.state (rx_release self.old.state) }
         ensures refused { is_error result ≡ true → self.new ≡ self.old }
+        ensures unowned { KeepsUnowned self.old.state self.old.ram self.new.ram }
     {
         let runner = self.kept.chain.runner();
         done_or_error(self.kept.buffers.release(runner))
@@ -35,6 +37,7 @@ impl<M: PhysMem + Drop> Manager<M> {
     pub(super) fn map(&mut self, tx: u64, rx: u64, pages: u32) -> Reply
         ensures served { replied self.new.state result ≡ served self.old.state (rxtx_map self.old.state tx rx pages) }
         ensures refused { is_error result ≡ true → self.new ≡ self.old }
+        ensures unowned { KeepsUnowned self.old.state self.old.ram self.new.ram }
     {
         let ram_base = self.manifest.ram_base;
         let runner = self.kept.chain.runner();
@@ -47,6 +50,7 @@ impl<M: PhysMem + Drop> Manager<M> {
     pub(super) fn unmap(&mut self, endpoint: u32) -> Reply
         ensures served { replied self.new.state result ≡ served self.old.state (rxtx_unmap self.old.state endpoint) }
         ensures refused { is_error result ≡ true → self.new ≡ self.old }
+        ensures unowned { KeepsUnowned self.old.state self.old.ram self.new.ram }
     {
         let runner = self.kept.chain.runner();
         done_or_error(self.kept.buffers.unmap(runner, endpoint))
@@ -56,6 +60,7 @@ impl<M: PhysMem + Drop> Manager<M> {
     pub(super) fn partition_info(&mut self, uuid: [u32; 4], flags: u32) -> Reply
         ensures served { replied self.new.state result ≡ served self.old.state (info_get self.old.state uuid flags) }
         ensures refused { is_error result ≡ true → self.new ≡ self.old }
+        ensures unowned { KeepsUnowned self.old.state self.old.ram self.new.ram }
     {
         match self.check_info(uuid, flags) {
             Ok(()) => self.inform(uuid, flags),
@@ -87,6 +92,7 @@ impl<M: PhysMem + Drop> Manager<M> {
     fn inform(&mut self, uuid: [u32; 4], flags: u32) -> Reply
         requires { first_failure (info_guards self.old.state (uuid_bytes uuid) flags) ≡ None }
         ensures state { self.new.state ≡ informed self.old.state (uuid_bytes uuid) flags }
+        ensures unowned { KeepsUnowned self.old.state self.old.ram self.new.ram }
         ensures reply { result ≡ success (length (selected self.old.state.parties (uuid_bytes uuid))) (if is_count_alone flags then 0 else 24) }
     {
         let count = ffa_setup::count(&self.manifest, uuid);

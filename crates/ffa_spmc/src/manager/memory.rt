@@ -10,6 +10,7 @@ ghost use Rattle.ffa_model.specs.Step.{serve};
 ghost use Rattle.ffa_spmc.specs.Arms.{is_on_memory};
 ghost use Rattle.ffa_spmc.specs.AccessChange.{IsAccessChange};
 ghost use Rattle.ffa_memshare.specs.Scenes.{transfer_of};
+ghost use Rattle.ffa_spmc.specs.Unowned.{KeepsUnowned};
 
 use super::{Manager, word_of_halves};
 use crate::answer::Answer;
@@ -51,6 +52,7 @@ impl<M: PhysMem + Drop> Manager<M> {
         requires { is_on_memory call ≡ true }
         ensures served { replied self.new.state result.reply ≡ serve self.old.state call }
         ensures refused { is_error result.reply ≡ true → self.new ≡ self.old }
+        ensures unowned { KeepsUnowned self.old.state self.old.ram self.new.ram }
         ensures access { IsAccessChange self.old.state self.new.state result.changed }
         ensures unchanged { is_error result.reply ≡ true → result.changed ≡ None }
     {
@@ -89,6 +91,7 @@ impl<M: PhysMem + Drop> Manager<M> {
     fn offer(&mut self, kind: Kind, transfer: &Transfer) -> Answer
         ensures served { replied self.new.state result.reply ≡ served self.old.state (memory_send self.old.state kind (transfer_of transfer.now)) }
         ensures refused { is_error result.reply ≡ true → self.new ≡ self.old }
+        ensures unowned { KeepsUnowned self.old.state self.old.ram self.new.ram }
         ensures access { IsAccessChange self.old.state self.new.state result.changed }
         ensures unchanged { is_error result.reply ≡ true → result.changed ≡ None }
     {
@@ -110,6 +113,7 @@ impl<M: PhysMem + Drop> Manager<M> {
     fn retrieve(&mut self, transfer: &Transfer) -> Answer
         ensures served { replied self.new.state result.reply ≡ served self.old.state (memory_retrieve self.old.state (transfer_of transfer.now)) }
         ensures refused { is_error result.reply ≡ true → self.new ≡ self.old }
+        ensures unowned { KeepsUnowned self.old.state self.old.ram self.new.ram }
         ensures access { IsAccessChange self.old.state self.new.state result.changed }
         ensures unchanged { is_error result.reply ≡ true → result.changed ≡ None }
     {
@@ -130,6 +134,7 @@ impl<M: PhysMem + Drop> Manager<M> {
     fn relinquish(&mut self) -> Answer
         ensures served { replied self.new.state result.reply ≡ served self.old.state (memory_relinquish self.old.state) }
         ensures refused { is_error result.reply ≡ true → self.new ≡ self.old }
+        ensures unowned { KeepsUnowned self.old.state self.old.ram self.new.ram }
         ensures access { IsAccessChange self.old.state self.new.state result.changed }
         ensures unchanged { is_error result.reply ≡ true → result.changed ≡ None }
     {
@@ -149,6 +154,7 @@ impl<M: PhysMem + Drop> Manager<M> {
     fn reclaim(&mut self, low: u32, high: u32, flags: u32) -> Answer
         ensures served { replied self.new.state result.reply ≡ served self.old.state (memory_reclaim self.old.state low high flags) }
         ensures refused { is_error result.reply ≡ true → self.new ≡ self.old }
+        ensures unowned { KeepsUnowned self.old.state self.old.ram self.new.ram }
         ensures access { IsAccessChange self.old.state self.new.state result.changed }
         ensures unchanged { is_error result.reply ≡ true → result.changed ≡ None }
     {

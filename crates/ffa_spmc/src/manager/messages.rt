@@ -6,6 +6,7 @@ ghost use Rattle.ffa_model.specs.Messages.{msg_send2};
 ghost use Rattle.ffa_model.specs.RunStates.{direct_request, direct_response, msg_wait, run_partition, yield_now};
 ghost use Rattle.ffa_model.specs.Step.{serve};
 ghost use Rattle.ffa_spmc.specs.Arms.{is_message};
+ghost use Rattle.ffa_spmc.specs.Unowned.{KeepsUnowned};
 
 use super::Manager;
 use crate::replies::{DONE, reply_or_error};
@@ -21,6 +22,7 @@ impl<M: PhysMem + Drop> Manager<M> {
         requires named { passes_no_error call ≡ true }
         ensures served { replied self.new.state result ≡ serve self.old.state call }
         ensures refused { is_error result ≡ true → self.new ≡ self.old }
+        ensures unowned { KeepsUnowned self.old.state self.old.ram self.new.ram }
     {
         match call {
             Call::MsgWait => self.wait(),
@@ -57,6 +59,7 @@ impl<M: PhysMem + Drop> Manager<M> {
     fn run_partition(&mut self, target: u32) -> Reply
         ensures served { replied self.new.state result ≡ served self.old.state (run_partition self.old.state target) }
         ensures refused { is_error result ≡ true → self.new ≡ self.old }
+        ensures unowned { KeepsUnowned self.old.state self.old.ram self.new.ram }
     {
         reply_or_error(self.kept.chain.run(target))
     }
@@ -65,6 +68,7 @@ impl<M: PhysMem + Drop> Manager<M> {
     fn wait(&mut self) -> Reply
         ensures served { replied self.new.state result ≡ served self.old.state (msg_wait self.old.state) }
         ensures refused { is_error result ≡ true → self.new ≡ self.old }
+        ensures unowned { KeepsUnowned self.old.state self.old.ram self.new.ram }
     {
         let runner = self.kept.chain.runner();
         let result = self.kept.chain.wait();
@@ -78,6 +82,7 @@ impl<M: PhysMem + Drop> Manager<M> {
     fn yield_now(&mut self) -> Reply
         ensures served { replied self.new.state result ≡ served self.old.state (yield_now self.old.state) }
         ensures refused { is_error result ≡ true → self.new ≡ self.old }
+        ensures unowned { KeepsUnowned self.old.state self.old.ram self.new.ram }
     {
         reply_or_error(self.kept.chain.yield_now())
     }
@@ -87,6 +92,7 @@ impl<M: PhysMem + Drop> Manager<M> {
         requires { (message.now.function == 0x84000060) ≡ false }
         ensures served { replied self.new.state result ≡ served self.old.state (direct_request self.old.state message.now.function message.now.word message.now.flags message.now.payload) }
         ensures refused { is_error result ≡ true → self.new ≡ self.old }
+        ensures unowned { KeepsUnowned self.old.state self.old.ram self.new.ram }
     {
         reply_or_error(direct_req(&mut self.kept.chain, &self.manifest, message))
     }
@@ -96,6 +102,7 @@ impl<M: PhysMem + Drop> Manager<M> {
         requires { (message.now.function == 0x84000060) ≡ false }
         ensures served { replied self.new.state result ≡ served self.old.state (direct_response self.old.state message.now.function message.now.word message.now.flags message.now.payload) }
         ensures refused { is_error result ≡ true → self.new ≡ self.old }
+        ensures unowned { KeepsUnowned self.old.state self.old.ram self.new.ram }
     {
         reply_or_error(direct_resp(&mut self.kept.chain, message))
     }
@@ -104,6 +111,7 @@ impl<M: PhysMem + Drop> Manager<M> {
     fn send(&mut self) -> Reply
         ensures served { replied self.new.state result ≡ served self.old.state (msg_send2 self.old.state) }
         ensures refused { is_error result ≡ true → self.new ≡ self.old }
+        ensures unowned { KeepsUnowned self.old.state self.old.ram self.new.ram }
     {
         let runner = self.kept.chain.runner();
         let kept = &mut self.kept;

@@ -5,6 +5,7 @@ ghost use Rattle.ffa_model.specs.Refusals.{is_error};
 ghost use Rattle.ffa_model.specs.Notifications.{bitmap_create, bitmap_destroy, notification_bind, notification_get, notification_set, notification_unbind};
 ghost use Rattle.ffa_model.specs.Step.{serve};
 ghost use Rattle.ffa_spmc.specs.Arms.{is_notification};
+ghost use Rattle.ffa_spmc.specs.Unowned.{KeepsUnowned};
 
 use super::{Manager, word_of_halves};
 use crate::replies::{done_or_error, reply_or_error};
@@ -17,6 +18,7 @@ impl<M: PhysMem + Drop> Manager<M> {
         requires { is_notification call ≡ true }
         ensures served { replied self.new.state result ≡ serve self.old.state call }
         ensures refused { is_error result ≡ true → self.new ≡ self.old }
+        ensures unowned { KeepsUnowned self.old.state self.old.ram self.new.ram }
     {
         match call {
             Call::BitmapCreate { endpoint, contexts } => self.create_bitmaps(endpoint, contexts),
@@ -48,6 +50,7 @@ impl<M: PhysMem + Drop> Manager<M> {
     fn create_bitmaps(&mut self, endpoint: u32, contexts: u32) -> Reply
         ensures served { replied self.new.state result ≡ served self.old.state (bitmap_create self.old.state endpoint contexts) }
         ensures refused { is_error result ≡ true → self.new ≡ self.old }
+        ensures unowned { KeepsUnowned self.old.state self.old.ram self.new.ram }
     {
         let runner = self.kept.chain.runner();
         done_or_error(self.kept.bitmaps.create(runner, endpoint, contexts))
@@ -57,6 +60,7 @@ impl<M: PhysMem + Drop> Manager<M> {
     fn destroy_bitmaps(&mut self, endpoint: u32) -> Reply
         ensures served { replied self.new.state result ≡ served self.old.state (bitmap_destroy self.old.state endpoint) }
         ensures refused { is_error result ≡ true → self.new ≡ self.old }
+        ensures unowned { KeepsUnowned self.old.state self.old.ram self.new.ram }
     {
         let runner = self.kept.chain.runner();
         done_or_error(self.kept.bitmaps.destroy(runner, endpoint))
@@ -66,6 +70,7 @@ impl<M: PhysMem + Drop> Manager<M> {
     fn bind(&mut self, word: u32, flags: u32, low: u32, high: u32) -> Reply
         ensures served { replied self.new.state result ≡ served self.old.state (notification_bind self.old.state word flags low high) }
         ensures refused { is_error result ≡ true → self.new ≡ self.old }
+        ensures unowned { KeepsUnowned self.old.state self.old.ram self.new.ram }
     {
         let runner = self.kept.chain.runner();
         let bitmap = word_of_halves(low, high);
@@ -76,6 +81,7 @@ impl<M: PhysMem + Drop> Manager<M> {
     fn unbind(&mut self, word: u32, flags: u32, low: u32, high: u32) -> Reply
         ensures served { replied self.new.state result ≡ served self.old.state (notification_unbind self.old.state word flags low high) }
         ensures refused { is_error result ≡ true → self.new ≡ self.old }
+        ensures unowned { KeepsUnowned self.old.state self.old.ram self.new.ram }
     {
         let runner = self.kept.chain.runner();
         let bitmap = word_of_halves(low, high);
@@ -86,6 +92,7 @@ impl<M: PhysMem + Drop> Manager<M> {
     fn set(&mut self, word: u32, flags: u32, low: u32, high: u32) -> Reply
         ensures served { replied self.new.state result ≡ served self.old.state (notification_set self.old.state word flags low high) }
         ensures refused { is_error result ≡ true → self.new ≡ self.old }
+        ensures unowned { KeepsUnowned self.old.state self.old.ram self.new.ram }
     {
         let runner = self.kept.chain.runner();
         let bitmap = word_of_halves(low, high);
@@ -96,6 +103,7 @@ impl<M: PhysMem + Drop> Manager<M> {
     fn get(&mut self, word: u32, flags: u32) -> Reply
         ensures served { replied self.new.state result ≡ served self.old.state (notification_get self.old.state word flags) }
         ensures refused { is_error result ≡ true → self.new ≡ self.old }
+        ensures unowned { KeepsUnowned self.old.state self.old.ram self.new.ram }
     {
         let runner = self.kept.chain.runner();
         reply_or_error(self.kept.bitmaps.get(runner, word, flags))

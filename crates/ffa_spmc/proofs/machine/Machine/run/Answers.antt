@@ -3,6 +3,7 @@ use Rattle.ffa_model.specs.SoundState.{IsSoundState}
 use Rattle.ffa_laws.specs.OwnAccess.{AreApart}
 use Rattle.ffa_spmc.specs.Cached.{AreWalks}
 use Rattle.ffa_spmc.specs.Snapshot.{Snapshot}
+use Rattle.ffa_spmc.proofs.Chains.{unowned-chained}
 use Rattle.ffa_spmc.proofs.Laws.{isolated-now, loans-now, never_grow-now, replays-now, run_confidential-now, run_integrity-now, shown-now}
 use Rattle.ffa_spmc.proofs.machine.Machine.run.Goals as goal
 
@@ -42,3 +43,8 @@ pub returns-clause-forgotten_loans : goal.returns-clause-forgotten_loans
 returns-clause-forgotten_loans g c =
     loans-now c.args.self.now.state
     (subst (λ (seen : Snapshot). IsSoundState seen.state) c.self.view_is c.holds.ensures.sound)
+
+pub returns-clause-unowned : goal.returns-clause-unowned
+returns-clause-unowned g c =
+    unowned-chained c.args.self.now c.args.ops.now c.operate_all.new.self
+    (subst (λ (seen : Snapshot). IsSoundState seen.state) c.self.view_is c.holds.ensures.sound) c.operate_all.ensures.chain

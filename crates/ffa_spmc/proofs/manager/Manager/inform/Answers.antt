@@ -7,6 +7,9 @@ use Rattle.ffa_model.specs.State.{Buffers}
 use Rattle.ffa_spmc.specs.Meaning.{IsManager, state_of}
 use Rattle.ffa_spmc.proofs.Fills.{known-buffered, runner-there, rx-in-ram}
 use Rattle.ffa_spmc.proofs.Information.{info-reply, informed-own, machine-informed, state-informed}
+use Rattle.ffa_spmc.specs.Managed.{Managed}
+use Rattle.ffa_spmc.specs.Unowned.{KeepsUnowned}
+use Rattle.ffa_spmc.proofs.Unowned.{unowned-filled}
 use Rattle.ffa_spmc.proofs.Inside.{parts_of}
 use Rattle.ffa_spmc.proofs.manager.Manager.inform.Goals as goal
 
@@ -50,3 +53,10 @@ returns-clause-state g c =
     ∙ ap (λ (ram : Ram). state_of (record x { ram = ram; kept = record x.kept { buffers = buffers_with_rx x.kept.buffers c.runner-runner.result.0 true } })) c.fill.ensures.ram
     ∙ state-informed x c.args.self.now c.self.view_is c.runner-runner.result.0 c.runner-runner.ensures.runner c.self.invariant
     c.args.uuid c.args.flags c.as_slice.result.now (c.as_slice.ensures.value ∙ c.info_bytes-bytes.ensures) (sym c.is_count_alone.ensures ∙ c.if-is_count_alone.false)
+
+pub returns-clause-unowned : goal.returns-clause-unowned
+returns-clause-unowned g c =
+    let x = parts_of g.M.PhysMem.ram c.self.inside in
+    subst (λ (seen : Managed). KeepsUnowned seen.state seen.ram (g.M.PhysMem.ram c.fill.new.ram)) c.self.view_is
+    (subst (KeepsUnowned (state_of x) x.ram) (sym c.fill.ensures.ram)
+    (unowned-filled x c.self.invariant c.runner-runner.result.0 (runner-there x c.self.invariant c.runner-runner.result.0 c.runner-runner.ensures.runner) x.ram c.as_slice.result.now))

@@ -11,8 +11,9 @@ use Rattle.ffa_spmc.specs.AccessChange.{IsAccessChange}
 use Rattle.ffa_spmc.specs.Meaning.{state_of}
 use Rattle.ffa_spmc.specs.Managed.{Managed}
 use Rattle.ffa_spmc.proofs.Fills.{caller-is}
+use Rattle.ffa_spmc.specs.Unowned.{KeepsUnowned}
 use Rattle.ffa_spmc.proofs.Inside.{parts_of}
-use Rattle.ffa_spmc.proofs.Offers.{offer-endpoints, offer-changes, offer-machine, offer-served}
+use Rattle.ffa_spmc.proofs.Offers.{offer-endpoints, offer-changes, offer-machine, offer-served, offer-unowned}
 use Rattle.ffa_spmc.proofs.manager.Manager.offer.Goals as goal
 
 pub send-requires-clause-caller : goal.send-requires-clause-caller
@@ -53,3 +54,11 @@ returns-clause-access g c =
     (offer-changes x c.self.invariant c.runner-runner.result.0 c.runner-runner.ensures.runner c.args.kind (transfer_of c.args.transfer.now)
     (g.M.PhysMem.ram c.send.new.ram) c.send.new.pages c.send.new.self
     c.send.result c.send.ensures.refusal c.send.ensures.kept c.send.ensures.kept_pages c.send.ensures.kept_ram c.send.ensures.handle c.send.ensures.sent))
+
+pub returns-clause-unowned : goal.returns-clause-unowned
+returns-clause-unowned g c =
+    let x = parts_of g.M.PhysMem.ram c.self.inside in
+    subst (λ (seen : Managed). KeepsUnowned seen.state seen.ram (g.M.PhysMem.ram c.send.new.ram)) c.self.view_is
+    (offer-unowned x c.self.invariant c.runner-runner.result.0 c.runner-runner.ensures.runner c.args.kind (transfer_of c.args.transfer.now)
+    (g.M.PhysMem.ram c.send.new.ram) c.send.new.pages c.send.new.self
+    c.send.result c.send.ensures.refusal c.send.ensures.kept c.send.ensures.kept_pages c.send.ensures.kept_ram c.send.ensures.handle c.send.ensures.sent)

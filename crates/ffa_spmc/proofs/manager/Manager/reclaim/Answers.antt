@@ -7,9 +7,10 @@ use Rattle.ffa_memshare.specs.declared.changed.Changed.{Changed}
 use Rattle.ffa_spmc.specs.AccessChange.{IsAccessChange}
 use Rattle.ffa_spmc.specs.Meaning.{state_of}
 use Rattle.ffa_spmc.specs.Managed.{Managed}
+use Rattle.ffa_spmc.specs.Unowned.{KeepsUnowned}
 use Rattle.ffa_spmc.proofs.Inside.{parts_of}
 use Rattle.ffa_spmc.proofs.Pools.{pool-shared}
-use Rattle.ffa_spmc.proofs.Reclaims.{reclaim-changes, reclaim-machine, reclaim-served}
+use Rattle.ffa_spmc.proofs.Reclaims.{reclaim-changes, reclaim-machine, reclaim-served, reclaim-unowned}
 use Rattle.ffa_spmc.proofs.manager.Manager.reclaim.Goals as goal
 
 pub reclaim-requires : goal.reclaim-requires
@@ -51,3 +52,13 @@ returns-clause-access g c =
     (g.M.PhysMem.ram c.reclaim.new.ram) c.reclaim.new.pages c.reclaim.new.self c.reclaim.result c.reclaim.ensures.refusal
     c.reclaim.ensures.kept c.reclaim.ensures.kept_pages c.reclaim.ensures.kept_ram
     c.reclaim.ensures.slot c.reclaim.ensures.offers c.reclaim.ensures.ram c.reclaim.ensures.pages c.reclaim.ensures.changed))
+
+pub returns-clause-unowned : goal.returns-clause-unowned
+returns-clause-unowned g c =
+    let x = parts_of g.M.PhysMem.ram c.self.inside in
+    subst (λ (seen : Managed). KeepsUnowned seen.state seen.ram (g.M.PhysMem.ram c.reclaim.new.ram)) c.self.view_is
+    (reclaim-unowned x c.self.invariant c.runner-runner.result.0 c.runner-runner.ensures.runner c.args.low c.args.high c.args.flags
+    c.word_of_halves-handle.result c.word_of_halves-handle.ensures
+    (g.M.PhysMem.ram c.reclaim.new.ram) c.reclaim.new.pages c.reclaim.new.self c.reclaim.result c.reclaim.ensures.refusal
+    c.reclaim.ensures.kept c.reclaim.ensures.kept_pages c.reclaim.ensures.kept_ram
+    c.reclaim.ensures.slot c.reclaim.ensures.offers c.reclaim.ensures.ram c.reclaim.ensures.pages c.reclaim.ensures.changed)

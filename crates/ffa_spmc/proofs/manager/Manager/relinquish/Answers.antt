@@ -8,9 +8,10 @@ use Rattle.ffa_spmc.specs.AccessChange.{IsAccessChange}
 use Rattle.ffa_spmc.specs.Meaning.{state_of}
 use Rattle.ffa_spmc.specs.Managed.{Managed}
 use Rattle.ffa_spmc.proofs.Fills.{caller-is}
+use Rattle.ffa_spmc.specs.Unowned.{KeepsUnowned}
 use Rattle.ffa_spmc.proofs.Inside.{parts_of}
 use Rattle.ffa_spmc.proofs.Pools.{pool-shared}
-use Rattle.ffa_spmc.proofs.Relinquishes.{relinquish-changes, relinquish-machine, relinquish-served}
+use Rattle.ffa_spmc.proofs.Relinquishes.{relinquish-changes, relinquish-machine, relinquish-served, relinquish-unowned}
 use Rattle.ffa_spmc.proofs.manager.Manager.relinquish.Goals as goal
 
 pub relinquish-requires-clause-shared : goal.relinquish-requires-clause-shared
@@ -47,3 +48,10 @@ returns-clause-access g c =
     (subst (λ (seen : Managed). IsAccessChange seen.state next (result_ok c.relinquish.result)) c.self.view_is
     (relinquish-changes x c.self.invariant c.runner-runner.result.0 c.runner-runner.ensures.runner (g.M.PhysMem.ram c.relinquish.new.ram) c.relinquish.new.self
     c.relinquish.result c.relinquish.ensures.refusal c.relinquish.ensures.kept c.relinquish.ensures.kept_ram c.relinquish.ensures.done))
+
+pub returns-clause-unowned : goal.returns-clause-unowned
+returns-clause-unowned g c =
+    let x = parts_of g.M.PhysMem.ram c.self.inside in
+    subst (λ (seen : Managed). KeepsUnowned seen.state seen.ram (g.M.PhysMem.ram c.relinquish.new.ram)) c.self.view_is
+    (relinquish-unowned x c.self.invariant c.runner-runner.result.0 c.runner-runner.ensures.runner (g.M.PhysMem.ram c.relinquish.new.ram) c.relinquish.new.self
+    c.relinquish.result c.relinquish.ensures.refusal c.relinquish.ensures.kept c.relinquish.ensures.kept_ram c.relinquish.ensures.done)

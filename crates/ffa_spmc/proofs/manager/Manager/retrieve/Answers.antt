@@ -11,9 +11,10 @@ use Rattle.ffa_spmc.specs.AccessChange.{IsAccessChange}
 use Rattle.ffa_spmc.specs.Meaning.{state_of}
 use Rattle.ffa_spmc.specs.Managed.{Managed}
 use Rattle.ffa_spmc.proofs.Fills.{caller-is}
+use Rattle.ffa_spmc.specs.Unowned.{KeepsUnowned}
 use Rattle.ffa_spmc.proofs.Inside.{parts_of}
 use Rattle.ffa_spmc.proofs.Pools.{pool-shared}
-use Rattle.ffa_spmc.proofs.Retrieves.{retrieve-changes, retrieve-machine, retrieve-served}
+use Rattle.ffa_spmc.proofs.Retrieves.{retrieve-changes, retrieve-machine, retrieve-served, retrieve-unowned}
 use Rattle.ffa_spmc.proofs.manager.Manager.retrieve.Goals as goal
 
 pub retrieve-requires-clause-shared : goal.retrieve-requires-clause-shared
@@ -60,3 +61,13 @@ returns-clause-access g c =
     (g.M.PhysMem.ram c.retrieve.new.ram) c.retrieve.new.pages c.retrieve.new.self c.retrieve.new.buffers
     c.retrieve.result c.retrieve.ensures.refusal c.retrieve.ensures.kept c.retrieve.ensures.kept_pages c.retrieve.ensures.kept_buffers c.retrieve.ensures.kept_ram
     c.retrieve.ensures.full c.retrieve.ensures.done))
+
+pub returns-clause-unowned : goal.returns-clause-unowned
+returns-clause-unowned g c =
+    let x = parts_of g.M.PhysMem.ram c.self.inside in
+    let its = c.args.transfer.now in
+    subst (λ (seen : Managed). KeepsUnowned seen.state seen.ram (g.M.PhysMem.ram c.retrieve.new.ram)) c.self.view_is
+    (retrieve-unowned x c.self.invariant c.runner-runner.result c.runner-runner.ensures.runner its.total its.fragment its.address its.pages
+    (g.M.PhysMem.ram c.retrieve.new.ram) c.retrieve.new.pages c.retrieve.new.self c.retrieve.new.buffers
+    c.retrieve.result c.retrieve.ensures.refusal c.retrieve.ensures.kept c.retrieve.ensures.kept_pages c.retrieve.ensures.kept_buffers c.retrieve.ensures.kept_ram
+    c.retrieve.ensures.full c.retrieve.ensures.done)

@@ -2,11 +2,12 @@ use Rattle.std.proofs.Common.{◌∙◌, sym, ap, subst}
 use Rattle.ffa_model.specs.declared.call.Call.TheVariants.{MsgSend2}
 use Rattle.ffa_model.specs.Calls.{Stepped, replied, served}
 use Rattle.ffa_model.specs.Messages.{msg_send2}
-use Rattle.ffa_spmc.specs.Meaning.{IsManager, state_of}
+use Rattle.ffa_spmc.specs.Meaning.{IsManager, Parts, state_of}
 use Rattle.ffa_spmc.specs.Managed.{Managed}
+use Rattle.ffa_spmc.specs.Unowned.{KeepsUnowned}
 use Rattle.ffa_spmc.proofs.Machines.{machine-served}
 use Rattle.ffa_spmc.proofs.Notified.{known-notified}
-use Rattle.ffa_spmc.proofs.Sends.{buffers-in-ram, sent, tables-sent, told-known, unsent, unsent-parts}
+use Rattle.ffa_spmc.proofs.Sends.{buffers-in-ram, send-unowned, sent, tables-sent, told-known, unsent, unsent-parts}
 use Rattle.ffa_spmc.proofs.Inside.{parts_of}
 use Rattle.ffa_spmc.proofs.manager.Manager.send.Goals.{in-Ok, in-Err}
 use Rattle.ffa_spmc.proofs.manager.Manager.send.Goals as goal
@@ -48,3 +49,14 @@ returns-clause-served g c =
           ∙ unsent x c.self.invariant c.runner-runner.result.0 c.runner-runner.ensures.runner c.send2.result (g.M.PhysMem.ram c.send2.new.ram) c.send2.new.buffers c.send2.ensures.refusal c.send2.ensures.kept_ram c.send2.ensures.kept c.send2.ensures.ram c.send2.ensures.full c.send2.ensures.receiver w.in-Err.code w.in-Err.is
     ]
     ∙ ap (λ (seen : Managed). served seen.state (msg_send2 seen.state)) c.self.view_is
+
+pub returns-clause-unowned : goal.returns-clause-unowned
+returns-clause-unowned g c =
+    let x = parts_of g.M.PhysMem.ram c.self.inside in
+    let kept =
+    subst (λ (seen : Managed). KeepsUnowned seen.state seen.ram (g.M.PhysMem.ram c.send2.new.ram)) c.self.view_is
+    (send-unowned x c.self.invariant c.runner-runner.result.0 c.runner-runner.ensures.runner c.send2.result (g.M.PhysMem.ram c.send2.new.ram) c.send2.new.buffers c.send2.ensures.refusal c.send2.ensures.kept_ram c.send2.ensures.kept c.send2.ensures.ram c.send2.ensures.full c.send2.ensures.receiver) in
+    elim c.match-send2.branch [
+      | in-Ok w ↦ subst (λ (y : Parts). KeepsUnowned c.args.self.now.state c.args.self.now.ram y.ram) (ap (parts_of g.M.PhysMem.ram) (sym w.self-inside-is)) kept
+      | in-Err w ↦ subst (λ (y : Parts). KeepsUnowned c.args.self.now.state c.args.self.now.ram y.ram) (ap (parts_of g.M.PhysMem.ram) (sym w.self-inside-is)) kept
+    ]

@@ -1,5 +1,5 @@
 use Rattle.std.proofs.Common.{◌∙◌, sym, Ok, Err}
-use Rattle.ffa_spmc.proofs.Accesses.{answer-stored, machine-stored, offset-kept, state-stored}
+use Rattle.ffa_spmc.proofs.Accesses.{answer-stored, machine-stored, offset-kept, state-stored, unowned-stored}
 use Rattle.ffa_spmc.proofs.Inside.{parts_of}
 use Rattle.ffa_spmc.proofs.manager.Manager.store.Goals as goal
 use Rattle.ffa_spmc.proofs.manager.Manager.store.Goals.{in-Ok, in-Err}
@@ -32,3 +32,9 @@ returns-clause-outcome g c =
           ∙ answer-stored x c.self.invariant c.args.self.now c.self.view_is c.args.addr c.args.walked c.requires
           c.args.size c.args.value (Err w.in-Err.fault) (sym w.in-Err.is ∙ c.store_at.ensures.answer)
     ]
+
+pub returns-clause-unowned : goal.returns-clause-unowned
+returns-clause-unowned g c =
+    let x = parts_of g.M.PhysMem.ram c.self.inside in
+    unowned-stored x c.self.invariant c.args.self.now c.self.view_is c.args.addr c.args.walked c.requires
+    c.args.size c.args.value (g.M.PhysMem.ram c.store_at.new.memory) c.store_at.ensures.stored

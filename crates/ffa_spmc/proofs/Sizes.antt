@@ -1,0 +1,106 @@
+-- An operation changes neither how many endpoints there are nor how many pages.
+use Rattle.std.proofs.Common.{◌≡◌, ◌∙◌, ℕ, ◌*◌, ◌/◌, ◌-◌, ◌%◌, Bool, true, false, cond, List, length, Option, Some, None, refl, ap, length-set}
+use Rattle.std.specs.Prelude.{if◌then◌else◌, slice_index_or}
+use Rattle.byteorder.specs.Endian.{little_bytes}
+use Rattle.ffa_model.specs.declared.call.Call as calls
+use Rattle.ffa_model.specs.declared.call.Call.TheVariants.{PartitionInfoGet, MemDonate, MemLend, MemShare, MemRetrieve, MemRelinquish, MemReclaim, MsgSend2}
+use Rattle.ffa_model.specs.declared.descriptor.RelinquishDesc.{RelinquishDesc}
+use Rattle.ffa_model.specs.declared.descriptor.RetrieveDesc.{RetrieveDesc}
+use Rattle.ffa_model.specs.declared.operation.Op.{Op}
+use Rattle.ffa_model.specs.declared.operation.Op.TheVariants.{Call, Load, Store, Fetch}
+use Rattle.ffa_model.specs.declared.operation.Outcome.TheVariants.{Data, Done}
+use Rattle.ffa_model.specs.declared.operation.Size.{Size}
+use Rattle.ffa_model.specs.declared.rights.Kind.{Kind}
+use Rattle.ffa_model.specs.declared.rights.Kind.TheVariants.{Share, Lend, Donate}
+use Rattle.ffa_model.specs.declared.rights.Rights.{Rights}
+use Rattle.ffa_model.specs.declared.transaction.Range.{Range}
+use Rattle.ffa_model.specs.Access.{names}
+use Rattle.ffa_model.specs.Bits.{is_set}
+use Rattle.ffa_model.specs.Buffers.{filled, filled_pages}
+use Rattle.ffa_model.specs.Manifest.{table_pages}
+use Rattle.ffa_model.specs.Memory.{changed_pages, fetch_fault, number_at, page_with, read_fault, size_of, store_fault, stored, zeroed_page}
+use Rattle.ffa_model.specs.MemoryRetrieve.{donated_page, response_to, retrieve_read, retrieved, retrieved_from, right_for, with_retrieved}
+use Rattle.ffa_model.specs.MemoryReturn.{named_ranges, relinquish_read, relinquished, relinquished_from}
+use Rattle.ffa_model.specs.MemorySend.{memory_sent, offered_in, send_read}
+use Rattle.ffa_model.specs.Messages.{header_in, message_in, tx_bytes}
+use Rattle.ffa_model.specs.Registers.{decode}
+use Rattle.ffa_model.specs.ResponseBytes.{response_bytes}
+use Rattle.ffa_model.specs.Rights.{is_donate}
+use Rattle.ffa_model.specs.SendDescriptor.{SendRecord}
+use Rattle.ffa_model.specs.Setup.{info_bytes, is_count_alone, uuid_bytes}
+use Rattle.ffa_model.specs.State.{State, Buffers, Page, Transaction, buffers_of, transaction_of}
+use Rattle.ffa_model.specs.Step.{service, step}
+use Rattle.ffa_model.specs.Transactions.{bases_of, closed, handle_of, not_holding, offers_of, with_offers, with_transaction}
+use Rattle.ffa_model.proofs.Accesses.{length-map_at}
+use Rattle.ffa_laws.proofs.Form.{accessed-kept, served-kept}
+use Rattle.ffa_spmc.specs.Unowned.{pages_of_tables}
+
+-- how many endpoints there are, and how many pages
+abbrev sizes : State → ℕ × ℕ
+sizes s = (length s.parties, length s.pages)
+
+changed-size : (b : Bool) (s : State) (ranges : List Range) (change : Option Page → Option Page) → length (if b then changed_pages s ranges change else s.pages) ≡ length s.pages
+changed-size true s ranges change = length-map_at (λ p page. if names s ranges p then change page else page) s.pages
+changed-size false s ranges change = refl
+
+filled-size : (pages : List (Option Page)) (bytes : List ℕ) (o : Option Buffers) → length (filled_pages pages bytes o) ≡ length pages
+filled-size pages bytes None = refl
+filled-size pages bytes (Some b) = length-set pages b.rx (page_with 0 bytes (slice_index_or pages b.rx None))
+
+of-pages : (s : State) (n : ℕ) → n ≡ length s.pages → (length s.parties, n) ≡ sizes s
+of-pages s n is = ap (λ (k : ℕ). (length s.parties, k)) is
+
+sent-sizes : (s : State) (kind : Kind) (r : Option SendRecord) → sizes (memory_sent s kind r) ≡ sizes s
+sent-sizes s kind None = refl
+sent-sizes s kind (Some r) = of-pages s _ (changed-size r.zero (with_offers s (offered_in (offers_of s) s.runner kind r)) r.ranges zeroed_page)
+
+retrieved-sizes : (s : State) (d : Option RetrieveDesc) → sizes (retrieved s d) ≡ sizes s
+retrieved-sizes s None = refl
+retrieved-sizes s (Some d) = of (transaction_of s d.handle)
+  where
+    of : (o : Option Transaction) → sizes (retrieved_from s d o) ≡ sizes s
+    of None = refl
+    of (Some t) =
+        let right : Rights = right_for (bases_of s) t s.runner d in
+        let before : State = with_retrieved s d.handle t s.runner right in
+        of-pages s _
+        (filled-size before.pages (response_bytes (response_to d.handle t s.runner right)) (buffers_of before s.runner)
+        ∙ changed-size (is_donate t.kind) s t.ranges (donated_page s.runner right))
+
+relinquished-sizes : (s : State) (d : Option RelinquishDesc) → sizes (relinquished s d) ≡ sizes s
+relinquished-sizes s None = refl
+relinquished-sizes s (Some d) = of (transaction_of s d.handle)
+  where
+    of : (o : Option Transaction) → sizes (relinquished_from s d o) ≡ sizes s
+    of None = refl
+    of (Some t) = of-pages s _ (changed-size d.zero (with_offers s (with_transaction (offers_of s) d.handle (not_holding t s.runner))) t.ranges zeroed_page)
+
+service-sizes : (s : State) (call : calls.Call) → sizes (service s call).state ≡ sizes s
+service-sizes s (PartitionInfoGet uuid flags) =
+    elim (is_count_alone flags) as (λ b. sizes (cond b s (filled s s.runner (info_bytes s.parties (uuid_bytes uuid)))) ≡ sizes s) [
+      | true ↦ refl
+      | false ↦ of-pages s _ (filled-size s.pages (info_bytes s.parties (uuid_bytes uuid)) (buffers_of s s.runner))
+    ]
+service-sizes s MsgSend2 =
+    of-pages s _ (filled-size s.pages (message_in (tx_bytes s s.runner)) (buffers_of s (header_in (tx_bytes s s.runner)).receiver))
+service-sizes s (MemDonate total fragment address pages) = sent-sizes s Donate (send_read s Donate total)
+service-sizes s (MemLend total fragment address pages) = sent-sizes s Lend (send_read s Lend total)
+service-sizes s (MemShare total fragment address pages) = sent-sizes s Share (send_read s Share total)
+service-sizes s (MemRetrieve total fragment address pages) = retrieved-sizes s (retrieve_read s total)
+service-sizes s MemRelinquish = relinquished-sizes s (relinquish_read s)
+service-sizes s (MemReclaim low high flags) =
+    let h : ℕ = handle_of high low in
+    of-pages s _ (changed-size (is_set 0 flags) (with_offers s (closed (offers_of s) h)) (named_ranges (transaction_of s h)) zeroed_page)
+service-sizes s call = refl
+
+step-sizes : (s : State) (op : Op) → sizes (step s op).state ≡ sizes s
+step-sizes s (Call x) = served-kept (λ t. sizes t ≡ sizes s) s (service s (decode x)) refl (λ none. service-sizes s (decode x))
+step-sizes s (Load address size) = accessed-kept (λ t. sizes t ≡ sizes s) s s (Data (number_at s address (size_of size))) (read_fault s address (size_of size)) refl (λ none. refl)
+step-sizes s (Store address size value) =
+    accessed-kept (λ t. sizes t ≡ sizes s) s (stored s address (little_bytes (size_of size) value)) Done (store_fault s address (size_of size)) refl
+    (λ none. of-pages s _ (length-set s.pages ((address - s.ram_base) / 4096) _))
+step-sizes s (Fetch address) = accessed-kept (λ t. sizes t ≡ sizes s) s s (Data (number_at s address 4)) (fetch_fault s address) refl (λ none. refl)
+
+-- so the tables end where they did
+pub tables-step : (s : State) (op : Op) → pages_of_tables (step s op).state ≡ pages_of_tables s
+tables-step s op = ap (λ (n : ℕ × ℕ). n.0 * table_pages (n.1 / 512)) (step-sizes s op)

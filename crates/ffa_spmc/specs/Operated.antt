@@ -1,0 +1,26 @@
+-- What one operation leaves of a machine, as its clauses say it, and what a list of operations leaves.
+use Rattle.std.specs.Prelude.{◌≡◌, true, false, List, [], ◌∷◌}
+use Rattle.ffa_model.specs.declared.operation.Op.{Op}
+use Rattle.ffa_model.specs.Agreement.{Agrees}
+use Rattle.ffa_model.specs.Refusals.{is_refusal}
+use Rattle.ffa_model.specs.Step.{step}
+use Rattle.ffa_spmc.specs.Cached.{AreForgotten, AreKept, AreSameOrGone, AreWalks, is_accessed, is_miss}
+use Rattle.ffa_spmc.specs.Snapshot.{Snapshot}
+use Rattle.ffa_spmc.specs.Unowned.{KeepsUnowned}
+
+-- one operation: the small machine's state, RAM that agrees with it, and a cache that forgets what has changed and keeps
+-- the rest
+pub record IsOperated (old : Snapshot) (op : Op) (new : Snapshot) : Type 0 where
+  pub state : new.state ≡ (step old.state op).state
+  pub agrees : Agrees new.ram new.state
+  pub refused : is_refusal (step old.state op).outcome ≡ true → new ≡ old
+  pub unowned : KeepsUnowned old.state old.ram new.ram
+  pub walks : AreWalks new
+  pub forgotten : AreForgotten old new
+  pub kept : is_miss old op ≡ false → AreKept old new
+  pub others : AreSameOrGone old new (is_accessed old.state op)
+
+-- operations that are done one after another, and nothing between them
+abbrev pub AreOperated : Snapshot → List Op → Snapshot → Type 0
+AreOperated old [] new = new ≡ old
+AreOperated old (op ∷ ops) new = (next : Snapshot) × (IsOperated old op next × AreOperated next ops new)
