@@ -6,7 +6,7 @@ ghost use Rattle.ffa_model.specs.Manifest.{table_pages};
 use arrayvec::ArrayVec;
 use ffa_model::{Endpoint, Manifest, PageNo, Region, Rights, right_in};
 
-/// The regions of one endpoint, which have no page in common.
+/// The regions of one endpoint.
 #[derive(Debug, Default, Drop)]
 pub struct Regions {
     pub list: ArrayVec<Region, 16>,

@@ -24,6 +24,9 @@ mod memory;
 // Notifications.
 mod notifications;
 
+// Calls on memory, looked at after each write.
+mod watched;
+
 // A trace, and the whole text that it is to print.
 #[derive(Drop)]
 struct Row {
