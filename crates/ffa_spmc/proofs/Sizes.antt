@@ -1,5 +1,5 @@
 -- An operation changes neither how many endpoints there are nor how many pages.
-use Rattle.std.proofs.Common.{◌≡◌, ◌∙◌, ℕ, ◌*◌, ◌/◌, ◌-◌, ◌%◌, Bool, true, false, cond, List, length, Option, Some, None, refl, ap, length-set}
+use Rattle.std.proofs.Common.{◌≡◌, ◌∙◌, ℕ, ◌*◌, ◌/◌, ◌-◌, Bool, true, false, cond, List, length, Option, Some, None, refl, ap, length-set}
 use Rattle.std.specs.Prelude.{if◌then◌else◌, slice_index_or}
 use Rattle.byteorder.specs.Endian.{little_bytes}
 use Rattle.ffa_model.specs.declared.call.Call as calls
@@ -9,7 +9,6 @@ use Rattle.ffa_model.specs.declared.descriptor.RetrieveDesc.{RetrieveDesc}
 use Rattle.ffa_model.specs.declared.operation.Op.{Op}
 use Rattle.ffa_model.specs.declared.operation.Op.TheVariants.{Call, Load, Store, Fetch}
 use Rattle.ffa_model.specs.declared.operation.Outcome.TheVariants.{Data, Done}
-use Rattle.ffa_model.specs.declared.operation.Size.{Size}
 use Rattle.ffa_model.specs.declared.rights.Kind.{Kind}
 use Rattle.ffa_model.specs.declared.rights.Kind.TheVariants.{Share, Lend, Donate}
 use Rattle.ffa_model.specs.declared.rights.Rights.{Rights}
