@@ -169,8 +169,8 @@ impl<M: PhysMem + Drop, T: Translations + Drop> Machine<M, T> {
         ensures outcome { result ≡ (step self.old.state op.now).outcome }
         ensures state { self.new.state ≡ (step self.old.state op.now).state }
 
-        // Every walk of the new RAM gives exactly the access of the new state, whose bytes it holds. Behind the tables it keeps
-        // those of the pages that nobody owns, below.
+        // Every walk of the new RAM gives exactly the access of the new state, whose bytes it holds. Pages behind the
+        // tables that nobody owns keep their bytes.
         ensures agrees { Agrees self.new.ram self.new.state }
         ensures refused { is_refusal result ≡ true → self.new ≡ self.old }
         ensures unowned { KeepsUnowned self.old.state self.old.ram self.new.ram }
