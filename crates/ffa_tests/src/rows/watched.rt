@@ -1,5 +1,9 @@
-//! Calls on memory in RAM that is looked at after each write, as a second processor could look: what its walks answer
-//! changes once at most, and no page becomes zeros that somebody reaches.
+//! Calls on memory in RAM that is looked at after each write, as a second processor could look: what the walk of a page
+//! answers changes once at most in a call, so it is at any time what it was before the call or what it is behind it; and
+//! no page is filled with zeros that a walk leads to.
+//!
+//! Each word of a table is a write of its own here, and no page of tables is lent by `page_mut`: of a loan a look would see
+//! all words at once. One page is lent in a retrieve, its caller's RX.
 use super::memory::{MAPPED, RETRIEVE, TO_FIRST, TO_SECOND};
 use super::*;
 use ffa_manifest::read;
@@ -325,15 +329,27 @@ fn lends(rt: &impl Abort, alloc: Global, sending: &Sending) -> Result<(), Fail> 
         goes_on(rt, alloc, &mut player, steps)?;
     }
     let lend = "call 84000072 60 60 -> 8001: 84000061 0 1 8001";
-    assert_eq!(rt; writes_of(rt, alloc, &mut player, lend)?, sending.with_zeros());
+    assert_eq!(rt;
+        writes_of(rt, alloc, &mut player, lend)?,
+        sending.with_zeros()
+    );
     goes_on(rt, alloc, &mut player, TO_SECOND)?;
     goes_on(rt, alloc, &mut player, RETRIEVE)?;
-    assert_eq!(rt; writes_of(rt, alloc, &mut player, RETRIEVED)?, sending.with_response());
+    assert_eq!(rt;
+        writes_of(rt, alloc, &mut player, RETRIEVED)?,
+        sending.with_response()
+    );
     goes_on(rt, alloc, &mut player, GIVEN_UP)?;
     let relinquish = "call 84000076 -> 8002: 84000061";
-    assert_eq!(rt; writes_of(rt, alloc, &mut player, relinquish)?, sending.with_zeros());
+    assert_eq!(rt;
+        writes_of(rt, alloc, &mut player, relinquish)?,
+        sending.with_zeros()
+    );
     goes_on(rt, alloc, &mut player, TO_FIRST)?;
-    assert_eq!(rt; writes_of(rt, alloc, &mut player, RECLAIM)?, sending.with_zeros());
+    assert_eq!(rt;
+        writes_of(rt, alloc, &mut player, RECLAIM)?,
+        sending.with_zeros()
+    );
     Ok(())
 }
 
@@ -350,14 +366,31 @@ fn donates(rt: &impl Abort, alloc: Global, sending: &Sending) -> Result<(), Fail
         goes_on(rt, alloc, &mut player, steps)?;
     }
     let first = "call 84000071 60 60 -> 8001: 84000061 0 1 8001";
-    assert_eq!(rt; writes_of(rt, alloc, &mut player, first)?, sending.with_zeros());
-    assert_eq!(rt; writes_of(rt, alloc, &mut player, RECLAIM)?, sending.with_zeros());
+    assert_eq!(rt;
+        writes_of(rt, alloc, &mut player, first)?,
+        sending.with_zeros()
+    );
+    assert_eq!(rt;
+        writes_of(rt, alloc, &mut player, RECLAIM)?,
+        sending.with_zeros()
+    );
     let second = "call 84000071 60 60 -> 8001: 84000061 0 2 8001";
-    assert_eq!(rt; writes_of(rt, alloc, &mut player, second)?, sending.with_zeros());
+    assert_eq!(rt;
+        writes_of(rt, alloc, &mut player, second)?,
+        sending.with_zeros()
+    );
     goes_on(rt, alloc, &mut player, TO_SECOND)?;
     goes_on(rt, alloc, &mut player, RETRIEVE)?;
-    goes_on(rt, alloc, &mut player, "store 4003E008 0000800100000002 -> done")?;
-    assert_eq!(rt; writes_of(rt, alloc, &mut player, RETRIEVED)?, sending.with_response());
+    goes_on(
+        rt,
+        alloc,
+        &mut player,
+        "store 4003E008 0000800100000002 -> done",
+    )?;
+    assert_eq!(rt;
+        writes_of(rt, alloc, &mut player, RETRIEVED)?,
+        sending.with_response()
+    );
     Ok(())
 }
 
