@@ -31,6 +31,8 @@ mod setup;
 #[cfg(test)]
 mod stage2;
 #[cfg(test)]
+mod streams;
+#[cfg(test)]
 mod tlb;
 #[cfg(test)]
 mod walker;

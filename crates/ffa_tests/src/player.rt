@@ -1,68 +1,10 @@
-//! The player over readers and writers that fail, and lines that it refuses.
+//! The player's machine as it boots, and lines that it takes and refuses.
 use ffa_model::{PageNo, built_in, row_machine};
 use ffa_physmem::{FlatRam, PhysMem};
 use ffa_spmc::Machine;
 use ffa_trace::{PlayError, Player};
 use std::alloc::Global;
-use std::io;
-use std::io::{Read, Write};
 use std::test::Fail;
-
-const FIRST: &str = "call 84000069\nstore 40010000 2A\nload 40010000 1\nload 40020000 1\nshow\n";
-
-const FIRST_TEXT: &str =
-    "regs 0000 0000000084000061 0000000000000000 0000000000000000 0000000000000000 0000000000000000 0000000000000000 0000000000000000 0000000000000000\ndone\ndata 2A\nfault translation\nrunner 0000\npages 40000000 4000FFFF 8000 --- ---\npages 40010000 4001FFFF 0000 rw- ---\npages 40020000 4002FFFF 8001 --- rwx\npages 40030000 401FFFFF 8000 --- ---\n";
-
-// Where the text of each line of FIRST ends.
-const ENDS: [usize; 5] = [146, 151, 159, 177, 337];
-
-// Gives a byte a call, and fails after `left` of them.
-#[derive(Drop)]
-struct Dripping<'a> {
-    bytes: &'a [u8],
-    left: usize,
-}
-
-impl Read for Dripping<'_> {
-    fn read(&mut self, buf: &mut [u8]) -> io::Result<usize> {
-        if self.left == 0 {
-            return Err(io::Error::from(io::ErrorKind::Interrupted));
-        }
-        self.left -= 1;
-        match self.bytes.split_first() {
-            Some((first, rest)) if !buf.is_empty() => {
-                buf[0] = *first;
-                self.bytes = rest;
-                Ok(1)
-            }
-            _ => Ok(0),
-        }
-    }
-}
-
-// Takes up to three bytes a call, and after `room` bytes fails, or takes nothing more.
-#[derive(Drop)]
-struct Narrow {
-    taken: Vec<u8>,
-    room: usize,
-    fails: bool,
-}
-
-impl Write for Narrow {
-    fn write(&mut self, buf: &[u8]) -> io::Result<usize> {
-        let count = buf.len().min(self.room).min(3);
-        if count == 0 && self.fails {
-            return Err(io::Error::from(io::ErrorKind::Interrupted));
-        }
-        self.taken.extend_from_slice(&buf[..count])?;
-        self.room -= count;
-        Ok(count)
-    }
-
-    fn flush(&mut self) -> io::Result<()> {
-        Err(io::Error::from(io::ErrorKind::Other))
-    }
-}
 
 fn demonstration(alloc: Global) -> Result<Player<FlatRam>, Fail> {
     let manifest = built_in();
@@ -199,56 +141,5 @@ fn takes_lines_longer_than_a_block(rt: HostRuntime) -> Result<(), Fail> {
     let played = player.play(rt.alloc(), &mut trace.as_slice(), &mut out);
     assert_eq!(rt; played, Err(PlayError::BadLine(4)));
     assert_eq!(rt; out.as_slice(), b"data 00\ndata 0000\n".as_slice());
-    Ok(())
-}
-
-#[test]
-fn stops_where_the_reader_fails(rt: HostRuntime) -> Result<(), Fail> {
-    for left in 0..=FIRST.len() {
-        let bytes = FIRST.as_bytes();
-        let mut player = demonstration(rt.alloc())?;
-        let mut out = Vec::new(rt.alloc());
-        let played = player.play(rt.alloc(), &mut Dripping { bytes, left }, &mut out);
-        let lines = bytes
-            .iter()
-            .take(left)
-            .filter(|byte| **byte == b'\n')
-            .count();
-        let end = match lines {
-            0 => 0,
-            1..=5 => ENDS[lines - 1],
-            _ => 0,
-        };
-        assert_eq!(rt;
-            Some(out.as_slice()),
-            FIRST_TEXT.as_bytes().get(..end),
-            "{left}"
-        );
-        assert_eq!(rt; played, Err(PlayError::Read), "{left}");
-    }
-    Ok(())
-}
-
-#[test]
-fn stops_where_the_writer_fails(rt: HostRuntime) -> Result<(), Fail> {
-    for fails in [true, false] {
-        for room in 0..=FIRST_TEXT.len() {
-            let mut player = demonstration(rt.alloc())?;
-            let taken = Vec::new(rt.alloc());
-            let mut out = Narrow { taken, room, fails };
-            let played = player.play(rt.alloc(), &mut FIRST.as_bytes(), &mut out);
-            assert_eq!(rt;
-                out.taken.as_slice(),
-                &FIRST_TEXT.as_bytes()[..room],
-                "{room}"
-            );
-            let want = if room < FIRST_TEXT.len() {
-                Err(PlayError::Write)
-            } else {
-                Ok(())
-            };
-            assert_eq!(rt; played, want, "{room}");
-        }
-    }
     Ok(())
 }

@@ -1,7 +1,7 @@
 -- The table of digits says of each byte what the definition says.
-use Rattle.std.proofs.Common.{◌≡◌, ◌∙◌, ℕ, ◌^◌, ◌<◌, ◌≤◌, true, false, Option, Some, None, get_or, is_some, refl, sym, ap, arith}
-use Rattle.std.specs.Prelude.{◌==◌, nat_le, nat_lt, unwrap_or}
-use Rattle.std.proofs.lemmas.Bool.{agree_below_at, eqb-true, leb-true, le-ltb}
+use Rattle.std.proofs.Common.{◌≡◌, ℕ, ◌^◌, ◌<◌, ◌≤◌, true, Option, Some, None, get_or, refl, ap, arith}
+use Rattle.std.specs.Prelude.{◌==◌, nat_le, unwrap_or}
+use Rattle.std.proofs.lemmas.Bool.{agree_below_at, eqb-true, leb-true}
 use Rattle.ffa_model.specs.TraceLines.{digit_value}
 use Rattle.ffa_trace.specs.Parsed.{value_of}
 use Rattle.ffa_trace.specs.declared.line.TheConstants.{DIGIT_VALUES}

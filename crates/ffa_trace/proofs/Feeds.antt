@@ -1,5 +1,5 @@
 -- Bytes of a block, line by line.
-use Rattle.std.proofs.Common.{◌≡◌, ℕ, ◌+◌, ◌-◌, ◌^◌, ◌≤◌, true, List, [], ◌∷◌, ◌++◌, length, take, drop, position, Option, Some, None, Result, Ok, Err, sym, ap, ◌∙◌, arith, append_assoc, append-nil, take-append-drop, length-append, take_all, refl}
+use Rattle.std.proofs.Common.{◌≡◌, ℕ, ◌+◌, ◌≤◌, ◌≢◌, inl, inr, true, List, [], ◌∷◌, ◌++◌, length, take, drop, position, Option, Some, None, Result, Ok, Err, sym, ap, ◌∙◌, arith, append_assoc, append-nil, take-append-drop, length-append, take_all, refl}
 use Rattle.std.specs.Prelude.{◌==◌}
 use Rattle.std.proofs.lemmas.List.{drop_more}
 use Rattle.std.proofs.lemmas.List.Folds.{list_all-append}
@@ -7,7 +7,8 @@ use Rattle.std.proofs.lemmas.List.Quantifiers.{position-Some}
 use Rattle.std.proofs.lemmas.Bool.{eqb-true}
 use Rattle.ffa_model.specs.State.{State}
 use Rattle.ffa_model.specs.TraceLines.{feed, joined, has_no_feed}
-use Rattle.ffa_trace.specs.Feeding.{LineDone, LineEnded, Kept, Feeding, Fed}
+use Rattle.ffa_trace.specs.Played.{most_lines}
+use Rattle.ffa_trace.specs.Feeding.{LineDone, LineEnded, Kept, IsNumbered, Feeding, Fed}
 use Rattle.ffa_trace.specs.declared.output.PlayError.{PlayError}
 use Rattle.ffa_trace.specs.declared.output.PlayError.TheVariants.{Read, Write, NoMemory, BadLine}
 use Rattle.ffa_trace.proofs.Positions.{none_pass, none_before}
@@ -44,18 +45,19 @@ pub record Taking (start now : State) (held holds : Option (List ℕ)) (number n
   pub split : bytes ≡ gone ++ rest
   pub fed : Feeding start now held holds number next (old ++ gone) begun
 
-pub taking_none : (s : State) (a : Option (List ℕ)) (number : ℕ) (old bytes : List ℕ) → has_no_feed old ≡ true → Taking s s a a number number old bytes old bytes
-taking_none s a number old bytes free = record {
+pub taking_none : (s : State) (a : Option (List ℕ)) (number : ℕ) (old bytes : List ℕ) → has_no_feed old ≡ true → IsNumbered number old
+    → Taking s s a a number number old bytes old bytes
+taking_none s a number old bytes free numbered = record {
   gone = [];
   split = refl;
-  fed = record { lines = []; did = did_none s a; whole = append-nil old; unended = free; counted = omega arith };
+  fed = record { lines = []; did = did_none s a; whole = append-nil old; unended = free; counted = omega arith; numbered = numbered };
 }
 
 module _ (s m : State) (a b : Option (List ℕ)) (number next : ℕ) (old bytes begun rest : List ℕ) (t : Taking s m a b number next old bytes begun rest) where
-  -- a line ended and was done
-  pub line_done : (n : State) (c : Option (List ℕ)) (end : ℕ) → Some end ≡ position (λ c. c == feed) rest → LineDone {X = Unit {0}} m n b c next (begun ++ take end rest) (Ok tt)
+  -- a line that can be counted ended, and was done
+  pub line_done : (n : State) (c : Option (List ℕ)) (end : ℕ) → Some end ≡ position (λ c. c == feed) rest → next ≤ most_lines → LineDone {X = Unit {0}} m n b c next (begun ++ take end rest) (Ok tt)
       → Taking s n a c number (next + 1) old bytes [] (drop (end + 1) rest)
-  line_done n c end h (good, state, written) =
+  line_done n c end h can (good, state, written) =
       let free = no_feed-append begun (take end rest) t.fed.unended (piece_free rest end h) in record {
         gone = t.gone ++ (take end rest ++ feed ∷ []);
         split = t.split ∙ ap (λ l. t.gone ++ l) (split_at rest end h ∙ sym (append_assoc (take end rest) (feed ∷ []) (drop (end + 1) rest)))
@@ -67,6 +69,7 @@ module _ (s m : State) (a b : Option (List ℕ)) (number next : ℕ) (old bytes 
               ∙ ap (λ l. joined t.fed.lines ++ l) (sym (append_assoc begun (take end rest) (feed ∷ []))) ∙ line_ended t.fed.lines (begun ++ take end rest) [];
           unended = refl;
           counted = omega (arith, t.fed.counted, length-append t.fed.lines ((begun ++ take end rest) ∷ []));
+          numbered = (omega (arith, can), inl refl);
         };
       }
 
@@ -84,11 +87,11 @@ module _ (s m : State) (a b : Option (List ℕ)) (number next : ℕ) (old bytes 
   front_some : (end : ℕ) → 1 ≤ length (begun ++ take end rest) → 1 ≤ length (begun ++ rest)
   front_some end some = omega (arith, some, length-append begun (take end rest), length-append begun rest, length-append (take end rest) (drop end rest), ap length (take-append-drop end rest))
 
-  -- a line ended, and it failed
-  pub line_failed : (n : State) (c : Option (List ℕ)) (e : PlayError) (end last : ℕ) (left : List ℕ) → Some end ≡ position (λ c. c == feed) rest
+  -- a line that can be counted ended, and it failed
+  pub line_failed : (n : State) (c : Option (List ℕ)) (e : PlayError) (end last : ℕ) (left : List ℕ) → Some end ≡ position (λ c. c == feed) rest → next ≤ most_lines
       → LineEnded {X = Unit {0}} m n b c next (begun ++ take end rest) (Err e) → Fed {X = Unit {0}} s n a c number last (old ++ bytes) left (Err e)
-  line_failed n c Read end last left h l = absurd l
-  line_failed n c Write end last left h l = (
+  line_failed n c Read end last left h can l = absurd l
+  line_failed n c Write end last left h can l = (
     t.fed.lines,
     begun ++ take end rest,
     drop (end + 1) rest,
@@ -100,34 +103,57 @@ module _ (s m : State) (a b : Option (List ℕ)) (number next : ℕ) (old bytes 
       began = l;
     },
     bytes_at end h,
+    omega (arith, can, t.fed.counted),
   )
-  line_failed n c NoMemory end last left h (same, kept, some) = (t.fed.lines, begun ++ rest, did_kept s m n a b c t.fed.lines t.fed.did same kept, bytes_now, front_some end some)
-  line_failed n c (BadLine k) end last left h l = (
+  line_failed n c NoMemory end last left h can (same, kept, some) = (
+    t.fed.lines,
+    begun ++ rest,
+    did_kept s m n a b c t.fed.lines t.fed.did same kept,
+    bytes_now,
+    omega (arith, can, t.fed.counted),
+    front_some end some,
+  )
+  line_failed n c (BadLine k) end last left h can l = (
     t.fed.lines,
     begun ++ take end rest,
     drop (end + 1) rest,
     did_kept s m n a b c t.fed.lines t.fed.did l.2 l.3,
     bytes_at end h,
+    l.1 ∙ t.fed.counted,
+    omega (arith, can, l.1),
     no_feed-append begun (take end rest) t.fed.unended (piece_free rest end h),
     l.0,
-    l.1 ∙ t.fed.counted,
   )
 
-  -- the lines can't be counted any further
-  pub cannot_count : (last : ℕ) (left : List ℕ) → next ≡ 2 ^ 64 - 1 → Fed {X = Unit {0}} s m a b number last (old ++ bytes) left (Err Read)
-  cannot_count last left h = (t.fed.lines, begun ++ rest, t.fed.did, bytes_now, omega (arith, h, t.fed.counted))
+  -- no more lines can be counted, and there are bytes behind
+  pub cannot_count : (last : ℕ) (left : List ℕ) → 1 + most_lines ≤ next → length rest ≢ 0 → Fed {X = Unit {0}} s m a b number last (old ++ bytes) left (Err Read)
+  cannot_count last left h some =
+      (t.fed.lines, begun ++ rest, t.fed.did, bytes_now, omega (arith, h, t.fed.numbered.0, t.fed.counted), omega (arith, some, length-append begun rest))
 
   -- no line ends any more
-  pub all_taken : (left : List ℕ) (r : Result (Unit {0}) PlayError) → None ≡ position (λ c. c == feed) rest → Kept begun left rest r
+  pub all_taken : (left : List ℕ) (r : Result (Unit {0}) PlayError) → None ≡ position (λ c. c == feed) rest → next ≤ most_lines → Kept begun left rest r
       → Fed s m a b number next (old ++ bytes) left r
-  all_taken left (Ok x) h k = record {
+  all_taken left (Ok x) h can k = record {
     lines = t.fed.lines;
     did = t.fed.did;
     whole = bytes_now ∙ ap (λ l. joined t.fed.lines ++ l) (sym k);
     unended = ap has_no_feed k ∙ no_feed-append begun rest t.fed.unended (rest_free rest h);
     counted = t.fed.counted;
+    numbered = (omega (arith, can), inr can);
   }
-  all_taken left (Err Read) h k = absurd k
-  all_taken left (Err Write) h k = absurd k
-  all_taken left (Err NoMemory) h (same, some) = (t.fed.lines, begun ++ rest, t.fed.did, bytes_now, omega (arith, some, length-append begun rest))
-  all_taken left (Err (BadLine n)) h k = absurd k
+  all_taken left (Err Read) h can k = absurd k
+  all_taken left (Err Write) h can k = absurd k
+  all_taken left (Err NoMemory) h can (same, some) =
+      (t.fed.lines, begun ++ rest, t.fed.did, bytes_now, omega (arith, can, t.fed.counted), omega (arith, some, length-append begun rest))
+  all_taken left (Err (BadLine n)) h can k = absurd k
+
+  -- no byte is left
+  pub none_left : rest ≡ [] → Feeding s m a b number next (old ++ bytes) begun
+  none_left none = record {
+    lines = t.fed.lines;
+    did = t.fed.did;
+    whole = bytes_now ∙ ap (λ l. joined t.fed.lines ++ (begun ++ l)) none ∙ ap (λ l. joined t.fed.lines ++ l) (append-nil begun);
+    unended = t.fed.unended;
+    counted = t.fed.counted;
+    numbered = t.fed.numbered;
+  }

@@ -1,5 +1,5 @@
 -- A number at the front of bytes, digit by digit.
-use Rattle.std.proofs.Common.{◌≡◌, ◌≢◌, ℕ, ◌+◌, ◌-◌, ◌*◌, ◌^◌, ◌<◌, ◌≤◌, Bool, true, false, List, [], ◌∷◌, length, take, get_or, fold, Option, Some, None, option_map, not, drop, inl, inr, sym, ap, ◌∙◌, subst, arith, refl, length-take-le, take_all, take-append-drop}
+use Rattle.std.proofs.Common.{◌≡◌, ℕ, ◌+◌, ◌-◌, ◌*◌, ◌^◌, ◌<◌, ◌≤◌, Bool, true, false, List, [], ◌∷◌, length, take, get_or, fold, Option, Some, None, option_map, not, drop, inl, inr, sym, ap, ◌∙◌, subst, arith, refl, length-take-le, take_all, take-append-drop}
 use Rattle.std.specs.Prelude.{◌==◌, unwrap_or}
 use Rattle.std.proofs.Math.Seq.{take-suc}
 use Rattle.std.proofs.Math.Nat.{pow-le-pow_right}
@@ -10,7 +10,7 @@ use Rattle.std.proofs.lemmas.Bool.{cases_lt, cases_Bool, eqb-true, true≢false}
 use borrow.Author.Count.{below_more}
 use Rattle.ffa_model.specs.TraceLines.{digit_value, with_digit, number_of, space, words_of}
 use Rattle.ffa_trace.specs.Parsed.{AreDigits, GoesOn, IsFront, value_at}
-use Rattle.ffa_trace.specs.declared.line.Front.TheVariants.{Last, More, Other}
+use Rattle.ffa_trace.specs.declared.line.Front.TheVariants.{Last, Other}
 use Rattle.ffa_trace.proofs.DigitTable.{digit_small, digit_below}
 use Rattle.ffa_trace.proofs.LineNumbers.{more_digits, no_digit, no_number}
 use Rattle.ffa_trace.proofs.LineWords.{word_end, one_word, more_words}

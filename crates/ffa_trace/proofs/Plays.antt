@@ -26,7 +26,7 @@ pub playing_none : (s : State) (held had : Option (List ℕ)) → Playing s s he
 playing_none s held had = record {
   seen = [];
   read = Consumes-nil had;
-  fed = record { lines = []; did = did_none s held; whole = refl; unended = refl; counted = omega arith };
+  fed = record { lines = []; did = did_none s held; whole = refl; unended = refl; counted = omega arith; numbered = (omega arith, inl refl) };
 }
 
 module _ (s m : State) (a b had has : Option (List ℕ)) (number : ℕ) (begun : List ℕ) (p : Playing s m a b had has number begun) where
@@ -42,40 +42,45 @@ module _ (s m : State) (a b had has : Option (List ℕ)) (number : ℕ) (begun :
       whole = lines_more p.fed.lines q.lines p.seen begun block left p.fed.whole q.whole;
       unended = q.unended;
       counted = omega (arith, p.fed.counted, q.counted, length-append p.fed.lines q.lines);
+      numbered = q.numbered;
     };
   }
 
   -- a block that failed
   pub block_failed : (n : State) (c : Option (List ℕ)) (e : PlayError) (then : Option (List ℕ)) (next : ℕ) (block left : List ℕ) → Consumes has then block
       → Fed {X = Unit {0}} m n b c number next (begun ++ block) left (Err e) → Played {X = Unit {0}} s n a c had then (Err e)
-  block_failed n c Read then next block left read (ms, more, did, whole, full) = (
+  block_failed n c Read then next block left read (ms, more, did, whole, full, some) = (
     p.fed.lines ++ ms,
     more,
     did_more p.fed.did did,
     subst (Consumes had then) (lines_more p.fed.lines ms p.seen begun block more p.fed.whole whole) (Consumes-trans had has then p.seen block p.read read),
-    inr (omega (arith, p.fed.counted, full, length-append p.fed.lines ms)),
+    omega (arith, p.fed.counted, full, length-append p.fed.lines ms),
+    inr (omega (arith, p.fed.counted, full, length-append p.fed.lines ms), some),
   )
-  block_failed n c Write then next block left read (ms, line, more, did, whole) = (
+  block_failed n c Write then next block left read (ms, line, more, did, whole, can) = (
     p.fed.lines ++ ms,
     line,
     more,
     began_more s m n a b c p.fed.lines ms line p.fed.did did,
     subst (Consumes had then) (lines_more p.fed.lines ms p.seen begun block (line ++ feed ∷ more) p.fed.whole whole) (Consumes-trans had has then p.seen block p.read read),
+    omega (arith, p.fed.counted, can, length-append p.fed.lines ms),
   )
-  block_failed n c NoMemory then next block left read (ms, more, did, whole, some) = (
+  block_failed n c NoMemory then next block left read (ms, more, did, whole, can, some) = (
     p.fed.lines ++ ms,
     more,
     did_more p.fed.did did,
     subst (Consumes had then) (lines_more p.fed.lines ms p.seen begun block more p.fed.whole whole) (Consumes-trans had has then p.seen block p.read read),
+    omega (arith, p.fed.counted, can, length-append p.fed.lines ms),
     some,
   )
-  block_failed n c (BadLine k) then next block left read (ms, bad, more, did, whole, free, wrong, place) = (
+  block_failed n c (BadLine k) then next block left read (ms, bad, more, did, whole, place, can, free, wrong) = (
     p.fed.lines ++ ms,
     bad,
     feed ∷ more,
     did_more p.fed.did did,
     subst (Consumes had then) (lines_more p.fed.lines ms p.seen begun block (bad ++ feed ∷ more) p.fed.whole whole) (Consumes-trans had has then p.seen block p.read read),
     omega (arith, p.fed.counted, place, length-append p.fed.lines ms),
+    can,
     free,
     inl ((more, refl), wrong),
   )
@@ -87,4 +92,4 @@ module _ (s m : State) (a b had has : Option (List ℕ)) (number : ℕ) (begun :
       let whole : p.seen ++ [] ≡ joined p.fed.lines =
       append-nil p.seen ∙ p.fed.whole ∙ ap (λ l. joined p.fed.lines ++ l) (nil_from_length begun none) ∙ append-nil (joined p.fed.lines) in
       let nothing : Consumes has then [] = subst (λ n. Consumes has then (take n block)) zero read in
-      (p.fed.lines, p.fed.did, subst (Consumes had then) whole (Consumes-trans had has then p.seen [] p.read nothing), end zero room)
+      (p.fed.lines, p.fed.did, subst (Consumes had then) whole (Consumes-trans had has then p.seen [] p.read nothing), end zero room, omega (arith, p.fed.numbered.0, p.fed.counted))

@@ -1,5 +1,5 @@
 -- What a play leaves, in the machine and in the writer, for each answer.
-use Rattle.std.specs.Prelude.{◌≡◌, ◌≤◌, ◌⊎◌, ℕ, ◌+◌, ◌-◌, ◌^◌, true, false, List, [], ◌∷◌, ◌++◌, length, Option, Result, Ok, Err}
+use Rattle.std.specs.Prelude.{◌≡◌, ◌≤◌, ◌<◌, ◌⊎◌, ℕ, ◌+◌, ◌-◌, ◌^◌, true, false, List, [], ◌∷◌, ◌++◌, length, Option, Result, Ok, Err}
 use Rattle.std.specs.Io.KnownBytes.{Appends, Consumes, IsAtEnd}
 use Rattle.ffa_model.specs.State.{State}
 use Rattle.ffa_model.specs.TraceLines.{feed, has_no_feed, is_good, are_lines, joined}
@@ -31,34 +31,41 @@ pub record DidAndBegan (state_before state_after : State) (written_before writte
   pub whole : has_no_feed line ≡ true
   pub began : Began state_between state_after written_between written_after line
 
+-- so many lines a play can count
+abbrev pub most_lines : ℕ
+most_lines = 2 ^ 64 - 2
+
 -- a play, by its answer
 abbrev pub Played : {X : Type 0} → (state_before state_after : State) → (written_before written_after unread_before unread_after : Option (List ℕ)) → Result X PlayError → Type 0
--- the reader was read to its end, and what it gave are these lines
+-- the reader was read to its end, and what it gave are these lines, no more than can be counted
 Played state_before state_after written_before written_after unread_before unread_after (Ok _) =
     (lines : List (List ℕ))
     × Did state_before state_after written_before written_after lines
     × Consumes unread_before unread_after (joined lines) × IsAtEnd unread_after
--- each line that was read whole was done, unless the play can count no further
+    × (length lines ≤ most_lines)
+-- each line that was read whole was done, unless there is more behind as many lines as can be counted
 Played state_before state_after written_before written_after unread_before unread_after (Err Read) =
     (lines : List (List ℕ)) × (more : List ℕ)
     × Did state_before state_after written_before written_after lines
     × Consumes unread_before unread_after (joined lines ++ more)
-    × ((has_no_feed more ≡ true) ⊎ (2 ^ 64 - 2 ≤ length lines))
--- memory is refused for bytes that were read behind the lines that were done, and never for none
+    × (length lines ≤ most_lines)
+    × ((has_no_feed more ≡ true) ⊎ ((length lines ≡ most_lines) × (1 ≤ length more)))
+-- memory is refused for bytes of the line behind those that were done, which can be counted, and never for none
 Played state_before state_after written_before written_after unread_before unread_after (Err NoMemory) =
     (lines : List (List ℕ)) × (more : List ℕ)
     × Did state_before state_after written_before written_after lines
     × Consumes unread_before unread_after (joined lines ++ more)
-    × (1 ≤ length more)
+    × (length lines < most_lines) × (1 ≤ length more)
 -- the line after those done was done too, and its text wasn't written whole
 Played state_before state_after written_before written_after unread_before unread_after (Err Write) =
     (lines : List (List ℕ)) × (line : List ℕ) × (more : List ℕ)
     × DidAndBegan state_before state_after written_before written_after lines line
     × Consumes unread_before unread_after (joined lines ++ (line ++ feed ∷ more))
+    × (length lines < most_lines)
 -- the line after those done has no meaning, or has no LF at the reader's end
 Played state_before state_after written_before written_after unread_before unread_after (Err (BadLine n)) =
     (lines : List (List ℕ)) × (bad : List ℕ) × (more : List ℕ)
     × Did state_before state_after written_before written_after lines
     × Consumes unread_before unread_after (joined lines ++ (bad ++ more))
-    × (n ≡ 1 + length lines) × (has_no_feed bad ≡ true)
+    × (n ≡ 1 + length lines) × (n ≤ most_lines) × (has_no_feed bad ≡ true)
     × ((((next : List ℕ) × (more ≡ feed ∷ next)) × (is_good bad ≡ false)) ⊎ ((more ≡ []) × (1 ≤ length bad) × IsAtEnd unread_after))

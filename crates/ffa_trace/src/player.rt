@@ -5,7 +5,7 @@ ghost use Rattle.ffa_model.specs.TraceLines.{feed, has_no_feed};
 ghost use Rattle.ffa_model.specs.Memory.{size_of};
 ghost use Rattle.ffa_model.specs.Step.{step};
 ghost use Rattle.ffa_model.specs.TraceText.{hex, spaced, ended, outcome_text};
-ghost use Rattle.ffa_trace.specs.Feeding.{LineDone, LineEnded, Kept, Fed};
+ghost use Rattle.ffa_trace.specs.Feeding.{LineDone, LineEnded, Kept, IsNumbered, Fed};
 ghost use Rattle.ffa_trace.specs.Output.{Writes};
 ghost use Rattle.ffa_trace.specs.Parsed.{IsOther};
 ghost use Rattle.ffa_trace.specs.Played.{Played};
@@ -94,7 +94,8 @@ fn play_lines<M: PhysMem + Drop, T: Translations + Drop, R: Read, W: Write>(
     Err(PlayError::Read)
 }
 
-// Takes bytes that were read: `begun` are those of the line that hasn't ended, and `number` is its number.
+// Takes bytes that were read: `begun` are those of the line that hasn't ended, and `number` is its number. The last number
+// is that of no line, so bytes behind the lines that can be counted are those of an input that is too long.
 fn feed<M: PhysMem + Drop, T: Translations + Drop, W: Write>(
     machine: &mut Machine<M, T>,
     writer: &mut W,
@@ -102,19 +103,24 @@ fn feed<M: PhysMem + Drop, T: Translations + Drop, W: Write>(
     number: &mut u64,
     bytes: &[u8],
 ) -> Result<(), PlayError>
-    requires { has_no_feed begun.old.items ≡ true }
+    requires unended { has_no_feed begun.old.items ≡ true }
+    requires numbered { IsNumbered number.old begun.old.items }
     ensures { Fed machine.old.state machine.new.state (W.contents writer.old) (W.contents writer.new) number.old number.new (begun.old.items ++ bytes.now) begun.new.items result }
 {
     let mut rest = bytes;
-    while let Some(end) = first_feed(rest) {
-        if *number == u64::MAX {
-            return Err(PlayError::Read);
-        }
+    while *number < u64::MAX {
+        let Some(end) = first_feed(rest) else {
+            return keep(begun, rest);
+        };
         end_line(machine, writer, begun, *number, &rest[..end])?;
         *number += 1;
         rest = &rest[end + 1..];
     }
-    keep(begun, rest)
+    if rest.is_empty() {
+        Ok(())
+    } else {
+        Err(PlayError::Read)
+    }
 }
 
 #[inline(always)]

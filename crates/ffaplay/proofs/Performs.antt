@@ -24,7 +24,7 @@ all_read (Some xs) None bytes c = absurd c
 all_read (Some xs) (Some ys) bytes c = c
 
 pub played_whole : {X : Type 0} (x : X) (start now : State) (held holds had has : Option (List ℕ)) → Played start now held holds had has (Ok x) → IsPlayed start had held holds
-played_whole x start now held holds had has (lines, did, consumed, ended) = record {
+played_whole x start now held holds had has (lines, did, consumed, ended, counted) = record {
   lines = lines;
   each = did.each;
   all = all_consumed had has (joined lines) consumed ended;
@@ -40,7 +40,7 @@ kept None = tt
 kept (Some bytes) = refl
 
 played_to : (start now : State) (held holds had has : Option (List ℕ)) (n : ℕ) → Played {X = Unit {0}} start now held holds had has (Err (play_error.BadLine n)) → IsStopped start had held holds n
-played_to start now held holds had has n (lines, bad, more, did, consumed, number, single, inl ((next, more_is), wrong)) = record {
+played_to start now held holds had has n (lines, bad, more, did, consumed, number, counted, single, inl ((next, more_is), wrong)) = record {
   lines = lines;
   bad = bad;
   each = did.each;
@@ -52,7 +52,7 @@ played_to start now held holds had has n (lines, bad, more, did, consumed, numbe
       let read = ap (λ m. (joined lines ++ (bad ++ m)) ++ left) more_is ∙ append_assoc (joined lines) (bad ++ feed ∷ next) left ∙ ap (λ l. joined lines ++ l) (append_assoc bad (feed ∷ next) left) in
       inl (wrong, (next ++ left, subst (IsAll had) read (all_read had has _ consumed)));
 }
-played_to start now held holds had has n (lines, bad, more, did, consumed, number, single, inr (more_is, some, ended)) = record {
+played_to start now held holds had has n (lines, bad, more, did, consumed, number, counted, single, inr (more_is, some, ended)) = record {
   lines = lines;
   bad = bad;
   each = did.each;

@@ -33,6 +33,10 @@ abbrev pub IsRefused : Option (List ℕ) → ManifestError → Type 0
 IsRefused None cause = ⊥
 IsRefused (Some bytes) cause = ((IsUtf8 bytes → ⊥) × (cause ≡ Toml)) ⊎ (IsUtf8 bytes × (machine_of bytes ≡ Err cause))
 
+-- they are, of some machine
+abbrev pub IsAccepted : Option (List ℕ) → Type 0
+IsAccepted manifest = (parts : Parts) × Describes manifest parts
+
 abbrev pub SomeCause : Option (List ℕ) → Type 0
 SomeCause manifest = (cause : ManifestError) × IsRefused manifest cause
 
@@ -99,12 +103,13 @@ SomeBadLine request manifest trace held holds = (n : ℕ) × StopsAt request man
 
 -- WHAT PRIVATE FUNCTIONS PROMISE ONE ANOTHER: a reader, a writer and memory may always fail
 
--- a command fails: a manifest is refused for its own cause, and then nothing was written, or a play stops
+-- a command fails: a manifest is refused for its own cause, and then nothing was written, or a play stops, or the output can't be written,
+-- and then the manifest, where one is named, isn't refused
 abbrev pub FailsFor : Request → Option (List ℕ) → Option (List ℕ) → Option (List ℕ) → Option (List ℕ) → Failure → Type 0
 FailsFor request manifest trace held holds (Manifest cause) = (needs_manifest request ≡ true) × IsRefused manifest cause × Keeps held holds
 FailsFor request manifest trace held holds (BadLine n) = StopsAt request manifest trace held holds n
 FailsFor request manifest trace held holds (Read path) = ⊤
-FailsFor request manifest trace held holds Write = ⊤
+FailsFor request manifest trace held holds Write = needs_manifest request ≡ true → IsAccepted manifest
 FailsFor request manifest trace held holds NoMemory = ⊤
 
 -- the same where no trace is played
@@ -112,7 +117,7 @@ abbrev pub FailsUnplayed : Option (List ℕ) → Option (List ℕ) → Option (L
 FailsUnplayed manifest held holds (Manifest cause) = IsRefused manifest cause × Keeps held holds
 FailsUnplayed manifest held holds (BadLine n) = ⊥
 FailsUnplayed manifest held holds (Read path) = ⊤
-FailsUnplayed manifest held holds Write = ⊤
+FailsUnplayed manifest held holds Write = IsAccepted manifest
 FailsUnplayed manifest held holds NoMemory = ⊤
 
 -- the same of a play, which refuses no manifest

@@ -65,7 +65,8 @@ impl Failure<'_> {
 /// why a command isn't done. The status is 0 for a command that was done, 1 for a manifest that is refused, 2 for a line
 /// that is none of a trace, and 3 where a file can't be read, `out` can't be written or memory is short. Faults are found
 /// in this order: the manifest's file, the manifest, the trace's file, RAM, the trace. An `out` that can't be flushed
-/// can't be written, whatever else went wrong.
+/// can't be written. This is told in place of a bad line, since the text of the lines before it is lost, and of no other
+/// fault, which was found before.
 pub fn perform<R: Read + Drop, W: Write, E: Write>(
     alloc: Global,
     request: &Request<'_>,
@@ -111,7 +112,8 @@ fn tell<E: Write>(err: &mut E, failure: &Failure<'_>) -> u8
     failure.status()
 }
 
-// Does what was asked for, and flushes what it wrote.
+// Does what was asked for, and flushes what it wrote. Where that fails, a command isn't done, and no bad line is told of,
+// since the text of the lines before it is lost. Another failure was found before, and stays.
 fn do_request<'a, R: Read + Drop, W: Write>(
     alloc: Global,
     request: &Request<'a>,
@@ -125,9 +127,10 @@ fn do_request<'a, R: Read + Drop, W: Write>(
     ensures read_bad { IfErr result (IsRead (is_some trace)) }
 {
     let done = do_command(alloc, request, manifest, trace, out);
-    match out.flush() {
-        Ok(()) => done,
-        Err(_) => Err(Failure::Write),
+    let flushed = out.flush();
+    match done {
+        Ok(()) | Err(Failure::BadLine(_)) if flushed.is_err() => Err(Failure::Write),
+        _ => done,
     }
 }
 

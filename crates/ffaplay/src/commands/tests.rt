@@ -265,21 +265,41 @@ fn prints_layouts(rt: HostRuntime) -> Result<(), Fail> {
     Ok(())
 }
 
-// Takes up to `room` bytes, and fails to take more or to flush.
+// Takes up to `room` bytes. Behind these it takes nothing, or fails, and it flushes where it says so.
 #[derive(Drop)]
 struct Stuck {
     room: usize,
+    fails: bool,
+    flushes: bool,
+}
+
+impl Stuck {
+    // Takes nothing behind `room` bytes, and doesn't flush.
+    fn new(room: usize) -> Stuck {
+        Stuck {
+            room,
+            fails: false,
+            flushes: false,
+        }
+    }
 }
 
 impl Write for Stuck {
     fn write(&mut self, buf: &[u8]) -> io::Result<usize> {
         let count = buf.len().min(self.room);
+        if count == 0 && self.fails {
+            return Err(io::Error::from(io::ErrorKind::StorageFull));
+        }
         self.room -= count;
         Ok(count)
     }
 
     fn flush(&mut self) -> io::Result<()> {
-        Err(io::Error::from(io::ErrorKind::Other))
+        if self.flushes {
+            Ok(())
+        } else {
+            Err(io::Error::from(io::ErrorKind::Other))
+        }
     }
 }
 
@@ -289,7 +309,7 @@ fn tells_what_cannot_be_written(rt: HostRuntime) -> Result<(), Fail> {
         for room in [0, 3, 1000] {
             let trace = Some(b"show\n".as_slice());
             let mut err = Vec::new(rt.alloc());
-            let mut out = Stuck { room };
+            let mut out = Stuck::new(room);
             let manifest = Some(ROW.as_bytes());
             let status = perform(rt.alloc(), &request, manifest, trace, &mut out, &mut err);
             assert_eq!(rt; status, 3);
@@ -299,28 +319,54 @@ fn tells_what_cannot_be_written(rt: HostRuntime) -> Result<(), Fail> {
     Ok(())
 }
 
-// What is written stands in a buffer first, so that only the flush fails: the bad line, the trace that can't be read and
-// the manifest that is refused are not told.
+// A writer fails behind each byte of the text, but the last.
+#[test]
+fn tells_that_a_write_failed(rt: HostRuntime) -> Result<(), Fail> {
+    for (request, bytes) in [(DEMO, 151_usize), (CHECK, 9), (LAYOUT, 96)] {
+        for room in 0..=bytes {
+            let trace = Some(b"call 84000069\nstore 40010000 2A\n".as_slice());
+            let mut err = Vec::new(rt.alloc());
+            let mut out = Stuck {
+                room,
+                fails: true,
+                flushes: true,
+            };
+            let manifest = Some(ROW.as_bytes());
+            let status = perform(rt.alloc(), &request, manifest, trace, &mut out, &mut err);
+            let (want, told) = if room < bytes {
+                (3, b"ffaplay: cannot write\n".as_slice())
+            } else {
+                (0, [].as_slice())
+            };
+            assert_eq!(rt; status, want, "{room}");
+            assert_eq!(rt; err.as_slice(), told, "{room}");
+        }
+    }
+    Ok(())
+}
+
+// What is written stands in a buffer first, so that only the flush fails. The text before a bad line is lost, and the line
+// isn't told. Where a manifest is refused or a trace can't be read, nothing was printed.
 #[test]
 fn tells_that_the_flush_failed(rt: HostRuntime) -> Result<(), Fail> {
+    let good = Some(b"load 40010000 1\n".as_slice());
     let good_and_bad = Some(b"load 40010000 1\nload 4001\n".as_slice());
-    for (request, manifest, trace) in [
-        (RUN, ROW.as_bytes(), good_and_bad),
-        (RUN, ROW.as_bytes(), None),
-        (CHECK, b"\xff".as_slice(), None),
+    let lost = b"ffaplay: cannot write\n".as_slice();
+    let unread = b"ffaplay: cannot read row.trace\n".as_slice();
+    let refused = b"ffaplay: manifest: M2 Toml\n".as_slice();
+    for (request, manifest, trace, want, told) in [
+        (RUN, ROW.as_bytes(), good, 3, lost),
+        (RUN, ROW.as_bytes(), good_and_bad, 3, lost),
+        (RUN, ROW.as_bytes(), None, 3, unread),
+        (RUN, b"\xff", good, 1, refused),
+        (CHECK, b"\xff", None, 1, refused),
     ] {
         let mut err = Vec::new(rt.alloc());
-        let mut out = Stuck { room: 1000 };
-        let status = perform(
-            rt.alloc(),
-            &request,
-            Some(manifest),
-            trace,
-            &mut out,
-            &mut err,
-        );
-        assert_eq!(rt; status, 3);
-        assert_eq!(rt; err.as_slice(), b"ffaplay: cannot write\n".as_slice());
+        let mut out = Stuck::new(1000);
+        let manifest = Some(manifest);
+        let status = perform(rt.alloc(), &request, manifest, trace, &mut out, &mut err);
+        assert_eq!(rt; status, want);
+        assert_eq!(rt; err.as_slice(), told);
     }
     Ok(())
 }
@@ -334,7 +380,7 @@ fn shows_help(rt: HostRuntime) -> Result<(), Fail> {
     assert_eq!(rt; err.as_slice(), b"".as_slice());
     for room in [0, 3, 1000] {
         let mut err = Vec::new(rt.alloc());
-        let status = show(&"Usage: ffaplay", &mut Stuck { room }, &mut err);
+        let status = show(&"Usage: ffaplay", &mut Stuck::new(room), &mut err);
         assert_eq!(rt; status, 3);
         assert_eq!(rt; err.as_slice(), b"ffaplay: cannot write\n".as_slice());
     }

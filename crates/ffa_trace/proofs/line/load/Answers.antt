@@ -1,4 +1,4 @@
-use Rattle.std.proofs.Common.{◌∙◌, Some, option_map, ap, sym, refl}
+use Rattle.std.proofs.Common.{◌∙◌, option_map, ap, sym, refl}
 use Rattle.ffa_model.specs.declared.operation.Op.TheVariants.{Load}
 use Rattle.ffa_model.specs.TraceLines.{operate}
 use Rattle.ffa_trace.proofs.LineCommands.{load_is, no_load}

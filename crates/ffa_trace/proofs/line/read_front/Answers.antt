@@ -1,4 +1,4 @@
-use Rattle.std.proofs.Common.{◌+◌, ◌≤◌, ◌<◌, length, arith}
+use Rattle.std.proofs.Common.{◌+◌, arith}
 use Rattle.std.proofs.lemmas.Bool.{eq-eqb, ne_eqb}
 use Rattle.ffa_trace.proofs.NumberFronts.{four_longer, fits, last_front, more_front, on_at}
 use Rattle.ffa_trace.proofs.line.read_front.Goals as goal

@@ -2,9 +2,9 @@ use Rattle.std.proofs.Common.{length}
 use Rattle.ffa_trace.proofs.Feeds.{Taking}
 use Rattle.ffa_trace.proofs.player.feed.Given as goal
 
-abbrev pub invariant-loop-end : goal.invariant-loop-end
-invariant-loop-end g l =
+abbrev pub invariant-loop-number : goal.invariant-loop-number
+invariant-loop-number g l =
     Taking l.fn.machine.state l.machine.state (g.W.Write.contents l.fn.writer) (g.W.Write.contents l.writer) l.fn.number l.number l.fn.begun.items l.fn.bytes l.begun.items l.rest
 
-abbrev pub decreases-loop-end : goal.decreases-loop-end
-decreases-loop-end g l = length l.rest
+abbrev pub decreases-loop-number : goal.decreases-loop-number
+decreases-loop-number g l = length l.rest
