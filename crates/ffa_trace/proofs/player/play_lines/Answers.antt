@@ -1,8 +1,11 @@
 use Rattle.std.proofs.Common.{◌≡◌, vec_len, sym, ◌∙◌, arith}
 use Rattle.std.proofs.lemmas.Bool.{eqb-true}
 use Rattle.std.proofs.lemmas.Result.{err_from_is_err_and}
-use Rattle.ffa_trace.proofs.Plays.{block_more, block_failed, all_played}
+use Rattle.ffa_trace.proofs.Plays.{playing_none, block_more, block_failed, all_played}
 use Rattle.ffa_trace.proofs.player.play_lines.Goals as goal
+
+pub loop-init : goal.loop-init
+loop-init g c = rw c.new-begun.ensures.items (playing_none _ _ _)
 
 pub returns-in_err-feed-in-Ok : goal.returns-in_err-feed-in-Ok
 returns-in_err-feed-in-Ok g c =
