@@ -67,7 +67,7 @@ fn lines_behind(alloc: Global, row: &Row, printed: usize) -> Result<&[u8], Fail>
     for line in row.trace.split_inclusive('\n') {
         if written.len() < printed {
             player.play(alloc, &mut line.as_bytes(), &mut written)?;
-            done += line.len();
+            done = usize::saturating_add(done, line.len());
         }
     }
     Ok(row.trace.as_bytes().get(done..).unwrap_or(&[]))
@@ -119,7 +119,7 @@ fn places_of_refusal(
         let stopped = refused_at(rt, alloc, row, room)?;
         if stopped.is_some() && stopped != last {
             assert!(rt; last < stopped, "{room}");
-            places += 1;
+            places = u32::saturating_add(places, 1);
             last = stopped;
         }
     }
@@ -127,7 +127,7 @@ fn places_of_refusal(
     Ok(places)
 }
 
-// The room for a line grows from 8 to 16 and 32 bytes: in the first line that is longer than each.
+// The room for a line grows to 8, 16, 32 and 64 bytes in the first line, which is as long as any.
 #[test]
 fn a_lend_or_no_memory(rt: HostRuntime) -> Result<(), Fail> {
     let alloc = rt.alloc();
@@ -136,7 +136,7 @@ fn a_lend_or_no_memory(rt: HostRuntime) -> Result<(), Fail> {
         row.add(part)?;
     }
     let places = places_of_refusal(&rt, alloc, &row, 256)?;
-    assert!(rt; 0 < places, "{places}");
+    assert_eq!(rt; places, 1);
     Ok(())
 }
 

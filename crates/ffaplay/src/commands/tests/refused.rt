@@ -17,7 +17,7 @@ const PAGES: usize = 512 * 4096;
 
 const LIST: usize = 512 * 16;
 
-// What the player takes at most: the room for a line of up to 31 bytes, before it grows and after.
+// What the player takes at most: the room for a line of up to 33 bytes, before it grows and after.
 const LINE: usize = 256;
 
 // The partition 8001 lends a page to 8002, which retrieves it, and asks for it once more.
