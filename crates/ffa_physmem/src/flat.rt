@@ -3,7 +3,7 @@ ghost use Rattle.std.specs.Prelude.{◌≡◌, ℕ, ◌+◌, ◌*◌, ◌%◌, �
 
 use crate::memory::PhysMem;
 use ffa_model::PageNo;
-use std::alloc::{AllocError, Global};
+use std::alloc::{AllocError, Allocator, Global};
 use std::fmt;
 
 /// There is no memory for this much RAM.
@@ -30,9 +30,9 @@ impl From<AllocError> for NoMemory {
 
 /// RAM in one piece.
 #[derive(Drop)]
-pub struct FlatRam {
+pub struct FlatRam<A: Allocator = Global> {
     base: u32,
-    pages: Vec<[u8; 4096]>,
+    pages: Vec<[u8; 4096], A>,
     ghost aligned: { base % 4096 ≡ 0 },
     ghost fits: { base + 4096 * vec_len pages ≤ 2 ^ 32 },
 }
@@ -47,13 +47,27 @@ impl FlatRam {
         requires fits { base + 4096 * pages ≤ 2 ^ 32 }
         ensures { IfOk result (λ m. ⟦<FlatRam as PhysMem>⟧.ram m ≡ zero_ram base pages) }
     {
+        FlatRam::new_in(alloc, base, pages)
+    }
+}
+
+impl<A: Allocator> FlatRam<A> {
+    ghost use Rattle.ffa_model.specs.Ram.{zero_ram};
+
+    /// RAM as `new` makes it, over any allocator. `NoMemory` comes only where that refuses.
+    pub fn new_in(alloc: A, base: u32, pages: u32) -> Result<FlatRam<A>, NoMemory>
+        requires aligned { base % 4096 ≡ 0 }
+        requires some { 1 ≤ pages }
+        requires fits { base + 4096 * pages ≤ 2 ^ 32 }
+        ensures { IfOk result (λ m. ⟦<FlatRam<A> as PhysMem>⟧.ram m ≡ zero_ram base pages) }
+    {
         let pages = zero_pages(alloc, pages)?;
         Ok(FlatRam { base, pages })
     }
 }
 
 // Pages of zeros.
-fn zero_pages(alloc: Global, count: u32) -> Result<Vec<[u8; 4096]>, AllocError>
+fn zero_pages<A: Allocator>(alloc: A, count: u32) -> Result<Vec<[u8; 4096], A>, AllocError>
     ensures { IfOk result (λ v. v.items ≡ replicate count (replicate 4096 0)) }
 {
     let mut pages = Vec::with_capacity(alloc, count as usize)?;
@@ -63,7 +77,7 @@ fn zero_pages(alloc: Global, count: u32) -> Result<Vec<[u8; 4096]>, AllocError>
     Ok(pages)
 }
 
-impl PhysMem for FlatRam {
+impl<A: Allocator> PhysMem for FlatRam<A> {
     ghost use Rattle.std.specs.Prelude.{refl};
     ghost use Rattle.std.specs.Vec.{with_item};
 

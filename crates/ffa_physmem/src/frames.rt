@@ -8,9 +8,9 @@ use std::alloc::{AllocError, Allocator, Global};
 
 /// RAM in frames of one page each, which need not lie side by side in memory.
 #[derive(Drop)]
-pub struct FrameRam {
+pub struct FrameRam<A: Allocator = Global> {
     base: u32,
-    frames: Vec<Box<[u8; 4096]>>,
+    frames: Vec<Box<[u8; 4096], A>, A>,
     ghost aligned: { base % 4096 ≡ 0 },
     ghost fits: { base + 4096 * vec_len frames ≤ 2 ^ 32 },
 }
@@ -25,6 +25,21 @@ impl FrameRam {
         requires some { 1 ≤ pages }
         requires fits { base + 4096 * pages ≤ 2 ^ 32 }
         ensures { IfOk result (λ m. ⟦<FrameRam as PhysMem>⟧.ram m ≡ zero_ram base pages) }
+    {
+        FrameRam::new_in(alloc, base, pages)
+    }
+}
+
+impl<A: Allocator + Copy> FrameRam<A> {
+    ghost use Rattle.ffa_model.specs.Ram.{zero_ram};
+
+    /// RAM as `new` makes it, over any allocator. `NoMemory` comes only where that refuses, and then all that was taken
+    /// is given back.
+    pub fn new_in(alloc: A, base: u32, pages: u32) -> Result<FrameRam<A>, NoMemory>
+        requires aligned { base % 4096 ≡ 0 }
+        requires some { 1 ≤ pages }
+        requires fits { base + 4096 * pages ≤ 2 ^ 32 }
+        ensures { IfOk result (λ m. ⟦<FrameRam<A> as PhysMem>⟧.ram m ≡ zero_ram base pages) }
     {
         let frames = zero_frames(alloc, pages)?;
         Ok(FrameRam { base, frames })
@@ -45,7 +60,7 @@ pub fn zero_frames<A: Allocator + Copy>(
     Ok(frames)
 }
 
-impl PhysMem for FrameRam {
+impl<A: Allocator> PhysMem for FrameRam<A> {
     ghost use Rattle.ffa_physmem.specs.FrameRam.{ram_of, with_frame, ram_of-with_frame};
 
     ghost ram = { ram_of };

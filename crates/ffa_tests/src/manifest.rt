@@ -53,7 +53,8 @@ fn the_row_machine(rt: HostRuntime) -> Result<(), Fail> {
     Ok(())
 }
 
-// With the tool's option that makes the Nth allocation fail, for each N in turn.
+// For the tool's option that makes the Nth allocation fail (`rt try --test --fail-alloc N`). The script
+// tests/refused-memory refuses the built program each of them.
 #[test]
 fn whole_or_no_memory(rt: HostRuntime) {
     match read(rt.alloc(), ROW) {

@@ -4,7 +4,7 @@ ghost use Rattle.ffa_model.specs.Ram.{zero_ram};
 
 use ffa_model::PageNo;
 use ffa_physmem::frames::zero_frames;
-use ffa_physmem::{FlatRam, FrameRam, PhysMem};
+use ffa_physmem::{FlatRam, FrameRam, NoMemory, PhysMem};
 use linked_list_allocator::LocalHeap;
 use std::process::Abort;
 use std::test::Fail;
@@ -54,6 +54,43 @@ fn whole_or_given_back(rt: HostRuntime) -> Result<(), Fail> {
         assert_eq!(rt; heap.used() == 0, made.is_err());
         drop(made);
         assert_eq!(rt; heap.used(), 0);
+    }
+    Ok(())
+}
+
+// RAM of three pages, all zeros, where there is room for it, or no memory; and nothing is kept of RAM that is refused.
+fn zeros_or_no_memory<M: PhysMem + Drop>(
+    rt: &impl Abort,
+    heap: &LocalHeap,
+    made: Result<M, NoMemory>,
+) {
+    match made {
+        Ok(ram) => {
+            assert!(rt; 3 * 4096 <= heap.used());
+            assert_eq!(rt; (ram.base(), ram.pages()), (0x4000_0000, 3));
+            for page in 0..ram.pages() {
+                assert!(rt; ram.page(PageNo(page)).iter().all(|byte| *byte == 0));
+            }
+        }
+        Err(NoMemory) => {
+            assert!(rt; heap.size() < 3 * 4096 + 48);
+            assert_eq!(rt; heap.used(), 0);
+        }
+    }
+    assert_eq!(rt; heap.used(), 0);
+}
+
+// Each allocation of RAM is refused in turn: its one piece, and its list of frames and each frame.
+#[test]
+fn ram_is_zeros_or_refused(rt: HostRuntime) -> Result<(), Fail> {
+    for room in [16, 64, 4096 + 64, 8192 + 64, 12288, 12288 + 48] {
+        let heap = LocalHeap::new(rt.alloc(), room)?;
+        let flat = FlatRam::new_in(&heap, 0x4000_0000, 3);
+        assert_eq!(rt; flat.is_ok(), 12288 <= room);
+        zeros_or_no_memory(&rt, &heap, flat);
+        let frames = FrameRam::new_in(&heap, 0x4000_0000, 3);
+        assert_eq!(rt; frames.is_ok(), 12288 + 48 <= room);
+        zeros_or_no_memory(&rt, &heap, frames);
     }
     Ok(())
 }

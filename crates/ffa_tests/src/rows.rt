@@ -11,6 +11,7 @@ use ffa_physmem::{FlatRam, FrameRam, PhysMem};
 use ffa_spmc::Machine;
 use ffa_tlb::{InTurn, NoTlb, Tlb, Translations};
 use ffa_trace::Player;
+use linked_list_allocator::LocalHeap;
 use std::alloc::Global;
 use std::process::Abort;
 use std::test::Fail;
@@ -23,6 +24,9 @@ mod memory;
 
 // Notifications.
 mod notifications;
+
+// Rows where memory is short.
+mod refused;
 
 // Calls on memory, looked at after each write.
 mod watched;
@@ -59,12 +63,14 @@ impl Row {
         Ok(())
     }
 
-    // Plays the trace on fresh machines: in RAM of each kind, without a cache and with one, it prints the text.
+    // Plays the trace on fresh machines: in RAM of each kind, without a cache and with one, it prints the text, and so it
+    // does where every allocation after boot is refused.
     fn check(&self, rt: &impl Abort, alloc: Global) -> Result<(), Fail> {
         self.check_in(rt, alloc, flat_ram(alloc)?, NoTlb)?;
         self.check_in(rt, alloc, flat_ram(alloc)?, four_in_turn())?;
         self.check_in(rt, alloc, frame_ram(alloc)?, NoTlb)?;
-        self.check_in(rt, alloc, frame_ram(alloc)?, four_in_turn())
+        self.check_in(rt, alloc, frame_ram(alloc)?, four_in_turn())?;
+        refused::check_after_boot(rt, alloc, self)
     }
 
     // Plays the trace on a fresh machine in this RAM, with this cache.

@@ -17,7 +17,7 @@ use ffa_physmem::PhysMem;
 use ffa_spmc::Machine;
 use ffa_tlb::{NoTlb, Translations};
 use memchr::memchr;
-use std::alloc::Global;
+use std::alloc::{Allocator, Global};
 use std::io::{Read, Write};
 use std::marker::Model;
 
@@ -66,15 +66,27 @@ impl<M: PhysMem + Drop, T: Translations + Drop> Player<M, T> {
     ) -> Result<(), PlayError>
         ensures { Played self.old.state self.new.state (W.contents writer.old) (W.contents writer.new) (R.remaining reader.old) (R.remaining reader.new) result }
     {
+        self.play_in(alloc, reader, writer)
+    }
+
+    /// Plays as `play` does, with memory of any allocator.
+    pub fn play_in<A: Allocator, R: Read, W: Write>(
+        &mut self,
+        alloc: A,
+        reader: &mut R,
+        writer: &mut W,
+    ) -> Result<(), PlayError>
+        ensures { Played self.old.state self.new.state (W.contents writer.old) (W.contents writer.new) (R.remaining reader.old) (R.remaining reader.new) result }
+    {
         play_lines(&mut self.machine, alloc, reader, writer)
     }
 }
 
 // Not inlined: the block would lie on the stack while the caller boots the machine.
 #[inline(never)]
-fn play_lines<M: PhysMem + Drop, T: Translations + Drop, R: Read, W: Write>(
+fn play_lines<M: PhysMem + Drop, T: Translations + Drop, A: Allocator, R: Read, W: Write>(
     machine: &mut Machine<M, T>,
-    alloc: Global,
+    alloc: A,
     reader: &mut R,
     writer: &mut W,
 ) -> Result<(), PlayError>
@@ -96,10 +108,10 @@ fn play_lines<M: PhysMem + Drop, T: Translations + Drop, R: Read, W: Write>(
 
 // Takes bytes that were read: `begun` are those of the line that hasn't ended, and `number` is its number. The last number
 // is that of no line, so bytes behind the lines that can be counted are those of an input that is too long.
-fn feed<M: PhysMem + Drop, T: Translations + Drop, W: Write>(
+fn feed<M: PhysMem + Drop, T: Translations + Drop, A: Allocator, W: Write>(
     machine: &mut Machine<M, T>,
     writer: &mut W,
-    begun: &mut Vec<u8>,
+    begun: &mut Vec<u8, A>,
     number: &mut u64,
     bytes: &[u8],
 ) -> Result<(), PlayError>
@@ -130,7 +142,7 @@ fn first_feed(bytes: &[u8]) -> Option<usize>
     memchr(b'\n', bytes)
 }
 
-fn keep(begun: &mut Vec<u8>, bytes: &[u8]) -> Result<(), PlayError>
+fn keep<A: Allocator>(begun: &mut Vec<u8, A>, bytes: &[u8]) -> Result<(), PlayError>
     ensures { Kept begun.old.items begun.new.items bytes.now result }
 {
     begun
@@ -139,10 +151,10 @@ fn keep(begun: &mut Vec<u8>, bytes: &[u8]) -> Result<(), PlayError>
 }
 
 // Does the line that begins with `begun` and ends with `piece`. A line that lies in one block isn't copied.
-fn end_line<M: PhysMem + Drop, T: Translations + Drop, W: Write>(
+fn end_line<M: PhysMem + Drop, T: Translations + Drop, A: Allocator, W: Write>(
     machine: &mut Machine<M, T>,
     writer: &mut W,
-    begun: &mut Vec<u8>,
+    begun: &mut Vec<u8, A>,
     number: u64,
     piece: &[u8],
 ) -> Result<(), PlayError>

@@ -17,7 +17,7 @@ use ffa_spmc::Machine;
 use ffa_tlb::{InTurn, NoTlb, Tlb, Translations};
 use ffa_trace::text::Text;
 use ffa_trace::{PlayError, Player, output};
-use std::alloc::Global;
+use std::alloc::{Allocator, Global};
 use std::fmt::Display;
 use std::io::{Read, Write};
 use thiserror::Error;
@@ -83,7 +83,29 @@ pub fn perform<R: Read + Drop, W: Write, E: Write>(
     ensures quiet { result ≡ 0 → Keeps (E.contents err.old) (E.contents err.new) }
     ensures status { result ≤ 3 }
 {
-    match do_request(alloc, request, manifest, trace, out) {
+    perform_in(alloc, alloc, request, manifest, trace, out, err)
+}
+
+/// Performs as `perform` does, with memory of any allocator for RAM and for what plays a trace. A manifest is read with
+/// the memory of `manifests`.
+pub fn perform_in<A: Allocator + Copy, R: Read + Drop, W: Write, E: Write>(
+    manifests: Global,
+    alloc: A,
+    request: &Request<'_>,
+    manifest: Option<&[u8]>,
+    trace: Option<R>,
+    out: &mut W,
+    err: &mut E,
+) -> u8
+    ensures done { result ≡ 0 → IsDone request.now (option_map (λ bytes. bytes.now) manifest.entry) (option_and_then (λ reader. R.remaining reader) trace) (W.contents out.old) (W.contents out.new) }
+    ensures read { result ≡ 0 → needs_trace request.now ≡ true → is_some trace ≡ true }
+    ensures refused { result ≡ 1 → SomeCause (option_map (λ bytes. bytes.now) manifest.entry) × Keeps (W.contents out.old) (W.contents out.new) }
+    ensures named { result ≡ 1 → needs_manifest request.now ≡ true }
+    ensures bad { result ≡ 2 → (is_some trace ≡ true) × SomeBadLine request.now (option_map (λ bytes. bytes.now) manifest.entry) (option_and_then (λ reader. R.remaining reader) trace) (W.contents out.old) (W.contents out.new) }
+    ensures quiet { result ≡ 0 → Keeps (E.contents err.old) (E.contents err.new) }
+    ensures status { result ≤ 3 }
+{
+    match do_request(manifests, alloc, request, manifest, trace, out) {
         Ok(()) => 0,
         Err(failure) => tell(err, &failure),
     }
@@ -114,8 +136,9 @@ fn tell<E: Write>(err: &mut E, failure: &Failure<'_>) -> u8
 
 // Does what was asked for, and flushes what it wrote. Where that fails, a command isn't done, and no bad line is told of,
 // since the text of the lines before it is lost. Another failure was found before, and stays.
-fn do_request<'a, R: Read + Drop, W: Write>(
-    alloc: Global,
+fn do_request<'a, A: Allocator + Copy, R: Read + Drop, W: Write>(
+    manifests: Global,
+    alloc: A,
     request: &Request<'a>,
     manifest: Option<&[u8]>,
     trace: Option<R>,
@@ -126,7 +149,7 @@ fn do_request<'a, R: Read + Drop, W: Write>(
     ensures failed { IfErr result (FailsFor request.now (option_map (λ bytes. bytes.now) manifest.entry) (option_and_then (λ reader. R.remaining reader) trace) (W.contents out.old) (W.contents out.new)) }
     ensures read_bad { IfErr result (IsRead (is_some trace)) }
 {
-    let done = do_command(alloc, request, manifest, trace, out);
+    let done = do_command(manifests, alloc, request, manifest, trace, out);
     let flushed = out.flush();
     match done {
         Ok(()) | Err(Failure::BadLine(_)) if flushed.is_err() => Err(Failure::Write),
@@ -134,8 +157,9 @@ fn do_request<'a, R: Read + Drop, W: Write>(
     }
 }
 
-fn do_command<'a, R: Read + Drop, W: Write>(
-    alloc: Global,
+fn do_command<'a, A: Allocator + Copy, R: Read + Drop, W: Write>(
+    manifests: Global,
+    alloc: A,
     request: &Request<'a>,
     manifest: Option<&[u8]>,
     trace: Option<R>,
@@ -153,7 +177,7 @@ fn do_command<'a, R: Read + Drop, W: Write>(
             frames,
             tlb,
         } => {
-            let manifest = read_manifest(alloc, path, manifest)?;
+            let manifest = read_manifest(manifests, path, manifest)?;
             play(alloc, &manifest, frames, tlb, trace_path, trace, out)
         }
         Request::Demo {
@@ -161,8 +185,8 @@ fn do_command<'a, R: Read + Drop, W: Write>(
             frames,
             tlb,
         } => play(alloc, &built_in(), frames, tlb, path, trace, out),
-        Request::Check { manifest: path } => accept(alloc, path, manifest, out),
-        Request::Layout { manifest: path } => lay_out(alloc, path, manifest, out),
+        Request::Check { manifest: path } => accept(manifests, path, manifest, out),
+        Request::Layout { manifest: path } => lay_out(manifests, path, manifest, out),
     }
 }
 
@@ -217,8 +241,8 @@ fn read_manifest<'a>(
 }
 
 // Plays a trace on a machine with RAM in frames or in one piece, and with a cache of translations or none.
-fn play<'a, R: Read + Drop, W: Write>(
-    alloc: Global,
+fn play<'a, A: Allocator + Copy, R: Read + Drop, W: Write>(
+    alloc: A,
     manifest: &Manifest,
     frames: bool,
     tlb: bool,
@@ -237,17 +261,17 @@ fn play<'a, R: Read + Drop, W: Write>(
     };
     let (base, pages) = (manifest.ram_base, 512 * manifest.ram_blocks);
     if frames {
-        let ram = FrameRam::new(alloc, base, pages).map_err(|_| Failure::NoMemory)?;
+        let ram = FrameRam::new_in(alloc, base, pages).map_err(|_| Failure::NoMemory)?;
         play_on(alloc, manifest, ram, tlb, path, &mut trace, out)
     } else {
-        let ram = FlatRam::new(alloc, base, pages).map_err(|_| Failure::NoMemory)?;
+        let ram = FlatRam::new_in(alloc, base, pages).map_err(|_| Failure::NoMemory)?;
         play_on(alloc, manifest, ram, tlb, path, &mut trace, out)
     }
 }
 
 // Plays a trace on a machine that boots in this RAM, which is all zeros, with a cache of translations or none.
-fn play_on<'a, M: PhysMem + Drop, R: Read, W: Write>(
-    alloc: Global,
+fn play_on<'a, A: Allocator, M: PhysMem + Drop, R: Read, W: Write>(
+    alloc: A,
     manifest: &Manifest,
     ram: M,
     tlb: bool,
@@ -268,8 +292,8 @@ fn play_on<'a, M: PhysMem + Drop, R: Read, W: Write>(
 }
 
 // Plays a trace on a machine that boots in this RAM, which is all zeros, with this cache.
-fn play_in<'a, M: PhysMem + Drop, T: Translations + Drop, R: Read, W: Write>(
-    alloc: Global,
+fn play_in<'a, A: Allocator, M: PhysMem + Drop, T: Translations + Drop, R: Read, W: Write>(
+    alloc: A,
     manifest: &Manifest,
     ram: M,
     cache: T,
@@ -282,7 +306,7 @@ fn play_in<'a, M: PhysMem + Drop, T: Translations + Drop, R: Read, W: Write>(
     ensures failed { IfErr result (PlayFails (first_of (parts_of manifest.now)) (R.remaining trace.old) (W.contents out.old) (W.contents out.new)) }
 {
     let mut player = Player::new(Machine::boot_cleared(manifest, ram, cache));
-    match player.play(alloc, trace, out) {
+    match player.play_in(alloc, trace, out) {
         Ok(()) => Ok(()),
         Err(error) => Err(why(path, error)),
     }

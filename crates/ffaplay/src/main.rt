@@ -4,7 +4,7 @@
 mod commands;
 pub mod layout;
 
-pub use commands::{perform, show};
+pub use commands::{perform, perform_in, show};
 use ffa_command::ErrorKind;
 pub use ffa_command::{Request, request};
 use std::alloc::AllocError;

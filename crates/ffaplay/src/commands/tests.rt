@@ -9,6 +9,8 @@ use std::test::Fail;
 mod blocks;
 // The worked example of the manual.
 mod manual;
+// Memory that is refused.
+mod refused;
 
 // A machine with two partitions.
 const ROW: &str = "ram_base = 0x40000000
@@ -67,6 +69,12 @@ const CHECK: Request<'static> = Request::Check {
 const LAYOUT: Request<'static> = Request::Layout {
     manifest: "row.toml",
 };
+
+// A first trace, and what it prints on the built-in machine.
+const FIRST: &str = "call 84000069\nstore 40010000 2A\nload 40010000 1\nload 40020000 1\nshow\n";
+
+const FIRST_TEXT: &str =
+    "regs 0000 0000000084000061 0000000000000000 0000000000000000 0000000000000000 0000000000000000 0000000000000000 0000000000000000 0000000000000000\ndone\ndata 2A\nfault translation\nrunner 0000\npages 40000000 4000FFFF 8000 --- ---\npages 40010000 4001FFFF 0000 rw- ---\npages 40020000 4002FFFF 8001 --- rwx\npages 40030000 401FFFFF 8000 --- ---\n";
 
 // How a command ended, with what it wrote.
 #[derive(Debug, PartialEq, Drop)]
@@ -133,11 +141,8 @@ fn wanted(alloc: Global, status: u8, out: &str, err: &str) -> Result<[Ended; 4],
 
 #[test]
 fn demonstrates(rt: HostRuntime) -> Result<(), Fail> {
-    let trace = "call 84000069\nstore 40010000 2A\nload 40010000 1\nload 40020000 1\nshow\n";
-    let text =
-        "regs 0000 0000000084000061 0000000000000000 0000000000000000 0000000000000000 0000000000000000 0000000000000000 0000000000000000 0000000000000000\ndone\ndata 2A\nfault translation\nrunner 0000\npages 40000000 4000FFFF 8000 --- ---\npages 40010000 4001FFFF 0000 rw- ---\npages 40020000 4002FFFF 8001 --- rwx\npages 40030000 401FFFFF 8000 --- ---\n";
-    let got = performed(rt.alloc(), &DEMO, None, Some(trace));
-    assert_eq!(rt; got, wanted(rt.alloc(), 0, text, "")?);
+    let got = performed(rt.alloc(), &DEMO, None, Some(FIRST));
+    assert_eq!(rt; got, wanted(rt.alloc(), 0, FIRST_TEXT, "")?);
     Ok(())
 }
 
@@ -387,7 +392,8 @@ fn shows_help(rt: HostRuntime) -> Result<(), Fail> {
     Ok(())
 }
 
-// With the tool's option that makes the Nth allocation fail, for each N in turn.
+// For the tool's option that makes the Nth allocation fail (`rt try --test --fail-alloc N`). The script
+// tests/refused-memory refuses the built program each of them.
 #[test]
 fn whole_or_no_memory(rt: HostRuntime) -> Result<(), Fail> {
     let trace = Some("load 40010000 1\n");

@@ -3,4 +3,4 @@ use Rattle.ffa_physmem.proofs.flat.zero_pages.Given as goal
 
 -- the pages so far
 abbrev pub invariant-loop-index : goal.invariant-loop-index
-invariant-loop-index l = l.pages.items ≡ replicate l._index (replicate 4096 0)
+invariant-loop-index g l = l.pages.items ≡ replicate l._index (replicate 4096 0)

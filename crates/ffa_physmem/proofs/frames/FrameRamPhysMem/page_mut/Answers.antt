@@ -3,7 +3,7 @@ use Rattle.ffa_physmem.proofs.Boxes.{page_of-there, with_frame-there}
 use Rattle.ffa_physmem.proofs.frames.FrameRamPhysMem.page_mut.Goals as goal
 
 pub returns : goal.returns
-returns c =
+returns g c =
     let held = page_of-there c.args.self.now c.args.page.0 c.index_mut.result.now c.requires c.index_mut.ensures.value in
     let written = with_frame-there c.args.self.now c.args.page.0 c.index_mut.result.now c.requires c.index_mut.ensures.value in
     ((refl, λ w. written w _ _), record { value = c.as_mut.ensures.value ∙ sym held; writes_back = tt })
