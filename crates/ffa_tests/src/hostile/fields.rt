@@ -213,7 +213,7 @@ fn fields_of_a_relinquish(rt: HostRuntime) -> Result<(), Fail> {
     let words = stage.retrieve_words();
     stage.put_words(&words);
     stage.compare(&rt, call(RETRIEVE, 64, 64));
-    stage.put_words(&[stage.scene.open.handle, 1 << 32, 0x8002]);
+    stage.put_words(&[OFFERED.handle, 1 << 32, 0x8002]);
     let fields = [
         field_at(0, Size::B8, 0x8001_0000_0001),
         field_at(8, Size::B4, 1),

@@ -143,9 +143,10 @@ impl Stage {
             Size::B4 => 4,
             Size::B8 => 8,
         };
+        let bytes = value.to_le_bytes();
         if let Some(rest) = self.tx.get_mut(at as usize..) {
-            for (to, from) in rest.iter_mut().zip(value.to_le_bytes()).take(count) {
-                *to = from;
+            for (to, from) in rest.iter_mut().zip(bytes.as_slice()).take(count) {
+                *to = *from;
             }
         }
         self.operate(Op::Store {
