@@ -9,6 +9,8 @@ mod command;
 #[cfg(test)]
 mod direct_messages;
 #[cfg(test)]
+mod hostile;
+#[cfg(test)]
 mod indirect_messages;
 #[cfg(test)]
 mod manifest;

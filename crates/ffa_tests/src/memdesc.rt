@@ -14,7 +14,7 @@ use std::process::Abort;
 use std::test::Fail;
 
 /// 8001 lends the page at 40021000 to 8002, which may write it.
-const LEND: [u64; 12] = [
+pub(crate) const LEND: [u64; 12] = [
     0x8001,
     0,
     0,
@@ -30,7 +30,7 @@ const LEND: [u64; 12] = [
 ];
 
 /// 8001 shares the page at 40022000 with 0 and 8002, which may read it.
-const SHARE: [u64; 14] = [
+pub(crate) const SHARE: [u64; 14] = [
     0x2f_8001,
     0,
     0,
@@ -48,7 +48,7 @@ const SHARE: [u64; 14] = [
 ];
 
 /// 8002 donates the page at 40031000 to 8001.
-const DONATE: [u64; 12] = [
+pub(crate) const DONATE: [u64; 12] = [
     0x8002,
     0,
     0,

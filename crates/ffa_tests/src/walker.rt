@@ -3,7 +3,7 @@ ghost use Rattle.std.specs.Prelude.{◌≡◌, IfOk, true};
 ghost use Rattle.ffa_model.specs.Walk.{is_page_address};
 
 use ffa_model::{PageNo, Size};
-use ffa_physmem::{FlatRam, NoMemory, PhysMem};
+use ffa_physmem::{FlatRam, FrameRam, NoMemory, PhysMem};
 use ffa_walker::{FaultKind, Leaf, fetch, load, store, translate};
 use std::alloc::Global;
 use std::test::Fail;
@@ -17,6 +17,16 @@ fn ram_with_word(alloc: Global, word: u64) -> Result<FlatRam, NoMemory>
     ensures { IfOk result (λ memory. is_page_address (⟦<FlatRam as PhysMem>⟧.ram memory) 0x40000000 ≡ true) }
 {
     let mut memory = FlatRam::new(alloc, BASE, 512)?;
+    memory.write_word(PageNo(0), 1, word);
+    memory.write_word(PageNo(1), 0x46, 0x0807_065a_0403_0201);
+    Ok(memory)
+}
+
+// The same in RAM of frames.
+fn frames_with_word(alloc: Global, word: u64) -> Result<FrameRam, NoMemory>
+    ensures { IfOk result (λ memory. is_page_address (⟦<FrameRam as PhysMem>⟧.ram memory) 0x40000000 ≡ true) }
+{
+    let mut memory = FrameRam::new(alloc, BASE, 512)?;
     memory.write_word(PageNo(0), 1, word);
     memory.write_word(PageNo(1), 0x46, 0x0807_065a_0403_0201);
     Ok(memory)
@@ -57,6 +67,9 @@ fn walks_any_word(rt: HostRuntime) -> Result<(), Fail> {
         let memory = ram_with_word(rt.alloc(), word)?;
         assert_eq!(rt; translate(&memory, BASE, ADDRESS), leaf, "{word:x}");
         assert_eq!(rt; load(&memory, BASE, ADDRESS, Size::B1), byte, "{word:x}");
+        let frames = frames_with_word(rt.alloc(), word)?;
+        assert_eq!(rt; translate(&frames, BASE, ADDRESS), leaf, "{word:x}");
+        assert_eq!(rt; load(&frames, BASE, ADDRESS, Size::B1), byte, "{word:x}");
     }
     Ok(())
 }
