@@ -4,6 +4,9 @@
 //!
 //! Each word of a table is a write of its own here, and no page of tables is lent by `page_mut`: of a loan a look would see
 //! all words at once. One page is lent in a retrieve, its caller's RX.
+ghost use Rattle.std.specs.Prelude.{◌≡◌, ◌*◌, IfOk};
+ghost use Rattle.ffa_model.specs.Ram.{zero_ram};
+
 use super::memory::{MAPPED, RETRIEVE, TO_FIRST, TO_SECOND};
 use super::*;
 use ffa_manifest::read;
