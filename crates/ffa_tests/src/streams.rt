@@ -66,7 +66,7 @@ const KINDS: [ErrorKind; 42] = [
     ErrorKind::Uncategorized,
 ];
 
-// How a stream stops: it fails, or gives or takes nothing. It does so once, and would then go on.
+// How a stream stops: it fails, or gives or takes nothing. It does so once, and goes on where it is asked again.
 type Stop = Option<ErrorKind>;
 
 fn stopped(stop: Stop) -> io::Result<usize>
@@ -110,9 +110,12 @@ impl Read for Source<'_> {
         self.astray = self.astray.saturating_add(usize::from(self.has_stopped));
         let count = buf.len().min(self.bytes.len()).min(self.most);
         if count == 0 {
+            let stop = self.stop;
+            self.stop = None;
             self.bytes = self.rest;
+            self.rest = &[];
             self.has_stopped = true;
-            return stopped(self.stop);
+            return stopped(stop);
         }
         let (front, rest) = self.bytes.split_at(count);
         buf[..count].copy_from_slice(front);
