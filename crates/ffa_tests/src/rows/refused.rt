@@ -1,10 +1,11 @@
 //! Rows where memory is short: none is left after boot, or each growth of the room for a line that comes in pieces is
 //! refused in turn.
-ghost use Rattle.std.specs.Prelude.{◌≡◌};
+ghost use Rattle.std.specs.Prelude.{◌≡◌, ◌*◌};
 ghost use Rattle.ffa_model.specs.Ram.{zero_ram};
 
 use super::memory::{LEND, MAPPED, RETRIEVE, RETRIEVED, TO_SECOND};
 use super::*;
+use ffa_model::Manifest;
 use ffa_trace::PlayError;
 use std::io;
 use std::io::Read;
@@ -18,12 +19,14 @@ const LIST: usize = 512 * 16;
 // Plays a row where every allocation after boot is refused: RAM fills the heap that it lies in, and the player has no
 // other.
 pub(super) fn check_after_boot(rt: &impl Abort, alloc: Global, row: &Row) -> Result<(), Fail> {
+    let manifest = row_machine();
+    let (base, pages) = (manifest.ram_base, 512 * manifest.ram_blocks);
     let heap = LocalHeap::new(alloc, PAGES)?;
-    let ram = FlatRam::new_in(&heap, 0x4000_0000, 512)?;
-    check_over(rt, alloc, row, &heap, ram, NoTlb)?;
+    let ram = FlatRam::new_in(&heap, base, pages)?;
+    check_over(rt, alloc, row, &heap, &manifest, ram, NoTlb)?;
     let heap = LocalHeap::new(alloc, PAGES + LIST)?;
-    let ram = FrameRam::new_in(&heap, 0x4000_0000, 512)?;
-    check_over(rt, alloc, row, &heap, ram, four_in_turn())
+    let ram = FrameRam::new_in(&heap, base, pages)?;
+    check_over(rt, alloc, row, &heap, &manifest, ram, four_in_turn())
 }
 
 fn check_over<M: PhysMem + Drop, T: Translations + Drop>(
@@ -31,13 +34,14 @@ fn check_over<M: PhysMem + Drop, T: Translations + Drop>(
     alloc: Global,
     row: &Row,
     heap: &LocalHeap,
+    manifest: &Manifest,
     ram: M,
     cache: T,
 ) -> Result<(), Fail>
-    requires { M.ram ram ≡ zero_ram 0x40000000 512 }
+    requires { M.ram ram ≡ zero_ram manifest.now.ram_base (512 * manifest.now.ram_blocks) }
 {
     assert!(rt; Box::new(heap, 0u8).is_err());
-    let mut player = machine(ram, cache);
+    let mut player = Player::new(Machine::boot_cleared(manifest, ram, cache));
     let mut written = Vec::with_capacity(alloc, row.text.len())?;
     player.play_in(heap, &mut row.trace.as_bytes(), &mut written)?;
     assert_eq!(rt; written.as_slice(), row.text.as_bytes());
