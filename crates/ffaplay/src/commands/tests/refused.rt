@@ -141,31 +141,32 @@ fn frames_or_no_memory(rt: HostRuntime) -> Result<(), Fail> {
     Ok(())
 }
 
+// A run with this manifest and without memory for RAM is refused with this message.
+fn assert_refused(
+    rt: &impl Abort,
+    alloc: Global,
+    manifest: &str,
+    message: &str,
+) -> Result<(), Fail> {
+    let heap = LocalHeap::new(alloc, 16)?;
+    let mut out = Vec::new(alloc);
+    let mut err = Vec::with_capacity(alloc, 64)?;
+    let (bytes, trace) = (manifest.as_bytes(), Some(LEND.as_bytes()));
+    let status = perform_in(alloc, &heap, &RUN, Some(bytes), trace, &mut out, &mut err);
+    assert_eq!(rt; status, 1);
+    assert_eq!(rt; err.as_slice(), message.as_bytes());
+    assert!(rt; out.is_empty());
+    Ok(())
+}
+
 // A manifest is refused before RAM is asked for.
 #[test]
 fn refuses_a_manifest_without_memory_for_ram(rt: HostRuntime) -> Result<(), Fail> {
     let alloc = rt.alloc();
     let overlapping = ROW.replacen(alloc, "0x40030000", "0x40028000", 1)?;
-    let heap = LocalHeap::new(alloc, 16)?;
-    for (manifest, message) in [
-        (
-            overlapping.as_str(),
-            "ffaplay: manifest: M13 RegionOverlap\n",
-        ),
-        (
-            "ram_base = 0x40000000\nram_blocks = 1\nendpoint = []\n",
-            "ffaplay: manifest: M8 EndpointCount\n",
-        ),
-    ] {
-        let mut out = Vec::new(alloc);
-        let mut err = Vec::with_capacity(alloc, 64)?;
-        let (bytes, trace) = (manifest.as_bytes(), Some(LEND.as_bytes()));
-        let status = perform_in(alloc, &heap, &RUN, Some(bytes), trace, &mut out, &mut err);
-        assert_eq!(rt; status, 1);
-        assert_eq!(rt;
-            (out.as_slice(), err.as_slice()),
-            (b"".as_slice(), message.as_bytes())
-        );
-    }
-    Ok(())
+    let message = "ffaplay: manifest: M13 RegionOverlap\n";
+    assert_refused(&rt, alloc, overlapping.as_str(), message)?;
+    let without_endpoints = "ram_base = 0x40000000\nram_blocks = 1\nendpoint = []\n";
+    let message = "ffaplay: manifest: M8 EndpointCount\n";
+    assert_refused(&rt, alloc, without_endpoints, message)
 }
