@@ -69,8 +69,7 @@ impl Row {
         self.check_in(rt, alloc, flat_ram(alloc)?, NoTlb)?;
         self.check_in(rt, alloc, flat_ram(alloc)?, four_in_turn())?;
         self.check_in(rt, alloc, frame_ram(alloc)?, NoTlb)?;
-        self.check_in(rt, alloc, frame_ram(alloc)?, four_in_turn())?;
-        refused::check_after_boot(rt, alloc, self)
+        self.check_in(rt, alloc, frame_ram(alloc)?, four_in_turn())
     }
 
     // Plays the trace on a fresh machine in this RAM, with this cache.
@@ -89,13 +88,14 @@ impl Row {
     }
 }
 
-// Plays a row of these parts.
+// Plays a row of these parts, also where every allocation after boot is refused: its trace is read in one piece.
 fn plays(rt: &impl Abort, alloc: Global, parts: &[&str]) -> Result<(), Fail> {
     let mut row = Row::new(alloc);
     for part in parts {
         row.add(part)?;
     }
-    row.check(rt, alloc)
+    row.check(rt, alloc)?;
+    refused::check_after_boot(rt, alloc, &row)
 }
 
 // RAM of either kind for the machine of the rows.
