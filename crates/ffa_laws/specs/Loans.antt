@@ -1,5 +1,6 @@
--- What stays of a loan, and what an offer says. A borrower that zeroes a loan as it gives it up leaves no trace of what it
--- wrote there, and the bytes in the pages of an offer don't reach a receiver that never retrieves it.
+-- What stays of a loan, and what an offer says. A borrower that stores into a loan, and by its next call zeroes it and gives
+-- it up, leaves no trace of what it stored; and the bytes in the pages of an offer make no difference to a receiver before
+-- it retrieves them.
 use Rattle.std.specs.Prelude.{◌≡◌, ◌≢◌, ℕ, Bool, true, false, List, [], ◌∷◌, ◌++◌, Some, None}
 use Rattle.std.specs.List.{list_all}
 use Rattle.std.specs.Option.{option_map_or}

@@ -87,8 +87,8 @@ pub fn confidential()
     ensures run { (s : State) (ops : List Op) → IsSteady s → AreApart s → RunConfidential s ops }
 {}
 
-/// What a borrower writes into a loan is forgotten once it gives the loan up with zeros: nothing that comes later depends on
-/// it, and nobody is told of it who doesn't hold the loan. And an offer says nothing of the bytes of its pages to a receiver
+/// What a borrower stores into a loan is forgotten where its next call gives the loan up with zeros: nothing that comes later
+/// depends on it, and nobody is told of it readably who doesn't hold the loan. And an offer says nothing of the bytes of its pages to a receiver
 /// that doesn't retrieve it.
 pub fn loans()
     ensures zeroed { (s : State) → IsSteady s → ZeroedIsForgotten s }
