@@ -286,7 +286,7 @@ impl<M: PhysMem + Drop, T: Translations + Drop> Machine<M, T> {
         // got no message into it.
         ensures run_integrity { RunIntegrity self.old.state ops.now }
 
-        // The runner may first write what it likes into a loan: after it has given the loan up with zeros, the state is
+        // Whatever the runner stores into a loan: after its next call, if that gives the loan up with zeros, the state is
         // the same, and so is all that an endpoint sees and reads that doesn't hold the loan.
         ensures forgotten_loans { ZeroedIsForgotten self.old.state }
     {
