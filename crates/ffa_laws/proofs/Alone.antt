@@ -17,7 +17,7 @@ use Rattle.ffa_model.specs.declared.call.Call.TheVariants.{PartitionInfoGet, Mem
 use Rattle.ffa_model.specs.declared.rights.Kind.{Kind}
 use Rattle.ffa_model.specs.declared.rights.Kind.TheVariants.{Share, Lend, Donate}
 use Rattle.ffa_model.specs.SendDescriptor.{SendRecord}
-use Rattle.ffa_model.specs.State.{State, Page, Transaction, is_known, page_at, owner_of, transaction_of}
+use Rattle.ffa_model.specs.State.{State, Page, Transaction, is_known, page_at, owner_of, transaction_of, version_of}
 use Rattle.ffa_model.specs.Access.{handle_at, names}
 use Rattle.ffa_model.specs.Buffers.{filled}
 use Rattle.ffa_model.specs.Calls.{first_failure}
@@ -83,7 +83,7 @@ module _ (s : State) (steady : IsSteady s) (e p : ℕ) (owned : owner_of s p ≡
       of (Some t) there = handle_at-reheld s steady d.handle t there (finite.remove t.held s.runner) p ∙ unnamed
 
   unnamed-service : (call : calls.Call) → first_failure (service s call).guards ≡ None → handle_at (service s call).state p ≡ None
-  unnamed-service (PartitionInfoGet uuid flags) none = elim (is_count_alone flags) as (λ b. handle_at (cond b s (filled s s.runner (info_bytes s.parties (uuid_bytes uuid)))) p ≡ None) [ true ↦ unnamed | false ↦ unnamed ]
+  unnamed-service (PartitionInfoGet uuid flags) none = elim (is_count_alone flags) as (λ b. handle_at (cond b s (filled s s.runner (info_bytes (version_of s s.runner) s.parties (uuid_bytes uuid)))) p ≡ None) [ true ↦ unnamed | false ↦ unnamed ]
   unnamed-service (MemDonate total fragment address pages) none = unnamed-sent Donate (transfer total fragment address pages) none
   unnamed-service (MemLend total fragment address pages) none = unnamed-sent Lend (transfer total fragment address pages) none
   unnamed-service (MemShare total fragment address pages) none = unnamed-sent Share (transfer total fragment address pages) none

@@ -16,18 +16,18 @@ use Rattle.ffa_model.specs.declared.call.Call.TheVariants.{PartitionInfoGet, Mem
 use Rattle.ffa_model.specs.declared.rights.Kind.{Kind}
 use Rattle.ffa_model.specs.declared.rights.Kind.TheVariants.{Share, Lend, Donate}
 use Rattle.ffa_model.specs.declared.transaction.Receiver.{Receiver}
-use Rattle.ffa_model.specs.DescriptorPlaces.{is_header, receiver_count, sender_field}
+use Rattle.ffa_model.specs.DescriptorPlaces.{Versioned, is_header, receiver_count, sender_field}
 use Rattle.ffa_model.specs.SendDescriptor.{SendRecord, holds_at_each, is_access_beside, is_composite, is_send_body, is_send_header, receiver_in, receivers_in, send_counted, send_in, send_of}
 use Rattle.ffa_model.specs.Lists.{listed}
 use Rattle.ffa_model.specs.First.{first}
-use Rattle.ffa_model.specs.State.{State, Transaction, transaction_of}
+use Rattle.ffa_model.specs.State.{State, Transaction, transaction_of, version_of}
 use Rattle.ffa_model.specs.Access.{is_receiver}
 use Rattle.ffa_model.specs.Buffers.{filled}
 use Rattle.ffa_model.specs.Calls.{first_failure}
 use Rattle.ffa_model.specs.Memory.{fetch_fault, number_at, read_fault, size_of, store_fault, stored}
 use Rattle.ffa_model.specs.MemoryRetrieve.{memory_retrieve}
 use Rattle.ffa_model.specs.MemoryReturn.{relinquish_read, relinquished, relinquished_from}
-use Rattle.ffa_model.specs.MemorySend.{memory_sent, send_read, transaction_from}
+use Rattle.ffa_model.specs.MemorySend.{descriptor_in, memory_sent, send_read, transaction_from}
 use Rattle.ffa_model.specs.Messages.{tx_bytes}
 use Rattle.ffa_model.specs.Registers.{decode}
 use Rattle.ffa_model.specs.Setup.{info_bytes, is_count_alone, uuid_bytes}
@@ -53,14 +53,14 @@ negated : (b : Bool) → not b ≡ true → b ≡ false
 negated true is = sym is
 negated false is = refl
 
-body-apart : (kind : Kind) (b : List ℕ) → is_send_body kind b ≡ true → list_any (λ (r : Receiver). r.endpoint.0 == sender_field b) (receivers_in b (receiver_count b)) ≡ false
+body-apart : (kind : Kind) (b : Versioned) → is_send_body kind b ≡ true → list_any (λ (r : Receiver). r.endpoint.0 == sender_field b) (receivers_in b (receiver_count b)) ≡ false
 unfolding is_send_body
 body-apart kind b is =
     let (lists, total) = and_parts _ _ is in
     let (accesses, ranges) = and_parts _ _ lists in
     nobody (sender_field b) (receiver_count b) (is_access_beside kind b) (receiver_in b) (λ i access. (let (one, distinct) = and_parts _ _ access in negated _ (and_parts _ _ one).1)) accesses
 
-pub descriptor-apart : (kind : Kind) (b : List ℕ) (r : SendRecord) → send_of kind b ≡ Some r → list_any (λ (x : Receiver). x.endpoint.0 == r.sender) r.receivers ≡ false
+pub descriptor-apart : (kind : Kind) (b : Versioned) (r : SendRecord) → send_of kind b ≡ Some r → list_any (λ (x : Receiver). x.endpoint.0 == r.sender) r.receivers ≡ false
 unfolding send_of
 descriptor-apart kind b r is = of (is_header b && is_send_header kind b && is_composite b) is
   where
@@ -96,7 +96,7 @@ module _ (s : State) (apart : AreApart s) where
     where
       of : (o : Option SendRecord) → send_read s kind total ≡ o → AreApart (memory_sent s kind o)
       of None is = apart
-      of (Some r) is = with-one s.transactions (next_handle (offers_of s) s.runner) (transaction_from kind r) apart (descriptor-apart kind (take total (tx_bytes s s.runner)) r is)
+      of (Some r) is = with-one s.transactions (next_handle (offers_of s) s.runner) (transaction_from kind r) apart (descriptor-apart kind (descriptor_in s total) r is)
 
   apart-retrieved : (x : Transfer) → Taken s x → AreApart (memory_retrieve s x).state
   apart-retrieved x its = subst AreApart (sym (state-taken s x its)) (of its.of.kind)
@@ -118,7 +118,7 @@ module _ (s : State) (apart : AreApart s) where
       of (Some t) there = with-one s.transactions d.handle (not_holding t s.runner) apart (apart d.handle t there)
 
   apart-service : (call : calls.Call) → first_failure (service s call).guards ≡ None → AreApart (service s call).state
-  apart-service (PartitionInfoGet uuid flags) none = elim (is_count_alone flags) as (λ b. AreApart (cond b s (filled s s.runner (info_bytes s.parties (uuid_bytes uuid))))) [ true ↦ apart | false ↦ apart ]
+  apart-service (PartitionInfoGet uuid flags) none = elim (is_count_alone flags) as (λ b. AreApart (cond b s (filled s s.runner (info_bytes (version_of s s.runner) s.parties (uuid_bytes uuid))))) [ true ↦ apart | false ↦ apart ]
   apart-service (MemDonate total fragment address pages) none = apart-sent Donate total
   apart-service (MemLend total fragment address pages) none = apart-sent Lend total
   apart-service (MemShare total fragment address pages) none = apart-sent Share total

@@ -28,14 +28,15 @@ use Rattle.ffa_model.specs.SendDescriptor.{SendRecord, send_of}
 use Rattle.ffa_model.specs.RetrieveDescriptor.{retrieve_of}
 use Rattle.ffa_model.specs.RelinquishDescriptor.{relinquish_of}
 use Rattle.ffa_model.specs.ResponseBytes.{response_bytes}
-use Rattle.ffa_model.specs.State.{State, Page, Transaction, Buffers, buffers_of, page_at, transaction_of}
+use Rattle.ffa_model.specs.State.{State, Page, Transaction, Buffers, buffers_of, page_at, transaction_of, version_of}
 use Rattle.ffa_model.specs.Access.{access, handle_at, held_by, names, right_by, right_of, transaction_at}
 use Rattle.ffa_model.specs.Buffers.{Candidate, candidate_at, candidates, filled, filled_pages, map_guards}
 use Rattle.ffa_model.specs.Calls.{Service, Stepped, answered, encode, first_failure, served}
 use Rattle.ffa_model.specs.Memory.{access_at, accessed, changed_pages, fault_of, fetch_fault, number_at, page_of_address, page_with, read_fault, size_of, store_fault, stored, written_pages, zeroed_if, zeroed_page}
-use Rattle.ffa_model.specs.MemoryRetrieve.{donated_page, memory_retrieve, response_length, response_to, retrieve_guards, retrieved, retrieved_from, retrieved_right, right_for}
+use Rattle.ffa_model.specs.MemoryRetrieve.{donated_page, memory_retrieve, response_length, response_to, retrieve_guards, retrieve_read, retrieved, retrieved_from, retrieved_right, right_for}
 use Rattle.ffa_model.specs.MemoryReturn.{memory_reclaim, memory_relinquish, named_ranges, reclaim_guards, relinquish_guards, relinquished, relinquished_from}
-use Rattle.ffa_model.specs.MemorySend.{memory_send, memory_sent, send_guards}
+use Rattle.ffa_model.specs.MemorySend.{memory_send, memory_sent, send_guards, send_read}
+use Rattle.ffa_model.specs.DescriptorPlaces.{in_version}
 use Rattle.ffa_model.specs.Messages.{delivered, header_in, message_in, msg_send2, send2_guards, tx_bytes}
 use Rattle.ffa_model.specs.Registers.{decode}
 use Rattle.ffa_model.specs.Setup.{info_bytes, is_count_alone, uuid_bytes}
@@ -230,9 +231,9 @@ module _ (s : State) (hides : ℕ → Bool) where
     send-b : (kind : Kind) (x : Transfer) → Alike (memory_send b kind x) (memory_send s kind x)
     send-b kind x =
         record {
-          guards = λ i. first_failure (send_guards (scene-b i) s.runner x (send_of kind (take x.total (tx-b i))));
+          guards = λ i. first_failure (send_guards (scene-b i) s.runner x (send_of kind (in_version (version_of s s.runner) (take x.total (tx-b i)))));
           reply = refl;
-          state = ap (λ tx. blank hides (memory_sent b kind (send_of kind (take x.total tx)))) tx-b ∙ sent-b kind (send_of kind (take x.total (tx_bytes s s.runner)));
+          state = ap (λ tx. blank hides (memory_sent b kind (send_of kind (in_version (version_of s s.runner) (take x.total tx))))) tx-b ∙ sent-b kind (send_read s kind x.total);
         }
 
     retrieved-b : (o : Option RetrieveDesc) → blank hides (retrieved b o) ≡ blank hides (retrieved s o)
@@ -256,14 +257,14 @@ module _ (s : State) (hides : ℕ → Bool) where
         from (Some t) =
             ap (λ bases. blank hides (retrieved_right b d.handle t s.runner (right_for bases t s.runner d))) bases-b
             ∙ (let right = right_for (bases_of s) t s.runner d in
-            λ i. record (retrieved_right s d.handle t s.runner right) { pages = given t.kind t.ranges s.runner right (response_bytes (response_to d.handle t s.runner right)) i })
+            λ i. record (retrieved_right s d.handle t s.runner right) { pages = given t.kind t.ranges s.runner right (response_bytes (version_of s s.runner) (response_to d.handle t s.runner right)) i })
 
     retrieve-b : (x : Transfer) → Alike (memory_retrieve b x) (memory_retrieve s x)
     retrieve-b x =
         record {
-          guards = λ i. first_failure (retrieve_guards (scene-b i) s.runner x (retrieve_of s.runner (take x.total (tx-b i))));
-          reply = λ i. Retrieved (response_length s (retrieve_of s.runner (take x.total (tx-b i))));
-          state = ap (λ tx. blank hides (retrieved b (retrieve_of s.runner (take x.total tx)))) tx-b ∙ retrieved-b (retrieve_of s.runner (take x.total (tx_bytes s s.runner)));
+          guards = λ i. first_failure (retrieve_guards (scene-b i) s.runner x (retrieve_of s.runner (in_version (version_of s s.runner) (take x.total (tx-b i)))));
+          reply = λ i. Retrieved (response_length s (retrieve_of s.runner (in_version (version_of s s.runner) (take x.total (tx-b i)))));
+          state = ap (λ tx. blank hides (retrieved b (retrieve_of s.runner (in_version (version_of s s.runner) (take x.total tx))))) tx-b ∙ retrieved-b (retrieve_read s x.total);
         }
 
     relinquished-b : (o : Option RelinquishDesc) → blank hides (relinquished b o) ≡ blank hides (relinquished s o)
@@ -311,9 +312,9 @@ module _ (s : State) (hides : ℕ → Bool) where
         record {
           guards = refl;
           reply = refl;
-          state = elim (is_count_alone flags) as (λ c. blank hides (cond c b (filled b s.runner (info_bytes s.parties (uuid_bytes uuid)))) ≡ blank hides (cond c s (filled s s.runner (info_bytes s.parties (uuid_bytes uuid))))) [
+          state = elim (is_count_alone flags) as (λ c. blank hides (cond c b (filled b s.runner (info_bytes (version_of s s.runner) s.parties (uuid_bytes uuid)))) ≡ blank hides (cond c s (filled s s.runner (info_bytes (version_of s s.runner) s.parties (uuid_bytes uuid))))) [
             | true ↦ λ i. record s { pages = blanked-twice hides s.pages i }
-            | false ↦ λ i. record (filled s s.runner (info_bytes s.parties (uuid_bytes uuid))) { pages = filled-blind hides (info_bytes s.parties (uuid_bytes uuid)) (buffers_of s s.runner) s.pages i }
+            | false ↦ λ i. record (filled s s.runner (info_bytes (version_of s s.runner) s.parties (uuid_bytes uuid))) { pages = filled-blind hides (info_bytes (version_of s s.runner) s.parties (uuid_bytes uuid)) (buffers_of s s.runner) s.pages i }
           ];
         }
     service-b (MemDonate total fragment address pages) = send-b Donate (transfer total fragment address pages)

@@ -15,7 +15,7 @@ use Rattle.ffa_model.specs.declared.call.Call as calls
 use Rattle.ffa_model.specs.declared.call.Call.TheVariants.{PartitionInfoGet, MemDonate, MemLend, MemShare, MemRetrieve, MemRelinquish, MemReclaim, MsgSend2}
 use Rattle.ffa_model.specs.Registers.{decode}
 use Rattle.ffa_model.specs.SendDescriptor.{SendRecord}
-use Rattle.ffa_model.specs.State.{State, Page, Party, buffers_of, is_known, is_known_among, transaction_of}
+use Rattle.ffa_model.specs.State.{State, Page, Party, buffers_of, is_known, is_known_among, transaction_of, version_of}
 use Rattle.ffa_model.specs.Calls.{first_failure}
 use Rattle.ffa_model.specs.Memory.{fetch_fault, number_at, read_fault, size_of, store_fault, stored, written_pages}
 use Rattle.ffa_model.specs.MemoryRetrieve.{retrieve_read, retrieved, retrieved_from}
@@ -45,7 +45,7 @@ relinquished-fixed s None = refl
 relinquished-fixed s (Some d) = elim (transaction_of s d.handle) as (λ o. fixed (relinquished_from s d o) ≡ fixed s) [ None ↦ refl | Some t ↦ refl ]
 
 service-fixed : (s : State) (call : calls.Call) → fixed (service s call).state ≡ fixed s
-service-fixed s (PartitionInfoGet uuid flags) = elim (is_count_alone flags) as (λ b. fixed (cond b s (filled s s.runner (info_bytes s.parties (uuid_bytes uuid)))) ≡ fixed s) [ true ↦ refl | false ↦ refl ]
+service-fixed s (PartitionInfoGet uuid flags) = elim (is_count_alone flags) as (λ b. fixed (cond b s (filled s s.runner (info_bytes (version_of s s.runner) s.parties (uuid_bytes uuid)))) ≡ fixed s) [ true ↦ refl | false ↦ refl ]
 service-fixed s (MemDonate total fragment address pages) = sent-fixed s Donate (send_read s Donate total)
 service-fixed s (MemLend total fragment address pages) = sent-fixed s Lend (send_read s Lend total)
 service-fixed s (MemShare total fragment address pages) = sent-fixed s Share (send_read s Share total)
@@ -97,9 +97,9 @@ module _ (R : List (Option Page) → Type 0) (s : State) (same : R s.pages) (by_
 
   kept-service : (call : calls.Call) → (is_send2 call ≡ true → send_failure ≡ None → R sent_pages) → (is_memory_call call ≡ true → Leaves call) → Leaves call
   kept-service (PartitionInfoGet uuid flags) by_send by_memory none =
-      elim (is_count_alone flags) as (λ b. R (cond b s (filled s s.runner (info_bytes s.parties (uuid_bytes uuid)))).pages) [
+      elim (is_count_alone flags) as (λ b. R (cond b s (filled s s.runner (info_bytes (version_of s s.runner) s.parties (uuid_bytes uuid)))).pages) [
         | true ↦ same
-        | false ↦ by_info (info_bytes s.parties (uuid_bytes uuid))
+        | false ↦ by_info (info_bytes (version_of s s.runner) s.parties (uuid_bytes uuid))
       ]
   kept-service (MemDonate total fragment address pages) by_send by_memory none = by_memory refl none
   kept-service (MemLend total fragment address pages) by_send by_memory none = by_memory refl none

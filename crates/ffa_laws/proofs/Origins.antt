@@ -22,7 +22,7 @@ use Rattle.ffa_model.specs.MemorySend.{memory_send, memory_sent, send_guards, se
 use Rattle.ffa_model.specs.Registers.{decode}
 use Rattle.ffa_model.specs.SendDescriptor.{SendRecord}
 use Rattle.ffa_model.specs.Setup.{info_bytes, is_count_alone, uuid_bytes}
-use Rattle.ffa_model.specs.State.{State, Transaction, transaction_of}
+use Rattle.ffa_model.specs.State.{State, Transaction, transaction_of, version_of}
 use Rattle.ffa_model.specs.Step.{service, step}
 use Rattle.ffa_model.specs.Transactions.{Transfer, handle_of, holding, next_handle, not_holding, offers_of, scene_of, transfer}
 use Rattle.ffa_laws.proofs.Closed.{get-remove}
@@ -107,7 +107,7 @@ module _ (s : State) (h : ℕ) where
 
   comes-service : (call : calls.Call) → first_failure (service s call).guards ≡ None → Comes s h (service s call).state
   comes-service (PartitionInfoGet uuid flags) none =
-      elim (is_count_alone flags) as (λ b. Comes s h (cond b s (filled s s.runner (info_bytes s.parties (uuid_bytes uuid))))) [
+      elim (is_count_alone flags) as (λ b. Comes s h (cond b s (filled s s.runner (info_bytes (version_of s s.runner) s.parties (uuid_bytes uuid))))) [
         | true ↦ stays
         | false ↦ inl (same-open s.transactions h)
       ]

@@ -21,7 +21,7 @@ use Rattle.ffa_model.specs.declared.transaction.Receiver.{Receiver}
 use Rattle.ffa_model.specs.Bits.{is_set}
 use Rattle.ffa_model.specs.Rights.{is_share, is_within}
 use Rattle.ffa_model.specs.SendDescriptor.{SendRecord}
-use Rattle.ffa_model.specs.State.{State, Page, Transaction, page_at, owner_of, buffers_of, transaction_of}
+use Rattle.ffa_model.specs.State.{State, Page, Transaction, page_at, owner_of, buffers_of, transaction_of, version_of}
 use Rattle.ffa_model.specs.Access.{access, held_by, is_offered, is_receiver, names, right_by, right_of, transaction_at}
 use Rattle.ffa_model.specs.Buffers.{filled}
 use Rattle.ffa_model.specs.Calls.{first_failure}
@@ -339,9 +339,9 @@ module _ (s : State) (steady : IsSteady s) where
   module _ (apart : AreApart s) where
     own-service : (call : calls.Call) → first_failure (service s call).guards ≡ None → Own s (service s call).state (gives_access call) (takes_access call)
     own-service (PartitionInfoGet uuid flags) none =
-        elim (is_count_alone flags) as (λ b. Own s (cond b s (filled s s.runner (info_bytes s.parties (uuid_bytes uuid)))) false false) [
+        elim (is_count_alone flags) as (λ b. Own s (cond b s (filled s s.runner (info_bytes (version_of s s.runner) s.parties (uuid_bytes uuid)))) false false) [
           | true ↦ as_before s s false false (λ e p. refl)
-          | false ↦ as_before s (filled s s.runner (info_bytes s.parties (uuid_bytes uuid))) false false (access-filled s s.runner (info_bytes s.parties (uuid_bytes uuid)))
+          | false ↦ as_before s (filled s s.runner (info_bytes (version_of s s.runner) s.parties (uuid_bytes uuid))) false false (access-filled s s.runner (info_bytes (version_of s s.runner) s.parties (uuid_bytes uuid)))
         ]
     own-service (MemDonate total fragment address pages) none = send-own Donate (transfer total fragment address pages) true (λ is. absurd (true≢false is)) none
     own-service (MemLend total fragment address pages) none = send-own Lend (transfer total fragment address pages) true (λ is. absurd (true≢false is)) none

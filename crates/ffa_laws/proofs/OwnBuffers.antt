@@ -14,7 +14,7 @@ use Rattle.ffa_model.specs.declared.call.Call as calls
 use Rattle.ffa_model.specs.declared.call.Call.TheVariants.{PartitionInfoGet, MsgWait, RxRelease, RxtxMap, RxtxUnmap, MemDonate, MemLend, MemShare, MemRetrieve, MemRelinquish, MsgSend2}
 use Rattle.ffa_model.specs.SendDescriptor.{SendRecord}
 use Rattle.ffa_model.specs.Identifiers.{place}
-use Rattle.ffa_model.specs.State.{State, Buffers, is_known, transaction_of}
+use Rattle.ffa_model.specs.State.{State, Buffers, is_known, transaction_of, version_of}
 use Rattle.ffa_model.specs.Buffers.{buffers_with, buffers_with_rx, filled, new_buffers}
 use Rattle.ffa_model.specs.Memory.{fetch_fault, number_at, read_fault, size_of, store_fault, stored}
 use Rattle.ffa_model.specs.MemoryRetrieve.{retrieve_read, retrieved, retrieved_from}
@@ -69,7 +69,7 @@ module _ (s : State) (steady : IsSteady s) (e : ℕ) (known : is_known s e ≡ t
   rx-service (RxtxMap tx rx pages) = rx-beside (Some (new_buffers s.ram_base tx rx))
   rx-service (RxtxUnmap endpoint) = rx-beside None
   rx-service (PartitionInfoGet uuid flags) =
-      elim (is_count_alone flags) as (λ b. is_rx (cond b s (filled s s.runner (info_bytes s.parties (uuid_bytes uuid)))) e p ≡ is_rx s e p) [ true ↦ refl | false ↦ rx-filled s.runner true ]
+      elim (is_count_alone flags) as (λ b. is_rx (cond b s (filled s s.runner (info_bytes (version_of s s.runner) s.parties (uuid_bytes uuid)))) e p ≡ is_rx s e p) [ true ↦ refl | false ↦ rx-filled s.runner true ]
   rx-service (MemDonate total fragment address pages) = rx-sent Donate (send_read s Donate total)
   rx-service (MemLend total fragment address pages) = rx-sent Lend (send_read s Lend total)
   rx-service (MemShare total fragment address pages) = rx-sent Share (send_read s Share total)

@@ -4,6 +4,7 @@ use Rattle.std.specs.Prelude.{◌==◌, ◌||◌, not, is_none, nat_le}
 use Rattle.std.specs.Option.{option_map, option_map_or}
 use Rattle.std.specs.FinMap as finite
 use Rattle.std.proofs.lemmas.Bool.{cases_Bool, false≢true}
+use Rattle.ffa_model.specs.DescriptorPlaces.{in_version}
 use Rattle.ffa_model.specs.declared.descriptor.RetrieveDesc.{RetrieveDesc}
 use Rattle.ffa_model.specs.declared.operation.ErrorCode.{ErrorCode}
 use Rattle.ffa_model.specs.declared.operation.ErrorCode.TheVariants.{InvalidParameters, Busy, Denied}
@@ -13,7 +14,7 @@ use Rattle.ffa_model.specs.declared.rights.Kind.TheVariants.{Share, Lend, Donate
 use Rattle.ffa_model.specs.declared.rights.Rights.{Rights}
 use Rattle.ffa_model.specs.Identifiers.{place}
 use Rattle.ffa_model.specs.Rights.{is_at_most, is_donate}
-use Rattle.ffa_model.specs.State.{State, Transaction, Buffers, buffers_of, transaction_of}
+use Rattle.ffa_model.specs.State.{State, Transaction, Buffers, buffers_of, transaction_of, version_of}
 use Rattle.ffa_model.specs.Access.{held_by, is_offered, is_receiver}
 use Rattle.ffa_model.specs.Buffers.{buffers_in, buffers_with_rx, filled, is_full}
 use Rattle.ffa_model.specs.Calls.{first_failure}
@@ -104,7 +105,7 @@ module _ (s : State) (steady : IsSteady s) where
       λ i. cond (some-seen s steady s.runner i) (cond (x.total == x.fragment) (cond (nat_le x.total 4096) (cond (x.address == 0) (cond (x.pages == 0) (same i) (Some InvalidParameters)) (Some InvalidParameters)) (Some InvalidParameters)) (Some InvalidParameters)) (Some InvalidParameters)
 
   same-read : (total : ℕ) → retrieve_read v total ≡ retrieve_read s total
-  same-read total = ap (λ tx. retrieve_of s.runner (take total tx)) (tx-seen s steady)
+  same-read total = ap (λ tx. retrieve_of s.runner (in_version (version_of s s.runner) (take total tx))) (tx-seen s steady)
 
   same-guards : (x : Transfer) → first_failure (memory_retrieve v x).guards ≡ first_failure (memory_retrieve s x).guards
   same-guards x =
@@ -167,8 +168,8 @@ module _ (s : State) (steady : IsSteady s) (x : Transfer) (its : Taken s x) wher
   own-reply : (memory_retrieve seen x).reply ≡ (memory_retrieve s x).reply
   own-reply =
       ap Retrieved (
-      ap (response_length seen) (same-read s steady x.total ∙ its.read) ∙ ap (λ o. option_map_or (λ (u : Transaction). response_size u.ranges) o 0) seen-there
-      ∙ sym (ap (response_length s) its.read ∙ ap (λ o. option_map_or (λ (u : Transaction). response_size u.ranges) o 0) its.is.there))
+      ap (response_length seen) (same-read s steady x.total ∙ its.read) ∙ ap (λ o. option_map_or (λ (u : Transaction). response_size (version_of s s.runner) u.ranges) o 0) seen-there
+      ∙ sym (ap (response_length s) its.read ∙ ap (λ o. option_map_or (λ (u : Transaction). response_size (version_of s s.runner) u.ranges) o 0) its.is.there))
 
   -- ---- to another endpoint
   module _ (e : ℕ) (other : s.runner ≢ e) where

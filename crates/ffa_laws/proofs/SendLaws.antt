@@ -8,6 +8,7 @@ use Rattle.std.specs.FinMap as finite
 use Rattle.std.proofs.lemmas.Bool.{and_parts, cases_Bool, cases_eq, cases_lt, eq-eqb, eqb-true, false≢true, ltb-true, ne_eqb, true≢false}
 use Rattle.std.proofs.lemmas.List.{get_or-set_other, get_or-set_same, get_or_past}
 use Rattle.std.proofs.lemmas.Option.{none-some, same_Some}
+use Rattle.ffa_model.specs.DescriptorPlaces.{in_version}
 use Rattle.ffa_model.specs.declared.operation.ErrorCode.{ErrorCode}
 use Rattle.ffa_model.specs.declared.operation.ErrorCode.TheVariants.{InvalidParameters, NoMemory, Denied}
 use Rattle.ffa_model.specs.declared.rights.Kind.{Kind}
@@ -15,7 +16,7 @@ use Rattle.ffa_model.specs.declared.transaction.Range.{Range}
 use Rattle.ffa_model.specs.declared.transaction.Receiver.{Receiver}
 use Rattle.ffa_model.specs.Identifiers.{identifier, place}
 use Rattle.ffa_model.specs.Lists.{listed}
-use Rattle.ffa_model.specs.State.{State, Page, Transaction, Buffers, buffers_of, is_known, owner_of, page_at, sent_by, transaction_of}
+use Rattle.ffa_model.specs.State.{State, Page, Transaction, Buffers, buffers_of, is_known, owner_of, page_at, sent_by, transaction_of, version_of}
 use Rattle.ffa_model.specs.Access.{handle_at, held_by, is_receiver, names, transaction_at}
 use Rattle.ffa_model.specs.Rights.{may_store}
 use Rattle.ffa_model.specs.Memory.{zeroed_if}
@@ -25,7 +26,7 @@ use Rattle.ffa_model.specs.Messages.{tx_bytes}
 use Rattle.ffa_model.specs.RunStates.{schedule_of}
 use Rattle.ffa_model.specs.SendDescriptor.{SendRecord, most_receivers, send_of}
 use Rattle.ffa_model.specs.Transactions.{Bases, Scene, Transfer, are_writable, base_of, bases_of, handle_of, next_handle, offers_of, open_count, pages_in, scene_of, sends_of}
-use Rattle.ffa_model.specs.MemorySend.{are_grants_within, are_known, handle_reply, is_buffer, is_grantable, is_inside, is_own, is_sendable, memory_send, memory_sent, send_guards, send_read, transaction_from}
+use Rattle.ffa_model.specs.MemorySend.{are_grants_within, are_known, handle_reply, is_buffer, is_grantable, is_inside, is_own, is_sendable, memory_send, memory_sent, send_guards, send_read, transaction_from, descriptor_in}
 use Rattle.ffa_laws.specs.Steady.{IsAlone, IsSteady, IsSteadyTransaction}
 use Rattle.ffa_laws.specs.View.{view, buffers_seen, hidden, involves, is_near, kept}
 use Rattle.ffa_laws.specs.Events.{Event, Opened, apply, apply_all, named_pages, opens, public_change, where_true}
@@ -432,9 +433,9 @@ module _ (s : State) (steady : IsSteady s) (kind : Kind) (r : SendRecord) (good 
 -- ---- the calls
 pub own-send : (s : State) → IsSteady s → (kind : Kind) (x : Transfer) → IsOwn s (memory_send (view s.runner s) kind x) (memory_send s kind x)
 own-send s steady kind x = (
-  ap (λ b. first_failure (send_guards (scene_of (view s.runner s)) s.runner x (send_of kind (take x.total b)))) (tx-seen s steady) ∙ same-failure s steady x (send_read s kind x.total),
+  ap (λ b. first_failure (send_guards (scene_of (view s.runner s)) s.runner x (send_of kind (in_version (version_of s s.runner) (take x.total b))))) (tx-seen s steady) ∙ same-failure s steady x (send_read s kind x.total),
   λ none. (
-    ap (λ b. memory_sent (view s.runner s) kind (send_of kind (take x.total b))) (tx-seen s steady) ∙ of (send_read s kind x.total) none,
+    ap (λ b. memory_sent (view s.runner s) kind (send_of kind (in_version (version_of s s.runner) (take x.total b)))) (tx-seen s steady) ∙ of (send_read s kind x.total) none,
     ap handle_reply (handle-seen s steady),
   ),
 )
@@ -448,7 +449,7 @@ steady-send s steady kind x none = of (send_read s kind x.total) refl none
   where
     of : (o : Option SendRecord) → send_read s kind x.total ≡ o → first_failure (send_guards (scene_of s) s.runner x o) ≡ None → IsSteady (memory_sent s kind o)
     of None is none = steady
-    of (Some r) is none = steady-sent s steady kind r (offer s x r none) (counted kind (take x.total (tx_bytes s s.runner)) r is).few_receivers
+    of (Some r) is none = steady-sent s steady kind r (offer s x r none) (counted kind (descriptor_in s x.total) r is).few_receivers
 
 pub other-send : (e : ℕ) (s : State) → IsSteady s → is_known s e ≡ true → s.runner ≢ e → (kind : Kind) (x : Transfer) → IsTold e s (memory_send s kind x) (opens e s kind (send_read s kind x.total))
 other-send e s steady known other kind x none = of (send_read s kind x.total) none

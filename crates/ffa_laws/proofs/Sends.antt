@@ -6,7 +6,7 @@ use Rattle.std.proofs.lemmas.Bool.{and_parts, leb-true, ltb-true}
 use Rattle.std.proofs.lemmas.Option.{none-some, same_Some}
 use Rattle.byteorder.specs.Numbers.{little_from-lt}
 use Rattle.ffa_model.specs.declared.rights.Kind.{Kind}
-use Rattle.ffa_model.specs.DescriptorPlaces.{is_header, range_count, receiver_count, u64_at}
+use Rattle.ffa_model.specs.DescriptorPlaces.{is_header, range_count, receiver_count, u64_at, Versioned}
 use Rattle.ffa_model.specs.SendDescriptor.{SendRecord, is_composite, is_send_body, is_send_header, most_receivers, range_in, receiver_in, send_counted, send_in, send_of}
 use Rattle.ffa_model.specs.SoundState.{are_bytes}
 use Rattle.ffa_model.proofs.Listed.{length-listed}
@@ -18,7 +18,7 @@ pub record IsCounted (kind : Kind) (r : SendRecord) : Type 0 where
   pub some_ranges : 1 ≤ length r.ranges
   pub few_ranges : length r.ranges ≤ 16
 
-counted-in : (kind : Kind) (b : List ℕ) → (is_header b && is_send_header kind b && is_composite b) ≡ true → IsCounted kind (send_in b)
+counted-in : (kind : Kind) (b : Versioned) → (is_header b && is_send_header kind b && is_composite b) ≡ true → IsCounted kind (send_in b)
 unfolding is_send_header
 counted-in kind b are =
     let (headers, composite) = and_parts _ (is_composite b) are in
@@ -39,7 +39,7 @@ counted-in kind b are =
     }
 
 -- bytes that are a send descriptor say what their fields say, and their counts are good
-module _ (kind : Kind) (b : List ℕ) (r : SendRecord) (is : send_of kind b ≡ Some r) where
+module _ (kind : Kind) (b : Versioned) (r : SendRecord) (is : send_of kind b ≡ Some r) where
   read : ((is_header b && is_send_header kind b && is_composite b) ≡ true) × (send_in b ≡ r)
   unfolding send_of
   read = of (is_header b && is_send_header kind b && is_composite b) refl is
@@ -56,9 +56,9 @@ module _ (kind : Kind) (b : List ℕ) (r : SendRecord) (is : send_of kind b ≡ 
   pub counted : IsCounted kind r
   counted = subst (IsCounted kind) read.1 (counted-in kind b read.0)
 
-  pub tag-below : are_bytes b → r.tag < 2 ^ 64
+  pub tag-below : are_bytes b.bytes → r.tag < 2 ^ 64
   unfolding u64_at
-  tag-below bytes = subst (λ (x : SendRecord). x.tag < 2 ^ 64) read.1 (little_from-lt 16 8 b (byte-below b bytes))
+  tag-below bytes = subst (λ (x : SendRecord). x.tag < 2 ^ 64) read.1 (little_from-lt 16 8 b.bytes (byte-below b.bytes bytes))
     where
       byte-below : (xs : List ℕ) → are_bytes xs → (k : ℕ) → get_or xs k 0 < 256
       byte-below [] all k = omega arith

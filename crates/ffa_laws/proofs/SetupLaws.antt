@@ -4,7 +4,7 @@ use Rattle.std.specs.Prelude.{◌||◌, not}
 use Rattle.ffa_model.specs.declared.operation.ErrorCode.TheVariants.{InvalidParameters, Busy}
 use Rattle.ffa_model.specs.Manifest.{is_nil}
 use Rattle.ffa_model.specs.Identifiers.{place}
-use Rattle.ffa_model.specs.State.{State, buffers_of}
+use Rattle.ffa_model.specs.State.{State, buffers_of, version_of}
 use Rattle.ffa_model.specs.Buffers.{buffers_with_rx, filled, filled_pages, is_full}
 use Rattle.ffa_model.specs.Calls.{first_failure}
 use Rattle.ffa_model.specs.RunStates.{schedule_of}
@@ -31,9 +31,9 @@ module _ (s : State) (steady : IsSteady s) (words : List ℕ) (flags : ℕ) wher
 
   view-informed : informed (view s.runner s) uuid flags ≡ view s.runner (informed s uuid flags)
   view-informed =
-      elim (is_count_alone flags) as (λ b. cond b (view s.runner s) (filled (view s.runner s) s.runner (info_bytes s.parties uuid)) ≡ view s.runner (cond b s (filled s s.runner (info_bytes s.parties uuid)))) [
+      elim (is_count_alone flags) as (λ b. cond b (view s.runner s) (filled (view s.runner s) s.runner (info_bytes (version_of s s.runner) s.parties uuid)) ≡ view s.runner (cond b s (filled s s.runner (info_bytes (version_of s s.runner) s.parties uuid)))) [
         | true ↦ refl
-        | false ↦ view-filled s.runner s (info_bytes s.parties uuid) steady.runner
+        | false ↦ view-filled s.runner s (info_bytes (version_of s s.runner) s.parties uuid) steady.runner
       ]
 
   pub own-info : IsOwn s (info_get (view s.runner s) words flags) (info_get s words flags)
@@ -41,10 +41,10 @@ module _ (s : State) (steady : IsSteady s) (words : List ℕ) (flags : ℕ) wher
 
   pub steady-info : IsSteady (informed s uuid flags)
   steady-info =
-      elim (is_count_alone flags) as (λ b. IsSteady (cond b s (filled s s.runner (info_bytes s.parties uuid)))) [ true ↦ steady | false ↦ steady-filled s steady s.runner (info_bytes s.parties uuid) ]
+      elim (is_count_alone flags) as (λ b. IsSteady (cond b s (filled s s.runner (info_bytes (version_of s s.runner) s.parties uuid)))) [ true ↦ steady | false ↦ steady-filled s steady s.runner (info_bytes (version_of s s.runner) s.parties uuid) ]
 
   abbrev bytes : List ℕ
-  bytes = info_bytes s.parties uuid
+  bytes = info_bytes (version_of s s.runner) s.parties uuid
 
   abbrev informed_if : Bool → State
   informed_if b = cond b s (filled s s.runner bytes)

@@ -18,7 +18,7 @@ use Rattle.ffa_model.specs.declared.descriptor.RelinquishDesc.{RelinquishDesc}
 use Rattle.ffa_model.specs.declared.call.Call as calls
 use Rattle.ffa_model.specs.declared.call.Call.TheVariants.{Version, Features, RxRelease, RxtxMap, RxtxUnmap, PartitionInfoGet, IdGet, MsgWait, Yield, Run, DirectRequest, DirectResponse, MemDonate, MemLend, MemShare, MemRetrieve, MemRelinquish, MemReclaim, BitmapCreate, BitmapDestroy, NotificationBind, NotificationUnbind, NotificationSet, NotificationGet, SpmIdGet, MsgSend2, Unknown}
 use Rattle.ffa_model.specs.Bits.{bits_of, high_half, word_of_halves, low_half}
-use Rattle.ffa_model.specs.State.{State, Transaction, transaction_of}
+use Rattle.ffa_model.specs.State.{State, Transaction, transaction_of, version_of}
 use Rattle.ffa_model.specs.Access.{is_offered, is_receiver}
 use Rattle.ffa_model.specs.Calls.{Service, Stepped, answered, encode, first_failure}
 use Rattle.ffa_model.specs.Memory.{accessed, fetch_fault, number_at, read_fault, size_of, store_fault, stored}
@@ -114,7 +114,7 @@ runs-relinquished : (s : State) (d : Option RelinquishDesc) → (relinquished s 
 runs-relinquished s None = refl
 runs-relinquished s (Some d) = elim (transaction_of s d.handle) as (λ o. (relinquished_from s d o).runner ≡ s.runner) [ None ↦ refl | Some t ↦ refl ]
 
-runs-informed : (s : State) (uuid : List ℕ) (b : Bool) → (cond b s (filled s s.runner (info_bytes s.parties uuid))).runner ≡ s.runner
+runs-informed : (s : State) (uuid : List ℕ) (b : Bool) → (cond b s (filled s s.runner (info_bytes (version_of s s.runner) s.parties uuid))).runner ≡ s.runner
 runs-informed s uuid true = refl
 runs-informed s uuid false = refl
 

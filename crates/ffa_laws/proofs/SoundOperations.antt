@@ -13,7 +13,7 @@ use Rattle.ffa_model.specs.declared.call.Call as calls
 use Rattle.ffa_model.specs.declared.call.Call.TheVariants.{Version, Features, RxRelease, RxtxMap, RxtxUnmap, PartitionInfoGet, IdGet, MsgWait, Yield, Run, DirectRequest, DirectResponse, MemDonate, MemLend, MemShare, MemRetrieve, MemRelinquish, MemReclaim, BitmapCreate, BitmapDestroy, NotificationBind, NotificationUnbind, NotificationSet, NotificationGet, SpmIdGet, MsgSend2, Unknown}
 use Rattle.ffa_model.specs.Bits.{high_half, low_half}
 use Rattle.ffa_model.specs.Registers.{decode}
-use Rattle.ffa_model.specs.State.{State, buffers_of}
+use Rattle.ffa_model.specs.State.{State, buffers_of, version_of}
 use Rattle.ffa_model.specs.Calls.{first_failure, served}
 use Rattle.ffa_model.specs.Memory.{fetch_fault, number_at, read_fault, size_of, store_fault, stored, written_pages}
 use Rattle.ffa_model.specs.Buffers.{filled}
@@ -58,9 +58,9 @@ module _ (s : State) (sound : IsSoundState s) where
   service-sound (RxtxMap tx rx pages) none = map-sound s sound tx rx pages none
   service-sound (RxtxUnmap endpoint) none = unmap-sound s sound
   service-sound (PartitionInfoGet uuid flags) none =
-      elim (is_count_alone flags) as (λ b. IsSoundState (cond b s (filled s s.runner (info_bytes s.parties (uuid_bytes uuid))))) [
+      elim (is_count_alone flags) as (λ b. IsSoundState (cond b s (filled s s.runner (info_bytes (version_of s s.runner) s.parties (uuid_bytes uuid))))) [
         | true ↦ sound
-        | false ↦ filled-state-sound s sound s.runner (info_bytes s.parties (uuid_bytes uuid)) (informed-sound s sound (uuid_bytes uuid) (buffers_of s s.runner))
+        | false ↦ filled-state-sound s sound s.runner (info_bytes (version_of s s.runner) s.parties (uuid_bytes uuid)) (informed-sound s sound (uuid_bytes uuid) (buffers_of s s.runner))
       ]
   service-sound IdGet none = sound
   service-sound SpmIdGet none = sound

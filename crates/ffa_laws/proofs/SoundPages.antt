@@ -17,11 +17,14 @@ use Rattle.ffa_model.specs.declared.rights.Rights.{Rights}
 use Rattle.ffa_model.specs.Identifiers.{identifier}
 use Rattle.ffa_model.specs.Manifest.{is_nil}
 use Rattle.ffa_model.specs.Rights.{may_store}
-use Rattle.ffa_model.specs.State.{State, Page, Party, Buffers, buffers_of, page_at}
+use Rattle.ffa_model.specs.declared.endpoint.Version.{Version}
+use Rattle.ffa_model.specs.declared.endpoint.Version.TheVariants.{Compact, V1_1}
+use Rattle.ffa_model.specs.Bits.{bits}
+use Rattle.ffa_model.specs.State.{State, Page, Party, Buffers, buffers_of, page_at, version_of}
 use Rattle.ffa_model.specs.Calls.{first_failure}
 use Rattle.ffa_model.specs.Memory.{access_at, fault_of, page_bytes, page_with, size_of, store_fault, written_pages}
 use Rattle.ffa_model.specs.Buffers.{filled_pages}
-use Rattle.ffa_model.specs.Setup.{info_bytes, info_of, is_selected, selected}
+use Rattle.ffa_model.specs.Setup.{info_bytes, info_of, is_selected, selected, properties_info}
 use Rattle.ffa_model.specs.Messages.{header_in, message_in, send2_guards, tx_bytes}
 use Rattle.ffa_model.specs.SoundState.{IsSoundPage, IsSoundParty, IsSoundState, are_bytes}
 use Rattle.ffa_model.proofs.Guards.{guard-passes}
@@ -125,23 +128,17 @@ module _ (s : State) (sound : IsSoundState s) where
         let all = length-enumerate_from 0 s.parties in
         omega (arith, most, kept, all)
 
-    -- the last 16 bytes of the information on a partition, the last 20, and the last 22
+    -- the last 16 bytes of the information on a partition, and those behind the identifier
     abbrev shown_uuid : ℕ × Party → List ℕ
     shown_uuid x = cond (is_nil uuid) x.1.uuid (replicate 16 0)
 
-    abbrev from_properties : ℕ × Party → List ℕ
-    from_properties x = little_bytes 4 (x.1.properties + 0x100) ++ shown_uuid x
+    abbrev from_contexts : Version → ℕ × Party → List ℕ
+    from_contexts version x = little_bytes 2 1 ++ properties_info version uuid x.1
 
-    abbrev from_contexts : ℕ × Party → List ℕ
-    from_contexts x = little_bytes 2 1 ++ from_properties x
-
-    size-info : (x : ℕ × Party) → passes x ≡ true → length (info_of uuid x) ≤ 24
-    size-info x good =
-        let id = length-bytes_low_first 0 2 (identifier x.0) in
-        let contexts = length-bytes_low_first 0 2 1 in
+    size-properties : (version : Version) (x : ℕ × Party) → passes x ≡ true → length (properties_info version uuid x.1) ≤ 20
+    size-properties Compact x good = let properties = length-bytes_low_first 0 4 (bits 2 0 x.1.properties) in omega arith
+    size-properties V1_1 x good =
         let properties = length-bytes_low_first 0 4 (x.1.properties + 0x100) in
-        let first = length-append (little_bytes 2 (identifier x.0)) (from_contexts x) in
-        let second = length-append (little_bytes 2 1) (from_properties x) in
         let third = length-append (little_bytes 4 (x.1.properties + 0x100)) (shown_uuid x) in
         let last = shown in
         omega arith
@@ -149,18 +146,31 @@ module _ (s : State) (sound : IsSoundState s) where
         shown : length (shown_uuid x) ≡ 16
         shown = elim (is_nil uuid) as (λ b. length (cond b x.1.uuid (replicate 16 0)) ≡ 16) [ true ↦ eqb-true (length x.1.uuid) 16 (and_parts (length x.1.uuid == 16) _ good).0 | false ↦ length-replicate {A = ℕ} 16 0 ]
 
-    bytes-info : (x : ℕ × Party) → passes x ≡ true → are_bytes (info_of uuid x)
-    bytes-info x good =
-        both-bytes (little_bytes 2 (identifier x.0)) (from_contexts x) (number-bytes 0 2 (identifier x.0))
-        (both-bytes (little_bytes 2 1) (from_properties x) (number-bytes 0 2 1)
-        (both-bytes (little_bytes 4 (x.1.properties + 0x100)) (shown_uuid x) (number-bytes 0 4 (x.1.properties + 0x100)) shown))
+    size-info : (version : Version) (x : ℕ × Party) → passes x ≡ true → length (info_of version uuid x) ≤ 24
+    size-info version x good =
+        let id = length-bytes_low_first 0 2 (identifier x.0) in
+        let contexts = length-bytes_low_first 0 2 1 in
+        let first = length-append (little_bytes 2 (identifier x.0)) (from_contexts version x) in
+        let second = length-append (little_bytes 2 1) (properties_info version uuid x.1) in
+        let rest = size-properties version x good in
+        omega arith
+
+    bytes-properties : (version : Version) (x : ℕ × Party) → passes x ≡ true → are_bytes (properties_info version uuid x.1)
+    bytes-properties Compact x good = number-bytes 0 4 (bits 2 0 x.1.properties)
+    bytes-properties V1_1 x good =
+        both-bytes (little_bytes 4 (x.1.properties + 0x100)) (shown_uuid x) (number-bytes 0 4 (x.1.properties + 0x100)) shown
       where
         shown : are_bytes (shown_uuid x)
         shown = elim (is_nil uuid) as (λ b. are_bytes (cond b x.1.uuid (replicate 16 0))) [ true ↦ (and_parts (length x.1.uuid == 16) _ good).1 | false ↦ refl ]
 
-    pub informed-sound : (b : Option Buffers) → AreSoundPages s (filled_pages s.pages (info_bytes s.parties uuid) b)
+    bytes-info : (version : Version) (x : ℕ × Party) → passes x ≡ true → are_bytes (info_of version uuid x)
+    bytes-info version x good =
+        both-bytes (little_bytes 2 (identifier x.0)) (from_contexts version x) (number-bytes 0 2 (identifier x.0))
+        (both-bytes (little_bytes 2 1) (properties_info version uuid x.1) (number-bytes 0 2 1) (bytes-properties version x good))
+
+    pub informed-sound : (b : Option Buffers) → AreSoundPages s (filled_pages s.pages (info_bytes (version_of s s.runner) s.parties uuid) b)
     informed-sound b =
-        filled-sound s s.pages sound.pages (info_bytes s.parties uuid) (bytes-pieces (info_of uuid) passes (selected s.parties uuid) selected-sound bytes-info)
-        (let size = length-pieces (info_of uuid) passes 24 (selected s.parties uuid) selected-sound size-info in
+        filled-sound s s.pages sound.pages (info_bytes (version_of s s.runner) s.parties uuid) (bytes-pieces (info_of (version_of s s.runner) uuid) passes (selected s.parties uuid) selected-sound (bytes-info (version_of s s.runner)))
+        (let size = length-pieces (info_of (version_of s s.runner) uuid) passes 24 (selected s.parties uuid) selected-sound (size-info (version_of s s.runner)) in
         let few = few-selected in
         omega arith) b

@@ -4,6 +4,8 @@ use Rattle.std.specs.Prelude.{nat_lt}
 use Rattle.std.specs.List.{flat_map, list_all}
 use Rattle.std.proofs.lemmas.Bool.{and_from, lt-ltb}
 use Rattle.ffa_model.specs.declared.rights.Data.{Data}
+use Rattle.ffa_model.specs.declared.endpoint.Version.{Version}
+use Rattle.ffa_model.specs.declared.endpoint.Version.TheVariants.{Compact, V1_1}
 use Rattle.ffa_model.specs.declared.rights.Data.TheVariants.{Ro, Rw}
 use Rattle.ffa_model.specs.declared.transaction.Range.{Range}
 use Rattle.ffa_model.specs.Calls.{first_failure}
@@ -11,7 +13,7 @@ use Rattle.ffa_model.specs.DescriptorPlaces.{data_code, exec_code, header_size, 
 use Rattle.ffa_model.specs.ResponseBytes.{ResponseRecord, access_bytes, composite_bytes, flags_of, header_bytes, le, permissions_of, range_bytes, response_bytes}
 use Rattle.ffa_model.specs.SendDescriptor.{page_total}
 use Rattle.ffa_model.specs.SoundState.{IsSoundState, are_bytes}
-use Rattle.ffa_model.specs.State.{State, buffers_of}
+use Rattle.ffa_model.specs.State.{State, buffers_of, version_of}
 use Rattle.ffa_model.specs.Transactions.{Transfer}
 use Rattle.ffa_model.specs.MemoryRetrieve.{memory_retrieve, response_to}
 use Rattle.ffa_model.proofs.KeptCalls.{taken-sound}
@@ -42,24 +44,33 @@ permissions-byte Ro false = omega arith
 permissions-byte Rw true = omega arith
 permissions-byte Rw false = omega arith
 
+header-below : (version : Version) → header_size version ≤ 48
+header-below Compact = omega arith
+header-below V1_1 = omega arith
+
 all-ranges : (ranges : List Range) → list_all (λ (r : Range). true) ranges ≡ true
 all-ranges [] = refl
 all-ranges (r ∷ ranges) = all-ranges ranges
 
-module _ (r : ResponseRecord) where
-  response-fits : length r.ranges ≤ 16 → length (response_bytes r) ≤ 4096
-  response-fits few = omega (arith, few, length-response_bytes r)
+module _ (version : Version) (r : ResponseRecord) where
+  response-fits : length r.ranges ≤ 16 → length (response_bytes version r) ≤ 4096
+  response-fits few = omega (arith, few, length-response_bytes version r, header-below version)
 
-  header-are_bytes : are_bytes (header_bytes r)
+  header-are_bytes : are_bytes (header_bytes version r)
   unfolding le
-  header-are_bytes =
-      numbers-bytes ((2, r.sender) ∷ (2, normal_memory) ∷ (4, flags_of r.kind r.zero) ∷ (8, r.handle) ∷ (8, r.tag) ∷ (4, 16) ∷ (4, 1) ∷ (4, header_size) ∷ (4, 0) ∷ (8, 0) ∷ [])
+  header-are_bytes = of version
+    where
+      of : (v : Version) → are_bytes (header_bytes v r)
+      of Compact =
+          numbers-bytes ((2, r.sender) ∷ (2, normal_memory) ∷ (4, flags_of r.kind r.zero) ∷ (8, r.handle) ∷ (8, r.tag) ∷ (4, 0) ∷ (4, 1) ∷ [])
+      of V1_1 =
+          numbers-bytes ((2, r.sender) ∷ (2, normal_memory) ∷ (4, flags_of r.kind r.zero) ∷ (8, r.handle) ∷ (8, r.tag) ∷ (4, 16) ∷ (4, 1) ∷ (4, 48) ∷ (4, 0) ∷ (8, 0) ∷ [])
 
-  access-are_bytes : are_bytes (access_bytes r)
+  access-are_bytes : are_bytes (access_bytes version r)
   unfolding le
   access-are_bytes =
-      both-bytes (le 2 r.endpoint) (permissions_of r.rights ∷ 0 ∷ le 4 (header_size + 16) ++ le 8 0) (le-bytes 2 r.endpoint)
-      (and_from (nat_lt (permissions_of r.rights) 256) _ (lt-ltb (permissions_of r.rights) 256 (permissions-byte r.rights.level r.rights.exec)) (numbers-bytes ((4, header_size + 16) ∷ (8, 0) ∷ [])))
+      both-bytes (le 2 r.endpoint) (permissions_of r.rights ∷ 0 ∷ le 4 (header_size version + 16) ++ le 8 0) (le-bytes 2 r.endpoint)
+      (and_from (nat_lt (permissions_of r.rights) 256) _ (lt-ltb (permissions_of r.rights) 256 (permissions-byte r.rights.level r.rights.exec)) (numbers-bytes ((4, header_size version + 16) ∷ (8, 0) ∷ [])))
 
   composite-are_bytes : are_bytes (composite_bytes r.ranges)
   unfolding le
@@ -69,19 +80,19 @@ module _ (r : ResponseRecord) where
   unfolding le
   range-are_bytes range = numbers-bytes ((8, range.address) ∷ (4, range.pages) ∷ (4, 0) ∷ [])
 
-  response-are_bytes : are_bytes (response_bytes r)
+  response-are_bytes : are_bytes (response_bytes version r)
   unfolding response_bytes le
   response-are_bytes =
-      both-bytes (header_bytes r) (access_bytes r ++ composite_bytes r.ranges ++ flat_map range_bytes r.ranges) header-are_bytes
-      (both-bytes (access_bytes r) (composite_bytes r.ranges ++ flat_map range_bytes r.ranges) access-are_bytes
-      (both-bytes (composite_bytes r.ranges) (flat_map range_bytes r.ranges) composite-are_bytes
-      (bytes-pieces range_bytes (λ (range : Range). true) r.ranges (all-ranges r.ranges) (λ range is. range-are_bytes range))))
+      both-bytes (header_bytes version r ++ access_bytes version r ++ composite_bytes r.ranges) (flat_map range_bytes r.ranges)
+      (both-bytes (header_bytes version r ++ access_bytes version r) (composite_bytes r.ranges)
+      (both-bytes (header_bytes version r) (access_bytes version r) header-are_bytes access-are_bytes) composite-are_bytes)
+      (bytes-pieces range_bytes (λ (range : Range). true) r.ranges (all-ranges r.ranges) (λ range is. range-are_bytes range))
 
 -- ---- the call
 module _ (s : State) (sound : IsSoundState s) where
   pub retrieve-sound : (x : Transfer) → first_failure (memory_retrieve s x).guards ≡ None → IsSoundState (memory_retrieve s x).state
   retrieve-sound x none =
-      subst IsSoundState (sym (state-taken s x its)) (filled-state-sound (before s x its) before-sound s.runner (response s x its) (filled-sound (before s x its) (before s x its).pages before-sound.pages (response s x its) (response-are_bytes told) fits (buffers_of s s.runner)))
+      subst IsSoundState (sym (state-taken s x its)) (filled-state-sound (before s x its) before-sound s.runner (response s x its) (filled-sound (before s x its) (before s x its).pages before-sound.pages (response s x its) (response-are_bytes (version_of s s.runner) told) fits (buffers_of s s.runner)))
     where
       its : Taken s x
       its = taken s x none
@@ -93,4 +104,4 @@ module _ (s : State) (sound : IsSoundState s) where
       before-sound = taken-sound s sound (h s x its) its.of its.is.there s.runner (right s x its) (runner-known s sound) its.is.receiver its.is.within
 
       fits : length (response s x its) ≤ 4096
-      fits = response-fits told (sound.transactions (h s x its) its.of its.is.there).few_ranges
+      fits = response-fits (version_of s s.runner) told (sound.transactions (h s x its) its.of its.is.there).few_ranges

@@ -12,7 +12,7 @@ use Rattle.ffa_model.specs.Messages.{tx_bytes}
 use Rattle.ffa_model.specs.SendDescriptor.{SendRecord}
 use Rattle.ffa_model.specs.SoundState.{IsSoundState}
 use Rattle.ffa_model.specs.Transactions.{Transfer, bases_of, offers_of, open_count, pages_in, scene_of}
-use Rattle.ffa_model.specs.MemorySend.{is_sendable, memory_send, memory_sent, send_guards, send_read, transaction_from}
+use Rattle.ffa_model.specs.MemorySend.{descriptor_in, is_sendable, memory_send, memory_sent, send_guards, send_read, transaction_from}
 use Rattle.ffa_model.proofs.KeptCalls.{offered-sound}
 use Rattle.ffa_model.proofs.KeptSend.{IsSendable}
 use Rattle.ffa_laws.proofs.ByteLists.{all-take}
@@ -22,13 +22,10 @@ use Rattle.ffa_laws.proofs.SoundPages.{tx-are-bytes}
 use Rattle.ffa_laws.proofs.SoundSteady.{runner-known}
 
 module _ (s : State) (sound : IsSoundState s) (kind : Kind) (x : Transfer) where
-  abbrev bytes : List ℕ
-  bytes = take x.total (tx_bytes s s.runner)
-
   -- what the guards and the descriptor say is what soundness asks of a send
   sendable : (r : SendRecord) → send_read s kind x.total ≡ Some r → IsOffer s r → IsSendable s (transaction_from kind r)
   sendable r is good =
-      let counts = counted kind bytes r is in
+      let counts = counted kind (descriptor_in s x.total) r is in
       record {
         sender = subst (λ e. is_known s e ≡ true) (sym good.sender) (runner-known s sound);
         inside = good.inside;
@@ -43,7 +40,7 @@ module _ (s : State) (sound : IsSoundState s) (kind : Kind) (x : Transfer) where
         few_receivers = counts.few_receivers;
         some_ranges = counts.some_ranges;
         few_ranges = counts.few_ranges;
-        tag = tag-below kind bytes r is (all-take (λ b. nat_lt b 256) x.total (tx_bytes s s.runner) (tx-are-bytes s sound s.runner));
+        tag = tag-below kind (descriptor_in s x.total) r is (all-take (λ b. nat_lt b 256) x.total (tx_bytes s s.runner) (tx-are-bytes s sound s.runner));
       }
 
   pub send-sound : first_failure (memory_send s kind x).guards ≡ None → IsSoundState (memory_send s kind x).state

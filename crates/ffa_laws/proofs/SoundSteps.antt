@@ -11,7 +11,7 @@ use Rattle.ffa_model.specs.declared.call.Call as calls
 use Rattle.ffa_model.specs.declared.call.Call.TheVariants.{Version, Features, RxRelease, RxtxMap, RxtxUnmap, PartitionInfoGet, IdGet, MsgWait, Yield, Run, DirectRequest, DirectResponse, MemDonate, MemLend, MemShare, MemRetrieve, MemRelinquish, MemReclaim, BitmapCreate, BitmapDestroy, NotificationBind, NotificationUnbind, NotificationSet, NotificationGet, SpmIdGet, MsgSend2, Unknown}
 use Rattle.ffa_model.specs.Bits.{high_half, low_half}
 use Rattle.ffa_model.specs.Identifiers.{place}
-use Rattle.ffa_model.specs.State.{State, transaction_of}
+use Rattle.ffa_model.specs.State.{State, transaction_of, version_of}
 use Rattle.ffa_model.specs.MemorySend.{memory_sent, send_read}
 use Rattle.ffa_model.specs.SendDescriptor.{SendRecord}
 use Rattle.ffa_model.specs.MemoryRetrieve.{retrieve_read, retrieved, retrieved_from}
@@ -83,7 +83,7 @@ module _ (s : State) (is : IsScheduled s) where
   sound-service RxRelease none = old
   sound-service (RxtxMap tx rx pages) none = old
   sound-service (RxtxUnmap endpoint) none = old
-  sound-service (PartitionInfoGet uuid flags) none = elim (is_count_alone flags) as (λ b. P (cond b s (filled s s.runner (info_bytes s.parties (uuid_bytes uuid))))) [ true ↦ old | false ↦ old ]
+  sound-service (PartitionInfoGet uuid flags) none = elim (is_count_alone flags) as (λ b. P (cond b s (filled s s.runner (info_bytes (version_of s s.runner) s.parties (uuid_bytes uuid))))) [ true ↦ old | false ↦ old ]
   sound-service IdGet none = old
   sound-service SpmIdGet none = old
   sound-service MsgWait none = record { sound = sound-wait c is.schedule some few none; works = finished-works 0 }

@@ -11,7 +11,7 @@ use Rattle.ffa_model.specs.declared.rights.Kind.{Kind}
 use Rattle.ffa_model.specs.declared.rights.Kind.TheVariants.{Share, Lend, Donate}
 use Rattle.ffa_model.specs.declared.rights.Rights.{Rights}
 use Rattle.ffa_model.specs.Rights.{is_at_most, is_donate, is_within}
-use Rattle.ffa_model.specs.State.{State, Page, Transaction, page_at, transaction_of}
+use Rattle.ffa_model.specs.State.{State, Page, Transaction, page_at, transaction_of, version_of}
 use Rattle.ffa_model.specs.Access.{handle_at, held_by, is_receiver, names}
 use Rattle.ffa_model.specs.Buffers.{buffers_in, filled, is_full}
 use Rattle.ffa_model.specs.Calls.{first_failure}
@@ -99,7 +99,7 @@ module _ (s : State) (x : Transfer) (its : Taken s x) where
   before = taken_as t.kind
 
   abbrev pub response : List ℕ
-  response = response_bytes (response_to h t s.runner right)
+  response = response_bytes (version_of s s.runner) (response_to h t s.runner right)
 
   pub state-taken : (memory_retrieve s x).state ≡ filled before s.runner response
   state-taken = ap (retrieved s) its.read ∙ ap (retrieved_from s its.asked) its.is.there

@@ -19,10 +19,11 @@ use Rattle.ffa_model.specs.Rights.{may_store}
 use Rattle.ffa_model.specs.RelinquishDescriptor.{relinquish_of}
 use Rattle.ffa_model.specs.RetrieveDescriptor.{retrieve_of}
 use Rattle.ffa_model.specs.SendDescriptor.{SendRecord, send_of}
-use Rattle.ffa_model.specs.State.{State, Page, Buffers, Transaction, buffers_of, page_at, transaction_of}
+use Rattle.ffa_model.specs.State.{State, Page, Buffers, Transaction, buffers_of, page_at, transaction_of, version_of}
 use Rattle.ffa_model.specs.Access.{access, is_receiver, names, transaction_at}
 use Rattle.ffa_model.specs.Calls.{first_failure}
 use Rattle.ffa_model.specs.Memory.{fault_of, size_of}
+use Rattle.ffa_model.specs.DescriptorPlaces.{in_version}
 use Rattle.ffa_model.specs.MemorySend.{memory_sent, send_read, transaction_from}
 use Rattle.ffa_model.specs.MemoryRetrieve.{retrieve_read, right_for}
 use Rattle.ffa_model.specs.Messages.{tx_bytes}
@@ -110,7 +111,7 @@ module _ (e : ℕ) (s : State) (hides : ℕ → Bool) where
           of false = refl
 
       sends-b : (kind : Kind) (total : ℕ) → all_readably e s (opens e b kind (send_read b kind total)) ≡ all_readably e s (opens e s kind (send_read s kind total))
-      sends-b kind total = ap (λ tx. all_readably e s (opens e b kind (send_of kind (take total tx)))) tx-b ∙ opened-b kind (send_read s kind total)
+      sends-b kind total = ap (λ tx. all_readably e s (opens e b kind (send_of kind (in_version (version_of s s.runner) (take total tx))))) tx-b ∙ opened-b kind (send_read s kind total)
 
       taken-b : (o : Option RetrieveDesc) → takes e b o ≡ takes e s o
       taken-b None = refl
@@ -125,7 +126,7 @@ module _ (e : ℕ) (s : State) (hides : ℕ → Bool) where
       told-b (MemLend total fragment address pages) = sends-b Lend total
       told-b (MemShare total fragment address pages) = sends-b Share total
       told-b (MemRetrieve total fragment address pages) =
-          ap (all_readably e s) (ap (λ tx. takes e b (retrieve_of s.runner (take total tx))) tx-b ∙ taken-b (retrieve_read s total))
+          ap (all_readably e s) (ap (λ tx. takes e b (retrieve_of s.runner (in_version (version_of s s.runner) (take total tx)))) tx-b ∙ taken-b (retrieve_read s total))
       told-b MemRelinquish = ap (λ tx. all_readably e s (releases e s (relinquish_of tx))) tx-b
       told-b MsgSend2 = ap (λ tx. all_readably e s (delivers e s tx)) tx-b
       told-b call = refl

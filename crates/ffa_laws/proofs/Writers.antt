@@ -21,7 +21,7 @@ use Rattle.ffa_model.specs.Bits.{is_set}
 use Rattle.ffa_model.specs.Rights.{is_lend, may_store}
 use Rattle.ffa_model.specs.SendDescriptor.{SendRecord}
 use Rattle.ffa_model.specs.SoundState.{IsSoundState}
-use Rattle.ffa_model.specs.State.{State, Page, Transaction, Buffers, buffers_of, page_at, transaction_of}
+use Rattle.ffa_model.specs.State.{State, Page, Transaction, Buffers, buffers_of, page_at, transaction_of, version_of}
 use Rattle.ffa_model.specs.Access.{access, handle_at, held_by, names, right_by, right_of}
 use Rattle.ffa_model.specs.Buffers.{Candidate, candidate_at, filled, filled_pages, is_usable}
 use Rattle.ffa_model.specs.Calls.{first_failure}
@@ -221,9 +221,9 @@ module _ (s : State) (sound : IsSoundState s) (p : ℕ) (no_right : may_store (a
   only-service : (call : calls.Call) → (is_send2 call && fills_rx_page s (header_in (tx_bytes s s.runner)).receiver p) ≡ false → first_failure (service s call).guards ≡ None
       → (is_reclaim call && may_store (access (service s call).state s.runner p)) ≡ false → page_bytes (service s call).state p ≡ page_bytes s p
   only-service (PartitionInfoGet uuid flags) not_filled none later =
-      elim (is_count_alone flags) as (λ b. page_bytes (cond b s (filled s s.runner (info_bytes s.parties (uuid_bytes uuid)))) p ≡ page_bytes s p) [
+      elim (is_count_alone flags) as (λ b. page_bytes (cond b s (filled s s.runner (info_bytes (version_of s s.runner) s.parties (uuid_bytes uuid)))) p ≡ page_bytes s p) [
         | true ↦ refl
-        | false ↦ by-runner s.pages (info_bytes s.parties (uuid_bytes uuid))
+        | false ↦ by-runner s.pages (info_bytes (version_of s s.runner) s.parties (uuid_bytes uuid))
       ]
   only-service (MemDonate total fragment address pages) not_filled none later = send-elsewhere Donate (transfer total fragment address pages) none
   only-service (MemLend total fragment address pages) not_filled none later = send-elsewhere Lend (transfer total fragment address pages) none

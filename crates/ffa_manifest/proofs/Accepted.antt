@@ -57,10 +57,10 @@ normal_world-read : (placed : Region → Bool) (ms : Members) (e : Endpoint) →
 unfolding normal_world
 normal_world-read placed ms e h =
     let (_, _, h1) = bind_ok (normal_world_keys ms) _ e h in
-    let (_, _, h2) = bind_ok (version_at ms) _ e h1 in
+    let (version, _, h2) = bind_ok (version_at ms) _ e h1 in
     let (properties, few, h3) = bind_ok (normal_world_properties ms) _ e h2 in
     let (regions, read, h4) = bind_ok (regions_at placed [] ms) _ e h3 in
-    let is : endpoint_of (replicate 16 0) properties regions ≡ e = cc in
+    let is : endpoint_of version (replicate 16 0) properties regions ≡ e = cc in
     subst (EndpointRead placed []) is (record {
       regions = regions_at-read placed [] ms regions refl read;
       identified = normal_world_properties-pass ms properties few;
@@ -70,11 +70,11 @@ partition-read : (placed : Region → Bool) (b : Endpoint) (bs : List Endpoint) 
 unfolding partition
 partition-read placed b bs ms e apart h =
     let (_, _, h1) = bind_ok (partition_keys ms) _ e h in
-    let (_, _, h2) = bind_ok (version_at ms) _ e h1 in
+    let (version, _, h2) = bind_ok (version_at ms) _ e h1 in
     let (uuid, some, h3) = bind_ok (uuid_at ms) _ e h2 in
     let (properties, few, h4) = bind_ok (properties_at ms) _ e h3 in
     let (regions, read, h5) = bind_ok (regions_at placed (regions_of (b ∷ bs)) ms) _ e h4 in
-    let is : endpoint_of uuid properties regions ≡ e = cc in
+    let is : endpoint_of version uuid properties regions ≡ e = cc in
     subst (EndpointRead placed (b ∷ bs)) is (record {
       regions = regions_at-read placed (regions_of (b ∷ bs)) ms regions apart read;
       identified = rw (uuid_at-some ms uuid some, properties_at-small ms properties few) refl;

@@ -3,6 +3,8 @@ use Rattle.std.specs.Prelude.{ℕ, Bool, ◌||◌, ◌==◌, nat_lt, List, [], �
 use Rattle.std.specs.Str.{bytes_eq}
 use Rattle.uuid.specs.Text.{parsed}
 use Rattle.toml.specs.Data.{Data, Items, Members, as_table}
+use Rattle.ffa_model.specs.declared.endpoint.Version as versions
+use Rattle.ffa_model.specs.declared.endpoint.Version.TheVariants.{Compact, V1_1}
 use Rattle.ffa_model.specs.declared.endpoint.Region.{Region}
 use Rattle.ffa_model.specs.declared.endpoint.Endpoint.{Endpoint}
 use Rattle.ffa_model.specs.Bits.{is_set}
@@ -19,11 +21,13 @@ normal_world_keys ms = only_keys (codes "version" ∷ codes "properties" ∷ cod
 unfoldable pub partition_keys : Members → Result (Unit {0}) ManifestError
 partition_keys ms = only_keys (codes "version" ∷ codes "uuid" ∷ codes "properties" ∷ codes "regions" ∷ []) ms
 
--- the one version that is spoken
-unfoldable pub version_at : Members → Result (Unit {0}) ManifestError
-version_at ms = do
-  text ← text_at (codes "version") ms
-  if bytes_eq text (codes "1.1") then Ok tt else Err Version
+-- the version that a text names
+unfoldable pub version_of : List ℕ → Result versions.Version ManifestError
+version_of text =
+    if bytes_eq text (codes "1.1") then Ok V1_1 else if bytes_eq text (codes "compact") then Ok Compact else Err Version
+
+unfoldable pub version_at : Members → Result versions.Version ManifestError
+version_at ms = text_at (codes "version") ms >>= version_of
 
 -- the bytes that a text writes, which aren't all 0
 unfoldable pub identifier : List ℕ → Result (List ℕ) ManifestError
@@ -43,9 +47,9 @@ normal_world_properties ms = do
   n ← properties_at ms
   if is_set 0 n || is_set 3 n then Err Property else Ok n
 
-abbrev pub endpoint_of : List ℕ → ℕ → List Region → Endpoint
-endpoint_of uuid properties regions =
-    record { uuid = uuid; properties = record { 0 = properties }; regions = record { items = regions } }
+abbrev pub endpoint_of : versions.Version → List ℕ → ℕ → List Region → Endpoint
+endpoint_of version uuid properties regions =
+    record { version = version; uuid = uuid; properties = record { 0 = properties }; regions = record { items = regions } }
 
 -- the first table
 unfoldable pub normal_world : (Region → Bool) → Members → Result Endpoint ManifestError
@@ -54,7 +58,7 @@ normal_world is_placed ms = do
   version ← version_at ms
   properties ← normal_world_properties ms
   regions ← regions_at is_placed [] ms
-  Ok (endpoint_of (replicate 16 0) properties regions)
+  Ok (endpoint_of version (replicate 16 0) properties regions)
 
 -- a table after those of these endpoints
 unfoldable pub partition : (Region → Bool) → List Endpoint → Members → Result Endpoint ManifestError
@@ -64,7 +68,7 @@ partition is_placed before ms = do
   uuid ← uuid_at ms
   properties ← properties_at ms
   regions ← regions_at is_placed (regions_of before) ms
-  Ok (endpoint_of uuid properties regions)
+  Ok (endpoint_of version uuid properties regions)
 
 -- the next endpoint of the array, after these
 unfoldable pub next_endpoint : (Region → Bool) → List Endpoint → Data → Result Endpoint ManifestError

@@ -4,7 +4,7 @@ ghost use Rattle.ffa_model.specs.Bits.{is_set};
 ghost use Rattle.toml.specs.View.{view, table_view, items_view};
 ghost use Rattle.ffa_manifest.specs.Reading.{Exact};
 ghost use Rattle.ffa_manifest.specs.Place.{is_in};
-ghost use Rattle.ffa_manifest.specs.Endpoints.{normal_world_keys as normal_world_keys_in, partition_keys as partition_keys_in, version_at as version_in, uuid_at as uuid_in, properties_at as properties_in, normal_world_properties as normal_world_properties_in, normal_world as normal_world_in, partition as partition_in, next_endpoint as next_in, endpoints_from as endpoints_in};
+ghost use Rattle.ffa_manifest.specs.Endpoints.{normal_world_keys as normal_world_keys_in, partition_keys as partition_keys_in, version_at as version_in, version_of as version_named, uuid_at as uuid_in, properties_at as properties_in, normal_world_properties as normal_world_properties_in, normal_world as normal_world_in, partition as partition_in, next_endpoint as next_in, endpoints_from as endpoints_in};
 
 use crate::error::ManifestError;
 use crate::identifier::identifier;
@@ -13,7 +13,7 @@ use crate::place::Place;
 use crate::regions::regions_at;
 use arrayvec::ArrayVec;
 use bitflags::Flags;
-use ffa_model::{Endpoint, Properties};
+use ffa_model::{Endpoint, Properties, Version};
 use toml::{Table, Value};
 
 #[tactic(auto, unfolding(crate::specs::Endpoints::normal_world_keys))]
@@ -30,15 +30,23 @@ fn partition_keys(table: &Table) -> Result<(), ManifestError>
     only_keys(table, &["version", "uuid", "properties", "regions"])
 }
 
-#[tactic(auto, unfolding(crate::specs::Endpoints::version_at))]
-fn version_at(table: &Table) -> Result<(), ManifestError>
-    ensures { Exact (λ u. u) result (version_in (table_view table.now)) }
+// The version that a text names.
+#[tactic(auto, unfolding(crate::specs::Endpoints::version_of))]
+fn version_of(text: &str) -> Result<Version, ManifestError>
+    ensures { Exact (λ v. v) result (version_named text.now) }
 {
-    if text_at(table, "version")? == "1.1" {
-        Ok(())
-    } else {
-        Err(ManifestError::Version)
+    match text {
+        "1.1" => Ok(Version::V1_1),
+        "compact" => Ok(Version::Compact),
+        _ => Err(ManifestError::Version),
     }
+}
+
+#[tactic(auto, unfolding(crate::specs::Endpoints::version_at))]
+fn version_at(table: &Table) -> Result<Version, ManifestError>
+    ensures { Exact (λ v. v) result (version_in (table_view table.now)) }
+{
+    version_of(text_at(table, "version")?)
 }
 
 #[tactic(auto, unfolding(crate::specs::Endpoints::uuid_at))]
@@ -84,10 +92,11 @@ fn normal_world(table: &Table, place: &Place) -> Result<Endpoint, ManifestError>
     ensures { Exact (λ e. e) result (normal_world_in (is_in place.now) (table_view table.now)) }
 {
     normal_world_keys(table)?;
-    version_at(table)?;
+    let version = version_at(table)?;
     let properties = normal_world_properties(table)?;
     let regions = regions_at(table, place, &[])?;
     Ok(Endpoint {
+        version,
         uuid: [0; 16],
         properties,
         regions,
@@ -99,11 +108,12 @@ fn partition(table: &Table, place: &Place, before: &[Endpoint]) -> Result<Endpoi
     ensures { Exact (λ e. e) result (partition_in (is_in place.now) before.now (table_view table.now)) }
 {
     partition_keys(table)?;
-    version_at(table)?;
+    let version = version_at(table)?;
     let uuid = uuid_at(table)?;
     let properties = properties_at(table)?;
     let regions = regions_at(table, place, before)?;
     Ok(Endpoint {
+        version,
         uuid,
         properties,
         regions,

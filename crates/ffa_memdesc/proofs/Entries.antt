@@ -1,13 +1,12 @@
 -- Lists of entries that are read one after another, each tested beside the ones before it.
-use Rattle.std.proofs.Common.{◌≡◌, ℕ, ◌+◌, ◌<◌, Bool, true, false, cond, List, [], ◌∷◌, ◌++◌, Some, None, refl, sym, ap, ◌∙◌, subst, add-one}
+use Rattle.std.proofs.Common.{◌≡◌, ℕ, ◌+◌, ◌*◌, ◌<◌, Bool, true, false, cond, List, [], ◌∷◌, ◌++◌, Some, None, refl, sym, ap, ◌∙◌, subst, add-one}
 use Rattle.std.proofs.lemmas.Option.{cond_some}
 use Rattle.ffa_model.specs.declared.rights.Kind.{Kind}
 use Rattle.ffa_model.specs.declared.transaction.Receiver.{Receiver}
 use Rattle.ffa_model.specs.declared.transaction.Range.{Range}
 use Rattle.ffa_model.specs.Lists.{listed}
-use Rattle.ffa_model.specs.DescriptorPlaces.{access_place, range_place}
-use Rattle.ffa_model.specs.SendDescriptor.{holds_at_each, is_access_beside, receiver_in, is_range_beside, range_in}
-use Rattle.ffa_memdesc.specs.Reading.{receiver_of, receivers_of, range_of, ranges_of}
+use Rattle.ffa_model.specs.SendDescriptor.{holds_at_each}
+use Rattle.ffa_memdesc.specs.Reading.{is_range_after, is_receiver_after, range_after, range_of, ranges_of, receiver_after, receiver_of, receivers_of}
 use Rattle.ffa_memdesc.proofs.Decisions.{cond_none}
 use Rattle.ffa_memdesc.proofs.Listed.{listed-suc, holds_more, fails_at}
 
@@ -28,48 +27,52 @@ one_more read test n xs ys x t before same e grown =
       items = rw (add-one, listed-suc read n) (grown ∙ ap (λ l. l ++ x ∷ []) before.items ∙ ap (λ y. listed n read ++ y ∷ []) (sym is));
     }
 
-pub receivers_more : (kind : Kind) (b : List ℕ) (n at : ℕ) (xs ys earlier : List Receiver) (x : Receiver)
-    → Passed (receiver_in b) (is_access_beside kind b) n xs → earlier ≡ xs → at ≡ access_place b n
-    → Some x ≡ receiver_of kind b at earlier → ys ≡ xs ++ x ∷ []
-    → Passed (receiver_in b) (is_access_beside kind b) (n + 1) ys
-unfolding receiver_of
-receivers_more kind b n at xs ys earlier x before same place e grown =
-    one_more (receiver_in b) (is_access_beside kind b) n xs ys x _ before
-    (rw (same, before.items) refl) (subst (λ (p : ℕ). Some x ≡ receiver_of kind b p earlier) place e) grown
+-- the receivers of an array, which stands at a place, in a send by this sender
+module _ (kind : Kind) (sender composite : ℕ) (b : List ℕ) (array : ℕ) where
+  pub receivers_more : (n at : ℕ) (xs ys earlier : List Receiver) (x : Receiver)
+      → Passed (receiver_after b array) (is_receiver_after kind sender composite b array) n xs → earlier ≡ xs → at ≡ array + 16 * n
+      → Some x ≡ receiver_of kind sender composite b at earlier → ys ≡ xs ++ x ∷ []
+      → Passed (receiver_after b array) (is_receiver_after kind sender composite b array) (n + 1) ys
+  unfolding receiver_of
+  receivers_more n at xs ys earlier x before same place e grown =
+      one_more (receiver_after b array) (is_receiver_after kind sender composite b array) n xs ys x _ before
+      (rw (same, before.items) refl) (subst (λ (p : ℕ). Some x ≡ receiver_of kind sender composite b p earlier) place e) grown
 
-pub receivers_fail : (kind : Kind) (b : List ℕ) (n at count : ℕ) (xs earlier : List Receiver)
-    → n < count → Passed (receiver_in b) (is_access_beside kind b) n xs → earlier ≡ xs → at ≡ access_place b n
-    → None ≡ receiver_of kind b at earlier → receivers_of kind b count ≡ None
-unfolding receiver_of receivers_of
-receivers_fail kind b n at count xs earlier below before same place e =
-    let fails = cond_none _ _ (subst (λ (p : ℕ). None ≡ receiver_of kind b p earlier) place e) in
-    let here : is_access_beside kind b n ≡ false = sym (rw (same, before.items) refl) ∙ fails in
-    rw (fails_at (is_access_beside kind b) count n below here) refl
+  pub receivers_fail : (n at count : ℕ) (xs earlier : List Receiver)
+      → n < count → Passed (receiver_after b array) (is_receiver_after kind sender composite b array) n xs → earlier ≡ xs → at ≡ array + 16 * n
+      → None ≡ receiver_of kind sender composite b at earlier → receivers_of kind sender composite b array count ≡ None
+  unfolding receiver_of receivers_of
+  receivers_fail n at count xs earlier below before same place e =
+      let fails = cond_none _ _ (subst (λ (p : ℕ). None ≡ receiver_of kind sender composite b p earlier) place e) in
+      let here : is_receiver_after kind sender composite b array n ≡ false = sym (rw (same, before.items) refl) ∙ fails in
+      rw (fails_at (is_receiver_after kind sender composite b array) count n below here) refl
 
-pub receivers_end : (kind : Kind) (b : List ℕ) (n count : ℕ) (xs : List Receiver) → n ≡ count → Passed (receiver_in b) (is_access_beside kind b) n xs
-    → Some xs ≡ receivers_of kind b count
-unfolding receivers_of
-receivers_end kind b n count xs e before = rw (← e, before.tested, before.items) refl
+  pub receivers_end : (n count : ℕ) (xs : List Receiver) → n ≡ count → Passed (receiver_after b array) (is_receiver_after kind sender composite b array) n xs
+      → Some xs ≡ receivers_of kind sender composite b array count
+  unfolding receivers_of
+  receivers_end n count xs e before = rw (← e, before.tested, before.items) refl
 
-pub ranges_more : (b : List ℕ) (n at : ℕ) (xs ys earlier : List Range) (x : Range)
-    → Passed (range_in b) (is_range_beside b) n xs → earlier ≡ xs → at ≡ range_place b n
-    → Some x ≡ range_of b at earlier → ys ≡ xs ++ x ∷ []
-    → Passed (range_in b) (is_range_beside b) (n + 1) ys
-unfolding range_of
-ranges_more b n at xs ys earlier x before same place e grown =
-    one_more (range_in b) (is_range_beside b) n xs ys x _ before
-    (rw (same, before.items) refl) (subst (λ (p : ℕ). Some x ≡ range_of b p earlier) place e) grown
+-- the ranges of a composite, which stands at a place
+module _ (b : List ℕ) (composite : ℕ) where
+  pub ranges_more : (n at : ℕ) (xs ys earlier : List Range) (x : Range)
+      → Passed (range_after b composite) (is_range_after b composite) n xs → earlier ≡ xs → at ≡ composite + 16 + 16 * n
+      → Some x ≡ range_of b at earlier → ys ≡ xs ++ x ∷ []
+      → Passed (range_after b composite) (is_range_after b composite) (n + 1) ys
+  unfolding range_of
+  ranges_more n at xs ys earlier x before same place e grown =
+      one_more (range_after b composite) (is_range_after b composite) n xs ys x _ before
+      (rw (same, before.items) refl) (subst (λ (p : ℕ). Some x ≡ range_of b p earlier) place e) grown
 
-pub ranges_fail : (b : List ℕ) (n at count : ℕ) (xs earlier : List Range)
-    → n < count → Passed (range_in b) (is_range_beside b) n xs → earlier ≡ xs → at ≡ range_place b n
-    → None ≡ range_of b at earlier → ranges_of b count ≡ None
-unfolding range_of ranges_of
-ranges_fail b n at count xs earlier below before same place e =
-    let fails = cond_none _ _ (subst (λ (p : ℕ). None ≡ range_of b p earlier) place e) in
-    let here : is_range_beside b n ≡ false = sym (rw (same, before.items) refl) ∙ fails in
-    rw (fails_at (is_range_beside b) count n below here) refl
+  pub ranges_fail : (n at count : ℕ) (xs earlier : List Range)
+      → n < count → Passed (range_after b composite) (is_range_after b composite) n xs → earlier ≡ xs → at ≡ composite + 16 + 16 * n
+      → None ≡ range_of b at earlier → ranges_of b composite count ≡ None
+  unfolding range_of ranges_of
+  ranges_fail n at count xs earlier below before same place e =
+      let fails = cond_none _ _ (subst (λ (p : ℕ). None ≡ range_of b p earlier) place e) in
+      let here : is_range_after b composite n ≡ false = sym (rw (same, before.items) refl) ∙ fails in
+      rw (fails_at (is_range_after b composite) count n below here) refl
 
-pub ranges_end : (b : List ℕ) (n count : ℕ) (xs : List Range) → n ≡ count → Passed (range_in b) (is_range_beside b) n xs
-    → Some xs ≡ ranges_of b count
-unfolding ranges_of
-ranges_end b n count xs e before = rw (← e, before.tested, before.items) refl
+  pub ranges_end : (n count : ℕ) (xs : List Range) → n ≡ count → Passed (range_after b composite) (is_range_after b composite) n xs
+      → Some xs ≡ ranges_of b composite count
+  unfolding ranges_of
+  ranges_end n count xs e before = rw (← e, before.tested, before.items) refl

@@ -8,7 +8,7 @@ use Rattle.ffa_model.specs.declared.rights.Kind.{Kind}
 use Rattle.ffa_model.specs.declared.rights.Kind.TheVariants.{Share, Lend, Donate}
 use Rattle.ffa_model.specs.declared.descriptor.RetrieveDesc.{RetrieveDesc}
 use Rattle.ffa_model.specs.Bits.{bits}
-use Rattle.ffa_model.specs.DescriptorPlaces.{is_header, flags_field, data_code, data_of, kind_code, kind_of}
+use Rattle.ffa_model.specs.DescriptorPlaces.{is_header, flags_field, data_code, data_of, kind_code, kind_of, Versioned}
 use Rattle.ffa_model.specs.RetrieveDescriptor.{Retrieve, asked_permissions, retrieve_in, is_retrieve_header, is_retrieve_access, retrieve_of}
 use Rattle.ffa_memdesc.proofs.Decisions.{cond_true, differ, differ_again, either_told, either_again}
 use Rattle.ffa_memdesc.proofs.HeaderLaw.{header_told, header_again}
@@ -49,7 +49,7 @@ data_code_few None = omega arith
 data_code_few (Some Ro) = omega arith
 data_code_few (Some Rw) = omega arith
 
-facts : (e : ℕ) (b : List ℕ) → is_header b ≡ true → is_retrieve_header b ≡ true → is_retrieve_access e b ≡ true → Retrieve e b (retrieve_in b)
+facts : (e : ℕ) (b : Versioned) → is_header b ≡ true → is_retrieve_header b ≡ true → is_retrieve_access e b ≡ true → Retrieve e b (retrieve_in b)
 unfolding is_retrieve_header is_retrieve_access
 facts e b header h access =
     let p2 = and_parts _ _ h in
@@ -89,12 +89,12 @@ flags_again flags code few e = omega arith
 not_reserved : (n code : ℕ) → code < 3 → n ≡ code → n ≢ 3
 not_reserved n code few e three = omega arith
 
-header_test : (e : ℕ) (b : List ℕ) (r : RetrieveDesc) → Retrieve e b r → is_retrieve_header b ≡ true
+header_test : (e : ℕ) (b : Versioned) (r : RetrieveDesc) → Retrieve e b r → is_retrieve_header b ≡ true
 unfolding is_retrieve_header
 header_test e b r h =
     and_from _ _ (and_from _ _ (either_again _ 0 47 h.attributes) (eq-eqb _ _ (flags_again (flags_field b) (kind_code r.kind) (kind_code_few r.kind) h.kind))) (eq-eqb _ _ h.one)
 
-access_test : (e : ℕ) (b : List ℕ) (r : RetrieveDesc) → Retrieve e b r → is_retrieve_access e b ≡ true
+access_test : (e : ℕ) (b : Versioned) (r : RetrieveDesc) → Retrieve e b r → is_retrieve_access e b ≡ true
 unfolding is_retrieve_access
 access_test e b r h =
     and_from _ _ (and_from _ _ (and_from _ _ (and_from _ _ (and_from _ _ (and_from _ _
@@ -106,13 +106,13 @@ same_parts : (r : RetrieveDesc) (sender handle tag : ℕ) (kind : Option Kind) (
     → record { sender = record { 0 = sender }; handle = handle; tag = tag; kind = kind; level = level; exec = exec } ≡ r
 same_parts r sender handle tag kind level exec s h t k l x = rw (s, h, t, k, l, x) refl
 
-retrieve_is : (e : ℕ) (b : List ℕ) (r : RetrieveDesc) → Retrieve e b r → retrieve_in b ≡ r
+retrieve_is : (e : ℕ) (b : Versioned) (r : RetrieveDesc) → Retrieve e b r → retrieve_in b ≡ r
 retrieve_is e b r h =
     let kind : kind_of (bits 4 3 (flags_field b)) ≡ r.kind = ap kind_of (kind_bits (flags_field b) (kind_code r.kind) (kind_code_few r.kind) h.kind) ∙ kind_of-kind_code r.kind in
     let level : data_of (bits 1 0 (asked_permissions b)) ≡ r.level = ap data_of h.level ∙ data_of-data_code r.level in
     same_parts r _ _ _ _ _ _ (sym h.sender) (sym h.handle) (sym h.tag) kind level (sym h.exec)
 
-pub retrieve_told : (e : ℕ) (b : List ℕ) (r : RetrieveDesc) → retrieve_of e b ≡ Some r → Retrieve e b r
+pub retrieve_told : (e : ℕ) (b : Versioned) (r : RetrieveDesc) → retrieve_of e b ≡ Some r → Retrieve e b r
 unfolding retrieve_of
 retrieve_told e b r h =
     let (tests, same) = cond_some _ (retrieve_in b) r h in
@@ -120,15 +120,15 @@ retrieve_told e b r h =
     let p1 = and_parts _ _ p2.0 in
     subst (λ (d : RetrieveDesc). Retrieve e b d) same (facts e b p1.0 p1.1 p2.1)
 
-pub retrieve_again : (e : ℕ) (b : List ℕ) (r : RetrieveDesc) → Retrieve e b r → retrieve_of e b ≡ Some r
+pub retrieve_again : (e : ℕ) (b : Versioned) (r : RetrieveDesc) → Retrieve e b r → retrieve_of e b ≡ Some r
 unfolding retrieve_of
 retrieve_again e b r h =
     cond_true _ (retrieve_in b) (and_from _ _ (and_from _ _ (header_again b h.header) (header_test e b r h)) (access_test e b r h))
     ∙ ap (λ (d : RetrieveDesc). Some d) (retrieve_is e b r h)
 
 -- a list of bytes fits at most one record
-pub one_retrieve : (e : ℕ) (b : List ℕ) (r s : RetrieveDesc) → Retrieve e b r → Retrieve e b s → r ≡ s
+pub one_retrieve : (e : ℕ) (b : Versioned) (r s : RetrieveDesc) → Retrieve e b r → Retrieve e b s → r ≡ s
 one_retrieve e b r s h k = same_Some r s (sym (retrieve_again e b r h) ∙ retrieve_again e b s k)
 
-pub no_retrieve : (e : ℕ) (b : List ℕ) → None ≡ retrieve_of e b → (r : RetrieveDesc) → Retrieve e b r → ⊥
+pub no_retrieve : (e : ℕ) (b : Versioned) → None ≡ retrieve_of e b → (r : RetrieveDesc) → Retrieve e b r → ⊥
 no_retrieve e b n r h = none-some r (n ∙ retrieve_again e b r h)

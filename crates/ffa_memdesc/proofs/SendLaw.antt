@@ -6,7 +6,7 @@ use Rattle.ffa_model.specs.declared.rights.Kind.{Kind}
 use Rattle.ffa_model.specs.declared.rights.Kind.TheVariants.{Share, Lend, Donate}
 use Rattle.ffa_model.specs.declared.transaction.Range.{Range}
 use Rattle.ffa_model.specs.declared.transaction.Receiver.{Receiver}
-use Rattle.ffa_model.specs.DescriptorPlaces.{is_header, flags_field, sender_field, tag_field, receiver_count, access_place, endpoint_field, range_count, range_place}
+use Rattle.ffa_model.specs.DescriptorPlaces.{is_header, flags_field, sender_field, tag_field, receiver_count, access_place, endpoint_field, range_count, range_place, Versioned}
 use Rattle.ffa_model.specs.SendDescriptor.{SendRecord, Send, IsGrant, IsAccess, IsComposite, IsRange, AreApart, is_grant, is_access, is_access_beside, is_composite, is_range, are_apart, is_range_beside, is_send_header, is_send_body, holds_at_each, send_in, send_counted, send_of, receiver_in, receivers_in, range_in, ranges_in}
 use Rattle.ffa_memdesc.proofs.Listed.{holds_told, holds_again, none_told, none_again, all_told, all_again}
 use Rattle.ffa_memdesc.proofs.Decisions.{cond_true, differ, differ_again, either_told, either_again, either_true}
@@ -22,7 +22,7 @@ grant_again Share p e = either_again p 1 2 e
 grant_again Lend p e = either_again p 1 2 e
 grant_again Donate p e = eq-eqb _ _ e
 
-access_told : (kind : Kind) (b : List ℕ) (at : ℕ) → is_access kind b at ≡ true → IsAccess kind b at
+access_told : (kind : Kind) (b : Versioned) (at : ℕ) → is_access kind b at ≡ true → IsAccess kind b at
 access_told kind b at e =
     let p4 = and_parts _ _ e in
     let p3 = and_parts _ _ p4.0 in
@@ -36,12 +36,12 @@ access_told kind b at e =
       other = differ _ _ p4.1;
     }
 
-access_again : (kind : Kind) (b : List ℕ) (at : ℕ) → IsAccess kind b at → is_access kind b at ≡ true
+access_again : (kind : Kind) (b : Versioned) (at : ℕ) → IsAccess kind b at → is_access kind b at ≡ true
 access_again kind b at h =
     and_from _ _ (and_from _ _ (and_from _ _ (and_from _ _
     (grant_again kind _ h.permissions) (eq-eqb _ _ h.flags)) (eq-eqb _ _ h.composite)) (eq-eqb _ _ h.reserved)) (differ_again _ _ h.other)
 
-composite_told : (b : List ℕ) → is_composite b ≡ true → IsComposite b
+composite_told : (b : Versioned) → is_composite b ≡ true → IsComposite b
 composite_told b e =
     let p5 = and_parts _ _ e in
     let p4 = and_parts _ _ p5.0 in
@@ -57,7 +57,7 @@ composite_told b e =
       inside = leb-true _ _ p5.1;
     }
 
-composite_again : (b : List ℕ) → IsComposite b → is_composite b ≡ true
+composite_again : (b : Versioned) → IsComposite b → is_composite b ≡ true
 composite_again b h =
     and_from _ _ (and_from _ _ (and_from _ _ (and_from _ _ (and_from _ _
     (eq-eqb _ _ h.aligned) (le-leb _ _ h.behind)) (le-leb _ _ h.least)) (le-leb _ _ h.most)) (eq-eqb _ _ h.reserved)) (le-leb _ _ h.inside)
@@ -81,52 +81,52 @@ apart_again r q (inl a) = either_true _ _ (inl (le-leb _ _ a))
 apart_again r q (inr a) = either_true _ _ (inr (le-leb _ _ a))
 
 -- access descriptor i, and those before it
-record Receives (kind : Kind) (b : List ℕ) (i : ℕ) : Type 0 where
+record Receives (kind : Kind) (b : Versioned) (i : ℕ) : Type 0 where
   access : IsAccess kind b (access_place b i)
-  new : (j : ℕ) → j < i → endpoint_field b (access_place b j) ≢ endpoint_field b (access_place b i)
+  new : (j : ℕ) → j < i → endpoint_field b.bytes (access_place b j) ≢ endpoint_field b.bytes (access_place b i)
 
-receives : (kind : Kind) (b : List ℕ) → holds_at_each (is_access_beside kind b) (receiver_count b) ≡ true → (i : ℕ) → i < receiver_count b → Receives kind b i
+receives : (kind : Kind) (b : Versioned) → holds_at_each (is_access_beside kind b) (receiver_count b) ≡ true → (i : ℕ) → i < receiver_count b → Receives kind b i
 receives kind b e i lt =
     let (access, new) = and_parts _ _ (holds_told (is_access_beside kind b) (receiver_count b) e i lt) in
     record {
       access = access_told kind b (access_place b i) access;
-      new = λ j before. eqb-false _ _ (none_told (λ (r : Receiver). r.endpoint.0 == endpoint_field b (access_place b i)) (receiver_in b) i (not-true _ new) j before);
+      new = λ j before. eqb-false _ _ (none_told (λ (r : Receiver). r.endpoint.0 == endpoint_field b.bytes (access_place b i)) (receiver_in b) i (not-true _ new) j before);
     }
 
-receives_again : (kind : Kind) (b : List ℕ) → ((i : ℕ) → i < receiver_count b → Receives kind b i) → holds_at_each (is_access_beside kind b) (receiver_count b) ≡ true
+receives_again : (kind : Kind) (b : Versioned) → ((i : ℕ) → i < receiver_count b → Receives kind b i) → holds_at_each (is_access_beside kind b) (receiver_count b) ≡ true
 receives_again kind b h =
     holds_again (is_access_beside kind b) (receiver_count b) (λ i lt.
     and_from _ _ (access_again kind b (access_place b i) (h i lt).access)
-    (ap not (none_again (λ (r : Receiver). r.endpoint.0 == endpoint_field b (access_place b i)) (receiver_in b) i (λ j before. ne_eqb _ _ ((h i lt).new j before)))))
+    (ap not (none_again (λ (r : Receiver). r.endpoint.0 == endpoint_field b.bytes (access_place b i)) (receiver_in b) i (λ j before. ne_eqb _ _ ((h i lt).new j before)))))
 
 -- range i, and those before it
-record Offers (b : List ℕ) (i : ℕ) : Type 0 where
-  range : IsRange b (range_place b i)
+record Offers (b : Versioned) (i : ℕ) : Type 0 where
+  range : IsRange b.bytes (range_place b i)
   apart : (j : ℕ) → j < i → AreApart (range_in b i) (range_in b j)
 
-offers : (b : List ℕ) → holds_at_each (is_range_beside b) (range_count b) ≡ true → (i : ℕ) → i < range_count b → Offers b i
+offers : (b : Versioned) → holds_at_each (is_range_beside b) (range_count b) ≡ true → (i : ℕ) → i < range_count b → Offers b i
 offers b e i lt =
     let (range, apart) = and_parts _ _ (holds_told (is_range_beside b) (range_count b) e i lt) in
     record {
-      range = range_told b (range_place b i) range;
+      range = range_told b.bytes (range_place b i) range;
       apart = λ j before. apart_told (range_in b i) (range_in b j) (all_told (are_apart (range_in b i)) (range_in b) i apart j before);
     }
 
-offers_again : (b : List ℕ) → ((i : ℕ) → i < range_count b → Offers b i) → holds_at_each (is_range_beside b) (range_count b) ≡ true
+offers_again : (b : Versioned) → ((i : ℕ) → i < range_count b → Offers b i) → holds_at_each (is_range_beside b) (range_count b) ≡ true
 offers_again b h =
     holds_again (is_range_beside b) (range_count b) (λ i lt.
-    and_from _ _ (range_again b (range_place b i) (h i lt).range)
+    and_from _ _ (range_again b.bytes (range_place b i) (h i lt).range)
     (all_again (are_apart (range_in b i)) (range_in b) i (λ j before. apart_again (range_in b i) (range_in b j) ((h i lt).apart j before))))
 
-counted : (t : Bool) (kind : Kind) (b : List ℕ) (r : SendRecord) → send_counted t kind b ≡ Some r → (t ≡ true) × (is_send_body kind b ≡ true) × (send_in b ≡ r)
+counted : (t : Bool) (kind : Kind) (b : Versioned) (r : SendRecord) → send_counted t kind b ≡ Some r → (t ≡ true) × (is_send_body kind b ≡ true) × (send_in b ≡ r)
 counted true kind b r e = let (body, same) = cond_some (is_send_body kind b) (send_in b) r e in (refl, body, same)
 counted false kind b r e = absurd cc
 
-counted_again : (t : Bool) (kind : Kind) (b : List ℕ) → t ≡ true → is_send_body kind b ≡ true → send_counted t kind b ≡ Some (send_in b)
+counted_again : (t : Bool) (kind : Kind) (b : Versioned) → t ≡ true → is_send_body kind b ≡ true → send_counted t kind b ≡ Some (send_in b)
 counted_again true kind b e body = cond_true (is_send_body kind b) (send_in b) body
 counted_again false kind b e body = absurd cc
 
-facts : (kind : Kind) (b : List ℕ) → is_header b ≡ true → is_send_header kind b ≡ true → is_composite b ≡ true → is_send_body kind b ≡ true → Send kind b (send_in b)
+facts : (kind : Kind) (b : Versioned) → is_header b ≡ true → is_send_header kind b ≡ true → is_composite b ≡ true → is_send_body kind b ≡ true → Send kind b (send_in b)
 unfolding is_send_header is_send_body
 facts kind b header e composite body =
     let p4 = and_parts _ _ e in
@@ -155,24 +155,24 @@ facts kind b header e composite body =
       ranges = refl;
     }
 
-header_test : (kind : Kind) (b : List ℕ) (r : SendRecord) → Send kind b r → is_send_header kind b ≡ true
+header_test : (kind : Kind) (b : Versioned) (r : SendRecord) → Send kind b r → is_send_header kind b ≡ true
 unfolding is_send_header
 header_test kind b r h =
     and_from _ _ (and_from _ _ (and_from _ _ (and_from _ _
     (eq-eqb _ _ h.attributes) (le-leb _ _ h.flags)) (eq-eqb _ _ h.handle)) (le-leb _ _ h.least)) (le-leb _ _ h.most)
 
-body_test : (kind : Kind) (b : List ℕ) (r : SendRecord) → Send kind b r → is_send_body kind b ≡ true
+body_test : (kind : Kind) (b : Versioned) (r : SendRecord) → Send kind b r → is_send_body kind b ≡ true
 unfolding is_send_body
 body_test kind b r h =
     and_from _ _ (and_from _ _
     (receives_again kind b (λ i lt. record { access = h.accesses i lt; new = λ j before. h.distinct i j before lt }))
     (offers_again b (λ i lt. record { range = h.each i lt; apart = λ j before. h.apart i j before lt }))) (eq-eqb _ _ h.total)
 
-send_is : (b : List ℕ) (r : SendRecord) → r.sender ≡ sender_field b → r.zero ≡ (flags_field b == 1) → r.tag ≡ tag_field b
+send_is : (b : Versioned) (r : SendRecord) → r.sender ≡ sender_field b → r.zero ≡ (flags_field b == 1) → r.tag ≡ tag_field b
     → r.receivers ≡ receivers_in b (receiver_count b) → r.ranges ≡ ranges_in b (range_count b) → send_in b ≡ r
 send_is b r s z t n f = rw (← s, ← z, ← t, ← n, ← f) refl
 
-pub send_told : (kind : Kind) (b : List ℕ) (r : SendRecord) → send_of kind b ≡ Some r → Send kind b r
+pub send_told : (kind : Kind) (b : Versioned) (r : SendRecord) → send_of kind b ≡ Some r → Send kind b r
 unfolding send_of
 send_told kind b r e =
     let tests = counted _ kind b r e in
@@ -180,15 +180,15 @@ send_told kind b r e =
     let p1 = and_parts _ _ p2.0 in
     subst (λ (d : SendRecord). Send kind b d) tests.2 (facts kind b p1.0 p1.1 p2.1 tests.1)
 
-pub send_again : (kind : Kind) (b : List ℕ) (r : SendRecord) → Send kind b r → send_of kind b ≡ Some r
+pub send_again : (kind : Kind) (b : Versioned) (r : SendRecord) → Send kind b r → send_of kind b ≡ Some r
 unfolding send_of
 send_again kind b r h =
     counted_again _ kind b (and_from _ _ (and_from _ _ (header_again b h.header) (header_test kind b r h)) (composite_again b h.composite)) (body_test kind b r h)
     ∙ ap (λ (d : SendRecord). Some d) (send_is b r h.sender h.zero h.tag h.receivers h.ranges)
 
 -- a list of bytes fits at most one record
-pub one_send : (kind : Kind) (b : List ℕ) (r s : SendRecord) → Send kind b r → Send kind b s → r ≡ s
+pub one_send : (kind : Kind) (b : Versioned) (r s : SendRecord) → Send kind b r → Send kind b s → r ≡ s
 one_send kind b r s h k = same_Some r s (sym (send_again kind b r h) ∙ send_again kind b s k)
 
-pub no_send : (kind : Kind) (b : List ℕ) → None ≡ send_of kind b → (r : SendRecord) → Send kind b r → ⊥
+pub no_send : (kind : Kind) (b : Versioned) → None ≡ send_of kind b → (r : SendRecord) → Send kind b r → ⊥
 no_send kind b e r h = none-some r (e ∙ send_again kind b r h)

@@ -67,3 +67,7 @@ three_parts front a b c = simp append_assoc
 
 pub five_parts : (front a : List ℕ) (x y : ℕ) (b c : List ℕ) → ((((front ++ a) ++ x ∷ []) ++ y ∷ []) ++ b) ++ c ≡ front ++ (a ++ x ∷ y ∷ [] ++ b ++ c)
 five_parts front a x y b c = simp append_assoc
+
+-- another way to write the place
+pub wrote_to : (old front new : List ℕ) (at to : ℕ) → at ≡ to → Wrote old front at new → Wrote old front to new
+wrote_to old front new at to same w = subst (λ (n : ℕ). Wrote old front n new) same w

@@ -1,15 +1,16 @@
 -- What the parts of a reader answer.
-use Rattle.std.specs.Prelude.{ℕ, not, ◌&&◌, if◌then◌else◌, List, Option, Some, None}
+use Rattle.std.specs.Prelude.{ℕ, ◌+◌, ◌*◌, ◌%◌, ◌==◌, Bool, not, ◌&&◌, nat_le, if◌then◌else◌, List, length, Option, Some, None}
 use Rattle.ffa_model.specs.declared.rights.Kind.{Kind}
 use Rattle.ffa_model.specs.declared.transaction.Receiver.{Receiver}
 use Rattle.ffa_model.specs.declared.transaction.Range.{Range}
 use Rattle.std.specs.List.{list_all}
-use Rattle.ffa_model.specs.DescriptorPlaces.{sender_field, attributes_field, flags_field, handle_field, tag_field, receiver_count, array_place, is_header, endpoint_field, permissions_field, access_flags_field, composite_field, access_reserved_field, range_count}
-use Rattle.ffa_model.specs.SendDescriptor.{is_access, is_named, receiver_at, receivers_in, is_access_beside, is_range, are_apart, range_at, ranges_in, is_range_beside, is_composite, holds_at_each}
+use Rattle.ffa_model.specs.Lists.{listed}
+use Rattle.ffa_model.specs.DescriptorPlaces.{Versioned, sender_field, attributes_field, flags_field, handle_field, tag_field, receiver_count, array_place, is_header, endpoint_field, permissions_field, access_flags_field, composite_field, access_reserved_field, u32_at, u64_at}
+use Rattle.ffa_model.specs.SendDescriptor.{is_grant, is_named, receiver_at, is_range, are_apart, range_at, holds_at_each}
 use Rattle.ffa_memdesc.specs.declared.header.Header.{Header}
 use Rattle.ffa_memdesc.specs.declared.access.Access.{Access}
 
-abbrev pub header_in : List ℕ → Header
+abbrev pub header_in : Versioned → Header
 header_in b =
     record {
       sender = record { 0 = sender_field b };
@@ -21,7 +22,7 @@ header_in b =
       array = array_place b;
     }
 
-unfoldable pub header_of : List ℕ → Option Header
+unfoldable pub header_of : Versioned → Option Header
 header_of b = if is_header b then Some (header_in b) else None
 
 abbrev pub access_in : List ℕ → ℕ → Access
@@ -34,21 +35,59 @@ access_in b at =
       reserved = access_reserved_field b at;
     }
 
+-- What follows the header is read by its places, whatever the version: the array's and the composite's.
+
+-- whether an access descriptor of a send by this sender stands at a place
+abbrev pub is_access_from : Kind → ℕ → ℕ → List ℕ → ℕ → Bool
+is_access_from kind sender composite b at =
+    is_grant kind (permissions_field b at)
+    && (access_flags_field b at == 0)
+    && (composite_field b at == composite)
+    && (access_reserved_field b at == 0)
+    && not (endpoint_field b at == sender)
+
 -- the receiver at a place, where its access descriptor is one and no earlier one names it
-unfoldable pub receiver_of : Kind → List ℕ → ℕ → List Receiver → Option Receiver
-receiver_of kind b at earlier =
-    if is_access kind b at && not (is_named (endpoint_field b at) earlier) then Some (receiver_at b at) else None
+unfoldable pub receiver_of : Kind → ℕ → ℕ → List ℕ → ℕ → List Receiver → Option Receiver
+receiver_of kind sender composite b at earlier =
+    if is_access_from kind sender composite b at && not (is_named (endpoint_field b at) earlier) then Some (receiver_at b at) else None
 
-unfoldable pub receivers_of : Kind → List ℕ → ℕ → Option (List Receiver)
-receivers_of kind b n = if holds_at_each (is_access_beside kind b) n then Some (receivers_in b n) else None
+-- receiver i of an array, and whether it is one beside the earlier ones
+abbrev pub receiver_after : List ℕ → ℕ → ℕ → Receiver
+receiver_after b array i = receiver_at b (array + 16 * i)
 
-unfoldable pub range_count_of : List ℕ → Option ℕ
-range_count_of b = if is_composite b then Some (range_count b) else None
+abbrev pub is_receiver_after : Kind → ℕ → ℕ → List ℕ → ℕ → ℕ → Bool
+is_receiver_after kind sender composite b array i =
+    is_access_from kind sender composite b (array + 16 * i)
+    && not (is_named (endpoint_field b (array + 16 * i)) (listed i (receiver_after b array)))
+
+unfoldable pub receivers_of : Kind → ℕ → ℕ → List ℕ → ℕ → ℕ → Option (List Receiver)
+receivers_of kind sender composite b array n =
+    if holds_at_each (is_receiver_after kind sender composite b array) n then Some (listed n (receiver_after b array)) else None
+
+-- how many ranges a composite has that stands behind the array's end and inside the bytes
+unfoldable pub range_count_of : List ℕ → ℕ → ℕ → Option ℕ
+range_count_of b end composite =
+    if (composite % 16 == 0)
+    && nat_le end composite
+    && nat_le 1 (u32_at b (composite + 4))
+    && nat_le (u32_at b (composite + 4)) 16
+    && (u64_at b (composite + 8) == 0)
+    && nat_le (composite + 16 + 16 * u32_at b (composite + 4)) (length b)
+    then Some (u32_at b (composite + 4)) else None
 
 -- the range at a place, where it is one and has no page of an earlier one
 unfoldable pub range_of : List ℕ → ℕ → List Range → Option Range
 range_of b at earlier =
     if is_range b at && list_all (are_apart (range_at b at)) earlier then Some (range_at b at) else None
 
-unfoldable pub ranges_of : List ℕ → ℕ → Option (List Range)
-ranges_of b n = if holds_at_each (is_range_beside b) n then Some (ranges_in b n) else None
+-- range i of a composite, and whether it is one beside the earlier ones
+abbrev pub range_after : List ℕ → ℕ → ℕ → Range
+range_after b composite i = range_at b (composite + 16 + 16 * i)
+
+abbrev pub is_range_after : List ℕ → ℕ → ℕ → Bool
+is_range_after b composite i =
+    is_range b (composite + 16 + 16 * i) && list_all (are_apart (range_after b composite i)) (listed i (range_after b composite))
+
+unfoldable pub ranges_of : List ℕ → ℕ → ℕ → Option (List Range)
+ranges_of b composite n =
+    if holds_at_each (is_range_after b composite) n then Some (listed n (range_after b composite)) else None

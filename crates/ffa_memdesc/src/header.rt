@@ -1,14 +1,11 @@
 //! The transaction header, as it is read.
 
-ghost use Rattle.std.specs.Prelude.{◌≡◌, ◌≤◌, length, IfSome};
-ghost use Rattle.ffa_model.specs.DescriptorPlaces.{array_end};
+ghost use Rattle.std.specs.Prelude.{◌≡◌, ◌+◌, ◌*◌, ◌≤◌, length, IfSome};
+ghost use Rattle.ffa_model.specs.DescriptorPlaces.{told_access_size, array_in, header_size, in_version, is_rest_zero};
 ghost use Rattle.ffa_memdesc.specs.Reading.{header_in, header_of};
 
 use crate::bytes::{Bytes, read_u16, read_u32, read_u64};
-use ffa_model::EndpointId;
-
-/// How many bytes a transaction header has.
-pub const HEADER_SIZE: u32 = 48;
+use ffa_model::{EndpointId, Version};
 
 /// How many bytes an access descriptor has, and how many a range.
 pub const ENTRY_SIZE: u32 = 16;
@@ -30,25 +27,70 @@ pub struct Header {
     pub array: u32,
 }
 
-/// The header, where the bytes have one: its access descriptors stand behind it and inside the bytes.
+/// How many bytes a transaction header has.
+pub fn header_size(version: Version) -> u32
+    ensures value { result ≡ header_size version }
+    ensures least { 32 ≤ result }
+    ensures most { result ≤ 48 }
+{
+    match version {
+        Version::Compact => 32,
+        Version::V1_1 => 48,
+    }
+}
+
+/// The size of an access descriptor as a header tells it; 0 where it doesn't.
+pub fn told_access_size(version: Version) -> u32
+    ensures { result ≡ told_access_size version }
+{
+    match version {
+        Version::Compact => 0,
+        Version::V1_1 => ENTRY_SIZE,
+    }
+}
+
+/// The place of the first access descriptor.
+fn read_array<B: Bytes>(bytes: &B, version: Version) -> u32
+    requires { header_size version ≤ length (B.bytes bytes.now) }
+    ensures { result ≡ array_in version (B.bytes bytes.now) }
+{
+    match version {
+        Version::Compact => 32,
+        Version::V1_1 => read_u32(bytes, 32),
+    }
+}
+
+/// Whether the reserved bytes at the header's end are 0.
+fn is_rest_zero<B: Bytes>(bytes: &B, version: Version) -> bool
+    requires { header_size version ≤ length (B.bytes bytes.now) }
+    ensures { result ≡ is_rest_zero version (B.bytes bytes.now) }
+{
+    match version {
+        Version::Compact => true,
+        Version::V1_1 => read_u32(bytes, 36) == 0 && read_u64(bytes, 40) == 0,
+    }
+}
+
+// The header in the form of a version. Its callers know which, so no place is asked for where it is inlined.
+#[inline(always)]
 #[tactic(auto, unfolding(crate::specs::Reading::header_of))]
-pub fn read_header<B: Bytes>(bytes: &B) -> Option<Header>
-    ensures exact { result ≡ header_of (B.bytes bytes.now) }
-    ensures found { IfSome result (λ h. h ≡ header_in (B.bytes bytes.now)) }
-    ensures inside { IfSome result (λ h. array_end (B.bytes bytes.now) ≤ length (B.bytes bytes.now)) }
+fn read_in<B: Bytes>(bytes: &B, version: Version) -> Option<Header>
+    ensures exact { result ≡ header_of (in_version version (B.bytes bytes.now)) }
+    ensures found { IfSome result (λ h. h ≡ header_in (in_version version (B.bytes bytes.now))) }
+    ensures inside { IfSome result (λ h. h.array + 16 * h.count ≤ length (B.bytes bytes.now)) }
 {
     let len = bytes.len();
-    if len < HEADER_SIZE as usize {
+    let size = header_size(version);
+    if len < size as usize {
         return None;
     }
     let count = read_u32(bytes, 28);
-    let array = read_u32(bytes, 32);
-    let fits = read_u32(bytes, 24) == ENTRY_SIZE
+    let array = read_array(bytes, version);
+    let fits = read_u32(bytes, 24) == told_access_size(version)
         && array % 16 == 0
-        && array >= HEADER_SIZE
+        && array >= size
         && array as u64 + ENTRY_SIZE as u64 * count as u64 <= len as u64
-        && read_u32(bytes, 36) == 0
-        && read_u64(bytes, 40) == 0;
+        && is_rest_zero(bytes, version);
     if fits {
         Some(Header {
             sender: EndpointId(read_u16(bytes, 0)),
@@ -61,5 +103,17 @@ pub fn read_header<B: Bytes>(bytes: &B) -> Option<Header>
         })
     } else {
         None
+    }
+}
+
+/// The header, where the bytes have one of this version: its access descriptors stand behind it and inside the bytes.
+pub fn read_header<B: Bytes>(bytes: &B, version: Version) -> Option<Header>
+    ensures exact { result ≡ header_of (in_version version (B.bytes bytes.now)) }
+    ensures found { IfSome result (λ h. h ≡ header_in (in_version version (B.bytes bytes.now))) }
+    ensures inside { IfSome result (λ h. h.array + 16 * h.count ≤ length (B.bytes bytes.now)) }
+{
+    match version {
+        Version::Compact => read_in(bytes, Version::Compact),
+        Version::V1_1 => read_in(bytes, Version::V1_1),
     }
 }

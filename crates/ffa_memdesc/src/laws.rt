@@ -1,6 +1,7 @@
 //! Laws of the definitions.
 
 ghost use Rattle.std.specs.Prelude.{◌≡◌, ◌↔◌, ℕ, List, Some};
+ghost use Rattle.ffa_model.specs.DescriptorPlaces.{Versioned};
 ghost use Rattle.ffa_model.specs.SendDescriptor.{SendRecord, Send, send_of};
 ghost use Rattle.ffa_model.specs.RetrieveDescriptor.{Retrieve, retrieve_of};
 ghost use Rattle.ffa_model.specs.RelinquishDescriptor.{Relinquish, relinquish_of};
@@ -10,11 +11,11 @@ ghost use Rattle.ffa_model.specs.declared.rights.Kind.{Kind};
 
 /// A list of bytes fits at most one record of each relation, and the functions that compute a record give that one.
 pub fn one_record()
-    ensures one_send { (kind : Kind) (b : List ℕ) (r s : SendRecord) → Send kind b r → Send kind b s → r ≡ s }
-    ensures one_retrieve { (e : ℕ) (b : List ℕ) (r s : RetrieveDesc) → Retrieve e b r → Retrieve e b s → r ≡ s }
+    ensures one_send { (kind : Kind) (b : Versioned) (r s : SendRecord) → Send kind b r → Send kind b s → r ≡ s }
+    ensures one_retrieve { (e : ℕ) (b : Versioned) (r s : RetrieveDesc) → Retrieve e b r → Retrieve e b s → r ≡ s }
     ensures one_relinquish { (b : List ℕ) (r s : RelinquishDesc) → Relinquish b r → Relinquish b s → r ≡ s }
 
-    ensures send { (kind : Kind) (b : List ℕ) (r : SendRecord) → Send kind b r ↔ (send_of kind b ≡ Some r) }
-    ensures retrieve { (e : ℕ) (b : List ℕ) (r : RetrieveDesc) → Retrieve e b r ↔ (retrieve_of e b ≡ Some r) }
+    ensures send { (kind : Kind) (b : Versioned) (r : SendRecord) → Send kind b r ↔ (send_of kind b ≡ Some r) }
+    ensures retrieve { (e : ℕ) (b : Versioned) (r : RetrieveDesc) → Retrieve e b r ↔ (retrieve_of e b ≡ Some r) }
     ensures relinquish { (b : List ℕ) (r : RelinquishDesc) → Relinquish b r ↔ (relinquish_of b ≡ Some r) }
 {}

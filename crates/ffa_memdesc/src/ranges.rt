@@ -3,9 +3,8 @@
 ghost use Rattle.std.specs.Prelude.{◌≡◌, ◌+◌, ◌*◌, ◌≤◌, length, IfSome};
 ghost use Rattle.std.specs.List.{list_all};
 ghost use Rattle.std.specs.Option.{option_map};
-ghost use Rattle.ffa_model.specs.DescriptorPlaces.{composite_place, range_count, range_place};
 ghost use Rattle.ffa_model.specs.SendDescriptor.{range_end, are_apart, page_total};
-ghost use Rattle.ffa_memdesc.specs.Reading.{header_in, range_count_of, range_of, ranges_of};
+ghost use Rattle.ffa_memdesc.specs.Reading.{range_count_of, range_of, ranges_of};
 
 use crate::bytes::{Bytes, read_u32, read_u64};
 use crate::header::{ENTRY_SIZE, Header};
@@ -18,12 +17,9 @@ pub const MOST_RANGES: u32 = 16;
 /// How many ranges the composite has, where it stands behind the access descriptors and inside the bytes.
 #[tactic(auto, unfolding(crate::specs::Reading::range_count_of))]
 pub fn read_range_count<B: Bytes>(bytes: &B, header: &Header, composite: u32) -> Option<u32>
-    requires header { header.now ≡ header_in (B.bytes bytes.now) }
-    requires composite { composite ≡ composite_place (B.bytes bytes.now) }
-    ensures exact { result ≡ range_count_of (B.bytes bytes.now) }
-    ensures found { IfSome result (λ n. n ≡ range_count (B.bytes bytes.now)) }
+    ensures exact { result ≡ range_count_of (B.bytes bytes.now) (header.now.array + 16 * header.now.count) composite }
     ensures few { IfSome result (λ n. n ≤ 16) }
-    ensures inside { IfSome result (λ n. range_place (B.bytes bytes.now) n ≤ length (B.bytes bytes.now)) }
+    ensures inside { IfSome result (λ n. composite + 16 + 16 * n ≤ length (B.bytes bytes.now)) }
 {
     let len = bytes.len() as u64;
     let first = composite as u64 + 16;
@@ -81,10 +77,9 @@ fn read_range<B: Bytes>(bytes: &B, at: usize, earlier: &[Range]) -> Option<Range
 
 /// The ranges of the composite, where all fit.
 pub fn read_ranges<B: Bytes>(bytes: &B, composite: u32, count: u32) -> Option<ArrayVec<Range, 16>>
-    requires composite { composite ≡ composite_place (B.bytes bytes.now) }
     requires few { count ≤ 16 }
-    requires inside { range_place (B.bytes bytes.now) count ≤ length (B.bytes bytes.now) }
-    ensures { option_map (λ v. v.items) result ≡ ranges_of (B.bytes bytes.now) count }
+    requires inside { composite + 16 + 16 * count ≤ length (B.bytes bytes.now) }
+    ensures { option_map (λ v. v.items) result ≡ ranges_of (B.bytes bytes.now) composite count }
 {
     let _len = bytes.len();
     let mut ranges = ArrayVec::new();

@@ -1,10 +1,10 @@
 //! The receivers of a send.
 
-ghost use Rattle.std.specs.Prelude.{◌≡◌, ◌+◌, ◌≤◌, length};
+ghost use Rattle.std.specs.Prelude.{◌≡◌, ◌+◌, ◌*◌, ◌≤◌, length};
 ghost use Rattle.std.specs.Option.{option_map};
-ghost use Rattle.ffa_model.specs.DescriptorPlaces.{sender_field, composite_place, array_end, data_of};
+ghost use Rattle.ffa_model.specs.DescriptorPlaces.{data_of};
 ghost use Rattle.ffa_model.specs.SendDescriptor.{is_grant, is_named};
-ghost use Rattle.ffa_memdesc.specs.Reading.{header_in, receiver_of, receivers_of};
+ghost use Rattle.ffa_memdesc.specs.Reading.{receiver_of, receivers_of};
 
 use crate::access::read_access;
 use crate::bytes::Bytes;
@@ -49,10 +49,8 @@ fn read_receiver<B: Bytes>(
     at: usize,
     earlier: &[Receiver],
 ) -> Option<Receiver>
-    requires sender { sender.0 ≡ sender_field (B.bytes bytes.now) }
-    requires composite { composite ≡ composite_place (B.bytes bytes.now) }
-    requires inside { at + 16 ≤ length (B.bytes bytes.now) }
-    ensures { result ≡ receiver_of kind (B.bytes bytes.now) at earlier.now }
+    requires { at + 16 ≤ length (B.bytes bytes.now) }
+    ensures { result ≡ receiver_of kind sender.0 composite (B.bytes bytes.now) at earlier.now }
 {
     let access = read_access(bytes, at);
     let fits = is_grant(kind, access.permissions)
@@ -78,11 +76,9 @@ pub fn read_receivers<B: Bytes>(
     header: &Header,
     composite: u32,
 ) -> Option<ArrayVec<Receiver, 4>>
-    requires header { header.now ≡ header_in (B.bytes bytes.now) }
-    requires composite { composite ≡ composite_place (B.bytes bytes.now) }
     requires few { header.now.count ≤ 4 }
-    requires inside { array_end (B.bytes bytes.now) ≤ length (B.bytes bytes.now) }
-    ensures { option_map (λ v. v.items) result ≡ receivers_of kind (B.bytes bytes.now) header.now.count }
+    requires inside { header.now.array + 16 * header.now.count ≤ length (B.bytes bytes.now) }
+    ensures { option_map (λ v. v.items) result ≡ receivers_of kind header.now.sender.0 composite (B.bytes bytes.now) header.now.array header.now.count }
 {
     let mut receivers = ArrayVec::new();
     for i in 0..header.count {

@@ -4,20 +4,13 @@ ghost use Rattle.std.specs.Prelude.{◌≡◌, ◌+◌, ◌*◌, ◌^◌, ◌<�
 ghost use Rattle.std.specs.List.{flat_map};
 ghost use Rattle.ffa_model.specs.DescriptorPlaces.{header_size};
 ghost use Rattle.ffa_model.specs.SendDescriptor.{page_total};
-ghost use Rattle.ffa_model.specs.ResponseBytes.{le, flags_of, permissions_of, header_bytes, access_bytes, composite_bytes, range_bytes, response_record, response_bytes, response_size};
+ghost use Rattle.ffa_model.specs.ResponseBytes.{le, flags_of, permissions_of, header_bytes, rest_bytes, access_bytes, composite_bytes, range_bytes, response_record, response_bytes, response_size};
 ghost use Rattle.ffa_memdesc.specs.Writing.{Wrote};
 
-use crate::header::{ENTRY_SIZE, HEADER_SIZE, NORMAL_MEMORY};
+use crate::header::{ENTRY_SIZE, NORMAL_MEMORY, told_access_size, header_size};
 use crate::ranges::page_total;
 use byteorder::{ByteOrder, LittleEndian};
-use ffa_model::{Data, Kind, Range, Response, Rights};
-
-/// Where the access descriptor, the composite and the ranges of a response stand.
-const ACCESS: usize = HEADER_SIZE as usize;
-
-const COMPOSITE: usize = ACCESS + ENTRY_SIZE as usize;
-
-const RANGES: usize = COMPOSITE + 16;
+use ffa_model::{Data, Kind, Range, Response, Rights, Version};
 
 fn put_u8(out: &mut [u8], at: usize, value: u8)
     requires { at + 1 ≤ length out.old }
@@ -71,44 +64,58 @@ fn permissions_of(rights: Rights) -> u8
     exec << 2 | level
 }
 
-fn write_header(out: &mut [u8], response: &Response)
-    requires { 48 ≤ length out.old }
-    ensures { Wrote out.old (header_bytes (response_record response.now)) header_size out.new }
+fn write_header(out: &mut [u8], version: Version, response: &Response)
+    requires { header_size version ≤ length out.old }
+    ensures { Wrote out.old (header_bytes version (response_record response.now)) (header_size version) out.new }
 {
     put_u16(out, 0, response.sender.0);
     put_u16(out, 2, NORMAL_MEMORY);
     put_u32(out, 4, flags_of(response.kind, response.zero));
     put_u64(out, 8, response.handle);
     put_u64(out, 16, response.tag);
-    put_u32(out, 24, ENTRY_SIZE);
+    put_u32(out, 24, told_access_size(version));
     put_u32(out, 28, 1);
-    put_u32(out, 32, HEADER_SIZE);
-    put_u32(out, 36, 0);
-    put_u64(out, 40, 0);
+    write_rest(out, version);
 }
 
-fn write_access(out: &mut [u8], response: &Response)
-    requires { header_size + 16 ≤ length out.old }
-    ensures { (old front : List ℕ) → Wrote old front header_size out.old
-        → Wrote old (front ++ access_bytes (response_record response.now)) (header_size + 16) out.new }
+/// The header's end: where the access descriptor stands, where the header tells it.
+fn write_rest(out: &mut [u8], version: Version)
+    requires { header_size version ≤ length out.old }
+    ensures { (old front : List ℕ) → Wrote old front 32 out.old → Wrote old (front ++ rest_bytes version) (header_size version) out.new }
 {
-    put_u16(out, ACCESS, response.endpoint.0);
-    put_u8(out, ACCESS + 2, permissions_of(response.rights));
-    put_u8(out, ACCESS + 3, 0);
-    put_u32(out, ACCESS + 4, COMPOSITE as u32);
-    put_u64(out, ACCESS + 8, 0);
+    match version {
+        Version::Compact => {}
+        Version::V1_1 => {
+            put_u32(out, 32, 48);
+            put_u32(out, 36, 0);
+            put_u64(out, 40, 0);
+        }
+    }
 }
 
-fn write_composite(out: &mut [u8], ranges: &[Range])
-    requires room { header_size + 32 ≤ length out.old }
+/// The access descriptor, at a place, with the composite right behind it.
+fn write_access(out: &mut [u8], at: usize, response: &Response)
+    requires room { at + 16 ≤ length out.old }
+    requires place { at < 4096 }
+    ensures { (old front : List ℕ) (version : Version) → at ≡ header_size version → Wrote old front at out.old
+        → Wrote old (front ++ access_bytes version (response_record response.now)) (at + 16) out.new }
+{
+    put_u16(out, at, response.endpoint.0);
+    put_u8(out, at + 2, permissions_of(response.rights));
+    put_u8(out, at + 3, 0);
+    put_u32(out, at + 4, at as u32 + ENTRY_SIZE);
+    put_u64(out, at + 8, 0);
+}
+
+fn write_composite(out: &mut [u8], at: usize, ranges: &[Range])
+    requires room { at + 16 ≤ length out.old }
     requires few { length ranges.now ≤ 16 }
     requires total { page_total ranges.now < 2 ^ 32 }
-    ensures { (old front : List ℕ) → Wrote old front (header_size + 16) out.old
-        → Wrote old (front ++ composite_bytes ranges.now) (header_size + 32) out.new }
+    ensures { (old front : List ℕ) → Wrote old front at out.old → Wrote old (front ++ composite_bytes ranges.now) (at + 16) out.new }
 {
-    put_u32(out, COMPOSITE, page_total(ranges) as u32);
-    put_u32(out, COMPOSITE + 4, ranges.len() as u32);
-    put_u64(out, COMPOSITE + 8, 0);
+    put_u32(out, at, page_total(ranges) as u32);
+    put_u32(out, at + 4, ranges.len() as u32);
+    put_u64(out, at + 8, 0);
 }
 
 fn write_range(out: &mut [u8], at: usize, range: &Range)
@@ -120,26 +127,41 @@ fn write_range(out: &mut [u8], at: usize, range: &Range)
     put_u32(out, at + 12, 0);
 }
 
-fn write_ranges(out: &mut [u8], ranges: &[Range])
-    requires { response_size ranges.now ≤ length out.old }
-    ensures { (old front : List ℕ) → Wrote old front (header_size + 32) out.old
-        → Wrote old (front ++ flat_map range_bytes ranges.now) (response_size ranges.now) out.new }
+fn write_ranges(out: &mut [u8], at: usize, ranges: &[Range])
+    requires { at + 16 * length ranges.now ≤ length out.old }
+    ensures { (old front : List ℕ) → Wrote old front at out.old
+        → Wrote old (front ++ flat_map range_bytes ranges.now) (at + 16 * length ranges.now) out.new }
 {
     for i in 0..ranges.len() {
-        write_range(out, RANGES + ENTRY_SIZE as usize * i, &ranges[i]);
+        write_range(out, at + ENTRY_SIZE as usize * i, &ranges[i]);
     }
 }
 
-/// Writes a response from the page's first byte on, and answers how many bytes it has. The rest of the page stays.
-pub fn write_response(response: &Response, out: &mut [u8; 4096]) -> usize
+// The response in the form of a version. Its callers know which, so all places are constants where it is inlined.
+#[inline(always)]
+fn write_in(response: &Response, version: Version, out: &mut [u8; 4096]) -> usize
     requires { page_total response.now.ranges.items < 2 ^ 32 }
-    ensures size { result ≡ response_size response.now.ranges.items }
-    ensures bytes { out.new ≡ response_bytes (response_record response.now) ++ drop (response_size response.now.ranges.items) out.old }
+    ensures size { result ≡ response_size version response.now.ranges.items }
+    ensures bytes { out.new ≡ response_bytes version (response_record response.now) ++ drop (response_size version response.now.ranges.items) out.old }
 {
     let ranges = response.ranges.as_slice();
-    write_header(out, response);
-    write_access(out, response);
-    write_composite(out, ranges);
-    write_ranges(out, ranges);
-    RANGES + ENTRY_SIZE as usize * ranges.len()
+    let header = header_size(version) as usize;
+    write_header(out, version, response);
+    write_access(out, header, response);
+    write_composite(out, header + 16, ranges);
+    write_ranges(out, header + 32, ranges);
+    header + 32 + ENTRY_SIZE as usize * ranges.len()
+}
+
+/// Writes a response to a caller of this version from the page's first byte on, and answers how many bytes it has. The
+/// rest of the page stays.
+pub fn write_response(response: &Response, version: Version, out: &mut [u8; 4096]) -> usize
+    requires { page_total response.now.ranges.items < 2 ^ 32 }
+    ensures size { result ≡ response_size version response.now.ranges.items }
+    ensures bytes { out.new ≡ response_bytes version (response_record response.now) ++ drop (response_size version response.now.ranges.items) out.old }
+{
+    match version {
+        Version::Compact => write_in(response, Version::Compact, out),
+        Version::V1_1 => write_in(response, Version::V1_1, out),
+    }
 }

@@ -1,9 +1,9 @@
 //! Retrieve descriptors.
 
-ghost use Rattle.std.specs.Prelude.{◌≡◌, ℕ, List, IfOk, OnErr};
+ghost use Rattle.std.specs.Prelude.{◌≡◌, IfOk, OnErr};
 ghost use Rattle.std.specs.Result.{result_ok};
 ghost use Rattle.ffa_model.specs.Bits.{bits};
-ghost use Rattle.ffa_model.specs.DescriptorPlaces.{array_place, kind_of};
+ghost use Rattle.ffa_model.specs.DescriptorPlaces.{Versioned, array_place, in_version, kind_of};
 ghost use Rattle.ffa_model.specs.RetrieveDescriptor.{Retrieve, retrieve_of, is_retrieve_header, is_retrieve_access};
 ghost use Rattle.ffa_model.specs.declared.descriptor.RetrieveDesc.{RetrieveDesc};
 ghost use Rattle.ffa_memdesc.specs.Reading.{header_in, access_in};
@@ -13,7 +13,7 @@ use crate::access::{Access, read_access};
 use crate::bytes::Bytes;
 use crate::header::{Header, NORMAL_MEMORY, read_header};
 use crate::receivers::data_of;
-use ffa_model::{EndpointId, Kind, RetrieveDesc};
+use ffa_model::{EndpointId, Kind, RetrieveDesc, Version};
 
 /// Bits 4:3 of the flags, which tell the kind.
 fn kind_of(flags: u32) -> Option<Kind>
@@ -30,7 +30,7 @@ fn kind_of(flags: u32) -> Option<Kind>
 /// Whether the header is that of a retrieve.
 #[tactic(auto, unfolding(ffa_model::specs::RetrieveDescriptor::is_retrieve_header))]
 fn is_retrieve_header(header: &Header) -> bool
-    ensures { (b : List ℕ) → header.now ≡ header_in b → result ≡ is_retrieve_header b }
+    ensures { (b : Versioned) → header.now ≡ header_in b → result ≡ is_retrieve_header b }
 {
     (header.attributes == 0 || header.attributes == NORMAL_MEMORY)
         && header.flags & 7 == 0
@@ -41,7 +41,7 @@ fn is_retrieve_header(header: &Header) -> bool
 /// Whether the access descriptor is that of a retrieve for this endpoint.
 #[tactic(auto, unfolding(ffa_model::specs::RetrieveDescriptor::is_retrieve_access))]
 fn is_retrieve_access(endpoint: EndpointId, access: &Access) -> bool
-    ensures { (b : List ℕ) → access.now ≡ access_in b (array_place b) → result ≡ is_retrieve_access endpoint.0 b }
+    ensures { (b : Versioned) → access.now ≡ access_in b.bytes (array_place b) → result ≡ is_retrieve_access endpoint.0 b }
 {
     access.endpoint.0 == endpoint.0
         && access.data_code() != 3
@@ -52,10 +52,10 @@ fn is_retrieve_access(endpoint: EndpointId, access: &Access) -> bool
         && access.reserved == 0
 }
 
-fn retrieve_in<B: Bytes>(bytes: &B, endpoint: EndpointId) -> Option<RetrieveDesc>
-    ensures { result ≡ retrieve_of endpoint.0 (B.bytes bytes.now) }
+fn retrieve_in<B: Bytes>(bytes: &B, version: Version, endpoint: EndpointId) -> Option<RetrieveDesc>
+    ensures { result ≡ retrieve_of endpoint.0 (in_version version (B.bytes bytes.now)) }
 {
-    let header = read_header(bytes)?;
+    let header = read_header(bytes, version)?;
     if !is_retrieve_header(&header) {
         return None;
     }
@@ -74,19 +74,27 @@ fn retrieve_in<B: Bytes>(bytes: &B, endpoint: EndpointId) -> Option<RetrieveDesc
 }
 
 /// What a retrieve descriptor says, wherever its bytes lie.
-pub fn read_retrieve_from<B: Bytes>(bytes: &B, endpoint: EndpointId) -> Result<RetrieveDesc, Bad>
-    ensures found { IfOk result (λ d. Retrieve endpoint.0 (B.bytes bytes.now) d) }
-    ensures none { OnErr result ((r : RetrieveDesc) → Retrieve endpoint.0 (B.bytes bytes.now) r → ⊥) }
-    ensures computed { result_ok result ≡ retrieve_of endpoint.0 (B.bytes bytes.now) }
+pub fn read_retrieve_from<B: Bytes>(
+    bytes: &B,
+    version: Version,
+    endpoint: EndpointId,
+) -> Result<RetrieveDesc, Bad>
+    ensures found { IfOk result (λ d. Retrieve endpoint.0 (in_version version (B.bytes bytes.now)) d) }
+    ensures none { OnErr result ((r : RetrieveDesc) → Retrieve endpoint.0 (in_version version (B.bytes bytes.now)) r → ⊥) }
+    ensures computed { result_ok result ≡ retrieve_of endpoint.0 (in_version version (B.bytes bytes.now)) }
 {
-    retrieve_in(bytes, endpoint).ok_or(Bad)
+    retrieve_in(bytes, version, endpoint).ok_or(Bad)
 }
 
-/// What the bytes say as a retrieve descriptor for this endpoint. `Bad` means that they are none.
-pub fn read_retrieve(bytes: &[u8], endpoint: EndpointId) -> Result<RetrieveDesc, Bad>
-    ensures found { IfOk result (λ d. Retrieve endpoint.0 bytes.now d) }
-    ensures none { OnErr result ((r : RetrieveDesc) → Retrieve endpoint.0 bytes.now r → ⊥) }
-    ensures computed { result_ok result ≡ retrieve_of endpoint.0 bytes.now }
+/// What the bytes say as a retrieve descriptor for this endpoint, which has this version. `Bad` means that they are none.
+pub fn read_retrieve(
+    bytes: &[u8],
+    version: Version,
+    endpoint: EndpointId,
+) -> Result<RetrieveDesc, Bad>
+    ensures found { IfOk result (λ d. Retrieve endpoint.0 (in_version version bytes.now) d) }
+    ensures none { OnErr result ((r : RetrieveDesc) → Retrieve endpoint.0 (in_version version bytes.now) r → ⊥) }
+    ensures computed { result_ok result ≡ retrieve_of endpoint.0 (in_version version bytes.now) }
 {
-    read_retrieve_from(&bytes, endpoint)
+    read_retrieve_from(&bytes, version, endpoint)
 }

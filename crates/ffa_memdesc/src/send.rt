@@ -1,8 +1,9 @@
 //! Send descriptors.
 
-ghost use Rattle.std.specs.Prelude.{◌≡◌, ◌≤◌, ℕ, List, IfOk, OnErr, IsTrue};
+ghost use Rattle.std.specs.Prelude.{◌≡◌, ◌≤◌, IfOk, OnErr, IsTrue};
 ghost use Rattle.std.specs.Option.{option_map};
 ghost use Rattle.std.specs.Result.{result_ok};
+ghost use Rattle.ffa_model.specs.DescriptorPlaces.{Versioned, in_version};
 ghost use Rattle.ffa_model.specs.SendDescriptor.{SendRecord, send_record, Send, send_of, most_flags, most_receivers, attributes_of, is_send_header};
 ghost use Rattle.ffa_memdesc.specs.Reading.{header_in};
 
@@ -11,7 +12,7 @@ use crate::bytes::{Bytes, read_u32};
 use crate::header::{Header, NORMAL_MEMORY, read_header};
 use crate::ranges::{page_total, read_range_count, read_ranges};
 use crate::receivers::read_receivers;
-use ffa_model::{Kind, SendDesc};
+use ffa_model::{Kind, SendDesc, Version};
 
 /// The greatest flags of a send. Bit 0 asks for zeros, but not in a share.
 fn most_flags(kind: Kind) -> u32
@@ -47,7 +48,7 @@ fn attributes_of(kind: Kind, count: u32) -> u16
 /// Whether the header is that of a send.
 #[tactic(auto, unfolding(ffa_model::specs::SendDescriptor::is_send_header))]
 fn is_send_header(kind: Kind, header: &Header) -> bool
-    ensures exact { (b : List ℕ) → header.now ≡ header_in b → result ≡ is_send_header kind b }
+    ensures exact { (b : Versioned) → header.now ≡ header_in b → result ≡ is_send_header kind b }
     ensures few { IsTrue result → header.now.count ≤ 4 }
 {
     header.attributes == attributes_of(kind, header.count)
@@ -57,10 +58,10 @@ fn is_send_header(kind: Kind, header: &Header) -> bool
         && header.count <= most_receivers(kind)
 }
 
-fn send_in<B: Bytes>(bytes: &B, kind: Kind) -> Option<SendDesc>
-    ensures { option_map send_record result ≡ send_of kind (B.bytes bytes.now) }
+fn send_in<B: Bytes>(bytes: &B, version: Version, kind: Kind) -> Option<SendDesc>
+    ensures { option_map send_record result ≡ send_of kind (in_version version (B.bytes bytes.now)) }
 {
-    let header = read_header(bytes)?;
+    let header = read_header(bytes, version)?;
     if !is_send_header(kind, &header) {
         return None;
     }
@@ -81,19 +82,19 @@ fn send_in<B: Bytes>(bytes: &B, kind: Kind) -> Option<SendDesc>
 }
 
 /// What a send descriptor says, wherever its bytes lie.
-pub fn read_send_from<B: Bytes>(bytes: &B, kind: Kind) -> Result<SendDesc, Bad>
-    ensures found { IfOk result (λ d. Send kind (B.bytes bytes.now) (send_record d)) }
-    ensures none { OnErr result ((r : SendRecord) → Send kind (B.bytes bytes.now) r → ⊥) }
-    ensures computed { option_map send_record (result_ok result) ≡ send_of kind (B.bytes bytes.now) }
+pub fn read_send_from<B: Bytes>(bytes: &B, version: Version, kind: Kind) -> Result<SendDesc, Bad>
+    ensures found { IfOk result (λ d. Send kind (in_version version (B.bytes bytes.now)) (send_record d)) }
+    ensures none { OnErr result ((r : SendRecord) → Send kind (in_version version (B.bytes bytes.now)) r → ⊥) }
+    ensures computed { option_map send_record (result_ok result) ≡ send_of kind (in_version version (B.bytes bytes.now)) }
 {
-    send_in(bytes, kind).ok_or(Bad)
+    send_in(bytes, version, kind).ok_or(Bad)
 }
 
-/// What the bytes say as a send descriptor of this kind. `Bad` means that they are none.
-pub fn read_send(bytes: &[u8], kind: Kind) -> Result<SendDesc, Bad>
-    ensures found { IfOk result (λ d. Send kind bytes.now (send_record d)) }
-    ensures none { OnErr result ((r : SendRecord) → Send kind bytes.now r → ⊥) }
-    ensures computed { option_map send_record (result_ok result) ≡ send_of kind bytes.now }
+/// What the bytes say as a send descriptor of this kind, from a caller of this version. `Bad` means that they are none.
+pub fn read_send(bytes: &[u8], version: Version, kind: Kind) -> Result<SendDesc, Bad>
+    ensures found { IfOk result (λ d. Send kind (in_version version bytes.now) (send_record d)) }
+    ensures none { OnErr result ((r : SendRecord) → Send kind (in_version version bytes.now) r → ⊥) }
+    ensures computed { option_map send_record (result_ok result) ≡ send_of kind (in_version version bytes.now) }
 {
-    read_send_from(&bytes, kind)
+    read_send_from(&bytes, version, kind)
 }

@@ -12,7 +12,7 @@ use Rattle.ffa_model.specs.declared.rights.Kind.{Kind}
 use Rattle.ffa_model.specs.declared.transaction.Range.{Range}
 use Rattle.ffa_model.specs.declared.transaction.Receiver.{Receiver}
 use Rattle.ffa_model.specs.Buffers.{Candidate}
-use Rattle.ffa_model.specs.DescriptorPlaces.{range_count, receiver_count}
+use Rattle.ffa_model.specs.DescriptorPlaces.{Versioned, range_count, receiver_count}
 use Rattle.ffa_model.specs.Identifiers.{manager}
 use Rattle.ffa_model.specs.Lists.{listed}
 use Rattle.ffa_model.specs.MemorySend.{are_grants_within, is_grantable, is_inside, is_own, is_sendable}
@@ -29,7 +29,7 @@ use Rattle.ffa_memshare.specs.Offers.{AreAligned, IsOwnOffer, grants_writes}
 use Rattle.ffa_memshare.specs.Ranges.{ArePlaced, IsPlaced, in_range, in_ranges}
 
 -- the ranges of a descriptor begin where pages do
-pub sent-aligned : (kind : Kind) (b : List ℕ) (r : SendRecord) → Send kind b r → AreAligned r.ranges
+pub sent-aligned : (kind : Kind) (b : Versioned) (r : SendRecord) → Send kind b r → AreAligned r.ranges
 sent-aligned kind b r send i x lt is =
     let n = range_count b in
     let less : i < n = omega (arith, lt, ap (λ (rs : List Range). length rs) send.ranges, length-listed n (range_in b)) in
@@ -37,7 +37,7 @@ sent-aligned kind b r send i x lt is =
     ap (λ (q : Range). q.address % 4096) at ∙ (send.each i less).aligned
 
 -- and its receivers are others than its sender
-pub sent-other : (kind : Kind) (b : List ℕ) (r : SendRecord) → Send kind b r → is_named r.sender r.receivers ≡ false
+pub sent-other : (kind : Kind) (b : Versioned) (r : SendRecord) → Send kind b r → is_named r.sender r.receivers ≡ false
 sent-other kind b r send =
     ap (is_named r.sender) send.receivers
     ∙ each (receiver_count b) (receiver_in b) (λ i lt is. (send.accesses i lt).other (is ∙ send.sender))

@@ -3,9 +3,11 @@ use Rattle.std.specs.Prelude.{◌≡◌, ℕ, Bool, false, List, Option, Some}
 use Rattle.std.specs.FinMap as finite
 use Rattle.ffa_model.specs.declared.descriptor.RetrieveDesc.{RetrieveDesc}
 use Rattle.ffa_model.specs.declared.endpoint.EndpointId.{EndpointId}
+use Rattle.ffa_model.specs.declared.endpoint.Version.{Version}
 use Rattle.ffa_model.specs.declared.rights.Kind.{Kind}
 use Rattle.ffa_model.specs.declared.rights.Kind.TheVariants.{Share, Lend, Donate}
 use Rattle.ffa_model.specs.declared.rights.Rights.{Rights}
+use Rattle.ffa_model.specs.DescriptorPlaces.{Versioned}
 use Rattle.ffa_model.specs.Identifiers.{place}
 use Rattle.ffa_model.specs.MemoryRetrieve.{response_to, right_for, taken_in}
 use Rattle.ffa_model.specs.Ram.{Ram}
@@ -35,18 +37,18 @@ IsTaken Donate old new h e right = IsClosed old new h
 IsTaken Lend old new h e right = IsHeldBy old new h e (Some right)
 IsTaken Share old new h e right = IsHeldBy old new h e (Some right)
 
--- what an endpoint is told that gets this right to the pages of a transaction, and what RAM is then: its tables give the
+-- what an endpoint of this version is told that gets this right to the pages of a transaction, and what RAM is then: its tables give the
 -- endpoint the right, and its RX holds the answer
-pub record IsAnswered (ram after : Ram) (base n blocks : ℕ) (own : Option Buffers) (h : ℕ) (t : Transaction) (e : ℕ) (right : Rights) (size : ℕ) : Type 0 where
+pub record IsAnswered (ram after : Ram) (base n blocks : ℕ) (own : Option Buffers) (h : ℕ) (t : Transaction) (e : ℕ) (version : Version) (right : Rights) (size : ℕ) : Type 0 where
   pub granted : Ram
   pub moved : IsMoved ram granted n blocks (place e) (in_ranges base t.ranges) (λ p. Some right) false
-  pub answered : after ≡ with_rx_bytes granted own (response_bytes (response_to h t e right))
-  pub bytes : size ≡ response_size t.ranges
+  pub answered : after ≡ with_rx_bytes granted own (response_bytes version (response_to h t e right))
+  pub bytes : size ≡ response_size version t.ranges
 
 -- the open transactions of this many endpoints, the RAM from an address on with its blocks and their pages, after an
 -- endpoint has taken what these bytes ask for; and the access that changed
 pub record IsRetrieved (old new : Pooled) (ram after : Ram) (table given : List (Option Entry)) (base n blocks : ℕ) (own : Option Buffers) (e : EndpointId)
-    (bytes : List ℕ) (size : ℕ) (changed : Changed) : Type 0 where
+    (bytes : Versioned) (size : ℕ) (changed : Changed) : Type 0 where
   pub asked : RetrieveDesc
   pub transaction : Transaction
   pub right : Rights
@@ -56,5 +58,5 @@ pub record IsRetrieved (old new : Pooled) (ram after : Ram) (table given : List 
   pub slot : IsTaken transaction.kind old new asked.handle e.0 right
   pub offers : offers_in new ≡ taken_in transaction.kind (offers_in old) asked.handle transaction e.0 right
   pub pages : IsPassedOn transaction.kind table given (in_ranges base transaction.ranges) e right
-  pub answer : IsAnswered ram after base n blocks own asked.handle transaction e.0 right size
+  pub answer : IsAnswered ram after base n blocks own asked.handle transaction e.0 bytes.version right size
   pub access : IsChanged changed transaction.ranges (Some e)

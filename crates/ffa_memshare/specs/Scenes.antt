@@ -4,6 +4,7 @@ use Rattle.std.specs.Option.{option_map_or}
 use Rattle.ffa_model.specs.declared.operation.ErrorCode.{ErrorCode}
 use Rattle.ffa_model.specs.declared.operation.ErrorCode.TheVariants.{InvalidParameters}
 use Rattle.ffa_model.specs.Buffers.{buffers_in}
+use Rattle.ffa_model.specs.DescriptorPlaces.{Versioned, in_version}
 use Rattle.ffa_model.specs.Ram.{Ram, page_of}
 use Rattle.ffa_model.specs.State.{Buffers}
 use Rattle.ffa_model.specs.Transactions.{Offers, Scene, Transfer, transfer}
@@ -15,12 +16,12 @@ use Rattle.ffa_memshare.specs.Named.{bases_in}
 abbrev pub transfer_of : Registers → Transfer
 transfer_of x = transfer x.total x.fragment x.address x.pages
 
--- the bytes of TX, and the first of those of e, as many as its descriptor has
+-- the bytes of TX, and the first of those of e, as many as its descriptor has, in e's version
 abbrev pub tx_in : Ram → Option Buffers → List ℕ
 tx_in ram own = option_map_or (λ (b : Buffers). page_of ram b.tx) own []
 
-abbrev pub descriptor_in : Ram → List (Option Buffers) → ℕ → ℕ → List ℕ
-descriptor_in ram buffers e total = take total (tx_in ram (buffers_in buffers e))
+abbrev pub descriptor_in : Ram → List (Option Buffers) → ℕ → Registers → Versioned
+descriptor_in ram buffers e x = in_version x.version (take x.total (tx_in ram (buffers_in buffers e)))
 
 -- what the checks read of this many endpoints, in the RAM at an address
 abbrev pub scene_in : ℕ → List (Option Entry) → ℕ → List (Option Buffers) → Offers → Scene

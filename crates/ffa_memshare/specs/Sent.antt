@@ -3,6 +3,7 @@ use Rattle.std.specs.Prelude.{◌≡◌, ℕ, false, List, Option, Some, None}
 use Rattle.ffa_model.specs.declared.rights.Kind.{Kind}
 use Rattle.ffa_model.specs.declared.rights.Kind.TheVariants.{Share, Lend, Donate}
 use Rattle.ffa_model.specs.Access.{is_receiver}
+use Rattle.ffa_model.specs.DescriptorPlaces.{Versioned}
 use Rattle.ffa_model.specs.Identifiers.{place}
 use Rattle.ffa_model.specs.MemorySend.{offered_in, transaction_from}
 use Rattle.ffa_model.specs.Ram.{Ram}
@@ -30,7 +31,7 @@ right_after Donate = Same None
 -- the open transactions of this many endpoints, the pages' entries, and the RAM from an address on with its blocks, after
 -- e has sent what these bytes describe: a free slot of e has it, e's pages are marked with that slot, e has the right to
 -- them that it keeps, and they are zeros where that is asked; this is the access that changed
-pub record IsSent (old new : Pooled) (table marked : List (Option Entry)) (ram after : Ram) (base n blocks e : ℕ) (kind : Kind) (bytes : List ℕ) (changed : Changed)
+pub record IsSent (old new : Pooled) (table marked : List (Option Entry)) (ram after : Ram) (base n blocks e : ℕ) (kind : Kind) (bytes : Versioned) (changed : Changed)
     : Type 0 where
   pub offer : SendRecord
   pub slot : ℕ

@@ -6,6 +6,7 @@ ghost use Rattle.std.specs.Result.{result_ok};
 ghost use Rattle.arrayvec.specs.ArrayVec.{array_vec_len};
 ghost use Rattle.ffa_model.specs.declared.operation.ErrorCode.{ErrorCode as Code};
 ghost use Rattle.ffa_model.specs.Calls.{first_failure};
+ghost use Rattle.ffa_model.specs.DescriptorPlaces.{in_version};
 ghost use Rattle.ffa_model.specs.MemorySend.{are_grants_within, are_known, is_inside};
 ghost use Rattle.ffa_model.specs.SendDescriptor.{is_named, send_of, send_record};
 ghost use Rattle.ffa_model.specs.Transactions.{are_writable, pages_in};
@@ -15,19 +16,19 @@ ghost use Rattle.ffa_memshare.specs.Offers.{AreAligned, IsOwnOffer, after_offer,
 
 use crate::checks::{are_sendable, common_of};
 use ffa_memdesc::read_send;
-use ffa_model::{Data, EndpointId, ErrorCode, Kind, Range, Receiver, SendDesc};
+use ffa_model::{Data, EndpointId, ErrorCode, Kind, Range, Receiver, SendDesc, Version};
 use ffa_pages::PageTable;
 use ffa_rxtx::Buffers;
 use ffa_stage2::Layout;
 
 // What the bytes offer, or that they are no descriptor.
-pub(crate) fn read_offer(bytes: &[u8], kind: Kind) -> Result<SendDesc, ErrorCode>
-    ensures computed { option_map send_record (result_ok result) ≡ send_of kind bytes.now }
+pub(crate) fn read_offer(bytes: &[u8], version: Version, kind: Kind) -> Result<SendDesc, ErrorCode>
+    ensures computed { option_map send_record (result_ok result) ≡ send_of kind (in_version version bytes.now) }
     ensures code { IfErr result (λ code. code ≡ ErrorCode.InvalidParameters) }
     ensures aligned { IfOk result (λ d. AreAligned d.ranges.items) }
     ensures other { IfOk result (λ d. is_named d.sender.0 d.receivers.items ≡ false) }
 {
-    match read_send(bytes, kind) {
+    match read_send(bytes, version, kind) {
         Ok(offer) => Ok(offer),
         Err(_) => Err(ErrorCode::InvalidParameters),
     }

@@ -29,7 +29,7 @@ use crate::pool::Pool;
 use crate::transaction::OpenTransaction;
 use crate::transfer::Transfer;
 use ffa_memdesc::read_retrieve;
-use ffa_model::{EndpointId, ErrorCode, Kind, Response, RetrieveDesc, Rights};
+use ffa_model::{EndpointId, ErrorCode, Kind, Response, RetrieveDesc, Rights, Version};
 use ffa_pages::PageTable;
 use ffa_physmem::PhysMem;
 use ffa_rxtx::Buffers;
@@ -59,7 +59,7 @@ impl Pool {
         requires caller { IsCaller (array_vec_len layout.now.regions) (length (M.ram ram.old).pages) caller.0 buffers.old }
         ensures refusal { result_err result ≡ first_failure (retrieve_guards
             (scene_in (array_vec_len layout.now.regions) pages.old layout.now.base buffers.old (offers_in self.old)) caller.0 (transfer_of transfer.now)
-            (retrieve_of caller.0 (descriptor_in (M.ram ram.old) buffers.old caller.0 transfer.now.total))) }
+            (retrieve_of caller.0 (descriptor_in (M.ram ram.old) buffers.old caller.0 transfer.now))) }
         ensures kept { OnErr result (self.new ≡ self.old) }
         ensures kept_pages { OnErr result (pages.new ≡ pages.old) }
         ensures kept_buffers { OnErr result (buffers.new ≡ buffers.old) }
@@ -67,7 +67,7 @@ impl Pool {
         ensures full { OnOk result (buffers.new ≡ buffers_with_rx buffers.old caller.0 true) }
         ensures done { IfOk result (λ retrieved. IsRetrieved self.old self.new (M.ram ram.old) (M.ram ram.new) pages.old pages.new layout.now.base
             (array_vec_len layout.now.regions) layout.now.blocks (buffers_in buffers.old caller.0) caller
-            (descriptor_in (M.ram ram.old) buffers.old caller.0 transfer.now.total) retrieved.size retrieved.changed) }
+            (descriptor_in (M.ram ram.old) buffers.old caller.0 transfer.now) retrieved.size retrieved.changed) }
     {
         let asked = asked_in(ram, buffers, caller, transfer)?;
         let slot = match self.find(asked.handle) {
@@ -77,7 +77,7 @@ impl Pool {
         let open = self.at(slot);
         let is_full = buffers.is_full(caller);
         let right = open.check_retrieve(pages, layout.base, is_full, caller, &asked)?;
-        let size = open.hand_over(ram, layout, pages, buffers, caller, right);
+        let size = open.hand_over(ram, layout, pages, buffers, caller, transfer.version, right);
         open.pass_on(pages, layout.base, caller, right);
         let changed = Changed::of(&open.ranges, Some(caller));
         let kind = open.kind;
@@ -102,8 +102,8 @@ impl Pool {
 }
 
 impl OpenTransaction {
-    // Gives an endpoint this right to the pages, and tells the endpoint so in its RX, which is full then. It answers how
-    // many bytes that takes.
+    // Gives an endpoint this right to the pages, and tells the endpoint so in its RX, in its version. RX is full then. It
+    // answers how many bytes that takes.
     fn hand_over<M: PhysMem>(
         &self,
         ram: &mut M,
@@ -111,13 +111,14 @@ impl OpenTransaction {
         pages: &PageTable,
         buffers: &mut Buffers,
         caller: EndpointId,
+        version: Version,
         right: Rights,
     ) -> u32
         requires held { IsHeld (M.ram ram.old) layout.now.base (array_vec_len layout.now.regions) layout.now.blocks pages.now (transaction_of self.now) }
         requires caller { IsCaller (array_vec_len layout.now.regions) (length (M.ram ram.old).pages) caller.0 buffers.old }
         requires buffers { is_some (buffers_in buffers.old caller.0) ≡ true }
         ensures answered { IsAnswered (M.ram ram.old) (M.ram ram.new) layout.now.base (array_vec_len layout.now.regions) layout.now.blocks
-            (buffers_in buffers.old caller.0) self.now.handle (transaction_of self.now) caller.0 right result }
+            (buffers_in buffers.old caller.0) self.now.handle (transaction_of self.now) caller.0 version right result }
         ensures full { buffers.new ≡ buffers_with_rx buffers.old caller.0 true }
     {
         let ranges = self.ranges.as_slice();
@@ -125,7 +126,7 @@ impl OpenTransaction {
         let to_caller = NewRight::Same(Some(right));
         move_rights(ram, layout, pages, ranges, index, to_caller, false);
         let response = self.response(caller, right);
-        answer(ram, buffers, caller, &response)
+        answer(ram, buffers, caller, version, &response)
     }
 
     // Makes the pages of a donate an endpoint's own, with this right.
@@ -169,14 +170,14 @@ fn asked_in<M: PhysMem>(
     requires { (b : Own) → buffers_in buffers.now caller.0 ≡ Some b → b.tx < length (M.ram ram.now).pages }
     ensures refused { IfErr result (λ code. (n base : ℕ) (table : List (Option Entry)) (offers : Offers)
         → first_failure (retrieve_guards (scene_in n table base buffers.now offers) caller.0 (transfer_of transfer.now)
-        (retrieve_of caller.0 (descriptor_in (M.ram ram.now) buffers.now caller.0 transfer.now.total))) ≡ Some code) }
+        (retrieve_of caller.0 (descriptor_in (M.ram ram.now) buffers.now caller.0 transfer.now))) ≡ Some code) }
     ensures passed { IfOk result (λ asked. (n base : ℕ) (table : List (Option Entry)) (offers : Offers)
         → first_failure (retrieve_guards (scene_in n table base buffers.now offers) caller.0 (transfer_of transfer.now)
-        (retrieve_of caller.0 (descriptor_in (M.ram ram.now) buffers.now caller.0 transfer.now.total)))
+        (retrieve_of caller.0 (descriptor_in (M.ram ram.now) buffers.now caller.0 transfer.now)))
         ≡ first_failure (holding_guards (bases_in table base) (is_full (buffers_in buffers.now caller.0)) caller.0 asked (finite.get offers.transactions asked.handle))) }
     ensures buffers { OnOk result (is_some (buffers_in buffers.now caller.0) ≡ true) }
-    ensures asked { IfOk result (λ asked. retrieve_of caller.0 (descriptor_in (M.ram ram.now) buffers.now caller.0 transfer.now.total) ≡ Some asked) }
+    ensures asked { IfOk result (λ asked. retrieve_of caller.0 (descriptor_in (M.ram ram.now) buffers.now caller.0 transfer.now) ≡ Some asked) }
 {
     let bytes = transfer.descriptor(ram, buffers, caller)?;
-    read_retrieve(bytes, caller).or(Err(ErrorCode::InvalidParameters))
+    read_retrieve(bytes, transfer.version, caller).or(Err(ErrorCode::InvalidParameters))
 }

@@ -57,13 +57,13 @@ impl Pool {
         requires tables { (p : ℕ) → p < table_page layout.now.blocks (array_vec_len layout.now.regions) 0 → entry_at pages.old p ≡ None }
         ensures refusal { result_err result ≡ first_failure (send_guards
             (scene_in (array_vec_len layout.now.regions) pages.old layout.now.base buffers.now (offers_in self.old))
-            caller.0 (transfer_of transfer.now) (send_of kind (descriptor_in (M.ram ram.old) buffers.now caller.0 transfer.now.total))) }
+            caller.0 (transfer_of transfer.now) (send_of kind (descriptor_in (M.ram ram.old) buffers.now caller.0 transfer.now))) }
         ensures kept { OnErr result (self.new ≡ self.old) }
         ensures kept_pages { OnErr result (pages.new ≡ pages.old) }
         ensures kept_ram { OnErr result (M.ram ram.new ≡ M.ram ram.old) }
         ensures handle { IfOk result (λ sent. sent.handle ≡ next_handle (offers_in self.old) caller.0) }
         ensures sent { IfOk result (λ sent. IsSent self.old self.new pages.old pages.new (M.ram ram.old) (M.ram ram.new) layout.now.base
-            (array_vec_len layout.now.regions) layout.now.blocks caller.0 kind (descriptor_in (M.ram ram.old) buffers.now caller.0 transfer.now.total) sent.changed) }
+            (array_vec_len layout.now.regions) layout.now.blocks caller.0 kind (descriptor_in (M.ram ram.old) buffers.now caller.0 transfer.now) sent.changed) }
     {
         let offer = checked_offer(ram, layout, pages, buffers, caller, kind, transfer)?;
         let slot = self.room(caller)?;
@@ -89,17 +89,17 @@ fn checked_offer<M: PhysMem>(
     requires { (b : Own) → buffers_in buffers.now caller.0 ≡ Some b → b.tx < length (M.ram ram.now).pages }
     ensures refused { IfErr result (λ code. (offers : Offers) → first_failure (send_guards
         (scene_in (array_vec_len layout.now.regions) pages.now layout.now.base buffers.now offers)
-        caller.0 (transfer_of transfer.now) (send_of kind (descriptor_in (M.ram ram.now) buffers.now caller.0 transfer.now.total))) ≡ Some code) }
+        caller.0 (transfer_of transfer.now) (send_of kind (descriptor_in (M.ram ram.now) buffers.now caller.0 transfer.now))) ≡ Some code) }
     ensures passed { OnOk result ((offers : Offers) → first_failure (send_guards
         (scene_in (array_vec_len layout.now.regions) pages.now layout.now.base buffers.now offers)
-        caller.0 (transfer_of transfer.now) (send_of kind (descriptor_in (M.ram ram.now) buffers.now caller.0 transfer.now.total)))
+        caller.0 (transfer_of transfer.now) (send_of kind (descriptor_in (M.ram ram.now) buffers.now caller.0 transfer.now)))
         ≡ first_failure (room_guards offers caller.0)) }
-    ensures described { IfOk result (λ offer. send_of kind (descriptor_in (M.ram ram.now) buffers.now caller.0 transfer.now.total) ≡ Some (send_record offer)) }
+    ensures described { IfOk result (λ offer. send_of kind (descriptor_in (M.ram ram.now) buffers.now caller.0 transfer.now) ≡ Some (send_record offer)) }
     ensures own { IfOk result (λ offer. IsOwnOffer pages.now layout.now.base caller.0 (send_record offer)) }
     ensures other { IfOk result (λ offer. is_named offer.sender.0 offer.receivers.items ≡ false) }
 {
     let bytes = transfer.descriptor(ram, buffers, caller)?;
-    let offer = read_offer(bytes, kind)?;
+    let offer = read_offer(bytes, transfer.version, kind)?;
     check_offer(&offer, layout, pages, buffers, caller)?;
     Ok(offer)
 }

@@ -6,11 +6,11 @@ ghost use Rattle.ffa_model.specs.Calls.{first_failure};
 ghost use Rattle.ffa_model.specs.State.{Buffers as Own};
 ghost use Rattle.ffa_memshare.specs.Scenes.{after_transfer, descriptor_in, is_whole};
 
-use ffa_model::{EndpointId, ErrorCode};
+use ffa_model::{EndpointId, ErrorCode, Version};
 use ffa_physmem::{PAGE_SIZE, PhysMem};
 use ffa_rxtx::Buffers;
 
-/// What the registers of a call say whose descriptor stands in TX.
+/// What the registers of a call say whose descriptor stands in TX, and the version of who calls.
 #[derive(Clone, Copy, Debug, PartialEq, Eq)]
 pub struct Transfer {
     /// How many bytes the descriptor has.
@@ -21,6 +21,8 @@ pub struct Transfer {
     pub address: u64,
     /// How many pages that buffer has.
     pub pages: u32,
+    /// The form of the descriptor, and of the answer to a retrieve.
+    pub version: Version,
 }
 
 impl Transfer {
@@ -36,7 +38,7 @@ impl Transfer {
         requires tx { (b : Own) → buffers_in buffers.now caller.0 ≡ Some b → b.tx < length (M.ram ram.now).pages }
         ensures refused { IfErr result (λ code. (rest : List (Bool × Code)) → first_failure (after_transfer buffers.now caller.0 (transfer_of self.now) rest) ≡ Some code) }
         ensures passed { OnOk result ((rest : List (Bool × Code)) → first_failure (after_transfer buffers.now caller.0 (transfer_of self.now) rest) ≡ first_failure rest) }
-        ensures bytes { IfOk result (λ bytes. bytes.now ≡ descriptor_in (M.ram ram.now) buffers.now caller.0 self.now.total) }
+        ensures bytes { IfOk result (λ bytes. bytes.now ≡ (descriptor_in (M.ram ram.now) buffers.now caller.0 self.now).bytes) }
     {
         let mapped = match buffers.of(caller) {
             Some(mapped) => mapped,

@@ -13,7 +13,7 @@ use Rattle.ffa_model.specs.declared.rights.Kind.TheVariants.{Share, Lend, Donate
 use Rattle.ffa_model.specs.declared.rights.Rights.{Rights}
 use Rattle.ffa_model.specs.declared.transaction.Range.{Range}
 use Rattle.ffa_model.specs.Rights.{is_donate, is_share}
-use Rattle.ffa_model.specs.State.{State, Page, Transaction, Buffers, buffers_of, is_known_among, page_at, sent_by, transaction_of}
+use Rattle.ffa_model.specs.State.{State, Page, Transaction, Buffers, buffers_of, is_known_among, page_at, sent_by, transaction_of, version_of}
 use Rattle.ffa_model.specs.Access.{access, handle_at, held_by, names, right_by, right_of, transaction_at}
 use Rattle.ffa_model.specs.Memory.{page_with, with_pages, written}
 use Rattle.ffa_model.specs.Buffers.{Candidate, candidate_at, candidates, filled, filled_pages}
@@ -178,21 +178,21 @@ module _ (s : State) (sound : IsSoundState s) where
     pub retrieve-named : (e : ℕ) (right : Rights) (page : Page) → is_donate t.kind ≡ false → names s t.ranges p ≡ true → page_at s p ≡ Some page
         → access (retrieved_right s h t e right) e p ≡ Some right
     retrieve-named e right page borrowed named there =
-        access-filled (with_retrieved s h t e right) e (response_bytes (response_to h t e right)) e p
+        access-filled (with_retrieved s h t e right) e (response_bytes (version_of s e) (response_to h t e right)) e p
         ∙ taking e right e borrowed
         ∙ access-holding s h t was p (once p lt) named e right page there
 
     pub retrieve-beside : (e : ℕ) (right : Rights) (f : ℕ) → is_donate t.kind ≡ false → names s t.ranges p ≡ true → (f ≡ e → ⊥)
         → access (retrieved_right s h t e right) f p ≡ access s f p
     retrieve-beside e right f borrowed named other =
-        access-filled (with_retrieved s h t e right) e (response_bytes (response_to h t e right)) f p
+        access-filled (with_retrieved s h t e right) e (response_bytes (version_of s e) (response_to h t e right)) f p
         ∙ taking e right f borrowed
         ∙ access-holding_beside s h t was p (once p lt) named e right f other
 
     pub retrieve-other : (e : ℕ) (right : Rights) (f : ℕ) → is_donate t.kind ≡ false → names s t.ranges p ≡ false
         → access (retrieved_right s h t e right) f p ≡ access s f p
     retrieve-other e right f borrowed other =
-        access-filled (with_retrieved s h t e right) e (response_bytes (response_to h t e right)) f p
+        access-filled (with_retrieved s h t e right) e (response_bytes (version_of s e) (response_to h t e right)) f p
         ∙ taking e right f borrowed
         ∙ access-unchanged s h t (holding t e right) was refl p (once p lt) other f
 
@@ -211,14 +211,14 @@ module _ (s : State) (sound : IsSoundState s) where
     pub donate-named : (e : ℕ) (right : Rights) (f : ℕ) → is_donate t.kind ≡ true → names s t.ranges p ≡ true
         → access (retrieved_right s h t e right) f p ≡ option_and_then (λ (_ : Page). if e == f then Some right else None) (page_at s p)
     donate-named e right f donated named =
-        access-filled (with_retrieved s h t e right) e (response_bytes (response_to h t e right)) f p
+        access-filled (with_retrieved s h t e right) e (response_bytes (version_of s e) (response_to h t e right)) f p
         ∙ giving e right f donated
         ∙ access-given (with_offers s (closed (offers_of s) h)) t.ranges e f right p named (in-closed s h t was p (once p lt) named)
 
     pub donate-other : (e : ℕ) (right : Rights) (f : ℕ) → is_donate t.kind ≡ true → names s t.ranges p ≡ false
         → access (retrieved_right s h t e right) f p ≡ access s f p
     donate-other e right f donated other =
-        access-filled (with_retrieved s h t e right) e (response_bytes (response_to h t e right)) f p
+        access-filled (with_retrieved s h t e right) e (response_bytes (version_of s e) (response_to h t e right)) f p
         ∙ giving e right f donated
         ∙ access-kept (with_offers s (closed (offers_of s) h)) t.ranges e f right p other
         ∙ access-still s h t was p (once p lt) other f

@@ -1,16 +1,20 @@
 -- How many bytes a response has.
 use Rattle.std.proofs.Common.{◌≡◌, ◌∙◌, ◌*◌, ◌++◌, List, [], ◌∷◌, length, refl, arith, length-append}
 use Rattle.std.specs.List.{flat_map}
+use Rattle.ffa_model.specs.declared.endpoint.Version.{Version}
+use Rattle.ffa_model.specs.declared.endpoint.Version.TheVariants.{Compact, V1_1}
 use Rattle.ffa_model.specs.declared.transaction.Range.{Range}
+use Rattle.ffa_model.specs.DescriptorPlaces.{header_size}
 use Rattle.ffa_model.specs.ResponseBytes.{ResponseRecord, le, header_bytes, access_bytes, composite_bytes, range_bytes, response_bytes, response_size}
 
-length-header : (r : ResponseRecord) → length (header_bytes r) ≡ 48
+length-header : (version : Version) (r : ResponseRecord) → length (header_bytes version r) ≡ header_size version
 unfolding le
-length-header r = refl
+length-header Compact r = refl
+length-header V1_1 r = refl
 
-length-access : (r : ResponseRecord) → length (access_bytes r) ≡ 16
+length-access : (version : Version) (r : ResponseRecord) → length (access_bytes version r) ≡ 16
 unfolding le
-length-access r = refl
+length-access version r = refl
 
 length-composite : (ranges : List Range) → length (composite_bytes ranges) ≡ 16
 unfolding le
@@ -25,10 +29,10 @@ length-ranges [] = refl
 length-ranges (range ∷ ranges) =
     length-append (range_bytes range) (flat_map range_bytes ranges) ∙ omega (arith, length-range range, length-ranges ranges)
 
-pub length-response_bytes : (r : ResponseRecord) → length (response_bytes r) ≡ response_size r.ranges
+pub length-response_bytes : (version : Version) (r : ResponseRecord) → length (response_bytes version r) ≡ response_size version r.ranges
 unfolding response_bytes
-length-response_bytes r =
-    let a = length-append (header_bytes r ++ access_bytes r ++ composite_bytes r.ranges) (flat_map range_bytes r.ranges) in
-    let b = length-append (header_bytes r ++ access_bytes r) (composite_bytes r.ranges) in
-    let c = length-append (header_bytes r) (access_bytes r) in
-    omega (arith, a, b, c, length-header r, length-access r, length-composite r.ranges, length-ranges r.ranges)
+length-response_bytes version r =
+    let a = length-append (header_bytes version r ++ access_bytes version r ++ composite_bytes r.ranges) (flat_map range_bytes r.ranges) in
+    let b = length-append (header_bytes version r ++ access_bytes version r) (composite_bytes r.ranges) in
+    let c = length-append (header_bytes version r) (access_bytes version r) in
+    omega (arith, a, b, c, length-header version r, length-access version r, length-composite r.ranges, length-ranges r.ranges)

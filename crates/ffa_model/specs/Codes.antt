@@ -6,6 +6,8 @@ use Rattle.std.specs.Cmp.Lexicographic.{slice_cmp}
 use Rattle.std.specs.FinMap as map
 use Rattle.std.specs.FinSet as finite_set
 use Rattle.std.specs.Coded.{Coded, code_by, coded×, coded_ℕ, coded_bool, coded_list, coded_option}
+use Rattle.ffa_model.specs.declared.endpoint.Version.{Version}
+use Rattle.ffa_model.specs.declared.endpoint.Version.TheVariants.{Compact, V1_1}
 use Rattle.ffa_model.specs.declared.rights.Data.{Data}
 use Rattle.ffa_model.specs.declared.rights.Data.TheVariants.{Ro, Rw}
 use Rattle.ffa_model.specs.declared.rights.Rights.{Rights}
@@ -80,8 +82,25 @@ work_from-by_of (Request by) = refl
 abbrev pub coded_work : Coded Work
 coded_work = code_by (Option ℕ) (coded_option coded_ℕ) by_of work_from work_from-by_of
 
+abbrev pub is_compact : Version → Bool
+is_compact Compact = true
+is_compact V1_1 = false
+
+abbrev pub version_from : Bool → Version
+version_from true = Compact
+version_from false = V1_1
+
+abbrev pub version_from-is_compact : (v : Version) → version_from (is_compact v) ≡ v
+version_from-is_compact Compact = refl
+version_from-is_compact V1_1 = refl
+
+abbrev pub coded_version : Coded Version
+coded_version = code_by Bool coded_bool is_compact version_from version_from-is_compact
+
 abbrev pub coded_party : Coded Party
-coded_party = code_by (List ℕ × ℕ) (coded× (coded_list coded_ℕ) coded_ℕ) (λ p. (p.uuid, p.properties)) (λ p. record { uuid = p.0; properties = p.1 }) (λ _. refl)
+coded_party =
+    code_by (Version × (List ℕ × ℕ)) (coded× coded_version (coded× (coded_list coded_ℕ) coded_ℕ)) (λ p. (p.version, (p.uuid, p.properties)))
+    (λ p. record { version = p.0; uuid = p.1.0; properties = p.1.1 }) (λ _. refl)
 
 abbrev pub coded_page : Coded Page
 coded_page =

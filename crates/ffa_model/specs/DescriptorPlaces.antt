@@ -1,6 +1,8 @@
 -- Where the fields of memory transaction descriptors stand (DEN0077A, 5.11 and 16), and the codes in them.
 use Rattle.byteorder.specs.Endian.{little_from}
-use Rattle.std.specs.Prelude.{◌≡◌, ◌≤◌, ℕ, ◌+◌, ◌*◌, ◌%◌, ◌==◌, Bool, ◌&&◌, nat_le, List, length, slice_index, Option, Some, None, if◌then◌else◌}
+use Rattle.std.specs.Prelude.{◌≡◌, ◌≤◌, ℕ, ◌+◌, ◌*◌, ◌%◌, ◌==◌, Bool, true, ◌&&◌, nat_le, List, length, slice_index, Option, Some, None, if◌then◌else◌}
+use Rattle.ffa_model.specs.declared.endpoint.Version.{Version}
+use Rattle.ffa_model.specs.declared.endpoint.Version.TheVariants.{Compact, V1_1}
 use Rattle.ffa_model.specs.declared.rights.Data.{Data}
 use Rattle.ffa_model.specs.declared.rights.Data.TheVariants.{Ro, Rw}
 use Rattle.ffa_model.specs.declared.rights.Kind.{Kind}
@@ -19,59 +21,81 @@ u32_at b at = little_from at 4 b
 unfoldable pub u64_at : List ℕ → ℕ → ℕ
 u64_at b at = little_from at 8 b
 
+-- bytes, and the version of the endpoint that writes or reads them
+pub record Versioned : Type 0 where
+  pub version : Version
+  pub bytes : List ℕ
+
+abbrev pub in_version : Version → List ℕ → Versioned
+in_version version bytes = record { version = version; bytes = bytes }
+
 -- THE TRANSACTION HEADER: its length, its fields, and what makes bytes one. Only these and the header of a response
 -- (`header_bytes` of ResponseBytes) know its form
-abbrev pub header_size : ℕ
-header_size = 48
+abbrev pub header_size : Version → ℕ
+header_size Compact = 32
+header_size V1_1 = 48
 
-abbrev pub sender_field : List ℕ → ℕ
-sender_field b = u16_at b 0
+abbrev pub sender_field : Versioned → ℕ
+sender_field b = u16_at b.bytes 0
 
-abbrev pub attributes_field : List ℕ → ℕ
-attributes_field b = u16_at b 2
+-- in the compact form one byte, and a reserved one behind it that is 0
+abbrev pub attributes_field : Versioned → ℕ
+attributes_field b = u16_at b.bytes 2
 
-abbrev pub flags_field : List ℕ → ℕ
-flags_field b = u32_at b 4
+abbrev pub flags_field : Versioned → ℕ
+flags_field b = u32_at b.bytes 4
 
-abbrev pub handle_field : List ℕ → ℕ
-handle_field b = u64_at b 8
+abbrev pub handle_field : Versioned → ℕ
+handle_field b = u64_at b.bytes 8
 
-abbrev pub tag_field : List ℕ → ℕ
-tag_field b = u64_at b 16
+abbrev pub tag_field : Versioned → ℕ
+tag_field b = u64_at b.bytes 16
 
-abbrev pub receiver_count : List ℕ → ℕ
-receiver_count b = u32_at b 28
+-- what stands at 24: the size of an access descriptor, 16, where the header tells it; else 0, which is reserved
+abbrev pub told_access_size : Version → ℕ
+told_access_size Compact = 0
+told_access_size V1_1 = 16
+
+abbrev pub receiver_count : Versioned → ℕ
+receiver_count b = u32_at b.bytes 28
 
 -- where the access descriptors begin
-abbrev pub array_place : List ℕ → ℕ
-array_place b = u32_at b 32
+abbrev pub array_in : Version → List ℕ → ℕ
+array_in Compact bytes = 32
+array_in V1_1 bytes = u32_at bytes 32
+
+abbrev pub array_place : Versioned → ℕ
+array_place b = array_in b.version b.bytes
 
 -- the place of access descriptor i
-abbrev pub access_place : List ℕ → ℕ → ℕ
+abbrev pub access_place : Versioned → ℕ → ℕ
 access_place b i = array_place b + 16 * i
 
-abbrev pub array_end : List ℕ → ℕ
+abbrev pub array_end : Versioned → ℕ
 array_end b = access_place b (receiver_count b)
 
--- access descriptors of 16 bytes stand behind the header, and all lie inside the bytes
-pub record IsHeader (b : List ℕ) : Type 0 where
-  pub whole : header_size ≤ length b
-  pub access_size : u32_at b 24 ≡ 16
-  pub aligned : array_place b % 16 ≡ 0
-  pub behind : header_size ≤ array_place b
-  pub inside : array_end b ≤ length b
-  pub reserved : u32_at b 36 ≡ 0
-  pub reserved_too : u64_at b 40 ≡ 0
+-- the bytes behind the array's place, which are reserved
+abbrev pub is_rest_zero : Version → List ℕ → Bool
+is_rest_zero Compact bytes = true
+is_rest_zero V1_1 bytes = (u32_at bytes 36 == 0) && (u64_at bytes 40 == 0)
 
-abbrev pub is_header : List ℕ → Bool
+-- access descriptors of 16 bytes stand behind the header, and all lie inside the bytes
+pub record IsHeader (b : Versioned) : Type 0 where
+  pub whole : header_size b.version ≤ length b.bytes
+  pub told : u32_at b.bytes 24 ≡ told_access_size b.version
+  pub aligned : array_place b % 16 ≡ 0
+  pub behind : header_size b.version ≤ array_place b
+  pub inside : array_end b ≤ length b.bytes
+  pub reserved : is_rest_zero b.version b.bytes ≡ true
+
+abbrev pub is_header : Versioned → Bool
 is_header b =
-    nat_le header_size (length b)
-    && (u32_at b 24 == 16)
+    nat_le (header_size b.version) (length b.bytes)
+    && (u32_at b.bytes 24 == told_access_size b.version)
     && (array_place b % 16 == 0)
-    && nat_le header_size (array_place b)
-    && nat_le (array_end b) (length b)
-    && (u32_at b 36 == 0)
-    && (u64_at b 40 == 0)
+    && nat_le (header_size b.version) (array_place b)
+    && nat_le (array_end b) (length b.bytes)
+    && is_rest_zero b.version b.bytes
 
 -- AN ACCESS DESCRIPTOR, by its place
 abbrev pub endpoint_field : List ℕ → ℕ → ℕ
@@ -90,16 +114,16 @@ abbrev pub access_reserved_field : List ℕ → ℕ → ℕ
 access_reserved_field b at = u64_at b (at + 8)
 
 -- THE COMPOSITE: its place as the first access descriptor tells it, how many ranges it has, and the place of range i
-abbrev pub composite_place : List ℕ → ℕ
-composite_place b = composite_field b (array_place b)
+abbrev pub composite_place : Versioned → ℕ
+composite_place b = composite_field b.bytes (array_place b)
 
-abbrev pub total_field : List ℕ → ℕ
-total_field b = u32_at b (composite_place b)
+abbrev pub total_field : Versioned → ℕ
+total_field b = u32_at b.bytes (composite_place b)
 
-abbrev pub range_count : List ℕ → ℕ
-range_count b = u32_at b (composite_place b + 4)
+abbrev pub range_count : Versioned → ℕ
+range_count b = u32_at b.bytes (composite_place b + 4)
 
-abbrev pub range_place : List ℕ → ℕ → ℕ
+abbrev pub range_place : Versioned → ℕ → ℕ
 range_place b i = composite_place b + 16 + 16 * i
 
 -- CODES

@@ -14,7 +14,7 @@ use Rattle.ffa_model.specs.Regions.{has_page, owned_regions}
 use Rattle.ffa_model.specs.State.{State, Page, Party}
 
 abbrev pub party_of : Endpoint → Party
-party_of e = record { uuid = e.uuid; properties = e.properties.0 }
+party_of e = record { version = e.version; uuid = e.uuid; properties = e.properties.0 }
 
 -- a page of a region belongs to the region's endpoint, with the region's right as base; all others are the manager's
 abbrev pub page_with_bytes : ℕ → List Endpoint → ℕ → List ℕ → Option Page

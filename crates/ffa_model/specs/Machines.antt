@@ -1,6 +1,7 @@
 -- The endpoints of the machines that are at hand.
 use Rattle.std.specs.Prelude.{ℕ, Bool, true, false, List, [], ◌∷◌, ◌++◌, replicate}
 use Rattle.ffa_model.specs.declared.rights.Data.TheVariants.{Rw}
+use Rattle.ffa_model.specs.declared.endpoint.Version.TheVariants.{V1_1}
 use Rattle.ffa_model.specs.declared.endpoint.Region.{Region}
 use Rattle.ffa_model.specs.declared.endpoint.Endpoint.{Endpoint}
 
@@ -10,7 +11,7 @@ sixteen_writable base exec = record { base = base; pages = 16; rights = record {
 
 abbrev pub endpoint_with : List ℕ → ℕ → Region → Endpoint
 endpoint_with uuid properties region =
-    record { uuid = uuid; properties = record { 0 = properties }; regions = record { items = region ∷ [] } }
+    record { version = V1_1; uuid = uuid; properties = record { 0 = properties }; regions = record { items = region ∷ [] } }
 
 -- the last fifteen bytes of the partitions' UUIDs
 abbrev pub uuid_tail : List ℕ

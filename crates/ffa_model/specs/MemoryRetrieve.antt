@@ -1,5 +1,5 @@
 -- FFA_MEM_RETRIEVE_REQ (DEN0077A, 5 and 16).
-use Rattle.std.specs.Prelude.{ℕ, ◌==◌, Bool, true, false, not, nat_le, is_some, is_none, List, [], ◌∷◌, take, Option, Some, None, unwrap_or, if◌then◌else◌}
+use Rattle.std.specs.Prelude.{ℕ, ◌==◌, Bool, true, false, not, nat_le, is_some, is_none, List, [], ◌∷◌, Option, Some, None, unwrap_or, if◌then◌else◌}
 use Rattle.std.specs.Option.{option_map, option_map_or}
 use Rattle.std.specs.FinMap as map
 use Rattle.ffa_model.specs.declared.operation.ErrorCode.{ErrorCode}
@@ -11,11 +11,11 @@ use Rattle.ffa_model.specs.declared.rights.Kind.{Kind}
 use Rattle.ffa_model.specs.declared.rights.Kind.TheVariants.{Share, Lend, Donate}
 use Rattle.ffa_model.specs.declared.transaction.Range.{Range}
 use Rattle.ffa_model.specs.Rights.{is_at_most, is_donate, is_same_kind}
-use Rattle.ffa_model.specs.State.{State, Page, Transaction, transaction_of}
+use Rattle.ffa_model.specs.State.{State, Page, Transaction, transaction_of, version_of}
 use Rattle.ffa_model.specs.Access.{is_receiver, held_by}
 use Rattle.ffa_model.specs.Memory.{changed_pages}
 use Rattle.ffa_model.specs.Buffers.{buffers_in, filled, is_full}
-use Rattle.ffa_model.specs.Messages.{tx_bytes}
+use Rattle.ffa_model.specs.MemorySend.{descriptor_in}
 use Rattle.ffa_model.specs.RetrieveDescriptor.{retrieve_of}
 use Rattle.ffa_model.specs.ResponseBytes.{ResponseRecord, response_bytes, response_size}
 use Rattle.ffa_model.specs.Transactions.{Bases, Offers, Scene, Transfer, bases_of, ceiling, closed, holding, with_transaction, offers_of, scene_of, with_offers}
@@ -96,7 +96,7 @@ with_retrieved s h t e right = with_offers (donated_if (is_donate t.kind) s t.ra
 
 -- and RX holds the response
 abbrev pub retrieved_right : State → ℕ → Transaction → ℕ → Rights → State
-retrieved_right s h t e right = filled (with_retrieved s h t e right) e (response_bytes (response_to h t e right))
+retrieved_right s h t e right = filled (with_retrieved s h t e right) e (response_bytes (version_of s e) (response_to h t e right))
 
 abbrev pub retrieved_from : State → RetrieveDesc → Option Transaction → State
 retrieved_from s d None = s
@@ -109,11 +109,11 @@ retrieved s (Some d) = retrieved_from s d (transaction_of s d.handle)
 -- the length of the response
 abbrev pub response_length : State → Option RetrieveDesc → ℕ
 response_length s None = 0
-response_length s (Some d) = option_map_or (λ (t : Transaction). response_size t.ranges) (transaction_of s d.handle) 0
+response_length s (Some d) = option_map_or (λ (t : Transaction). response_size (version_of s s.runner) t.ranges) (transaction_of s d.handle) 0
 
--- what stands in the first bytes of the runner's TX
+-- what the first bytes of the runner's TX say
 abbrev pub retrieve_read : State → ℕ → Option RetrieveDesc
-retrieve_read s total = retrieve_of s.runner (take total (tx_bytes s s.runner))
+retrieve_read s total = retrieve_of s.runner (descriptor_in s total)
 
 abbrev pub memory_retrieve : State → Transfer → Service
 memory_retrieve s x =

@@ -13,10 +13,11 @@ use Rattle.ffa_model.specs.declared.transaction.Range.{Range}
 use Rattle.ffa_model.specs.declared.transaction.Receiver.{Receiver}
 use Rattle.ffa_model.specs.Bits.{bits}
 use Rattle.ffa_model.specs.Rights.{is_data_at_most}
-use Rattle.ffa_model.specs.State.{State, Transaction, Buffers, is_known_among}
+use Rattle.ffa_model.specs.State.{State, Transaction, Buffers, is_known_among, version_of}
 use Rattle.ffa_model.specs.Memory.{zeroed_if}
 use Rattle.ffa_model.specs.Buffers.{Candidate, Candidates, buffers_in}
 use Rattle.ffa_model.specs.Messages.{tx_bytes}
+use Rattle.ffa_model.specs.DescriptorPlaces.{Versioned, in_version}
 use Rattle.ffa_model.specs.SendDescriptor.{SendRecord, send_of, range_end}
 use Rattle.ffa_model.specs.Transactions.{Bases, Offers, Scene, Transfer, sends_of, next_handle, open_count, opened, pages_in, are_writable, offers_of, scene_of, with_offers}
 use Rattle.ffa_model.specs.Calls.{Service, success}
@@ -95,9 +96,13 @@ abbrev pub handle_reply : ℕ → Reply
 handle_reply h = success (bits 31 0 h) (bits 63 32 h)
 
 -- ON A STATE
--- what stands in the first bytes of the runner's TX, and the state after the send
+-- the first bytes of the runner's TX, in its version
+abbrev pub descriptor_in : State → ℕ → Versioned
+descriptor_in s total = in_version (version_of s s.runner) (take total (tx_bytes s s.runner))
+
+-- what they say, and the state after the send
 abbrev pub send_read : State → Kind → ℕ → Option SendRecord
-send_read s kind total = send_of kind (take total (tx_bytes s s.runner))
+send_read s kind total = send_of kind (descriptor_in s total)
 
 abbrev pub memory_sent : State → Kind → Option SendRecord → State
 memory_sent s kind None = s

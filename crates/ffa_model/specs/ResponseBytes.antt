@@ -1,12 +1,14 @@
--- The bytes of the answer to a retrieve: a transaction descriptor for one receiver.
+-- The bytes of the answer to a retrieve: a transaction descriptor for one receiver, in the receiver's version.
 use Rattle.std.specs.Prelude.{ℕ, ◌+◌, ◌*◌, Bool, if◌then◌else◌, List, [], ◌∷◌, ◌++◌, length, Some}
 use Rattle.std.specs.List.{flat_map}
 use Rattle.byteorder.specs.Endian.{little_bytes}
+use Rattle.ffa_model.specs.declared.endpoint.Version.{Version}
+use Rattle.ffa_model.specs.declared.endpoint.Version.TheVariants.{Compact, V1_1}
 use Rattle.ffa_model.specs.declared.rights.Kind.{Kind}
 use Rattle.ffa_model.specs.declared.rights.Rights.{Rights}
 use Rattle.ffa_model.specs.declared.transaction.Range.{Range}
 use Rattle.ffa_model.specs.declared.descriptor.Response.{Response}
-use Rattle.ffa_model.specs.DescriptorPlaces.{header_size, data_code, exec_code, kind_code, normal_memory}
+use Rattle.ffa_model.specs.DescriptorPlaces.{header_size, told_access_size, data_code, exec_code, kind_code, normal_memory}
 use Rattle.ffa_model.specs.SendDescriptor.{page_total}
 
 -- what a response tells
@@ -41,27 +43,30 @@ le n x = little_bytes n x
 abbrev pub flags_of : Kind → Bool → ℕ
 flags_of kind zero = 8 * kind_code (Some kind) + (if zero then 1 else 0)
 
+-- the array's place, and zeros, where the header tells it
+abbrev pub rest_bytes : Version → List ℕ
+rest_bytes Compact = []
+rest_bytes V1_1 = le 4 48 ++ le 4 0 ++ le 8 0
+
 -- the header: one access descriptor of 16 bytes follows it. Its fields are those of DescriptorPlaces
-abbrev pub header_bytes : ResponseRecord → List ℕ
-header_bytes r =
+abbrev pub header_bytes : Version → ResponseRecord → List ℕ
+header_bytes version r =
     le 2 r.sender
     ++ le 2 normal_memory
     ++ le 4 (flags_of r.kind r.zero)
     ++ le 8 r.handle
     ++ le 8 r.tag
-    ++ le 4 16
+    ++ le 4 (told_access_size version)
     ++ le 4 1
-    ++ le 4 header_size
-    ++ le 4 0
-    ++ le 8 0
+    ++ rest_bytes version
 
 -- the right now held: data in bits 1:0, instructions in bits 3:2
 abbrev pub permissions_of : Rights → ℕ
 permissions_of r = data_code (Some r.level) + 4 * exec_code r.exec
 
 -- the access descriptor, with the composite right behind it
-abbrev pub access_bytes : ResponseRecord → List ℕ
-access_bytes r = le 2 r.endpoint ++ permissions_of r.rights ∷ 0 ∷ [] ++ le 4 (header_size + 16) ++ le 8 0
+abbrev pub access_bytes : Version → ResponseRecord → List ℕ
+access_bytes version r = le 2 r.endpoint ++ permissions_of r.rights ∷ 0 ∷ [] ++ le 4 (header_size version + 16) ++ le 8 0
 
 abbrev pub composite_bytes : List Range → List ℕ
 composite_bytes ranges = le 4 (page_total ranges) ++ le 4 (length ranges) ++ le 8 0
@@ -69,9 +74,9 @@ composite_bytes ranges = le 4 (page_total ranges) ++ le 4 (length ranges) ++ le 
 abbrev pub range_bytes : Range → List ℕ
 range_bytes r = le 8 r.address ++ le 4 r.pages ++ le 4 0
 
-unfoldable pub response_bytes : ResponseRecord → List ℕ
-response_bytes r = header_bytes r ++ access_bytes r ++ composite_bytes r.ranges ++ flat_map range_bytes r.ranges
+unfoldable pub response_bytes : Version → ResponseRecord → List ℕ
+response_bytes version r = header_bytes version r ++ access_bytes version r ++ composite_bytes r.ranges ++ flat_map range_bytes r.ranges
 
 -- how many they are
-abbrev pub response_size : List Range → ℕ
-response_size ranges = header_size + 32 + 16 * length ranges
+abbrev pub response_size : Version → List Range → ℕ
+response_size version ranges = header_size version + 32 + 16 * length ranges

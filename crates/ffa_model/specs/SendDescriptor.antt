@@ -7,7 +7,7 @@ use Rattle.ffa_model.specs.declared.transaction.Range.{Range}
 use Rattle.ffa_model.specs.declared.transaction.Receiver.{Receiver}
 use Rattle.ffa_model.specs.declared.descriptor.SendDesc.{SendDesc}
 use Rattle.ffa_model.specs.Lists.{listed}
-use Rattle.ffa_model.specs.DescriptorPlaces.{u32_at, u64_at, sender_field, attributes_field, flags_field, handle_field, tag_field, receiver_count, access_place, array_end, IsHeader, is_header, endpoint_field, permissions_field, access_flags_field, composite_field, access_reserved_field, composite_place, total_field, range_count, range_place, data_of, normal_memory}
+use Rattle.ffa_model.specs.DescriptorPlaces.{Versioned, u32_at, u64_at, sender_field, attributes_field, flags_field, handle_field, tag_field, receiver_count, access_place, array_end, IsHeader, is_header, endpoint_field, permissions_field, access_flags_field, composite_field, access_reserved_field, composite_place, total_field, range_count, range_place, data_of, normal_memory}
 
 -- what a send descriptor says
 pub record SendRecord : Type 0 where
@@ -29,16 +29,16 @@ abbrev pub range_at : List ℕ → ℕ → Range
 range_at b at = record { address = u64_at b at; pages = u32_at b (at + 8) }
 
 -- receiver i and range i, and the first n of them
-abbrev pub receiver_in : List ℕ → ℕ → Receiver
-receiver_in b i = receiver_at b (access_place b i)
+abbrev pub receiver_in : Versioned → ℕ → Receiver
+receiver_in b i = receiver_at b.bytes (access_place b i)
 
-abbrev pub range_in : List ℕ → ℕ → Range
-range_in b i = range_at b (range_place b i)
+abbrev pub range_in : Versioned → ℕ → Range
+range_in b i = range_at b.bytes (range_place b i)
 
-abbrev pub receivers_in : List ℕ → ℕ → List Receiver
+abbrev pub receivers_in : Versioned → ℕ → List Receiver
 receivers_in b n = listed n (receiver_in b)
 
-abbrev pub ranges_in : List ℕ → ℕ → List Range
+abbrev pub ranges_in : Versioned → ℕ → List Range
 ranges_in b n = listed n (range_in b)
 
 abbrev pub range_end : Range → ℕ
@@ -71,21 +71,21 @@ IsGrant Lend permissions = (permissions ≡ 1) ⊎ (permissions ≡ 2)
 IsGrant Donate permissions = permissions ≡ 0
 
 -- the access descriptor at a place tells the one composite, and names another endpoint than the sender
-pub record IsAccess (kind : Kind) (b : List ℕ) (at : ℕ) : Type 0 where
-  pub permissions : IsGrant kind (permissions_field b at)
-  pub flags : access_flags_field b at ≡ 0
-  pub composite : composite_field b at ≡ composite_place b
-  pub reserved : access_reserved_field b at ≡ 0
-  pub other : endpoint_field b at ≢ sender_field b
+pub record IsAccess (kind : Kind) (b : Versioned) (at : ℕ) : Type 0 where
+  pub permissions : IsGrant kind (permissions_field b.bytes at)
+  pub flags : access_flags_field b.bytes at ≡ 0
+  pub composite : composite_field b.bytes at ≡ composite_place b
+  pub reserved : access_reserved_field b.bytes at ≡ 0
+  pub other : endpoint_field b.bytes at ≢ sender_field b
 
 -- the composite stands behind the access descriptors, and inside the bytes with its ranges
-pub record IsComposite (b : List ℕ) : Type 0 where
+pub record IsComposite (b : Versioned) : Type 0 where
   pub aligned : composite_place b % 16 ≡ 0
   pub behind : array_end b ≤ composite_place b
   pub least : 1 ≤ range_count b
   pub most : range_count b ≤ 16
-  pub reserved : u64_at b (composite_place b + 8) ≡ 0
-  pub inside : range_place b (range_count b) ≤ length b
+  pub reserved : u64_at b.bytes (composite_place b + 8) ≡ 0
+  pub inside : range_place b (range_count b) ≤ length b.bytes
 
 -- the range at a place has whole pages, at least one, and ends at or below 2 ^ 48
 pub record IsRange (b : List ℕ) (at : ℕ) : Type 0 where
@@ -98,7 +98,7 @@ abbrev pub AreApart : Range → Range → Type 0
 AreApart r q = (range_end r ≤ q.address) ⊎ (range_end q ≤ r.address)
 
 -- The bytes are a send descriptor of this kind, and say this. All other bytes are free
-pub record Send (kind : Kind) (b : List ℕ) (r : SendRecord) : Type 0 where
+pub record Send (kind : Kind) (b : Versioned) (r : SendRecord) : Type 0 where
   pub header : IsHeader b
   pub attributes : attributes_field b ≡ attributes_of kind (receiver_count b)
   pub flags : flags_field b ≤ most_flags kind
@@ -107,9 +107,9 @@ pub record Send (kind : Kind) (b : List ℕ) (r : SendRecord) : Type 0 where
   pub most : receiver_count b ≤ most_receivers kind
   pub accesses : (i : ℕ) → i < receiver_count b → IsAccess kind b (access_place b i)
   pub distinct :
-      (i j : ℕ) → j < i → i < receiver_count b → endpoint_field b (access_place b j) ≢ endpoint_field b (access_place b i)
+      (i j : ℕ) → j < i → i < receiver_count b → endpoint_field b.bytes (access_place b j) ≢ endpoint_field b.bytes (access_place b i)
   pub composite : IsComposite b
-  pub each : (i : ℕ) → i < range_count b → IsRange b (range_place b i)
+  pub each : (i : ℕ) → i < range_count b → IsRange b.bytes (range_place b i)
   pub apart :
       (i j : ℕ) → j < i → i < range_count b → AreApart (range_in b i) (range_in b j)
   pub total : page_total (ranges_in b (range_count b)) ≡ total_field b
@@ -126,30 +126,30 @@ is_grant Share permissions = (permissions == 1) || (permissions == 2)
 is_grant Lend permissions = (permissions == 1) || (permissions == 2)
 is_grant Donate permissions = permissions == 0
 
-abbrev pub is_access : Kind → List ℕ → ℕ → Bool
+abbrev pub is_access : Kind → Versioned → ℕ → Bool
 is_access kind b at =
-    is_grant kind (permissions_field b at)
-    && (access_flags_field b at == 0)
-    && (composite_field b at == composite_place b)
-    && (access_reserved_field b at == 0)
-    && not (endpoint_field b at == sender_field b)
+    is_grant kind (permissions_field b.bytes at)
+    && (access_flags_field b.bytes at == 0)
+    && (composite_field b.bytes at == composite_place b)
+    && (access_reserved_field b.bytes at == 0)
+    && not (endpoint_field b.bytes at == sender_field b)
 
 abbrev pub is_named : ℕ → List Receiver → Bool
 is_named endpoint receivers = list_any (λ (r : Receiver). r.endpoint.0 == endpoint) receivers
 
 -- access descriptor i is one, and names nobody that an earlier one names
-abbrev pub is_access_beside : Kind → List ℕ → ℕ → Bool
+abbrev pub is_access_beside : Kind → Versioned → ℕ → Bool
 is_access_beside kind b i =
-    is_access kind b (access_place b i) && not (is_named (endpoint_field b (access_place b i)) (receivers_in b i))
+    is_access kind b (access_place b i) && not (is_named (endpoint_field b.bytes (access_place b i)) (receivers_in b i))
 
-abbrev pub is_composite : List ℕ → Bool
+abbrev pub is_composite : Versioned → Bool
 is_composite b =
     (composite_place b % 16 == 0)
     && nat_le (array_end b) (composite_place b)
     && nat_le 1 (range_count b)
     && nat_le (range_count b) 16
-    && (u64_at b (composite_place b + 8) == 0)
-    && nat_le (range_place b (range_count b)) (length b)
+    && (u64_at b.bytes (composite_place b + 8) == 0)
+    && nat_le (range_place b (range_count b)) (length b.bytes)
 
 abbrev pub is_range : List ℕ → ℕ → Bool
 is_range b at =
@@ -162,15 +162,15 @@ abbrev pub are_apart : Range → Range → Bool
 are_apart r q = nat_le (range_end r) q.address || nat_le (range_end q) r.address
 
 -- range i is one, and has no page of an earlier one
-abbrev pub is_range_beside : List ℕ → ℕ → Bool
+abbrev pub is_range_beside : Versioned → ℕ → Bool
 is_range_beside b i =
-    is_range b (range_place b i) && list_all (are_apart (range_in b i)) (ranges_in b i)
+    is_range b.bytes (range_place b i) && list_all (are_apart (range_in b i)) (ranges_in b i)
 
 -- whether a test holds at each of the first n indexes
 abbrev pub holds_at_each : (ℕ → Bool) → ℕ → Bool
 holds_at_each test n = list_all (λ (t : Bool). t) (listed n test)
 
-unfoldable pub is_send_header : Kind → List ℕ → Bool
+unfoldable pub is_send_header : Kind → Versioned → Bool
 is_send_header kind b =
     (attributes_field b == attributes_of kind (receiver_count b))
     && nat_le (flags_field b) (most_flags kind)
@@ -179,13 +179,13 @@ is_send_header kind b =
     && nat_le (receiver_count b) (most_receivers kind)
 
 -- the lists of a send whose counts are good
-unfoldable pub is_send_body : Kind → List ℕ → Bool
+unfoldable pub is_send_body : Kind → Versioned → Bool
 is_send_body kind b =
     holds_at_each (is_access_beside kind b) (receiver_count b)
     && holds_at_each (is_range_beside b) (range_count b)
     && (page_total (ranges_in b (range_count b)) == total_field b)
 
-abbrev pub send_in : List ℕ → SendRecord
+abbrev pub send_in : Versioned → SendRecord
 send_in b =
     record {
       sender = sender_field b;
@@ -196,10 +196,10 @@ send_in b =
     }
 
 -- the counts are judged before a list is
-abbrev pub send_counted : Bool → Kind → List ℕ → Option SendRecord
+abbrev pub send_counted : Bool → Kind → Versioned → Option SendRecord
 send_counted false kind b = None
 send_counted true kind b = if is_send_body kind b then Some (send_in b) else None
 
 -- what a send descriptor of this kind says, if the bytes are one
-unfoldable pub send_of : Kind → List ℕ → Option SendRecord
+unfoldable pub send_of : Kind → Versioned → Option SendRecord
 send_of kind b = send_counted (is_header b && is_send_header kind b && is_composite b) kind b

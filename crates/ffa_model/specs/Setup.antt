@@ -3,6 +3,8 @@ use Rattle.byteorder.specs.Endian.{little_bytes}
 use Rattle.std.specs.Prelude.{ℕ, ◌+◌, ◌==◌, Bool, true, false, not, ◌&&◌, ◌||◌, List, [], ◌∷◌, ◌++◌, length, replicate, is_some, if◌then◌else◌}
 use Rattle.std.specs.Str.{bytes_eq}
 use Rattle.std.specs.List.{filter, flat_map, enumerate_from}
+use Rattle.ffa_model.specs.declared.endpoint.Version as versions
+use Rattle.ffa_model.specs.declared.endpoint.Version.TheVariants.{Compact, V1_1}
 use Rattle.ffa_model.specs.declared.operation.ErrorCode.{ErrorCode}
 use Rattle.ffa_model.specs.declared.operation.ErrorCode.TheVariants.{InvalidParameters, Busy, NotSupported}
 use Rattle.ffa_model.specs.declared.call.Reply.{Reply}
@@ -11,7 +13,7 @@ use Rattle.ffa_model.specs.Bits.{bits, is_set}
 use Rattle.ffa_model.specs.Identifiers.{manager, identifier}
 use Rattle.ffa_model.specs.Manifest.{is_nil}
 use Rattle.ffa_model.specs.Registers.{is_function}
-use Rattle.ffa_model.specs.State.{State, Party, buffers_of}
+use Rattle.ffa_model.specs.State.{State, Party, buffers_of, version_of}
 use Rattle.ffa_model.specs.Buffers.{filled, is_full}
 use Rattle.ffa_model.specs.Calls.{Service, success}
 
@@ -39,14 +41,22 @@ is_selected uuid p = not (p.0 == 0) && (is_nil uuid || bytes_eq p.1.uuid uuid)
 abbrev pub selected : List Party → List ℕ → List (ℕ × Party)
 selected parties uuid = filter (is_selected uuid) (enumerate_from 0 parties)
 
--- the information on a partition: properties bit 8 says that it is AArch64, and the UUID answers the Nil UUID alone
-abbrev pub info_of : List ℕ → ℕ × Party → List ℕ
-info_of uuid p =
-    little_bytes 2 (identifier p.0) ++ little_bytes 2 1 ++ little_bytes 4 (p.1.properties + 0x100)
-    ++ (if is_nil uuid then p.1.uuid else replicate 16 0)
+-- what the information on a partition holds behind its identifier and its one execution context: in the compact form the
+-- properties of messages alone; else bit 8 says that it is AArch64, and the UUID answers the Nil UUID alone
+abbrev pub properties_info : versions.Version → List ℕ → Party → List ℕ
+properties_info Compact uuid party = little_bytes 4 (bits 2 0 party.properties)
+properties_info V1_1 uuid party = little_bytes 4 (party.properties + 0x100) ++ (if is_nil uuid then party.uuid else replicate 16 0)
 
-abbrev pub info_bytes : List Party → List ℕ → List ℕ
-info_bytes parties uuid = flat_map (info_of uuid) (selected parties uuid)
+abbrev pub info_of : versions.Version → List ℕ → ℕ × Party → List ℕ
+info_of version uuid p = little_bytes 2 (identifier p.0) ++ little_bytes 2 1 ++ properties_info version uuid p.1
+
+abbrev pub info_bytes : versions.Version → List Party → List ℕ → List ℕ
+info_bytes version parties uuid = flat_map (info_of version uuid) (selected parties uuid)
+
+-- the size of one partition's information as its caller is told it; a compact caller is told 0
+abbrev pub told_info_size : versions.Version → ℕ
+told_info_size Compact = 0
+told_info_size V1_1 = 24
 
 abbrev pub is_count_alone : ℕ → Bool
 is_count_alone flags = is_set 0 flags
@@ -63,12 +73,12 @@ info_guards s uuid flags =
     ∷ []
 
 abbrev pub informed : State → List ℕ → ℕ → State
-informed s uuid flags = if is_count_alone flags then s else filled s s.runner (info_bytes s.parties uuid)
+informed s uuid flags = if is_count_alone flags then s else filled s s.runner (info_bytes (version_of s s.runner) s.parties uuid)
 
 abbrev pub info_get : State → List ℕ → ℕ → Service
 info_get s words flags =
     record {
       guards = info_guards s (uuid_bytes words) flags;
       state = informed s (uuid_bytes words) flags;
-      reply = success (length (selected s.parties (uuid_bytes words))) (if is_count_alone flags then 0 else 24);
+      reply = success (length (selected s.parties (uuid_bytes words))) (if is_count_alone flags then 0 else told_info_size (version_of s s.runner));
     }

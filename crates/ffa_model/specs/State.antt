@@ -5,6 +5,8 @@ use Rattle.std.specs.Cmp.Lexicographic.{slice_cmp}
 use Rattle.std.specs.Option.{option_map_or}
 use Rattle.std.specs.FinMap as map
 use Rattle.std.specs.FinSet as finite_set
+use Rattle.ffa_model.specs.declared.endpoint.Version.{Version}
+use Rattle.ffa_model.specs.declared.endpoint.Version.TheVariants.{V1_1}
 use Rattle.ffa_model.specs.declared.rights.Rights.{Rights}
 use Rattle.ffa_model.specs.declared.rights.Kind.{Kind}
 use Rattle.ffa_model.specs.declared.transaction.Range.{Range}
@@ -17,6 +19,7 @@ use Rattle.ffa_model.specs.Lists.{listed}
 
 -- what the manifest says of an endpoint for good
 pub record Party : Type 0 where
+  pub version : Version
   pub uuid : List ℕ
   pub properties : ℕ
 
@@ -73,6 +76,13 @@ is_known s e = is_known_among (length s.parties) e
 -- the property word of e, and whether a bit of it is set
 abbrev pub properties_among : List Party → ℕ → ℕ
 properties_among parties e = option_map_or (λ (p : Party). p.properties) (slice_get parties (place e)) 0
+
+-- the form in which e writes and reads descriptors
+abbrev pub version_among : List Party → ℕ → Version
+version_among parties e = option_map_or (λ (p : Party). p.version) (slice_get parties (place e)) V1_1
+
+abbrev pub version_of : State → ℕ → Version
+version_of s e = version_among s.parties e
 
 abbrev pub has_property : List Party → ℕ → ℕ → Bool
 has_property parties e bit = is_set bit (properties_among parties e)

@@ -68,6 +68,16 @@ impl EndpointId {
     }
 }
 
+/// The form in which an endpoint writes and reads descriptors.
+#[derive(Clone, Copy, Debug, PartialEq, Eq, Default)]
+pub enum Version {
+    /// This project's own: short headers of memory transactions, and partition information of 8 bytes.
+    Compact,
+    /// That of FF-A 1.1.
+    #[default]
+    V1_1,
+}
+
 /// The number of a page of 4096 bytes, counted from RAM's first page.
 #[derive(Clone, Copy, Debug, PartialEq, Eq, PartialOrd, Ord, Default)]
 pub struct PageNo(pub u32);
@@ -131,6 +141,7 @@ impl Region {
 /// An endpoint as the manifest gives it. The UUID of the normal world is zeros.
 #[derive(Debug, Default, Drop)]
 pub struct Endpoint {
+    pub version: Version,
     pub uuid: [u8; 16],
     pub properties: Properties,
     pub regions: ArrayVec<Region, 16>,
@@ -138,11 +149,17 @@ pub struct Endpoint {
 
 impl Endpoint {
     // The endpoint of these parts, whose UUID has 16 bytes, as the type says.
-    fn of(uuid: [u8; 16], properties: Properties, regions: ArrayVec<Region, 16>) -> Endpoint
-        ensures parts { result ≡ record { uuid = uuid; properties = properties; regions = regions } }
+    fn of(
+        version: Version,
+        uuid: [u8; 16],
+        properties: Properties,
+        regions: ArrayVec<Region, 16>,
+    ) -> Endpoint
+        ensures parts { result ≡ record { version = version; uuid = uuid; properties = properties; regions = regions } }
         ensures uuid { is_uuid result.uuid ≡ true }
     {
         Endpoint {
+            version,
             uuid,
             properties,
             regions,
@@ -165,7 +182,7 @@ impl Endpoint {
         for region in self.regions.as_slice() {
             regions.push(*region);
         }
-        Endpoint::of(self.uuid, self.properties, regions)
+        Endpoint::of(self.version, self.uuid, self.properties, regions)
     }
 }
 

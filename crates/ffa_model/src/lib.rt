@@ -14,7 +14,7 @@ pub mod transaction;
 
 pub use call::{Call, Reply};
 pub use descriptor::{RelinquishDesc, Response, RetrieveDesc, SendDesc};
-pub use endpoint::{Endpoint, EndpointId, PageNo, Properties, Region, right_in};
+pub use endpoint::{Endpoint, EndpointId, PageNo, Properties, Region, Version, right_in};
 pub use leaf::Leaf;
 pub use machines::{built_in, row_machine};
 pub use manifest::Manifest;

@@ -2,7 +2,7 @@
 ghost use Rattle.std.specs.Prelude.{◌≡◌};
 ghost use Rattle.ffa_model.specs.Machines.{sixteen_writable, endpoint_with, built_in_endpoints, row_endpoints};
 
-use crate::endpoint::{Endpoint, Properties, Region};
+use crate::endpoint::{Endpoint, Properties, Region, Version};
 use crate::manifest::Manifest;
 use crate::rights::{Data, Rights};
 use arrayvec::ArrayVec;
@@ -26,6 +26,7 @@ fn endpoint(uuid: [u8; 16], properties: u32, region: Region) -> Endpoint
     let mut regions = ArrayVec::new();
     regions.push(region);
     Endpoint {
+        version: Version::V1_1,
         uuid,
         properties: Properties::from_bits_retain(properties),
         regions,

@@ -1,10 +1,12 @@
 //! The manifest of a machine.
-ghost use Rattle.std.specs.Prelude.{true, ◌≡◌, ◌+◌, ◌*◌, ◌<◌, length};
+ghost use Rattle.std.specs.Prelude.{true, ◌≡◌, ◌+◌, ◌*◌, ◌<◌, length, map};
+ghost use Rattle.ffa_model.specs.First.{party_of};
 ghost use Rattle.ffa_model.specs.Manifest.{is_accepted, root_of};
 ghost use Rattle.ffa_model.specs.Regions.{right_in, regions_at, owner_in};
+ghost use Rattle.ffa_model.specs.State.{is_known_among, version_among};
 ghost use Rattle.ffa_model.specs.Endpoints.{have_uuids};
 
-use crate::endpoint::{Endpoint, EndpointId, PageNo};
+use crate::endpoint::{Endpoint, EndpointId, PageNo, Version};
 use crate::rights::Rights;
 use arrayvec::ArrayVec;
 
@@ -43,6 +45,14 @@ impl Manifest {
         ensures { result ≡ root_of self.now.ram_base self.now.ram_blocks index }
     {
         self.ram_base + 4096 * (index as u32 * (2 + self.ram_blocks))
+    }
+
+    /// The form in which a known endpoint writes and reads descriptors.
+    pub fn version_of(&self, endpoint: EndpointId) -> Version
+        requires { is_known_among (length self.now.endpoints.items) endpoint.0 ≡ true }
+        ensures { result ≡ version_among (map party_of self.now.endpoints.items) endpoint.0 }
+    {
+        self.endpoints.as_slice()[endpoint.place()].version
     }
 
     /// The right that the regions of the endpoint at a place give it to a page; nothing where there is no such endpoint.

@@ -24,7 +24,7 @@ use Rattle.ffa_model.specs.Rights.{is_donate, is_share}
 use Rattle.ffa_model.specs.SendDescriptor.{SendRecord}
 use Rattle.ffa_model.specs.Setup.{info_bytes, is_count_alone, uuid_bytes}
 use Rattle.ffa_model.specs.SoundState.{IsSoundState}
-use Rattle.ffa_model.specs.State.{State, Page, Transaction, page_at, transaction_of}
+use Rattle.ffa_model.specs.State.{State, Page, Transaction, page_at, transaction_of, version_of}
 use Rattle.ffa_model.specs.Step.{serve, service}
 use Rattle.ffa_model.specs.Transactions.{bases_of, pages_in}
 use Rattle.ffa_model.proofs.Accesses.{named-in}
@@ -44,9 +44,9 @@ use Rattle.ffa_spmc.proofs.Held.{size_is}
 module _ (s : State) (e p : ℕ) where
   left-service : (call : Call) → is_on_memory call ≡ false → access (service s call).state e p ≡ access s e p
   left-service (PartitionInfoGet uuid flags) beside =
-      elim (is_count_alone flags) as (λ b. access (cond b s (filled s s.runner (info_bytes s.parties (uuid_bytes uuid)))) e p ≡ access s e p) [
+      elim (is_count_alone flags) as (λ b. access (cond b s (filled s s.runner (info_bytes (version_of s s.runner) s.parties (uuid_bytes uuid)))) e p ≡ access s e p) [
         | true ↦ refl
-        | false ↦ access-filled s s.runner (info_bytes s.parties (uuid_bytes uuid)) e p
+        | false ↦ access-filled s s.runner (info_bytes (version_of s s.runner) s.parties (uuid_bytes uuid)) e p
       ]
   left-service MsgSend2 beside = access-filled s (header_in (tx_bytes s s.runner)).receiver (message_in (tx_bytes s s.runner)) e p
   left-service (MemDonate total fragment address pages) beside = absurd (true≢false beside)

@@ -2,15 +2,16 @@
 use Rattle.std.proofs.Common.{◌≡◌, ◌∙◌, ℕ, Bool, true, false, cond, List, length, map, Option, Some, None, refl, sym, ap}
 use Rattle.std.specs.Prelude.{◌||◌, is_some, not}
 use Rattle.std.proofs.lemmas.Option.{none-some}
+use Rattle.ffa_model.specs.declared.endpoint.Version.{Version}
 use Rattle.ffa_model.specs.declared.operation.ErrorCode.{ErrorCode}
 use Rattle.ffa_model.specs.declared.operation.ErrorCode.TheVariants.{InvalidParameters, Busy}
 use Rattle.ffa_model.specs.Buffers.{buffers_in, filled, is_full}
 use Rattle.ffa_model.specs.Calls.{first_failure, success}
 use Rattle.ffa_model.specs.First.{first, party_of}
 use Rattle.ffa_model.specs.Manifest.{is_nil}
-use Rattle.ffa_model.specs.Setup.{info_bytes, info_get, info_guards, informed, is_any, is_count_alone, selected, uuid_bytes}
+use Rattle.ffa_model.specs.Setup.{info_bytes, info_get, info_guards, told_info_size, informed, is_any, is_count_alone, selected, uuid_bytes}
 use Rattle.ffa_model.specs.declared.call.Call.TheVariants.{PartitionInfoGet}
-use Rattle.ffa_model.specs.State.{Party, Buffers}
+use Rattle.ffa_model.specs.State.{Party, Buffers, version_among, version_of}
 use Rattle.ffa_spmc.specs.Meaning.{IsManager, Parts, state_of}
 use Rattle.ffa_spmc.specs.Managed.{Managed}
 use Rattle.ffa_spmc.proofs.Answered.{passed-state}
@@ -29,6 +30,10 @@ module _ (x : Parts) (now : Managed) (view : record { state = state_of x; ram = 
   pub parties-seen : map party_of x.manifest.endpoints.items ≡ now.state.parties
   unfolding first
   parties-seen = ap (λ (seen : Managed). seen.state.parties) view
+
+  pub version-seen : version_among (map party_of x.manifest.endpoints.items) e ≡ version_of now.state now.state.runner
+  unfolding first
+  version-seen = (λ i. version_among (map party_of x.manifest.endpoints.items) (at i)) ∙ ap (λ (seen : Managed). version_of seen.state seen.state.runner) view
 
   failure-is : (uuid : List ℕ) (flags : ℕ)
       → decided (is_nil uuid || is_any (selected (map party_of x.manifest.endpoints.items) uuid)) (is_count_alone flags) (is_some own) (is_full own)
@@ -56,9 +61,11 @@ module _ (x : Parts) (now : Managed) (view : record { state = state_of x; ram = 
     info-ready alone some empty = sym (λ i. decided (known i) (alone i) (some i) (empty i)) ∙ failure-is uuid flags
 
   -- the reply, by the count and whether it is all that is asked
-  pub info-reply : (count : ℕ) (uuid : List ℕ) (flags : ℕ) (alone : Bool) → count ≡ length (selected (map party_of x.manifest.endpoints.items) uuid) → is_count_alone flags ≡ alone
-      → success count (cond alone 0 24) ≡ success (length (selected now.state.parties uuid)) (cond (is_count_alone flags) 0 24)
-  info-reply count uuid flags alone is asked = λ i. success ((is ∙ ap (λ (parties : List Party). length (selected parties uuid)) parties-seen) i) (cond (sym asked i) 0 24)
+  pub info-reply : (count : ℕ) (uuid : List ℕ) (flags : ℕ) (alone : Bool) (size : ℕ) → count ≡ length (selected (map party_of x.manifest.endpoints.items) uuid) → is_count_alone flags ≡ alone
+      → size ≡ told_info_size (version_of now.state now.state.runner)
+      → success count (cond alone 0 size) ≡ success (length (selected now.state.parties uuid)) (cond (is_count_alone flags) 0 (told_info_size (version_of now.state now.state.runner)))
+  info-reply count uuid flags alone size is asked sized =
+      λ i. success ((is ∙ ap (λ (parties : List Party). length (selected parties uuid)) parties-seen) i) (cond (sym asked i) 0 (sized i))
 
   -- who is given the descriptors has buffers
   pub informed-own : (uuid : List ℕ) (flags : ℕ) → first_failure (info_guards now.state uuid flags) ≡ None → is_count_alone flags ≡ false → (b : Buffers) × (own ≡ Some b)
@@ -72,17 +79,22 @@ module _ (x : Parts) (now : Managed) (view : record { state = state_of x; ram = 
       of None is false none = absurd (none-some InvalidParameters (sym none))
 
   -- the descriptors in RX of the runner
-  module _ (machine : IsManager x) (words : List ℕ) (flags : ℕ) (bytes : List ℕ)
-      (are : bytes ≡ info_bytes (map party_of x.manifest.endpoints.items) (uuid_bytes words)) (asked : is_count_alone flags ≡ false) where
+  module _ (machine : IsManager x) (words : List ℕ) (flags : ℕ) (bytes : List ℕ) (version : Version) (spoken : version ≡ version_of now.state now.state.runner)
+      (are : bytes ≡ info_bytes version (map party_of x.manifest.endpoints.items) (uuid_bytes words)) (asked : is_count_alone flags ≡ false) where
     abbrev pub after_information : Parts
     after_information = after_fill x machine e (runner-there x machine e at) bytes
+
+    version-is : version ≡ version_of (state_of x) x.kept.chain.runner
+    unfolding first
+    version-is = spoken ∙ sym (ap (λ (seen : Managed). version_of seen.state seen.state.runner) view)
 
     informed-is : state_of after_information ≡ informed (state_of x) (uuid_bytes words) flags
     unfolding first
     informed-is =
         state-filled x machine e (runner-there x machine e at) bytes
         ∙ (λ i. filled (state_of x) (at i) (are i))
-        ∙ (λ i. cond (sym asked i) (state_of x) (filled (state_of x) x.kept.chain.runner (info_bytes (map party_of x.manifest.endpoints.items) (uuid_bytes words))))
+        ∙ ap (λ (v : Version). filled (state_of x) x.kept.chain.runner (info_bytes v (map party_of x.manifest.endpoints.items) (uuid_bytes words))) version-is
+        ∙ (λ i. cond (sym asked i) (state_of x) (filled (state_of x) x.kept.chain.runner (info_bytes (version_of (state_of x) x.kept.chain.runner) (map party_of x.manifest.endpoints.items) (uuid_bytes words))))
 
     pub state-informed : state_of after_information ≡ informed now.state (uuid_bytes words) flags
     state-informed = informed-is ∙ ap (λ (seen : Managed). informed seen.state (uuid_bytes words) flags) view

@@ -6,6 +6,9 @@ use Rattle.std.specs.Result.{result_err, result_ok}
 use Rattle.std.proofs.lemmas.Bool.{false≢true}
 use Rattle.std.proofs.lemmas.Option.{same_Some}
 use Rattle.arrayvec.specs.ArrayVec.{array_vec_len}
+use Rattle.ffa_model.specs.declared.endpoint.Version.{Version}
+use Rattle.ffa_memshare.specs.declared.transfer.Transfer.{Transfer as Registers}
+use Rattle.ffa_model.specs.DescriptorPlaces.{Versioned, in_version}
 use Rattle.ffa_model.specs.declared.call.Call.TheVariants.{MemRetrieve}
 use Rattle.ffa_model.specs.declared.call.Reply.TheVariants.{Retrieved}
 use Rattle.ffa_model.specs.declared.descriptor.RetrieveDesc.{RetrieveDesc}
@@ -25,7 +28,7 @@ use Rattle.ffa_model.specs.ResponseBytes.{response_bytes, response_size}
 use Rattle.ffa_model.specs.RetrieveDescriptor.{retrieve_of}
 use Rattle.ffa_model.specs.Rights.{is_at_most, is_donate}
 use Rattle.ffa_model.specs.SoundState.{IsKnown, IsSoundState}
-use Rattle.ffa_model.specs.State.{State, Transaction, Buffers, is_known, transaction_of}
+use Rattle.ffa_model.specs.State.{State, Transaction, Buffers, is_known, transaction_of, version_of}
 use Rattle.ffa_model.specs.Transactions.{Transfer, bases_of, ceiling, scene_of, transfer}
 use Rattle.ffa_model.proofs.CallAccesses.{access-filled, runner-known}
 use Rattle.ffa_model.proofs.Guards.{guard-passes}
@@ -39,7 +42,7 @@ use Rattle.ffa_memshare.specs.Grants.{with_rights}
 use Rattle.ffa_memshare.specs.Named.{bases_in}
 use Rattle.ffa_memshare.specs.Ranges.{in_ranges}
 use Rattle.ffa_memshare.specs.Retrieved.{IsPassedOn, IsRetrieved, IsTaken}
-use Rattle.ffa_memshare.specs.Scenes.{after_transfer, descriptor_in, scene_in}
+use Rattle.ffa_memshare.specs.Scenes.{after_transfer, descriptor_in, scene_in, transfer_of}
 use Rattle.ffa_memshare.specs.SlotChanges.{IsClosed, IsHeldBy}
 use Rattle.ffa_memshare.specs.Stored.{Pooled, offers_in, slot_at as pool_slot}
 use Rattle.ffa_spmc.specs.AccessChange.{IsAccessChange}
@@ -70,19 +73,22 @@ scene-is x machine = λ i. record {
 }
 
 -- the code's runner is that of the run states; and it has retrieved what its TX describes, or was refused
-module _ (x : Parts) (machine : IsManager x) (e : EndpointId) (at : e.0 ≡ x.kept.chain.runner) (total fragment address count : ℕ)
+module _ (x : Parts) (machine : IsManager x) (e : EndpointId) (at : e.0 ≡ x.kept.chain.runner) (told_by : Registers) (spoken : told_by.version ≡ version_of (state_of x) (state_of x).runner)
     (ram : Ram) (pages : List (Option Entry)) (pool : Pooled) (buffers : List (Option Buffers)) where
   abbrev s : State
   s = state_of x
 
   abbrev registers : Transfer
-  registers = transfer total fragment address count
+  registers = transfer_of told_by
+
+  abbrev total : ℕ
+  total = told_by.total
 
   abbrev pub after_retrieve : Parts
   after_retrieve = record x { ram = ram; kept = record x.kept { pages = pages; pool = pool; buffers = buffers } }
 
-  abbrev bytes : List ℕ
-  bytes = descriptor_in x.ram x.kept.buffers e.0 total
+  abbrev bytes : Versioned
+  bytes = descriptor_in x.ram x.kept.buffers e.0 told_by
 
   abbrev guards : List (Bool × ErrorCode)
   guards = (memory_retrieve s registers).guards
@@ -92,7 +98,7 @@ module _ (x : Parts) (machine : IsManager x) (e : EndpointId) (at : e.0 ≡ x.ke
   IsDone taken = IsRetrieved x.kept.pool pool x.ram ram x.kept.pages pages x.kept.layout.base (array_vec_len x.kept.layout.regions) x.kept.layout.blocks (buffers_in x.kept.buffers e.0) e bytes taken.size taken.changed
 
   descriptor-is : retrieve_of e.0 bytes ≡ retrieve_read s total
-  descriptor-is = λ i. retrieve_of (at i) (take total (sent-is x machine e.0 at i))
+  descriptor-is = λ i. retrieve_of (at i) (in_version (spoken i) (take total (sent-is x machine e.0 at i)))
 
   module _ (taken : Taken) (none : None ≡ first_failure guards) (done : IsDone taken) (full : buffers ≡ buffers_with_rx x.kept.buffers e.0 true) where
     abbrev d : RetrieveDesc
@@ -165,7 +171,7 @@ module _ (x : Parts) (machine : IsManager x) (e : EndpointId) (at : e.0 ≡ x.ke
     access-taken i p lt =
         ap (λ (f : ℕ). with_rights (access_by_place s) (place f) (names s t.ranges) (λ q. Some right) i p) at
         ∙ access-granted i p lt
-        ∙ access-filled (with_retrieved s d.handle t s.runner right) s.runner (response_bytes (response_to d.handle t s.runner right)) (identifier i) p
+        ∙ access-filled (with_retrieved s d.handle t s.runner right) s.runner (response_bytes (version_of s s.runner) (response_to d.handle t s.runner right)) (identifier i) p
         ∙ sym (ap (λ (z : State). access_by_place z i p) state-taken)
 
     offers-taken : AreOffers x.manifest pages pool.slots
@@ -202,7 +208,7 @@ module _ (x : Parts) (machine : IsManager x) (e : EndpointId) (at : e.0 ≡ x.ke
 
     -- and with it
     abbrev answer : List ℕ
-    answer = response_bytes (response_to d.handle t e.0 right)
+    answer = response_bytes told_by.version (response_to d.handle t e.0 right)
 
     there : is_known (state_of before) e.0 ≡ true
     there = runner-there x machine e.0 at
@@ -214,7 +220,7 @@ module _ (x : Parts) (machine : IsManager x) (e : EndpointId) (at : e.0 ≡ x.ke
     state-retrieved =
         ap state_of filled-is
         ∙ state-filled before machine-taken e.0 there answer
-        ∙ (λ i. filled (state-taken i) (at i) (response_bytes (response_to d.handle t (at i) right)))
+        ∙ (λ i. filled (state-taken i) (at i) (response_bytes (spoken i) (response_to d.handle t (at i) right)))
         ∙ ap (retrieved_right s d.handle t s.runner) right-is
         ∙ sym (ap (retrieved s) read ∙ ap (retrieved_from s d) was)
 
@@ -228,7 +234,7 @@ module _ (x : Parts) (machine : IsManager x) (e : EndpointId) (at : e.0 ≡ x.ke
           offers = offers-taken;
           sound =
               subst IsSoundState (passed-state s (memory_retrieve s registers) (sym none) ∙ sym state-retrieved)
-              (call-sound s machine.sound (MemRetrieve total fragment address count));
+              (call-sound s machine.sound (MemRetrieve total told_by.fragment told_by.address told_by.pages));
         }
 
     pub unowned-retrieved : KeepsUnowned s x.ram ram
@@ -240,8 +246,8 @@ module _ (x : Parts) (machine : IsManager x) (e : EndpointId) (at : e.0 ≡ x.ke
 
     pub length-retrieved : Retrieved taken.size ≡ (memory_retrieve s registers).reply
     length-retrieved =
-        ap Retrieved (done.answer.bytes
-        ∙ sym (ap (response_length s) read ∙ ap (λ o. option_map_or (λ (u : Transaction). response_size u.ranges) o 0) was))
+        ap Retrieved (done.answer.bytes ∙ ap (λ (v : Version). response_size v t.ranges) spoken
+        ∙ sym (ap (response_length s) read ∙ ap (λ o. option_map_or (λ (u : Transaction). response_size (version_of s s.runner) u.ranges) o 0) was))
 
     -- of access
     offered : IsOffered x.manifest t

@@ -27,7 +27,7 @@ use Rattle.ffa_model.specs.ResponseBytes.{response_bytes}
 use Rattle.ffa_model.specs.Rights.{is_donate}
 use Rattle.ffa_model.specs.SendDescriptor.{SendRecord}
 use Rattle.ffa_model.specs.Setup.{info_bytes, is_count_alone, uuid_bytes}
-use Rattle.ffa_model.specs.State.{State, Buffers, Page, Transaction, buffers_of, transaction_of}
+use Rattle.ffa_model.specs.State.{State, Buffers, Page, Transaction, buffers_of, transaction_of, version_of}
 use Rattle.ffa_model.specs.Step.{service, step}
 use Rattle.ffa_model.specs.Transactions.{bases_of, closed, handle_of, not_holding, offers_of, with_offers, with_transaction}
 use Rattle.ffa_model.proofs.Accesses.{length-map_at}
@@ -63,7 +63,7 @@ retrieved-sizes s (Some d) = of (transaction_of s d.handle)
         let right : Rights = right_for (bases_of s) t s.runner d in
         let before : State = with_retrieved s d.handle t s.runner right in
         of-pages s _
-        (filled-size before.pages (response_bytes (response_to d.handle t s.runner right)) (buffers_of before s.runner)
+        (filled-size before.pages (response_bytes (version_of s s.runner) (response_to d.handle t s.runner right)) (buffers_of before s.runner)
         ∙ changed-size (is_donate t.kind) s t.ranges (donated_page s.runner right))
 
 relinquished-sizes : (s : State) (d : Option RelinquishDesc) → sizes (relinquished s d) ≡ sizes s
@@ -76,9 +76,9 @@ relinquished-sizes s (Some d) = of (transaction_of s d.handle)
 
 service-sizes : (s : State) (call : calls.Call) → sizes (service s call).state ≡ sizes s
 service-sizes s (PartitionInfoGet uuid flags) =
-    elim (is_count_alone flags) as (λ b. sizes (cond b s (filled s s.runner (info_bytes s.parties (uuid_bytes uuid)))) ≡ sizes s) [
+    elim (is_count_alone flags) as (λ b. sizes (cond b s (filled s s.runner (info_bytes (version_of s s.runner) s.parties (uuid_bytes uuid)))) ≡ sizes s) [
       | true ↦ refl
-      | false ↦ of-pages s _ (filled-size s.pages (info_bytes s.parties (uuid_bytes uuid)) (buffers_of s s.runner))
+      | false ↦ of-pages s _ (filled-size s.pages (info_bytes (version_of s s.runner) s.parties (uuid_bytes uuid)) (buffers_of s s.runner))
     ]
 service-sizes s MsgSend2 =
     of-pages s _ (filled-size s.pages (message_in (tx_bytes s s.runner)) (buffers_of s (header_in (tx_bytes s s.runner)).receiver))

@@ -11,7 +11,7 @@ ghost use Rattle.ffa_model.specs.SoundState.{IsSoundState};
 ghost use Rattle.ffa_laws.specs.OwnAccess.{AreApart};
 ghost use Rattle.ffa_model.specs.Refusals.{is_error, is_refusal, passes_no_error};
 ghost use Rattle.ffa_model.specs.Registers.{decode};
-ghost use Rattle.ffa_model.specs.State.{owner_of};
+ghost use Rattle.ffa_model.specs.State.{owner_of, version_of};
 ghost use Rattle.ffa_model.specs.Step.{serve};
 ghost use Rattle.ffa_spmc.specs.Arms.{is_on_memory};
 ghost use Rattle.ffa_spmc.specs.AccessChange.{IsAccessChange};
@@ -26,7 +26,7 @@ mod notifications;
 use crate::answer::{Answer, Called};
 use crate::kept::Kept;
 use crate::manager::memory::is_on_memory;
-use ffa_model::{Call, EndpointId, ErrorCode, Manifest, Outcome, PageNo, Reply, Rights};
+use ffa_model::{Call, EndpointId, ErrorCode, Manifest, Outcome, PageNo, Reply, Rights, Version};
 use ffa_physmem::PhysMem;
 use ffa_stage2::{Layout, build, built_tables};
 use std::marker::Model;
@@ -120,6 +120,13 @@ impl<M: PhysMem + Drop> Manager<M> {
         ensures few { result ≤ 8 }
     {
         self.manifest.endpoints.len()
+    }
+
+    // The form in which the runner writes and reads descriptors.
+    fn version(&self) -> Version
+        ensures { result ≡ version_of self.now.state self.now.state.runner }
+    {
+        self.manifest.version_of(self.kept.chain.runner())
     }
 
     // The owner of a page of the RAM; 0x8000 is the manager.

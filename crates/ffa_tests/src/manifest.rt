@@ -1,7 +1,7 @@
 //! Worked values: machines as text, and changes of one that have each cause.
 
 use ffa_manifest::{ManifestError, read};
-use ffa_model::{Endpoint, Manifest, row_machine};
+use ffa_model::{Endpoint, Manifest, Version, row_machine};
 use std::alloc::{AllocError, Global};
 use std::process::Abort;
 use std::test::Fail;
@@ -248,6 +248,23 @@ fn causes_by_name(rt: HostRuntime) -> Result<(), Fail> {
     ] {
         let text = format!(in rt.alloc(); "{cause}")?;
         assert_eq!(rt; text.as_str(), name);
+    }
+    Ok(())
+}
+
+// The version is the endpoint's own, and changes nothing else.
+#[test]
+fn a_compact_endpoint(rt: HostRuntime) -> Result<(), Fail> {
+    let text = ROW.replacen(rt.alloc(), "1.1", "compact", 1)?;
+    let manifest = read(rt.alloc(), text.as_str())?;
+    assert_row_machine(&rt, &manifest);
+    for (place, endpoint) in manifest.endpoints.iter().enumerate() {
+        let wanted = if place == 0 {
+            Version::Compact
+        } else {
+            Version::V1_1
+        };
+        assert_eq!(rt; endpoint.version, wanted);
     }
     Ok(())
 }

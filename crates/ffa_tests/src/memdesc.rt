@@ -9,7 +9,7 @@ use ffa_memdesc::{
     RelinquishDesc, Response, RetrieveDesc, SendDesc, read_relinquish, read_retrieve, read_send,
     write_response,
 };
-use ffa_model::{Data, EndpointId, Kind, Range, Receiver, Rights};
+use ffa_model::{Data, EndpointId, Kind, Range, Receiver, Rights, Version};
 use std::process::Abort;
 use std::test::Fail;
 
@@ -108,7 +108,7 @@ fn page_at(address: u64) -> Range {
 
 #[test]
 fn lend_is_read(rt: HostRuntime) -> Result<(), Fail> {
-    let send = read_send(&bytes_12(&LEND), Kind::Lend)?;
+    let send = read_send(&bytes_12(&LEND), Version::V1_1, Kind::Lend)?;
     assert_eq!(rt; send.sender, EndpointId(0x8001));
     assert!(rt; !send.zero);
     assert_eq!(rt; send.tag, 0);
@@ -125,10 +125,10 @@ fn lend_with_zeros_and_a_tag_is_read(rt: HostRuntime) -> Result<(), Fail> {
     let mut words = LEND;
     words[0] = 0x1_0000_8001;
     words[2] = 0x1122_3344_5566_7788;
-    let send = read_send(&bytes_12(&words), Kind::Lend)?;
+    let send = read_send(&bytes_12(&words), Version::V1_1, Kind::Lend)?;
     assert!(rt; send.zero);
     assert_eq!(rt; send.tag, 0x1122_3344_5566_7788);
-    assert!(rt; read_send(&bytes_12(&words), Kind::Share).is_err());
+    assert!(rt; read_send(&bytes_12(&words), Version::V1_1, Kind::Share).is_err());
     Ok(())
 }
 
@@ -137,20 +137,20 @@ fn lend_is_read_at_its_whole_length_alone(rt: HostRuntime) {
     let bytes = bytes_12(&LEND);
     for length in 0..96 {
         assert!(rt;
-            read_send(&bytes[..length], Kind::Lend).is_err(),
+            read_send(&bytes[..length], Version::V1_1, Kind::Lend).is_err(),
             "at {length}"
         );
     }
-    assert!(rt; read_send(&bytes, Kind::Lend).is_ok());
-    assert!(rt; read_send(&bytes, Kind::Share).is_err());
-    assert!(rt; read_send(&bytes, Kind::Donate).is_err());
+    assert!(rt; read_send(&bytes, Version::V1_1, Kind::Lend).is_ok());
+    assert!(rt; read_send(&bytes, Version::V1_1, Kind::Share).is_err());
+    assert!(rt; read_send(&bytes, Version::V1_1, Kind::Donate).is_err());
 }
 
 #[test]
 fn share_is_read(rt: HostRuntime) -> Result<(), Fail> {
     let mut bytes = [0; 112];
     LittleEndian::write_u64_into(&SHARE, &mut bytes);
-    let send = read_send(&bytes, Kind::Share)?;
+    let send = read_send(&bytes, Version::V1_1, Kind::Share)?;
     let readers = [
         receiver(0, Some(Data::Ro)),
         receiver(0x8002, Some(Data::Ro)),
@@ -159,7 +159,7 @@ fn share_is_read(rt: HostRuntime) -> Result<(), Fail> {
     assert_eq!(rt; send.receivers.as_slice(), readers.as_slice());
     assert_eq!(rt; send.ranges.as_slice(), [page_at(0x4002_2000)].as_slice());
     assert!(rt;
-        read_send(&bytes, Kind::Lend).is_ok(),
+        read_send(&bytes, Version::V1_1, Kind::Lend).is_ok(),
         "a lend to several tells its memory too"
     );
     Ok(())
@@ -167,7 +167,7 @@ fn share_is_read(rt: HostRuntime) -> Result<(), Fail> {
 
 #[test]
 fn donate_is_read(rt: HostRuntime) -> Result<(), Fail> {
-    let send = read_send(&bytes_12(&DONATE), Kind::Donate)?;
+    let send = read_send(&bytes_12(&DONATE), Version::V1_1, Kind::Donate)?;
     assert_eq!(rt; send.sender, EndpointId(0x8002));
     assert_eq!(rt;
         send.receivers.as_slice(),
@@ -184,19 +184,22 @@ fn wrong_totals_and_ends_are_refused(rt: HostRuntime) {
     words[10] = 0x1_0000_0002;
     LittleEndian::write_u64_into(&words, &mut bytes);
     assert!(rt;
-        read_send(&bytes, Kind::Share).is_err(),
+        read_send(&bytes, Version::V1_1, Kind::Share).is_err(),
         "two pages told, one given"
     );
     words[12] = 0xffff_ffff_ffff_f000;
     words[13] = 2;
     LittleEndian::write_u64_into(&words, &mut bytes);
     assert!(rt;
-        read_send(&bytes, Kind::Share).is_err(),
+        read_send(&bytes, Version::V1_1, Kind::Share).is_err(),
         "past the last address"
     );
     words[12] = 0xffff_ffff_e000;
     LittleEndian::write_u64_into(&words, &mut bytes);
-    assert!(rt; read_send(&bytes, Kind::Share).is_ok(), "up to 2^48");
+    assert!(rt;
+        read_send(&bytes, Version::V1_1, Kind::Share).is_ok(),
+        "up to 2^48"
+    );
 }
 
 fn retrieve_with(permissions: u64) -> [u8; 64] {
@@ -218,8 +221,11 @@ fn retrieve_is_read(rt: HostRuntime) -> Result<(), Fail> {
         exec: false,
     };
     let bytes = retrieve_with(2);
-    assert_eq!(rt; read_retrieve(&bytes, EndpointId(0x8002))?, want);
-    assert!(rt; read_retrieve(&bytes, EndpointId(0x8001)).is_err());
+    assert_eq!(rt;
+        read_retrieve(&bytes, Version::V1_1, EndpointId(0x8002))?,
+        want
+    );
+    assert!(rt; read_retrieve(&bytes, Version::V1_1, EndpointId(0x8001)).is_err());
     Ok(())
 }
 
@@ -229,7 +235,7 @@ fn short_retrieve_is_refused(rt: HostRuntime) {
     let endpoint = EndpointId(0x8002);
     for length in 0..64 {
         assert!(rt;
-            read_retrieve(&bytes[..length], endpoint).is_err(),
+            read_retrieve(&bytes[..length], Version::V1_1, endpoint).is_err(),
             "at {length}"
         );
     }
@@ -237,14 +243,16 @@ fn short_retrieve_is_refused(rt: HostRuntime) {
 
 #[test]
 fn permissions_of_a_retrieve_are_read(rt: HostRuntime) -> Result<(), Fail> {
-    let any = read_retrieve(&retrieve_with(0), EndpointId(0x8002))?;
+    let any = read_retrieve(&retrieve_with(0), Version::V1_1, EndpointId(0x8002))?;
     assert_eq!(rt; (any.level, any.exec), (None, false));
-    let code = read_retrieve(&retrieve_with(8), EndpointId(0x8002))?;
+    let code = read_retrieve(&retrieve_with(8), Version::V1_1, EndpointId(0x8002))?;
     assert_eq!(rt; (code.level, code.exec), (None, true));
-    let plain = read_retrieve(&retrieve_with(5), EndpointId(0x8002))?;
+    let plain = read_retrieve(&retrieve_with(5), Version::V1_1, EndpointId(0x8002))?;
     assert_eq!(rt; (plain.level, plain.exec), (Some(Data::Ro), false));
     for reserved in [3, 12, 16] {
-        assert!(rt; read_retrieve(&retrieve_with(reserved), EndpointId(0x8002)).is_err());
+        assert!(rt;
+            read_retrieve(&retrieve_with(reserved), Version::V1_1, EndpointId(0x8002)).is_err()
+        );
     }
     Ok(())
 }
@@ -303,7 +311,7 @@ fn assert_writes(rt: &impl Abort, response: &Response, want: &[u64; 12])
     requires { page_total response.now.ranges.items < 2 ^ 32 }
 {
     let mut page = [0xa5; 4096];
-    assert_eq!(rt; write_response(response, &mut page), 96);
+    assert_eq!(rt; write_response(response, Version::V1_1, &mut page), 96);
     assert_eq!(rt; words_of(&page), *want);
     assert!(rt; stays(&page));
 }
@@ -344,4 +352,48 @@ fn response_to_a_donate_is_written(rt: HostRuntime) {
     want[6] = 0x40_0006_8001;
     want[10] = 0x4003_1000;
     assert_writes(&rt, &donated, &want);
+}
+
+/// A compact 8001 lends the page at 40021000 to 8002, which may write it.
+const COMPACT_LEND: [u64; 10] = [
+    0x8001,
+    0,
+    0,
+    0x1_0000_0000,
+    0x30_0002_8002,
+    0,
+    0x1_0000_0001,
+    0,
+    0x4002_1000,
+    1,
+];
+
+fn bytes_10(words: &[u64; 10]) -> [u8; 80] {
+    let mut bytes = [0; 80];
+    LittleEndian::write_u64_into(words, &mut bytes);
+    bytes
+}
+
+#[test]
+fn compact_lend_is_read(rt: HostRuntime) -> Result<(), Fail> {
+    let bytes = bytes_10(&COMPACT_LEND);
+    let send = read_send(&bytes, Version::Compact, Kind::Lend)?;
+    assert_eq!(rt; send.sender, EndpointId(0x8001));
+    assert_eq!(rt; send.receivers.len(), 1);
+    assert_eq!(rt; send.ranges.len(), 1);
+    assert!(rt; read_send(&bytes, Version::V1_1, Kind::Lend).is_err());
+    assert!(rt; read_send(&bytes_12(&LEND), Version::Compact, Kind::Lend).is_err());
+    Ok(())
+}
+
+#[test]
+fn compact_reserved_bytes_are_zero(rt: HostRuntime) {
+    for place in [3, 24, 25, 26, 27] {
+        let mut bytes = bytes_10(&COMPACT_LEND);
+        bytes[place] = 1;
+        assert!(rt;
+            read_send(&bytes, Version::Compact, Kind::Lend).is_err(),
+            "at {place}"
+        );
+    }
 }

@@ -19,6 +19,9 @@ use std::test::Fail;
 // Rows on machines with a cache, and what it holds.
 mod cached;
 
+// Rows on machines with endpoints of the compact form.
+mod compact;
+
 // Memory transactions.
 mod memory;
 
@@ -164,7 +167,7 @@ fetch 40010000 -> fault permission
 load 4001FFF8 8 -> data 0000000000000000
 load 100000000 1 -> fault translation
 ";
-    plays(&rt, rt.alloc(), &[row])
+    compact::plays_in_both_forms(&rt, rt.alloc(), row)
 }
 
 #[test]
@@ -176,7 +179,7 @@ load 40010002 2 -> data 1122
 store 4001fff8 0123456789abcDEF -> done
 load 4001FFF8 4 -> data 89ABCDEF
 ";
-    plays(&rt, rt.alloc(), &[row])
+    compact::plays_in_both_forms(&rt, rt.alloc(), row)
 }
 
 // No line prints nothing, and neither does a comment or an empty line.
@@ -202,7 +205,7 @@ call 84000064 84000066 -> 0: 84000061
 call 84000064 84000075 -> 0: 84000060 0 FFFFFFFF
 call 84000085 -> 0: 84000061 0 8000
 ";
-    plays(&rt, rt.alloc(), &[row])
+    compact::plays_in_both_forms(&rt, rt.alloc(), row)
 }
 
 // FFA_FEATURES of the identifiers from 84000060 to 8400008F, and of their 64-bit forms: the calls, in the forms that they
@@ -266,7 +269,7 @@ call 8400006D 80010001 -> 0: 84000060 0 FFFFFFFE
 call 8400006D 80030000 -> 0: 84000060 0 FFFFFFFE
 call 8400006D 80010000 -> 8001: 8400006D 80010000
 ";
-    plays(&rt, rt.alloc(), &[row])
+    compact::plays_in_both_forms(&rt, rt.alloc(), row)
 }
 
 #[test]
@@ -279,7 +282,7 @@ call 8400006B -> 0: 8400006B 80010000
 call 8400006D 80020000 -> 8002: 8400006D 80020000
 call 84000066 4003E000 4003E000 1 -> 8002: 84000060 0 FFFFFFFE
 ";
-    plays(&rt, rt.alloc(), &[row])
+    compact::plays_in_both_forms(&rt, rt.alloc(), row)
 }
 
 #[test]
@@ -292,7 +295,7 @@ call 8400006D 80010000 -> 8001: 84000061
 call 8400006B -> 8001: 84000060 0 FFFFFFFA
 call 84000070 80010000 0 BB -> 0: 84000070 80010000 0 BB
 ";
-    plays(&rt, rt.alloc(), &[row])
+    compact::plays_in_both_forms(&rt, rt.alloc(), row)
 }
 
 #[test]
@@ -302,7 +305,7 @@ call C400006F 8001 0 1122334455667788 -> 8001: C400006F 8001 0 1122334455667788
 call 84000070 80010000 -> 0: 84000070 80010000
 call 8400006F 8001 0 1122334455667788 -> 8001: 8400006F 8001 0 55667788
 ";
-    plays(&rt, rt.alloc(), &[row])
+    compact::plays_in_both_forms(&rt, rt.alloc(), row)
 }
 
 #[test]
@@ -314,7 +317,7 @@ call 8400006F 80028001 -> 8002: 84000060 0 FFFFFFFC
 call 8400006B -> 8002: 84000060 0 FFFFFFFA
 call 84000070 80028001 -> 8001: 84000070 80028001
 ";
-    plays(&rt, rt.alloc(), &[row])
+    compact::plays_in_both_forms(&rt, rt.alloc(), row)
 }
 
 #[test]
@@ -331,7 +334,7 @@ call 8400006F 80018002 -> 8002: 8400006F 80018002
 call 8400006C -> 8002: 84000060 0 FFFFFFFA
 call 84000070 80020000 -> 8002: 84000060 0 FFFFFFFE
 ";
-    plays(&rt, rt.alloc(), &[row])
+    compact::plays_in_both_forms(&rt, rt.alloc(), row)
 }
 
 // The header of a message of the first partition to the second stands in TX from 4002E000 on: the offset at 8, the
@@ -360,7 +363,7 @@ load 4003FFF8 8 -> data 1122334455667788
 call 84000065 -> 8002: 84000061
 call 84000065 -> 8002: 84000060 0 FFFFFFFA
 ";
-    plays(&rt, rt.alloc(), &[row])
+    compact::plays_in_both_forms(&rt, rt.alloc(), row)
 }
 
 #[test]

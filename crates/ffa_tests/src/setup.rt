@@ -1,6 +1,6 @@
 //! Worked values, on the machine with two partitions.
 use byteorder::{ByteOrder, LittleEndian};
-use ffa_model::{EndpointId, ErrorCode, Reply, row_machine};
+use ffa_model::{EndpointId, ErrorCode, Reply, Version, row_machine};
 use ffa_setup::{count, features, id, info_bytes, is_recognized, spm_id, version};
 
 #[test]
@@ -30,7 +30,7 @@ fn information_on_all(rt: HostRuntime) {
     let manifest = row_machine();
     assert!(rt; is_recognized(&manifest, [0; 4]));
     assert_eq!(rt; count(&manifest, [0; 4]), 2);
-    let info = info_bytes(&manifest, [0; 4]);
+    let info = info_bytes(&manifest, Version::V1_1, [0; 4]);
     let mut words = [0; 6];
     assert_eq!(rt; info.len(), 48);
     for (i, word) in words.iter_mut().enumerate() {
@@ -55,7 +55,7 @@ fn information_on_one(rt: HostRuntime) {
     let uuid = [0x3322_1100, 0x7766_5544, 0xBBAA_9988, 0xFFEE_DDCC];
     assert!(rt; is_recognized(&manifest, uuid));
     assert_eq!(rt; count(&manifest, uuid), 1);
-    let info = info_bytes(&manifest, uuid);
+    let info = info_bytes(&manifest, Version::V1_1, uuid);
     assert_eq!(rt; info.len(), 24);
     for (i, word) in [0x0000_010F_0001_8001, 0, 0].into_iter().enumerate() {
         assert_eq!(rt; LittleEndian::read_u64(&info.as_slice()[8 * i..]), word);
@@ -67,5 +67,14 @@ fn information_on_none(rt: HostRuntime) {
     let uuid = [0, 0, 0, 1];
     assert_eq!(rt; count(&row_machine(), uuid), 0);
     assert!(rt; !is_recognized(&row_machine(), uuid));
-    assert!(rt; info_bytes(&row_machine(), uuid).is_empty());
+    assert!(rt; info_bytes(&row_machine(), Version::V1_1, uuid).is_empty());
+}
+
+#[test]
+fn information_for_a_compact_caller(rt: HostRuntime) {
+    let info = info_bytes(&row_machine(), Version::Compact, [0; 4]);
+    let mut words = [0; 2];
+    assert_eq!(rt; info.len(), 16);
+    LittleEndian::read_u64_into(&info, &mut words);
+    assert_eq!(rt; words, [0x7_0001_8001, 0x7_0001_8002]);
 }

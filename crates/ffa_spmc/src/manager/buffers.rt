@@ -4,16 +4,14 @@ ghost use Rattle.std.specs.Result.{result_err};
 ghost use Rattle.ffa_model.specs.Buffers.{rx_release, rxtx_map, rxtx_unmap};
 ghost use Rattle.ffa_model.specs.Calls.{first_failure, replied, served, success};
 ghost use Rattle.ffa_model.specs.Refusals.{is_error};
-ghost use Rattle.ffa_model.specs.Setup.{info_get, info_guards, informed, is_count_alone, selected, uuid_bytes};
+ghost use Rattle.ffa_model.specs.State.{version_of};
+ghost use Rattle.ffa_model.specs.Setup.{info_get, info_guards, told_info_size, informed, is_count_alone, selected, uuid_bytes};
 ghost use Rattle.ffa_spmc.specs.Unowned.{KeepsUnowned};
 
 use super::Manager;
 use crate::replies::done_or_error;
 use ffa_model::{ErrorCode, Reply};
 use ffa_physmem::PhysMem;
-
-/// The bytes of one partition's information.
-const INFO_SIZE: u32 = 24;
 
 // Whether a request for partition information asks for the count alone.
 fn is_count_alone(flags: u32) -> bool
@@ -93,17 +91,18 @@ impl<M: PhysMem + Drop> Manager<M> {
         requires { first_failure (info_guards self.old.state (uuid_bytes uuid) flags) ≡ None }
         ensures state { self.new.state ≡ informed self.old.state (uuid_bytes uuid) flags }
         ensures unowned { KeepsUnowned self.old.state self.old.ram self.new.ram }
-        ensures reply { result ≡ success (length (selected self.old.state.parties (uuid_bytes uuid))) (if is_count_alone flags then 0 else 24) }
+        ensures reply { result ≡ success (length (selected self.old.state.parties (uuid_bytes uuid))) (if is_count_alone flags then 0 else told_info_size (version_of self.old.state self.old.state.runner)) }
     {
         let count = ffa_setup::count(&self.manifest, uuid);
         if is_count_alone(flags) {
             return Reply::Success([count, 0, 0, 0, 0, 0]);
         }
-        let bytes = ffa_setup::info_bytes(&self.manifest, uuid);
+        let version = self.version();
+        let bytes = ffa_setup::info_bytes(&self.manifest, version, uuid);
         let runner = self.kept.chain.runner();
         self.kept
             .buffers
             .fill(&mut self.ram, runner, bytes.as_slice());
-        Reply::Success([count, INFO_SIZE, 0, 0, 0, 0])
+        Reply::Success([count, ffa_setup::told_info_size(version), 0, 0, 0, 0])
     }
 }

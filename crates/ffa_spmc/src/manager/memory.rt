@@ -5,6 +5,7 @@ ghost use Rattle.ffa_model.specs.Refusals.{is_error};
 ghost use Rattle.ffa_model.specs.MemoryRetrieve.{memory_retrieve};
 ghost use Rattle.ffa_model.specs.MemoryReturn.{memory_reclaim, memory_relinquish};
 ghost use Rattle.ffa_model.specs.MemorySend.{memory_send};
+ghost use Rattle.ffa_model.specs.State.{version_of};
 ghost use Rattle.ffa_model.specs.Transactions.{transfer};
 ghost use Rattle.ffa_model.specs.Step.{serve};
 ghost use Rattle.ffa_spmc.specs.Arms.{is_on_memory};
@@ -15,14 +16,16 @@ ghost use Rattle.ffa_spmc.specs.Unowned.{KeepsUnowned};
 use super::{Manager, word_of_halves};
 use crate::answer::Answer;
 use ffa_memshare::Transfer;
-use ffa_model::{Call, Kind};
+use ffa_model::{Call, Kind, Version};
 use ffa_physmem::PhysMem;
 
 // What the registers of a call say whose descriptor stands in TX.
-fn transfer(total: u32, fragment: u32, address: u64, pages: u32) -> Transfer
-    ensures { transfer_of result ≡ transfer total fragment address pages }
+fn transfer(version: Version, total: u32, fragment: u32, address: u64, pages: u32) -> Transfer
+    ensures registers { transfer_of result ≡ transfer total fragment address pages }
+    ensures version { result.version ≡ version }
 {
     Transfer {
+        version,
         total,
         fragment,
         address,
@@ -62,25 +65,34 @@ impl<M: PhysMem + Drop> Manager<M> {
                 fragment,
                 address,
                 pages,
-            } => self.offer(Kind::Donate, &transfer(total, fragment, address, pages)),
+            } => self.offer(
+                Kind::Donate,
+                &transfer(self.version(), total, fragment, address, pages),
+            ),
             Call::MemLend {
                 total,
                 fragment,
                 address,
                 pages,
-            } => self.offer(Kind::Lend, &transfer(total, fragment, address, pages)),
+            } => self.offer(
+                Kind::Lend,
+                &transfer(self.version(), total, fragment, address, pages),
+            ),
             Call::MemShare {
                 total,
                 fragment,
                 address,
                 pages,
-            } => self.offer(Kind::Share, &transfer(total, fragment, address, pages)),
+            } => self.offer(
+                Kind::Share,
+                &transfer(self.version(), total, fragment, address, pages),
+            ),
             Call::MemRetrieve {
                 total,
                 fragment,
                 address,
                 pages,
-            } => self.retrieve(&transfer(total, fragment, address, pages)),
+            } => self.retrieve(&transfer(self.version(), total, fragment, address, pages)),
             Call::MemRelinquish => self.relinquish(),
             Call::MemReclaim { low, high, flags } => self.reclaim(low, high, flags),
             _ => unreachable!(),
@@ -89,6 +101,7 @@ impl<M: PhysMem + Drop> Manager<M> {
 
     // FFA_MEM_DONATE, FFA_MEM_LEND or FFA_MEM_SHARE of the runner.
     fn offer(&mut self, kind: Kind, transfer: &Transfer) -> Answer
+        requires { transfer.now.version ≡ version_of self.old.state self.old.state.runner }
         ensures served { replied self.new.state result.reply ≡ served self.old.state (memory_send self.old.state kind (transfer_of transfer.now)) }
         ensures refused { is_error result.reply ≡ true → self.new ≡ self.old }
         ensures unowned { KeepsUnowned self.old.state self.old.ram self.new.ram }
@@ -111,6 +124,7 @@ impl<M: PhysMem + Drop> Manager<M> {
 
     // FFA_MEM_RETRIEVE_REQ of the runner.
     fn retrieve(&mut self, transfer: &Transfer) -> Answer
+        requires { transfer.now.version ≡ version_of self.old.state self.old.state.runner }
         ensures served { replied self.new.state result.reply ≡ served self.old.state (memory_retrieve self.old.state (transfer_of transfer.now)) }
         ensures refused { is_error result.reply ≡ true → self.new ≡ self.old }
         ensures unowned { KeepsUnowned self.old.state self.old.ram self.new.ram }

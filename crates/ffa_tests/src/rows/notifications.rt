@@ -24,7 +24,7 @@ call 8400006D 80020000 -> 8002: 8400006D 80020000
 call 84000082 8002 4 -> 8002: 84000061 0 0 0 0 0 1
 call 84000082 8002 4 -> 8002: 84000061
 ";
-    plays(&rt, rt.alloc(), &[row])
+    compact::plays_in_both_forms(&rt, rt.alloc(), row)
 }
 
 // The first partition sets a bit of the second twice, once it is bound, and the second gets it once.
@@ -46,7 +46,7 @@ call 84000082 8002 2 -> 8002: 84000061
 call 84000082 8002 1 -> 8002: 84000061 0 1
 call 84000082 8002 1 -> 8002: 84000061
 ";
-    plays(&rt, rt.alloc(), &[row])
+    compact::plays_in_both_forms(&rt, rt.alloc(), row)
 }
 
 #[test]
@@ -67,5 +67,5 @@ call 8400007E 0 -> 0: 84000061
 call 8400006D 80010000 -> 8001: 8400006D 80010000
 call 84000081 80010000 0 0 1 -> 8001: 84000060 0 FFFFFFFA
 ";
-    plays(&rt, rt.alloc(), &[row])
+    compact::plays_in_both_forms(&rt, rt.alloc(), row)
 }

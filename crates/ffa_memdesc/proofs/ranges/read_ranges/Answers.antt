@@ -1,5 +1,4 @@
 use Rattle.std.proofs.Common.{◌≡◌, ◌+◌, ◌*◌, length, ap, refl, arith}
-use Rattle.ffa_model.specs.DescriptorPlaces.{range_place}
 use Rattle.ffa_memdesc.proofs.Entries.{no_entries, ranges_more, ranges_fail, ranges_end}
 use Rattle.ffa_memdesc.proofs.ranges.read_ranges.Goals as goal
 
@@ -8,15 +7,13 @@ loop-i-init g c = (ap length c.new-ranges.ensures, no_entries _ _ _ c.new-ranges
 
 pub returns-in_err-range : goal.returns-in_err-range
 returns-in_err-range g c =
-    let place : c.args.composite + 16 + 16 * c.loop-i.i ≡ range_place (g.B.Bytes.bytes c.args.bytes.now) c.loop-i.i = rw c.requires.composite refl in
-    rw (c.from_residual.ensures, ranges_fail (g.B.Bytes.bytes c.args.bytes.now) c.loop-i.i _ c.args.count c.loop-i.ranges.items c.deref.result.now c.loop-i-test.true c.loop-i.invariant.1 c.deref.ensures.0 place c.in_err-range.ensures)
+    rw (c.from_residual.ensures, ranges_fail (g.B.Bytes.bytes c.args.bytes.now) c.args.composite c.loop-i.i _ c.args.count c.loop-i.ranges.items c.deref.result.now c.loop-i-test.true c.loop-i.invariant.1 c.deref.ensures.0 refl c.in_err-range.ensures)
 
 pub loop-i-preserved : goal.loop-i-preserved
 loop-i-preserved g c =
-    let place : c.args.composite + 16 + 16 * c.loop-i.i ≡ range_place (g.B.Bytes.bytes c.args.bytes.now) c.loop-i.i = rw c.requires.composite refl in
-    (omega arith, ranges_more (g.B.Bytes.bytes c.args.bytes.now) c.loop-i.i _ c.loop-i.ranges.items c.push.new.self.items c.deref.result.now c.in_ok-range.range c.loop-i.invariant.1 c.deref.ensures.0 place c.in_ok-range.ensures c.push.ensures.items)
+    (omega arith, ranges_more (g.B.Bytes.bytes c.args.bytes.now) c.args.composite c.loop-i.i _ c.loop-i.ranges.items c.push.new.self.items c.deref.result.now c.in_ok-range.range c.loop-i.invariant.1 c.deref.ensures.0 refl c.in_ok-range.ensures c.push.ensures.items)
 
 pub returns : goal.returns
 returns g c =
     let ended : c.loop-i.i ≡ c.args.count = (let test = c.loop-i-test.false in let auto = c.loop-i.auto.i-end in omega arith) in
-    ranges_end (g.B.Bytes.bytes c.args.bytes.now) c.loop-i.i c.args.count c.loop-i.ranges.items ended c.loop-i.invariant.1
+    ranges_end (g.B.Bytes.bytes c.args.bytes.now) c.args.composite c.loop-i.i c.args.count c.loop-i.ranges.items ended c.loop-i.invariant.1

@@ -1,15 +1,16 @@
-use Rattle.std.proofs.Common.{ℕ, ◌++◌, [], ◌∷◌, refl, subst}
+use Rattle.std.proofs.Common.{ℕ, ◌++◌, ◌+◌, [], ◌∷◌, refl, subst, arith}
 use Rattle.ffa_model.specs.ResponseBytes.{le}
 use Rattle.ffa_memdesc.specs.Writing.{Wrote}
 use Rattle.ffa_memdesc.proofs.Writes.{one, two, four, eight, wrote_as, five_parts}
 use Rattle.ffa_memdesc.proofs.respond.write_access.Goals as goal
 
 pub returns : goal.returns
-returns c = λ old front w0.
-    let w1 = two _ _ _ _ 48 50 _ refl w0 c.put_u16.ensures in
-    let w2 = one _ _ _ _ 50 51 _ refl w1 c.put_u8.ensures in
-    let permissions = subst (λ (x : ℕ). Wrote old ((front ++ le 2 c.args.response.now.endpoint.0) ++ x ∷ []) 51 c.put_u8.new.out) c.permissions_of.ensures w2 in
-    let w3 = one _ _ _ _ 51 52 _ refl permissions c.put_u8-2.ensures in
-    let w4 = four _ _ _ _ 52 56 _ refl w3 c.put_u32.ensures in
-    let w5 = eight _ _ _ _ 56 64 _ refl w4 c.put_u64.ensures in
-    wrote_as _ _ _ _ _ (five_parts front (le 2 c.args.response.now.endpoint.0) _ _ _ _) w5
+returns c = λ old front version place w0.
+    let at = c.args.at in
+    let w1 = two _ _ _ _ at (at + 2) _ refl w0 c.put_u16.ensures in
+    let w2 = one _ _ _ _ (at + 2) (at + 3) _ (omega arith) w1 c.put_u8.ensures in
+    let permissions = subst (λ (x : ℕ). Wrote old ((front ++ le 2 c.args.response.now.endpoint.0) ++ x ∷ []) (at + 3) c.put_u8.new.out) c.permissions_of.ensures w2 in
+    let w3 = one _ _ _ _ (at + 3) (at + 4) _ (omega arith) permissions c.put_u8-2.ensures in
+    let w4 = four _ _ _ _ (at + 4) (at + 8) _ (omega arith) w3 c.put_u32.ensures in
+    let w5 = eight _ _ _ _ (at + 8) (at + 16) _ (omega arith) w4 c.put_u64.ensures in
+    rw (← place) (wrote_as _ _ _ _ _ (five_parts front (le 2 c.args.response.now.endpoint.0) _ _ _ _) w5)

@@ -15,6 +15,5 @@ returns c =
     let w5 = eight _ _ _ _ 16 24 _ refl w4 c.put_u64-2.ensures in
     let w6 = four _ _ _ _ 24 28 _ refl w5 c.put_u32-2.ensures in
     let w7 = four _ _ _ _ 28 32 _ refl w6 c.put_u32-3.ensures in
-    let w8 = four _ _ _ _ 32 36 _ refl w7 c.put_u32-4.ensures in
-    let w9 = four _ _ _ _ 36 40 _ refl w8 c.put_u32-5.ensures in
-    eight _ _ _ _ 40 48 _ refl w9 c.put_u64-3.ensures
+    let rest = c.write_rest.ensures c.args.out.now _ w7 in
+    rw (← c.told_access_size.ensures) rest

@@ -7,4 +7,4 @@ use Rattle.ffa_memdesc.proofs.respond.write_ranges.Given as goal
 abbrev pub invariant-loop-i : goal.invariant-loop-i
 invariant-loop-i l =
     (length l.out ≡ length l.fn.out)
-    × ((old front : List ℕ) → Wrote old front 80 l.fn.out → Wrote old (front ++ flat_map range_bytes (take l.i l.ranges)) (80 + 16 * l.i) l.out)
+    × ((old front : List ℕ) → Wrote old front l.at l.fn.out → Wrote old (front ++ flat_map range_bytes (take l.i l.ranges)) (l.at + 16 * l.i) l.out)

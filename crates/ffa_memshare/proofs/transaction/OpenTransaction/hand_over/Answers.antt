@@ -33,6 +33,6 @@ returns-clause-answered g c =
           c.as_slice-ranges.ensures.value c.move_rights.ensures);
       answered =
           c.answer.ensures.ram
-          ∙ ap (λ (r : ResponseRecord). with_rx_bytes granted (buffers_in c.args.buffers.now c.args.caller.0) (response_bytes r)) c.response-response.ensures;
-      bytes = c.answer.ensures.size ∙ ap (λ (r : ResponseRecord). response_size r.ranges) c.response-response.ensures;
+          ∙ ap (λ (r : ResponseRecord). with_rx_bytes granted (buffers_in c.args.buffers.now c.args.caller.0) (response_bytes c.args.version r)) c.response-response.ensures;
+      bytes = c.answer.ensures.size ∙ ap (λ (r : ResponseRecord). response_size c.args.version r.ranges) c.response-response.ensures;
     }

@@ -18,7 +18,7 @@ are_bytes (b ∷ bytes) (v ∷ values) owned = and_from _ _ (lt-ltb b 256 owned.
 
 pub returns-clause-uuid : goal.returns-clause-uuid
 returns-clause-uuid c =
-    let array = c.well_formed.0 in
+    let array = c.well_formed.1.0 in
     let size : length c.args.uuid ≡ 16 = array.1.0.1 in
     let bytes : list_all (λ b. nat_lt b 256) c.args.uuid ≡ true = are_bytes c.args.uuid array.0 array.1.1 in
     rw size bytes

@@ -2,8 +2,8 @@ use Rattle.std.proofs.Common.{◌∙◌, List, true, false, refl, sym, ap, subst
 use Rattle.std.specs.Prelude.{Option}
 use Rattle.ffa_model.specs.Buffers.{buffers_with_rx}
 use Rattle.ffa_model.specs.Ram.{Ram}
-use Rattle.ffa_model.specs.Setup.{uuid_bytes}
-use Rattle.ffa_model.specs.State.{Buffers}
+use Rattle.ffa_model.specs.Setup.{told_info_size, uuid_bytes}
+use Rattle.ffa_model.specs.State.{Buffers, version_of}
 use Rattle.ffa_spmc.specs.Meaning.{IsManager, state_of}
 use Rattle.ffa_spmc.proofs.Fills.{known-buffered, runner-there, rx-in-ram}
 use Rattle.ffa_spmc.proofs.Information.{info-reply, informed-own, machine-informed, state-informed}
@@ -17,13 +17,13 @@ pub returns-then-is_count_alone-clause-reply : goal.returns-then-is_count_alone-
 returns-then-is_count_alone-clause-reply g c =
     let x = parts_of g.M.PhysMem.ram c.self.inside in
     info-reply x c.args.self.now c.self.view_is x.kept.chain.runner refl
-    c.count-count.result (uuid_bytes c.args.uuid) c.args.flags true c.count-count.ensures (sym c.is_count_alone.ensures ∙ c.if-is_count_alone.true)
+    c.count-count.result (uuid_bytes c.args.uuid) c.args.flags true (told_info_size (version_of c.args.self.now.state c.args.self.now.state.runner)) c.count-count.ensures (sym c.is_count_alone.ensures ∙ c.if-is_count_alone.true) refl
 
 pub returns-clause-reply : goal.returns-clause-reply
 returns-clause-reply g c =
     let x = parts_of g.M.PhysMem.ram c.self.inside in
     info-reply x c.args.self.now c.self.view_is c.runner-runner.result.0 c.runner-runner.ensures.runner
-    c.count-count.result (uuid_bytes c.args.uuid) c.args.flags false c.count-count.ensures (sym c.is_count_alone.ensures ∙ c.if-is_count_alone.false)
+    c.count-count.result (uuid_bytes c.args.uuid) c.args.flags false c.told_info_size.result c.count-count.ensures (sym c.is_count_alone.ensures ∙ c.if-is_count_alone.false) (c.told_info_size.ensures ∙ ap told_info_size c.version-version.ensures)
 
 pub fill-requires-clause-rx : goal.fill-requires-clause-rx
 fill-requires-clause-rx g c =
@@ -44,7 +44,7 @@ invariant_of-self g c =
     subst (λ (list : List (Option Buffers)). IsManager (record x { ram = g.M.PhysMem.ram c.fill.new.ram; kept = record x.kept { buffers = list } })) (sym c.fill.ensures.full)
     (subst (λ (ram : Ram). IsManager (record x { ram = ram; kept = record x.kept { buffers = buffers_with_rx x.kept.buffers c.runner-runner.result.0 true } })) (sym c.fill.ensures.ram)
     (machine-informed x c.args.self.now c.self.view_is c.runner-runner.result.0 c.runner-runner.ensures.runner c.self.invariant
-    c.args.uuid c.args.flags c.as_slice.result.now (c.as_slice.ensures.value ∙ c.info_bytes-bytes.ensures) (sym c.is_count_alone.ensures ∙ c.if-is_count_alone.false) c.requires))
+    c.args.uuid c.args.flags c.as_slice.result.now c.version-version.result c.version-version.ensures (c.as_slice.ensures.value ∙ c.info_bytes-bytes.ensures) (sym c.is_count_alone.ensures ∙ c.if-is_count_alone.false) c.requires))
 
 pub returns-clause-state : goal.returns-clause-state
 returns-clause-state g c =
@@ -52,7 +52,7 @@ returns-clause-state g c =
     ap (λ (list : List (Option Buffers)). state_of (record x { ram = g.M.PhysMem.ram c.fill.new.ram; kept = record x.kept { buffers = list } })) c.fill.ensures.full
     ∙ ap (λ (ram : Ram). state_of (record x { ram = ram; kept = record x.kept { buffers = buffers_with_rx x.kept.buffers c.runner-runner.result.0 true } })) c.fill.ensures.ram
     ∙ state-informed x c.args.self.now c.self.view_is c.runner-runner.result.0 c.runner-runner.ensures.runner c.self.invariant
-    c.args.uuid c.args.flags c.as_slice.result.now (c.as_slice.ensures.value ∙ c.info_bytes-bytes.ensures) (sym c.is_count_alone.ensures ∙ c.if-is_count_alone.false)
+    c.args.uuid c.args.flags c.as_slice.result.now c.version-version.result c.version-version.ensures (c.as_slice.ensures.value ∙ c.info_bytes-bytes.ensures) (sym c.is_count_alone.ensures ∙ c.if-is_count_alone.false)
 
 pub returns-clause-unowned : goal.returns-clause-unowned
 returns-clause-unowned g c =

@@ -1,6 +1,7 @@
 use Rattle.std.proofs.Common.{◌∙◌, Option, sym, ap, subst}
 use Rattle.std.specs.Option.{option_map}
 use Rattle.std.specs.Result.{result_ok}
+use Rattle.ffa_model.specs.State.{version_of}
 use Rattle.ffa_model.specs.declared.call.Reply.{Reply}
 use Rattle.ffa_model.specs.Calls.{replied, served}
 use Rattle.ffa_model.specs.MemorySend.{memory_send}
@@ -29,7 +30,7 @@ send-requires-clause-endpoints g c =
 pub invariant_of-self : goal.invariant_of-self
 invariant_of-self g c =
     let x = parts_of g.M.PhysMem.ram c.self.inside in
-    offer-machine x c.self.invariant c.runner-runner.result.0 c.runner-runner.ensures.runner c.args.kind (transfer_of c.args.transfer.now)
+    offer-machine x c.self.invariant c.runner-runner.result.0 c.runner-runner.ensures.runner c.args.kind c.args.transfer.now (c.requires ∙ sym (ap (λ (seen : Managed). version_of seen.state seen.state.runner) c.self.view_is))
     (g.M.PhysMem.ram c.send.new.ram) c.send.new.pages c.send.new.self
     c.send.result c.send.ensures.refusal c.send.ensures.kept c.send.ensures.kept_pages c.send.ensures.kept_ram c.send.ensures.handle c.send.ensures.sent
 
@@ -40,7 +41,7 @@ returns-clause-served g c =
     (λ (reply : Reply).
     replied (state_of (record x { ram = g.M.PhysMem.ram c.send.new.ram; kept = record x.kept { pages = c.send.new.pages; pool = c.send.new.self } })) reply)
     c.sent.ensures.reply
-    ∙ offer-served x c.self.invariant c.runner-runner.result.0 c.runner-runner.ensures.runner c.args.kind (transfer_of c.args.transfer.now)
+    ∙ offer-served x c.self.invariant c.runner-runner.result.0 c.runner-runner.ensures.runner c.args.kind c.args.transfer.now (c.requires ∙ sym (ap (λ (seen : Managed). version_of seen.state seen.state.runner) c.self.view_is))
     (g.M.PhysMem.ram c.send.new.ram) c.send.new.pages c.send.new.self
     c.send.result c.send.ensures.refusal c.send.ensures.kept c.send.ensures.kept_pages c.send.ensures.kept_ram c.send.ensures.handle c.send.ensures.sent
     ∙ ap (λ (seen : Managed). served seen.state (memory_send seen.state c.args.kind (transfer_of c.args.transfer.now))) c.self.view_is
@@ -51,7 +52,7 @@ returns-clause-access g c =
     let next = state_of (record x { ram = g.M.PhysMem.ram c.send.new.ram; kept = record x.kept { pages = c.send.new.pages; pool = c.send.new.self } }) in
     subst (λ (changed : Option Changed). IsAccessChange c.args.self.now.state next changed) (sym c.sent.ensures.changed)
     (subst (λ (seen : Managed). IsAccessChange seen.state next (option_map (λ (sent : Sent). sent.changed) (result_ok c.send.result))) c.self.view_is
-    (offer-changes x c.self.invariant c.runner-runner.result.0 c.runner-runner.ensures.runner c.args.kind (transfer_of c.args.transfer.now)
+    (offer-changes x c.self.invariant c.runner-runner.result.0 c.runner-runner.ensures.runner c.args.kind c.args.transfer.now (c.requires ∙ sym (ap (λ (seen : Managed). version_of seen.state seen.state.runner) c.self.view_is))
     (g.M.PhysMem.ram c.send.new.ram) c.send.new.pages c.send.new.self
     c.send.result c.send.ensures.refusal c.send.ensures.kept c.send.ensures.kept_pages c.send.ensures.kept_ram c.send.ensures.handle c.send.ensures.sent))
 
@@ -59,6 +60,6 @@ pub returns-clause-unowned : goal.returns-clause-unowned
 returns-clause-unowned g c =
     let x = parts_of g.M.PhysMem.ram c.self.inside in
     subst (λ (seen : Managed). KeepsUnowned seen.state seen.ram (g.M.PhysMem.ram c.send.new.ram)) c.self.view_is
-    (offer-unowned x c.self.invariant c.runner-runner.result.0 c.runner-runner.ensures.runner c.args.kind (transfer_of c.args.transfer.now)
+    (offer-unowned x c.self.invariant c.runner-runner.result.0 c.runner-runner.ensures.runner c.args.kind c.args.transfer.now (c.requires ∙ sym (ap (λ (seen : Managed). version_of seen.state seen.state.runner) c.self.view_is))
     (g.M.PhysMem.ram c.send.new.ram) c.send.new.pages c.send.new.self
     c.send.result c.send.ensures.refusal c.send.ensures.kept c.send.ensures.kept_pages c.send.ensures.kept_ram c.send.ensures.handle c.send.ensures.sent)

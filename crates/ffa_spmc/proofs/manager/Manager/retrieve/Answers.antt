@@ -1,6 +1,7 @@
 use Rattle.std.proofs.Common.{◌∙◌, Option, sym, ap, subst}
 use Rattle.std.specs.Option.{option_map}
 use Rattle.std.specs.Result.{result_ok}
+use Rattle.ffa_model.specs.State.{version_of}
 use Rattle.ffa_model.specs.declared.call.Reply.{Reply}
 use Rattle.ffa_model.specs.Calls.{replied, served}
 use Rattle.ffa_model.specs.MemoryRetrieve.{memory_retrieve}
@@ -31,7 +32,7 @@ pub invariant_of-self : goal.invariant_of-self
 invariant_of-self g c =
     let x = parts_of g.M.PhysMem.ram c.self.inside in
     let its = c.args.transfer.now in
-    retrieve-machine x c.self.invariant c.runner-runner.result c.runner-runner.ensures.runner its.total its.fragment its.address its.pages
+    retrieve-machine x c.self.invariant c.runner-runner.result c.runner-runner.ensures.runner its (c.requires ∙ sym (ap (λ (seen : Managed). version_of seen.state seen.state.runner) c.self.view_is))
     (g.M.PhysMem.ram c.retrieve.new.ram) c.retrieve.new.pages c.retrieve.new.self c.retrieve.new.buffers
     c.retrieve.result c.retrieve.ensures.refusal c.retrieve.ensures.kept c.retrieve.ensures.kept_pages c.retrieve.ensures.kept_buffers c.retrieve.ensures.kept_ram
     c.retrieve.ensures.full c.retrieve.ensures.done
@@ -44,7 +45,7 @@ returns-clause-served g c =
     (λ (reply : Reply).
     replied (state_of (record x { ram = g.M.PhysMem.ram c.retrieve.new.ram; kept = record x.kept { pages = c.retrieve.new.pages; pool = c.retrieve.new.self; buffers = c.retrieve.new.buffers } })) reply)
     c.retrieved.ensures.reply
-    ∙ retrieve-served x c.self.invariant c.runner-runner.result c.runner-runner.ensures.runner its.total its.fragment its.address its.pages
+    ∙ retrieve-served x c.self.invariant c.runner-runner.result c.runner-runner.ensures.runner its (c.requires ∙ sym (ap (λ (seen : Managed). version_of seen.state seen.state.runner) c.self.view_is))
     (g.M.PhysMem.ram c.retrieve.new.ram) c.retrieve.new.pages c.retrieve.new.self c.retrieve.new.buffers
     c.retrieve.result c.retrieve.ensures.refusal c.retrieve.ensures.kept c.retrieve.ensures.kept_pages c.retrieve.ensures.kept_buffers c.retrieve.ensures.kept_ram
     c.retrieve.ensures.full c.retrieve.ensures.done
@@ -57,7 +58,7 @@ returns-clause-access g c =
     let next = state_of (record x { ram = g.M.PhysMem.ram c.retrieve.new.ram; kept = record x.kept { pages = c.retrieve.new.pages; pool = c.retrieve.new.self; buffers = c.retrieve.new.buffers } }) in
     subst (λ (changed : Option Changed). IsAccessChange c.args.self.now.state next changed) (sym c.retrieved.ensures.changed)
     (subst (λ (seen : Managed). IsAccessChange seen.state next (option_map (λ (taken : Taken). taken.changed) (result_ok c.retrieve.result))) c.self.view_is
-    (retrieve-changes x c.self.invariant c.runner-runner.result c.runner-runner.ensures.runner its.total its.fragment its.address its.pages
+    (retrieve-changes x c.self.invariant c.runner-runner.result c.runner-runner.ensures.runner its (c.requires ∙ sym (ap (λ (seen : Managed). version_of seen.state seen.state.runner) c.self.view_is))
     (g.M.PhysMem.ram c.retrieve.new.ram) c.retrieve.new.pages c.retrieve.new.self c.retrieve.new.buffers
     c.retrieve.result c.retrieve.ensures.refusal c.retrieve.ensures.kept c.retrieve.ensures.kept_pages c.retrieve.ensures.kept_buffers c.retrieve.ensures.kept_ram
     c.retrieve.ensures.full c.retrieve.ensures.done))
@@ -67,7 +68,7 @@ returns-clause-unowned g c =
     let x = parts_of g.M.PhysMem.ram c.self.inside in
     let its = c.args.transfer.now in
     subst (λ (seen : Managed). KeepsUnowned seen.state seen.ram (g.M.PhysMem.ram c.retrieve.new.ram)) c.self.view_is
-    (retrieve-unowned x c.self.invariant c.runner-runner.result c.runner-runner.ensures.runner its.total its.fragment its.address its.pages
+    (retrieve-unowned x c.self.invariant c.runner-runner.result c.runner-runner.ensures.runner its (c.requires ∙ sym (ap (λ (seen : Managed). version_of seen.state seen.state.runner) c.self.view_is))
     (g.M.PhysMem.ram c.retrieve.new.ram) c.retrieve.new.pages c.retrieve.new.self c.retrieve.new.buffers
     c.retrieve.result c.retrieve.ensures.refusal c.retrieve.ensures.kept c.retrieve.ensures.kept_pages c.retrieve.ensures.kept_buffers c.retrieve.ensures.kept_ram
     c.retrieve.ensures.full c.retrieve.ensures.done)
