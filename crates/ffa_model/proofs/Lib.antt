@@ -7,6 +7,7 @@ pub mod Named
 pub mod Guards
 pub mod Handles
 pub mod Bitmaps
+pub mod Certificates
 pub mod Counts
 pub mod Accesses
 pub mod NamedPages

@@ -1,6 +1,7 @@
 -- When RAM agrees with a state: the Armv8-A walk of every endpoint's table in the RAM's own bytes gives, for every
 -- input address below 2 ^ 32, exactly the endpoint's access, and the endpoints' pages hold the state's bytes.
-use Rattle.std.specs.Prelude.{◌≡◌, ℕ, ◌<◌, ◌/◌, ◌^◌, length, Some}
+use Rattle.std.specs.Prelude.{◌≡◌, ℕ, ◌<◌, ◌/◌, ◌^◌, List, length, Some}
+use Rattle.ffa_model.specs.Lists.{listed}
 use Rattle.ffa_model.specs.Manifest.{root_of}
 use Rattle.ffa_model.specs.Ram.{Ram, page_of}
 use Rattle.ffa_model.specs.Walk.{walk, mapped_answer}
@@ -15,6 +16,10 @@ blocks_of s = length s.pages / 512
 -- the address of the level 1 table of the endpoint at a place in the manifest
 abbrev pub root : State → ℕ → ℕ
 root s index = root_of s.ram_base (blocks_of s) index
+
+-- the same of each endpoint
+abbrev pub roots_of : State → List ℕ
+roots_of s = listed (length s.parties) (root s)
 
 pub record Agrees (ram : Ram) (s : State) : Type 0 where
   pub place : ram.base ≡ s.ram_base

@@ -26,6 +26,9 @@ pub mod Sound
 pub mod Notifications
 pub mod Messages
 pub mod Agreement
+pub mod Alike
+pub mod Certificate
+pub mod Certified
 pub mod DescriptorPlaces
 pub mod SendDescriptor
 pub mod RetrieveDescriptor

@@ -18,10 +18,11 @@ space = 32
 abbrev pub hash : ℕ
 hash = 35
 
--- an operation of the runner, the table of accesses, or nothing
+-- an operation of the runner, the table of accesses, the certificate, or nothing
 pub data Line : Type 0 where
   operate : (op : Op) → Line
   show : Line
+  audit : Line
   skip : Line
 
 -- NUMBERS
@@ -105,6 +106,11 @@ unfoldable pub show_of : List (List ℕ) → Option Line
 show_of [] = Some show
 show_of _ = None
 
+-- `audit`
+unfoldable pub audit_of : List (List ℕ) → Option Line
+audit_of [] = Some audit
+audit_of _ = None
+
 -- a name and what follows it
 unfoldable pub command_of : List (List ℕ) → Option Line
 command_of [] = None
@@ -114,6 +120,7 @@ command_of (name ∷ words) =
     else if bytes_eq name (codes "store") then store_of words
     else if bytes_eq name (codes "fetch") then fetch_of words
     else if bytes_eq name (codes "show") then show_of words
+    else if bytes_eq name (codes "audit") then audit_of words
     else None
 
 -- the line that these bytes are, if they are one: an empty line and a comment say nothing

@@ -1,8 +1,9 @@
 -- What the lines of a trace print, as the small machine steps.
-use Rattle.std.specs.Prelude.{ℕ, zero, suc, ◌+◌, ◌-◌, ◌*◌, ◌/◌, ◌%◌, ◌^◌, ◌==◌, Bool, true, false, not, ◌&&◌, ◌||◌, nat_lt, List, [], ◌∷◌, ◌++◌, length, codes, filter, zip, Option, Some, None, if◌then◌else◌}
-use Rattle.std.specs.List.{list_all, flat_map, range_with_len}
+use Rattle.std.specs.Prelude.{ℕ, zero, suc, ◌+◌, ◌-◌, ◌*◌, ◌/◌, ◌%◌, ◌^◌, ◌==◌, Bool, not, ◌||◌, nat_lt, List, [], ◌∷◌, ◌++◌, length, codes, filter, take, zip, Option, Some, None, if◌then◌else◌}
+use Rattle.std.specs.List.{flat_map, range_with_len}
 use Rattle.std.specs.Option.{option_map_or}
 use Rattle.ffa_model.specs.declared.rights.Rights.{Rights}
+use Rattle.ffa_model.specs.declared.certificate.CertRun.{CertRun}
 use Rattle.ffa_model.specs.declared.operation.Op.{Op}
 use Rattle.ffa_model.specs.declared.operation.Op.TheVariants.{Call, Load, Store, Fetch}
 use Rattle.ffa_model.specs.declared.operation.Outcome.{Outcome}
@@ -12,9 +13,13 @@ use Rattle.ffa_model.specs.declared.operation.FaultKind.TheVariants.{Translation
 use Rattle.ffa_model.specs.Rights.{may_write}
 use Rattle.ffa_model.specs.State.{State, identifiers, owner_of, address_of}
 use Rattle.ffa_model.specs.Access.{access}
+use Rattle.ffa_model.specs.Agreement.{root}
+use Rattle.ffa_model.specs.Alike.{is_alike}
+use Rattle.ffa_model.specs.Certificate.{certificate}
+use Rattle.ffa_model.specs.Identifiers.{identifier}
 use Rattle.ffa_model.specs.Memory.{size_of}
 use Rattle.ffa_model.specs.Step.{step}
-use Rattle.ffa_model.specs.TraceLines.{Line, operate, show, skip, feed, space, line_of}
+use Rattle.ffa_model.specs.TraceLines.{Line, operate, show, audit, skip, feed, space, line_of}
 
 -- WORDS
 
@@ -67,20 +72,6 @@ rights_text None = codes "---"
 rights_text (Some r) =
     codes "r" ++ (if may_write r.level then codes "w" else codes "-") ++ (if r.exec then codes "x" else codes "-")
 
-abbrev pub is_same : Bool → Bool → Bool
-is_same true b = b
-is_same false b = not b
-
-abbrev pub is_same_right : Option Rights → Option Rights → Bool
-is_same_right None None = true
-is_same_right None (Some b) = false
-is_same_right (Some a) None = false
-is_same_right (Some a) (Some b) = is_same (may_write a.level) (may_write b.level) && is_same a.exec b.exec
-
--- two pages that have the same owner, and to which each endpoint has the same access
-unfoldable pub is_alike : State → ℕ → ℕ → Bool
-is_alike s p q = owner_of s p == owner_of s q && list_all (λ e. is_same_right (access s e p) (access s e q)) (identifiers s)
-
 -- a run of pages begins where a page isn't like the one before it, and ends where a page isn't like the next
 abbrev pub begins_run : State → ℕ → Bool
 begins_run s p = p == 0 || not (is_alike s (p - 1) p)
@@ -108,17 +99,49 @@ runner_text s = ended (codes "runner" ++ spaced (hex 4 s.runner))
 unfoldable pub show_text : State → List ℕ
 show_text s = runner_text s ++ flat_map (run_text s) (runs_of s)
 
+-- CERTIFICATES
+
+-- the addresses of RAM's first and last byte, and how many endpoints there are
+unfoldable pub cert_text : State → List ℕ
+cert_text s =
+    ended (
+    codes "cert" ++ spaced (hex 8 s.ram_base) ++ spaced (hex 8 (address_of s (length s.pages - 1) + 4095)) ++ spaced (hex 1 (length s.parties)))
+
+-- the endpoint at a place, and the address of its level 1 table
+unfoldable pub root_text : State → ℕ → List ℕ
+root_text s place = ended (codes "root" ++ spaced (hex 4 (identifier place)) ++ spaced (hex 8 (root s place)))
+
+abbrev pub handle_text : Option ℕ → List ℕ
+handle_text None = codes "-"
+handle_text (Some handle) = hex 16 handle
+
+-- a run as the table of accesses has it, with its handle behind the owner
+unfoldable pub cert_run_text : State → CertRun → List ℕ
+cert_run_text s run =
+    ended (
+    codes "pages" ++ spaced (hex 8 (address_of s run.first.0)) ++ spaced (hex 8 (address_of s run.last.0 + 4095)) ++ spaced (hex 4 run.owner.0)
+    ++ spaced (handle_text run.handle)
+    ++ flat_map (λ right. spaced (rights_text right)) (take (length s.parties) run.access))
+
+-- the certificate with its roots, and that the tables give it, as those of a machine do
+unfoldable pub audit_text : State → List ℕ
+audit_text s =
+    cert_text s ++ flat_map (root_text s) (range_with_len 0 (length s.parties))
+    ++ flat_map (cert_run_text s) (certificate s) ++ ended (codes "agrees")
+
 -- LINES
 
 -- what a line prints, and the state after it
 abbrev pub line_text : State → Line → List ℕ
 line_text s (operate op) = outcome_text op (step s op).outcome
 line_text s show = show_text s
+line_text s audit = audit_text s
 line_text s skip = []
 
 abbrev pub line_after : State → Line → State
 line_after s (operate op) = (step s op).state
 line_after s show = s
+line_after s audit = s
 line_after s skip = s
 
 -- the same of the bytes of a line; what is no line prints and does nothing

@@ -2,6 +2,7 @@
 #![tactic(auto)]
 
 pub mod call;
+pub mod certificate;
 pub mod descriptor;
 pub mod endpoint;
 pub mod leaf;
@@ -13,6 +14,7 @@ pub mod schedule;
 pub mod transaction;
 
 pub use call::{Call, Reply};
+pub use certificate::CertRun;
 pub use descriptor::{RelinquishDesc, Response, RetrieveDesc, SendDesc};
 pub use endpoint::{Endpoint, EndpointId, PageNo, Properties, Region, Version, right_in};
 pub use leaf::Leaf;

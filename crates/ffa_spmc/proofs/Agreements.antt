@@ -28,7 +28,7 @@ module _ (x : Parts) (machine : IsManager x) where
       let blocks : blocks_of s ≡ x.manifest.ram_blocks = omega (arith, many) in
       ap (λ (b : ℕ). root_of s.ram_base b i) blocks ∙ ap (λ (base : ℕ). root_of base x.manifest.ram_blocks i) (base_is x ∙ sym machine.tables.base)
 
-  access_at-is : (i address : ℕ) → address < 2 ^ 32
+  pub access_at-is : (i address : ℕ) → address < 2 ^ 32
       → access_at s (identifier i) address ≡ cond (is_in_ram x.ram address) (access s (identifier i) ((address - x.ram.base) / 4096)) None
   access_at-is i address low =
       let base : s.ram_base ≡ x.ram.base = base_is x ∙ sym machine.tables.base in

@@ -6,6 +6,7 @@ pub mod AccessChanges
 pub mod Pools
 pub mod Reaches
 pub mod Agreements
+pub mod Certificates
 pub mod Stores
 pub mod Machines
 pub mod Moves

@@ -21,7 +21,7 @@ use Rattle.ffa_pages.specs.Entry.{Entry, base_at, entry_at, slot_at}
 use Rattle.ffa_stage2.specs.Tables.{table_page}
 use Rattle.ffa_memshare.specs.Named.{bases_in}
 use Rattle.ffa_memshare.specs.Shared.{IsHeld, IsRoom, IsShared}
-use Rattle.ffa_memshare.specs.Stored.{Slot, named_in, page_in, slot_at as pool_slot}
+use Rattle.ffa_memshare.specs.Stored.{Slot, handle_in, named_in, page_in, slot_at as pool_slot}
 use Rattle.ffa_spmc.specs.Meaning.{IsManager, Parts, access_by_place, slot_names, state_of}
 use Rattle.ffa_spmc.proofs.Held.{entry-past, owned-behind, owner-is, owners-size, page-held, page-past, parties_are, size_is}
 
@@ -60,10 +60,10 @@ module _ (x : Parts) (machine : IsManager x) where
     marked-named k is = (machine.offers.marks p k entered).0 is
 
     abbrev Agree : Option ℕ → Type 0
-    Agree o = (transaction_at s p ≡ named_in slots o) × (is_some (handle_at s p) ≡ is_some o)
+    Agree o = (transaction_at s p ≡ named_in slots o) × (is_some (handle_at s p) ≡ is_some o) × (handle_at s p ≡ handle_in slots o)
 
     unmarked : slot_at pages p ≡ None → Agree None
-    unmarked none = (unnamed-in s p never, ap is_some (unpassed-none (is_naming s p) refl s.transactions (λ h. of h (transaction_of s h) refl)))
+    unmarked none = (unnamed-in s p never, ap is_some unpassed, unpassed)
       where
         never : (h : ℕ) (t : Transaction) → transaction_of s h ≡ Some t → names s t.ranges p ≡ false
         never h t opened = by (names s t.ranges p) refl
@@ -76,15 +76,20 @@ module _ (x : Parts) (machine : IsManager x) where
         of h None is = refl
         of h (Some t) is = never h t is
 
+        unpassed : handle_at s p ≡ None
+        unpassed = unpassed-none (is_naming s p) refl s.transactions (λ h. of h (transaction_of s h) refl)
+
     marked : (k : ℕ) → slot_at pages p ≡ Some k → Agree (Some k)
     marked k is = of (pool_slot slots k) refl (marked-named k is)
       where
         of : (o : Slot) → pool_slot slots k ≡ o → slot_names x.manifest.ram_base p o ≡ true → Agree (Some k)
         of None at named = absurd (false≢true named)
         of (Some y) at named =
-            let opened : transaction_of s y.0 ≡ Some y.1 = slot-open k y.0 y.1 at in (
+            let opened : transaction_of s y.0 ≡ Some y.1 = slot-open k y.0 y.1 at in
+            let found : handle_at s p ≡ Some y.0 = alone-found (is_naming s p) refl s.transactions y.0 (once p lt) (ap (is_naming s p) opened ∙ named) in (
               named-in s p y.0 y.1 (once p lt) opened named ∙ sym (ap (option_map (λ (z : ℕ × Transaction). z.1)) at),
-              ap is_some (alone-found (is_naming s p) refl s.transactions y.0 (once p lt) (ap (is_naming s p) opened ∙ named)),
+              ap is_some found,
+              found ∙ sym (ap (option_map (λ (z : ℕ × Transaction). z.0)) at),
             )
 
     both : Agree (slot_at pages p)
@@ -100,6 +105,10 @@ module _ (x : Parts) (machine : IsManager x) where
 
     pub named-kept : is_some (handle_at s p) ≡ is_some (slot_at pages p)
     named-kept = both.1
+
+    -- and its handle
+    pub handle-kept : handle_at s p ≡ handle_in slots (slot_at pages p)
+    handle-kept = both.2
 
     -- the access that owners and slots give
     pub access-kept : (e : ℕ) → right_of e (page_in (page_of x.ram p) (entry_at pages p)) (named_in slots (slot_at pages p)) ≡ access s e p

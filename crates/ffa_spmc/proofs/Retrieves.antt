@@ -29,7 +29,7 @@ use Rattle.ffa_model.specs.RetrieveDescriptor.{retrieve_of}
 use Rattle.ffa_model.specs.Rights.{is_at_most, is_donate}
 use Rattle.ffa_model.specs.SoundState.{IsKnown, IsSoundState}
 use Rattle.ffa_model.specs.State.{State, Transaction, Buffers, is_known, transaction_of, version_of}
-use Rattle.ffa_model.specs.Transactions.{Transfer, bases_of, ceiling, scene_of, transfer}
+use Rattle.ffa_model.specs.Transactions.{Transfer, bases_of, ceiling, scene_of}
 use Rattle.ffa_model.proofs.CallAccesses.{access-filled, runner-known}
 use Rattle.ffa_model.proofs.Guards.{guard-passes}
 use Rattle.ffa_model.proofs.KeptCalls.{taken-sound}

@@ -24,6 +24,7 @@ ghost use Rattle.ffa_spmc.specs.Operated.{AreOperated};
 ghost use Rattle.ffa_spmc.specs.Unowned.{KeepsUnowned};
 
 mod accesses;
+mod certificates;
 mod forgetting;
 
 use crate::manager::Manager;

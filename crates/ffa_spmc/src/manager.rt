@@ -19,6 +19,7 @@ ghost use Rattle.ffa_spmc.specs.Unowned.{KeepsUnowned};
 
 mod accesses;
 mod buffers;
+mod certificates;
 mod memory;
 mod messages;
 mod notifications;

@@ -5,6 +5,8 @@
 #[cfg(test)]
 mod abi;
 #[cfg(test)]
+mod certificate;
+#[cfg(test)]
 mod command;
 #[cfg(test)]
 mod direct_messages;

@@ -143,3 +143,18 @@ fn takes_lines_longer_than_a_block(rt: HostRuntime) -> Result<(), Fail> {
     assert_eq!(rt; out.as_slice(), b"data 00\ndata 0000\n".as_slice());
     Ok(())
 }
+
+const CERTIFICATE: &str =
+    "cert 40000000 401FFFFF 2\nroot 0000 40000000\nroot 8001 40003000\npages 40000000 4000FFFF 8000 - --- ---\npages 40010000 4001FFFF 0000 - rw- ---\npages 40020000 4002FFFF 8001 - --- rwx\npages 40030000 401FFFFF 8000 - --- ---\nagrees\n";
+
+#[test]
+fn prints_the_certificate(rt: HostRuntime) -> Result<(), Fail> {
+    let mut player = demonstration(rt.alloc())?;
+    let (text, played) = play(&mut player, rt.alloc(), b"audit\n");
+    assert_eq!(rt; played, Ok(()));
+    assert_eq!(rt; text.as_slice(), CERTIFICATE.as_bytes());
+    let (text, played) = play(&mut player, rt.alloc(), b"audit \n");
+    assert_eq!(rt; played, Err(PlayError::BadLine(1)));
+    assert!(rt; text.is_empty());
+    Ok(())
+}

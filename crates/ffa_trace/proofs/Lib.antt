@@ -13,5 +13,6 @@ pub mod Plays
 pub mod Positions
 pub mod Runs
 pub mod ShowRuns
+pub mod CertRuns
 pub mod TextDigits
 pub mod WordsPut

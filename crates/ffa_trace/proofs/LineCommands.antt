@@ -7,7 +7,7 @@ use Rattle.std.proofs.lemmas.Bool.{cases_Bool, eqb-true, eq-eqb}
 use Rattle.std.proofs.lemmas.Slice.Eq.{bytes_eq-Decides}
 use Rattle.ffa_model.specs.declared.operation.Op.TheVariants.{Load, Store, Fetch}
 use Rattle.ffa_model.specs.declared.operation.Size.{Size}
-use Rattle.ffa_model.specs.TraceLines.{Line, operate, show, skip, space, hash, number_of, size_named, size_written, call_of, load_of, store_of, fetch_of, show_of, command_of, line_of, words_of}
+use Rattle.ffa_model.specs.TraceLines.{Line, operate, show, audit, skip, space, hash, number_of, size_named, size_written, call_of, load_of, store_of, fetch_of, show_of, audit_of, command_of, line_of, words_of}
 use Rattle.ffa_trace.specs.Parsed.{IsFront, IsOther}
 use Rattle.ffa_trace.specs.declared.line.Front.{Front}
 use Rattle.ffa_trace.specs.declared.line.Front.TheVariants.{Last, More, Other}
@@ -167,6 +167,10 @@ pub show_line : Some show ≡ line_of (codes "show")
 unfolding line_of command_of words_of show_of
 show_line = refl
 
+pub audit_line : Some audit ≡ line_of (codes "audit")
+unfolding line_of command_of words_of audit_of
+audit_line = refl
+
 pub empty_line : (bytes : List ℕ) → length bytes < 1 → Some skip ≡ line_of bytes
 unfolding line_of
 empty_line [] h = refl
@@ -187,22 +191,24 @@ same xs ys = (bytes_eq-Decides xs ys).0
 
 named : (name : List ℕ) (words : List (List ℕ)) → (name ≡ codes "call" → None ≡ call_of words) → (name ≡ codes "load" → None ≡ load_of words)
     → (name ≡ codes "store" → None ≡ store_of words) → (name ≡ codes "fetch" → None ≡ fetch_of words) → (name ≡ codes "show" → None ≡ show_of words)
+    → (name ≡ codes "audit" → None ≡ audit_of words)
     → None ≡ command_of (name ∷ words)
 unfolding command_of
-named name words call load store fetch shown =
+named name words call load store fetch shown audited =
     chosen _ _ _ (λ is. call (same name _ is)) (
     chosen _ _ _ (λ is. load (same name _ is)) (
     chosen _ _ _ (λ is. store (same name _ is)) (
-    chosen _ _ _ (λ is. fetch (same name _ is)) (chosen _ _ _ (λ is. shown (same name _ is)) refl))))
+    chosen _ _ _ (λ is. fetch (same name _ is)) (
+    chosen _ _ _ (λ is. shown (same name _ is)) (chosen _ _ _ (λ is. audited (same name _ is)) refl)))))
 
-no_command : (bytes : List ℕ) → IsOther bytes → ((words : List ℕ) → bytes ≢ codes "fetch " ++ words) → bytes ≢ codes "show" → None ≡ command_of (words_of bytes)
-unfolding call_of load_of store_of fetch_of show_of
-no_command bytes other no_fetch no_show =
+no_command : (bytes : List ℕ) → IsOther bytes → ((words : List ℕ) → bytes ≢ codes "fetch " ++ words) → bytes ≢ codes "show" → bytes ≢ codes "audit" → None ≡ command_of (words_of bytes)
+unfolding call_of load_of store_of fetch_of show_of audit_of
+no_command bytes other no_fetch no_show no_audit =
     elim (words_are bytes) [
-      | inl one ↦ named bytes [] (λ _. refl) (λ _. refl) (λ _. refl) (λ _. refl) (λ is. absurd (no_show is)) ∙ ap command_of (sym one)
+      | inl one ↦ named bytes [] (λ _. refl) (λ _. refl) (λ _. refl) (λ _. refl) (λ is. absurd (no_show is)) (λ is. absurd (no_audit is)) ∙ ap command_of (sym one)
       | inr more ↦
           named _ (words_of more.rest) (λ is. absurd (other.no_call more.rest (begins more is))) (λ is. absurd (other.no_load more.rest (begins more is)))
-          (λ is. absurd (other.no_store more.rest (begins more is))) (λ is. absurd (no_fetch more.rest (begins more is))) (λ is. shown more)
+          (λ is. absurd (other.no_store more.rest (begins more is))) (λ is. absurd (no_fetch more.rest (begins more is))) (λ is. shown more) (λ is. audited more)
           ∙ ap command_of (sym more.words)
     ]
   where
@@ -216,8 +222,15 @@ no_command bytes other no_fetch no_show =
         of [] some = absurd (some refl)
         of (w ∷ ws) some = refl
 
-pub no_line : (bytes : List ℕ) → IsOther bytes → ((words : List ℕ) → bytes ≢ codes "fetch " ++ words) → bytes ≢ codes "show" → None ≡ line_of bytes
+    audited : (more : HasMore bytes) → None ≡ audit_of (words_of more.rest)
+    audited more = of (words_of more.rest) (some_word more.rest)
+      where
+        of : (ws : List (List ℕ)) → (ws ≡ [] → ⊥) → None ≡ audit_of ws
+        of [] some = absurd (some refl)
+        of (w ∷ ws) some = refl
+
+pub no_line : (bytes : List ℕ) → IsOther bytes → ((words : List ℕ) → bytes ≢ codes "fetch " ++ words) → bytes ≢ codes "show" → bytes ≢ codes "audit" → None ≡ line_of bytes
 unfolding line_of
-no_line [] other no_fetch no_show = absurd (other.some refl)
-no_line (c ∷ bytes) other no_fetch no_show =
-    chosen (c == hash) _ _ (λ is. absurd (other.no_comment bytes (ap (λ b. b ∷ bytes) (eqb-true c hash is)))) (no_command (c ∷ bytes) other no_fetch no_show)
+no_line [] other no_fetch no_show no_audit = absurd (other.some refl)
+no_line (c ∷ bytes) other no_fetch no_show no_audit =
+    chosen (c == hash) _ _ (λ is. absurd (other.no_comment bytes (ap (λ b. b ∷ bytes) (eqb-true c hash is)))) (no_command (c ∷ bytes) other no_fetch no_show no_audit)

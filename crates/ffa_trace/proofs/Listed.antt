@@ -36,3 +36,8 @@ module _ {X : Type 0} where
       ap (λ k. k ++ e) (ap (λ k. (k ++ c) ++ d) (append_assoc l a b) ∙ ap (λ k. k ++ d) (append_assoc l (a ++ b) c) ∙ append_assoc l ((a ++ b) ++ c) d
       ∙ ap (λ k. l ++ k) (append_assoc (a ++ b) c d ∙ append_assoc a b (c ++ d)))
       ∙ append_assoc l (a ++ (b ++ (c ++ d))) e
+
+  -- four pieces
+  pub four_pieces : (l a b c d : List X) → (((l ++ a) ++ b) ++ c) ++ d ≡ l ++ (((a ++ b) ++ c) ++ d)
+  four_pieces l a b c d =
+      ap (λ k. k ++ d) (ap (λ k. k ++ c) (append_assoc l a b) ∙ append_assoc l (a ++ b) c) ∙ append_assoc l ((a ++ b) ++ c) d

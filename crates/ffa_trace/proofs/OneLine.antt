@@ -1,5 +1,5 @@
 -- One line: what is known once its text was written, or could not be.
-use Rattle.std.proofs.Common.{◌≡◌, ℕ, true, List, [], Option, Some, None, Result, Ok, Err, sym, ap, ◌∙◌, subst, refl}
+use Rattle.std.proofs.Common.{◌≡◌, ℕ, true, List, [], codes, Option, Some, None, Result, Ok, Err, sym, ap, ◌∙◌, subst, refl}
 use Rattle.std.specs.Prelude.{is_some}
 use Rattle.std.specs.Option.{option_map_or}
 use Rattle.std.specs.Io.KnownBytes.{Appends, Keeps}
@@ -7,7 +7,7 @@ use Rattle.std.proofs.KnownBytes.{Appends-nil}
 use Rattle.ffa_model.specs.State.{State}
 use Rattle.ffa_model.specs.TraceLines.{Line, skip, line_of, is_good}
 use Rattle.ffa_model.specs.TraceText.{line_text, line_after, text_of, after}
-use Rattle.ffa_trace.specs.Output.{TookFront, Writes}
+use Rattle.ffa_trace.specs.Output.{TookFront, Writes, WritesIfRoom}
 use Rattle.ffa_trace.specs.Feeding.{LineDone}
 use Rattle.ffa_trace.specs.declared.output.PlayError.{PlayError}
 use Rattle.ffa_trace.specs.declared.output.PlayError.TheVariants.{Read, Write, NoMemory, BadLine}
@@ -30,6 +30,14 @@ module _ (start now : State) (held holds : Option (List ℕ)) (number : ℕ) (by
   line_written (Err Write) w = record { good = means; state = state_is; written = subst (TookFront held holds) text_is w }
   line_written (Err NoMemory) w = absurd w
   line_written (Err (BadLine n)) w = absurd w
+
+  -- the same of the line that needs memory and changes nothing
+  pub line_written_if_room : (r : Result (Unit {0}) PlayError) → bytes ≡ codes "audit" → now ≡ start → WritesIfRoom held holds (line_text start line) r → LineDone start now held holds number bytes r
+  line_written_if_room (Ok x) named same w = line_written (Ok x) w
+  line_written_if_room (Err Read) named same w = absurd w
+  line_written_if_room (Err Write) named same w = line_written (Err Write) w
+  line_written_if_room (Err NoMemory) named same w = (named, same, w)
+  line_written_if_room (Err (BadLine n)) named same w = absurd w
 
 -- an empty line or a comment
 pub line_skipped : (s : State) (a : Option (List ℕ)) (number : ℕ) (bytes : List ℕ) → Some skip ≡ line_of bytes → LineDone {X = Unit {0}} s s a a number bytes (Ok tt)

@@ -5,8 +5,9 @@ use Rattle.std.proofs.lemmas.Bool.{ne_eqb, false≢true}
 use Rattle.std.specs.List.{flat_map, range_with_len}
 use Rattle.std.specs.Io.KnownBytes.{Appends}
 use Rattle.std.proofs.KnownBytes.{Appends-trans}
+use Rattle.ffa_model.specs.Alike.{is_alike}
 use Rattle.ffa_model.specs.State.{State}
-use Rattle.ffa_model.specs.TraceText.{is_alike, begins_run, ends_run, runs_of, run_text, runner_text, show_text}
+use Rattle.ffa_model.specs.TraceText.{begins_run, ends_run, runs_of, run_text, runner_text, show_text}
 use Rattle.ffa_trace.specs.Output.{TookFront}
 use Rattle.ffa_trace.proofs.Fronts.{front_after, front_before}
 

@@ -1,5 +1,5 @@
 -- The steps of a play, which private functions promise one another: a line, bytes that are kept, a block of lines.
-use Rattle.std.specs.Prelude.{◌≡◌, ◌≤◌, ◌⊎◌, ℕ, ◌+◌, true, false, List, [], ◌∷◌, ◌++◌, length, Option, Result, Ok, Err}
+use Rattle.std.specs.Prelude.{◌≡◌, ◌≤◌, ◌⊎◌, ℕ, ◌+◌, true, false, List, [], ◌∷◌, ◌++◌, length, codes, Option, Result, Ok, Err}
 use Rattle.std.specs.Io.KnownBytes.{Appends, Keeps}
 use Rattle.ffa_model.specs.State.{State}
 use Rattle.ffa_model.specs.TraceLines.{feed, has_no_feed, is_good, joined}
@@ -12,15 +12,16 @@ use Rattle.ffa_trace.specs.declared.output.PlayError.TheVariants.{Read, Write, N
 
 -- ONE LINE, of this number and these bytes
 
--- it was done, or it is none: no other error comes
+-- it was done, or it is none, or there is no memory for it: then nothing was done and nothing was written. No other line than
+-- `audit` wants memory
 abbrev pub LineDone : {X : Type 0} → State → State → Option (List ℕ) → Option (List ℕ) → ℕ → List ℕ → Result X PlayError → Type 0
 LineDone start now held holds number line (Ok _) = (is_good line ≡ true) × (now ≡ after start line) × Appends held holds (text_of start line)
 LineDone start now held holds number line (Err Write) = Began start now held holds line
 LineDone start now held holds number line (Err (BadLine n)) = (is_good line ≡ false) × (n ≡ number) × (now ≡ start) × Keeps held holds
 LineDone start now held holds number line (Err Read) = ⊥
-LineDone start now held holds number line (Err NoMemory) = ⊥
+LineDone start now held holds number line (Err NoMemory) = (line ≡ codes "audit") × (now ≡ start) × Keeps held holds
 
--- the same where memory was taken for it before
+-- the same where memory was taken for its bytes before
 abbrev pub LineEnded : {X : Type 0} → State → State → Option (List ℕ) → Option (List ℕ) → ℕ → List ℕ → Result X PlayError → Type 0
 LineEnded start now held holds number line (Ok x) = LineDone start now held holds number line (Ok x)
 LineEnded {X} start now held holds number line (Err Write) = LineDone {X = X} start now held holds number line (Err Write)

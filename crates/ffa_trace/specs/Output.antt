@@ -1,6 +1,6 @@
 -- What writing a text leaves.
 use Rattle.std.specs.Prelude.{◌≡◌, ◌≤◌, ℕ, List, ◌++◌, length, Option, Result, Ok, Err}
-use Rattle.std.specs.Io.KnownBytes.{Appends}
+use Rattle.std.specs.Io.KnownBytes.{Appends, Keeps}
 use Rattle.ffa_trace.specs.declared.output.PlayError.{PlayError}
 use Rattle.ffa_trace.specs.declared.output.PlayError.TheVariants.{Read, Write, NoMemory, BadLine}
 
@@ -19,3 +19,11 @@ Writes held holds text (Err Write) = TookFront held holds text
 Writes held holds text (Err Read) = ⊥
 Writes held holds text (Err NoMemory) = ⊥
 Writes held holds text (Err (BadLine n)) = ⊥
+
+-- the same of a text for which memory is needed first: where there is none, nothing was written
+abbrev pub WritesIfRoom : {X : Type 0} → Option (List ℕ) → Option (List ℕ) → List ℕ → Result X PlayError → Type 0
+WritesIfRoom held holds text (Ok _) = Appends held holds text
+WritesIfRoom held holds text (Err Write) = TookFront held holds text
+WritesIfRoom held holds text (Err NoMemory) = Keeps held holds
+WritesIfRoom held holds text (Err Read) = ⊥
+WritesIfRoom held holds text (Err (BadLine n)) = ⊥

@@ -50,7 +50,7 @@ Played state_before state_after written_before written_after unread_before unrea
     × Consumes unread_before unread_after (joined lines ++ more)
     × (length lines ≤ most_lines)
     × ((has_no_feed more ≡ true) ⊎ ((length lines ≡ most_lines) × (1 ≤ length more)))
--- memory is refused for bytes of the line behind those that were done, which can be counted, and never for none
+-- memory is refused for the line behind those that were done, which can be counted, and never before a byte of it
 Played state_before state_after written_before written_after unread_before unread_after (Err NoMemory) =
     (lines : List (List ℕ)) × (more : List ℕ)
     × Did state_before state_after written_before written_after lines

@@ -1,6 +1,7 @@
 //! The player of traces: what each line does on the machine, and the text of what comes of it.
 #![tactic(auto)]
 
+mod certificate;
 mod line;
 pub mod output;
 mod player;

@@ -14,7 +14,7 @@ pub enum PlayError {
     /// The writer failed, or took nothing.
     #[error("cannot write")]
     Write,
-    /// There is no memory for a line.
+    /// There is no memory for a line, or for what it prints.
     #[error("no memory")]
     NoMemory,
     /// The line of this number, counted from 1, is none of a trace.

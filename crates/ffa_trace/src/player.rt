@@ -11,7 +11,7 @@ ghost use Rattle.ffa_trace.specs.Parsed.{IsOther};
 ghost use Rattle.ffa_trace.specs.Played.{Played};
 
 use crate::output::{self, PlayError};
-use crate::{line, show, text};
+use crate::{certificate, line, show, text};
 use ffa_model::{Op, Outcome, Size};
 use ffa_physmem::PhysMem;
 use ffa_spmc::Machine;
@@ -70,7 +70,7 @@ impl<M: PhysMem + Drop, T: Translations + Drop> Player<M, T> {
     }
 
     /// Plays as `play` does, with memory of any allocator.
-    pub fn play_in<A: Allocator, R: Read, W: Write>(
+    pub fn play_in<A: Allocator + Copy, R: Read, W: Write>(
         &mut self,
         alloc: A,
         reader: &mut R,
@@ -84,7 +84,7 @@ impl<M: PhysMem + Drop, T: Translations + Drop> Player<M, T> {
 
 // Not inlined: the block would lie on the stack while the caller boots the machine.
 #[inline(never)]
-fn play_lines<M: PhysMem + Drop, T: Translations + Drop, A: Allocator, R: Read, W: Write>(
+fn play_lines<M: PhysMem + Drop, T: Translations + Drop, A: Allocator + Copy, R: Read, W: Write>(
     machine: &mut Machine<M, T>,
     alloc: A,
     reader: &mut R,
@@ -99,7 +99,10 @@ fn play_lines<M: PhysMem + Drop, T: Translations + Drop, A: Allocator, R: Read, 
         match reader.read(&mut block) {
             Ok(0) if begun.is_empty() => return Ok(()),
             Ok(0) => return Err(PlayError::BadLine(number)),
-            Ok(count) => feed(machine, writer, &mut begun, &mut number, &block[..count])?,
+            Ok(count) => {
+                let bytes = &block[..count];
+                feed(machine, alloc, writer, &mut begun, &mut number, bytes)?;
+            }
             Err(_) => return Err(PlayError::Read),
         }
     }
@@ -108,8 +111,9 @@ fn play_lines<M: PhysMem + Drop, T: Translations + Drop, A: Allocator, R: Read, 
 
 // Takes bytes that were read: `begun` are those of the line that hasn't ended, and `number` is its number. The last number
 // is that of no line, so bytes behind the lines that can be counted are those of an input that is too long.
-fn feed<M: PhysMem + Drop, T: Translations + Drop, A: Allocator, W: Write>(
+fn feed<M: PhysMem + Drop, T: Translations + Drop, A: Allocator + Copy, W: Write>(
     machine: &mut Machine<M, T>,
+    alloc: A,
     writer: &mut W,
     begun: &mut Vec<u8, A>,
     number: &mut u64,
@@ -124,7 +128,7 @@ fn feed<M: PhysMem + Drop, T: Translations + Drop, A: Allocator, W: Write>(
         let Some(end) = first_feed(rest) else {
             return keep(begun, rest);
         };
-        end_line(machine, writer, begun, *number, &rest[..end])?;
+        end_line(machine, alloc, writer, begun, *number, &rest[..end])?;
         *number += 1;
         rest = &rest[end + 1..];
     }
@@ -151,8 +155,9 @@ fn keep<A: Allocator>(begun: &mut Vec<u8, A>, bytes: &[u8]) -> Result<(), PlayEr
 }
 
 // Does the line that begins with `begun` and ends with `piece`. A line that lies in one block isn't copied.
-fn end_line<M: PhysMem + Drop, T: Translations + Drop, A: Allocator, W: Write>(
+fn end_line<M: PhysMem + Drop, T: Translations + Drop, A: Allocator + Copy, W: Write>(
     machine: &mut Machine<M, T>,
+    alloc: A,
     writer: &mut W,
     begun: &mut Vec<u8, A>,
     number: u64,
@@ -162,18 +167,19 @@ fn end_line<M: PhysMem + Drop, T: Translations + Drop, A: Allocator, W: Write>(
     ensures none_begun { OnOk result (begun.new.items ≡ []) }
 {
     if begun.is_empty() {
-        return do_line(machine, writer, number, piece);
+        return do_line(machine, alloc, writer, number, piece);
     }
     keep(begun, piece)?;
-    do_line(machine, writer, number, begun)?;
+    do_line(machine, alloc, writer, number, begun)?;
     begun.clear();
     Ok(())
 }
 
 // Does a line, and writes its text. The commands that most lines have are told by their bytes, and each is done where it
 // was read.
-fn do_line<M: PhysMem + Drop, T: Translations + Drop, W: Write>(
+fn do_line<M: PhysMem + Drop, T: Translations + Drop, A: Allocator + Copy, W: Write>(
     machine: &mut Machine<M, T>,
+    alloc: A,
     writer: &mut W,
     number: u64,
     bytes: &[u8],
@@ -187,7 +193,7 @@ fn do_line<M: PhysMem + Drop, T: Translations + Drop, W: Write>(
         [b's', b't', b'o', b'r', b'e', b' ', words @ ..] => {
             do_store(machine, writer, number, words)
         }
-        _ => do_other(machine, writer, number, bytes),
+        _ => do_other(machine, alloc, writer, number, bytes),
     }
 }
 
@@ -258,8 +264,9 @@ fn do_fetch<M: PhysMem + Drop, T: Translations + Drop, W: Write>(
 
 // Does a line of another command, of which a trace has few.
 #[inline(never)]
-fn do_other<M: PhysMem + Drop, T: Translations + Drop, W: Write>(
+fn do_other<M: PhysMem + Drop, T: Translations + Drop, A: Allocator + Copy, W: Write>(
     machine: &mut Machine<M, T>,
+    alloc: A,
     writer: &mut W,
     number: u64,
     bytes: &[u8],
@@ -271,6 +278,8 @@ fn do_other<M: PhysMem + Drop, T: Translations + Drop, W: Write>(
         do_fetch(machine, writer, number, words)
     } else if bytes == b"show".as_slice() {
         show::write_show(machine, writer)
+    } else if bytes == b"audit".as_slice() {
+        certificate::write_audit(machine, alloc, writer)
     } else {
         Err(PlayError::BadLine(number))
     }

@@ -5,7 +5,8 @@ ghost use Rattle.arrayvec.specs.ArrayVec.{array_vec_len};
 ghost use Rattle.ffa_model.specs.Identifiers.{identifier};
 ghost use Rattle.ffa_model.specs.State.{identifiers};
 ghost use Rattle.ffa_model.specs.Access.{access};
-ghost use Rattle.ffa_model.specs.TraceText.{spaced, rights_text, is_same_right, is_alike, ends_run, run_text, runner_text, show_text};
+ghost use Rattle.ffa_model.specs.Alike.{is_alike, is_same_right};
+ghost use Rattle.ffa_model.specs.TraceText.{spaced, rights_text, ends_run, run_text, runner_text, show_text};
 ghost use Rattle.ffa_trace.specs.Output.{Writes};
 
 use crate::output::{self, PlayError};
@@ -108,7 +109,7 @@ fn ends_run<M: PhysMem + Drop, T: Translations + Drop>(machine: &Machine<M, T>, 
 }
 
 // Whether two pages have the same owner, and each endpoint has the same access to both.
-#[tactic(auto, unfolding(ffa_model::specs::TraceText::is_alike))]
+#[tactic(auto, unfolding(ffa_model::specs::Alike::is_alike))]
 fn is_alike<M: PhysMem + Drop, T: Translations + Drop>(
     machine: &Machine<M, T>,
     page: PageNo,

@@ -1,1 +1,3 @@
 pub mod Offsets
+pub mod Spans
+pub mod Levels

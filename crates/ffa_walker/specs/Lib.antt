@@ -1,2 +1,3 @@
 pub mod Need
 pub mod Offset
+pub mod Spans

@@ -2,8 +2,10 @@
 #![tactic(auto)]
 
 pub mod access;
+pub mod certification;
 pub mod translation;
 
 pub use access::{fetch, fetch_at, load, load_at, store, store_at};
+pub use certification::audit;
 pub use ffa_model::{FaultKind, Leaf};
 pub use translation::{is_in_ram, translate};

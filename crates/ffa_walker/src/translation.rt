@@ -17,7 +17,7 @@ pub fn is_in_ram<M: PhysMem>(memory: &M, address: u64) -> bool
 }
 
 // The word at a place of the table at an address.
-fn read_entry<M: PhysMem>(memory: &M, table: u64, index: u64) -> u64
+pub(crate) fn read_entry<M: PhysMem>(memory: &M, table: u64, index: u64) -> u64
     requires table { IsTrue (walk.is_in_ram (M.ram memory.now) table) }
     requires index { index < 512 }
     ensures { result ≡ walk.entry (M.ram memory.now) table index }
@@ -27,7 +27,7 @@ fn read_entry<M: PhysMem>(memory: &M, table: u64, index: u64) -> u64
 }
 
 // The table that a word names, which has to be a page of the RAM.
-fn table_of<M: PhysMem>(memory: &M, word: u64) -> Result<u64, FaultKind>
+pub(crate) fn table_of<M: PhysMem>(memory: &M, word: u64) -> Result<u64, FaultKind>
     ensures value { let table = bits 47 12 word * 2 ^ 12 in
         result ≡ (if walk.is_page_address (M.ram memory.now) table then Ok table else Err OutsideRam) }
     ensures inside { IfOk result (λ table. IsTrue (walk.is_in_ram (M.ram memory.now) table)) }
@@ -41,7 +41,7 @@ fn table_of<M: PhysMem>(memory: &M, word: u64) -> Result<u64, FaultKind>
 
 // What a leaf descriptor says: AF is bit 10, S2AP is bit 6 to read and bit 7 to write, XN is bit 54.
 #[tactic(auto, unfolding(ffa_model::specs::Walk::leaf_of))]
-fn read_leaf(word: u64, phys: u64) -> Result<Leaf, FaultKind>
+pub(crate) fn read_leaf(word: u64, phys: u64) -> Result<Leaf, FaultKind>
     ensures { result ≡ walk.leaf_of word phys }
 {
     if (word >> 10) % 2 == 0 {

@@ -270,7 +270,7 @@ fn play<'a, A: Allocator + Copy, R: Read + Drop, W: Write>(
 }
 
 // Plays a trace on a machine that boots in this RAM, which is all zeros, with a cache of translations or none.
-fn play_on<'a, A: Allocator, M: PhysMem + Drop, R: Read, W: Write>(
+fn play_on<'a, A: Allocator + Copy, M: PhysMem + Drop, R: Read, W: Write>(
     alloc: A,
     manifest: &Manifest,
     ram: M,
@@ -292,7 +292,7 @@ fn play_on<'a, A: Allocator, M: PhysMem + Drop, R: Read, W: Write>(
 }
 
 // Plays a trace on a machine that boots in this RAM, which is all zeros, with this cache.
-fn play_in<'a, A: Allocator, M: PhysMem + Drop, T: Translations + Drop, R: Read, W: Write>(
+fn play_in<'a, A: Allocator + Copy, M: PhysMem + Drop, T: Translations + Drop, R: Read, W: Write>(
     alloc: A,
     manifest: &Manifest,
     ram: M,

@@ -415,3 +415,48 @@ fn a_lend_of_each_length(rt: HostRuntime) -> Result<(), Fail> {
     row.add("call 84000072 60 5F -> 8001: 84000060 0 FFFFFFFE")?;
     row.check(&rt, alloc)
 }
+
+#[test]
+fn the_certificate_after_a_lend(rt: HostRuntime) -> Result<(), Fail> {
+    let certificate = "\
+audit -> cert 40000000 401FFFFF 3
+root 0000 40000000
+root 8001 40003000
+root 8002 40006000
+pages 40000000 4000FFFF 8000 - --- --- ---
+pages 40010000 4001FFFF 0000 - rw- --- ---
+pages 40020000 40020FFF 8001 - --- rwx ---
+pages 40021000 40021FFF 8001 0000800100000001 --- --- ---
+pages 40022000 4002FFFF 8001 - --- rwx ---
+pages 40030000 4003FFFF 8002 - --- --- rw-
+pages 40040000 401FFFFF 8000 - --- --- ---
+agrees
+";
+    let retrieved = "\
+audit -> cert 40000000 401FFFFF 3
+root 0000 40000000
+root 8001 40003000
+root 8002 40006000
+pages 40000000 4000FFFF 8000 - --- --- ---
+pages 40010000 4001FFFF 0000 - rw- --- ---
+pages 40020000 40020FFF 8001 - --- rwx ---
+pages 40021000 40021FFF 8001 0000800100000001 --- --- rw-
+pages 40022000 4002FFFF 8001 - --- rwx ---
+pages 40030000 4003FFFF 8002 - --- --- rw-
+pages 40040000 401FFFFF 8000 - --- --- ---
+agrees
+";
+    let mut row = Row::new(rt.alloc());
+    for part in [
+        MAPPED,
+        LEND,
+        certificate,
+        TO_SECOND,
+        RETRIEVE,
+        RETRIEVED,
+        retrieved,
+    ] {
+        row.add(part)?;
+    }
+    row.check(&rt, rt.alloc())
+}

@@ -160,3 +160,28 @@ fn long_lines_or_no_memory(rt: HostRuntime) -> Result<(), Fail> {
     assert_eq!(rt; places, 6);
     Ok(())
 }
+
+// The room for the runs of a certificate grows as they come. Where it can't, nothing of the line is written.
+#[test]
+fn a_certificate_or_no_memory(rt: HostRuntime) -> Result<(), Fail> {
+    let mut row = Row::new(rt.alloc());
+    row.add(
+        "\
+load 40010000 1 -> data 00
+audit -> cert 40000000 401FFFFF 3
+root 0000 40000000
+root 8001 40003000
+root 8002 40006000
+pages 40000000 4000FFFF 8000 - --- --- ---
+pages 40010000 4001FFFF 0000 - rw- --- ---
+pages 40020000 4002FFFF 8001 - --- rwx ---
+pages 40030000 4003FFFF 8002 - --- --- rw-
+pages 40040000 401FFFFF 8000 - --- --- ---
+agrees
+load 40010000 2 -> data 0000
+",
+    )?;
+    let places = places_of_refusal(&rt, rt.alloc(), &row, 2048)?;
+    assert_eq!(rt; places, 2);
+    Ok(())
+}

@@ -3,9 +3,9 @@ use Rattle.std.specs.Option.{MatchOption}
 use Rattle.std.proofs.lemmas.Bool.{true≢false}
 use Rattle.std.proofs.lemmas.Bool.Decides.{Decides-eqb}
 use Rattle.std.proofs.lemmas.Slice.Eq.{bytes_eq-Decides, strip_prefix_is}
-use Rattle.ffa_model.specs.TraceLines.{show, line_of}
-use Rattle.ffa_trace.proofs.LineCommands.{show_line, no_line}
-use Rattle.ffa_trace.proofs.OneLine.{line_written, line_bad}
+use Rattle.ffa_model.specs.TraceLines.{audit, show, line_of}
+use Rattle.ffa_trace.proofs.LineCommands.{audit_line, show_line, no_line}
+use Rattle.ffa_trace.proofs.OneLine.{line_written, line_written_if_room, line_bad}
 use Rattle.ffa_trace.proofs.player.do_other.Goals as goal
 
 pub returns-then-eq : goal.returns-then-eq
@@ -13,9 +13,15 @@ returns-then-eq g c =
     let is = (bytes_eq-Decides c.args.bytes.now c.as_slice.result.now).0 (sym c.if-eq.ensures) ∙ c.as_slice.ensures in
     line_written _ _ _ _ c.args.number c.args.bytes.now show (show_line ∙ ap line_of (sym is)) refl c.write_show.result c.write_show.ensures
 
-pub returns-else-eq : goal.returns-else-eq
-returns-else-eq g c =
+pub returns-then-eq-2 : goal.returns-then-eq-2
+returns-then-eq-2 g c =
+    let is = (bytes_eq-Decides c.args.bytes.now c.as_slice-else-eq.result.now).0 (sym c.if-eq-2.ensures) ∙ c.as_slice-else-eq.ensures in
+    line_written_if_room _ _ _ _ c.args.number c.args.bytes.now audit (audit_line ∙ ap line_of (sym is)) refl c.write_audit.result is refl c.write_audit.ensures
+
+pub returns-else-eq-2 : goal.returns-else-eq-2
+returns-else-eq-2 g c =
     let no_fetch = subst (λ r. MatchOption r ((words : List ℕ) → c.args.bytes.now ≢ codes "fetch " ++ words) (λ x. c.args.bytes.now ≡ codes "fetch " ++ x.now)) c.in_default.is
     (strip_prefix_is Decides-eqb c.args.bytes.now (codes "fetch ") c.strip_prefix.result c.strip_prefix.ensures.cases) in
     let no_show = λ (is : c.args.bytes.now ≡ codes "show"). true≢false (sym ((bytes_eq-Decides c.args.bytes.now c.as_slice.result.now).1 (is ∙ sym c.as_slice.ensures)) ∙ sym c.if-eq.ensures) in
-    line_bad _ _ c.args.number _ (no_line c.args.bytes.now c.requires no_fetch no_show)
+    let no_audit = λ (is : c.args.bytes.now ≡ codes "audit"). true≢false (sym ((bytes_eq-Decides c.args.bytes.now c.as_slice-else-eq.result.now).1 (is ∙ sym c.as_slice-else-eq.ensures)) ∙ sym c.if-eq-2.ensures) in
+    line_bad _ _ c.args.number _ (no_line c.args.bytes.now c.requires no_fetch no_show no_audit)

@@ -1,7 +1,7 @@
 use Rattle.std.proofs.Common.{ℕ, sym, ap₂, ◌∙◌, arith}
 use Rattle.ffa_model.specs.Identifiers.{identifier}
 use Rattle.ffa_model.specs.Access.{access}
-use Rattle.ffa_model.specs.TraceText.{is_same_right}
+use Rattle.ffa_model.specs.Alike.{is_same_right}
 use Rattle.ffa_trace.proofs.Listed.{all_more, one_fails}
 use Rattle.ffa_trace.proofs.show.has_same_accesses.Goals as goal
 

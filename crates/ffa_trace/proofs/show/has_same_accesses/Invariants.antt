@@ -3,7 +3,7 @@ use Rattle.std.specs.List.{list_all}
 use Rattle.ffa_model.specs.Lists.{listed}
 use Rattle.ffa_model.specs.Identifiers.{identifier}
 use Rattle.ffa_model.specs.Access.{access}
-use Rattle.ffa_model.specs.TraceText.{is_same_right}
+use Rattle.ffa_model.specs.Alike.{is_same_right}
 use Rattle.ffa_trace.proofs.show.has_same_accesses.Given as goal
 
 -- the endpoints so far

@@ -19,7 +19,7 @@ returns c =
     let i = place c.args.endpoint.0 in
     let found = c.index-as_slice-place.result in
     let read : slice_get es i ≡ Some found =
-      slice_get_read es (length es) i found refl within
-      (c.index-as_slice-place.is ∙ (λ k. get_or (c.as_slice.ensures.value k) (c.place.ensures k) found)) in
+    slice_get_read es (length es) i found refl within
+    (c.index-as_slice-place.is ∙ (λ k. get_or (c.as_slice.ensures.value k) (c.place.ensures k) found)) in
     ap (λ (e : Endpoint). e.version) (sym c.index-as_slice-place.is)
     ∙ sym (ap (λ (o : Option Party). option_map_or (λ (p : Party). p.version) o V1_1) (slice_get-map party_of es i ∙ ap (option_map party_of) read))

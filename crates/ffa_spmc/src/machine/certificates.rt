@@ -1,0 +1,120 @@
+//! The certificate of a machine, run by run, and whether its tables give what a certificate says.
+ghost use Rattle.std.specs.Prelude.{◌≡◌, ◌+◌, ◌-◌, ◌<◌, ◌↔◌, IsTrue, length};
+ghost use Rattle.std.specs.List.{list_all};
+ghost use Rattle.ffa_model.specs.Access.{access, handle_at};
+ghost use Rattle.ffa_model.specs.Agreement.{roots_of};
+ghost use Rattle.ffa_model.specs.Alike.{is_alike, is_same_right};
+ghost use Rattle.ffa_model.specs.Certificate.{IsRun, access_by_place, are_as_one, certificate, is_same_handle, last_from, run_from};
+ghost use Rattle.ffa_model.specs.Certified.{IsCertified};
+ghost use Rattle.ffa_model.specs.Lists.{listed};
+ghost use Rattle.ffa_model.specs.State.{identifiers};
+
+use super::Machine;
+use ffa_model::{CertRun, EndpointId, PageNo, Rights};
+use ffa_physmem::PhysMem;
+use ffa_tlb::Translations;
+
+impl<M: PhysMem + Drop, T: Translations + Drop> Machine<M, T> {
+    /// The longest run from a page of the RAM on whose pages have one owner, one open transaction or none, and one access of
+    /// each endpoint. It takes no memory.
+    #[tactic(auto, unfolding(ffa_model::specs::Certificate::run_from))]
+    pub fn cert_run(&self, from: PageNo) -> CertRun
+        requires { from.0 < length self.now.state.pages }
+        ensures run { IsRun self.now.state from.0 result }
+        ensures computed { result ≡ run_from self.now.state from.0 }
+    {
+        CertRun {
+            first: from,
+            last: self.last_from(from),
+            owner: self.owner_of(from),
+            handle: self.handle_at(from),
+            access: self.accesses(from),
+        }
+    }
+
+    /// Whether runs of pages are a certificate that the machine's tables give: over the RAM's bytes alone, as
+    /// `ffa_walker::audit` judges them. It says nothing of owners and handles. The runs of `cert_run` from page 0 on, one
+    /// behind the other, are such a certificate. It takes no memory.
+    pub fn audit(&self, runs: &[CertRun]) -> bool
+        ensures certified { IsTrue result ↔ IsCertified self.now.ram (roots_of self.now.state) runs.now }
+        ensures own { runs.now ≡ certificate self.now.state → IsTrue result }
+    {
+        self.manager.audit(runs)
+    }
+
+    // Whether two pages have the same owner, and each endpoint has the same access to both.
+    #[tactic(auto, unfolding(ffa_model::specs::Alike::is_alike))]
+    fn is_alike(&self, page: PageNo, other: PageNo) -> bool
+        requires page { page.0 < length self.now.state.pages }
+        requires other { other.0 < length self.now.state.pages }
+        ensures { result ≡ is_alike self.now.state page.0 other.0 }
+    {
+        self.owner_of(page) == self.owner_of(other) && self.has_same_accesses(page, other)
+    }
+
+    fn has_same_accesses(&self, page: PageNo, other: PageNo) -> bool
+        ensures { result ≡ list_all (λ e. is_same_right (access self.now.state e page.0) (access self.now.state e other.0)) (identifiers self.now.state) }
+    {
+        for place in 0..self.endpoints() {
+            let endpoint = EndpointId::at(place);
+            if !is_same_right(self.access(endpoint, page), self.access(endpoint, other)) {
+                return false;
+            }
+        }
+        true
+    }
+
+    // The handle of the open transaction in which a page stands.
+    fn handle_at(&self, page: PageNo) -> Option<u64>
+        requires { page.0 < length self.now.state.pages }
+        ensures { result ≡ handle_at self.now.state page.0 }
+    {
+        self.manager.handle_at(page)
+    }
+
+    // Whether two pages are alike, and stand in one open transaction or in none.
+    #[tactic(auto, unfolding(ffa_model::specs::Certificate::are_as_one))]
+    fn are_as_one(&self, page: PageNo, other: PageNo) -> bool
+        requires page { page.0 < length self.now.state.pages }
+        requires other { other.0 < length self.now.state.pages }
+        ensures { result ≡ are_as_one self.now.state page.0 other.0 }
+    {
+        self.is_alike(page, other) && is_same_handle(self.handle_at(page), self.handle_at(other))
+    }
+
+    // The last page of the run that goes on from a page.
+    fn last_from(&self, from: PageNo) -> PageNo
+        requires { from.0 < length self.now.state.pages }
+        ensures { result.0 ≡ last_from self.now.state from.0 (length self.now.state.pages - (from.0 + 1)) }
+    {
+        let pages = self.ram().pages();
+        let mut last = from.0;
+        while last + 1 < pages && self.are_as_one(PageNo(last), PageNo(last + 1)) {
+            last += 1;
+        }
+        PageNo(last)
+    }
+
+    // The access of each endpoint to a page, by place.
+    fn accesses(&self, page: PageNo) -> [Option<Rights>; 8]
+        ensures { result ≡ listed 8 (access_by_place self.now.state page.0) }
+    {
+        let mut accesses = [None; 8];
+        for place in 0..self.endpoints() {
+            accesses[place] = self.access(EndpointId::at(place), page);
+        }
+        accesses
+    }
+}
+
+fn is_same_right(right: Option<Rights>, other: Option<Rights>) -> bool
+    ensures { result ≡ is_same_right right other }
+{
+    right == other
+}
+
+fn is_same_handle(handle: Option<u64>, other: Option<u64>) -> bool
+    ensures { result ≡ is_same_handle handle other }
+{
+    handle == other
+}

@@ -1,0 +1,247 @@
+//! The certificates of machines, and tables of which they are none.
+ghost use Rattle.std.specs.Prelude.{◌≡◌, ◌*◌, IfOk};
+ghost use Rattle.ffa_model.specs.Ram.{zero_ram};
+
+use ffa_manifest::read;
+use ffa_model::{CertRun, Data, EndpointId, Manifest, PageNo, Rights, row_machine};
+use ffa_physmem::{FlatRam, FrameRam, PhysMem};
+use ffa_spmc::Machine;
+use ffa_tlb::{InTurn, NoTlb, Tlb, Translations};
+use ffa_walker::{FaultKind, audit, is_in_ram, translate};
+use std::alloc::Global;
+use std::process::Abort;
+use std::test::Fail;
+
+const BASE: u32 = 0x4000_0000;
+
+// The pages of the first endpoint's tables.
+const ROOT: u32 = 0;
+
+const LEVEL2: u32 = 1;
+
+const LEVEL3: u32 = 2;
+
+fn booted(alloc: Global) -> Result<Machine<FlatRam>, Fail> {
+    let manifest = row_machine();
+    let ram = FlatRam::new(alloc, manifest.ram_base, 512)?;
+    Ok(Machine::boot(&manifest, ram))
+}
+
+// The runs of the machine's pages.
+fn certificate<M: PhysMem + Drop, T: Translations + Drop>(
+    alloc: Global,
+    machine: &Machine<M, T>,
+) -> Result<Vec<CertRun>, Fail> {
+    let mut runs = Vec::new(alloc);
+    let mut next = 0;
+    for page in 0..machine.ram().pages() {
+        if page == next {
+            let run = machine.cert_run(PageNo(page));
+            runs.push(run)?;
+            next = run.last.0.saturating_add(1);
+        }
+    }
+    Ok(runs)
+}
+
+// A manifest of RAM of this many blocks and of endpoints with 16 pages each, one behind the other.
+fn manifest_text(alloc: Global, blocks: u32, endpoints: u32) -> Result<String, Fail> {
+    let mut text = format!(in alloc; "ram_base = 0x40000000\nram_blocks = {blocks}\n")?;
+    for place in 0..endpoints {
+        text.push_str("[[endpoint]]\nversion = \"1.1\"\nproperties = 6\n")?;
+        if place > 0 {
+            text.push_str(&format!(in alloc;
+                "uuid = \"{place}0112233-4455-6677-8899-aabbccddeeff\"\n"
+            )?)?;
+        }
+        text.push_str(&format!(in alloc;
+            "regions = [{{ base = 0x401{}0000, pages = 16, rights = \"rw\" }}]\n",
+            2u32.saturating_add(place)
+        )?)?;
+    }
+    Ok(text)
+}
+
+// RAM of either kind for a manifest's machine.
+fn flat_ram(alloc: Global, manifest: &Manifest) -> Result<FlatRam, Fail>
+    ensures { IfOk result (λ ram. ⟦<FlatRam as PhysMem>⟧.ram ram ≡ zero_ram manifest.now.ram_base (512 * manifest.now.ram_blocks)) }
+{
+    Ok(FlatRam::new(alloc, manifest.ram_base, 512 * manifest.ram_blocks)?)
+}
+
+fn frame_ram(alloc: Global, manifest: &Manifest) -> Result<FrameRam, Fail>
+    ensures { IfOk result (λ ram. ⟦<FrameRam as PhysMem>⟧.ram ram ≡ zero_ram manifest.now.ram_base (512 * manifest.now.ram_blocks)) }
+{
+    Ok(FrameRam::new(alloc, manifest.ram_base, 512 * manifest.ram_blocks)?)
+}
+
+// The cache of `--tlb`.
+fn four_in_turn() -> Tlb<InTurn, 4> {
+    Tlb::new(InTurn::default())
+}
+
+// The machine of a manifest gives its own certificate, which has a run for each endpoint, one before and one behind; but
+// not with a right to the first, and not without the last.
+fn check<M: PhysMem + Drop, T: Translations + Drop>(
+    rt: &impl Abort,
+    alloc: Global,
+    manifest: &Manifest,
+    ram: M,
+    cache: T,
+) -> Result<(), Fail>
+    requires { M.ram ram ≡ zero_ram manifest.now.ram_base (512 * manifest.now.ram_blocks) }
+{
+    let machine = Machine::boot_with(manifest, ram, cache);
+    let mut runs = certificate(alloc, &machine)?;
+    assert_eq!(rt; runs.len(), 2 + manifest.endpoints.len());
+    for (right, passes) in [(Some(Rights::default()), false), (None, true)] {
+        if let Some(first) = runs.first_mut() {
+            first.access[0] = right;
+        }
+        assert_eq!(rt; machine.audit(runs.as_slice()), passes);
+    }
+    let _last = runs.pop();
+    assert!(rt; !machine.audit(runs.as_slice()));
+    Ok(())
+}
+
+// The same of machines of all kinds.
+fn check_kinds(rt: &impl Abort, alloc: Global, manifest: &Manifest) -> Result<(), Fail> {
+    check(rt, alloc, manifest, flat_ram(alloc, manifest)?, NoTlb)?;
+    check(
+        rt,
+        alloc,
+        manifest,
+        flat_ram(alloc, manifest)?,
+        four_in_turn(),
+    )?;
+    check(rt, alloc, manifest, frame_ram(alloc, manifest)?, NoTlb)?;
+    check(
+        rt,
+        alloc,
+        manifest,
+        frame_ram(alloc, manifest)?,
+        four_in_turn(),
+    )
+}
+
+#[test]
+fn machines_of_every_size_and_kind(rt: HostRuntime) -> Result<(), Fail> {
+    for (blocks, endpoints) in [(1, 1), (1, 8), (32, 1), (32, 8)] {
+        let text = manifest_text(rt.alloc(), blocks, endpoints)?;
+        check_kinds(&rt, rt.alloc(), &read(rt.alloc(), text.as_str())?)?;
+    }
+    Ok(())
+}
+
+// The machine's RAM once more.
+fn copied(alloc: Global, machine: &Machine<FlatRam>) -> Result<FlatRam, Fail> {
+    let mut copy = FlatRam::new(alloc, BASE, 512)?;
+    for page in 0..512 {
+        if page < copy.pages() && page < machine.ram().pages() {
+            *copy.page_mut(PageNo(page)) = *machine.ram().page(PageNo(page));
+        }
+    }
+    Ok(copy)
+}
+
+// Flips bits of the word at a place of a page.
+fn flip(memory: &mut FlatRam, page: u32, index: usize, bits: u64) {
+    if page < memory.pages() && index < 512 {
+        let word = memory.read_word(PageNo(page), index);
+        memory.write_word(PageNo(page), index, word ^ bits);
+    }
+}
+
+// Whether the tables of the first endpoint give what the runs say.
+fn gives(memory: &FlatRam, runs: &[CertRun]) -> bool {
+    is_in_ram(memory, u64::from(BASE)) && audit(memory, &[BASE], runs)
+}
+
+#[test]
+fn tables_that_give_more(rt: HostRuntime) -> Result<(), Fail> {
+    let machine = booted(rt.alloc())?;
+    let runs = certificate(rt.alloc(), &machine)?;
+    let mut memory = copied(rt.alloc(), &machine)?;
+    assert!(rt; gives(&memory, runs.as_slice()));
+    // The page at 40010000 may not be written any more.
+    flip(&mut memory, LEVEL3, 0x10, 1 << 7);
+    assert!(rt; !gives(&memory, runs.as_slice()));
+    flip(&mut memory, LEVEL3, 0x10, 1 << 7);
+    assert!(rt; gives(&memory, runs.as_slice()));
+    // A block of 1 GiB for the addresses from 0 on.
+    flip(&mut memory, ROOT, 0, 0x7FD);
+    assert!(rt; !gives(&memory, runs.as_slice()));
+    Ok(())
+}
+
+// Whether the walk of an address by the first endpoint's table gives this access and nothing else.
+fn walk_gives(memory: &FlatRam, address: u64, access: Option<Rights>) -> bool {
+    if !is_in_ram(memory, u64::from(BASE)) {
+        return false;
+    }
+    match (translate(memory, BASE, address), access) {
+        (Err(FaultKind::Translation), None) => true,
+        (Ok(leaf), Some(right)) => {
+            leaf.phys == address
+                && leaf.read
+                && leaf.write == (right.level == Data::Rw)
+                && leaf.exec == right.exec
+        }
+        _ => false,
+    }
+}
+
+// Whether the walk of each page of the RAM gives the access that the first endpoint has in the machine, and no walk at
+// 2 MiB steps outside the RAM gives any.
+fn walks_give(memory: &FlatRam, machine: &Machine<FlatRam>) -> bool {
+    for page in 0..512 {
+        let access = machine.access(EndpointId(0), PageNo(page));
+        if !walk_gives(memory, u64::from(BASE + 4096 * page), access) {
+            return false;
+        }
+    }
+    (0..2048u64).all(|block| block == 512 || walk_gives(memory, block << 21, None))
+}
+
+// How many of the 64 bits of a word can be flipped, one by one, with no walk changed. The certificate says it as the
+// walks do.
+fn idle_bits(
+    rt: &impl Abort,
+    memory: &mut FlatRam,
+    machine: &Machine<FlatRam>,
+    runs: &[CertRun],
+    page: u32,
+    index: usize,
+) -> u32 {
+    let mut idle = 0u32;
+    for bit in 0..64u32 {
+        flip(memory, page, index, 1 << bit);
+        let same = walks_give(memory, machine);
+        assert_eq!(rt; gives(memory, runs), same, "{page} {index} {bit}");
+        idle = idle.saturating_add(u32::from(same));
+        flip(memory, page, index, 1 << bit);
+    }
+    idle
+}
+
+// Bits of some words of each table page of the first endpoint: how many make no difference, since no walk asks for them.
+#[test]
+fn single_bits_of_tables(rt: HostRuntime) -> Result<(), Fail> {
+    let machine = booted(rt.alloc())?;
+    let runs = certificate(rt.alloc(), &machine)?;
+    let mut memory = copied(rt.alloc(), &machine)?;
+    for (page, words, step, idle) in [
+        (ROOT, 4, 1, 215),
+        (LEVEL2, 512, 73, 467),
+        (LEVEL3, 64, 5, 706),
+    ] {
+        let mut found = 0u32;
+        for index in (0..words).step_by(step) {
+            let bits = idle_bits(&rt, &mut memory, &machine, runs.as_slice(), page, index);
+            found = found.saturating_add(bits);
+        }
+        assert_eq!(rt; found, idle, "{page}");
+    }
+    Ok(())
+}

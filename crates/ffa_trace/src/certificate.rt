@@ -1,0 +1,187 @@
+//! The certificate of the machine, and whether its tables give it.
+ghost use Rattle.std.specs.Prelude.{◌≡◌, ◌+◌, ◌*◌, ◌<◌, ◌≤◌, [], ◌++◌, length, take, codes, IfOk};
+ghost use Rattle.std.specs.List.{flat_map, range_with_len};
+ghost use Rattle.arrayvec.specs.ArrayVec.{array_vec_len};
+ghost use Rattle.ffa_model.specs.Agreement.{root};
+ghost use Rattle.ffa_model.specs.Certificate.{certificate};
+ghost use Rattle.ffa_model.specs.TraceText.{audit_text, cert_run_text, cert_text, ended, handle_text, rights_text, root_text, spaced};
+ghost use Rattle.ffa_trace.specs.Output.{Writes, WritesIfRoom};
+
+use crate::output::{self, PlayError};
+use crate::text::{self, CAPACITY, Text};
+use ffa_model::{CertRun, EndpointId, PageNo};
+use ffa_physmem::PhysMem;
+use ffa_spmc::Machine;
+use ffa_tlb::Translations;
+use std::alloc::{AllocError, Allocator};
+use std::io::Write;
+
+/// Writes the machine's certificate with the addresses of its level 1 tables, and whether the tables give it. The runs are
+/// put together first: where there is no memory for them, nothing is written.
+pub fn write_audit<M: PhysMem + Drop, T: Translations + Drop, A: Allocator, W: Write>(
+    machine: &Machine<M, T>,
+    alloc: A,
+    writer: &mut W,
+) -> Result<(), PlayError>
+    ensures { WritesIfRoom (W.contents writer.old) (W.contents writer.new) (audit_text machine.now.state) result }
+{
+    match runs(machine, alloc) {
+        Ok(runs) => write_certificate(machine, runs.as_slice(), writer),
+        Err(_) => Err(PlayError::NoMemory),
+    }
+}
+
+// The runs of the machine's pages, one behind the other.
+fn runs<M: PhysMem + Drop, T: Translations + Drop, A: Allocator>(
+    machine: &Machine<M, T>,
+    alloc: A,
+) -> Result<Vec<CertRun, A>, AllocError>
+    ensures { IfOk result (λ runs. runs.items ≡ certificate machine.now.state) }
+{
+    let mut runs = Vec::new(alloc);
+    let pages = machine.ram().pages();
+    let mut from = 0;
+    while from < pages {
+        let run = machine.cert_run(PageNo(from));
+        runs.push(run)?;
+        from = run.last.0 + 1;
+    }
+    Ok(runs)
+}
+
+// Writes the machine's certificate, whose runs these are.
+fn write_certificate<M: PhysMem + Drop, T: Translations + Drop, W: Write>(
+    machine: &Machine<M, T>,
+    runs: &[CertRun],
+    writer: &mut W,
+) -> Result<(), PlayError>
+    requires { runs.now ≡ certificate machine.now.state }
+    ensures { Writes (W.contents writer.old) (W.contents writer.new) (audit_text machine.now.state) result }
+{
+    let mut text = Text::new();
+    push_cert(&mut text, machine);
+    push_roots(&mut text, machine);
+    output::write_text(writer, text.as_slice())?;
+    write_runs(machine, runs, writer)?;
+    output::write_text(writer, verdict(machine, runs))
+}
+
+// Writes runs of pages.
+fn write_runs<M: PhysMem + Drop, T: Translations + Drop, W: Write>(
+    machine: &Machine<M, T>,
+    runs: &[CertRun],
+    writer: &mut W,
+) -> Result<(), PlayError>
+    ensures { Writes (W.contents writer.old) (W.contents writer.new) (flat_map (cert_run_text machine.now.state) runs.now) result }
+{
+    let mut text = Text::new();
+    for run in runs {
+        text.clear();
+        push_run(&mut text, machine, run);
+        output::write_text(writer, text.as_slice())?;
+    }
+    Ok(())
+}
+
+// The last line of the machine's certificate.
+fn verdict<M: PhysMem + Drop, T: Translations + Drop>(
+    machine: &Machine<M, T>,
+    runs: &[CertRun],
+) -> &'static [u8]
+    requires { runs.now ≡ certificate machine.now.state }
+    ensures { result.now ≡ ended (codes "agrees") }
+{
+    if machine.audit(runs) {
+        b"agrees\n"
+    } else {
+        b"differs\n"
+    }
+}
+
+// Appends the first line to no text yet.
+#[tactic(auto, unfolding(ffa_model::specs::TraceText::cert_text))]
+fn push_cert<M: PhysMem + Drop, T: Translations + Drop>(text: &mut Text, machine: &Machine<M, T>)
+    requires { text.old.items ≡ [] }
+    ensures items { text.new.items ≡ cert_text machine.now.state }
+    ensures len { array_vec_len text.new ≡ 25 }
+{
+    let base = u64::from(machine.ram().base());
+    let last = u64::from(machine.ram().pages().saturating_sub(1));
+    text::push_word(text, b"cert");
+    text::push_hex(text, 8, base);
+    text::push_hex(text, 8, base + 4096 * last + 4095);
+    text::push_hex(text, 1, machine.endpoints() as u64);
+    text.push(b'\n');
+}
+
+// Appends the line of each endpoint's level 1 table.
+fn push_roots<M: PhysMem + Drop, T: Translations + Drop>(text: &mut Text, machine: &Machine<M, T>)
+    requires { array_vec_len text.old ≤ 64 }
+    ensures { text.new.items ≡ text.old.items ++ flat_map (root_text machine.now.state) (range_with_len 0 (length machine.now.state.parties)) }
+{
+    for place in 0..machine.endpoints() {
+        push_root(text, machine, place);
+    }
+}
+
+// Appends one of them.
+#[tactic(auto, unfolding(ffa_model::specs::TraceText::root_text))]
+fn push_root<M: PhysMem + Drop, T: Translations + Drop>(
+    text: &mut Text,
+    machine: &Machine<M, T>,
+    place: usize,
+)
+    requires room { array_vec_len text.old + 19 ≤ CAPACITY }
+    requires place { place < 8 }
+    ensures items { text.new.items ≡ text.old.items ++ root_text machine.now.state place }
+    ensures len { array_vec_len text.new ≡ array_vec_len text.old + 19 }
+{
+    text::push_word(text, b"root");
+    text::push_hex(text, 4, u64::from(EndpointId::at(place).0));
+    text::push_hex(text, 8, root_at(machine, place));
+    text.push(b'\n');
+}
+
+// The address of the level 1 table of the endpoint at a place: its table pages stand behind those of the endpoints before.
+fn root_at<M: PhysMem + Drop, T: Translations + Drop>(machine: &Machine<M, T>, place: usize) -> u64
+    requires { place < 8 }
+    ensures { result ≡ root machine.now.state place }
+{
+    let ram = machine.ram();
+    let blocks = u64::from(ram.pages() / 512);
+    u64::from(ram.base()) + 4096 * (place as u64 * (2 + blocks))
+}
+
+// Appends a run to no text yet.
+#[tactic(auto, unfolding(ffa_model::specs::TraceText::cert_run_text))]
+fn push_run<M: PhysMem + Drop, T: Translations + Drop>(
+    text: &mut Text,
+    machine: &Machine<M, T>,
+    run: &CertRun,
+)
+    requires { text.old.items ≡ [] }
+    ensures { text.new.items ≡ cert_run_text machine.now.state run.now }
+{
+    let base = u64::from(machine.ram().base());
+    text::push_word(text, b"pages");
+    text::push_hex(text, 8, base + 4096 * u64::from(run.first.0));
+    text::push_hex(text, 8, base + 4096 * u64::from(run.last.0) + 4095);
+    text::push_hex(text, 4, u64::from(run.owner.0));
+    push_handle(text, run.handle);
+    for right in &run.access[..machine.endpoints()] {
+        text::push_right(text, *right);
+    }
+    text.push(b'\n');
+}
+
+// Appends a space and the handle of an open transaction, if there is one.
+fn push_handle(text: &mut Text, handle: Option<u64>)
+    requires { array_vec_len text.old ≤ 64 }
+    ensures items { text.new.items ≡ text.old.items ++ spaced (handle_text handle) }
+    ensures len { array_vec_len text.new ≤ array_vec_len text.old + 17 }
+{
+    match handle {
+        Some(handle) => text::push_hex(text, 16, handle),
+        None => text::push_word(text, b" -"),
+    }
+}
