@@ -22,7 +22,6 @@ use Rattle.ffa_model.specs.Rights.{may_store}
 use Rattle.ffa_model.specs.Memory.{zeroed_if}
 use Rattle.ffa_model.specs.Buffers.{Candidate, buffers_in, candidate_at, candidates}
 use Rattle.ffa_model.specs.Calls.{first_failure}
-use Rattle.ffa_model.specs.Messages.{tx_bytes}
 use Rattle.ffa_model.specs.RunStates.{schedule_of}
 use Rattle.ffa_model.specs.SendDescriptor.{SendRecord, most_receivers, send_of}
 use Rattle.ffa_model.specs.Transactions.{Bases, Scene, Transfer, are_writable, base_of, bases_of, handle_of, next_handle, offers_of, open_count, pages_in, scene_of, sends_of}

@@ -1,5 +1,5 @@
 -- A send of memory keeps a state sound.
-use Rattle.std.proofs.Common.{◌≡◌, ℕ, ◌<◌, true, List, Option, Some, None, take, refl, sym, subst}
+use Rattle.std.proofs.Common.{◌≡◌, ◌<◌, true, Option, Some, None, refl, sym, subst}
 use Rattle.std.specs.Prelude.{nat_lt}
 use Rattle.std.specs.List.{list_all}
 use Rattle.std.specs.Ordering.{nat_cmp}

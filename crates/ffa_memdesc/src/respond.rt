@@ -7,7 +7,7 @@ ghost use Rattle.ffa_model.specs.SendDescriptor.{page_total};
 ghost use Rattle.ffa_model.specs.ResponseBytes.{le, flags_of, permissions_of, header_bytes, rest_bytes, access_bytes, composite_bytes, range_bytes, response_record, response_bytes, response_size};
 ghost use Rattle.ffa_memdesc.specs.Writing.{Wrote};
 
-use crate::header::{ENTRY_SIZE, NORMAL_MEMORY, told_access_size, header_size};
+use crate::header::{ENTRY_SIZE, NORMAL_MEMORY, header_size, told_access_size};
 use crate::ranges::page_total;
 use byteorder::{ByteOrder, LittleEndian};
 use ffa_model::{Data, Kind, Range, Response, Rights, Version};

@@ -4,5 +4,5 @@
 mod partitions;
 mod replies;
 
-pub use partitions::{count, info_bytes, told_info_size, is_recognized};
+pub use partitions::{count, info_bytes, is_recognized, told_info_size};
 pub use replies::{features, id, spm_id, version};

@@ -1,6 +1,7 @@
 //! The identifiers and values of the standard.
 use ffa_abi::{decode, encode, is_function};
 use ffa_model::{Call, ErrorCode, Reply};
+use std::test::Fail;
 
 // Registers with something in each upper half, of which the low half of x0 is the identifier.
 fn registers(function: u32) -> [u64; 8] {
@@ -16,186 +17,60 @@ fn registers(function: u32) -> [u64; 8] {
     ]
 }
 
-#[test]
-fn setup_and_run_states(rt: HostRuntime) {
-    for (function, call) in [
-        (0x8400_0063, Call::Version { version: 1 }),
-        (0x8400_0064, Call::Features { function: 1 }),
-        (0x8400_0065, Call::RxRelease),
-        (
-            0x8400_0066,
-            Call::RxtxMap {
-                tx: 1,
-                rx: 2,
-                pages: 3,
-            },
-        ),
-        (
-            0xC400_0066,
-            Call::RxtxMap {
-                tx: 0xA1_0000_0001,
-                rx: 0xA2_0000_0002,
-                pages: 3,
-            },
-        ),
-        (0x8400_0067, Call::RxtxUnmap { endpoint: 1 }),
-        (
-            0x8400_0068,
-            Call::PartitionInfoGet {
-                uuid: [1, 2, 3, 4],
-                flags: 5,
-            },
-        ),
-        (0x8400_0069, Call::IdGet),
-        (0x8400_006B, Call::MsgWait),
-        (0x8400_006C, Call::Yield),
-        (0x8400_006D, Call::Run { target: 1 }),
-        (0x8400_0085, Call::SpmIdGet),
-        (0x8400_0086, Call::MsgSend2),
-    ] {
-        assert_eq!(rt; decode(registers(function)), call, "at {function:x}");
-    }
-}
+// Identifiers, and the calls that registers with them are, as `{:?}` prints them: register n, where it is passed whole,
+// is 160 + n times 2^32, plus n.
+const SETUP: &str = "\
+84000063 Version { version: 1 }
+84000064 Features { function: 1 }
+84000065 RxRelease
+84000066 RxtxMap { tx: 1, rx: 2, pages: 3 }
+C4000066 RxtxMap { tx: 691489734657, rx: 695784701954, pages: 3 }
+84000067 RxtxUnmap { endpoint: 1 }
+84000068 PartitionInfoGet { uuid: [1, 2, 3, 4], flags: 5 }
+84000069 IdGet
+8400006B MsgWait
+8400006C Yield
+8400006D Run { target: 1 }
+84000085 SpmIdGet
+84000086 MsgSend2";
+
+const DIRECT: &str = "\
+8400006F DirectRequest { function: 2214592623, word: 1, flags: 2, payload: [3, 4, 5, 6, 7] }
+C400006F DirectRequest { function: 3288334447, word: 1, flags: 2, payload: [700079669251, 704374636548, 708669603845, 712964571142, 717259538439] }
+84000070 DirectResponse { function: 2214592624, word: 1, flags: 2, payload: [3, 4, 5, 6, 7] }
+C4000070 DirectResponse { function: 3288334448, word: 1, flags: 2, payload: [700079669251, 704374636548, 708669603845, 712964571142, 717259538439] }";
+
+const MEMORY: &str = "\
+84000071 MemDonate { total: 1, fragment: 2, address: 3, pages: 4 }
+84000072 MemLend { total: 1, fragment: 2, address: 3, pages: 4 }
+84000073 MemShare { total: 1, fragment: 2, address: 3, pages: 4 }
+84000074 MemRetrieve { total: 1, fragment: 2, address: 3, pages: 4 }
+C4000071 MemDonate { total: 1, fragment: 2, address: 700079669251, pages: 4 }
+C4000072 MemLend { total: 1, fragment: 2, address: 700079669251, pages: 4 }
+C4000073 MemShare { total: 1, fragment: 2, address: 700079669251, pages: 4 }
+C4000074 MemRetrieve { total: 1, fragment: 2, address: 700079669251, pages: 4 }
+84000076 MemRelinquish
+84000077 MemReclaim { low: 1, high: 2, flags: 3 }";
+
+const NOTIFICATIONS: &str = "\
+8400007D BitmapCreate { endpoint: 1, contexts: 2 }
+8400007E BitmapDestroy { endpoint: 1 }
+8400007F NotificationBind { word: 1, flags: 2, low: 3, high: 4 }
+84000080 NotificationUnbind { word: 1, flags: 2, low: 3, high: 4 }
+84000081 NotificationSet { word: 1, flags: 2, low: 3, high: 4 }
+84000082 NotificationGet { receiver: 1, flags: 2 }";
 
 #[test]
-fn direct_messages(rt: HostRuntime) {
-    let narrow = [3, 4, 5, 6, 7];
-    let wide = [
-        0xA3_0000_0003,
-        0xA4_0000_0004,
-        0xA5_0000_0005,
-        0xA6_0000_0006,
-        0xA7_0000_0007,
-    ];
-    for (function, payload) in [(0x8400_006F, narrow), (0xC400_006F, wide)] {
-        let call = Call::DirectRequest {
-            function,
-            word: 1,
-            flags: 2,
-            payload,
-        };
-        assert_eq!(rt; decode(registers(function)), call, "at {function:x}");
-    }
-    for (function, payload) in [(0x8400_0070, narrow), (0xC400_0070, wide)] {
-        let call = Call::DirectResponse {
-            function,
-            word: 1,
-            flags: 2,
-            payload,
-        };
-        assert_eq!(rt; decode(registers(function)), call, "at {function:x}");
-    }
-}
-
-#[test]
-fn memory(rt: HostRuntime) {
-    let (total, fragment, pages) = (1, 2, 4);
-    for (form, address) in [(0x8400_0000, 3), (0xC400_0000, 0xA3_0000_0003)] {
-        for (number, call) in [
-            (
-                0x71,
-                Call::MemDonate {
-                    total,
-                    fragment,
-                    address,
-                    pages,
-                },
-            ),
-            (
-                0x72,
-                Call::MemLend {
-                    total,
-                    fragment,
-                    address,
-                    pages,
-                },
-            ),
-            (
-                0x73,
-                Call::MemShare {
-                    total,
-                    fragment,
-                    address,
-                    pages,
-                },
-            ),
-            (
-                0x74,
-                Call::MemRetrieve {
-                    total,
-                    fragment,
-                    address,
-                    pages,
-                },
-            ),
-        ] {
-            assert_eq!(rt;
-                decode(registers(form | number)),
-                call,
-                "at {form:x} {number:x}"
-            );
+fn calls_by_their_identifiers(rt: HostRuntime) -> Result<(), Fail> {
+    for rows in [SETUP, DIRECT, MEMORY, NOTIFICATIONS] {
+        for row in rows.lines() {
+            let (function, wanted) = row.split_once(' ').ok_or("no call")?;
+            let call = decode(registers(u32::from_str_radix(function, 16)?));
+            let printed = format!(in rt.alloc(); "{call:?}")?;
+            assert_eq!(rt; printed.as_str(), wanted, "{row}");
         }
     }
-    assert_eq!(rt; decode(registers(0x8400_0076)), Call::MemRelinquish);
-    assert_eq!(rt;
-        decode(registers(0x8400_0077)),
-        Call::MemReclaim {
-            low: 1,
-            high: 2,
-            flags: 3
-        }
-    );
-}
-
-#[test]
-fn notifications(rt: HostRuntime) {
-    let (word, flags, low, high) = (1, 2, 3, 4);
-    for (function, call) in [
-        (
-            0x8400_007D,
-            Call::BitmapCreate {
-                endpoint: 1,
-                contexts: 2,
-            },
-        ),
-        (0x8400_007E, Call::BitmapDestroy { endpoint: 1 }),
-        (
-            0x8400_007F,
-            Call::NotificationBind {
-                word,
-                flags,
-                low,
-                high,
-            },
-        ),
-        (
-            0x8400_0080,
-            Call::NotificationUnbind {
-                word,
-                flags,
-                low,
-                high,
-            },
-        ),
-        (
-            0x8400_0081,
-            Call::NotificationSet {
-                word,
-                flags,
-                low,
-                high,
-            },
-        ),
-        (
-            0x8400_0082,
-            Call::NotificationGet {
-                receiver: 1,
-                flags: 2,
-            },
-        ),
-    ] {
-        assert_eq!(rt; decode(registers(function)), call, "at {function:x}");
-    }
+    Ok(())
 }
 
 // Numbers beside the calls, results, and 64-bit forms that their calls do not have.

@@ -31,6 +31,27 @@ fn cause_of(alloc: Global, old: &str, new: &str) -> Result<Option<ManifestError>
     Ok(read(alloc, text.as_str()).err())
 }
 
+// The name of the cause for which a text is refused, or that it is accepted.
+fn found_in(alloc: Global, text: &str) -> Result<String, AllocError> {
+    match read(alloc, text) {
+        Ok(_) => String::from_str(alloc, "accepted"),
+        Err(cause) => format!(in alloc; "{cause}"),
+    }
+}
+
+// Makes each change of ROW alone, and sees what is found. A change is what stands there, an arrow, what is to stand where
+// that stands first, another arrow and what is to be found, up to a bar.
+fn check_changes(rt: &impl Abort, alloc: Global, changes: &str) -> Result<(), Fail> {
+    for change in changes.split("|\n") {
+        let (old, rest) = change.split_once(" => ").ok_or("no change")?;
+        let (new, wanted) = rest.split_once(" => ").ok_or("no cause")?;
+        let text = ROW.replacen(alloc, old, new, 1)?;
+        let found = found_in(alloc, text.as_str())?;
+        assert_eq!(rt; found.as_str(), wanted, "at {change}");
+    }
+    Ok(())
+}
+
 fn assert_same_endpoint(rt: &impl Abort, read: &Endpoint, wanted: &Endpoint) {
     assert_eq!(rt; read.uuid, wanted.uuid);
     assert_eq!(rt; read.properties, wanted.properties);
@@ -65,104 +86,53 @@ fn whole_or_no_memory(rt: HostRuntime) {
 
 #[test]
 fn accepted_changes(rt: HostRuntime) -> Result<(), Fail> {
-    for (old, new) in [
-        (
-            "base = 0x40010000, pages = 16",
-            "base = 0x40009000, pages = 1",
-        ),
-        ("ram_blocks = 1", "ram_blocks = 2"),
-        ("10112233", "00112233"),
-        ("\"rw\"", "\"ro\""),
-        ("\"rw\"", "\"rox\""),
-    ] {
-        assert_eq!(rt; cause_of(rt.alloc(), old, new)?, None, "at {new}");
-    }
-    Ok(())
+    let changes = "\
+base = 0x40010000, pages = 16 => base = 0x40009000, pages = 1 => accepted|
+ram_blocks = 1 => ram_blocks = 2 => accepted|
+10112233 => 00112233 => accepted|
+\"rw\" => \"ro\" => accepted|
+\"rw\" => \"rox\" => accepted";
+    check_changes(&rt, rt.alloc(), changes)
 }
 
 #[test]
 fn refused_documents(rt: HostRuntime) -> Result<(), Fail> {
-    let uuid = "uuid = \"00112233-4455-6677-8899-aabbccddeeff\"";
-    let region = "{ base = 0x40010000, pages = 16, rights = \"rw\" }";
-    for (old, new, cause) in [
-        ("[[endpoint]]", "[[endpoint]", ManifestError::Toml),
-        (uuid, "", ManifestError::MissingKey),
-        (
-            "properties = 6",
-            "properties = 6\nname = 0",
-            ManifestError::UnknownKey,
-        ),
-        (
-            "properties = 6",
-            "properties = 6\nuuid = 0",
-            ManifestError::UnknownKey,
-        ),
-        (
-            "ram_blocks = 1",
-            "ram_blocks = \"1\"",
-            ManifestError::WrongKind,
-        ),
-        (region, "0", ManifestError::WrongKind),
-        ("\"rw\"", "\"wr\"", ManifestError::WrongKind),
-    ] {
-        assert_eq!(rt; cause_of(rt.alloc(), old, new)?, Some(cause), "at {new}");
-    }
-    Ok(())
+    let changes = "\
+[[endpoint]] => [[endpoint] => M2 Toml|
+uuid = \"00112233-4455-6677-8899-aabbccddeeff\" =>  => M4 MissingKey|
+properties = 6 => properties = 6
+name = 0 => M3 UnknownKey|
+properties = 6 => properties = 6
+uuid = 0 => M3 UnknownKey|
+ram_blocks = 1 => ram_blocks = \"1\" => M5 WrongKind|
+{ base = 0x40010000, pages = 16, rights = \"rw\" } => 0 => M5 WrongKind|
+\"rw\" => \"wr\" => M5 WrongKind";
+    check_changes(&rt, rt.alloc(), changes)
 }
 
 #[test]
 fn refused_machines(rt: HostRuntime) -> Result<(), Fail> {
-    let other_base = "ram_base = 0x41000000";
-    let nil = "uuid = \"00000000-0000-0000-0000-000000000000\"";
-    let uuid = "uuid = \"00112233-4455-6677-8899-aabbccddeeff\"";
-    for (old, new, cause) in [
-        ("ram_base = 0x40000000", other_base, ManifestError::RamBase),
-        ("0x40000000", "0xFC000001", ManifestError::RamBase),
-        (
-            "ram_blocks = 1",
-            "ram_blocks = 33",
-            ManifestError::RamBlocks,
-        ),
-        (uuid, nil, ManifestError::Uuid),
-        (uuid, "uuid = \"8001\"", ManifestError::Uuid),
-        ("properties = 6", "properties = 1", ManifestError::Property),
-        (
-            "properties = 15",
-            "properties = 16",
-            ManifestError::Property,
-        ),
-        (
-            "version = \"1.1\"",
-            "version = \"1.2\"",
-            ManifestError::Version,
-        ),
-    ] {
-        assert_eq!(rt; cause_of(rt.alloc(), old, new)?, Some(cause), "at {new}");
-    }
-    Ok(())
+    let changes = "\
+ram_base = 0x40000000 => ram_base = 0x41000000 => M6 RamBase|
+0x40000000 => 0xFC000001 => M6 RamBase|
+ram_blocks = 1 => ram_blocks = 33 => M7 RamBlocks|
+00112233-4455-6677-8899-aabbccddeeff => 00000000-0000-0000-0000-000000000000 => M9 Uuid|
+00112233-4455-6677-8899-aabbccddeeff => 8001 => M9 Uuid|
+properties = 6 => properties = 1 => M10 Property|
+properties = 15 => properties = 16 => M10 Property|
+version = \"1.1\" => version = \"1.2\" => M14 Version";
+    check_changes(&rt, rt.alloc(), changes)
 }
 
 #[test]
 fn refused_regions(rt: HostRuntime) -> Result<(), Fail> {
-    let region = "{ base = 0x40010000, pages = 16, rights = \"rw\" }";
-    for (old, new, cause) in [
-        (region, "", ManifestError::RegionCount),
-        (
-            "0x40010000, pages = 16",
-            "0x40008000, pages = 1",
-            ManifestError::RegionOutside,
-        ),
-        (
-            "pages = 16",
-            "pages = 9223372036854775807",
-            ManifestError::RegionOutside,
-        ),
-        ("0x40010000", "-4096", ManifestError::RegionOutside),
-        ("0x40030000", "0x40028000", ManifestError::RegionOverlap),
-    ] {
-        assert_eq!(rt; cause_of(rt.alloc(), old, new)?, Some(cause), "at {new}");
-    }
-    Ok(())
+    let changes = "\
+{ base = 0x40010000, pages = 16, rights = \"rw\" } =>  => M11 RegionCount|
+0x40010000, pages = 16 => 0x40008000, pages = 1 => M12 RegionOutside|
+pages = 16 => pages = 9223372036854775807 => M12 RegionOutside|
+0x40010000 => -4096 => M12 RegionOutside|
+0x40030000 => 0x40028000 => M13 RegionOverlap";
+    check_changes(&rt, rt.alloc(), changes)
 }
 
 // A key that isn't listed is found when its table is reached: at the top before the base, in an endpoint after it.
@@ -204,16 +174,21 @@ fn high_machine(alloc: Global, first: &str, partitions: u32) -> Result<String, A
     Ok(text)
 }
 
+// Where the normal world's page is, how many partitions there are, and the cause.
 #[test]
 fn the_highest_machine(rt: HostRuntime) -> Result<(), Fail> {
-    for (first, partitions, cause) in [
-        ("0xFC10F000", 7, Some(ManifestError::RegionOutside)),
-        ("0xFC110000", 7, None),
-        ("0xFFFFF000", 7, None),
-        ("0xFFFFF000", 8, Some(ManifestError::EndpointCount)),
-    ] {
+    let machines = "\
+0xFC10F000 7 M12 RegionOutside
+0xFC110000 7 accepted
+0xFFFFF000 7 accepted
+0xFFFFF000 8 M8 EndpointCount";
+    for machine in machines.lines() {
+        let (first, rest) = machine.split_once(' ').ok_or("no page")?;
+        let (partitions, wanted) = rest.split_once(' ').ok_or("no cause")?;
+        let partitions = u32::from_str_radix(partitions, 10)?;
         let text = high_machine(rt.alloc(), first, partitions)?;
-        assert_eq!(rt; read(rt.alloc(), text.as_str()).err(), cause, "at {first}");
+        let found = found_in(rt.alloc(), text.as_str())?;
+        assert_eq!(rt; found.as_str(), wanted, "at {machine}");
     }
     Ok(())
 }
@@ -228,27 +203,48 @@ fn no_endpoint(rt: HostRuntime) -> Result<(), Fail> {
     Ok(())
 }
 
+// Every cause, and its name.
+const CAUSES: [ManifestError; 14] = [
+    ManifestError::NoMemory,
+    ManifestError::Toml,
+    ManifestError::UnknownKey,
+    ManifestError::MissingKey,
+    ManifestError::WrongKind,
+    ManifestError::RamBase,
+    ManifestError::RamBlocks,
+    ManifestError::EndpointCount,
+    ManifestError::Uuid,
+    ManifestError::Property,
+    ManifestError::RegionCount,
+    ManifestError::RegionOutside,
+    ManifestError::RegionOverlap,
+    ManifestError::Version,
+];
+
+const NAMES: &str = "\
+M1 NoMemory
+M2 Toml
+M3 UnknownKey
+M4 MissingKey
+M5 WrongKind
+M6 RamBase
+M7 RamBlocks
+M8 EndpointCount
+M9 Uuid
+M10 Property
+M11 RegionCount
+M12 RegionOutside
+M13 RegionOverlap
+M14 Version
+";
+
 #[test]
 fn causes_by_name(rt: HostRuntime) -> Result<(), Fail> {
-    for (cause, name) in [
-        (ManifestError::NoMemory, "M1 NoMemory"),
-        (ManifestError::Toml, "M2 Toml"),
-        (ManifestError::UnknownKey, "M3 UnknownKey"),
-        (ManifestError::MissingKey, "M4 MissingKey"),
-        (ManifestError::WrongKind, "M5 WrongKind"),
-        (ManifestError::RamBase, "M6 RamBase"),
-        (ManifestError::RamBlocks, "M7 RamBlocks"),
-        (ManifestError::EndpointCount, "M8 EndpointCount"),
-        (ManifestError::Uuid, "M9 Uuid"),
-        (ManifestError::Property, "M10 Property"),
-        (ManifestError::RegionCount, "M11 RegionCount"),
-        (ManifestError::RegionOutside, "M12 RegionOutside"),
-        (ManifestError::RegionOverlap, "M13 RegionOverlap"),
-        (ManifestError::Version, "M14 Version"),
-    ] {
-        let text = format!(in rt.alloc(); "{cause}")?;
-        assert_eq!(rt; text.as_str(), name);
+    let mut names = String::new(rt.alloc());
+    for cause in CAUSES {
+        writeln!(names, "{cause}")?;
     }
+    assert_eq!(rt; names.as_str(), NAMES);
     Ok(())
 }
 

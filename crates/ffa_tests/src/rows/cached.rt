@@ -26,10 +26,7 @@ const LOAD: &str = "load 40021000 1 -> data 00\n";
 fn page_read(step: &str) -> Option<PageNo> {
     let (line, _data) = step.split_once(" -> data ")?;
     let (address, _size) = line.strip_prefix("load ")?.split_once(' ')?;
-    let mut number: u32 = 0;
-    for digit in address.chars() {
-        number = number.checked_mul(16)?.checked_add(digit.to_digit(16)?)?;
-    }
+    let number = u32::from_str_radix(address, 16).ok()?;
     Some(PageNo(number.checked_sub(0x4000_0000)? / 4096))
 }
 

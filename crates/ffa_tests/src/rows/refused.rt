@@ -66,11 +66,12 @@ impl Read for InPieces<'_> {
 // The lines of a row behind those that print this many bytes.
 fn lines_behind(alloc: Global, row: &Row, printed: usize) -> Result<&[u8], Fail> {
     let mut player = machine(flat_ram(alloc)?, NoTlb);
-    let mut written = Vec::new(alloc);
+    let mut written = 0;
     let mut done = 0;
     for line in row.trace.split_inclusive('\n') {
-        if written.len() < printed {
-            player.play(alloc, &mut line.as_bytes(), &mut written)?;
+        if written < printed {
+            let text = played(alloc, &mut player, line)?;
+            written = usize::saturating_add(written, text.len());
             done = usize::saturating_add(done, line.len());
         }
     }

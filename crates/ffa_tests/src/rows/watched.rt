@@ -221,10 +221,10 @@ fn push_walks(walks: &mut Vec<Walk>, manifest: &Manifest, root: u32) -> Result<(
 }
 
 // Plays steps, which print what is wanted.
-fn goes_on(
+fn goes_on<M: PhysMem + Drop, T: Translations + Drop>(
     rt: &impl Abort,
     alloc: Global,
-    player: &mut Player<Watched, NoTlb>,
+    player: &mut Player<M, T>,
     steps: &str,
 ) -> Result<(), Fail> {
     let mut row = Row::new(alloc);
@@ -321,39 +321,46 @@ store 4003E008 0000000100000001 -> done
 store 4003E010 8002 -> done
 ";
 
-const RETRIEVED: &str = "call 84000074 40 40 -> 8002: 84000075 60 60";
+const RETRIEVED: &str = "response: call 84000074 40 40 -> 8002: 84000075 60 60";
 
-const RECLAIM: &str = "call 84000077 1 8001 1 -> 8001: 84000061";
+const RECLAIM: &str = "zeros: call 84000077 1 8001 1 -> 8001: 84000061";
+
+// Plays steps one by one on a machine whose first partition runs. What a step does that is a call with zeros or with a
+// response is counted.
+fn counts(rt: &impl Abort, alloc: Global, sending: &Sending, parts: &[&str]) -> Result<(), Fail> {
+    let mut player = watched_machine(rt, alloc)?;
+    for part in parts {
+        for step in part.lines() {
+            if let Some(call) = step.strip_prefix("zeros: ") {
+                let writes = writes_of(rt, alloc, &mut player, call)?;
+                assert_eq!(rt; writes, sending.with_zeros(), "{step}");
+            } else if let Some(call) = step.strip_prefix("response: ") {
+                let writes = writes_of(rt, alloc, &mut player, call)?;
+                assert_eq!(rt; writes, sending.with_response(), "{step}");
+            } else {
+                goes_on(rt, alloc, &mut player, step)?;
+            }
+        }
+    }
+    Ok(())
+}
 
 // A lend and its way back, with zeros at each step that may have them.
 fn lends(rt: &impl Abort, alloc: Global, sending: &Sending) -> Result<(), Fail> {
-    let mut player = watched_machine(rt, alloc)?;
-    for steps in [ZEROED, LENT, sending.steps] {
-        goes_on(rt, alloc, &mut player, steps)?;
-    }
-    let lend = "call 84000072 60 60 -> 8001: 84000061 0 1 8001";
-    assert_eq!(rt;
-        writes_of(rt, alloc, &mut player, lend)?,
-        sending.with_zeros()
-    );
-    goes_on(rt, alloc, &mut player, TO_SECOND)?;
-    goes_on(rt, alloc, &mut player, RETRIEVE)?;
-    assert_eq!(rt;
-        writes_of(rt, alloc, &mut player, RETRIEVED)?,
-        sending.with_response()
-    );
-    goes_on(rt, alloc, &mut player, GIVEN_UP)?;
-    let relinquish = "call 84000076 -> 8002: 84000061";
-    assert_eq!(rt;
-        writes_of(rt, alloc, &mut player, relinquish)?,
-        sending.with_zeros()
-    );
-    goes_on(rt, alloc, &mut player, TO_FIRST)?;
-    assert_eq!(rt;
-        writes_of(rt, alloc, &mut player, RECLAIM)?,
-        sending.with_zeros()
-    );
-    Ok(())
+    let parts = [
+        ZEROED,
+        LENT,
+        sending.steps,
+        "zeros: call 84000072 60 60 -> 8001: 84000061 0 1 8001",
+        TO_SECOND,
+        RETRIEVE,
+        RETRIEVED,
+        GIVEN_UP,
+        "zeros: call 84000076 -> 8002: 84000061",
+        TO_FIRST,
+        RECLAIM,
+    ];
+    counts(rt, alloc, sending, &parts)
 }
 
 #[test]
@@ -364,37 +371,19 @@ fn each_write_of_a_lend(rt: HostRuntime) -> Result<(), Fail> {
 
 // A donate that is reclaimed, with zeros at each step, and another that is retrieved.
 fn donates(rt: &impl Abort, alloc: Global, sending: &Sending) -> Result<(), Fail> {
-    let mut player = watched_machine(rt, alloc)?;
-    for steps in [ZEROED, DONATED, sending.steps] {
-        goes_on(rt, alloc, &mut player, steps)?;
-    }
-    let first = "call 84000071 60 60 -> 8001: 84000061 0 1 8001";
-    assert_eq!(rt;
-        writes_of(rt, alloc, &mut player, first)?,
-        sending.with_zeros()
-    );
-    assert_eq!(rt;
-        writes_of(rt, alloc, &mut player, RECLAIM)?,
-        sending.with_zeros()
-    );
-    let second = "call 84000071 60 60 -> 8001: 84000061 0 2 8001";
-    assert_eq!(rt;
-        writes_of(rt, alloc, &mut player, second)?,
-        sending.with_zeros()
-    );
-    goes_on(rt, alloc, &mut player, TO_SECOND)?;
-    goes_on(rt, alloc, &mut player, RETRIEVE)?;
-    goes_on(
-        rt,
-        alloc,
-        &mut player,
+    let parts = [
+        ZEROED,
+        DONATED,
+        sending.steps,
+        "zeros: call 84000071 60 60 -> 8001: 84000061 0 1 8001",
+        RECLAIM,
+        "zeros: call 84000071 60 60 -> 8001: 84000061 0 2 8001",
+        TO_SECOND,
+        RETRIEVE,
         "store 4003E008 0000800100000002 -> done",
-    )?;
-    assert_eq!(rt;
-        writes_of(rt, alloc, &mut player, RETRIEVED)?,
-        sending.with_response()
-    );
-    Ok(())
+        RETRIEVED,
+    ];
+    counts(rt, alloc, sending, &parts)
 }
 
 #[test]

@@ -1,8 +1,8 @@
 //! The commands on worked manifests and traces.
 
 use super::*;
-use std::alloc::AllocError;
 use std::io;
+use std::process::Abort;
 use std::test::Fail;
 
 // A block of 2 MiB of which a page is lent.
@@ -77,7 +77,7 @@ const FIRST_TEXT: &str =
     "regs 0000 0000000084000061 0000000000000000 0000000000000000 0000000000000000 0000000000000000 0000000000000000 0000000000000000 0000000000000000\ndone\ndata 2A\nfault translation\nrunner 0000\npages 40000000 4000FFFF 8000 --- ---\npages 40010000 4001FFFF 0000 rw- ---\npages 40020000 4002FFFF 8001 --- rwx\npages 40030000 401FFFFF 8000 --- ---\n";
 
 // How a command ended, with what it wrote.
-#[derive(Debug, PartialEq, Drop)]
+#[derive(Drop)]
 struct Ended {
     status: u8,
     out: Vec<u8>,
@@ -118,155 +118,166 @@ fn on_kind<'a>(request: &Request<'a>, (frames, tlb): (bool, bool)) -> Request<'a
     }
 }
 
-// How a command ends on a machine of each kind.
-fn performed(
+// How a command is to end, with what it is to write.
+#[derive(Clone, Copy)]
+struct Wanted<'a> {
+    status: u8,
+    out: &'a str,
+    err: &'a str,
+}
+
+// A command that is done, and prints this.
+fn done(out: &str) -> Wanted<'_> {
+    Wanted {
+        status: 0,
+        out,
+        err: "",
+    }
+}
+
+// A command that prints nothing, and ends with this status and message.
+fn failed(status: u8, err: &str) -> Wanted<'_> {
+    Wanted {
+        status,
+        out: "",
+        err,
+    }
+}
+
+// Performs a command on a machine of each kind, and sees how it ends.
+fn ends(
+    rt: &impl Abort,
     alloc: Global,
     request: &Request<'_>,
     manifest: Option<&[u8]>,
     trace: Option<&str>,
-) -> [Ended; 4] {
-    KINDS.map(|kind| performed_once(alloc, &on_kind(request, kind), manifest, trace))
-}
-
-// The same end on a machine of each kind.
-fn wanted(alloc: Global, status: u8, out: &str, err: &str) -> Result<[Ended; 4], AllocError> {
-    KINDS.try_map(|_kind| {
-        Ok(Ended {
-            status,
-            out: Vec::from_slice(alloc, out.as_bytes())?,
-            err: Vec::from_slice(alloc, err.as_bytes())?,
-        })
-    })
-}
-
-#[test]
-fn demonstrates(rt: HostRuntime) -> Result<(), Fail> {
-    let got = performed(rt.alloc(), &DEMO, None, Some(FIRST));
-    assert_eq!(rt; got, wanted(rt.alloc(), 0, FIRST_TEXT, "")?);
-    Ok(())
-}
-
-#[test]
-fn ends_traces_with_their_status(rt: HostRuntime) -> Result<(), Fail> {
-    for (trace, status, out, err) in [
-        (Some(""), 0, "", ""),
-        (
-            Some("load 40010000 1\nload 40010000 1\nload 4001\n"),
-            2,
-            "data 00\ndata 00\n",
-            "ffaplay: line 3: bad line\n",
-        ),
-        (
-            Some("load 40010000 1"),
-            2,
-            "",
-            "ffaplay: line 1: bad line\n",
-        ),
-        (None, 3, "", "ffaplay: cannot read row.trace\n"),
-    ] {
-        let got = performed(rt.alloc(), &RUN, Some(ROW.as_bytes()), trace);
-        assert_eq!(rt; got, wanted(rt.alloc(), status, out, err)?);
+    wanted: Wanted<'_>,
+) {
+    for kind in KINDS {
+        let got = performed_once(alloc, &on_kind(request, kind), manifest, trace);
+        assert_eq!(rt; got.status, wanted.status);
+        assert_eq!(rt; got.out.as_slice(), wanted.out.as_bytes());
+        assert_eq!(rt; got.err.as_slice(), wanted.err.as_bytes());
     }
-    let got = performed(rt.alloc(), &DEMO, None, None);
-    assert_eq!(rt;
-        got,
-        wanted(rt.alloc(), 3, "", "ffaplay: cannot read no.trace\n")?
-    );
-    Ok(())
 }
 
 #[test]
-fn loads_the_highest_word(rt: HostRuntime) -> Result<(), Fail> {
+fn demonstrates(rt: HostRuntime) {
+    ends(&rt, rt.alloc(), &DEMO, None, Some(FIRST), done(FIRST_TEXT));
+}
+
+#[test]
+fn ends_traces_with_their_status(rt: HostRuntime) {
+    let (alloc, row) = (rt.alloc(), Some(ROW.as_bytes()));
+    ends(&rt, alloc, &RUN, row, Some(""), done(""));
+    let bad = Some("load 40010000 1\nload 40010000 1\nload 4001\n");
+    let third = Wanted {
+        status: 2,
+        out: "data 00\ndata 00\n",
+        err: "ffaplay: line 3: bad line\n",
+    };
+    ends(&rt, alloc, &RUN, row, bad, third);
+    let first = failed(2, "ffaplay: line 1: bad line\n");
+    ends(&rt, alloc, &RUN, row, Some("load 40010000 1"), first);
+}
+
+#[test]
+fn tells_that_a_trace_cannot_be_read(rt: HostRuntime) {
+    let unread = failed(3, "ffaplay: cannot read row.trace\n");
+    ends(&rt, rt.alloc(), &RUN, Some(ROW.as_bytes()), None, unread);
+    let unread = failed(3, "ffaplay: cannot read no.trace\n");
+    ends(&rt, rt.alloc(), &DEMO, None, None, unread);
+}
+
+#[test]
+fn loads_the_highest_word(rt: HostRuntime) {
     let trace = "store FFFFFFF8 0123456789ABCDEF\nload FFFFFFF8 8\n";
-    let got = performed(rt.alloc(), &RUN, Some(HIGHEST.as_bytes()), Some(trace));
-    assert_eq!(rt;
-        got,
-        wanted(rt.alloc(), 0, "done\ndata 0123456789ABCDEF\n", "")?
-    );
-    Ok(())
+    let text = "done\ndata 0123456789ABCDEF\n";
+    let manifest = Some(HIGHEST.as_bytes());
+    ends(&rt, rt.alloc(), &RUN, manifest, Some(trace), done(text));
 }
 
 #[test]
-fn loads_and_stores_in_a_block(rt: HostRuntime) -> Result<(), Fail> {
+fn loads_and_stores_in_a_block(rt: HostRuntime) {
     let trace =
         "store FFC01008 0123456789ABCDEF\nload FFC01008 8\nload FFDFFFF8 8\nfetch FFC01008\nload FFE00000 1\n";
-    let got = performed(rt.alloc(), &RUN, Some(HIGHEST.as_bytes()), Some(trace));
     let text =
         "done\ndata 0123456789ABCDEF\ndata 0000000000000000\nfault permission\nfault translation\n";
-    assert_eq!(rt; got, wanted(rt.alloc(), 0, text, "")?);
-    Ok(())
+    let manifest = Some(HIGHEST.as_bytes());
+    ends(&rt, rt.alloc(), &RUN, manifest, Some(trace), done(text));
 }
 
 // Faults are found in order: the manifest's file, the manifest, the trace's file.
 #[test]
 fn finds_the_first_fault(rt: HostRuntime) -> Result<(), Fail> {
-    let overlapping = ROW.replacen(rt.alloc(), "0x40030000", "0x40028000", 1)?;
-    for (manifest, status, err) in [
-        (None, 3, "ffaplay: cannot read row.toml\n"),
-        (
-            Some(overlapping.as_bytes()),
-            1,
-            "ffaplay: manifest: M13 RegionOverlap\n",
-        ),
-        (Some(b"\xff".as_slice()), 1, "ffaplay: manifest: M2 Toml\n"),
-        (Some(ROW.as_bytes()), 3, "ffaplay: cannot read row.trace\n"),
-    ] {
-        let got = performed(rt.alloc(), &RUN, manifest, None);
-        assert_eq!(rt; got, wanted(rt.alloc(), status, "", err)?);
-    }
+    let alloc = rt.alloc();
+    let unread = failed(3, "ffaplay: cannot read row.toml\n");
+    ends(&rt, alloc, &RUN, None, None, unread);
+    let overlapping = ROW.replacen(alloc, "0x40030000", "0x40028000", 1)?;
+    let refused = failed(1, "ffaplay: manifest: M13 RegionOverlap\n");
+    ends(
+        &rt,
+        alloc,
+        &RUN,
+        Some(overlapping.as_bytes()),
+        None,
+        refused,
+    );
+    let refused = failed(1, "ffaplay: manifest: M2 Toml\n");
+    ends(&rt, alloc, &RUN, Some(b"\xff"), None, refused);
     Ok(())
 }
 
+// Changes of ROW: what stands first, an arrow, what is to stand there, another arrow, and the cause for which the manifest
+// is then refused, or that it is accepted.
+const CHANGES: &str = "\
+ram_blocks = 1 => ram_blocks = 1 => accepted
+ram_blocks = 1 => ram_blocks = 2 => accepted
+0x40010000, pages = 16 => 0x40009000, pages = 1 => accepted
+0x40010000, pages = 16 => 0x40008000, pages = 1 => M12 RegionOutside
+0x40000000 => 0x41000000 => M6 RamBase";
+
 #[test]
 fn checks_manifests(rt: HostRuntime) -> Result<(), Fail> {
-    for (old, new, status, out, err) in [
-        ("", "", 0, "accepted\n", ""),
-        ("ram_blocks = 1", "ram_blocks = 2", 0, "accepted\n", ""),
-        (
-            "0x40010000, pages = 16",
-            "0x40009000, pages = 1",
-            0,
-            "accepted\n",
-            "",
-        ),
-        (
-            "0x40010000, pages = 16",
-            "0x40008000, pages = 1",
-            1,
-            "",
-            "ffaplay: manifest: M12 RegionOutside\n",
-        ),
-        (
-            "0x40000000",
-            "0x41000000",
-            1,
-            "",
-            "ffaplay: manifest: M6 RamBase\n",
-        ),
-    ] {
-        let manifest = ROW.replacen(rt.alloc(), old, new, 1)?;
-        let got = performed(rt.alloc(), &CHECK, Some(manifest.as_bytes()), None);
-        assert_eq!(rt; got, wanted(rt.alloc(), status, out, err)?, "{new}");
+    let alloc = rt.alloc();
+    for change in CHANGES.lines() {
+        let (old, rest) = change.split_once(" => ").ok_or("no change")?;
+        let (new, cause) = rest.split_once(" => ").ok_or("no cause")?;
+        let manifest = ROW.replacen(alloc, old, new, 1)?;
+        let told = format!(in alloc; "ffaplay: manifest: {cause}\n")?;
+        let wanted = if cause == "accepted" {
+            done("accepted\n")
+        } else {
+            failed(1, told.as_str())
+        };
+        ends(&rt, alloc, &CHECK, Some(manifest.as_bytes()), None, wanted);
     }
     Ok(())
 }
 
 #[test]
 fn prints_layouts(rt: HostRuntime) -> Result<(), Fail> {
-    for (blocks, out) in [
-        (
-            "ram_blocks = 1",
-            "0000 40000000 40001000 40002000\n8001 40003000 40004000 40005000\n8002 40006000 40007000 40008000\n",
-        ),
-        (
-            "ram_blocks = 2",
-            "0000 40000000 40001000 40002000\n8001 40004000 40005000 40006000\n8002 40008000 40009000 4000A000\n",
-        ),
-    ] {
-        let manifest = ROW.replacen(rt.alloc(), "ram_blocks = 1", blocks, 1)?;
-        let got = performed(rt.alloc(), &LAYOUT, Some(manifest.as_bytes()), None);
-        assert_eq!(rt; got, wanted(rt.alloc(), 0, out, "")?);
-    }
+    let one =
+        "0000 40000000 40001000 40002000\n8001 40003000 40004000 40005000\n8002 40006000 40007000 40008000\n";
+    ends(
+        &rt,
+        rt.alloc(),
+        &LAYOUT,
+        Some(ROW.as_bytes()),
+        None,
+        done(one),
+    );
+    let two =
+        "0000 40000000 40001000 40002000\n8001 40004000 40005000 40006000\n8002 40008000 40009000 4000A000\n";
+    let manifest = ROW.replacen(rt.alloc(), "ram_blocks = 1", "ram_blocks = 2", 1)?;
+    ends(
+        &rt,
+        rt.alloc(),
+        &LAYOUT,
+        Some(manifest.as_bytes()),
+        None,
+        done(two),
+    );
     Ok(())
 }
 
@@ -308,96 +319,151 @@ impl Write for Stuck {
     }
 }
 
+const CANNOT_WRITE: &str = "ffaplay: cannot write\n";
+
+// Performs a command that writes its text into `out`, and sees with which status it ends and what it tells.
+fn tells(
+    rt: &impl Abort,
+    alloc: Global,
+    request: &Request<'_>,
+    manifest: &[u8],
+    trace: Option<&str>,
+    mut out: Stuck,
+    (status, told): (u8, &str),
+) {
+    let mut err = Vec::new(alloc);
+    let trace = trace.map(|text| text.as_bytes());
+    let ended = perform(alloc, request, Some(manifest), trace, &mut out, &mut err);
+    assert_eq!(rt; ended, status);
+    assert_eq!(rt; err.as_slice(), told.as_bytes());
+}
+
 #[test]
-fn tells_what_cannot_be_written(rt: HostRuntime) -> Result<(), Fail> {
+fn tells_what_cannot_be_written(rt: HostRuntime) {
     for request in [RUN, CHECK, LAYOUT] {
         for room in [0, 3, 1000] {
-            let trace = Some(b"show\n".as_slice());
-            let mut err = Vec::new(rt.alloc());
-            let mut out = Stuck::new(room);
-            let manifest = Some(ROW.as_bytes());
-            let status = perform(rt.alloc(), &request, manifest, trace, &mut out, &mut err);
-            assert_eq!(rt; status, 3);
-            assert_eq!(rt; err.as_slice(), b"ffaplay: cannot write\n".as_slice());
+            let out = Stuck::new(room);
+            let trace = Some("show\n");
+            tells(
+                &rt,
+                rt.alloc(),
+                &request,
+                ROW.as_bytes(),
+                trace,
+                out,
+                (3, CANNOT_WRITE),
+            );
         }
     }
-    Ok(())
 }
 
 // A writer fails behind each byte of the text, but the last.
 #[test]
-fn tells_that_a_write_failed(rt: HostRuntime) -> Result<(), Fail> {
+fn tells_that_a_write_failed(rt: HostRuntime) {
     for (request, bytes) in [(DEMO, 151_usize), (CHECK, 9), (LAYOUT, 96)] {
         for room in 0..=bytes {
-            let trace = Some(b"call 84000069\nstore 40010000 2A\n".as_slice());
-            let mut err = Vec::new(rt.alloc());
-            let mut out = Stuck {
+            let trace = Some("call 84000069\nstore 40010000 2A\n");
+            let out = Stuck {
                 room,
                 fails: true,
                 flushes: true,
             };
-            let manifest = Some(ROW.as_bytes());
-            let status = perform(rt.alloc(), &request, manifest, trace, &mut out, &mut err);
-            let (want, told) = if room < bytes {
-                (3, b"ffaplay: cannot write\n".as_slice())
+            let wanted = if room < bytes {
+                (3, CANNOT_WRITE)
             } else {
-                (0, [].as_slice())
+                (0, "")
             };
-            assert_eq!(rt; status, want, "{room}");
-            assert_eq!(rt; err.as_slice(), told, "{room}");
+            tells(
+                &rt,
+                rt.alloc(),
+                &request,
+                ROW.as_bytes(),
+                trace,
+                out,
+                wanted,
+            );
         }
     }
-    Ok(())
 }
 
 // What is written stands in a buffer first, so that only the flush fails. The text before a bad line is lost, and the line
-// isn't told. Where a manifest is refused or a trace can't be read, nothing was printed.
+// isn't told.
 #[test]
-fn tells_that_the_flush_failed(rt: HostRuntime) -> Result<(), Fail> {
-    let good = Some(b"load 40010000 1\n".as_slice());
-    let good_and_bad = Some(b"load 40010000 1\nload 4001\n".as_slice());
-    let lost = b"ffaplay: cannot write\n".as_slice();
-    let unread = b"ffaplay: cannot read row.trace\n".as_slice();
-    let refused = b"ffaplay: manifest: M2 Toml\n".as_slice();
-    for (request, manifest, trace, want, told) in [
-        (RUN, ROW.as_bytes(), good, 3, lost),
-        (RUN, ROW.as_bytes(), good_and_bad, 3, lost),
-        (RUN, ROW.as_bytes(), None, 3, unread),
-        (RUN, b"\xff", good, 1, refused),
-        (CHECK, b"\xff", None, 1, refused),
-    ] {
-        let mut err = Vec::new(rt.alloc());
-        let mut out = Stuck::new(1000);
-        let manifest = Some(manifest);
-        let status = perform(rt.alloc(), &request, manifest, trace, &mut out, &mut err);
-        assert_eq!(rt; status, want);
-        assert_eq!(rt; err.as_slice(), told);
+fn tells_that_the_flush_failed(rt: HostRuntime) {
+    for trace in ["load 40010000 1\n", "load 40010000 1\nload 4001\n"] {
+        let (trace, out) = (Some(trace), Stuck::new(1000));
+        tells(
+            &rt,
+            rt.alloc(),
+            &RUN,
+            ROW.as_bytes(),
+            trace,
+            out,
+            (3, CANNOT_WRITE),
+        );
     }
-    Ok(())
+}
+
+// Where a manifest is refused or a trace can't be read, nothing was printed.
+#[test]
+fn tells_an_earlier_fault_than_the_flush(rt: HostRuntime) {
+    let unread = (3, "ffaplay: cannot read row.trace\n");
+    tells(
+        &rt,
+        rt.alloc(),
+        &RUN,
+        ROW.as_bytes(),
+        None,
+        Stuck::new(1000),
+        unread,
+    );
+    let refused = (1, "ffaplay: manifest: M2 Toml\n");
+    let good = Some("load 40010000 1\n");
+    tells(
+        &rt,
+        rt.alloc(),
+        &RUN,
+        b"\xff",
+        good,
+        Stuck::new(1000),
+        refused,
+    );
+    tells(
+        &rt,
+        rt.alloc(),
+        &CHECK,
+        b"\xff",
+        None,
+        Stuck::new(1000),
+        refused,
+    );
+}
+
+// Shows a help, and sees with which status that ends and what it tells.
+fn shows<W: Write>(rt: &impl Abort, alloc: Global, out: &mut W, (status, told): (u8, &str)) {
+    let mut err = Vec::new(alloc);
+    assert_eq!(rt; show(&"Usage: ffaplay", out, &mut err), status);
+    assert_eq!(rt; err.as_slice(), told.as_bytes());
 }
 
 #[test]
-fn shows_help(rt: HostRuntime) -> Result<(), Fail> {
+fn shows_help(rt: HostRuntime) {
     let mut out = Vec::new(rt.alloc());
-    let mut err = Vec::new(rt.alloc());
-    assert_eq!(rt; show(&"Usage: ffaplay", &mut out, &mut err), 0);
+    shows(&rt, rt.alloc(), &mut out, (0, ""));
     assert_eq!(rt; out.as_slice(), b"Usage: ffaplay".as_slice());
-    assert_eq!(rt; err.as_slice(), b"".as_slice());
     for room in [0, 3, 1000] {
-        let mut err = Vec::new(rt.alloc());
-        let status = show(&"Usage: ffaplay", &mut Stuck::new(room), &mut err);
-        assert_eq!(rt; status, 3);
-        assert_eq!(rt; err.as_slice(), b"ffaplay: cannot write\n".as_slice());
+        shows(&rt, rt.alloc(), &mut Stuck::new(room), (3, CANNOT_WRITE));
     }
-    Ok(())
 }
 
 // For the tool's option that makes the Nth allocation fail (`rt try --test --fail-alloc N`). The script
 // tests/refused-memory refuses the built program each of them.
 #[test]
-fn whole_or_no_memory(rt: HostRuntime) -> Result<(), Fail> {
+fn whole_or_no_memory(rt: HostRuntime) {
     let trace = Some("load 40010000 1\n");
-    for got in performed(rt.alloc(), &RUN, Some(ROW.as_bytes()), trace) {
+    for kind in KINDS {
+        let request = on_kind(&RUN, kind);
+        let got = performed_once(rt.alloc(), &request, Some(ROW.as_bytes()), trace);
         if got.status == 3 {
             assert!(rt; got.out.is_empty() || got.out.as_slice() == b"data 00\n".as_slice());
         } else {
@@ -405,5 +471,4 @@ fn whole_or_no_memory(rt: HostRuntime) -> Result<(), Fail> {
             assert_eq!(rt; got.status, 0);
         }
     }
-    Ok(())
 }

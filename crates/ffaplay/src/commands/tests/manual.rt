@@ -1,7 +1,6 @@
 //! The worked example of docs/USING.md: the texts are those of the files in examples/, and the manual shows the same.
 
-use super::{CHECK, LAYOUT, RUN, performed, wanted};
-use std::test::Fail;
+use super::{CHECK, LAYOUT, RUN, done, ends};
 
 // examples/partitions.toml
 const PARTITIONS: &str =
@@ -250,17 +249,32 @@ const LAYOUT_TEXT: &str = "0000 40000000 40001000 40002000
 ";
 
 #[test]
-fn does_what_the_manual_shows(rt: HostRuntime) -> Result<(), Fail> {
-    for (request, trace, text) in [
-        (RUN, ACCESSES, ACCESSES_TEXT),
-        (RUN, MESSAGES, MESSAGES_TEXT),
-        (RUN, SHARING, SHARING_TEXT),
-        (CHECK, "", "accepted\n"),
-        (LAYOUT, "", LAYOUT_TEXT),
-    ] {
-        let manifest = Some(PARTITIONS.as_bytes());
-        let got = performed(rt.alloc(), &request, manifest, Some(trace));
-        assert_eq!(rt; got, wanted(rt.alloc(), 0, text, "")?);
-    }
-    Ok(())
+fn does_what_the_manual_shows(rt: HostRuntime) {
+    let (alloc, manifest) = (rt.alloc(), Some(PARTITIONS.as_bytes()));
+    ends(
+        &rt,
+        alloc,
+        &RUN,
+        manifest,
+        Some(ACCESSES),
+        done(ACCESSES_TEXT),
+    );
+    ends(
+        &rt,
+        alloc,
+        &RUN,
+        manifest,
+        Some(MESSAGES),
+        done(MESSAGES_TEXT),
+    );
+    ends(
+        &rt,
+        alloc,
+        &RUN,
+        manifest,
+        Some(SHARING),
+        done(SHARING_TEXT),
+    );
+    ends(&rt, alloc, &CHECK, manifest, Some(""), done("accepted\n"));
+    ends(&rt, alloc, &LAYOUT, manifest, Some(""), done(LAYOUT_TEXT));
 }

@@ -88,7 +88,7 @@ fn is_done(
         assert_eq!(rt; status, 3);
         assert_eq!(rt; err.as_slice(), b"ffaplay: no memory\n".as_slice());
         assert!(rt; text.starts_with(&out));
-        assert!(rt; out.last().is_none_or(|byte| *byte == b'\n'));
+        assert!(rt; out.is_empty() || out.ends_with(b"\n"));
     }
     Ok(status == 0)
 }
