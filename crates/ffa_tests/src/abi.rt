@@ -1,4 +1,5 @@
 //! The identifiers and values of the standard.
+use crate::checks::{holds, holds_at, same, same_at};
 use ffa_abi::{decode, encode, is_function};
 use ffa_model::{Call, ErrorCode, Reply};
 use std::test::Fail;
@@ -67,7 +68,7 @@ fn calls_by_their_identifiers(rt: HostRuntime) -> Result<(), Fail> {
             let (function, wanted) = row.split_once(' ').ok_or("no call")?;
             let call = decode(registers(u32::from_str_radix(function, 16)?));
             let printed = format!(in rt.alloc(); "{call:?}")?;
-            assert_eq!(rt; printed.as_str(), wanted, "{row}");
+            same_at(&rt, printed.as_str(), wanted, &row);
         }
     }
     Ok(())
@@ -87,18 +88,14 @@ fn no_calls(rt: HostRuntime) {
         0xC400_0076,
         0x0400_0063,
     ] {
-        assert_eq!(rt;
-            decode(registers(function)),
-            Call::Unknown,
-            "at {function:x}"
-        );
-        assert!(rt; !is_function(function), "at {function:x}");
+        same_at(&rt, decode(registers(function)), Call::Unknown, &function);
+        holds_at(&rt, !is_function(function), &function);
     }
-    assert!(rt; is_function(0x8400_0069));
-    assert!(rt; !is_function(0xC400_0069));
-    assert!(rt; is_function(0x8400_0066));
-    assert!(rt; is_function(0xC400_0066));
-    assert!(rt; !is_function(0x8400_0075));
+    holds(&rt, is_function(0x8400_0069));
+    holds(&rt, !is_function(0xC400_0069));
+    holds(&rt, is_function(0x8400_0066));
+    holds(&rt, is_function(0xC400_0066));
+    holds(&rt, !is_function(0x8400_0075));
 }
 
 #[test]
@@ -111,28 +108,31 @@ fn error_codes(rt: HostRuntime) {
         (ErrorCode::Denied, -6),
     ] {
         let w2 = u64::from(i32::cast_unsigned(number));
-        assert_eq!(rt;
+        same(
+            &rt,
             encode(&Reply::Error(code)),
-            [0x8400_0060, 0, w2, 0, 0, 0, 0, 0]
+            [0x8400_0060, 0, w2, 0, 0, 0, 0, 0],
         );
     }
 }
 
 #[test]
 fn replies(rt: HostRuntime) {
-    assert_eq!(rt;
+    same(
+        &rt,
         encode(&Reply::Version(0x10001)),
-        [0x10001, 0, 0, 0, 0, 0, 0, 0]
+        [0x10001, 0, 0, 0, 0, 0, 0, 0],
     );
     let results = Reply::Success([0, 0, 0, 0, 1, 2]);
-    assert_eq!(rt; encode(&results), [0x8400_0061, 0, 0, 0, 0, 0, 1, 2]);
+    same(&rt, encode(&results), [0x8400_0061, 0, 0, 0, 0, 0, 1, 2]);
     let payload = [0x1122_3344_5566_7788, 0, 0, 0, 1 << 63];
     let passed = Reply::Passed {
         w0: 0xC400_006F,
         w1: 0x8001,
         payload,
     };
-    assert_eq!(rt;
+    same(
+        &rt,
         encode(&passed),
         [
             0xC400_006F,
@@ -142,11 +142,12 @@ fn replies(rt: HostRuntime) {
             0,
             0,
             0,
-            1 << 63
-        ]
+            1 << 63,
+        ],
     );
-    assert_eq!(rt;
+    same(
+        &rt,
         encode(&Reply::Retrieved(0x60)),
-        [0x8400_0075, 0x60, 0x60, 0, 0, 0, 0, 0]
+        [0x8400_0075, 0x60, 0x60, 0, 0, 0, 0, 0],
     );
 }

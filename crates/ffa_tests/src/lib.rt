@@ -7,6 +7,8 @@ mod abi;
 #[cfg(test)]
 mod certificate;
 #[cfg(test)]
+mod checks;
+#[cfg(test)]
 mod command;
 #[cfg(test)]
 mod direct_messages;
@@ -40,3 +42,5 @@ mod streams;
 mod tlb;
 #[cfg(test)]
 mod walker;
+#[cfg(test)]
+mod words;

@@ -1,5 +1,6 @@
 //! Worked values: machines as text, and changes of one that have each cause.
 
+use crate::checks::{same, same_at};
 use ffa_manifest::{ManifestError, read};
 use ffa_model::{Endpoint, Manifest, Version, row_machine};
 use std::alloc::{AllocError, Global};
@@ -39,30 +40,36 @@ fn found_in(alloc: Global, text: &str) -> Result<String, AllocError> {
     }
 }
 
-// Makes each change of ROW alone, and sees what is found. A change is what stands there, an arrow, what is to stand where
-// that stands first, another arrow and what is to be found, up to a bar.
+// Makes one change of ROW, and sees what is found.
+fn check_change(rt: &impl Abort, alloc: Global, change: &str) -> Result<(), Fail> {
+    let (old, rest) = change.split_once(" => ").ok_or("no change")?;
+    let (new, wanted) = rest.split_once(" => ").ok_or("no cause")?;
+    let text = ROW.replacen(alloc, old, new, 1)?;
+    let found = found_in(alloc, text.as_str())?;
+    same_at(rt, found.as_str(), wanted, &change);
+    Ok(())
+}
+
+// Makes each change alone. A change is what stands in ROW, an arrow, what is to stand where that stands first, another
+// arrow and what is to be found, up to a bar.
 fn check_changes(rt: &impl Abort, alloc: Global, changes: &str) -> Result<(), Fail> {
     for change in changes.split("|\n") {
-        let (old, rest) = change.split_once(" => ").ok_or("no change")?;
-        let (new, wanted) = rest.split_once(" => ").ok_or("no cause")?;
-        let text = ROW.replacen(alloc, old, new, 1)?;
-        let found = found_in(alloc, text.as_str())?;
-        assert_eq!(rt; found.as_str(), wanted, "at {change}");
+        check_change(rt, alloc, change)?;
     }
     Ok(())
 }
 
 fn assert_same_endpoint(rt: &impl Abort, read: &Endpoint, wanted: &Endpoint) {
-    assert_eq!(rt; read.uuid, wanted.uuid);
-    assert_eq!(rt; read.properties, wanted.properties);
-    assert_eq!(rt; read.regions.as_slice(), wanted.regions.as_slice());
+    same(rt, read.uuid, wanted.uuid);
+    same(rt, read.properties, wanted.properties);
+    same(rt, read.regions.as_slice(), wanted.regions.as_slice());
 }
 
 fn assert_row_machine(rt: &impl Abort, read: &Manifest) {
     let wanted = row_machine();
-    assert_eq!(rt; read.ram_base, wanted.ram_base);
-    assert_eq!(rt; read.ram_blocks, wanted.ram_blocks);
-    assert_eq!(rt; read.endpoints.len(), wanted.endpoints.len());
+    same(rt, read.ram_base, wanted.ram_base);
+    same(rt, read.ram_blocks, wanted.ram_blocks);
+    same(rt, read.endpoints.len(), wanted.endpoints.len());
     for (read, wanted) in read.endpoints.iter().zip(wanted.endpoints.iter()) {
         assert_same_endpoint(rt, read, wanted);
     }
@@ -80,7 +87,7 @@ fn the_row_machine(rt: HostRuntime) -> Result<(), Fail> {
 fn whole_or_no_memory(rt: HostRuntime) {
     match read(rt.alloc(), ROW) {
         Ok(manifest) => assert_row_machine(&rt, &manifest),
-        Err(error) => assert_eq!(rt; error, ManifestError::NoMemory),
+        Err(error) => same(&rt, error, ManifestError::NoMemory),
     }
 }
 
@@ -145,10 +152,11 @@ fn two_causes(rt: HostRuntime) -> Result<(), Fail> {
     let text = ROW.replacen(alloc, "properties = 6", "properties = 6\nname = 0", 1)?;
     let text = text.replacen(alloc, base, bad_base, 1)?;
     let cause = read(alloc, text.as_str()).err();
-    assert_eq!(rt; cause, Some(ManifestError::RamBase));
-    assert_eq!(rt;
+    same(&rt, cause, Some(ManifestError::RamBase));
+    same(
+        &rt,
         cause_of(alloc, base, with_top_key)?,
-        Some(ManifestError::UnknownKey)
+        Some(ManifestError::UnknownKey),
     );
     Ok(())
 }
@@ -174,7 +182,17 @@ fn high_machine(alloc: Global, first: &str, partitions: u32) -> Result<String, A
     Ok(text)
 }
 
-// Where the normal world's page is, how many partitions there are, and the cause.
+// A machine is where the normal world's page is, how many partitions there are, and the cause.
+fn check_high_machine(rt: &impl Abort, alloc: Global, machine: &str) -> Result<(), Fail> {
+    let (first, rest) = machine.split_once(' ').ok_or("no page")?;
+    let (partitions, wanted) = rest.split_once(' ').ok_or("no cause")?;
+    let partitions = u32::from_str_radix(partitions, 10)?;
+    let text = high_machine(alloc, first, partitions)?;
+    let found = found_in(alloc, text.as_str())?;
+    same_at(rt, found.as_str(), wanted, &machine);
+    Ok(())
+}
+
 #[test]
 fn the_highest_machine(rt: HostRuntime) -> Result<(), Fail> {
     let machines = "\
@@ -183,12 +201,7 @@ fn the_highest_machine(rt: HostRuntime) -> Result<(), Fail> {
 0xFFFFF000 7 accepted
 0xFFFFF000 8 M8 EndpointCount";
     for machine in machines.lines() {
-        let (first, rest) = machine.split_once(' ').ok_or("no page")?;
-        let (partitions, wanted) = rest.split_once(' ').ok_or("no cause")?;
-        let partitions = u32::from_str_radix(partitions, 10)?;
-        let text = high_machine(rt.alloc(), first, partitions)?;
-        let found = found_in(rt.alloc(), text.as_str())?;
-        assert_eq!(rt; found.as_str(), wanted, "at {machine}");
+        check_high_machine(&rt, rt.alloc(), machine)?;
     }
     Ok(())
 }
@@ -196,9 +209,10 @@ fn the_highest_machine(rt: HostRuntime) -> Result<(), Fail> {
 #[test]
 fn no_endpoint(rt: HostRuntime) -> Result<(), Fail> {
     let text = "ram_base = 0x40000000\nram_blocks = 1\nendpoint = []\n";
-    assert_eq!(rt;
+    same(
+        &rt,
         read(rt.alloc(), text).err(),
-        Some(ManifestError::EndpointCount)
+        Some(ManifestError::EndpointCount),
     );
     Ok(())
 }
@@ -244,7 +258,7 @@ fn causes_by_name(rt: HostRuntime) -> Result<(), Fail> {
     for cause in CAUSES {
         writeln!(names, "{cause}")?;
     }
-    assert_eq!(rt; names.as_str(), NAMES);
+    same(&rt, names.as_str(), NAMES);
     Ok(())
 }
 
@@ -260,7 +274,7 @@ fn a_compact_endpoint(rt: HostRuntime) -> Result<(), Fail> {
         } else {
             Version::V1_1
         };
-        assert_eq!(rt; endpoint.version, wanted);
+        same(&rt, endpoint.version, wanted);
     }
     Ok(())
 }

@@ -1,40 +1,85 @@
 //! The pages of the built-in machine.
+use crate::checks::{same, same_at};
 use ffa_model::{Data, EndpointId, PageNo, Rights, built_in};
 use ffa_pages::PageTable;
 use std::test::Fail;
 
+const WRITABLE: Rights = Rights {
+    level: Data::Rw,
+    exec: false,
+};
+
+const ALL: Rights = Rights {
+    level: Data::Rw,
+    exec: true,
+};
+
+// What is kept of a page: its owner, the base right, and the slot of the transaction that names it.
+fn entry(table: &PageTable, page: u32) -> Option<(EndpointId, Option<Rights>, Option<u8>)> {
+    if page >= table.pages() {
+        return None;
+    }
+    let page = PageNo(page);
+    Some((
+        table.owner_of(page),
+        table.base_of(page),
+        table.slot_of(page),
+    ))
+}
+
+fn give(table: &mut PageTable, page: u32, owner: EndpointId, base: Rights) {
+    if page < table.pages() && owner != EndpointId::MANAGER {
+        table.give(PageNo(page), owner, base);
+    }
+}
+
+fn mark(table: &mut PageTable, page: u32, slot: Option<u8>) {
+    if page < table.pages() {
+        table.mark(PageNo(page), slot);
+    }
+}
+
 #[test]
 fn built_in_machine(rt: HostRuntime) -> Result<(), Fail> {
-    let writable = Rights {
-        level: Data::Rw,
-        exec: false,
-    };
-    let all = Rights {
-        level: Data::Rw,
-        exec: true,
-    };
     let mut table = PageTable::of(&built_in());
-    assert_eq!(rt; table.pages(), 512);
+    same(&rt, table.pages(), 512);
     for page in [0, 15, 48, 511] {
-        assert_eq!(rt; table.owner_of(PageNo(page)), EndpointId::MANAGER);
-        assert_eq!(rt; table.base_of(PageNo(page)), None);
-        assert_eq!(rt; table.slot_of(PageNo(page)), None);
+        same_at(
+            &rt,
+            entry(&table, page),
+            Some((EndpointId::MANAGER, None, None)),
+            &page,
+        );
     }
     for page in [16, 31] {
-        assert_eq!(rt; table.owner_of(PageNo(page)), EndpointId(0));
-        assert_eq!(rt; table.base_of(PageNo(page)), Some(writable));
+        same_at(
+            &rt,
+            entry(&table, page),
+            Some((EndpointId(0), Some(WRITABLE), None)),
+            &page,
+        );
     }
     for page in [32, 47] {
-        assert_eq!(rt; table.owner_of(PageNo(page)), EndpointId(0x8001));
-        assert_eq!(rt; table.base_of(PageNo(page)), Some(all));
+        same_at(
+            &rt,
+            entry(&table, page),
+            Some((EndpointId(0x8001), Some(ALL), None)),
+            &page,
+        );
     }
-    table.give(PageNo(33), EndpointId(0), writable);
-    table.mark(PageNo(33), Some(127));
-    table.give(PageNo(33), EndpointId(0x8001), all);
-    assert_eq!(rt; table.owner_of(PageNo(33)), EndpointId(0x8001));
-    assert_eq!(rt; table.base_of(PageNo(33)), Some(all));
-    assert_eq!(rt; table.slot_of(PageNo(33)), Some(127));
-    table.mark(PageNo(33), None);
-    assert_eq!(rt; table.slot_of(PageNo(33)), None);
+    give(&mut table, 33, EndpointId(0), WRITABLE);
+    mark(&mut table, 33, Some(127));
+    give(&mut table, 33, EndpointId(0x8001), ALL);
+    same(
+        &rt,
+        entry(&table, 33),
+        Some((EndpointId(0x8001), Some(ALL), Some(127))),
+    );
+    mark(&mut table, 33, None);
+    same(
+        &rt,
+        entry(&table, 33),
+        Some((EndpointId(0x8001), Some(ALL), None)),
+    );
     Ok(())
 }

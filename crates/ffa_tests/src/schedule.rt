@@ -1,4 +1,5 @@
 //! Run states of the normal world and two partitions.
+use crate::checks::same;
 use ffa_model::{EndpointId, ErrorCode, Reply, Status, Work};
 use ffa_schedule::Chain;
 use std::test::Fail;
@@ -21,23 +22,24 @@ fn passed(w0: u32, w1: u32) -> Reply {
 #[test]
 fn run_and_wait(rt: HostRuntime) -> Result<(), Fail> {
     let mut chain = Chain::first(3);
-    assert_eq!(rt; chain.runner(), NORMAL);
-    assert_eq!(rt; chain.wait(), Err(ErrorCode::Denied));
-    assert_eq!(rt; chain.yield_now(), Err(ErrorCode::Denied));
-    assert_eq!(rt;
+    same(&rt, chain.runner(), NORMAL);
+    same(&rt, chain.wait(), Err(ErrorCode::Denied));
+    same(&rt, chain.yield_now(), Err(ErrorCode::Denied));
+    same(
+        &rt,
         chain.run(0x8001_0000),
-        Ok(passed(0x8400_006D, 0x8001_0000))
+        Ok(passed(0x8400_006D, 0x8001_0000)),
     );
-    assert_eq!(rt; chain.runner(), FIRST);
-    assert_eq!(rt; chain.status(FIRST), Status::Running);
-    assert_eq!(rt; chain.status(NORMAL), Status::Blocked);
-    assert_eq!(rt; chain.status(SECOND), Status::Waiting);
-    assert_eq!(rt; chain.work(FIRST), Some(Work::Run));
-    assert_eq!(rt; chain.run(0x8002_0000), Err(ErrorCode::Denied));
-    assert_eq!(rt; chain.wait(), Ok(passed(0x8400_006B, 0x8001_0000)));
-    assert_eq!(rt; chain.runner(), NORMAL);
-    assert_eq!(rt; chain.status(FIRST), Status::Waiting);
-    assert_eq!(rt; chain.work(FIRST), None);
+    same(&rt, chain.runner(), FIRST);
+    same(&rt, chain.status(FIRST), Status::Running);
+    same(&rt, chain.status(NORMAL), Status::Blocked);
+    same(&rt, chain.status(SECOND), Status::Waiting);
+    same(&rt, chain.work(FIRST), Some(Work::Run));
+    same(&rt, chain.run(0x8002_0000), Err(ErrorCode::Denied));
+    same(&rt, chain.wait(), Ok(passed(0x8400_006B, 0x8001_0000)));
+    same(&rt, chain.runner(), NORMAL);
+    same(&rt, chain.status(FIRST), Status::Waiting);
+    same(&rt, chain.work(FIRST), None);
     Ok(())
 }
 
@@ -45,49 +47,51 @@ fn run_and_wait(rt: HostRuntime) -> Result<(), Fail> {
 fn refused_targets(rt: HostRuntime) -> Result<(), Fail> {
     let mut chain = Chain::first(3);
     for word in [0, 0x8000_0000, 0x8003_0000, 0x7FFF_0000, 0x8001_0001] {
-        assert_eq!(rt; chain.run(word), Err(ErrorCode::InvalidParameters));
+        same(&rt, chain.run(word), Err(ErrorCode::InvalidParameters));
     }
-    assert_eq!(rt; chain.runner(), NORMAL);
-    assert_eq!(rt; chain.status(FIRST), Status::Waiting);
+    same(&rt, chain.runner(), NORMAL);
+    same(&rt, chain.status(FIRST), Status::Waiting);
     Ok(())
 }
 
 #[test]
 fn yield_and_run_again(rt: HostRuntime) -> Result<(), Fail> {
     let mut chain = Chain::first(3);
-    assert_eq!(rt;
+    same(
+        &rt,
         chain.run(0x8001_0000),
-        Ok(passed(0x8400_006D, 0x8001_0000))
+        Ok(passed(0x8400_006D, 0x8001_0000)),
     );
-    assert_eq!(rt; chain.yield_now(), Ok(passed(0x8400_006C, 0x8001_0000)));
-    assert_eq!(rt; chain.runner(), NORMAL);
-    assert_eq!(rt; chain.status(NORMAL), Status::Running);
-    assert_eq!(rt; chain.status(FIRST), Status::Yielded);
-    assert_eq!(rt; chain.work(FIRST), Some(Work::Run));
-    assert_eq!(rt; chain.run(0x8001_0000), Ok(Reply::Success([0; 6])));
-    assert_eq!(rt; chain.runner(), FIRST);
-    assert_eq!(rt; chain.work(FIRST), Some(Work::Run));
+    same(&rt, chain.yield_now(), Ok(passed(0x8400_006C, 0x8001_0000)));
+    same(&rt, chain.runner(), NORMAL);
+    same(&rt, chain.status(NORMAL), Status::Running);
+    same(&rt, chain.status(FIRST), Status::Yielded);
+    same(&rt, chain.work(FIRST), Some(Work::Run));
+    same(&rt, chain.run(0x8001_0000), Ok(Reply::Success([0; 6])));
+    same(&rt, chain.runner(), FIRST);
+    same(&rt, chain.work(FIRST), Some(Work::Run));
     Ok(())
 }
 
 #[test]
 fn requests(rt: HostRuntime) -> Result<(), Fail> {
     let mut chain = Chain::first(3);
-    assert_eq!(rt;
+    same(
+        &rt,
         chain.run(0x8001_0000),
-        Ok(passed(0x8400_006D, 0x8001_0000))
+        Ok(passed(0x8400_006D, 0x8001_0000)),
     );
     chain.request(SECOND);
-    assert_eq!(rt; chain.runner(), SECOND);
-    assert_eq!(rt; chain.status(FIRST), Status::Blocked);
-    assert_eq!(rt; chain.work(SECOND), Some(Work::Request(FIRST)));
-    assert_eq!(rt; chain.wait(), Err(ErrorCode::Denied));
-    assert_eq!(rt; chain.yield_now(), Err(ErrorCode::Denied));
+    same(&rt, chain.runner(), SECOND);
+    same(&rt, chain.status(FIRST), Status::Blocked);
+    same(&rt, chain.work(SECOND), Some(Work::Request(FIRST)));
+    same(&rt, chain.wait(), Err(ErrorCode::Denied));
+    same(&rt, chain.yield_now(), Err(ErrorCode::Denied));
     chain.respond();
-    assert_eq!(rt; chain.runner(), FIRST);
-    assert_eq!(rt; chain.status(FIRST), Status::Running);
-    assert_eq!(rt; chain.status(SECOND), Status::Waiting);
-    assert_eq!(rt; chain.work(SECOND), None);
+    same(&rt, chain.runner(), FIRST);
+    same(&rt, chain.status(FIRST), Status::Running);
+    same(&rt, chain.status(SECOND), Status::Waiting);
+    same(&rt, chain.work(SECOND), None);
     Ok(())
 }
 
@@ -95,12 +99,12 @@ fn requests(rt: HostRuntime) -> Result<(), Fail> {
 fn request_of_the_normal_world(rt: HostRuntime) -> Result<(), Fail> {
     let mut chain = Chain::first(3);
     chain.request(SECOND);
-    assert_eq!(rt; chain.yield_now(), Ok(passed(0x8400_006C, 0x8002_0000)));
-    assert_eq!(rt; chain.status(SECOND), Status::Yielded);
-    assert_eq!(rt; chain.run(0x8002_0000), Ok(Reply::Success([0; 6])));
-    assert_eq!(rt; chain.work(SECOND), Some(Work::Request(NORMAL)));
+    same(&rt, chain.yield_now(), Ok(passed(0x8400_006C, 0x8002_0000)));
+    same(&rt, chain.status(SECOND), Status::Yielded);
+    same(&rt, chain.run(0x8002_0000), Ok(Reply::Success([0; 6])));
+    same(&rt, chain.work(SECOND), Some(Work::Request(NORMAL)));
     chain.respond();
-    assert_eq!(rt; chain.runner(), NORMAL);
-    assert_eq!(rt; chain.status(SECOND), Status::Waiting);
+    same(&rt, chain.runner(), NORMAL);
+    same(&rt, chain.status(SECOND), Status::Waiting);
     Ok(())
 }

@@ -4,11 +4,15 @@ ghost use Rattle.arrayvec.specs.ArrayVec.{array_vec_len};
 ghost use Rattle.ffa_model.specs.declared.rights.Rights.{Rights};
 ghost use Rattle.ffa_stage2.specs.Layout.{IsBuiltFor};
 
+use crate::checks::{holds, same, same_at};
+use crate::words::word;
 use arrayvec::ArrayVec;
 use byteorder::{ByteOrder, LittleEndian};
 use ffa_model::{Data, PageNo, Region, Rights, built_in, row_machine};
 use ffa_physmem::{FlatRam, NoMemory, PhysMem};
 use ffa_stage2::{Layout, Regions, build, leaf, set_page, uniform};
+use std::alloc::Global;
+use std::process::Abort;
 
 // Two blocks of RAM, where the first endpoint has the first block's page 16 and the whole second block, and the
 // second endpoint nothing.
@@ -35,19 +39,32 @@ fn two_blocks(rights: Rights) -> Layout
     }
 }
 
+// Rights, and the block that has them.
+const BLOCKS: [(Data, bool, u64); 3] = [
+    (Data::Rw, false, 0x0040_0000_4020_07fd),
+    (Data::Rw, true, 0x0000_0000_4020_07fd),
+    (Data::Ro, false, 0x0040_0000_4020_077d),
+];
+
+fn writes_blocks(
+    rt: &impl Abort,
+    alloc: Global,
+    right: Rights,
+    block: u64,
+) -> Result<(), NoMemory> {
+    let layout = two_blocks(right);
+    let mut ram = FlatRam::new(alloc, layout.base, 1024)?;
+    build(&mut ram, &layout);
+    same(rt, word(&ram, 1, 0), Some(0x0000_0000_4000_2003));
+    same(rt, word(&ram, 1, 1), Some(block));
+    same(rt, word(&ram, 5, 1), Some(0x0000_0000_4000_7003));
+    Ok(())
+}
+
 #[test]
 fn build_writes_blocks(rt: HostRuntime) -> Result<(), NoMemory> {
-    for (level, exec, word) in [
-        (Data::Rw, false, 0x0040_0000_4020_07fd),
-        (Data::Rw, true, 0x0000_0000_4020_07fd),
-        (Data::Ro, false, 0x0040_0000_4020_077d),
-    ] {
-        let layout = two_blocks(Rights { level, exec });
-        let mut ram = FlatRam::new(rt.alloc(), layout.base, 1024)?;
-        build(&mut ram, &layout);
-        assert_eq!(rt; ram.read_word(PageNo(1), 0), 0x0000_0000_4000_2003);
-        assert_eq!(rt; ram.read_word(PageNo(1), 1), word);
-        assert_eq!(rt; ram.read_word(PageNo(5), 1), 0x0000_0000_4000_7003);
+    for (level, exec, block) in BLOCKS {
+        writes_blocks(&rt, rt.alloc(), Rights { level, exec }, block)?;
     }
     Ok(())
 }
@@ -57,8 +74,7 @@ fn lend<M: PhysMem>(memory: &mut M, layout: &Layout, right: Rights)
     requires built { (access : ℕ → ℕ → Option Rights) × IsBuiltFor layout.now (M.ram memory.old) access }
     requires blocks { layout.now.blocks ≡ 2 }
     requires endpoints { array_vec_len layout.now.regions ≡ 2 }
-    ensures built { (access : ℕ → ℕ → Option Rights) × IsBuiltFor layout.now (M.ram memory.new) access }
-    ensures size { length (M.ram memory.new).pages ≡ length (M.ram memory.old).pages }
+    ensures { (access : ℕ → ℕ → Option Rights) × IsBuiltFor layout.now (M.ram memory.new) access }
 {
     set_page(memory, layout, 0, PageNo(513), None);
     set_page(memory, layout, 1, PageNo(513), Some(right));
@@ -69,32 +85,36 @@ fn reclaim<M: PhysMem>(memory: &mut M, layout: &Layout, right: Rights)
     requires built { (access : ℕ → ℕ → Option Rights) × IsBuiltFor layout.now (M.ram memory.old) access }
     requires blocks { layout.now.blocks ≡ 2 }
     requires endpoints { array_vec_len layout.now.regions ≡ 2 }
-    ensures size { length (M.ram memory.new).pages ≡ length (M.ram memory.old).pages }
 {
     set_page(memory, layout, 1, PageNo(513), None);
     set_page(memory, layout, 0, PageNo(513), Some(right));
 }
 
+fn splits_and_joins(
+    rt: &impl Abort,
+    alloc: Global,
+    right: Rights,
+    block: u64,
+) -> Result<(), NoMemory> {
+    let layout = two_blocks(right);
+    let mut ram = FlatRam::new(alloc, layout.base, 1024)?;
+    build(&mut ram, &layout);
+    lend(&mut ram, &layout, right);
+    same(rt, word(&ram, 1, 1), Some(0x0000_0000_4000_3003));
+    same(rt, word(&ram, 3, 0), Some(block ^ 2));
+    same(rt, word(&ram, 3, 1), Some(0));
+    same(rt, word(&ram, 5, 1), Some(0x0000_0000_4000_7003));
+    same(rt, word(&ram, 7, 1), Some(block ^ 0x1002));
+    reclaim(&mut ram, &layout, right);
+    same(rt, word(&ram, 1, 1), Some(block));
+    same(rt, word(&ram, 7, 1), Some(0));
+    Ok(())
+}
+
 #[test]
 fn set_page_splits_and_joins(rt: HostRuntime) -> Result<(), NoMemory> {
-    for (level, exec, block) in [
-        (Data::Rw, false, 0x0040_0000_4020_07fd),
-        (Data::Rw, true, 0x0000_0000_4020_07fd),
-        (Data::Ro, false, 0x0040_0000_4020_077d),
-    ] {
-        let right = Rights { level, exec };
-        let layout = two_blocks(right);
-        let mut ram = FlatRam::new(rt.alloc(), layout.base, 1024)?;
-        build(&mut ram, &layout);
-        lend(&mut ram, &layout, right);
-        assert_eq!(rt; ram.read_word(PageNo(1), 1), 0x0000_0000_4000_3003);
-        assert_eq!(rt; ram.read_word(PageNo(3), 0), block ^ 2);
-        assert_eq!(rt; ram.read_word(PageNo(3), 1), 0);
-        assert_eq!(rt; ram.read_word(PageNo(5), 1), 0x0000_0000_4000_7003);
-        assert_eq!(rt; ram.read_word(PageNo(7), 1), block ^ 0x1002);
-        reclaim(&mut ram, &layout, right);
-        assert_eq!(rt; ram.read_word(PageNo(1), 1), block);
-        assert_eq!(rt; ram.read_word(PageNo(7), 1), 0);
+    for (level, exec, block) in BLOCKS {
+        splits_and_joins(&rt, rt.alloc(), Rights { level, exec }, block)?;
     }
     Ok(())
 }
@@ -171,11 +191,11 @@ fn blocks_of_the_largest_machine(rt: HostRuntime) -> Result<(), NoMemory> {
     let layout = whole_blocks();
     let mut ram = FlatRam::new(rt.alloc(), layout.base, 16384)?;
     build(&mut ram, &layout);
-    assert!(rt; has_blocks(&ram, true));
+    holds(&rt, has_blocks(&ram, true));
     change_each(&mut ram, &layout, None);
-    assert!(rt; has_blocks(&ram, false));
+    holds(&rt, has_blocks(&ram, false));
     change_each(&mut ram, &layout, Some(DATA));
-    assert!(rt; has_blocks(&ram, true));
+    holds(&rt, has_blocks(&ram, true));
     Ok(())
 }
 
@@ -197,7 +217,7 @@ fn uniform_counts_without_wrapping(rt: HostRuntime) {
         (u64::MAX - 4096 * 511, true),
         (u64::MAX - 4096 * 511 + 1, false),
     ] {
-        assert_eq!(rt; uniform(&rising(first)), answer, "{first:x}");
+        same_at(&rt, uniform(&rising(first)), answer, &first);
     }
 }
 
@@ -206,10 +226,10 @@ fn uniform_sees_each_word(rt: HostRuntime) {
     let mut page = rising(0x0040_0000_4020_07ff);
     for place in 0..512 {
         page[8 * place + 6] ^= 0x40;
-        assert_eq!(rt; uniform(&page), false, "{place}");
+        same_at(&rt, uniform(&page), false, &place);
         page[8 * place + 6] ^= 0x40;
     }
-    assert_eq!(rt; uniform(&page), true);
+    same(&rt, uniform(&page), true);
 }
 
 #[test]
@@ -221,10 +241,14 @@ fn leaf_gives_descriptors(rt: HostRuntime) {
         level: Data::Ro,
         exec: false,
     };
-    assert_eq!(rt; leaf(0x4000_1000, Some(code)), 0x0000_0000_4000_17ff);
-    assert_eq!(rt; leaf(0x4000_1000, Some(data)), 0x0040_0000_4000_17ff);
-    assert_eq!(rt; leaf(0x4000_1000, Some(constant)), 0x0040_0000_4000_177f);
-    assert_eq!(rt; leaf(0x4000_1000, None), 0);
+    same(&rt, leaf(0x4000_1000, Some(code)), 0x0000_0000_4000_17ff);
+    same(&rt, leaf(0x4000_1000, Some(data)), 0x0040_0000_4000_17ff);
+    same(
+        &rt,
+        leaf(0x4000_1000, Some(constant)),
+        0x0040_0000_4000_177f,
+    );
+    same(&rt, leaf(0x4000_1000, None), 0);
 }
 
 #[test]
@@ -232,10 +256,10 @@ fn build_writes_tables(rt: HostRuntime) -> Result<(), NoMemory> {
     for manifest in [built_in(), row_machine()] {
         let mut ram = FlatRam::new(rt.alloc(), manifest.ram_base, 512)?;
         build(&mut ram, &Layout::of(&manifest));
-        assert_eq!(rt; ram.read_word(PageNo(0), 1), 0x0000_0000_4000_1003);
-        assert_eq!(rt; ram.read_word(PageNo(1), 0), 0x0000_0000_4000_2003);
-        assert_eq!(rt; ram.read_word(PageNo(2), 16), 0x0040_0000_4001_07ff);
-        assert_eq!(rt; ram.read_word(PageNo(5), 32), 0x0000_0000_4002_07ff);
+        same(&rt, word(&ram, 0, 1), Some(0x0000_0000_4000_1003));
+        same(&rt, word(&ram, 1, 0), Some(0x0000_0000_4000_2003));
+        same(&rt, word(&ram, 2, 16), Some(0x0040_0000_4001_07ff));
+        same(&rt, word(&ram, 5, 32), Some(0x0000_0000_4002_07ff));
     }
     Ok(())
 }
@@ -251,8 +275,8 @@ fn set_page_writes_descriptor(rt: HostRuntime) -> Result<(), NoMemory> {
         exec: false,
     };
     set_page(&mut ram, &layout, 1, PageNo(1), Some(right));
-    assert_eq!(rt; ram.read_word(PageNo(5), 0), 0);
-    assert_eq!(rt; ram.read_word(PageNo(5), 1), 0x0040_0000_4000_177f);
-    assert_eq!(rt; ram.read_word(PageNo(5), 2), 0);
+    same(&rt, word(&ram, 5, 0), Some(0));
+    same(&rt, word(&ram, 5, 1), Some(0x0040_0000_4000_177f));
+    same(&rt, word(&ram, 5, 2), Some(0));
     Ok(())
 }

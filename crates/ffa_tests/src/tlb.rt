@@ -1,6 +1,7 @@
 //! Caches of leaves.
 ghost use Rattle.std.specs.Prelude.{◌<◌};
 
+use crate::checks::{holds, same};
 use ffa_model::{EndpointId, Leaf, PageNo};
 use ffa_tlb::{Entry, InTurn, NoTlb, Replacement, Tlb, Translations};
 use std::process::Abort;
@@ -38,19 +39,23 @@ fn loses_the_oldest<T: Translations>(rt: &impl Abort, cache: &mut T, slots: u32)
     for page in 0..=slots {
         cache.fill(ENDPOINT, PageNo(page), leaf_of(page));
     }
-    assert!(rt; cache.lookup(ENDPOINT, PageNo(0)).is_none());
+    holds(rt, cache.lookup(ENDPOINT, PageNo(0)).is_none());
     for page in 1..=slots {
-        assert_eq!(rt; cache.lookup(ENDPOINT, PageNo(page)), Some(leaf_of(page)));
+        same(
+            rt,
+            cache.lookup(ENDPOINT, PageNo(page)),
+            Some(leaf_of(page)),
+        );
     }
     cache.clear();
-    assert!(rt; cache.lookup(ENDPOINT, PageNo(slots)).is_none());
+    holds(rt, cache.lookup(ENDPOINT, PageNo(slots)).is_none());
 }
 
 #[test]
 fn slots_are_picked_in_turn(rt: HostRuntime) {
     let mut policy = InTurn::default();
     for slot in 0..3 {
-        assert_eq!(rt; policy.pick(ENDPOINT, PageNo(7)), slot);
+        same(&rt, policy.pick(ENDPOINT, PageNo(7)), slot);
     }
 }
 
@@ -66,10 +71,14 @@ fn any_number_picks_a_slot(rt: HostRuntime) {
     let mut cache = Tlb::<Always, 2>::new(Always(usize::MAX));
     cache.fill(ENDPOINT, PageNo(5), leaf_of(5));
     cache.fill(EndpointId(0), PageNo(5), leaf_of(6));
-    assert!(rt; cache.lookup(ENDPOINT, PageNo(5)).is_none());
-    assert_eq!(rt; cache.lookup(EndpointId(0), PageNo(5)), Some(leaf_of(6)));
+    holds(&rt, cache.lookup(ENDPOINT, PageNo(5)).is_none());
+    same(
+        &rt,
+        cache.lookup(EndpointId(0), PageNo(5)),
+        Some(leaf_of(6)),
+    );
     cache.forget(EndpointId(0), PageNo(5));
-    assert!(rt; cache.lookup(EndpointId(0), PageNo(5)).is_none());
+    holds(&rt, cache.lookup(EndpointId(0), PageNo(5)).is_none());
 }
 
 #[test]
@@ -78,7 +87,7 @@ fn no_cache_holds_nothing(rt: HostRuntime) {
     none.fill(ENDPOINT, PageNo(5), leaf_of(5));
     none.forget(ENDPOINT, PageNo(6));
     none.clear();
-    assert!(rt; none.lookup(ENDPOINT, PageNo(5)).is_none());
+    holds(&rt, none.lookup(ENDPOINT, PageNo(5)).is_none());
 }
 
 #[test]
@@ -88,7 +97,7 @@ fn an_entry_is_of_its_endpoint_and_page(rt: HostRuntime) {
         page: PageNo(5),
         leaf: leaf_of(5),
     };
-    assert!(rt; entry.is_of(ENDPOINT, PageNo(5)));
-    assert!(rt; !entry.is_of(EndpointId(0), PageNo(5)));
-    assert!(rt; !entry.is_of(ENDPOINT, PageNo(6)));
+    holds(&rt, entry.is_of(ENDPOINT, PageNo(5)));
+    holds(&rt, !entry.is_of(EndpointId(0), PageNo(5)));
+    holds(&rt, !entry.is_of(ENDPOINT, PageNo(6)));
 }

@@ -5,7 +5,7 @@ set_page-requires-2-clause-built g c =
     let (access, built) = c.requires.built in
     (_, c.set_page.ensures.built access built)
 
-pub returns-clause-built : goal.returns-clause-built
-returns-clause-built g c =
+pub returns : goal.returns
+returns g c =
     let (access, built) = c.requires.built in
     (_, c.set_page-2.ensures.built _ (c.set_page.ensures.built access built))
