@@ -122,7 +122,7 @@ told-filled e s p MsgSend2 is fills =
         some_none e = cc
 told-filled e s p call is fills = absurd (false≢true is)
 
--- whoever gets a message into RX is an endpoint, and the page is its RX
+-- whoever gets a message into RX is an endpoint, and the page is one of its RX
 filled-rx : (e : ℕ) (s : State) (p : ℕ) → fills_rx_page s e p ≡ true → (is_known s e ≡ true) × (is_rx s e p ≡ true)
 filled-rx e s p fills =
     let (none, its) = and_parts (is_none (first_failure (msg_send2 s).guards)) _ fills in

@@ -1,5 +1,5 @@
 -- Pages without bytes: what doesn't ask for these bytes is as before, and an operation of who can't read them is alike.
-use Rattle.std.proofs.Common.{◌≡◌, ◌∙◌, ℕ, ◌-◌, ◌/◌, ◌%◌, ◌^◌, Bool, true, false, cond, List, [], length, get_or, set, take, Option, Some, None, is_some, refl, sym, ap, subst}
+use Rattle.std.proofs.Common.{◌≡◌, ◌∙◌, ℕ, zero, suc, ◌+◌, ◌-◌, ◌/◌, ◌%◌, ◌^◌, Bool, true, false, cond, List, [], length, get_or, set, take, drop, Option, Some, None, is_some, refl, sym, ap, subst}
 use Rattle.std.specs.Prelude.{◌==◌, ◌&&◌, nat_le, nat_lt}
 use Rattle.std.specs.Option.{option_and_then, option_map, option_map_or}
 use Rattle.std.proofs.Math.Path.{fun_ext}
@@ -32,7 +32,7 @@ use Rattle.ffa_model.specs.State.{State, Page, Transaction, Buffers, buffers_of,
 use Rattle.ffa_model.specs.Access.{access, handle_at, held_by, names, right_by, right_of, transaction_at}
 use Rattle.ffa_model.specs.Buffers.{Candidate, candidate_at, candidates, filled, filled_pages, map_guards}
 use Rattle.ffa_model.specs.Calls.{Service, Stepped, answered, encode, first_failure, served}
-use Rattle.ffa_model.specs.Memory.{access_at, accessed, changed_pages, fault_of, fetch_fault, number_at, page_of_address, page_with, read_fault, size_of, store_fault, stored, written_pages, zeroed_if, zeroed_page}
+use Rattle.ffa_model.specs.Memory.{access_at, accessed, changed_pages, fault_of, fetch_fault, number_at, page_bytes, page_of_address, page_with, read_fault, run_bytes, size_of, store_fault, stored, written_pages, written_run, zeroed_if, zeroed_page}
 use Rattle.ffa_model.specs.MemoryRetrieve.{donated_page, memory_retrieve, response_length, response_to, retrieve_guards, retrieve_read, retrieved, retrieved_from, retrieved_right, right_for}
 use Rattle.ffa_model.specs.MemoryReturn.{memory_reclaim, memory_relinquish, named_ranges, reclaim_guards, relinquish_guards, relinquished, relinquished_from}
 use Rattle.ffa_model.specs.MemorySend.{memory_send, memory_sent, send_guards, send_read}
@@ -43,6 +43,7 @@ use Rattle.ffa_model.specs.Setup.{info_bytes, is_count_alone, uuid_bytes}
 use Rattle.ffa_model.specs.Step.{serve, service, step}
 use Rattle.ffa_model.specs.Transactions.{Transfer, base_of, bases_of, handle_of, offers_of, scene_of, transfer}
 use Rattle.ffa_model.proofs.Accesses.{length-map_at}
+use Rattle.ffa_model.proofs.Runs.{flat-run-same}
 use Rattle.ffa_laws.specs.Steady.{IsAlone, IsSteady}
 use Rattle.ffa_laws.specs.Readable.{blank, blank_where, blanked}
 use Rattle.ffa_laws.proofs.Maps.{at-map_at, map_at-same, map_at-set, map_at-twice}
@@ -122,9 +123,17 @@ module _ (hides : ℕ → Bool) where
   pub written-blind : (p at : ℕ) (bytes : List ℕ) (ps : List (Option Page)) → blanked hides (written_pages (blanked hides ps) p at bytes) ≡ blanked hides (written_pages ps p at bytes)
   written-blind p at bytes ps = one-blind p (page_with at bytes) (blind-written at bytes) ps
 
+  -- pages in a row
+  run-blind : (n first : ℕ) (bytes : List ℕ) (ps : List (Option Page)) → blanked hides (written_run n (blanked hides ps) first bytes) ≡ blanked hides (written_run n ps first bytes)
+  run-blind zero first bytes ps = blanked-twice ps
+  run-blind (suc n) first bytes ps =
+      sym (run-blind n (first + 1) (drop 4096 bytes) (written_pages (blanked hides ps) first 0 (take 4096 bytes)))
+      ∙ ap (λ qs. blanked hides (written_run n qs (first + 1) (drop 4096 bytes))) (written-blind first 0 (take 4096 bytes) ps)
+      ∙ run-blind n (first + 1) (drop 4096 bytes) (written_pages ps first 0 (take 4096 bytes))
+
   pub filled-blind : (bytes : List ℕ) (o : Option Buffers) (ps : List (Option Page)) → blanked hides (filled_pages (blanked hides ps) bytes o) ≡ blanked hides (filled_pages ps bytes o)
   filled-blind bytes None ps = blanked-twice ps
-  filled-blind bytes (Some b) ps = written-blind b.rx 0 bytes ps
+  filled-blind bytes (Some b) ps = run-blind b.pages b.rx bytes ps
 
   pub changed-blind : (s : State) (ranges : List Range) (f : Option Page → Option Page) → IsBlind f → blanked hides (changed_pages (blank hides s) ranges f) ≡ blanked hides (changed_pages s ranges f)
   changed-blind s ranges f blind = each-blind (λ p page. cond (names s ranges p) (f page) page) (λ p. blind-where (names s ranges p) f blind) s.pages
@@ -222,9 +231,9 @@ module _ (s : State) (hides : ℕ → Bool) where
     tx-shown = of (buffers_of s s.runner) refl
       where
         of : (o : Option Buffers) → buffers_of s s.runner ≡ o
-            → option_map_or (λ (x : Buffers). option_map_or (λ (q : Page). q.bytes) (page_at b x.tx) []) o [] ≡ option_map_or (λ (x : Buffers). option_map_or (λ (q : Page). q.bytes) (page_at s x.tx) []) o []
+            → option_map_or (λ (x : Buffers). run_bytes b x.tx x.pages) o [] ≡ option_map_or (λ (x : Buffers). run_bytes s x.tx x.pages) o []
         of None is = refl
-        of (Some x) is = bytes-alone x.tx (steady.buffers s.runner x steady.runner is).tx
+        of (Some x) is = flat-run-same (page_bytes b) (page_bytes s) x.tx x.pages (λ p its. bytes-alone p ((steady.buffers s.runner x steady.runner is).tx p its))
 
   -- ---- what the runner does, whose TX has all its bytes
   module _ (tx-b : tx_bytes b s.runner ≡ tx_bytes s s.runner) where

@@ -1,16 +1,20 @@
 -- Buffers: map, unmap and release, in the runner's view, and to others; and RX that is filled.
-use Rattle.std.proofs.Common.{◌≡◌, ◌≢◌, ◌∙◌, ℕ, ◌<◌, Bool, true, false, cond, List, [], ◌∷◌, length, get_or, set, Option, Some, None, is_some, is_none, refl, sym, ap, subst, inl, inr, arith, length-set, get_or-set_same, get_or-set_other}
+use Rattle.std.proofs.Common.{◌≡◌, ◌≢◌, ◌∙◌, ℕ, ◌<◌, Bool, true, false, cond, List, [], ◌∷◌, length, get_or, set, Option, Some, None, is_some, is_none, refl, sym, ap, subst, inl, inr, arith, length-set, get_or-set_same, get_or-set_other, ◌*◌}
 use Rattle.std.specs.Prelude.{◌==◌, ◌||◌, ◌&&◌, not}
 use Rattle.std.specs.Option.{option_map, option_map_or}
 use Rattle.std.proofs.lemmas.Bool.{cases_eq, eq-eqb, eqb-true}
+use Rattle.std.specs.List.{list_all}
 use Rattle.std.proofs.lemmas.Bool.Decides.{nat_tests}
+use Rattle.ffa_model.specs.declared.limits.TheConstants.{MOST_BUFFER_PAGES}
+use Rattle.ffa_model.proofs.Runs.{run-each}
+use Rattle.ffa_model.specs.Manifest.{is_from_to}
 use Rattle.ffa_model.specs.declared.operation.ErrorCode.TheVariants.{InvalidParameters, Denied}
 use Rattle.ffa_model.specs.Rights.{may_write}
-use Rattle.ffa_model.specs.Lists.{map_at}
+use Rattle.ffa_model.specs.Lists.{map_at, run}
 use Rattle.ffa_model.specs.Identifiers.{identifier, place}
 use Rattle.ffa_model.specs.State.{State, Page, Buffers, page_at, owner_of, buffers_of, is_known}
 use Rattle.ffa_model.specs.Access.{handle_at, transaction_at}
-use Rattle.ffa_model.specs.Buffers.{buffers_with, buffers_with_rx, candidate_at, candidates, filled, filled_pages, is_full, is_page_address, is_usable, map_guards, new_buffers, page_number, release_guards, rx_release, rxtx_map, rxtx_unmap, unmap_guards, with_buffers, with_rx}
+use Rattle.ffa_model.specs.Buffers.{buffers_with, buffers_with_rx, candidate_at, candidates, filled, filled_pages, is_full, is_run_address, is_usable, are_runs_apart, room_of, map_guards, new_buffers, page_number, release_guards, rx_release, rxtx_map, rxtx_unmap, unmap_guards, with_buffers, with_rx}
 use Rattle.ffa_model.specs.Calls.{first_failure}
 use Rattle.ffa_model.specs.RunStates.{schedule_of}
 use Rattle.ffa_laws.specs.Steady.{IsSteady, AreSteadyBuffers}
@@ -23,7 +27,7 @@ use Rattle.ffa_laws.proofs.Maps.{at-map_at, map_at-set}
 use Rattle.ffa_laws.proofs.Views.{kept_none, view-named, view-page}
 use Rattle.ffa_laws.proofs.Form.{IsOwn}
 use Rattle.ffa_laws.proofs.Changes.{OwnKept, buffers_seen-none, identifier-place, other-changed, own_full, repaged, seen_buffers, unwritten, view-changed, with_parts}
-use Rattle.ffa_laws.proofs.Written.{far-written, hidden-filled, rewritten-filled, rx-own, seen-filled, with_rx_full}
+use Rattle.ffa_laws.proofs.Written.{far-run, hidden-filled, rewritten-filled, rx-own, seen-filled, with_rx_full}
 use Rattle.ffa_laws.proofs.Steadies.{steady-changed, steady-rx, usable, alone-far}
 
 -- ---- buffers in a view
@@ -36,7 +40,7 @@ view-buffers e f s = at-map_at (buffers_seen e (length s.pages)) s.buffers (plac
 pub own-buffers : (e : ℕ) (s : State) → is_known s e ≡ true → buffers_of (view e s) e ≡ buffers_of s e
 own-buffers e s known = view-buffers e e s ∙ own-seen e (length s.pages) s (buffers_of s e) known
 
--- that buffers are there, and full, is public
+-- that buffers are there, how large they are, and that RX is full is public
 pub seen-some : (e past i : ℕ) (b : Option Buffers) → is_some (buffers_seen e past i b) ≡ is_some b
 seen-some e past i None = ap is_some (buffers_seen-none e past i)
 seen-some e past i (Some b) = elim (identifier i == e) as (λ t. is_some (cond t (Some b) (hidden past (Some b))) ≡ true) [ true ↦ refl | false ↦ refl ]
@@ -44,6 +48,10 @@ seen-some e past i (Some b) = elim (identifier i == e) as (λ t. is_some (cond t
 pub seen-full : (e past i : ℕ) (b : Option Buffers) → is_full (buffers_seen e past i b) ≡ is_full b
 seen-full e past i None = ap is_full (buffers_seen-none e past i)
 seen-full e past i (Some b) = elim (identifier i == e) as (λ t. is_full (cond t (Some b) (hidden past (Some b))) ≡ b.full) [ true ↦ refl | false ↦ refl ]
+
+pub seen-room : (e past i : ℕ) (b : Option Buffers) → room_of (buffers_seen e past i b) ≡ room_of b
+seen-room e past i None = ap room_of (buffers_seen-none e past i)
+seen-room e past i (Some b) = elim (identifier i == e) as (λ t. room_of (cond t (Some b) (hidden past (Some b))) ≡ 4096 * b.pages) [ true ↦ refl | false ↦ refl ]
 
 seen-rx : (e past i : ℕ) (full : Bool) (b : Option Buffers) → buffers_seen e past i (with_rx_full full b) ≡ with_rx_full full (buffers_seen e past i b)
 seen-rx e past i full b =
@@ -84,7 +92,7 @@ far-filled e f s bytes steady known differ = go (buffers_of s f) refl
   where
     go : (o : Option Buffers) → buffers_of s f ≡ o → filled_pages (view e s).pages bytes o ≡ (view e s).pages
     go None is = refl
-    go (Some b) is = far-written e s b.rx 0 bytes (alone-far s e f b.rx (steady.buffers f b known is).rx differ)
+    go (Some b) is = far-run e s b.pages b.rx bytes (λ p its. alone-far s e f p ((steady.buffers f b known is).rx p its) differ)
 
 pub far-repaged : (e f : ℕ) (s : State) (bytes : List ℕ) → IsSteady s → is_known s f ≡ true → f ≢ e → repaged e s (filled_pages s.pages bytes (buffers_of s f)) ≡ view e s
 far-repaged e f s bytes steady known differ =
@@ -134,12 +142,12 @@ same-map_guards : (s : State) → IsSteady s → (tx rx pages : ℕ)
     → map_guards s.runner (buffers_of (view s.runner s) s.runner) (candidates (view s.runner s)) tx rx pages ≡ map_guards s.runner (buffers_of s s.runner) (candidates s) tx rx pages
 same-map_guards s steady tx rx pages =
     λ i. (is_none (own-buffers s.runner s steady.runner i), Denied)
-    ∷ (pages == 1, InvalidParameters)
-    ∷ (is_page_address (record { base = s.ram_base; count = size i; page = candidate_at s }) tx, InvalidParameters)
-    ∷ (is_page_address (record { base = s.ram_base; count = size i; page = candidate_at s }) rx, InvalidParameters)
-    ∷ (not (tx == rx), InvalidParameters)
-    ∷ (view-usable s.runner s steady (page_number s.ram_base tx) i, Denied)
-    ∷ (view-usable s.runner s steady (page_number s.ram_base rx) i, Denied)
+    ∷ (is_from_to 1 MOST_BUFFER_PAGES pages, InvalidParameters)
+    ∷ (is_run_address (record { base = s.ram_base; count = size i; page = candidate_at s }) pages tx, InvalidParameters)
+    ∷ (is_run_address (record { base = s.ram_base; count = size i; page = candidate_at s }) pages rx, InvalidParameters)
+    ∷ (are_runs_apart pages (page_number s.ram_base tx) (page_number s.ram_base rx), InvalidParameters)
+    ∷ (list_all (λ p. view-usable s.runner s steady p i) (run (page_number s.ram_base tx) pages), Denied)
+    ∷ (list_all (λ p. view-usable s.runner s steady p i) (run (page_number s.ram_base rx) pages), Denied)
     ∷ []
   where
     size : length (view s.runner s).pages ≡ length s.pages
@@ -149,7 +157,7 @@ same-map_guards s steady tx rx pages =
 module _ (s : State) (steady : IsSteady s) where
   pub own-map : (tx rx pages : ℕ) → IsOwn s (rxtx_map (view s.runner s) tx rx pages) (rxtx_map s tx rx pages)
   own-map tx rx pages =
-      (ap first_failure (same-map_guards s steady tx rx pages), λ none. (view-with_buffers s.runner s (Some (new_buffers s.ram_base tx rx)) steady.runner, refl))
+      (ap first_failure (same-map_guards s steady tx rx pages), λ none. (view-with_buffers s.runner s (Some (new_buffers s.ram_base tx rx pages)) steady.runner, refl))
 
   pub own-unmap : (endpoint : ℕ) → IsOwn s (rxtx_unmap (view s.runner s) endpoint) (rxtx_unmap s endpoint)
   own-unmap endpoint =
@@ -176,11 +184,11 @@ module _ (s : State) (steady : IsSteady s) where
 
   pub steady-map : (tx rx pages : ℕ) → first_failure (rxtx_map s tx rx pages).guards ≡ None → IsSteady (rxtx_map s tx rx pages).state
   steady-map tx rx pages none =
-      steady-set (Some (new_buffers s.ram_base tx rx)) (λ x is.
-      let may_tx = usable s s.runner (page_number s.ram_base tx) (guard-passes (map_guards s.runner (buffers_of s s.runner) (candidates s) tx rx pages) 5 Denied (sym none)) in
-      let may_rx = usable s s.runner (page_number s.ram_base rx) (guard-passes (map_guards s.runner (buffers_of s s.runner) (candidates s) tx rx pages) 6 Denied (sym none)) in
-      let new : new_buffers s.ram_base tx rx ≡ x = cc in
-      subst (AreSteadyBuffers s s.runner) new (record { tx = may_tx; rx = may_rx }))
+      steady-set (Some (new_buffers s.ram_base tx rx pages)) (λ x is.
+      let all_tx = run-each (λ p. is_usable s.runner (candidate_at s p)) (page_number s.ram_base tx) pages (guard-passes (map_guards s.runner (buffers_of s s.runner) (candidates s) tx rx pages) 5 Denied (sym none)) in
+      let all_rx = run-each (λ p. is_usable s.runner (candidate_at s p)) (page_number s.ram_base rx) pages (guard-passes (map_guards s.runner (buffers_of s s.runner) (candidates s) tx rx pages) 6 Denied (sym none)) in
+      let new : new_buffers s.ram_base tx rx pages ≡ x = cc in
+      subst (AreSteadyBuffers s s.runner) new (record { tx = λ p its. usable s s.runner p (all_tx p its); rx = λ p its. usable s s.runner p (all_rx p its) }))
 
   pub steady-unmap : IsSteady (with_buffers s s.runner None)
   steady-unmap = steady-set None (λ x is. absurd (none_some is))

@@ -15,7 +15,7 @@ use Rattle.ffa_model.specs.declared.operation.Outcome.TheVariants.{Data, Done}
 use Rattle.ffa_model.specs.Lists.{map_at}
 use Rattle.ffa_model.specs.RelinquishDescriptor.{relinquish_of}
 use Rattle.ffa_model.specs.Rights.{is_lend}
-use Rattle.ffa_model.specs.State.{State, Page, Buffers, Transaction, buffers_of, transaction_of}
+use Rattle.ffa_model.specs.State.{State, Page, Transaction, buffers_of, transaction_of}
 use Rattle.ffa_model.specs.Access.{is_held_by, is_naming, is_offered, names}
 use Rattle.ffa_model.specs.Calls.{answered, first_failure}
 use Rattle.ffa_model.specs.Memory.{fetch_fault, number_at, page_of_address, read_fault, size_of, store_fault, stored, zeroed_if, zeroed_page}
@@ -33,7 +33,7 @@ use Rattle.ffa_laws.proofs.Form.{accessed-kept}
 use Rattle.ffa_laws.proofs.Maps.{first_none, map_at-same, map_at-twice}
 use Rattle.ffa_laws.proofs.ReadRuns.{heard-messages}
 use Rattle.ffa_laws.proofs.Readings.{lent-away, write-blank}
-use Rattle.ffa_laws.proofs.Tellings.{away-second, same-told, same-messages, tx-first, tx-second}
+use Rattle.ffa_laws.proofs.Tellings.{ShowsTx, away-second, same-told, same-messages, tx-first, tx-second}
 
 after-append : (s : State) (ops later : List Op) → state_after s (ops ++ later) ≡ state_after (state_after s ops) later
 after-append s [] later = refl
@@ -70,7 +70,7 @@ module _ (s : State) (h : ℕ) where
   all-kept (op ∷ ops) v same all = let (here, rest) = and_parts (is_in_loan s h op) _ all in all-kept ops (step v op).state (one-kept v same op here ∙ same) rest
 
   -- ---- and another endpoint that can't read them is told nothing of it
-  module _ (clear : (x : Buffers) → buffers_of s s.runner ≡ Some x → hides x.tx ≡ false) (e : ℕ) (away : (p : ℕ) → hides p ≡ true → is_unreadable s e p ≡ true) (other : s.runner ≢ e) where
+  module _ (clear : ShowsTx hides s) (e : ℕ) (away : (p : ℕ) → hides p ≡ true → is_unreadable s e p ≡ true) (other : s.runner ≢ e) where
     apart : (v : State) → blank hides v ≡ blank hides s → (v.runner == e) ≡ false
     apart v same = ne_eqb v.runner e (λ is. other (sym (ap (λ (u : State). u.runner) same) ∙ is))
 
@@ -139,8 +139,8 @@ module _ (s : State) (steady : IsSteady s) (h : ℕ) (x : List ℕ) (its : IsZer
   in-ranges : (p : ℕ) → hidden p ≡ names s t.ranges p
   in-ranges p = ap (is_naming s p) lent.there
 
-  clear : (b : Buffers) → buffers_of s s.runner ≡ Some b → hidden b.tx ≡ false
-  clear b is = first_none (is_naming s b.tx) s.transactions refl (steady.buffers s.runner b steady.runner is).tx.unnamed h
+  clear : ShowsTx hidden s
+  clear b is p its = first_none (is_naming s p) s.transactions refl ((steady.buffers s.runner b steady.runner is).tx p its).unnamed h
 
   -- in a state that differs in pages of the loan alone, it leaves the same state
   abbrev after_zeros : State → State

@@ -201,8 +201,8 @@ module _ (s : State) (steady : IsSteady s) (h : ℕ) (t : Transaction) (there : 
             let old = steady.buffers e b known is in
             let new = after.buffers e b known is in
             record {
-              tx = record { owner = owner-same b.tx (unnamed-away b.tx old.tx.unnamed) ∙ old.tx.owner; unnamed = new.tx.unnamed };
-              rx = record { owner = owner-same b.rx (unnamed-away b.rx old.rx.unnamed) ∙ old.rx.owner; unnamed = new.rx.unnamed };
+              tx = λ q its. record { owner = owner-same q (unnamed-away q (old.tx q its).unnamed) ∙ (old.tx q its).owner; unnamed = (new.tx q its).unnamed };
+              rx = λ q its. record { owner = owner-same q (unnamed-away q (old.rx q its).unnamed) ∙ (old.rx q its).owner; unnamed = (new.rx q its).unnamed };
             };
         bound = steady.bound;
       }

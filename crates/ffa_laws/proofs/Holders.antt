@@ -8,6 +8,7 @@ use Rattle.std.specs.FinMap as finite
 use Rattle.std.proofs.Math.Path.{fun_ext}
 use Rattle.std.proofs.lemmas.Bool.{eqb-true, le-leb}
 use Rattle.std.proofs.lemmas.Option.{same_Some}
+use Rattle.ffa_model.specs.declared.limits.TheConstants.{MOST_SENDS}
 use Rattle.ffa_model.specs.declared.rights.Kind.{Kind}
 use Rattle.ffa_model.specs.declared.rights.Kind.TheVariants.{Share, Lend, Donate}
 use Rattle.ffa_model.specs.declared.rights.Rights.{Rights}
@@ -213,15 +214,18 @@ module _ (s : State) (steady : IsSteady s) (h : ℕ) (t : Transaction) (there : 
           numbers = numbered;
           buffers = λ e b known is.
               let own = steady.buffers e b known is in
-              record { tx = record { owner = own.tx.owner; unnamed = handle_at-reheld b.tx ∙ own.tx.unnamed }; rx = record { owner = own.rx.owner; unnamed = handle_at-reheld b.rx ∙ own.rx.unnamed } };
+              record {
+                tx = λ q its. record { owner = (own.tx q its).owner; unnamed = handle_at-reheld q ∙ (own.tx q its).unnamed };
+                rx = λ q its. record { owner = (own.rx q its).owner; unnamed = handle_at-reheld q ∙ (own.rx q its).unnamed };
+              };
           bound = steady.bound;
         }
       where
-        numbered : (k : ℕ) (u : Transaction) → transaction_of after k ≡ Some u → (n : ℕ) × (k ≡ handle_of u.sender n) × (n ≤ sent_by s u.sender) × (n ≤ 65535)
+        numbered : (k : ℕ) (u : Transaction) → transaction_of after k ≡ Some u → (n : ℕ) × (k ≡ handle_of u.sender n) × (n ≤ sent_by s u.sender) × (n ≤ MOST_SENDS)
         numbered k u is =
-            elim (k == h) as (λ b. (k == h) ≡ b → cond b (Some changed) (transaction_of s k) ≡ Some u → (n : ℕ) × (k ≡ handle_of u.sender n) × (n ≤ sent_by s u.sender) × (n ≤ 65535)) [
+            elim (k == h) as (λ b. (k == h) ≡ b → cond b (Some changed) (transaction_of s k) ≡ Some u → (n : ℕ) × (k ≡ handle_of u.sender n) × (n ≤ sent_by s u.sender) × (n ≤ MOST_SENDS)) [
               | true ↦ λ same its.
-                  subst (λ f. (n : ℕ) × (k ≡ handle_of f n) × (n ≤ sent_by s f) × (n ≤ 65535)) (ap (λ (v : Transaction). v.sender) (same_Some changed u its))
+                  subst (λ f. (n : ℕ) × (k ≡ handle_of f n) × (n ≤ sent_by s f) × (n ≤ MOST_SENDS)) (ap (λ (v : Transaction). v.sender) (same_Some changed u its))
                   (steady.numbers k t (ap (transaction_of s) (eqb-true k h same) ∙ there))
               | false ↦ λ other old. steady.numbers k u old
             ] refl (sym (get-insert s.transactions h changed k) ∙ is)

@@ -1,9 +1,10 @@
 -- A page that its owner has alone stays as it is, whatever another endpoint does, but for a message into RX.
-use Rattle.std.proofs.Common.{◌≡◌, ◌≢◌, ◌∙◌, ℕ, ◌-◌, ◌/◌, ◌%◌, true, false, cond, List, [], get_or, Option, Some, None, is_some, refl, sym, ap, inl, inr, get_or-set_other}
+use Rattle.std.proofs.Common.{◌≡◌, ◌≢◌, ◌∙◌, ℕ, ◌-◌, ◌/◌, ◌%◌, true, false, cond, List, [], get_or, Option, Some, None, is_some, refl, sym, ap, inl, inr}
 use Rattle.std.specs.Prelude.{Bool, is_none, ◌==◌, ◌&&◌, nat_le, nat_lt, ◌^◌}
 use Rattle.std.specs.Option.{option_and_then, option_map_or}
 use Rattle.std.proofs.lemmas.Bool.{and_from, cases_Bool, cases_eq, eq-eqb, eqb-true, false≢true, true≢false}
 use Rattle.byteorder.specs.Endian.{little_bytes}
+use Rattle.ffa_model.specs.Lists.{is_in_run}
 use Rattle.ffa_model.specs.declared.descriptor.RelinquishDesc.{RelinquishDesc}
 use Rattle.ffa_model.specs.declared.operation.Op.{Op}
 use Rattle.ffa_model.specs.declared.call.Call as calls
@@ -20,7 +21,7 @@ use Rattle.ffa_model.specs.Rights.{may_store}
 use Rattle.ffa_model.specs.State.{State, Page, Transaction, Buffers, page_at, owner_of, buffers_of, is_known, transaction_of}
 use Rattle.ffa_model.specs.Access.{access, handle_at, is_naming, names, right_of}
 use Rattle.ffa_model.specs.Buffers.{filled_pages}
-use Rattle.ffa_model.specs.Memory.{access_at, size_of, store_fault, written_pages, zeroed_if, zeroed_page}
+use Rattle.ffa_model.specs.Memory.{access_at, size_of, store_fault, zeroed_if, zeroed_page}
 use Rattle.ffa_model.specs.Calls.{first_failure}
 use Rattle.ffa_model.specs.MemoryRetrieve.{memory_retrieve}
 use Rattle.ffa_model.specs.MemorySend.{memory_send, memory_sent, send_guards, send_read}
@@ -36,25 +37,23 @@ use Rattle.ffa_model.proofs.Accesses.{page-changed}
 use Rattle.ffa_laws.proofs.Taken.{before, response, state-taken, taken, unnamed-before}
 use Rattle.ffa_laws.proofs.Maps.{first_none}
 use Rattle.ffa_laws.proofs.Kept.{is_memory_call, kept-call, kept-step}
+use Rattle.ffa_laws.proofs.Written.{elsewhere, elsewhere-run}
 
 abbrev page_in : List (Option Page) → ℕ → Option Page
 page_in ps p = get_or ps p None
 
-elsewhere : (ps : List (Option Page)) (q p at : ℕ) (bytes : List ℕ) → p ≢ q → page_in (written_pages ps q at bytes) p ≡ page_in ps p
-elsewhere ps q p at bytes differ = get_or-set_other ps q p _ None differ
-
 module _ (s : State) (steady : IsSteady s) (e p : ℕ) (owned : owner_of s p ≡ e) (unnamed : handle_at s p ≡ None) (other : s.runner ≢ e) where
-  -- a filled RX of another endpoint is another page
-  elsewhere-filled : (ps : List (Option Page)) (f : ℕ) (bytes : List ℕ) → is_known s f ≡ true → ((b : Buffers) → buffers_of s f ≡ Some b → p ≢ b.rx) → page_in (filled_pages ps bytes (buffers_of s f)) p ≡ page_in ps p
+  -- a filled RX of another endpoint is of other pages
+  elsewhere-filled : (ps : List (Option Page)) (f : ℕ) (bytes : List ℕ) → is_known s f ≡ true → ((b : Buffers) → buffers_of s f ≡ Some b → (q : ℕ) → is_in_run b.rx b.pages q ≡ true → p ≢ q) → page_in (filled_pages ps bytes (buffers_of s f)) p ≡ page_in ps p
   elsewhere-filled ps f bytes known differ = go (buffers_of s f) refl
     where
       go : (o : Option Buffers) → buffers_of s f ≡ o → page_in (filled_pages ps bytes o) p ≡ page_in ps p
       go None is = refl
-      go (Some b) is = elsewhere ps b.rx p 0 bytes (differ b is)
+      go (Some b) is = elsewhere-run b.pages ps b.rx p bytes (differ b is)
 
-  -- RX of an endpoint is its own page
-  of_another : (f : ℕ) (b : Buffers) → is_known s f ≡ true → buffers_of s f ≡ Some b → f ≢ e → p ≢ b.rx
-  of_another f b known is differ same = differ (sym (steady.buffers f b known is).rx.owner ∙ ap (owner_of s) (sym same) ∙ owned)
+  -- RX of an endpoint is of its own pages
+  of_another : (f : ℕ) (b : Buffers) → is_known s f ≡ true → buffers_of s f ≡ Some b → f ≢ e → (q : ℕ) → is_in_run b.rx b.pages q ≡ true → p ≢ q
+  of_another f b known is differ q its same = differ (sym ((steady.buffers f b known is).rx q its).owner ∙ ap (owner_of s) (sym same) ∙ owned)
 
   -- the runner has no access to the page
   no_access : access s s.runner p ≡ None
@@ -83,12 +82,12 @@ module _ (s : State) (steady : IsSteady s) (e p : ℕ) (owned : owner_of s p ≡
       → first_failure (send2_guards s.parties s.buffers s.runner (header_in (tx_bytes s s.runner))) ≡ None
       → page_in (filled_pages s.pages (message_in (tx_bytes s s.runner)) (buffers_of s (header_in (tx_bytes s s.runner)).receiver)) p ≡ page_in s.pages p
   delivered_elsewhere message not_bound is passed =
-      elsewhere-filled s.pages receiver (message_in (tx_bytes s s.runner)) known (λ b buffers same.
+      elsewhere-filled s.pages receiver (message_in (tx_bytes s s.runner)) known (λ b buffers q its same.
       elim (cases_eq receiver e) [
         | inl mine ↦
-            let rx : option_map_or (λ (x : Buffers). x.rx == p) (buffers_of s e) false ≡ true = ap (λ o. option_map_or (λ (x : Buffers). x.rx == p) o false) (ap (buffers_of s) (sym mine) ∙ buffers) ∙ eq-eqb b.rx p (sym same) in
+            let rx : option_map_or (λ (x : Buffers). is_in_run x.rx x.pages p) (buffers_of s e) false ≡ true = ap (λ o. option_map_or (λ (x : Buffers). is_in_run x.rx x.pages p) o false) (ap (buffers_of s) (sym mine) ∙ buffers) ∙ ap (is_in_run b.rx b.pages) same ∙ its in
             true≢false (sym (and_from _ _ is (and_from _ _ (ap is_none passed) (and_from _ _ (eq-eqb receiver e mine) rx))) ∙ not_bound)
-        | inr differ ↦ of_another receiver b known buffers differ same
+        | inr differ ↦ of_another receiver b known buffers differ q its same
       ])
     where
       receiver : ℕ

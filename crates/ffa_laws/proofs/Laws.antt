@@ -78,7 +78,7 @@ module _ (e : ℕ) (s : State) (steady : IsSteady s) (known : is_known s e ≡ t
   other-service (Version version) = λ none. other-same e s
   other-service (Features function) = λ none. other-same e s
   other-service RxRelease = λ none. other-release s steady e
-  other-service (RxtxMap tx rx pages) = λ none. other-buffers s steady e known other (Some (new_buffers s.ram_base tx rx))
+  other-service (RxtxMap tx rx pages) = λ none. other-buffers s steady e known other (Some (new_buffers s.ram_base tx rx pages))
   other-service (RxtxUnmap endpoint) = λ none. other-buffers s steady e known other None
   other-service (PartitionInfoGet uuid flags) = λ none. other-info s steady uuid flags e other
   other-service IdGet = λ none. other-same e s

@@ -4,12 +4,13 @@ use Rattle.std.specs.Prelude.{◌==◌, not, nat_le}
 use Rattle.std.specs.Option.{option_map_or}
 use Rattle.std.proofs.lemmas.Bool.{eq-eqb, eqb-true, true≢false}
 use Rattle.std.proofs.lemmas.Bool.Decides.{nat_tests}
+use Rattle.ffa_model.proofs.Runs.{flat-run-same}
 use Rattle.ffa_model.specs.declared.operation.ErrorCode.{ErrorCode}
-use Rattle.ffa_model.specs.declared.operation.ErrorCode.TheVariants.{InvalidParameters, Busy, Denied}
+use Rattle.ffa_model.specs.declared.operation.ErrorCode.TheVariants.{InvalidParameters, Busy, Denied, NoMemory}
 use Rattle.ffa_model.specs.Identifiers.{place}
 use Rattle.ffa_model.specs.State.{State, Page, Buffers, buffers_of, has_property, is_known, is_known_among}
-use Rattle.ffa_model.specs.Memory.{page_bytes}
-use Rattle.ffa_model.specs.Buffers.{buffers_in, buffers_with_rx, filled, filled_pages, is_full}
+use Rattle.ffa_model.specs.Memory.{page_bytes, run_bytes}
+use Rattle.ffa_model.specs.Buffers.{buffers_in, buffers_with_rx, filled, filled_pages, is_full, room_of}
 use Rattle.ffa_model.specs.Calls.{first_failure}
 use Rattle.ffa_model.specs.Messages.{MessageHeader, delivered, header_in, message_in, msg_send2, send2_guards, tx_bytes}
 use Rattle.ffa_model.specs.Notifications.{manager_class, notifications_of, message_bits, with_framework_bit, has_bitmaps_in}
@@ -26,18 +27,20 @@ use Rattle.ffa_laws.proofs.Written.{rewritten-filled, rx-own, seen-filled, with_
 use Rattle.ffa_laws.proofs.Steadies.{alone-near, steady-notified}
 use Rattle.ffa_laws.proofs.Told.{IsTold}
 use Rattle.ffa_laws.proofs.Raised.{own-bitmaps, pending-applied, raised, raised-absent, raised-hidden, raised-own}
-use Rattle.ffa_laws.proofs.BufferLaws.{far-repaged, own-buffers, seen-full, seen-some, steady-filled, view-buffers, view-filled_other}
+use Rattle.ffa_laws.proofs.BufferLaws.{far-repaged, own-buffers, seen-full, seen-room, seen-some, steady-filled, view-buffers, view-filled_other}
 
 not-same : (a b : ℕ) → not (a == b) ≡ true → a ≢ b
 not-same a b is same = grind (arith, nat_tests)
 
 module _ (s : State) (steady : IsSteady s) where
   pub tx-seen : tx_bytes (view s.runner s) s.runner ≡ tx_bytes s s.runner
-  tx-seen = ap (λ o. option_map_or (λ (b : Buffers). page_bytes (view s.runner s) b.tx) o []) (own-buffers s.runner s steady.runner) ∙ go (buffers_of s s.runner) refl
+  tx-seen = ap (λ o. option_map_or (λ (b : Buffers). run_bytes (view s.runner s) b.tx b.pages) o []) (own-buffers s.runner s steady.runner) ∙ go (buffers_of s s.runner) refl
     where
-      go : (o : Option Buffers) → buffers_of s s.runner ≡ o → option_map_or (λ (b : Buffers). page_bytes (view s.runner s) b.tx) o [] ≡ option_map_or (λ (b : Buffers). page_bytes s b.tx) o []
+      go : (o : Option Buffers) → buffers_of s s.runner ≡ o → option_map_or (λ (b : Buffers). run_bytes (view s.runner s) b.tx b.pages) o [] ≡ option_map_or (λ (b : Buffers). run_bytes s b.tx b.pages) o []
       go None is = refl
-      go (Some b) is = near-bytes s.runner s b.tx (alone-near s s.runner b.tx (steady.buffers s.runner b steady.runner is).tx)
+      go (Some b) is =
+          flat-run-same (page_bytes (view s.runner s)) (page_bytes s) b.tx b.pages (λ p its.
+          near-bytes s.runner s p (alone-near s s.runner p ((steady.buffers s.runner b steady.runner is).tx p its)))
 
   pub some-seen : (f : ℕ) → is_some (buffers_in (view s.runner s).buffers f) ≡ is_some (buffers_in s.buffers f)
   some-seen f = ap is_some (view-buffers s.runner f s) ∙ seen-some s.runner (length s.pages) (place f) (buffers_of s f)
@@ -45,7 +48,10 @@ module _ (s : State) (steady : IsSteady s) where
   pub full-seen : (f : ℕ) → is_full (buffers_in (view s.runner s).buffers f) ≡ is_full (buffers_in s.buffers f)
   full-seen f = ap is_full (view-buffers s.runner f s) ∙ seen-full s.runner (length s.pages) (place f) (buffers_of s f)
 
-  -- that buffers are there, and full, is all that the checks ask of them
+  pub room-seen : (f : ℕ) → room_of (buffers_in (view s.runner s).buffers f) ≡ room_of (buffers_in s.buffers f)
+  room-seen f = ap room_of (view-buffers s.runner f s) ∙ seen-room s.runner (length s.pages) (place f) (buffers_of s f)
+
+  -- that buffers are there, their size and that RX is full is all that the checks ask of them
   same-guards : (m : MessageHeader) → send2_guards s.parties (view s.runner s).buffers s.runner m ≡ send2_guards s.parties s.buffers s.runner m
   same-guards m = λ i.
       (some-seen s.runner i, InvalidParameters)
@@ -56,11 +62,12 @@ module _ (s : State) (steady : IsSteady s) where
       ∷ (not (m.receiver == s.runner), InvalidParameters)
       ∷ (nat_le 20 m.offset, InvalidParameters)
       ∷ (not (m.size == 0), InvalidParameters)
-      ∷ (nat_le (m.offset + m.size) 4096, InvalidParameters)
+      ∷ (nat_le (m.offset + m.size) (room-seen s.runner i), InvalidParameters)
       ∷ (has_property s.parties s.runner 2, Denied)
       ∷ (has_property s.parties m.receiver 2, Denied)
       ∷ (some-seen m.receiver i, Busy)
       ∷ (not (full-seen m.receiver i), Busy)
+      ∷ (nat_le (m.offset + m.size) (room-seen m.receiver i), NoMemory)
       ∷ []
 
   abbrev failure : Option ErrorCode

@@ -6,7 +6,7 @@ use Rattle.std.proofs.lemmas.Bool.{eq-eqb, eqb-true, false≢true, ne_eqb, true�
 use Rattle.std.proofs.lemmas.Option.{none-some}
 use Rattle.ffa_model.specs.declared.operation.Op.{Op}
 use Rattle.ffa_model.specs.declared.rights.Rights.{Rights}
-use Rattle.ffa_model.specs.State.{State, Buffers, Transaction, buffers_of, page_at, transaction_of}
+use Rattle.ffa_model.specs.State.{State, Transaction, buffers_of, page_at, transaction_of}
 use Rattle.ffa_model.specs.Access.{covers, held_by, is_held_by, is_naming, is_offered, is_receiver, names, right_of}
 use Rattle.ffa_model.specs.MemorySend.{transaction_from}
 use Rattle.ffa_model.specs.Step.{step}
@@ -25,7 +25,7 @@ use Rattle.ffa_laws.proofs.Opened.{get-insert}
 use Rattle.ffa_laws.proofs.Origins.{Comes, IsOpened, comes}
 use Rattle.ffa_laws.proofs.OwnAccesses.{ownerless, strangers}
 use Rattle.ffa_laws.proofs.SendLaws.{alone, fresh}
-use Rattle.ffa_laws.proofs.Tellings.{same-messages, same-next, same-outcome, same-readable, same-revealed, same-runner, same-told}
+use Rattle.ffa_laws.proofs.Tellings.{ShowsTx, same-messages, same-next, same-outcome, same-readable, same-revealed, same-runner, same-told}
 
 -- ---- a transaction that waits
 waits-now : (e h : ℕ) (s : State) (ops : List Op) → IsSealed e h s ops → IsWaiting e h s
@@ -59,9 +59,9 @@ module _ (e h : ℕ) (s : State) (waiting : IsWaiting e h s) where
       other : (t : Transaction) → transaction_of s h ≡ Some t → t.sender ≢ e
       other t there same = true≢false (sym (sym (ap (is_offered e) there) ∙ waiting.offered) ∙ ap (λ f. is_receiver f t) (sym same) ∙ apart h t there)
 
--- no buffer is one of its pages
-buffers-clear : (h : ℕ) (s : State) → IsSteady s → (x : Buffers) → buffers_of s s.runner ≡ Some x → is_page_of s h x.tx ≡ false
-buffers-clear h s steady x is = first_none (is_naming s x.tx) s.transactions refl (steady.buffers s.runner x steady.runner is).tx.unnamed h
+-- no page of TX is one of its pages
+buffers-clear : (h : ℕ) (s : State) → IsSteady s → ShowsTx (is_page_of s h) s
+buffers-clear h s steady x is p its = first_none (is_naming s p) s.transactions refl ((steady.buffers s.runner x steady.runner is).tx p its).unnamed h
 
 -- ---- two states that differ in pages alone that e can't read: an operation, and what comes after it
 either : {X : Type 0} (b c : Bool) (x y u v : X) → b ≡ c → (c ≡ true → x ≡ u) → y ≡ v → cond b x y ≡ cond c u v
@@ -72,7 +72,7 @@ either b c x y u v same one two = ap (λ d. cond d x y) same ∙ of c one
     of false one = two
 
 module _ (e : ℕ) (hides : ℕ → Bool) (s t : State) (op : Op) (ops : List Op) (same : blank hides t ≡ blank hides s)
-    (clear : (x : Buffers) → buffers_of s s.runner ≡ Some x → hides x.tx ≡ false) (away : (p : ℕ) → hides p ≡ true → is_unreadable s e p ≡ true)
+    (clear : ShowsTx hides s) (away : (p : ℕ) → hides p ≡ true → is_unreadable s e p ≡ true)
     (still : (p : ℕ) → hides p ≡ true → is_unreadable (step s op).state e p ≡ true) where
   goes_on : SaysNothing e (step s op).state (step t op).state ops → SaysNothing e s t (op ∷ ops)
   goes_on rest =
@@ -112,10 +112,10 @@ module _ (e h : ℕ) (hides : ℕ → Bool) where
       record {
         seen = refl;
         readings = refl;
-        readable = same-readable hides s t same (λ x is. are x.tx ∙ buffers-clear h s steady x is) e (λ p hidden. waits-away e h s sealed steady apart p (sym (are p) ∙ hidden));
+        readable = same-readable hides s t same (λ x is p its. are p ∙ buffers-clear h s steady x is p its) e (λ p hidden. waits-away e h s sealed steady apart p (sym (are p) ∙ hidden));
       }
   waits-on (op ∷ ops) s t steady apart are sealed same =
-      let clear : (x : Buffers) → buffers_of s s.runner ≡ Some x → hides x.tx ≡ false = λ x is. are x.tx ∙ buffers-clear h s steady x is in
+      let clear : ShowsTx hides s = λ x is p its. are p ∙ buffers-clear h s steady x is p its in
       let next : IsWaiting e h (step s op).state = waits-now e h (step s op).state ops sealed.1 in
       let are_then : (p : ℕ) → hides p ≡ is_page_of (step s op).state h p = λ p. are p ∙ same-pages s op h steady (open-now e h s sealed.0) (open-now e h (step s op).state next) p in
       goes_on e hides s t op ops same clear
@@ -134,7 +134,7 @@ module _ (s : State) (steady : IsSteady s) (op : Op) (h : ℕ) (opened : IsOpene
       ∙ ap (is_naming s p) (get-insert s.transactions (next_handle (offers_of s) s.runner) (transaction_from opened.kind opened.read) h
       ∙ ap (λ b. cond b (Some (transaction_from opened.kind opened.read)) (transaction_of s h)) (eq-eqb h (next_handle (offers_of s) s.runner) opened.handle))
 
-  sent-clear : (x : Buffers) → buffers_of s s.runner ≡ Some x → is_page_of next h x.tx ≡ false
+  sent-clear : ShowsTx (is_page_of next h) s
   sent-clear x is = buffers-clear h next (steady-step s steady op) x (ap (λ (u : State). buffers_of u u.runner) opened.state ∙ is)
 
   sent-away : (e : ℕ) → s.runner ≢ e → (p : ℕ) → is_page_of next h p ≡ true → is_unreadable s e p ≡ true

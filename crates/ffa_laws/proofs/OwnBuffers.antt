@@ -1,6 +1,5 @@
 -- Another's operation leaves an endpoint's buffers in their pages.
 use Rattle.std.proofs.Common.{◌≡◌, ◌≢◌, ◌∙◌, ℕ, Bool, true, false, cond, List, length, get_or, Option, Some, None, refl, sym, ap, get_or-set_other}
-use Rattle.std.specs.Prelude.{◌==◌}
 use Rattle.std.specs.Option.{option_map_or}
 use Rattle.byteorder.specs.Endian.{little_bytes}
 use Rattle.ffa_model.specs.declared.descriptor.RelinquishDesc.{RelinquishDesc}
@@ -14,6 +13,7 @@ use Rattle.ffa_model.specs.declared.call.Call as calls
 use Rattle.ffa_model.specs.declared.call.Call.TheVariants.{PartitionInfoGet, MsgWait, RxRelease, RxtxMap, RxtxUnmap, MemDonate, MemLend, MemShare, MemRetrieve, MemRelinquish, MsgSend2}
 use Rattle.ffa_model.specs.SendDescriptor.{SendRecord}
 use Rattle.ffa_model.specs.Identifiers.{place}
+use Rattle.ffa_model.specs.Lists.{is_in_run}
 use Rattle.ffa_model.specs.State.{State, Buffers, is_known, transaction_of, version_of}
 use Rattle.ffa_model.specs.Buffers.{buffers_with, buffers_with_rx, filled, new_buffers}
 use Rattle.ffa_model.specs.Memory.{fetch_fault, number_at, read_fault, size_of, store_fault, stored}
@@ -32,15 +32,15 @@ use Rattle.ffa_laws.proofs.Written.{at-changed, is_at, with_rx_full}
 
 module _ (s : State) (steady : IsSteady s) (e : ℕ) (known : is_known s e ≡ true) (other : s.runner ≢ e) (p : ℕ) where
   abbrev rx_in : List (Option Buffers) → Bool
-  rx_in bs = option_map_or (λ (b : Buffers). b.rx == p) (get_or bs (place e) None) false
+  rx_in bs = option_map_or (λ (b : Buffers). is_in_run b.rx b.pages p) (get_or bs (place e) None) false
 
   -- RX that is full or empty stays where it is, whosever it is
   rx-filled : (f : ℕ) (full : Bool) → rx_in (buffers_with_rx s.buffers f full) ≡ rx_in s.buffers
   rx-filled f full =
-      ap (λ o. option_map_or (λ (b : Buffers). b.rx == p) o false) (at-changed (with_rx_full full) s.buffers (place f) (place e) refl)
+      ap (λ o. option_map_or (λ (b : Buffers). is_in_run b.rx b.pages p) o false) (at-changed (with_rx_full full) s.buffers (place f) (place e) refl)
       ∙ of (is_at (place f) (place e)) (get_or s.buffers (place e) None)
     where
-      of : (b : Bool) (o : Option Buffers) → option_map_or (λ (x : Buffers). x.rx == p) (cond b (with_rx_full full o) o) false ≡ option_map_or (λ (x : Buffers). x.rx == p) o false
+      of : (b : Bool) (o : Option Buffers) → option_map_or (λ (x : Buffers). is_in_run x.rx x.pages p) (cond b (with_rx_full full o) o) false ≡ option_map_or (λ (x : Buffers). is_in_run x.rx x.pages p) o false
       of true None = refl
       of true (Some x) = refl
       of false o = refl
@@ -48,7 +48,7 @@ module _ (s : State) (steady : IsSteady s) (e : ℕ) (known : is_known s e ≡ t
   -- the runner's buffers are others
   rx-beside : (b : Option Buffers) → rx_in (buffers_with s.buffers s.runner b) ≡ rx_in s.buffers
   rx-beside b =
-      ap (λ o. option_map_or (λ (x : Buffers). x.rx == p) o false)
+      ap (λ o. option_map_or (λ (x : Buffers). is_in_run x.rx x.pages p) o false)
       (get_or-set_other s.buffers (place s.runner) (place e) b None (λ same. other (same-known (length s.parties) s.runner e steady.runner known (sym same))))
 
   rx-sent : (kind : Kind) (o : Option SendRecord) → is_rx (memory_sent s kind o) e p ≡ is_rx s e p
@@ -66,7 +66,7 @@ module _ (s : State) (steady : IsSteady s) (e : ℕ) (known : is_known s e ≡ t
   rx-service : (call : calls.Call) → is_rx (service s call).state e p ≡ is_rx s e p
   rx-service RxRelease = rx-filled s.runner false
   rx-service MsgWait = rx-filled s.runner false
-  rx-service (RxtxMap tx rx pages) = rx-beside (Some (new_buffers s.ram_base tx rx))
+  rx-service (RxtxMap tx rx pages) = rx-beside (Some (new_buffers s.ram_base tx rx pages))
   rx-service (RxtxUnmap endpoint) = rx-beside None
   rx-service (PartitionInfoGet uuid flags) =
       elim (is_count_alone flags) as (λ b. is_rx (cond b s (filled s s.runner (info_bytes (version_of s s.runner) s.parties (uuid_bytes uuid)))) e p ≡ is_rx s e p) [ true ↦ refl | false ↦ rx-filled s.runner true ]

@@ -1,6 +1,7 @@
 -- The public part: two are told apart by their numbers.
-use Rattle.std.proofs.Common.{◌≡◌, ◌∙◌, ℕ, zero, suc, Bool, true, false, List, [], ◌∷◌, map, Option, Some, None, refl, sym, ap, bytes_eq}
-use Rattle.std.proofs.lemmas.Bool.{and_parts, eqb-true}
+use Rattle.std.proofs.Common.{◌≡◌, ◌∙◌, ℕ, zero, suc, Bool, true, false, List, [], ◌∷◌, map, Option, Some, None, refl, sym, ap, bytes_eq, ◌+◌, ◌*◌, ◌/◌, ◌%◌, arith}
+use Rattle.std.specs.Prelude.{◌==◌}
+use Rattle.std.proofs.lemmas.Bool.{and_parts, eq-eqb, eqb-true, ne_eqb}
 use Rattle.std.proofs.lemmas.Slice.Eq.{bytes_eq-Decides}
 use Rattle.ffa_model.specs.declared.schedule.Work.{Work}
 use Rattle.ffa_model.specs.declared.schedule.Work.TheVariants.{Run, Request}
@@ -22,20 +23,25 @@ work_back zero = None
 work_back (suc zero) = Some Run
 work_back (suc (suc by)) = Some (Request (record { 0 = by }))
 
-abbrev fullness_back : ℕ → Option Bool
+abbrev fullness_back : ℕ → Option (ℕ × Bool)
 fullness_back zero = None
-fullness_back (suc zero) = Some false
-fullness_back (suc (suc n)) = Some true
+fullness_back (suc n) = Some (n / 2, n % 2 == 1)
 
 work_back-number : (w : Option Work) → work_back (work_number w) ≡ w
 work_back-number None = refl
 work_back-number (Some Run) = refl
 work_back-number (Some (Request by)) = refl
 
-fullness_back-number : (f : Option Bool) → fullness_back (fullness_number f) ≡ f
+fullness_back-number : (f : Option (ℕ × Bool)) → fullness_back (fullness_number f) ≡ f
 fullness_back-number None = refl
-fullness_back-number (Some false) = refl
-fullness_back-number (Some true) = refl
+fullness_back-number (Some (n, true)) =
+    let half : (2 * n + 1) / 2 ≡ n = omega arith in
+    let odd : ((2 * n + 1) % 2 == 1) ≡ true = eq-eqb ((2 * n + 1) % 2) 1 (omega arith) in
+    λ i. Some (half i, odd i)
+fullness_back-number (Some (n, false)) =
+    let half : (2 * n + 0) / 2 ≡ n = omega arith in
+    let even : ((2 * n + 0) % 2 == 1) ≡ false = ne_eqb ((2 * n + 0) % 2) 1 (λ same. absurd (omega (arith, same))) in
+    λ i. Some (half i, even i)
 
 pub same_public : (a b : PublicPart) → is_same_public a b ≡ true → a ≡ b
 same_public a b same =

@@ -33,7 +33,7 @@ use Rattle.ffa_laws.proofs.Changes.{other-told, seen_buffers, view-changed, with
 use Rattle.ffa_laws.proofs.Form.{IsOwn}
 use Rattle.ffa_laws.proofs.Given.{view-lost, view-taken, view-unlost}
 use Rattle.ffa_laws.proofs.Holders.{Holders, reheld, seen-taken, seen-unheld, view-reheld, view-untold}
-use Rattle.ffa_laws.proofs.MessageLaws.{full-seen, some-seen, tx-seen}
+use Rattle.ffa_laws.proofs.MessageLaws.{full-seen, some-seen, tx-seen, room-seen}
 use Rattle.ffa_laws.proofs.ReclaimLaws.{seen-whole}
 use Rattle.ffa_laws.proofs.Told.{IsTold}
 use Rattle.ffa_laws.proofs.Views.{held-seen, shown, view-transaction}
@@ -102,7 +102,7 @@ module _ (s : State) (steady : IsSteady s) where
   -- checks before others that give the same
   same-checks : (x : Transfer) (rest other : List (Bool × ErrorCode)) → first_failure rest ≡ first_failure other → first_failure (checks v x rest) ≡ first_failure (checks s x other)
   same-checks x rest other same =
-      λ i. cond (some-seen s steady s.runner i) (cond (x.total == x.fragment) (cond (nat_le x.total 4096) (cond (x.address == 0) (cond (x.pages == 0) (same i) (Some InvalidParameters)) (Some InvalidParameters)) (Some InvalidParameters)) (Some InvalidParameters)) (Some InvalidParameters)
+      λ i. cond (some-seen s steady s.runner i) (cond (x.total == x.fragment) (cond (nat_le x.total (room-seen s steady s.runner i)) (cond (x.address == 0) (cond (x.pages == 0) (same i) (Some InvalidParameters)) (Some InvalidParameters)) (Some InvalidParameters)) (Some InvalidParameters)) (Some InvalidParameters)
 
   same-read : (total : ℕ) → retrieve_read v total ≡ retrieve_read s total
   same-read total = ap (λ tx. retrieve_of s.runner (in_version (version_of s s.runner) (take total tx))) (tx-seen s steady)

@@ -82,7 +82,10 @@ module _ (s : State) (steady : IsSteady s) (h : ℕ) where
         numbers = λ k t is. steady.numbers k t (open-before k t is);
         buffers = λ e b known is.
             let own = steady.buffers e b known is in
-            record { tx = record { owner = own.tx.owner; unnamed = unnamed-still b.tx own.tx.unnamed }; rx = record { owner = own.rx.owner; unnamed = unnamed-still b.rx own.rx.unnamed } };
+            record {
+              tx = λ q its. record { owner = (own.tx q its).owner; unnamed = unnamed-still q (own.tx q its).unnamed };
+              rx = λ q its. record { owner = (own.rx q its).owner; unnamed = unnamed-still q (own.rx q its).unnamed };
+            };
         bound = steady.bound;
       }
 

@@ -8,6 +8,8 @@ use Rattle.std.specs.FinMap as finite
 use Rattle.std.proofs.lemmas.Bool.{and_parts, cases_Bool, cases_eq, cases_lt, eq-eqb, eqb-true, false≢true, ltb-true, ne_eqb, true≢false}
 use Rattle.std.proofs.lemmas.List.{get_or-set_other, get_or-set_same, get_or_past}
 use Rattle.std.proofs.lemmas.Option.{none-some, same_Some}
+use Rattle.ffa_model.specs.declared.limits.TheConstants.{MOST_OPEN, MOST_SENDS}
+use Rattle.ffa_model.proofs.Runs.{in-run}
 use Rattle.ffa_model.specs.DescriptorPlaces.{in_version}
 use Rattle.ffa_model.specs.declared.operation.ErrorCode.{ErrorCode}
 use Rattle.ffa_model.specs.declared.operation.ErrorCode.TheVariants.{InvalidParameters, NoMemory, Denied}
@@ -15,12 +17,12 @@ use Rattle.ffa_model.specs.declared.rights.Kind.{Kind}
 use Rattle.ffa_model.specs.declared.transaction.Range.{Range}
 use Rattle.ffa_model.specs.declared.transaction.Receiver.{Receiver}
 use Rattle.ffa_model.specs.Identifiers.{identifier, place}
-use Rattle.ffa_model.specs.Lists.{listed}
+use Rattle.ffa_model.specs.Lists.{listed, is_in_run}
 use Rattle.ffa_model.specs.State.{State, Page, Transaction, Buffers, buffers_of, is_known, owner_of, page_at, sent_by, transaction_of, version_of}
 use Rattle.ffa_model.specs.Access.{handle_at, held_by, is_receiver, names, transaction_at}
 use Rattle.ffa_model.specs.Rights.{may_store}
 use Rattle.ffa_model.specs.Memory.{zeroed_if}
-use Rattle.ffa_model.specs.Buffers.{Candidate, buffers_in, candidate_at, candidates}
+use Rattle.ffa_model.specs.Buffers.{Candidate, buffers_in, candidate_at, candidates, room_of}
 use Rattle.ffa_model.specs.Calls.{first_failure}
 use Rattle.ffa_model.specs.RunStates.{schedule_of}
 use Rattle.ffa_model.specs.SendDescriptor.{SendRecord, most_receivers, send_of}
@@ -42,7 +44,7 @@ use Rattle.ffa_laws.proofs.CountSeen.{count-seen}
 use Rattle.ffa_laws.proofs.Form.{IsOwn, same-later}
 use Rattle.ffa_laws.proofs.Grants.{covered-inside, granted-ceiling, one-taker}
 use Rattle.ffa_laws.proofs.Maps.{any-map_at, get_or-map_at}
-use Rattle.ffa_laws.proofs.MessageLaws.{some-seen, tx-seen}
+use Rattle.ffa_laws.proofs.MessageLaws.{some-seen, tx-seen, room-seen}
 use Rattle.ffa_laws.proofs.Opened.{get-insert, one-opened, opened, other-opened, other-untold, own-opened, unnamed-opened}
 use Rattle.ffa_laws.proofs.ReclaimLaws.{zeroed-far, zeroed_if-seen}
 use Rattle.ffa_laws.proofs.ReturnLaws.{steady-zeroed}
@@ -60,8 +62,8 @@ pub record IsOffer (s : State) (r : SendRecord) : Type 0 where
   pub free : list_all (is_sendable s.runner (candidates s) s.buffers) (pages_in (bases_of s) r.ranges) ≡ true
   pub grants : list_all (are_grants_within (bases_of s) r.receivers) (pages_in (bases_of s) r.ranges) ≡ true
   pub zeroed : r.zero ≡ true → are_writable (bases_of s) r.ranges ≡ true
-  pub few : open_count (offers_of s) s.runner < 8
-  pub sent : sent_by s s.runner < 65535
+  pub few : open_count (offers_of s) s.runner < MOST_OPEN
+  pub sent : sent_by s s.runner < MOST_SENDS
 
 pub offer : (s : State) (x : Transfer) (r : SendRecord) → first_failure (send_guards (scene_of s) s.runner x (Some r)) ≡ None → IsOffer s r
 offer s x r none =
@@ -72,8 +74,8 @@ offer s x r none =
       free = guard-passes (send_guards (scene_of s) s.runner x (Some r)) 8 Denied (sym none);
       grants = guard-passes (send_guards (scene_of s) s.runner x (Some r)) 9 Denied (sym none);
       zeroed = zeroes r.zero (guard-passes (send_guards (scene_of s) s.runner x (Some r)) 10 Denied (sym none));
-      few = ltb-true (open_count (offers_of s) s.runner) 8 (guard-passes (send_guards (scene_of s) s.runner x (Some r)) 11 NoMemory (sym none));
-      sent = ltb-true (sent_by s s.runner) 65535 (guard-passes (send_guards (scene_of s) s.runner x (Some r)) 12 NoMemory (sym none));
+      few = ltb-true (open_count (offers_of s) s.runner) MOST_OPEN (guard-passes (send_guards (scene_of s) s.runner x (Some r)) 11 NoMemory (sym none));
+      sent = ltb-true (sent_by s s.runner) MOST_SENDS (guard-passes (send_guards (scene_of s) s.runner x (Some r)) 12 NoMemory (sym none));
     }
   where
     zeroes : (zero : Bool) → (not zero || are_writable (bases_of s) r.ranges) ≡ true → zero ≡ true → are_writable (bases_of s) r.ranges ≡ true
@@ -94,11 +96,11 @@ module _ (s : State) (ranges : List Range) (free : list_all (is_sendable s.runne
 
 -- ---- the guards, in the runner's view
 -- the guards of a send before the one that asks whether all pages may be sent, and those behind it
-abbrev asked_first : Bool → ℕ → Bases → ℕ → Transfer → SendRecord → List (Bool × ErrorCode)
-asked_first mapped endpoints bases e x r =
+abbrev asked_first : Bool → ℕ → ℕ → Bases → ℕ → Transfer → SendRecord → List (Bool × ErrorCode)
+asked_first mapped room endpoints bases e x r =
     (mapped, InvalidParameters)
     ∷ (x.total == x.fragment, InvalidParameters)
-    ∷ (nat_le x.total 4096, InvalidParameters)
+    ∷ (nat_le x.total room, InvalidParameters)
     ∷ (x.address == 0, InvalidParameters)
     ∷ (x.pages == 0, InvalidParameters)
     ∷ (r.sender == e, InvalidParameters)
@@ -110,8 +112,8 @@ abbrev asked_of_pages : Scene → ℕ → SendRecord → List (Bool × ErrorCode
 asked_of_pages c e r =
     (list_all (are_grants_within c.bases r.receivers) (pages_in c.bases r.ranges), Denied)
     ∷ (not r.zero || are_writable c.bases r.ranges, Denied)
-    ∷ (nat_lt (open_count c.offers e) 8, NoMemory)
-    ∷ (nat_lt (sends_of c.offers e) 65535, NoMemory)
+    ∷ (nat_lt (open_count c.offers e) MOST_OPEN, NoMemory)
+    ∷ (nat_lt (sends_of c.offers e) MOST_SENDS, NoMemory)
     ∷ []
 
 module _ (s : State) (steady : IsSteady s) where
@@ -124,13 +126,16 @@ module _ (s : State) (steady : IsSteady s) where
   -- a page of the runner's is a buffer in its view where it is one
   module _ (p : ℕ) (lt : p < length s.pages) (owner : owner_of s p ≡ s.runner) where
     abbrev holds_page : Option Buffers → Bool
-    holds_page b = option_map_or (λ (x : Buffers). x.tx == p || x.rx == p) b false
+    holds_page b = option_map_or (λ (x : Buffers). is_in_run x.tx x.pages p || is_in_run x.rx x.pages p) b false
 
     buffer-at : (i : ℕ) → holds_page (buffers_seen s.runner (length s.pages) i (get_or s.buffers i None)) ≡ holds_page (get_or s.buffers i None)
     buffer-at i = of (get_or s.buffers i None) refl
       where
-        past : (length s.pages == p) ≡ false
-        past = ne_eqb (length s.pages) p (λ same. absurd (omega (arith, lt, same)))
+        past : (n : ℕ) → is_in_run (length s.pages) n p ≡ false
+        past n = elim (cases_Bool (is_in_run (length s.pages) n p)) [
+          | inl within ↦ (let (low, _) = in-run (length s.pages) n p within in absurd (omega (arith, lt, low)))
+          | inr beside ↦ beside
+        ]
 
         in-list : (b : Buffers) → get_or s.buffers i None ≡ Some b → i < length s.parties
         in-list b at = elim (cases_lt i (length s.buffers)) [
@@ -138,8 +143,11 @@ module _ (s : State) (steady : IsSteady s) where
           | inr past_i ↦ absurd (none-some b (sym (get_or_past s.buffers i None past_i) ∙ at))
         ]
 
-        apart : (b : Buffers) → get_or s.buffers i None ≡ Some b → (identifier i == s.runner) ≡ false → (q : ℕ) → owner_of s q ≡ identifier i → (q == p) ≡ false
-        apart b at other q of_q = ne_eqb q p (λ same. true≢false (sym (eq-eqb (identifier i) s.runner (sym of_q ∙ ap (owner_of s) same ∙ owner)) ∙ other))
+        apart : (identifier i == s.runner) ≡ false → (first n : ℕ) → ((q : ℕ) → is_in_run first n q ≡ true → IsAlone s (identifier i) q) → is_in_run first n p ≡ false
+        apart other first n alone = elim (cases_Bool (is_in_run first n p)) [
+          | inl within ↦ absurd (true≢false (sym (eq-eqb (identifier i) s.runner (sym (alone p within).owner ∙ owner)) ∙ other))
+          | inr beside ↦ beside
+        ]
 
         of : (o : Option Buffers) → get_or s.buffers i None ≡ o → holds_page (buffers_seen s.runner (length s.pages) i o) ≡ holds_page o
         of None at = ap holds_page (buffers_seen-none s.runner (length s.pages) i)
@@ -148,7 +156,7 @@ module _ (s : State) (steady : IsSteady s) where
               | true ↦ λ mine. refl
               | false ↦ λ other.
                   let its = steady.buffers (identifier i) b (identifier-known (length s.parties) i (in-list b at)) (ap (λ j. get_or s.buffers j None) (place-identifier i) ∙ at) in
-                  (λ j. past j || past j) ∙ sym (λ j. apart b at other b.tx its.tx.owner j || apart b at other b.rx its.rx.owner j)
+                  (λ j. past b.pages j || past b.pages j) ∙ sym (λ j. apart other b.tx b.pages its.tx j || apart other b.rx b.pages its.rx j)
             ] refl
 
     buffer-seen : is_buffer v.buffers p ≡ is_buffer s.buffers p
@@ -235,22 +243,22 @@ module _ (s : State) (steady : IsSteady s) where
   same-failure x None = λ i. first_failure (
       (some-seen s steady s.runner i, InvalidParameters)
       ∷ (x.total == x.fragment, InvalidParameters)
-      ∷ (nat_le x.total 4096, InvalidParameters)
+      ∷ (nat_le x.total (room-seen s steady s.runner i), InvalidParameters)
       ∷ (x.address == 0, InvalidParameters)
       ∷ (x.pages == 0, InvalidParameters)
       ∷ (false, InvalidParameters)
       ∷ [])
   same-failure x (Some r) =
-      (λ i. first_failure (asked_first (some-seen s steady s.runner i) (length s.parties) (record { ram_base = s.ram_base; pages = size-seen i; right = base_of s }) s.runner x r
+      (λ i. first_failure (asked_first (some-seen s steady s.runner i) (room-seen s steady s.runner i) (length s.parties) (record { ram_base = s.ram_base; pages = size-seen i; right = base_of s }) s.runner x r
       ++ (all-sendable-seen r.ranges i, Denied)
       ∷ asked_of_pages (scene_of v) s.runner r))
-      ∙ same-later Denied (asked_first (is_some (buffers_in s.buffers s.runner)) (length s.parties) (bases_of s) s.runner x r)
+      ∙ same-later Denied (asked_first (is_some (buffers_in s.buffers s.runner)) (room_of (buffers_in s.buffers s.runner)) (length s.parties) (bases_of s) s.runner x r)
       (list_all (is_sendable s.runner (candidates s) s.buffers) (pages_in (bases_of s) r.ranges)) (asked_of_pages (scene_of v) s.runner r) (asked_of_pages (scene_of s) s.runner r)
       (λ free i. first_failure (
       (grants-seen r.ranges free r.receivers i, Denied)
       ∷ (not r.zero || writable-seen r.ranges free i, Denied)
-      ∷ (nat_lt (count-seen s.runner s i) 8, NoMemory)
-      ∷ (nat_lt (sends-seen i) 65535, NoMemory)
+      ∷ (nat_lt (count-seen s.runner s i) MOST_OPEN, NoMemory)
+      ∷ (nat_lt (sends-seen i) MOST_SENDS, NoMemory)
       ∷ []))
 
 -- ---- a send that is not refused
@@ -285,7 +293,7 @@ module _ (s : State) (steady : IsSteady s) (kind : Kind) (r : SendRecord) (good 
       of None is = refl
       of (Some u) is =
           let (n, same, below, few) = steady.numbers h u is in
-          let most : sent_by s s.runner < 65535 = good.sent in
+          let most : sent_by s s.runner < MOST_SENDS = good.sent in
           let parts = handle-parts s.runner u.sender (sent_by s s.runner + 1) n same (omega (arith, most)) (omega (arith, few)) in
           let sent : sent_by s s.runner ≡ sent_by s u.sender = ap (sent_by s) parts.0 in
           let next : sent_by s s.runner + 1 ≡ n = parts.1 in
@@ -376,10 +384,10 @@ module _ (s : State) (steady : IsSteady s) (kind : Kind) (r : SendRecord) (good 
       | inr apart ↦ (let same : sent_by y e ≡ sent_by s e = get_or-set_other s.sent (place r.sender) (place e) (sent_by s r.sender + 1) 0 apart in omega (arith, same))
     ]
 
-    number-of : (k : ℕ) (u : Transaction) → transaction_of y k ≡ Some u → (n : ℕ) × (k ≡ handle_of u.sender n) × (n ≤ sent_by y u.sender) × (n ≤ 65535)
+    number-of : (k : ℕ) (u : Transaction) → transaction_of y k ≡ Some u → (n : ℕ) × (k ≡ handle_of u.sender n) × (n ≤ sent_by y u.sender) × (n ≤ MOST_SENDS)
     number-of k u is = elim (open-cases k u is) [
       | inl new ↦
-          subst (λ (x : Transaction). (n : ℕ) × (k ≡ handle_of x.sender n) × (n ≤ sent_by y x.sender) × (n ≤ 65535)) new.1
+          subst (λ (x : Transaction). (n : ℕ) × (k ≡ handle_of x.sender n) × (n ≤ sent_by y x.sender) × (n ≤ MOST_SENDS)) new.1
           (let most = good.sent in
           let of_sender : sent_by s r.sender ≡ sent_by s s.runner = ap (sent_by s) good.sender in
           (sent_by s s.runner + 1, new.0 ∙ ap (λ e. handle_of e (sent_by s s.runner + 1)) (sym good.sender), omega (arith, sent-own, of_sender), omega (arith, most)))
@@ -390,11 +398,11 @@ module _ (s : State) (steady : IsSteady s) (kind : Kind) (r : SendRecord) (good 
     ]
 
     -- no page that it names is a buffer
-    unnamed-buffer : (e : ℕ) (b : Buffers) (p : ℕ) → buffers_of s e ≡ Some b → (b.tx == p || b.rx == p) ≡ true → names s r.ranges p ≡ false
+    unnamed-buffer : (e : ℕ) (b : Buffers) (p : ℕ) → buffers_of s e ≡ Some b → (is_in_run b.tx b.pages p || is_in_run b.rx b.pages p) ≡ true → names s r.ranges p ≡ false
     unnamed-buffer e b p is holds =
         elim (cases_Bool (names s r.ranges p)) [
           | inl named ↦
-              let buffer : is_buffer s.buffers p ≡ true = any-at (λ o. option_map_or (λ (x : Buffers). x.tx == p || x.rx == p) o false) s.buffers (place e) b is holds in
+              let buffer : is_buffer s.buffers p ≡ true = any-at (λ o. option_map_or (λ (x : Buffers). is_in_run x.tx x.pages p || is_in_run x.rx x.pages p) o false) s.buffers (place e) b is holds in
               absurd (false≢true (sym (ap not buffer) ∙ (and_parts _ _ (sendable-each s r.ranges good.free p (named-inside p named) named)).1))
           | inr away ↦ away
         ]
@@ -420,8 +428,8 @@ module _ (s : State) (steady : IsSteady s) (kind : Kind) (r : SendRecord) (good 
           buffers = λ e b known is.
               let own = steady.buffers e b known is in
               record {
-                tx = alone-still e b.tx own.tx (unnamed-buffer e b b.tx is (ap (λ c. c || b.rx == b.tx) (eq-eqb b.tx b.tx refl)));
-                rx = alone-still e b.rx own.rx (unnamed-buffer e b b.rx is (ap (λ c. b.tx == b.rx || c) (eq-eqb b.rx b.rx refl) ∙ or_true (b.tx == b.rx)));
+                tx = λ p its. alone-still e p (own.tx p its) (unnamed-buffer e b p is (ap (λ c. c || is_in_run b.rx b.pages p) its));
+                rx = λ p its. alone-still e p (own.rx p its) (unnamed-buffer e b p is (ap (λ c. is_in_run b.tx b.pages p || c) its ∙ or_true (is_in_run b.tx b.pages p)));
               };
           bound = steady.bound;
         }

@@ -5,6 +5,7 @@ use Rattle.std.specs.List.{list_all}
 use Rattle.std.proofs.lemmas.Bool.{and_parts, leb-true, ltb-true}
 use Rattle.std.proofs.lemmas.Option.{none-some, same_Some}
 use Rattle.byteorder.specs.Numbers.{little_from-lt}
+use Rattle.ffa_model.specs.declared.limits.TheConstants.{MOST_RANGES}
 use Rattle.ffa_model.specs.declared.rights.Kind.{Kind}
 use Rattle.ffa_model.specs.DescriptorPlaces.{is_header, range_count, receiver_count, u64_at, Versioned}
 use Rattle.ffa_model.specs.SendDescriptor.{SendRecord, is_composite, is_send_body, is_send_header, most_receivers, range_in, receiver_in, send_counted, send_in, send_of}
@@ -16,7 +17,7 @@ pub record IsCounted (kind : Kind) (r : SendRecord) : Type 0 where
   pub some_receivers : 1 ≤ length r.receivers
   pub few_receivers : length r.receivers ≤ most_receivers kind
   pub some_ranges : 1 ≤ length r.ranges
-  pub few_ranges : length r.ranges ≤ 16
+  pub few_ranges : length r.ranges ≤ MOST_RANGES
 
 counted-in : (kind : Kind) (b : Versioned) → (is_header b && is_send_header kind b && is_composite b) ≡ true → IsCounted kind (send_in b)
 unfolding is_send_header
@@ -35,7 +36,7 @@ counted-in kind b are =
       some_receivers = subst (λ n. 1 ≤ n) (sym receivers) (leb-true 1 (receiver_count b) least);
       few_receivers = subst (λ n. n ≤ most_receivers kind) (sym receivers) (leb-true (receiver_count b) (most_receivers kind) most);
       some_ranges = subst (λ n. 1 ≤ n) (sym ranges) (leb-true 1 (range_count b) some);
-      few_ranges = subst (λ n. n ≤ 16) (sym ranges) (leb-true (range_count b) 16 few);
+      few_ranges = subst (λ n. n ≤ MOST_RANGES) (sym ranges) (leb-true (range_count b) MOST_RANGES few);
     }
 
 -- bytes that are a send descriptor say what their fields say, and their counts are good

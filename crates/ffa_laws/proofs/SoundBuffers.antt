@@ -1,29 +1,20 @@
 -- Buffers stay sound.
-use Rattle.std.proofs.Common.{◌≡◌, ◌≢◌, ◌∙◌, ℕ, ◌%◌, ◌<◌, ◌≤◌, Bool, true, false, cond, List, length, set, get_or, Option, Some, None, refl, sym, ap, subst, inl, inr, arith, length-set}
-use Rattle.std.specs.Prelude.{◌==◌, ◌&&◌, nat_le}
-use Rattle.std.proofs.lemmas.Bool.{and_parts, cases_eq, eq-eqb, eqb-true, leb-true, not_from_true, true≢false}
+use Rattle.std.proofs.Common.{◌≡◌, ◌∙◌, ℕ, ◌<◌, Bool, true, false, cond, List, length, set, get_or, Option, Some, None, refl, sym, ap, subst, inl, inr, length-set}
+use Rattle.std.proofs.lemmas.Bool.{cases_eq}
 use Rattle.std.proofs.lemmas.List.{get_or-set_other, get_or-set_same}
 use Rattle.std.proofs.lemmas.Option.{none-some, same_Some}
+use Rattle.ffa_model.proofs.Runs.{run-each}
 use Rattle.ffa_model.specs.declared.operation.ErrorCode.TheVariants.{InvalidParameters, Denied}
 use Rattle.ffa_model.specs.Identifiers.{place}
 use Rattle.ffa_model.specs.State.{State, Buffers, buffers_of, is_known}
 use Rattle.ffa_model.specs.Calls.{first_failure}
-use Rattle.ffa_model.specs.Buffers.{Candidates, buffers_with, buffers_with_rx, candidates, filled, filled_pages, is_page_address, map_guards, new_buffers, page_number, rxtx_map, with_buffers, with_rx}
+use Rattle.ffa_model.specs.Buffers.{buffers_with, buffers_with_rx, candidates, filled, filled_pages, candidate_at, is_usable, map_guards, new_buffers, page_number, rxtx_map, with_buffers, with_rx}
 use Rattle.ffa_model.specs.SoundState.{IsSoundBuffers, IsSoundState}
 use Rattle.ffa_model.proofs.Guards.{guard-passes}
 use Rattle.ffa_model.proofs.Places.{known-place, same-known}
 use Rattle.ffa_laws.proofs.SoundKept.{AreSoundBuffers, AreSoundPages, buffers-sound, pages-sound}
 use Rattle.ffa_laws.proofs.SoundSteady.{runner-known}
 use Rattle.ffa_laws.proofs.Written.{at-changed, is_at, rewritten-filled, with_rx_full}
-
--- pages at different addresses are different
-same-page : (base tx rx : ℕ) → base % 0x4000000 ≡ 0 → tx % 4096 ≡ 0 → rx % 4096 ≡ 0 → base ≤ tx → base ≤ rx → page_number base tx ≡ page_number base rx → tx ≡ rx
-same-page base tx rx aligned tx_aligned rx_aligned above_tx above_rx same = omega arith
-
-page-address : (ram : Candidates) (address : ℕ) → is_page_address ram address ≡ true → (address % 4096 ≡ 0) × (ram.base ≤ address)
-page-address ram address is =
-    let (aligned, above) = and_parts (address % 4096 == 0) (nat_le ram.base address) (and_parts (address % 4096 == 0 && nat_le ram.base address) _ is).0 in
-    (eqb-true (address % 4096) 0 aligned, leb-true ram.base address above)
 
 module _ (s : State) (sound : IsSoundState s) where
   -- RX is full, or empty
@@ -36,7 +27,7 @@ module _ (s : State) (sound : IsSoundState s) where
       own e b its true None there none = absurd (none-some b none)
       own e b its true (Some x) there some =
           let good = sound.buffers e x its there in
-          subst (λ (y : Buffers). IsSoundBuffers s e y) (same_Some (record x { full = full }) b some) (record { tx = good.tx; rx = good.rx; apart = good.apart })
+          subst (λ (y : Buffers). IsSoundBuffers s e y) (same_Some (record x { full = full }) b some) (record { count = good.count; tx = good.tx; rx = good.rx; apart = good.apart })
       own e b its false None there none = absurd (none-some b none)
       own e b its false (Some x) there some = sound.buffers e b its (there ∙ some)
 
@@ -60,21 +51,14 @@ module _ (s : State) (sound : IsSoundState s) where
 
   pub map-sound : (tx rx pages : ℕ) → first_failure (rxtx_map s tx rx pages).guards ≡ None → IsSoundState (rxtx_map s tx rx pages).state
   map-sound tx rx pages none =
-      set-sound (Some (new_buffers s.ram_base tx rx)) (λ b is. subst (λ (x : Buffers). IsSoundBuffers s s.runner x) (same_Some (new_buffers s.ram_base tx rx) b is) (record {
-        tx = guard-passes (map_guards s.runner (buffers_of s s.runner) (candidates s) tx rx pages) 5 Denied (sym none);
-        rx = guard-passes (map_guards s.runner (buffers_of s s.runner) (candidates s) tx rx pages) 6 Denied (sym none);
-        apart = apart;
+      set-sound (Some (new_buffers s.ram_base tx rx pages)) (λ b is. subst (λ (x : Buffers). IsSoundBuffers s s.runner x) (same_Some (new_buffers s.ram_base tx rx pages) b is) (record {
+        count = guard-passes (map_guards s.runner (buffers_of s s.runner) (candidates s) tx rx pages) 1 InvalidParameters (sym none);
+        tx = run-each (λ p. is_usable s.runner (candidate_at s p)) (page_number s.ram_base tx) pages
+            (guard-passes (map_guards s.runner (buffers_of s s.runner) (candidates s) tx rx pages) 5 Denied (sym none));
+        rx = run-each (λ p. is_usable s.runner (candidate_at s p)) (page_number s.ram_base rx) pages
+            (guard-passes (map_guards s.runner (buffers_of s s.runner) (candidates s) tx rx pages) 6 Denied (sym none));
+        apart = guard-passes (map_guards s.runner (buffers_of s s.runner) (candidates s) tx rx pages) 4 InvalidParameters (sym none);
       }))
-    where
-      apart : page_number s.ram_base tx ≢ page_number s.ram_base rx
-      apart same =
-          let (tx_aligned, above_tx) = page-address (candidates s) tx (guard-passes (map_guards s.runner (buffers_of s s.runner) (candidates s) tx rx pages) 2 InvalidParameters (sym none)) in
-          let (rx_aligned, above_rx) = page-address (candidates s) rx (guard-passes (map_guards s.runner (buffers_of s s.runner) (candidates s) tx rx pages) 3 InvalidParameters (sym none)) in
-          let both : tx ≡ rx = same-page s.ram_base tx rx aligned tx_aligned rx_aligned above_tx above_rx same in
-          true≢false (sym (guard-passes (map_guards s.runner (buffers_of s s.runner) (candidates s) tx rx pages) 4 InvalidParameters (sym none)) ∙ not_from_true (tx == rx) (eq-eqb tx rx both))
-        where
-          aligned : s.ram_base % 0x4000000 ≡ 0
-          aligned = eqb-true (s.ram_base % 0x4000000) 0 (and_parts (s.ram_base % 0x4000000 == 0) _ (and_parts (s.ram_base % 0x4000000 == 0 && nat_le 0x4000000 s.ram_base) _ sound.sized.base).0).0
 
 -- these bytes stand in RX of f, which is full
 pub filled-state-sound : (s : State) → IsSoundState s → (f : ℕ) (bytes : List ℕ) → AreSoundPages s (filled_pages s.pages bytes (buffers_of s f)) → IsSoundState (filled s f bytes)

@@ -54,8 +54,9 @@ module _ (s : State) (sound : IsSoundState s) where
           buffers = λ e b known is.
               let good = buffers e b known is in
               record {
-                tx = same-usable s z e b.tx (λ i. (same-bases i).right b.tx) (same-owners b.tx) (λ none. none) good.tx;
-                rx = same-usable s z e b.rx (λ i. (same-bases i).right b.rx) (same-owners b.rx) (λ none. none) good.rx;
+                count = good.count;
+                tx = λ p its. same-usable s z e p (λ i. (same-bases i).right p) (same-owners p) (λ none. none) (good.tx p its);
+                rx = λ p its. same-usable s z e p (λ i. (same-bases i).right p) (same-owners p) (λ none. none) (good.rx p its);
                 apart = good.apart;
               };
           schedule = schedule;
@@ -88,7 +89,7 @@ module _ (s : State) (sound : IsSoundState s) where
         one = sound.one;
         few = sound.few;
         sent = sound.sent;
-        buffers = λ e b known is. let good = sound.buffers e b known is in record { tx = good.tx; rx = good.rx; apart = good.apart };
+        buffers = λ e b known is. let good = sound.buffers e b known is in record { count = good.count; tx = good.tx; rx = good.rx; apart = good.apart };
         schedule = sound.schedule;
         bound = bound;
         pending = pending;

@@ -3,6 +3,7 @@ use Rattle.std.proofs.Common.{◌≡◌, ◌⊎◌, ◌∙◌, ℕ, zero, suc, �
 use Rattle.std.specs.Prelude.{◌==◌, ◌||◌}
 use Rattle.std.proofs.lemmas.Bool.{cases_Bool, eq-eqb, eqb-true, false≢true, not_from_true, or_left, true≢false}
 use Rattle.std.proofs.lemmas.List.{set-get_or}
+use Rattle.ffa_model.specs.declared.limits.TheConstants.{MOST_ENDPOINTS}
 use Rattle.ffa_model.specs.declared.operation.ErrorCode.TheVariants.{InvalidParameters, Busy, Denied}
 use Rattle.ffa_model.specs.declared.schedule.Status.{Status}
 use Rattle.ffa_model.specs.declared.schedule.Status.TheVariants.{Running, Waiting, Yielded, Blocked}
@@ -27,7 +28,7 @@ ended : (x : ℕ) (xs : List ℕ) → (ys : List ℕ) × (e : ℕ) × (x ∷ xs 
 ended x [] = ([], x, refl)
 ended x (y ∷ xs) = let (ys, e, is) = ended y xs in (x ∷ ys, e, ap (λ zs. x ∷ zs) is)
 
-module _ (c : Schedule) (is : IsSound c) (some : 1 ≤ length c.works) (few : length c.works ≤ 8) where
+module _ (c : Schedule) (is : IsSound c) (some : 1 ≤ length c.works) (few : length c.works ≤ MOST_ENDPOINTS) where
   -- a partition that waits or has yielded begins to run for the runner
   started : (e : ℕ) (w : Option Work) → is_partition_among (length c.works) e ≡ true → (is_waiting (status_in c e) || is_yielded (status_in c e)) ≡ true → origin w ≡ Some c.runner
       → IsSound (with_work (switched c Blocked e) e w)
@@ -154,7 +155,7 @@ module _ (c : Schedule) (is : IsSound c) (some : 1 ≤ length c.works) (few : le
   sound-response by asked = stopped None by (work-origin (work_in c c.runner) by asked) (inl refl)
 
 -- whoever waits for an answer is an endpoint
-module _ (c : Schedule) (is : IsSound c) (some : 1 ≤ length c.works) (few : length c.works ≤ 8) where
+module _ (c : Schedule) (is : IsSound c) (some : 1 ≤ length c.works) (few : length c.works ≤ MOST_ENDPOINTS) where
   pub requester-known : (p by : ℕ) → requester (work_at c.works p) ≡ Some by → is_known_among (length c.works) by ≡ true
   requester-known p by asked =
       elim (cases_Bool (has_link_at (links c is some few) p)) [

@@ -47,7 +47,7 @@ module _ (s : State) (sound : IsSoundState s) where
   sent : first_failure (msg_send2 s).guards ≡ None → IsSoundState (msg_send2 s).state
   sent none =
       framework-sound (filled s (header_in (tx_bytes s s.runner)).receiver (message_in (tx_bytes s s.runner)))
-      (filled-state-sound s sound (header_in (tx_bytes s s.runner)).receiver (message_in (tx_bytes s s.runner)) (sent-sound s sound (buffers_of s (header_in (tx_bytes s s.runner)).receiver) none))
+      (filled-state-sound s sound (header_in (tx_bytes s s.runner)).receiver (message_in (tx_bytes s s.runner)) (sent-sound s sound (buffers_of s (header_in (tx_bytes s s.runner)).receiver)))
       (header_in (tx_bytes s s.runner)).receiver
       (guard-passes (send2_guards s.parties s.buffers s.runner (header_in (tx_bytes s s.runner))) 4 InvalidParameters (sym none))
 

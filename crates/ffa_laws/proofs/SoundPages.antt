@@ -1,15 +1,15 @@
 -- Pages stay sound where bytes are written: by a store, and into RX.
-use Rattle.std.proofs.Common.{◌≡◌, ◌∙◌, ℕ, suc, ◌+◌, ◌≤◌, Bool, true, false, cond, List, [], ◌∷◌, ◌++◌, take, length, replicate, get_or, Option, Some, None, refl, sym, subst, arith, length-append}
+use Rattle.std.proofs.Common.{◌≡◌, ◌∙◌, ℕ, suc, ◌+◌, ◌≤◌, Bool, true, false, cond, List, [], ◌∷◌, ◌++◌, take, length, replicate, get_or, Option, Some, None, refl, sym, subst, arith, zero, drop}
 use Rattle.std.specs.Prelude.{◌==◌, ◌%◌, ◌&&◌, nat_lt, slice_get}
 use Rattle.std.specs.List.{enumerate_from, list_all}
 use Rattle.std.specs.Option.{option_map_or}
-use Rattle.std.proofs.lemmas.Bool.{and_from, and_parts, eq-eqb, eqb-true, leb-true}
-use Rattle.std.proofs.lemmas.List.{length-replicate, length-take}
-use Rattle.std.proofs.lemmas.List.FromFn.{length-enumerate_from}
+use Rattle.std.proofs.lemmas.Bool.{and_from, and_parts, eq-eqb, eqb-true}
+use Rattle.std.proofs.lemmas.List.{length-take}
 use Rattle.std.proofs.lemmas.Option.{none-some, same_Some}
 use Rattle.byteorder.specs.Endian.{little_bytes}
 use Rattle.byteorder.specs.Numbers.{length-bytes_low_first}
-use Rattle.ffa_model.specs.declared.operation.ErrorCode.TheVariants.{InvalidParameters}
+use Rattle.ffa_model.proofs.Runs.{run-all}
+use Rattle.ffa_model.specs.Lists.{run}
 use Rattle.ffa_model.specs.declared.operation.FaultKind.{FaultKind}
 use Rattle.ffa_model.specs.declared.operation.Size.{Size}
 use Rattle.ffa_model.specs.declared.operation.Size.TheVariants.{B1, B2, B4, B8}
@@ -21,14 +21,12 @@ use Rattle.ffa_model.specs.declared.endpoint.Version.{Version}
 use Rattle.ffa_model.specs.declared.endpoint.Version.TheVariants.{Compact, V1_1}
 use Rattle.ffa_model.specs.Bits.{bits}
 use Rattle.ffa_model.specs.State.{State, Page, Party, Buffers, buffers_of, page_at, version_of}
-use Rattle.ffa_model.specs.Calls.{first_failure}
-use Rattle.ffa_model.specs.Memory.{access_at, fault_of, page_bytes, page_with, size_of, store_fault, written_pages}
+use Rattle.ffa_model.specs.Memory.{access_at, fault_of, page_bytes, page_with, run_bytes, size_of, store_fault, written_pages, written_run}
 use Rattle.ffa_model.specs.Buffers.{filled_pages}
 use Rattle.ffa_model.specs.Setup.{info_bytes, info_of, is_selected, selected, properties_info}
-use Rattle.ffa_model.specs.Messages.{header_in, message_in, send2_guards, tx_bytes}
+use Rattle.ffa_model.specs.Messages.{header_in, message_in, tx_bytes}
 use Rattle.ffa_model.specs.SoundState.{IsSoundPage, IsSoundParty, IsSoundState, are_bytes}
-use Rattle.ffa_model.proofs.Guards.{guard-passes}
-use Rattle.ffa_laws.proofs.ByteLists.{all-enumerated, all-filter, all-take, both-bytes, bytes-pieces, bytes-with_bytes, length-filter-le, length-pieces, length-with_bytes, number-bytes}
+use Rattle.ffa_laws.proofs.ByteLists.{all-drop, all-enumerated, all-filter, all-take, both-bytes, bytes-pieces, bytes-with_bytes, length-with_bytes, number-bytes}
 use Rattle.ffa_laws.proofs.SoundKept.{AreSoundPages}
 use Rattle.ffa_laws.proofs.Written.{at-changed, is_at}
 
@@ -46,9 +44,17 @@ module _ (s : State) (ps : List (Option Page)) (pages : AreSoundPages s ps) (byt
       of false None there none = absurd (none-some page none)
       of false (Some x) there some = pages q page (there ∙ some)
 
-  pub filled-sound : length bytes ≤ 4096 → (b : Option Buffers) → AreSoundPages s (filled_pages ps bytes b)
-  filled-sound fits None = pages
-  filled-sound fits (Some b) = written-sound b.rx 0 (omega arith)
+-- bytes in pages in a row
+run-sound : (s : State) (n : ℕ) (ps : List (Option Page)) → AreSoundPages s ps → (first : ℕ) (bytes : List ℕ) → are_bytes bytes → AreSoundPages s (written_run n ps first bytes)
+run-sound s zero ps pages first bytes are = pages
+run-sound s (suc n) ps pages first bytes are =
+    run-sound s n (written_pages ps first 0 (take 4096 bytes))
+    (written-sound s ps pages (take 4096 bytes) (all-take (λ b. nat_lt b 256) 4096 bytes are) first 0 (let cut = length-take 4096 bytes in omega (arith, cut)))
+    (first + 1) (drop 4096 bytes) (all-drop (λ b. nat_lt b 256) 4096 bytes are)
+
+pub filled-sound : (s : State) (ps : List (Option Page)) → AreSoundPages s ps → (bytes : List ℕ) → are_bytes bytes → (b : Option Buffers) → AreSoundPages s (filled_pages ps bytes b)
+filled-sound s ps pages bytes are None = pages
+filled-sound s ps pages bytes are (Some b) = run-sound s b.pages ps pages b.rx bytes are
 
 -- an access without a fault is aligned
 fault-aligned : (aligned : Bool) (right : Option Rights) (allowed : Option Rights → Bool) → fault_of aligned right allowed ≡ None → aligned ≡ true
@@ -86,23 +92,17 @@ module _ (s : State) (sound : IsSoundState s) where
       of (Some page) at = (sound.pages p page at).bytes
 
   pub tx-are-bytes : (e : ℕ) → are_bytes (tx_bytes s e)
-  tx-are-bytes e = elim (buffers_of s e) as (λ o. are_bytes (option_map_or (λ (b : Buffers). page_bytes s b.tx) o [])) [ None ↦ refl | Some b ↦ page-are-bytes b.tx ]
+  tx-are-bytes e = elim (buffers_of s e) as (λ o. are_bytes (option_map_or (λ (b : Buffers). run_bytes s b.tx b.pages) o [])) [
+    | None ↦ refl
+    | Some b ↦ bytes-pieces (page_bytes s) (λ p. true) (run b.tx b.pages) (run-all (λ p. true) b.tx b.pages (λ i lt. refl)) (λ p is. page-are-bytes p)
+  ]
 
-  pub sent-sound : (b : Option Buffers) → first_failure (send2_guards s.parties s.buffers s.runner (header_in (tx_bytes s s.runner))) ≡ None
-      → AreSoundPages s (filled_pages s.pages (message_in (tx_bytes s s.runner)) b)
-  sent-sound b none = filled-sound s s.pages sound.pages (message_in tx) (all-take (λ b. nat_lt b 256) size tx (tx-are-bytes s.runner)) fits b
+  pub sent-sound : (b : Option Buffers) → AreSoundPages s (filled_pages s.pages (message_in (tx_bytes s s.runner)) b)
+  sent-sound b =
+      filled-sound s s.pages sound.pages (message_in tx) (all-take (λ b. nat_lt b 256) ((header_in tx).offset + (header_in tx).size) tx (tx-are-bytes s.runner)) b
     where
       tx : List ℕ
       tx = tx_bytes s s.runner
-
-      size : ℕ
-      size = (header_in tx).offset + (header_in tx).size
-
-      fits : length (take size tx) ≤ 4096
-      fits =
-          let most = leb-true size 4096 (guard-passes (send2_guards s.parties s.buffers s.runner (header_in tx)) 8 InvalidParameters (sym none)) in
-          let cut = length-take size tx in
-          omega (arith, most, cut)
 
   -- partition information
   parties-sound : list_all is_sound_party s.parties ≡ true
@@ -121,39 +121,12 @@ module _ (s : State) (sound : IsSoundState s) where
     selected-sound : list_all passes (selected s.parties uuid) ≡ true
     selected-sound = all-filter passes (is_selected uuid) (enumerate_from 0 s.parties) (all-enumerated is_sound_party 0 s.parties parties-sound)
 
-    few-selected : length (selected s.parties uuid) ≤ 8
-    few-selected =
-        let most = sound.sized.few in
-        let kept = length-filter-le (is_selected uuid) (enumerate_from 0 s.parties) in
-        let all = length-enumerate_from 0 s.parties in
-        omega (arith, most, kept, all)
-
     -- the last 16 bytes of the information on a partition, and those behind the identifier
     abbrev shown_uuid : ℕ × Party → List ℕ
     shown_uuid x = cond (is_nil uuid) x.1.uuid (replicate 16 0)
 
     abbrev from_contexts : Version → ℕ × Party → List ℕ
     from_contexts version x = little_bytes 2 1 ++ properties_info version uuid x.1
-
-    size-properties : (version : Version) (x : ℕ × Party) → passes x ≡ true → length (properties_info version uuid x.1) ≤ 20
-    size-properties Compact x good = let properties = length-bytes_low_first 0 4 (bits 2 0 x.1.properties) in omega arith
-    size-properties V1_1 x good =
-        let properties = length-bytes_low_first 0 4 (x.1.properties + 0x100) in
-        let third = length-append (little_bytes 4 (x.1.properties + 0x100)) (shown_uuid x) in
-        let last = shown in
-        omega arith
-      where
-        shown : length (shown_uuid x) ≡ 16
-        shown = elim (is_nil uuid) as (λ b. length (cond b x.1.uuid (replicate 16 0)) ≡ 16) [ true ↦ eqb-true (length x.1.uuid) 16 (and_parts (length x.1.uuid == 16) _ good).0 | false ↦ length-replicate {A = ℕ} 16 0 ]
-
-    size-info : (version : Version) (x : ℕ × Party) → passes x ≡ true → length (info_of version uuid x) ≤ 24
-    size-info version x good =
-        let id = length-bytes_low_first 0 2 (identifier x.0) in
-        let contexts = length-bytes_low_first 0 2 1 in
-        let first = length-append (little_bytes 2 (identifier x.0)) (from_contexts version x) in
-        let second = length-append (little_bytes 2 1) (properties_info version uuid x.1) in
-        let rest = size-properties version x good in
-        omega arith
 
     bytes-properties : (version : Version) (x : ℕ × Party) → passes x ≡ true → are_bytes (properties_info version uuid x.1)
     bytes-properties Compact x good = number-bytes 0 4 (bits 2 0 x.1.properties)
@@ -171,6 +144,4 @@ module _ (s : State) (sound : IsSoundState s) where
     pub informed-sound : (b : Option Buffers) → AreSoundPages s (filled_pages s.pages (info_bytes (version_of s s.runner) s.parties uuid) b)
     informed-sound b =
         filled-sound s s.pages sound.pages (info_bytes (version_of s s.runner) s.parties uuid) (bytes-pieces (info_of (version_of s s.runner) uuid) passes (selected s.parties uuid) selected-sound (bytes-info (version_of s s.runner)))
-        (let size = length-pieces (info_of (version_of s s.runner) uuid) passes 24 (selected s.parties uuid) selected-sound (size-info (version_of s s.runner)) in
-        let few = few-selected in
-        omega arith) b
+        b

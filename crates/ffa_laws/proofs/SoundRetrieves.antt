@@ -1,5 +1,5 @@
 -- A retrieve keeps a state sound: the response is bytes, and fits in RX.
-use Rattle.std.proofs.Common.{◌≡◌, ℕ, ◌+◌, ◌*◌, ◌<◌, ◌≤◌, Bool, true, false, List, [], ◌∷◌, ◌++◌, length, Some, None, refl, sym, subst, arith}
+use Rattle.std.proofs.Common.{◌≡◌, ℕ, ◌+◌, ◌*◌, ◌<◌, Bool, true, false, List, [], ◌∷◌, ◌++◌, length, Some, None, refl, sym, subst, arith}
 use Rattle.std.specs.Prelude.{nat_lt}
 use Rattle.std.specs.List.{flat_map, list_all}
 use Rattle.std.proofs.lemmas.Bool.{and_from, lt-ltb}
@@ -17,7 +17,6 @@ use Rattle.ffa_model.specs.State.{State, buffers_of, version_of}
 use Rattle.ffa_model.specs.Transactions.{Transfer}
 use Rattle.ffa_model.specs.MemoryRetrieve.{memory_retrieve, response_to}
 use Rattle.ffa_model.proofs.KeptCalls.{taken-sound}
-use Rattle.ffa_model.proofs.ResponseSize.{length-response_bytes}
 use Rattle.ffa_laws.proofs.ByteLists.{both-bytes, bytes-pieces, number-bytes}
 use Rattle.ffa_laws.proofs.SoundBuffers.{filled-state-sound}
 use Rattle.ffa_laws.proofs.SoundPages.{filled-sound}
@@ -44,18 +43,11 @@ permissions-byte Ro false = omega arith
 permissions-byte Rw true = omega arith
 permissions-byte Rw false = omega arith
 
-header-below : (version : Version) → header_size version ≤ 48
-header-below Compact = omega arith
-header-below V1_1 = omega arith
-
 all-ranges : (ranges : List Range) → list_all (λ (r : Range). true) ranges ≡ true
 all-ranges [] = refl
 all-ranges (r ∷ ranges) = all-ranges ranges
 
 module _ (version : Version) (r : ResponseRecord) where
-  response-fits : length r.ranges ≤ 16 → length (response_bytes version r) ≤ 4096
-  response-fits few = omega (arith, few, length-response_bytes version r, header-below version)
-
   header-are_bytes : are_bytes (header_bytes version r)
   unfolding le
   header-are_bytes = of version
@@ -92,7 +84,7 @@ module _ (version : Version) (r : ResponseRecord) where
 module _ (s : State) (sound : IsSoundState s) where
   pub retrieve-sound : (x : Transfer) → first_failure (memory_retrieve s x).guards ≡ None → IsSoundState (memory_retrieve s x).state
   retrieve-sound x none =
-      subst IsSoundState (sym (state-taken s x its)) (filled-state-sound (before s x its) before-sound s.runner (response s x its) (filled-sound (before s x its) (before s x its).pages before-sound.pages (response s x its) (response-are_bytes (version_of s s.runner) told) fits (buffers_of s s.runner)))
+      subst IsSoundState (sym (state-taken s x its)) (filled-state-sound (before s x its) before-sound s.runner (response s x its) (filled-sound (before s x its) (before s x its).pages before-sound.pages (response s x its) (response-are_bytes (version_of s s.runner) told) (buffers_of s s.runner)))
     where
       its : Taken s x
       its = taken s x none
@@ -102,6 +94,3 @@ module _ (s : State) (sound : IsSoundState s) where
 
       before-sound : IsSoundState (before s x its)
       before-sound = taken-sound s sound (h s x its) its.of its.is.there s.runner (right s x its) (runner-known s sound) its.is.receiver its.is.within
-
-      fits : length (response s x its) ≤ 4096
-      fits = response-fits (version_of s s.runner) told (sound.transactions (h s x its) its.of its.is.there).few_ranges

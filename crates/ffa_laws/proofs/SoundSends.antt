@@ -4,6 +4,7 @@ use Rattle.std.specs.Prelude.{nat_lt}
 use Rattle.std.specs.List.{list_all}
 use Rattle.std.specs.Ordering.{nat_cmp}
 use Rattle.std.specs.FinMap as finite
+use Rattle.ffa_model.specs.declared.limits.TheConstants.{MOST_OPEN, MOST_SENDS}
 use Rattle.ffa_model.specs.declared.rights.Kind.{Kind}
 use Rattle.ffa_model.specs.State.{State, is_known, sent_by}
 use Rattle.ffa_model.specs.Buffers.{candidates}
@@ -32,8 +33,8 @@ module _ (s : State) (sound : IsSoundState s) (kind : Kind) (x : Transfer) where
         free = subst (λ e. list_all (is_sendable e (candidates s) s.buffers) (pages_in (bases_of s) r.ranges) ≡ true) (sym good.sender) good.free;
         grants = good.grants;
         zeroed = good.zeroed;
-        few = subst (λ e. open_count (offers_of s) e < 8) (sym good.sender) good.few;
-        sent = subst (λ e. sent_by s e < 65535) (sym good.sender) good.sent;
+        few = subst (λ e. open_count (offers_of s) e < MOST_OPEN) (sym good.sender) good.few;
+        sent = subst (λ e. sent_by s e < MOST_SENDS) (sym good.sender) good.sent;
         unheld = λ e. finite.get-empty nat_cmp e;
         receivers = good.known;
         some_receivers = counts.some_receivers;

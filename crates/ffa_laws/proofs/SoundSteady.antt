@@ -4,6 +4,7 @@ use Rattle.std.specs.Prelude.{◌&&◌, ◌||◌, nat_le}
 use Rattle.std.specs.Option.{option_map_or}
 use Rattle.std.proofs.lemmas.Bool.{false≢true, le-leb}
 use Rattle.std.proofs.lemmas.Option.{none-some}
+use Rattle.ffa_model.specs.declared.limits.TheConstants.{MOST_ENDPOINTS}
 use Rattle.ffa_model.specs.declared.rights.Kind.{Kind}
 use Rattle.ffa_model.specs.declared.rights.Kind.TheVariants.{Share, Lend, Donate}
 use Rattle.ffa_model.specs.declared.rights.Rights.{Rights}
@@ -77,7 +78,7 @@ module _ (s : State) (sound : IsSoundState s) where
   sound-steady =
       let sized = sound.sized in
       let some : 1 ≤ length s.works = let least = sized.some in omega (arith, sized.works) in
-      let few : length s.works ≤ 8 = let most = sized.few in omega (arith, sized.works) in
+      let few : length s.works ≤ MOST_ENDPOINTS = let most = sized.few in omega (arith, sized.works) in
       record {
         some = sized.some;
         few = sized.few;
@@ -94,7 +95,7 @@ module _ (s : State) (sound : IsSoundState s) where
             (number.0, number.1, number.3, omega (arith, most));
         buffers = λ e b known is.
             let own = sound.buffers e b known is in
-            record { tx = usable s e b.tx own.tx; rx = usable s e b.rx own.rx };
+            record { tx = λ p its. usable s e p (own.tx p its); rx = λ p its. usable s e p (own.rx p its) };
         bound = λ entry is.
             let own = sound.bound entry is in
             record { receiver = own.receiver; bit = own.bit; sender = own.sender; is = own.is; in_word = own.in_word };

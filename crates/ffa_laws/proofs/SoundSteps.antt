@@ -1,5 +1,6 @@
 -- Each call keeps run states sound.
 use Rattle.std.proofs.Common.{◌≡◌, ◌∙◌, ℕ, ◌≤◌, true, false, cond, length, Option, Some, None, refl, sym, ap, subst, arith, length-set}
+use Rattle.ffa_model.specs.declared.limits.TheConstants.{MOST_ENDPOINTS}
 use Rattle.ffa_model.specs.declared.descriptor.RelinquishDesc.{RelinquishDesc}
 use Rattle.ffa_model.specs.declared.descriptor.RetrieveDesc.{RetrieveDesc}
 use Rattle.ffa_model.specs.declared.rights.Kind.{Kind}
@@ -53,7 +54,7 @@ module _ (s : State) (is : IsScheduled s) where
   some : 1 ≤ length s.works
   some = let least = is.steady.some in omega (arith, is.works)
 
-  few : length s.works ≤ 8
+  few : length s.works ≤ MOST_ENDPOINTS
   few = let most = is.steady.few in omega (arith, is.works)
 
   given-works : (e : ℕ) (status : Status) → length (given_cycles c e status).works ≡ length s.works

@@ -97,7 +97,7 @@ module _ (s : State) (steady : IsSteady s) (ps : List (Option Page)) (bs : List 
         };
         sends = steady.sends;
         numbers = steady.numbers;
-        buffers = λ e b known is. (let own = buffers e b known is in record { tx = alone-kept e b.tx own.tx; rx = alone-kept e b.rx own.rx });
+        buffers = λ e b known is. (let own = buffers e b known is in record { tx = λ p its. alone-kept e p (own.tx p its); rx = λ p its. alone-kept e p (own.rx p its) });
         bound = steady.bound;
       }
 
@@ -116,7 +116,7 @@ steady-notified s steady n bound =
       numbers = steady.numbers;
       buffers = λ e b known is.
           let own = steady.buffers e b known is in
-          record { tx = record { owner = own.tx.owner; unnamed = own.tx.unnamed }; rx = record { owner = own.rx.owner; unnamed = own.rx.unnamed } };
+          record { tx = λ p its. record { owner = (own.tx p its).owner; unnamed = (own.tx p its).unnamed }; rx = λ p its. record { owner = (own.rx p its).owner; unnamed = (own.rx p its).unnamed } };
       bound = bound;
     }
 
@@ -128,13 +128,11 @@ steady-rx s steady f full e b known is =
     none_some : None ≡ Some b → ⊥
     none_some x = cc
 
-    own : (x : Buffers) → get_or s.buffers (place e) None ≡ Some x → b.tx ≡ x.tx → b.rx ≡ x.rx → AreSteadyBuffers s e b
-    own x at tx rx =
-        let own = steady.buffers e x known at in
-        record { tx = subst (IsAlone s e) (sym tx) own.tx; rx = subst (IsAlone s e) (sym rx) own.rx }
-
     go : (same : Bool) (o : Option Buffers) → get_or s.buffers (place e) None ≡ o → cond same (with_rx_full full o) o ≡ Some b → AreSteadyBuffers s e b
     go true None at is = absurd (none_some is)
     go false None at is = absurd (none_some is)
-    go true (Some x) at is = let same : record x { full = full } ≡ b = cc in own x at (ap (λ (y : Buffers). y.tx) (sym same)) (ap (λ (y : Buffers). y.rx) (sym same))
-    go false (Some x) at is = let same : x ≡ b = cc in own x at (ap (λ (y : Buffers). y.tx) (sym same)) (ap (λ (y : Buffers). y.rx) (sym same))
+    go true (Some x) at is =
+        let own = steady.buffers e x known at in
+        let same : record x { full = full } ≡ b = cc in
+        subst (AreSteadyBuffers s e) same (record { tx = own.tx; rx = own.rx })
+    go false (Some x) at is = let same : x ≡ b = cc in subst (AreSteadyBuffers s e) same (steady.buffers e x known at)

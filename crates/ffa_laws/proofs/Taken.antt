@@ -13,7 +13,7 @@ use Rattle.ffa_model.specs.declared.rights.Rights.{Rights}
 use Rattle.ffa_model.specs.Rights.{is_at_most, is_donate, is_within}
 use Rattle.ffa_model.specs.State.{State, Page, Transaction, page_at, transaction_of, version_of}
 use Rattle.ffa_model.specs.Access.{handle_at, held_by, is_receiver, names}
-use Rattle.ffa_model.specs.Buffers.{buffers_in, filled, is_full}
+use Rattle.ffa_model.specs.Buffers.{buffers_in, filled, is_full, room_of}
 use Rattle.ffa_model.specs.Calls.{first_failure}
 use Rattle.ffa_model.specs.ResponseBytes.{response_bytes}
 use Rattle.ffa_model.specs.Transactions.{Transfer, base_of, bases_of, ceiling, offers_of, scene_of, with_offers}
@@ -45,7 +45,7 @@ abbrev pub checks : State → Transfer → List (Bool × ErrorCode) → List (Bo
 checks s x rest =
     (is_some (buffers_in s.buffers s.runner), InvalidParameters)
     ∷ (x.total == x.fragment, InvalidParameters)
-    ∷ (nat_le x.total 4096, InvalidParameters)
+    ∷ (nat_le x.total (room_of (buffers_in s.buffers s.runner)), InvalidParameters)
     ∷ (x.address == 0, InvalidParameters)
     ∷ (x.pages == 0, InvalidParameters)
     ∷ rest

@@ -14,7 +14,7 @@ use Rattle.ffa_model.specs.declared.call.Call.TheVariants.{MemDonate, MemLend, M
 use Rattle.ffa_model.specs.declared.rights.Kind.{Kind}
 use Rattle.ffa_model.specs.declared.rights.Kind.TheVariants.{Share, Lend, Donate}
 use Rattle.ffa_model.specs.declared.transaction.Range.{Range}
-use Rattle.ffa_model.specs.Lists.{map_at}
+use Rattle.ffa_model.specs.Lists.{is_in_run, map_at}
 use Rattle.ffa_model.specs.Rights.{may_store}
 use Rattle.ffa_model.specs.RelinquishDescriptor.{relinquish_of}
 use Rattle.ffa_model.specs.RetrieveDescriptor.{retrieve_of}
@@ -22,7 +22,7 @@ use Rattle.ffa_model.specs.SendDescriptor.{SendRecord, send_of}
 use Rattle.ffa_model.specs.State.{State, Page, Buffers, Transaction, buffers_of, page_at, transaction_of, version_of}
 use Rattle.ffa_model.specs.Access.{access, is_receiver, names, transaction_at}
 use Rattle.ffa_model.specs.Calls.{first_failure}
-use Rattle.ffa_model.specs.Memory.{fault_of, size_of}
+use Rattle.ffa_model.specs.Memory.{fault_of, page_bytes, run_bytes, size_of}
 use Rattle.ffa_model.specs.DescriptorPlaces.{in_version}
 use Rattle.ffa_model.specs.MemorySend.{memory_sent, send_read, transaction_from}
 use Rattle.ffa_model.specs.MemoryRetrieve.{retrieve_read, right_for}
@@ -30,6 +30,7 @@ use Rattle.ffa_model.specs.Messages.{tx_bytes}
 use Rattle.ffa_model.specs.Registers.{decode}
 use Rattle.ffa_model.specs.Step.{serve, service, step}
 use Rattle.ffa_model.specs.Transactions.{next_handle, offers_of}
+use Rattle.ffa_model.proofs.Runs.{flat-run-same}
 use Rattle.ffa_laws.specs.View.{involves, is_near, kept, view}
 use Rattle.ffa_laws.specs.Events.{Event, Wrote, Opened, Zeroed, Public, call_events, delivers, events, is_same_public, messages, named_pages, opens, public_change, public_part, releases, takes, takes_from, taking, told_by, where_passed, where_true}
 use Rattle.ffa_laws.specs.Readable.{all_readably, blank, blank_where, blanked, is_unreadable, readable, readably, revealed}
@@ -157,18 +158,24 @@ module _ (e : ℕ) (s : State) (hides : ℕ → Bool) where
       tellings-b : (op : Op) → all_readably e b (events e b op) ≡ all_readably e s (events e s op)
       tellings-b op = all_readably-b (events e b op) ∙ events-b op
 
--- ---- two states that differ in such pages alone, none of which is the runner's TX
-module _ (hides : ℕ → Bool) (s v : State) (same : blank hides v ≡ blank hides s) (clear : (x : Buffers) → buffers_of s s.runner ≡ Some x → hides x.tx ≡ false) where
+-- the pages of the runner's TX are not among these
+abbrev pub ShowsTx : (ℕ → Bool) → State → Type 0
+ShowsTx hides s = (x : Buffers) → buffers_of s s.runner ≡ Some x → (p : ℕ) → is_in_run x.tx x.pages p ≡ true → hides p ≡ false
+
+-- ---- two states that differ in such pages alone, none of which is of the runner's TX
+module _ (hides : ℕ → Bool) (s v : State) (same : blank hides v ≡ blank hides s) (clear : ShowsTx hides s) where
   pub same-runner : v.runner ≡ s.runner
   same-runner = ap (λ (u : State). u.runner) same
 
-  clear-tx : (u : State) → ((x : Buffers) → buffers_of u u.runner ≡ Some x → hides x.tx ≡ false) → tx_bytes (blank hides u) u.runner ≡ tx_bytes u u.runner
+  clear-tx : (u : State) → ShowsTx hides u → tx_bytes (blank hides u) u.runner ≡ tx_bytes u u.runner
   clear-tx u shown = of (buffers_of u u.runner) refl
     where
       of : (o : Option Buffers) → buffers_of u u.runner ≡ o
-          → option_map_or (λ (x : Buffers). option_map_or (λ (q : Page). q.bytes) (page_at (blank hides u) x.tx) []) o [] ≡ option_map_or (λ (x : Buffers). option_map_or (λ (q : Page). q.bytes) (page_at u x.tx) []) o []
+          → option_map_or (λ (x : Buffers). run_bytes (blank hides u) x.tx x.pages) o [] ≡ option_map_or (λ (x : Buffers). run_bytes u x.tx x.pages) o []
       of None is = refl
-      of (Some x) is = ap (λ page. option_map_or (λ (q : Page). q.bytes) page []) (page-b u hides x.tx ∙ ap (λ c. blank_where c (page_at u x.tx)) (shown x is))
+      of (Some x) is =
+          flat-run-same (page_bytes (blank hides u)) (page_bytes u) x.tx x.pages (λ p its.
+          ap (λ page. option_map_or (λ (q : Page). q.bytes) page []) (page-b u hides p ∙ ap (λ c. blank_where c (page_at u p)) (shown x is p its)))
 
   pub tx-first : tx_bytes (blank hides s) s.runner ≡ tx_bytes s s.runner
   tx-first = clear-tx s clear

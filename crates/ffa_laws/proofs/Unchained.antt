@@ -6,6 +6,7 @@ use Rattle.std.proofs.lemmas.Bool.{cases_Bool, cases_eq, cases_lt, eq-eqb, eqb-t
 use Rattle.std.proofs.lemmas.Bool.Decides.{Decides-eqb, nat_tests}
 use Rattle.std.proofs.lemmas.List.{get_or_past}
 use Rattle.std.proofs.lemmas.Map.Made.{AllPairs-from_IsDistinct}
+use Rattle.ffa_model.specs.declared.limits.TheConstants.{MOST_ENDPOINTS}
 use Rattle.ffa_model.specs.declared.schedule.Status.{Status}
 use Rattle.ffa_model.specs.declared.schedule.Status.TheVariants.{Running, Waiting, Yielded, Blocked}
 use Rattle.ffa_model.specs.declared.schedule.Work.{Work}
@@ -59,7 +60,7 @@ identifier-known n (suc p) lt = grind (arith, nat_tests)
 identifier-partition : (n p : ℕ) → suc p < n → is_partition_among n (identifier (suc p)) ≡ true
 identifier-partition n p lt = grind (arith, nat_tests)
 
-module _ (c : Schedule) (sound : IsSound c) (some : 1 ≤ length c.works) (few : length c.works ≤ 8) where
+module _ (c : Schedule) (sound : IsSound c) (some : 1 ≤ length c.works) (few : length c.works ≤ MOST_ENDPOINTS) where
   abbrev fs : List ℕ
   fs = sound.chain.partitions
 

@@ -1,5 +1,5 @@
 -- A page's bytes change only where the runner may write, or where a message fills RX.
-use Rattle.std.proofs.Common.{◌≡◌, ◌≢◌, ◌∙◌, ℕ, ◌-◌, ◌/◌, ◌%◌, ◌^◌, Bool, true, false, cond, not, List, [], length, get_or, Option, Some, None, is_some, refl, sym, ap, inl, inr, get_or-set_other}
+use Rattle.std.proofs.Common.{◌≡◌, ◌≢◌, ◌∙◌, ℕ, ◌-◌, ◌/◌, ◌%◌, ◌^◌, Bool, true, false, cond, not, List, [], length, get_or, Option, Some, None, is_some, refl, sym, ap, inl, inr}
 use Rattle.std.specs.Prelude.{◌==◌, ◌&&◌, ◌||◌, is_none, nat_le, nat_lt}
 use Rattle.std.specs.Option.{option_and_then, option_map, option_map_or}
 use Rattle.std.proofs.lemmas.Bool.{and_from, and_parts, cases_lt, eq-eqb, eqb-true, false≢true, true≢false}
@@ -18,6 +18,7 @@ use Rattle.ffa_model.specs.declared.rights.Kind.TheVariants.{Share, Lend, Donate
 use Rattle.ffa_model.specs.declared.rights.Rights.{Rights}
 use Rattle.ffa_model.specs.declared.transaction.Range.{Range}
 use Rattle.ffa_model.specs.Bits.{is_set}
+use Rattle.ffa_model.specs.Lists.{is_in_run}
 use Rattle.ffa_model.specs.Rights.{is_lend, may_store}
 use Rattle.ffa_model.specs.SendDescriptor.{SendRecord}
 use Rattle.ffa_model.specs.SoundState.{IsSoundState}
@@ -25,7 +26,7 @@ use Rattle.ffa_model.specs.State.{State, Page, Transaction, Buffers, buffers_of,
 use Rattle.ffa_model.specs.Access.{access, handle_at, held_by, names, right_by, right_of}
 use Rattle.ffa_model.specs.Buffers.{Candidate, candidate_at, filled, filled_pages, is_usable}
 use Rattle.ffa_model.specs.Calls.{first_failure}
-use Rattle.ffa_model.specs.Memory.{access_at, fault_of, fetch_fault, number_at, page_bytes, read_fault, size_of, store_fault, stored, written_pages, zeroed_if, zeroed_page}
+use Rattle.ffa_model.specs.Memory.{access_at, fault_of, fetch_fault, number_at, page_bytes, read_fault, size_of, store_fault, stored, zeroed_if, zeroed_page}
 use Rattle.ffa_model.specs.MemoryRetrieve.{donated_page, memory_retrieve}
 use Rattle.ffa_model.specs.MemoryReturn.{is_zeroable, memory_reclaim, memory_relinquish, named_ranges, reclaim_guards, relinquish_guards, relinquish_read, relinquished, relinquished_from}
 use Rattle.ffa_model.specs.MemorySend.{memory_send, memory_sent, send_guards, send_read}
@@ -46,6 +47,7 @@ use Rattle.ffa_laws.proofs.SendLaws.{IsOffer, free, no-offer, offer, offered-own
 use Rattle.ffa_laws.proofs.SoundSteady.{sound-steady}
 use Rattle.ffa_laws.proofs.Taken as retrieve
 use Rattle.ffa_laws.proofs.Taken.{Taken, state-taken, taken}
+use Rattle.ffa_laws.proofs.Written.{elsewhere, elsewhere-run}
 
 -- ---- pages of lists
 abbrev bytes_of : Option Page → List ℕ
@@ -54,12 +56,9 @@ bytes_of page = option_map_or (λ (q : Page). q.bytes) page []
 abbrev bytes_in : List (Option Page) → ℕ → List ℕ
 bytes_in ps p = bytes_of (get_or ps p None)
 
-elsewhere : (ps : List (Option Page)) (q p at : ℕ) (bytes : List ℕ) → p ≢ q → bytes_in (written_pages ps q at bytes) p ≡ bytes_in ps p
-elsewhere ps q p at bytes differ = ap bytes_of (get_or-set_other ps q p _ None differ)
-
-elsewhere-filled : (ps : List (Option Page)) (p : ℕ) (bytes : List ℕ) (o : Option Buffers) → ((b : Buffers) → o ≡ Some b → p ≢ b.rx) → bytes_in (filled_pages ps bytes o) p ≡ bytes_in ps p
+elsewhere-filled : (ps : List (Option Page)) (p : ℕ) (bytes : List ℕ) (o : Option Buffers) → ((b : Buffers) → o ≡ Some b → (q : ℕ) → is_in_run b.rx b.pages q ≡ true → p ≢ q) → bytes_in (filled_pages ps bytes o) p ≡ bytes_in ps p
 elsewhere-filled ps p bytes None differ = refl
-elsewhere-filled ps p bytes (Some b) differ = elsewhere ps b.rx p 0 bytes (differ b refl)
+elsewhere-filled ps p bytes (Some b) differ = ap bytes_of (elsewhere-run b.pages ps b.rx p bytes (differ b refl))
 
 -- a store is by a right
 may-store : (aligned : Bool) (right : Option Rights) → fault_of aligned right may_store ≡ None → may_store right ≡ true
@@ -97,9 +96,9 @@ module _ (s : State) (sound : IsSoundState s) (p : ℕ) (no_right : may_store (a
   steady : IsSteady s
   steady = sound-steady s sound
 
-  -- RX of the runner is another page
-  own-rx : (b : Buffers) → buffers_of s s.runner ≡ Some b → p ≢ b.rx
-  own-rx b is same = false≢true (sym no_right ∙ ap (λ q. may_store (access s s.runner q)) same ∙ usable-writes s s.runner b.rx (sound.buffers s.runner b steady.runner is).rx)
+  -- RX of the runner is of other pages
+  own-rx : (b : Buffers) → buffers_of s s.runner ≡ Some b → (q : ℕ) → is_in_run b.rx b.pages q ≡ true → p ≢ q
+  own-rx b is q its same = false≢true (sym no_right ∙ ap (λ r. may_store (access s s.runner r)) same ∙ usable-writes s s.runner q ((sound.buffers s.runner b steady.runner is).rx q its))
 
   by-runner : (ps : List (Option Page)) (bytes : List ℕ) → bytes_in (filled_pages ps bytes (buffers_of s s.runner)) p ≡ bytes_in ps p
   by-runner ps bytes = elsewhere-filled ps p bytes (buffers_of s s.runner) own-rx
@@ -214,9 +213,9 @@ module _ (s : State) (sound : IsSoundState s) (p : ℕ) (no_right : may_store (a
   -- ---- any call, and any operation
   delivered-elsewhere : first_failure (msg_send2 s).guards ≡ None → fills_rx_page s (header_in (tx_bytes s s.runner)).receiver p ≡ false → page_bytes (msg_send2 s).state p ≡ page_bytes s p
   delivered-elsewhere none not_filled =
-      elsewhere-filled s.pages p (message_in (tx_bytes s s.runner)) (buffers_of s (header_in (tx_bytes s s.runner)).receiver) (λ b is same.
+      elsewhere-filled s.pages p (message_in (tx_bytes s s.runner)) (buffers_of s (header_in (tx_bytes s s.runner)).receiver) (λ b is q its same.
       true≢false (sym (and_from _ _ (ap is_none none) (and_from _ _ (eq-eqb (header_in (tx_bytes s s.runner)).receiver (header_in (tx_bytes s s.runner)).receiver refl)
-      (ap (λ o. option_map_or (λ (x : Buffers). x.rx == p) o false) is ∙ eq-eqb b.rx p (sym same)))) ∙ not_filled))
+      (ap (λ o. option_map_or (λ (x : Buffers). is_in_run x.rx x.pages p) o false) is ∙ ap (is_in_run b.rx b.pages) same ∙ its))) ∙ not_filled))
 
   only-service : (call : calls.Call) → (is_send2 call && fills_rx_page s (header_in (tx_bytes s s.runner)).receiver p) ≡ false → first_failure (service s call).guards ≡ None
       → (is_reclaim call && may_store (access (service s call).state s.runner p)) ≡ false → page_bytes (service s call).state p ≡ page_bytes s p
@@ -240,7 +239,7 @@ module _ (s : State) (sound : IsSoundState s) (p : ℕ) (no_right : may_store (a
   only-op (Load address size) not_filled later = accessed-kept (λ t. page_bytes t p ≡ page_bytes s p) s s (Data (number_at s address (size_of size))) (read_fault s address (size_of size)) refl (λ none. refl)
   only-op (Store address size value) not_filled later =
       accessed-kept (λ t. page_bytes t p ≡ page_bytes s p) s (stored s address (little_bytes (size_of size) value)) Done (store_fault s address (size_of size)) refl
-      (λ none. elsewhere s.pages ((address - s.ram_base) / 4096) p (address % 4096) (little_bytes (size_of size) value) (stored-elsewhere address (size_of size) none))
+      (λ none. ap bytes_of (elsewhere s.pages ((address - s.ram_base) / 4096) p (address % 4096) (little_bytes (size_of size) value) (stored-elsewhere address (size_of size) none)))
   only-op (Fetch address) not_filled later = accessed-kept (λ t. page_bytes t p ≡ page_bytes s p) s s (Data (number_at s address 4)) (fetch_fault s address) refl (λ none. refl)
 
 pub only_writers : (s : State) (op : Op) → IsSoundState s → OnlyWriters s op

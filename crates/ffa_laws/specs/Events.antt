@@ -1,6 +1,6 @@
 -- What the operations of others do to an endpoint's view, and what the endpoint sees.
 use Rattle.byteorder.specs.Endian.{little_bytes}
-use Rattle.std.specs.Prelude.{ℕ, suc, ◌==◌, ◌/◌, ◌-◌, Bool, true, false, not, ◌&&◌, List, [], ◌∷◌, ◌++◌, map, filter, length, Option, Some, None, slice_index_or, if◌then◌else◌}
+use Rattle.std.specs.Prelude.{ℕ, suc, ◌+◌, ◌*◌, ◌==◌, ◌/◌, ◌-◌, Bool, true, false, not, ◌&&◌, List, [], ◌∷◌, ◌++◌, map, filter, length, Option, Some, None, slice_index_or, if◌then◌else◌}
 use Rattle.std.specs.Option.{option_map}
 use Rattle.std.specs.Str.{bytes_eq}
 use Rattle.std.specs.FinMap as map_of
@@ -39,15 +39,15 @@ use Rattle.ffa_model.specs.MemoryReturn.{named_ranges, relinquish_read}
 use Rattle.ffa_model.specs.Step.{serve, service, step}
 use Rattle.ffa_laws.specs.View.{involves, is_near, kept}
 
--- what everyone may know: who runs, each status and work, and of mapped buffers whether RX is full
+-- what everyone may know: who runs, each status and work, and of mapped buffers how many pages they have and whether RX is full
 pub record PublicPart : Type 0 where
   pub runner : ℕ
   pub statuses : List Status
   pub works : List (Option Work)
-  pub full : List (Option Bool)
+  pub full : List (Option (ℕ × Bool))
 
-abbrev pub fullness : Option Buffers → Option Bool
-fullness b = option_map (λ (q : Buffers). q.full) b
+abbrev pub fullness : Option Buffers → Option (ℕ × Bool)
+fullness b = option_map (λ (q : Buffers). (q.pages, q.full)) b
 
 abbrev pub public_part : State → PublicPart
 public_part s =
@@ -68,11 +68,11 @@ pub data Event : Type 0 where
 
 -- APPLY: what an event changes in the view of e
 
--- buffers that are mapped, and full or not; those of another endpoint have no page in RAM
-abbrev pub with_fullness : ℕ → Option Buffers → Option Bool → Option Buffers
+-- buffers that are mapped, of so many pages, and full or not; those of another endpoint have no page in RAM
+abbrev pub with_fullness : ℕ → Option Buffers → Option (ℕ × Bool) → Option Buffers
 with_fullness past b None = None
-with_fullness past None (Some full) = Some (record { tx = past; rx = past; full = full })
-with_fullness past (Some b) (Some full) = Some (record b { full = full })
+with_fullness past None (Some known) = Some (record { tx = past; rx = past; pages = known.0; full = known.1 })
+with_fullness past (Some b) (Some known) = Some (record b { pages = known.0; full = known.1 })
 
 abbrev pub with_public : State → PublicPart → State
 with_public v values =
@@ -228,10 +228,9 @@ work_number None = 0
 work_number (Some WorkRun) = 1
 work_number (Some (Request by)) = suc (suc by.0)
 
-abbrev pub fullness_number : Option Bool → ℕ
+abbrev pub fullness_number : Option (ℕ × Bool) → ℕ
 fullness_number None = 0
-fullness_number (Some false) = 1
-fullness_number (Some true) = 2
+fullness_number (Some known) = suc (2 * known.0 + (if known.1 then 1 else 0))
 
 abbrev pub is_same_public : PublicPart → PublicPart → Bool
 is_same_public a b =

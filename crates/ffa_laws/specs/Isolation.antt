@@ -1,6 +1,7 @@
 -- The laws over the small machine: isolation, rights that never grow, integrity.
 use Rattle.std.specs.Prelude.{◌≡◌, ◌≢◌, ℕ, ◌==◌, Bool, true, false, ◌&&◌, List, [], ◌∷◌, ◌++◌, Option, None, is_none, is_some, if◌then◌else◌}
 use Rattle.std.specs.Option.{option_map_or}
+use Rattle.ffa_model.specs.Lists.{is_in_run}
 use Rattle.ffa_model.specs.Transactions.{base_of}
 use Rattle.ffa_model.specs.declared.operation.Op.{Op}
 use Rattle.ffa_model.specs.declared.operation.Op.TheVariants.{Call, Load, Store, Fetch}
@@ -84,11 +85,12 @@ is_indirect_message (Load addr size) = false
 is_indirect_message (Store addr size value) = false
 is_indirect_message (Fetch addr) = false
 
--- whether e has mapped buffers, and this page is its RX
+-- whether e has mapped buffers, and this page is one of those of its RX
 abbrev pub is_rx : State → ℕ → ℕ → Bool
-is_rx s e p = option_map_or (λ (b : Buffers). b.rx == p) (buffers_of s e) false
+is_rx s e p = option_map_or (λ (b : Buffers). is_in_run b.rx b.pages p) (buffers_of s e) false
 
--- whether an indirect message of the runner isn't refused, and this page is its receiver's RX, where the receiver is e
+-- whether an indirect message of the runner isn't refused, and this page is one of those of its receiver's RX, where the
+-- receiver is e
 abbrev pub fills_rx_page : State → ℕ → ℕ → Bool
 fills_rx_page s e p =
     is_none (first_failure (msg_send2 s).guards) && ((header_in (tx_bytes s s.runner)).receiver == e && is_rx s e p)

@@ -1,6 +1,8 @@
 -- What isolation asks of a state: less than that it is sound.
 use Rattle.std.specs.Prelude.{◌≡◌, ◌≢◌, ℕ, ◌≤◌, ◌<◌, Bool, true, ◌&&◌, ◌||◌, nat_le, List, length, Some, None, slice_index_or}
 use Rattle.std.specs.FinSet as finite_set
+use Rattle.ffa_model.specs.declared.limits.TheConstants.{MOST_ENDPOINTS, MOST_SENDS}
+use Rattle.ffa_model.specs.Lists.{is_in_run}
 use Rattle.ffa_model.specs.Transactions.{base_of, bases_of, ceiling, handle_of}
 use Rattle.ffa_model.specs.declared.rights.Kind.TheVariants.{Donate}
 use Rattle.ffa_model.specs.declared.rights.Rights.{Rights}
@@ -30,9 +32,10 @@ pub record IsAlone (s : State) (e p : ℕ) : Type 0 where
   pub owner : owner_of s p ≡ e
   pub unnamed : handle_at s p ≡ None
 
+-- an endpoint has each page of its buffers alone
 pub record AreSteadyBuffers (s : State) (e : ℕ) (b : Buffers) : Type 0 where
-  pub tx : IsAlone s e b.tx
-  pub rx : IsAlone s e b.rx
+  pub tx : (p : ℕ) → is_in_run b.tx b.pages p ≡ true → IsAlone s e p
+  pub rx : (p : ℕ) → is_in_run b.rx b.pages p ≡ true → IsAlone s e p
 
 -- a bit that is bound is of the class of its sender
 pub record IsSteadyBinding (entry : List ℕ) : Type 0 where
@@ -42,11 +45,11 @@ pub record IsSteadyBinding (entry : List ℕ) : Type 0 where
   pub is : entry ≡ binding receiver (class_of sender) bit sender
   pub in_word : bit < 64
 
--- A page stands in one open transaction at most, and a buffer's page in none. Whoever runs, and whoever waits for an
+-- A page stands in one open transaction at most, and a buffer's pages in none. Whoever runs, and whoever waits for an
 -- answer, is an endpoint. A handle is its sender's, of a send that it has made.
 pub record IsSteady (s : State) : Type 0 where
   pub some : 1 ≤ length s.parties
-  pub few : length s.parties ≤ 8
+  pub few : length s.parties ≤ MOST_ENDPOINTS
   pub each : length s.buffers ≡ length s.parties
   pub runner : is_known s s.runner ≡ true
   pub requesters : (i by : ℕ) → requester (slice_index_or s.works i None) ≡ Some by → is_known s by ≡ true
@@ -55,6 +58,6 @@ pub record IsSteady (s : State) : Type 0 where
   pub sends : length s.sent ≡ length s.parties
   pub numbers :
       (h : ℕ) (t : Transaction) → transaction_of s h ≡ Some t
-      → (n : ℕ) × (h ≡ handle_of t.sender n) × (n ≤ sent_by s t.sender) × (n ≤ 65535)
+      → (n : ℕ) × (h ≡ handle_of t.sender n) × (n ≤ sent_by s t.sender) × (n ≤ MOST_SENDS)
   pub buffers : (e : ℕ) (b : Buffers) → is_known s e ≡ true → buffers_of s e ≡ Some b → AreSteadyBuffers s e b
   pub bound : (entry : List ℕ) → finite_set.contains s.bound entry ≡ true → IsSteadyBinding entry

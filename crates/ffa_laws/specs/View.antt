@@ -32,16 +32,17 @@ seen_by e t = record t { held = if t.sender == e then t.held else map.retain_key
 abbrev pub transactions_of : ℕ → State → map.FinMap nat_cmp Transaction
 transactions_of e s = map_values (seen_by e) (map.retain_keys s.transactions (λ h. involves e (transaction_of s h)))
 
--- of another's buffers whether they are mapped, and whether RX is full; their pages are named by a number past RAM
+-- of another's buffers whether they are mapped, how many pages they have, and whether RX is full; their pages are named by
+-- numbers past RAM
 abbrev pub hidden : ℕ → Option Buffers → Option Buffers
-hidden past b = option_map (λ (q : Buffers). record { tx = past; rx = past; full = q.full }) b
+hidden past b = option_map (λ (q : Buffers). record { tx = past; rx = past; pages = q.pages; full = q.full }) b
 
 abbrev pub buffers_seen : ℕ → ℕ → ℕ → Option Buffers → Option Buffers
 buffers_seen e past i b = if identifier i == e then b else hidden past b
 
 -- The constants are public, and so are who runs, each status and work, and of each endpoint's buffers whether they are
--- mapped and RX is full. Of the sends and of who has bitmaps e knows its own element; of the bits that are bound, those
--- that it receives or sends; of those that are pending, its own.
+-- mapped, how many pages they have, and whether RX is full. Of the sends and of who has bitmaps e knows its own element;
+-- of the bits that are bound, those that it receives or sends; of those that are pending, its own.
 abbrev pub view : ℕ → State → State
 view e s =
     record {

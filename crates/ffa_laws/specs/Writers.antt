@@ -12,7 +12,7 @@ use Rattle.ffa_model.specs.Step.{step}
 use Rattle.ffa_laws.specs.Isolation.{fills_rx_page, is_indirect_message}
 use Rattle.ffa_laws.specs.OwnAccess.{is_call}
 
--- whether an operation is an indirect message that isn't refused, and this page is its receiver's RX
+-- whether an operation is an indirect message that isn't refused, and this page is one of those of its receiver's RX
 abbrev pub is_filled_by : Op → State → ℕ → Bool
 is_filled_by op s p = is_indirect_message op && fills_rx_page s (header_in (tx_bytes s s.runner)).receiver p
 

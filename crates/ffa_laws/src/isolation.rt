@@ -59,7 +59,7 @@ pub fn integrity()
 {}
 
 /// A page that an endpoint has alone is after a run what it was, and its own alone, where the endpoint didn't run and,
-/// if the page is its RX, got no message into it.
+/// if the page is one of its RX, got no message into RX.
 pub fn run_integrity()
     ensures { (s : State) (ops : List Op) → IsSteady s → RunIntegrity s ops }
 {}

@@ -6,6 +6,7 @@ use Rattle.std.proofs.lemmas.Bool.{and_parts, or_parts, ne_eqb, cond-false}
 use Rattle.std.proofs.lemmas.List.Folds.{list_all-append}
 use Rattle.toml.specs.Data.{Data, Items, as_table, Members}
 use Rattle.uuid.specs.Text.{parsed}
+use Rattle.ffa_model.specs.declared.limits.TheConstants.{MOST_ENDPOINTS, MOST_REGIONS}
 use Rattle.ffa_model.specs.declared.endpoint.Region.{Region}
 use Rattle.ffa_model.specs.declared.endpoint.Endpoint.{Endpoint}
 use Rattle.ffa_model.specs.Bits.{is_set}
@@ -119,12 +120,12 @@ one_more placed es d e so_far is =
     let next = next_endpoint-read placed es d e so_far.apart is in
     record {
       named = are_named-last es e so_far.named next.identified;
-      counted = rw (list_all-append (λ (x : Endpoint). is_from_to 1 16 (length x.regions.items)) es (e ∷ []), so_far.counted, next.regions.counted) refl;
+      counted = rw (list_all-append (λ (x : Endpoint). is_from_to 1 MOST_REGIONS (length x.regions.items)) es (e ∷ []), so_far.counted, next.regions.counted) refl;
       in_place = rw (regions_of-last es e, list_all-append placed (regions_of es) e.regions.items, so_far.in_place, next.regions.sound.in_place) refl;
       apart = rw (regions_of-last es e) next.regions.sound.apart;
     }
 
-named_some : (es : List Endpoint) → is_from_to 1 8 (length es) ≡ true → are_named es ≡ true → are_identified es ≡ true
+named_some : (es : List Endpoint) → is_from_to 1 MOST_ENDPOINTS (length es) ≡ true → are_named es ≡ true → are_identified es ≡ true
 named_some [] some h = cc
 named_some (e ∷ es) some h = h
 
@@ -136,7 +137,7 @@ accepted_parts ms base blocks ds es base_is blocks_is items read =
     let (first, _, h1) = bind_ok (integer_at (codes "ram_base") ms) _ base base_is in
     let (second, _, h2) = bind_ok (integer_at (codes "ram_blocks") ms) _ blocks blocks_is in
     let count : length es ≡ item_count ds = length-read_all _ ds es read in
-    let few : is_from_to 1 8 (length es) ≡ true = ap (is_from_to 1 8) count ∙ items_at-count _ 8 EndpointCount ms ds items in
+    let few : is_from_to 1 MOST_ENDPOINTS (length es) ≡ true = ap (is_from_to 1 MOST_ENDPOINTS) count ∙ items_at-count _ MOST_ENDPOINTS EndpointCount ms ds items in
     let all : EndpointsRead (is_placed base blocks (item_count ds)) es = read_each-keeps (EndpointsRead (is_placed base blocks (item_count ds))) (next_endpoint (is_placed base blocks (item_count ds)))
     (one_more (is_placed base blocks (item_count ds))) [] ds es (record { named = refl; counted = refl; in_place = refl; apart = refl }) read in
     rw (tested_ok is_ram_base RamBase first base h1, tested_ok (is_from_to 1 32) RamBlocks second blocks h2, few, named_some es few all.named, all.counted, count, all.in_place, all.apart) refl

@@ -5,6 +5,7 @@ use Rattle.std.specs.List.{list_all}
 use Rattle.std.proofs.lemmas.Bool.{and_parts}
 use Rattle.std.proofs.lemmas.List.Folds.{list_all-append}
 use Rattle.toml.specs.Data.{Data, as_table, Members}
+use Rattle.ffa_model.specs.declared.limits.TheConstants.{MOST_REGIONS}
 use Rattle.ffa_model.specs.declared.endpoint.Region.{Region}
 use Rattle.ffa_model.specs.Manifest.{is_from_to, is_apart, are_apart}
 use Rattle.ffa_manifest.specs.declared.error.ManifestError.TheVariants.{WrongKind, RegionOutside, RegionOverlap, RegionCount}
@@ -62,17 +63,17 @@ one_more placed taken own d r so_far is =
       apart = rw (← append_assoc taken own (r ∷ [])) (are_apart-last (taken ++ own) r so_far.apart free);
     }
 
--- between 1 and 16 regions
+-- at least one region, and no more than an endpoint may have
 pub record RegionsRead (placed : Region → Bool) (taken own : List Region) : Type 0 where
   pub sound : AreSound placed taken own
-  pub counted : is_from_to 1 16 (length own) ≡ true
+  pub counted : is_from_to 1 MOST_REGIONS (length own) ≡ true
 
 pub regions_at-read : (placed : Region → Bool) (taken : List Region) (ms : Members) (own : List Region) → are_apart taken ≡ true → regions_at placed taken ms ≡ Ok own → RegionsRead placed taken own
 unfolding regions_at regions_from
 regions_at-read placed taken ms own apart h =
-    let (ds, items, read) = bind_ok (items_at (codes "regions") 16 RegionCount ms) _ own h in
+    let (ds, items, read) = bind_ok (items_at (codes "regions") MOST_REGIONS RegionCount ms) _ own h in
     record {
       sound = read_each-keeps (AreSound placed taken) (λ own d. next_region placed (taken ++ own) d) (one_more placed taken) [] ds own
           (record { in_place = refl; apart = rw (append-nil taken) apart }) read;
-      counted = ap (is_from_to 1 16) (length-read_all _ ds own read) ∙ items_at-count _ 16 RegionCount ms ds items;
+      counted = ap (is_from_to 1 MOST_REGIONS) (length-read_all _ ds own read) ∙ items_at-count _ MOST_REGIONS RegionCount ms ds items;
     }

@@ -3,6 +3,7 @@ use Rattle.std.specs.Prelude.{ℕ, Bool, ◌||◌, ◌==◌, nat_lt, List, [], �
 use Rattle.std.specs.Str.{bytes_eq}
 use Rattle.uuid.specs.Text.{parsed}
 use Rattle.toml.specs.Data.{Data, Items, Members, as_table}
+use Rattle.ffa_model.specs.declared.limits.TheConstants.{MOST_ENDPOINTS}
 use Rattle.ffa_model.specs.declared.endpoint.Version as versions
 use Rattle.ffa_model.specs.declared.endpoint.Version.TheVariants.{Compact, V1_1}
 use Rattle.ffa_model.specs.declared.endpoint.Region.{Region}
@@ -80,4 +81,4 @@ unfoldable pub endpoints_from : (Region → Bool) → Items → Result (List End
 endpoints_from is_placed ds = read_each (next_endpoint is_placed) [] ds
 
 unfoldable pub endpoint_items : Members → Result Items ManifestError
-endpoint_items ms = items_at (codes "endpoint") 8 EndpointCount ms
+endpoint_items ms = items_at (codes "endpoint") MOST_ENDPOINTS EndpointCount ms

@@ -3,6 +3,7 @@ use Rattle.std.specs.Prelude.{ℕ, Bool, true, false, List, [], ◌∷◌, ◌++
 use Rattle.std.specs.List.{list_all}
 use Rattle.std.specs.Str.{bytes_eq}
 use Rattle.toml.specs.Data.{Data, Items, Members, as_table}
+use Rattle.ffa_model.specs.declared.limits.TheConstants.{MOST_REGIONS}
 use Rattle.ffa_model.specs.declared.endpoint.Region.{Region}
 use Rattle.ffa_model.specs.declared.rights.Rights.{Rights}
 use Rattle.ffa_model.specs.declared.rights.Data.TheVariants.{Ro, Rw}
@@ -68,5 +69,5 @@ regions_from is_placed taken ds = read_each (λ own d. next_region is_placed (ta
 
 unfoldable pub regions_at : (Region → Bool) → List Region → Members → Result (List Region) ManifestError
 regions_at is_placed taken ms = do
-  ds ← items_at (codes "regions") 16 RegionCount ms
+  ds ← items_at (codes "regions") MOST_REGIONS RegionCount ms
   regions_from is_placed taken ds

@@ -9,7 +9,7 @@ use crate::endpoints::endpoints_from;
 use crate::error::ManifestError;
 use crate::keys::{integer_at, items_at, only_keys};
 use crate::place::Place;
-use ffa_model::Manifest;
+use ffa_model::{MOST_ENDPOINTS, Manifest};
 use toml::{Table, Value};
 
 #[tactic(auto, unfolding(crate::specs::Document::top_keys))]
@@ -44,9 +44,14 @@ fn ram_blocks_at(table: &Table) -> Result<u32, ManifestError>
 #[tactic(auto, unfolding(crate::specs::Endpoints::endpoint_items))]
 fn endpoint_items(table: &Table) -> Result<&[Value], ManifestError>
     ensures items { Exact (λ vs. items_view vs.now) result (endpoint_items_in (table_view table.now)) }
-    ensures few { IfOk result (λ vs. length vs.now ≤ 8) }
+    ensures few { IfOk result (λ vs. length vs.now ≤ MOST_ENDPOINTS) }
 {
-    items_at(table, "endpoint", 8, ManifestError::EndpointCount)
+    items_at(
+        table,
+        "endpoint",
+        MOST_ENDPOINTS,
+        ManifestError::EndpointCount,
+    )
 }
 
 /// The machine that the top table of a manifest describes.

@@ -13,7 +13,7 @@ use crate::place::Place;
 use crate::regions::regions_at;
 use arrayvec::ArrayVec;
 use bitflags::Flags;
-use ffa_model::{Endpoint, Properties, Version};
+use ffa_model::{Endpoint, MOST_ENDPOINTS, Properties, Version};
 use toml::{Table, Value};
 
 #[tactic(auto, unfolding(crate::specs::Endpoints::normal_world_keys))]
@@ -144,8 +144,8 @@ fn next_endpoint(
 pub(crate) fn endpoints_from(
     values: &[Value],
     place: &Place,
-) -> Result<ArrayVec<Endpoint, 8>, ManifestError>
-    requires { length values.now ≤ 8 }
+) -> Result<ArrayVec<Endpoint, MOST_ENDPOINTS>, ManifestError>
+    requires { length values.now ≤ MOST_ENDPOINTS }
     ensures { Exact (λ es. es.items) result (endpoints_in (is_in place.now) (items_view values.now)) }
 {
     let mut endpoints = ArrayVec::new();

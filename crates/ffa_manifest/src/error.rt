@@ -26,7 +26,7 @@ pub enum ManifestError {
     /// `ram_blocks` isn't from 1 to 32.
     #[error("M7 RamBlocks")]
     RamBlocks,
-    /// There is no endpoint, or more than 8.
+    /// There is no endpoint, or more than `MOST_ENDPOINTS`.
     #[error("M8 EndpointCount")]
     EndpointCount,
     /// A UUID can't be read, or it's the Nil UUID.
@@ -35,7 +35,7 @@ pub enum ManifestError {
     /// `properties` isn't from 0 to 15, or the normal world is to receive direct requests or notifications.
     #[error("M10 Property")]
     Property,
-    /// An endpoint has no region, or more than 16.
+    /// An endpoint has no region, or more than `MOST_REGIONS`.
     #[error("M11 RegionCount")]
     RegionCount,
     /// A region isn't of whole pages, at least one, that all lie in RAM behind the table pages.

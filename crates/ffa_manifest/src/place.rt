@@ -1,5 +1,6 @@
 //! Where the regions of a machine may lie.
 ghost use Rattle.std.specs.Prelude.{◌≡◌, ◌≤◌};
+ghost use Rattle.ffa_model.specs.declared.limits.TheConstants.{MOST_ENDPOINTS};
 
 use ffa_model::{Region, Rights};
 
@@ -14,7 +15,7 @@ pub(crate) struct Place {
     pub endpoints: u32,
     ghost low: { base ≤ 0xFC000000 },
     ghost small: { blocks ≤ 32 },
-    ghost few: { endpoints ≤ 8 },
+    ghost few: { endpoints ≤ MOST_ENDPOINTS },
 }
 
 impl Place {

@@ -11,7 +11,7 @@ use crate::error::ManifestError;
 use crate::keys::{integer_at, items_at, only_keys, text_at};
 use crate::place::Place;
 use arrayvec::ArrayVec;
-use ffa_model::{Data, Endpoint, Region, Rights};
+use ffa_model::{Data, Endpoint, MOST_REGIONS, Region, Rights};
 use toml::{Table, Value};
 
 #[tactic(auto, unfolding(crate::specs::Regions::region_keys))]
@@ -126,8 +126,8 @@ fn regions_from(
     values: &[Value],
     place: &Place,
     endpoints: &[Endpoint],
-) -> Result<ArrayVec<Region, 16>, ManifestError>
-    requires { length values.now ≤ 16 }
+) -> Result<ArrayVec<Region, MOST_REGIONS>, ManifestError>
+    requires { length values.now ≤ MOST_REGIONS }
     ensures { Exact (λ rs. rs.items) result (regions_in (is_in place.now) (regions_of endpoints.now) (items_view values.now)) }
 {
     let mut own = ArrayVec::new();
@@ -144,9 +144,9 @@ pub(crate) fn regions_at(
     table: &Table,
     place: &Place,
     endpoints: &[Endpoint],
-) -> Result<ArrayVec<Region, 16>, ManifestError>
+) -> Result<ArrayVec<Region, MOST_REGIONS>, ManifestError>
     ensures { Exact (λ rs. rs.items) result (regions_of_table (is_in place.now) (regions_of endpoints.now) (table_view table.now)) }
 {
-    let values = items_at(table, "regions", 16, ManifestError::RegionCount)?;
+    let values = items_at(table, "regions", MOST_REGIONS, ManifestError::RegionCount)?;
     regions_from(values, place, endpoints)
 }

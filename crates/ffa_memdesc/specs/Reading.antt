@@ -1,5 +1,6 @@
 -- What the parts of a reader answer.
 use Rattle.std.specs.Prelude.{ℕ, ◌+◌, ◌*◌, ◌%◌, ◌==◌, Bool, not, ◌&&◌, nat_le, if◌then◌else◌, List, length, Option, Some, None}
+use Rattle.ffa_model.specs.declared.limits.TheConstants.{MOST_RANGES}
 use Rattle.ffa_model.specs.declared.rights.Kind.{Kind}
 use Rattle.ffa_model.specs.declared.transaction.Receiver.{Receiver}
 use Rattle.ffa_model.specs.declared.transaction.Range.{Range}
@@ -70,7 +71,7 @@ range_count_of b end composite =
     if (composite % 16 == 0)
     && nat_le end composite
     && nat_le 1 (u32_at b (composite + 4))
-    && nat_le (u32_at b (composite + 4)) 16
+    && nat_le (u32_at b (composite + 4)) MOST_RANGES
     && (u64_at b (composite + 8) == 0)
     && nat_le (composite + 16 + 16 * u32_at b (composite + 4)) (length b)
     then Some (u32_at b (composite + 4)) else None

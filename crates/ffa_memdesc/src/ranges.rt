@@ -3,22 +3,20 @@
 ghost use Rattle.std.specs.Prelude.{◌≡◌, ◌+◌, ◌*◌, ◌≤◌, length, IfSome};
 ghost use Rattle.std.specs.List.{list_all};
 ghost use Rattle.std.specs.Option.{option_map};
+ghost use Rattle.ffa_model.specs.declared.limits.TheConstants.{MOST_RANGES};
 ghost use Rattle.ffa_model.specs.SendDescriptor.{range_end, are_apart, page_total};
 ghost use Rattle.ffa_memdesc.specs.Reading.{range_count_of, range_of, ranges_of};
 
 use crate::bytes::{Bytes, read_u32, read_u64};
 use crate::header::{ENTRY_SIZE, Header};
 use arrayvec::ArrayVec;
-use ffa_model::Range;
-
-/// The most ranges that a send may have.
-pub const MOST_RANGES: u32 = 16;
+use ffa_model::{MOST_RANGES, Range};
 
 /// How many ranges the composite has, where it stands behind the access descriptors and inside the bytes.
 #[tactic(auto, unfolding(crate::specs::Reading::range_count_of))]
 pub fn read_range_count<B: Bytes>(bytes: &B, header: &Header, composite: u32) -> Option<u32>
     ensures exact { result ≡ range_count_of (B.bytes bytes.now) (header.now.array + 16 * header.now.count) composite }
-    ensures few { IfSome result (λ n. n ≤ 16) }
+    ensures few { IfSome result (λ n. n ≤ MOST_RANGES) }
     ensures inside { IfSome result (λ n. composite + 16 + 16 * n ≤ length (B.bytes bytes.now)) }
 {
     let len = bytes.len() as u64;
@@ -31,7 +29,7 @@ pub fn read_range_count<B: Bytes>(bytes: &B, header: &Header, composite: u32) ->
     let fits = composite % 16 == 0
         && header.array as u64 + ENTRY_SIZE as u64 * header.count as u64 <= composite as u64
         && count >= 1
-        && count <= MOST_RANGES
+        && count as usize <= MOST_RANGES
         && read_u64(bytes, at + 8) == 0
         && first + ENTRY_SIZE as u64 * count as u64 <= len;
     if fits { Some(count) } else { None }
@@ -76,8 +74,12 @@ fn read_range<B: Bytes>(bytes: &B, at: usize, earlier: &[Range]) -> Option<Range
 }
 
 /// The ranges of the composite, where all fit.
-pub fn read_ranges<B: Bytes>(bytes: &B, composite: u32, count: u32) -> Option<ArrayVec<Range, 16>>
-    requires few { count ≤ 16 }
+pub fn read_ranges<B: Bytes>(
+    bytes: &B,
+    composite: u32,
+    count: u32,
+) -> Option<ArrayVec<Range, MOST_RANGES>>
+    requires few { count ≤ MOST_RANGES }
     requires inside { composite + 16 + 16 * count ≤ length (B.bytes bytes.now) }
     ensures { option_map (λ v. v.items) result ≡ ranges_of (B.bytes bytes.now) composite count }
 {
@@ -91,9 +93,9 @@ pub fn read_ranges<B: Bytes>(bytes: &B, composite: u32, count: u32) -> Option<Ar
     Some(ranges)
 }
 
-/// How many pages at most 16 ranges have together. Nothing wraps.
+/// How many pages the ranges of a transaction have together. Nothing wraps.
 pub fn page_total(ranges: &[Range]) -> u64
-    requires { length ranges.now ≤ 16 }
+    requires { length ranges.now ≤ MOST_RANGES }
     ensures { result ≡ page_total ranges.now }
 {
     ranges.iter().map(|r| r.pages as u64).sum()

@@ -2,6 +2,7 @@
 
 ghost use Rattle.std.specs.Prelude.{◌≡◌, ◌+◌, ◌*◌, ◌≤◌, length};
 ghost use Rattle.std.specs.Option.{option_map};
+ghost use Rattle.ffa_model.specs.declared.limits.TheConstants.{MOST_RECEIVERS};
 ghost use Rattle.ffa_model.specs.DescriptorPlaces.{data_of};
 ghost use Rattle.ffa_model.specs.SendDescriptor.{is_grant, is_named};
 ghost use Rattle.ffa_memdesc.specs.Reading.{receiver_of, receivers_of};
@@ -10,7 +11,7 @@ use crate::access::read_access;
 use crate::bytes::Bytes;
 use crate::header::{ENTRY_SIZE, Header};
 use arrayvec::ArrayVec;
-use ffa_model::{Data, EndpointId, Kind, Receiver};
+use ffa_model::{Data, EndpointId, Kind, MOST_RECEIVERS, Receiver};
 
 /// Whether a send of this kind may grant these permissions.
 fn is_grant(kind: Kind, permissions: u8) -> bool
@@ -75,8 +76,8 @@ pub fn read_receivers<B: Bytes>(
     kind: Kind,
     header: &Header,
     composite: u32,
-) -> Option<ArrayVec<Receiver, 4>>
-    requires few { header.now.count ≤ 4 }
+) -> Option<ArrayVec<Receiver, MOST_RECEIVERS>>
+    requires few { header.now.count ≤ MOST_RECEIVERS }
     requires inside { header.now.array + 16 * header.now.count ≤ length (B.bytes bytes.now) }
     ensures { option_map (λ v. v.items) result ≡ receivers_of kind header.now.sender.0 composite (B.bytes bytes.now) header.now.array header.now.count }
 {

@@ -12,9 +12,9 @@ use ffa_model::{EndpointId, RelinquishDesc};
 /// How many bytes a relinquish descriptor of one endpoint has.
 const SIZE: usize = 18;
 
-/// What a relinquish descriptor says, wherever its bytes lie.
+/// What the bytes say, wherever they lie, as a relinquish descriptor of one endpoint. `Bad` means that they are none.
 #[tactic(auto, unfolding(ffa_model::specs::RelinquishDescriptor::relinquish_of))]
-pub fn read_relinquish_from<B: Bytes>(bytes: &B) -> Result<RelinquishDesc, Bad>
+pub fn read_relinquish<B: Bytes>(bytes: &B) -> Result<RelinquishDesc, Bad>
     ensures found { IfOk result (λ d. Relinquish (B.bytes bytes.now) d) }
     ensures none { OnErr result ((r : RelinquishDesc) → Relinquish (B.bytes bytes.now) r → ⊥) }
     ensures computed { result_ok result ≡ relinquish_of (B.bytes bytes.now) }
@@ -31,13 +31,4 @@ pub fn read_relinquish_from<B: Bytes>(bytes: &B) -> Result<RelinquishDesc, Bad>
         zero: flags == 1,
         endpoint: EndpointId(read_u16(bytes, 16)),
     })
-}
-
-/// What the bytes say as a relinquish descriptor of one endpoint. `Bad` means that they are none.
-pub fn read_relinquish(bytes: &[u8]) -> Result<RelinquishDesc, Bad>
-    ensures found { IfOk result (λ d. Relinquish bytes.now d) }
-    ensures none { OnErr result ((r : RelinquishDesc) → Relinquish bytes.now r → ⊥) }
-    ensures computed { result_ok result ≡ relinquish_of bytes.now }
-{
-    read_relinquish_from(&bytes)
 }

@@ -2,6 +2,7 @@
 
 ghost use Rattle.std.specs.Prelude.{◌≡◌, ◌+◌, ◌*◌, ◌^◌, ◌<◌, ◌≤◌, List, ℕ, length, [], ◌∷◌, ◌++◌, take, drop};
 ghost use Rattle.std.specs.List.{flat_map};
+ghost use Rattle.ffa_model.specs.declared.limits.TheConstants.{MOST_RANGES};
 ghost use Rattle.ffa_model.specs.DescriptorPlaces.{header_size};
 ghost use Rattle.ffa_model.specs.SendDescriptor.{page_total};
 ghost use Rattle.ffa_model.specs.ResponseBytes.{le, flags_of, permissions_of, header_bytes, rest_bytes, access_bytes, composite_bytes, range_bytes, response_record, response_bytes, response_size};
@@ -109,7 +110,7 @@ fn write_access(out: &mut [u8], at: usize, response: &Response)
 
 fn write_composite(out: &mut [u8], at: usize, ranges: &[Range])
     requires room { at + 16 ≤ length out.old }
-    requires few { length ranges.now ≤ 16 }
+    requires few { length ranges.now ≤ MOST_RANGES }
     requires total { page_total ranges.now < 2 ^ 32 }
     ensures { (old front : List ℕ) → Wrote old front at out.old → Wrote old (front ++ composite_bytes ranges.now) (at + 16) out.new }
 {

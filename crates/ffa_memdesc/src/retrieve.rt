@@ -73,8 +73,9 @@ fn retrieve_in<B: Bytes>(bytes: &B, version: Version, endpoint: EndpointId) -> O
     })
 }
 
-/// What a retrieve descriptor says, wherever its bytes lie.
-pub fn read_retrieve_from<B: Bytes>(
+/// What the bytes say, wherever they lie, as a retrieve descriptor for this endpoint, which has this version. `Bad`
+/// means that they are none.
+pub fn read_retrieve<B: Bytes>(
     bytes: &B,
     version: Version,
     endpoint: EndpointId,
@@ -84,17 +85,4 @@ pub fn read_retrieve_from<B: Bytes>(
     ensures computed { result_ok result ≡ retrieve_of endpoint.0 (in_version version (B.bytes bytes.now)) }
 {
     retrieve_in(bytes, version, endpoint).ok_or(Bad)
-}
-
-/// What the bytes say as a retrieve descriptor for this endpoint, which has this version. `Bad` means that they are none.
-pub fn read_retrieve(
-    bytes: &[u8],
-    version: Version,
-    endpoint: EndpointId,
-) -> Result<RetrieveDesc, Bad>
-    ensures found { IfOk result (λ d. Retrieve endpoint.0 (in_version version bytes.now) d) }
-    ensures none { OnErr result ((r : RetrieveDesc) → Retrieve endpoint.0 (in_version version bytes.now) r → ⊥) }
-    ensures computed { result_ok result ≡ retrieve_of endpoint.0 (in_version version bytes.now) }
-{
-    read_retrieve_from(&bytes, version, endpoint)
 }

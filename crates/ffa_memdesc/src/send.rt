@@ -3,6 +3,7 @@
 ghost use Rattle.std.specs.Prelude.{◌≡◌, ◌≤◌, IfOk, OnErr, IsTrue};
 ghost use Rattle.std.specs.Option.{option_map};
 ghost use Rattle.std.specs.Result.{result_ok};
+ghost use Rattle.ffa_model.specs.declared.limits.TheConstants.{MOST_RECEIVERS};
 ghost use Rattle.ffa_model.specs.DescriptorPlaces.{Versioned, in_version};
 ghost use Rattle.ffa_model.specs.SendDescriptor.{SendRecord, send_record, Send, send_of, most_flags, most_receivers, attributes_of, is_send_header};
 ghost use Rattle.ffa_memdesc.specs.Reading.{header_in};
@@ -12,7 +13,7 @@ use crate::bytes::{Bytes, read_u32};
 use crate::header::{Header, NORMAL_MEMORY, read_header};
 use crate::ranges::{page_total, read_range_count, read_ranges};
 use crate::receivers::read_receivers;
-use ffa_model::{Kind, SendDesc, Version};
+use ffa_model::{Kind, MOST_RECEIVERS, SendDesc, Version};
 
 /// The greatest flags of a send. Bit 0 asks for zeros, but not in a share.
 fn most_flags(kind: Kind) -> u32
@@ -26,10 +27,10 @@ fn most_flags(kind: Kind) -> u32
 
 fn most_receivers(kind: Kind) -> u32
     ensures value { result ≡ most_receivers kind }
-    ensures few { result ≤ 4 }
+    ensures few { result ≤ MOST_RECEIVERS }
 {
     match kind {
-        Kind::Share | Kind::Lend => 4,
+        Kind::Share | Kind::Lend => MOST_RECEIVERS as u32,
         Kind::Donate => 1,
     }
 }
@@ -49,7 +50,7 @@ fn attributes_of(kind: Kind, count: u32) -> u16
 #[tactic(auto, unfolding(ffa_model::specs::SendDescriptor::is_send_header))]
 fn is_send_header(kind: Kind, header: &Header) -> bool
     ensures exact { (b : Versioned) → header.now ≡ header_in b → result ≡ is_send_header kind b }
-    ensures few { IsTrue result → header.now.count ≤ 4 }
+    ensures few { IsTrue result → header.now.count ≤ MOST_RECEIVERS }
 {
     header.attributes == attributes_of(kind, header.count)
         && header.flags <= most_flags(kind)
@@ -81,20 +82,12 @@ fn send_in<B: Bytes>(bytes: &B, version: Version, kind: Kind) -> Option<SendDesc
     })
 }
 
-/// What a send descriptor says, wherever its bytes lie.
-pub fn read_send_from<B: Bytes>(bytes: &B, version: Version, kind: Kind) -> Result<SendDesc, Bad>
+/// What the bytes say, wherever they lie, as a send descriptor of this kind, from a caller of this version. `Bad` means
+/// that they are none.
+pub fn read_send<B: Bytes>(bytes: &B, version: Version, kind: Kind) -> Result<SendDesc, Bad>
     ensures found { IfOk result (λ d. Send kind (in_version version (B.bytes bytes.now)) (send_record d)) }
     ensures none { OnErr result ((r : SendRecord) → Send kind (in_version version (B.bytes bytes.now)) r → ⊥) }
     ensures computed { option_map send_record (result_ok result) ≡ send_of kind (in_version version (B.bytes bytes.now)) }
 {
     send_in(bytes, version, kind).ok_or(Bad)
-}
-
-/// What the bytes say as a send descriptor of this kind, from a caller of this version. `Bad` means that they are none.
-pub fn read_send(bytes: &[u8], version: Version, kind: Kind) -> Result<SendDesc, Bad>
-    ensures found { IfOk result (λ d. Send kind (in_version version bytes.now) (send_record d)) }
-    ensures none { OnErr result ((r : SendRecord) → Send kind (in_version version bytes.now) r → ⊥) }
-    ensures computed { option_map send_record (result_ok result) ≡ send_of kind (in_version version bytes.now) }
-{
-    read_send_from(&bytes, version, kind)
 }

@@ -125,29 +125,29 @@ module _ (test : Transaction → Bool) where
 
 module _ (kept : Pooled) (pool : IsPool kept) (e : ℕ) (known : identifier (place e) ≡ e) (lt : place e < length kept.sent) where
   -- open transactions and free slots are eight together
-  eight : open_count (offers_in kept) e + free_in (8 * place e) 8 kept.slots ≡ 8
-  eight =
-      ap (λ n. n + free_in (8 * place e) 8 kept.slots) (count-slots (λ (t : Transaction). t.sender == e) kept.slots pool.apart)
-      ∙ passing-free (λ (t : Transaction). t.sender == e) (8 * place e) 8 kept.slots (omega (arith, pool.size, lt))
+  sixteen : open_count (offers_in kept) e + free_in (16 * place e) 16 kept.slots ≡ 16
+  sixteen =
+      ap (λ n. n + free_in (16 * place e) 16 kept.slots) (count-slots (λ (t : Transaction). t.sender == e) kept.slots pool.apart)
+      ∙ passing-free (λ (t : Transaction). t.sender == e) (16 * place e) 16 kept.slots (omega (arith, pool.size, lt))
       (λ k x at from to. (
-      let here : k / 8 ≡ place e = omega arith in
+      let here : k / 16 ≡ place e = omega arith in
       eq-eqb x.1.sender e ((pool.places k x.0 x.1 at).sender ∙ ap identifier here ∙ known)
       ))
       (λ k x at less. ne_eqb x.1.sender e (λ same. apart k x at same (λ here. omega (arith, here, less))))
       (λ k x at past. ne_eqb x.1.sender e (λ same. apart k x at same (λ here. omega (arith, here, past))))
     where
-      apart : (k : ℕ) (x : ℕ × Transaction) → slot_at kept.slots k ≡ Some x → x.1.sender ≡ e → (k / 8 ≡ place e → ⊥) → ⊥
-      apart k x at same away = away (sym (place-identifier (k / 8)) ∙ ap place (sym (pool.places k x.0 x.1 at).sender ∙ same))
+      apart : (k : ℕ) (x : ℕ × Transaction) → slot_at kept.slots k ≡ Some x → x.1.sender ≡ e → (k / 16 ≡ place e → ⊥) → ⊥
+      apart k x at same away = away (sym (place-identifier (k / 16)) ∙ ap place (sym (pool.places k x.0 x.1 at).sender ∙ same))
 
-  pub few-open : (k : ℕ) → IsFree kept.slots (place e) k → nat_lt (open_count (offers_in kept) e) 8 ≡ true
+  pub few-open : (k : ℕ) → IsFree kept.slots (place e) k → nat_lt (open_count (offers_in kept) e) 16 ≡ true
   few-open k free =
-      let some = one-free (8 * place e) 8 kept.slots k (omega (arith, free.own)) (omega (arith, free.own)) free.within free.free in
-      lt-ltb _ _ (omega (arith, eight, some))
+      let some = one-free (16 * place e) 16 kept.slots k (omega (arith, free.own)) (omega (arith, free.own)) free.within free.free in
+      lt-ltb _ _ (omega (arith, sixteen, some))
 
-  pub all-open : ((k : ℕ) → 8 * place e ≤ k → k < 8 * place e + 8 → (x : ℕ × Transaction) × (slot_at kept.slots k ≡ Some x)) → nat_lt (open_count (offers_in kept) e) 8 ≡ false
+  pub all-open : ((k : ℕ) → 16 * place e ≤ k → k < 16 * place e + 16 → (x : ℕ × Transaction) × (slot_at kept.slots k ≡ Some x)) → nat_lt (open_count (offers_in kept) e) 16 ≡ false
   all-open taken =
-      let none = none-free (8 * place e) 8 kept.slots taken in
-      le-ltb _ _ (omega (arith, eight, none))
+      let none = none-free (16 * place e) 16 kept.slots taken in
+      le-ltb _ _ (omega (arith, sixteen, none))
 
 -- WHAT THE CODE FINDS IN A SLOT
 -- what a slot of the code has, clauses see

@@ -40,5 +40,5 @@ placed-total base blocks (range ∷ ranges) few placed =
     let pages : range.pages ≤ 16384 = omega (arith, one.within, few) in
     omega (arith, step, pages, rest)
 
-pub few-pages : (base blocks : ℕ) (ranges : List Range) → blocks ≤ 32 → length ranges ≤ 16 → ArePlaced base (512 * blocks) ranges → page_total ranges < 2 ^ 32
+pub few-pages : (base blocks : ℕ) (ranges : List Range) → blocks ≤ 32 → length ranges ≤ 64 → ArePlaced base (512 * blocks) ranges → page_total ranges < 2 ^ 32
 few-pages base blocks ranges few most placed = let total = placed-total base blocks ranges few placed in omega (arith, total)

@@ -9,7 +9,7 @@ use Rattle.ffa_memshare.specs.declared.changed.Changed.{Changed}
 
 -- that of an endpoint, or of nobody, to the pages of these ranges
 pub record IsChanged (changed : Changed) (named : List Range) (whose : Option EndpointId) : Type 0 where
-  pub ranges : changed.ranges.items ≡ named
+  pub ranges : changed.ranges ≡ named
   pub endpoint : changed.endpoint ≡ whose
 
 -- whose access a send by e changes, and a reclaim: that of e, but nobody's of a share, to which e keeps its right

@@ -1,5 +1,6 @@
 -- What becomes of one slot, while all others stay.
 use Rattle.std.specs.Prelude.{◌≡◌, ◌<◌, ◌/◌, ℕ, List, length, slice_set, Option, Some, None}
+use Rattle.ffa_model.specs.declared.limits.TheConstants.{MOST_OPEN}
 use Rattle.ffa_model.specs.declared.rights.Rights.{Rights}
 use Rattle.ffa_model.specs.Identifiers.{place}
 use Rattle.ffa_model.specs.State.{Transaction}
@@ -16,7 +17,7 @@ pub record IsClosed (old new : Pooled) (h : ℕ) : Type 0 where
 -- a slot of the sender at a place has nothing
 pub record IsFree (slots : List Slot) (sender k : ℕ) : Type 0 where
   pub within : k < length slots
-  pub own : k / 8 ≡ sender
+  pub own : k / MOST_OPEN ≡ sender
   pub free : slot_at slots k ≡ None
 
 -- a slot of its sender, which was free, has this transaction with its handle

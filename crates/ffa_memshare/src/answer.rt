@@ -4,7 +4,7 @@ ghost use Rattle.ffa_model.specs.Buffers.{buffers_in, buffers_with_rx};
 ghost use Rattle.ffa_model.specs.ResponseBytes.{response_bytes, response_record, response_size};
 ghost use Rattle.ffa_model.specs.SendDescriptor.{page_total};
 ghost use Rattle.ffa_model.specs.State.{is_known_among};
-ghost use Rattle.ffa_rxtx.specs.Parts.{with_rx_bytes};
+ghost use Rattle.ffa_rxtx.specs.Parts.{IsInRam, with_rx_bytes};
 
 use ffa_memdesc::write_response;
 use ffa_model::{EndpointId, Response, Version};
@@ -21,7 +21,7 @@ pub fn answer<M: PhysMem>(
     response: &Response,
 ) -> u32
     requires known { is_known_among (length buffers.old) endpoint.0 ≡ true }
-    requires rx { IsSomeAnd (buffers_in buffers.old endpoint.0) (λ b. b.rx < length (M.ram ram.old).pages) }
+    requires rx { IsSomeAnd (buffers_in buffers.old endpoint.0) (λ b. IsInRam (length (M.ram ram.old).pages) b) }
     requires total { page_total response.now.ranges.items < 2 ^ 32 }
     ensures size { result ≡ response_size version response.now.ranges.items }
     ensures ram { M.ram ram.new ≡ with_rx_bytes (M.ram ram.old) (buffers_in buffers.old endpoint.0) (response_bytes version (response_record response.now)) }

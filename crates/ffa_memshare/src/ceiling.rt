@@ -52,7 +52,7 @@ impl OpenTransaction {
 
     // The most that an endpoint may hold.
     fn ceiling(&self, pages: &PageTable, base: u32, endpoint: EndpointId) -> Rights
-        requires { ArePlaced base (length pages.now) self.now.ranges.items }
+        requires { ArePlaced base (length pages.now) self.now.ranges }
         ensures { result ≡ ceiling (bases_in pages.now base) (transaction_of self.now) endpoint.0 }
     {
         match self.kind {
@@ -87,7 +87,7 @@ impl OpenTransaction {
         caller: EndpointId,
         asked: &RetrieveDesc,
     ) -> Result<Rights, ErrorCode>
-        requires { ArePlaced base (length pages.now) self.now.ranges.items }
+        requires { ArePlaced base (length pages.now) self.now.ranges }
         ensures refusal { result_err result ≡ first_failure (holding_guards (bases_in pages.now base) is_full caller.0 asked.now (Some (transaction_of self.now))) }
         ensures right { IfOk result (λ right. right ≡ right_for (bases_in pages.now base) (transaction_of self.now) caller.0 asked.now) }
     {

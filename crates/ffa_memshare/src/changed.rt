@@ -2,14 +2,14 @@
 ghost use Rattle.std.specs.Prelude.{◌≡◌};
 ghost use Rattle.ffa_memshare.specs.Changed.{IsChanged, changed_sender};
 
-use arrayvec::ArrayVec;
-use ffa_model::{EndpointId, Kind, Range};
+use crate::page_ranges::PageRanges;
+use ffa_model::{EndpointId, Kind};
 
 /// Whose access to which pages a call on memory changed.
 #[derive(Debug, Drop)]
 pub struct Changed {
     /// The ranges of the transaction.
-    pub ranges: ArrayVec<Range, 16>,
+    pub ranges: PageRanges,
     /// The endpoint whose access to their pages changed, or none where nobody's did.
     pub endpoint: Option<EndpointId>,
 }
@@ -32,11 +32,11 @@ pub struct Retrieved {
 
 impl Changed {
     // That of an endpoint, or of nobody, to the pages of these ranges.
-    pub(crate) fn of(ranges: &ArrayVec<Range, 16>, endpoint: Option<EndpointId>) -> Changed
-        ensures { IsChanged result ranges.now.items endpoint }
+    pub(crate) fn of(ranges: &PageRanges, endpoint: Option<EndpointId>) -> Changed
+        ensures { IsChanged result ranges.now endpoint }
     {
         Changed {
-            ranges: copied(ranges),
+            ranges: ranges.copied(),
             endpoint,
         }
     }
@@ -50,15 +50,4 @@ pub(crate) fn changed_sender(kind: Kind, sender: EndpointId) -> Option<EndpointI
         Kind::Share => None,
         Kind::Lend | Kind::Donate => Some(sender),
     }
-}
-
-// The same ranges.
-pub(crate) fn copied(ranges: &ArrayVec<Range, 16>) -> ArrayVec<Range, 16>
-    ensures { result.items ≡ ranges.now.items }
-{
-    let mut copied = ArrayVec::new();
-    for range in ranges.as_slice() {
-        copied.push(*range);
-    }
-    copied
 }

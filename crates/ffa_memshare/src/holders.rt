@@ -1,15 +1,13 @@
 //! Who holds an open transaction, and with which right.
 ghost use Rattle.std.specs.Prelude.{◌≡◌, ◌<◌, Some, None};
 ghost use Rattle.std.specs.FinMap as finite;
+ghost use Rattle.ffa_model.specs.declared.limits.TheConstants.{MOST_ENDPOINTS};
 ghost use Rattle.ffa_model.specs.Identifiers.{identifier, place};
 ghost use Rattle.ffa_memshare.specs.Held.{with_held};
 
 use arrayvec::ArrayVec;
-use ffa_model::{EndpointId, Rights};
+use ffa_model::{EndpointId, MOST_ENDPOINTS, Rights};
 use std::marker::Model;
-
-/// How many endpoints a manifest has at most.
-const MOST_ENDPOINTS: usize = 8;
 
 /// The right that each endpoint holds. It stands at the endpoint's place in the manifest.
 #[derive(Drop)]
@@ -25,6 +23,7 @@ impl Model for Holders {
     ghost use Rattle.arrayvec.specs.ArrayVec.{array_vec_len};
     ghost use Rattle.ffa_model.specs.declared.rights.Rights.{Rights};
     ghost use Rattle.ffa_model.specs.Codes.{coded_rights};
+    ghost use Rattle.ffa_model.specs.declared.limits.TheConstants.{MOST_ENDPOINTS};
 
     ghost Value = { finite.FinMap nat_cmp Rights };
 
@@ -34,7 +33,7 @@ impl Model for Holders {
 
     ghost view = { λ h. held_in h.rights.items };
 
-    ghost invariant = { λ h. array_vec_len h.rights ≡ 8 };
+    ghost invariant = { λ h. array_vec_len h.rights ≡ MOST_ENDPOINTS };
 }
 
 impl Holders {
@@ -64,7 +63,7 @@ impl Holders {
     /// Says which right an endpoint holds, or that it holds none.
     pub fn set(&mut self, endpoint: EndpointId, right: Option<Rights>)
         requires known { identifier (place endpoint.0) ≡ endpoint.0 }
-        requires few { place endpoint.0 < 8 }
+        requires few { place endpoint.0 < MOST_ENDPOINTS }
         ensures { self.new ≡ with_held self.old endpoint.0 right }
     {
         self.rights[endpoint.place()] = right;

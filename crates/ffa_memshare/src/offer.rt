@@ -7,22 +7,27 @@ ghost use Rattle.arrayvec.specs.ArrayVec.{array_vec_len};
 ghost use Rattle.ffa_model.specs.declared.operation.ErrorCode.{ErrorCode as Code};
 ghost use Rattle.ffa_model.specs.Calls.{first_failure};
 ghost use Rattle.ffa_model.specs.DescriptorPlaces.{in_version};
-ghost use Rattle.ffa_model.specs.MemorySend.{are_grants_within, are_known, is_inside};
+ghost use Rattle.ffa_model.specs.MemorySend.{after_offer, are_grants_within, are_known, is_inside};
 ghost use Rattle.ffa_model.specs.SendDescriptor.{is_named, send_of, send_record};
 ghost use Rattle.ffa_model.specs.Transactions.{are_writable, pages_in};
 ghost use Rattle.ffa_rxtx.specs.Parts.{candidates_in};
 ghost use Rattle.ffa_memshare.specs.Named.{bases_in};
-ghost use Rattle.ffa_memshare.specs.Offers.{AreAligned, IsOwnOffer, after_offer, grants_writes};
+ghost use Rattle.ffa_memshare.specs.Offers.{AreAligned, IsOwnOffer, grants_writes};
 
 use crate::checks::{are_sendable, common_of};
-use ffa_memdesc::read_send;
+use crate::page_run::{PageRun, read_send};
 use ffa_model::{Data, EndpointId, ErrorCode, Kind, Range, Receiver, SendDesc, Version};
 use ffa_pages::PageTable;
+use ffa_physmem::PhysMem;
 use ffa_rxtx::Buffers;
 use ffa_stage2::Layout;
 
 // What the bytes offer, or that they are no descriptor.
-pub(crate) fn read_offer(bytes: &[u8], version: Version, kind: Kind) -> Result<SendDesc, ErrorCode>
+pub(crate) fn read_offer<M: PhysMem>(
+    bytes: &PageRun<M>,
+    version: Version,
+    kind: Kind,
+) -> Result<SendDesc, ErrorCode>
     ensures computed { option_map send_record (result_ok result) ≡ send_of kind (in_version version bytes.now) }
     ensures code { IfErr result (λ code. code ≡ ErrorCode.InvalidParameters) }
     ensures aligned { IfOk result (λ d. AreAligned d.ranges.items) }

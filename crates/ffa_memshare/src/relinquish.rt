@@ -8,21 +8,21 @@ ghost use Rattle.ffa_model.specs.MemoryReturn.{holder_guards, is_zeroable, relin
 ghost use Rattle.ffa_model.specs.RelinquishDescriptor.{relinquish_of};
 ghost use Rattle.ffa_model.specs.State.{Buffers as Own};
 ghost use Rattle.ffa_model.specs.Transactions.{Offers};
+ghost use Rattle.ffa_rxtx.specs.Parts.{IsInRam, tx_in};
 ghost use Rattle.ffa_memshare.specs.Callers.{IsCaller};
 ghost use Rattle.ffa_memshare.specs.Relinquished.{IsRelinquished};
-ghost use Rattle.ffa_memshare.specs.Scenes.{tx_in};
 ghost use Rattle.ffa_memshare.specs.Shared.{IsShared};
 ghost use Rattle.ffa_memshare.specs.Stored.{offers_in, transaction_of};
 
 use crate::changed::Changed;
 use crate::grants::NewRight;
 use crate::moves::move_rights;
+use crate::page_run::{PageRun, read_relinquish};
 use crate::pool::Pool;
 use crate::transaction::OpenTransaction;
-use ffa_memdesc::read_relinquish;
 use ffa_model::{Data, EndpointId, ErrorCode, Kind, RelinquishDesc};
 use ffa_pages::PageTable;
-use ffa_physmem::PhysMem;
+use ffa_physmem::{PAGE_SIZE, PhysMem};
 use ffa_rxtx::Buffers;
 use ffa_stage2::Layout;
 
@@ -60,7 +60,8 @@ impl Pool {
         };
         let open = self.at(slot);
         open.check_relinquish(caller, &asked)?;
-        let ranges = open.ranges.as_slice();
+        let listed = open.ranges.to_ranges();
+        let ranges = listed.as_slice();
         let index = caller.place();
         let nothing = NewRight::Same(None);
         move_rights(ram, layout, pages, ranges, index, nothing, asked.zero);
@@ -101,7 +102,7 @@ fn asked_in<M: PhysMem>(
     buffers: &Buffers,
     caller: EndpointId,
 ) -> Result<RelinquishDesc, ErrorCode>
-    requires { (b : Own) → buffers_in buffers.now caller.0 ≡ Some b → b.tx < length (M.ram ram.now).pages }
+    requires { (b : Own) → buffers_in buffers.now caller.0 ≡ Some b → IsInRam (length (M.ram ram.now).pages) b }
     ensures refused { IfErr result (λ code. (offers : Offers) → first_failure (relinquish_guards (buffers_in buffers.now caller.0) offers caller.0
         (relinquish_of (tx_in (M.ram ram.now) (buffers_in buffers.now caller.0)))) ≡ Some code) }
     ensures buffers { OnOk result (is_some (buffers_in buffers.now caller.0) ≡ true) }
@@ -111,5 +112,7 @@ fn asked_in<M: PhysMem>(
         Some(mapped) => mapped,
         None => return Err(ErrorCode::InvalidParameters),
     };
-    read_relinquish(&ram.page(mapped.tx)[..]).or(Err(ErrorCode::InvalidParameters))
+    let size = PAGE_SIZE * mapped.pages as usize;
+    let bytes = PageRun::new(ram, mapped.tx, mapped.pages, size);
+    read_relinquish(&bytes).or(Err(ErrorCode::InvalidParameters))
 }

@@ -3,6 +3,7 @@ ghost use Rattle.std.specs.Prelude.{List, Bool, ℕ, ◌≡◌, ◌≢◌, ◌�
 ghost use Rattle.std.specs.FinMap as finite;
 ghost use Rattle.std.specs.Result.{result_err};
 ghost use Rattle.arrayvec.specs.ArrayVec.{array_vec_len};
+ghost use Rattle.ffa_model.specs.declared.limits.TheConstants.{MOST_ENDPOINTS};
 ghost use Rattle.ffa_model.specs.Buffers.{buffers_in, buffers_with_rx, is_full};
 ghost use Rattle.ffa_model.specs.Calls.{first_failure};
 ghost use Rattle.ffa_model.specs.Identifiers.{identifier, manager, place};
@@ -12,6 +13,7 @@ ghost use Rattle.ffa_model.specs.RetrieveDescriptor.{retrieve_of};
 ghost use Rattle.ffa_model.specs.State.{Buffers as Own, Transaction};
 ghost use Rattle.ffa_model.specs.Transactions.{Offers};
 ghost use Rattle.ffa_pages.specs.Entry.{Entry, owner_at};
+ghost use Rattle.ffa_rxtx.specs.Parts.{IsInRam};
 ghost use Rattle.ffa_memshare.specs.Callers.{IsCaller};
 ghost use Rattle.ffa_memshare.specs.Named.{bases_in};
 ghost use Rattle.ffa_memshare.specs.Ranges.{ArePlaced, in_ranges};
@@ -21,14 +23,14 @@ ghost use Rattle.ffa_memshare.specs.Shared.{IsHeld, IsShared};
 ghost use Rattle.ffa_memshare.specs.Stored.{map_in, offers_in, slot_at, transaction_of};
 
 use crate::answer::answer;
-use crate::changed::{Changed, Retrieved, copied};
+use crate::changed::{Changed, Retrieved};
 use crate::grants::NewRight;
 use crate::marks::{Mark, mark_all};
 use crate::moves::move_rights;
+use crate::page_run::read_retrieve;
 use crate::pool::Pool;
 use crate::transaction::OpenTransaction;
 use crate::transfer::Transfer;
-use ffa_memdesc::read_retrieve;
 use ffa_model::{EndpointId, ErrorCode, Kind, Response, RetrieveDesc, Rights, Version};
 use ffa_pages::PageTable;
 use ffa_physmem::PhysMem;
@@ -89,7 +91,7 @@ impl Pool {
     fn take(&mut self, slot: usize, kind: Kind, endpoint: EndpointId, right: Rights)
         requires open { (x : ℕ × Transaction) × (slot_at self.old.slots slot ≡ Some x) }
         requires known { identifier (place endpoint.0) ≡ endpoint.0 }
-        requires few { place endpoint.0 < 8 }
+        requires few { place endpoint.0 < MOST_ENDPOINTS }
         ensures slot { (h : ℕ) (t : Transaction) → slot_at self.old.slots slot ≡ Some (h, t) → IsTaken kind self.old self.new h endpoint.0 right }
         ensures offers { (h : ℕ) (t : Transaction) → slot_at self.old.slots slot ≡ Some (h, t)
             → offers_in self.new ≡ taken_in kind (offers_in self.old) h t endpoint.0 right }
@@ -121,7 +123,8 @@ impl OpenTransaction {
             (buffers_in buffers.old caller.0) self.now.handle (transaction_of self.now) caller.0 version right result }
         ensures full { buffers.new ≡ buffers_with_rx buffers.old caller.0 true }
     {
-        let ranges = self.ranges.as_slice();
+        let listed = self.ranges.to_ranges();
+        let ranges = listed.as_slice();
         let index = caller.place();
         let to_caller = NewRight::Same(Some(right));
         move_rights(ram, layout, pages, ranges, index, to_caller, false);
@@ -131,12 +134,13 @@ impl OpenTransaction {
 
     // Makes the pages of a donate an endpoint's own, with this right.
     fn pass_on(&self, pages: &mut PageTable, base: u32, endpoint: EndpointId, right: Rights)
-        requires placed { ArePlaced base (length pages.old) self.now.ranges.items }
-        requires owned { (p : ℕ) → in_ranges base self.now.ranges.items p ≡ true → owner_at pages.old p ≢ manager }
+        requires placed { ArePlaced base (length pages.old) self.now.ranges }
+        requires owned { (p : ℕ) → in_ranges base self.now.ranges p ≡ true → owner_at pages.old p ≢ manager }
         requires endpoint { endpoint.0 ≢ manager }
-        ensures { IsPassedOn self.now.kind pages.old pages.new (in_ranges base self.now.ranges.items) endpoint right }
+        ensures { IsPassedOn self.now.kind pages.old pages.new (in_ranges base self.now.ranges) endpoint right }
     {
-        let ranges = self.ranges.as_slice();
+        let listed = self.ranges.to_ranges();
+        let ranges = listed.as_slice();
         match self.kind {
             Kind::Donate => mark_all(pages, base, ranges, Mark::Given(endpoint, right)),
             Kind::Share | Kind::Lend => {}
@@ -155,7 +159,7 @@ impl OpenTransaction {
             tag: self.tag,
             endpoint,
             rights: right,
-            ranges: copied(&self.ranges),
+            ranges: self.ranges.to_ranges(),
         }
     }
 }
@@ -167,7 +171,7 @@ fn asked_in<M: PhysMem>(
     caller: EndpointId,
     transfer: &Transfer,
 ) -> Result<RetrieveDesc, ErrorCode>
-    requires { (b : Own) → buffers_in buffers.now caller.0 ≡ Some b → b.tx < length (M.ram ram.now).pages }
+    requires { (b : Own) → buffers_in buffers.now caller.0 ≡ Some b → IsInRam (length (M.ram ram.now).pages) b }
     ensures refused { IfErr result (λ code. (n base : ℕ) (table : List (Option Entry)) (offers : Offers)
         → first_failure (retrieve_guards (scene_in n table base buffers.now offers) caller.0 (transfer_of transfer.now)
         (retrieve_of caller.0 (descriptor_in (M.ram ram.now) buffers.now caller.0 transfer.now))) ≡ Some code) }
@@ -179,5 +183,5 @@ fn asked_in<M: PhysMem>(
     ensures asked { IfOk result (λ asked. retrieve_of caller.0 (descriptor_in (M.ram ram.now) buffers.now caller.0 transfer.now) ≡ Some asked) }
 {
     let bytes = transfer.descriptor(ram, buffers, caller)?;
-    read_retrieve(bytes, transfer.version, caller).or(Err(ErrorCode::InvalidParameters))
+    read_retrieve(&bytes, transfer.version, caller).or(Err(ErrorCode::InvalidParameters))
 }

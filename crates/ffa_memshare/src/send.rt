@@ -4,14 +4,15 @@ ghost use Rattle.std.specs.Result.{result_err};
 ghost use Rattle.arrayvec.specs.ArrayVec.{array_vec_len};
 ghost use Rattle.ffa_model.specs.Buffers.{buffers_in};
 ghost use Rattle.ffa_model.specs.Calls.{first_failure};
-ghost use Rattle.ffa_model.specs.MemorySend.{send_guards};
+ghost use Rattle.ffa_model.specs.MemorySend.{room_guards, send_guards};
 ghost use Rattle.ffa_model.specs.SendDescriptor.{is_named, send_of, send_record};
 ghost use Rattle.ffa_model.specs.State.{Buffers as Own};
 ghost use Rattle.ffa_model.specs.Transactions.{Offers, next_handle};
 ghost use Rattle.ffa_pages.specs.Entry.{entry_at};
 ghost use Rattle.ffa_stage2.specs.Tables.{table_page};
+ghost use Rattle.ffa_rxtx.specs.Parts.{IsInRam};
 ghost use Rattle.ffa_memshare.specs.Callers.{IsCaller};
-ghost use Rattle.ffa_memshare.specs.Offers.{IsOwnOffer, room_guards};
+ghost use Rattle.ffa_memshare.specs.Offers.{IsOwnOffer};
 ghost use Rattle.ffa_memshare.specs.Scenes.{descriptor_in, scene_in, transfer_of};
 ghost use Rattle.ffa_memshare.specs.Sent.{IsSent};
 ghost use Rattle.ffa_memshare.specs.Shared.{IsRoom};
@@ -39,8 +40,8 @@ impl Pool {
     /// In this order: `InvalidParameters` where the caller has no buffers, the registers don't say that the descriptor
     /// stands whole in TX, TX has no descriptor of this kind, it names another sender than the caller or a receiver that is
     /// no endpoint; `Denied` where a range isn't in RAM, a page isn't the caller's, stands in an open transaction or is
-    /// somebody's buffer, or has less itself than is granted or than zeros need; `NoMemory` where eight transactions of the
-    /// caller are open or it has made 65535 sends. An error changes nothing.
+    /// somebody's buffer, or has less itself than is granted or than zeros need; `NoMemory` where `MOST_OPEN` transactions of
+    /// the caller are open or it has made `MOST_SENDS` sends. An error changes nothing.
     pub fn send<M: PhysMem>(
         &mut self,
         ram: &mut M,
@@ -68,7 +69,7 @@ impl Pool {
         let offer = checked_offer(ram, layout, pages, buffers, caller, kind, transfer)?;
         let slot = self.room(caller)?;
         let handle = self.next_handle(caller);
-        let open = OpenTransaction::of(handle, kind, offer);
+        let open = OpenTransaction::of(handle, kind, pages, layout.base, offer);
         open.take_pages(ram, layout, pages, slot as u8);
         let changed = Changed::of(&open.ranges, changed_sender(kind, caller));
         self.open(slot, open);
@@ -86,7 +87,7 @@ fn checked_offer<M: PhysMem>(
     kind: Kind,
     transfer: &Transfer,
 ) -> Result<SendDesc, ErrorCode>
-    requires { (b : Own) → buffers_in buffers.now caller.0 ≡ Some b → b.tx < length (M.ram ram.now).pages }
+    requires { (b : Own) → buffers_in buffers.now caller.0 ≡ Some b → IsInRam (length (M.ram ram.now).pages) b }
     ensures refused { IfErr result (λ code. (offers : Offers) → first_failure (send_guards
         (scene_in (array_vec_len layout.now.regions) pages.now layout.now.base buffers.now offers)
         caller.0 (transfer_of transfer.now) (send_of kind (descriptor_in (M.ram ram.now) buffers.now caller.0 transfer.now))) ≡ Some code) }
@@ -99,7 +100,7 @@ fn checked_offer<M: PhysMem>(
     ensures other { IfOk result (λ offer. is_named offer.sender.0 offer.receivers.items ≡ false) }
 {
     let bytes = transfer.descriptor(ram, buffers, caller)?;
-    let offer = read_offer(bytes, transfer.version, kind)?;
+    let offer = read_offer(&bytes, transfer.version, kind)?;
     check_offer(&offer, layout, pages, buffers, caller)?;
     Ok(offer)
 }

@@ -23,8 +23,9 @@ use crate::grants::NewRight;
 use crate::holders::Holders;
 use crate::marks::{Mark, mark_all};
 use crate::moves::move_rights;
+use crate::page_ranges::PageRanges;
 use arrayvec::ArrayVec;
-use ffa_model::{EndpointId, ErrorCode, Kind, Range, Receiver, Rights, SendDesc};
+use ffa_model::{EndpointId, ErrorCode, Kind, MOST_RECEIVERS, Receiver, Rights, SendDesc};
 use ffa_pages::PageTable;
 use ffa_physmem::PhysMem;
 use ffa_stage2::Layout;
@@ -37,16 +38,23 @@ pub struct OpenTransaction {
     pub sender: EndpointId,
     pub tag: u64,
     pub zero: bool,
-    pub ranges: ArrayVec<Range, 16>,
-    pub receivers: ArrayVec<Receiver, 4>,
+    pub ranges: PageRanges,
+    pub receivers: ArrayVec<Receiver, MOST_RECEIVERS>,
     pub held: Holders,
 }
 
 impl OpenTransaction {
     ghost use Rattle.ffa_memshare.specs.Stored.{transaction_of};
 
-    // What a descriptor offers, under this handle. Nobody holds it.
-    pub(crate) fn of(handle: u64, kind: Kind, offer: SendDesc) -> OpenTransaction
+    // What a descriptor offers of these pages, which are those of the RAM at an address, under this handle. Nobody holds it.
+    pub(crate) fn of(
+        handle: u64,
+        kind: Kind,
+        pages: &PageTable,
+        base: u32,
+        offer: SendDesc,
+    ) -> OpenTransaction
+        requires { ArePlaced base (length pages.now) offer.ranges.items }
         ensures handle { result.handle ≡ handle }
         ensures value { transaction_of result ≡ transaction_from kind (send_record offer) }
     {
@@ -56,7 +64,7 @@ impl OpenTransaction {
             sender: offer.sender,
             tag: offer.tag,
             zero: offer.zero,
-            ranges: offer.ranges,
+            ranges: PageRanges::of(pages, base, &offer.ranges),
             receivers: offer.receivers,
             held: Holders::none(),
         }
@@ -95,11 +103,11 @@ impl OpenTransaction {
 
     // What all its pages have.
     pub(crate) fn common(&self, pages: &PageTable, base: u32) -> Common
-        requires { ArePlaced base (length pages.now) self.now.ranges.items }
-        ensures writable { result.is_writable ≡ are_writable (bases_in pages.now base) self.now.ranges.items }
-        ensures executable { result.is_executable ≡ are_executable (bases_in pages.now base) self.now.ranges.items }
+        requires { ArePlaced base (length pages.now) self.now.ranges }
+        ensures writable { result.is_writable ≡ are_writable (bases_in pages.now base) self.now.ranges }
+        ensures executable { result.is_executable ≡ are_executable (bases_in pages.now base) self.now.ranges }
     {
-        common_of(pages, base, self.ranges.as_slice())
+        common_of(pages, base, self.ranges.to_ranges().as_slice())
     }
 
     // Whether its sender may end it, or why not.
@@ -110,7 +118,7 @@ impl OpenTransaction {
         caller: EndpointId,
         flags: u32,
     ) -> Result<(), ErrorCode>
-        requires { ArePlaced base (length pages.now) self.now.ranges.items }
+        requires { ArePlaced base (length pages.now) self.now.ranges }
         ensures { result_err result ≡ first_failure (reclaim_guards (bases_in pages.now base) caller.0 flags (Some (transaction_of self.now))) }
     {
         if flags > 1 || self.sender != caller {
@@ -135,10 +143,11 @@ impl OpenTransaction {
     )
         requires { IsHeld (M.ram ram.old) layout.now.base (array_vec_len layout.now.regions) layout.now.blocks pages.old (transaction_of self.now) }
         ensures moved { IsMoved (M.ram ram.old) (M.ram ram.new) (array_vec_len layout.now.regions) layout.now.blocks
-            (place self.now.sender.0) (in_ranges layout.now.base self.now.ranges.items) (base_at pages.old) zero }
-        ensures marked { IsMarked pages.old pages.new (in_ranges layout.now.base self.now.ranges.items) (Mark.Named None) }
+            (place self.now.sender.0) (in_ranges layout.now.base self.now.ranges) (base_at pages.old) zero }
+        ensures marked { IsMarked pages.old pages.new (in_ranges layout.now.base self.now.ranges) (Mark.Named None) }
     {
-        let ranges = self.ranges.as_slice();
+        let listed = self.ranges.to_ranges();
+        let ranges = listed.as_slice();
         let index = self.sender.place();
         move_rights(ram, layout, pages, ranges, index, NewRight::Base, zero);
         mark_all(pages, layout.base, ranges, Mark::Named(None));
@@ -155,10 +164,11 @@ impl OpenTransaction {
     )
         requires { IsHeld (M.ram ram.old) layout.now.base (array_vec_len layout.now.regions) layout.now.blocks pages.old (transaction_of self.now) }
         ensures moved { IsMoved (M.ram ram.old) (M.ram ram.new) (array_vec_len layout.now.regions) layout.now.blocks
-            (place self.now.sender.0) (in_ranges layout.now.base self.now.ranges.items) (new_right (right_after self.now.kind) pages.old) self.now.zero }
-        ensures marked { IsMarked pages.old pages.new (in_ranges layout.now.base self.now.ranges.items) (Mark.Named (Some slot)) }
+            (place self.now.sender.0) (in_ranges layout.now.base self.now.ranges) (new_right (right_after self.now.kind) pages.old) self.now.zero }
+        ensures marked { IsMarked pages.old pages.new (in_ranges layout.now.base self.now.ranges) (Mark.Named (Some slot)) }
     {
-        let ranges = self.ranges.as_slice();
+        let listed = self.ranges.to_ranges();
+        let ranges = listed.as_slice();
         let index = self.sender.place();
         let right = right_after(self.kind);
         move_rights(ram, layout, pages, ranges, index, right, self.zero);

@@ -1,11 +1,14 @@
 //! The registers of a call whose descriptor stands in TX.
-ghost use Rattle.std.specs.Prelude.{◌≡◌, ◌<◌, length, List, OnOk, IfOk, IfErr, Bool, Some};
+ghost use Rattle.std.specs.Prelude.{◌≡◌, ◌*◌, length, List, OnOk, IfOk, IfErr, Bool, Some, is_some, true};
+ghost use Rattle.ffa_model.specs.MemorySend.{after_transfer};
 ghost use Rattle.ffa_model.specs.declared.operation.ErrorCode.{ErrorCode as Code};
 ghost use Rattle.ffa_model.specs.Buffers.{buffers_in};
 ghost use Rattle.ffa_model.specs.Calls.{first_failure};
 ghost use Rattle.ffa_model.specs.State.{Buffers as Own};
-ghost use Rattle.ffa_memshare.specs.Scenes.{after_transfer, descriptor_in, is_whole};
+ghost use Rattle.ffa_rxtx.specs.Parts.{IsInRam};
+ghost use Rattle.ffa_memshare.specs.Scenes.{descriptor_in, is_whole};
 
+use crate::page_run::PageRun;
 use ffa_model::{EndpointId, ErrorCode, Version};
 use ffa_physmem::{PAGE_SIZE, PhysMem};
 use ffa_rxtx::Buffers;
@@ -26,6 +29,7 @@ pub struct Transfer {
 }
 
 impl Transfer {
+    ghost use Rattle.ffa_rxtx.specs.Parts.{IsInRam};
     ghost use Rattle.ffa_memshare.specs.Scenes.{transfer_of};
 
     // The bytes of the caller's descriptor, where they lie in its TX.
@@ -34,28 +38,29 @@ impl Transfer {
         ram: &'m M,
         buffers: &Buffers,
         caller: EndpointId,
-    ) -> Result<&'m [u8], ErrorCode>
-        requires tx { (b : Own) → buffers_in buffers.now caller.0 ≡ Some b → b.tx < length (M.ram ram.now).pages }
+    ) -> Result<PageRun<'m, M>, ErrorCode>
+        requires tx { (b : Own) → buffers_in buffers.now caller.0 ≡ Some b → IsInRam (length (M.ram ram.now).pages) b }
         ensures refused { IfErr result (λ code. (rest : List (Bool × Code)) → first_failure (after_transfer buffers.now caller.0 (transfer_of self.now) rest) ≡ Some code) }
         ensures passed { OnOk result ((rest : List (Bool × Code)) → first_failure (after_transfer buffers.now caller.0 (transfer_of self.now) rest) ≡ first_failure rest) }
-        ensures bytes { IfOk result (λ bytes. bytes.now ≡ (descriptor_in (M.ram ram.now) buffers.now caller.0 self.now).bytes) }
+        ensures buffers { OnOk result (is_some (buffers_in buffers.now caller.0) ≡ true) }
+        ensures bytes { IfOk result (λ bytes. bytes ≡ (descriptor_in (M.ram ram.now) buffers.now caller.0 self.now).bytes) }
     {
         let mapped = match buffers.of(caller) {
             Some(mapped) => mapped,
             None => return Err(ErrorCode::InvalidParameters),
         };
-        if !self.is_whole() {
+        if !self.is_whole(mapped.pages) {
             return Err(ErrorCode::InvalidParameters);
         }
-        Ok(&ram.page(mapped.tx)[..self.total as usize])
+        Ok(PageRun::new(ram, mapped.tx, mapped.pages, self.total as usize))
     }
 
-    // Whether the whole descriptor stands in TX, and nothing of it elsewhere.
-    fn is_whole(&self) -> bool
-        ensures { result ≡ is_whole (transfer_of self.now) }
+    // Whether the whole descriptor stands in TX, which has this many pages, and nothing of it elsewhere.
+    fn is_whole(&self, pages: u32) -> bool
+        ensures { result ≡ is_whole (4096 * pages) (transfer_of self.now) }
     {
         self.total == self.fragment
-            && self.total <= PAGE_SIZE as u32
+            && u64::from(self.total) <= PAGE_SIZE as u64 * u64::from(pages)
             && self.address == 0
             && self.pages == 0
     }

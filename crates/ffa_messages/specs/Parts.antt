@@ -1,20 +1,22 @@
 -- What a message is read from, over the parts of the machine, and its checks by what they are about.
-use Rattle.std.specs.Prelude.{◌≡◌, ℕ, ◌+◌, ◌<◌, ◌==◌, Bool, not, ◌&&◌, nat_le, List, [], length, Option, Some, None, slice_index_or, is_some}
-use Rattle.std.specs.Option.{option_map_or}
+use Rattle.std.specs.Prelude.{◌≡◌, ℕ, ◌+◌, ◌==◌, Bool, true, false, not, ◌&&◌, nat_le, List, length, Option, Some, None, slice_index_or, is_some}
 use Rattle.ffa_model.specs.Bits.{high_half, low_half}
 use Rattle.ffa_model.specs.Buffers.{buffers_in, is_full}
-use Rattle.ffa_model.specs.Messages.{MessageHeader, header_in}
-use Rattle.ffa_model.specs.Ram.{Ram, page_of}
+use Rattle.ffa_model.specs.Calls.{first_failure}
+use Rattle.ffa_model.specs.Lists.{is_in_run}
+use Rattle.ffa_model.specs.Messages.{MessageHeader, header_in, send2_guards}
+use Rattle.ffa_model.specs.Ram.{Ram}
 use Rattle.ffa_model.specs.State.{Party, Buffers, is_known_among, has_property}
+use Rattle.ffa_rxtx.specs.Parts.{IsInRam, tx_in}
 use Rattle.ffa_messages.specs.declared.indirect.MessageHeader.{MessageHeader as Header}
 
 -- TX and RX of each endpoint's buffers are among this many pages
 abbrev pub AreInRam : ℕ → List (Option Buffers) → Type 0
-AreInRam pages buffers = (place : ℕ) (b : Buffers) → slice_index_or buffers place None ≡ Some b → (b.tx < pages) × (b.rx < pages)
+AreInRam pages buffers = (place : ℕ) (b : Buffers) → slice_index_or buffers place None ≡ Some b → IsInRam pages b
 
--- the bytes of TX
-abbrev pub tx_in : Ram → Option Buffers → List ℕ
-tx_in ram own = option_map_or (λ (b : Buffers). page_of ram b.tx) own []
+-- no page of TX of these buffers is one of RX of the others
+abbrev pub IsBeside : Buffers → Buffers → Type 0
+IsBeside from to = (p : ℕ) → is_in_run from.tx from.pages p ≡ true → is_in_run to.rx to.pages p ≡ false
 
 -- what e sends, which are the bytes of its TX, and the endpoint that is to receive it
 abbrev pub sent_in : Ram → List (Option Buffers) → ℕ → List ℕ
@@ -22,6 +24,12 @@ sent_in ram buffers e = tx_in ram (buffers_in buffers e)
 
 abbrev pub receiver_in : Ram → List (Option Buffers) → ℕ → ℕ
 receiver_in ram buffers e = (header_in (sent_in ram buffers e)).receiver
+
+-- where e's message passes its checks, no page of e's TX is one of the receiver's RX
+abbrev pub AreEndsApart : List Party → Ram → List (Option Buffers) → ℕ → Type 0
+AreEndsApart parties ram buffers e =
+    first_failure (send2_guards parties buffers e (header_in (sent_in ram buffers e))) ≡ None
+    → (from to : Buffers) → buffers_in buffers e ≡ Some from → buffers_in buffers (receiver_in ram buffers e) ≡ Some to → IsBeside from to
 
 -- a header that the code has read
 abbrev pub header_of : Header → MessageHeader
@@ -52,9 +60,9 @@ is_header_from parties caller m =
     m.flags == 0
     && (m.reserved == 0 && (m.sender == caller && (is_known_among (length parties) m.receiver && not (m.receiver == caller))))
 
--- the payload has bytes, which stand behind the header and end within the page
-abbrev pub is_whole : MessageHeader → Bool
-is_whole m = nat_le 20 m.offset && (not (m.size == 0) && nat_le (m.offset + m.size) 4096)
+-- the payload has bytes, which stand behind the header and end within a TX of so many bytes
+abbrev pub is_whole : ℕ → MessageHeader → Bool
+is_whole room m = nat_le 20 m.offset && (not (m.size == 0) && nat_le (m.offset + m.size) room)
 
 -- both ends of a message take part in indirect messages
 abbrev pub take_part : List Party → ℕ → ℕ → Bool

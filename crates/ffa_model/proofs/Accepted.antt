@@ -2,6 +2,7 @@
 use Rattle.std.proofs.Common.{◌≡◌, ℕ, ◌%◌, ◌≤◌, true, List, length}
 use Rattle.std.specs.List.{list_all}
 use Rattle.std.proofs.lemmas.Bool.{and_parts, leb-true, eqb-true}
+use Rattle.ffa_model.specs.declared.limits.TheConstants.{MOST_ENDPOINTS}
 use Rattle.ffa_model.specs.declared.endpoint.Endpoint.{Endpoint}
 use Rattle.ffa_model.specs.Manifest.{is_accepted, is_placed, are_identified, are_counted, are_apart, regions_of}
 
@@ -12,7 +13,7 @@ pub record Accepted (base blocks : ℕ) (es : List Endpoint) : Type 0 where
   pub some_blocks : 1 ≤ blocks
   pub few_blocks : blocks ≤ 32
   pub some_endpoints : 1 ≤ length es
-  pub few_endpoints : length es ≤ 8
+  pub few_endpoints : length es ≤ MOST_ENDPOINTS
   pub identified : are_identified es ≡ true
   pub counted : are_counted es ≡ true
   pub placed : list_all (is_placed base blocks (length es)) (regions_of es) ≡ true

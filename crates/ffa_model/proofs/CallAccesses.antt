@@ -1,5 +1,5 @@
 -- Access after each call on memory, for each page and each endpoint.
-use Rattle.std.proofs.Common.{◌≡◌, ◌∙◌, ℕ, ◌+◌, ◌<◌, ◌≤◌, Bool, true, false, cond, not, List, length, Option, Some, None, refl, sym, ap, subst, arith, inl, inr}
+use Rattle.std.proofs.Common.{◌≡◌, ◌∙◌, ℕ, zero, suc, ◌+◌, ◌<◌, ◌≤◌, Bool, true, false, cond, not, List, length, take, drop, Option, Some, None, refl, sym, ap, subst, arith, inl, inr}
 use Rattle.std.specs.Prelude.{◌==◌, ◌&&◌, is_some, if◌then◌else◌, slice_set}
 use Rattle.std.specs.List.{list_all}
 use Rattle.std.specs.Option.{option_and_then, option_map}
@@ -7,6 +7,7 @@ use Rattle.std.specs.Ordering.{nat_cmp}
 use Rattle.std.specs.FinMap as finite
 use Rattle.std.proofs.lemmas.Bool.{and_parts, cases_eq, cases_lt, false≢true, true≢false}
 use Rattle.std.proofs.lemmas.List.{get_or-set_same, get_or-set_other, get_or_past, length-set}
+use Rattle.ffa_model.specs.declared.limits.TheConstants.{MOST_SENDS}
 use Rattle.ffa_model.specs.declared.descriptor.RelinquishDesc.{RelinquishDesc}
 use Rattle.ffa_model.specs.declared.rights.Kind.{Kind}
 use Rattle.ffa_model.specs.declared.rights.Kind.TheVariants.{Share, Lend, Donate}
@@ -15,7 +16,7 @@ use Rattle.ffa_model.specs.declared.transaction.Range.{Range}
 use Rattle.ffa_model.specs.Rights.{is_donate, is_share}
 use Rattle.ffa_model.specs.State.{State, Page, Transaction, Buffers, buffers_of, is_known_among, page_at, sent_by, transaction_of, version_of}
 use Rattle.ffa_model.specs.Access.{access, handle_at, held_by, names, right_by, right_of, transaction_at}
-use Rattle.ffa_model.specs.Memory.{page_with, with_pages, written}
+use Rattle.ffa_model.specs.Memory.{page_with, with_pages, written, written_pages, written_run}
 use Rattle.ffa_model.specs.Buffers.{Candidate, candidate_at, candidates, filled, filled_pages}
 use Rattle.ffa_model.specs.ResponseBytes.{response_bytes}
 use Rattle.ffa_model.specs.SendDescriptor.{SendRecord}
@@ -53,12 +54,19 @@ access-written s q at bytes e p = elim (cases_eq p q) [
   ])
 ]
 
+pub access-written_run : (s : State) (n : ℕ) (pages : List (Option Page)) (first : ℕ) (bytes : List ℕ) (e p : ℕ)
+    → access (record s { pages = written_run n pages first bytes }) e p ≡ access (record s { pages = pages }) e p
+access-written_run s zero pages first bytes e p = refl
+access-written_run s (suc n) pages first bytes e p =
+    access-written_run s n (written_pages pages first 0 (take 4096 bytes)) (first + 1) (drop 4096 bytes) e p
+    ∙ access-written (record s { pages = pages }) first 0 (take 4096 bytes) e p
+
 pub access-filled : (s : State) (f : ℕ) (bytes : List ℕ) (e p : ℕ) → access (filled s f bytes) e p ≡ access s e p
 access-filled s f bytes e p = of (buffers_of s f)
   where
     of : (o : Option Buffers) → access (record s { pages = filled_pages s.pages bytes o }) e p ≡ access s e p
     of None = refl
-    of (Some b) = access-written s b.rx 0 bytes e p
+    of (Some b) = access-written_run s b.pages s.pages b.rx bytes e p
 
 -- what nobody but the sender of a share has in a page whose transaction it doesn't hold
 abbrev pub unheld_right : Transaction → ℕ → Option Page → Option Rights
@@ -105,8 +113,8 @@ handle-new s sound e known = of (transaction_of s (next_handle (offers_of s) e))
     of (Some t) is =
         let good : IsSoundTransaction s (next_handle (offers_of s) e) t = sound.transactions (next_handle (offers_of s) e) t is in
         let number = good.number in
-        let most_e : sent_by s e ≤ 65535 = sound.sent e known in
-        let most_t : sent_by s t.sender ≤ 65535 = sound.sent t.sender good.sender in
+        let most_e : sent_by s e ≤ MOST_SENDS = sound.sent e known in
+        let most_t : sent_by s t.sender ≤ MOST_SENDS = sound.sent t.sender good.sender in
         let below : number.0 ≤ sent_by s t.sender = number.3 in
         let parts = handle-parts e t.sender (sent_by s e + 1) number.0 number.1 (omega arith) (omega arith) in
         let sent : sent_by s e ≡ sent_by s t.sender = ap (sent_by s) parts.0 in
@@ -134,11 +142,11 @@ module _ (s : State) (sound : IsSoundState s) where
 
   module _ (h : ℕ) (t : Transaction) (was : transaction_of s h ≡ Some t) (p : ℕ) (lt : p < length s.pages) where
     -- A RECLAIM: the pages are their owner's again
-    pub reclaim-named : (zero : Bool) (e : ℕ) → names s t.ranges p ≡ true → access (reclaimed s h zero) e p ≡ right_of e (page_at s p) None
-    reclaim-named zero e named = access-zeroed zero (with_offers s (closed (offers_of s) h)) _ e p ∙ access-closed s h t was p (once p lt) named e
+    pub reclaim-named : (zeros : Bool) (e : ℕ) → names s t.ranges p ≡ true → access (reclaimed s h zeros) e p ≡ right_of e (page_at s p) None
+    reclaim-named zeros e named = access-zeroed zeros (with_offers s (closed (offers_of s) h)) _ e p ∙ access-closed s h t was p (once p lt) named e
 
-    pub reclaim-other : (zero : Bool) (e : ℕ) → names s t.ranges p ≡ false → access (reclaimed s h zero) e p ≡ access s e p
-    reclaim-other zero e other = access-zeroed zero (with_offers s (closed (offers_of s) h)) _ e p ∙ access-still s h t was p (once p lt) other e
+    pub reclaim-other : (zeros : Bool) (e : ℕ) → names s t.ranges p ≡ false → access (reclaimed s h zeros) e p ≡ access s e p
+    reclaim-other zeros e other = access-zeroed zeros (with_offers s (closed (offers_of s) h)) _ e p ∙ access-still s h t was p (once p lt) other e
 
     -- A RELINQUISH by the runner
     pub relinquish-named : (d : RelinquishDesc) → d.handle ≡ h → names s t.ranges p ≡ true

@@ -3,6 +3,7 @@ use Rattle.std.proofs.Common.{◌≡◌, ◌⊎◌, ◌∙◌, ℕ, zero, suc, �
 use Rattle.std.specs.Prelude.{◌==◌, ◌&&◌, if◌then◌else◌}
 use Rattle.std.specs.List.{list_all}
 use Rattle.std.proofs.lemmas.Bool.{and_parts, cases_lt, eq-eqb, eqb-true, le-leb, le-ltb, lt-leb, lt-ltb}
+use Rattle.ffa_model.specs.declared.limits.TheConstants.{MOST_ENDPOINTS}
 use Rattle.ffa_model.specs.declared.rights.Data.{Data}
 use Rattle.ffa_model.specs.declared.rights.Rights.{Rights}
 use Rattle.ffa_model.specs.Access.{access, handle_at}
@@ -196,7 +197,7 @@ module _ (s : State) where
         ∙ eq-eqb p (length s.pages) same)
   ]
 
-  access-from : (p n q place : ℕ) → place < 8 → p ≤ q → q < length s.pages → length s.pages ≤ p + n → access_in (runs_from s p n) place q ≡ access_by_place s q place
+  access-from : (p n q place : ℕ) → place < MOST_ENDPOINTS → p ≤ q → q < length s.pages → length s.pages ≤ p + n → access_in (runs_from s p n) place q ≡ access_by_place s q place
   unfolding run_from
   access-from p zero q place few from lt fuel = absurd (omega arith)
   access-from p (suc n) q place few from lt fuel =
@@ -218,6 +219,6 @@ module _ (s : State) where
   unfolding certificate
   certificate-order = order-from 0 (length s.pages) (omega arith) (omega arith)
 
-  pub certificate-access : (q place : ℕ) → place < 8 → q < length s.pages → access_in (certificate s) place q ≡ access_by_place s q place
+  pub certificate-access : (q place : ℕ) → place < MOST_ENDPOINTS → q < length s.pages → access_in (certificate s) place q ≡ access_by_place s q place
   unfolding certificate
   certificate-access q place few lt = access-from 0 (length s.pages) q place few (omega arith) lt (omega arith)

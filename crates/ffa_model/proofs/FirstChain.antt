@@ -3,6 +3,7 @@ use Rattle.std.proofs.Common.{◌≡◌, ◌∙◌, ℕ, zero, suc, ◌≤◌, c
 use Rattle.std.specs.Prelude.{◌||◌}
 use Rattle.std.proofs.lemmas.Bool.{ne_eqb}
 use Rattle.std.proofs.lemmas.List.{length-replicate}
+use Rattle.ffa_model.specs.declared.limits.TheConstants.{MOST_ENDPOINTS}
 use Rattle.ffa_model.specs.declared.schedule.Status.TheVariants.{Blocked}
 use Rattle.ffa_model.specs.declared.schedule.Work.{Work}
 use Rattle.ffa_model.specs.First.{first_status}
@@ -25,7 +26,7 @@ first-status n (suc p) =
     status-rest (0 ∷ []) (replicate n None) (suc p) (λ h. absurd (omega arith))
     ∙ ap₂ (λ b (w : Option Work). cond (b || false) Blocked (status_outside w)) (ne_eqb 0 (suc p) (λ h. absurd (omega arith))) (none-at n (suc p))
 
-first-chain : (n : ℕ) → 1 ≤ n → n ≤ 8 → IsChain (0 ∷ []) (replicate n None)
+first-chain : (n : ℕ) → 1 ≤ n → n ≤ MOST_ENDPOINTS → IsChain (0 ∷ []) (replicate n None)
 first-chain n some few =
     let size = length-replicate {A = Option Work} n None in
     record {
@@ -46,5 +47,5 @@ first-alone n = λ i. record (first_schedule n) {
       ∙ listed-same n (status_at (0 ∷ []) (replicate n None)) first_status (λ p lt. first-status n p)) i;
 }
 
-pub first-schedule-sound : (n : ℕ) → 1 ≤ n → n ≤ 8 → IsSound (first_schedule n)
+pub first-schedule-sound : (n : ℕ) → 1 ≤ n → n ≤ MOST_ENDPOINTS → IsSound (first_schedule n)
 first-schedule-sound n some few = subst IsSound (first-alone n) (sound (0 ∷ []) (replicate n None) (first-chain n some few))

@@ -13,6 +13,7 @@ use Rattle.std.proofs.lemmas.List.{length-map, length-replicate}
 use Rattle.std.proofs.lemmas.List.FromFn.{length-enumerate_from}
 use Rattle.std.proofs.lemmas.List.Folds.{list_all-append, list_all-map}
 use Rattle.std.proofs.lemmas.Option.{none-some, same_Some}
+use Rattle.ffa_model.specs.declared.limits.TheConstants.{MOST_ENDPOINTS, MOST_OPEN, MOST_SENDS}
 use Rattle.ffa_model.specs.declared.endpoint.Endpoint.{Endpoint}
 use Rattle.ffa_model.specs.declared.endpoint.Region.{Region}
 use Rattle.ffa_model.specs.declared.schedule.Work.{Work}
@@ -63,7 +64,7 @@ same-all zero i x = refl
 same-all (suc n) zero x = refl
 same-all (suc n) (suc i) x = same-all n i x
 
-none-counted : {X : Type 0} (test : X → Bool) (xs : List X) → length xs ≡ 0 → length (filter test xs) ≤ 8
+none-counted : {X : Type 0} (test : X → Bool) (xs : List X) → length xs ≡ 0 → length (filter test xs) ≤ MOST_OPEN
 none-counted test [] none = omega arith
 none-counted test (x ∷ xs) some = absurd (omega arith)
 
@@ -88,7 +89,7 @@ module _ (base blocks : ℕ) (es : List Endpoint) (good : is_accepted base block
   first-sized =
       record {
         some = subst (λ n. 1 ≤ n) (sym (length-map es party_of)) facts.some_endpoints;
-        few = subst (λ n. n ≤ 8) (sym (length-map es party_of)) facts.few_endpoints;
+        few = subst (λ n. n ≤ MOST_ENDPOINTS) (sym (length-map es party_of)) facts.few_endpoints;
         base = placed;
         blocks = (blocks, length-listed (512 * blocks) (λ p. page_with_bytes base es p (replicate 4096 0)), facts.some_blocks, facts.few_blocks);
         sent = length-replicate {A = ℕ} (length es) 0 ∙ sym (length-map es party_of);
@@ -136,7 +137,7 @@ module _ (base blocks : ℕ) (es : List Endpoint) (good : is_accepted base block
         transactions = λ h t is. absurd (none-at h t is);
         one = λ p h k lt at_h at_k. absurd (false≢true (sym (ap (λ o. is_naming (first base blocks es) p o) (finite.get-empty nat_cmp h)) ∙ at_h));
         few = λ e known. none-counted (λ (t : Transaction). t.sender == e) _ none-open;
-        sent = λ e known. subst (λ n. n ≤ 65535) (sym (same-all {X = ℕ} (length es) (place e) 0)) (omega arith);
+        sent = λ e known. subst (λ n. n ≤ MOST_SENDS) (sym (same-all {X = ℕ} (length es) (place e) 0)) (omega arith);
         buffers = λ e b known is. absurd (none-some b (sym (same-all {X = Option Buffers} (length es) (place e) None) ∙ is));
         schedule = schedule;
         bound = λ entry is. absurd (false≢true (sym (finite_set.contains-empty (slice_cmp nat_cmp) entry) ∙ is));

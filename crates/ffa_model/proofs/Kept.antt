@@ -8,6 +8,7 @@ use Rattle.std.specs.FinMap as finite
 use Rattle.std.proofs.lemmas.Bool.{and_from, and_parts, cases_eq, false≢true, true≢false}
 use Rattle.std.proofs.lemmas.List.{length-replicate}
 use Rattle.std.proofs.lemmas.Option.{none-some, same_Some}
+use Rattle.ffa_model.specs.declared.limits.TheConstants.{MOST_OPEN}
 use Rattle.ffa_model.specs.declared.rights.Rights.{Rights}
 use Rattle.ffa_model.specs.declared.rights.Kind.{Kind}
 use Rattle.ffa_model.specs.declared.rights.Kind.TheVariants.{Share, Lend, Donate}
@@ -135,8 +136,9 @@ module _ (s : State) (ranges : List Range) where
         buffers = λ e b known is.
             let good = sound.buffers e b known is in
             record {
-              tx = same-usable s zeros e b.tx (λ i. (zeros-bases i).right b.tx) (zeros-owner b.tx) (λ none. none) good.tx;
-              rx = same-usable s zeros e b.rx (λ i. (zeros-bases i).right b.rx) (zeros-owner b.rx) (λ none. none) good.rx;
+              count = good.count;
+              tx = λ p its. same-usable s zeros e p (λ i. (zeros-bases i).right p) (zeros-owner p) (λ none. none) (good.tx p its);
+              rx = λ p its. same-usable s zeros e p (λ i. (zeros-bases i).right p) (zeros-owner p) (λ none. none) (good.rx p its);
               apart = good.apart;
             };
         schedule = sound.schedule;
@@ -170,9 +172,9 @@ module _ (s : State) (sound : IsSoundState s) (h : ℕ) (t : Transaction) (was :
       of k false is = is
       of k true is = absurd (true≢false (sym (naming p k is) ∙ none-passes (is_naming s p) refl s.transactions k none))
 
-  fewer : (e : ℕ) → IsKnown s e → open_count (offers_of after) e ≤ 8
+  fewer : (e : ℕ) → IsKnown s e → open_count (offers_of after) e ≤ MOST_OPEN
   fewer e known =
-      let before : open_count (offers_of s) e ≤ 8 = sound.few e known in
+      let before : open_count (offers_of s) e ≤ MOST_OPEN = sound.few e known in
       let one = open-closed (offers_of s) h e t was in
       omega (arith, before, one)
 
@@ -189,8 +191,9 @@ module _ (s : State) (sound : IsSoundState s) (h : ℕ) (t : Transaction) (was :
         buffers = λ e b known is.
             let good = sound.buffers e b known is in
             record {
-              tx = same-usable s after e b.tx refl refl (unnamed b.tx) good.tx;
-              rx = same-usable s after e b.rx refl refl (unnamed b.rx) good.rx;
+              count = good.count;
+              tx = λ p its. same-usable s after e p refl refl (unnamed p) (good.tx p its);
+              rx = λ p its. same-usable s after e p refl refl (unnamed p) (good.rx p its);
               apart = good.apart;
             };
         schedule = sound.schedule;
@@ -266,13 +269,14 @@ module _ (s : State) (sound : IsSoundState s) (h : ℕ) (t : Transaction) (was :
         pages = λ p page is. let good = sound.pages p page is in record { owner = good.owner; size = good.size; bytes = good.bytes };
         transactions = each-sound;
         one = λ p k j lt at_k at_j. sound.one p k j lt (sym (naming-before p k) ∙ at_k) (sym (naming-before p j) ∙ at_j);
-        few = λ e known. subst (λ n. n ≤ 8) (sym (open-changed (offers_of s) h e t changed was refl)) (sound.few e known);
+        few = λ e known. subst (λ n. n ≤ MOST_OPEN) (sym (open-changed (offers_of s) h e t changed was refl)) (sound.few e known);
         sent = sound.sent;
         buffers = λ e b known is.
             let good = sound.buffers e b known is in
             record {
-              tx = same-usable s after_change e b.tx refl refl (unnamed-still b.tx) good.tx;
-              rx = same-usable s after_change e b.rx refl refl (unnamed-still b.rx) good.rx;
+              count = good.count;
+              tx = λ p its. same-usable s after_change e p refl refl (unnamed-still p) (good.tx p its);
+              rx = λ p its. same-usable s after_change e p refl refl (unnamed-still p) (good.rx p its);
               apart = good.apart;
             };
         schedule = sound.schedule;

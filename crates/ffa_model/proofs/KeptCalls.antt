@@ -74,7 +74,7 @@ module _ (s : State) (sound : IsSoundState s) where
     donated-sound e right known =
         given-sound (with_offers s (closed (offers_of s) h)) (closed-sound s sound h t was) t.ranges e right known
         (λ p lt named. handle-none (with_offers s (closed (offers_of s) h)) p (in-closed s h t was p (λ k j at_k at_j. sound.one p k j lt at_k at_j) named))
-        (λ f b is_known is. let its = sound.buffers f b is_known is in (unbuffered b.tx f its.tx, unbuffered b.rx f its.rx))
+        (λ f b is_known is. let its = sound.buffers f b is_known is in (λ p in_tx. unbuffered p f (its.tx p in_tx), λ p in_rx. unbuffered p f (its.rx p in_rx)))
 
     pub taken-sound : (e : ℕ) (right : Rights) → IsKnown s e → is_receiver e t ≡ true → is_at_most right (ceiling (bases_of s) t e) ≡ true
         → IsSoundState (with_retrieved s h t e right)

@@ -12,7 +12,7 @@ use Rattle.ffa_model.specs.declared.rights.Rights.{Rights}
 use Rattle.ffa_model.specs.declared.transaction.Range.{Range}
 use Rattle.ffa_model.specs.declared.transaction.Receiver.{Receiver}
 use Rattle.ffa_model.specs.Identifiers.{manager}
-use Rattle.ffa_model.specs.Lists.{listed}
+use Rattle.ffa_model.specs.Lists.{is_in_run, listed}
 use Rattle.ffa_model.specs.Rights.{is_at_most, may_fetch, may_store}
 use Rattle.ffa_model.specs.State.{State, Page, Transaction, Buffers, buffers_of, owner_of, page_at, transaction_of}
 use Rattle.ffa_model.specs.Access.{handle_at, is_naming, names}
@@ -40,7 +40,8 @@ same-tests test also keep (suc n) f same = of (keep (f 0)) refl (same-tests test
 
 module _ (s : State) (sound : IsSoundState s) (ranges : List Range) (e : ℕ) (right : Rights) (known : IsKnown s e)
     (free : (p : ℕ) → p < length s.pages → names s ranges p ≡ true → handle_at s p ≡ None)
-    (unbuffered : (f : ℕ) (b : Buffers) → IsKnown s f → buffers_of s f ≡ Some b → (names s ranges b.tx ≡ false) × (names s ranges b.rx ≡ false)) where
+    (unbuffered : (f : ℕ) (b : Buffers) → IsKnown s f → buffers_of s f ≡ Some b
+    → ((p : ℕ) → is_in_run b.tx b.pages p ≡ true → names s ranges p ≡ false) × ((p : ℕ) → is_in_run b.rx b.pages p ≡ true → names s ranges p ≡ false)) where
   abbrev pub after_giving : State
   after_giving = with_pages s ranges (donated_page e right)
 
@@ -139,8 +140,9 @@ module _ (s : State) (sound : IsSoundState s) (ranges : List Range) (e : ℕ) (r
             let its = sound.buffers f b is_known is in
             let apart = unbuffered f b is_known is in
             record {
-              tx = same-usable s after_giving f b.tx (base-same b.tx apart.0) (owner-same b.tx apart.0) (λ none. none) its.tx;
-              rx = same-usable s after_giving f b.rx (base-same b.rx apart.1) (owner-same b.rx apart.1) (λ none. none) its.rx;
+              count = its.count;
+              tx = λ p in_tx. same-usable s after_giving f p (base-same p (apart.0 p in_tx)) (owner-same p (apart.0 p in_tx)) (λ none. none) (its.tx p in_tx);
+              rx = λ p in_rx. same-usable s after_giving f p (base-same p (apart.1 p in_rx)) (owner-same p (apart.1 p in_rx)) (λ none. none) (its.rx p in_rx);
               apart = its.apart;
             };
         schedule = sound.schedule;

@@ -7,8 +7,10 @@ use Rattle.std.specs.FinMap as finite
 use Rattle.std.proofs.lemmas.Bool.{and_parts, cases_eq, cases_lt, eq-eqb, eqb-true, false≢true, ne_eqb}
 use Rattle.std.proofs.lemmas.List.{get_or-set_same, get_or-set_other, get_or_past, length-set}
 use Rattle.std.proofs.lemmas.Option.{none-some, same_Some}
+use Rattle.ffa_model.specs.declared.limits.TheConstants.{MOST_OPEN, MOST_RANGES, MOST_SENDS}
+use Rattle.ffa_model.specs.Lists.{is_in_run}
 use Rattle.ffa_model.specs.Identifiers.{manager, place}
-use Rattle.ffa_model.specs.State.{State, Page, Transaction, Buffers, owner_of, page_at, sent_by, transaction_of}
+use Rattle.ffa_model.specs.State.{State, Page, Transaction, Buffers, owner_of, page_at, sent_by, transaction_of, buffers_of}
 use Rattle.ffa_model.specs.Access.{handle_at, held_by, is_naming, names}
 use Rattle.ffa_model.specs.Buffers.{Candidate, candidate_at, candidates, is_usable}
 use Rattle.ffa_model.specs.SendDescriptor.{most_receivers}
@@ -39,14 +41,14 @@ pub record IsSendable (s : State) (t : Transaction) : Type 0 where
   pub free : list_all (is_sendable t.sender (candidates s) s.buffers) (pages_in (bases_of s) t.ranges) ≡ true
   pub grants : list_all (are_grants_within (bases_of s) t.receivers) (pages_in (bases_of s) t.ranges) ≡ true
   pub zeroed : t.zero ≡ true → are_writable (bases_of s) t.ranges ≡ true
-  pub few : open_count (offers_of s) t.sender < 8
-  pub sent : sent_by s t.sender < 65535
+  pub few : open_count (offers_of s) t.sender < MOST_OPEN
+  pub sent : sent_by s t.sender < MOST_SENDS
   pub unheld : (e : ℕ) → held_by t e ≡ None
   pub receivers : are_known (length s.parties) t.receivers ≡ true
   pub some_receivers : 1 ≤ length t.receivers
   pub few_receivers : length t.receivers ≤ most_receivers t.kind
   pub some_ranges : 1 ≤ length t.ranges
-  pub few_ranges : length t.ranges ≤ 16
+  pub few_ranges : length t.ranges ≤ MOST_RANGES
   pub tag : t.tag < 2 ^ 64
 
 module _ (s : State) (sound : IsSoundState s) (t : Transaction) (good : IsSendable s t) where
@@ -75,7 +77,7 @@ module _ (s : State) (sound : IsSoundState s) (t : Transaction) (good : IsSendab
   sent-grows : (e : ℕ) → sent_by s e ≤ sent_by after_send e
   sent-grows e = elim (sent-cases e) [ inl same ↦ omega (arith, same) | inr more ↦ omega (arith, more.0, more.1) ]
 
-  sent-few : (e : ℕ) → IsKnown s e → sent_by after_send e ≤ 65535
+  sent-few : (e : ℕ) → IsKnown s e → sent_by after_send e ≤ MOST_SENDS
   sent-few e known = elim (sent-cases e) [
     | inl same ↦ (let before = sound.sent e known in omega (arith, same, before))
     | inr more ↦ (let most = good.sent in omega (arith, more.0, most))
@@ -145,17 +147,17 @@ module _ (s : State) (sound : IsSoundState s) (t : Transaction) (good : IsSendab
       of false is = is
       of true is = absurd (false≢true (sym (ap not buffer) ∙ (and_parts _ _ (one-sendable p inside is)).1))
 
-  few-open : (e : ℕ) → IsKnown s e → open_count (offers_of after_send) e ≤ 8
+  few-open : (e : ℕ) → IsKnown s e → open_count (offers_of after_send) e ≤ MOST_OPEN
   few-open e known = elim (cases_eq t.sender e) [
     | inl same ↦ (
         let more : open_count (offers_of after_send) e ≡ 1 + open_count (offers_of s) e =
         open-opened (offers_of s) h e t new ∙ ap (λ b. cond b 1 0 + open_count (offers_of s) e) (eq-eqb t.sender e same) in
-        let most : open_count (offers_of s) e < 8 = subst (λ n. open_count (offers_of s) n < 8) same good.few in
+        let most : open_count (offers_of s) e < MOST_OPEN = subst (λ n. open_count (offers_of s) n < MOST_OPEN) same good.few in
         omega (arith, more, most))
     | inr other ↦ (
         let more : open_count (offers_of after_send) e ≡ 0 + open_count (offers_of s) e =
         open-opened (offers_of s) h e t new ∙ ap (λ b. cond b 1 0 + open_count (offers_of s) e) (ne_eqb t.sender e other) in
-        let most : open_count (offers_of s) e ≤ 8 = sound.few e known in
+        let most : open_count (offers_of s) e ≤ MOST_OPEN = sound.few e known in
         omega (arith, more, most))
   ]
 
@@ -170,6 +172,10 @@ module _ (s : State) (sound : IsSoundState s) (t : Transaction) (good : IsSendab
   second true b is = refl
   second false b is = is
 
+  -- a page of an endpoint's TX or RX is a buffer
+  is-buffer : (e : ℕ) (b : Buffers) (p : ℕ) → buffers_of s e ≡ Some b → (is_in_run b.tx b.pages p || is_in_run b.rx b.pages p) ≡ true → is_buffer s.buffers p ≡ true
+  is-buffer e b p is one = any-at (λ o. option_map_or (λ (x : Buffers). is_in_run x.tx x.pages p || is_in_run x.rx x.pages p) o false) s.buffers (place e) b is one
+
   pub opened-sound : IsSoundState after_send
   opened-sound =
       record {
@@ -183,8 +189,9 @@ module _ (s : State) (sound : IsSoundState s) (t : Transaction) (good : IsSendab
         buffers = λ e b known is.
             let its = sound.buffers e b known is in
             record {
-              tx = same-usable s after_send e b.tx refl refl (unnamed-still b.tx (unnamed-buffer e b.tx (any-at (λ o. option_map_or (λ (x : Buffers). x.tx == b.tx || x.rx == b.tx) o false) s.buffers (place e) b is (ap (λ c. c || b.rx == b.tx) (eq-eqb b.tx b.tx refl))) its.tx)) its.tx;
-              rx = same-usable s after_send e b.rx refl refl (unnamed-still b.rx (unnamed-buffer e b.rx (any-at (λ o. option_map_or (λ (x : Buffers). x.tx == b.rx || x.rx == b.rx) o false) s.buffers (place e) b is (second (b.tx == b.rx) (b.rx == b.rx) (eq-eqb b.rx b.rx refl))) its.rx)) its.rx;
+              count = its.count;
+              tx = λ p in_tx. same-usable s after_send e p refl refl (unnamed-still p (unnamed-buffer e p (is-buffer e b p is (ap (λ c. c || is_in_run b.rx b.pages p) in_tx)) (its.tx p in_tx))) (its.tx p in_tx);
+              rx = λ p in_rx. same-usable s after_send e p refl refl (unnamed-still p (unnamed-buffer e p (is-buffer e b p is (second (is_in_run b.tx b.pages p) (is_in_run b.rx b.pages p) in_rx)) (its.rx p in_rx))) (its.rx p in_rx);
               apart = its.apart;
             };
         schedule = sound.schedule;

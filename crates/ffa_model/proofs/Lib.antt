@@ -24,3 +24,4 @@ pub mod Sounds
 pub mod Sets
 pub mod FirstChain
 pub mod ResponseSize
+pub mod Runs

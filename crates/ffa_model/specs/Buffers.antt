@@ -1,14 +1,18 @@
 -- The RX and TX buffers (DEN0077A, 7.2).
-use Rattle.std.specs.Prelude.{ℕ, ◌-◌, ◌/◌, ◌%◌, ◌==◌, Bool, true, false, not, ◌&&◌, nat_lt, nat_le, is_none, is_some, List, [], ◌∷◌, length, Option, Some, None, slice_index_or, slice_set}
+use Rattle.std.specs.Prelude.{ℕ, ◌+◌, ◌*◌, ◌-◌, ◌/◌, ◌%◌, ◌==◌, Bool, true, false, not, ◌&&◌, ◌||◌, nat_le, is_none, is_some, List, [], ◌∷◌, length, Option, Some, None, slice_index_or, slice_set}
+use Rattle.std.specs.List.{list_all}
 use Rattle.std.specs.Option.{option_map, option_map_or}
+use Rattle.ffa_model.specs.declared.limits.TheConstants.{MOST_BUFFER_PAGES}
 use Rattle.ffa_model.specs.declared.operation.ErrorCode.{ErrorCode}
 use Rattle.ffa_model.specs.declared.operation.ErrorCode.TheVariants.{InvalidParameters, Denied}
 use Rattle.ffa_model.specs.declared.rights.Rights.{Rights}
 use Rattle.ffa_model.specs.Identifiers.{place}
+use Rattle.ffa_model.specs.Lists.{run}
+use Rattle.ffa_model.specs.Manifest.{is_from_to}
 use Rattle.ffa_model.specs.Rights.{may_write}
 use Rattle.ffa_model.specs.State.{State, Page, Buffers, page_at, buffers_of}
 use Rattle.ffa_model.specs.Access.{handle_at}
-use Rattle.ffa_model.specs.Memory.{written_pages}
+use Rattle.ffa_model.specs.Memory.{written_run}
 use Rattle.ffa_model.specs.Calls.{Service, success}
 
 -- the buffers of e in a list by endpoint, and the list in which e has these, or none
@@ -41,29 +45,37 @@ pub record Candidates : Type 0 where
 abbrev pub page_number : ℕ → ℕ → ℕ
 page_number base address = (address - base) / 4096
 
--- whether an address is that of a page in RAM
-abbrev pub is_page_address : Candidates → ℕ → Bool
-is_page_address ram address = (address % 4096 == 0 && nat_le ram.base address) && nat_lt (page_number ram.base address) ram.count
+-- whether an address is that of the first of n pages in a row, all in RAM
+abbrev pub is_run_address : Candidates → ℕ → ℕ → Bool
+is_run_address ram n address = (address % 4096 == 0 && nat_le ram.base address) && nat_le (page_number ram.base address + n) ram.count
+
+-- whether two runs of n pages have no page in common
+abbrev pub are_runs_apart : ℕ → ℕ → ℕ → Bool
+are_runs_apart n first other = nat_le (first + n) other || nat_le (other + n) first
 
 -- a page of e alone, in no open transaction, with base rw
 abbrev pub is_usable : ℕ → Option Candidate → Bool
 is_usable e None = false
 is_usable e (Some page) = (page.owner == e && not page.named) && may_write page.base.level
 
--- e may have a buffer in the page at an address
-abbrev pub is_usable_at : ℕ → Candidates → ℕ → Bool
-is_usable_at e ram address = is_usable e (ram.page (page_number ram.base address))
+-- e may have a buffer in the n pages from an address on
+abbrev pub are_usable_at : ℕ → Candidates → ℕ → ℕ → Bool
+are_usable_at e ram n address = list_all (λ p. is_usable e (ram.page p)) (run (page_number ram.base address) n)
+
+-- how many bytes TX has, and RX
+abbrev pub room_of : Option Buffers → ℕ
+room_of own = option_map_or (λ (b : Buffers). 4096 * b.pages) own 0
 
 -- the checks of each call, in order, for an endpoint e with these buffers of its own
 abbrev pub map_guards : ℕ → Option Buffers → Candidates → ℕ → ℕ → ℕ → List (Bool × ErrorCode)
 map_guards e own ram tx rx pages =
     (is_none own, Denied)
-    ∷ (pages == 1, InvalidParameters)
-    ∷ (is_page_address ram tx, InvalidParameters)
-    ∷ (is_page_address ram rx, InvalidParameters)
-    ∷ (not (tx == rx), InvalidParameters)
-    ∷ (is_usable_at e ram tx, Denied)
-    ∷ (is_usable_at e ram rx, Denied)
+    ∷ (is_from_to 1 MOST_BUFFER_PAGES pages, InvalidParameters)
+    ∷ (is_run_address ram pages tx, InvalidParameters)
+    ∷ (is_run_address ram pages rx, InvalidParameters)
+    ∷ (are_runs_apart pages (page_number ram.base tx) (page_number ram.base rx), InvalidParameters)
+    ∷ (are_usable_at e ram pages tx, Denied)
+    ∷ (are_usable_at e ram pages rx, Denied)
     ∷ []
 
 abbrev pub unmap_guards : Option Buffers → ℕ → List (Bool × ErrorCode)
@@ -72,9 +84,9 @@ unmap_guards own endpoint = (endpoint == 0, InvalidParameters) ∷ (is_some own,
 abbrev pub release_guards : Option Buffers → List (Bool × ErrorCode)
 release_guards own = (is_full own, Denied) ∷ []
 
--- the buffers in the pages at these addresses, with RX empty
-abbrev pub new_buffers : ℕ → ℕ → ℕ → Buffers
-new_buffers base tx rx = record { tx = page_number base tx; rx = page_number base rx; full = false }
+-- the buffers of this many pages each from these addresses on, with RX empty
+abbrev pub new_buffers : ℕ → ℕ → ℕ → ℕ → Buffers
+new_buffers base tx rx pages = record { tx = page_number base tx; rx = page_number base rx; pages = pages; full = false }
 
 -- ON A STATE
 abbrev pub candidate_at : State → ℕ → Option Candidate
@@ -93,7 +105,7 @@ with_rx s e full = record s { buffers = buffers_with_rx s.buffers e full }
 -- the pages, where these bytes stand in RX from its start, and its other bytes stay
 abbrev pub filled_pages : List (Option Page) → List ℕ → Option Buffers → List (Option Page)
 filled_pages pages bytes None = pages
-filled_pages pages bytes (Some b) = written_pages pages b.rx 0 bytes
+filled_pages pages bytes (Some b) = written_run b.pages pages b.rx bytes
 
 -- so they stand in RX of e, which is full
 abbrev pub filled : State → ℕ → List ℕ → State
@@ -104,7 +116,7 @@ abbrev pub rxtx_map : State → ℕ → ℕ → ℕ → Service
 rxtx_map s tx rx pages =
     record {
       guards = map_guards s.runner (buffers_of s s.runner) (candidates s) tx rx pages;
-      state = with_buffers s s.runner (Some (new_buffers s.ram_base tx rx));
+      state = with_buffers s s.runner (Some (new_buffers s.ram_base tx rx pages));
       reply = success 0 0;
     }
 

@@ -1,6 +1,7 @@
 -- The certificate of a state: all pages of RAM in the longest runs that have one owner, one open transaction or none, and
 -- one access of each endpoint.
 use Rattle.std.specs.Prelude.{◌≡◌, ◌≤◌, ◌<◌, ◌⊎◌, ℕ, zero, suc, ◌+◌, ◌-◌, ◌==◌, Bool, true, false, ◌&&◌, nat_lt, List, [], ◌∷◌, length, Option, Some, None, if◌then◌else◌}
+use Rattle.ffa_model.specs.declared.limits.TheConstants.{MOST_ENDPOINTS}
 use Rattle.ffa_model.specs.declared.certificate.CertRun.{CertRun}
 use Rattle.ffa_model.specs.declared.rights.Rights.{Rights}
 use Rattle.ffa_model.specs.Access.{access, handle_at}
@@ -33,7 +34,7 @@ pub record IsRun (s : State) (from : ℕ) (run : CertRun) : Type 0 where
   pub longest : (run.last.0 + 1 ≡ length s.pages) ⊎ (are_as_one s from (run.last.0 + 1) ≡ false)
   pub owner : run.owner.0 ≡ owner_of s from
   pub handle : run.handle ≡ handle_at s from
-  pub access : run.access ≡ listed 8 (access_by_place s from)
+  pub access : run.access ≡ listed MOST_ENDPOINTS (access_by_place s from)
 
 -- THE SAME, computed page by page
 
@@ -48,7 +49,7 @@ run_from s p = record {
   last = record { 0 = last_from s p (length s.pages - (p + 1)) };
   owner = record { 0 = owner_of s p };
   handle = handle_at s p;
-  access = listed 8 (access_by_place s p);
+  access = listed MOST_ENDPOINTS (access_by_place s p);
 }
 
 -- ALL RUNS

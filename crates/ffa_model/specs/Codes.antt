@@ -125,8 +125,8 @@ coded_transaction =
 
 abbrev pub coded_buffers : Coded Buffers
 coded_buffers =
-    code_by (ℕ × (ℕ × Bool)) (coded× coded_ℕ (coded× coded_ℕ coded_bool)) (λ b. (b.tx, (b.rx, b.full)))
-    (λ p. record { tx = p.0; rx = p.1.0; full = p.1.1 }) (λ _. refl)
+    code_by (ℕ × (ℕ × (ℕ × Bool))) (coded× coded_ℕ (coded× coded_ℕ (coded× coded_ℕ coded_bool))) (λ b. (b.tx, (b.rx, (b.pages, b.full))))
+    (λ p. record { tx = p.0; rx = p.1.0; pages = p.1.1.0; full = p.1.1.1 }) (λ _. refl)
 
 abbrev pub coded_bits : Coded (finite_set.FinSet (slice_cmp nat_cmp))
 coded_bits = finite_set.code (coded_list coded_ℕ)

@@ -2,6 +2,7 @@
 -- runner, by identifier.
 use Rattle.std.specs.Prelude.{◌≡◌, ◌⊎◌, ◌≢◌, ℕ, suc, ◌-◌, ◌<◌, ◌≤◌, ◌==◌, Bool, true, false, List, length, map, Option, Some, None, slice_index_or, if◌then◌else◌}
 use Rattle.std.specs.List.{list_any}
+use Rattle.ffa_model.specs.declared.limits.TheConstants.{MOST_ENDPOINTS}
 use Rattle.ffa_model.specs.declared.endpoint.EndpointId.{EndpointId}
 use Rattle.ffa_model.specs.declared.schedule.Status.{Status}
 use Rattle.ffa_model.specs.declared.schedule.Status.TheVariants.{Running, Waiting, Yielded, Blocked}
@@ -48,7 +49,7 @@ schedule_of links works =
 -- is no link works for the normal world.
 pub record IsChain (links : List ℕ) (works : List (Option Work)) : Type 0 where
   pub some : 1 ≤ length works
-  pub few : length works ≤ 8
+  pub few : length works ≤ MOST_ENDPOINTS
   pub begins : 1 ≤ length links
   pub first : link_at links 0 ≡ 0
   pub no_work : work_at works 0 ≡ None

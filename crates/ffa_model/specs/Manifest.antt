@@ -1,6 +1,7 @@
 -- Which parts make a machine, and where its tables stand.
 use Rattle.std.specs.Prelude.{ℕ, ◌+◌, ◌*◌, ◌%◌, ◌==◌, ◌&&◌, ◌||◌, nat_lt, nat_le, not, Bool, true, false, List, [], ◌∷◌, length}
 use Rattle.std.specs.List.{list_all, flat_map}
+use Rattle.ffa_model.specs.declared.limits.TheConstants.{MOST_ENDPOINTS, MOST_REGIONS}
 use Rattle.ffa_model.specs.declared.endpoint.Region.{Region}
 use Rattle.ffa_model.specs.declared.endpoint.Endpoint.{Endpoint}
 use Rattle.ffa_model.specs.Bits.{is_set}
@@ -61,10 +62,10 @@ abbrev pub regions_of : List Endpoint → List Region
 regions_of es = flat_map (λ (e : Endpoint). e.regions.items) es
 
 abbrev pub are_counted : List Endpoint → Bool
-are_counted es = list_all (λ (e : Endpoint). is_from_to 1 16 (length e.regions.items)) es
+are_counted es = list_all (λ (e : Endpoint). is_from_to 1 MOST_REGIONS (length e.regions.items)) es
 
 -- the conditions of an accepted manifest
 abbrev pub is_accepted : ℕ → ℕ → List Endpoint → Bool
 is_accepted base blocks es =
-    ((is_ram_base base && is_from_to 1 32 blocks) && (is_from_to 1 8 (length es) && are_identified es))
+    ((is_ram_base base && is_from_to 1 32 blocks) && (is_from_to 1 MOST_ENDPOINTS (length es) && are_identified es))
     && (are_counted es && (list_all (is_placed base blocks (length es)) (regions_of es) && are_apart (regions_of es)))

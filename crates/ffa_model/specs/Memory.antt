@@ -1,6 +1,7 @@
 -- Bytes of pages, and the runner's loads, stores and fetches: alignment, then translation, then permission.
-use Rattle.std.specs.Prelude.{ℕ, ◌-◌, ◌/◌, ◌%◌, ◌^◌, ◌==◌, Bool, true, ◌&&◌, nat_lt, nat_le, List, [], Option, Some, None, is_some, replicate, slice_index_or, slice_set, if◌then◌else◌}
+use Rattle.std.specs.Prelude.{ℕ, zero, suc, ◌+◌, ◌-◌, ◌/◌, ◌%◌, ◌^◌, ◌==◌, Bool, true, ◌&&◌, nat_lt, nat_le, List, [], take, drop, Option, Some, None, is_some, replicate, slice_index_or, slice_set, if◌then◌else◌}
 use Rattle.byteorder.specs.Endian.{little_bytes}
+use Rattle.std.specs.List.{flat_map}
 use Rattle.std.specs.Option.{option_map, option_map_or, option_and_then}
 use Rattle.ffa_model.specs.declared.rights.Rights.{Rights}
 use Rattle.ffa_model.specs.declared.transaction.Range.{Range}
@@ -10,7 +11,7 @@ use Rattle.ffa_model.specs.declared.operation.FaultKind.{FaultKind}
 use Rattle.ffa_model.specs.declared.operation.FaultKind.TheVariants.{Translation, Permission, Alignment}
 use Rattle.ffa_model.specs.declared.operation.Outcome.{Outcome}
 use Rattle.ffa_model.specs.declared.operation.Outcome.TheVariants.{Data, Done, Fault}
-use Rattle.ffa_model.specs.Lists.{map_at}
+use Rattle.ffa_model.specs.Lists.{map_at, run}
 use Rattle.ffa_model.specs.Rights.{may_store, may_fetch}
 use Rattle.ffa_model.specs.Ram.{number_in, with_bytes}
 use Rattle.ffa_model.specs.State.{State, Page, page_at}
@@ -26,12 +27,21 @@ size_of B8 = 8
 abbrev pub page_bytes : State → ℕ → List ℕ
 page_bytes s p = option_map_or (λ (page : Page). page.bytes) (page_at s p) []
 
+-- the bytes of n pages in a row
+abbrev pub run_bytes : State → ℕ → ℕ → List ℕ
+run_bytes s first n = flat_map (page_bytes s) (run first n)
+
 -- an owned page with other bytes from a place on; no page of the manager changes
 abbrev pub page_with : ℕ → List ℕ → Option Page → Option Page
 page_with at bytes page = option_map (λ (q : Page). record q { bytes = with_bytes q.bytes at bytes }) page
 
 abbrev pub written_pages : List (Option Page) → ℕ → ℕ → List ℕ → List (Option Page)
 written_pages pages p at bytes = slice_set pages p (page_with at bytes (slice_index_or pages p None))
+
+-- bytes stand in n pages in a row, 4096 in each
+abbrev pub written_run : ℕ → List (Option Page) → ℕ → List ℕ → List (Option Page)
+written_run zero pages first bytes = pages
+written_run (suc n) pages first bytes = written_run n (written_pages pages first 0 (take 4096 bytes)) (first + 1) (drop 4096 bytes)
 
 abbrev pub written : State → ℕ → ℕ → List ℕ → State
 written s p at bytes = record s { pages = written_pages s.pages p at bytes }

@@ -15,7 +15,7 @@ use Rattle.ffa_model.specs.State.{State, Page, Transaction, transaction_of, vers
 use Rattle.ffa_model.specs.Access.{is_receiver, held_by}
 use Rattle.ffa_model.specs.Memory.{changed_pages}
 use Rattle.ffa_model.specs.Buffers.{buffers_in, filled, is_full}
-use Rattle.ffa_model.specs.MemorySend.{descriptor_in}
+use Rattle.ffa_model.specs.MemorySend.{after_transfer, descriptor_in}
 use Rattle.ffa_model.specs.RetrieveDescriptor.{retrieve_of}
 use Rattle.ffa_model.specs.ResponseBytes.{ResponseRecord, response_bytes, response_size}
 use Rattle.ffa_model.specs.Transactions.{Bases, Offers, Scene, Transfer, bases_of, ceiling, closed, holding, with_transaction, offers_of, scene_of, with_offers}
@@ -54,13 +54,7 @@ asking_guards c e (Some d) =
 
 -- the checks of a retrieve by e in order, with what the descriptor says, or None where the bytes are none
 abbrev pub retrieve_guards : Scene → ℕ → Transfer → Option RetrieveDesc → List (Bool × ErrorCode)
-retrieve_guards c e x d =
-    (is_some (buffers_in c.buffers e), InvalidParameters)
-    ∷ (x.total == x.fragment, InvalidParameters)
-    ∷ (nat_le x.total 4096, InvalidParameters)
-    ∷ (x.address == 0, InvalidParameters)
-    ∷ (x.pages == 0, InvalidParameters)
-    ∷ asking_guards c e d
+retrieve_guards c e x d = after_transfer c.buffers e x (asking_guards c e d)
 
 -- what is open after e has retrieved the transaction of a handle: e holds the right, and of a donate nothing is open
 abbrev pub taken_in : Kind → Offers → ℕ → Transaction → ℕ → Rights → Offers

@@ -3,6 +3,7 @@ use Rattle.std.specs.Prelude.{ℕ, ◌+◌, ◌*◌, ◌==◌, Bool, true, false
 use Rattle.std.specs.List.{list_any, list_all}
 use Rattle.std.specs.Option.{option_map_or}
 use Rattle.std.specs.FinMap as map
+use Rattle.ffa_model.specs.declared.limits.TheConstants.{MOST_OPEN, MOST_SENDS}
 use Rattle.ffa_model.specs.declared.operation.ErrorCode.{ErrorCode}
 use Rattle.ffa_model.specs.declared.operation.ErrorCode.TheVariants.{InvalidParameters, NoMemory, Denied}
 use Rattle.ffa_model.specs.declared.call.Reply.{Reply}
@@ -12,10 +13,11 @@ use Rattle.ffa_model.specs.declared.rights.Rights.{Rights}
 use Rattle.ffa_model.specs.declared.transaction.Range.{Range}
 use Rattle.ffa_model.specs.declared.transaction.Receiver.{Receiver}
 use Rattle.ffa_model.specs.Bits.{bits}
+use Rattle.ffa_model.specs.Lists.{is_in_run}
 use Rattle.ffa_model.specs.Rights.{is_data_at_most}
 use Rattle.ffa_model.specs.State.{State, Transaction, Buffers, is_known_among, version_of}
 use Rattle.ffa_model.specs.Memory.{zeroed_if}
-use Rattle.ffa_model.specs.Buffers.{Candidate, Candidates, buffers_in}
+use Rattle.ffa_model.specs.Buffers.{Candidate, Candidates, buffers_in, room_of}
 use Rattle.ffa_model.specs.Messages.{tx_bytes}
 use Rattle.ffa_model.specs.DescriptorPlaces.{Versioned, in_version}
 use Rattle.ffa_model.specs.SendDescriptor.{SendRecord, send_of, range_end}
@@ -36,7 +38,7 @@ is_own e (Some page) = page.owner == e && not page.named
 
 -- whether someone has a buffer in a page
 abbrev pub is_buffer : List (Option Buffers) → ℕ → Bool
-is_buffer buffers p = list_any (λ b. option_map_or (λ (x : Buffers). x.tx == p || x.rx == p) b false) buffers
+is_buffer buffers p = list_any (λ b. option_map_or (λ (x : Buffers). is_in_run x.tx x.pages p || is_in_run x.rx x.pages p) b false) buffers
 
 abbrev pub is_sendable : ℕ → Candidates → List (Option Buffers) → ℕ → Bool
 is_sendable e ram buffers p = is_own e (ram.page p) && not (is_buffer buffers p)
@@ -50,29 +52,39 @@ is_grantable (Some level) (Some right) = is_data_at_most level right.level
 abbrev pub are_grants_within : Bases → List Receiver → ℕ → Bool
 are_grants_within bases receivers p = list_all (λ (r : Receiver). is_grantable r.grant (bases.right p)) receivers
 
--- the checks of what a send descriptor says, in order
-abbrev pub offer_guards : Scene → ℕ → Option SendRecord → List (Bool × ErrorCode)
-offer_guards c e None = (false, InvalidParameters) ∷ []
-offer_guards c e (Some r) =
-    (r.sender == e, InvalidParameters)
-    ∷ (are_known c.endpoints r.receivers, InvalidParameters)
-    ∷ (list_all (is_inside c.bases) r.ranges, Denied)
-    ∷ (list_all (is_sendable e c.ram c.buffers) (pages_in c.bases r.ranges), Denied)
-    ∷ (list_all (are_grants_within c.bases r.receivers) (pages_in c.bases r.ranges), Denied)
-    ∷ (not r.zero || are_writable c.bases r.ranges, Denied)
-    ∷ (nat_lt (open_count c.offers e) 8, NoMemory)
-    ∷ (nat_lt (sends_of c.offers e) 65535, NoMemory)
-    ∷ []
-
--- the checks of a send by e in order, with what the descriptor says, or None where the bytes are none
-abbrev pub send_guards : Scene → ℕ → Transfer → Option SendRecord → List (Bool × ErrorCode)
-send_guards c e x r =
-    (is_some (buffers_in c.buffers e), InvalidParameters)
+-- the checks of a descriptor's registers, in order, and then others: all of it stands in the first bytes of TX
+abbrev pub after_transfer : List (Option Buffers) → ℕ → Transfer → List (Bool × ErrorCode) → List (Bool × ErrorCode)
+after_transfer buffers e x rest =
+    (is_some (buffers_in buffers e), InvalidParameters)
     ∷ (x.total == x.fragment, InvalidParameters)
-    ∷ (nat_le x.total 4096, InvalidParameters)
+    ∷ (nat_le x.total (room_of (buffers_in buffers e)), InvalidParameters)
     ∷ (x.address == 0, InvalidParameters)
     ∷ (x.pages == 0, InvalidParameters)
-    ∷ offer_guards c e r
+    ∷ rest
+
+-- the checks of what a send descriptor says, in order, and then others
+abbrev pub after_offer : ℕ → Candidates → Bases → List (Option Buffers) → ℕ → SendRecord → List (Bool × ErrorCode) → List (Bool × ErrorCode)
+after_offer endpoints ram bases buffers e r rest =
+    (r.sender == e, InvalidParameters)
+    ∷ (are_known endpoints r.receivers, InvalidParameters)
+    ∷ (list_all (is_inside bases) r.ranges, Denied)
+    ∷ (list_all (is_sendable e ram buffers) (pages_in bases r.ranges), Denied)
+    ∷ (list_all (are_grants_within bases r.receivers) (pages_in bases r.ranges), Denied)
+    ∷ (not r.zero || are_writable bases r.ranges, Denied)
+    ∷ rest
+
+-- the checks of room for one more transaction
+abbrev pub room_guards : Offers → ℕ → List (Bool × ErrorCode)
+room_guards offers e = (nat_lt (open_count offers e) MOST_OPEN, NoMemory) ∷ (nat_lt (sends_of offers e) MOST_SENDS, NoMemory) ∷ []
+
+-- the checks of what is offered, or None where the bytes are no descriptor
+abbrev pub offer_guards : Scene → ℕ → Option SendRecord → List (Bool × ErrorCode)
+offer_guards c e None = (false, InvalidParameters) ∷ []
+offer_guards c e (Some r) = after_offer c.endpoints c.ram c.bases c.buffers e r (room_guards c.offers e)
+
+-- the checks of a send by e in order, with what the descriptor says
+abbrev pub send_guards : Scene → ℕ → Transfer → Option SendRecord → List (Bool × ErrorCode)
+send_guards c e x r = after_transfer c.buffers e x (offer_guards c e r)
 
 -- the transaction that a send opens: nobody holds it
 abbrev pub transaction_from : Kind → SendRecord → Transaction

@@ -3,11 +3,11 @@
 use Rattle.std.specs.Prelude.{ℕ, ◌+◌, ◌==◌, Bool, not, nat_le, List, [], ◌∷◌, length, take, is_some, Option}
 use Rattle.std.specs.Option.{option_map_or}
 use Rattle.ffa_model.specs.declared.operation.ErrorCode.{ErrorCode}
-use Rattle.ffa_model.specs.declared.operation.ErrorCode.TheVariants.{InvalidParameters, Busy, Denied}
+use Rattle.ffa_model.specs.declared.operation.ErrorCode.TheVariants.{InvalidParameters, NoMemory, Busy, Denied}
 use Rattle.ffa_model.specs.State.{State, Party, Buffers, buffers_of, is_known_among, has_property}
 use Rattle.ffa_model.specs.Ram.{number_in}
-use Rattle.ffa_model.specs.Memory.{page_bytes}
-use Rattle.ffa_model.specs.Buffers.{filled, is_full, buffers_in}
+use Rattle.ffa_model.specs.Memory.{run_bytes}
+use Rattle.ffa_model.specs.Buffers.{filled, is_full, buffers_in, room_of}
 use Rattle.ffa_model.specs.Notifications.{notifications_of, with_framework_bit, with_notifications}
 use Rattle.ffa_model.specs.Calls.{Service, success}
 
@@ -42,11 +42,12 @@ send2_guards parties buffers caller m =
     ∷ (not (m.receiver == caller), InvalidParameters)
     ∷ (nat_le 20 m.offset, InvalidParameters)
     ∷ (not (m.size == 0), InvalidParameters)
-    ∷ (nat_le (m.offset + m.size) 4096, InvalidParameters)
+    ∷ (nat_le (m.offset + m.size) (room_of (buffers_in buffers caller)), InvalidParameters)
     ∷ (has_property parties caller 2, Denied)
     ∷ (has_property parties m.receiver 2, Denied)
     ∷ (is_some (buffers_in buffers m.receiver), Busy)
     ∷ (not (is_full (buffers_in buffers m.receiver)), Busy)
+    ∷ (nat_le (m.offset + m.size) (room_of (buffers_in buffers m.receiver)), NoMemory)
     ∷ []
 
 -- the message that begins these bytes, with its header
@@ -55,7 +56,7 @@ message_in tx = take ((header_in tx).offset + (header_in tx).size) tx
 
 -- ON A STATE
 abbrev pub tx_bytes : State → ℕ → List ℕ
-tx_bytes s e = option_map_or (λ (b : Buffers). page_bytes s b.tx) (buffers_of s e) []
+tx_bytes s e = option_map_or (λ (b : Buffers). run_bytes s b.tx b.pages) (buffers_of s e) []
 
 abbrev pub delivered : State → ℕ → List ℕ → State
 delivered s receiver message =

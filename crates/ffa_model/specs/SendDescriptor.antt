@@ -1,6 +1,7 @@
 -- Send descriptors: which bytes offer memory, and what they say. Numbers are whole and don't wrap.
 use Rattle.std.specs.Prelude.{◌≡◌, ◌≢◌, ◌≤◌, ◌<◌, ◌⊎◌, ℕ, ◌+◌, ◌*◌, ◌%◌, ◌^◌, ◌==◌, Bool, true, false, not, ◌&&◌, ◌||◌, nat_le, List, length, sum_by, Option, Some, None, if◌then◌else◌}
 use Rattle.std.specs.List.{list_any, list_all}
+use Rattle.ffa_model.specs.declared.limits.TheConstants.{MOST_RANGES, MOST_RECEIVERS}
 use Rattle.ffa_model.specs.declared.rights.Kind.{Kind}
 use Rattle.ffa_model.specs.declared.rights.Kind.TheVariants.{Share, Lend, Donate}
 use Rattle.ffa_model.specs.declared.transaction.Range.{Range}
@@ -54,8 +55,8 @@ most_flags Lend = 1
 most_flags Donate = 1
 
 abbrev pub most_receivers : Kind → ℕ
-most_receivers Share = 4
-most_receivers Lend = 4
+most_receivers Share = MOST_RECEIVERS
+most_receivers Lend = MOST_RECEIVERS
 most_receivers Donate = 1
 
 -- a share and a lend to several say what memory it is; a donate and a lend to one leave that to the receiver
@@ -83,7 +84,7 @@ pub record IsComposite (b : Versioned) : Type 0 where
   pub aligned : composite_place b % 16 ≡ 0
   pub behind : array_end b ≤ composite_place b
   pub least : 1 ≤ range_count b
-  pub most : range_count b ≤ 16
+  pub most : range_count b ≤ MOST_RANGES
   pub reserved : u64_at b.bytes (composite_place b + 8) ≡ 0
   pub inside : range_place b (range_count b) ≤ length b.bytes
 
@@ -147,7 +148,7 @@ is_composite b =
     (composite_place b % 16 == 0)
     && nat_le (array_end b) (composite_place b)
     && nat_le 1 (range_count b)
-    && nat_le (range_count b) 16
+    && nat_le (range_count b) MOST_RANGES
     && (u64_at b.bytes (composite_place b + 8) == 0)
     && nat_le (range_place b (range_count b)) (length b.bytes)
 

@@ -1,14 +1,16 @@
 -- What a sound state is: the first state is one, and each operation keeps it so.
-use Rattle.std.specs.Prelude.{◌≡◌, ◌≢◌, ◌<◌, ◌≤◌, ℕ, ◌*◌, ◌^◌, true, nat_lt, List, length, Some, None, slice_get}
+use Rattle.std.specs.Prelude.{◌≡◌, ◌<◌, ◌≤◌, ℕ, ◌*◌, ◌^◌, true, nat_lt, List, length, Some, None, slice_get}
 use Rattle.std.specs.List.{list_all}
 use Rattle.std.specs.FinSet as finite_set
+use Rattle.ffa_model.specs.declared.limits.TheConstants.{MOST_BUFFER_PAGES, MOST_ENDPOINTS, MOST_OPEN, MOST_RANGES, MOST_SENDS}
 use Rattle.ffa_model.specs.declared.rights.Rights.{Rights}
 use Rattle.ffa_model.specs.declared.rights.Kind.TheVariants.{Donate}
-use Rattle.ffa_model.specs.Manifest.{is_ram_base}
+use Rattle.ffa_model.specs.Lists.{is_in_run}
+use Rattle.ffa_model.specs.Manifest.{is_from_to, is_ram_base}
 use Rattle.ffa_model.specs.Rights.{is_at_most}
 use Rattle.ffa_model.specs.State.{State, Page, Party, Transaction, Buffers, buffers_of, is_known, owner_of, page_at, sent_by, transaction_of}
 use Rattle.ffa_model.specs.Access.{held_by, is_naming, is_receiver, names}
-use Rattle.ffa_model.specs.Buffers.{candidate_at, is_usable}
+use Rattle.ffa_model.specs.Buffers.{are_runs_apart, candidate_at, is_usable}
 use Rattle.ffa_model.specs.SendDescriptor.{most_receivers}
 use Rattle.ffa_model.specs.RunStates.{schedule_of}
 use Rattle.ffa_model.specs.Sound.{IsSound}
@@ -55,14 +57,15 @@ pub record IsSoundTransaction (s : State) (h : ℕ) (t : Transaction) : Type 0 w
   pub some_receivers : 1 ≤ length t.receivers
   pub few_receivers : length t.receivers ≤ most_receivers t.kind
   pub some_ranges : 1 ≤ length t.ranges
-  pub few_ranges : length t.ranges ≤ 16
+  pub few_ranges : length t.ranges ≤ MOST_RANGES
   pub tag : t.tag < 2 ^ 64
 
--- two pages of the endpoint alone, in no open transaction, with base rw
+-- two runs of pages of the endpoint alone, in no open transaction, with base rw
 pub record IsSoundBuffers (s : State) (e : ℕ) (b : Buffers) : Type 0 where
-  pub tx : is_usable e (candidate_at s b.tx) ≡ true
-  pub rx : is_usable e (candidate_at s b.rx) ≡ true
-  pub apart : b.tx ≢ b.rx
+  pub count : is_from_to 1 MOST_BUFFER_PAGES b.pages ≡ true
+  pub tx : (p : ℕ) → is_in_run b.tx b.pages p ≡ true → is_usable e (candidate_at s p) ≡ true
+  pub rx : (p : ℕ) → is_in_run b.rx b.pages p ≡ true → is_usable e (candidate_at s p) ≡ true
+  pub apart : are_runs_apart b.pages b.tx b.rx ≡ true
 
 -- a bit that is bound: to nobody else, in its sender's class, and where the receiver has bitmaps
 pub record IsSoundBinding (s : State) (entry : List ℕ) : Type 0 where
@@ -91,7 +94,7 @@ pub record IsSoundPending (s : State) (entry : List ℕ) : Type 0 where
 -- one to eight endpoints, 2 to 64 MiB of RAM, and a list by endpoint for each of them
 pub record IsSized (s : State) : Type 0 where
   pub some : 1 ≤ length s.parties
-  pub few : length s.parties ≤ 8
+  pub few : length s.parties ≤ MOST_ENDPOINTS
   pub base : is_ram_base s.ram_base ≡ true
   pub blocks : (n : ℕ) × (length s.pages ≡ 512 * n) × (1 ≤ n) × (n ≤ 32)
   pub sent : length s.sent ≡ length s.parties
@@ -109,9 +112,9 @@ pub record IsSoundState (s : State) : Type 0 where
   pub one :
       (p h k : ℕ) → p < length s.pages → is_naming s p (transaction_of s h) ≡ true
       → is_naming s p (transaction_of s k) ≡ true → h ≡ k
-  -- an endpoint has at most 8 open transactions, and has sent at most 65535
-  pub few : (e : ℕ) → IsKnown s e → open_count (offers_of s) e ≤ 8
-  pub sent : (e : ℕ) → IsKnown s e → sent_by s e ≤ 65535
+  -- how many transactions of an endpoint are open, and how many it has sent
+  pub few : (e : ℕ) → IsKnown s e → open_count (offers_of s) e ≤ MOST_OPEN
+  pub sent : (e : ℕ) → IsKnown s e → sent_by s e ≤ MOST_SENDS
   pub buffers : (e : ℕ) (b : Buffers) → IsKnown s e → buffers_of s e ≡ Some b → IsSoundBuffers s e b
   pub schedule : IsSound (schedule_of s)
   pub bound : (entry : List ℕ) → finite_set.contains s.bound entry ≡ true → IsSoundBinding s entry

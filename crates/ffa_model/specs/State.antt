@@ -39,10 +39,11 @@ pub record Transaction : Type 0 where
   pub receivers : List Receiver
   pub held : map.FinMap nat_cmp Rights  -- by endpoint
 
--- an endpoint's TX and RX, by page, and whether RX is full
+-- an endpoint's TX and RX: the first page of each, how many pages each has, and whether RX is full
 pub record Buffers : Type 0 where
   pub tx : ℕ
   pub rx : ℕ
+  pub pages : ℕ
   pub full : Bool
 
 -- an endpoint is named by its identifier; a list by endpoint is in the manifest's order

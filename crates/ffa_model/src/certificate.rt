@@ -1,6 +1,7 @@
 //! Certificates: what a machine says of its pages, and what its tables have to give.
 
 use crate::endpoint::{EndpointId, PageNo};
+use crate::limits::MOST_ENDPOINTS;
 use crate::rights::Rights;
 
 /// Pages in a row that have one owner, one open transaction or none, and one access of each endpoint.
@@ -12,5 +13,5 @@ pub struct CertRun {
     /// The handle of the open transaction in which the pages stand.
     pub handle: Option<u64>,
     /// By the endpoints' places in the manifest; nothing past the last endpoint.
-    pub access: [Option<Rights>; 8],
+    pub access: [Option<Rights>; MOST_ENDPOINTS],
 }

@@ -1,6 +1,7 @@
 //! What the descriptors of memory transactions say (DEN0077A, 5.11 and 16).
 
 use crate::endpoint::EndpointId;
+use crate::limits::{MOST_RANGES, MOST_RECEIVERS};
 use crate::rights::{Data, Kind, Rights};
 use crate::transaction::{Range, Receiver};
 use arrayvec::ArrayVec;
@@ -12,8 +13,8 @@ pub struct SendDesc {
     /// Whether the pages are to be zeroed before they are offered.
     pub zero: bool,
     pub tag: u64,
-    pub receivers: ArrayVec<Receiver, 4>,
-    pub ranges: ArrayVec<Range, 16>,
+    pub receivers: ArrayVec<Receiver, MOST_RECEIVERS>,
+    pub ranges: ArrayVec<Range, MOST_RANGES>,
 }
 
 /// What a retrieve descriptor says: that of FFA_MEM_RETRIEVE_REQ. `None` is a field that is not specified.
@@ -49,5 +50,5 @@ pub struct Response {
     pub endpoint: EndpointId,
     /// The right that the caller now holds.
     pub rights: Rights,
-    pub ranges: ArrayVec<Range, 16>,
+    pub ranges: ArrayVec<Range, MOST_RANGES>,
 }

@@ -6,6 +6,7 @@ ghost use Rattle.ffa_model.specs.Regions.{has_page, right_in};
 ghost use Rattle.ffa_model.specs.State.{is_known_among, is_partition_among};
 ghost use Rattle.ffa_model.specs.Uuid.{is_uuid};
 
+use crate::limits::MOST_REGIONS;
 use crate::rights::Rights;
 use arrayvec::ArrayVec;
 use bitflags::{Flag, Flags, bitflag_items};
@@ -144,7 +145,7 @@ pub struct Endpoint {
     pub version: Version,
     pub uuid: [u8; 16],
     pub properties: Properties,
-    pub regions: ArrayVec<Region, 16>,
+    pub regions: ArrayVec<Region, MOST_REGIONS>,
 }
 
 impl Endpoint {
@@ -153,7 +154,7 @@ impl Endpoint {
         version: Version,
         uuid: [u8; 16],
         properties: Properties,
-        regions: ArrayVec<Region, 16>,
+        regions: ArrayVec<Region, MOST_REGIONS>,
     ) -> Endpoint
         ensures parts { result ≡ record { version = version; uuid = uuid; properties = properties; regions = regions } }
         ensures uuid { is_uuid result.uuid ≡ true }

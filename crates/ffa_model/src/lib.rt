@@ -6,6 +6,7 @@ pub mod certificate;
 pub mod descriptor;
 pub mod endpoint;
 pub mod leaf;
+pub mod limits;
 pub mod machines;
 pub mod manifest;
 pub mod operation;
@@ -18,6 +19,10 @@ pub use certificate::CertRun;
 pub use descriptor::{RelinquishDesc, Response, RetrieveDesc, SendDesc};
 pub use endpoint::{Endpoint, EndpointId, PageNo, Properties, Region, Version, right_in};
 pub use leaf::Leaf;
+pub use limits::{
+    MOST_BUFFER_PAGES, MOST_ENDPOINTS, MOST_OPEN, MOST_RANGES, MOST_RECEIVERS, MOST_REGIONS,
+    MOST_SENDS,
+};
 pub use machines::{built_in, row_machine};
 pub use manifest::Manifest;
 pub use operation::{ErrorCode, FaultKind, Op, Outcome, Size};

@@ -3,6 +3,7 @@ ghost use Rattle.std.specs.Prelude.{◌≡◌};
 ghost use Rattle.ffa_model.specs.Machines.{sixteen_writable, endpoint_with, built_in_endpoints, row_endpoints};
 
 use crate::endpoint::{Endpoint, Properties, Region, Version};
+use crate::limits::MOST_ENDPOINTS;
 use crate::manifest::Manifest;
 use crate::rights::{Data, Rights};
 use arrayvec::ArrayVec;
@@ -34,7 +35,7 @@ fn endpoint(uuid: [u8; 16], properties: u32, region: Region) -> Endpoint
 }
 
 // The normal world and one partition.
-fn two_endpoints() -> ArrayVec<Endpoint, 8>
+fn two_endpoints() -> ArrayVec<Endpoint, MOST_ENDPOINTS>
     ensures { result.items ≡ built_in_endpoints }
 {
     let uuid = [

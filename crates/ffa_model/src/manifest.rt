@@ -7,6 +7,7 @@ ghost use Rattle.ffa_model.specs.State.{is_known_among, version_among};
 ghost use Rattle.ffa_model.specs.Endpoints.{have_uuids};
 
 use crate::endpoint::{Endpoint, EndpointId, PageNo, Version};
+use crate::limits::MOST_ENDPOINTS;
 use crate::rights::Rights;
 use arrayvec::ArrayVec;
 
@@ -20,13 +21,17 @@ pub struct Manifest {
     /// RAM's size, in blocks of 2 MiB.
     pub ram_blocks: u32,
     /// The normal world, then the partitions in the order of their identifiers.
-    pub endpoints: ArrayVec<Endpoint, 8>,
+    pub endpoints: ArrayVec<Endpoint, MOST_ENDPOINTS>,
     pub ghost accepted: { is_accepted ram_base ram_blocks endpoints.items ≡ true },
 }
 
 impl Manifest {
     /// The manifest of these parts.
-    pub fn of(ram_base: u32, ram_blocks: u32, endpoints: ArrayVec<Endpoint, 8>) -> Manifest
+    pub fn of(
+        ram_base: u32,
+        ram_blocks: u32,
+        endpoints: ArrayVec<Endpoint, MOST_ENDPOINTS>,
+    ) -> Manifest
         requires { is_accepted ram_base ram_blocks endpoints.items ≡ true }
         ensures base { result.ram_base ≡ ram_base }
         ensures blocks { result.ram_blocks ≡ ram_blocks }

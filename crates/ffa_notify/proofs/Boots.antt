@@ -10,6 +10,7 @@ use Rattle.std.proofs.lemmas.List.{length-take-le, map-append, take_more}
 use Rattle.ffa_model.specs.declared.endpoint.Endpoint.{Endpoint}
 use Rattle.ffa_model.specs.First.{has_first_bitmaps}
 use Rattle.std.proofs.lemmas.Nat.Bits.{and_pow}
+use Rattle.ffa_model.specs.declared.limits.TheConstants.{MOST_ENDPOINTS}
 use Rattle.ffa_model.specs.Bits.{is_set}
 use Rattle.ffa_notify.specs.Stored.{bit_of, bound_in, entry, has_binding, has_pending_bit, pending_in}
 use Rattle.ffa_notify.proofs.Bits.{set-zero}
@@ -36,11 +37,11 @@ unset n i k = ap (λ w. is_set k w) (zeros n i) ∙ set-zero k
     zeros (suc n) zero = refl
     zeros (suc n) (suc i) = zeros n i
 
-pub none-bound : (n count : ℕ) → n ≤ 8 → bound_in n (no_bits count) ≡ finite_set.empty
+pub none-bound : (n count : ℕ) → n ≤ MOST_ENDPOINTS → bound_in n (no_bits count) ≡ finite_set.empty
 unfolding bound_in
 none-bound n count few =
-    set-is entry has_binding 8 n n (bound-read n few) (no_bits count) finite_set.empty (λ x is. absurd (false≢true (sym (finite_set.contains-empty (slice_cmp nat_cmp) x) ∙ is)))
-    (λ i j k lt_i lt_j lt_k. unset count (8 * i + j) k ∙ sym (finite_set.contains-empty (slice_cmp nat_cmp) (entry i j k)))
+    set-is entry has_binding MOST_ENDPOINTS n n (bound-read n few) (no_bits count) finite_set.empty (λ x is. absurd (false≢true (sym (finite_set.contains-empty (slice_cmp nat_cmp) x) ∙ is)))
+    (λ i j k lt_i lt_j lt_k. unset count (MOST_ENDPOINTS * i + j) k ∙ sym (finite_set.contains-empty (slice_cmp nat_cmp) (entry i j k)))
 
 pub none-pending : (n count : ℕ) → pending_in n (no_bits count) ≡ finite_set.empty
 unfolding pending_in

@@ -6,6 +6,7 @@ use Rattle.std.specs.Int.{bit_not, w64}
 use Rattle.std.specs.Int.RustNames.{bit_or}
 use Rattle.std.proofs.lemmas.Bool.{cases_eq, cases_lt, eq-eqb, le-ltb, lt-ltb, ne_eqb}
 use lib.Bits.{bit_and}
+use Rattle.ffa_model.specs.declared.limits.TheConstants.{MOST_ENDPOINTS}
 use Rattle.ffa_model.specs.Bits.{bits_of, is_set}
 use Rattle.ffa_model.specs.Identifiers.{identifier, place}
 use Rattle.ffa_model.specs.Notifications.{binding, bindings, class_of, class_of_entry, receiver_bit, receiver_of_entry}
@@ -25,9 +26,9 @@ as-before : (b : Bool) → (b && true) ≡ b
 as-before true = refl
 as-before false = refl
 
-pub bound-read : (n : ℕ) → n ≤ 8 → AreRead entry has_binding 8 n
+pub bound-read : (n : ℕ) → n ≤ MOST_ENDPOINTS → AreRead entry has_binding MOST_ENDPOINTS n
 bound-read n few = record {
-  reads = λ words i j k t. is_set k (get_or words (8 * place-identifier i t + place-identifier j t) 0);
+  reads = λ words i j k t. is_set k (get_or words (MOST_ENDPOINTS * place-identifier i t + place-identifier j t) 0);
   apart = λ i j k i' j' k' same.
       let first : identifier i ≡ identifier i' = cc in
       let last : identifier j ≡ identifier j' = cc in
@@ -48,7 +49,7 @@ pending-read = record {
 }
 
 -- the words of bindings among n endpoints
-module _ (n : ℕ) (words : List ℕ) (some : 1 ≤ n) (few : n ≤ 8) where
+module _ (n : ℕ) (words : List ℕ) (some : 1 ≤ n) (few : n ≤ MOST_ENDPOINTS) where
   -- a sender's bits, and none of another class
   pub bound-other_class : (r class k s : ℕ) → (class ≡ class_of s → ⊥) → finite_set.contains (bound_in n words) (binding r class k s) ≡ false
   unfolding bound_in
@@ -63,44 +64,44 @@ module _ (n : ℕ) (words : List ℕ) (some : 1 ≤ n) (few : n ≤ 8) where
       go false is = is
 
   module _ (r s : ℕ) (known_r : is_known_among n r ≡ true) (known_s : is_known_among n s ≡ true) where
-    pub bound-at : (k : ℕ) → k < 64 → is_set k (get_or words (8 * place r + place s) 0) ≡ finite_set.contains (bound_in n words) (binding r (class_of s) k s)
+    pub bound-at : (k : ℕ) → k < 64 → is_set k (get_or words (MOST_ENDPOINTS * place r + place s) 0) ≡ finite_set.contains (bound_in n words) (binding r (class_of s) k s)
     unfolding bound_in
     bound-at k lt =
-        sym (contains-bit entry has_binding 8 n n (bound-read n few) words (place r) (place s) k (known-place n r some known_r) (known-place n s some known_s) lt)
+        sym (contains-bit entry has_binding MOST_ENDPOINTS n n (bound-read n few) words (place r) (place s) k (known-place n r some known_r) (known-place n s some known_s) lt)
         ∙ (λ t. finite_set.contains (bound_in n words) (binding (known-named n r known_r t) (class_of (known-named n s known_s t)) k (known-named n s known_s t)))
 
-    module _ (count : length words ≡ 8 * n) (bitmap : ℕ) where
-      within : 8 * place r + place s < length words
+    module _ (count : length words ≡ MOST_ENDPOINTS * n) (bitmap : ℕ) where
+      within : MOST_ENDPOINTS * place r + place s < length words
       within = let lt_r = known-place n r some known_r in let lt_s = known-place n s some known_s in omega arith
 
-      pub bound-more : bound_in n (set words (8 * place r + place s) (bit_or (get_or words (8 * place r + place s) 0) bitmap)) ≡ finite_set.union (bound_in n words) (bindings r s (bits_of bitmap))
+      pub bound-more : bound_in n (set words (MOST_ENDPOINTS * place r + place s) (bit_or (get_or words (MOST_ENDPOINTS * place r + place s) 0) bitmap)) ≡ finite_set.union (bound_in n words) (bindings r s (bits_of bitmap))
       unfolding bound_in
       bound-more =
-          set-more entry has_binding 8 n n (bound-read n few) words (place r) (place s) bitmap (known-place n r some known_r) (known-place n s some known_s) within
+          set-more entry has_binding MOST_ENDPOINTS n n (bound-read n few) words (place r) (place s) bitmap (known-place n r some known_r) (known-place n s some known_s) within
           ∙ (λ t. finite_set.union (bound_in n words) (bindings (known-named n r known_r t) (known-named n s known_s t) (bits_of bitmap)))
 
-      pub bound-less : bitmap < 2 ^ 64 → bound_in n (set words (8 * place r + place s) (bit_and (get_or words (8 * place r + place s) 0) (bit_not w64 bitmap))) ≡ finite_set.difference (bound_in n words) (bindings r s (bits_of bitmap))
+      pub bound-less : bitmap < 2 ^ 64 → bound_in n (set words (MOST_ENDPOINTS * place r + place s) (bit_and (get_or words (MOST_ENDPOINTS * place r + place s) 0) (bit_not w64 bitmap))) ≡ finite_set.difference (bound_in n words) (bindings r s (bits_of bitmap))
       unfolding bound_in
       bound-less fits =
-          set-less entry has_binding 8 n n (bound-read n few) words (place r) (place s) bitmap (known-place n r some known_r) (known-place n s some known_s) within fits
+          set-less entry has_binding MOST_ENDPOINTS n n (bound-read n few) words (place r) (place s) bitmap (known-place n r some known_r) (known-place n s some known_s) within fits
           ∙ (λ t. finite_set.difference (bound_in n words) (bindings (known-named n r known_r t) (known-named n s known_s t) (bits_of bitmap)))
 
--- a receiver's words are the first eight
-module _ (n : ℕ) (words after : List ℕ) (few : n ≤ 8) (cleared : (k : ℕ) → get_or after k 0 ≡ (if nat_lt k 8 then 0 else get_or words k 0)) where
-  bound-first : (i j k : ℕ) → j < n → is_set k (get_or after (8 * i + j) 0) ≡ (is_set k (get_or words (8 * i + j) 0) && not (identifier i == 0))
+-- the normal world's words are the first
+module _ (n : ℕ) (words after : List ℕ) (few : n ≤ MOST_ENDPOINTS) (cleared : (k : ℕ) → get_or after k 0 ≡ (if nat_lt k MOST_ENDPOINTS then 0 else get_or words k 0)) where
+  bound-first : (i j k : ℕ) → j < n → is_set k (get_or after (MOST_ENDPOINTS * i + j) 0) ≡ (is_set k (get_or words (MOST_ENDPOINTS * i + j) 0) && not (identifier i == 0))
   bound-first zero j k lt =
-      ap (λ x. is_set k x) (cleared (8 * 0 + j) ∙ ap (λ b. if b then 0 else get_or words (8 * 0 + j) 0) (lt-ltb (8 * 0 + j) 8 (omega arith)))
+      ap (λ x. is_set k x) (cleared (MOST_ENDPOINTS * 0 + j) ∙ ap (λ b. if b then 0 else get_or words (MOST_ENDPOINTS * 0 + j) 0) (lt-ltb (MOST_ENDPOINTS * 0 + j) MOST_ENDPOINTS (omega arith)))
       ∙ set-zero k
-      ∙ sym (neither (is_set k (get_or words (8 * 0 + j) 0)))
+      ∙ sym (neither (is_set k (get_or words (MOST_ENDPOINTS * 0 + j) 0)))
   bound-first (suc i) j k lt =
-      ap (λ x. is_set k x) (cleared (8 * suc i + j) ∙ ap (λ b. if b then 0 else get_or words (8 * suc i + j) 0) (le-ltb (8 * suc i + j) 8 (omega arith)))
-      ∙ sym (as-before (is_set k (get_or words (8 * suc i + j) 0)))
-      ∙ ap (λ b. is_set k (get_or words (8 * suc i + j) 0) && not b) (sym (ne_eqb (0x8001 + i) 0 (λ e. omega arith)))
+      ap (λ x. is_set k x) (cleared (MOST_ENDPOINTS * suc i + j) ∙ ap (λ b. if b then 0 else get_or words (MOST_ENDPOINTS * suc i + j) 0) (le-ltb (MOST_ENDPOINTS * suc i + j) MOST_ENDPOINTS (omega arith)))
+      ∙ sym (as-before (is_set k (get_or words (MOST_ENDPOINTS * suc i + j) 0)))
+      ∙ ap (λ b. is_set k (get_or words (MOST_ENDPOINTS * suc i + j) 0) && not b) (sym (ne_eqb (0x8001 + i) 0 (λ e. omega arith)))
 
   pub bound-emptied : bound_in n after ≡ finite_set.retain (bound_in n words) (λ x. not (receiver_of_entry x == 0))
   unfolding bound_in
   bound-emptied =
-      set-retained entry has_binding 8 n n (bound-read n few) words after (λ x. not (receiver_of_entry x == 0)) (λ i j k lt_i lt_j lt_k. bound-first i j k lt_j)
+      set-retained entry has_binding MOST_ENDPOINTS n n (bound-read n few) words after (λ x. not (receiver_of_entry x == 0)) (λ i j k lt_i lt_j lt_k. bound-first i j k lt_j)
 
 -- the words of pending bits
 module _ (n : ℕ) (words : List ℕ) (some : 1 ≤ n) (r class : ℕ) (known_r : is_known_among n r ≡ true) (few : class < 3) where

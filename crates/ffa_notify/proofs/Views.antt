@@ -7,6 +7,7 @@ use Rattle.std.specs.Int.{bit_not, w64}
 use Rattle.std.specs.Int.RustNames.{bit_or}
 use Rattle.std.proofs.lemmas.List.{length-set}
 use lib.Bits.{bit_and}
+use Rattle.ffa_model.specs.declared.limits.TheConstants.{MOST_ENDPOINTS}
 use Rattle.ffa_model.specs.Bits.{bits_of, is_set}
 use Rattle.ffa_model.specs.Identifiers.{place}
 use Rattle.ffa_model.specs.Notifications.{Notifications, binding, class_of, has_bitmaps_in, is_bound, is_pending, receiver_bit, with_bound, with_pending, without_bitmaps, without_bound, without_pending}
@@ -31,36 +32,36 @@ module _ (w : Words) (are : IsWords w) (v : Notifications) (is : notifications_i
 
   module _ (r s : ℕ) (known_r : is_known_among (length v.bitmaps) r ≡ true) (known_s : is_known_among (length v.bitmaps) s ≡ true)
       (ws : List ℕ) (same : ws ≡ w.bound) (i j : ℕ) (at_i : i ≡ place r) (at_j : j ≡ place s) where
-    pub bound-within : 8 * i + j < length ws
+    pub bound-within : MOST_ENDPOINTS * i + j < length ws
     bound-within =
         let lt_r = known-here r known_r in
         let lt_s = known-here s known_s in
-        let count : length ws ≡ 8 * n = ap length same ∙ are.bound in
-        let few : n ≤ 8 = are.few in
+        let count : length ws ≡ MOST_ENDPOINTS * n = ap length same ∙ are.bound in
+        let few : n ≤ MOST_ENDPOINTS = are.few in
         omega arith
 
-    pub bound-read : (k : ℕ) → k < 64 → is_set k (get_or ws (8 * i + j) 0) ≡ is_bound v r (class_of s) k s
+    pub bound-read : (k : ℕ) → k < 64 → is_set k (get_or ws (MOST_ENDPOINTS * i + j) 0) ≡ is_bound v r (class_of s) k s
     bound-read k lt =
-        (λ t. is_set k (get_or (same t) (8 * at_i t + at_j t) 0))
+        (λ t. is_set k (get_or (same t) (MOST_ENDPOINTS * at_i t + at_j t) 0))
         ∙ bound-at n w.bound are.some are.few r s (known r known_r) (known s known_s) k lt
         ∙ (λ t. finite_set.contains (is t).bound (binding r (class_of s) k s))
 
-    pub bound-kept : (y : ℕ) → length (refill (length w.bound) w.bound (set ws (8 * i + j) y)) ≡ 8 * n
-    bound-kept y = ap length (refill-set w.bound ws (8 * i + j) (8 * i + j) y same refl) ∙ length-set w.bound (8 * i + j) y ∙ are.bound
+    pub bound-kept : (y : ℕ) → length (refill (length w.bound) w.bound (set ws (MOST_ENDPOINTS * i + j) y)) ≡ MOST_ENDPOINTS * n
+    bound-kept y = ap length (refill-set w.bound ws (MOST_ENDPOINTS * i + j) (MOST_ENDPOINTS * i + j) y same refl) ∙ length-set w.bound (MOST_ENDPOINTS * i + j) y ∙ are.bound
 
-    pub bound-changed : (bitmap : ℕ) → notifications_in (record w { bound = refill (length w.bound) w.bound (set ws (8 * i + j) (bit_or (get_or ws (8 * i + j) 0) bitmap)) }) ≡ with_bound v r s (bits_of bitmap)
+    pub bound-changed : (bitmap : ℕ) → notifications_in (record w { bound = refill (length w.bound) w.bound (set ws (MOST_ENDPOINTS * i + j) (bit_or (get_or ws (MOST_ENDPOINTS * i + j) 0) bitmap)) }) ≡ with_bound v r s (bits_of bitmap)
     bound-changed bitmap =
         ap (λ words. record (notifications_in w) { bound = bound_in n words })
-        (refill-set w.bound ws (8 * i + j) (8 * place r + place s) (bit_or (get_or ws (8 * i + j) 0) bitmap) same (λ t. 8 * at_i t + at_j t)
-        ∙ (λ t. set w.bound (8 * place r + place s) (bit_or (get_or (same t) (8 * at_i t + at_j t) 0) bitmap)))
+        (refill-set w.bound ws (MOST_ENDPOINTS * i + j) (MOST_ENDPOINTS * place r + place s) (bit_or (get_or ws (MOST_ENDPOINTS * i + j) 0) bitmap) same (λ t. MOST_ENDPOINTS * at_i t + at_j t)
+        ∙ (λ t. set w.bound (MOST_ENDPOINTS * place r + place s) (bit_or (get_or (same t) (MOST_ENDPOINTS * at_i t + at_j t) 0) bitmap)))
         ∙ ap (λ b. record (notifications_in w) { bound = b }) (bound-more n w.bound are.some are.few r s (known r known_r) (known s known_s) are.bound bitmap)
         ∙ (λ t. with_bound (is t) r s (bits_of bitmap))
 
-    pub bound-cleared : (bitmap : ℕ) → bitmap < 2 ^ 64 → notifications_in (record w { bound = refill (length w.bound) w.bound (set ws (8 * i + j) (bit_and (get_or ws (8 * i + j) 0) (bit_not w64 bitmap))) }) ≡ without_bound v r s (bits_of bitmap)
+    pub bound-cleared : (bitmap : ℕ) → bitmap < 2 ^ 64 → notifications_in (record w { bound = refill (length w.bound) w.bound (set ws (MOST_ENDPOINTS * i + j) (bit_and (get_or ws (MOST_ENDPOINTS * i + j) 0) (bit_not w64 bitmap))) }) ≡ without_bound v r s (bits_of bitmap)
     bound-cleared bitmap fits =
         ap (λ words. record (notifications_in w) { bound = bound_in n words })
-        (refill-set w.bound ws (8 * i + j) (8 * place r + place s) (bit_and (get_or ws (8 * i + j) 0) (bit_not w64 bitmap)) same (λ t. 8 * at_i t + at_j t)
-        ∙ (λ t. set w.bound (8 * place r + place s) (bit_and (get_or (same t) (8 * at_i t + at_j t) 0) (bit_not w64 bitmap))))
+        (refill-set w.bound ws (MOST_ENDPOINTS * i + j) (MOST_ENDPOINTS * place r + place s) (bit_and (get_or ws (MOST_ENDPOINTS * i + j) 0) (bit_not w64 bitmap)) same (λ t. MOST_ENDPOINTS * at_i t + at_j t)
+        ∙ (λ t. set w.bound (MOST_ENDPOINTS * place r + place s) (bit_and (get_or (same t) (MOST_ENDPOINTS * at_i t + at_j t) 0) (bit_not w64 bitmap))))
         ∙ ap (λ b. record (notifications_in w) { bound = b }) (bound-less n w.bound are.some are.few r s (known r known_r) (known s known_s) are.bound bitmap fits)
         ∙ (λ t. without_bound (is t) r s (bits_of bitmap))
 
@@ -107,13 +108,13 @@ module _ (w : Words) (are : IsWords w) (v : Notifications) (is : notifications_i
 
   -- what goes with the normal world's bitmaps
   pub taken-away : (hs : List Bool) (same : hs ≡ w.has) (bs after : List ℕ) (alike : bs ≡ w.bound) → length after ≡ length bs
-      → ((k : ℕ) → get_or after k 0 ≡ (if nat_lt k 8 then 0 else get_or bs k 0))
+      → ((k : ℕ) → get_or after k 0 ≡ (if nat_lt k MOST_ENDPOINTS then 0 else get_or bs k 0))
       → notifications_in (record w { has = refill (length w.has) w.has (set hs 0 false); bound = refill (length w.bound) w.bound after }) ≡ without_bitmaps v 0
   taken-away hs same bs after alike count cleared =
       (λ t. notifications_in (record w { has = refill-set w.has hs 0 0 false same refl t; bound = refill-whole w.bound after (count ∙ ap length alike) t }))
       ∙ ap (λ m. record (notifications_in w) { bitmaps = set w.has 0 false; bound = bound_in m after; pending = pending_in m w.pending }) (length-set w.has 0 false)
       ∙ ap (λ b. record (notifications_in w) { bitmaps = set w.has 0 false; bound = b })
-      (bound-emptied n w.bound after are.few (λ k. cleared k ∙ ap (λ (list : List ℕ). if nat_lt k 8 then 0 else get_or list k 0) alike))
+      (bound-emptied n w.bound after are.few (λ k. cleared k ∙ ap (λ (list : List ℕ). if nat_lt k MOST_ENDPOINTS then 0 else get_or list k 0) alike))
       ∙ (λ t. without_bitmaps (is t) 0)
 
   pub asked-taken : (r flags : ℕ) → is_known_among (length v.bitmaps) r ≡ true → (ps after : List ℕ) → ps ≡ w.pending → length after ≡ length ps

@@ -4,6 +4,7 @@ use Rattle.std.specs.Ordering.{nat_cmp}
 use Rattle.std.specs.Cmp.Lexicographic.{slice_cmp}
 use Rattle.std.specs.List.{flat_map}
 use Rattle.std.specs.FinSet as finite_set
+use Rattle.ffa_model.specs.declared.limits.TheConstants.{MOST_ENDPOINTS}
 use Rattle.ffa_model.specs.Bits.{is_set}
 use Rattle.ffa_model.specs.Identifiers.{identifier, place}
 use Rattle.ffa_model.specs.Lists.{listed}
@@ -17,8 +18,8 @@ class_number Partitions = partition_class
 class_number NormalWorld = normal_class
 class_number Manager = manager_class
 
--- of each endpoint whether it has bitmaps; for each receiver and each of eight senders the bits that are bound; and for
--- each receiver and each of three classes the bits that are pending
+-- of each endpoint whether it has bitmaps; for each receiver and each sender that there may be the bits that are bound; and
+-- for each receiver and each of three classes the bits that are pending
 pub record Words : Type 0 where
   pub has : List Bool
   pub bound : List ℕ
@@ -35,7 +36,7 @@ bit_of i class k = receiver_bit (identifier i) class k
 -- whether words have the bit of an entry
 abbrev pub has_binding : List ℕ → List ℕ → Bool
 has_binding words x =
-    is_set (slice_index x 2) (slice_index words (8 * place (receiver_of_entry x) + place (sender_of_entry x)))
+    is_set (slice_index x 2) (slice_index words (MOST_ENDPOINTS * place (receiver_of_entry x) + place (sender_of_entry x)))
 
 abbrev pub has_pending_bit : List ℕ → List ℕ → Bool
 has_pending_bit words x = is_set (slice_index x 2) (slice_index words (3 * place (receiver_of_entry x) + class_of_entry x))
@@ -57,8 +58,8 @@ notifications_in w =
 
 pub record IsWords (w : Words) : Type 0 where
   pub some : 1 ≤ length w.has
-  pub few : length w.has ≤ 8
-  pub bound : length w.bound ≡ 8 * length w.has
+  pub few : length w.has ≤ MOST_ENDPOINTS
+  pub bound : length w.bound ≡ MOST_ENDPOINTS * length w.has
   pub pending : length w.pending ≡ 3 * length w.has
 
 -- whether the word at k is that of one of the first classes of a receiver, whose words begin at a place, and flags ask for it

@@ -8,9 +8,9 @@ ghost use Rattle.ffa_model.specs.State.{is_known_among};
 ghost use Rattle.ffa_notify.specs.Stored.{class_number};
 
 use crate::class::Class;
-use crate::words::{CLASSES, MOST_ENDPOINTS, clear_asked, clear_front};
+use crate::words::{CLASSES, MOST_BOUND, MOST_PENDING, clear_asked, clear_front};
 use arrayvec::ArrayVec;
-use ffa_model::EndpointId;
+use ffa_model::{EndpointId, MOST_ENDPOINTS};
 use std::marker::Model;
 
 /// Of each endpoint whether it has bitmaps, which of its bits each other endpoint may set, and which are pending. They
@@ -20,9 +20,9 @@ pub struct Bitmaps {
     // Whether an endpoint has bitmaps.
     pub(crate) has: ArrayVec<bool, MOST_ENDPOINTS>,
     // The bits of a receiver that are bound to a sender: of each receiver a word for each endpoint that there may be.
-    pub(crate) bound: ArrayVec<u64, 64>,
+    pub(crate) bound: ArrayVec<u64, MOST_BOUND>,
     // The bits of a receiver that are pending: of each receiver a word for each class.
-    pub(crate) pending: ArrayVec<u64, 24>,
+    pub(crate) pending: ArrayVec<u64, MOST_PENDING>,
 }
 
 impl Model for Bitmaps {
@@ -53,7 +53,7 @@ impl Bitmaps {
     // The number of endpoints.
     pub(crate) fn endpoints(&self) -> usize
         ensures number { result ≡ length self.now.bitmaps }
-        ensures few { result ≤ 8 }
+        ensures few { result ≤ MOST_ENDPOINTS }
     {
         self.has.len()
     }

@@ -5,10 +5,10 @@ ghost use Rattle.std.specs.List.{enumerate_from};
 ghost use Rattle.ffa_model.specs.First.{has_first_bitmaps};
 
 use crate::bitmaps::Bitmaps;
-use crate::words::{CLASSES, MOST_ENDPOINTS};
+use crate::words::CLASSES;
 use arrayvec::ArrayVec;
 use bitflags::Flags;
-use ffa_model::{Endpoint, Manifest, Properties};
+use ffa_model::{Endpoint, MOST_ENDPOINTS, Manifest, Properties};
 
 impl Bitmaps {
     /// The bitmaps at boot: each partition that receives notifications has them, and nothing is bound or pending.

@@ -4,17 +4,22 @@ ghost use Rattle.std.specs.List.{list_all};
 ghost use Rattle.ffa_model.specs.Bits.{bits};
 ghost use Rattle.ffa_notify.specs.Stored.{is_asked};
 
+use ffa_model::MOST_ENDPOINTS;
+
 /// How many classes of bits there are.
 pub(crate) const CLASSES: usize = 3;
 
-/// How many endpoints a manifest has at most.
-pub(crate) const MOST_ENDPOINTS: usize = 8;
+/// How many words of bound bits there are at most: one for each receiver and each sender.
+pub(crate) const MOST_BOUND: usize = MOST_ENDPOINTS * MOST_ENDPOINTS;
+
+/// How many words of pending bits there are at most: one for each receiver and each class.
+pub(crate) const MOST_PENDING: usize = CLASSES * MOST_ENDPOINTS;
 
 // Clears the first words, a receiver's.
 pub(crate) fn clear_front(words: &mut [u64])
-    requires { 8 ≤ length words.old }
+    requires { MOST_ENDPOINTS ≤ length words.old }
     ensures count { length words.new ≡ length words.old }
-    ensures cleared { (k : ℕ) → slice_index words.new k ≡ (if nat_lt k 8 then 0 else slice_index words.old k) }
+    ensures cleared { (k : ℕ) → slice_index words.new k ≡ (if nat_lt k MOST_ENDPOINTS then 0 else slice_index words.old k) }
 {
     for sender in 0..MOST_ENDPOINTS {
         words[sender] = 0;

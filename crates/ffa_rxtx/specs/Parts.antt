@@ -1,9 +1,11 @@
--- What the checks of a mapping read, and what a full RX holds, over the parts of the machine.
-use Rattle.std.specs.Prelude.{ℕ, ◌==◌, Bool, not, ◌&&◌, List, length, is_some, Option, None, Some}
-use Rattle.std.specs.Option.{option_map}
+-- What the checks of a mapping read, and the bytes of TX and RX, over the parts of the machine.
+use Rattle.std.specs.Prelude.{ℕ, zero, suc, ◌+◌, ◌≤◌, Bool, ◌&&◌, List, [], length, take, drop, is_some, Option, None, Some}
+use Rattle.std.specs.List.{flat_map}
+use Rattle.std.specs.Option.{option_map, option_map_or}
+use Rattle.ffa_model.specs.Lists.{run}
 use Rattle.ffa_model.specs.Ram.{Ram, page_of, with_page, with_bytes}
 use Rattle.ffa_model.specs.State.{Buffers}
-use Rattle.ffa_model.specs.Buffers.{Candidate, Candidates, is_page_address}
+use Rattle.ffa_model.specs.Buffers.{Candidate, Candidates, are_runs_apart, is_run_address, page_number}
 use Rattle.ffa_pages.specs.Entry.{Entry, entry_at}
 
 abbrev pub candidate_in : List (Option Entry) → ℕ → Option Candidate
@@ -13,11 +15,31 @@ candidate_in table p =
 abbrev pub candidates_in : List (Option Entry) → ℕ → Candidates
 candidates_in table base = record { base = base; count = length table; page = candidate_in table }
 
--- two addresses are those of two pages of RAM
-abbrev pub are_two_pages : Candidates → ℕ → ℕ → Bool
-are_two_pages ram tx rx = is_page_address ram tx && (is_page_address ram rx && not (tx == rx))
+-- two addresses are those of two runs of n pages of RAM that have no page in common
+abbrev pub are_two_runs : Candidates → ℕ → ℕ → ℕ → Bool
+are_two_runs ram n tx rx =
+    is_run_address ram n tx && (is_run_address ram n rx && are_runs_apart n (page_number ram.base tx) (page_number ram.base rx))
 
--- the RAM in which these bytes stand in RX from its start, and its other bytes stay
+-- the bytes of n pages in a row, and those of TX
+abbrev pub run_in : Ram → ℕ → ℕ → List ℕ
+run_in ram first n = flat_map (page_of ram) (run first n)
+
+abbrev pub tx_in : Ram → Option Buffers → List ℕ
+tx_in ram own = option_map_or (λ (b : Buffers). run_in ram b.tx b.pages) own []
+
+-- the RAM in which these bytes stand in n pages in a row, 4096 in each, and other bytes stay
+abbrev pub with_run : ℕ → Ram → ℕ → List ℕ → Ram
+with_run zero ram first bytes = ram
+with_run (suc n) ram first bytes =
+    with_run n (with_page ram first (with_bytes (page_of ram first) 0 (take 4096 bytes))) (first + 1) (drop 4096 bytes)
+
+-- so they stand in RX from its start
 abbrev pub with_rx_bytes : Ram → Option Buffers → List ℕ → Ram
 with_rx_bytes ram None bytes = ram
-with_rx_bytes ram (Some b) bytes = with_page ram b.rx (with_bytes (page_of ram b.rx) 0 bytes)
+with_rx_bytes ram (Some b) bytes = with_run b.pages ram b.rx bytes
+
+-- buffers of one page at least, of which TX and RX are among this many pages
+pub record IsInRam (pages : ℕ) (b : Buffers) : Type 0 where
+  pub some : 1 ≤ b.pages
+  pub tx : b.tx + b.pages ≤ pages
+  pub rx : b.rx + b.pages ≤ pages

@@ -1,28 +1,33 @@
 //! Who has mapped buffers, and which.
-ghost use Rattle.std.specs.Prelude.{◌≡◌, ◌==◌, ◌||◌, ◌<◌, ◌≤◌, length, replicate, is_some, if◌then◌else◌, true, false, OnOk, OnErr, IfOk, IsSomeAnd};
+ghost use Rattle.std.specs.Prelude.{◌≡◌, ◌+◌, ◌||◌, ◌<◌, ◌≤◌, length, replicate, is_some, if◌then◌else◌, true, false, OnOk, OnErr, IfOk, IsSomeAnd};
 ghost use Rattle.std.specs.Option.{option_map, option_map_or};
 ghost use Rattle.std.specs.Result.{result_err};
-ghost use Rattle.ffa_model.specs.Buffers.{buffers_in, buffers_with, buffers_with_rx, is_full, is_page_address, is_usable, map_guards, new_buffers, page_number, release_guards, unmap_guards};
+ghost use Rattle.std.specs.List.{list_all};
+ghost use Rattle.ffa_model.specs.declared.limits.TheConstants.{MOST_BUFFER_PAGES, MOST_ENDPOINTS};
+ghost use Rattle.ffa_model.specs.Lists.{is_in_run, run};
+ghost use Rattle.ffa_model.specs.Buffers.{are_runs_apart, buffers_in, buffers_with, buffers_with_rx, is_full, is_run_address, is_usable, map_guards, new_buffers, page_number, release_guards, unmap_guards};
 ghost use Rattle.ffa_model.specs.Calls.{first_failure};
 ghost use Rattle.ffa_model.specs.Identifiers.{place};
 ghost use Rattle.ffa_model.specs.MemorySend.{is_buffer};
 ghost use Rattle.ffa_model.specs.State.{Buffers as Own, is_known_among};
-ghost use Rattle.ffa_rxtx.specs.Parts.{are_two_pages, candidate_in, candidates_in, with_rx_bytes};
+ghost use Rattle.ffa_rxtx.specs.Parts.{IsInRam, are_two_runs, candidate_in, candidates_in, with_rx_bytes};
 ghost use Rattle.ffa_rxtx.specs.Stored.{buffers_of};
 
 use arrayvec::ArrayVec;
-use ffa_model::{Data, EndpointId, ErrorCode, PageNo};
+use ffa_model::{Data, EndpointId, ErrorCode, MOST_BUFFER_PAGES, MOST_ENDPOINTS, PageNo};
 use ffa_pages::PageTable;
 use ffa_physmem::{PhysMem, put_front};
 use std::marker::Model;
 
-/// The buffers of one endpoint, a page each.
+/// The buffers of one endpoint: pages in a row each, as many for both.
 #[derive(Clone, Copy, Debug, PartialEq, Eq)]
 pub struct Mapped {
-    /// The page that the endpoint writes for the manager to read.
+    /// The first page that the endpoint writes for the manager to read.
     pub tx: PageNo,
-    /// The page in which the endpoint reads what the manager wrote.
+    /// The first page in which the endpoint reads what the manager wrote.
     pub rx: PageNo,
+    /// How many pages each has.
+    pub pages: u32,
     /// Whether RX holds bytes that the endpoint hasn't released.
     pub is_full: bool,
 }
@@ -30,7 +35,7 @@ pub struct Mapped {
 /// Of each endpoint its buffers, if it has mapped any (DEN0077A, 7.2). They take no memory beyond themselves.
 #[derive(Drop)]
 pub struct Buffers {
-    entries: ArrayVec<Option<Mapped>, 8>,
+    entries: ArrayVec<Option<Mapped>, MOST_ENDPOINTS>,
 }
 
 impl Model for Buffers {
@@ -47,7 +52,7 @@ impl Model for Buffers {
 impl Buffers {
     /// This many endpoints, none of which has buffers.
     pub fn none(endpoints: usize) -> Buffers
-        requires { endpoints ≤ 8 }
+        requires { endpoints ≤ MOST_ENDPOINTS }
         ensures { result ≡ replicate endpoints None }
     {
         let mut entries = ArrayVec::new();
@@ -97,14 +102,14 @@ impl Buffers {
             .any(|entry| has_page(*entry, page))
     }
 
-    /// FFA_RXTX_MAP of an endpoint, in the RAM of this table from `ram_base` on: TX and RX are the pages at these
-    /// addresses, and RX is empty. `pages` is the size that the caller names for each.
+    /// FFA_RXTX_MAP of an endpoint, in the RAM of this table from `ram_base` on: TX and RX are as many pages as the caller
+    /// names, from these addresses on, and RX is empty.
     ///
     /// # Errors
     ///
-    /// In this order: `Denied` where the caller has buffers; `InvalidParameters` where the size isn't one page, an
-    /// address isn't that of a page of RAM, or both are the same; `Denied` where a page isn't the caller's, stands in an
-    /// open transaction, or has a base right without rw. An error changes nothing.
+    /// In this order: `Denied` where the caller has buffers; `InvalidParameters` where they aren't one to four pages, an
+    /// address isn't that of a page, a page isn't in RAM, or one is in both; `Denied` where a page isn't the caller's,
+    /// stands in an open transaction, or has a base right without rw. An error changes nothing.
     #[tactic(auto, using(crate::proofs::Places::known_place))]
     pub fn map(
         &mut self,
@@ -119,7 +124,7 @@ impl Buffers {
         requires known { is_known_among (length self.old) caller.0 ≡ true }
         ensures refusal { result_err result ≡ first_failure (map_guards caller.0 (buffers_in self.old caller.0) (candidates_in table.now ram_base) tx rx pages) }
         ensures kept { OnErr result (self.new ≡ self.old) }
-        ensures mapped { OnOk result (self.new ≡ buffers_with self.old caller.0 (Some (new_buffers ram_base tx rx))) }
+        ensures mapped { OnOk result (self.new ≡ buffers_with self.old caller.0 (Some (new_buffers ram_base tx rx pages))) }
     {
         let mapped = self.checked(table, ram_base, caller, tx, rx, pages)?;
         self.put(caller, Some(mapped));
@@ -162,11 +167,11 @@ impl Buffers {
         Ok(())
     }
 
-    /// Writes bytes to the start of RX of an endpoint that has buffers, and says that it is full. The other bytes of RX
-    /// stay.
+    /// Writes bytes, at most a page of them, to the start of RX of an endpoint that has buffers, and says that it is full. The
+    /// other bytes of RX stay.
     pub fn fill<M: PhysMem>(&mut self, ram: &mut M, endpoint: EndpointId, bytes: &[u8])
         requires known { is_known_among (length self.old) endpoint.0 ≡ true }
-        requires rx { IsSomeAnd (buffers_in self.old endpoint.0) (λ b. b.rx < length (M.ram ram.old).pages) }
+        requires rx { IsSomeAnd (buffers_in self.old endpoint.0) (λ b. IsInRam (length (M.ram ram.old).pages) b) }
         requires bytes { length bytes.now ≤ 4096 }
         ensures ram { M.ram ram.new ≡ with_rx_bytes (M.ram ram.old) (buffers_in self.old endpoint.0) bytes.now }
         ensures full { self.new ≡ buffers_with_rx self.old endpoint.0 true }
@@ -222,21 +227,24 @@ impl Buffers {
         pages: u32,
     ) -> Result<Mapped, ErrorCode>
         ensures refusal { result_err result ≡ first_failure (map_guards caller.0 (buffers_in self.now caller.0) (candidates_in table.now ram_base) tx rx pages) }
-        ensures buffers { IfOk result (λ mapped. buffers_of mapped ≡ new_buffers ram_base tx rx) }
+        ensures buffers { IfOk result (λ mapped. buffers_of mapped ≡ new_buffers ram_base tx rx pages) }
     {
         if self.has(caller) {
             return Err(ErrorCode::Denied);
         }
-        if pages != 1 {
+        if pages < 1 || pages > MOST_BUFFER_PAGES {
             return Err(ErrorCode::InvalidParameters);
         }
-        let (tx_page, rx_page) = two_pages(table, ram_base, tx, rx)?;
-        if !is_usable(table, caller, tx_page) || !is_usable(table, caller, rx_page) {
+        let (tx_page, rx_page) = two_runs(table, ram_base, tx, rx, pages)?;
+        if !are_usable(table, caller, tx_page, pages)
+            || !are_usable(table, caller, rx_page, pages)
+        {
             return Err(ErrorCode::Denied);
         }
         Ok(Mapped {
             tx: tx_page,
             rx: rx_page,
+            pages,
             is_full: false,
         })
     }
@@ -244,49 +252,85 @@ impl Buffers {
 
 // Whether buffers, if there are any, stand in a page.
 fn has_page(buffers: Option<Mapped>, page: PageNo) -> bool
-    ensures { result ≡ option_map_or (λ (x : Own). x.tx == page.0 || x.rx == page.0) (option_map buffers_of buffers) false }
+    ensures { result ≡ option_map_or (λ (x : Own). is_in_run x.tx x.pages page.0 || is_in_run x.rx x.pages page.0) (option_map buffers_of buffers) false }
 {
     match buffers {
-        Some(mapped) => mapped.tx == page || mapped.rx == page,
+        Some(mapped) => is_in_run(mapped.tx, mapped.pages, page)
+            || is_in_run(mapped.rx, mapped.pages, page),
         None => false,
     }
 }
 
-// The pages at two addresses, which are `InvalidParameters` where one is no page's or both are the same.
-fn two_pages(
+// Whether a page is one of this many from the first on.
+fn is_in_run(first: PageNo, pages: u32, page: PageNo) -> bool
+    ensures { result ≡ is_in_run first.0 pages page.0 }
+{
+    first <= page && page.0 - first.0 < pages
+}
+
+// The first pages of the runs at two addresses, which are `InvalidParameters` where one is none or they have a page in
+// common.
+fn two_runs(
     table: &PageTable,
     ram_base: u32,
     tx: u64,
     rx: u64,
+    pages: u32,
 ) -> Result<(PageNo, PageNo), ErrorCode>
-    ensures refusal { result_err result ≡ (if are_two_pages (candidates_in table.now ram_base) tx rx then None else Some ErrorCode.InvalidParameters) }
-    ensures tx { IfOk result (λ pages. pages.0.0 ≡ page_number ram_base tx) }
-    ensures rx { IfOk result (λ pages. pages.1.0 ≡ page_number ram_base rx) }
-    ensures within { IfOk result (λ pages. (pages.0.0 < length table.now) × (pages.1.0 < length table.now)) }
+    requires { pages ≤ MOST_BUFFER_PAGES }
+    ensures refusal { result_err result ≡ (if are_two_runs (candidates_in table.now ram_base) pages tx rx then None else Some ErrorCode.InvalidParameters) }
+    ensures tx { IfOk result (λ runs. runs.0.0 ≡ page_number ram_base tx) }
+    ensures rx { IfOk result (λ runs. runs.1.0 ≡ page_number ram_base rx) }
+    ensures within { IfOk result (λ runs. (runs.0.0 + pages ≤ length table.now) × (runs.1.0 + pages ≤ length table.now)) }
 {
-    let tx_page = page_at(table, ram_base, tx)?;
-    let rx_page = page_at(table, ram_base, rx)?;
-    if tx == rx {
+    let tx_page = run_at(table, ram_base, tx, pages)?;
+    let rx_page = run_at(table, ram_base, rx, pages)?;
+    if !are_apart(tx_page, rx_page, pages) {
         return Err(ErrorCode::InvalidParameters);
     }
     Ok((tx_page, rx_page))
 }
 
-// The page at an address, which is `InvalidParameters` where there is none.
-fn page_at(table: &PageTable, ram_base: u32, address: u64) -> Result<PageNo, ErrorCode>
-    ensures refusal { result_err result ≡ (if is_page_address (candidates_in table.now ram_base) address then None else Some ErrorCode.InvalidParameters) }
+// Whether two runs of this many pages have no page in common.
+fn are_apart(first: PageNo, other: PageNo, pages: u32) -> bool
+    ensures { result ≡ are_runs_apart pages first.0 other.0 }
+{
+    let first = u64::from(first.0);
+    let other = u64::from(other.0);
+    let pages = u64::from(pages);
+    first + pages <= other || other + pages <= first
+}
+
+// The first of this many pages at an address, which is `InvalidParameters` where they aren't there.
+fn run_at(table: &PageTable, ram_base: u32, address: u64, pages: u32) -> Result<PageNo, ErrorCode>
+    requires { pages ≤ MOST_BUFFER_PAGES }
+    ensures refusal { result_err result ≡ (if is_run_address (candidates_in table.now ram_base) pages address then None else Some ErrorCode.InvalidParameters) }
     ensures page { IfOk result (λ page. page.0 ≡ page_number ram_base address) }
-    ensures within { IfOk result (λ page. page.0 < length table.now) }
+    ensures within { IfOk result (λ page. page.0 + pages ≤ length table.now) }
 {
     let base = u64::from(ram_base);
     if address % 4096 != 0 || address < base {
         return Err(ErrorCode::InvalidParameters);
     }
     let page = (address - base) / 4096;
-    if page >= u64::from(table.pages()) {
+    if page + u64::from(pages) > u64::from(table.pages()) {
         return Err(ErrorCode::InvalidParameters);
     }
     Ok(PageNo(page as u32))
+}
+
+// Whether an endpoint owns each of this many pages alone and may write it.
+fn are_usable(table: &PageTable, endpoint: EndpointId, first: PageNo, pages: u32) -> bool
+    requires { first.0 + pages ≤ length table.now }
+    ensures { result ≡ list_all (λ p. is_usable endpoint.0 (candidate_in table.now p)) (run first.0 pages) }
+{
+    let _count = table.pages();
+    for i in 0..pages {
+        if !is_usable(table, endpoint, PageNo(first.0 + i)) {
+            return false;
+        }
+    }
+    true
 }
 
 // Whether an endpoint owns a page alone and may write it.

@@ -4,6 +4,7 @@ use Rattle.std.specs.Prelude.{◌==◌, ◌||◌}
 use Rattle.std.specs.List.{list_any}
 use Rattle.std.proofs.lemmas.Bool.{eqb-true}
 use Rattle.std.proofs.lemmas.List.{length-map, set-get_or}
+use Rattle.ffa_model.specs.declared.limits.TheConstants.{MOST_ENDPOINTS}
 use Rattle.ffa_model.specs.declared.endpoint.EndpointId.{EndpointId}
 use Rattle.ffa_model.specs.declared.schedule.Status.TheVariants.{Running, Waiting, Yielded, Blocked}
 use Rattle.ffa_model.specs.declared.schedule.Work.{Work}
@@ -61,7 +62,7 @@ module _ (links : List EndpointId) (works : List (Option Work)) (now : Schedule)
         outside-chain (identifiers_of links) works chain e.0 (partition-place (length works) e.0 among).1
         (subst (λ (c : Schedule). (is_waiting (status_in c e.0) || is_yielded (status_in c e.0)) ≡ true) (sym seen) idle)
 
-    pub start-room : length links < 8
+    pub start-room : length links < MOST_ENDPOINTS
     start-room =
         let h = room (identifiers_of links) works e.0 chain (partition-place (length works) e.0 among).1 outer in
         let size = length-map links (λ (link : EndpointId). link.0) in
@@ -127,6 +128,6 @@ yields old new w own normal changed =
 pub first-view : (links : List EndpointId) (works : List (Option Work)) (n : ℕ) → links ≡ record { 0 = 0 } ∷ [] → works ≡ replicate n None → schedule_of (identifiers_of links) works ≡ first_schedule n
 first-view links works n links_are works_are = ap₂ schedule_of (ap identifiers_of links_are) works_are ∙ first-alone n
 
-pub first-sound : (links : List EndpointId) (works : List (Option Work)) (n : ℕ) → links ≡ record { 0 = 0 } ∷ [] → works ≡ replicate n None → 1 ≤ n → n ≤ 8
+pub first-sound : (links : List EndpointId) (works : List (Option Work)) (n : ℕ) → links ≡ record { 0 = 0 } ∷ [] → works ≡ replicate n None → 1 ≤ n → n ≤ MOST_ENDPOINTS
     → IsSound (schedule_of (identifiers_of links) works)
 first-sound links works n links_are works_are some few = subst IsSound (sym (first-view links works n links_are works_are)) (first-schedule-sound n some few)

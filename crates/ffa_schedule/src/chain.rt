@@ -13,7 +13,7 @@ ghost use Rattle.ffa_model.specs.State.{is_partition_among};
 ghost use Rattle.ffa_model.specs.Links.{status_outside};
 
 use arrayvec::ArrayVec;
-use ffa_model::{EndpointId, ErrorCode, Reply, Status, Work};
+use ffa_model::{EndpointId, ErrorCode, MOST_ENDPOINTS, Reply, Status, Work};
 use std::marker::Model;
 
 // The identifiers of the calls that a reply names (DEN0077A, 11 to 16).
@@ -28,9 +28,9 @@ const FFA_RUN: u32 = 0x8400_006D;
 #[derive(Drop)]
 pub struct Chain {
     // From the normal world to the runner, each of which works for the one before it.
-    links: ArrayVec<EndpointId, 8>,
+    links: ArrayVec<EndpointId, MOST_ENDPOINTS>,
     // Of each endpoint the work that it has.
-    works: ArrayVec<Option<Work>, 8>,
+    works: ArrayVec<Option<Work>, MOST_ENDPOINTS>,
 }
 
 impl Model for Chain {
@@ -52,7 +52,7 @@ impl Chain {
     /// The normal world runs, and each of its partitions waits.
     pub fn first(endpoints: usize) -> Chain
         requires some { 1 ≤ endpoints }
-        requires few { endpoints ≤ 8 }
+        requires few { endpoints ≤ MOST_ENDPOINTS }
         ensures value { result ≡ first_schedule endpoints }
         ensures sound { IsSound result }
     {

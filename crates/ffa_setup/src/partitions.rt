@@ -7,7 +7,7 @@ ghost use Rattle.ffa_model.specs.Setup.{info_bytes, info_of, told_info_size, is_
 use arrayvec::ArrayVec;
 use bitflags::Flags;
 use byteorder::{ByteOrder, LittleEndian};
-use ffa_model::{Endpoint, EndpointId, Manifest, Version};
+use ffa_model::{Endpoint, EndpointId, MOST_ENDPOINTS, Manifest, Version};
 
 /// The bit of a partition's properties that says that it runs in AArch64.
 const AARCH64: u32 = 0x100;
@@ -17,6 +17,9 @@ const OF_MESSAGES: u32 = 7;
 
 /// How many execution contexts each partition has.
 const CONTEXTS: u16 = 1;
+
+/// The most bytes of partition information: 24 for each endpoint but the normal world.
+pub const MOST_INFO_BYTES: usize = 24 * (MOST_ENDPOINTS - 1);
 
 // The UUID whose bytes four registers hold, the lowest first.
 fn uuid_of(words: [u32; 4]) -> [u8; 16]
@@ -72,7 +75,7 @@ pub fn is_recognized(manifest: &Manifest, uuid: [u32; 4]) -> bool
 
 // The information on the partition at a place in the manifest for a compact caller.
 fn compact_info(uuid: &[u8; 16], place: usize, endpoint: &Endpoint) -> [u8; 8]
-    requires place { place < 8 }
+    requires place { place < MOST_ENDPOINTS }
     requires properties { endpoint.now.properties.0 < 16 }
     ensures { result ≡ info_of Version.Compact uuid.now (place, party_of endpoint.now) }
 {
@@ -85,7 +88,7 @@ fn compact_info(uuid: &[u8; 16], place: usize, endpoint: &Endpoint) -> [u8; 8]
 
 // The information on the partition at a place in the manifest, which has its UUID where the Nil UUID was asked.
 fn full_info(uuid: &[u8; 16], place: usize, endpoint: &Endpoint) -> [u8; 24]
-    requires place { place < 8 }
+    requires place { place < MOST_ENDPOINTS }
     requires properties { endpoint.now.properties.0 < 16 }
     ensures { result ≡ info_of Version.V1_1 uuid.now (place, party_of endpoint.now) }
 {
@@ -101,14 +104,14 @@ fn full_info(uuid: &[u8; 16], place: usize, endpoint: &Endpoint) -> [u8; 24]
 
 // Puts the information on the partition at a place in the manifest behind that on others, for a caller of this version.
 fn push_info(
-    bytes: &mut ArrayVec<u8, 168>,
+    bytes: &mut ArrayVec<u8, MOST_INFO_BYTES>,
     version: Version,
     uuid: &[u8; 16],
     place: usize,
     endpoint: &Endpoint,
 )
-    requires room { length bytes.old.items + 24 ≤ 168 }
-    requires place { place < 8 }
+    requires room { length bytes.old.items + 24 ≤ MOST_INFO_BYTES }
+    requires place { place < MOST_ENDPOINTS }
     requires properties { endpoint.now.properties.0 < 16 }
     ensures bytes { bytes.new.items ≡ bytes.old.items ++ info_of version uuid.now (place, party_of endpoint.now) }
     ensures size { length bytes.new.items ≤ length bytes.old.items + 24 }
@@ -137,7 +140,11 @@ pub fn told_info_size(version: Version) -> u32
 
 /// The descriptors of the partitions that the UUID in four registers selects, in the order of the manifest: 24 bytes
 /// each, and 8 for a compact caller.
-pub fn info_bytes(manifest: &Manifest, version: Version, uuid: [u32; 4]) -> ArrayVec<u8, 168>
+pub fn info_bytes(
+    manifest: &Manifest,
+    version: Version,
+    uuid: [u32; 4],
+) -> ArrayVec<u8, MOST_INFO_BYTES>
     ensures { result.items ≡ info_bytes version (map party_of manifest.now.endpoints.items) (uuid_bytes uuid) }
 {
     let uuid = uuid_of(uuid);

@@ -190,7 +190,7 @@ module _ (x y : Parts) (machine : IsManager x) (next : IsManager y) (blocks : y.
     pub access-changed : IsAccessChange s t (Some changed)
     access-changed =
         record {
-          placed = subst (λ n. ArePlaced s.ram_base n changed.ranges.items) (sym count) (subst (ArePlaced s.ram_base (512 * x.manifest.ram_blocks)) (sym told.ranges) placed);
+          placed = subst (λ n. ArePlaced s.ram_base n changed.ranges) (sym count) (subst (ArePlaced s.ram_base (512 * x.manifest.ram_blocks)) (sym told.ranges) placed);
           exclusive = λ e p its. elim (cases_lt p (length s.pages)) [
             | inl lt ↦ exclusive e p lt (same-of e p ∙ its)
             | inr past ↦ inl (outside s e p past)

@@ -9,6 +9,7 @@ use Rattle.std.proofs.lemmas.Bool.{and_parts, cases_lt, eqb-true, false≢true}
 use Rattle.std.proofs.lemmas.List.{get_or-replicate, length-map, length-replicate}
 use Rattle.std.proofs.lemmas.Option.{none-some, same_Some}
 use Rattle.arrayvec.specs.ArrayVec.{array_vec_len}
+use Rattle.ffa_model.specs.declared.limits.TheConstants.{MOST_OPEN}
 use Rattle.ffa_model.specs.declared.endpoint.Endpoint.{Endpoint}
 use Rattle.ffa_model.specs.declared.endpoint.Region.{Region}
 use Rattle.ffa_model.specs.declared.rights.Rights.{Rights}
@@ -125,7 +126,7 @@ module _ (zeros : Ram) (x : Parts)
     (base : x.kept.layout.base ≡ x.manifest.ram_base) (blocks : x.kept.layout.blocks ≡ x.manifest.ram_blocks) (regions : regions_in x.kept.layout ≡ regions_of_each x.manifest.endpoints.items)
     (built : IsBuilt x.ram (array_vec_len x.kept.layout.regions) x.kept.layout.blocks (layout_right x.kept.layout))
     (rest : KeepsRest zeros x.ram (array_vec_len x.kept.layout.regions) x.kept.layout.blocks)
-    (owners : x.kept.pages ≡ first_owners x.manifest) (slots : x.kept.pool.slots ≡ replicate (8 * length x.manifest.endpoints.items) None)
+    (owners : x.kept.pages ≡ first_owners x.manifest) (slots : x.kept.pool.slots ≡ replicate (MOST_OPEN * length x.manifest.endpoints.items) None)
     (sent : x.kept.pool.sent ≡ replicate (length x.manifest.endpoints.items) 0) (none : x.kept.buffers ≡ replicate (length x.manifest.endpoints.items) None) (schedule : x.kept.chain ≡ first_schedule (length x.manifest.endpoints.items))
     (bitmaps : x.kept.bitmaps.bitmaps ≡ map has_first_bitmaps (enumerate_from 0 x.manifest.endpoints.items)) (bound : x.kept.bitmaps.bound ≡ finite_set.empty) (pending : x.kept.bitmaps.pending ≡ finite_set.empty)
     (uuids : have_uuids x.manifest.endpoints.items ≡ true) (laws : TableLaws) where
@@ -152,7 +153,7 @@ module _ (zeros : Ram) (x : Parts)
       ∙ ap (λ (rs : List Region). right_among x.manifest.ram_base rs p) (ap (λ (rss : List (List Region)). get_or rss e []) regions ∙ regions-each es e)
 
   access-is : (i p : ℕ) → p < 512 * x.manifest.ram_blocks → own_right x.manifest i p ≡ access_by_place (state_of x) i p
-  access-is i p lt = sym (access-first x size-is owners (ap map_in slots ∙ none-open (8 * length es)) i p (omega (arith, lt, size-is)))
+  access-is i p lt = sym (access-first x size-is owners (ap map_in slots ∙ none-open (MOST_OPEN * length es)) i p (omega (arith, lt, size-is)))
 
   built-is : IsBuilt x.ram (length es) x.manifest.ram_blocks (access_by_place (state_of x))
   built-is =
@@ -193,7 +194,7 @@ module _ (zeros : Ram) (x : Parts)
   unfolding first
   state-first = λ i. record (first x.manifest.ram_base x.manifest.ram_blocks es) {
     pages = pages-first i;
-    transactions = (ap map_in slots ∙ none-open (8 * length es)) i;
+    transactions = (ap map_in slots ∙ none-open (MOST_OPEN * length es)) i;
     sent = sent i;
     buffers = none i;
     runner = (schedule i).runner;
@@ -222,7 +223,7 @@ module _ (zeros : Ram) (x : Parts)
         owners = subst (AreOwners x.manifest) (sym owners) (owners-first x.manifest);
         offers =
             subst (λ (list : List (Option Entry)). AreOffers x.manifest list x.kept.pool.slots) (sym owners)
-            (subst (AreOffers x.manifest (first_owners x.manifest)) (sym slots) (offers-first x.manifest (8 * length es)));
+            (subst (AreOffers x.manifest (first_owners x.manifest)) (sym slots) (offers-first x.manifest (MOST_OPEN * length es)));
         sound = subst IsSoundState (sym state-first) (first-state-sound x.manifest.ram_base x.manifest.ram_blocks es x.manifest.accepted (uuid-at es uuids));
       }
 

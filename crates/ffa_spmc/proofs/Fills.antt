@@ -1,21 +1,37 @@
 -- Bytes in an endpoint's RX: they stand in a page of its own, and the state has them as RAM does.
-use Rattle.std.proofs.Common.{◌≡◌, ◌∙◌, ℕ, ◌<◌, true, List, length, Option, Some, None, refl, sym, subst}
-use Rattle.std.specs.Prelude.{IsSomeAnd, is_some}
-use Rattle.std.specs.Option.{option_map}
-use Rattle.std.proofs.lemmas.Bool.{false≢true}
+use Rattle.std.proofs.Common.{◌≡◌, ◌∙◌, ℕ, ◌<◌, true, List, length, Option, Some, None, refl, sym, subst, zero, suc, ◌+◌, ◌-◌, ◌≤◌, [], take, drop, ap, arith, length-set, get_or-set_other}
+use Rattle.std.specs.Prelude.{IsSomeAnd, is_some, nat_le, ◌==◌}
+use Rattle.std.specs.Option.{option_map, option_map_or}
+use Rattle.std.proofs.lemmas.Bool.{and_parts, eqb-true, false≢true, leb-true}
 use Rattle.arrayvec.specs.ArrayVec.{array_vec_len}
-use Rattle.ffa_model.specs.Access.{handle_at}
+use Rattle.ffa_stage2.specs.Tables.{table_page}
+use Rattle.ffa_model.proofs.Runs.{run-wider, to-run}
+use Rattle.ffa_model.proofs.CallAccesses.{access-written_run}
+use Rattle.ffa_model.specs.declared.rights.Rights.{Rights}
+use Rattle.ffa_model.specs.Ram.{Ram, page_of, with_bytes, with_page}
+use Rattle.ffa_model.specs.Memory.{written_run}
+use Rattle.ffa_model.specs.Identifiers.{identifier, manager}
+use Rattle.ffa_model.specs.Lists.{is_in_run}
+use Rattle.ffa_model.specs.Access.{handle_at, access}
 use Rattle.ffa_model.specs.Buffers.{Candidate, buffers_in, buffers_with_rx, candidate_at, filled, filled_pages, is_usable}
 use Rattle.ffa_model.specs.First.{first}
-use Rattle.ffa_model.specs.State.{State, Page, Buffers, is_known, is_known_among, page_at}
-use Rattle.ffa_rxtx.specs.Parts.{with_rx_bytes}
+use Rattle.ffa_model.specs.State.{State, Page, Buffers, is_known, is_known_among, page_at, owner_of}
+use Rattle.ffa_rxtx.specs.Parts.{with_rx_bytes, IsInRam, with_run}
 use Rattle.ffa_memshare.specs.Callers.{IsCaller}
 use Rattle.ffa_laws.proofs.SoundSteady.{runner-known}
-use Rattle.ffa_spmc.specs.Meaning.{IsManager, Parts, state_of}
-use Rattle.ffa_spmc.proofs.Held.{each, parties_are, size_is}
+use Rattle.ffa_spmc.specs.Meaning.{IsManager, Parts, state_of, HasTables, access_by_place}
+use Rattle.ffa_spmc.proofs.Held.{each, parties_are, size_is, owned-behind}
 use Rattle.ffa_spmc.proofs.Machines.{StillHasTables, tables-written}
 use Rattle.ffa_spmc.proofs.Reaches.{owned-in}
 use Rattle.ffa_spmc.proofs.Stores.{state-written}
+
+-- the pages of f's buffers are owned by f
+pub record AreThere (s : State) (f : ℕ) (b : Buffers) : Type 0 where
+  pub some : 1 ≤ b.pages
+  pub tx : (p : ℕ) → is_in_run b.tx b.pages p ≡ true → (page : Page) × (page_at s p ≡ Some page)
+  pub rx : (p : ℕ) → is_in_run b.rx b.pages p ≡ true → (page : Page) × (page_at s p ≡ Some page)
+  pub tx_owner : (p : ℕ) → is_in_run b.tx b.pages p ≡ true → owner_of s p ≡ f
+  pub rx_owner : (p : ℕ) → is_in_run b.rx b.pages p ≡ true → owner_of s p ≡ f
 
 module _ (x : Parts) (machine : IsManager x) where
   abbrev s : State
@@ -38,11 +54,41 @@ module _ (x : Parts) (machine : IsManager x) where
   pub there-inside : (p : ℕ) → IsThere p → p < length x.ram.pages
   there-inside p there = subst (λ (n : ℕ). p < n) (size_is x) (owned-in s p there.0 there.1)
 
+  -- and the endpoint's own
+  usable-owner : (e p : ℕ) → is_usable e (candidate_at s p) ≡ true → owner_of s p ≡ e
+  usable-owner e p usable = of (page_at s p) refl usable
+    where
+      of : (o : Option Page) → page_at s p ≡ o
+          → is_usable e (option_map (λ (page : Page). let q : Candidate = record { owner = page.owner; base = page.base; named = is_some (handle_at s p) } in q) o) ≡ true
+          → owner_of s p ≡ e
+      of None at passes = absurd (false≢true passes)
+      of (Some page) at passes =
+          ap (λ (o : Option Page). option_map_or (λ (q : Page). q.owner) o manager) at
+          ∙ eqb-true page.owner e (and_parts (page.owner == e) _ (and_parts _ _ passes).0).0
+
   -- the pages of an endpoint's buffers
-  pub buffers-there : (f : ℕ) → is_known s f ≡ true → (b : Buffers) → buffers_in x.kept.buffers f ≡ Some b → IsThere b.tx × IsThere b.rx
+  pub buffers-there : (f : ℕ) → is_known s f ≡ true → (b : Buffers) → buffers_in x.kept.buffers f ≡ Some b → AreThere s f b
   buffers-there f known b is =
       let sound = machine.sound.buffers f b known is in
-      (usable-there f b.tx sound.tx, usable-there f b.rx sound.rx)
+      record {
+        some = leb-true 1 b.pages (and_parts (nat_le 1 b.pages) _ sound.count).0;
+        tx = λ p its. usable-there f p (sound.tx p its);
+        rx = λ p its. usable-there f p (sound.rx p its);
+        tx_owner = λ p its. usable-owner f p (sound.tx p its);
+        rx_owner = λ p its. usable-owner f p (sound.rx p its);
+      }
+
+  -- pages in a row that are there are pages of RAM
+  run-inside : (first n : ℕ) → 1 ≤ n → ((p : ℕ) → is_in_run first n p ≡ true → IsThere p) → first + n ≤ length x.ram.pages
+  run-inside first n some there =
+      let last : first + (n - 1) < length x.ram.pages =
+      there-inside (first + (n - 1)) (there (first + (n - 1)) (to-run first n (first + (n - 1)) (omega arith) (omega (arith, some)))) in
+      omega (arith, last, some)
+
+  pub in-ram : (f : ℕ) → is_known s f ≡ true → (b : Buffers) → buffers_in x.kept.buffers f ≡ Some b → IsInRam (length x.ram.pages) b
+  in-ram f known b is =
+      let there = buffers-there f known b is in
+      record { some = there.some; tx = run-inside b.tx b.pages there.some there.tx; rx = run-inside b.rx b.pages there.some there.rx }
 
   -- the runner, as the code has it, is an endpoint
   pub runner-there : (e : ℕ) → e ≡ x.kept.chain.runner → is_known s e ≡ true
@@ -61,17 +107,65 @@ module _ (x : Parts) (machine : IsManager x) where
         few = machine.sound.sized.few;
         known = runner-there e at;
         size = machine.sound.sized.buffers;
-        inside = λ b is. let there = buffers-there e (runner-there e at) b is in (there-inside b.tx there.0, there-inside b.rx there.1);
+        inside = λ b is. in-ram e (runner-there e at) b is;
       })
 
+  -- bytes in pages in a row of RAM, behind the tables, leave the tables as they are
+  abbrev rights : ℕ → ℕ → Option Rights
+  rights = access_by_place s
+
+  run-tables : (n : ℕ) (ram : Ram) (first : ℕ) (bytes : List ℕ) → HasTables ram x.manifest rights
+      → ((p : ℕ) → is_in_run first n p ≡ true → table_page x.manifest.ram_blocks (length x.manifest.endpoints.items) 0 ≤ p)
+      → HasTables (with_run n ram first bytes) x.manifest rights
+  run-tables zero ram first bytes tables behind = tables
+  run-tables (suc n) ram first bytes tables behind =
+      run-tables n next (first + 1) (drop 4096 bytes)
+      (record {
+        base = tables.base;
+        size = size ∙ tables.size;
+        built =
+            machine.laws.stay ram next (length x.manifest.endpoints.items) x.manifest.ram_blocks rights tables.built
+            (record {
+              base = refl;
+              size = size;
+              pages = λ q low. get_or-set_other ram.pages first q content [] (λ same. absurd (omega (arith, low, above, same)));
+            });
+      })
+      (λ p its. behind p (run-wider first n p its))
+    where
+      content : List ℕ
+      content = with_bytes (page_of ram first) 0 (take 4096 bytes)
+
+      next : Ram
+      next = with_page ram first content
+
+      size : length next.pages ≡ length ram.pages
+      size = length-set ram.pages first content
+
+      above : table_page x.manifest.ram_blocks (length x.manifest.endpoints.items) 0 ≤ first
+      above = behind first (to-run first (suc n) first (omega arith) (omega arith))
+
+  -- and are written in the state alike
+  run-state : (n : ℕ) (ram : Ram) (first : ℕ) (bytes : List ℕ) → ((p : ℕ) → is_in_run first n p ≡ true → p < length ram.pages)
+      → (state_of (record x { ram = with_run n ram first bytes })).pages ≡ written_run n (state_of (record x { ram = ram })).pages first bytes
+  run-state zero ram first bytes inside = refl
+  run-state (suc n) ram first bytes inside =
+      run-state n (with_page ram first (with_bytes (page_of ram first) 0 (take 4096 bytes))) (first + 1) (drop 4096 bytes)
+      (λ p its. subst (λ k. p < k) (sym (length-set ram.pages first (with_bytes (page_of ram first) 0 (take 4096 bytes)))) (inside p (run-wider first n p its)))
+      ∙ ap (λ (pages : List (Option Page)). written_run n pages (first + 1) (drop 4096 bytes))
+      (ap (λ (y : State). y.pages) (state-written (record x { ram = ram }) first 0 (take 4096 bytes) (inside first (to-run first (suc n) first (omega arith) (omega arith)))))
+
   module _ (f : ℕ) (known : is_known s f ≡ true) where
-    pub rx-in-ram : (b : Buffers) → buffers_in x.kept.buffers f ≡ Some b → IsSomeAnd (buffers_in x.kept.buffers f) (λ b. b.rx < length x.ram.pages)
-    rx-in-ram b is =
-        subst (λ (o : Option Buffers). IsSomeAnd o (λ b. b.rx < length x.ram.pages)) (sym is) (there-inside b.rx (buffers-there f known b is).1)
+    pub rx-in-ram : (b : Buffers) → buffers_in x.kept.buffers f ≡ Some b → IsSomeAnd (buffers_in x.kept.buffers f) (λ b. IsInRam (length x.ram.pages) b)
+    rx-in-ram b is = subst (λ (o : Option Buffers). IsSomeAnd o (λ b. IsInRam (length x.ram.pages) b)) (sym is) (in-ram f known b is)
 
     module _ (bytes : List ℕ) where
       abbrev pub after_fill : Parts
       after_fill = record x { ram = with_rx_bytes x.ram (buffers_in x.kept.buffers f) bytes; kept = record x.kept { buffers = buffers_with_rx x.kept.buffers f true } }
+
+      filled-run : (b : Buffers) → buffers_in x.kept.buffers f ≡ Some b
+          → (state_of (record x { ram = with_run b.pages x.ram b.rx bytes })).pages ≡ written_run b.pages s.pages b.rx bytes
+      filled-run b is = run-state b.pages x.ram b.rx bytes (λ p its. there-inside p ((buffers-there f known b is).rx p its))
 
       pub tables-filled : StillHasTables x after_fill.ram
       tables-filled = of (buffers_in x.kept.buffers f) refl
@@ -79,8 +173,11 @@ module _ (x : Parts) (machine : IsManager x) where
           of : (o : Option Buffers) → buffers_in x.kept.buffers f ≡ o → StillHasTables x (with_rx_bytes x.ram o bytes)
           of None is = machine.tables
           of (Some b) is =
-              let (page, there) = (buffers-there f known b is).1 in
-              tables-written x machine b.rx 0 bytes page (there-inside b.rx (page, there)) there
+              let same : (i q : ℕ) → rights i q ≡ access_by_place (state_of (record x { ram = with_run b.pages x.ram b.rx bytes })) i q = λ i q.
+              sym (ap (λ (pages : List (Option Page)). access (record s { pages = pages }) (identifier i) q) (filled-run b is)
+              ∙ access-written_run s b.pages s.pages b.rx bytes (identifier i) q) in
+              subst (HasTables (with_run b.pages x.ram b.rx bytes) x.manifest) (λ k i q. same i q k)
+              (run-tables b.pages x.ram b.rx bytes machine.tables (λ p its. let (page, there) = (buffers-there f known b is).rx p its in owned-behind x machine p page there))
 
       pub state-filled : state_of after_fill ≡ filled s f bytes
       unfolding first
@@ -89,5 +186,5 @@ module _ (x : Parts) (machine : IsManager x) where
           of : (o : Option Buffers) → buffers_in x.kept.buffers f ≡ o → state_of (record after_fill { ram = with_rx_bytes x.ram o bytes }) ≡ filled s f bytes
           of None is = λ i. record s { pages = filled_pages s.pages bytes (sym is i); buffers = buffers_with_rx x.kept.buffers f true }
           of (Some b) is =
-              (λ i. record (state-written x b.rx 0 bytes (there-inside b.rx (buffers-there f known b is).1) i) { buffers = buffers_with_rx x.kept.buffers f true })
+              (λ i. record s { pages = filled-run b is i; buffers = buffers_with_rx x.kept.buffers f true })
               ∙ (λ i. record s { pages = filled_pages s.pages bytes (sym is i); buffers = buffers_with_rx x.kept.buffers f true })

@@ -27,14 +27,14 @@ placed-wider base n few ranges placed k r lt is =
 
 module _ (s t : State) (changed : Option Changed) (change : IsAccessChange s t changed) where
   -- so are those of a change
-  pub change-placed : (base : ℕ) → base ≡ s.ram_base → IsSoundState s → IfSome changed (λ c. ArePlaced base most_pages c.ranges.items)
+  pub change-placed : (base : ℕ) → base ≡ s.ram_base → IsSoundState s → IfSome changed (λ c. ArePlaced base most_pages c.ranges)
   change-placed base at sound = of changed change.placed
     where
-      of : (o : Option Changed) → IfSome o (λ c. ArePlaced s.ram_base (length s.pages) c.ranges.items) → IfSome o (λ c. ArePlaced base most_pages c.ranges.items)
+      of : (o : Option Changed) → IfSome o (λ c. ArePlaced s.ram_base (length s.pages) c.ranges) → IfSome o (λ c. ArePlaced base most_pages c.ranges)
       of None placed = placed
       of (Some c) placed =
-          subst (λ (b : ℕ). ArePlaced b most_pages c.ranges.items) (sym at)
-          (placed-wider s.ram_base (length s.pages) (few_pages s sound) c.ranges.items placed)
+          subst (λ (b : ℕ). ArePlaced b most_pages c.ranges) (sym at)
+          (placed-wider s.ram_base (length s.pages) (few_pages s sound) c.ranges placed)
 
   module _ (old new : List Entry) (forgot : (e p : ℕ) → lookup new e p ≡ cond (is_of s changed e p) None (lookup old e p)) where
     -- either it changed, and nothing is held, or access and what is held are as before

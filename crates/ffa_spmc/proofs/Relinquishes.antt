@@ -26,7 +26,7 @@ use Rattle.ffa_memshare.specs.Grants.{with_rights}
 use Rattle.ffa_memshare.specs.Ranges.{in_ranges}
 use Rattle.ffa_memshare.specs.Relinquished.{IsRelinquished}
 use Rattle.ffa_memshare.specs.Stored.{Pooled, offers_in}
-use Rattle.ffa_memshare.specs.Scenes.{tx_in}
+use Rattle.ffa_rxtx.specs.Parts.{tx_in}
 use Rattle.ffa_spmc.specs.AccessChange.{IsAccessChange}
 use Rattle.ffa_spmc.specs.Meaning.{AreOffers, IsManager, Parts, access_by_place, state_of}
 use Rattle.ffa_spmc.specs.Replies.{done_or_error}

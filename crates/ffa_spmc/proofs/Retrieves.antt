@@ -6,6 +6,7 @@ use Rattle.std.specs.Result.{result_err, result_ok}
 use Rattle.std.proofs.lemmas.Bool.{false≢true}
 use Rattle.std.proofs.lemmas.Option.{same_Some}
 use Rattle.arrayvec.specs.ArrayVec.{array_vec_len}
+use Rattle.ffa_model.specs.MemorySend.{after_transfer}
 use Rattle.ffa_model.specs.declared.endpoint.Version.{Version}
 use Rattle.ffa_memshare.specs.declared.transfer.Transfer.{Transfer as Registers}
 use Rattle.ffa_model.specs.DescriptorPlaces.{Versioned, in_version}
@@ -42,7 +43,7 @@ use Rattle.ffa_memshare.specs.Grants.{with_rights}
 use Rattle.ffa_memshare.specs.Named.{bases_in}
 use Rattle.ffa_memshare.specs.Ranges.{in_ranges}
 use Rattle.ffa_memshare.specs.Retrieved.{IsPassedOn, IsRetrieved, IsTaken}
-use Rattle.ffa_memshare.specs.Scenes.{after_transfer, descriptor_in, scene_in, transfer_of}
+use Rattle.ffa_memshare.specs.Scenes.{descriptor_in, scene_in, transfer_of}
 use Rattle.ffa_memshare.specs.SlotChanges.{IsClosed, IsHeldBy}
 use Rattle.ffa_memshare.specs.Stored.{Pooled, offers_in, slot_at as pool_slot}
 use Rattle.ffa_spmc.specs.AccessChange.{IsAccessChange}

@@ -1,12 +1,14 @@
 -- An indirect message of the runner: what stands in its TX, and what the call leaves.
 use Rattle.std.proofs.Common.{◌≡◌, ◌∙◌, ℕ, zero, suc, ◌<◌, true, List, [], length, map, get_or, Option, Some, None, Result, Ok, Err, refl, sym, ap, subst, arith, inl, inr}
-use Rattle.std.specs.Prelude.{IfOk, OnOk, OnErr}
+use Rattle.std.specs.Prelude.{◌==◌, false, IfOk, OnOk, OnErr}
 use Rattle.std.specs.Option.{option_map_or}
 use Rattle.std.specs.Result.{result_err}
-use Rattle.std.proofs.lemmas.Bool.{cases_lt}
+use Rattle.std.proofs.lemmas.Bool.{cases_Bool, cases_lt, eqb-false, not-true}
 use Rattle.std.proofs.lemmas.Bool.Decides.{nat_tests}
 use Rattle.std.proofs.lemmas.List.{get_or_past}
 use Rattle.std.proofs.lemmas.Option.{none-some}
+use Rattle.ffa_model.proofs.Runs.{flat-run-same}
+use Rattle.ffa_model.specs.Lists.{is_in_run}
 use Rattle.ffa_model.specs.declared.call.Reply.TheVariants.{Error}
 use Rattle.ffa_model.specs.declared.endpoint.EndpointId.{EndpointId}
 use Rattle.ffa_model.specs.declared.operation.ErrorCode.{ErrorCode}
@@ -15,17 +17,17 @@ use Rattle.ffa_model.specs.Buffers.{buffers_in, buffers_with_rx, filled}
 use Rattle.ffa_model.specs.Calls.{answered, first_failure, replied, served, success}
 use Rattle.ffa_model.specs.First.{first, party_of}
 use Rattle.ffa_model.specs.Identifiers.{identifier, place}
-use Rattle.ffa_model.specs.Memory.{page_bytes}
+use Rattle.ffa_model.specs.Memory.{page_bytes, run_bytes}
 use Rattle.ffa_model.specs.Messages.{delivered, header_in, message_in, msg_send2, send2_guards, tx_bytes}
 use Rattle.ffa_model.specs.Notifications.{Notifications, with_framework_bit, with_notifications}
-use Rattle.ffa_model.specs.Ram.{Ram}
+use Rattle.ffa_model.specs.Ram.{Ram, page_of}
 use Rattle.ffa_model.specs.State.{State, Page, Party, Buffers, is_known, is_known_among}
 use Rattle.ffa_model.proofs.Guards.{guard-passes}
-use Rattle.ffa_rxtx.specs.Parts.{with_rx_bytes}
-use Rattle.ffa_messages.specs.Parts.{AreInRam, receiver_in, sent_in, tx_in}
+use Rattle.ffa_rxtx.specs.Parts.{tx_in, with_rx_bytes}
+use Rattle.ffa_messages.specs.Parts.{AreEndsApart, AreInRam, receiver_in, sent_in}
 use Rattle.ffa_spmc.specs.Meaning.{IsManager, Parts, state_of}
 use Rattle.ffa_spmc.specs.Unowned.{KeepsUnowned}
-use Rattle.ffa_spmc.proofs.Fills.{buffers-there, runner-there, state-filled, tables-filled, there-inside}
+use Rattle.ffa_spmc.proofs.Fills.{buffers-there, in-ram, runner-there, state-filled, tables-filled, there-inside}
 use Rattle.ffa_spmc.proofs.Held.{each, parties_are}
 use Rattle.ffa_spmc.proofs.Agreements.{agrees}
 use Rattle.ffa_spmc.proofs.Machines.{StillHasTables}
@@ -53,8 +55,7 @@ module _ (x : Parts) (machine : IsManager x) where
     | inl lt ↦
         (let known : is_known s (identifier i) ≡ true = known-at (length s.parties) i (subst (λ (n : ℕ). i < n) (each x machine ∙ sym (parties_are x)) lt) in
         let own : buffers_in x.kept.buffers (identifier i) ≡ Some b = ap (λ (k : ℕ). get_or x.kept.buffers k None) (place-at i) ∙ is in
-        let there = buffers-there x machine (identifier i) known b own in
-        (there-inside x machine b.tx there.0, there-inside x machine b.rx there.1))
+        in-ram x machine (identifier i) known b own)
     | inr past ↦ absurd (none-some b (sym (get_or_past x.kept.buffers i None past) ∙ is))
   ]
 
@@ -69,11 +70,12 @@ module _ (x : Parts) (machine : IsManager x) where
     tx-is : tx ≡ tx_bytes s e
     tx-is = of (buffers_in x.kept.buffers e) refl
       where
-        of : (o : Option Buffers) → buffers_in x.kept.buffers e ≡ o → tx_in x.ram o ≡ option_map_or (λ (b : Buffers). page_bytes s b.tx) o []
+        of : (o : Option Buffers) → buffers_in x.kept.buffers e ≡ o → tx_in x.ram o ≡ option_map_or (λ (b : Buffers). run_bytes s b.tx b.pages) o []
         of None is = refl
         of (Some b) is =
-            let (page, there) = (buffers-there x machine e (runner-there x machine e at) b is).0 in
-            (agrees x machine).bytes b.tx page there ∙ sym (ap (λ (o : Option Page). option_map_or (λ (q : Page). q.bytes) o []) there)
+            flat-run-same (page_of x.ram) (page_bytes s) b.tx b.pages (λ p its.
+            let (page, there) = (buffers-there x machine e (runner-there x machine e at) b is).tx p its in
+            (agrees x machine).bytes p page there ∙ sym (ap (λ (o : Option Page). option_map_or (λ (q : Page). q.bytes) o []) there))
 
     pub sent-is : tx ≡ tx_bytes s x.kept.chain.runner
     sent-is = tx-is ∙ ap (tx_bytes s) at
@@ -81,6 +83,20 @@ module _ (x : Parts) (machine : IsManager x) where
     receiver-known : first_failure (send2_guards parties x.kept.buffers e (header_in tx)) ≡ None → is_known s receiver ≡ true
     unfolding first
     receiver-known none = guard-passes (send2_guards parties x.kept.buffers e (header_in tx)) 4 InvalidParameters (sym none)
+
+    receiver-other : first_failure (send2_guards parties x.kept.buffers e (header_in tx)) ≡ None → (receiver == e) ≡ false
+    receiver-other none =
+        not-true (receiver == e) (guard-passes (send2_guards parties x.kept.buffers e (header_in tx)) 5 InvalidParameters (sym none))
+
+    -- where the message passes its checks, the receiver's RX is beside the sender's TX: each page has one owner
+    pub ends-apart : AreEndsApart parties x.ram x.kept.buffers e
+    ends-apart none from to own_from own_to p in_tx = elim (cases_Bool (is_in_run to.rx to.pages p)) [
+      | inl in_rx ↦
+          (let tx_owner = (buffers-there x machine e (runner-there x machine e at) from own_from).tx_owner p in_tx in
+          let rx_owner = (buffers-there x machine receiver (receiver-known none) to own_to).rx_owner p in_rx in
+          absurd (eqb-false receiver e (receiver-other none) (sym rx_owner ∙ tx_owner)))
+      | inr beside ↦ beside
+    ]
 
     module _ (r : Result EndpointId ErrorCode) (new : Ram) (list : List (Option Buffers))
         (refusal : result_err r ≡ first_failure (send2_guards parties x.kept.buffers e (header_in tx)))

@@ -1,5 +1,5 @@
 -- An operation changes neither how many endpoints there are nor how many pages.
-use Rattle.std.proofs.Common.{◌≡◌, ◌∙◌, ℕ, ◌*◌, ◌/◌, ◌-◌, Bool, true, false, cond, List, length, Option, Some, None, refl, ap, length-set}
+use Rattle.std.proofs.Common.{◌≡◌, ◌∙◌, ℕ, zero, suc, ◌+◌, ◌*◌, ◌/◌, ◌-◌, Bool, true, false, cond, List, length, take, drop, Option, Some, None, refl, ap, length-set}
 use Rattle.std.specs.Prelude.{if◌then◌else◌, slice_index_or}
 use Rattle.byteorder.specs.Endian.{little_bytes}
 use Rattle.ffa_model.specs.declared.call.Call as calls
@@ -17,7 +17,7 @@ use Rattle.ffa_model.specs.Access.{names}
 use Rattle.ffa_model.specs.Bits.{is_set}
 use Rattle.ffa_model.specs.Buffers.{filled, filled_pages}
 use Rattle.ffa_model.specs.Manifest.{table_pages}
-use Rattle.ffa_model.specs.Memory.{changed_pages, fetch_fault, number_at, page_with, read_fault, size_of, store_fault, stored, zeroed_page}
+use Rattle.ffa_model.specs.Memory.{changed_pages, fetch_fault, number_at, page_with, read_fault, size_of, store_fault, stored, written_pages, written_run, zeroed_page}
 use Rattle.ffa_model.specs.MemoryRetrieve.{donated_page, response_to, retrieve_read, retrieved, retrieved_from, right_for, with_retrieved}
 use Rattle.ffa_model.specs.MemoryReturn.{named_ranges, relinquish_read, relinquished, relinquished_from}
 use Rattle.ffa_model.specs.MemorySend.{memory_sent, offered_in, send_read}
@@ -42,9 +42,15 @@ changed-size : (b : Bool) (s : State) (ranges : List Range) (change : Option Pag
 changed-size true s ranges change = length-map_at (λ p page. if names s ranges p then change page else page) s.pages
 changed-size false s ranges change = refl
 
+written-size : (n : ℕ) (pages : List (Option Page)) (first : ℕ) (bytes : List ℕ) → length (written_run n pages first bytes) ≡ length pages
+written-size zero pages first bytes = refl
+written-size (suc n) pages first bytes =
+    written-size n (written_pages pages first 0 (take 4096 bytes)) (first + 1) (drop 4096 bytes)
+    ∙ length-set pages first (page_with 0 (take 4096 bytes) (slice_index_or pages first None))
+
 filled-size : (pages : List (Option Page)) (bytes : List ℕ) (o : Option Buffers) → length (filled_pages pages bytes o) ≡ length pages
 filled-size pages bytes None = refl
-filled-size pages bytes (Some b) = length-set pages b.rx (page_with 0 bytes (slice_index_or pages b.rx None))
+filled-size pages bytes (Some b) = written-size b.pages pages b.rx bytes
 
 of-pages : (s : State) (n : ℕ) → n ≡ length s.pages → (length s.parties, n) ≡ sizes s
 of-pages s n is = ap (λ (k : ℕ). (length s.parties, k)) is

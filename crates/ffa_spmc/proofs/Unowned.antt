@@ -1,6 +1,6 @@
 -- A page behind the tables that nobody owns keeps its bytes: where RAM is the same, where a page is written that an
 -- endpoint owns, and where rights to such pages change.
-use Rattle.std.proofs.Common.{◌≡◌, ◌∙◌, ℕ, ◌*◌, ◌<◌, ◌≤◌, Bool, true, false, List, [], length, Option, Some, None, refl, sym, ap, subst, arith, inl, inr}
+use Rattle.std.proofs.Common.{◌≡◌, ◌∙◌, ℕ, zero, suc, ◌+◌, ◌*◌, ◌<◌, ◌≤◌, Bool, true, false, List, [], length, take, drop, Option, Some, None, refl, sym, ap, subst, arith, inl, inr}
 use Rattle.std.specs.Prelude.{◌&&◌, if◌then◌else◌, replicate}
 use Rattle.std.specs.Option.{option_and_then, option_map}
 use Rattle.std.proofs.lemmas.Bool.{cases_lt}
@@ -10,11 +10,13 @@ use Rattle.ffa_model.specs.declared.rights.Rights.{Rights}
 use Rattle.ffa_model.specs.declared.transaction.Range.{Range}
 use Rattle.ffa_model.specs.Access.{names}
 use Rattle.ffa_model.specs.Buffers.{buffers_in}
+use Rattle.ffa_model.specs.Lists.{is_in_run}
 use Rattle.ffa_model.specs.Manifest.{table_pages}
 use Rattle.ffa_model.specs.Ram.{Ram, page_of, with_page, with_bytes}
 use Rattle.ffa_model.specs.State.{State, Buffers, Page, Transaction, is_known, page_at, transaction_of}
+use Rattle.ffa_model.proofs.Runs.{run-wider, to-run}
 use Rattle.ffa_pages.specs.Entry.{Entry, entry_at}
-use Rattle.ffa_rxtx.specs.Parts.{with_rx_bytes}
+use Rattle.ffa_rxtx.specs.Parts.{with_run, with_rx_bytes}
 use Rattle.ffa_stage2.specs.Tables.{table_page}
 use Rattle.ffa_memshare.specs.Changes.{IsMoved}
 use Rattle.ffa_spmc.specs.Meaning.{IsManager, Parts, state_of}
@@ -39,13 +41,24 @@ module _ (x : Parts) (machine : IsManager x) where
   abbrev s : State
   s = state_of x
 
+  -- a write to pages in a row
+  unowned-run : (n : ℕ) (ram : Ram) (first : ℕ) (bytes : List ℕ) → ((p : ℕ) → is_in_run first n p ≡ true → (page : Page) × (page_at s p ≡ Some page))
+      → KeepsUnowned s ram (with_run n ram first bytes)
+  unowned-run zero ram first bytes there = unowned-same s ram ram refl
+  unowned-run (suc n) ram first bytes there =
+      let (page, at) = there first (to-run first (suc n) first (omega arith) (omega arith)) in
+      let next : Ram = with_page ram first (with_bytes (page_of ram first) 0 (take 4096 bytes)) in
+      unowned-then s ram next (with_run n next (first + 1) (drop 4096 bytes))
+      (unowned-written s ram first 0 (take 4096 bytes) page at)
+      (unowned-run n next (first + 1) (drop 4096 bytes) (λ p its. there p (run-wider first n p its)))
+
   -- a write to an endpoint's RX
   pub unowned-filled : (f : ℕ) → is_known s f ≡ true → (ram : Ram) (bytes : List ℕ) → KeepsUnowned s ram (with_rx_bytes ram (buffers_in x.kept.buffers f) bytes)
   unowned-filled f known ram bytes = of (buffers_in x.kept.buffers f) refl
     where
       of : (o : Option Buffers) → buffers_in x.kept.buffers f ≡ o → KeepsUnowned s ram (with_rx_bytes ram o bytes)
       of None is = unowned-same s ram ram refl
-      of (Some b) is = let (page, there) = (buffers-there x machine f known b is).1 in unowned-written s ram b.rx 0 bytes page there
+      of (Some b) is = unowned-run b.pages ram b.rx bytes (buffers-there x machine f known b is).rx
 
   behind : (p : ℕ) → pages_of_tables s ≤ p → table_page x.manifest.ram_blocks (length x.manifest.endpoints.items) 0 ≤ p
   behind p end =
@@ -75,10 +88,10 @@ module _ (x : Parts) (machine : IsManager x) where
       of k (Some e) is at = (e, is)
 
   -- other rights to such pages, and zeros where that is asked
-  pub unowned-moved : (ram : Ram) (index : ℕ) (ranges : List Range) (right : ℕ → Option Rights) (zero : Bool)
-      → IsMoved x.ram ram (length x.manifest.endpoints.items) x.manifest.ram_blocks index (names s ranges) right zero → AreEntered ranges → KeepsUnowned s x.ram ram
-  unowned-moved ram index ranges right zero moved entered p end none = elim (cases_lt p (length x.ram.pages)) [
-    | inl lt ↦ moved.bytes p (behind p end) ∙ of lt zero (names s ranges p) refl
+  pub unowned-moved : (ram : Ram) (index : ℕ) (ranges : List Range) (right : ℕ → Option Rights) (zeros : Bool)
+      → IsMoved x.ram ram (length x.manifest.endpoints.items) x.manifest.ram_blocks index (names s ranges) right zeros → AreEntered ranges → KeepsUnowned s x.ram ram
+  unowned-moved ram index ranges right zeros moved entered p end none = elim (cases_lt p (length x.ram.pages)) [
+    | inl lt ↦ moved.bytes p (behind p end) ∙ of lt zeros (names s ranges p) refl
     | inr past ↦ get_or_past ram.pages p [] (subst (λ (n : ℕ). n ≤ p) (sym moved.size) past) ∙ sym (get_or_past x.ram.pages p [] past)
   ]
     where

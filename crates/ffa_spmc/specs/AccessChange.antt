@@ -14,12 +14,12 @@ is_whose whose e = option_map_or (λ (f : EndpointId). f.0 == e) whose false
 -- whether what changed is the access of e to page p
 abbrev pub is_of : State → Option Changed → ℕ → ℕ → Bool
 is_of s None e p = false
-is_of s (Some changed) e p = names s changed.ranges.items p && is_whose changed.endpoint e
+is_of s (Some changed) e p = names s changed.ranges p && is_whose changed.endpoint e
 
 -- what a call says that it has changed is so
 pub record IsAccessChange (old new : State) (changed : Option Changed) : Type 0 where
   -- the ranges are whole pages of RAM
-  pub placed : IfSome changed (λ c. ArePlaced old.ram_base (length old.pages) c.ranges.items)
+  pub placed : IfSome changed (λ c. ArePlaced old.ram_base (length old.pages) c.ranges)
   -- a right is given where there was none, or taken away
   pub exclusive : (e p : ℕ) → is_of old changed e p ≡ true → (access old e p ≡ None) ⊎ (access new e p ≡ None)
   -- every other access is as before

@@ -2,6 +2,7 @@
 ghost use Rattle.std.specs.Prelude.{◌≡◌, ◌*◌, [], None, length, map, replicate};
 ghost use Rattle.std.specs.FinSet as finite_set;
 ghost use Rattle.std.specs.List.{enumerate_from};
+ghost use Rattle.ffa_model.specs.declared.limits.TheConstants.{MOST_OPEN};
 ghost use Rattle.ffa_model.specs.First.{has_first_bitmaps};
 ghost use Rattle.ffa_model.specs.RunStates.{first_schedule};
 
@@ -31,7 +32,7 @@ pub struct Kept {
     pub bitmaps: Bitmaps,
 }
 
-const _: () = prove!(size_of::<Kept>() <= 98304);
+const _: () = prove!(size_of::<Kept>() <= 131072);
 
 impl Kept {
     /// What the machine of a manifest with this layout keeps at first, but for the owners, whose table is still to be
@@ -42,7 +43,7 @@ impl Kept {
     pub fn unfilled(manifest: &Manifest, layout: Layout) -> Kept
         ensures layout { result.layout ≡ layout }
         ensures pages { result.pages ≡ [] }
-        ensures slots { result.pool.slots ≡ replicate (8 * length manifest.now.endpoints.items) None }
+        ensures slots { result.pool.slots ≡ replicate (MOST_OPEN * length manifest.now.endpoints.items) None }
         ensures sent { result.pool.sent ≡ replicate (length manifest.now.endpoints.items) 0 }
         ensures buffers { result.buffers ≡ replicate (length manifest.now.endpoints.items) None }
         ensures chain { result.chain ≡ first_schedule (length manifest.now.endpoints.items) }

@@ -1,5 +1,6 @@
 //! The machine.
 ghost use Rattle.std.specs.Prelude.{true, false, [], ◌≡◌, ℕ, ◌*◌, ◌<◌, ◌≤◌, length, replicate};
+ghost use Rattle.ffa_model.specs.declared.limits.TheConstants.{MOST_ENDPOINTS};
 ghost use Rattle.ffa_model.specs.Access.{access};
 ghost use Rattle.ffa_model.specs.Agreement.{Agrees};
 ghost use Rattle.ffa_model.specs.First.{first};
@@ -143,7 +144,7 @@ impl<M: PhysMem + Drop, T: Translations + Drop> Machine<M, T> {
     pub fn endpoints(&self) -> usize
         ensures number { result ≡ length self.now.state.parties }
         ensures some { 1 ≤ result }
-        ensures few { result ≤ 8 }
+        ensures few { result ≤ MOST_ENDPOINTS }
     {
         self.manager.endpoints()
     }

@@ -1,5 +1,6 @@
 //! The partition manager: what it keeps, and what its calls and accesses do.
 ghost use Rattle.std.specs.Prelude.{true, false, ◌≡◌, None, ℕ, ◌*◌, ◌<◌, ◌≤◌, length, replicate};
+ghost use Rattle.ffa_model.specs.declared.limits.TheConstants.{MOST_ENDPOINTS};
 ghost use Rattle.ffa_model.specs.Access.{access};
 ghost use Rattle.ffa_model.specs.Agreement.{Agrees};
 ghost use Rattle.ffa_model.specs.Bits.{word_of_halves};
@@ -118,7 +119,7 @@ impl<M: PhysMem + Drop> Manager<M> {
     pub(crate) fn endpoints(&self) -> usize
         ensures number { result ≡ length self.now.state.parties }
         ensures some { 1 ≤ result }
-        ensures few { result ≤ 8 }
+        ensures few { result ≤ MOST_ENDPOINTS }
     {
         self.manifest.endpoints.len()
     }

@@ -3,6 +3,7 @@ use Rattle.std.proofs.Common.{◌≡◌, ℕ, ◌+◌, ◌*◌, ◌%◌, ◌^◌
 use Rattle.std.proofs.lemmas.Bool.Decides.{nat_tests}
 use Rattle.std.proofs.lemmas.Nat.{mul-add-lt}
 use Rattle.std.proofs.Common.{List, mul-le-mul_right}
+use Rattle.ffa_model.specs.declared.limits.TheConstants.{MOST_ENDPOINTS}
 use Rattle.ffa_model.specs.Ram.{Ram}
 use Rattle.ffa_model.specs.Manifest.{table_pages, root_of}
 use Rattle.ffa_model.specs.Walk.{is_in_ram, is_page_address}
@@ -51,6 +52,6 @@ pub accepted-room : (base b : ℕ) (es : List Endpoint) (n : ℕ) → is_accepte
 accepted-room base b es n h count =
     let a = accepted base b es h in
     let some : 1 ≤ b = a.some_blocks in
-    let few : n ≤ 8 = omega (arith, a.few_endpoints) in
-    let most : n * (2 + b) ≤ 8 * (2 + b) = mul-le-mul_right (2 + b) few in
+    let few : n ≤ MOST_ENDPOINTS = omega (arith, a.few_endpoints) in
+    let most : n * (2 + b) ≤ MOST_ENDPOINTS * (2 + b) = mul-le-mul_right (2 + b) few in
     omega arith

@@ -4,12 +4,14 @@ ghost use Rattle.arrayvec.specs.ArrayVec.{array_vec_len};
 ghost use Rattle.ffa_model.specs.Manifest.{table_pages};
 
 use arrayvec::ArrayVec;
-use ffa_model::{Endpoint, Manifest, PageNo, Region, Rights, right_in};
+use ffa_model::{
+    Endpoint, MOST_ENDPOINTS, MOST_REGIONS, Manifest, PageNo, Region, Rights, right_in,
+};
 
 /// The regions of one endpoint.
 #[derive(Debug, Default, Drop)]
 pub struct Regions {
-    pub list: ArrayVec<Region, 16>,
+    pub list: ArrayVec<Region, MOST_REGIONS>,
 }
 
 impl Regions {
@@ -34,7 +36,7 @@ pub struct Layout {
     /// RAM's size, in blocks of 2 MiB.
     pub blocks: u32,
     /// The regions by the endpoint's place in the manifest.
-    pub regions: ArrayVec<Regions, 8>,
+    pub regions: ArrayVec<Regions, MOST_ENDPOINTS>,
     pub ghost place: { base % 0x4000000 ≡ 0 },
     pub ghost few: { blocks ≤ 32 },
     pub ghost within: { base + 0x200000 * blocks ≤ 2 ^ 32 },

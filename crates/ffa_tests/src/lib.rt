@@ -15,8 +15,6 @@ mod direct_messages;
 #[cfg(test)]
 mod hostile;
 #[cfg(test)]
-mod indirect_messages;
-#[cfg(test)]
 mod manifest;
 #[cfg(test)]
 mod memdesc;

@@ -5,10 +5,7 @@ ghost use Rattle.ffa_model.specs.SendDescriptor.{page_total};
 
 use arrayvec::ArrayVec;
 use byteorder::{ByteOrder, LittleEndian};
-use ffa_memdesc::{
-    RelinquishDesc, Response, RetrieveDesc, SendDesc, read_relinquish, read_retrieve, read_send,
-    write_response,
-};
+use ffa_memdesc::{Bad, RelinquishDesc, Response, RetrieveDesc, SendDesc, write_response};
 use ffa_model::{Data, EndpointId, Kind, Range, Receiver, Rights, Version};
 use std::process::Abort;
 use std::test::Fail;
@@ -90,6 +87,23 @@ const LENT: [u64; 12] = [
     0x4002_1000,
     1,
 ];
+
+// What bytes in one piece say.
+fn read_send(bytes: &[u8], version: Version, kind: Kind) -> Result<SendDesc, Bad> {
+    ffa_memdesc::read_send(&bytes, version, kind)
+}
+
+fn read_retrieve(
+    bytes: &[u8],
+    version: Version,
+    endpoint: EndpointId,
+) -> Result<RetrieveDesc, Bad> {
+    ffa_memdesc::read_retrieve(&bytes, version, endpoint)
+}
+
+fn read_relinquish(bytes: &[u8]) -> Result<RelinquishDesc, Bad> {
+    ffa_memdesc::read_relinquish(&bytes)
+}
 
 fn bytes_12(words: &[u64; 12]) -> [u8; 96] {
     let mut bytes = [0; 96];

@@ -22,8 +22,17 @@ mod cached;
 // Rows on machines with endpoints of the compact form.
 mod compact;
 
+// Buffers of several pages.
+mod larger;
+
+// Transactions with many ranges, and many of them.
+mod many;
+
 // Memory transactions.
 mod memory;
+
+// Indirect messages.
+mod messages;
 
 // Notifications.
 mod notifications;

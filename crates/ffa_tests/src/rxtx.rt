@@ -1,4 +1,5 @@
 //! Buffers on the pages of the row machine.
+use crate::words::word;
 use ffa_model::{Data, EndpointId, ErrorCode, PageNo, Rights, row_machine};
 use ffa_pages::PageTable;
 use ffa_physmem::{FlatRam, PhysMem};
@@ -22,6 +23,7 @@ fn map_and_unmap(rt: HostRuntime) -> Result<(), Fail> {
     let mapped = Mapped {
         tx: PageNo(0x2E),
         rx: PageNo(0x2F),
+        pages: 1,
         is_full: false,
     };
     assert_eq!(rt; buffers.of(FIRST), Some(mapped));
@@ -86,7 +88,7 @@ fn fill_and_release(rt: HostRuntime) -> Result<(), Fail> {
     buffers.fill(&mut ram, SECOND, &[1, 2, 3]);
     assert_eq!(rt; buffers.is_full(SECOND), true);
     buffers.fill(&mut ram, SECOND, &[4, 5]);
-    assert_eq!(rt; &ram.page(PageNo(0x3F))[..4], [4, 5, 3, 0].as_slice());
+    assert_eq!(rt; word(&ram, 0x3F, 0), Some(0x0003_0504));
     assert_eq!(rt; buffers.release(SECOND), Ok(()));
     assert_eq!(rt; buffers.release(SECOND), Err(ErrorCode::Denied));
     assert_eq!(rt; buffers.has(SECOND), true);

@@ -2,6 +2,7 @@
 ghost use Rattle.std.specs.Prelude.{◌≡◌, ◌+◌, ◌*◌, ◌<◌, ◌≤◌, [], ◌++◌, length, take, codes, IfOk};
 ghost use Rattle.std.specs.List.{flat_map, range_with_len};
 ghost use Rattle.arrayvec.specs.ArrayVec.{array_vec_len};
+ghost use Rattle.ffa_model.specs.declared.limits.TheConstants.{MOST_ENDPOINTS};
 ghost use Rattle.ffa_model.specs.Agreement.{root};
 ghost use Rattle.ffa_model.specs.Certificate.{certificate};
 ghost use Rattle.ffa_model.specs.TraceText.{audit_text, cert_run_text, cert_text, ended, handle_text, rights_text, root_text, spaced};
@@ -132,7 +133,7 @@ fn push_root<M: PhysMem + Drop, T: Translations + Drop>(
     place: usize,
 )
     requires room { array_vec_len text.old + 19 ≤ CAPACITY }
-    requires place { place < 8 }
+    requires place { place < MOST_ENDPOINTS }
     ensures items { text.new.items ≡ text.old.items ++ root_text machine.now.state place }
     ensures len { array_vec_len text.new ≡ array_vec_len text.old + 19 }
 {
@@ -144,7 +145,7 @@ fn push_root<M: PhysMem + Drop, T: Translations + Drop>(
 
 // The address of the level 1 table of the endpoint at a place: its table pages stand behind those of the endpoints before.
 fn root_at<M: PhysMem + Drop, T: Translations + Drop>(machine: &Machine<M, T>, place: usize) -> u64
-    requires { place < 8 }
+    requires { place < MOST_ENDPOINTS }
     ensures { result ≡ root machine.now.state place }
 {
     let ram = machine.ram();

@@ -2,6 +2,7 @@
 ghost use Rattle.std.specs.Prelude.{◌≡◌, ◌+◌, ◌<◌, ◌≤◌, [], ◌++◌, length};
 ghost use Rattle.std.specs.List.{flat_map, list_all};
 ghost use Rattle.arrayvec.specs.ArrayVec.{array_vec_len};
+ghost use Rattle.ffa_model.specs.declared.limits.TheConstants.{MOST_ENDPOINTS};
 ghost use Rattle.ffa_model.specs.Identifiers.{identifier};
 ghost use Rattle.ffa_model.specs.State.{identifiers};
 ghost use Rattle.ffa_model.specs.Access.{access};
@@ -93,7 +94,7 @@ fn access<M: PhysMem + Drop, T: Translations + Drop>(
     place: usize,
     page: PageNo,
 ) -> Option<Rights>
-    requires { place < 8 }
+    requires { place < MOST_ENDPOINTS }
     ensures { result ≡ access machine.now.state (identifier place) page.0 }
 {
     machine.access(EndpointId::at(place), page)

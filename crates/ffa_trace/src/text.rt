@@ -5,10 +5,11 @@ ghost use Rattle.arrayvec.specs.ArrayVec.{array_vec_len};
 ghost use Rattle.ffa_model.specs.TraceText.{digit, hex, spaced, ended, fault_name, rights_text};
 
 use arrayvec::ArrayVec;
-use ffa_model::{Data, FaultKind, Rights};
+use ffa_model::{Data, FaultKind, MOST_ENDPOINTS, Rights};
 
-/// Room for the longest text that is written at once, which is where the tables of eight endpoints stand.
-pub const CAPACITY: usize = 288;
+/// Room for the longest text that is written at once, which is where the tables of all endpoints stand: 32 bytes for each,
+/// and for one more.
+pub const CAPACITY: usize = 32 * (MOST_ENDPOINTS + 1);
 
 /// A text that is being made.
 pub type Text = ArrayVec<u8, CAPACITY>;

@@ -3,6 +3,7 @@
 ghost use Rattle.std.specs.Prelude.{◌≡◌, ◌≢◌, ℕ, ◌+◌, ◌-◌, ◌*◌, ◌%◌, ◌^◌, ◌<◌, ◌≤◌, ◌↔◌, IsTrue, IfSome, IfNone, All, Option, Some, length, true};
 ghost use Rattle.ffa_model.specs.Certified.{IsCertified, access_in, are_in_order};
 ghost use Rattle.ffa_model.specs.Walk as walk;
+ghost use Rattle.ffa_model.specs.declared.limits.TheConstants.{MOST_ENDPOINTS};
 ghost use Rattle.ffa_model.specs.declared.rights.Rights.{Rights};
 ghost use Rattle.ffa_walker.specs.Spans.{AreCertified, HaveAccess, HavePages, from_table2, from_table3};
 
@@ -21,7 +22,7 @@ const LEVEL3: u64 = 1 << 12;
 /// level 1 tables give at every address below 2^32 exactly what the runs say: a leaf with that address and the right of
 /// the table's endpoint, and Translation where it has none and outside RAM.
 pub fn audit<M: PhysMem>(memory: &M, roots: &[u32], runs: &[CertRun]) -> bool
-    requires few { length roots.now ≤ 8 }
+    requires few { length roots.now ≤ MOST_ENDPOINTS }
     requires roots { All (λ root. walk.is_page_address (M.ram memory.now) root ≡ true) roots.now }
     ensures { IsTrue result ↔ IsCertified (M.ram memory.now) roots.now runs.now }
 {
@@ -53,7 +54,7 @@ fn are_in_order(runs: &[CertRun], pages: u32) -> bool
 // Whether the walks from a level 1 table are those of the runs.
 fn gives_root<M: PhysMem>(memory: &M, root: u32, runs: &[CertRun], place: usize) -> bool
     requires root { walk.is_page_address (M.ram memory.now) root ≡ true }
-    requires place { place < 8 }
+    requires place { place < MOST_ENDPOINTS }
     ensures { IsTrue result ↔ AreCertified (M.ram memory.now) runs.now place 0 (2 ^ 32) (walk.walk (M.ram memory.now) root) }
 {
     for index in 0..4u64 {
@@ -75,7 +76,7 @@ fn gives_level1<M: PhysMem>(
 ) -> bool
     requires start { start % 2 ^ 30 ≡ 0 }
     requires below { start + 2 ^ 30 ≤ 2 ^ 32 }
-    requires place { place < 8 }
+    requires place { place < MOST_ENDPOINTS }
     ensures { IsTrue result ↔ AreCertified (M.ram memory.now) runs.now place start (2 ^ 30) (walk.from_level1 (M.ram memory.now) word) }
 {
     if word % 2 == 0 {
@@ -102,7 +103,7 @@ fn gives_table2<M: PhysMem>(
     requires table { IsTrue (walk.is_in_ram (M.ram memory.now) table) }
     requires start { start % 2 ^ 30 ≡ 0 }
     requires below { start + 2 ^ 30 ≤ 2 ^ 32 }
-    requires place { place < 8 }
+    requires place { place < MOST_ENDPOINTS }
     ensures { IsTrue result ↔ AreCertified (M.ram memory.now) runs.now place start (2 ^ 30) (from_table2 (M.ram memory.now) table) }
 {
     for index in 0..512u64 {
@@ -124,7 +125,7 @@ fn gives_level2<M: PhysMem>(
 ) -> bool
     requires start { start % 2 ^ 21 ≡ 0 }
     requires below { start + 2 ^ 21 ≤ 2 ^ 32 }
-    requires place { place < 8 }
+    requires place { place < MOST_ENDPOINTS }
     ensures { IsTrue result ↔ AreCertified (M.ram memory.now) runs.now place start (2 ^ 21) (walk.from_level2 (M.ram memory.now) word) }
 {
     if word % 2 == 0 {
@@ -165,7 +166,7 @@ fn gives_table3<M: PhysMem>(
     requires table { IsTrue (walk.is_in_ram (M.ram memory.now) table) }
     requires start { start % 2 ^ 21 ≡ 0 }
     requires below { start + 2 ^ 21 ≤ 2 ^ 32 }
-    requires place { place < 8 }
+    requires place { place < MOST_ENDPOINTS }
     ensures { IsTrue result ↔ AreCertified (M.ram memory.now) runs.now place start (2 ^ 21) (from_table3 (M.ram memory.now) table) }
 {
     for index in 0..512u64 {
@@ -187,7 +188,7 @@ fn gives_level3<M: PhysMem>(
 ) -> bool
     requires start { start % 2 ^ 12 ≡ 0 }
     requires below { start + 2 ^ 12 ≤ 2 ^ 32 }
-    requires place { place < 8 }
+    requires place { place < MOST_ENDPOINTS }
     ensures { IsTrue result ↔ AreCertified (M.ram memory.now) runs.now place start (2 ^ 12) (walk.from_level3 word) }
 {
     if word % 4 != 3 {
@@ -211,7 +212,7 @@ fn gives_leaf<M: PhysMem>(
     requires size { size % 2 ^ 12 ≡ 0 }
     requires some { 0 < size }
     requires below { start + size ≤ 2 ^ 32 }
-    requires place { place < 8 }
+    requires place { place < MOST_ENDPOINTS }
     ensures { IsTrue result ↔ AreCertified (M.ram memory.now) runs.now place start size (λ address. walk.leaf_of word (output + (address - start))) }
 {
     match right_to_itself(word, output, start) {
@@ -249,7 +250,7 @@ fn have_access<M: PhysMem>(
     requires size { size % 2 ^ 12 ≡ 0 }
     requires some { 0 < size }
     requires below { start + size ≤ 2 ^ 32 }
-    requires place { place < 8 }
+    requires place { place < MOST_ENDPOINTS }
     ensures { IsTrue result ↔ HaveAccess (M.ram memory.now) runs.now place start size access }
 {
     let base = u64::from(memory.base());
@@ -273,7 +274,7 @@ fn have_access<M: PhysMem>(
 // Whether the runs give an endpoint this access to all pages from `first` to before `end`.
 fn have_pages(runs: &[CertRun], place: usize, first: u64, end: u64, access: Option<Rights>) -> bool
     requires some { first < end }
-    requires place { place < 8 }
+    requires place { place < MOST_ENDPOINTS }
     ensures { IsTrue result ↔ HavePages runs.now place first end access }
 {
     let mut next = first;

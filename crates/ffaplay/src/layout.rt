@@ -1,6 +1,7 @@
 //! Where the tables of a machine stand.
 ghost use Rattle.std.specs.Prelude.{◌≡◌, ◌+◌, ◌^◌, ◌<◌, [], ◌++◌};
 ghost use Rattle.arrayvec.specs.ArrayVec.{array_vec_len};
+ghost use Rattle.ffa_model.specs.declared.limits.TheConstants.{MOST_ENDPOINTS};
 ghost use Rattle.ffa_manifest.specs.Document.{parts_of};
 ghost use Rattle.ffaplay.specs.Layouts.{endpoint_line, layout_text};
 
@@ -19,7 +20,7 @@ pub fn push_layout(text: &mut Text, manifest: &Manifest)
 
 #[tactic(auto, unfolding(crate::specs::Layouts::endpoint_line))]
 fn push_endpoint(text: &mut Text, place: usize, root: u64)
-    requires place { place < 8 }
+    requires place { place < MOST_ENDPOINTS }
     requires root { root < 2 ^ 32 }
     requires room { array_vec_len text.old + 32 < CAPACITY }
     ensures items { text.new.items ≡ text.old.items ++ endpoint_line place root }

@@ -1,6 +1,7 @@
 //! The certificate of a machine, run by run, and whether its tables give what a certificate says.
 ghost use Rattle.std.specs.Prelude.{◌≡◌, ◌+◌, ◌-◌, ◌<◌, ◌↔◌, IsTrue, length};
 ghost use Rattle.std.specs.List.{list_all};
+ghost use Rattle.ffa_model.specs.declared.limits.TheConstants.{MOST_ENDPOINTS};
 ghost use Rattle.ffa_model.specs.Access.{access, handle_at};
 ghost use Rattle.ffa_model.specs.Agreement.{roots_of};
 ghost use Rattle.ffa_model.specs.Alike.{is_alike, is_same_right};
@@ -10,7 +11,7 @@ ghost use Rattle.ffa_model.specs.Lists.{listed};
 ghost use Rattle.ffa_model.specs.State.{identifiers};
 
 use super::Machine;
-use ffa_model::{CertRun, EndpointId, PageNo, Rights};
+use ffa_model::{CertRun, EndpointId, MOST_ENDPOINTS, PageNo, Rights};
 use ffa_physmem::PhysMem;
 use ffa_tlb::Translations;
 
@@ -96,10 +97,10 @@ impl<M: PhysMem + Drop, T: Translations + Drop> Machine<M, T> {
     }
 
     // The access of each endpoint to a page, by place.
-    fn accesses(&self, page: PageNo) -> [Option<Rights>; 8]
-        ensures { result ≡ listed 8 (access_by_place self.now.state page.0) }
+    fn accesses(&self, page: PageNo) -> [Option<Rights>; MOST_ENDPOINTS]
+        ensures { result ≡ listed MOST_ENDPOINTS (access_by_place self.now.state page.0) }
     {
-        let mut accesses = [None; 8];
+        let mut accesses = [None; MOST_ENDPOINTS];
         for place in 0..self.endpoints() {
             accesses[place] = self.access(EndpointId::at(place), page);
         }

@@ -33,7 +33,7 @@ fn forget_ranges<T: Translations>(cache: &mut T, base: u32, endpoint: EndpointId
 
 // Forgets what is held for the endpoint and the pages to which its access changed.
 pub(super) fn forget<T: Translations>(cache: &mut T, base: u32, changed: &Option<Changed>)
-    requires { IfSome changed.now (λ c. ArePlaced base most_pages c.ranges.items) }
+    requires { IfSome changed.now (λ c. ArePlaced base most_pages c.ranges) }
     ensures unchanged { changed.now ≡ None → T.entries cache.new ≡ T.entries cache.old }
     ensures forgotten { (s : State) → s.ram_base ≡ base → (e p : ℕ) →
         lookup (T.entries cache.new) e p ≡ (if is_of s changed.now e p then None else lookup (T.entries cache.old) e p) }
@@ -41,6 +41,6 @@ pub(super) fn forget<T: Translations>(cache: &mut T, base: u32, changed: &Option
     if let Some(changed) = changed
         && let Some(endpoint) = changed.endpoint
     {
-        forget_ranges(cache, base, endpoint, changed.ranges.as_slice());
+        forget_ranges(cache, base, endpoint, changed.ranges.to_ranges().as_slice());
     }
 }

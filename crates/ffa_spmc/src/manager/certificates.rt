@@ -8,7 +8,7 @@ ghost use Rattle.ffa_model.specs.Walk.{is_page_address};
 
 use super::Manager;
 use arrayvec::ArrayVec;
-use ffa_model::{CertRun, PageNo};
+use ffa_model::{CertRun, MOST_ENDPOINTS, PageNo};
 use ffa_physmem::PhysMem;
 
 impl<M: PhysMem + Drop> Manager<M> {
@@ -30,7 +30,7 @@ impl<M: PhysMem + Drop> Manager<M> {
     }
 
     // The same of each endpoint.
-    fn roots(&self) -> ArrayVec<u32, 8>
+    fn roots(&self) -> ArrayVec<u32, MOST_ENDPOINTS>
         ensures value { result.items ≡ roots_of self.now.state }
         ensures pages { All (λ root. is_page_address self.now.ram root ≡ true) result.items }
     {

@@ -35,7 +35,7 @@ fn offsets_and_counts_that_are_none(rt: HostRuntime) -> Result<(), Fail> {
         (28, 5),
         (28, 0xFFFF_FFFF),
         (68, 0),
-        (68, 17),
+        (68, 65),
         (68, 0xFFFF_FFFF),
     ];
     for (at, value) in cases {

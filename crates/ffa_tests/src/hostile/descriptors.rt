@@ -103,14 +103,14 @@ fn is_receiver(bytes: &[u8], kind: Kind, index: u64) -> bool {
         && (0..index).all(|earlier| number(bytes, access(bytes, earlier), 2) != endpoint)
 }
 
-// Whether the composite stands behind the array, with its 1 to 16 ranges inside the bytes.
+// Whether the composite stands behind the array, with its 1 to 64 ranges inside the bytes.
 fn has_composite(bytes: &[u8]) -> bool {
     let at = composite(bytes);
     let count = range_count(bytes);
     at % 16 == 0
         && at >= access(bytes, number(bytes, 28, 4))
         && count >= 1
-        && count <= 16
+        && count <= 64
         && range(bytes, count) <= bytes.len() as u128
         && number(bytes, at + 8, 8) == 0
 }

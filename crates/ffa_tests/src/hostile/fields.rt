@@ -51,7 +51,7 @@ fn access(at: u64, composite: u64) -> [Field; 5] {
 fn composite(at: u64) -> [Field; 3] {
     [
         field_at(at, Size::B4, 16),
-        field_at(at | 4, Size::B4, 16),
+        field_at(at | 4, Size::B4, 64),
         field_at(at | 8, Size::B8, 0),
     ]
 }

@@ -8,7 +8,7 @@ use ffa_manifest::read;
 use ffa_model::Manifest;
 
 // The machine of the rows, where a version stands in the place of each question mark.
-const MACHINE: &str = "ram_base = 0x40000000
+pub(super) const MACHINE: &str = "ram_base = 0x40000000
 ram_blocks = 1
 [[endpoint]]
 version = \"?\"
@@ -52,15 +52,24 @@ fn plays_among(rt: &impl Abort, alloc: Global, versions: &str, parts: &[&str]) -
     check_among(rt, alloc, versions, &row)
 }
 
-// Plays a row on fresh machines with these versions: in RAM of each kind, without a cache and with one.
+// Plays a row on fresh machines with these versions.
 fn check_among(rt: &impl Abort, alloc: Global, versions: &str, row: &Row) -> Result<(), Fail> {
-    let manifest = manifest(alloc, versions)?;
+    check_kinds(rt, alloc, row, &manifest(alloc, versions)?)
+}
+
+// Plays a row on fresh machines of a manifest: in RAM of each kind, without a cache and with one.
+pub(super) fn check_kinds(
+    rt: &impl Abort,
+    alloc: Global,
+    row: &Row,
+    manifest: &Manifest,
+) -> Result<(), Fail> {
     let (base, pages) = (manifest.ram_base, 512 * manifest.ram_blocks);
     check_on(
         rt,
         alloc,
         row,
-        &manifest,
+        manifest,
         FlatRam::new(alloc, base, pages)?,
         NoTlb,
     )?;
@@ -68,7 +77,7 @@ fn check_among(rt: &impl Abort, alloc: Global, versions: &str, row: &Row) -> Res
         rt,
         alloc,
         row,
-        &manifest,
+        manifest,
         FlatRam::new(alloc, base, pages)?,
         four_in_turn(),
     )?;
@@ -76,7 +85,7 @@ fn check_among(rt: &impl Abort, alloc: Global, versions: &str, row: &Row) -> Res
         rt,
         alloc,
         row,
-        &manifest,
+        manifest,
         FrameRam::new(alloc, base, pages)?,
         NoTlb,
     )?;
@@ -84,7 +93,7 @@ fn check_among(rt: &impl Abort, alloc: Global, versions: &str, row: &Row) -> Res
         rt,
         alloc,
         row,
-        &manifest,
+        manifest,
         FrameRam::new(alloc, base, pages)?,
         four_in_turn(),
     )

@@ -247,43 +247,6 @@ call 84000073 60 60 -> 8001: 84000060 0 FFFFFFFA
     plays(&rt, rt.alloc(), &[MAPPED, lines])
 }
 
-// Eight transactions of one sender are open, and no ninth is opened before one is reclaimed.
-#[test]
-fn eight_open_transactions(rt: HostRuntime) -> Result<(), Fail> {
-    let descriptor = "\
-store 4002E000 00000000002F8001 -> done
-store 4002E018 0000000100000010 -> done
-store 4002E020 0000000000000030 -> done
-store 4002E030 0000004000018002 -> done
-store 4002E040 0000000100000001 -> done
-store 4002E058 0000000000000001 -> done
-";
-    let shares = "\
-store 4002E050 0000000040020000 -> done
-call 84000073 60 60 -> 8001: 84000061 0 1 8001
-store 4002E050 0000000040021000 -> done
-call 84000073 60 60 -> 8001: 84000061 0 2 8001
-store 4002E050 0000000040022000 -> done
-call 84000073 60 60 -> 8001: 84000061 0 3 8001
-store 4002E050 0000000040023000 -> done
-call 84000073 60 60 -> 8001: 84000061 0 4 8001
-store 4002E050 0000000040024000 -> done
-call 84000073 60 60 -> 8001: 84000061 0 5 8001
-store 4002E050 0000000040025000 -> done
-call 84000073 60 60 -> 8001: 84000061 0 6 8001
-store 4002E050 0000000040026000 -> done
-call 84000073 60 60 -> 8001: 84000061 0 7 8001
-store 4002E050 0000000040027000 -> done
-call 84000073 60 60 -> 8001: 84000061 0 8 8001
-call 84000073 60 60 -> 8001: 84000060 0 FFFFFFFA
-store 4002E050 0000000040028000 -> done
-call 84000073 60 60 -> 8001: 84000060 0 FFFFFFFD
-call 84000077 3 8001 -> 8001: 84000061
-call 84000073 60 60 -> 8001: 84000061 0 9 8001
-";
-    plays(&rt, rt.alloc(), &[MAPPED, descriptor, shares])
-}
-
 // The second partition donates the page at 40031000 to the first.
 const DONATE: &str = "\
 store 4003E000 0000000000008002 -> done

@@ -2,10 +2,9 @@ use Rattle.std.proofs.Common.{◌≡◌, ◌∙◌, Option, Some, sym, ap, rules
 use Rattle.arrayvec.specs.ArrayVec.{array_vec_len}
 use Rattle.ffa_model.specs.Calls.{first_failure}
 use Rattle.ffa_model.specs.DescriptorPlaces.{in_version}
-use Rattle.ffa_model.specs.MemorySend.{offer_guards, send_guards}
+use Rattle.ffa_model.specs.MemorySend.{offer_guards, room_guards, send_guards}
 use Rattle.ffa_model.specs.SendDescriptor.{SendRecord, send_of, send_record}
 use Rattle.ffa_model.specs.Transactions.{Offers, Scene}
-use Rattle.ffa_memshare.specs.Offers.{room_guards}
 use Rattle.ffa_memshare.specs.Scenes.{descriptor_in, scene_in, transfer_of}
 use Rattle.ffa_memshare.proofs.send.checked_offer.Goals as goal
 

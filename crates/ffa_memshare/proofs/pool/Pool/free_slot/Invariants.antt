@@ -7,6 +7,6 @@ use Rattle.ffa_memshare.proofs.pool.Pool.free_slot.Given as goal
 -- the slots so far have transactions
 abbrev pub invariant-loop-slot : goal.invariant-loop-slot
 invariant-loop-slot l = record {
-  from : 8 * place l.fn.sender.0 ≤ l.slot;
-  taken : (k : ℕ) → 8 * place l.fn.sender.0 ≤ k → k < l.slot → (x : ℕ × Transaction) × (slot_at l.self.slots k ≡ Some x);
+  from : 16 * place l.fn.sender.0 ≤ l.slot;
+  taken : (k : ℕ) → 16 * place l.fn.sender.0 ≤ k → k < l.slot → (x : ℕ × Transaction) × (slot_at l.self.slots k ≡ Some x);
 }

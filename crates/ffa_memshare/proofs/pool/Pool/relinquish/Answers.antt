@@ -1,4 +1,4 @@
-use Rattle.std.proofs.Common.{ℕ, List, None, subst}
+use Rattle.std.proofs.Common.{◌∙◌, ℕ, List, None, subst}
 use Rattle.arrayvec.specs.ArrayVec.{array_vec_len}
 use Rattle.ffa_model.specs.declared.transaction.Range.{Range}
 use Rattle.ffa_memshare.specs.Changes.{IsMoved}
@@ -25,8 +25,8 @@ returns-clause-done g c =
       slot = record { slot = k; transaction = transaction_of it; was = there; slots = c.set_held.ensures.slots asked.handle (transaction_of it) there };
       offers = c.set_held.ensures.offers asked.handle (transaction_of it) there;
       moved =
-          subst (λ (i : ℕ). IsMoved old new (array_vec_len l.regions) l.blocks i (in_ranges l.base it.ranges.items) (λ p. None) asked.zero) c.place-index.ensures
+          subst (λ (i : ℕ). IsMoved old new (array_vec_len l.regions) l.blocks i (in_ranges l.base it.ranges) (λ p. None) asked.zero) c.place-index.ensures
           (subst (λ (ranges : List Range). IsMoved old new (array_vec_len l.regions) l.blocks c.place-index.result (in_ranges l.base ranges) (λ p. None) asked.zero)
-          c.as_slice-ranges.ensures.value c.move_rights.ensures);
+          (c.as_slice-ranges.ensures.value ∙ c.to_ranges-listed.ensures) c.move_rights.ensures);
       access = c.of-changed.ensures;
     }

@@ -13,16 +13,16 @@ use Rattle.ffa_memshare.proofs.transaction.OpenTransaction.hand_over.Goals as go
 pub answer-requires-clause-total : goal.answer-requires-clause-total
 answer-requires-clause-total g c =
     let l = c.args.layout.now in
-    let ranges = c.args.self.now.ranges.items in
+    let ranges = c.args.self.now.ranges in
     let (access, built) = c.requires.held.room.built in
-    let most : length ranges ≤ 16 = omega (arith, c.as_slice-ranges.ensures.fits, ap (λ (xs : List Range). length xs) c.as_slice-ranges.ensures.value) in
+    let most : length ranges ≤ 64 = omega (arith, c.as_slice-ranges.ensures.fits, ap (λ (xs : List Range). length xs) (c.as_slice-ranges.ensures.value ∙ c.to_ranges-listed.ensures)) in
     subst (λ (xs : List Range). page_total xs < 2 ^ 32) (sym (ap (λ (r : ResponseRecord). r.ranges) c.response-response.ensures))
     (few-pages l.base l.blocks ranges built.fits.few most c.requires.held.placed)
 
 pub returns-clause-answered : goal.returns-clause-answered
 returns-clause-answered g c =
     let l = c.args.layout.now in
-    let ranges = c.args.self.now.ranges.items in
+    let ranges = c.args.self.now.ranges in
     let old = g.M.PhysMem.ram c.args.ram.now in
     let granted = g.M.PhysMem.ram c.move_rights.new.ram in
     record {
@@ -30,7 +30,7 @@ returns-clause-answered g c =
       moved =
           subst (λ (k : ℕ). IsMoved old granted (array_vec_len l.regions) l.blocks k (in_ranges l.base ranges) (λ p. Some c.args.right) false) c.place-index.ensures
           (subst (λ (xs : List Range). IsMoved old granted (array_vec_len l.regions) l.blocks c.place-index.result (in_ranges l.base xs) (λ p. Some c.args.right) false)
-          c.as_slice-ranges.ensures.value c.move_rights.ensures);
+          (c.as_slice-ranges.ensures.value ∙ c.to_ranges-listed.ensures) c.move_rights.ensures);
       answered =
           c.answer.ensures.ram
           ∙ ap (λ (r : ResponseRecord). with_rx_bytes granted (buffers_in c.args.buffers.now c.args.caller.0) (response_bytes c.args.version r)) c.response-response.ensures;

@@ -1,4 +1,5 @@
 use Rattle.std.proofs.Common.{◌∙◌, ◌*◌, ap, length, arith}
+use Rattle.ffa_model.specs.declared.limits.TheConstants.{MOST_ENDPOINTS}
 use Rattle.ffa_notify.specs.Stored.{bound_in, pending_in}
 use Rattle.ffa_notify.proofs.Boots.{none-bound, none-pending}
 use Rattle.ffa_notify.proofs.bitmaps.Bitmaps.of.Goals as goal
@@ -6,7 +7,7 @@ use Rattle.ffa_notify.proofs.bitmaps.Bitmaps.of.Goals as goal
 pub returns-clause-bound : goal.returns-clause-bound
 returns-clause-bound c =
     let n = length c.first_bitmaps-has.result.items in
-    ap (bound_in n) c.no_bits.ensures ∙ none-bound n (8 * c.len-endpoints.result) (omega (arith, c.len-endpoints.ensures.value, c.len-endpoints.ensures.fits))
+    ap (bound_in n) c.no_bits.ensures ∙ none-bound n (MOST_ENDPOINTS * c.len-endpoints.result) (omega (arith, c.len-endpoints.ensures.value, c.len-endpoints.ensures.fits))
 
 pub returns-clause-pending : goal.returns-clause-pending
 returns-clause-pending c =

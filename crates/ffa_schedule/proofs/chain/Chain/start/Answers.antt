@@ -1,4 +1,5 @@
 use Rattle.std.proofs.Common.{◌<◌, length, Some, rules}
+use Rattle.ffa_model.specs.declared.limits.TheConstants.{MOST_ENDPOINTS}
 use Rattle.ffa_model.specs.Identifiers.{place}
 use Rattle.ffa_model.proofs.Sounds.{sound}
 use Rattle.ffa_model.proofs.Written.{refill-set}
@@ -7,7 +8,7 @@ use Rattle.ffa_schedule.proofs.chain.Chain.start.Goals as goal
 
 pub push-requires : goal.push-requires
 push-requires c =
-    let room : length c.self.inside.links.items < 8 =
+    let room : length c.self.inside.links.items < MOST_ENDPOINTS =
     start-room c.self.inside.links.items c.self.inside.works.items c.args.self.now c.self.view_is c.self.invariant c.args.partition (Some c.args.work) c.requires.partition c.requires.outside in
     search (rules, room)
 

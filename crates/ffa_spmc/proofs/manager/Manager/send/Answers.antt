@@ -7,7 +7,8 @@ use Rattle.ffa_spmc.specs.Managed.{Managed}
 use Rattle.ffa_spmc.specs.Unowned.{KeepsUnowned}
 use Rattle.ffa_spmc.proofs.Machines.{machine-served}
 use Rattle.ffa_spmc.proofs.Notified.{known-notified}
-use Rattle.ffa_spmc.proofs.Sends.{buffers-in-ram, send-unowned, sent, tables-sent, told-known, unsent, unsent-parts}
+use Rattle.ffa_spmc.proofs.Sends.{buffers-in-ram, ends-apart, send-unowned, sent, tables-sent, told-known, unsent, unsent-parts}
+use Rattle.ffa_spmc.proofs.Fills.{known-buffered, runner-there}
 use Rattle.ffa_spmc.proofs.Inside.{parts_of}
 use Rattle.ffa_spmc.proofs.manager.Manager.send.Goals.{in-Ok, in-Err}
 use Rattle.ffa_spmc.proofs.manager.Manager.send.Goals as goal
@@ -15,7 +16,11 @@ use Rattle.ffa_spmc.proofs.manager.Manager.send.Goals as goal
 pub send2-requires : goal.send2-requires
 send2-requires g c =
     let x = parts_of g.M.PhysMem.ram c.self.inside in
-    record { pages = buffers-in-ram x c.self.invariant }
+    record {
+      known = known-buffered x c.self.invariant c.runner-runner.result.0 (runner-there x c.self.invariant c.runner-runner.result.0 c.runner-runner.ensures.runner);
+      pages = buffers-in-ram x c.self.invariant;
+      apart = ends-apart x c.self.invariant c.runner-runner.result.0 c.runner-runner.ensures.runner;
+    }
 
 pub raise_framework-requires : goal.raise_framework-requires
 raise_framework-requires g c =

@@ -4,7 +4,7 @@ use Rattle.ffa_model.specs.declared.descriptor.RetrieveDesc.{RetrieveDesc}
 use Rattle.ffa_model.specs.RetrieveDescriptor.{Retrieve, retrieve_of}
 use Rattle.ffa_memdesc.proofs.RetrieveLaw.{retrieve_told, retrieve_again}
 use Rattle.ffa_memdesc.proofs.Answered.{map_id, found, none}
-use Rattle.ffa_memdesc.proofs.retrieve.read_retrieve_from.Goals as goal
+use Rattle.ffa_memdesc.proofs.retrieve.read_retrieve.Goals as goal
 
 pub returns-clause-found : goal.returns-clause-found
 returns-clause-found g c =

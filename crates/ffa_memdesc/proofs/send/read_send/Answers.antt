@@ -2,7 +2,7 @@ use Rattle.ffa_model.specs.DescriptorPlaces.{in_version}
 use Rattle.ffa_model.specs.SendDescriptor.{send_record, Send, send_of}
 use Rattle.ffa_memdesc.proofs.SendLaw.{send_told, send_again}
 use Rattle.ffa_memdesc.proofs.Answered.{found, none}
-use Rattle.ffa_memdesc.proofs.send.read_send_from.Goals as goal
+use Rattle.ffa_memdesc.proofs.send.read_send.Goals as goal
 
 pub returns-clause-found : goal.returns-clause-found
 returns-clause-found g c =

@@ -1,6 +1,0 @@
-use Rattle.std.proofs.Common.{◌≡◌, take}
-use Rattle.ffa_memshare.proofs.changed.copied.Given as goal
-
--- the ranges so far
-abbrev pub invariant-loop-range : goal.invariant-loop-range
-invariant-loop-range l = l.copied.items ≡ take l.range-index l.range-items

@@ -1,0 +1,110 @@
+//! Ranges of whole pages of RAM, as an open transaction keeps them.
+ghost use Rattle.std.specs.Prelude.{◌≡◌, ◌≤◌, length, map};
+ghost use Rattle.ffa_model.specs.declared.limits.TheConstants.{MOST_RANGES};
+ghost use Rattle.ffa_memshare.specs.PageRanges.{range_at};
+ghost use Rattle.ffa_memshare.specs.Ranges.{ArePlaced, IsPlaced};
+
+use crate::grants::first_page;
+use arrayvec::ArrayVec;
+use ffa_model::{MOST_RANGES, Range};
+use ffa_pages::PageTable;
+use std::marker::Model;
+
+// A range by the number of its first page in RAM, of which a table of pages has fewer than 2^16.
+#[derive(Clone, Copy, Debug, Default)]
+pub(crate) struct PageRange {
+    first: u16,
+    pages: u16,
+}
+
+impl PageRange {
+    // A range of the RAM at an address.
+    fn of(pages: &PageTable, base: u32, range: &Range) -> PageRange
+        requires { IsPlaced base (length pages.now) range.now }
+        ensures { range_at base result ≡ range.now }
+    {
+        let _most = pages.pages();
+        PageRange {
+            first: first_page(base, range) as u16,
+            pages: range.pages as u16,
+        }
+    }
+
+    fn range(self, base: u32) -> Range
+        ensures { result ≡ range_at base self }
+    {
+        Range {
+            address: u64::from(base) + 4096 * u64::from(self.first),
+            pages: u32::from(self.pages),
+        }
+    }
+}
+
+/// Ranges of pages of one RAM, four bytes for each: a transaction is small to keep and to move. Contracts see the ranges.
+#[derive(Debug, Drop)]
+pub struct PageRanges {
+    base: u32,
+    list: ArrayVec<PageRange, MOST_RANGES>,
+}
+
+impl Model for PageRanges {
+    ghost use Rattle.std.specs.Prelude.{List, map};
+    ghost use Rattle.std.specs.Coded.{coded_list};
+    ghost use Rattle.ffa_model.specs.declared.transaction.Range.{Range};
+    ghost use Rattle.ffa_memshare.specs.PageRanges.{range_at};
+
+    ghost Value = { List Range };
+
+    ghost view = { λ r. map (range_at r.base) r.list.items };
+}
+
+impl PageRanges {
+    /// These ranges, of pages of the RAM at an address.
+    pub(crate) fn of(
+        pages: &PageTable,
+        base: u32,
+        ranges: &ArrayVec<Range, MOST_RANGES>,
+    ) -> PageRanges
+        requires { ArePlaced base (length pages.now) ranges.now.items }
+        ensures { result ≡ ranges.now.items }
+    {
+        let mut list = ArrayVec::new();
+        for range in ranges.as_slice() {
+            list.push(PageRange::of(pages, base, range));
+        }
+        PageRanges { base, list }
+    }
+
+    /// The same ranges.
+    pub(crate) fn copied(&self) -> PageRanges
+        ensures { result ≡ self.now }
+    {
+        let mut list = ArrayVec::new();
+        for range in self.list.as_slice() {
+            list.push(*range);
+        }
+        PageRanges {
+            base: self.base,
+            list,
+        }
+    }
+
+    /// Each range by its address, in their order.
+    pub fn to_ranges(&self) -> ArrayVec<Range, MOST_RANGES>
+        ensures { result.items ≡ self.now }
+    {
+        listed(self.base, self.list.as_slice())
+    }
+}
+
+// These ranges of the RAM at an address.
+fn listed(base: u32, list: &[PageRange]) -> ArrayVec<Range, MOST_RANGES>
+    requires { length list.now ≤ MOST_RANGES }
+    ensures { result.items ≡ map (range_at base) list.now }
+{
+    let mut ranges = ArrayVec::new();
+    for range in list {
+        ranges.push(range.range(base));
+    }
+    ranges
+}

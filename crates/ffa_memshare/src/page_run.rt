@@ -1,0 +1,120 @@
+//! Bytes that stand in pages in a row.
+ghost use Rattle.std.specs.Prelude.{◌≡◌, ℕ, ◌+◌, ◌*◌, ◌≤◌, length, IfOk, IfSome};
+ghost use Rattle.std.specs.Option.{option_map};
+ghost use Rattle.std.specs.Result.{result_ok};
+ghost use Rattle.ffa_model.specs.DescriptorPlaces.{in_version};
+ghost use Rattle.ffa_model.specs.RelinquishDescriptor.{relinquish_of};
+ghost use Rattle.ffa_model.specs.RetrieveDescriptor.{retrieve_of};
+ghost use Rattle.ffa_model.specs.SendDescriptor.{Send, send_of, send_record};
+
+use ffa_memdesc::{Bad, Bytes};
+use ffa_model::{EndpointId, Kind, PageNo, RelinquishDesc, RetrieveDesc, SendDesc, Version};
+use ffa_physmem::{PAGE_SIZE, PhysMem};
+use std::marker::Model;
+
+/// The first bytes of pages in a row, read where they lie. Contracts see the bytes.
+#[derive(Drop)]
+pub(crate) struct PageRun<'m, M: PhysMem> {
+    ram: &'m M,
+    first: PageNo,
+    pages: u32,
+    len: usize,
+}
+
+impl<'m, M: PhysMem> Model for PageRun<'m, M> {
+    ghost use Rattle.std.specs.Prelude.{ℕ, List};
+    ghost use Rattle.ffa_memshare.specs.PageRuns.{IsPageRun, run_front};
+
+    ghost Value = { List ℕ };
+
+    ghost view = { λ r. run_front (M.ram r.ram.now) r.first.0 r.pages r.len };
+
+    ghost invariant = { λ r. IsPageRun (M.ram r.ram.now) r.first.0 r.pages r.len };
+}
+
+impl<'m, M: PhysMem> PageRun<'m, M> {
+    ghost use Rattle.ffa_rxtx.specs.Parts.{run_in};
+    ghost use Rattle.ffa_memshare.specs.PageRuns.{run_front};
+
+    /// The first `len` bytes of this many pages from the first on.
+    pub(crate) fn new(ram: &'m M, first: PageNo, pages: u32, len: usize) -> PageRun<'m, M>
+        requires inside { first.0 + pages ≤ length (M.ram ram.now).pages }
+        requires fits { len ≤ 4096 * pages }
+        ensures bytes { result ≡ run_front (M.ram ram.now) first.0 pages len }
+        ensures whole { length (run_in (M.ram ram.now) first.0 pages) ≡ 4096 * pages }
+    {
+        let _count = ram.pages();
+        for i in 0..pages {
+            let _page = ram.page(PageNo(first.0 + i));
+        }
+        PageRun {
+            ram,
+            first,
+            pages,
+            len,
+        }
+    }
+
+    /// The same bytes in one piece, where one page has them.
+    pub(crate) fn in_one_page(&self) -> Option<&'m [u8]>
+        ensures { IfSome result (λ bytes. bytes.now ≡ self.now) }
+    {
+        if self.pages >= 1 && self.len <= PAGE_SIZE {
+            Some(&self.ram.page(self.first)[..self.len])
+        } else {
+            None
+        }
+    }
+}
+
+impl<'m, M: PhysMem> Bytes for PageRun<'m, M> {
+    ghost bytes = { λ r. r };
+
+    fn len(&self) -> usize {
+        self.len
+    }
+
+    fn at(&self, place: usize) -> u8 {
+        let page = self.first.0 + (place / PAGE_SIZE) as u32;
+        self.ram.page(PageNo(page))[place % PAGE_SIZE]
+    }
+}
+
+/// What the bytes say as a send descriptor of this kind, from a caller of this version. In one page they are read as a slice.
+pub(crate) fn read_send<M: PhysMem>(
+    bytes: &PageRun<M>,
+    version: Version,
+    kind: Kind,
+) -> Result<SendDesc, Bad>
+    ensures found { IfOk result (λ d. Send kind (in_version version bytes.now) (send_record d)) }
+    ensures computed { option_map send_record (result_ok result) ≡ send_of kind (in_version version bytes.now) }
+{
+    match bytes.in_one_page() {
+        Some(page) => ffa_memdesc::read_send(&page, version, kind),
+        None => ffa_memdesc::read_send(bytes, version, kind),
+    }
+}
+
+/// What the bytes say as a retrieve descriptor for this endpoint, which has this version.
+pub(crate) fn read_retrieve<M: PhysMem>(
+    bytes: &PageRun<M>,
+    version: Version,
+    endpoint: EndpointId,
+) -> Result<RetrieveDesc, Bad>
+    ensures { result_ok result ≡ retrieve_of endpoint.0 (in_version version bytes.now) }
+{
+    match bytes.in_one_page() {
+        Some(page) => ffa_memdesc::read_retrieve(&page, version, endpoint),
+        None => ffa_memdesc::read_retrieve(bytes, version, endpoint),
+    }
+}
+
+/// What the bytes say as a relinquish descriptor of one endpoint.
+pub(crate) fn read_relinquish<M: PhysMem>(bytes: &PageRun<M>) -> Result<RelinquishDesc, Bad>
+    ensures { result_ok result ≡ relinquish_of bytes.now }
+{
+    match bytes.in_one_page() {
+        Some(page) => ffa_memdesc::read_relinquish(&page),
+        None => ffa_memdesc::read_relinquish(bytes),
+    }
+}

@@ -1,0 +1,14 @@
+use Rattle.std.proofs.Common.{◌≡◌, ◌+◌, ◌*◌, ◌-◌, ◌<◌, ℕ, length, take, drop}
+use Rattle.ffa_model.specs.Ram.{page_of}
+use Rattle.ffa_rxtx.specs.Parts.{run_in, with_run}
+use Rattle.ffa_messages.proofs.indirect.copy_run.Given as goal
+
+abbrev pub invariant-loop-i : goal.invariant-loop-i
+invariant-loop-i g l = record {
+  size : length (g.M.PhysMem.ram l.ram).pages ≡ length (g.M.PhysMem.ram l.fn.ram).pages;
+  same : (k : ℕ) → k < l.from.pages → page_of (g.M.PhysMem.ram l.ram) (l.from.tx.0 + k) ≡ page_of (g.M.PhysMem.ram l.fn.ram) (l.from.tx.0 + k);
+  whole : (k : ℕ) → k < l.i → length (page_of (g.M.PhysMem.ram l.fn.ram) (l.from.tx.0 + k)) ≡ 4096;
+  rest :
+      with_run (l.to.pages - l.i) (g.M.PhysMem.ram l.ram) (l.to.rx.0 + l.i) (drop (4096 * l.i) (take l.size (run_in (g.M.PhysMem.ram l.fn.ram) l.from.tx.0 l.from.pages)))
+      ≡ with_run l.to.pages (g.M.PhysMem.ram l.fn.ram) l.to.rx.0 (take l.size (run_in (g.M.PhysMem.ram l.fn.ram) l.from.tx.0 l.from.pages));
+}

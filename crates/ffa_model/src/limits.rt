@@ -1,0 +1,22 @@
+//! How much a machine has room for. Each limit stands here once, and every definition, contract and array names it.
+
+/// The most endpoints of a machine: the normal world and the partitions.
+pub const MOST_ENDPOINTS: usize = 8;
+
+/// The most regions of an endpoint.
+pub const MOST_REGIONS: usize = 16;
+
+/// The most pages of TX, and of RX.
+pub const MOST_BUFFER_PAGES: u32 = 4;
+
+/// The most receivers of a share or a lend.
+pub const MOST_RECEIVERS: usize = 4;
+
+/// The most ranges of a transaction.
+pub const MOST_RANGES: usize = 64;
+
+/// The most open transactions of one sender.
+pub const MOST_OPEN: usize = 16;
+
+/// The most sends of one endpoint while the machine runs. Each has a number of its own in its handle.
+pub const MOST_SENDS: u32 = 65535;

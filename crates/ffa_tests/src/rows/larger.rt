@@ -1,0 +1,265 @@
+//! Buffers of one to four pages: how they are mapped, messages between them, and pages that are theirs no more.
+use super::memory::{TO_FIRST, TO_SECOND};
+use super::*;
+
+pub(super) const INVALID: &str = "84000060 0 FFFFFFFE";
+
+const SUCCESS: &str = "84000061";
+
+// The first partition runs, and nobody has buffers.
+pub(super) const FIRST_RUNS: &str = "call 8400006D 80010000 -> 8001: 8400006D 80010000\n";
+
+// The first partition shares one page with the second. The question mark stands for the page of TX, and the page's address
+// is stored later.
+const SHARE: &str = "\
+store ?000 00000000002F8001 -> done
+store ?018 0000000100000010 -> done
+store ?020 0000000000000030 -> done
+store ?030 0000004000018002 -> done
+store ?040 0000000100000001 -> done
+store ?058 0000000000000001 -> done
+";
+
+pub(super) fn add_share(row: &mut Row, alloc: Global, tx: &str) -> Result<(), Fail> {
+    let share = String::from_str(alloc, SHARE)?.replacen(alloc, "?", tx, 6)?;
+    row.add(share.as_str())?;
+    Ok(())
+}
+
+// A later page of either buffer isn't shared. A message is refused for TX, for a full RX and for a small RX, in this order,
+// and one fills both buffers. A range stands in the second page of TX.
+const SECOND_PAGES: &str = "\
+call 8400006D 80020000 -> 8002: 8400006D 80020000
+call 84000066 4003E000 4003F000 1 -> 8002: 84000061
+call 8400006B -> 0: 8400006B 80020000
+call 8400006D 80010000 -> 8001: 8400006D 80010000
+call 84000066 4002A000 4002C000 5 -> 8001: 84000060 0 FFFFFFFE
+call 84000066 4002A000 4002B000 2 -> 8001: 84000060 0 FFFFFFFE
+call 84000066 4002A000 4002C000 2 -> 8001: 84000061
+call 84000066 4002A000 4002C000 5 -> 8001: 84000060 0 FFFFFFFA
+store 4002A000 00000000002F8001 -> done
+store 4002A018 0000000100000010 -> done
+store 4002A020 0000000000000030 -> done
+store 4002A030 0000004000018002 -> done
+store 4002A040 0000000100000001 -> done
+store 4002A050 000000004002D000 -> done
+store 4002A058 0000000000000001 -> done
+call 84000073 60 60 -> 8001: 84000060 0 FFFFFFFA
+store 4002A050 000000004002B000 -> done
+call 84000073 60 60 -> 8001: 84000060 0 FFFFFFFA
+store 4002A000 0000000000000000 -> done
+store 4002A008 8001800200000014 -> done
+store 4002A010 00000FEC -> done
+store 4002BFF8 1122334455667788 -> done
+call 84000086 -> 8001: 84000061
+store 4002A010 00001FED -> done
+call 84000086 -> 8001: 84000060 0 FFFFFFFE
+store 4002A010 00000FED -> done
+call 84000086 -> 8001: 84000060 0 FFFFFFFC
+call 8400006B -> 0: 8400006B 80010000
+call 8400006D 80020000 -> 8002: 8400006D 80020000
+call 8400006B -> 0: 8400006B 80020000
+call 8400006D 80010000 -> 8001: 8400006D 80010000
+call 84000086 -> 8001: 84000060 0 FFFFFFFD
+call 8400006B -> 0: 8400006B 80010000
+call 8400006D 80020000 -> 8002: 8400006D 80020000
+call 84000067 -> 8002: 84000061
+call 84000066 4003E000 4003C000 2 -> 8002: 84000061
+call 8400006B -> 0: 8400006B 80020000
+call 8400006D 80010000 -> 8001: 8400006D 80010000
+store 4002A010 00001FED -> done
+call 84000086 -> 8001: 84000060 0 FFFFFFFE
+store 4002A010 00001FEC -> done
+call 84000086 -> 8001: 84000061
+store 4002A000 0000000000008001 -> done
+store 4002A008 0000000000000000 -> done
+store 4002A010 0000000000000000 -> done
+store 4002A030 00000FF000028002 -> done
+store 4002AFF0 0000000100000001 -> done
+store 4002B000 0000000040021000 -> done
+store 4002B008 0000000000000001 -> done
+call 84000072 1010 1010 -> 8001: 84000061 0 1 8001
+call 8400006B -> 0: 8400006B 80010000
+call 8400006D 80020000 -> 8002: 8400006D 80020000
+load 4003C008 8 -> data 8001800200000014
+load 4003DFF8 8 -> data 1122334455667788
+call 84000065 -> 8002: 84000061
+store 4003E000 0000000000008001 -> done
+store 4003E008 0000800100000001 -> done
+store 4003E018 0000000100000010 -> done
+store 4003E020 0000000000000030 -> done
+store 4003E030 0000000000028002 -> done
+call 84000074 40 40 -> 8002: 84000075 60 60
+load 4003C000 8 -> data 00000010002F8001
+load 4003C008 8 -> data 0000800100000001
+load 4003C010 8 -> data 0000000000000000
+load 4003C018 8 -> data 0000000100000010
+load 4003C020 8 -> data 0000000000000030
+load 4003C028 8 -> data 0000000000000000
+load 4003C030 8 -> data 0000004000068002
+load 4003C038 8 -> data 0000000000000000
+load 4003C040 8 -> data 0000000100000001
+load 4003C048 8 -> data 0000000000000000
+load 4003C050 8 -> data 0000000040021000
+load 4003C058 8 -> data 0000000000000001
+load 4003DFF8 8 -> data 1122334455667788
+";
+
+#[test]
+fn buffers_of_two_pages(rt: HostRuntime) -> Result<(), Fail> {
+    plays(&rt, rt.alloc(), &[SECOND_PAGES])
+}
+
+// Counts and addresses that are none, and runs whose first page alone is in RAM or the caller's.
+const MAPS: &str = "\
+call 84000066 40024000 40028000 0 -> 8001: 84000060 0 FFFFFFFE
+call 84000066 40024000 40028000 100000000 -> 8001: 84000060 0 FFFFFFFE
+call 84000066 40024800 40028000 2 -> 8001: 84000060 0 FFFFFFFE
+call 84000066 40024000 40028800 2 -> 8001: 84000060 0 FFFFFFFE
+call 84000066 401FF000 40028000 2 -> 8001: 84000060 0 FFFFFFFE
+call 84000066 40028000 401FF000 2 -> 8001: 84000060 0 FFFFFFFE
+call 84000066 401FF000 40028000 1 -> 8001: 84000060 0 FFFFFFFA
+call 84000066 4002D000 40028000 4 -> 8001: 84000060 0 FFFFFFFA
+call 84000066 40028000 4002D000 4 -> 8001: 84000060 0 FFFFFFFA
+call 84000066 4002C000 40028000 4 -> 8001: 84000061
+";
+
+// Two runs of each length at each distance, in either order. What isn't mapped isn't unmapped.
+#[test]
+fn runs_of_buffers(rt: HostRuntime) -> Result<(), Fail> {
+    let mut row = Row::new(rt.alloc());
+    row.add(FIRST_RUNS)?;
+    for case in 0..20u32 {
+        let (pages, second) = (case / 5 + 1, 4 + case % 5);
+        let answer = if second < 4 + pages { INVALID } else { SUCCESS };
+        row.add(&format!(in rt.alloc();
+            "\
+call 84000066 40024000 4002{second}000 {pages} -> 8001: {answer}
+call 84000067 -> 8001: {answer}
+call 84000066 4002{second}000 40024000 {pages} -> 8001: {answer}
+call 84000067 -> 8001: {answer}
+"
+        )?)?;
+    }
+    row.add(MAPS)?;
+    row.check(&rt, rt.alloc())
+}
+
+// The last byte of a page and the first two of the next, of each page in turn.
+fn border(index: u8) -> u32 {
+    4095 + u32::from(index / 3) * 4096 + u32::from(index % 3)
+}
+
+// A message of one of eight ends, between a TX and an RX of one to four pages.
+fn add_message(row: &mut Row, alloc: Global, case: u8) -> Result<(), Fail> {
+    let (sent, received) = (1 + u32::from(case / 32), 1 + u32::from(case / 8 % 4));
+    let size = 4076 + u32::from(case % 8 / 2) * 4096 + u32::from(case % 2);
+    let (answer, told_end) = if size + 20 > 4096 * sent {
+        (INVALID, 0)
+    } else if size + 20 > 4096 * received {
+        ("84000060 0 FFFFFFFD", 0)
+    } else {
+        (SUCCESS, size + 20)
+    };
+    let (mut before, mut told) = (String::new(alloc), String::new(alloc));
+    for index in 0..10u8 {
+        let at = 0x4003_8000 | border(index);
+        let byte = if border(index) < told_end {
+            16 + index
+        } else {
+            0x5A
+        };
+        before.push_str(&format!(in alloc; "store {at:X} 5A -> done\n")?)?;
+        told.push_str(&format!(in alloc; "load {at:X} 1 -> data {byte:X}\n")?)?;
+    }
+    row.add(&format!(in alloc;
+        "\
+store 40024010 {size:08X} -> done
+call 84000066 40024000 40028000 {sent} -> 8001: 84000061
+{TO_SECOND}call 84000066 40034000 40038000 {received} -> 8002: 84000061
+{before}{TO_FIRST}call 84000086 -> 8001: {answer}
+call 84000067 -> 8001: 84000061
+{TO_SECOND}{told}call 84000067 -> 8002: 84000061
+{TO_FIRST}"
+    )?)?;
+    Ok(())
+}
+
+// Messages that end at each end of a page and one byte behind it. The bytes behind a message stay.
+#[test]
+fn messages_between_all_sizes(rt: HostRuntime) -> Result<(), Fail> {
+    let mut row = Row::new(rt.alloc());
+    row.add(FIRST_RUNS)?;
+    row.add("store 40024008 8001800200000014 -> done")?;
+    for index in 0..10u8 {
+        let (at, byte) = (0x4002_4000 | border(index), 16 + index);
+        row.add(&format!(in rt.alloc(); "store {at:X} {byte:X} -> done")?)?;
+    }
+    for case in 0..128u8 {
+        add_message(&mut row, rt.alloc(), case)?;
+    }
+    row.check(&rt, rt.alloc())
+}
+
+// The pages of buffers are used as others are, and what the manager tells stays in the first page of RX. Then other buffers
+// are mapped.
+const USED: &str = "\
+fetch 40020000 -> data 002F8001
+fetch 40024000 -> data 00000000
+store 40025000 5A -> done
+call 84000065 -> 8001: 84000060 0 FFFFFFFA
+call 84000068 -> 8001: 84000061 0 2 18
+load 40024018 8 -> data 0000010F00018002
+load 40025000 1 -> data 5A
+call 84000068 -> 8001: 84000060 0 FFFFFFFC
+call 84000065 -> 8001: 84000061
+call 84000068 -> 8001: 84000061 0 2 18
+call 84000067 -> 8001: 84000061
+call 84000066 40028000 4002C000 4 -> 8001: 84000061
+call 84000065 -> 8001: 84000060 0 FFFFFFFA
+";
+
+// The second page of a run stands in a transaction, and the first doesn't.
+const MARKED: &str = "\
+call 84000077 1 8001 -> 8001: 84000061
+call 84000067 -> 8001: 84000061
+call 84000066 40020000 40028000 2 -> 8001: 84000060 0 FFFFFFFA
+call 84000066 40028000 40020000 2 -> 8001: 84000060 0 FFFFFFFA
+call 84000066 40020000 40028000 1 -> 8001: 84000061
+";
+
+// No page of buffers of so many pages is shared before they are unmapped, and each is behind it.
+fn plays_unmapped(rt: &impl Abort, alloc: Global, pages: u32) -> Result<(), Fail> {
+    let mut row = Row::new(alloc);
+    let mut shared = String::new(alloc);
+    row.add(&format!(in alloc;
+        "{FIRST_RUNS}call 84000066 40020000 40024000 {pages} -> 8001: 84000061"
+    )?)?;
+    add_share(&mut row, alloc, "40020")?;
+    for page in 0..8u32 {
+        let number = page + 1;
+        if page % 4 < pages {
+            row.add(&format!(in alloc; "store 40020050 000000004002{page}000 -> done")?)?;
+            row.add("call 84000073 60 60 -> 8001: 84000060 0 FFFFFFFA")?;
+        }
+        shared.push_str(&format!(in alloc;
+            "\
+store 40028050 000000004002{page}000 -> done
+call 84000073 60 60 -> 8001: 84000061 0 {number} 8001
+"
+        )?)?;
+    }
+    row.add(USED)?;
+    add_share(&mut row, alloc, "40028")?;
+    row.add(shared.as_str())?;
+    row.add(MARKED)?;
+    row.check(rt, alloc)
+}
+
+#[test]
+fn pages_of_unmapped_buffers(rt: HostRuntime) -> Result<(), Fail> {
+    for pages in 1..5 {
+        plays_unmapped(&rt, rt.alloc(), pages)?;
+    }
+    Ok(())
+}

@@ -1,0 +1,213 @@
+//! Transactions over buffers of several pages, with up to 64 ranges, and sixteen of them open for a sender.
+use super::compact::{MACHINE, check_kinds};
+use super::larger::{FIRST_RUNS, INVALID, add_share};
+use super::memory::{LEND, MAPPED, RETRIEVE, TO_SECOND};
+use super::*;
+use ffa_manifest::read;
+
+// Both partitions map buffers of two pages, and the first runs. TX is the last two pages of each.
+const TWO_PAGES: &str = "\
+call 8400006D 80020000 -> 8002: 8400006D 80020000
+call 84000066 4003E000 4003C000 2 -> 8002: 84000061
+call 8400006B -> 0: 8400006B 80020000
+call 8400006D 80010000 -> 8001: 8400006D 80010000
+call 84000066 4002E000 4002C000 2 -> 8001: 84000061
+";
+
+// Plays a row on the machine of the rows, where the first partition has so many pages more, from 40040000 on.
+fn check_with_more(rt: &impl Abort, alloc: Global, row: &Row, pages: &str) -> Result<(), Fail> {
+    let text = String::from_str(alloc, MACHINE)?.replacen(alloc, "?", "1.1", 3)?;
+    let more = format!(in alloc;
+        "\"rwx\" }}, {{ base = 0x40040000, pages = {pages}, rights = \"rw\" }}"
+    )?;
+    let text = text.replacen(alloc, "\"rwx\" }", more.as_str(), 1)?;
+    check_kinds(rt, alloc, row, &read(alloc, text.as_str())?)
+}
+
+// Behind sixteen shares the last page isn't shared once more, and another one has no room, though the second partition has.
+const FULL: &str = "\
+call 84000073 60 60 -> 8001: 84000060 0 FFFFFFFA
+store 4002E050 0000000040021000 -> done
+call 84000073 60 60 -> 8001: 84000060 0 FFFFFFFD
+call 8400006B -> 0: 8400006B 80010000
+call 8400006D 80020000 -> 8002: 8400006D 80020000
+store 4003E000 00000000002F8002 -> done
+store 4003E018 0000000100000010 -> done
+store 4003E020 0000000000000030 -> done
+store 4003E030 0000004000018001 -> done
+store 4003E040 0000000100000001 -> done
+store 4003E050 0000000040031000 -> done
+store 4003E058 0000000000000001 -> done
+call 84000073 60 60 -> 8002: 84000061 0 1 8002
+call 8400006B -> 0: 8400006B 80020000
+call 8400006D 80010000 -> 8001: 8400006D 80010000
+call 84000073 60 60 -> 8001: 84000060 0 FFFFFFFD
+call 84000077 3 8001 -> 8001: 84000061
+call 84000073 60 60 -> 8001: 84000061 0 11 8001
+store 4002E050 0000000040042000 -> done
+call 84000073 60 60 -> 8001: 84000060 0 FFFFFFFD
+";
+
+#[test]
+fn sixteen_open_transactions(rt: HostRuntime) -> Result<(), Fail> {
+    let mut row = Row::new(rt.alloc());
+    row.add(MAPPED)?;
+    add_share(&mut row, rt.alloc(), "4002E")?;
+    for page in 0..16u32 {
+        let number = page + 1;
+        row.add(&format!(in rt.alloc();
+            "\
+store 4002E050 000000004004{page:X}000 -> done
+call 84000073 60 60 -> 8001: 84000061 0 {number:X} 8001
+"
+        )?)?;
+    }
+    row.add(FULL)?;
+    check_with_more(&rt, rt.alloc(), &row, "16")
+}
+
+// A lend of one range too many, of a byte too few, and of 64 ranges.
+const MANY: &str = "\
+store 4002E000 0000000000008001 -> done
+store 4002E018 0000000100000010 -> done
+store 4002E020 0000000000000030 -> done
+store 4002E030 0000004000028002 -> done
+store 4002E040 0000004100000041 -> done
+call 84000072 460 460 -> 8001: 84000060 0 FFFFFFFE
+store 4002E040 0000004000000040 -> done
+call 84000072 44F 44F -> 8001: 84000060 0 FFFFFFFE
+call 84000072 450 450 -> 8001: 84000061 0 1 8001
+";
+
+// The longest response, and what stands behind it in RX.
+const LONGEST: &str = "\
+store 4003C450 5A5A5A5A5A5A5A5A -> done
+store 4003D000 5A5A5A5A5A5A5A5A -> done
+call 84000074 40 40 -> 8002: 84000075 450 450
+load 4003C000 8 -> data 00000010002F8001
+load 4003C040 8 -> data 0000004000000040
+load 4003C450 8 -> data 5A5A5A5A5A5A5A5A
+load 4003D000 8 -> data 5A5A5A5A5A5A5A5A
+";
+
+// The ranges are pages in no order.
+#[test]
+fn sixty_four_ranges(rt: HostRuntime) -> Result<(), Fail> {
+    let mut row = Row::new(rt.alloc());
+    let mut told = String::from_str(rt.alloc(), LONGEST)?;
+    row.add(TWO_PAGES)?;
+    for index in 0..65u32 {
+        let (at, page) = (5 + index, 0x40 + index * 27 % 65);
+        row.add(&format!(in rt.alloc();
+            "\
+store 4002E{at:02X}0 00000000400{page:X}000 -> done
+store 4002E{at:02X}8 0000000000000001 -> done
+"
+        )?)?;
+        if index < 64 {
+            told.push_str(&format!(in rt.alloc();
+                "\
+load 4003C{at:02X}0 8 -> data 00000000400{page:X}000
+load 4003C{at:02X}8 8 -> data 0000000000000001
+"
+            )?)?;
+        }
+    }
+    for part in [MANY, TO_SECOND, RETRIEVE, told.as_str()] {
+        row.add(part)?;
+    }
+    check_with_more(&rt, rt.alloc(), &row, "65")
+}
+
+// A composite and its range, byte by byte.
+const ONE_PAGE: &str =
+    "01 00 00 00 01 00 00 00 00 00 00 00 00 00 00 00 00 10 02 40 00 00 00 00 01 00 00 00 00 00 00 00";
+
+// The composite stands at this place of TX.
+fn add_composite(row: &mut Row, alloc: Global, place: u32) -> Result<(), Fail> {
+    row.add(&format!(in alloc; "store 4002E034 {place:08X} -> done")?)?;
+    let mut at = 0x4002_E000 | place;
+    for byte in ONE_PAGE.split(' ') {
+        row.add(&format!(in alloc; "store {at:X} {byte} -> done")?)?;
+        at = u32::wrapping_add(at, 1);
+    }
+    Ok(())
+}
+
+// A lend that is said to have a byte more than a page.
+const LONGER: &str = "\
+call 84000077 1 8001 -> 8001: 84000061
+call 84000072 1001 1001 -> 8001: 84000061 0 2 8001
+call 84000077 2 8001 -> 8001: 84000061
+";
+
+// A range begins at each of the last 15 bytes of a page and at the next page: only then its composite is where one may be.
+#[test]
+fn a_range_across_pages(rt: HostRuntime) -> Result<(), Fail> {
+    let mut row = Row::new(rt.alloc());
+    for part in [TWO_PAGES, LEND, LONGER] {
+        row.add(part)?;
+    }
+    for place in 0xFE1..0xFF1u32 {
+        add_composite(&mut row, rt.alloc(), place)?;
+        let (end, answer) = (
+            place + 32,
+            if place < 0xFF0 {
+                INVALID
+            } else {
+                "84000061 0 3 8001"
+            },
+        );
+        row.add(&format!(in rt.alloc(); "call 84000072 {end:X} {end:X} -> 8001: {answer}")?)?;
+    }
+    row.check(&rt, rt.alloc())
+}
+
+// A lend whose range ends a TX of so many pages, and a retrieve whose access descriptor does. In place of the first question
+// marks stand one page less.
+const WHOLE: &str = "\
+call 84000066 40020000 40024000 # -> 8001: 84000061
+store 40020000 0000000000008001 -> done
+store 40020018 0000000100000010 -> done
+store 40020020 0000000000000030 -> done
+store 40020030 0000?FE000028002 -> done
+store 4002?FE0 0000000100000001 -> done
+store 4002?FF0 0000000040028000 -> done
+store 4002?FF8 0000000000000001 -> done
+call 84000072 ?FFF ?FFF -> 8001: 84000060 0 FFFFFFFE
+call 84000072 #001 #001 -> 8001: 84000060 0 FFFFFFFE
+call 84000072 #000 #000 -> 8001: 84000061 0 # 8001
+call 8400006B -> 0: 8400006B 80010000
+call 8400006D 80020000 -> 8002: 8400006D 80020000
+call 84000066 40030000 40034000 # -> 8002: 84000061
+store 40030000 0000000000008001 -> done
+store 40030008 000080010000000# -> done
+store 40030010 0000000000000000 -> done
+store 40030018 0000000100000010 -> done
+store 40030020 000000000000?FF0 -> done
+store 4003?FF0 0000000000028002 -> done
+call 84000074 ?FFF ?FFF -> 8002: 84000060 0 FFFFFFFE
+call 84000074 #001 #001 -> 8002: 84000060 0 FFFFFFFE
+call 84000074 #000 #000 -> 8002: 84000075 60 60
+load 40034050 8 -> data 0000000040028000
+store 40030000 000080010000000# -> done
+store 40030008 0000000100000000 -> done
+store 40030010 0000000000008002 -> done
+call 84000076 -> 8002: 84000061
+call 84000067 -> 8002: 84000061
+call 8400006B -> 0: 8400006B 80020000
+call 8400006D 80010000 -> 8001: 8400006D 80010000
+call 84000077 # 8001 -> 8001: 84000061
+call 84000067 -> 8001: 84000061
+";
+
+#[test]
+fn descriptors_as_long_as_buffers(rt: HostRuntime) -> Result<(), Fail> {
+    let mut row = Row::new(rt.alloc());
+    row.add(FIRST_RUNS)?;
+    for (before, pages) in [("0", "1"), ("1", "2"), ("2", "3"), ("3", "4")] {
+        let whole = String::from_str(rt.alloc(), WHOLE)?.replace(rt.alloc(), "?", before)?;
+        row.add(whole.replace(rt.alloc(), "#", pages)?.as_str())?;
+    }
+    row.check(&rt, rt.alloc())
+}
