@@ -1,6 +1,6 @@
 //! Whether tables give what runs of pages say, whatever the bytes are. Where a word of level 1 or 2 maps nothing, or is a
 //! block, all its addresses are judged at once.
-ghost use Rattle.std.specs.Prelude.{◌≡◌, ◌≢◌, ℕ, ◌+◌, ◌-◌, ◌*◌, ◌%◌, ◌^◌, ◌<◌, ◌≤◌, ◌↔◌, IsTrue, IfSome, IfNone, All, Option, Some, length, true};
+ghost use Rattle.std.specs.Prelude.{◌≡◌, ◌≢◌, ℕ, ◌+◌, ◌-◌, ◌*◌, ◌/◌, ◌%◌, ◌^◌, ◌<◌, ◌≤◌, ◌↔◌, IsTrue, IfSome, IfNone, All, Option, Some, length, true};
 ghost use Rattle.ffa_model.specs.Certified.{IsCertified, access_in, are_in_order};
 ghost use Rattle.ffa_model.specs.Walk as walk;
 ghost use Rattle.ffa_model.specs.declared.limits.TheConstants.{MOST_ENDPOINTS};
@@ -136,10 +136,7 @@ fn gives_level2<M: PhysMem>(
         return gives_leaf(memory, word, output, runs, place, start, LEVEL2);
     }
     match table_of(memory, word) {
-        Ok(table) => {
-            let page = start.saturating_sub(u64::from(memory.base())) / 4096;
-            gives_table3(memory, table, runs_from(runs, page), place, start)
-        }
+        Ok(table) => gives_table3(memory, table, runs, place, start),
         Err(_) => false,
     }
 }
@@ -155,7 +152,7 @@ fn runs_from(runs: &[CertRun], page: u64) -> &[CertRun]
     &runs[passed..]
 }
 
-// The same of the words of a level 3 table.
+// The same of the words of a level 3 table. A run that ends before a word's page is passed once, not again for each word.
 fn gives_table3<M: PhysMem>(
     memory: &M,
     table: u64,
@@ -169,13 +166,23 @@ fn gives_table3<M: PhysMem>(
     requires place { place < MOST_ENDPOINTS }
     ensures { IsTrue result ↔ AreCertified (M.ram memory.now) runs.now place start (2 ^ 21) (from_table3 (M.ram memory.now) table) }
 {
+    let mut rest = runs;
     for index in 0..512u64 {
         let word = read_entry(memory, table, index);
-        if !gives_level3(memory, word, runs, place, start + LEVEL3 * index) {
+        let address = start + LEVEL3 * index;
+        rest = runs_from(rest, page_behind(memory, address));
+        if !gives_level3(memory, word, rest, place, address) {
             return false;
         }
     }
     true
+}
+
+// The number of the page at an address, from RAM's first on, or 0 where the address is below RAM.
+fn page_behind<M: PhysMem>(memory: &M, address: u64) -> u64
+    ensures { result ≡ (address - (M.ram memory.now).base) / 4096 }
+{
+    address.saturating_sub(u64::from(memory.base())) / 4096
 }
 
 // Whether the walks from a word of level 3 are those of the runs.

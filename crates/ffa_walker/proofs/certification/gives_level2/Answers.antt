@@ -1,7 +1,7 @@
 use Rattle.std.proofs.Common.{◌∙◌, sym, arith}
 use Rattle.std.proofs.lemmas.Bool.{false≢true}
 use Rattle.ffa_walker.proofs.Levels.{level2-away, level2-block, level2-none, level2-table}
-use Rattle.ffa_walker.proofs.Spans.{like, narrowed, nothing, outside, through}
+use Rattle.ffa_walker.proofs.Spans.{like, nothing, outside, through}
 use Rattle.ffa_walker.proofs.certification.gives_level2.Goals as goal
 
 pub returns-then-word-eq0 : goal.returns-then-word-eq0
@@ -21,10 +21,8 @@ pub returns-in-Ok : goal.returns-in-Ok
 returns-in-Ok g c =
     let ram = g.M.PhysMem.ram c.args.memory.now in
     through c.gives_table3.ensures
-    (through
-    (narrowed ram c.args.runs.now c.args.place _ _ c.args.start 2097152 _ (omega arith) (c.runs_from.ensures c.args.place))
     (like ram c.args.runs.now c.args.place c.args.start 2097152 _ _
-    (λ a from to. sym (level2-table ram c.args.word c.if-word-eq0.false c.if-word-eq0-2.false c.in-Ok.table a (sym c.table_of.ensures.value ∙ c.in-Ok.is)))))
+    (λ a from to. sym (level2-table ram c.args.word c.if-word-eq0.false c.if-word-eq0-2.false c.in-Ok.table a (sym c.table_of.ensures.value ∙ c.in-Ok.is))))
 
 pub returns-in-Err : goal.returns-in-Err
 returns-in-Err g c =
