@@ -92,7 +92,7 @@ fn gives_level1<M: PhysMem>(
     }
 }
 
-// The same of the words of a level 2 table.
+// The same of the words of a level 2 table. A run that ends before a word's pages is passed once, not again for each word.
 fn gives_table2<M: PhysMem>(
     memory: &M,
     table: u64,
@@ -106,9 +106,12 @@ fn gives_table2<M: PhysMem>(
     requires place { place < MOST_ENDPOINTS }
     ensures { IsTrue result ↔ AreCertified (M.ram memory.now) runs.now place start (2 ^ 30) (from_table2 (M.ram memory.now) table) }
 {
+    let mut rest = runs;
     for index in 0..512u64 {
         let word = read_entry(memory, table, index);
-        if !gives_level2(memory, word, runs, place, start + LEVEL2 * index) {
+        let address = start + LEVEL2 * index;
+        rest = runs_from(rest, page_behind(memory, address));
+        if !gives_level2(memory, word, rest, place, address) {
             return false;
         }
     }
@@ -152,7 +155,7 @@ fn runs_from(runs: &[CertRun], page: u64) -> &[CertRun]
     &runs[passed..]
 }
 
-// The same of the words of a level 3 table. A run that ends before a word's page is passed once, not again for each word.
+// The same of the words of a level 3 table, where runs are passed in the same way.
 fn gives_table3<M: PhysMem>(
     memory: &M,
     table: u64,
