@@ -19,7 +19,7 @@ use Rattle.ffa_model.specs.Calls.{first_failure}
 use Rattle.ffa_model.specs.RunStates.{schedule_of}
 use Rattle.ffa_laws.specs.Steady.{IsSteady, AreSteadyBuffers}
 use Rattle.ffa_laws.specs.View.{view, buffers_seen, hidden, involves, is_near, kept}
-use Rattle.ffa_laws.specs.Events.{apply_all, fullness, public_change, with_fullness}
+use Rattle.ffa_laws.specs.Events.{apply_all, public_buffers, public_change, with_public_buffers}
 use Rattle.ffa_model.proofs.Guards.{guard-passes}
 use Rattle.ffa_model.proofs.Places.{known-named, known-place, same-known}
 use Rattle.ffa_model.proofs.Accesses.{length-map_at}
@@ -211,7 +211,7 @@ module _ (s : State) (steady : IsSteady s) where
     own-kept : (b : Option Buffers) → OwnKept e s (buffers_with s.buffers s.runner b)
     own-kept b i mine =
         let at : get_or (set s.buffers (place s.runner) b) i None ≡ get_or s.buffers i None = get_or-set_other s.buffers (place s.runner) i b None apart in
-        (λ j. with_fullness (length s.pages) (get_or s.buffers i None) (fullness (at j))) ∙ own_full (length s.pages) (get_or s.buffers i None) ∙ sym at
+        (λ j. with_public_buffers (length s.pages) (get_or s.buffers i None) (public_buffers (at j))) ∙ own_full (length s.pages) (get_or s.buffers i None) ∙ sym at
       where
         apart : i ≢ place s.runner
         apart same = other (same-known (length s.parties) s.runner e steady.runner known (sym same ∙ sym (identifier-place i e mine)))

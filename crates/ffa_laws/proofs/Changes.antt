@@ -11,7 +11,7 @@ use Rattle.ffa_model.specs.Access.{transaction_at}
 use Rattle.ffa_model.specs.RunStates.{Schedule, schedule_of}
 use Rattle.ffa_model.proofs.Accesses.{length-map_at}
 use Rattle.ffa_laws.specs.View.{view, is_near, involves, kept, buffers_seen, hidden}
-use Rattle.ffa_laws.specs.Events.{Event, Public, public_part, public_change, is_same_public, fullness, with_fullness, with_public, apply, apply_all}
+use Rattle.ffa_laws.specs.Events.{Event, Public, public_part, public_change, is_same_public, public_buffers, with_public_buffers, with_public, apply, apply_all}
 use Rattle.ffa_laws.proofs.Maps.{at-map_at, map_at-alike, get_or-map}
 use Rattle.ffa_laws.proofs.Publics.{same_public}
 
@@ -70,26 +70,26 @@ identifier-place zero e is = let same = eqb-true 0 e is in omega arith
 identifier-place (suc i) e is = let same = eqb-true (0x8001 + i) e is in omega arith
 
 -- what e sees of buffers, where its own keep their pages: their public part is the new one
-seen-public : (e past i : ℕ) (old new : Option Buffers) → ((identifier i == e) ≡ true → with_fullness past old (fullness new) ≡ new)
-    → with_fullness past (buffers_seen e past i old) (fullness new) ≡ buffers_seen e past i new
+seen-public : (e past i : ℕ) (old new : Option Buffers) → ((identifier i == e) ≡ true → with_public_buffers past old (public_buffers new) ≡ new)
+    → with_public_buffers past (buffers_seen e past i old) (public_buffers new) ≡ buffers_seen e past i new
 seen-public e past i old new own =
-    elim (identifier i == e) as (λ b. (identifier i == e) ≡ b → with_fullness past (cond b old (hidden past old)) (fullness new) ≡ cond b new (hidden past new)) [
+    elim (identifier i == e) as (λ b. (identifier i == e) ≡ b → with_public_buffers past (cond b old (hidden past old)) (public_buffers new) ≡ cond b new (hidden past new)) [
       | true ↦ own
       | false ↦ λ other. go old new
     ] refl
   where
-    go : (old new : Option Buffers) → with_fullness past (hidden past old) (fullness new) ≡ hidden past new
+    go : (old new : Option Buffers) → with_public_buffers past (hidden past old) (public_buffers new) ≡ hidden past new
     go old None = refl
     go None (Some b) = refl
     go (Some a) (Some b) = refl
 
 public-buffers : (e past : ℕ) (bs cs : List (Option Buffers)) → length bs ≡ length cs
-    → ((i : ℕ) → (identifier i == e) ≡ true → with_fullness past (get_or bs i None) (fullness (get_or cs i None)) ≡ get_or cs i None)
-    → map_at (λ i b. with_fullness past b (get_or (map fullness cs) i None)) (seen_buffers e past bs) ≡ seen_buffers e past cs
+    → ((i : ℕ) → (identifier i == e) ≡ true → with_public_buffers past (get_or bs i None) (public_buffers (get_or cs i None)) ≡ get_or cs i None)
+    → map_at (λ i b. with_public_buffers past b (get_or (map public_buffers cs) i None)) (seen_buffers e past bs) ≡ seen_buffers e past cs
 public-buffers e past bs cs each own =
-    map_at-alike (λ i b. with_fullness past b (get_or (map fullness cs) i None)) (buffers_seen e past) (seen_buffers e past bs) cs None None
+    map_at-alike (λ i b. with_public_buffers past b (get_or (map public_buffers cs) i None)) (buffers_seen e past) (seen_buffers e past bs) cs None None
     (length-map_at (buffers_seen e past) bs ∙ each)
-    (λ i. (λ j. with_fullness past (at-map_at (buffers_seen e past) bs i (buffers_seen-none e past) j) (get_or-map fullness cs i refl j))
+    (λ i. (λ j. with_public_buffers past (at-map_at (buffers_seen e past) bs i (buffers_seen-none e past) j) (get_or-map public_buffers cs i refl j))
     ∙ seen-public e past i (get_or bs i None) (get_or cs i None) (own i))
 
 module _ (e : ℕ) (s : State) (ps : List (Option Page)) (bs : List (Option Buffers)) (c : Schedule) (rewritten : AreRewritten s.pages ps) where
@@ -104,13 +104,13 @@ module _ (e : ℕ) (s : State) (ps : List (Option Page)) (bs : List (Option Buff
 abbrev pub repaged : ℕ → State → List (Option Page) → State
 repaged e s ps = with_parts (view e s) (map_at (λ q page. kept (is_near e s q) page) ps) (view e s).buffers (schedule_of s)
 
-pub own_full : (past : ℕ) (b : Option Buffers) → with_fullness past b (fullness b) ≡ b
+pub own_full : (past : ℕ) (b : Option Buffers) → with_public_buffers past b (public_buffers b) ≡ b
 own_full past None = refl
 own_full past (Some b) = refl
 
 -- e's buffers have the pages that they had
 abbrev pub OwnKept : ℕ → State → List (Option Buffers) → Type 0
-OwnKept e s bs = (i : ℕ) → (identifier i == e) ≡ true → with_fullness (length s.pages) (get_or s.buffers i None) (fullness (get_or bs i None)) ≡ get_or bs i None
+OwnKept e s bs = (i : ℕ) → (identifier i == e) ≡ true → with_public_buffers (length s.pages) (get_or s.buffers i None) (public_buffers (get_or bs i None)) ≡ get_or bs i None
 
 pub own-same : (e : ℕ) (s : State) → OwnKept e s s.buffers
 own-same e s i mine = own_full (length s.pages) (get_or s.buffers i None)
@@ -133,7 +133,7 @@ module _ (e : ℕ) (s t u : State) (told : List Event) (each : length t.buffers 
       → with_public u (public_part x) ≡ with_public_parts u (schedule_of x) (seen_buffers e (length s.pages) x.buffers)
   public-is x each_x own_x =
       (λ i. with_public (old i) (public_part x))
-      ∙ (λ i. with_public_parts u (schedule_of x) (map_at (λ j b. with_fullness (size i) b (get_or (map fullness x.buffers) j None)) (view e s).buffers))
+      ∙ (λ i. with_public_parts u (schedule_of x) (map_at (λ j b. with_public_buffers (size i) b (get_or (map public_buffers x.buffers) j None)) (view e s).buffers))
       ∙ (λ i. with_public_parts u (schedule_of x) (public-buffers e (length s.pages) s.buffers x.buffers (sym each_x) own_x i))
 
   pub other-told : view e t ≡ apply_all e (view e s) (told ++ public_change s t)

@@ -41,7 +41,7 @@ use Rattle.ffa_model.proofs.Guards.{guard-passes}
 use Rattle.ffa_model.proofs.Sets.{Bits, contains-retained, same-itself, same_elements}
 use Rattle.ffa_laws.specs.Steady.{IsSteady}
 use Rattle.ffa_laws.specs.View.{buffers_seen, hidden, involves, kept, seen_by, view}
-use Rattle.ffa_laws.specs.Events.{Event, Wrote, Filled, Pending, Bound, Unbound, Opened, Held, Zeroed, Closed, Public, apply, apply_all, binds, call_events, events, fullness, is_same_public, opens, public_change, public_part, releases, takes, takes_from, taking, told_by, where_passed, where_true, with_held, with_holder, writes}
+use Rattle.ffa_laws.specs.Events.{Event, Wrote, Filled, Pending, Bound, Unbound, Opened, Held, Zeroed, Closed, Public, apply, apply_all, binds, call_events, events, public_buffers, is_same_public, opens, public_change, public_part, releases, takes, takes_from, taking, told_by, where_passed, where_true, with_held, with_holder, writes}
 use Rattle.ffa_laws.specs.Silence.{AreNews, Silence, may_repeat}
 use Rattle.ffa_laws.proofs.Changes.{apply_all-append}
 use Rattle.ffa_laws.proofs.Closed.{get-remove}
@@ -166,12 +166,12 @@ module _ (e receiver class : ℕ) where
 
 -- ---- the public part
 public-seen : (e : ℕ) (s : State) → public_part (view e s) ≡ public_part s
-public-seen e s = λ i. record { runner = s.runner; statuses = s.statuses; works = s.works; full = go s.buffers (buffers_seen e (length s.pages)) (λ j b. at j b) i }
+public-seen e s = λ i. record { runner = s.runner; statuses = s.statuses; works = s.works; buffers = go s.buffers (buffers_seen e (length s.pages)) (λ j b. at j b) i }
   where
-    at : (j : ℕ) (b : Option Buffers) → fullness (buffers_seen e (length s.pages) j b) ≡ fullness b
-    at j b = elim (identifier j == e) as (λ c. fullness (cond c b (hidden (length s.pages) b)) ≡ fullness b) [ true ↦ refl | false ↦ (elim b as (λ o. fullness (hidden (length s.pages) o) ≡ fullness o) [ None ↦ refl | Some x ↦ refl ]) ]
+    at : (j : ℕ) (b : Option Buffers) → public_buffers (buffers_seen e (length s.pages) j b) ≡ public_buffers b
+    at j b = elim (identifier j == e) as (λ c. public_buffers (cond c b (hidden (length s.pages) b)) ≡ public_buffers b) [ true ↦ refl | false ↦ (elim b as (λ o. public_buffers (hidden (length s.pages) o) ≡ public_buffers o) [ None ↦ refl | Some x ↦ refl ]) ]
 
-    go : (bs : List (Option Buffers)) (f : ℕ → Option Buffers → Option Buffers) → ((j : ℕ) (b : Option Buffers) → fullness (f j b) ≡ fullness b) → map fullness (map_at f bs) ≡ map fullness bs
+    go : (bs : List (Option Buffers)) (f : ℕ → Option Buffers → Option Buffers) → ((j : ℕ) (b : Option Buffers) → public_buffers (f j b) ≡ public_buffers b) → map public_buffers (map_at f bs) ≡ map public_buffers bs
     go [] f same = refl
     go (b ∷ bs) f same = λ i. same 0 b i ∷ go bs (λ j. f (suc j)) (λ j. same (suc j)) i
 

@@ -7,7 +7,7 @@ use Rattle.ffa_model.specs.declared.schedule.Work.{Work}
 use Rattle.ffa_model.specs.declared.schedule.Work.TheVariants.{Run, Request}
 use Rattle.ffa_model.specs.Codes.{status_from, status_from-number}
 use Rattle.ffa_model.specs.RunStates.{status_number}
-use Rattle.ffa_laws.specs.Events.{PublicPart, is_same_public, work_number, fullness_number}
+use Rattle.ffa_laws.specs.Events.{PublicPart, is_same_public, work_number, public_buffers_number}
 
 -- a list is known by the numbers of its elements
 module _ {X : Type 0} (number : X → ℕ) (from : ℕ → X) (back : (x : X) → from (number x) ≡ x) where
@@ -23,34 +23,34 @@ work_back zero = None
 work_back (suc zero) = Some Run
 work_back (suc (suc by)) = Some (Request (record { 0 = by }))
 
-abbrev fullness_back : ℕ → Option (ℕ × Bool)
-fullness_back zero = None
-fullness_back (suc n) = Some (n / 2, n % 2 == 1)
+abbrev public_buffers_back : ℕ → Option (ℕ × Bool)
+public_buffers_back zero = None
+public_buffers_back (suc n) = Some (n / 2, n % 2 == 1)
 
 work_back-number : (w : Option Work) → work_back (work_number w) ≡ w
 work_back-number None = refl
 work_back-number (Some Run) = refl
 work_back-number (Some (Request by)) = refl
 
-fullness_back-number : (f : Option (ℕ × Bool)) → fullness_back (fullness_number f) ≡ f
-fullness_back-number None = refl
-fullness_back-number (Some (n, true)) =
+public_buffers_back-number : (f : Option (ℕ × Bool)) → public_buffers_back (public_buffers_number f) ≡ f
+public_buffers_back-number None = refl
+public_buffers_back-number (Some (n, true)) =
     let half : (2 * n + 1) / 2 ≡ n = omega arith in
     let odd : ((2 * n + 1) % 2 == 1) ≡ true = eq-eqb ((2 * n + 1) % 2) 1 (omega arith) in
     λ i. Some (half i, odd i)
-fullness_back-number (Some (n, false)) =
+public_buffers_back-number (Some (n, false)) =
     let half : (2 * n + 0) / 2 ≡ n = omega arith in
     let even : ((2 * n + 0) % 2 == 1) ≡ false = ne_eqb ((2 * n + 0) % 2) 1 (λ same. absurd (omega (arith, same))) in
     λ i. Some (half i, even i)
 
 pub same_public : (a b : PublicPart) → is_same_public a b ≡ true → a ≡ b
 same_public a b same =
-    let (three, full) = and_parts _ _ same in
+    let (three, buffers) = and_parts _ _ same in
     let (two, works) = and_parts _ _ three in
     let (runner, statuses) = and_parts _ _ two in
     λ i. record {
       runner = eqb-true a.runner b.runner runner i;
       statuses = same_list status_number status_from status_from-number a.statuses b.statuses statuses i;
       works = same_list work_number work_back work_back-number a.works b.works works i;
-      full = same_list fullness_number fullness_back fullness_back-number a.full b.full full i;
+      buffers = same_list public_buffers_number public_buffers_back public_buffers_back-number a.buffers b.buffers buffers i;
     }

@@ -31,7 +31,7 @@ use Rattle.ffa_model.proofs.Accesses.{length-map_at, named-in}
 use Rattle.ffa_model.proofs.Guards.{guard-passes}
 use Rattle.ffa_laws.specs.Steady.{IsSteady}
 use Rattle.ffa_laws.specs.View.{is_near, kept, view, involves, seen_by}
-use Rattle.ffa_laws.specs.Events.{Event, Wrote, Message, Filled, Pending, Bound, Unbound, Opened, Held, Zeroed, Closed, Public, apply, apply_all, events, where_true, with_fullness, with_holder, with_opened, with_public, call_events, public_change, public_part, releases, where_passed, writes}
+use Rattle.ffa_laws.specs.Events.{Event, Wrote, Message, Filled, Pending, Bound, Unbound, Opened, Held, Zeroed, Closed, Public, apply, apply_all, events, where_true, with_public_buffers, with_holder, with_opened, with_public, call_events, public_change, public_part, releases, where_passed, writes}
 use Rattle.ffa_laws.specs.OwnAccess.{AreApart, gives_access, is_call}
 use Rattle.ffa_laws.specs.Readable.{Confidential, all_readably, blank, blank_page, blank_where, blanked, is_unreadable, readable, readably, revealed}
 use Rattle.ffa_laws.specs.Silence.{may_tell}
@@ -267,7 +267,7 @@ module _ (e : ℕ) (hides : ℕ → Bool) where
   apply-blind v (Public values) =
       λ i. record (with_public v values) {
         pages = blanked-twice hides v.pages i;
-        buffers = map_at (λ j x. with_fullness (length-map_at (λ p page. blank_where (hides p) page) v.pages i) x (get_or values.full j None)) v.buffers;
+        buffers = map_at (λ j x. with_public_buffers (length-map_at (λ p page. blank_where (hides p) page) v.pages i) x (get_or values.buffers j None)) v.buffers;
       }
 
   base-kept : (v : State) (event : Event) → (apply e v event).ram_base ≡ v.ram_base

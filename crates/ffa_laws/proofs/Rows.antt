@@ -31,7 +31,7 @@ use Rattle.ffa_model.specs.Step.{serve, service, step}
 use Rattle.ffa_model.specs.Transactions.{bases_of, handle_of, next_handle, offers_of}
 use Rattle.byteorder.specs.Endian.{little_bytes}
 use Rattle.std.proofs.lemmas.Slice.Eq.{bytes_eq-Decides}
-use Rattle.ffa_laws.specs.Events.{call_events, Event, Wrote, Message, Filled, Pending, Held, Zeroed, Closed, Opened, Public, PublicPart, Unbound, Bound, binds, events, fullness_number, is_same_public, named_pages, opens, public_change, public_part, releases, takes, takes_from, taking, told_by, unbinds, where_passed, where_true, work_number, writes}
+use Rattle.ffa_laws.specs.Events.{call_events, Event, Wrote, Message, Filled, Pending, Held, Zeroed, Closed, Opened, Public, PublicPart, Unbound, Bound, binds, events, public_buffers_number, is_same_public, named_pages, opens, public_change, public_part, releases, takes, takes_from, taking, told_by, unbinds, where_passed, where_true, work_number, writes}
 use Rattle.ffa_laws.specs.OwnAccess.{is_call}
 use Rattle.ffa_laws.specs.Silence.{may_be_told, may_change_public, may_tell}
 use Rattle.ffa_laws.proofs.Form.{accessed-kept, served-kept}
@@ -75,7 +75,7 @@ public-step s (Fetch address) quiet = accessed-kept (λ t. public_part t ≡ pub
 -- a public part is the same as itself
 pub same-as-itself : (a : PublicPart) → is_same_public a a ≡ true
 same-as-itself a =
-    and_from _ _ (and_from _ _ (and_from _ _ (eq-eqb a.runner a.runner refl) (same (map status_number a.statuses))) (same (map work_number a.works))) (same (map fullness_number a.full))
+    and_from _ _ (and_from _ _ (and_from _ _ (eq-eqb a.runner a.runner refl) (same (map status_number a.statuses))) (same (map work_number a.works))) (same (map public_buffers_number a.buffers))
   where
     same : (xs : List ℕ) → bytes_eq xs xs ≡ true
     same xs = (bytes_eq-Decides xs xs).1 refl

@@ -11,7 +11,7 @@ use Rattle.ffa_model.specs.Buffers.{buffers_with_rx, filled_pages}
 use Rattle.ffa_model.specs.RunStates.{schedule_of}
 use Rattle.ffa_model.proofs.Accesses.{length-map_at}
 use Rattle.ffa_laws.specs.View.{view, is_near, kept, hidden}
-use Rattle.ffa_laws.specs.Events.{fullness, with_fullness}
+use Rattle.ffa_laws.specs.Events.{public_buffers, with_public_buffers}
 use Rattle.ffa_laws.proofs.Maps.{at-map_at, map_at-set}
 use Rattle.ffa_laws.proofs.Views.{kept_none, view-page}
 use Rattle.ffa_laws.proofs.Changes.{AreRewritten, standing, unwritten, with_parts, view-changed}
@@ -135,13 +135,13 @@ with_rx_full full o = option_map (λ (b : Buffers). record b { full = full }) o
 
 -- RX that is full or empty leaves the pages of buffers
 pub rx-own : (past : ℕ) (bs : List (Option Buffers)) (f : ℕ) (full : Bool) (i : ℕ)
-    → with_fullness past (get_or bs i None) (fullness (get_or (buffers_with_rx bs f full) i None)) ≡ get_or (buffers_with_rx bs f full) i None
+    → with_public_buffers past (get_or bs i None) (public_buffers (get_or (buffers_with_rx bs f full) i None)) ≡ get_or (buffers_with_rx bs f full) i None
 rx-own past bs f full i =
-    ap (λ o. with_fullness past (get_or bs i None) (fullness o)) (at-changed (with_rx_full full) bs (place f) i refl)
+    ap (λ o. with_public_buffers past (get_or bs i None) (public_buffers o)) (at-changed (with_rx_full full) bs (place f) i refl)
     ∙ go (is_at (place f) i) (get_or bs i None)
     ∙ sym (at-changed (with_rx_full full) bs (place f) i refl)
   where
-    go : (b : Bool) (o : Option Buffers) → with_fullness past o (fullness (cond b (with_rx_full full o) o)) ≡ cond b (with_rx_full full o) o
+    go : (b : Bool) (o : Option Buffers) → with_public_buffers past o (public_buffers (cond b (with_rx_full full o) o)) ≡ cond b (with_rx_full full o) o
     go true None = refl
     go true (Some x) = refl
     go false None = refl

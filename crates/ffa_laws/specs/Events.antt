@@ -44,14 +44,14 @@ pub record PublicPart : Type 0 where
   pub runner : ℕ
   pub statuses : List Status
   pub works : List (Option Work)
-  pub full : List (Option (ℕ × Bool))
+  pub buffers : List (Option (ℕ × Bool))
 
-abbrev pub fullness : Option Buffers → Option (ℕ × Bool)
-fullness b = option_map (λ (q : Buffers). (q.pages, q.full)) b
+abbrev pub public_buffers : Option Buffers → Option (ℕ × Bool)
+public_buffers b = option_map (λ (q : Buffers). (q.pages, q.full)) b
 
 abbrev pub public_part : State → PublicPart
 public_part s =
-    record { runner = s.runner; statuses = s.statuses; works = s.works; full = map fullness s.buffers }
+    record { runner = s.runner; statuses = s.statuses; works = s.works; buffers = map public_buffers s.buffers }
 
 pub data Event : Type 0 where
   Wrote : (address : ℕ) (bytes : List ℕ) → Event
@@ -69,10 +69,10 @@ pub data Event : Type 0 where
 -- APPLY: what an event changes in the view of e
 
 -- buffers that are mapped, of so many pages, and full or not; those of another endpoint have no page in RAM
-abbrev pub with_fullness : ℕ → Option Buffers → Option (ℕ × Bool) → Option Buffers
-with_fullness past b None = None
-with_fullness past None (Some known) = Some (record { tx = past; rx = past; pages = known.0; full = known.1 })
-with_fullness past (Some b) (Some known) = Some (record b { pages = known.0; full = known.1 })
+abbrev pub with_public_buffers : ℕ → Option Buffers → Option (ℕ × Bool) → Option Buffers
+with_public_buffers past b None = None
+with_public_buffers past None (Some known) = Some (record { tx = past; rx = past; pages = known.0; full = known.1 })
+with_public_buffers past (Some b) (Some known) = Some (record b { pages = known.0; full = known.1 })
 
 abbrev pub with_public : State → PublicPart → State
 with_public v values =
@@ -80,7 +80,7 @@ with_public v values =
       runner = values.runner;
       statuses = values.statuses;
       works = values.works;
-      buffers = map_at (λ i b. with_fullness (length v.pages) b (slice_index_or values.full i None)) v.buffers;
+      buffers = map_at (λ i b. with_public_buffers (length v.pages) b (slice_index_or values.buffers i None)) v.buffers;
     }
 
 -- the pages that the ranges name, each in its place, and pages with these in their places
@@ -228,15 +228,15 @@ work_number None = 0
 work_number (Some WorkRun) = 1
 work_number (Some (Request by)) = suc (suc by.0)
 
-abbrev pub fullness_number : Option (ℕ × Bool) → ℕ
-fullness_number None = 0
-fullness_number (Some known) = suc (2 * known.0 + (if known.1 then 1 else 0))
+abbrev pub public_buffers_number : Option (ℕ × Bool) → ℕ
+public_buffers_number None = 0
+public_buffers_number (Some known) = suc (2 * known.0 + (if known.1 then 1 else 0))
 
 abbrev pub is_same_public : PublicPart → PublicPart → Bool
 is_same_public a b =
     ((a.runner == b.runner && bytes_eq (map status_number a.statuses) (map status_number b.statuses))
     && bytes_eq (map work_number a.works) (map work_number b.works))
-    && bytes_eq (map fullness_number a.full) (map fullness_number b.full)
+    && bytes_eq (map public_buffers_number a.buffers) (map public_buffers_number b.buffers)
 
 -- the public part where it changed
 abbrev pub public_change : State → State → List Event
