@@ -134,7 +134,7 @@ fn room(buffers: &Buffers, endpoint: EndpointId) -> u64
     ensures { result ≡ room_of (buffers_in buffers.now endpoint.0) }
 {
     match buffers.of(endpoint) {
-        Some(mapped) => PAGE_SIZE as u64 * u64::from(mapped.pages),
+        Some(mapped) => mapped.room() as u64,
         None => 0,
     }
 }

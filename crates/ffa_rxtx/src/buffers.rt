@@ -1,5 +1,5 @@
 //! Who has mapped buffers, and which.
-ghost use Rattle.std.specs.Prelude.{◌≡◌, ◌+◌, ◌||◌, ◌<◌, ◌≤◌, length, replicate, is_some, if◌then◌else◌, true, false, OnOk, OnErr, IfOk, IsSomeAnd};
+ghost use Rattle.std.specs.Prelude.{◌≡◌, ◌+◌, ◌*◌, ◌||◌, ◌<◌, ◌≤◌, length, replicate, is_some, if◌then◌else◌, true, false, OnOk, OnErr, IfOk, IsSomeAnd};
 ghost use Rattle.std.specs.Option.{option_map, option_map_or};
 ghost use Rattle.std.specs.Result.{result_err};
 ghost use Rattle.std.specs.List.{list_all};
@@ -16,7 +16,7 @@ ghost use Rattle.ffa_rxtx.specs.Stored.{buffers_of};
 use arrayvec::ArrayVec;
 use ffa_model::{Data, EndpointId, ErrorCode, MOST_BUFFER_PAGES, MOST_ENDPOINTS, PageNo};
 use ffa_pages::PageTable;
-use ffa_physmem::{PhysMem, put_front};
+use ffa_physmem::{PAGE_SIZE, PhysMem, put_front};
 use std::marker::Model;
 
 /// The buffers of one endpoint: pages in a row each, as many for both.
@@ -30,6 +30,15 @@ pub struct Mapped {
     pub pages: u32,
     /// Whether RX holds bytes that the endpoint hasn't released.
     pub is_full: bool,
+}
+
+impl Mapped {
+    /// How many bytes each of the two has.
+    pub fn room(&self) -> usize
+        ensures { result ≡ 4096 * self.now.pages }
+    {
+        PAGE_SIZE * self.pages as usize
+    }
 }
 
 /// Of each endpoint its buffers, if it has mapped any (DEN0077A, 7.2). They take no memory beyond themselves.
