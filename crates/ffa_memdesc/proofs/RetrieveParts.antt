@@ -1,11 +1,11 @@
 -- What each part of a reader tells of the whole retrieve.
-use Rattle.std.proofs.Common.{◌≡◌, ℕ, ◌+◌, ◌*◌, ◌≤◌, true, false, List, length, Option, Some, None, sym, ap, ◌∙◌, eqb, arith}
+use Rattle.std.proofs.Common.{◌≡◌, ℕ, ◌+◌, ◌*◌, ◌≤◌, true, false, Option, Some, None, sym, ap, ◌∙◌, eqb, arith}
 use Rattle.std.proofs.lemmas.Bool.{and_from, and_parts, eqb-true}
 use Rattle.std.proofs.lemmas.Option.{cond_some}
 use Rattle.ffa_model.specs.Bits.{bits}
 use Rattle.ffa_model.specs.declared.rights.Data.{Data}
 use Rattle.ffa_model.specs.declared.rights.Kind.{Kind}
-use Rattle.ffa_model.specs.DescriptorPlaces.{data_of, kind_of, is_header, array_end, receiver_count, Versioned}
+use Rattle.ffa_model.specs.DescriptorPlaces.{data_of, kind_of, is_header, receiver_count, Versioned}
 use Rattle.ffa_model.specs.RetrieveDescriptor.{retrieve_in, is_retrieve_header, is_retrieve_access, retrieve_of}
 use Rattle.ffa_memdesc.specs.declared.access.Access.{Access}
 use Rattle.ffa_memdesc.specs.declared.header.Header.{Header}

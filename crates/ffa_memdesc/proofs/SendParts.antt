@@ -1,5 +1,5 @@
 -- What each part of a reader tells of the whole send.
-use Rattle.std.proofs.Common.{◌≡◌, ◌≢◌, ℕ, ◌+◌, ◌*◌, ◌≤◌, Bool, Option, true, false, List, Some, None, refl, sym, ap, ◌∙◌, subst, eqb, length, arith}
+use Rattle.std.proofs.Common.{◌≡◌, ◌≢◌, ℕ, ◌+◌, ◌*◌, ◌≤◌, Bool, Option, true, false, List, Some, None, refl, sym, ap, ◌∙◌, subst, eqb, arith}
 use Rattle.std.proofs.lemmas.Bool.{and_from, and_parts, leb-true, eq-eqb, ne_eqb}
 use Rattle.std.proofs.lemmas.Option.{cond_some}
 use Rattle.ffa_model.specs.declared.rights.Kind.{Kind}

@@ -1,6 +1,6 @@
 //! The composite of a send: its ranges.
 
-ghost use Rattle.std.specs.Prelude.{◌≡◌, ◌+◌, ◌*◌, ◌≤◌, length, IfSome};
+ghost use Rattle.std.specs.Prelude.{◌≡◌, ◌+◌, ◌*◌, ◌≤◌, [], length, IfSome};
 ghost use Rattle.std.specs.List.{list_all};
 ghost use Rattle.std.specs.Option.{option_map};
 ghost use Rattle.ffa_model.specs.declared.limits.TheConstants.{MOST_RANGES};
@@ -73,24 +73,25 @@ fn read_range<B: Bytes>(bytes: &B, at: usize, earlier: &[Range]) -> Option<Range
     if fits { Some(range) } else { None }
 }
 
-/// The ranges of the composite, where all fit.
+/// Puts the ranges of the composite into an empty list, where all fit. The list is the caller's, since it is large to move.
 pub fn read_ranges<B: Bytes>(
     bytes: &B,
     composite: u32,
     count: u32,
-) -> Option<ArrayVec<Range, MOST_RANGES>>
+    ranges: &mut ArrayVec<Range, MOST_RANGES>,
+) -> Option<()>
     requires few { count ≤ MOST_RANGES }
     requires inside { composite + 16 + 16 * count ≤ length (B.bytes bytes.now) }
-    ensures { option_map (λ v. v.items) result ≡ ranges_of (B.bytes bytes.now) composite count }
+    requires empty { ranges.old.items ≡ [] }
+    ensures { option_map (λ _. ranges.new.items) result ≡ ranges_of (B.bytes bytes.now) composite count }
 {
     let _len = bytes.len();
-    let mut ranges = ArrayVec::new();
     for i in 0..count {
         let at = composite as usize + 16 + ENTRY_SIZE as usize * i as usize;
-        let range = read_range(bytes, at, &ranges)?;
+        let range = read_range(bytes, at, ranges)?;
         ranges.push(range);
     }
-    Some(ranges)
+    Some(())
 }
 
 /// How many pages the ranges of a transaction have together. Nothing wraps.

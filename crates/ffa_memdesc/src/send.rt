@@ -13,6 +13,7 @@ use crate::bytes::{Bytes, read_u32};
 use crate::header::{Header, NORMAL_MEMORY, read_header};
 use crate::ranges::{page_total, read_range_count, read_ranges};
 use crate::receivers::read_receivers;
+use arrayvec::ArrayVec;
 use ffa_model::{Kind, MOST_RECEIVERS, SendDesc, Version};
 
 /// The greatest flags of a send. Bit 0 asks for zeros, but not in a share.
@@ -69,7 +70,8 @@ fn send_in<B: Bytes>(bytes: &B, version: Version, kind: Kind) -> Option<SendDesc
     let composite = read_u32(bytes, header.array as usize + 4);
     let receivers = read_receivers(bytes, kind, &header, composite)?;
     let count = read_range_count(bytes, &header, composite)?;
-    let ranges = read_ranges(bytes, composite, count)?;
+    let mut ranges = ArrayVec::new();
+    read_ranges(bytes, composite, count, &mut ranges)?;
     if page_total(&ranges) != read_u32(bytes, composite as usize) as u64 {
         return None;
     }

@@ -1,5 +1,5 @@
 -- Who makes a call whose descriptor stands in TX.
-use Rattle.std.specs.Prelude.{◌≡◌, ◌<◌, ◌≤◌, ℕ, true, List, length, Option, Some}
+use Rattle.std.specs.Prelude.{◌≡◌, ◌≤◌, ℕ, true, List, length, Option, Some}
 use Rattle.ffa_model.specs.declared.limits.TheConstants.{MOST_ENDPOINTS}
 use Rattle.ffa_model.specs.Buffers.{buffers_in}
 use Rattle.ffa_rxtx.specs.Parts.{IsInRam}

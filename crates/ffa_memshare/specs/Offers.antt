@@ -4,8 +4,12 @@ use Rattle.std.specs.List.{list_any}
 use Rattle.std.specs.Option.{option_map_or}
 use Rattle.ffa_model.specs.declared.transaction.Range.{Range}
 use Rattle.ffa_model.specs.declared.transaction.Receiver.{Receiver}
+use Rattle.ffa_model.specs.declared.rights.Kind.{Kind}
+use Rattle.ffa_model.specs.DescriptorPlaces.{Versioned}
+use Rattle.ffa_model.specs.MemorySend.{transaction_from}
 use Rattle.ffa_model.specs.Rights.{may_write}
-use Rattle.ffa_model.specs.SendDescriptor.{SendRecord}
+use Rattle.ffa_model.specs.SendDescriptor.{SendRecord, is_named, send_of}
+use Rattle.ffa_model.specs.State.{Transaction}
 use Rattle.ffa_pages.specs.Entry.{Entry, entry_at}
 use Rattle.ffa_memshare.specs.Ranges.{ArePlaced, in_ranges}
 
@@ -24,3 +28,11 @@ pub record IsOwnOffer (table : List (Option Entry)) (base e : ℕ) (r : SendReco
   pub placed : ArePlaced base (length table) r.ranges
   pub own :
       (p : ℕ) → in_ranges base r.ranges p ≡ true → (x : Entry) × (entry_at table p ≡ Some x) × (x.owner ≡ e)
+
+-- these bytes describe an offer of e's own pages to others, and this is the transaction that it opens
+pub record IsOffered (table : List (Option Entry)) (base e : ℕ) (kind : Kind) (bytes : Versioned) (t : Transaction) : Type 0 where
+  pub offer : SendRecord
+  pub described : send_of kind bytes ≡ Some offer
+  pub transaction : t ≡ transaction_from kind offer
+  pub own : IsOwnOffer table base e offer
+  pub other : is_named offer.sender offer.receivers ≡ false

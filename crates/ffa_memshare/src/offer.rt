@@ -1,43 +1,22 @@
-//! What an endpoint offers: whether the bytes are a descriptor, and whether the endpoint may send what it names.
+//! Whether an endpoint may send what it offers.
 ghost use Rattle.std.specs.Prelude.{◌≡◌, ℕ, length, List, OnOk, IfOk, IfErr, Bool, Some, true, false, not, ◌&&◌, ◌||◌};
 ghost use Rattle.std.specs.List.{list_all};
-ghost use Rattle.std.specs.Option.{option_map};
-ghost use Rattle.std.specs.Result.{result_ok};
 ghost use Rattle.arrayvec.specs.ArrayVec.{array_vec_len};
 ghost use Rattle.ffa_model.specs.declared.operation.ErrorCode.{ErrorCode as Code};
 ghost use Rattle.ffa_model.specs.Calls.{first_failure};
-ghost use Rattle.ffa_model.specs.DescriptorPlaces.{in_version};
 ghost use Rattle.ffa_model.specs.MemorySend.{after_offer, are_grants_within, are_known, is_inside};
-ghost use Rattle.ffa_model.specs.SendDescriptor.{is_named, send_of, send_record};
+ghost use Rattle.ffa_model.specs.SendDescriptor.{send_record};
 ghost use Rattle.ffa_model.specs.Transactions.{are_writable, pages_in};
 ghost use Rattle.ffa_rxtx.specs.Parts.{candidates_in};
 ghost use Rattle.ffa_memshare.specs.Named.{bases_in};
 ghost use Rattle.ffa_memshare.specs.Offers.{AreAligned, IsOwnOffer, grants_writes};
 
 use crate::checks::{are_sendable, common_of};
-use crate::page_run::{PageRun, read_send};
-use ffa_model::{Data, EndpointId, ErrorCode, Kind, Range, Receiver, SendDesc, Version};
+use crate::page_ranges::PageRanges;
+use ffa_model::{Data, EndpointId, ErrorCode, Range, Receiver, SendDesc};
 use ffa_pages::PageTable;
-use ffa_physmem::PhysMem;
 use ffa_rxtx::Buffers;
 use ffa_stage2::Layout;
-
-// What the bytes offer, or that they are no descriptor.
-pub(crate) fn read_offer<M: PhysMem>(
-    bytes: &PageRun<M>,
-    version: Version,
-    kind: Kind,
-) -> Result<SendDesc, ErrorCode>
-    ensures computed { option_map send_record (result_ok result) ≡ send_of kind (in_version version bytes.now) }
-    ensures code { IfErr result (λ code. code ≡ ErrorCode.InvalidParameters) }
-    ensures aligned { IfOk result (λ d. AreAligned d.ranges.items) }
-    ensures other { IfOk result (λ d. is_named d.sender.0 d.receivers.items ≡ false) }
-{
-    match read_send(bytes, version, kind) {
-        Ok(offer) => Ok(offer),
-        Err(_) => Err(ErrorCode::InvalidParameters),
-    }
-}
 
 // Whether all receivers are endpoints, of this many.
 fn are_known(receivers: &[Receiver], endpoints: usize) -> bool
@@ -81,42 +60,44 @@ fn asks_for_writes(offer: &SendDesc) -> bool
     offer.zero || grants_writes(offer.receivers.as_slice())
 }
 
-// Whether the pages that are offered have rw themselves, where that is asked for.
-fn are_writable_enough(offer: &SendDesc, pages: &PageTable, base: u32) -> bool
-    requires { (e : ℕ) × IsOwnOffer pages.now base e (send_record offer.now) }
+// Whether the pages that are offered, which are those of these ranges, have rw themselves, where that is asked for.
+fn are_writable_enough(offer: &SendDesc, ranges: &PageRanges, pages: &PageTable, base: u32) -> bool
+    requires ranges { ranges.now ≡ offer.now.ranges.items }
+    requires own { (e : ℕ) × IsOwnOffer pages.now base e (send_record offer.now) }
     ensures { result ≡ (list_all (are_grants_within (bases_in pages.now base) offer.now.receivers.items) (pages_in (bases_in pages.now base) offer.now.ranges.items)
         && (not offer.now.zero || are_writable (bases_in pages.now base) offer.now.ranges.items)) }
 {
-    let is_writable = common_of(pages, base, offer.ranges.as_slice()).is_writable;
+    let is_writable = common_of(pages, base, ranges).is_writable;
     is_writable || !asks_for_writes(offer)
 }
 
-// Whether an endpoint may send what it offers, or why not.
+// The ranges of what an endpoint offers, where it may send that, or why it may not.
 pub(crate) fn check_offer(
     offer: &SendDesc,
     layout: &Layout,
     pages: &PageTable,
     buffers: &Buffers,
     caller: EndpointId,
-) -> Result<(), ErrorCode>
+) -> Result<PageRanges, ErrorCode>
     requires aligned { AreAligned offer.now.ranges.items }
     ensures refused { IfErr result (λ code. (rest : List (Bool × Code)) → first_failure (after_offer (array_vec_len layout.now.regions) (candidates_in pages.now layout.now.base) (bases_in pages.now layout.now.base) buffers.now caller.0 (send_record offer.now) rest) ≡ Some code) }
     ensures passed { OnOk result ((rest : List (Bool × Code)) → first_failure (after_offer (array_vec_len layout.now.regions) (candidates_in pages.now layout.now.base) (bases_in pages.now layout.now.base) buffers.now caller.0 (send_record offer.now) rest) ≡ first_failure rest) }
     ensures offered { OnOk result (IsOwnOffer pages.now layout.now.base caller.0 (send_record offer.now)) }
+    ensures ranges { IfOk result (λ ranges. ranges ≡ offer.now.ranges.items) }
 {
     let receivers = offer.receivers.as_slice();
-    let ranges = offer.ranges.as_slice();
     if offer.sender != caller || !are_known(receivers, layout.regions.len()) {
         return Err(ErrorCode::InvalidParameters);
     }
-    if !are_inside(ranges, pages, layout.base) {
+    if !are_inside(offer.ranges.as_slice(), pages, layout.base) {
         return Err(ErrorCode::Denied);
     }
-    if !are_sendable(pages, layout.base, buffers, caller, ranges) {
+    let ranges = PageRanges::of(pages, layout.base, &offer.ranges);
+    if !are_sendable(pages, layout.base, buffers, caller, &ranges) {
         return Err(ErrorCode::Denied);
     }
-    if !are_writable_enough(offer, pages, layout.base) {
+    if !are_writable_enough(offer, &ranges, pages, layout.base) {
         return Err(ErrorCode::Denied);
     }
-    Ok(())
+    Ok(ranges)
 }

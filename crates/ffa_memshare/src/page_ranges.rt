@@ -1,5 +1,5 @@
 //! Ranges of whole pages of RAM, as an open transaction keeps them.
-ghost use Rattle.std.specs.Prelude.{◌≡◌, ◌≤◌, length, map};
+ghost use Rattle.std.specs.Prelude.{◌≡◌, ◌<◌, ◌≤◌, [], length, map, slice_index_or};
 ghost use Rattle.ffa_model.specs.declared.limits.TheConstants.{MOST_RANGES};
 ghost use Rattle.ffa_memshare.specs.PageRanges.{range_at};
 ghost use Rattle.ffa_memshare.specs.Ranges.{ArePlaced, IsPlaced};
@@ -68,43 +68,88 @@ impl PageRanges {
         requires { ArePlaced base (length pages.now) ranges.now.items }
         ensures { result ≡ ranges.now.items }
     {
-        let mut list = ArrayVec::new();
-        for range in ranges.as_slice() {
-            list.push(PageRange::of(pages, base, range));
-        }
-        PageRanges { base, list }
+        // They are pushed where they stand, since a list is large to move.
+        let mut placed = PageRanges {
+            base,
+            list: ArrayVec::new(),
+        };
+        push_placed(&mut placed.list, pages, base, ranges.as_slice());
+        placed
     }
 
     /// The same ranges.
     pub(crate) fn copied(&self) -> PageRanges
         ensures { result ≡ self.now }
     {
-        let mut list = ArrayVec::new();
-        for range in self.list.as_slice() {
-            list.push(*range);
-        }
-        PageRanges {
+        let mut copied = PageRanges {
             base: self.base,
-            list,
-        }
+            list: ArrayVec::new(),
+        };
+        push_all(&mut copied.list, self.list.as_slice());
+        copied
     }
 
-    /// Each range by its address, in their order.
-    pub fn to_ranges(&self) -> ArrayVec<Range, MOST_RANGES>
-        ensures { result.items ≡ self.now }
+    /// How many there are.
+    pub fn len(&self) -> usize
+        ensures count { result ≡ length self.now }
+        ensures few { result ≤ MOST_RANGES }
     {
-        listed(self.base, self.list.as_slice())
+        self.list.len()
+    }
+
+    /// The range at this place in their order, by its address.
+    pub fn at(&self, place: usize) -> Range
+        requires { place < length self.now }
+        ensures { (other : Range) → result ≡ slice_index_or self.now place other }
+    {
+        self.list[place].range(self.base)
+    }
+
+    /// Puts each range by its address, in their order, into an empty list. The list is the caller's, since it is large to
+    /// move.
+    pub(crate) fn list_in(&self, ranges: &mut ArrayVec<Range, MOST_RANGES>)
+        requires { ranges.old.items ≡ [] }
+        ensures { ranges.new.items ≡ self.now }
+    {
+        push_ranges(self.base, self.list.as_slice(), ranges);
     }
 }
 
-// These ranges of the RAM at an address.
-fn listed(base: u32, list: &[PageRange]) -> ArrayVec<Range, MOST_RANGES>
-    requires { length list.now ≤ MOST_RANGES }
-    ensures { result.items ≡ map (range_at base) list.now }
+// Puts these ranges of the RAM at an address, which has these pages, into an empty list.
+fn push_placed(
+    list: &mut ArrayVec<PageRange, MOST_RANGES>,
+    pages: &PageTable,
+    base: u32,
+    ranges: &[Range],
+)
+    requires empty { list.old.items ≡ [] }
+    requires few { length ranges.now ≤ MOST_RANGES }
+    requires placed { ArePlaced base (length pages.now) ranges.now }
+    ensures { map (range_at base) list.new.items ≡ ranges.now }
 {
-    let mut ranges = ArrayVec::new();
+    for range in ranges {
+        list.push(PageRange::of(pages, base, range));
+    }
+}
+
+// Puts the same ranges into an empty list.
+fn push_all(list: &mut ArrayVec<PageRange, MOST_RANGES>, ranges: &[PageRange])
+    requires empty { list.old.items ≡ [] }
+    requires few { length ranges.now ≤ MOST_RANGES }
+    ensures { list.new.items ≡ ranges.now }
+{
+    for range in ranges {
+        list.push(*range);
+    }
+}
+
+// Puts these ranges of the RAM at an address into an empty list.
+fn push_ranges(base: u32, list: &[PageRange], ranges: &mut ArrayVec<Range, MOST_RANGES>)
+    requires few { length list.now ≤ MOST_RANGES }
+    requires empty { ranges.old.items ≡ [] }
+    ensures { ranges.new.items ≡ map (range_at base) list.now }
+{
     for range in list {
         ranges.push(range.range(base));
     }
-    ranges
 }

@@ -22,7 +22,7 @@ use crate::pool::Pool;
 use crate::transaction::OpenTransaction;
 use ffa_model::{Data, EndpointId, ErrorCode, Kind, RelinquishDesc};
 use ffa_pages::PageTable;
-use ffa_physmem::{PAGE_SIZE, PhysMem};
+use ffa_physmem::PhysMem;
 use ffa_rxtx::Buffers;
 use ffa_stage2::Layout;
 
@@ -60,11 +60,9 @@ impl Pool {
         };
         let open = self.at(slot);
         open.check_relinquish(caller, &asked)?;
-        let listed = open.ranges.to_ranges();
-        let ranges = listed.as_slice();
         let index = caller.place();
         let nothing = NewRight::Same(None);
-        move_rights(ram, layout, pages, ranges, index, nothing, asked.zero);
+        move_rights(ram, layout, pages, &open.ranges, index, nothing, asked.zero);
         let changed = Changed::of(&open.ranges, Some(caller));
         self.set_held(slot, caller, None);
         Ok(changed)
@@ -112,7 +110,6 @@ fn asked_in<M: PhysMem>(
         Some(mapped) => mapped,
         None => return Err(ErrorCode::InvalidParameters),
     };
-    let size = PAGE_SIZE * mapped.pages as usize;
-    let bytes = PageRun::new(ram, mapped.tx, mapped.pages, size);
+    let bytes = PageRun::new(ram, mapped.tx, mapped.pages, mapped.room());
     read_relinquish(&bytes).or(Err(ErrorCode::InvalidParameters))
 }

@@ -31,6 +31,7 @@ use crate::page_run::read_retrieve;
 use crate::pool::Pool;
 use crate::transaction::OpenTransaction;
 use crate::transfer::Transfer;
+use arrayvec::ArrayVec;
 use ffa_model::{EndpointId, ErrorCode, Kind, Response, RetrieveDesc, Rights, Version};
 use ffa_pages::PageTable;
 use ffa_physmem::PhysMem;
@@ -123,11 +124,10 @@ impl OpenTransaction {
             (buffers_in buffers.old caller.0) self.now.handle (transaction_of self.now) caller.0 version right result }
         ensures full { buffers.new ≡ buffers_with_rx buffers.old caller.0 true }
     {
-        let listed = self.ranges.to_ranges();
-        let ranges = listed.as_slice();
+        let _ranges = self.ranges.len();
         let index = caller.place();
         let to_caller = NewRight::Same(Some(right));
-        move_rights(ram, layout, pages, ranges, index, to_caller, false);
+        move_rights(ram, layout, pages, &self.ranges, index, to_caller, false);
         let response = self.response(caller, right);
         answer(ram, buffers, caller, version, &response)
     }
@@ -139,10 +139,8 @@ impl OpenTransaction {
         requires endpoint { endpoint.0 ≢ manager }
         ensures { IsPassedOn self.now.kind pages.old pages.new (in_ranges base self.now.ranges) endpoint right }
     {
-        let listed = self.ranges.to_ranges();
-        let ranges = listed.as_slice();
         match self.kind {
-            Kind::Donate => mark_all(pages, base, ranges, Mark::Given(endpoint, right)),
+            Kind::Donate => mark_all(pages, base, &self.ranges, Mark::Given(endpoint, right)),
             Kind::Share | Kind::Lend => {}
         }
     }
@@ -151,7 +149,7 @@ impl OpenTransaction {
     fn response(&self, endpoint: EndpointId, right: Rights) -> Response
         ensures { response_record result ≡ response_to self.now.handle (transaction_of self.now) endpoint.0 right }
     {
-        Response {
+        let mut response = Response {
             sender: self.sender,
             kind: self.kind,
             zero: self.zero,
@@ -159,8 +157,10 @@ impl OpenTransaction {
             tag: self.tag,
             endpoint,
             rights: right,
-            ranges: self.ranges.to_ranges(),
-        }
+            ranges: ArrayVec::new(),
+        };
+        self.ranges.list_in(&mut response.ranges);
+        response
     }
 }
 

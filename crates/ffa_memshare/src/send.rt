@@ -1,29 +1,32 @@
 //! FFA_MEM_DONATE, FFA_MEM_LEND and FFA_MEM_SHARE.
-ghost use Rattle.std.specs.Prelude.{◌≡◌, ◌<◌, ℕ, length, false, None, Some, IfOk, IfErr, OnOk, OnErr};
+ghost use Rattle.std.specs.Prelude.{◌≡◌, ◌<◌, ℕ, length, None, Some, IfOk, IfErr, OnOk, OnErr};
 ghost use Rattle.std.specs.Result.{result_err};
 ghost use Rattle.arrayvec.specs.ArrayVec.{array_vec_len};
 ghost use Rattle.ffa_model.specs.Buffers.{buffers_in};
 ghost use Rattle.ffa_model.specs.Calls.{first_failure};
 ghost use Rattle.ffa_model.specs.MemorySend.{room_guards, send_guards};
-ghost use Rattle.ffa_model.specs.SendDescriptor.{is_named, send_of, send_record};
+ghost use Rattle.ffa_model.specs.Identifiers.{place};
+ghost use Rattle.ffa_model.specs.SendDescriptor.{send_of};
 ghost use Rattle.ffa_model.specs.State.{Buffers as Own};
-ghost use Rattle.ffa_model.specs.Transactions.{Offers, next_handle};
+ghost use Rattle.ffa_model.specs.Transactions.{next_handle};
 ghost use Rattle.ffa_pages.specs.Entry.{entry_at};
 ghost use Rattle.ffa_stage2.specs.Tables.{table_page};
 ghost use Rattle.ffa_rxtx.specs.Parts.{IsInRam};
 ghost use Rattle.ffa_memshare.specs.Callers.{IsCaller};
-ghost use Rattle.ffa_memshare.specs.Offers.{IsOwnOffer};
+ghost use Rattle.ffa_memshare.specs.Offers.{IsOffered};
 ghost use Rattle.ffa_memshare.specs.Scenes.{descriptor_in, scene_in, transfer_of};
 ghost use Rattle.ffa_memshare.specs.Sent.{IsSent};
 ghost use Rattle.ffa_memshare.specs.Shared.{IsRoom};
-ghost use Rattle.ffa_memshare.specs.Stored.{offers_in};
+ghost use Rattle.ffa_memshare.specs.Stored.{offers_in, transaction_of};
 
 use crate::changed::{Changed, Sent, changed_sender};
-use crate::offer::{check_offer, read_offer};
+use crate::holders::Holders;
+use crate::offer::check_offer;
+use crate::page_run::read_send;
 use crate::pool::Pool;
 use crate::transaction::OpenTransaction;
 use crate::transfer::Transfer;
-use ffa_model::{EndpointId, ErrorCode, Kind, SendDesc};
+use ffa_model::{EndpointId, ErrorCode, Kind};
 use ffa_pages::PageTable;
 use ffa_physmem::PhysMem;
 use ffa_rxtx::Buffers;
@@ -66,41 +69,54 @@ impl Pool {
         ensures sent { IfOk result (λ sent. IsSent self.old self.new pages.old pages.new (M.ram ram.old) (M.ram ram.new) layout.now.base
             (array_vec_len layout.now.regions) layout.now.blocks caller.0 kind (descriptor_in (M.ram ram.old) buffers.now caller.0 transfer.now) sent.changed) }
     {
-        let offer = checked_offer(ram, layout, pages, buffers, caller, kind, transfer)?;
+        let open = self.offered(ram, layout, pages, buffers, caller, kind, transfer)?;
         let slot = self.room(caller)?;
-        let handle = self.next_handle(caller);
-        let open = OpenTransaction::of(handle, kind, pages, layout.base, offer);
+        let handle = open.handle;
         open.take_pages(ram, layout, pages, slot as u8);
         let changed = Changed::of(&open.ranges, changed_sender(kind, caller));
         self.open(slot, open);
         Ok(Sent { handle, changed })
     }
-}
 
-// What the descriptor in the caller's TX offers, where the caller may send it but for room.
-fn checked_offer<M: PhysMem>(
-    ram: &M,
-    layout: &Layout,
-    pages: &PageTable,
-    buffers: &Buffers,
-    caller: EndpointId,
-    kind: Kind,
-    transfer: &Transfer,
-) -> Result<SendDesc, ErrorCode>
-    requires { (b : Own) → buffers_in buffers.now caller.0 ≡ Some b → IsInRam (length (M.ram ram.now).pages) b }
-    ensures refused { IfErr result (λ code. (offers : Offers) → first_failure (send_guards
-        (scene_in (array_vec_len layout.now.regions) pages.now layout.now.base buffers.now offers)
-        caller.0 (transfer_of transfer.now) (send_of kind (descriptor_in (M.ram ram.now) buffers.now caller.0 transfer.now))) ≡ Some code) }
-    ensures passed { OnOk result ((offers : Offers) → first_failure (send_guards
-        (scene_in (array_vec_len layout.now.regions) pages.now layout.now.base buffers.now offers)
-        caller.0 (transfer_of transfer.now) (send_of kind (descriptor_in (M.ram ram.now) buffers.now caller.0 transfer.now)))
-        ≡ first_failure (room_guards offers caller.0)) }
-    ensures described { IfOk result (λ offer. send_of kind (descriptor_in (M.ram ram.now) buffers.now caller.0 transfer.now) ≡ Some (send_record offer)) }
-    ensures own { IfOk result (λ offer. IsOwnOffer pages.now layout.now.base caller.0 (send_record offer)) }
-    ensures other { IfOk result (λ offer. is_named offer.sender.0 offer.receivers.items ≡ false) }
-{
-    let bytes = transfer.descriptor(ram, buffers, caller)?;
-    let offer = read_offer(&bytes, transfer.version, kind)?;
-    check_offer(&offer, layout, pages, buffers, caller)?;
-    Ok(offer)
+    // The transaction that the descriptor in the caller's TX opens, where the caller may send it but for room.
+    fn offered<M: PhysMem>(
+        &self,
+        ram: &M,
+        layout: &Layout,
+        pages: &PageTable,
+        buffers: &Buffers,
+        caller: EndpointId,
+        kind: Kind,
+        transfer: &Transfer,
+    ) -> Result<OpenTransaction, ErrorCode>
+        requires buffers { (b : Own) → buffers_in buffers.now caller.0 ≡ Some b → IsInRam (length (M.ram ram.now).pages) b }
+        requires caller { place caller.0 < length self.now.sent }
+        ensures refused { IfErr result (λ code. first_failure (send_guards
+            (scene_in (array_vec_len layout.now.regions) pages.now layout.now.base buffers.now (offers_in self.now))
+            caller.0 (transfer_of transfer.now) (send_of kind (descriptor_in (M.ram ram.now) buffers.now caller.0 transfer.now))) ≡ Some code) }
+        ensures passed { OnOk result (first_failure (send_guards
+            (scene_in (array_vec_len layout.now.regions) pages.now layout.now.base buffers.now (offers_in self.now))
+            caller.0 (transfer_of transfer.now) (send_of kind (descriptor_in (M.ram ram.now) buffers.now caller.0 transfer.now)))
+            ≡ first_failure (room_guards (offers_in self.now) caller.0)) }
+        ensures handle { IfOk result (λ t. t.handle ≡ next_handle (offers_in self.now) caller.0) }
+        ensures kind { IfOk result (λ t. t.kind ≡ kind) }
+        ensures offered { IfOk result (λ t. IsOffered pages.now layout.now.base caller.0 kind
+            (descriptor_in (M.ram ram.now) buffers.now caller.0 transfer.now) (transaction_of t)) }
+    {
+        let bytes = transfer.descriptor(ram, buffers, caller)?;
+        let Ok(offer) = read_send(&bytes, transfer.version, kind) else {
+            return Err(ErrorCode::InvalidParameters);
+        };
+        let ranges = check_offer(&offer, layout, pages, buffers, caller)?;
+        Ok(OpenTransaction {
+            handle: self.next_handle(caller),
+            kind,
+            sender: offer.sender,
+            tag: offer.tag,
+            zero: offer.zero,
+            ranges,
+            receivers: offer.receivers,
+            held: Holders::none(),
+        })
+    }
 }

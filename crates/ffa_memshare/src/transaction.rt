@@ -6,8 +6,6 @@ ghost use Rattle.ffa_model.specs.Access.{held_by, right_by};
 ghost use Rattle.ffa_model.specs.Calls.{first_failure};
 ghost use Rattle.ffa_model.specs.Identifiers.{place};
 ghost use Rattle.ffa_model.specs.MemoryReturn.{is_unheld, reclaim_guards};
-ghost use Rattle.ffa_model.specs.MemorySend.{transaction_from};
-ghost use Rattle.ffa_model.specs.SendDescriptor.{send_record};
 ghost use Rattle.ffa_model.specs.State.{Page};
 ghost use Rattle.ffa_model.specs.Transactions.{are_executable, are_writable};
 ghost use Rattle.ffa_pages.specs.Entry.{base_at};
@@ -25,7 +23,7 @@ use crate::marks::{Mark, mark_all};
 use crate::moves::move_rights;
 use crate::page_ranges::PageRanges;
 use arrayvec::ArrayVec;
-use ffa_model::{EndpointId, ErrorCode, Kind, MOST_RECEIVERS, Receiver, Rights, SendDesc};
+use ffa_model::{EndpointId, ErrorCode, Kind, MOST_RECEIVERS, Receiver, Rights};
 use ffa_pages::PageTable;
 use ffa_physmem::PhysMem;
 use ffa_stage2::Layout;
@@ -45,30 +43,6 @@ pub struct OpenTransaction {
 
 impl OpenTransaction {
     ghost use Rattle.ffa_memshare.specs.Stored.{transaction_of};
-
-    // What a descriptor offers of these pages, which are those of the RAM at an address, under this handle. Nobody holds it.
-    pub(crate) fn of(
-        handle: u64,
-        kind: Kind,
-        pages: &PageTable,
-        base: u32,
-        offer: SendDesc,
-    ) -> OpenTransaction
-        requires { ArePlaced base (length pages.now) offer.ranges.items }
-        ensures handle { result.handle ≡ handle }
-        ensures value { transaction_of result ≡ transaction_from kind (send_record offer) }
-    {
-        OpenTransaction {
-            handle,
-            kind,
-            sender: offer.sender,
-            tag: offer.tag,
-            zero: offer.zero,
-            ranges: PageRanges::of(pages, base, &offer.ranges),
-            receivers: offer.receivers,
-            held: Holders::none(),
-        }
-    }
 
     // The right that an endpoint holds.
     pub(crate) fn held(&self, endpoint: EndpointId) -> Option<Rights>
@@ -107,7 +81,7 @@ impl OpenTransaction {
         ensures writable { result.is_writable ≡ are_writable (bases_in pages.now base) self.now.ranges }
         ensures executable { result.is_executable ≡ are_executable (bases_in pages.now base) self.now.ranges }
     {
-        common_of(pages, base, self.ranges.to_ranges().as_slice())
+        common_of(pages, base, &self.ranges)
     }
 
     // Whether its sender may end it, or why not.
@@ -146,8 +120,7 @@ impl OpenTransaction {
             (place self.now.sender.0) (in_ranges layout.now.base self.now.ranges) (base_at pages.old) zero }
         ensures marked { IsMarked pages.old pages.new (in_ranges layout.now.base self.now.ranges) (Mark.Named None) }
     {
-        let listed = self.ranges.to_ranges();
-        let ranges = listed.as_slice();
+        let ranges = &self.ranges;
         let index = self.sender.place();
         move_rights(ram, layout, pages, ranges, index, NewRight::Base, zero);
         mark_all(pages, layout.base, ranges, Mark::Named(None));
@@ -167,8 +140,7 @@ impl OpenTransaction {
             (place self.now.sender.0) (in_ranges layout.now.base self.now.ranges) (new_right (right_after self.now.kind) pages.old) self.now.zero }
         ensures marked { IsMarked pages.old pages.new (in_ranges layout.now.base self.now.ranges) (Mark.Named (Some slot)) }
     {
-        let listed = self.ranges.to_ranges();
-        let ranges = listed.as_slice();
+        let ranges = &self.ranges;
         let index = self.sender.place();
         let right = right_after(self.kind);
         move_rights(ram, layout, pages, ranges, index, right, self.zero);

@@ -1,5 +1,5 @@
 //! The registers of a call whose descriptor stands in TX.
-ghost use Rattle.std.specs.Prelude.{◌≡◌, ◌*◌, length, List, OnOk, IfOk, IfErr, Bool, Some, is_some, true};
+ghost use Rattle.std.specs.Prelude.{◌≡◌, length, List, OnOk, IfOk, IfErr, Bool, Some, is_some, true};
 ghost use Rattle.ffa_model.specs.MemorySend.{after_transfer};
 ghost use Rattle.ffa_model.specs.declared.operation.ErrorCode.{ErrorCode as Code};
 ghost use Rattle.ffa_model.specs.Buffers.{buffers_in};
@@ -10,7 +10,7 @@ ghost use Rattle.ffa_memshare.specs.Scenes.{descriptor_in, is_whole};
 
 use crate::page_run::PageRun;
 use ffa_model::{EndpointId, ErrorCode, Version};
-use ffa_physmem::{PAGE_SIZE, PhysMem};
+use ffa_physmem::PhysMem;
 use ffa_rxtx::Buffers;
 
 /// What the registers of a call say whose descriptor stands in TX, and the version of who calls.
@@ -49,18 +49,18 @@ impl Transfer {
             Some(mapped) => mapped,
             None => return Err(ErrorCode::InvalidParameters),
         };
-        if !self.is_whole(mapped.pages) {
+        if !self.is_whole(mapped.room()) {
             return Err(ErrorCode::InvalidParameters);
         }
         Ok(PageRun::new(ram, mapped.tx, mapped.pages, self.total as usize))
     }
 
-    // Whether the whole descriptor stands in TX, which has this many pages, and nothing of it elsewhere.
-    fn is_whole(&self, pages: u32) -> bool
-        ensures { result ≡ is_whole (4096 * pages) (transfer_of self.now) }
+    // Whether the whole descriptor stands in TX, which has room for this many bytes, and nothing of it elsewhere.
+    fn is_whole(&self, room: usize) -> bool
+        ensures { result ≡ is_whole room (transfer_of self.now) }
     {
         self.total == self.fragment
-            && u64::from(self.total) <= PAGE_SIZE as u64 * u64::from(pages)
+            && self.total as usize <= room
             && self.address == 0
             && self.pages == 0
     }

@@ -21,7 +21,7 @@ use Rattle.ffa_memshare.specs.Callers.{IsCaller}
 use Rattle.ffa_laws.proofs.SoundSteady.{runner-known}
 use Rattle.ffa_spmc.specs.Meaning.{IsManager, Parts, state_of, HasTables, access_by_place}
 use Rattle.ffa_spmc.proofs.Held.{each, parties_are, size_is, owned-behind}
-use Rattle.ffa_spmc.proofs.Machines.{StillHasTables, tables-written}
+use Rattle.ffa_spmc.proofs.Machines.{StillHasTables}
 use Rattle.ffa_spmc.proofs.Reaches.{owned-in}
 use Rattle.ffa_spmc.proofs.Stores.{state-written}
 

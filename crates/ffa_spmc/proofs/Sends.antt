@@ -27,7 +27,7 @@ use Rattle.ffa_rxtx.specs.Parts.{tx_in, with_rx_bytes}
 use Rattle.ffa_messages.specs.Parts.{AreEndsApart, AreInRam, receiver_in, sent_in}
 use Rattle.ffa_spmc.specs.Meaning.{IsManager, Parts, state_of}
 use Rattle.ffa_spmc.specs.Unowned.{KeepsUnowned}
-use Rattle.ffa_spmc.proofs.Fills.{buffers-there, in-ram, runner-there, state-filled, tables-filled, there-inside}
+use Rattle.ffa_spmc.proofs.Fills.{buffers-there, in-ram, runner-there, state-filled, tables-filled}
 use Rattle.ffa_spmc.proofs.Held.{each, parties_are}
 use Rattle.ffa_spmc.proofs.Agreements.{agrees}
 use Rattle.ffa_spmc.proofs.Machines.{StillHasTables}

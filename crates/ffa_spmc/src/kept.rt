@@ -1,8 +1,7 @@
 //! What a machine keeps beside its RAM.
-ghost use Rattle.std.specs.Prelude.{◌≡◌, ◌*◌, [], None, length, map, replicate};
+ghost use Rattle.std.specs.Prelude.{◌≡◌, [], None, length, map, replicate};
 ghost use Rattle.std.specs.FinSet as finite_set;
 ghost use Rattle.std.specs.List.{enumerate_from};
-ghost use Rattle.ffa_model.specs.declared.limits.TheConstants.{MOST_OPEN};
 ghost use Rattle.ffa_model.specs.First.{has_first_bitmaps};
 ghost use Rattle.ffa_model.specs.RunStates.{first_schedule};
 
@@ -35,16 +34,16 @@ pub struct Kept {
 const _: () = prove!(size_of::<Kept>() <= 131072);
 
 impl Kept {
-    /// What the machine of a manifest with this layout keeps at first, but for the owners, whose table is still to be
-    /// filled in: nothing is open, nobody has buffers, the normal world runs, and partitions that receive notifications
+    /// What the machine of a manifest with this layout keeps at first, but for the owners and the slots of transactions,
+    /// which are still to be filled in: nobody has buffers, the normal world runs, and partitions that receive notifications
     /// have bitmaps, of which no bit is bound or pending.
     // Inlined, as `Manager::first` is.
     #[inline(always)]
     pub fn unfilled(manifest: &Manifest, layout: Layout) -> Kept
         ensures layout { result.layout ≡ layout }
         ensures pages { result.pages ≡ [] }
-        ensures slots { result.pool.slots ≡ replicate (MOST_OPEN * length manifest.now.endpoints.items) None }
-        ensures sent { result.pool.sent ≡ replicate (length manifest.now.endpoints.items) 0 }
+        ensures slots { result.pool.slots ≡ [] }
+        ensures sent { result.pool.sent ≡ [] }
         ensures buffers { result.buffers ≡ replicate (length manifest.now.endpoints.items) None }
         ensures chain { result.chain ≡ first_schedule (length manifest.now.endpoints.items) }
         ensures bitmaps { result.bitmaps.bitmaps ≡ map has_first_bitmaps (enumerate_from 0 manifest.now.endpoints.items) }
@@ -54,7 +53,7 @@ impl Kept {
         Kept {
             layout,
             pages: PageTable::none(),
-            pool: Pool::first(manifest.endpoints.len()),
+            pool: Pool::none(),
             buffers: Buffers::none(manifest.endpoints.len()),
             chain: Chain::first(manifest.endpoints.len()),
             bitmaps: Bitmaps::of(manifest),

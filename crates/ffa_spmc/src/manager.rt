@@ -72,9 +72,10 @@ impl<M: PhysMem + Drop> Manager<M> {
         build(&mut ram, &layout);
         // What built tables give holds from here on: the manager's invariant has it.
         built_tables();
-        // The owners are filled in where they stand, since they are large to move.
+        // Owners and slots are filled in where they stand, since they are large to move.
         let mut kept = Kept::unfilled(manifest, layout);
         kept.pages.fill(manifest);
+        kept.pool.fill(manifest.endpoints.len());
         Manager {
             ram,
             manifest: manifest.copied(),

@@ -6,7 +6,7 @@ ghost use Rattle.ffa_spmc.specs.AccessChange.{is_of};
 ghost use Rattle.ffa_spmc.specs.Caching.{AreOut, most_pages};
 ghost use Rattle.ffa_tlb.specs.Lookups.{lookup};
 
-use ffa_memshare::Changed;
+use ffa_memshare::{Changed, PageRanges};
 use ffa_model::{EndpointId, PageNo, Range};
 use ffa_tlb::Translations;
 
@@ -22,12 +22,17 @@ fn forget_range<T: Translations>(cache: &mut T, base: u32, endpoint: EndpointId,
 }
 
 // The same of these ranges.
-fn forget_ranges<T: Translations>(cache: &mut T, base: u32, endpoint: EndpointId, ranges: &[Range])
+fn forget_ranges<T: Translations>(
+    cache: &mut T,
+    base: u32,
+    endpoint: EndpointId,
+    ranges: &PageRanges,
+)
     requires { ArePlaced base most_pages ranges.now }
     ensures { AreOut (T.entries cache.old) (T.entries cache.new) endpoint.0 (in_ranges base ranges.now) }
 {
-    for range in ranges {
-        forget_range(cache, base, endpoint, range);
+    for place in 0..ranges.len() {
+        forget_range(cache, base, endpoint, &ranges.at(place));
     }
 }
 
@@ -41,6 +46,6 @@ pub(super) fn forget<T: Translations>(cache: &mut T, base: u32, changed: &Option
     if let Some(changed) = changed
         && let Some(endpoint) = changed.endpoint
     {
-        forget_ranges(cache, base, endpoint, changed.ranges.to_ranges().as_slice());
+        forget_ranges(cache, base, endpoint, &changed.ranges);
     }
 }

@@ -1,9 +1,9 @@
-use Rattle.std.proofs.Common.{◌≡◌, ◌+◌, ◌*◌, length, ap, refl, arith}
+use Rattle.std.proofs.Common.{◌≡◌, length, ap, refl, arith}
 use Rattle.ffa_memdesc.proofs.Entries.{no_entries, ranges_more, ranges_fail, ranges_end}
 use Rattle.ffa_memdesc.proofs.ranges.read_ranges.Goals as goal
 
 pub loop-i-init : goal.loop-i-init
-loop-i-init g c = (ap length c.new-ranges.ensures, no_entries _ _ _ c.new-ranges.ensures)
+loop-i-init g c = (ap length c.requires.empty, no_entries _ _ _ c.requires.empty)
 
 pub returns-in_err-range : goal.returns-in_err-range
 returns-in_err-range g c =

@@ -1,4 +1,4 @@
-use Rattle.std.proofs.Common.{◌≡◌, ◌+◌, ◌*◌, length, ap, refl, arith}
+use Rattle.std.proofs.Common.{◌≡◌, length, ap, refl, arith}
 use Rattle.ffa_memdesc.proofs.Entries.{no_entries, receivers_more, receivers_fail, receivers_end}
 use Rattle.ffa_memdesc.proofs.receivers.read_receivers.Goals as goal
 

@@ -1,7 +1,7 @@
 use Rattle.std.proofs.Common.{◌≡◌, take}
 use Rattle.std.specs.Prelude.{map}
 use Rattle.ffa_memshare.specs.PageRanges.{range_at}
-use Rattle.ffa_memshare.proofs.page_ranges.listed.Given as goal
+use Rattle.ffa_memshare.proofs.page_ranges.push_ranges.Given as goal
 
 -- the ranges so far
 abbrev pub invariant-loop-range : goal.invariant-loop-range

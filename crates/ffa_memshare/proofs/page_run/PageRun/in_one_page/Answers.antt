@@ -1,4 +1,4 @@
-use Rattle.std.proofs.Common.{◌≡◌, ◌∙◌, ◌≤◌, ◌<◌, take, sym, ap, arith}
+use Rattle.std.proofs.Common.{◌∙◌, ◌≤◌, take, sym, ap, arith}
 use Rattle.ffa_model.specs.Ram.{page_of}
 use Rattle.ffa_rxtx.proofs.Runs.{front-run}
 use Rattle.ffa_memshare.proofs.page_run.PageRun.in_one_page.Goals as goal

@@ -1,4 +1,4 @@
-use Rattle.std.proofs.Common.{◌≡◌, ◌∙◌, ◌+◌, ◌*◌, ◌/◌, ◌%◌, ◌<◌, ◌≤◌, ℕ, List, length, take, refl, sym, ap, subst, arith}
+use Rattle.std.proofs.Common.{arith}
 use Rattle.ffa_model.specs.Ram.{page_of}
 use Rattle.ffa_rxtx.proofs.Runs.{length-run}
 use Rattle.ffa_memshare.proofs.page_run.PageRun.new.Goals as goal

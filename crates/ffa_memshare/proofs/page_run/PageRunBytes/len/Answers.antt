@@ -1,4 +1,4 @@
-use Rattle.std.proofs.Common.{◌≡◌, ◌∙◌, ◌+◌, ◌*◌, ◌/◌, ◌%◌, ◌<◌, ◌≤◌, ℕ, List, length, take, refl, sym, ap, subst, arith}
+use Rattle.std.proofs.Common.{◌∙◌, length, sym, ap}
 use Rattle.ffa_model.specs.Ram.{page_of}
 use Rattle.ffa_rxtx.proofs.Runs.{length-front}
 use Rattle.ffa_memshare.proofs.page_run.PageRunBytes.len.Goals as goal

@@ -1,6 +1,5 @@
-use Rattle.std.proofs.Common.{◌∙◌, ℕ, List, None, subst}
+use Rattle.std.proofs.Common.{ℕ, None, subst}
 use Rattle.arrayvec.specs.ArrayVec.{array_vec_len}
-use Rattle.ffa_model.specs.declared.transaction.Range.{Range}
 use Rattle.ffa_memshare.specs.Changes.{IsMoved}
 use Rattle.ffa_memshare.specs.Ranges.{in_ranges}
 use Rattle.ffa_memshare.specs.Stored.{transaction_of}
@@ -26,7 +25,6 @@ returns-clause-done g c =
       offers = c.set_held.ensures.offers asked.handle (transaction_of it) there;
       moved =
           subst (λ (i : ℕ). IsMoved old new (array_vec_len l.regions) l.blocks i (in_ranges l.base it.ranges) (λ p. None) asked.zero) c.place-index.ensures
-          (subst (λ (ranges : List Range). IsMoved old new (array_vec_len l.regions) l.blocks c.place-index.result (in_ranges l.base ranges) (λ p. None) asked.zero)
-          (c.as_slice-ranges.ensures.value ∙ c.to_ranges-listed.ensures) c.move_rights.ensures);
+          c.move_rights.ensures;
       access = c.of-changed.ensures;
     }

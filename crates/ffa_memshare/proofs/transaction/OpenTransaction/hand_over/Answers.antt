@@ -15,7 +15,7 @@ answer-requires-clause-total g c =
     let l = c.args.layout.now in
     let ranges = c.args.self.now.ranges in
     let (access, built) = c.requires.held.room.built in
-    let most : length ranges ≤ 64 = omega (arith, c.as_slice-ranges.ensures.fits, ap (λ (xs : List Range). length xs) (c.as_slice-ranges.ensures.value ∙ c.to_ranges-listed.ensures)) in
+    let most : length ranges ≤ 64 = omega (arith, c.len-ranges.ensures.count, c.len-ranges.ensures.few) in
     subst (λ (xs : List Range). page_total xs < 2 ^ 32) (sym (ap (λ (r : ResponseRecord). r.ranges) c.response-response.ensures))
     (few-pages l.base l.blocks ranges built.fits.few most c.requires.held.placed)
 
@@ -29,8 +29,7 @@ returns-clause-answered g c =
       granted = granted;
       moved =
           subst (λ (k : ℕ). IsMoved old granted (array_vec_len l.regions) l.blocks k (in_ranges l.base ranges) (λ p. Some c.args.right) false) c.place-index.ensures
-          (subst (λ (xs : List Range). IsMoved old granted (array_vec_len l.regions) l.blocks c.place-index.result (in_ranges l.base xs) (λ p. Some c.args.right) false)
-          (c.as_slice-ranges.ensures.value ∙ c.to_ranges-listed.ensures) c.move_rights.ensures);
+          c.move_rights.ensures;
       answered =
           c.answer.ensures.ram
           ∙ ap (λ (r : ResponseRecord). with_rx_bytes granted (buffers_in c.args.buffers.now c.args.caller.0) (response_bytes c.args.version r)) c.response-response.ensures;

@@ -1,4 +1,5 @@
-use Rattle.std.proofs.Common.{◌∙◌, ◌*◌, ◌≤◌, length, sym, ap, subst}
+use Rattle.std.proofs.Common.{◌∙◌, ◌*◌, ◌≤◌, None, length, replicate, sym, ap, subst}
+use Rattle.ffa_model.specs.declared.limits.TheConstants.{MOST_OPEN}
 use Rattle.ffa_model.specs.declared.manifest.Manifest.{Manifest}
 use Rattle.ffa_model.specs.Agreement.{Agrees}
 use Rattle.ffa_model.specs.Manifest.{table_pages}
@@ -12,62 +13,72 @@ use Rattle.ffa_spmc.proofs.manager.Manager.first.Goals as goal
 
 pub invariant_of-result : goal.invariant_of-result
 invariant_of-result g c =
-    let x : Parts = record { ram = g.M.PhysMem.ram c.build.new.memory; manifest = c.args.manifest.now; kept = record c.unfilled-kept.result { pages = c.fill.new.self } } in
+    let x : Parts = record { ram = g.M.PhysMem.ram c.build.new.memory; manifest = c.args.manifest.now; kept = record c.unfilled-kept.result { pages = c.fill.new.self; pool = c.fill-2.new.self } } in
     let same = c.unfilled-kept.ensures.layout in
     let base = ap (λ (l : Layout). l.base) same ∙ c.of-layout.ensures.base in
     let blocks = ap (λ (l : Layout). l.blocks) same ∙ c.of-layout.ensures.blocks in
     let regions = ap regions_in same ∙ c.of-layout.ensures.regions in
     let built = subst (λ (l : Layout). IsBuiltFor l (g.M.PhysMem.ram c.build.new.memory) (layout_right l)) (sym same) c.build.ensures.built in
     let rest = subst (λ (l : Layout). KeepsRestFor l (g.M.PhysMem.ram c.args.ram) (g.M.PhysMem.ram c.build.new.memory)) (sym same) c.build.ensures.rest in
+    let slots = c.fill-2.ensures.slots ∙ ap (λ n. replicate (MOST_OPEN * n) None) c.len.ensures.value in
+    let sent = c.fill-2.ensures.sent ∙ ap (λ n. replicate n 0) c.len.ensures.value in
     subst (λ (m : Manifest). IsManager (record x { manifest = m })) (sym c.copied.ensures.same)
-    (machine-first (g.M.PhysMem.ram c.args.ram) x c.requires base blocks regions built rest c.fill.ensures c.unfilled-kept.ensures.slots c.unfilled-kept.ensures.sent c.unfilled-kept.ensures.buffers c.unfilled-kept.ensures.chain c.unfilled-kept.ensures.bitmaps c.unfilled-kept.ensures.bound c.unfilled-kept.ensures.pending c.copied.ensures.uuids c.built_tables.ensures)
+    (machine-first (g.M.PhysMem.ram c.args.ram) x c.requires base blocks regions built rest c.fill.ensures slots sent c.unfilled-kept.ensures.buffers c.unfilled-kept.ensures.chain c.unfilled-kept.ensures.bitmaps c.unfilled-kept.ensures.bound c.unfilled-kept.ensures.pending c.copied.ensures.uuids c.built_tables.ensures)
 
 pub returns-clause-state : goal.returns-clause-state
 returns-clause-state g c =
-    let x : Parts = record { ram = g.M.PhysMem.ram c.build.new.memory; manifest = c.args.manifest.now; kept = record c.unfilled-kept.result { pages = c.fill.new.self } } in
+    let x : Parts = record { ram = g.M.PhysMem.ram c.build.new.memory; manifest = c.args.manifest.now; kept = record c.unfilled-kept.result { pages = c.fill.new.self; pool = c.fill-2.new.self } } in
     let same = c.unfilled-kept.ensures.layout in
     let base = ap (λ (l : Layout). l.base) same ∙ c.of-layout.ensures.base in
     let blocks = ap (λ (l : Layout). l.blocks) same ∙ c.of-layout.ensures.blocks in
     let regions = ap regions_in same ∙ c.of-layout.ensures.regions in
     let built = subst (λ (l : Layout). IsBuiltFor l (g.M.PhysMem.ram c.build.new.memory) (layout_right l)) (sym same) c.build.ensures.built in
     let rest = subst (λ (l : Layout). KeepsRestFor l (g.M.PhysMem.ram c.args.ram) (g.M.PhysMem.ram c.build.new.memory)) (sym same) c.build.ensures.rest in
+    let slots = c.fill-2.ensures.slots ∙ ap (λ n. replicate (MOST_OPEN * n) None) c.len.ensures.value in
+    let sent = c.fill-2.ensures.sent ∙ ap (λ n. replicate n 0) c.len.ensures.value in
     ap (λ (m : Manifest). state_of (record x { manifest = m })) c.copied.ensures.same
-    ∙ state-first (g.M.PhysMem.ram c.args.ram) x c.requires base blocks regions built rest c.fill.ensures c.unfilled-kept.ensures.slots c.unfilled-kept.ensures.sent c.unfilled-kept.ensures.buffers c.unfilled-kept.ensures.chain c.unfilled-kept.ensures.bitmaps c.unfilled-kept.ensures.bound c.unfilled-kept.ensures.pending c.copied.ensures.uuids c.built_tables.ensures
+    ∙ state-first (g.M.PhysMem.ram c.args.ram) x c.requires base blocks regions built rest c.fill.ensures slots sent c.unfilled-kept.ensures.buffers c.unfilled-kept.ensures.chain c.unfilled-kept.ensures.bitmaps c.unfilled-kept.ensures.bound c.unfilled-kept.ensures.pending c.copied.ensures.uuids c.built_tables.ensures
 
 pub returns-clause-agrees : goal.returns-clause-agrees
 returns-clause-agrees g c =
-    let x : Parts = record { ram = g.M.PhysMem.ram c.build.new.memory; manifest = c.args.manifest.now; kept = record c.unfilled-kept.result { pages = c.fill.new.self } } in
+    let x : Parts = record { ram = g.M.PhysMem.ram c.build.new.memory; manifest = c.args.manifest.now; kept = record c.unfilled-kept.result { pages = c.fill.new.self; pool = c.fill-2.new.self } } in
     let same = c.unfilled-kept.ensures.layout in
     let base = ap (λ (l : Layout). l.base) same ∙ c.of-layout.ensures.base in
     let blocks = ap (λ (l : Layout). l.blocks) same ∙ c.of-layout.ensures.blocks in
     let regions = ap regions_in same ∙ c.of-layout.ensures.regions in
     let built = subst (λ (l : Layout). IsBuiltFor l (g.M.PhysMem.ram c.build.new.memory) (layout_right l)) (sym same) c.build.ensures.built in
     let rest = subst (λ (l : Layout). KeepsRestFor l (g.M.PhysMem.ram c.args.ram) (g.M.PhysMem.ram c.build.new.memory)) (sym same) c.build.ensures.rest in
+    let slots = c.fill-2.ensures.slots ∙ ap (λ n. replicate (MOST_OPEN * n) None) c.len.ensures.value in
+    let sent = c.fill-2.ensures.sent ∙ ap (λ n. replicate n 0) c.len.ensures.value in
     subst (λ (m : Manifest). Agrees x.ram (state_of (record x { manifest = m }))) (sym c.copied.ensures.same)
     (agrees x
-    (machine-first (g.M.PhysMem.ram c.args.ram) x c.requires base blocks regions built rest c.fill.ensures c.unfilled-kept.ensures.slots c.unfilled-kept.ensures.sent c.unfilled-kept.ensures.buffers c.unfilled-kept.ensures.chain c.unfilled-kept.ensures.bitmaps c.unfilled-kept.ensures.bound c.unfilled-kept.ensures.pending c.copied.ensures.uuids c.built_tables.ensures))
+    (machine-first (g.M.PhysMem.ram c.args.ram) x c.requires base blocks regions built rest c.fill.ensures slots sent c.unfilled-kept.ensures.buffers c.unfilled-kept.ensures.chain c.unfilled-kept.ensures.bitmaps c.unfilled-kept.ensures.bound c.unfilled-kept.ensures.pending c.copied.ensures.uuids c.built_tables.ensures))
 
 pub returns-clause-cleared : goal.returns-clause-cleared
 returns-clause-cleared g c =
-    let x : Parts = record { ram = g.M.PhysMem.ram c.build.new.memory; manifest = c.args.manifest.now; kept = record c.unfilled-kept.result { pages = c.fill.new.self } } in
+    let x : Parts = record { ram = g.M.PhysMem.ram c.build.new.memory; manifest = c.args.manifest.now; kept = record c.unfilled-kept.result { pages = c.fill.new.self; pool = c.fill-2.new.self } } in
     let same = c.unfilled-kept.ensures.layout in
     let base = ap (λ (l : Layout). l.base) same ∙ c.of-layout.ensures.base in
     let blocks = ap (λ (l : Layout). l.blocks) same ∙ c.of-layout.ensures.blocks in
     let regions = ap regions_in same ∙ c.of-layout.ensures.regions in
     let built = subst (λ (l : Layout). IsBuiltFor l (g.M.PhysMem.ram c.build.new.memory) (layout_right l)) (sym same) c.build.ensures.built in
     let rest = subst (λ (l : Layout). KeepsRestFor l (g.M.PhysMem.ram c.args.ram) (g.M.PhysMem.ram c.build.new.memory)) (sym same) c.build.ensures.rest in
+    let slots = c.fill-2.ensures.slots ∙ ap (λ n. replicate (MOST_OPEN * n) None) c.len.ensures.value in
+    let sent = c.fill-2.ensures.sent ∙ ap (λ n. replicate n 0) c.len.ensures.value in
     λ p behind inside.
-    cleared-behind (g.M.PhysMem.ram c.args.ram) x c.requires base blocks regions built rest c.fill.ensures c.unfilled-kept.ensures.slots c.unfilled-kept.ensures.sent c.unfilled-kept.ensures.buffers c.unfilled-kept.ensures.chain c.unfilled-kept.ensures.bitmaps c.unfilled-kept.ensures.bound c.unfilled-kept.ensures.pending c.copied.ensures.uuids c.built_tables.ensures p
+    cleared-behind (g.M.PhysMem.ram c.args.ram) x c.requires base blocks regions built rest c.fill.ensures slots sent c.unfilled-kept.ensures.buffers c.unfilled-kept.ensures.chain c.unfilled-kept.ensures.bitmaps c.unfilled-kept.ensures.bound c.unfilled-kept.ensures.pending c.copied.ensures.uuids c.built_tables.ensures p
     (subst (λ (m : Manifest). length (state_of (record x { manifest = m })).parties * table_pages x.manifest.ram_blocks ≤ p) c.copied.ensures.same behind) inside
 
 pub returns-clause-sound : goal.returns-clause-sound
 returns-clause-sound g c =
-    let x : Parts = record { ram = g.M.PhysMem.ram c.build.new.memory; manifest = c.args.manifest.now; kept = record c.unfilled-kept.result { pages = c.fill.new.self } } in
+    let x : Parts = record { ram = g.M.PhysMem.ram c.build.new.memory; manifest = c.args.manifest.now; kept = record c.unfilled-kept.result { pages = c.fill.new.self; pool = c.fill-2.new.self } } in
     let same = c.unfilled-kept.ensures.layout in
     let base = ap (λ (l : Layout). l.base) same ∙ c.of-layout.ensures.base in
     let blocks = ap (λ (l : Layout). l.blocks) same ∙ c.of-layout.ensures.blocks in
     let regions = ap regions_in same ∙ c.of-layout.ensures.regions in
     let built = subst (λ (l : Layout). IsBuiltFor l (g.M.PhysMem.ram c.build.new.memory) (layout_right l)) (sym same) c.build.ensures.built in
     let rest = subst (λ (l : Layout). KeepsRestFor l (g.M.PhysMem.ram c.args.ram) (g.M.PhysMem.ram c.build.new.memory)) (sym same) c.build.ensures.rest in
+    let slots = c.fill-2.ensures.slots ∙ ap (λ n. replicate (MOST_OPEN * n) None) c.len.ensures.value in
+    let sent = c.fill-2.ensures.sent ∙ ap (λ n. replicate n 0) c.len.ensures.value in
     subst (λ (m : Manifest). IsSoundState (state_of (record x { manifest = m }))) (sym c.copied.ensures.same)
-    (machine-first (g.M.PhysMem.ram c.args.ram) x c.requires base blocks regions built rest c.fill.ensures c.unfilled-kept.ensures.slots c.unfilled-kept.ensures.sent c.unfilled-kept.ensures.buffers c.unfilled-kept.ensures.chain c.unfilled-kept.ensures.bitmaps c.unfilled-kept.ensures.bound c.unfilled-kept.ensures.pending c.copied.ensures.uuids c.built_tables.ensures).sound
+    (machine-first (g.M.PhysMem.ram c.args.ram) x c.requires base blocks regions built rest c.fill.ensures slots sent c.unfilled-kept.ensures.buffers c.unfilled-kept.ensures.chain c.unfilled-kept.ensures.bitmaps c.unfilled-kept.ensures.bound c.unfilled-kept.ensures.pending c.copied.ensures.uuids c.built_tables.ensures).sound

@@ -1,0 +1,15 @@
+use Rattle.std.proofs.Common.{refl, arith, subst}
+use Rattle.ffa_model.specs.declared.transaction.Range.{Range}
+use Rattle.ffa_memshare.specs.Changes.{IsCleared}
+use Rattle.ffa_memshare.specs.Ranges.{in_range}
+use Rattle.ffa_memshare.proofs.PagesCleared.{cleared-next}
+use Rattle.ffa_memshare.proofs.zeros.clear.Goals as goal
+
+pub loop-place-preserved : goal.loop-place-preserved
+loop-place-preserved g c =
+    let old = g.M.PhysMem.ram c.args.ram.now in
+    let middle = g.M.PhysMem.ram c.loop-place.ram in
+    let new = g.M.PhysMem.ram c.clear_range.new.ram in
+    cleared-next old middle new old.base c.args.ranges.now c.loop-place.place c.at.result (omega (arith, c.loop-place-test.true, c.len-place-end.ensures.count))
+    c.loop-place.invariant
+    (subst (λ (r : Range). IsCleared middle new (in_range middle.base r)) (c.at.ensures c.at.result) c.clear_range.ensures) refl
