@@ -3,8 +3,8 @@ ghost use Rattle.std.specs.Prelude.{◌≡◌, ◌<◌, slice_index};
 ghost use Rattle.ffa_model.specs.Registers.{additions, decode, is_function, low, memory, messages, notifications, setup};
 ghost use Rattle.ffa_abi.specs.Parts.{called_in, payload_of, widest};
 
-use crate::function::*;
 use ffa_model::Call;
+use ffa_model::function::*;
 
 /// The registers x0 to x7 of a call, of which the low half of x0 names the function.
 #[derive(Clone, Copy, Debug)]
