@@ -3,8 +3,8 @@ use Rattle.std.proofs.Common.{◌≡◌, ◌∙◌, ap, refl, ℕ, List, ◌++�
 use Rattle.std.specs.Option.{MatchOption, option_map, option_or, unwrap_or}
 use Rattle.std.proofs.lemmas.List.Folds.{find-append}
 use Rattle.ffa_model.specs.declared.call.Call.TheVariants.{Unknown}
-use Rattle.ffa_model.specs.Registers.{Function, functions, is_form_of, low, called, decode}
-use Rattle.ffa_abi.specs.Parts.{called_in, setup, messages, memory, notifications, additions}
+use Rattle.ffa_model.specs.Registers.{Function, functions, setup, messages, memory, notifications, additions, is_form_of, low, called, decode}
+use Rattle.ffa_abi.specs.Parts.{called_in}
 
 called-append : (x : List ℕ) (o p : Option Function) → option_map (λ f. called x (Some f)) (option_or o p) ≡ option_or (option_map (λ f. called x (Some f)) o) (option_map (λ f. called x (Some f)) p)
 called-append x None p = refl

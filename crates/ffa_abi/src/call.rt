@@ -1,10 +1,10 @@
 //! Calls in registers.
 ghost use Rattle.std.specs.Prelude.{◌≡◌, ◌<◌, slice_index};
-ghost use Rattle.ffa_model.specs.Registers.{decode, is_function, low};
-ghost use Rattle.ffa_abi.specs.Parts as parts;
+ghost use Rattle.ffa_model.specs.Registers.{additions, decode, is_function, low, memory, messages, notifications, setup};
+ghost use Rattle.ffa_abi.specs.Parts.{called_in, payload_of, widest};
 
-use crate::function::*;
 use ffa_model::Call;
+use ffa_model::function::*;
 
 /// The registers x0 to x7 of a call, of which the low half of x0 names the function.
 #[derive(Clone, Copy, Debug)]
@@ -22,7 +22,7 @@ impl Registers {
     // A whole register in the 64-bit form of a call, whose identifier has bit 30 set, and else its low half.
     fn x(&self, index: usize) -> u64
         requires { index < 8 }
-        ensures { result ≡ parts.widest self.now.0 index }
+        ensures { result ≡ widest self.now.0 index }
     {
         if (self.w(0) >> 30) % 2 == 1 {
             self.0[index]
@@ -33,7 +33,7 @@ impl Registers {
 
     // The call, where it is of setup.
     fn setup(&self) -> Option<Call>
-        ensures { result ≡ parts.called_in parts.setup self.now.0 }
+        ensures { result ≡ called_in setup self.now.0 }
     {
         let call = match self.w(0) {
             FFA_VERSION => Call::Version { version: self.w(1) },
@@ -61,7 +61,7 @@ impl Registers {
 
     // The call, where it is of run states or a direct message.
     fn message(&self) -> Option<Call>
-        ensures { result ≡ parts.called_in parts.messages self.now.0 }
+        ensures { result ≡ called_in messages self.now.0 }
     {
         let call = match self.w(0) {
             FFA_MSG_WAIT => Call::MsgWait,
@@ -86,14 +86,14 @@ impl Registers {
 
     // What a direct message carries.
     fn payload(&self) -> [u64; 5]
-        ensures { result ≡ parts.payload_of self.now.0 }
+        ensures { result ≡ payload_of self.now.0 }
     {
         [self.x(3), self.x(4), self.x(5), self.x(6), self.x(7)]
     }
 
     // The call, where it is of memory.
     fn memory(&self) -> Option<Call>
-        ensures { result ≡ parts.called_in parts.memory self.now.0 }
+        ensures { result ≡ called_in memory self.now.0 }
     {
         let (total, fragment, address, pages) = (self.w(1), self.w(2), self.x(3), self.w(4));
         let call = match self.w(0) {
@@ -134,7 +134,7 @@ impl Registers {
 
     // The call, where it is of notifications.
     fn notification(&self) -> Option<Call>
-        ensures { result ≡ parts.called_in parts.notifications self.now.0 }
+        ensures { result ≡ called_in notifications self.now.0 }
     {
         let (word, flags, low, high) = (self.w(1), self.w(2), self.w(3), self.w(4));
         let call = match self.w(0) {
@@ -174,7 +174,7 @@ impl Registers {
 
     // The call, where version 1.1 added it.
     fn addition(&self) -> Option<Call>
-        ensures { result ≡ parts.called_in parts.additions self.now.0 }
+        ensures { result ≡ called_in additions self.now.0 }
     {
         match self.w(0) {
             FFA_SPM_ID_GET => Some(Call::SpmIdGet),

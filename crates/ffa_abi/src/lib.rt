@@ -2,7 +2,6 @@
 #![tactic(auto)]
 
 mod call;
-mod function;
 mod reply;
 
 pub use call::{decode, is_function};

@@ -3,7 +3,7 @@ ghost use Rattle.std.specs.Prelude.{◌≡◌};
 ghost use Rattle.ffa_model.specs.Calls.{code_number, encode};
 ghost use Rattle.ffa_model.specs.declared.call.Reply.{Reply};
 
-use crate::function::{FFA_ERROR, FFA_MEM_RETRIEVE_RESP, FFA_SUCCESS};
+use ffa_model::function::{FFA_ERROR, FFA_MEM_RETRIEVE_RESP, FFA_SUCCESS};
 use ffa_model::{ErrorCode, Reply};
 
 // FF-A's number of a code, as 32 bits of two's complement (DEN0077A, 11.2).

@@ -6,6 +6,7 @@ use Rattle.ffa_model.specs.declared.operation.Outcome.{Outcome}
 use Rattle.ffa_model.specs.declared.operation.Outcome.TheVariants.{Regs}
 use Rattle.ffa_model.specs.declared.call.Reply.{Reply}
 use Rattle.ffa_model.specs.declared.call.Reply.TheVariants.{Version, Error, Success, Passed, Retrieved}
+use Rattle.ffa_model.specs.declared.function.TheConstants.{FFA_ERROR, FFA_SUCCESS, FFA_MEM_RETRIEVE_RESP}
 use Rattle.ffa_model.specs.State.{State}
 
 -- A guard is a test, which passes where it is true, and the code that the call answers where it fails: the code of the
@@ -25,10 +26,10 @@ code_number Denied = 0xFFFFFFFA
 -- the eight registers of a reply
 abbrev pub encode : Reply → List ℕ
 encode (Version version) = version ∷ replicate 7 0
-encode (Error code) = 0x84000060 ∷ 0 ∷ code_number code ∷ replicate 5 0
-encode (Success results) = 0x84000061 ∷ 0 ∷ results
+encode (Error code) = FFA_ERROR ∷ 0 ∷ code_number code ∷ replicate 5 0
+encode (Success results) = FFA_SUCCESS ∷ 0 ∷ results
 encode (Passed w0 w1 payload) = w0 ∷ w1 ∷ 0 ∷ payload
-encode (Retrieved size) = 0x84000075 ∷ size ∷ size ∷ replicate 5 0
+encode (Retrieved size) = FFA_MEM_RETRIEVE_RESP ∷ size ∷ size ∷ replicate 5 0
 
 -- success with these two results in w2 and w3
 abbrev pub success : ℕ → ℕ → Reply

@@ -5,20 +5,21 @@ use Rattle.ffa_model.specs.declared.call.Call.TheVariants.{DirectRequest, Direct
 use Rattle.ffa_model.specs.declared.call.Reply.{Reply}
 use Rattle.ffa_model.specs.declared.operation.Outcome.{Outcome}
 use Rattle.ffa_model.specs.declared.operation.Outcome.TheVariants.{Regs, Data, Done, Fault}
+use Rattle.ffa_model.specs.declared.function.TheConstants.{FFA_ERROR}
 use Rattle.ffa_model.specs.Calls.{encode}
 
 abbrev pub is_refusal : Outcome → Bool
-is_refusal (Regs runner x) = slice_index x 0 == 0x84000060
+is_refusal (Regs runner x) = slice_index x 0 == FFA_ERROR
 is_refusal (Data value) = false
 is_refusal Done = false
 is_refusal (Fault fault) = true
 
 -- a reply that is seen as FFA_ERROR
 abbrev pub is_error : Reply → Bool
-is_error reply = slice_index (encode reply) 0 == 0x84000060
+is_error reply = slice_index (encode reply) 0 == FFA_ERROR
 
 -- whether what a call passes on is not seen as FFA_ERROR
 abbrev pub passes_no_error : Call → Bool
-passes_no_error (DirectRequest function word flags payload) = not (function == 0x84000060)
-passes_no_error (DirectResponse function word flags payload) = not (function == 0x84000060)
+passes_no_error (DirectRequest function word flags payload) = not (function == FFA_ERROR)
+passes_no_error (DirectResponse function word flags payload) = not (function == FFA_ERROR)
 passes_no_error call = true

@@ -1,8 +1,9 @@
 -- Which calls there are, and their arguments in the registers (DEN0028, 2; DEN0077A, 11 to 16).
 -- One table says it all: for reading a call, for FFA_FEATURES and for the step.
-use Rattle.std.specs.Prelude.{ℕ, ◌+◌, ◌%◌, ◌^◌, ◌==◌, Bool, true, false, ◌&&◌, ◌||◌, List, [], ◌∷◌, Option, Some, None, find, is_some, slice_index, if◌then◌else◌}
+use Rattle.std.specs.Prelude.{ℕ, ◌+◌, ◌%◌, ◌^◌, ◌==◌, Bool, true, false, ◌&&◌, ◌||◌, List, [], ◌∷◌, ◌++◌, Option, Some, None, find, is_some, slice_index, if◌then◌else◌}
 use Rattle.ffa_model.specs.declared.call.Call.{Call}
 use Rattle.ffa_model.specs.declared.call.Call.TheVariants.{Version, Features, RxRelease, RxtxMap, RxtxUnmap, PartitionInfoGet, IdGet, MsgWait, Yield, Run, DirectRequest, DirectResponse, MemDonate, MemLend, MemShare, MemRetrieve, MemRelinquish, MemReclaim, BitmapCreate, BitmapDestroy, NotificationBind, NotificationUnbind, NotificationSet, NotificationGet, SpmIdGet, MsgSend2, Unknown}
+use Rattle.ffa_model.specs.declared.function.TheConstants.{FFA_VERSION, FFA_FEATURES, FFA_RX_RELEASE, FFA_RXTX_MAP, FFA_RXTX_UNMAP, FFA_PARTITION_INFO_GET, FFA_ID_GET, FFA_MSG_WAIT, FFA_YIELD, FFA_RUN, FFA_MSG_SEND_DIRECT_REQ, FFA_MSG_SEND_DIRECT_RESP, FFA_MEM_DONATE, FFA_MEM_LEND, FFA_MEM_SHARE, FFA_MEM_RETRIEVE_REQ, FFA_MEM_RELINQUISH, FFA_MEM_RECLAIM, FFA_NOTIFICATION_BITMAP_CREATE, FFA_NOTIFICATION_BITMAP_DESTROY, FFA_NOTIFICATION_BIND, FFA_NOTIFICATION_UNBIND, FFA_NOTIFICATION_SET, FFA_NOTIFICATION_GET, FFA_SPM_ID_GET, FFA_MSG_SEND2}
 
 -- a register's low half
 abbrev pub low : ℕ → ℕ
@@ -24,35 +25,56 @@ wide function call = record { function = function; is_wide = true; call = call }
 abbrev pub payload : (ℕ → ℕ) → List ℕ
 payload x = x 3 ∷ x 4 ∷ x 5 ∷ x 6 ∷ x 7 ∷ []
 
-abbrev pub functions : List Function
-functions =
-    narrow 0x84000063 (λ w. Version (w 1))
-    ∷ narrow 0x84000064 (λ w. Features (w 1))
-    ∷ narrow 0x84000065 (λ w. RxRelease)
-    ∷ wide 0x84000066 (λ w x. RxtxMap (x 1) (x 2) (w 3))
-    ∷ narrow 0x84000067 (λ w. RxtxUnmap (w 1))
-    ∷ narrow 0x84000068 (λ w. PartitionInfoGet (w 1 ∷ w 2 ∷ w 3 ∷ w 4 ∷ []) (w 5))
-    ∷ narrow 0x84000069 (λ w. IdGet)
-    ∷ narrow 0x8400006B (λ w. MsgWait)
-    ∷ narrow 0x8400006C (λ w. Yield)
-    ∷ narrow 0x8400006D (λ w. Run (w 1))
-    ∷ wide 0x8400006F (λ w x. DirectRequest (w 0) (w 1) (w 2) (payload x))
-    ∷ wide 0x84000070 (λ w x. DirectResponse (w 0) (w 1) (w 2) (payload x))
-    ∷ wide 0x84000071 (λ w x. MemDonate (w 1) (w 2) (x 3) (w 4))
-    ∷ wide 0x84000072 (λ w x. MemLend (w 1) (w 2) (x 3) (w 4))
-    ∷ wide 0x84000073 (λ w x. MemShare (w 1) (w 2) (x 3) (w 4))
-    ∷ wide 0x84000074 (λ w x. MemRetrieve (w 1) (w 2) (x 3) (w 4))
-    ∷ narrow 0x84000076 (λ w. MemRelinquish)
-    ∷ narrow 0x84000077 (λ w. MemReclaim (w 1) (w 2) (w 3))
-    ∷ narrow 0x8400007D (λ w. BitmapCreate (w 1) (w 2))
-    ∷ narrow 0x8400007E (λ w. BitmapDestroy (w 1))
-    ∷ narrow 0x8400007F (λ w. NotificationBind (w 1) (w 2) (w 3) (w 4))
-    ∷ narrow 0x84000080 (λ w. NotificationUnbind (w 1) (w 2) (w 3) (w 4))
-    ∷ narrow 0x84000081 (λ w. NotificationSet (w 1) (w 2) (w 3) (w 4))
-    ∷ narrow 0x84000082 (λ w. NotificationGet (w 1) (w 2))
-    ∷ narrow 0x84000085 (λ w. SpmIdGet)
-    ∷ narrow 0x84000086 (λ w. MsgSend2)
+abbrev pub setup : List Function
+setup =
+    narrow FFA_VERSION (λ w. Version (w 1))
+    ∷ narrow FFA_FEATURES (λ w. Features (w 1))
+    ∷ narrow FFA_RX_RELEASE (λ w. RxRelease)
+    ∷ wide FFA_RXTX_MAP (λ w x. RxtxMap (x 1) (x 2) (w 3))
+    ∷ narrow FFA_RXTX_UNMAP (λ w. RxtxUnmap (w 1))
+    ∷ narrow FFA_PARTITION_INFO_GET (λ w. PartitionInfoGet (w 1 ∷ w 2 ∷ w 3 ∷ w 4 ∷ []) (w 5))
+    ∷ narrow FFA_ID_GET (λ w. IdGet)
     ∷ []
+
+-- those of run states, and direct messages
+abbrev pub messages : List Function
+messages =
+    narrow FFA_MSG_WAIT (λ w. MsgWait)
+    ∷ narrow FFA_YIELD (λ w. Yield)
+    ∷ narrow FFA_RUN (λ w. Run (w 1))
+    ∷ wide FFA_MSG_SEND_DIRECT_REQ (λ w x. DirectRequest (w 0) (w 1) (w 2) (payload x))
+    ∷ wide FFA_MSG_SEND_DIRECT_RESP (λ w x. DirectResponse (w 0) (w 1) (w 2) (payload x))
+    ∷ []
+
+abbrev pub memory : List Function
+memory =
+    wide FFA_MEM_DONATE (λ w x. MemDonate (w 1) (w 2) (x 3) (w 4))
+    ∷ wide FFA_MEM_LEND (λ w x. MemLend (w 1) (w 2) (x 3) (w 4))
+    ∷ wide FFA_MEM_SHARE (λ w x. MemShare (w 1) (w 2) (x 3) (w 4))
+    ∷ wide FFA_MEM_RETRIEVE_REQ (λ w x. MemRetrieve (w 1) (w 2) (x 3) (w 4))
+    ∷ narrow FFA_MEM_RELINQUISH (λ w. MemRelinquish)
+    ∷ narrow FFA_MEM_RECLAIM (λ w. MemReclaim (w 1) (w 2) (w 3))
+    ∷ []
+
+abbrev pub notifications : List Function
+notifications =
+    narrow FFA_NOTIFICATION_BITMAP_CREATE (λ w. BitmapCreate (w 1) (w 2))
+    ∷ narrow FFA_NOTIFICATION_BITMAP_DESTROY (λ w. BitmapDestroy (w 1))
+    ∷ narrow FFA_NOTIFICATION_BIND (λ w. NotificationBind (w 1) (w 2) (w 3) (w 4))
+    ∷ narrow FFA_NOTIFICATION_UNBIND (λ w. NotificationUnbind (w 1) (w 2) (w 3) (w 4))
+    ∷ narrow FFA_NOTIFICATION_SET (λ w. NotificationSet (w 1) (w 2) (w 3) (w 4))
+    ∷ narrow FFA_NOTIFICATION_GET (λ w. NotificationGet (w 1) (w 2))
+    ∷ []
+
+-- those that version 1.1 added beside these
+abbrev pub additions : List Function
+additions =
+    narrow FFA_SPM_ID_GET (λ w. SpmIdGet)
+    ∷ narrow FFA_MSG_SEND2 (λ w. MsgSend2)
+    ∷ []
+
+abbrev pub functions : List Function
+functions = setup ++ messages ++ memory ++ notifications ++ additions
 
 -- the identifier of the 64-bit form has bit 30 set
 abbrev pub wide_of : ℕ → ℕ

@@ -8,6 +8,7 @@ use Rattle.ffa_model.specs.declared.schedule.Work.{Work}
 use Rattle.ffa_model.specs.declared.schedule.Work.TheVariants.{Run, Request}
 use Rattle.ffa_model.specs.declared.call.Reply.{Reply}
 use Rattle.ffa_model.specs.declared.call.Reply.TheVariants.{Passed}
+use Rattle.ffa_model.specs.declared.function.TheConstants.{FFA_RUN, FFA_MSG_WAIT, FFA_YIELD}
 use Rattle.ffa_model.specs.Bits.{high_half, low_half, word_of_two}
 use Rattle.ffa_model.specs.Identifiers.{place}
 use Rattle.ffa_model.specs.Lists.{listed}
@@ -145,16 +146,16 @@ passed w0 w1 = Passed w0 w1 (replicate 5 0)
 -- a partition that waited sees FFA_RUN, and one that had yielded that its FFA_YIELD is done; no other is asked for, since a
 -- guard refuses it
 abbrev pub run_reply : ℕ → Status → Reply
-run_reply word Waiting = passed 0x8400006D word
+run_reply word Waiting = passed FFA_RUN word
 run_reply word Yielded = success 0 0
 run_reply word Running = success 0 0
 run_reply word Blocked = success 0 0
 
 abbrev pub wait_reply : ℕ → Reply
-wait_reply runner = passed 0x8400006B (word_of_two runner 0)
+wait_reply runner = passed FFA_MSG_WAIT (word_of_two runner 0)
 
 abbrev pub yield_reply : ℕ → Reply
-yield_reply runner = passed 0x8400006C (word_of_two runner 0)
+yield_reply runner = passed FFA_YIELD (word_of_two runner 0)
 
 -- ON A STATE
 abbrev pub schedule_of : State → Schedule

@@ -5,6 +5,7 @@ pub mod call;
 pub mod certificate;
 pub mod descriptor;
 pub mod endpoint;
+pub mod function;
 pub mod leaf;
 pub mod limits;
 pub mod machines;

@@ -4,5 +4,6 @@ pub mod Universe
 pub mod Changes
 pub mod Stores
 pub mod Tests
+pub mod Guards
 pub mod Views
 pub mod Boots

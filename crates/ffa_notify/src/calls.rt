@@ -5,7 +5,7 @@ ghost use Rattle.ffa_model.specs.Bits.{bits_of, high_half, low_half};
 ghost use Rattle.ffa_model.specs.Calls.{first_failure};
 ghost use Rattle.ffa_model.specs.Notifications.{bind_guards, class_of, create_guards, destroy_guards, get_guards, get_reply, set_guards, unbind_guards, with_bitmaps, with_bound, with_framework_bit, with_pending, without_bitmaps, without_bound, without_pending};
 ghost use Rattle.ffa_model.specs.State.{is_known_among};
-ghost use Rattle.ffa_notify.specs.Guards.{is_between};
+ghost use Rattle.ffa_notify.specs.Guards.{is_between, sender_guards};
 
 use crate::bitmaps::Bitmaps;
 use crate::class::Class;
@@ -91,14 +91,8 @@ impl Bitmaps {
         ensures kept { OnErr result (self.new ≡ self.old) }
         ensures bound { OnOk result (self.new ≡ with_bound self.old caller.0 (high_half word) (bits_of bitmap)) }
     {
-        let sender = EndpointId::in_high_half(word);
-        if !self.is_between(caller, EndpointId::in_low_half(word), sender) {
-            return Err(ErrorCode::InvalidParameters);
-        }
-        if flags != 0 || bitmap == 0 {
-            return Err(ErrorCode::InvalidParameters);
-        }
-        if !self.has(caller) || !self.is_bindable(caller, sender, bitmap) {
+        let sender = self.named_sender(caller, word, flags, bitmap)?;
+        if !self.is_bindable(caller, sender, bitmap) {
             return Err(ErrorCode::Denied);
         }
         self.bind_bits(caller, sender, bitmap);
@@ -123,14 +117,8 @@ impl Bitmaps {
         ensures kept { OnErr result (self.new ≡ self.old) }
         ensures unbound { OnOk result (self.new ≡ without_bound self.old caller.0 (high_half word) (bits_of bitmap)) }
     {
-        let sender = EndpointId::in_high_half(word);
-        if !self.is_between(caller, EndpointId::in_low_half(word), sender) {
-            return Err(ErrorCode::InvalidParameters);
-        }
-        if flags != 0 || bitmap == 0 {
-            return Err(ErrorCode::InvalidParameters);
-        }
-        if !self.has(caller) || !self.is_unbindable(caller, sender, bitmap) {
+        let sender = self.named_sender(caller, word, flags, bitmap)?;
+        if !self.is_unbindable(caller, sender, bitmap) {
             return Err(ErrorCode::Denied);
         }
         self.unbind_bits(caller, sender, bitmap);
@@ -204,6 +192,32 @@ impl Bitmaps {
         ensures { self.new ≡ with_framework_bit self.old receiver.0 }
     {
         self.set_bits(receiver, Class::Manager, 1);
+    }
+
+    // The sender of FFA_NOTIFICATION_BIND and FFA_NOTIFICATION_UNBIND, where what both ask for first holds: the caller is
+    // named, with another endpoint, no flag is set, a bit is, and the caller has bitmaps.
+    fn named_sender(
+        &self,
+        caller: EndpointId,
+        word: u32,
+        flags: u32,
+        bitmap: u64,
+    ) -> Result<EndpointId, ErrorCode>
+        ensures refusal { result_err result ≡ first_failure (sender_guards (length self.now.bitmaps) self.now caller.0 word flags bitmap) }
+        ensures sender { IfOk result (λ sender. sender.0 ≡ high_half word) }
+        ensures known { IfOk result (λ sender. is_known_among (length self.now.bitmaps) sender.0 ≡ true) }
+    {
+        let sender = EndpointId::in_high_half(word);
+        if !self.is_between(caller, EndpointId::in_low_half(word), sender) {
+            return Err(ErrorCode::InvalidParameters);
+        }
+        if flags != 0 || bitmap == 0 {
+            return Err(ErrorCode::InvalidParameters);
+        }
+        if !self.has(caller) {
+            return Err(ErrorCode::Denied);
+        }
+        Ok(sender)
     }
 
     // Whether one of two named endpoints is the caller and the other another.

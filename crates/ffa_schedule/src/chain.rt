@@ -13,15 +13,9 @@ ghost use Rattle.ffa_model.specs.State.{is_partition_among};
 ghost use Rattle.ffa_model.specs.Links.{status_outside};
 
 use arrayvec::ArrayVec;
+use ffa_model::function::{FFA_MSG_WAIT, FFA_RUN, FFA_YIELD};
 use ffa_model::{EndpointId, ErrorCode, MOST_ENDPOINTS, Reply, Status, Work};
 use std::marker::Model;
-
-// The identifiers of the calls that a reply names (DEN0077A, 11 to 16).
-const FFA_MSG_WAIT: u32 = 0x8400_006B;
-
-const FFA_YIELD: u32 = 0x8400_006C;
-
-const FFA_RUN: u32 = 0x8400_006D;
 
 /// Who runs, and for whom: the endpoints from the normal world to the runner, each of which is blocked for the one
 /// behind it (DEN0077A, 8.2). A partition that waits or has yielded stands outside.

@@ -1,6 +1,7 @@
 //! The calls on run states, and messages.
 ghost use Rattle.std.specs.Prelude.{true, false, ◌≡◌, ◌==◌};
 ghost use Rattle.ffa_model.specs.Calls.{replied, served};
+ghost use Rattle.ffa_model.specs.declared.function.TheConstants.{FFA_ERROR};
 ghost use Rattle.ffa_model.specs.Refusals.{is_error, passes_no_error};
 ghost use Rattle.ffa_model.specs.Messages.{msg_send2};
 ghost use Rattle.ffa_model.specs.RunStates.{direct_request, direct_response, msg_wait, run_partition, yield_now};
@@ -89,7 +90,7 @@ impl<M: PhysMem + Drop> Manager<M> {
 
     // FFA_MSG_SEND_DIRECT_REQ of the runner.
     fn request(&mut self, message: &DirectMessage) -> Reply
-        requires { (message.now.function == 0x84000060) ≡ false }
+        requires { (message.now.function == FFA_ERROR) ≡ false }
         ensures served { replied self.new.state result ≡ served self.old.state (direct_request self.old.state message.now.function message.now.word message.now.flags message.now.payload) }
         ensures refused { is_error result ≡ true → self.new ≡ self.old }
         ensures unowned { KeepsUnowned self.old.state self.old.ram self.new.ram }
@@ -99,7 +100,7 @@ impl<M: PhysMem + Drop> Manager<M> {
 
     // FFA_MSG_SEND_DIRECT_RESP of the runner.
     fn respond(&mut self, message: &DirectMessage) -> Reply
-        requires { (message.now.function == 0x84000060) ≡ false }
+        requires { (message.now.function == FFA_ERROR) ≡ false }
         ensures served { replied self.new.state result ≡ served self.old.state (direct_response self.old.state message.now.function message.now.word message.now.flags message.now.payload) }
         ensures refused { is_error result ≡ true → self.new ≡ self.old }
         ensures unowned { KeepsUnowned self.old.state self.old.ram self.new.ram }

@@ -1,5 +1,6 @@
 use Rattle.std.proofs.Common.{of_calls}
-use Rattle.ffa_abi.specs.Parts.{called_in, messages, memory, notifications, additions}
+use Rattle.ffa_model.specs.Registers.{messages, memory, notifications, additions}
+use Rattle.ffa_abi.specs.Parts.{called_in}
 use Rattle.ffa_abi.proofs.Parts.{or_else-gives, decode-parts}
 use Rattle.ffa_abi.proofs.call.decode.Goals as goal
 
