@@ -91,7 +91,7 @@ pub record IsSoundPending (s : State) (entry : List ℕ) : Type 0 where
   pub in_word : bit < 64
   pub bound : class < manager_class → (sender : ℕ) × (is_bound (notifications_of s) receiver class bit sender ≡ true)
 
--- one to eight endpoints, 2 to 64 MiB of RAM, and a list by endpoint for each of them
+-- from one endpoint to as many as there may be, 2 to 64 MiB of RAM, and a list by endpoint for each of them
 pub record IsSized (s : State) : Type 0 where
   pub some : 1 ≤ length s.parties
   pub few : length s.parties ≤ MOST_ENDPOINTS
