@@ -60,22 +60,30 @@ fn is_send_header(kind: Kind, header: &Header) -> bool
         && header.count <= most_receivers(kind)
 }
 
-fn send_in<B: Bytes>(bytes: &B, version: Version, kind: Kind) -> Option<SendDesc>
-    ensures { option_map send_record result ≡ send_of kind (in_version version (B.bytes bytes.now)) }
+fn send_in<B: Bytes>(bytes: &B, version: Version, kind: Kind) -> Result<SendDesc, Bad>
+    ensures { option_map send_record (result_ok result) ≡ send_of kind (in_version version (B.bytes bytes.now)) }
 {
-    let header = read_header(bytes, version)?;
+    let Some(header) = read_header(bytes, version) else {
+        return Err(Bad);
+    };
     if !is_send_header(kind, &header) {
-        return None;
+        return Err(Bad);
     }
     let composite = read_u32(bytes, header.array as usize + 4);
-    let receivers = read_receivers(bytes, kind, &header, composite)?;
-    let count = read_range_count(bytes, &header, composite)?;
+    let Some(receivers) = read_receivers(bytes, kind, &header, composite) else {
+        return Err(Bad);
+    };
+    let Some(count) = read_range_count(bytes, &header, composite) else {
+        return Err(Bad);
+    };
     let mut ranges = ArrayVec::new();
-    read_ranges(bytes, composite, count, &mut ranges)?;
+    let Some(()) = read_ranges(bytes, composite, count, &mut ranges) else {
+        return Err(Bad);
+    };
     if page_total(&ranges) != read_u32(bytes, composite as usize) as u64 {
-        return None;
+        return Err(Bad);
     }
-    Some(SendDesc {
+    Ok(SendDesc {
         sender: header.sender,
         zero: header.flags == 1,
         tag: header.tag,
@@ -91,5 +99,5 @@ pub fn read_send<B: Bytes>(bytes: &B, version: Version, kind: Kind) -> Result<Se
     ensures none { OnErr result ((r : SendRecord) → Send kind (in_version version (B.bytes bytes.now)) r → ⊥) }
     ensures computed { option_map send_record (result_ok result) ≡ send_of kind (in_version version (B.bytes bytes.now)) }
 {
-    send_in(bytes, version, kind).ok_or(Bad)
+    send_in(bytes, version, kind)
 }

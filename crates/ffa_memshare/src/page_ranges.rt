@@ -68,25 +68,21 @@ impl PageRanges {
         requires { ArePlaced base (length pages.now) ranges.now.items }
         ensures { result ≡ ranges.now.items }
     {
-        // They are pushed where they stand, since a list is large to move.
-        let mut placed = PageRanges {
-            base,
-            list: ArrayVec::new(),
-        };
-        push_placed(&mut placed.list, pages, base, ranges.as_slice());
-        placed
+        let mut list = ArrayVec::new();
+        push_placed(&mut list, pages, base, ranges.as_slice());
+        PageRanges { base, list }
     }
 
     /// The same ranges.
     pub(crate) fn copied(&self) -> PageRanges
         ensures { result ≡ self.now }
     {
-        let mut copied = PageRanges {
+        let mut list = ArrayVec::new();
+        push_all(&mut list, self.list.as_slice());
+        PageRanges {
             base: self.base,
-            list: ArrayVec::new(),
-        };
-        push_all(&mut copied.list, self.list.as_slice());
-        copied
+            list,
+        }
     }
 
     /// How many there are.
