@@ -16,17 +16,17 @@ use std::alloc::Global;
 use std::process::Abort;
 use std::test::Fail;
 
+// Buffers of several pages.
+mod buffers;
+
 // Rows on machines with a cache, and what it holds.
 mod cached;
 
 // Rows on machines with endpoints of the compact form.
 mod compact;
 
-// Buffers of several pages.
-mod larger;
-
 // Transactions with many ranges, and many of them.
-mod many;
+mod limits;
 
 // Memory transactions.
 mod memory;

@@ -1,6 +1,6 @@
 //! Transactions over buffers of several pages, with up to 64 ranges, and sixteen of them open for a sender.
+use super::buffers::{FIRST_RUNS, INVALID, add_share};
 use super::compact::{MACHINE, check_kinds};
-use super::larger::{FIRST_RUNS, INVALID, add_share};
 use super::memory::{LEND, MAPPED, RETRIEVE, TO_SECOND};
 use super::*;
 use ffa_manifest::read;
