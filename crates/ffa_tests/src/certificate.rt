@@ -1,12 +1,11 @@
 //! The certificates of machines, and tables of which they are none.
-ghost use Rattle.std.specs.Prelude.{◌≡◌, ◌*◌, IfOk};
-ghost use Rattle.ffa_model.specs.Ram.{zero_ram};
-
+use crate::checks::{holds, same};
+use crate::machines::{booted, booted_in_frames, booted_with, four_in_turn};
 use ffa_manifest::read;
 use ffa_model::{CertRun, Data, EndpointId, Manifest, PageNo, Rights, row_machine};
-use ffa_physmem::{FlatRam, FrameRam, PhysMem};
+use ffa_physmem::{FlatRam, PhysMem};
 use ffa_spmc::Machine;
-use ffa_tlb::{InTurn, NoTlb, Tlb, Translations};
+use ffa_tlb::{NoTlb, Translations};
 use ffa_walker::{FaultKind, audit, is_in_ram, translate};
 use std::alloc::Global;
 use std::process::Abort;
@@ -20,12 +19,6 @@ const ROOT: u32 = 0;
 const LEVEL2: u32 = 1;
 
 const LEVEL3: u32 = 2;
-
-fn booted(alloc: Global) -> Result<Machine<FlatRam>, Fail> {
-    let manifest = row_machine();
-    let ram = FlatRam::new(alloc, manifest.ram_base, 512)?;
-    Ok(Machine::boot(&manifest, ram))
-}
 
 // The runs of the machine's pages.
 fn certificate<M: PhysMem + Drop, T: Translations + Drop>(
@@ -48,80 +41,73 @@ fn certificate<M: PhysMem + Drop, T: Translations + Drop>(
 fn manifest_text(alloc: Global, blocks: u32, endpoints: u32) -> Result<String, Fail> {
     let mut text = format!(in alloc; "ram_base = 0x40000000\nram_blocks = {blocks}\n")?;
     for place in 0..endpoints {
-        text.push_str("[[endpoint]]\nversion = \"1.1\"\nproperties = 6\n")?;
-        if place > 0 {
-            text.push_str(&format!(in alloc;
-                "uuid = \"{place}0112233-4455-6677-8899-aabbccddeeff\"\n"
-            )?)?;
-        }
-        text.push_str(&format!(in alloc;
-            "regions = [{{ base = 0x401{}0000, pages = 16, rights = \"rw\" }}]\n",
-            2u32.saturating_add(place)
-        )?)?;
+        push_endpoint(&mut text, alloc, place)?;
     }
     Ok(text)
 }
 
-// RAM of either kind for a manifest's machine.
-fn flat_ram(alloc: Global, manifest: &Manifest) -> Result<FlatRam, Fail>
-    ensures { IfOk result (λ ram. ⟦<FlatRam as PhysMem>⟧.ram ram ≡ zero_ram manifest.now.ram_base (512 * manifest.now.ram_blocks)) }
-{
-    Ok(FlatRam::new(alloc, manifest.ram_base, 512 * manifest.ram_blocks)?)
+fn push_endpoint(text: &mut String, alloc: Global, place: u32) -> Result<(), Fail> {
+    text.push_str("[[endpoint]]\nversion = \"1.1\"\nproperties = 6\n")?;
+    if place > 0 {
+        text.push_str(&format!(in alloc;
+            "uuid = \"{place}0112233-4455-6677-8899-aabbccddeeff\"\n"
+        )?)?;
+    }
+    text.push_str(&format!(in alloc;
+        "regions = [{{ base = 0x401{}0000, pages = 16, rights = \"rw\" }}]\n",
+        2u32.saturating_add(place)
+    )?)?;
+    Ok(())
 }
 
-fn frame_ram(alloc: Global, manifest: &Manifest) -> Result<FrameRam, Fail>
-    ensures { IfOk result (λ ram. ⟦<FrameRam as PhysMem>⟧.ram ram ≡ zero_ram manifest.now.ram_base (512 * manifest.now.ram_blocks)) }
-{
-    Ok(FrameRam::new(alloc, manifest.ram_base, 512 * manifest.ram_blocks)?)
+// Whether a machine gives its own certificate where the first endpoint has this right to the first run.
+fn passes_with<M: PhysMem + Drop, T: Translations + Drop>(
+    machine: &Machine<M, T>,
+    runs: &mut Vec<CertRun>,
+    right: Option<Rights>,
+) -> bool {
+    if let Some(first) = runs.first_mut() {
+        first.access[0] = right;
+    }
+    machine.audit(runs.as_slice())
 }
 
-// The cache of `--tlb`.
-fn four_in_turn() -> Tlb<InTurn, 4> {
-    Tlb::new(InTurn::default())
-}
-
-// The machine of a manifest gives its own certificate, which has a run for each endpoint, one before and one behind; but
-// not with a right to the first, and not without the last.
+// A machine gives its own certificate, which has a run for each endpoint, one before and one behind; but not with a right
+// to the first, and not without the last.
 fn check<M: PhysMem + Drop, T: Translations + Drop>(
     rt: &impl Abort,
     alloc: Global,
-    manifest: &Manifest,
-    ram: M,
-    cache: T,
-) -> Result<(), Fail>
-    requires { M.ram ram ≡ zero_ram manifest.now.ram_base (512 * manifest.now.ram_blocks) }
-{
-    let machine = Machine::boot_with(manifest, ram, cache);
-    let mut runs = certificate(alloc, &machine)?;
-    assert_eq!(rt; runs.len(), 2 + manifest.endpoints.len());
-    for (right, passes) in [(Some(Rights::default()), false), (None, true)] {
-        if let Some(first) = runs.first_mut() {
-            first.access[0] = right;
-        }
-        assert_eq!(rt; machine.audit(runs.as_slice()), passes);
-    }
+    machine: &Machine<M, T>,
+    endpoints: usize,
+) -> Result<(), Fail> {
+    let mut runs = certificate(alloc, machine)?;
+    same(rt, runs.len(), endpoints.saturating_add(2));
+    holds(
+        rt,
+        !passes_with(machine, &mut runs, Some(Rights::default())),
+    );
+    holds(rt, passes_with(machine, &mut runs, None));
     let _last = runs.pop();
-    assert!(rt; !machine.audit(runs.as_slice()));
+    holds(rt, !machine.audit(runs.as_slice()));
     Ok(())
 }
 
 // The same of machines of all kinds.
 fn check_kinds(rt: &impl Abort, alloc: Global, manifest: &Manifest) -> Result<(), Fail> {
-    check(rt, alloc, manifest, flat_ram(alloc, manifest)?, NoTlb)?;
+    let count = manifest.endpoints.len();
+    check(rt, alloc, &booted_with(alloc, manifest, NoTlb)?, count)?;
     check(
         rt,
         alloc,
-        manifest,
-        flat_ram(alloc, manifest)?,
-        four_in_turn(),
+        &booted_with(alloc, manifest, four_in_turn())?,
+        count,
     )?;
-    check(rt, alloc, manifest, frame_ram(alloc, manifest)?, NoTlb)?;
+    check(rt, alloc, &booted_in_frames(alloc, manifest, NoTlb)?, count)?;
     check(
         rt,
         alloc,
-        manifest,
-        frame_ram(alloc, manifest)?,
-        four_in_turn(),
+        &booted_in_frames(alloc, manifest, four_in_turn())?,
+        count,
     )
 }
 
@@ -160,18 +146,18 @@ fn gives(memory: &FlatRam, runs: &[CertRun]) -> bool {
 
 #[test]
 fn tables_that_give_more(rt: HostRuntime) -> Result<(), Fail> {
-    let machine = booted(rt.alloc())?;
+    let machine = booted(rt.alloc(), &row_machine())?;
     let runs = certificate(rt.alloc(), &machine)?;
     let mut memory = copied(rt.alloc(), &machine)?;
-    assert!(rt; gives(&memory, runs.as_slice()));
+    holds(&rt, gives(&memory, runs.as_slice()));
     // The page at 40010000 may not be written any more.
     flip(&mut memory, LEVEL3, 0x10, 1 << 7);
-    assert!(rt; !gives(&memory, runs.as_slice()));
+    holds(&rt, !gives(&memory, runs.as_slice()));
     flip(&mut memory, LEVEL3, 0x10, 1 << 7);
-    assert!(rt; gives(&memory, runs.as_slice()));
+    holds(&rt, gives(&memory, runs.as_slice()));
     // A block of 1 GiB for the addresses from 0 on.
     flip(&mut memory, ROOT, 0, 0x7FD);
-    assert!(rt; !gives(&memory, runs.as_slice()));
+    holds(&rt, !gives(&memory, runs.as_slice()));
     Ok(())
 }
 
@@ -230,7 +216,7 @@ fn idle_bits(
 // of the 16 others.
 #[test]
 fn single_bits_of_tables(rt: HostRuntime) -> Result<(), Fail> {
-    let machine = booted(rt.alloc())?;
+    let machine = booted(rt.alloc(), &row_machine())?;
     let runs = certificate(rt.alloc(), &machine)?;
     let mut memory = copied(rt.alloc(), &machine)?;
     for (page, words, step, idle) in [

@@ -1,21 +1,17 @@
 //! The player's machine as it boots, and lines that it takes and refuses.
+use crate::machines::booted;
 use ffa_model::{PageNo, built_in, row_machine};
 use ffa_physmem::{FlatRam, PhysMem};
-use ffa_spmc::Machine;
 use ffa_trace::{PlayError, Player};
 use std::alloc::Global;
 use std::test::Fail;
 
 fn demonstration(alloc: Global) -> Result<Player<FlatRam>, Fail> {
-    let manifest = built_in();
-    let ram = FlatRam::new(alloc, manifest.ram_base, 512)?;
-    Ok(Player::new(Machine::boot(&manifest, ram)))
+    Ok(Player::new(booted(alloc, &built_in())?))
 }
 
 fn rows(alloc: Global) -> Result<Player<FlatRam>, Fail> {
-    let manifest = row_machine();
-    let ram = FlatRam::new(alloc, manifest.ram_base, 512)?;
-    Ok(Player::new(Machine::boot(&manifest, ram)))
+    Ok(Player::new(booted(alloc, &row_machine())?))
 }
 
 // The word at an address of RAM.

@@ -3,18 +3,18 @@
 //! A row is a text of steps: a line of the trace, an arrow, and what it prints. Registers are written as
 //! `8001: 84000061 0 1`: the runner, then the registers without their leading zeros and without the last ones that are
 //! zero. What is printed below a first line stands below it.
-ghost use Rattle.std.specs.Prelude.{◌≡◌, IfOk};
-ghost use Rattle.ffa_model.specs.Ram.{zero_ram};
-
-use ffa_model::row_machine;
-use ffa_physmem::{FlatRam, FrameRam, PhysMem};
-use ffa_spmc::Machine;
-use ffa_tlb::{InTurn, NoTlb, Tlb, Translations};
+use crate::checks::same;
+use crate::machines::{booted_in_frames, booted_with, four_in_turn, play};
+use ffa_model::{Manifest, row_machine};
+use ffa_physmem::PhysMem;
+use ffa_tlb::{NoTlb, Translations};
 use ffa_trace::Player;
-use linked_list_allocator::LocalHeap;
 use std::alloc::Global;
 use std::process::Abort;
 use std::test::Fail;
+
+// Buffers of several pages.
+mod buffers;
 
 // Rows on machines with a cache, and what it holds.
 mod cached;
@@ -22,11 +22,8 @@ mod cached;
 // Rows on machines with endpoints of the compact form.
 mod compact;
 
-// Buffers of several pages.
-mod larger;
-
 // Transactions with many ranges, and many of them.
-mod many;
+mod limits;
 
 // Memory transactions.
 mod memory;
@@ -57,6 +54,15 @@ impl Row {
         Row { trace, text }
     }
 
+    // A row of these parts.
+    fn of(alloc: Global, parts: &[&str]) -> Result<Row, Fail> {
+        let mut row = Row::new(alloc);
+        for part in parts {
+            row.add(part)?;
+        }
+        Ok(row)
+    }
+
     // Adds steps.
     fn add(&mut self, steps: &str) -> Result<(), Fail> {
         for step in steps.lines() {
@@ -75,63 +81,72 @@ impl Row {
         Ok(())
     }
 
-    // Plays the trace on fresh machines: in RAM of each kind, without a cache and with one, it prints the text, and so it
-    // does where every allocation after boot is refused.
+    // Plays the trace on fresh machines of the rows.
     fn check(&self, rt: &impl Abort, alloc: Global) -> Result<(), Fail> {
-        self.check_in(rt, alloc, flat_ram(alloc)?, NoTlb)?;
-        self.check_in(rt, alloc, flat_ram(alloc)?, four_in_turn())?;
-        self.check_in(rt, alloc, frame_ram(alloc)?, NoTlb)?;
-        self.check_in(rt, alloc, frame_ram(alloc)?, four_in_turn())
+        self.check_on(rt, alloc, &row_machine())
     }
 
-    // Plays the trace on a fresh machine in this RAM, with this cache.
-    fn check_in<M: PhysMem + Drop, T: Translations + Drop>(
+    // Plays the trace on fresh machines of a manifest: in RAM of each kind, without a cache and with one, it prints the
+    // text.
+    fn check_on(&self, rt: &impl Abort, alloc: Global, manifest: &Manifest) -> Result<(), Fail> {
+        self.check_in_flat_ram(rt, alloc, manifest, NoTlb)?;
+        self.check_in_flat_ram(rt, alloc, manifest, four_in_turn())?;
+        self.check_in_frames(rt, alloc, manifest, NoTlb)?;
+        self.check_in_frames(rt, alloc, manifest, four_in_turn())
+    }
+
+    fn check_in_flat_ram<T: Translations + Drop>(
         &self,
         rt: &impl Abort,
         alloc: Global,
-        ram: M,
+        manifest: &Manifest,
         cache: T,
-    ) -> Result<(), Fail>
-        requires { M.ram ram ≡ zero_ram 0x40000000 512 }
-    {
-        let mut player = machine(ram, cache);
-        assert_eq!(rt; played(alloc, &mut player, &self.trace)?, self.text);
+    ) -> Result<(), Fail> {
+        let mut player = Player::new(booted_with(alloc, manifest, cache)?);
+        self.prints(rt, alloc, &mut player)
+    }
+
+    fn check_in_frames<T: Translations + Drop>(
+        &self,
+        rt: &impl Abort,
+        alloc: Global,
+        manifest: &Manifest,
+        cache: T,
+    ) -> Result<(), Fail> {
+        let mut player = Player::new(booted_in_frames(alloc, manifest, cache)?);
+        self.prints(rt, alloc, &mut player)
+    }
+
+    // The trace prints the text where the player is now.
+    fn prints<M: PhysMem + Drop, T: Translations + Drop>(
+        &self,
+        rt: &impl Abort,
+        alloc: Global,
+        player: &mut Player<M, T>,
+    ) -> Result<(), Fail> {
+        let printed = played(alloc, player, &self.trace)?;
+        same(rt, printed.as_str(), self.text.as_str());
         Ok(())
     }
 }
 
 // Plays a row of these parts, also where every allocation after boot is refused: its trace is read in one piece.
 fn plays(rt: &impl Abort, alloc: Global, parts: &[&str]) -> Result<(), Fail> {
-    let mut row = Row::new(alloc);
-    for part in parts {
-        row.add(part)?;
-    }
+    let row = Row::of(alloc, parts)?;
     row.check(rt, alloc)?;
     refused::check_after_boot(rt, alloc, &row)
 }
 
-// RAM of either kind for the machine of the rows.
-fn flat_ram(alloc: Global) -> Result<FlatRam, Fail>
-    ensures { IfOk result (λ ram. ⟦<FlatRam as PhysMem>⟧.ram ram ≡ zero_ram 0x40000000 512) }
-{
-    Ok(FlatRam::new(alloc, 0x4000_0000, 512)?)
-}
-
-fn frame_ram(alloc: Global) -> Result<FrameRam, Fail>
-    ensures { IfOk result (λ ram. ⟦<FrameRam as PhysMem>⟧.ram ram ≡ zero_ram 0x40000000 512) }
-{
-    Ok(FrameRam::new(alloc, 0x4000_0000, 512)?)
-}
-
-// The cache of `--tlb`.
-fn four_in_turn() -> Tlb<InTurn, 4> {
-    Tlb::new(InTurn::default())
-}
-
-fn machine<M: PhysMem + Drop, T: Translations + Drop>(ram: M, cache: T) -> Player<M, T>
-    requires { M.ram ram ≡ zero_ram 0x40000000 512 }
-{
-    Player::new(Machine::boot_with(&row_machine(), ram, cache))
+// Plays steps, which print what is wanted.
+fn goes_on<M: PhysMem + Drop, T: Translations + Drop>(
+    rt: &impl Abort,
+    alloc: Global,
+    player: &mut Player<M, T>,
+    steps: &str,
+) -> Result<(), Fail> {
+    let mut row = Row::new(alloc);
+    row.add(steps)?;
+    row.prints(rt, alloc, player)
 }
 
 // What a trace prints.
@@ -140,9 +155,13 @@ fn played<M: PhysMem + Drop, T: Translations + Drop>(
     player: &mut Player<M, T>,
     trace: &str,
 ) -> Result<String, Fail> {
-    let mut written = Vec::new(alloc);
-    player.play(alloc, &mut trace.as_bytes(), &mut written)?;
-    Ok(String::from_utf8(written)?)
+    let mut printed = Vec::new(alloc);
+    play(alloc, player, trace.as_bytes(), &mut printed)?;
+    text_of(printed)
+}
+
+fn text_of(printed: Vec<u8>) -> Result<String, Fail> {
+    Ok(String::from_utf8(printed)?)
 }
 
 // Writes registers as they are printed.
@@ -217,26 +236,41 @@ call 84000085 -> 0: 84000061 0 8000
     compact::plays_in_both_forms(&rt, rt.alloc(), row)
 }
 
+// The numbers of the calls, in the 32-bit form and in the other.
+fn is_narrow_call(number: u32) -> bool {
+    matches!(number, 0x63..=0x69 | 0x6B..=0x6D | 0x6F..=0x74 | 0x76 | 0x77 | 0x7D..=0x82 | 0x85 | 0x86)
+}
+
+fn is_wide_call(number: u32) -> bool {
+    matches!(number, 0x66 | 0x6F..=0x74)
+}
+
+// FFA_FEATURES of an identifier.
+fn add_feature(
+    row: &mut Row,
+    alloc: Global,
+    form: &str,
+    number: u32,
+    is_call: bool,
+) -> Result<(), Fail> {
+    let answer = if is_call {
+        "84000061"
+    } else {
+        "84000060 0 FFFFFFFF"
+    };
+    row.add(&format!(in alloc; "call 84000064 {form}0000{number:X} -> 0: {answer}")?)
+}
+
 // FFA_FEATURES of the identifiers from 84000060 to 8400008F, and of their 64-bit forms: the calls, in the forms that they
 // have, and nothing else.
 #[test]
 fn features_of_every_identifier(rt: HostRuntime) -> Result<(), Fail> {
-    let alloc = rt.alloc();
-    let mut row = Row::new(alloc);
+    let mut row = Row::new(rt.alloc());
     for number in 0x60..0x90 {
-        let is_narrow =
-            matches!(number, 0x63..=0x69 | 0x6B..=0x6D | 0x6F..=0x74 | 0x76 | 0x77 | 0x7D..=0x82 | 0x85 | 0x86);
-        let is_wide = matches!(number, 0x66 | 0x6F..=0x74);
-        for (form, is_call) in [("84", is_narrow), ("C4", is_wide)] {
-            let answer = if is_call {
-                "84000061"
-            } else {
-                "84000060 0 FFFFFFFF"
-            };
-            row.add(&format!(in alloc; "call 84000064 {form}0000{number:X} -> 0: {answer}")?)?;
-        }
+        add_feature(&mut row, rt.alloc(), "84", number, is_narrow_call(number))?;
+        add_feature(&mut row, rt.alloc(), "C4", number, is_wide_call(number))?;
     }
-    row.check(&rt, alloc)
+    row.check(&rt, rt.alloc())
 }
 
 #[test]

@@ -1,9 +1,9 @@
 //! The player over readers and writers that stop, at each byte and for each reason.
 ghost use Rattle.std.specs.Prelude.{◌≡◌, IfOk};
 
+use crate::machines::booted;
 use ffa_model::built_in;
 use ffa_physmem::FlatRam;
-use ffa_spmc::Machine;
 use ffa_trace::{PlayError, Player};
 use std::alloc::{AllocError, Global};
 use std::io;
@@ -188,9 +188,7 @@ struct Seen {
 }
 
 fn demonstration(alloc: Global) -> Result<Player<FlatRam>, Fail> {
-    let manifest = built_in();
-    let ram = FlatRam::new(alloc, manifest.ram_base, 512)?;
-    Ok(Player::new(Machine::boot(&manifest, ram)))
+    Ok(Player::new(booted(alloc, &built_in())?))
 }
 
 // Plays FIRST. The same player then loads what the second line stores, and goes on behind the first `done` lines.

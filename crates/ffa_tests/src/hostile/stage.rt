@@ -1,6 +1,7 @@
 //! The machine of the rows, with the bytes that were written into one TX.
 use super::answers::{Open, SUCCESS, Scene, answer, success};
 use super::descriptors::number;
+use crate::machines::booted;
 use crate::memdesc;
 use ffa_model::{EndpointId, Op, Outcome, Size, row_machine};
 use ffa_physmem::FlatRam;
@@ -81,10 +82,8 @@ pub(super) struct Stage {
 impl Stage {
     // The machine after its first calls: the first partition runs.
     pub(super) fn new(rt: &impl Abort, alloc: Global) -> Result<Stage, Fail> {
-        let manifest = row_machine();
-        let ram = FlatRam::new(alloc, manifest.ram_base, 512)?;
         let mut stage = Stage {
-            machine: Machine::boot(&manifest, ram),
+            machine: booted(alloc, &row_machine())?,
             scene: Scene {
                 caller: 0,
                 sent: 0,

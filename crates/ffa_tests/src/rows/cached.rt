@@ -4,8 +4,12 @@ ghost use Rattle.ffa_model.specs.Ram.{zero_ram};
 
 use super::memory::{LEND, MAPPED, RELINQUISH, RETRIEVE, RETRIEVED, TO_FIRST, TO_SECOND};
 use super::*;
+use crate::checks::{holds, holds_at};
 use crate::tlb::Always;
 use ffa_model::{EndpointId, PageNo};
+use ffa_physmem::FlatRam;
+use ffa_spmc::Machine;
+use ffa_tlb::{InTurn, Tlb};
 use std::cell::Cell;
 
 const FIRST: EndpointId = EndpointId(0x8001);
@@ -25,12 +29,17 @@ const LOAD: &str = "load 40021000 1 -> data 00\n";
 // The page of RAM that a step has read, if it has read any.
 fn page_read(step: &str) -> Option<PageNo> {
     let (line, _data) = step.split_once(" -> data ")?;
-    let (address, _size) = line.strip_prefix("load ")?.split_once(' ')?;
+    page_of(line.strip_prefix("load ")?)
+}
+
+// The page of an address and what stands behind it.
+fn page_of(place: &str) -> Option<PageNo> {
+    let (address, _size) = place.split_once(' ')?;
     let number = u32::from_str_radix(address, 16).ok()?;
     Some(PageNo(number.checked_sub(0x4000_0000)? / 4096))
 }
 
-fn holds<M: PhysMem + Drop, T: Translations + Drop>(
+fn is_held<M: PhysMem + Drop, T: Translations + Drop>(
     player: &Player<M, T>,
     endpoint: EndpointId,
     page: PageNo,
@@ -38,21 +47,28 @@ fn holds<M: PhysMem + Drop, T: Translations + Drop>(
     player.machine().cache().lookup(endpoint, page).is_some()
 }
 
+// Whether what a step has read has a leaf in the cache.
+fn holds_what_was_read<M: PhysMem + Drop, T: Translations + Drop>(
+    player: &Player<M, T>,
+    step: &str,
+) -> bool {
+    match page_read(step) {
+        Some(page) => is_held(player, player.machine().runner(), page),
+        None => true,
+    }
+}
+
 // Plays steps one by one. Each prints what is wanted, and what was loaded has a leaf in the cache.
-fn holds_what_is_read<M: PhysMem + Drop, T: Translations + Drop>(
+fn holds_what_is_read<T: Translations + Drop>(
     rt: &impl Abort,
     alloc: Global,
-    player: &mut Player<M, T>,
+    player: &mut Player<FlatRam, T>,
     parts: &[&str],
 ) -> Result<(), Fail> {
     for part in parts {
         for step in part.lines() {
-            let mut row = Row::new(alloc);
-            row.add(step)?;
-            assert_eq!(rt; played(alloc, player, &row.trace)?, row.text);
-            if let Some(page) = page_read(step) {
-                assert!(rt; holds(player, player.machine().runner(), page), "{step}");
-            }
+            goes_on(rt, alloc, player, step)?;
+            holds_at(rt, holds_what_was_read(player, step), &step);
         }
     }
     Ok(())
@@ -64,12 +80,12 @@ fn reads_around_a_lend<T: Translations + Drop>(
     alloc: Global,
     cache: T,
 ) -> Result<(), Fail> {
-    let mut player = machine(flat_ram(alloc)?, cache);
+    let mut player = Player::new(booted_with(alloc, &row_machine(), cache)?);
     holds_what_is_read(rt, alloc, &mut player, &[MAPPED, LOAD, LEND])?;
-    assert!(rt; !holds(&player, FIRST, LENT));
+    holds(rt, !is_held(&player, FIRST, LENT));
     let taken = [TO_SECOND, RETRIEVE, RETRIEVED, LOAD, RELINQUISH];
     holds_what_is_read(rt, alloc, &mut player, &taken)?;
-    assert!(rt; !holds(&player, SECOND, LENT));
+    holds(rt, !is_held(&player, SECOND, LENT));
     holds_what_is_read(rt, alloc, &mut player, &[TO_FIRST, RECLAIM])
 }
 
@@ -150,9 +166,16 @@ fn counting_ram(alloc: Global) -> Result<Counting, Fail>
     ensures { IfOk result (λ ram. ⟦<Counting as PhysMem>⟧.ram ram ≡ zero_ram 0x40000000 512) }
 {
     Ok(Counting {
-        ram: flat_ram(alloc)?,
+        ram: FlatRam::new(alloc, 0x4000_0000, 512)?,
         reads: Cell::new(0),
     })
+}
+
+// A player whose reads of tables are counted, with a cache of two entries.
+fn counting_player(alloc: Global) -> Result<Player<Counting, Tlb<InTurn, 2>>, Fail> {
+    let cache = Tlb::new(InTurn::default());
+    let machine = Machine::boot_with(&row_machine(), counting_ram(alloc)?, cache);
+    Ok(Player::new(machine))
 }
 
 // How often a trace reads tables.
@@ -169,13 +192,12 @@ fn reads_of<T: Translations + Drop>(
 #[test]
 fn a_page_that_is_held_is_not_walked(rt: HostRuntime) -> Result<(), Fail> {
     let alloc = rt.alloc();
-    let cache = Tlb::<InTurn, 2>::new(InTurn::default());
-    let mut player = machine(counting_ram(alloc)?, cache);
+    let mut player = counting_player(alloc)?;
     played(alloc, &mut player, "call 8400006D 80010000\n")?;
-    assert!(rt; reads_of(alloc, &mut player, "load 40020000 1\n")? > 0);
+    holds(&rt, reads_of(alloc, &mut player, "load 40020000 1\n")? > 0);
     reads_of(alloc, &mut player, "load 40021000 1\n")?;
-    assert_eq!(rt; reads_of(alloc, &mut player, "load 40021000 1\n")?, 0);
-    assert!(rt; holds(&player, FIRST, PageNo(0x20)));
-    assert!(rt; holds(&player, FIRST, LENT));
+    same(&rt, reads_of(alloc, &mut player, "load 40021000 1\n")?, 0);
+    holds(&rt, is_held(&player, FIRST, PageNo(0x20)));
+    holds(&rt, is_held(&player, FIRST, LENT));
     Ok(())
 }

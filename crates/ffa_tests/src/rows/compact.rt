@@ -1,11 +1,7 @@
 //! Machines with endpoints of the compact form: what they send and retrieve, and what they are told.
-ghost use Rattle.std.specs.Prelude.{◌≡◌, ◌*◌};
-ghost use Rattle.ffa_model.specs.Ram.{zero_ram};
-
 use super::memory::{MAPPED, RETRIEVE, TO_FIRST, TO_SECOND};
 use super::*;
 use ffa_manifest::read;
-use ffa_model::Manifest;
 
 // The machine of the rows, where a version stands in the place of each question mark.
 pub(super) const MACHINE: &str = "ram_base = 0x40000000
@@ -38,80 +34,20 @@ fn manifest(alloc: Global, versions: &str) -> Result<Manifest, Fail> {
     let mut text = String::new(alloc);
     text.push_str(MACHINE)?;
     for version in versions.split(' ') {
-        text = text.replacen(alloc, "?", version, 1)?;
+        text = with_version(alloc, &text, version)?;
     }
     Ok(read(alloc, text.as_str())?)
 }
 
+// The text with a version in the place of the first question mark.
+fn with_version(alloc: Global, text: &str, version: &str) -> Result<String, Fail> {
+    Ok(String::from_str(alloc, text)?.replacen(alloc, "?", version, 1)?)
+}
+
 // Plays a row of these parts on the machine with these versions.
 fn plays_among(rt: &impl Abort, alloc: Global, versions: &str, parts: &[&str]) -> Result<(), Fail> {
-    let mut row = Row::new(alloc);
-    for part in parts {
-        row.add(part)?;
-    }
-    check_among(rt, alloc, versions, &row)
-}
-
-// Plays a row on fresh machines with these versions.
-fn check_among(rt: &impl Abort, alloc: Global, versions: &str, row: &Row) -> Result<(), Fail> {
-    check_kinds(rt, alloc, row, &manifest(alloc, versions)?)
-}
-
-// Plays a row on fresh machines of a manifest: in RAM of each kind, without a cache and with one.
-pub(super) fn check_kinds(
-    rt: &impl Abort,
-    alloc: Global,
-    row: &Row,
-    manifest: &Manifest,
-) -> Result<(), Fail> {
-    let (base, pages) = (manifest.ram_base, 512 * manifest.ram_blocks);
-    check_on(
-        rt,
-        alloc,
-        row,
-        manifest,
-        FlatRam::new(alloc, base, pages)?,
-        NoTlb,
-    )?;
-    check_on(
-        rt,
-        alloc,
-        row,
-        manifest,
-        FlatRam::new(alloc, base, pages)?,
-        four_in_turn(),
-    )?;
-    check_on(
-        rt,
-        alloc,
-        row,
-        manifest,
-        FrameRam::new(alloc, base, pages)?,
-        NoTlb,
-    )?;
-    check_on(
-        rt,
-        alloc,
-        row,
-        manifest,
-        FrameRam::new(alloc, base, pages)?,
-        four_in_turn(),
-    )
-}
-
-fn check_on<M: PhysMem + Drop, T: Translations + Drop>(
-    rt: &impl Abort,
-    alloc: Global,
-    row: &Row,
-    manifest: &Manifest,
-    ram: M,
-    cache: T,
-) -> Result<(), Fail>
-    requires { M.ram ram ≡ zero_ram manifest.now.ram_base (512 * manifest.now.ram_blocks) }
-{
-    let mut player = Player::new(Machine::boot_with(manifest, ram, cache));
-    assert_eq!(rt; played(alloc, &mut player, &row.trace)?, row.text);
-    Ok(())
+    let row = Row::of(alloc, parts)?;
+    row.check_on(rt, alloc, &manifest(alloc, versions)?)
 }
 
 // Plays a row that names no descriptor, also where all endpoints are compact.

@@ -356,27 +356,35 @@ call 84000072 60 60 -> 8001: 84000061 0 2 8001
     plays(&rt, rt.alloc(), &[MAPPED, waits, runs, LEND, own])
 }
 
-// The lend at each length that it may be said to have: its 96 bytes, and no more than the page. What is opened is
-// reclaimed.
+// The lend at a length. What is opened is reclaimed.
+fn add_length(row: &mut Row, alloc: Global, length: u32) -> Result<(), Fail> {
+    if length >= 96 && length <= 4096 {
+        let number = length - 94;
+        add_good_length(row, alloc, length, number)
+    } else {
+        row.add(&format!(in alloc;
+            "call 84000072 {length:X} {length:X} -> 8001: 84000060 0 FFFFFFFE"
+        )?)
+    }
+}
+
+fn add_good_length(row: &mut Row, alloc: Global, length: u32, number: u32) -> Result<(), Fail> {
+    row.add(&format!(in alloc;
+        "call 84000072 {length:X} {length:X} -> 8001: 84000061 0 {number:X} 8001"
+    )?)?;
+    row.add(&format!(in alloc; "call 84000077 {number:X} 8001 -> 8001: 84000061")?)
+}
+
+// The lend at each length that it may be said to have: its 96 bytes, and no more than the page.
 #[test]
 fn a_lend_of_each_length(rt: HostRuntime) -> Result<(), Fail> {
-    let alloc = rt.alloc();
-    let mut row = Row::new(alloc);
-    row.add(MAPPED)?;
-    row.add(LEND)?;
-    row.add("call 84000077 1 8001 -> 8001: 84000061")?;
+    let reclaim = "call 84000077 1 8001 -> 8001: 84000061";
+    let mut row = Row::of(rt.alloc(), &[MAPPED, LEND, reclaim])?;
     for length in 0..4098 {
-        let line = format!(in alloc; "call 84000072 {length:X} {length:X}")?;
-        if length >= 96 && length <= 4096 {
-            let number = length - 94;
-            row.add(&format!(in alloc; "{line} -> 8001: 84000061 0 {number:X} 8001")?)?;
-            row.add(&format!(in alloc; "call 84000077 {number:X} 8001 -> 8001: 84000061")?)?;
-        } else {
-            row.add(&format!(in alloc; "{line} -> 8001: 84000060 0 FFFFFFFE")?)?;
-        }
+        add_length(&mut row, rt.alloc(), length)?;
     }
     row.add("call 84000072 60 5F -> 8001: 84000060 0 FFFFFFFE")?;
-    row.check(&rt, alloc)
+    row.check(&rt, rt.alloc())
 }
 
 #[test]

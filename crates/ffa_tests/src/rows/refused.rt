@@ -1,12 +1,14 @@
 //! Rows where memory is short: none is left after boot, or each growth of the room for a line that comes in pieces is
 //! refused in turn.
-ghost use Rattle.std.specs.Prelude.{◌≡◌, ◌*◌};
-ghost use Rattle.ffa_model.specs.Ram.{zero_ram};
-
 use super::memory::{LEND, MAPPED, RETRIEVE, RETRIEVED, TO_SECOND};
 use super::*;
-use ffa_model::Manifest;
+use crate::checks::{holds, holds_at};
+use crate::machines::booted;
+use ffa_physmem::{FlatRam, FrameRam};
+use ffa_spmc::Machine;
+use ffa_tlb::{InTurn, Tlb};
 use ffa_trace::PlayError;
+use linked_list_allocator::LocalHeap;
 use std::io;
 use std::io::Read;
 
@@ -19,14 +21,38 @@ const LIST: usize = 512 * 16;
 // Plays a row where every allocation after boot is refused: RAM fills the heap that it lies in, and the player has no
 // other.
 pub(super) fn check_after_boot(rt: &impl Abort, alloc: Global, row: &Row) -> Result<(), Fail> {
-    let manifest = row_machine();
-    let (base, pages) = (manifest.ram_base, 512 * manifest.ram_blocks);
     let heap = LocalHeap::new(alloc, PAGES)?;
-    let ram = FlatRam::new_in(&heap, base, pages)?;
-    check_over(rt, alloc, row, &heap, &manifest, ram, NoTlb)?;
+    let mut player = flat_player(rt, &heap)?;
+    check_over(rt, alloc, row, &heap, &mut player)?;
     let heap = LocalHeap::new(alloc, PAGES + LIST)?;
-    let ram = FrameRam::new_in(&heap, base, pages)?;
-    check_over(rt, alloc, row, &heap, &manifest, ram, four_in_turn())
+    let mut player = player_in_frames(rt, &heap)?;
+    check_over(rt, alloc, row, &heap, &mut player)
+}
+
+// A player whose RAM fills a heap.
+fn flat_player<'a>(
+    rt: &impl Abort,
+    heap: &'a LocalHeap,
+) -> Result<Player<FlatRam<&'a LocalHeap>, NoTlb>, Fail> {
+    let manifest = row_machine();
+    let ram = FlatRam::new_in(heap, manifest.ram_base, 512 * manifest.ram_blocks)?;
+    holds(rt, is_full(heap));
+    Ok(Player::new(Machine::boot_cleared(&manifest, ram, NoTlb)))
+}
+
+fn player_in_frames<'a>(
+    rt: &impl Abort,
+    heap: &'a LocalHeap,
+) -> Result<Player<FrameRam<&'a LocalHeap>, Tlb<InTurn, 4>>, Fail> {
+    let manifest = row_machine();
+    let ram = FrameRam::new_in(heap, manifest.ram_base, 512 * manifest.ram_blocks)?;
+    holds(rt, is_full(heap));
+    Ok(Player::new(Machine::boot_cleared(&manifest, ram, four_in_turn())))
+}
+
+// Whether not one byte is left.
+fn is_full(heap: &LocalHeap) -> bool {
+    Box::new(heap, 0u8).is_err()
 }
 
 fn check_over<M: PhysMem + Drop, T: Translations + Drop>(
@@ -34,18 +60,22 @@ fn check_over<M: PhysMem + Drop, T: Translations + Drop>(
     alloc: Global,
     row: &Row,
     heap: &LocalHeap,
-    manifest: &Manifest,
-    ram: M,
-    cache: T,
-) -> Result<(), Fail>
-    requires { M.ram ram ≡ zero_ram manifest.now.ram_base (512 * manifest.now.ram_blocks) }
-{
-    assert!(rt; Box::new(heap, 0u8).is_err());
-    let mut player = Player::new(Machine::boot_cleared(manifest, ram, cache));
-    let mut written = Vec::with_capacity(alloc, row.text.len())?;
-    player.play_in(heap, &mut row.trace.as_bytes(), &mut written)?;
-    assert_eq!(rt; written.as_slice(), row.text.as_bytes());
+    player: &mut Player<M, T>,
+) -> Result<(), Fail> {
+    let mut printed = Vec::with_capacity(alloc, row.text.len())?;
+    play_over(heap, player, &mut row.trace.as_bytes(), &mut printed)?;
+    same(rt, printed.as_slice(), row.text.as_bytes());
     Ok(())
+}
+
+// Plays with the memory of a heap.
+fn play_over<M: PhysMem + Drop, T: Translations + Drop, R: Read>(
+    heap: &LocalHeap,
+    player: &mut Player<M, T>,
+    reader: &mut R,
+    printed: &mut Vec<u8>,
+) -> Result<(), PlayError> {
+    player.play_in(heap, reader, printed)
 }
 
 // Gives up to five bytes a call, so that lines come in pieces.
@@ -65,7 +95,7 @@ impl Read for InPieces<'_> {
 
 // The lines of a row behind those that print this many bytes.
 fn lines_behind(alloc: Global, row: &Row, printed: usize) -> Result<&[u8], Fail> {
-    let mut player = machine(flat_ram(alloc)?, NoTlb);
+    let mut player = Player::new(booted(alloc, &row_machine())?);
     let mut written = 0;
     let mut done = 0;
     for line in row.trace.split_inclusive('\n') {
@@ -86,28 +116,57 @@ fn refused_at(
     row: &Row,
     room: usize,
 ) -> Result<Option<usize>, Fail> {
+    let mut player = Player::new(booted(alloc, &row_machine())?);
+    let mut printed = Vec::with_capacity(alloc, row.text.len())?;
+    let played = play_with(rt, alloc, room, &mut player, row, &mut printed)?;
+    let mut stopped = None;
+    if let Err(error) = played {
+        same(rt, error, PlayError::NoMemory);
+        stopped = Some(printed.len());
+        go_on_behind(rt, alloc, &mut player, row, &mut printed)?;
+    }
+    same(rt, printed.as_slice(), row.text.as_bytes());
+    Ok(stopped)
+}
+
+// Plays a row that comes in pieces with so much memory, none of which is kept.
+fn play_with(
+    rt: &impl Abort,
+    alloc: Global,
+    room: usize,
+    player: &mut Player<FlatRam>,
+    row: &Row,
+    printed: &mut Vec<u8>,
+) -> Result<Result<(), PlayError>, Fail> {
     let heap = LocalHeap::new(alloc, room)?;
-    let mut player = machine(flat_ram(alloc)?, NoTlb);
-    let mut written = Vec::with_capacity(alloc, row.text.len())?;
     let mut reader = InPieces {
         bytes: row.trace.as_bytes(),
     };
-    let played = player.play_in(&heap, &mut reader, &mut written);
-    assert_eq!(rt; heap.used(), 0);
-    let stopped = match played {
-        Ok(()) => None,
-        Err(error) => {
-            assert_eq!(rt; error, PlayError::NoMemory);
-            Some(written.len())
-        }
-    };
-    if let Some(printed) = stopped {
-        assert!(rt; written.last().is_none_or(|byte| *byte == b'\n'));
-        let mut rest = lines_behind(alloc, row, printed)?;
-        player.play(alloc, &mut rest, &mut written)?;
+    let played = play_over(&heap, player, &mut reader, printed);
+    same(rt, heap.used(), 0);
+    Ok(played)
+}
+
+// Whole lines were printed. Plays the lines of a row behind them.
+fn go_on_behind(
+    rt: &impl Abort,
+    alloc: Global,
+    player: &mut Player<FlatRam>,
+    row: &Row,
+    printed: &mut Vec<u8>,
+) -> Result<(), Fail> {
+    holds(rt, ends_a_line(printed.as_slice()));
+    let rest = lines_behind(alloc, row, printed.len())?;
+    play(alloc, player, rest, printed)?;
+    Ok(())
+}
+
+// Whether nothing stands behind the last line.
+fn ends_a_line(text: &[u8]) -> bool {
+    match text.last() {
+        Some(byte) => *byte == b'\n',
+        None => true,
     }
-    assert_eq!(rt; written.as_slice(), row.text.as_bytes());
-    Ok(stopped)
 }
 
 // In how many places a row is refused memory, over heaps of every size up to one in which it isn't. A larger heap never
@@ -123,26 +182,33 @@ fn places_of_refusal(
     for room in (16..enough).step_by(16) {
         let stopped = refused_at(rt, alloc, row, room)?;
         if stopped.is_some() && stopped != last {
-            assert!(rt; last < stopped, "{room}");
+            holds_at(rt, last < stopped, &room);
             places = u32::saturating_add(places, 1);
             last = stopped;
         }
     }
-    assert_eq!(rt; refused_at(rt, alloc, row, enough)?, None);
+    same(rt, refused_at(rt, alloc, row, enough)?, None);
     Ok(places)
 }
 
 // The room for a line grows to 8, 16, 32 and 64 bytes in the first line, which is as long as any.
 #[test]
 fn a_lend_or_no_memory(rt: HostRuntime) -> Result<(), Fail> {
-    let alloc = rt.alloc();
-    let mut row = Row::new(alloc);
-    for part in [MAPPED, LEND, TO_SECOND, RETRIEVE, RETRIEVED] {
-        row.add(part)?;
-    }
-    let places = places_of_refusal(&rt, alloc, &row, 256)?;
-    assert_eq!(rt; places, 1);
+    let parts = [MAPPED, LEND, TO_SECOND, RETRIEVE, RETRIEVED];
+    let row = Row::of(rt.alloc(), &parts)?;
+    let places = places_of_refusal(&rt, rt.alloc(), &row, 256)?;
+    same(&rt, places, 1);
     Ok(())
+}
+
+// Adds a comment of this many bytes, and a line.
+fn add_comment(row: &mut Row, length: usize) -> Result<(), Fail> {
+    row.trace.push_str("#")?;
+    for _ in 1..length {
+        row.trace.push_str("x")?;
+    }
+    row.trace.push_str("\n")?;
+    row.add("load 40010000 1 -> data 00")
 }
 
 // Comments of 10 to 320 bytes, each of which grows the room for a line once more.
@@ -150,15 +216,10 @@ fn a_lend_or_no_memory(rt: HostRuntime) -> Result<(), Fail> {
 fn long_lines_or_no_memory(rt: HostRuntime) -> Result<(), Fail> {
     let mut row = Row::new(rt.alloc());
     for length in [10, 20, 40, 80, 160, 320] {
-        row.trace.push_str("#")?;
-        for _ in 1..length {
-            row.trace.push_str("x")?;
-        }
-        row.trace.push_str("\n")?;
-        row.add("load 40010000 1 -> data 00")?;
+        add_comment(&mut row, length)?;
     }
     let places = places_of_refusal(&rt, rt.alloc(), &row, 2048)?;
-    assert_eq!(rt; places, 6);
+    same(&rt, places, 6);
     Ok(())
 }
 
@@ -183,6 +244,6 @@ load 40010000 2 -> data 0000
 ",
     )?;
     let places = places_of_refusal(&rt, rt.alloc(), &row, 2048)?;
-    assert_eq!(rt; places, 2);
+    same(&rt, places, 2);
     Ok(())
 }

@@ -9,8 +9,11 @@ ghost use Rattle.ffa_model.specs.Ram.{zero_ram};
 
 use super::memory::{MAPPED, RETRIEVE, TO_FIRST, TO_SECOND};
 use super::*;
+use crate::checks::same_at;
 use ffa_manifest::read;
-use ffa_model::{FaultKind, Leaf, Manifest, PageNo};
+use ffa_model::{FaultKind, Leaf, PageNo};
+use ffa_physmem::FlatRam;
+use ffa_spmc::Machine;
 use ffa_walker::{is_in_ram, translate};
 use std::cell::Cell;
 
@@ -191,10 +194,7 @@ impl Watched {
     fn new(alloc: Global, manifest: &Manifest) -> Result<Watched, Fail>
         ensures { IfOk result (λ ram. ⟦<Watched as PhysMem>⟧.ram ram ≡ zero_ram manifest.now.ram_base (512 * manifest.now.ram_blocks)) }
     {
-        let mut walks = Vec::new(alloc);
-        for index in 0..manifest.endpoints.len() {
-            push_walks(&mut walks, manifest, manifest.root(index))?;
-        }
+        let walks = walks_of(alloc, manifest)?;
         let ram = FlatRam::new(alloc, manifest.ram_base, 512 * manifest.ram_blocks)?;
         Ok(Watched {
             ram,
@@ -203,6 +203,15 @@ impl Watched {
             is_call: Cell::new(false),
         })
     }
+}
+
+// The walks from the roots of all endpoints.
+fn walks_of(alloc: Global, manifest: &Manifest) -> Result<Vec<Walk>, Fail> {
+    let mut walks = Vec::new(alloc);
+    for index in 0..manifest.endpoints.len() {
+        push_walks(&mut walks, manifest, manifest.root(index))?;
+    }
+    Ok(walks)
 }
 
 // Adds the walks from a root of the first three pages of each block, and of its last three.
@@ -217,19 +226,6 @@ fn push_walks(walks: &mut Vec<Walk>, manifest: &Manifest, root: u32) -> Result<(
             })?;
         }
     }
-    Ok(())
-}
-
-// Plays steps, which print what is wanted.
-fn goes_on<M: PhysMem + Drop, T: Translations + Drop>(
-    rt: &impl Abort,
-    alloc: Global,
-    player: &mut Player<M, T>,
-    steps: &str,
-) -> Result<(), Fail> {
-    let mut row = Row::new(alloc);
-    row.add(steps)?;
-    assert_eq!(rt; played(alloc, player, &row.trace)?, row.text);
     Ok(())
 }
 
@@ -331,16 +327,27 @@ fn counts(rt: &impl Abort, alloc: Global, sending: &Sending, parts: &[&str]) -> 
     let mut player = watched_machine(rt, alloc)?;
     for part in parts {
         for step in part.lines() {
-            if let Some(call) = step.strip_prefix("zeros: ") {
-                let writes = writes_of(rt, alloc, &mut player, call)?;
-                assert_eq!(rt; writes, sending.with_zeros(), "{step}");
-            } else if let Some(call) = step.strip_prefix("response: ") {
-                let writes = writes_of(rt, alloc, &mut player, call)?;
-                assert_eq!(rt; writes, sending.with_response(), "{step}");
-            } else {
-                goes_on(rt, alloc, &mut player, step)?;
-            }
+            counts_step(rt, alloc, &mut player, sending, step)?;
         }
+    }
+    Ok(())
+}
+
+fn counts_step(
+    rt: &impl Abort,
+    alloc: Global,
+    player: &mut Player<Watched, NoTlb>,
+    sending: &Sending,
+    step: &str,
+) -> Result<(), Fail> {
+    if let Some(call) = step.strip_prefix("zeros: ") {
+        let writes = writes_of(rt, alloc, player, call)?;
+        same_at(rt, writes, sending.with_zeros(), &step);
+    } else if let Some(call) = step.strip_prefix("response: ") {
+        let writes = writes_of(rt, alloc, player, call)?;
+        same_at(rt, writes, sending.with_response(), &step);
+    } else {
+        goes_on(rt, alloc, player, step)?;
     }
     Ok(())
 }

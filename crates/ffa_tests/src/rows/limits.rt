@@ -1,6 +1,6 @@
 //! Transactions over buffers of several pages, with up to 64 ranges, and sixteen of them open for a sender.
-use super::compact::{MACHINE, check_kinds};
-use super::larger::{FIRST_RUNS, INVALID, add_share};
+use super::buffers::{FIRST_RUNS, INVALID, add_share};
+use super::compact::MACHINE;
 use super::memory::{LEND, MAPPED, RETRIEVE, TO_SECOND};
 use super::*;
 use ffa_manifest::read;
@@ -16,12 +16,16 @@ call 84000066 4002E000 4002C000 2 -> 8001: 84000061
 
 // Plays a row on the machine of the rows, where the first partition has so many pages more, from 40040000 on.
 fn check_with_more(rt: &impl Abort, alloc: Global, row: &Row, pages: &str) -> Result<(), Fail> {
+    row.check_on(rt, alloc, &manifest_with_more(alloc, pages)?)
+}
+
+fn manifest_with_more(alloc: Global, pages: &str) -> Result<Manifest, Fail> {
     let text = String::from_str(alloc, MACHINE)?.replacen(alloc, "?", "1.1", 3)?;
     let more = format!(in alloc;
         "\"rwx\" }}, {{ base = 0x40040000, pages = {pages}, rights = \"rw\" }}"
     )?;
     let text = text.replacen(alloc, "\"rwx\" }", more.as_str(), 1)?;
-    check_kinds(rt, alloc, row, &read(alloc, text.as_str())?)
+    Ok(read(alloc, text.as_str())?)
 }
 
 // Behind sixteen shares the last page isn't shared once more, and another one has no room, though the second partition has.
@@ -48,19 +52,23 @@ store 4002E050 0000000040042000 -> done
 call 84000073 60 60 -> 8001: 84000060 0 FFFFFFFD
 ";
 
+// A share of a page, which is the sender's share of this number.
+fn add_one(row: &mut Row, alloc: Global, page: u32, number: u32) -> Result<(), Fail> {
+    row.add(&format!(in alloc;
+        "\
+store 4002E050 000000004004{page:X}000 -> done
+call 84000073 60 60 -> 8001: 84000061 0 {number:X} 8001
+"
+    )?)
+}
+
 #[test]
 fn sixteen_open_transactions(rt: HostRuntime) -> Result<(), Fail> {
     let mut row = Row::new(rt.alloc());
     row.add(MAPPED)?;
     add_share(&mut row, rt.alloc(), "4002E")?;
     for page in 0..16u32 {
-        let number = page + 1;
-        row.add(&format!(in rt.alloc();
-            "\
-store 4002E050 000000004004{page:X}000 -> done
-call 84000073 60 60 -> 8001: 84000061 0 {number:X} 8001
-"
-        )?)?;
+        add_one(&mut row, rt.alloc(), page, page + 1)?;
     }
     row.add(FULL)?;
     check_with_more(&rt, rt.alloc(), &row, "16")
@@ -90,31 +98,39 @@ load 4003C450 8 -> data 5A5A5A5A5A5A5A5A
 load 4003D000 8 -> data 5A5A5A5A5A5A5A5A
 ";
 
+// A range at this place of TX, which is a page.
+fn add_range(row: &mut Row, alloc: Global, at: u32, page: u32) -> Result<(), Fail> {
+    row.add(&format!(in alloc;
+        "\
+store 4002E{at:02X}0 00000000400{page:X}000 -> done
+store 4002E{at:02X}8 0000000000000001 -> done
+"
+    )?)
+}
+
+// The same in RX.
+fn add_told_range(row: &mut Row, alloc: Global, at: u32, page: u32) -> Result<(), Fail> {
+    row.add(&format!(in alloc;
+        "\
+load 4003C{at:02X}0 8 -> data 00000000400{page:X}000
+load 4003C{at:02X}8 8 -> data 0000000000000001
+"
+    )?)
+}
+
 // The ranges are pages in no order.
 #[test]
 fn sixty_four_ranges(rt: HostRuntime) -> Result<(), Fail> {
     let mut row = Row::new(rt.alloc());
-    let mut told = String::from_str(rt.alloc(), LONGEST)?;
     row.add(TWO_PAGES)?;
     for index in 0..65u32 {
-        let (at, page) = (5 + index, 0x40 + index * 27 % 65);
-        row.add(&format!(in rt.alloc();
-            "\
-store 4002E{at:02X}0 00000000400{page:X}000 -> done
-store 4002E{at:02X}8 0000000000000001 -> done
-"
-        )?)?;
-        if index < 64 {
-            told.push_str(&format!(in rt.alloc();
-                "\
-load 4003C{at:02X}0 8 -> data 00000000400{page:X}000
-load 4003C{at:02X}8 8 -> data 0000000000000001
-"
-            )?)?;
-        }
+        add_range(&mut row, rt.alloc(), 5 + index, 0x40 + index * 27 % 65)?;
     }
-    for part in [MANY, TO_SECOND, RETRIEVE, told.as_str()] {
+    for part in [MANY, TO_SECOND, RETRIEVE, LONGEST] {
         row.add(part)?;
+    }
+    for index in 0..64u32 {
+        add_told_range(&mut row, rt.alloc(), 5 + index, 0x40 + index * 27 % 65)?;
     }
     check_with_more(&rt, rt.alloc(), &row, "65")
 }
@@ -123,15 +139,24 @@ load 4003C{at:02X}8 8 -> data 0000000000000001
 const ONE_PAGE: &str =
     "01 00 00 00 01 00 00 00 00 00 00 00 00 00 00 00 00 10 02 40 00 00 00 00 01 00 00 00 00 00 00 00";
 
+fn add_byte(row: &mut Row, alloc: Global, at: u32, byte: &str) -> Result<(), Fail> {
+    row.add(&format!(in alloc; "store {at:X} {byte} -> done")?)
+}
+
 // The composite stands at this place of TX.
 fn add_composite(row: &mut Row, alloc: Global, place: u32) -> Result<(), Fail> {
     row.add(&format!(in alloc; "store 4002E034 {place:08X} -> done")?)?;
     let mut at = 0x4002_E000 | place;
     for byte in ONE_PAGE.split(' ') {
-        row.add(&format!(in alloc; "store {at:X} {byte} -> done")?)?;
+        add_byte(row, alloc, at, byte)?;
         at = u32::wrapping_add(at, 1);
     }
     Ok(())
+}
+
+// A lend of this length.
+fn add_lend_of(row: &mut Row, alloc: Global, length: u32, answer: &str) -> Result<(), Fail> {
+    row.add(&format!(in alloc; "call 84000072 {length:X} {length:X} -> 8001: {answer}")?)
 }
 
 // A lend that is said to have a byte more than a page.
@@ -144,21 +169,15 @@ call 84000077 2 8001 -> 8001: 84000061
 // A range begins at each of the last 15 bytes of a page and at the next page: only then its composite is where one may be.
 #[test]
 fn a_range_across_pages(rt: HostRuntime) -> Result<(), Fail> {
-    let mut row = Row::new(rt.alloc());
-    for part in [TWO_PAGES, LEND, LONGER] {
-        row.add(part)?;
-    }
+    let mut row = Row::of(rt.alloc(), &[TWO_PAGES, LEND, LONGER])?;
     for place in 0xFE1..0xFF1u32 {
+        let answer = if place < 0xFF0 {
+            INVALID
+        } else {
+            "84000061 0 3 8001"
+        };
         add_composite(&mut row, rt.alloc(), place)?;
-        let (end, answer) = (
-            place + 32,
-            if place < 0xFF0 {
-                INVALID
-            } else {
-                "84000061 0 3 8001"
-            },
-        );
-        row.add(&format!(in rt.alloc(); "call 84000072 {end:X} {end:X} -> 8001: {answer}")?)?;
+        add_lend_of(&mut row, rt.alloc(), place + 32, answer)?;
     }
     row.check(&rt, rt.alloc())
 }
@@ -201,13 +220,18 @@ call 84000077 # 8001 -> 8001: 84000061
 call 84000067 -> 8001: 84000061
 ";
 
+// Both with a buffer of so many pages.
+fn add_whole(row: &mut Row, alloc: Global, before: &str, pages: &str) -> Result<(), Fail> {
+    let whole = String::from_str(alloc, WHOLE)?.replace(alloc, "?", before)?;
+    row.add(whole.replace(alloc, "#", pages)?.as_str())
+}
+
 #[test]
 fn descriptors_as_long_as_buffers(rt: HostRuntime) -> Result<(), Fail> {
     let mut row = Row::new(rt.alloc());
     row.add(FIRST_RUNS)?;
     for (before, pages) in [("0", "1"), ("1", "2"), ("2", "3"), ("3", "4")] {
-        let whole = String::from_str(rt.alloc(), WHOLE)?.replace(rt.alloc(), "?", before)?;
-        row.add(whole.replace(rt.alloc(), "#", pages)?.as_str())?;
+        add_whole(&mut row, rt.alloc(), before, pages)?;
     }
     row.check(&rt, rt.alloc())
 }
