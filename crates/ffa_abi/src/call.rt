@@ -1,9 +1,9 @@
 //! Calls in registers.
 ghost use Rattle.std.specs.Prelude.{◌≡◌, ◌<◌, slice_index};
 ghost use Rattle.ffa_model.specs.Registers.{additions, decode, is_function, low, memory, messages, notifications, setup};
-ghost use Rattle.ffa_abi.specs.Parts.{called_in, payload_of, widest};
+ghost use Rattle.ffa_abi.specs.Parts.{called_in, payload_of, transfer_of, widest};
 
-use ffa_model::Call;
+use ffa_model::{Call, Transfer};
 use ffa_model::function::*;
 
 /// The registers x0 to x7 of a call, of which the low half of x0 names the function.
@@ -91,36 +91,29 @@ impl Registers {
         [self.x(3), self.x(4), self.x(5), self.x(6), self.x(7)]
     }
 
+    // What is said of a descriptor in TX.
+    fn transfer(&self) -> Transfer
+        ensures { result ≡ transfer_of self.now.0 }
+    {
+        Transfer {
+            total: self.w(1),
+            fragment: self.w(2),
+            address: self.x(3),
+            pages: self.w(4),
+        }
+    }
+
     // The call, where it is of memory.
     fn memory(&self) -> Option<Call>
         ensures { result ≡ called_in memory self.now.0 }
     {
-        let (total, fragment, address, pages) = (self.w(1), self.w(2), self.x(3), self.w(4));
         let call = match self.w(0) {
-            FFA_MEM_DONATE | FFA_MEM_DONATE_64 => Call::MemDonate {
-                total,
-                fragment,
-                address,
-                pages,
-            },
-            FFA_MEM_LEND | FFA_MEM_LEND_64 => Call::MemLend {
-                total,
-                fragment,
-                address,
-                pages,
-            },
-            FFA_MEM_SHARE | FFA_MEM_SHARE_64 => Call::MemShare {
-                total,
-                fragment,
-                address,
-                pages,
-            },
-            FFA_MEM_RETRIEVE_REQ | FFA_MEM_RETRIEVE_REQ_64 => Call::MemRetrieve {
-                total,
-                fragment,
-                address,
-                pages,
-            },
+            FFA_MEM_DONATE | FFA_MEM_DONATE_64 => Call::MemDonate(self.transfer()),
+            FFA_MEM_LEND | FFA_MEM_LEND_64 => Call::MemLend(self.transfer()),
+            FFA_MEM_SHARE | FFA_MEM_SHARE_64 => Call::MemShare(self.transfer()),
+            FFA_MEM_RETRIEVE_REQ | FFA_MEM_RETRIEVE_REQ_64 => {
+                Call::MemRetrieve(self.transfer())
+            }
             FFA_MEM_RELINQUISH => Call::MemRelinquish,
             FFA_MEM_RECLAIM => Call::MemReclaim {
                 low: self.w(1),

@@ -30,7 +30,8 @@ use Rattle.ffa_model.specs.Notifications.{has_bitmaps_in, manager_class, message
 use Rattle.ffa_model.specs.Registers.{decode}
 use Rattle.ffa_model.specs.Setup.{info_bytes, is_count_alone, uuid_bytes}
 use Rattle.ffa_model.specs.Step.{serve, service, state_after, step}
-use Rattle.ffa_model.specs.Transactions.{Transfer, handle_of, next_handle, offers_of, scene_of, transfer}
+use Rattle.ffa_model.specs.declared.call.Transfer.{Transfer}
+use Rattle.ffa_model.specs.Transactions.{handle_of, next_handle, offers_of, scene_of}
 use Rattle.ffa_model.proofs.Guards.{guard-passes}
 use Rattle.ffa_laws.specs.Steady.{IsSteady}
 use Rattle.ffa_laws.specs.Events.{Event, Filled, Item, Own, Pending, Told, call_events, events, items, public_change, where_passed, where_true}
@@ -84,10 +85,10 @@ module _ (s : State) (steady : IsSteady s) (e p : ℕ) (owned : owner_of s p ≡
 
   unnamed-service : (call : calls.Call) → first_failure (service s call).guards ≡ None → handle_at (service s call).state p ≡ None
   unnamed-service (PartitionInfoGet uuid flags) none = elim (is_count_alone flags) as (λ b. handle_at (cond b s (filled s s.runner (info_bytes (version_of s s.runner) s.parties (uuid_bytes uuid)))) p ≡ None) [ true ↦ unnamed | false ↦ unnamed ]
-  unnamed-service (MemDonate total fragment address pages) none = unnamed-sent Donate (transfer total fragment address pages) none
-  unnamed-service (MemLend total fragment address pages) none = unnamed-sent Lend (transfer total fragment address pages) none
-  unnamed-service (MemShare total fragment address pages) none = unnamed-sent Share (transfer total fragment address pages) none
-  unnamed-service (MemRetrieve total fragment address pages) none = unnamed-retrieved (transfer total fragment address pages) (taken s (transfer total fragment address pages) none)
+  unnamed-service (MemDonate x) none = unnamed-sent Donate x none
+  unnamed-service (MemLend x) none = unnamed-sent Lend x none
+  unnamed-service (MemShare x) none = unnamed-sent Share x none
+  unnamed-service (MemRetrieve x) none = unnamed-retrieved x (taken s x none)
   unnamed-service MemRelinquish none = unnamed-relinquished (relinquish_read s)
   unnamed-service (MemReclaim low high flags) none = unnamed-still s steady (handle_of high low) p unnamed
   unnamed-service call none = unnamed

@@ -31,7 +31,8 @@ use Rattle.ffa_model.specs.MemorySend.{descriptor_in, memory_sent, send_read, tr
 use Rattle.ffa_model.specs.Registers.{decode}
 use Rattle.ffa_model.specs.Setup.{info_bytes, is_count_alone, uuid_bytes}
 use Rattle.ffa_model.specs.Step.{service, step}
-use Rattle.ffa_model.specs.Transactions.{Transfer, handle_of, holding, next_handle, not_holding, offers_of, transfer}
+use Rattle.ffa_model.specs.declared.call.Transfer.{Transfer}
+use Rattle.ffa_model.specs.Transactions.{handle_of, holding, next_handle, not_holding, offers_of}
 use Rattle.byteorder.specs.Endian.{little_bytes}
 use Rattle.ffa_laws.specs.OwnAccess.{AreApart}
 use Rattle.ffa_laws.proofs.Closed.{get-remove}
@@ -118,10 +119,10 @@ module _ (s : State) (apart : AreApart s) where
 
   apart-service : (call : calls.Call) → first_failure (service s call).guards ≡ None → AreApart (service s call).state
   apart-service (PartitionInfoGet uuid flags) none = elim (is_count_alone flags) as (λ b. AreApart (cond b s (filled s s.runner (info_bytes (version_of s s.runner) s.parties (uuid_bytes uuid))))) [ true ↦ apart | false ↦ apart ]
-  apart-service (MemDonate total fragment address pages) none = apart-sent Donate total
-  apart-service (MemLend total fragment address pages) none = apart-sent Lend total
-  apart-service (MemShare total fragment address pages) none = apart-sent Share total
-  apart-service (MemRetrieve total fragment address pages) none = apart-retrieved (transfer total fragment address pages) (taken s (transfer total fragment address pages) none)
+  apart-service (MemDonate x) none = apart-sent Donate x.total
+  apart-service (MemLend x) none = apart-sent Lend x.total
+  apart-service (MemShare x) none = apart-sent Share x.total
+  apart-service (MemRetrieve x) none = apart-retrieved x (taken s x none)
   apart-service MemRelinquish none = apart-relinquished (relinquish_read s)
   apart-service (MemReclaim low high flags) none = without-one s.transactions (handle_of high low) apart
   apart-service call none = apart

@@ -41,7 +41,8 @@ use Rattle.ffa_model.specs.Messages.{delivered, header_in, message_in, msg_send2
 use Rattle.ffa_model.specs.Registers.{decode}
 use Rattle.ffa_model.specs.Setup.{info_bytes, is_count_alone, uuid_bytes}
 use Rattle.ffa_model.specs.Step.{serve, service, step}
-use Rattle.ffa_model.specs.Transactions.{Transfer, base_of, bases_of, handle_of, offers_of, scene_of, transfer}
+use Rattle.ffa_model.specs.declared.call.Transfer.{Transfer}
+use Rattle.ffa_model.specs.Transactions.{base_of, bases_of, handle_of, offers_of, scene_of}
 use Rattle.ffa_model.proofs.Accesses.{length-map_at}
 use Rattle.ffa_model.proofs.Runs.{flat-run-same}
 use Rattle.ffa_laws.specs.Steady.{IsAlone, IsSteady}
@@ -326,10 +327,10 @@ module _ (s : State) (hides : ℕ → Bool) where
             | false ↦ λ i. record (filled s s.runner (info_bytes (version_of s s.runner) s.parties (uuid_bytes uuid))) { pages = filled-blind hides (info_bytes (version_of s s.runner) s.parties (uuid_bytes uuid)) (buffers_of s s.runner) s.pages i }
           ];
         }
-    service-b (MemDonate total fragment address pages) = send-b Donate (transfer total fragment address pages)
-    service-b (MemLend total fragment address pages) = send-b Lend (transfer total fragment address pages)
-    service-b (MemShare total fragment address pages) = send-b Share (transfer total fragment address pages)
-    service-b (MemRetrieve total fragment address pages) = retrieve-b (transfer total fragment address pages)
+    service-b (MemDonate x) = send-b Donate x
+    service-b (MemLend x) = send-b Lend x
+    service-b (MemShare x) = send-b Share x
+    service-b (MemRetrieve x) = retrieve-b x
     service-b MemRelinquish = relinquish-b
     service-b (MemReclaim low high flags) = reclaim-b low high flags
     service-b MsgSend2 = send2-b

@@ -21,7 +21,8 @@ use Rattle.ffa_model.specs.Rights.{is_lend, is_share, is_within}
 use Rattle.ffa_model.specs.State.{State, Page, Transaction, buffers_of, page_at, transaction_of}
 use Rattle.ffa_model.specs.Access.{access, held_by, right_by, right_of, transaction_at}
 use Rattle.ffa_model.specs.Step.{serve, service, state_after, step}
-use Rattle.ffa_model.specs.Transactions.{Transfer, handle_of, transfer}
+use Rattle.ffa_model.specs.declared.call.Transfer.{Transfer}
+use Rattle.ffa_model.specs.Transactions.{handle_of}
 use Rattle.ffa_laws.specs.Steady.{IsSteady, is_joint}
 use Rattle.ffa_laws.specs.Isolation.{NeverGrow, is_joint_at}
 use Rattle.ffa_laws.proofs.Views.{found}
@@ -134,10 +135,10 @@ module _ (s : State) (steady : IsSteady s) where
 
   -- the calls on memory transactions
   memory-rights : (call : calls.Call) → is_memory_call call ≡ true → first_failure (service s call).guards ≡ None → KeepsRights s.pages (service s call).state.pages
-  memory-rights (MemDonate total fragment address pages) memory none = rewritten-rights s.pages _ (rewritten-sent s Donate (send_read s Donate total))
-  memory-rights (MemLend total fragment address pages) memory none = rewritten-rights s.pages _ (rewritten-sent s Lend (send_read s Lend total))
-  memory-rights (MemShare total fragment address pages) memory none = rewritten-rights s.pages _ (rewritten-sent s Share (send_read s Share total))
-  memory-rights (MemRetrieve total fragment address pages) memory none = retrieved-rights (transfer total fragment address pages) none
+  memory-rights (MemDonate x) memory none = rewritten-rights s.pages _ (rewritten-sent s Donate (send_read s Donate x.total))
+  memory-rights (MemLend x) memory none = rewritten-rights s.pages _ (rewritten-sent s Lend (send_read s Lend x.total))
+  memory-rights (MemShare x) memory none = rewritten-rights s.pages _ (rewritten-sent s Share (send_read s Share x.total))
+  memory-rights (MemRetrieve x) memory none = retrieved-rights x none
   memory-rights MemRelinquish memory none = rewritten-rights s.pages _ (rewritten-relinquished s (relinquish_read s))
   memory-rights (MemReclaim low high flags) memory none =
       rewritten-rights s.pages _ (rewritten-zeroed_if (is_set 0 flags) s (named_ranges (transaction_of s (handle_of high low))))

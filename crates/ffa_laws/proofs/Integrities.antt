@@ -27,7 +27,8 @@ use Rattle.ffa_model.specs.MemoryRetrieve.{memory_retrieve}
 use Rattle.ffa_model.specs.MemorySend.{memory_send, memory_sent, send_guards, send_read}
 use Rattle.ffa_model.specs.Messages.{header_in, message_in, send2_guards, tx_bytes}
 use Rattle.ffa_model.specs.Step.{serve, service, step}
-use Rattle.ffa_model.specs.Transactions.{Transfer, handle_of, scene_of, transfer}
+use Rattle.ffa_model.specs.declared.call.Transfer.{Transfer}
+use Rattle.ffa_model.specs.Transactions.{handle_of, scene_of}
 use Rattle.ffa_laws.specs.Steady.{IsSteady}
 use Rattle.ffa_laws.specs.Isolation.{Integrity, LeavesBytes, fills_rx_page, is_indirect_message, is_send2}
 use Rattle.ffa_model.proofs.Guards.{guard-passes}
@@ -142,10 +143,10 @@ module _ (s : State) (steady : IsSteady s) (e p : ℕ) (owned : owner_of s p ≡
 
   -- the calls on memory transactions
   memory-page : (call : calls.Call) → is_memory_call call ≡ true → first_failure (service s call).guards ≡ None → page_in (service s call).state.pages p ≡ page_in s.pages p
-  memory-page (MemDonate total fragment address pages) memory none = sent-elsewhere Donate (transfer total fragment address pages) none
-  memory-page (MemLend total fragment address pages) memory none = sent-elsewhere Lend (transfer total fragment address pages) none
-  memory-page (MemShare total fragment address pages) memory none = sent-elsewhere Share (transfer total fragment address pages) none
-  memory-page (MemRetrieve total fragment address pages) memory none = retrieved-elsewhere (transfer total fragment address pages) none
+  memory-page (MemDonate x) memory none = sent-elsewhere Donate x none
+  memory-page (MemLend x) memory none = sent-elsewhere Lend x none
+  memory-page (MemShare x) memory none = sent-elsewhere Share x none
+  memory-page (MemRetrieve x) memory none = retrieved-elsewhere x none
   memory-page MemRelinquish memory none = relinquished-elsewhere (relinquish_read s)
   memory-page (MemReclaim low high flags) memory none =
       elsewhere-zeroed (is_set 0 flags) (named_ranges (transaction_of s (handle_of high low))) (of_no_transaction (handle_of high low))

@@ -46,10 +46,10 @@ relinquished-fixed s (Some d) = elim (transaction_of s d.handle) as (λ o. fixed
 
 service-fixed : (s : State) (call : calls.Call) → fixed (service s call).state ≡ fixed s
 service-fixed s (PartitionInfoGet uuid flags) = elim (is_count_alone flags) as (λ b. fixed (cond b s (filled s s.runner (info_bytes (version_of s s.runner) s.parties (uuid_bytes uuid)))) ≡ fixed s) [ true ↦ refl | false ↦ refl ]
-service-fixed s (MemDonate total fragment address pages) = sent-fixed s Donate (send_read s Donate total)
-service-fixed s (MemLend total fragment address pages) = sent-fixed s Lend (send_read s Lend total)
-service-fixed s (MemShare total fragment address pages) = sent-fixed s Share (send_read s Share total)
-service-fixed s (MemRetrieve total fragment address pages) = retrieved-fixed s (retrieve_read s total)
+service-fixed s (MemDonate x) = sent-fixed s Donate (send_read s Donate x.total)
+service-fixed s (MemLend x) = sent-fixed s Lend (send_read s Lend x.total)
+service-fixed s (MemShare x) = sent-fixed s Share (send_read s Share x.total)
+service-fixed s (MemRetrieve x) = retrieved-fixed s (retrieve_read s x.total)
 service-fixed s MemRelinquish = relinquished-fixed s (relinquish_read s)
 service-fixed s call = refl
 
@@ -71,10 +71,10 @@ base-step s op = ap (λ parts. parts.1) (step-fixed s op)
 -- ---- pages
 -- whether a call is one on memory transactions
 abbrev pub is_memory_call : calls.Call → Bool
-is_memory_call (MemDonate total fragment address pages) = true
-is_memory_call (MemLend total fragment address pages) = true
-is_memory_call (MemShare total fragment address pages) = true
-is_memory_call (MemRetrieve total fragment address pages) = true
+is_memory_call (MemDonate x) = true
+is_memory_call (MemLend x) = true
+is_memory_call (MemShare x) = true
+is_memory_call (MemRetrieve x) = true
 is_memory_call MemRelinquish = true
 is_memory_call (MemReclaim low high flags) = true
 is_memory_call call = false
@@ -101,10 +101,10 @@ module _ (R : List (Option Page) → Type 0) (s : State) (same : R s.pages) (by_
         | true ↦ same
         | false ↦ by_info (info_bytes (version_of s s.runner) s.parties (uuid_bytes uuid))
       ]
-  kept-service (MemDonate total fragment address pages) by_send by_memory none = by_memory refl none
-  kept-service (MemLend total fragment address pages) by_send by_memory none = by_memory refl none
-  kept-service (MemShare total fragment address pages) by_send by_memory none = by_memory refl none
-  kept-service (MemRetrieve total fragment address pages) by_send by_memory none = by_memory refl none
+  kept-service (MemDonate x) by_send by_memory none = by_memory refl none
+  kept-service (MemLend x) by_send by_memory none = by_memory refl none
+  kept-service (MemShare x) by_send by_memory none = by_memory refl none
+  kept-service (MemRetrieve x) by_send by_memory none = by_memory refl none
   kept-service MemRelinquish by_send by_memory none = by_memory refl none
   kept-service (MemReclaim low high flags) by_send by_memory none = by_memory refl none
   kept-service MsgSend2 by_send by_memory none = by_send refl none

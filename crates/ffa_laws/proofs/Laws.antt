@@ -11,7 +11,6 @@ use Rattle.ffa_model.specs.declared.rights.Kind.TheVariants.{Share, Lend, Donate
 use Rattle.ffa_model.specs.declared.schedule.Status.TheVariants.{Yielded}
 use Rattle.ffa_model.specs.Bits.{bits_of, high_half, word_of_halves, low_half}
 use Rattle.ffa_model.specs.Buffers.{new_buffers}
-use Rattle.ffa_model.specs.Transactions.{transfer}
 use Rattle.ffa_model.specs.RunStates.{direct_request, direct_response, finished, given_cycles, requested, run_partition, schedule_of, status_in, switched, yield_now}
 use Rattle.ffa_model.specs.Notifications.{class_of, notifications_of, with_bitmaps, with_pending, without_pending}
 use Rattle.ffa_laws.proofs.Steadies.{steady-notified}
@@ -49,10 +48,10 @@ own-service s steady Yield = own-yield s
 own-service s steady (Run target) = own-run s target
 own-service s steady (DirectRequest function word flags payload) = own-request s function word flags payload
 own-service s steady (DirectResponse function word flags payload) = own-response s function word flags payload
-own-service s steady (MemDonate total fragment address pages) = own-send s steady Donate (transfer total fragment address pages)
-own-service s steady (MemLend total fragment address pages) = own-send s steady Lend (transfer total fragment address pages)
-own-service s steady (MemShare total fragment address pages) = own-send s steady Share (transfer total fragment address pages)
-own-service s steady (MemRetrieve total fragment address pages) = own-retrieve s steady (transfer total fragment address pages)
+own-service s steady (MemDonate x) = own-send s steady Donate x
+own-service s steady (MemLend x) = own-send s steady Lend x
+own-service s steady (MemShare x) = own-send s steady Share x
+own-service s steady (MemRetrieve x) = own-retrieve s steady x
 own-service s steady MemRelinquish = own-relinquish s steady
 own-service s steady (MemReclaim low high flags) = own-reclaim s steady low high flags
 own-service s steady (BitmapCreate endpoint contexts) = own-create s steady endpoint contexts
@@ -88,10 +87,10 @@ module _ (e : ℕ) (s : State) (steady : IsSteady s) (known : is_known s e ≡ t
   other-service (Run target) = λ none. other-scheduled e s (given_cycles (schedule_of s) (high_half target) (status_in (schedule_of s) (high_half target))) (run_partition s target)
   other-service (DirectRequest function word flags payload) = λ none. other-scheduled e s (requested (schedule_of s) (low_half word)) (direct_request s function word flags payload)
   other-service (DirectResponse function word flags payload) = λ none. other-scheduled e s (finished (schedule_of s) (low_half word)) (direct_response s function word flags payload)
-  other-service (MemDonate total fragment address pages) = other-send e s steady known other Donate (transfer total fragment address pages)
-  other-service (MemLend total fragment address pages) = other-send e s steady known other Lend (transfer total fragment address pages)
-  other-service (MemShare total fragment address pages) = other-send e s steady known other Share (transfer total fragment address pages)
-  other-service (MemRetrieve total fragment address pages) = other-retrieve e s steady other (transfer total fragment address pages)
+  other-service (MemDonate x) = other-send e s steady known other Donate x
+  other-service (MemLend x) = other-send e s steady known other Lend x
+  other-service (MemShare x) = other-send e s steady known other Share x
+  other-service (MemRetrieve x) = other-retrieve e s steady other x
   other-service MemRelinquish = other-relinquish e s steady other
   other-service (MemReclaim low high flags) = other-reclaim e s steady other low high flags
   other-service (BitmapCreate endpoint contexts) = other-create e s other endpoint contexts
@@ -126,10 +125,10 @@ steady-service s steady Yield none = steady-yield s steady
 steady-service s steady (Run target) none = steady-run s steady target none
 steady-service s steady (DirectRequest function word flags payload) none = steady-request s steady function word flags payload none
 steady-service s steady (DirectResponse function word flags payload) none = steady-response s steady function word flags payload none
-steady-service s steady (MemDonate total fragment address pages) none = steady-send s steady Donate (transfer total fragment address pages) none
-steady-service s steady (MemLend total fragment address pages) none = steady-send s steady Lend (transfer total fragment address pages) none
-steady-service s steady (MemShare total fragment address pages) none = steady-send s steady Share (transfer total fragment address pages) none
-steady-service s steady (MemRetrieve total fragment address pages) none = steady-retrieve s steady (transfer total fragment address pages) none
+steady-service s steady (MemDonate x) none = steady-send s steady Donate x none
+steady-service s steady (MemLend x) none = steady-send s steady Lend x none
+steady-service s steady (MemShare x) none = steady-send s steady Share x none
+steady-service s steady (MemRetrieve x) none = steady-retrieve s steady x none
 steady-service s steady MemRelinquish none = steady-relinquish s steady
 steady-service s steady (MemReclaim low high flags) none = steady-reclaim s steady low high flags
 steady-service s steady (BitmapCreate endpoint contexts) none = steady-notified s steady (with_bitmaps (notifications_of s) 0) steady.bound

@@ -35,7 +35,8 @@ use Rattle.ffa_model.specs.Messages.{header_in, message_in, tx_bytes}
 use Rattle.ffa_model.specs.Notifications.{binding, class_of, is_bound, has_bitmaps_in, manager_class, message_bits, notifications_of}
 use Rattle.ffa_model.specs.Registers.{decode}
 use Rattle.ffa_model.specs.Step.{serve, service}
-use Rattle.ffa_model.specs.Transactions.{Transfer, handle_of, next_handle, offers_of, scene_of, transfer}
+use Rattle.ffa_model.specs.declared.call.Transfer.{Transfer}
+use Rattle.ffa_model.specs.Transactions.{handle_of, next_handle, offers_of, scene_of}
 use Rattle.ffa_model.proofs.Accesses.{held-itself, released-itself}
 use Rattle.ffa_model.proofs.Guards.{guard-passes}
 use Rattle.ffa_model.proofs.Sets.{Bits, contains-retained, same-itself, same_elements}
@@ -326,10 +327,10 @@ module _ (e : ℕ) (s : State) (steady : IsSteady s) where
   news-told (Run target) none = repeats e v _ _ refl
   news-told (DirectRequest function word flags payload) none = repeats e v _ _ refl
   news-told (DirectResponse function word flags payload) none = repeats e v _ _ refl
-  news-told (MemDonate total fragment address pages) none = news-sent Donate (transfer total fragment address pages) none
-  news-told (MemLend total fragment address pages) none = news-sent Lend (transfer total fragment address pages) none
-  news-told (MemShare total fragment address pages) none = news-sent Share (transfer total fragment address pages) none
-  news-told (MemRetrieve total fragment address pages) none = news-taken (transfer total fragment address pages) (taken s (transfer total fragment address pages) none)
+  news-told (MemDonate x) none = news-sent Donate x none
+  news-told (MemLend x) none = news-sent Lend x none
+  news-told (MemShare x) none = news-sent Share x none
+  news-told (MemRetrieve x) none = news-taken x (taken s x none)
   news-told MemRelinquish none = news-released none
   news-told (MemReclaim low high flags) none = news-reclaimed (handle_of high low)
   news-told (BitmapDestroy endpoint) none = news-unbinds 0 e (listed 64 (λ k. k)) (rising-from 0 64 (λ k. k) (λ i. omega arith))

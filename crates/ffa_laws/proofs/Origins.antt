@@ -24,7 +24,8 @@ use Rattle.ffa_model.specs.SendDescriptor.{SendRecord}
 use Rattle.ffa_model.specs.Setup.{info_bytes, is_count_alone, uuid_bytes}
 use Rattle.ffa_model.specs.State.{State, Transaction, transaction_of, version_of}
 use Rattle.ffa_model.specs.Step.{service, step}
-use Rattle.ffa_model.specs.Transactions.{Transfer, handle_of, holding, next_handle, not_holding, offers_of, scene_of, transfer}
+use Rattle.ffa_model.specs.declared.call.Transfer.{Transfer}
+use Rattle.ffa_model.specs.Transactions.{handle_of, holding, next_handle, not_holding, offers_of, scene_of}
 use Rattle.ffa_laws.proofs.Closed.{get-remove}
 use Rattle.ffa_laws.proofs.Form.{accessed-kept, served-kept}
 use Rattle.ffa_laws.proofs.Opened.{Transactions, get-insert}
@@ -111,10 +112,10 @@ module _ (s : State) (h : ℕ) where
         | true ↦ stays
         | false ↦ inl (same-open s.transactions h)
       ]
-  comes-service (MemDonate total fragment address pages) none = comes-sent Donate (transfer total fragment address pages) none
-  comes-service (MemLend total fragment address pages) none = comes-sent Lend (transfer total fragment address pages) none
-  comes-service (MemShare total fragment address pages) none = comes-sent Share (transfer total fragment address pages) none
-  comes-service (MemRetrieve total fragment address pages) none = comes-retrieved (transfer total fragment address pages) (taken s (transfer total fragment address pages) none)
+  comes-service (MemDonate x) none = comes-sent Donate x none
+  comes-service (MemLend x) none = comes-sent Lend x none
+  comes-service (MemShare x) none = comes-sent Share x none
+  comes-service (MemRetrieve x) none = comes-retrieved x (taken s x none)
   comes-service MemRelinquish none = comes-relinquished (relinquish_read s)
   comes-service (MemReclaim low high flags) none = inl (without-open s.transactions (handle_of high low) h)
   comes-service call none = inl (same-open s.transactions h)

@@ -33,7 +33,8 @@ use Rattle.ffa_model.specs.Messages.{header_in, message_in, tx_bytes}
 use Rattle.ffa_model.specs.Registers.{decode}
 use Rattle.ffa_model.specs.Setup.{info_bytes, is_count_alone, uuid_bytes}
 use Rattle.ffa_model.specs.Step.{serve, service, step}
-use Rattle.ffa_model.specs.Transactions.{Transfer, bases_of, closed, handle_of, holding, next_handle, not_holding, offers_of, scene_of, transfer, with_offers, with_transaction}
+use Rattle.ffa_model.specs.declared.call.Transfer.{Transfer}
+use Rattle.ffa_model.specs.Transactions.{bases_of, closed, handle_of, holding, next_handle, not_holding, offers_of, scene_of, with_offers, with_transaction}
 use Rattle.ffa_model.proofs.Accesses.{IsNamedOnce, access-closed, access-given, access-holding_beside, access-kept, access-released, access-released_beside, access-still, access-unchanged, access-zeroed, in-closed, named-in}
 use Rattle.ffa_model.proofs.CallAccesses.{access-filled, access-written}
 use Rattle.ffa_model.proofs.Guards.{guard-passes}
@@ -343,11 +344,11 @@ module _ (s : State) (steady : IsSteady s) where
           | true ↦ as_before s s false false (λ e p. refl)
           | false ↦ as_before s (filled s s.runner (info_bytes (version_of s s.runner) s.parties (uuid_bytes uuid))) false false (access-filled s s.runner (info_bytes (version_of s s.runner) s.parties (uuid_bytes uuid)))
         ]
-    own-service (MemDonate total fragment address pages) none = send-own Donate (transfer total fragment address pages) true (λ is. absurd (true≢false is)) none
-    own-service (MemLend total fragment address pages) none = send-own Lend (transfer total fragment address pages) true (λ is. absurd (true≢false is)) none
-    own-service (MemShare total fragment address pages) none = send-own Share (transfer total fragment address pages) false (λ is. refl) none
-    own-service (MemRetrieve total fragment address pages) none =
-        retrieved-own apart (transfer total fragment address pages) (taken s (transfer total fragment address pages) none)
+    own-service (MemDonate x) none = send-own Donate x true (λ is. absurd (true≢false is)) none
+    own-service (MemLend x) none = send-own Lend x true (λ is. absurd (true≢false is)) none
+    own-service (MemShare x) none = send-own Share x false (λ is. refl) none
+    own-service (MemRetrieve x) none =
+        retrieved-own apart x (taken s x none)
     own-service MemRelinquish none = relinquish-own apart none
     own-service (MemReclaim low high flags) none = reclaim-own low high flags none
     own-service MsgSend2 none =

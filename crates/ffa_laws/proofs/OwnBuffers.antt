@@ -70,10 +70,10 @@ module _ (s : State) (steady : IsSteady s) (e : ℕ) (known : is_known s e ≡ t
   rx-service (RxtxUnmap endpoint) = rx-beside None
   rx-service (PartitionInfoGet uuid flags) =
       elim (is_count_alone flags) as (λ b. is_rx (cond b s (filled s s.runner (info_bytes (version_of s s.runner) s.parties (uuid_bytes uuid)))) e p ≡ is_rx s e p) [ true ↦ refl | false ↦ rx-filled s.runner true ]
-  rx-service (MemDonate total fragment address pages) = rx-sent Donate (send_read s Donate total)
-  rx-service (MemLend total fragment address pages) = rx-sent Lend (send_read s Lend total)
-  rx-service (MemShare total fragment address pages) = rx-sent Share (send_read s Share total)
-  rx-service (MemRetrieve total fragment address pages) = rx-retrieved (retrieve_read s total)
+  rx-service (MemDonate x) = rx-sent Donate (send_read s Donate x.total)
+  rx-service (MemLend x) = rx-sent Lend (send_read s Lend x.total)
+  rx-service (MemShare x) = rx-sent Share (send_read s Share x.total)
+  rx-service (MemRetrieve x) = rx-retrieved (retrieve_read s x.total)
   rx-service MemRelinquish = rx-relinquished (relinquish_read s)
   rx-service MsgSend2 = rx-filled (header_in (tx_bytes s s.runner)).receiver true
   rx-service call = refl

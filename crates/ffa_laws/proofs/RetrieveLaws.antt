@@ -21,7 +21,8 @@ use Rattle.ffa_model.specs.Calls.{first_failure}
 use Rattle.ffa_model.specs.ResponseBytes.{response_size}
 use Rattle.ffa_model.specs.RetrieveDescriptor.{retrieve_of}
 use Rattle.ffa_model.specs.RunStates.{schedule_of}
-use Rattle.ffa_model.specs.Transactions.{Bases, Transfer, bases_of, ceiling, holding, offers_of, scene_of, with_offers, with_transaction}
+use Rattle.ffa_model.specs.declared.call.Transfer.{Transfer}
+use Rattle.ffa_model.specs.Transactions.{Bases, bases_of, ceiling, holding, offers_of, scene_of, with_offers, with_transaction}
 use Rattle.ffa_model.specs.MemoryRetrieve.{asked_right, asking_guards, donated_if, holding_guards, is_kind_right, memory_retrieve, response_length, retrieve_guards, retrieve_read, retrieved, retrieved_from, retrieved_right, right_for, taken_in, with_retrieved}
 use Rattle.ffa_laws.specs.Steady.{IsSteady}
 use Rattle.ffa_laws.specs.View.{view, involves, is_near, kept, seen_by}

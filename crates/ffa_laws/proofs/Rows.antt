@@ -4,6 +4,7 @@ use Rattle.std.specs.Prelude.{◌==◌, ◌&&◌, filter, not}
 use Rattle.std.specs.List.{list_all}
 use Rattle.std.specs.Str.{bytes_eq}
 use Rattle.std.proofs.lemmas.Bool.{and_from, and_parts, eq-eqb, true≢false}
+use Rattle.ffa_model.specs.declared.call.Transfer.{Transfer}
 use Rattle.ffa_model.specs.declared.descriptor.RelinquishDesc.{RelinquishDesc}
 use Rattle.ffa_model.specs.declared.descriptor.RetrieveDesc.{RetrieveDesc}
 use Rattle.ffa_model.specs.declared.operation.Op.{Op}
@@ -46,9 +47,9 @@ public-relinquished s None = refl
 public-relinquished s (Some d) = elim (transaction_of s d.handle) as (λ o. public_part (relinquished_from s d o) ≡ public_part s) [ None ↦ refl | Some t ↦ refl ]
 
 public-service : (s : State) (call : calls.Call) → may_change_public call ≡ false → public_part (service s call).state ≡ public_part s
-public-service s (MemDonate total fragment address pages) quiet = public-sent s Donate (send_read s Donate total)
-public-service s (MemLend total fragment address pages) quiet = public-sent s Lend (send_read s Lend total)
-public-service s (MemShare total fragment address pages) quiet = public-sent s Share (send_read s Share total)
+public-service s (MemDonate x) quiet = public-sent s Donate (send_read s Donate x.total)
+public-service s (MemLend x) quiet = public-sent s Lend (send_read s Lend x.total)
+public-service s (MemShare x) quiet = public-sent s Share (send_read s Share x.total)
 public-service s MemRelinquish quiet = public-relinquished s (relinquish_read s)
 public-service s RxRelease quiet = absurd (true≢false quiet)
 public-service s (RxtxMap tx rx pages) quiet = absurd (true≢false quiet)
@@ -59,7 +60,7 @@ public-service s Yield quiet = absurd (true≢false quiet)
 public-service s (Run target) quiet = absurd (true≢false quiet)
 public-service s (DirectRequest function word flags payload) quiet = absurd (true≢false quiet)
 public-service s (DirectResponse function word flags payload) quiet = absurd (true≢false quiet)
-public-service s (MemRetrieve total fragment address pages) quiet = absurd (true≢false quiet)
+public-service s (MemRetrieve x) quiet = absurd (true≢false quiet)
 public-service s MsgSend2 quiet = absurd (true≢false quiet)
 public-service s call quiet = refl
 
@@ -125,17 +126,17 @@ unbound e s call receiver sender ks is =
     let old = filter (λ k. is_bound (notifications_of s) receiver (class_of e) k e) ks in
     all-where (told_row call) (sender == e) (map (λ k. Unbound receiver (class_of e) k) old) (all-mapped (told_row call) (λ k. Unbound receiver (class_of e) k) old is)
 
-taken-row : (total fragment address pages : ℕ) (e : ℕ) (s : State) (d : Option RetrieveDesc) → list_all (told_row (MemRetrieve total fragment address pages)) (takes e s d) ≡ true
-taken-row total fragment address pages e s None = refl
-taken-row total fragment address pages e s (Some d) = of (transaction_of s d.handle)
+taken-row : (x : Transfer) (e : ℕ) (s : State) (d : Option RetrieveDesc) → list_all (told_row (MemRetrieve x)) (takes e s d) ≡ true
+taken-row x e s None = refl
+taken-row x e s (Some d) = of (transaction_of s d.handle)
   where
-    kinds : (b : Bool) (kind : Kind) (t : Transaction) → list_all (told_row (MemRetrieve total fragment address pages)) (where_true b (taking kind d.handle s.runner (right_for (bases_of s) t s.runner d) ∷ [])) ≡ true
+    kinds : (b : Bool) (kind : Kind) (t : Transaction) → list_all (told_row (MemRetrieve x)) (where_true b (taking kind d.handle s.runner (right_for (bases_of s) t s.runner d) ∷ [])) ≡ true
     kinds true Donate t = refl
     kinds true Lend t = refl
     kinds true Share t = refl
     kinds false kind t = refl
 
-    of : (o : Option Transaction) → list_all (told_row (MemRetrieve total fragment address pages)) (takes_from e s d o) ≡ true
+    of : (o : Option Transaction) → list_all (told_row (MemRetrieve x)) (takes_from e s d o) ≡ true
     of None = refl
     of (Some t) = kinds (t.sender == e) t.kind t
 
@@ -152,10 +153,10 @@ row-of e s Yield = all-one (told_row Yield) ((yield_now s).state.runner == e) (M
 row-of e s (Run target) = all-one (told_row (Run target)) ((run_partition s target).state.runner == e) (Message (encode (run_partition s target).reply)) refl
 row-of e s (DirectRequest function word flags payload) = all-one (told_row (DirectRequest function word flags payload)) ((direct_request s function word flags payload).state.runner == e) (Message (encode (direct_request s function word flags payload).reply)) refl
 row-of e s (DirectResponse function word flags payload) = all-one (told_row (DirectResponse function word flags payload)) ((direct_response s function word flags payload).state.runner == e) (Message (encode (direct_response s function word flags payload).reply)) refl
-row-of e s (MemDonate total fragment address pages) = opened e s Donate (MemDonate total fragment address pages) (send_read s Donate total) (λ h t named. refl)
-row-of e s (MemLend total fragment address pages) = opened e s Lend (MemLend total fragment address pages) (send_read s Lend total) (λ h t named. refl)
-row-of e s (MemShare total fragment address pages) = opened e s Share (MemShare total fragment address pages) (send_read s Share total) (λ h t named. refl)
-row-of e s (MemRetrieve total fragment address pages) = taken-row total fragment address pages e s (retrieve_read s total)
+row-of e s (MemDonate x) = opened e s Donate (MemDonate x) (send_read s Donate x.total) (λ h t named. refl)
+row-of e s (MemLend x) = opened e s Lend (MemLend x) (send_read s Lend x.total) (λ h t named. refl)
+row-of e s (MemShare x) = opened e s Share (MemShare x) (send_read s Share x.total) (λ h t named. refl)
+row-of e s (MemRetrieve x) = taken-row x e s (retrieve_read s x.total)
 row-of e s MemRelinquish = released-row e s (relinquish_read s)
 row-of e s (MemReclaim low high flags) = all-one (told_row (MemReclaim low high flags)) (is_offered e (transaction_of s (handle_of high low))) (Closed (handle_of high low)) refl
 row-of e s (BitmapDestroy endpoint) = unbound e s (BitmapDestroy endpoint) 0 e (listed 64 (λ k. k)) (λ k. refl)

@@ -26,7 +26,8 @@ use Rattle.ffa_model.specs.Buffers.{Candidate, buffers_in, candidate_at, candida
 use Rattle.ffa_model.specs.Calls.{first_failure}
 use Rattle.ffa_model.specs.RunStates.{schedule_of}
 use Rattle.ffa_model.specs.SendDescriptor.{SendRecord, most_receivers, send_of}
-use Rattle.ffa_model.specs.Transactions.{Bases, Scene, Transfer, are_writable, base_of, bases_of, handle_of, next_handle, offers_of, open_count, pages_in, scene_of, sends_of}
+use Rattle.ffa_model.specs.declared.call.Transfer.{Transfer}
+use Rattle.ffa_model.specs.Transactions.{Bases, Scene, are_writable, base_of, bases_of, handle_of, next_handle, offers_of, open_count, pages_in, scene_of, sends_of}
 use Rattle.ffa_model.specs.MemorySend.{are_grants_within, are_known, handle_reply, is_buffer, is_grantable, is_inside, is_own, is_sendable, memory_send, memory_sent, send_guards, send_read, transaction_from, descriptor_in}
 use Rattle.ffa_laws.specs.Steady.{IsAlone, IsSteady, IsSteadyTransaction}
 use Rattle.ffa_laws.specs.View.{view, buffers_seen, hidden, involves, is_near, kept}

@@ -151,10 +151,10 @@ module _ (e : ℕ) (s : State) (differ : s.runner ≢ e) where
   shows-service (Run word) = switching (run_partition s word)
   shows-service (DirectRequest function word flags payload) = switching (direct_request s function word flags payload)
   shows-service (DirectResponse function word flags payload) = switching (direct_response s function word flags payload)
-  shows-service (MemDonate total fragment address pages) = quiet (service s (MemDonate total fragment address pages)) (told_by e s (MemDonate total fragment address pages)) (no_opening e s Donate (send_read s Donate total)) (runs-offered s Donate (send_read s Donate total))
-  shows-service (MemLend total fragment address pages) = quiet (service s (MemLend total fragment address pages)) (told_by e s (MemLend total fragment address pages)) (no_opening e s Lend (send_read s Lend total)) (runs-offered s Lend (send_read s Lend total))
-  shows-service (MemShare total fragment address pages) = quiet (service s (MemShare total fragment address pages)) (told_by e s (MemShare total fragment address pages)) (no_opening e s Share (send_read s Share total)) (runs-offered s Share (send_read s Share total))
-  shows-service (MemRetrieve total fragment address pages) = quiet (service s (MemRetrieve total fragment address pages)) (told_by e s (MemRetrieve total fragment address pages)) (no_takes e s (retrieve_read s total)) (runs-retrieved s (retrieve_read s total))
+  shows-service (MemDonate x) = quiet (service s (MemDonate x)) (told_by e s (MemDonate x)) (no_opening e s Donate (send_read s Donate x.total)) (runs-offered s Donate (send_read s Donate x.total))
+  shows-service (MemLend x) = quiet (service s (MemLend x)) (told_by e s (MemLend x)) (no_opening e s Lend (send_read s Lend x.total)) (runs-offered s Lend (send_read s Lend x.total))
+  shows-service (MemShare x) = quiet (service s (MemShare x)) (told_by e s (MemShare x)) (no_opening e s Share (send_read s Share x.total)) (runs-offered s Share (send_read s Share x.total))
+  shows-service (MemRetrieve x) = quiet (service s (MemRetrieve x)) (told_by e s (MemRetrieve x)) (no_takes e s (retrieve_read s x.total)) (runs-retrieved s (retrieve_read s x.total))
   shows-service MemRelinquish = quiet (service s MemRelinquish) (told_by e s MemRelinquish) (no_releases e s (relinquish_read s)) (runs-relinquished s (relinquish_read s))
   shows-service (MemReclaim low high flags) = quiet (service s (MemReclaim low high flags)) (told_by e s (MemReclaim low high flags)) (no_message e (is_offered e (transaction_of s (handle_of high low))) (Closed (handle_of high low)) refl) refl
   shows-service (BitmapCreate endpoint contexts) = quiet (service s (BitmapCreate endpoint contexts)) (told_by e s (BitmapCreate endpoint contexts)) refl refl

@@ -22,7 +22,6 @@ use Rattle.ffa_model.specs.RunStates.{Schedule, finished, given_cycles, requeste
 use Rattle.ffa_model.specs.Messages.{header_in, message_in, msg_send2, send2_guards, tx_bytes}
 use Rattle.ffa_model.specs.SoundState.{IsSoundState}
 use Rattle.ffa_model.specs.Step.{service, step}
-use Rattle.ffa_model.specs.Transactions.{transfer}
 use Rattle.ffa_model.proofs.Guards.{guard-passes}
 use Rattle.ffa_laws.proofs.Form.{accessed-kept, served-kept}
 use Rattle.ffa_laws.proofs.SoundBuffers.{filled-state-sound, map-sound, rx-sound, unmap-sound}
@@ -73,10 +72,10 @@ module _ (s : State) (sound : IsSoundState s) where
       run-states (requested (schedule_of s) (low_half word)) (sound-service s scheduled (DirectRequest function word flags payload) none)
   service-sound (DirectResponse function word flags payload) none =
       run-states (finished (schedule_of s) (low_half word)) (sound-service s scheduled (DirectResponse function word flags payload) none)
-  service-sound (MemDonate total fragment address pages) none = send-sound s sound Donate (transfer total fragment address pages) none
-  service-sound (MemLend total fragment address pages) none = send-sound s sound Lend (transfer total fragment address pages) none
-  service-sound (MemShare total fragment address pages) none = send-sound s sound Share (transfer total fragment address pages) none
-  service-sound (MemRetrieve total fragment address pages) none = retrieve-sound s sound (transfer total fragment address pages) none
+  service-sound (MemDonate x) none = send-sound s sound Donate x none
+  service-sound (MemLend x) none = send-sound s sound Lend x none
+  service-sound (MemShare x) none = send-sound s sound Share x none
+  service-sound (MemRetrieve x) none = retrieve-sound s sound x none
   service-sound MemRelinquish none = relinquish-sound s sound
   service-sound (MemReclaim low high flags) none = reclaim-sound s sound low high flags none
   service-sound (BitmapCreate endpoint contexts) none = create-sound s sound

@@ -14,7 +14,7 @@ use Rattle.ffa_model.specs.ResponseBytes.{ResponseRecord, access_bytes, composit
 use Rattle.ffa_model.specs.SendDescriptor.{page_total}
 use Rattle.ffa_model.specs.SoundState.{IsSoundState, are_bytes}
 use Rattle.ffa_model.specs.State.{State, buffers_of, version_of}
-use Rattle.ffa_model.specs.Transactions.{Transfer}
+use Rattle.ffa_model.specs.declared.call.Transfer.{Transfer}
 use Rattle.ffa_model.specs.MemoryRetrieve.{memory_retrieve, response_to}
 use Rattle.ffa_model.proofs.KeptCalls.{taken-sound}
 use Rattle.ffa_laws.proofs.ByteLists.{both-bytes, bytes-pieces, number-bytes}

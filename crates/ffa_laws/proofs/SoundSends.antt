@@ -12,7 +12,8 @@ use Rattle.ffa_model.specs.Calls.{first_failure}
 use Rattle.ffa_model.specs.Messages.{tx_bytes}
 use Rattle.ffa_model.specs.SendDescriptor.{SendRecord}
 use Rattle.ffa_model.specs.SoundState.{IsSoundState}
-use Rattle.ffa_model.specs.Transactions.{Transfer, bases_of, offers_of, open_count, pages_in, scene_of}
+use Rattle.ffa_model.specs.declared.call.Transfer.{Transfer}
+use Rattle.ffa_model.specs.Transactions.{bases_of, offers_of, open_count, pages_in, scene_of}
 use Rattle.ffa_model.specs.MemorySend.{descriptor_in, is_sendable, memory_send, memory_sent, send_guards, send_read, transaction_from}
 use Rattle.ffa_model.proofs.KeptCalls.{offered-sound}
 use Rattle.ffa_model.proofs.KeptSend.{IsSendable}

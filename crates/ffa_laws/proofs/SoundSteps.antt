@@ -95,10 +95,10 @@ module _ (s : State) (is : IsScheduled s) where
   sound-service (DirectResponse function word flags payload) none =
       (let (by, asked, low) = answerer s is.steady word flags none in
       subst (λ e. AreSound n (finished c e)) (sym low) (record { sound = sound-response c is.schedule some few by asked; works = finished-works by }))
-  sound-service (MemDonate total fragment address pages) none = sent-old Donate (send_read s Donate total)
-  sound-service (MemLend total fragment address pages) none = sent-old Lend (send_read s Lend total)
-  sound-service (MemShare total fragment address pages) none = sent-old Share (send_read s Share total)
-  sound-service (MemRetrieve total fragment address pages) none = retrieved-old (retrieve_read s total)
+  sound-service (MemDonate x) none = sent-old Donate (send_read s Donate x.total)
+  sound-service (MemLend x) none = sent-old Lend (send_read s Lend x.total)
+  sound-service (MemShare x) none = sent-old Share (send_read s Share x.total)
+  sound-service (MemRetrieve x) none = retrieved-old (retrieve_read s x.total)
   sound-service MemRelinquish none = relinquished-old (relinquish_read s)
   sound-service (MemReclaim low high flags) none = old
   sound-service (BitmapCreate endpoint contexts) none = old

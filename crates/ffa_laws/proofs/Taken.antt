@@ -16,7 +16,8 @@ use Rattle.ffa_model.specs.Access.{handle_at, held_by, is_receiver, names}
 use Rattle.ffa_model.specs.Buffers.{buffers_in, filled, is_full, room_of}
 use Rattle.ffa_model.specs.Calls.{first_failure}
 use Rattle.ffa_model.specs.ResponseBytes.{response_bytes}
-use Rattle.ffa_model.specs.Transactions.{Transfer, base_of, bases_of, ceiling, offers_of, scene_of, with_offers}
+use Rattle.ffa_model.specs.declared.call.Transfer.{Transfer}
+use Rattle.ffa_model.specs.Transactions.{base_of, bases_of, ceiling, offers_of, scene_of, with_offers}
 use Rattle.ffa_model.specs.MemoryRetrieve.{asking_guards, donated_if, donated_page, holding_guards, memory_retrieve, response_to, retrieve_read, retrieved, retrieved_from, right_for, taken_in}
 use Rattle.ffa_laws.specs.Steady.{IsSteady}
 use Rattle.ffa_model.proofs.Guards.{guard-passes}

@@ -123,11 +123,11 @@ module _ (e : ℕ) (s : State) (hides : ℕ → Bool) where
           of (Some t) = ap (λ bases. where_true (t.sender == e) (taking t.kind d.handle s.runner (right_for bases t s.runner d) ∷ [])) (bases-b s hides)
 
       told-b : (call : calls.Call) → all_readably e s (told_by e b call) ≡ all_readably e s (told_by e s call)
-      told-b (MemDonate total fragment address pages) = sends-b Donate total
-      told-b (MemLend total fragment address pages) = sends-b Lend total
-      told-b (MemShare total fragment address pages) = sends-b Share total
-      told-b (MemRetrieve total fragment address pages) =
-          ap (all_readably e s) (ap (λ tx. takes e b (retrieve_of s.runner (in_version (version_of s s.runner) (take total tx)))) tx-b ∙ taken-b (retrieve_read s total))
+      told-b (MemDonate x) = sends-b Donate x.total
+      told-b (MemLend x) = sends-b Lend x.total
+      told-b (MemShare x) = sends-b Share x.total
+      told-b (MemRetrieve x) =
+          ap (all_readably e s) (ap (λ tx. takes e b (retrieve_of s.runner (in_version (version_of s s.runner) (take x.total tx)))) tx-b ∙ taken-b (retrieve_read s x.total))
       told-b MemRelinquish = ap (λ tx. all_readably e s (releases e s (relinquish_of tx))) tx-b
       told-b MsgSend2 = ap (λ tx. all_readably e s (delivers e s tx)) tx-b
       told-b call = refl

@@ -34,7 +34,8 @@ use Rattle.ffa_model.specs.Messages.{header_in, message_in, msg_send2, tx_bytes}
 use Rattle.ffa_model.specs.Registers.{decode}
 use Rattle.ffa_model.specs.Setup.{info_bytes, is_count_alone, uuid_bytes}
 use Rattle.ffa_model.specs.Step.{service, step}
-use Rattle.ffa_model.specs.Transactions.{Transfer, are_writable, base_of, bases_of, closed, handle_of, offers_of, scene_of, transfer, with_offers}
+use Rattle.ffa_model.specs.declared.call.Transfer.{Transfer}
+use Rattle.ffa_model.specs.Transactions.{are_writable, base_of, bases_of, closed, handle_of, offers_of, scene_of, with_offers}
 use Rattle.ffa_model.proofs.Accesses.{access-closed, access-zeroed, named-in, page-changed}
 use Rattle.ffa_model.proofs.Guards.{guard-passes}
 use Rattle.ffa_model.proofs.NamedPages.{listed-each}
@@ -224,10 +225,10 @@ module _ (s : State) (sound : IsSoundState s) (p : ℕ) (no_right : may_store (a
         | true ↦ refl
         | false ↦ by-runner s.pages (info_bytes (version_of s s.runner) s.parties (uuid_bytes uuid))
       ]
-  only-service (MemDonate total fragment address pages) not_filled none later = send-elsewhere Donate (transfer total fragment address pages) none
-  only-service (MemLend total fragment address pages) not_filled none later = send-elsewhere Lend (transfer total fragment address pages) none
-  only-service (MemShare total fragment address pages) not_filled none later = send-elsewhere Share (transfer total fragment address pages) none
-  only-service (MemRetrieve total fragment address pages) not_filled none later = retrieve-elsewhere (transfer total fragment address pages) (taken s (transfer total fragment address pages) none)
+  only-service (MemDonate x) not_filled none later = send-elsewhere Donate x none
+  only-service (MemLend x) not_filled none later = send-elsewhere Lend x none
+  only-service (MemShare x) not_filled none later = send-elsewhere Share x none
+  only-service (MemRetrieve x) not_filled none later = retrieve-elsewhere x (taken s x none)
   only-service MemRelinquish not_filled none later = relinquish-elsewhere none
   only-service (MemReclaim low high flags) not_filled none later = reclaim-elsewhere low high flags none later
   only-service MsgSend2 not_filled none later = delivered-elsewhere none not_filled

@@ -12,13 +12,13 @@ use Rattle.ffa_model.specs.Step.{step}
 
 -- the calls by which a caller may get a right to a page, and those by which it may lose one
 abbrev pub gives_access : calls.Call → Bool
-gives_access (MemRetrieve total fragment address pages) = true
+gives_access (MemRetrieve x) = true
 gives_access (MemReclaim low high flags) = true
 gives_access call = false
 
 abbrev pub takes_access : calls.Call → Bool
-takes_access (MemDonate total fragment address pages) = true
-takes_access (MemLend total fragment address pages) = true
+takes_access (MemDonate x) = true
+takes_access (MemLend x) = true
 takes_access MemRelinquish = true
 takes_access call = false
 

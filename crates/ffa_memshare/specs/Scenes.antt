@@ -4,18 +4,16 @@ use Rattle.ffa_model.specs.Buffers.{buffers_in}
 use Rattle.ffa_model.specs.DescriptorPlaces.{Versioned, in_version}
 use Rattle.ffa_model.specs.Ram.{Ram}
 use Rattle.ffa_model.specs.State.{Buffers}
-use Rattle.ffa_model.specs.Transactions.{Offers, Scene, Transfer, transfer}
+use Rattle.ffa_model.specs.declared.call.Transfer.{Transfer}
+use Rattle.ffa_model.specs.Transactions.{Offers, Scene}
 use Rattle.ffa_pages.specs.Entry.{Entry}
 use Rattle.ffa_rxtx.specs.Parts.{candidates_in, tx_in}
-use Rattle.ffa_memshare.specs.declared.transfer.Transfer.{Transfer as Registers}
+use Rattle.ffa_memshare.specs.declared.descriptor_call.DescriptorCall.{DescriptorCall}
 use Rattle.ffa_memshare.specs.Named.{bases_in}
 
-abbrev pub transfer_of : Registers → Transfer
-transfer_of x = transfer x.total x.fragment x.address x.pages
-
 -- the first bytes of e's TX, as many as its descriptor has, in e's version
-abbrev pub descriptor_in : Ram → List (Option Buffers) → ℕ → Registers → Versioned
-descriptor_in ram buffers e x = in_version x.version (take x.total (tx_in ram (buffers_in buffers e)))
+abbrev pub descriptor_in : Ram → List (Option Buffers) → ℕ → DescriptorCall → Versioned
+descriptor_in ram buffers e x = in_version x.version (take x.transfer.total (tx_in ram (buffers_in buffers e)))
 
 -- what the checks read of this many endpoints, in the RAM at an address
 abbrev pub scene_in : ℕ → List (Option Entry) → ℕ → List (Option Buffers) → Offers → Scene

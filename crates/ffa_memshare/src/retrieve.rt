@@ -18,7 +18,7 @@ ghost use Rattle.ffa_memshare.specs.Callers.{IsCaller};
 ghost use Rattle.ffa_memshare.specs.Named.{bases_in};
 ghost use Rattle.ffa_memshare.specs.Ranges.{ArePlaced, in_ranges};
 ghost use Rattle.ffa_memshare.specs.Retrieved.{IsAnswered, IsPassedOn, IsRetrieved, IsTaken};
-ghost use Rattle.ffa_memshare.specs.Scenes.{descriptor_in, scene_in, transfer_of};
+ghost use Rattle.ffa_memshare.specs.Scenes.{descriptor_in, scene_in};
 ghost use Rattle.ffa_memshare.specs.Shared.{IsHeld, IsShared};
 ghost use Rattle.ffa_memshare.specs.Stored.{map_in, offers_in, slot_at, transaction_of};
 
@@ -30,7 +30,7 @@ use crate::moves::move_rights;
 use crate::page_run::read_retrieve;
 use crate::pool::Pool;
 use crate::transaction::OpenTransaction;
-use crate::transfer::Transfer;
+use crate::descriptor_call::DescriptorCall;
 use arrayvec::ArrayVec;
 use ffa_model::{EndpointId, ErrorCode, Kind, Response, RetrieveDesc, Rights, Version};
 use ffa_pages::PageTable;
@@ -56,13 +56,13 @@ impl Pool {
         pages: &mut PageTable,
         buffers: &mut Buffers,
         caller: EndpointId,
-        transfer: &Transfer,
+        call: &DescriptorCall,
     ) -> Result<Retrieved, ErrorCode>
         requires shared { IsShared (M.ram ram.old) layout.now.base (array_vec_len layout.now.regions) layout.now.blocks pages.old self.old.slots }
         requires caller { IsCaller (array_vec_len layout.now.regions) (length (M.ram ram.old).pages) caller.0 buffers.old }
         ensures refusal { result_err result ≡ first_failure (retrieve_guards
-            (scene_in (array_vec_len layout.now.regions) pages.old layout.now.base buffers.old (offers_in self.old)) caller.0 (transfer_of transfer.now)
-            (retrieve_of caller.0 (descriptor_in (M.ram ram.old) buffers.old caller.0 transfer.now))) }
+            (scene_in (array_vec_len layout.now.regions) pages.old layout.now.base buffers.old (offers_in self.old)) caller.0 call.now.transfer
+            (retrieve_of caller.0 (descriptor_in (M.ram ram.old) buffers.old caller.0 call.now))) }
         ensures kept { OnErr result (self.new ≡ self.old) }
         ensures kept_pages { OnErr result (pages.new ≡ pages.old) }
         ensures kept_buffers { OnErr result (buffers.new ≡ buffers.old) }
@@ -70,9 +70,9 @@ impl Pool {
         ensures full { OnOk result (buffers.new ≡ buffers_with_rx buffers.old caller.0 true) }
         ensures done { IfOk result (λ retrieved. IsRetrieved self.old self.new (M.ram ram.old) (M.ram ram.new) pages.old pages.new layout.now.base
             (array_vec_len layout.now.regions) layout.now.blocks (buffers_in buffers.old caller.0) caller
-            (descriptor_in (M.ram ram.old) buffers.old caller.0 transfer.now) retrieved.size retrieved.changed) }
+            (descriptor_in (M.ram ram.old) buffers.old caller.0 call.now) retrieved.size retrieved.changed) }
     {
-        let asked = asked_in(ram, buffers, caller, transfer)?;
+        let asked = asked_in(ram, buffers, caller, call)?;
         let slot = match self.find(asked.handle) {
             Some(slot) => slot,
             None => return Err(ErrorCode::InvalidParameters),
@@ -80,7 +80,7 @@ impl Pool {
         let open = self.at(slot);
         let is_full = buffers.is_full(caller);
         let right = open.check_retrieve(pages, layout.base, is_full, caller, &asked)?;
-        let size = open.hand_over(ram, layout, pages, buffers, caller, transfer.version, right);
+        let size = open.hand_over(ram, layout, pages, buffers, caller, call.version, right);
         open.pass_on(pages, layout.base, caller, right);
         let changed = Changed::of(&open.ranges, Some(caller));
         let kind = open.kind;
@@ -169,19 +169,19 @@ fn asked_in<M: PhysMem>(
     ram: &M,
     buffers: &Buffers,
     caller: EndpointId,
-    transfer: &Transfer,
+    call: &DescriptorCall,
 ) -> Result<RetrieveDesc, ErrorCode>
     requires { (b : Own) → buffers_in buffers.now caller.0 ≡ Some b → IsInRam (length (M.ram ram.now).pages) b }
     ensures refused { IfErr result (λ code. (n base : ℕ) (table : List (Option Entry)) (offers : Offers)
-        → first_failure (retrieve_guards (scene_in n table base buffers.now offers) caller.0 (transfer_of transfer.now)
-        (retrieve_of caller.0 (descriptor_in (M.ram ram.now) buffers.now caller.0 transfer.now))) ≡ Some code) }
+        → first_failure (retrieve_guards (scene_in n table base buffers.now offers) caller.0 call.now.transfer
+        (retrieve_of caller.0 (descriptor_in (M.ram ram.now) buffers.now caller.0 call.now))) ≡ Some code) }
     ensures passed { IfOk result (λ asked. (n base : ℕ) (table : List (Option Entry)) (offers : Offers)
-        → first_failure (retrieve_guards (scene_in n table base buffers.now offers) caller.0 (transfer_of transfer.now)
-        (retrieve_of caller.0 (descriptor_in (M.ram ram.now) buffers.now caller.0 transfer.now)))
+        → first_failure (retrieve_guards (scene_in n table base buffers.now offers) caller.0 call.now.transfer
+        (retrieve_of caller.0 (descriptor_in (M.ram ram.now) buffers.now caller.0 call.now)))
         ≡ first_failure (holding_guards (bases_in table base) (is_full (buffers_in buffers.now caller.0)) caller.0 asked (finite.get offers.transactions asked.handle))) }
     ensures buffers { OnOk result (is_some (buffers_in buffers.now caller.0) ≡ true) }
-    ensures asked { IfOk result (λ asked. retrieve_of caller.0 (descriptor_in (M.ram ram.now) buffers.now caller.0 transfer.now) ≡ Some asked) }
+    ensures asked { IfOk result (λ asked. retrieve_of caller.0 (descriptor_in (M.ram ram.now) buffers.now caller.0 call.now) ≡ Some asked) }
 {
-    let bytes = transfer.descriptor(ram, buffers, caller)?;
-    read_retrieve(&bytes, transfer.version, caller).or(Err(ErrorCode::InvalidParameters))
+    let bytes = call.descriptor(ram, buffers, caller)?;
+    read_retrieve(&bytes, call.version, caller).or(Err(ErrorCode::InvalidParameters))
 }

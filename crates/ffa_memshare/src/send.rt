@@ -14,7 +14,7 @@ ghost use Rattle.ffa_stage2.specs.Tables.{table_page};
 ghost use Rattle.ffa_rxtx.specs.Parts.{IsInRam};
 ghost use Rattle.ffa_memshare.specs.Callers.{IsCaller};
 ghost use Rattle.ffa_memshare.specs.Offers.{IsOffered};
-ghost use Rattle.ffa_memshare.specs.Scenes.{descriptor_in, scene_in, transfer_of};
+ghost use Rattle.ffa_memshare.specs.Scenes.{descriptor_in, scene_in};
 ghost use Rattle.ffa_memshare.specs.Sent.{IsSent};
 ghost use Rattle.ffa_memshare.specs.Shared.{IsRoom};
 ghost use Rattle.ffa_memshare.specs.Stored.{offers_in, transaction_of};
@@ -25,7 +25,7 @@ use crate::offer::check_offer;
 use crate::page_run::read_send;
 use crate::pool::Pool;
 use crate::transaction::OpenTransaction;
-use crate::transfer::Transfer;
+use crate::descriptor_call::DescriptorCall;
 use ffa_model::{EndpointId, ErrorCode, Kind};
 use ffa_pages::PageTable;
 use ffa_physmem::PhysMem;
@@ -53,7 +53,7 @@ impl Pool {
         buffers: &Buffers,
         caller: EndpointId,
         kind: Kind,
-        transfer: &Transfer,
+        call: &DescriptorCall,
     ) -> Result<Sent, ErrorCode>
         requires room { IsRoom (M.ram ram.old) layout.now.base (array_vec_len layout.now.regions) layout.now.blocks pages.old }
         requires caller { IsCaller (array_vec_len layout.now.regions) (length (M.ram ram.old).pages) caller.0 buffers.now }
@@ -61,15 +61,15 @@ impl Pool {
         requires tables { (p : ℕ) → p < table_page layout.now.blocks (array_vec_len layout.now.regions) 0 → entry_at pages.old p ≡ None }
         ensures refusal { result_err result ≡ first_failure (send_guards
             (scene_in (array_vec_len layout.now.regions) pages.old layout.now.base buffers.now (offers_in self.old))
-            caller.0 (transfer_of transfer.now) (send_of kind (descriptor_in (M.ram ram.old) buffers.now caller.0 transfer.now))) }
+            caller.0 call.now.transfer (send_of kind (descriptor_in (M.ram ram.old) buffers.now caller.0 call.now))) }
         ensures kept { OnErr result (self.new ≡ self.old) }
         ensures kept_pages { OnErr result (pages.new ≡ pages.old) }
         ensures kept_ram { OnErr result (M.ram ram.new ≡ M.ram ram.old) }
         ensures handle { IfOk result (λ sent. sent.handle ≡ next_handle (offers_in self.old) caller.0) }
         ensures sent { IfOk result (λ sent. IsSent self.old self.new pages.old pages.new (M.ram ram.old) (M.ram ram.new) layout.now.base
-            (array_vec_len layout.now.regions) layout.now.blocks caller.0 kind (descriptor_in (M.ram ram.old) buffers.now caller.0 transfer.now) sent.changed) }
+            (array_vec_len layout.now.regions) layout.now.blocks caller.0 kind (descriptor_in (M.ram ram.old) buffers.now caller.0 call.now) sent.changed) }
     {
-        let open = self.offered(ram, layout, pages, buffers, caller, kind, transfer)?;
+        let open = self.offered(ram, layout, pages, buffers, caller, kind, call)?;
         let slot = self.room(caller)?;
         let handle = open.handle;
         open.take_pages(ram, layout, pages, slot as u8);
@@ -87,24 +87,24 @@ impl Pool {
         buffers: &Buffers,
         caller: EndpointId,
         kind: Kind,
-        transfer: &Transfer,
+        call: &DescriptorCall,
     ) -> Result<OpenTransaction, ErrorCode>
         requires buffers { (b : Own) → buffers_in buffers.now caller.0 ≡ Some b → IsInRam (length (M.ram ram.now).pages) b }
         requires caller { place caller.0 < length self.now.sent }
         ensures refused { IfErr result (λ code. first_failure (send_guards
             (scene_in (array_vec_len layout.now.regions) pages.now layout.now.base buffers.now (offers_in self.now))
-            caller.0 (transfer_of transfer.now) (send_of kind (descriptor_in (M.ram ram.now) buffers.now caller.0 transfer.now))) ≡ Some code) }
+            caller.0 call.now.transfer (send_of kind (descriptor_in (M.ram ram.now) buffers.now caller.0 call.now))) ≡ Some code) }
         ensures passed { OnOk result (first_failure (send_guards
             (scene_in (array_vec_len layout.now.regions) pages.now layout.now.base buffers.now (offers_in self.now))
-            caller.0 (transfer_of transfer.now) (send_of kind (descriptor_in (M.ram ram.now) buffers.now caller.0 transfer.now)))
+            caller.0 call.now.transfer (send_of kind (descriptor_in (M.ram ram.now) buffers.now caller.0 call.now)))
             ≡ first_failure (room_guards (offers_in self.now) caller.0)) }
         ensures handle { IfOk result (λ t. t.handle ≡ next_handle (offers_in self.now) caller.0) }
         ensures kind { IfOk result (λ t. t.kind ≡ kind) }
         ensures offered { IfOk result (λ t. IsOffered pages.now layout.now.base caller.0 kind
-            (descriptor_in (M.ram ram.now) buffers.now caller.0 transfer.now) (transaction_of t)) }
+            (descriptor_in (M.ram ram.now) buffers.now caller.0 call.now) (transaction_of t)) }
     {
-        let bytes = transfer.descriptor(ram, buffers, caller)?;
-        let Ok(offer) = read_send(&bytes, transfer.version, kind) else {
+        let bytes = call.descriptor(ram, buffers, caller)?;
+        let Ok(offer) = read_send(&bytes, call.version, kind) else {
             return Err(ErrorCode::InvalidParameters);
         };
         let ranges = check_offer(&offer, layout, pages, buffers, caller)?;

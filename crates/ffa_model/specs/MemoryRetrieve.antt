@@ -18,7 +18,8 @@ use Rattle.ffa_model.specs.Buffers.{buffers_in, filled, is_full}
 use Rattle.ffa_model.specs.MemorySend.{after_transfer, descriptor_in}
 use Rattle.ffa_model.specs.RetrieveDescriptor.{retrieve_of}
 use Rattle.ffa_model.specs.ResponseBytes.{ResponseRecord, response_bytes, response_size}
-use Rattle.ffa_model.specs.Transactions.{Bases, Offers, Scene, Transfer, bases_of, ceiling, closed, holding, with_transaction, offers_of, scene_of, with_offers}
+use Rattle.ffa_model.specs.declared.call.Transfer.{Transfer}
+use Rattle.ffa_model.specs.Transactions.{Bases, Offers, Scene, bases_of, ceiling, closed, holding, with_transaction, offers_of, scene_of, with_offers}
 use Rattle.ffa_model.specs.Calls.{Service}
 
 -- the right that is asked: data that aren't specified are the most, and instructions that aren't are not executed

@@ -21,7 +21,8 @@ use Rattle.ffa_model.specs.Buffers.{Candidate, Candidates, buffers_in, room_of}
 use Rattle.ffa_model.specs.Messages.{tx_bytes}
 use Rattle.ffa_model.specs.DescriptorPlaces.{Versioned, in_version}
 use Rattle.ffa_model.specs.SendDescriptor.{SendRecord, send_of, range_end}
-use Rattle.ffa_model.specs.Transactions.{Bases, Offers, Scene, Transfer, sends_of, next_handle, open_count, opened, pages_in, are_writable, offers_of, scene_of, with_offers}
+use Rattle.ffa_model.specs.declared.call.Transfer.{Transfer}
+use Rattle.ffa_model.specs.Transactions.{Bases, Offers, Scene, sends_of, next_handle, open_count, opened, pages_in, are_writable, offers_of, scene_of, with_offers}
 use Rattle.ffa_model.specs.Calls.{Service, success}
 
 abbrev pub are_known : ℕ → List Receiver → Bool

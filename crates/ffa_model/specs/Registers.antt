@@ -2,6 +2,7 @@
 -- One table says it all: for reading a call, for FFA_FEATURES and for the step.
 use Rattle.std.specs.Prelude.{ℕ, ◌+◌, ◌%◌, ◌^◌, ◌==◌, Bool, true, false, ◌&&◌, ◌||◌, List, [], ◌∷◌, ◌++◌, Option, Some, None, find, is_some, slice_index, if◌then◌else◌}
 use Rattle.ffa_model.specs.declared.call.Call.{Call}
+use Rattle.ffa_model.specs.declared.call.Transfer.{Transfer}
 use Rattle.ffa_model.specs.declared.call.Call.TheVariants.{Version, Features, RxRelease, RxtxMap, RxtxUnmap, PartitionInfoGet, IdGet, MsgWait, Yield, Run, DirectRequest, DirectResponse, MemDonate, MemLend, MemShare, MemRetrieve, MemRelinquish, MemReclaim, BitmapCreate, BitmapDestroy, NotificationBind, NotificationUnbind, NotificationSet, NotificationGet, SpmIdGet, MsgSend2, Unknown}
 use Rattle.ffa_model.specs.declared.function.TheConstants.{FFA_VERSION, FFA_FEATURES, FFA_RX_RELEASE, FFA_RXTX_MAP, FFA_RXTX_UNMAP, FFA_PARTITION_INFO_GET, FFA_ID_GET, FFA_MSG_WAIT, FFA_YIELD, FFA_RUN, FFA_MSG_SEND_DIRECT_REQ, FFA_MSG_SEND_DIRECT_RESP, FFA_MEM_DONATE, FFA_MEM_LEND, FFA_MEM_SHARE, FFA_MEM_RETRIEVE_REQ, FFA_MEM_RELINQUISH, FFA_MEM_RECLAIM, FFA_NOTIFICATION_BITMAP_CREATE, FFA_NOTIFICATION_BITMAP_DESTROY, FFA_NOTIFICATION_BIND, FFA_NOTIFICATION_UNBIND, FFA_NOTIFICATION_SET, FFA_NOTIFICATION_GET, FFA_SPM_ID_GET, FFA_MSG_SEND2}
 
@@ -24,6 +25,10 @@ wide function call = record { function = function; is_wide = true; call = call }
 
 abbrev pub payload : (ℕ → ℕ) → List ℕ
 payload x = x 3 ∷ x 4 ∷ x 5 ∷ x 6 ∷ x 7 ∷ []
+
+-- of a call whose descriptor stands in TX
+abbrev pub transfer : (ℕ → ℕ) → (ℕ → ℕ) → Transfer
+transfer w x = record { total = w 1; fragment = w 2; address = x 3; pages = w 4 }
 
 abbrev pub setup : List Function
 setup =
@@ -48,10 +53,10 @@ messages =
 
 abbrev pub memory : List Function
 memory =
-    wide FFA_MEM_DONATE (λ w x. MemDonate (w 1) (w 2) (x 3) (w 4))
-    ∷ wide FFA_MEM_LEND (λ w x. MemLend (w 1) (w 2) (x 3) (w 4))
-    ∷ wide FFA_MEM_SHARE (λ w x. MemShare (w 1) (w 2) (x 3) (w 4))
-    ∷ wide FFA_MEM_RETRIEVE_REQ (λ w x. MemRetrieve (w 1) (w 2) (x 3) (w 4))
+    wide FFA_MEM_DONATE (λ w x. MemDonate (transfer w x))
+    ∷ wide FFA_MEM_LEND (λ w x. MemLend (transfer w x))
+    ∷ wide FFA_MEM_SHARE (λ w x. MemShare (transfer w x))
+    ∷ wide FFA_MEM_RETRIEVE_REQ (λ w x. MemRetrieve (transfer w x))
     ∷ narrow FFA_MEM_RELINQUISH (λ w. MemRelinquish)
     ∷ narrow FFA_MEM_RECLAIM (λ w. MemReclaim (w 1) (w 2) (w 3))
     ∷ []

@@ -16,7 +16,6 @@ use Rattle.ffa_model.specs.Setup.{version_reply, features_reply, id_reply, spm_i
 use Rattle.ffa_model.specs.Buffers.{rxtx_map, rxtx_unmap, rx_release}
 use Rattle.ffa_model.specs.RunStates.{direct_request, direct_response, run_partition, msg_wait, yield_now}
 use Rattle.ffa_model.specs.Messages.{msg_send2}
-use Rattle.ffa_model.specs.Transactions.{transfer}
 use Rattle.ffa_model.specs.MemorySend.{memory_send}
 use Rattle.ffa_model.specs.MemoryRetrieve.{memory_retrieve}
 use Rattle.ffa_model.specs.MemoryReturn.{memory_relinquish, memory_reclaim}
@@ -40,10 +39,10 @@ service s Yield = yield_now s
 service s (Run target) = run_partition s target
 service s (DirectRequest function word flags payload) = direct_request s function word flags payload
 service s (DirectResponse function word flags payload) = direct_response s function word flags payload
-service s (MemDonate total fragment address pages) = memory_send s Donate (transfer total fragment address pages)
-service s (MemLend total fragment address pages) = memory_send s Lend (transfer total fragment address pages)
-service s (MemShare total fragment address pages) = memory_send s Share (transfer total fragment address pages)
-service s (MemRetrieve total fragment address pages) = memory_retrieve s (transfer total fragment address pages)
+service s (MemDonate x) = memory_send s Donate x
+service s (MemLend x) = memory_send s Lend x
+service s (MemShare x) = memory_send s Share x
+service s (MemRetrieve x) = memory_retrieve s x
 service s MemRelinquish = memory_relinquish s
 service s (MemReclaim low high flags) = memory_reclaim s low high flags
 service s (BitmapCreate endpoint contexts) = bitmap_create s endpoint contexts

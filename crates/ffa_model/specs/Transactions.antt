@@ -41,17 +41,6 @@ pub record Scene : Type 0 where
   pub buffers : List (Option Buffers)
   pub offers : Offers
 
--- the registers of a call whose descriptor stands in TX: its whole length, that of the fragment, and the address and
--- the page count of a buffer beside TX
-pub record Transfer : Type 0 where
-  pub total : ℕ
-  pub fragment : ℕ
-  pub address : ℕ
-  pub pages : ℕ
-
-abbrev pub transfer : ℕ → ℕ → ℕ → ℕ → Transfer
-transfer total fragment address pages = record { total = total; fragment = fragment; address = address; pages = pages }
-
 -- HANDLES
 -- the sender in the high half, and in the low half which of its sends it is, counted from 1
 abbrev pub handle_of : ℕ → ℕ → ℕ

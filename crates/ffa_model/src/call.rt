@@ -2,6 +2,19 @@
 
 use crate::operation::ErrorCode;
 
+/// The registers of a call whose descriptor stands in TX (DEN0077A, 16.1).
+#[derive(Clone, Copy, Debug, PartialEq, Eq)]
+pub struct Transfer {
+    /// How many bytes the descriptor has.
+    pub total: u32,
+    /// How many of them stand in TX.
+    pub fragment: u32,
+    /// The address of a buffer beside TX.
+    pub address: u64,
+    /// How many pages that buffer has.
+    pub pages: u32,
+}
+
 /// A call with its arguments (DEN0077A, 11 to 16). An argument that the calling convention gives in 32 bits is a
 /// `u32`, and one that the 64-bit form widens is a `u64`.
 #[derive(Clone, Copy, Debug, PartialEq, Eq)]
@@ -56,33 +69,13 @@ pub enum Call {
         payload: [u64; 5],
     },
     /// FFA_MEM_DONATE.
-    MemDonate {
-        total: u32,
-        fragment: u32,
-        address: u64,
-        pages: u32,
-    },
+    MemDonate(Transfer),
     /// FFA_MEM_LEND.
-    MemLend {
-        total: u32,
-        fragment: u32,
-        address: u64,
-        pages: u32,
-    },
+    MemLend(Transfer),
     /// FFA_MEM_SHARE.
-    MemShare {
-        total: u32,
-        fragment: u32,
-        address: u64,
-        pages: u32,
-    },
+    MemShare(Transfer),
     /// FFA_MEM_RETRIEVE_REQ.
-    MemRetrieve {
-        total: u32,
-        fragment: u32,
-        address: u64,
-        pages: u32,
-    },
+    MemRetrieve(Transfer),
     /// FFA_MEM_RELINQUISH.
     MemRelinquish,
     /// FFA_MEM_RECLAIM: the handle's halves.

@@ -15,7 +15,7 @@ pub mod rights;
 pub mod schedule;
 pub mod transaction;
 
-pub use call::{Call, Reply};
+pub use call::{Call, Reply, Transfer};
 pub use certificate::CertRun;
 pub use descriptor::{RelinquishDesc, Response, RetrieveDesc, SendDesc};
 pub use endpoint::{Endpoint, EndpointId, PageNo, Properties, Region, Version, right_in};

@@ -30,11 +30,11 @@ use Rattle.ffa_model.specs.Transactions.{bases_of, pages_in}
 use Rattle.ffa_model.proofs.Accesses.{named-in}
 use Rattle.ffa_model.proofs.CallAccesses.{access-filled, donate-other, reclaim-other, relinquish-beside, relinquish-named, relinquish-other, retrieve-beside, retrieve-other, send-named, send-other, sendable-unnamed}
 use Rattle.ffa_laws.proofs.Form.{served-kept}
+use Rattle.ffa_laws.proofs.Kept.{is_memory_call}
 use Rattle.ffa_memshare.specs.declared.changed.Changed.{Changed}
 use Rattle.ffa_memshare.specs.Changed.{IsChanged, changed_sender}
 use Rattle.ffa_memshare.specs.Ranges.{ArePlaced}
 use Rattle.ffa_memshare.proofs.Joined.{owners-right, reclaim-beside, reclaim-none, reclaim-share, unheld-right}
-use Rattle.ffa_spmc.specs.Arms.{is_on_memory}
 use Rattle.ffa_spmc.specs.AccessChange.{IsAccessChange, is_of, is_whose}
 use Rattle.ffa_spmc.specs.Meaning.{IsManager, Parts, state_of}
 use Rattle.ffa_spmc.proofs.Granted.{donate-beside, none-kept, own-kept, send-beside, sendable-own}
@@ -42,22 +42,22 @@ use Rattle.ffa_spmc.proofs.Held.{size_is}
 
 -- A CALL THAT ISN'T ON MEMORY leaves all of them as they were: of pages it changes bytes alone
 module _ (s : State) (e p : ℕ) where
-  left-service : (call : Call) → is_on_memory call ≡ false → access (service s call).state e p ≡ access s e p
+  left-service : (call : Call) → is_memory_call call ≡ false → access (service s call).state e p ≡ access s e p
   left-service (PartitionInfoGet uuid flags) beside =
       elim (is_count_alone flags) as (λ b. access (cond b s (filled s s.runner (info_bytes (version_of s s.runner) s.parties (uuid_bytes uuid)))) e p ≡ access s e p) [
         | true ↦ refl
         | false ↦ access-filled s s.runner (info_bytes (version_of s s.runner) s.parties (uuid_bytes uuid)) e p
       ]
   left-service MsgSend2 beside = access-filled s (header_in (tx_bytes s s.runner)).receiver (message_in (tx_bytes s s.runner)) e p
-  left-service (MemDonate total fragment address pages) beside = absurd (true≢false beside)
-  left-service (MemLend total fragment address pages) beside = absurd (true≢false beside)
-  left-service (MemShare total fragment address pages) beside = absurd (true≢false beside)
-  left-service (MemRetrieve total fragment address pages) beside = absurd (true≢false beside)
+  left-service (MemDonate x) beside = absurd (true≢false beside)
+  left-service (MemLend x) beside = absurd (true≢false beside)
+  left-service (MemShare x) beside = absurd (true≢false beside)
+  left-service (MemRetrieve x) beside = absurd (true≢false beside)
   left-service MemRelinquish beside = absurd (true≢false beside)
   left-service (MemReclaim low high flags) beside = absurd (true≢false beside)
   left-service call beside = refl
 
-  pub access-served : (call : Call) → is_on_memory call ≡ false → access (serve s call).state e p ≡ access s e p
+  pub access-served : (call : Call) → is_memory_call call ≡ false → access (serve s call).state e p ≡ access s e p
   access-served call beside = served-kept (λ t. access t e p ≡ access s e p) s (service s call) refl (λ none. left-service call beside)
 
 -- A CALL ON MEMORY changes at most that of one endpoint to the pages of a transaction

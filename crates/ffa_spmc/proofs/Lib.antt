@@ -1,4 +1,5 @@
 pub mod Answered
+pub mod Replied
 pub mod Granted
 pub mod Inside
 pub mod Held

@@ -6,7 +6,7 @@ use Rattle.std.specs.Result.{result_err, result_ok}
 use Rattle.std.proofs.lemmas.Bool.{false≢true}
 use Rattle.std.proofs.lemmas.Option.{none-some}
 use Rattle.arrayvec.specs.ArrayVec.{array_vec_len}
-use Rattle.ffa_memshare.specs.declared.transfer.Transfer.{Transfer as Registers}
+use Rattle.ffa_memshare.specs.declared.descriptor_call.DescriptorCall.{DescriptorCall}
 use Rattle.ffa_model.specs.DescriptorPlaces.{Versioned, in_version}
 use Rattle.ffa_model.specs.declared.operation.ErrorCode.{ErrorCode}
 use Rattle.ffa_model.specs.declared.rights.Kind.{Kind}
@@ -22,7 +22,8 @@ use Rattle.ffa_model.specs.Rights.{is_share}
 use Rattle.ffa_model.specs.SendDescriptor.{SendRecord, send_of}
 use Rattle.ffa_model.specs.SoundState.{IsSoundState}
 use Rattle.ffa_model.specs.State.{State, Transaction, transaction_of, version_of}
-use Rattle.ffa_model.specs.Transactions.{Transfer, base_of, next_handle, offers_of, scene_of, with_offers}
+use Rattle.ffa_model.specs.declared.call.Transfer.{Transfer}
+use Rattle.ffa_model.specs.Transactions.{base_of, next_handle, offers_of, scene_of, with_offers}
 use Rattle.ffa_model.proofs.CallAccesses.{handle-new, runner-known, sendable-unnamed}
 use Rattle.ffa_laws.proofs.SendLaws.{IsOffer, offer}
 use Rattle.ffa_laws.proofs.SoundSends.{send-sound}
@@ -33,7 +34,7 @@ use Rattle.ffa_memshare.specs.Changed.{changed_sender}
 use Rattle.ffa_memshare.specs.Changes.{IsMarked, IsMoved}
 use Rattle.ffa_memshare.specs.Grants.{new_right, with_rights}
 use Rattle.ffa_memshare.specs.Ranges.{ArePlaced, in_ranges}
-use Rattle.ffa_memshare.specs.Scenes.{descriptor_in, scene_in, transfer_of}
+use Rattle.ffa_memshare.specs.Scenes.{descriptor_in, scene_in}
 use Rattle.ffa_memshare.specs.Sent.{IsSent, right_after}
 use Rattle.ffa_memshare.specs.Stored.{Pooled, offers_in, slot_at as pool_slot}
 use Rattle.ffa_memshare.specs.declared.marks.Mark.TheVariants.{Named}
@@ -57,19 +58,19 @@ pub offer-endpoints : (x : Parts) → IsManager x → length x.kept.pool.sent �
 offer-endpoints x machine = machine.sound.sized.sent ∙ parties_are x ∙ sym machine.layout.endpoints
 
 -- the code's runner is that of the run states; and it has sent what its TX describes, or was refused
-module _ (x : Parts) (machine : IsManager x) (e : ℕ) (at : e ≡ x.kept.chain.runner) (kind : Kind) (registers : Registers) (spoken : registers.version ≡ version_of (state_of x) (state_of x).runner) (ram : Ram) (pages : List (Option Entry)) (pool : Pooled) where
+module _ (x : Parts) (machine : IsManager x) (e : ℕ) (at : e ≡ x.kept.chain.runner) (kind : Kind) (call : DescriptorCall) (spoken : call.version ≡ version_of (state_of x) (state_of x).runner) (ram : Ram) (pages : List (Option Entry)) (pool : Pooled) where
   abbrev s : State
   s = state_of x
 
   abbrev pub after_offer : Parts
   after_offer = record x { ram = ram; kept = record x.kept { pages = pages; pool = pool } }
 
-  -- what the registers tell
+  -- what the call tell
   abbrev a : Transfer
-  a = transfer_of registers
+  a = call.transfer
 
   abbrev bytes : Versioned
-  bytes = descriptor_in x.ram x.kept.buffers e registers
+  bytes = descriptor_in x.ram x.kept.buffers e call
 
   abbrev guards : List (Bool × ErrorCode)
   guards = (memory_send s kind a).guards
@@ -79,7 +80,7 @@ module _ (x : Parts) (machine : IsManager x) (e : ℕ) (at : e ≡ x.kept.chain.
   IsDone changed = IsSent x.kept.pool pool x.kept.pages pages x.ram ram x.kept.layout.base (array_vec_len x.kept.layout.regions) x.kept.layout.blocks e kind bytes changed
 
   read-is : send_of kind bytes ≡ send_read s kind a.total
-  read-is = λ i. send_of kind (in_version (spoken i) (take registers.total (sent-is x machine e at i)))
+  read-is = λ i. send_of kind (in_version (spoken i) (take call.transfer.total (sent-is x machine e at i)))
 
   -- the right that the sender keeps
   kept-right : (its : Kind) (p : ℕ) → new_right (right_after its) x.kept.pages p ≡ (if is_share its then base_of s p else None)

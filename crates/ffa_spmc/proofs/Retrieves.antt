@@ -8,7 +8,7 @@ use Rattle.std.proofs.lemmas.Option.{same_Some}
 use Rattle.arrayvec.specs.ArrayVec.{array_vec_len}
 use Rattle.ffa_model.specs.MemorySend.{after_transfer}
 use Rattle.ffa_model.specs.declared.endpoint.Version.{Version}
-use Rattle.ffa_memshare.specs.declared.transfer.Transfer.{Transfer as Registers}
+use Rattle.ffa_memshare.specs.declared.descriptor_call.DescriptorCall.{DescriptorCall}
 use Rattle.ffa_model.specs.DescriptorPlaces.{Versioned, in_version}
 use Rattle.ffa_model.specs.declared.call.Call.TheVariants.{MemRetrieve}
 use Rattle.ffa_model.specs.declared.call.Reply.TheVariants.{Retrieved}
@@ -30,7 +30,8 @@ use Rattle.ffa_model.specs.RetrieveDescriptor.{retrieve_of}
 use Rattle.ffa_model.specs.Rights.{is_at_most, is_donate}
 use Rattle.ffa_model.specs.SoundState.{IsKnown, IsSoundState}
 use Rattle.ffa_model.specs.State.{State, Transaction, Buffers, is_known, transaction_of, version_of}
-use Rattle.ffa_model.specs.Transactions.{Transfer, bases_of, ceiling, scene_of}
+use Rattle.ffa_model.specs.declared.call.Transfer.{Transfer}
+use Rattle.ffa_model.specs.Transactions.{bases_of, ceiling, scene_of}
 use Rattle.ffa_model.proofs.CallAccesses.{access-filled, runner-known}
 use Rattle.ffa_model.proofs.Guards.{guard-passes}
 use Rattle.ffa_model.proofs.KeptCalls.{taken-sound}
@@ -43,7 +44,7 @@ use Rattle.ffa_memshare.specs.Grants.{with_rights}
 use Rattle.ffa_memshare.specs.Named.{bases_in}
 use Rattle.ffa_memshare.specs.Ranges.{in_ranges}
 use Rattle.ffa_memshare.specs.Retrieved.{IsPassedOn, IsRetrieved, IsTaken}
-use Rattle.ffa_memshare.specs.Scenes.{descriptor_in, scene_in, transfer_of}
+use Rattle.ffa_memshare.specs.Scenes.{descriptor_in, scene_in}
 use Rattle.ffa_memshare.specs.SlotChanges.{IsClosed, IsHeldBy}
 use Rattle.ffa_memshare.specs.Stored.{Pooled, offers_in, slot_at as pool_slot}
 use Rattle.ffa_spmc.specs.AccessChange.{IsAccessChange}
@@ -74,22 +75,22 @@ scene-is x machine = λ i. record {
 }
 
 -- the code's runner is that of the run states; and it has retrieved what its TX describes, or was refused
-module _ (x : Parts) (machine : IsManager x) (e : EndpointId) (at : e.0 ≡ x.kept.chain.runner) (told_by : Registers) (spoken : told_by.version ≡ version_of (state_of x) (state_of x).runner)
+module _ (x : Parts) (machine : IsManager x) (e : EndpointId) (at : e.0 ≡ x.kept.chain.runner) (call : DescriptorCall) (spoken : call.version ≡ version_of (state_of x) (state_of x).runner)
     (ram : Ram) (pages : List (Option Entry)) (pool : Pooled) (buffers : List (Option Buffers)) where
   abbrev s : State
   s = state_of x
 
   abbrev registers : Transfer
-  registers = transfer_of told_by
+  registers = call.transfer
 
   abbrev total : ℕ
-  total = told_by.total
+  total = call.transfer.total
 
   abbrev pub after_retrieve : Parts
   after_retrieve = record x { ram = ram; kept = record x.kept { pages = pages; pool = pool; buffers = buffers } }
 
   abbrev bytes : Versioned
-  bytes = descriptor_in x.ram x.kept.buffers e.0 told_by
+  bytes = descriptor_in x.ram x.kept.buffers e.0 call
 
   abbrev guards : List (Bool × ErrorCode)
   guards = (memory_retrieve s registers).guards
@@ -209,7 +210,7 @@ module _ (x : Parts) (machine : IsManager x) (e : EndpointId) (at : e.0 ≡ x.ke
 
     -- and with it
     abbrev answer : List ℕ
-    answer = response_bytes told_by.version (response_to d.handle t e.0 right)
+    answer = response_bytes call.version (response_to d.handle t e.0 right)
 
     there : is_known (state_of before) e.0 ≡ true
     there = runner-there x machine e.0 at
@@ -235,7 +236,7 @@ module _ (x : Parts) (machine : IsManager x) (e : EndpointId) (at : e.0 ≡ x.ke
           offers = offers-taken;
           sound =
               subst IsSoundState (passed-state s (memory_retrieve s registers) (sym none) ∙ sym state-retrieved)
-              (call-sound s machine.sound (MemRetrieve total told_by.fragment told_by.address told_by.pages));
+              (call-sound s machine.sound (MemRetrieve registers));
         }
 
     pub unowned-retrieved : KeepsUnowned s x.ram ram

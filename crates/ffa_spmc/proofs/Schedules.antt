@@ -5,10 +5,13 @@ use Rattle.std.specs.Prelude.{IfOk, OnOk, OnErr}
 use Rattle.std.specs.Result.{result_err}
 use Rattle.ffa_model.specs.declared.call.Reply.{Reply}
 use Rattle.ffa_model.specs.declared.operation.ErrorCode.{ErrorCode}
+use Rattle.ffa_model.specs.declared.schedule.Status.{Status}
+use Rattle.ffa_model.specs.declared.schedule.Status.TheVariants.{Waiting, Running, Blocked, Yielded}
 use Rattle.ffa_model.specs.Calls.{Service, first_failure, replied, served}
 use Rattle.ffa_model.specs.First.{first}
-use Rattle.ffa_model.specs.RunStates.{Schedule, finished, msg_wait, wait_guards, with_schedule}
+use Rattle.ffa_model.specs.RunStates.{Schedule, finished, msg_wait, run_reply, wait_guards, with_schedule}
 use Rattle.ffa_model.specs.Buffers.{buffers_with_rx}
+use Rattle.ffa_model.specs.Refusals.{is_error}
 use Rattle.ffa_model.specs.State.{State, Buffers}
 use Rattle.ffa_spmc.specs.Meaning.{Parts, state_of}
 use Rattle.ffa_spmc.specs.Replies.{reply_or_error}
@@ -45,3 +48,10 @@ module _ (x : Parts) where
       (λ i. state_of (record x { kept = record x.kept { buffers = (emptied ∙ ap (λ (f : ℕ). buffers_with_rx x.kept.buffers f false) at) i; chain = is i } }))
       ∙ sym (passed-state s (msg_wait s) (sym passes))
   waited e at (Err code) new list ok fails is emptied = absurd (false≢true ok)
+
+-- what FFA_RUN replies is no error
+pub run-plain : (word : ℕ) (status : Status) → is_error (run_reply word status) ≡ false
+run-plain word Waiting = refl
+run-plain word Yielded = refl
+run-plain word Running = refl
+run-plain word Blocked = refl

@@ -88,10 +88,10 @@ service-sizes s (PartitionInfoGet uuid flags) =
     ]
 service-sizes s MsgSend2 =
     of-pages s _ (filled-size s.pages (message_in (tx_bytes s s.runner)) (buffers_of s (header_in (tx_bytes s s.runner)).receiver))
-service-sizes s (MemDonate total fragment address pages) = sent-sizes s Donate (send_read s Donate total)
-service-sizes s (MemLend total fragment address pages) = sent-sizes s Lend (send_read s Lend total)
-service-sizes s (MemShare total fragment address pages) = sent-sizes s Share (send_read s Share total)
-service-sizes s (MemRetrieve total fragment address pages) = retrieved-sizes s (retrieve_read s total)
+service-sizes s (MemDonate x) = sent-sizes s Donate (send_read s Donate x.total)
+service-sizes s (MemLend x) = sent-sizes s Lend (send_read s Lend x.total)
+service-sizes s (MemShare x) = sent-sizes s Share (send_read s Share x.total)
+service-sizes s (MemRetrieve x) = retrieved-sizes s (retrieve_read s x.total)
 service-sizes s MemRelinquish = relinquished-sizes s (relinquish_read s)
 service-sizes s (MemReclaim low high flags) =
     let h : ℕ = handle_of high low in

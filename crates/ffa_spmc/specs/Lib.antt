@@ -7,6 +7,6 @@ pub mod Owners
 pub mod Meaning
 pub mod Replies
 pub mod AccessChange
-pub mod Arms
+pub mod Served
 pub mod Unowned
 pub mod Operated

@@ -29,6 +29,17 @@ pub(crate) struct Called {
 }
 
 impl Answer {
+    // To a call that isn't on memory.
+    pub(crate) fn of(reply: Reply) -> Answer
+        ensures reply { result.reply ≡ reply }
+        ensures changed { result.changed ≡ None }
+    {
+        Answer {
+            reply,
+            changed: None,
+        }
+    }
+
     // To a send: the handle, or the code for which it was refused.
     pub(crate) fn sent(sent: Result<Sent, ErrorCode>) -> Answer
         ensures reply { result.reply ≡ handle_or_error sent }
@@ -79,9 +90,6 @@ impl Answer {
         ensures reply { result.reply ≡ Reply.Error code }
         ensures changed { result.changed ≡ None }
     {
-        Answer {
-            reply: Reply::Error(code),
-            changed: None,
-        }
+        Answer::of(Reply::Error(code))
     }
 }

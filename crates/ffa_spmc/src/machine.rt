@@ -1,11 +1,9 @@
 //! The machine.
-ghost use Rattle.std.specs.Prelude.{true, false, [], ◌≡◌, ℕ, ◌*◌, ◌<◌, ◌≤◌, length, replicate};
+ghost use Rattle.std.specs.Prelude.{true, false, [], ◌≡◌, ℕ, ◌*◌, ◌<◌, ◌≤◌, length};
 ghost use Rattle.ffa_model.specs.declared.limits.TheConstants.{MOST_ENDPOINTS};
 ghost use Rattle.ffa_model.specs.Access.{access};
 ghost use Rattle.ffa_model.specs.Agreement.{Agrees};
-ghost use Rattle.ffa_model.specs.First.{first};
-ghost use Rattle.ffa_model.specs.Manifest.{table_pages};
-ghost use Rattle.ffa_model.specs.Ram.{page_of, zero_ram};
+ghost use Rattle.ffa_model.specs.Ram.{zero_ram};
 ghost use Rattle.ffa_model.specs.SoundState.{IsSoundState};
 ghost use Rattle.ffa_laws.specs.Events.{seen};
 ghost use Rattle.ffa_laws.specs.Isolation.{Integrity, Isolated, NeverGrow, OneStep, shown_to};
@@ -22,6 +20,7 @@ ghost use Rattle.ffa_model.specs.State.{owner_of};
 ghost use Rattle.ffa_model.specs.Step.{serve, step, outcomes, state_after};
 ghost use Rattle.ffa_spmc.specs.Cached.{AreSameOrGone, AreForgotten, AreKept, AreWalks, is_accessed, is_miss};
 ghost use Rattle.ffa_spmc.specs.Operated.{AreOperated};
+ghost use Rattle.ffa_spmc.specs.Served.{IsBooted};
 ghost use Rattle.ffa_spmc.specs.Unowned.{KeepsUnowned};
 
 mod accesses;
@@ -72,10 +71,7 @@ impl<M: PhysMem + Drop> Machine<M> {
     pub fn boot(manifest: &Manifest, ram: M) -> Machine<M>
         requires base { (M.ram ram).base ≡ manifest.now.ram_base }
         requires size { length (M.ram ram).pages ≡ 512 * manifest.now.ram_blocks }
-        ensures state { result.state ≡ first manifest.now.ram_base manifest.now.ram_blocks manifest.now.endpoints.items }
-        ensures agrees { Agrees result.ram result.state }
-        ensures cleared { (p : ℕ) → length result.state.parties * table_pages manifest.now.ram_blocks ≤ p → p < length result.ram.pages → page_of result.ram p ≡ replicate 4096 0 }
-        ensures sound { IsSoundState result.state }
+        ensures { IsBooted manifest.now result.state result.ram }
     {
         Machine::boot_with(manifest, ram, NoTlb)
     }
@@ -86,10 +82,7 @@ impl<M: PhysMem + Drop, T: Translations + Drop> Machine<M, T> {
     pub fn boot_with(manifest: &Manifest, ram: M, cache: T) -> Machine<M, T>
         requires base { (M.ram ram).base ≡ manifest.now.ram_base }
         requires size { length (M.ram ram).pages ≡ 512 * manifest.now.ram_blocks }
-        ensures state { result.state ≡ first manifest.now.ram_base manifest.now.ram_blocks manifest.now.endpoints.items }
-        ensures agrees { Agrees result.ram result.state }
-        ensures cleared { (p : ℕ) → length result.state.parties * table_pages manifest.now.ram_blocks ≤ p → p < length result.ram.pages → page_of result.ram p ≡ replicate 4096 0 }
-        ensures sound { IsSoundState result.state }
+        ensures booted { IsBooted manifest.now result.state result.ram }
         ensures held { result.held ≡ [] }
     {
         let mut ram = ram;
@@ -103,10 +96,7 @@ impl<M: PhysMem + Drop, T: Translations + Drop> Machine<M, T> {
     #[inline(never)]
     pub fn boot_cleared(manifest: &Manifest, ram: M, cache: T) -> Machine<M, T>
         requires { M.ram ram ≡ zero_ram manifest.now.ram_base (512 * manifest.now.ram_blocks) }
-        ensures state { result.state ≡ first manifest.now.ram_base manifest.now.ram_blocks manifest.now.endpoints.items }
-        ensures agrees { Agrees result.ram result.state }
-        ensures cleared { (p : ℕ) → length result.state.parties * table_pages manifest.now.ram_blocks ≤ p → p < length result.ram.pages → page_of result.ram p ≡ replicate 4096 0 }
-        ensures sound { IsSoundState result.state }
+        ensures booted { IsBooted manifest.now result.state result.ram }
         ensures held { result.held ≡ [] }
     {
         let mut cache = cache;

@@ -1,21 +1,18 @@
 //! The partition manager: what it keeps, and what its calls and accesses do.
-ghost use Rattle.std.specs.Prelude.{true, false, ◌≡◌, None, ℕ, ◌*◌, ◌<◌, ◌≤◌, length, replicate};
+ghost use Rattle.std.specs.Prelude.{true, ◌≡◌, None, ◌*◌, ◌<◌, ◌≤◌, length};
 ghost use Rattle.ffa_model.specs.declared.limits.TheConstants.{MOST_ENDPOINTS};
 ghost use Rattle.ffa_model.specs.Access.{access};
 ghost use Rattle.ffa_model.specs.Agreement.{Agrees};
 ghost use Rattle.ffa_model.specs.Bits.{word_of_halves};
-ghost use Rattle.ffa_model.specs.Calls.{replied, served};
-ghost use Rattle.ffa_model.specs.First.{first};
-ghost use Rattle.ffa_model.specs.Manifest.{table_pages};
-ghost use Rattle.ffa_model.specs.Ram.{page_of, zero_ram};
+ghost use Rattle.ffa_model.specs.Ram.{zero_ram};
 ghost use Rattle.ffa_model.specs.SoundState.{IsSoundState};
 ghost use Rattle.ffa_laws.specs.OwnAccess.{AreApart};
-ghost use Rattle.ffa_model.specs.Refusals.{is_error, is_refusal, passes_no_error};
+ghost use Rattle.ffa_model.specs.Refusals.{is_refusal, passes_no_error};
 ghost use Rattle.ffa_model.specs.Registers.{decode};
 ghost use Rattle.ffa_model.specs.State.{owner_of, version_of};
-ghost use Rattle.ffa_model.specs.Step.{serve};
-ghost use Rattle.ffa_spmc.specs.Arms.{is_on_memory};
+ghost use Rattle.ffa_model.specs.Step.{serve, service};
 ghost use Rattle.ffa_spmc.specs.AccessChange.{IsAccessChange};
+ghost use Rattle.ffa_spmc.specs.Served.{IsAnswered, IsBooted};
 ghost use Rattle.ffa_spmc.specs.Unowned.{KeepsUnowned};
 
 mod accesses;
@@ -27,8 +24,9 @@ mod notifications;
 
 use crate::answer::{Answer, Called};
 use crate::kept::Kept;
-use crate::manager::memory::is_on_memory;
-use ffa_model::{Call, EndpointId, ErrorCode, Manifest, Outcome, PageNo, Reply, Rights, Version};
+use ffa_model::{
+    Call, EndpointId, ErrorCode, Kind, Manifest, Outcome, PageNo, Reply, Rights, Version,
+};
 use ffa_physmem::PhysMem;
 use ffa_stage2::{Layout, build, built_tables};
 use std::marker::Model;
@@ -62,10 +60,7 @@ impl<M: PhysMem + Drop> Manager<M> {
     #[inline(always)]
     pub(crate) fn first(manifest: &Manifest, ram: M) -> Manager<M>
         requires { M.ram ram ≡ zero_ram manifest.now.ram_base (512 * manifest.now.ram_blocks) }
-        ensures state { result.state ≡ first manifest.now.ram_base manifest.now.ram_blocks manifest.now.endpoints.items }
-        ensures agrees { Agrees result.ram result.state }
-        ensures cleared { (p : ℕ) → length result.state.parties * table_pages manifest.now.ram_blocks ≤ p → p < length result.ram.pages → page_of result.ram p ≡ replicate 4096 0 }
-        ensures sound { IsSoundState result.state }
+        ensures { IsBooted manifest.now result.state result.ram }
     {
         let mut ram = ram;
         let layout = Layout::of(manifest);
@@ -173,62 +168,67 @@ impl<M: PhysMem + Drop> Manager<M> {
         }
     }
 
-    // The answer to a call of the runner, and what the call changes.
+    // The answer to a call of the runner.
     #[inline(always)]
     fn answer(&mut self, call: Call) -> Answer
         requires { passes_no_error call ≡ true }
-        ensures served { replied self.new.state result.reply ≡ serve self.old.state call }
-        ensures refused { is_error result.reply ≡ true → self.new ≡ self.old }
-        ensures unowned { KeepsUnowned self.old.state self.old.ram self.new.ram }
-        ensures access { IsAccessChange self.old.state self.new.state result.changed }
-        ensures unchanged { is_error result.reply ≡ true → result.changed ≡ None }
-    {
-        if is_on_memory(&call) {
-            return self.memory_answer(call);
-        }
-        Answer {
-            reply: self.reply(call),
-            changed: None,
-        }
-    }
-
-    // The reply to a call of the runner that isn't on memory, and what the call changes.
-    #[inline(always)]
-    fn reply(&mut self, call: Call) -> Reply
-        requires beside { is_on_memory call ≡ false }
-        requires named { passes_no_error call ≡ true }
-        ensures served { replied self.new.state result ≡ serve self.old.state call }
-        ensures refused { is_error result ≡ true → self.new ≡ self.old }
-        ensures unowned { KeepsUnowned self.old.state self.old.ram self.new.ram }
+        ensures { IsAnswered self.old self.new (service self.old.state call) result }
     {
         match call {
-            Call::Version { version } => ffa_setup::version(version),
-            Call::Features { function } => ffa_setup::features(function),
-            Call::RxRelease => self.release(),
-            Call::RxtxMap { tx, rx, pages } => self.map(tx, rx, pages),
-            Call::RxtxUnmap { endpoint } => self.unmap(endpoint),
-            Call::PartitionInfoGet { uuid, flags } => self.partition_info(uuid, flags),
-            Call::IdGet => ffa_setup::id(self.kept.chain.runner()),
-            Call::SpmIdGet => ffa_setup::spm_id(),
-            Call::MsgWait
-            | Call::Yield
-            | Call::Run { .. }
-            | Call::DirectRequest { .. }
-            | Call::DirectResponse { .. }
-            | Call::MsgSend2 => self.message_reply(call),
-            Call::MemDonate { .. }
-            | Call::MemLend { .. }
-            | Call::MemShare { .. }
-            | Call::MemRetrieve { .. }
-            | Call::MemRelinquish
-            | Call::MemReclaim { .. } => unreachable!(),
-            Call::BitmapCreate { .. }
-            | Call::BitmapDestroy { .. }
-            | Call::NotificationBind { .. }
-            | Call::NotificationUnbind { .. }
-            | Call::NotificationSet { .. }
-            | Call::NotificationGet { .. } => self.notification_reply(call),
-            Call::Unknown => Reply::Error(ErrorCode::NotSupported),
+            Call::Version { version } => Answer::of(ffa_setup::version(version)),
+            Call::Features { function } => Answer::of(ffa_setup::features(function)),
+            Call::RxRelease => Answer::of(self.release()),
+            Call::RxtxMap { tx, rx, pages } => Answer::of(self.map(tx, rx, pages)),
+            Call::RxtxUnmap { endpoint } => Answer::of(self.unmap(endpoint)),
+            Call::PartitionInfoGet { uuid, flags } => Answer::of(self.partition_info(uuid, flags)),
+            Call::IdGet => Answer::of(ffa_setup::id(self.kept.chain.runner())),
+            Call::SpmIdGet => Answer::of(ffa_setup::spm_id()),
+            Call::MsgWait => Answer::of(self.wait()),
+            Call::Yield => Answer::of(self.yield_now()),
+            Call::Run { target } => Answer::of(self.run_partition(target)),
+            Call::DirectRequest {
+                function,
+                word,
+                flags,
+                payload,
+            } => Answer::of(self.request(function, word, flags, payload)),
+            Call::DirectResponse {
+                function,
+                word,
+                flags,
+                payload,
+            } => Answer::of(self.respond(function, word, flags, payload)),
+            Call::MsgSend2 => Answer::of(self.send()),
+            Call::MemDonate(transfer) => self.offer(Kind::Donate, transfer),
+            Call::MemLend(transfer) => self.offer(Kind::Lend, transfer),
+            Call::MemShare(transfer) => self.offer(Kind::Share, transfer),
+            Call::MemRetrieve(transfer) => self.retrieve(transfer),
+            Call::MemRelinquish => self.relinquish(),
+            Call::MemReclaim { low, high, flags } => self.reclaim(low, high, flags),
+            Call::BitmapCreate { endpoint, contexts } => {
+                Answer::of(self.create_bitmaps(endpoint, contexts))
+            }
+            Call::BitmapDestroy { endpoint } => Answer::of(self.destroy_bitmaps(endpoint)),
+            Call::NotificationBind {
+                word,
+                flags,
+                low,
+                high,
+            } => Answer::of(self.bind(word, flags, low, high)),
+            Call::NotificationUnbind {
+                word,
+                flags,
+                low,
+                high,
+            } => Answer::of(self.unbind(word, flags, low, high)),
+            Call::NotificationSet {
+                word,
+                flags,
+                low,
+                high,
+            } => Answer::of(self.set(word, flags, low, high)),
+            Call::NotificationGet { receiver, flags } => Answer::of(self.get(receiver, flags)),
+            Call::Unknown => Answer::of(Reply::Error(ErrorCode::NotSupported)),
         }
     }
 }

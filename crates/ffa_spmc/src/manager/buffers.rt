@@ -1,11 +1,11 @@
 //! The calls on buffers, and partition information.
-ghost use Rattle.std.specs.Prelude.{true, ◌≡◌, length, None, if◌then◌else◌};
+ghost use Rattle.std.specs.Prelude.{◌≡◌, length, None, if◌then◌else◌};
 ghost use Rattle.std.specs.Result.{result_err};
 ghost use Rattle.ffa_model.specs.Buffers.{rx_release, rxtx_map, rxtx_unmap};
-ghost use Rattle.ffa_model.specs.Calls.{first_failure, replied, served, success};
-ghost use Rattle.ffa_model.specs.Refusals.{is_error};
+ghost use Rattle.ffa_model.specs.Calls.{first_failure, success};
 ghost use Rattle.ffa_model.specs.State.{version_of};
 ghost use Rattle.ffa_model.specs.Setup.{info_get, info_guards, told_info_size, informed, is_count_alone, selected, uuid_bytes};
+ghost use Rattle.ffa_spmc.specs.Served.{IsReplied};
 ghost use Rattle.ffa_spmc.specs.Unowned.{KeepsUnowned};
 
 use super::Manager;
@@ -23,9 +23,7 @@ fn is_count_alone(flags: u32) -> bool
 impl<M: PhysMem + Drop> Manager<M> {
     // FFA_RX_RELEASE of the runner.
     pub(super) fn release(&mut self) -> Reply
-        ensures served { replied self.new.state result ≡ served self.old.state (rx_release self.old.state) }
-        ensures refused { is_error result ≡ true → self.new ≡ self.old }
-        ensures unowned { KeepsUnowned self.old.state self.old.ram self.new.ram }
+        ensures { IsReplied self.old self.new (rx_release self.old.state) result }
     {
         let runner = self.kept.chain.runner();
         done_or_error(self.kept.buffers.release(runner))
@@ -33,9 +31,7 @@ impl<M: PhysMem + Drop> Manager<M> {
 
     // FFA_RXTX_MAP of the runner.
     pub(super) fn map(&mut self, tx: u64, rx: u64, pages: u32) -> Reply
-        ensures served { replied self.new.state result ≡ served self.old.state (rxtx_map self.old.state tx rx pages) }
-        ensures refused { is_error result ≡ true → self.new ≡ self.old }
-        ensures unowned { KeepsUnowned self.old.state self.old.ram self.new.ram }
+        ensures { IsReplied self.old self.new (rxtx_map self.old.state tx rx pages) result }
     {
         let ram_base = self.manifest.ram_base;
         let runner = self.kept.chain.runner();
@@ -46,9 +42,7 @@ impl<M: PhysMem + Drop> Manager<M> {
 
     // FFA_RXTX_UNMAP of the runner.
     pub(super) fn unmap(&mut self, endpoint: u32) -> Reply
-        ensures served { replied self.new.state result ≡ served self.old.state (rxtx_unmap self.old.state endpoint) }
-        ensures refused { is_error result ≡ true → self.new ≡ self.old }
-        ensures unowned { KeepsUnowned self.old.state self.old.ram self.new.ram }
+        ensures { IsReplied self.old self.new (rxtx_unmap self.old.state endpoint) result }
     {
         let runner = self.kept.chain.runner();
         done_or_error(self.kept.buffers.unmap(runner, endpoint))
@@ -56,9 +50,7 @@ impl<M: PhysMem + Drop> Manager<M> {
 
     // FFA_PARTITION_INFO_GET of the runner.
     pub(super) fn partition_info(&mut self, uuid: [u32; 4], flags: u32) -> Reply
-        ensures served { replied self.new.state result ≡ served self.old.state (info_get self.old.state uuid flags) }
-        ensures refused { is_error result ≡ true → self.new ≡ self.old }
-        ensures unowned { KeepsUnowned self.old.state self.old.ram self.new.ram }
+        ensures { IsReplied self.old self.new (info_get self.old.state uuid flags) result }
     {
         match self.check_info(uuid, flags) {
             Ok(()) => self.inform(uuid, flags),

@@ -1,75 +1,27 @@
 //! The calls on run states, and messages.
-ghost use Rattle.std.specs.Prelude.{true, false, ◌≡◌, ◌==◌};
-ghost use Rattle.ffa_model.specs.Calls.{replied, served};
+ghost use Rattle.std.specs.Prelude.{false, ◌≡◌, ◌==◌};
 ghost use Rattle.ffa_model.specs.declared.function.TheConstants.{FFA_ERROR};
-ghost use Rattle.ffa_model.specs.Refusals.{is_error, passes_no_error};
 ghost use Rattle.ffa_model.specs.Messages.{msg_send2};
 ghost use Rattle.ffa_model.specs.RunStates.{direct_request, direct_response, msg_wait, run_partition, yield_now};
-ghost use Rattle.ffa_model.specs.Step.{serve};
-ghost use Rattle.ffa_spmc.specs.Arms.{is_message};
-ghost use Rattle.ffa_spmc.specs.Unowned.{KeepsUnowned};
+ghost use Rattle.ffa_spmc.specs.Served.{IsReplied};
 
 use super::Manager;
 use crate::replies::{DONE, reply_or_error};
 use ffa_messages::{DirectMessage, direct_req, direct_resp, send2};
-use ffa_model::{Call, Reply};
+use ffa_model::Reply;
 use ffa_physmem::PhysMem;
 
 impl<M: PhysMem + Drop> Manager<M> {
-    // The reply to a call on run states, or to a message.
-    #[inline(always)]
-    pub(super) fn message_reply(&mut self, call: Call) -> Reply
-        requires message { is_message call ≡ true }
-        requires named { passes_no_error call ≡ true }
-        ensures served { replied self.new.state result ≡ serve self.old.state call }
-        ensures refused { is_error result ≡ true → self.new ≡ self.old }
-        ensures unowned { KeepsUnowned self.old.state self.old.ram self.new.ram }
-    {
-        match call {
-            Call::MsgWait => self.wait(),
-            Call::Yield => self.yield_now(),
-            Call::Run { target } => self.run_partition(target),
-            Call::DirectRequest {
-                function,
-                word,
-                flags,
-                payload,
-            } => self.request(&DirectMessage {
-                function,
-                word,
-                flags,
-                payload,
-            }),
-            Call::DirectResponse {
-                function,
-                word,
-                flags,
-                payload,
-            } => self.respond(&DirectMessage {
-                function,
-                word,
-                flags,
-                payload,
-            }),
-            Call::MsgSend2 => self.send(),
-            _ => unreachable!(),
-        }
-    }
-
     // FFA_RUN of the runner.
-    fn run_partition(&mut self, target: u32) -> Reply
-        ensures served { replied self.new.state result ≡ served self.old.state (run_partition self.old.state target) }
-        ensures refused { is_error result ≡ true → self.new ≡ self.old }
-        ensures unowned { KeepsUnowned self.old.state self.old.ram self.new.ram }
+    pub(super) fn run_partition(&mut self, target: u32) -> Reply
+        ensures { IsReplied self.old self.new (run_partition self.old.state target) result }
     {
         reply_or_error(self.kept.chain.run(target))
     }
 
     // FFA_MSG_WAIT of the runner, whose RX is empty then.
-    fn wait(&mut self) -> Reply
-        ensures served { replied self.new.state result ≡ served self.old.state (msg_wait self.old.state) }
-        ensures refused { is_error result ≡ true → self.new ≡ self.old }
-        ensures unowned { KeepsUnowned self.old.state self.old.ram self.new.ram }
+    pub(super) fn wait(&mut self) -> Reply
+        ensures { IsReplied self.old self.new (msg_wait self.old.state) result }
     {
         let runner = self.kept.chain.runner();
         let result = self.kept.chain.wait();
@@ -80,39 +32,55 @@ impl<M: PhysMem + Drop> Manager<M> {
     }
 
     // FFA_YIELD of the runner.
-    fn yield_now(&mut self) -> Reply
-        ensures served { replied self.new.state result ≡ served self.old.state (yield_now self.old.state) }
-        ensures refused { is_error result ≡ true → self.new ≡ self.old }
-        ensures unowned { KeepsUnowned self.old.state self.old.ram self.new.ram }
+    pub(super) fn yield_now(&mut self) -> Reply
+        ensures { IsReplied self.old self.new (yield_now self.old.state) result }
     {
         reply_or_error(self.kept.chain.yield_now())
     }
 
     // FFA_MSG_SEND_DIRECT_REQ of the runner.
-    fn request(&mut self, message: &DirectMessage) -> Reply
-        requires { (message.now.function == FFA_ERROR) ≡ false }
-        ensures served { replied self.new.state result ≡ served self.old.state (direct_request self.old.state message.now.function message.now.word message.now.flags message.now.payload) }
-        ensures refused { is_error result ≡ true → self.new ≡ self.old }
-        ensures unowned { KeepsUnowned self.old.state self.old.ram self.new.ram }
+    pub(super) fn request(
+        &mut self,
+        function: u32,
+        word: u32,
+        flags: u32,
+        payload: [u64; 5],
+    ) -> Reply
+        requires { (function == FFA_ERROR) ≡ false }
+        ensures { IsReplied self.old self.new (direct_request self.old.state function word flags payload) result }
     {
-        reply_or_error(direct_req(&mut self.kept.chain, &self.manifest, message))
+        let message = DirectMessage {
+            function,
+            word,
+            flags,
+            payload,
+        };
+        reply_or_error(direct_req(&mut self.kept.chain, &self.manifest, &message))
     }
 
     // FFA_MSG_SEND_DIRECT_RESP of the runner.
-    fn respond(&mut self, message: &DirectMessage) -> Reply
-        requires { (message.now.function == FFA_ERROR) ≡ false }
-        ensures served { replied self.new.state result ≡ served self.old.state (direct_response self.old.state message.now.function message.now.word message.now.flags message.now.payload) }
-        ensures refused { is_error result ≡ true → self.new ≡ self.old }
-        ensures unowned { KeepsUnowned self.old.state self.old.ram self.new.ram }
+    pub(super) fn respond(
+        &mut self,
+        function: u32,
+        word: u32,
+        flags: u32,
+        payload: [u64; 5],
+    ) -> Reply
+        requires { (function == FFA_ERROR) ≡ false }
+        ensures { IsReplied self.old self.new (direct_response self.old.state function word flags payload) result }
     {
-        reply_or_error(direct_resp(&mut self.kept.chain, message))
+        let message = DirectMessage {
+            function,
+            word,
+            flags,
+            payload,
+        };
+        reply_or_error(direct_resp(&mut self.kept.chain, &message))
     }
 
     // FFA_MSG_SEND2 of the runner. The receiver is told of a message by a bit of the manager's.
-    fn send(&mut self) -> Reply
-        ensures served { replied self.new.state result ≡ served self.old.state (msg_send2 self.old.state) }
-        ensures refused { is_error result ≡ true → self.new ≡ self.old }
-        ensures unowned { KeepsUnowned self.old.state self.old.ram self.new.ram }
+    pub(super) fn send(&mut self) -> Reply
+        ensures { IsReplied self.old self.new (msg_send2 self.old.state) result }
     {
         let runner = self.kept.chain.runner();
         let kept = &mut self.kept;

@@ -31,7 +31,7 @@ returns-clause-done g c =
       pages = c.pass_on.ensures;
       answer =
           subst (λ (h : ℕ). IsAnswered (g.M.PhysMem.ram c.args.ram.now) (g.M.PhysMem.ram c.hand_over-size.new.ram) l.base (array_vec_len l.regions) l.blocks
-          (buffers_in c.args.buffers.now c.args.caller.0) h (transaction_of it) c.args.caller.0 c.args.transfer.now.version c.in_ok-right.right c.hand_over-size.result)
+          (buffers_in c.args.buffers.now c.args.caller.0) h (transaction_of it) c.args.caller.0 c.args.call.now.version c.in_ok-right.right c.hand_over-size.result)
           (same-handle slots k asked.handle it c.in-Some.ensures.found c.at-open.ensures.value)
           c.hand_over-size.ensures.answered;
       access = c.of-changed.ensures;

@@ -1,9 +1,12 @@
-use Rattle.std.proofs.Common.{◌∙◌, ap}
+use Rattle.std.proofs.Common.{◌∙◌, ap, refl}
 use Rattle.ffa_model.specs.declared.call.Call.TheVariants.{NotificationBind}
 use Rattle.ffa_model.specs.declared.call.Reply.{Reply}
-use Rattle.ffa_model.specs.Calls.{replied, served}
+use Rattle.ffa_model.specs.Calls.{replied}
 use Rattle.ffa_model.specs.Notifications.{notification_bind}
-use Rattle.ffa_spmc.specs.Managed.{Managed}
+use Rattle.ffa_model.specs.Notifications.{Notifications}
+use Rattle.ffa_model.specs.State.{State}
+use Rattle.ffa_spmc.proofs.Answered.{refused-so}
+use Rattle.ffa_spmc.proofs.Replied.{refused-done, replied-beside}
 use Rattle.ffa_spmc.proofs.Inside.{parts_of}
 use Rattle.ffa_spmc.proofs.Notified.{bound, machine-notified, runner-notified, with_bits}
 use Rattle.ffa_spmc.proofs.manager.Manager.bind.Goals as goal
@@ -19,9 +22,11 @@ invariant_of-self g c =
     machine-notified x c.self.invariant c.bind.new.self _ (NotificationBind c.args.word c.args.flags c.args.low c.args.high)
     (bound x c.self.invariant c.runner-runner.result.0 c.runner-runner.ensures.runner c.bind.result c.bind.new.self c.args.word c.args.flags c.args.low c.args.high c.word_of_halves-bitmap.result c.word_of_halves-bitmap.ensures c.bind.ensures.kept c.bind.ensures.refusal c.bind.ensures.bound)
 
-pub returns-clause-served : goal.returns-clause-served
-returns-clause-served g c =
+pub returns : goal.returns
+returns g c =
     let x = parts_of g.M.PhysMem.ram c.self.inside in
-    ap (λ (reply : Reply). replied (with_bits x c.bind.new.self) reply) c.done_or_error.ensures
-    ∙ bound x c.self.invariant c.runner-runner.result.0 c.runner-runner.ensures.runner c.bind.result c.bind.new.self c.args.word c.args.flags c.args.low c.args.high c.word_of_halves-bitmap.result c.word_of_halves-bitmap.ensures c.bind.ensures.kept c.bind.ensures.refusal c.bind.ensures.bound
-    ∙ ap (λ (seen : Managed). served seen.state (notification_bind seen.state c.args.word c.args.flags c.args.low c.args.high)) c.self.view_is
+    replied-beside x (record x { kept = record x.kept { bitmaps = c.bind.new.self } }) c.args.self.now c.self.view_is (λ (s : State). notification_bind s c.args.word c.args.flags c.args.low c.args.high) c.done_or_error.result
+    (ap (λ (reply : Reply). replied (with_bits x c.bind.new.self) reply) c.done_or_error.ensures
+    ∙ bound x c.self.invariant c.runner-runner.result.0 c.runner-runner.ensures.runner c.bind.result c.bind.new.self c.args.word c.args.flags c.args.low c.args.high c.word_of_halves-bitmap.result c.word_of_halves-bitmap.ensures c.bind.ensures.kept c.bind.ensures.refusal c.bind.ensures.bound)
+    (refused-done c.bind.result c.done_or_error.result c.done_or_error.ensures (refused-so c.bind.result (ap (λ (bitmaps : Notifications). record x { kept = record x.kept { bitmaps = bitmaps } })) c.bind.ensures.kept))
+    refl

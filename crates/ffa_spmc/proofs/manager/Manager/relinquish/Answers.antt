@@ -1,14 +1,14 @@
-use Rattle.std.proofs.Common.{◌∙◌, Option, sym, ap, subst}
+use Rattle.std.proofs.Common.{◌∙◌, ap}
 use Rattle.std.specs.Result.{result_ok}
 use Rattle.ffa_model.specs.declared.call.Reply.{Reply}
-use Rattle.ffa_model.specs.Calls.{replied, served}
+use Rattle.ffa_model.specs.Calls.{replied}
 use Rattle.ffa_model.specs.MemoryReturn.{memory_relinquish}
-use Rattle.ffa_memshare.specs.declared.changed.Changed.{Changed}
-use Rattle.ffa_spmc.specs.AccessChange.{IsAccessChange}
-use Rattle.ffa_spmc.specs.Meaning.{state_of}
+use Rattle.ffa_spmc.specs.Meaning.{Parts, state_of}
 use Rattle.ffa_spmc.specs.Managed.{Managed}
 use Rattle.ffa_spmc.proofs.Fills.{caller-is}
-use Rattle.ffa_spmc.specs.Unowned.{KeepsUnowned}
+use Rattle.ffa_spmc.proofs.Answered.{refused-both}
+use Rattle.ffa_spmc.proofs.Replied.{answered-with, refused-done}
+use Rattle.ffa_model.specs.State.{State}
 use Rattle.ffa_spmc.proofs.Inside.{parts_of}
 use Rattle.ffa_spmc.proofs.Pools.{pool-shared}
 use Rattle.ffa_spmc.proofs.Relinquishes.{relinquish-changes, relinquish-machine, relinquish-served, relinquish-unowned}
@@ -30,28 +30,19 @@ invariant_of-self g c =
     relinquish-machine x c.self.invariant c.runner-runner.result.0 c.runner-runner.ensures.runner (g.M.PhysMem.ram c.relinquish.new.ram) c.relinquish.new.self
     c.relinquish.result c.relinquish.ensures.refusal c.relinquish.ensures.kept c.relinquish.ensures.kept_ram c.relinquish.ensures.done
 
-pub returns-clause-served : goal.returns-clause-served
-returns-clause-served g c =
+pub returns : goal.returns
+returns g c =
     let x = parts_of g.M.PhysMem.ram c.self.inside in
-    ap
-    (λ (reply : Reply). replied (state_of (record x { ram = g.M.PhysMem.ram c.relinquish.new.ram; kept = record x.kept { pool = c.relinquish.new.self } })) reply)
-    c.returned.ensures.reply
+    let y : Parts = record x { ram = g.M.PhysMem.ram c.relinquish.new.ram; kept = record x.kept { pool = c.relinquish.new.self } } in
+    answered-with x y c.args.self.now c.self.view_is (λ (s : State). memory_relinquish s) c.returned.result (result_ok c.relinquish.result)
+    (ap (λ (reply : Reply). replied (state_of y) reply) c.returned.ensures.reply
     ∙ relinquish-served x c.self.invariant c.runner-runner.result.0 c.runner-runner.ensures.runner (g.M.PhysMem.ram c.relinquish.new.ram) c.relinquish.new.self
-    c.relinquish.result c.relinquish.ensures.refusal c.relinquish.ensures.kept c.relinquish.ensures.kept_ram c.relinquish.ensures.done
-    ∙ ap (λ (seen : Managed). served seen.state (memory_relinquish seen.state)) c.self.view_is
-
-pub returns-clause-access : goal.returns-clause-access
-returns-clause-access g c =
-    let x = parts_of g.M.PhysMem.ram c.self.inside in
-    let next = state_of (record x { ram = g.M.PhysMem.ram c.relinquish.new.ram; kept = record x.kept { pool = c.relinquish.new.self } }) in
-    subst (λ (changed : Option Changed). IsAccessChange c.args.self.now.state next changed) (sym c.returned.ensures.changed)
-    (subst (λ (seen : Managed). IsAccessChange seen.state next (result_ok c.relinquish.result)) c.self.view_is
-    (relinquish-changes x c.self.invariant c.runner-runner.result.0 c.runner-runner.ensures.runner (g.M.PhysMem.ram c.relinquish.new.ram) c.relinquish.new.self
-    c.relinquish.result c.relinquish.ensures.refusal c.relinquish.ensures.kept c.relinquish.ensures.kept_ram c.relinquish.ensures.done))
-
-pub returns-clause-unowned : goal.returns-clause-unowned
-returns-clause-unowned g c =
-    let x = parts_of g.M.PhysMem.ram c.self.inside in
-    subst (λ (seen : Managed). KeepsUnowned seen.state seen.ram (g.M.PhysMem.ram c.relinquish.new.ram)) c.self.view_is
+    c.relinquish.result c.relinquish.ensures.refusal c.relinquish.ensures.kept c.relinquish.ensures.kept_ram c.relinquish.ensures.done)
+    (refused-done c.relinquish.result c.returned.result.reply c.returned.ensures.reply
+    (refused-both c.relinquish.result (λ a b i. record x { ram = a i; kept = record x.kept { pool = b i } }) c.relinquish.ensures.kept_ram c.relinquish.ensures.kept))
     (relinquish-unowned x c.self.invariant c.runner-runner.result.0 c.runner-runner.ensures.runner (g.M.PhysMem.ram c.relinquish.new.ram) c.relinquish.new.self
     c.relinquish.result c.relinquish.ensures.refusal c.relinquish.ensures.kept c.relinquish.ensures.kept_ram c.relinquish.ensures.done)
+    c.returned.ensures.changed
+    (relinquish-changes x c.self.invariant c.runner-runner.result.0 c.runner-runner.ensures.runner (g.M.PhysMem.ram c.relinquish.new.ram) c.relinquish.new.self
+    c.relinquish.result c.relinquish.ensures.refusal c.relinquish.ensures.kept c.relinquish.ensures.kept_ram c.relinquish.ensures.done)
+    c.returned.ensures.unchanged

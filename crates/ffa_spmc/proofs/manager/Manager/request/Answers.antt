@@ -1,9 +1,8 @@
-use Rattle.std.proofs.Common.{◌∙◌, refl, ap}
+use Rattle.std.proofs.Common.{◌∙◌, ap, refl}
 use Rattle.ffa_model.specs.declared.call.Reply.{Reply}
 use Rattle.ffa_model.specs.declared.call.Call.TheVariants.{DirectRequest}
-use Rattle.ffa_model.specs.Calls.{Stepped, replied, served}
+use Rattle.ffa_model.specs.Calls.{Stepped, replied}
 use Rattle.ffa_spmc.specs.Meaning.{state_of}
-use Rattle.ffa_spmc.specs.Managed.{Managed}
 use Rattle.ffa_spmc.proofs.Machines.{machine-called}
 use Rattle.std.specs.Prelude.{List}
 use Rattle.ffa_model.specs.Bits.{low_half}
@@ -12,21 +11,27 @@ use Rattle.ffa_model.specs.RunStates.{direct_request, request_guards, requested}
 use Rattle.ffa_model.specs.State.{Party}
 use Rattle.ffa_spmc.proofs.Held.{counted, parties-listed}
 use Rattle.ffa_spmc.proofs.Schedules.{scheduled, with_chain}
+use Rattle.ffa_model.specs.RunStates.{Schedule}
+use Rattle.ffa_model.specs.State.{State}
+use Rattle.ffa_spmc.proofs.Answered.{refused-so}
+use Rattle.ffa_spmc.proofs.Replied.{refused-replied, replied-beside}
 use Rattle.ffa_spmc.proofs.Inside.{parts_of}
 use Rattle.ffa_spmc.proofs.manager.Manager.request.Goals as goal
 
 pub invariant_of-self : goal.invariant_of-self
 invariant_of-self g c =
     let x = parts_of g.M.PhysMem.ram c.self.inside in
-    machine-called x x.ram x.kept.buffers c.direct_req.new.chain c.self.invariant c.self.invariant.tables (DirectRequest c.args.message.now.function c.args.message.now.word c.args.message.now.flags c.args.message.now.payload)
-    (ap (λ (st : Stepped). st.state) (scheduled x (direct_request (state_of x) c.args.message.now.function c.args.message.now.word c.args.message.now.flags c.args.message.now.payload) (requested x.kept.chain (low_half c.args.message.now.word)) c.direct_req.new.chain c.direct_req.result refl (c.direct_req.ensures.refusal ∙ ap (λ (parties : List Party). first_failure (request_guards parties x.kept.chain c.args.message.now.word c.args.message.now.flags)) (parties-listed x)) c.direct_req.ensures.kept c.direct_req.ensures.changed c.direct_req.ensures.reply))
+    machine-called x x.ram x.kept.buffers c.direct_req.new.chain c.self.invariant c.self.invariant.tables (DirectRequest c.args.function c.args.word c.args.flags c.args.payload)
+    (ap (λ (st : Stepped). st.state) (scheduled x (direct_request (state_of x) c.args.function c.args.word c.args.flags c.args.payload) (requested x.kept.chain (low_half c.args.word)) c.direct_req.new.chain c.direct_req.result refl (c.direct_req.ensures.refusal ∙ ap (λ (parties : List Party). first_failure (request_guards parties x.kept.chain c.args.word c.args.flags)) (parties-listed x)) c.direct_req.ensures.kept c.direct_req.ensures.changed c.direct_req.ensures.reply))
 
-pub returns-clause-served : goal.returns-clause-served
-returns-clause-served g c =
+pub returns : goal.returns
+returns g c =
     let x = parts_of g.M.PhysMem.ram c.self.inside in
-    ap (λ (reply : Reply). replied (with_chain x c.direct_req.new.chain) reply) c.reply_or_error.ensures
-    ∙ scheduled x (direct_request (state_of x) c.args.message.now.function c.args.message.now.word c.args.message.now.flags c.args.message.now.payload) (requested x.kept.chain (low_half c.args.message.now.word)) c.direct_req.new.chain c.direct_req.result refl (c.direct_req.ensures.refusal ∙ ap (λ (parties : List Party). first_failure (request_guards parties x.kept.chain c.args.message.now.word c.args.message.now.flags)) (parties-listed x)) c.direct_req.ensures.kept c.direct_req.ensures.changed c.direct_req.ensures.reply
-    ∙ ap (λ (seen : Managed). served seen.state (direct_request seen.state c.args.message.now.function c.args.message.now.word c.args.message.now.flags c.args.message.now.payload)) c.self.view_is
+    replied-beside x (record x { kept = record x.kept { chain = c.direct_req.new.chain } }) c.args.self.now c.self.view_is (λ (s : State). direct_request s c.args.function c.args.word c.args.flags c.args.payload) c.reply_or_error.result
+    (ap (λ (reply : Reply). replied (with_chain x c.direct_req.new.chain) reply) c.reply_or_error.ensures
+    ∙ scheduled x (direct_request (state_of x) c.args.function c.args.word c.args.flags c.args.payload) (requested x.kept.chain (low_half c.args.word)) c.direct_req.new.chain c.direct_req.result refl (c.direct_req.ensures.refusal ∙ ap (λ (parties : List Party). first_failure (request_guards parties x.kept.chain c.args.word c.args.flags)) (parties-listed x)) c.direct_req.ensures.kept c.direct_req.ensures.changed c.direct_req.ensures.reply)
+    (refused-replied c.direct_req.result c.reply_or_error.result _ c.reply_or_error.ensures c.direct_req.ensures.reply c.requires (refused-so c.direct_req.result (ap (λ (chain : Schedule). record x { kept = record x.kept { chain = chain } })) c.direct_req.ensures.kept))
+    refl
 
 pub direct_req-requires : goal.direct_req-requires
 direct_req-requires g c =

@@ -1,7 +1,10 @@
 use Rattle.std.proofs.Common.{◌∙◌, sym, ap, subst}
+use Rattle.std.proofs.lemmas.Bool.{true≢false}
 use Rattle.ffa_model.specs.declared.call.Call.TheVariants.{MsgSend2}
 use Rattle.ffa_model.specs.Calls.{Stepped, replied, served}
 use Rattle.ffa_model.specs.Messages.{msg_send2}
+use Rattle.ffa_model.specs.Refusals.{is_error}
+use Rattle.ffa_spmc.proofs.Replied.{managed_of}
 use Rattle.ffa_spmc.specs.Meaning.{IsManager, Parts, state_of}
 use Rattle.ffa_spmc.specs.Managed.{Managed}
 use Rattle.ffa_spmc.specs.Unowned.{KeepsUnowned}
@@ -42,26 +45,30 @@ invariant_of-self g c =
           (subst IsManager (sym (unsent-parts x c.self.invariant c.runner-runner.result.0 c.runner-runner.ensures.runner c.send2.result (g.M.PhysMem.ram c.send2.new.ram) c.send2.new.buffers c.send2.ensures.refusal c.send2.ensures.kept_ram c.send2.ensures.kept c.send2.ensures.ram c.send2.ensures.full c.send2.ensures.receiver w.in-Err.code w.in-Err.is)) c.self.invariant)
     ]
 
-pub returns-clause-served : goal.returns-clause-served
-returns-clause-served g c =
-    let x = parts_of g.M.PhysMem.ram c.self.inside in
-    elim c.match-send2.branch [
-      | in-Ok w ↦
-          (λ i. replied (state_of (parts_of g.M.PhysMem.ram (w.self-inside-is i))) (w.result-is i))
-          ∙ sent x c.self.invariant c.runner-runner.result.0 c.runner-runner.ensures.runner c.send2.result (g.M.PhysMem.ram c.send2.new.ram) c.send2.new.buffers c.send2.ensures.refusal c.send2.ensures.kept_ram c.send2.ensures.kept c.send2.ensures.ram c.send2.ensures.full c.send2.ensures.receiver w.in-Ok.receiver w.in-Ok.is w.raise_framework.new.self w.raise_framework.ensures
-      | in-Err w ↦
-          (λ i. replied (state_of (parts_of g.M.PhysMem.ram (w.self-inside-is i))) (w.result-is i))
-          ∙ unsent x c.self.invariant c.runner-runner.result.0 c.runner-runner.ensures.runner c.send2.result (g.M.PhysMem.ram c.send2.new.ram) c.send2.new.buffers c.send2.ensures.refusal c.send2.ensures.kept_ram c.send2.ensures.kept c.send2.ensures.ram c.send2.ensures.full c.send2.ensures.receiver w.in-Err.code w.in-Err.is
-    ]
-    ∙ ap (λ (seen : Managed). served seen.state (msg_send2 seen.state)) c.self.view_is
-
-pub returns-clause-unowned : goal.returns-clause-unowned
-returns-clause-unowned g c =
+pub returns : goal.returns
+returns g c =
     let x = parts_of g.M.PhysMem.ram c.self.inside in
     let kept =
     subst (λ (seen : Managed). KeepsUnowned seen.state seen.ram (g.M.PhysMem.ram c.send2.new.ram)) c.self.view_is
     (send-unowned x c.self.invariant c.runner-runner.result.0 c.runner-runner.ensures.runner c.send2.result (g.M.PhysMem.ram c.send2.new.ram) c.send2.new.buffers c.send2.ensures.refusal c.send2.ensures.kept_ram c.send2.ensures.kept c.send2.ensures.ram c.send2.ensures.full c.send2.ensures.receiver) in
-    elim c.match-send2.branch [
-      | in-Ok w ↦ subst (λ (y : Parts). KeepsUnowned c.args.self.now.state c.args.self.now.ram y.ram) (ap (parts_of g.M.PhysMem.ram) (sym w.self-inside-is)) kept
-      | in-Err w ↦ subst (λ (y : Parts). KeepsUnowned c.args.self.now.state c.args.self.now.ram y.ram) (ap (parts_of g.M.PhysMem.ram) (sym w.self-inside-is)) kept
-    ]
+    record {
+      served =
+          elim c.match-send2.branch [
+            | in-Ok w ↦
+                (λ i. replied (state_of (parts_of g.M.PhysMem.ram (w.self-inside-is i))) (w.result-is i))
+                ∙ sent x c.self.invariant c.runner-runner.result.0 c.runner-runner.ensures.runner c.send2.result (g.M.PhysMem.ram c.send2.new.ram) c.send2.new.buffers c.send2.ensures.refusal c.send2.ensures.kept_ram c.send2.ensures.kept c.send2.ensures.ram c.send2.ensures.full c.send2.ensures.receiver w.in-Ok.receiver w.in-Ok.is w.raise_framework.new.self w.raise_framework.ensures
+            | in-Err w ↦
+                (λ i. replied (state_of (parts_of g.M.PhysMem.ram (w.self-inside-is i))) (w.result-is i))
+                ∙ unsent x c.self.invariant c.runner-runner.result.0 c.runner-runner.ensures.runner c.send2.result (g.M.PhysMem.ram c.send2.new.ram) c.send2.new.buffers c.send2.ensures.refusal c.send2.ensures.kept_ram c.send2.ensures.kept c.send2.ensures.ram c.send2.ensures.full c.send2.ensures.receiver w.in-Err.code w.in-Err.is
+          ]
+          ∙ ap (λ (seen : Managed). served seen.state (msg_send2 seen.state)) c.self.view_is;
+      refused = elim c.match-send2.branch [
+        | in-Ok w ↦ λ error. absurd (true≢false (sym error ∙ ap is_error w.result-is))
+        | in-Err w ↦ λ error. ap managed_of (ap (parts_of g.M.PhysMem.ram) w.self-inside-is ∙ unsent-parts x c.self.invariant c.runner-runner.result.0 c.runner-runner.ensures.runner c.send2.result (g.M.PhysMem.ram c.send2.new.ram) c.send2.new.buffers c.send2.ensures.refusal c.send2.ensures.kept_ram c.send2.ensures.kept c.send2.ensures.ram c.send2.ensures.full c.send2.ensures.receiver w.in-Err.code w.in-Err.is) ∙ c.self.view_is
+      ];
+      unowned =
+          elim c.match-send2.branch [
+            | in-Ok w ↦ subst (λ (y : Parts). KeepsUnowned c.args.self.now.state c.args.self.now.ram y.ram) (ap (parts_of g.M.PhysMem.ram) (sym w.self-inside-is)) kept
+            | in-Err w ↦ subst (λ (y : Parts). KeepsUnowned c.args.self.now.state c.args.self.now.ram y.ram) (ap (parts_of g.M.PhysMem.ram) (sym w.self-inside-is)) kept
+          ];
+    }

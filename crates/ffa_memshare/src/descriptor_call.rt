@@ -1,4 +1,4 @@
-//! The registers of a call whose descriptor stands in TX.
+//! Calls whose descriptor stands in TX.
 ghost use Rattle.std.specs.Prelude.{◌≡◌, length, List, OnOk, IfOk, IfErr, Bool, Some, is_some, true};
 ghost use Rattle.ffa_model.specs.MemorySend.{after_transfer};
 ghost use Rattle.ffa_model.specs.declared.operation.ErrorCode.{ErrorCode as Code};
@@ -9,28 +9,21 @@ ghost use Rattle.ffa_rxtx.specs.Parts.{IsInRam};
 ghost use Rattle.ffa_memshare.specs.Scenes.{descriptor_in, is_whole};
 
 use crate::page_run::PageRun;
-use ffa_model::{EndpointId, ErrorCode, Version};
+use ffa_model::{EndpointId, ErrorCode, Transfer, Version};
 use ffa_physmem::PhysMem;
 use ffa_rxtx::Buffers;
 
-/// What the registers of a call say whose descriptor stands in TX, and the version of who calls.
+/// A call whose descriptor stands in TX.
 #[derive(Clone, Copy, Debug, PartialEq, Eq)]
-pub struct Transfer {
-    /// How many bytes the descriptor has.
-    pub total: u32,
-    /// How many of them stand in TX.
-    pub fragment: u32,
-    /// The address of a buffer beside TX.
-    pub address: u64,
-    /// How many pages that buffer has.
-    pub pages: u32,
-    /// The form of the descriptor, and of the answer to a retrieve.
+pub struct DescriptorCall {
+    /// Its registers.
+    pub transfer: Transfer,
+    /// The form in which its caller writes descriptors, and reads the answer to a retrieve.
     pub version: Version,
 }
 
-impl Transfer {
+impl DescriptorCall {
     ghost use Rattle.ffa_rxtx.specs.Parts.{IsInRam};
-    ghost use Rattle.ffa_memshare.specs.Scenes.{transfer_of};
 
     // The bytes of the caller's descriptor, where they lie in its TX.
     pub(crate) fn descriptor<'m, M: PhysMem>(
@@ -40,8 +33,8 @@ impl Transfer {
         caller: EndpointId,
     ) -> Result<PageRun<'m, M>, ErrorCode>
         requires tx { (b : Own) → buffers_in buffers.now caller.0 ≡ Some b → IsInRam (length (M.ram ram.now).pages) b }
-        ensures refused { IfErr result (λ code. (rest : List (Bool × Code)) → first_failure (after_transfer buffers.now caller.0 (transfer_of self.now) rest) ≡ Some code) }
-        ensures passed { OnOk result ((rest : List (Bool × Code)) → first_failure (after_transfer buffers.now caller.0 (transfer_of self.now) rest) ≡ first_failure rest) }
+        ensures refused { IfErr result (λ code. (rest : List (Bool × Code)) → first_failure (after_transfer buffers.now caller.0 self.now.transfer rest) ≡ Some code) }
+        ensures passed { OnOk result ((rest : List (Bool × Code)) → first_failure (after_transfer buffers.now caller.0 self.now.transfer rest) ≡ first_failure rest) }
         ensures buffers { OnOk result (is_some (buffers_in buffers.now caller.0) ≡ true) }
         ensures bytes { IfOk result (λ bytes. bytes ≡ (descriptor_in (M.ram ram.now) buffers.now caller.0 self.now).bytes) }
     {
@@ -52,16 +45,17 @@ impl Transfer {
         if !self.is_whole(mapped.room()) {
             return Err(ErrorCode::InvalidParameters);
         }
-        Ok(PageRun::new(ram, mapped.tx, mapped.pages, self.total as usize))
+        Ok(PageRun::new(ram, mapped.tx, mapped.pages, self.transfer.total as usize))
     }
 
     // Whether the whole descriptor stands in TX, which has room for this many bytes, and nothing of it elsewhere.
     fn is_whole(&self, room: usize) -> bool
-        ensures { result ≡ is_whole room (transfer_of self.now) }
+        ensures { result ≡ is_whole room self.now.transfer }
     {
-        self.total == self.fragment
-            && self.total as usize <= room
-            && self.address == 0
-            && self.pages == 0
+        let transfer = &self.transfer;
+        transfer.total == transfer.fragment
+            && transfer.total as usize <= room
+            && transfer.address == 0
+            && transfer.pages == 0
     }
 }

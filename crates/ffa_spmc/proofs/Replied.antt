@@ -1,0 +1,99 @@
+-- What each call's part of the manager promises follows from what it keeps where it refuses.
+use Rattle.std.proofs.Common.{◌≡◌, ◌∙◌, None, true, false, List, Option, Result, Ok, Err, refl, sym, ap, subst}
+use Rattle.std.specs.Prelude.{IfOk, OnErr}
+use Rattle.std.proofs.lemmas.Bool.{true≢false}
+use Rattle.ffa_laws.proofs.Kept.{is_memory_call}
+use Rattle.ffa_model.specs.declared.call.Call as calls
+use Rattle.ffa_model.specs.declared.call.Reply.{Reply}
+use Rattle.ffa_model.specs.declared.operation.ErrorCode.{ErrorCode}
+use Rattle.ffa_model.specs.Access.{access}
+use Rattle.ffa_model.specs.Calls.{Service, Stepped, replied, served, success}
+use Rattle.ffa_model.specs.Ram.{Ram, page_of}
+use Rattle.ffa_model.specs.Refusals.{is_error}
+use Rattle.ffa_model.specs.State.{Buffers, State}
+use Rattle.ffa_model.specs.Step.{service}
+use Rattle.ffa_memshare.specs.declared.changed.Changed.{Changed}
+use Rattle.ffa_memshare.specs.Stored.{Pooled, offers_in, slot_at as pool_slot}
+use Rattle.ffa_pages.specs.Entry.{Entry}
+use Rattle.ffa_spmc.specs.declared.answer.Answer.{Answer}
+use Rattle.ffa_spmc.specs.AccessChange.{IsAccessChange}
+use Rattle.ffa_spmc.specs.Managed.{Managed}
+use Rattle.ffa_spmc.specs.Meaning.{Parts, state_of}
+use Rattle.ffa_spmc.specs.Replies.{done_or_error, reply_of, reply_or_error}
+use Rattle.ffa_spmc.specs.Served.{IsAnswered, IsReplied}
+use Rattle.ffa_spmc.specs.Unowned.{KeepsUnowned}
+use Rattle.ffa_spmc.proofs.AccessChanges.{access-served, none-changed}
+
+-- what contracts see of the parts
+abbrev pub managed_of : Parts → Managed
+managed_of x = record { state = state_of x; ram = x.ram }
+
+-- where what is done is told without an error, an error is a refusal
+pub refused-told : {X P : Type 0} (told : X → Reply) (r : Result X ErrorCode) (reply : Reply) → reply ≡ reply_of told r
+    → ((x : X) → is_error (told x) ≡ false) → OnErr r P → is_error reply ≡ true → P
+refused-told told (Ok x) reply is plain kept error = absurd (true≢false (sym error ∙ ap is_error is ∙ plain x))
+refused-told told (Err code) reply is plain kept error = kept
+
+pub refused-done : {X P : Type 0} (r : Result X ErrorCode) (reply : Reply) → reply ≡ done_or_error r → OnErr r P → is_error reply ≡ true → P
+refused-done r reply is kept = refused-told (λ done. success 0 0) r reply is (λ done. refl) kept
+
+pub refused-replied : {P : Type 0} (r : Result Reply ErrorCode) (reply told : Reply) → reply ≡ reply_or_error r → IfOk r (λ y. y ≡ told)
+    → is_error told ≡ false → OnErr r P → is_error reply ≡ true → P
+refused-replied (Ok y) reply told is so plain kept error = absurd (true≢false (sym error ∙ ap is_error (is ∙ so) ∙ plain))
+refused-replied (Err code) reply told is so plain kept error = kept
+
+-- a refused call on memory keeps all parts
+pub kept-memory : {X : Type 0} (x : Parts) (r : Result X ErrorCode) (ram : Ram) (pages : List (Option Entry)) (pool : Pooled)
+    → OnErr r (ram ≡ x.ram) → OnErr r (pages ≡ x.kept.pages) → OnErr r (pool ≡ x.kept.pool)
+    → OnErr r (record x { ram = ram; kept = record x.kept { pages = pages; pool = pool } } ≡ x)
+kept-memory x (Ok done) ram pages pool same_ram same_pages same_pool = tt
+kept-memory x (Err code) ram pages pool same_ram same_pages same_pool =
+    λ i. record x { ram = same_ram i; kept = record x.kept { pages = same_pages i; pool = same_pool i } }
+
+pub kept-buffers : {X : Type 0} (x : Parts) (r : Result X ErrorCode) (ram : Ram) (pages : List (Option Entry)) (pool : Pooled) (buffers : List (Option Buffers))
+    → OnErr r (ram ≡ x.ram) → OnErr r (pages ≡ x.kept.pages) → OnErr r (pool ≡ x.kept.pool) → OnErr r (buffers ≡ x.kept.buffers)
+    → OnErr r (record x { ram = ram; kept = record x.kept { pages = pages; pool = pool; buffers = buffers } } ≡ x)
+kept-buffers x (Ok done) ram pages pool buffers same_ram same_pages same_pool same_buffers = tt
+kept-buffers x (Err code) ram pages pool buffers same_ram same_pages same_pool same_buffers =
+    λ i. record x { ram = same_ram i; kept = record x.kept { pages = same_pages i; pool = same_pool i; buffers = same_buffers i } }
+
+-- what is so of the parts is so of what contracts see
+module _ (x y : Parts) (now : Managed) (seen : managed_of x ≡ now) (c : State → Service) (reply : Reply) where
+  pub replied-with : replied (state_of y) reply ≡ served (state_of x) (c (state_of x)) → (is_error reply ≡ true → y ≡ x) → KeepsUnowned (state_of x) x.ram y.ram
+      → IsReplied now (managed_of y) (c now.state) reply
+  replied-with is kept unowned =
+      record {
+        served = is ∙ ap (λ (m : Managed). served m.state (c m.state)) seen;
+        refused = λ error. ap managed_of (kept error) ∙ seen;
+        unowned = subst (λ (m : Managed). KeepsUnowned m.state m.ram y.ram) seen unowned;
+      }
+
+  -- where RAM is left as it was
+  pub replied-beside : replied (state_of y) reply ≡ served (state_of x) (c (state_of x)) → (is_error reply ≡ true → y ≡ x) → y.ram ≡ x.ram
+      → IsReplied now (managed_of y) (c now.state) reply
+  replied-beside is kept same = replied-with is kept (λ p behind none. ap (λ (r : Ram). page_of r p) same)
+
+-- and of a call on memory, whose answer tells this change
+module _ (x y : Parts) (now : Managed) (seen : managed_of x ≡ now) (c : State → Service) (answer : Answer) (changed : Option Changed) where
+  pub answered-with : replied (state_of y) answer.reply ≡ served (state_of x) (c (state_of x)) → (is_error answer.reply ≡ true → y ≡ x)
+      → KeepsUnowned (state_of x) x.ram y.ram → answer.changed ≡ changed → IsAccessChange (state_of x) (state_of y) changed
+      → (is_error answer.reply ≡ true → answer.changed ≡ None) → IsAnswered now (managed_of y) (c now.state) answer
+  answered-with is kept unowned told change none =
+      record {
+        replied = replied-with x y now seen c answer.reply is kept unowned;
+        access = subst (λ (o : Option Changed). IsAccessChange now.state (state_of y) o) (sym told)
+            (subst (λ (m : Managed). IsAccessChange m.state (state_of y) changed) seen change);
+        unchanged = none;
+      }
+
+-- a call that isn't on memory changes nobody's access
+pub answered-beside : (old new : Managed) (call same : calls.Call) (answer : Answer) (reply : Reply) → call ≡ same → is_memory_call same ≡ false
+    → answer.reply ≡ reply → answer.changed ≡ None → IsReplied old new (service old.state same) reply → IsAnswered old new (service old.state call) answer
+answered-beside old new call same answer reply is beside replies none its =
+    subst (λ (a : calls.Call). IsAnswered old new (service old.state a) answer) (sym is)
+    (record {
+      replied = subst (IsReplied old new (service old.state same)) (sym replies) its;
+      access = subst (λ (o : Option Changed). IsAccessChange old.state new.state o) (sym none)
+          (none-changed old.state new.state (λ e p. ap (λ (t : Stepped). access t.state e p) its.served ∙ access-served old.state e p same beside));
+      unchanged = λ error. none;
+    })
