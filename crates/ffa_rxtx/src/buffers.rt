@@ -119,7 +119,6 @@ impl Buffers {
     /// In this order: `Denied` where the caller has buffers; `InvalidParameters` where they aren't one to four pages, an
     /// address isn't that of a page, a page isn't in RAM, or one is in both; `Denied` where a page isn't the caller's,
     /// stands in an open transaction, or has a base right without rw. An error changes nothing.
-    #[tactic(auto, using(crate::proofs::Places::known_place))]
     pub fn map(
         &mut self,
         table: &PageTable,
