@@ -20,7 +20,7 @@ use Rattle.ffa_model.proofs.Guards.{guard-passes}
 use Rattle.ffa_model.proofs.Places.{known-cases, partition-place}
 use Rattle.ffa_model.proofs.Links.{last-more, link-found}
 use Rattle.ffa_model.proofs.Chains.{behind, link-known, origin-before, popped, pushed, schedule-popped, schedule-pushed}
-use Rattle.ffa_model.proofs.Sounds.{outside-chain, sound}
+use Rattle.ffa_model.proofs.Sounds.{outside-chain, outside-works, sound}
 use Rattle.ffa_laws.proofs.Unchained.{chain-of, links, schedule-is}
 
 -- a list with an element, from its end
@@ -135,20 +135,13 @@ module _ (c : Schedule) (is : IsSound c) (some : 1 ≤ length c.works) (few : le
   yield-origin (Some Run) h = refl
   yield-origin (Some (Request x)) h = ap Some (eqb-true x.0 0 h)
 
-  yield-status : (w : Option Work) → origin w ≡ Some 0 → status_outside w ≡ Yielded
-  yield-status None h = absurd (none_some h)
-    where
-      none_some : ◌≡◌ {A = Option ℕ} None (Some 0) → ⊥
-      none_some e = cc
-  yield-status (Some w) h = refl
-
   pub sound-wait : first_failure (wait_guards c) ≡ None → IsSound (finished c 0)
   sound-wait none = stopped None 0 (run-origin (work_in c c.runner) (guard-passes (wait_guards c) 0 Denied (sym none))) (inl refl)
 
   pub sound-yield : first_failure (yield_guards c) ≡ None → IsSound (switched c Yielded 0)
   sound-yield none =
       let from = yield-origin (work_in c c.runner) (guard-passes (yield_guards c) 0 Denied (sym none)) in
-      subst IsSound (λ i. record (switched c (yield-status (work_in c c.runner) from i) 0) { works = set-get_or c.works (place c.runner) None i })
+      subst IsSound (λ i. record (switched c (outside-works (work_in c c.runner) 0 from i) 0) { works = set-get_or c.works (place c.runner) None i })
       (stopped (work_in c c.runner) 0 from (inr from))
 
   pub sound-response : (by : ℕ) → requester (work_in c c.runner) ≡ Some by → IsSound (finished c by)

@@ -1,5 +1,5 @@
 -- Sound run states are those of a chain of links.
-use Rattle.std.proofs.Common.{◌≡◌, ◌≢◌, ◌⊎◌, ◌∙◌, ℕ, zero, suc, ◌-◌, ◌<◌, ◌≤◌, true, false, cond, List, [], ◌∷◌, length, get_or, Option, Some, None, nat_eq, refl, sym, ap, inl, inr, arith}
+use Rattle.std.proofs.Common.{◌≡◌, ◌≢◌, ◌⊎◌, ◌∙◌, ℕ, zero, suc, ◌-◌, ◌<◌, ◌≤◌, true, false, cond, List, [], ◌∷◌, length, get_or, Some, None, nat_eq, refl, sym, ap, inl, inr, arith}
 use Rattle.std.specs.Prelude.{◌==◌, ◌||◌}
 use Rattle.std.specs.List.{list_any}
 use Rattle.std.proofs.lemmas.Bool.{cases_Bool, cases_eq, cases_lt, eq-eqb, eqb-true, false≢true, true≢false}
@@ -9,7 +9,6 @@ use Rattle.std.proofs.lemmas.Map.Made.{AllPairs-from_IsDistinct}
 use Rattle.ffa_model.specs.declared.limits.TheConstants.{MOST_ENDPOINTS}
 use Rattle.ffa_model.specs.declared.schedule.Status.{Status}
 use Rattle.ffa_model.specs.declared.schedule.Status.TheVariants.{Running, Waiting, Yielded, Blocked}
-use Rattle.ffa_model.specs.declared.schedule.Work.{Work}
 use Rattle.ffa_model.specs.Identifiers.{identifier, place}
 use Rattle.ffa_model.specs.Lists.{listed}
 use Rattle.ffa_model.specs.State.{is_partition_among, is_known_among}
@@ -19,6 +18,7 @@ use Rattle.ffa_model.specs.Links.{IsChain, has_link_at, last_link, link_at, sche
 use Rattle.ffa_model.proofs.Links.{link-found, link-has}
 use Rattle.ffa_model.proofs.Chains.{status-last, status-rest}
 use Rattle.ffa_model.proofs.Places.{partition-known, place-identifier, same-known}
+use Rattle.ffa_model.proofs.Sounds.{outside-works}
 
 listed-of : {X : Type 0} (xs : List X) (f : ℕ → X) (d : X) → ((p : ℕ) → p < length xs → f p ≡ get_or xs p d) → listed (length xs) f ≡ xs
 listed-of [] f d same = refl
@@ -128,17 +128,10 @@ module _ (c : Schedule) (sound : IsSound c) (some : 1 ≤ length c.works) (few :
 
   yielded-work : (p : ℕ) → p < length c.works → status_in c (identifier p) ≡ Yielded → (origin (work_at c.works p) ≡ Some 0) × (status_outside (work_at c.works p) ≡ Yielded)
   yielded-work zero lt yields = absurd (not_normal Yielded yielded≢running yielded≢blocked yields)
-  yielded-work (suc p) lt yields = (from, outside (work_at c.works (suc p)) from)
+  yielded-work (suc p) lt yields = (from, outside-works (work_at c.works (suc p)) 0 from)
     where
       from : origin (work_at c.works (suc p)) ≡ Some 0
       from = ap (λ q. origin (work_at c.works q)) (sym (place-identifier (suc p))) ∙ sound.yielded (identifier (suc p)) (identifier-partition (length c.works) p lt) yields
-
-      none_some : {x : ℕ} → None ≡ Some x → ⊥
-      none_some h = cc
-
-      outside : (w : Option Work) → origin w ≡ Some 0 → status_outside w ≡ Yielded
-      outside None is = absurd (none_some is)
-      outside (Some work) is = refl
 
   -- ---- by places
   module _ (p : ℕ) (lt : p < length c.works) where

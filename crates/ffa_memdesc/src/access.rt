@@ -39,7 +39,8 @@ pub fn read_access<B: Bytes>(bytes: &B, at: usize) -> Access
     requires { at + 16 ≤ length (B.bytes bytes.now) }
     ensures { result ≡ access_in (B.bytes bytes.now) at }
 {
-    let _len = bytes.len();
+    // Proof step: the number of bytes fits a usize.
+    let _ = bytes.len();
     Access {
         endpoint: EndpointId(read_u16(bytes, at)),
         permissions: bytes.at(at + 2),

@@ -37,7 +37,8 @@ pub fn read_u16<B: Bytes>(bytes: &B, place: usize) -> u16
     requires { place + 2 ≤ length (B.bytes bytes.now) }
     ensures { result ≡ u16_at (B.bytes bytes.now) place }
 {
-    let _len = bytes.len();
+    // Proof step: the number of bytes fits a usize.
+    let _ = bytes.len();
     LittleEndian::read_u16(&[bytes.at(place), bytes.at(place + 1)])
 }
 
@@ -47,7 +48,8 @@ pub fn read_u32<B: Bytes>(bytes: &B, place: usize) -> u32
     requires { place + 4 ≤ length (B.bytes bytes.now) }
     ensures { result ≡ u32_at (B.bytes bytes.now) place }
 {
-    let _len = bytes.len();
+    // Proof step: the number of bytes fits a usize.
+    let _ = bytes.len();
     LittleEndian::read_u32(&[
         bytes.at(place),
         bytes.at(place + 1),
@@ -62,7 +64,8 @@ pub fn read_u64<B: Bytes>(bytes: &B, place: usize) -> u64
     requires { place + 8 ≤ length (B.bytes bytes.now) }
     ensures { result ≡ u64_at (B.bytes bytes.now) place }
 {
-    let _len = bytes.len();
+    // Proof step: the number of bytes fits a usize.
+    let _ = bytes.len();
     LittleEndian::read_u64(&[
         bytes.at(place),
         bytes.at(place + 1),

@@ -60,7 +60,8 @@ fn read_range<B: Bytes>(bytes: &B, at: usize, earlier: &[Range]) -> Option<Range
     requires { at + 16 ≤ length (B.bytes bytes.now) }
     ensures { result ≡ range_of (B.bytes bytes.now) at earlier.now }
 {
-    let _len = bytes.len();
+    // Proof step: the number of bytes fits a usize.
+    let _ = bytes.len();
     let range = Range {
         address: read_u64(bytes, at),
         pages: read_u32(bytes, at + 8),
@@ -85,7 +86,6 @@ pub fn read_ranges<B: Bytes>(
     requires empty { ranges.old.items ≡ [] }
     ensures { option_map (λ _. ranges.new.items) result ≡ ranges_of (B.bytes bytes.now) composite count }
 {
-    let _len = bytes.len();
     for i in 0..count {
         let at = composite as usize + 16 + ENTRY_SIZE as usize * i as usize;
         let range = read_range(bytes, at, ranges)?;

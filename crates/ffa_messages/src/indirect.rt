@@ -234,13 +234,15 @@ fn copy_run<M: PhysMem>(ram: &mut M, from: &Mapped, to: &Mapped, size: usize)
     requires apart { IsBeside (buffers_of from.now) (buffers_of to.now) }
     ensures { M.ram ram.new ≡ with_run to.now.pages (M.ram ram.old) to.now.rx.0 (take size (run_in (M.ram ram.old) from.now.tx.0 from.now.pages)) }
 {
-    let _count = ram.pages();
+    // Proof step: the number of pages fits a u32.
+    let _ = ram.pages();
     let pages = ((size + (PAGE_SIZE - 1)) / PAGE_SIZE) as u32;
     for i in 0..pages {
         let rest = size - PAGE_SIZE * i as usize;
         let count = if rest < PAGE_SIZE { rest } else { PAGE_SIZE };
         let source = PageNo(from.tx.0 + i);
-        let _page = ram.page(source);
+        // Proof step: the page has 4096 bytes.
+        let _ = ram.page(source);
         ram.copy(source, PageNo(to.rx.0 + i), count);
     }
 }

@@ -41,6 +41,11 @@ outside-yielded w h none = differ (sym (ap status_outside none) ∙ h)
     differ : Waiting ≡ Yielded → ⊥
     differ e = cc
 
+-- and has yielded where it has work
+pub outside-works : (w : Option Work) (by : ℕ) → origin w ≡ Some by → status_outside w ≡ Yielded
+outside-works None by works_for = cc
+outside-works (Some work) by works_for = refl
+
 -- by their indexes, links that are blocked for one another
 linked-from : (c : Schedule) (e : ℕ) (fs : List ℕ) → ((k : ℕ) → k < length fs → status_in c (link_at (e ∷ fs) k) ≡ Blocked)
     → ((k : ℕ) → k < length fs → IsPartition c (link_at (e ∷ fs) (suc k)))

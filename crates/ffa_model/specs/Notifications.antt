@@ -135,37 +135,35 @@ destroy_guards n caller endpoint =
     ∷ (not (has_pending n 0), Denied)
     ∷ []
 
--- FFA_NOTIFICATION_BIND, with w1, w2 and the bitmap: the sender stands in the high half of w1, the receiver in the low
+-- FFA_NOTIFICATION_BIND and FFA_NOTIFICATION_UNBIND alike, with w1, w2 and the bitmap, and then others: the sender stands in
+-- the high half of w1, the receiver in the low
+abbrev pub sender_guards : ℕ → Notifications → ℕ → ℕ → ℕ → ℕ → List (Bool × ErrorCode) → List (Bool × ErrorCode)
+sender_guards endpoints n caller word flags bitmap rest =
+    (low_half word == caller, InvalidParameters)
+    ∷ (is_known_among endpoints (high_half word), InvalidParameters)
+    ∷ (not (high_half word == caller), InvalidParameters)
+    ∷ (flags == 0, InvalidParameters)
+    ∷ (not (bitmap == 0), InvalidParameters)
+    ∷ (has_bitmaps_in n caller, Denied)
+    ∷ rest
+
+-- FFA_NOTIFICATION_BIND
 abbrev pub is_bindable : ℕ → Notifications → ℕ → ℕ → ℕ → Bool
 is_bindable endpoints n receiver sender bit =
     not (is_bound_to_another endpoints n receiver (class_of sender) bit sender) && not (is_pending n receiver (class_of sender) bit)
 
 abbrev pub bind_guards : ℕ → Notifications → ℕ → ℕ → ℕ → ℕ → List (Bool × ErrorCode)
 bind_guards endpoints n caller word flags bitmap =
-    (low_half word == caller, InvalidParameters)
-    ∷ (is_known_among endpoints (high_half word), InvalidParameters)
-    ∷ (not (high_half word == caller), InvalidParameters)
-    ∷ (flags == 0, InvalidParameters)
-    ∷ (not (bitmap == 0), InvalidParameters)
-    ∷ (has_bitmaps_in n caller, Denied)
-    ∷ (list_all (is_bindable endpoints n caller (high_half word)) (bits_of bitmap), Denied)
-    ∷ []
+    sender_guards endpoints n caller word flags bitmap ((list_all (is_bindable endpoints n caller (high_half word)) (bits_of bitmap), Denied) ∷ [])
 
--- FFA_NOTIFICATION_UNBIND, with the same
+-- FFA_NOTIFICATION_UNBIND
 abbrev pub is_unbindable : Notifications → ℕ → ℕ → ℕ → Bool
 is_unbindable n receiver sender bit =
     is_bound n receiver (class_of sender) bit sender && not (is_pending n receiver (class_of sender) bit)
 
 abbrev pub unbind_guards : ℕ → Notifications → ℕ → ℕ → ℕ → ℕ → List (Bool × ErrorCode)
 unbind_guards endpoints n caller word flags bitmap =
-    (low_half word == caller, InvalidParameters)
-    ∷ (is_known_among endpoints (high_half word), InvalidParameters)
-    ∷ (not (high_half word == caller), InvalidParameters)
-    ∷ (flags == 0, InvalidParameters)
-    ∷ (not (bitmap == 0), InvalidParameters)
-    ∷ (has_bitmaps_in n caller, Denied)
-    ∷ (list_all (is_unbindable n caller (high_half word)) (bits_of bitmap), Denied)
-    ∷ []
+    sender_guards endpoints n caller word flags bitmap ((list_all (is_unbindable n caller (high_half word)) (bits_of bitmap), Denied) ∷ [])
 
 -- FFA_NOTIFICATION_SET, with the same: the flag that delays the schedule receiver interrupt has no effect
 abbrev pub set_guards : ℕ → Notifications → ℕ → ℕ → ℕ → ℕ → List (Bool × ErrorCode)

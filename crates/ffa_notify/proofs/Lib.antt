@@ -4,6 +4,5 @@ pub mod Universe
 pub mod Changes
 pub mod Stores
 pub mod Tests
-pub mod Guards
 pub mod Views
 pub mod Boots

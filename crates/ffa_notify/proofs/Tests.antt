@@ -18,7 +18,6 @@ use Rattle.ffa_model.specs.Notifications.{Notifications, class_of, has_pending, 
 use Rattle.ffa_model.proofs.Bitmaps.{word_where-same, word_where-set}
 use Rattle.std.proofs.lemmas.Bool.{and_parts, ne_eqb}
 use Rattle.ffa_model.specs.State.{is_known_among}
-use Rattle.ffa_notify.specs.Guards.{is_between}
 use Rattle.ffa_notify.proofs.Bits.{all_bits, any-same, set-not, set-or, some-bit}
 
 neither-is : (a b : Bool) → (a || b) ≡ not (not a && not b)
@@ -92,7 +91,10 @@ pub some-of-three : (v : Notifications) (r : ℕ) (a b c : Bool) → a ≡ list_
     → ((a || b) || c) ≡ has_pending v r
 some-of-three v r a b c is_a is_b is_c = joined a b c ∙ (λ t. is_a t || (is_b t || (is_c t || false)))
 
--- who is between a caller and another knows the other
+-- whether one of two named endpoints is the caller and the other another, whom it knows then
+abbrev is_between : ℕ → ℕ → ℕ → ℕ → Bool
+is_between endpoints caller own other = own == caller && (is_known_among endpoints other && not (other == caller))
+
 pub between-known : (endpoints caller own other : ℕ) → is_between endpoints caller own other ≡ true → is_known_among endpoints other ≡ true
 between-known endpoints caller own other is = (and_parts _ _ (and_parts (own == caller) _ is).1).0
 

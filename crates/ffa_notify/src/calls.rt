@@ -1,11 +1,11 @@
 //! The calls of notifications (DEN0077A, 16).
-ghost use Rattle.std.specs.Prelude.{◌≡◌, ◌==◌, ◌||◌, true, length, OnOk, OnErr, IfOk};
+ghost use Rattle.std.specs.Prelude.{◌≡◌, ◌==◌, ◌||◌, ◌&&◌, not, true, Bool, List, length, Some, OnOk, OnErr, IfOk, IfErr};
 ghost use Rattle.std.specs.Result.{result_err};
 ghost use Rattle.ffa_model.specs.Bits.{bits_of, high_half, low_half};
 ghost use Rattle.ffa_model.specs.Calls.{first_failure};
-ghost use Rattle.ffa_model.specs.Notifications.{bind_guards, class_of, create_guards, destroy_guards, get_guards, get_reply, set_guards, unbind_guards, with_bitmaps, with_bound, with_framework_bit, with_pending, without_bitmaps, without_bound, without_pending};
+ghost use Rattle.ffa_model.specs.Notifications.{bind_guards, class_of, create_guards, destroy_guards, get_guards, get_reply, sender_guards, set_guards, unbind_guards, with_bitmaps, with_bound, with_framework_bit, with_pending, without_bitmaps, without_bound, without_pending};
 ghost use Rattle.ffa_model.specs.State.{is_known_among};
-ghost use Rattle.ffa_notify.specs.Guards.{is_between, sender_guards};
+ghost use Rattle.ffa_model.specs.declared.operation.ErrorCode.{ErrorCode as Code};
 
 use crate::bitmaps::Bitmaps;
 use crate::class::Class;
@@ -203,7 +203,8 @@ impl Bitmaps {
         flags: u32,
         bitmap: u64,
     ) -> Result<EndpointId, ErrorCode>
-        ensures refusal { result_err result ≡ first_failure (sender_guards (length self.now.bitmaps) self.now caller.0 word flags bitmap) }
+        ensures refused { IfErr result (λ code. (rest : List (Bool × Code)) → first_failure (sender_guards (length self.now.bitmaps) self.now caller.0 word flags bitmap rest) ≡ Some code) }
+        ensures passed { OnOk result ((rest : List (Bool × Code)) → first_failure (sender_guards (length self.now.bitmaps) self.now caller.0 word flags bitmap rest) ≡ first_failure rest) }
         ensures sender { IfOk result (λ sender. sender.0 ≡ high_half word) }
         ensures known { IfOk result (λ sender. is_known_among (length self.now.bitmaps) sender.0 ≡ true) }
     {
@@ -222,7 +223,7 @@ impl Bitmaps {
 
     // Whether one of two named endpoints is the caller and the other another.
     fn is_between(&self, caller: EndpointId, own: EndpointId, other: EndpointId) -> bool
-        ensures { result ≡ is_between (length self.now.bitmaps) caller.0 own.0 other.0 }
+        ensures { result ≡ (own.0 == caller.0 && (is_known_among (length self.now.bitmaps) other.0 && not (other.0 == caller.0))) }
     {
         own == caller && other.is_among(self.endpoints()) && other != caller
     }

@@ -109,6 +109,7 @@ impl Bitmaps {
         requires other { is_known_among (length self.now.bitmaps) other.0 ≡ true }
         ensures { (k : ℕ) → k < 64 → is_set k result ≡ (not (other.0 == sender.0) && is_bound self.now receiver.0 (class_of sender.0) k other.0) }
     {
+        // Proof step: the invariant, by which each endpoint has its words.
         let _ = &self.has;
         if other == sender {
             return 0;

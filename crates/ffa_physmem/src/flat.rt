@@ -97,7 +97,8 @@ impl<A: Allocator> PhysMem for FlatRam<A> {
 
     fn page(&self, page: PageNo) -> &[u8; 4096] {
         let bytes = &self.pages[page.0 as usize];
-        let _whole = &bytes[..];
+        // Proof step: the whole of a page is its 4096 bytes.
+        let _ = &bytes[..];
         bytes
     }
 

@@ -79,7 +79,8 @@ impl<A: Allocator> PhysMem for FrameRam<A> {
 
     fn page(&self, page: PageNo) -> &[u8; 4096] {
         let bytes = self.frames[page.0 as usize].as_ref();
-        let _whole = &bytes[..];
+        // Proof step: the whole of a page is its 4096 bytes.
+        let _ = &bytes[..];
         bytes
     }
 

@@ -119,7 +119,6 @@ impl Buffers {
     /// In this order: `Denied` where the caller has buffers; `InvalidParameters` where they aren't one to four pages, an
     /// address isn't that of a page, a page isn't in RAM, or one is in both; `Denied` where a page isn't the caller's,
     /// stands in an open transaction, or has a base right without rw. An error changes nothing.
-    #[tactic(auto, using(crate::proofs::Places::known_place))]
     pub fn map(
         &mut self,
         table: &PageTable,
@@ -333,7 +332,8 @@ fn are_usable(table: &PageTable, endpoint: EndpointId, first: PageNo, pages: u32
     requires { first.0 + pages ≤ length table.now }
     ensures { result ≡ list_all (λ p. is_usable endpoint.0 (candidate_in table.now p)) (run first.0 pages) }
 {
-    let _count = table.pages();
+    // Proof step: the number of pages fits a u32.
+    let _ = table.pages();
     for i in 0..pages {
         if !is_usable(table, endpoint, PageNo(first.0 + i)) {
             return false;

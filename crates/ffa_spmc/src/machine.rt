@@ -203,9 +203,10 @@ impl<M: PhysMem + Drop, T: Translations + Drop> Machine<M, T> {
         // them, whatever is done later.
         ensures silent_offers { OfferSaysNothing self.old.state op.now }
     {
-        // What the clauses rest on holds of every manager, before and after.
+        // Proof step: the state is sound, and the tables give its access.
         self.manager.holds();
         let outcome = self.operate(op);
+        // Proof step: so it is afterwards.
         self.manager.holds();
         outcome
     }
@@ -240,8 +241,10 @@ impl<M: PhysMem + Drop, T: Translations + Drop> Machine<M, T> {
         ensures kept { AreKept self.old self.new }
         ensures others { AreSameOrGone self.old self.new (λ e p. false) }
     {
+        // Proof step: the state is sound, and the tables give its access.
         self.manager.holds();
         let called = self.manager.call(x);
+        // Proof step: so it is afterwards.
         self.manager.holds();
         forget(&mut self.cache, self.manager.ram_base(), &called.changed);
         called.outcome
@@ -282,8 +285,10 @@ impl<M: PhysMem + Drop, T: Translations + Drop> Machine<M, T> {
         // the same, and so is all that an endpoint sees and reads that doesn't hold the loan.
         ensures forgotten_loans { ZeroedIsForgotten self.old.state }
     {
+        // Proof step: the state is sound, and the tables give its access.
         self.manager.holds();
         self.operate_all(ops, filled);
+        // Proof step: so it is afterwards.
         self.manager.holds();
     }
 

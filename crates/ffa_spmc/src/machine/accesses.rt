@@ -51,6 +51,7 @@ impl<M: PhysMem + Drop, T: Translations + Drop> Machine<M, T> {
         ensures answer { result.answer ≡ walk_of self.now.ram self.now.state self.now.state.runner addr }
         ensures missed { option_map (λ (page : PageNo). page.0) result.missed ≡ missed_page self.now addr }
     {
+        // Proof step: the state is sound, and the tables give its access.
         self.manager.holds();
         let page = self.manager.page_of(addr);
         if let Some(page) = page
@@ -82,6 +83,7 @@ impl<M: PhysMem + Drop, T: Translations + Drop> Machine<M, T> {
             return;
         }
         if let (Some(page), Ok(leaf)) = (walked.missed, walked.answer) {
+            // Proof step: the state is sound, and the tables give its access.
             self.manager.holds();
             let runner = self.manager.runner();
             self.cache.fill(runner, page, moved_back(leaf, addr));
@@ -127,8 +129,10 @@ impl<M: PhysMem + Drop, T: Translations + Drop> Machine<M, T> {
         ensures held { IsCached self.old self.new addr }
     {
         let walked = self.walk(addr);
+        // Proof step: the state is sound, and the tables give its access.
         self.manager.holds();
         let outcome = self.manager.store(walked.answer, addr, size, value);
+        // Proof step: so it is afterwards.
         self.manager.holds();
         self.fill(addr, &walked, &outcome);
         outcome

@@ -27,7 +27,7 @@ loop-i-preserved g c =
     let in_rx : i < m = (let room = c.requires.room in omega (arith, test, room)) in
     let copied : g.M.PhysMem.ram c.copy.new.self ≡ with_page now (to + i) (take count (page_of now (first + i)) ++ drop count (page_of now (to + i))) = c.copy.ensures in
     let here : page_of now (first + i) ≡ page_of old (first + i) = c.loop-i.invariant.same i in_tx in
-    let one : length (page_of old (first + i)) ≡ 4096 = ap (λ (page : List ℕ). length page) (sym here) ∙ c.page-page.ensures.whole in
+    let one : length (page_of old (first + i)) ≡ 4096 = ap (λ (page : List ℕ). length page) (sym here) ∙ c.page.ensures.whole in
     let whole : (k : ℕ) → k < i + 1 → length (page_of old (first + k)) ≡ 4096 = below_more (λ k. length (page_of old (first + k)) ≡ 4096) i c.loop-i.invariant.whole one in
     let which : ((rest < 4096) × (count ≡ rest)) ⊎ ((4096 ≤ rest) × (count ≡ 4096)) =
     elim c.if-rest-lt-PAGE_SIZE.branch [ then-rest-lt-PAGE_SIZE w ↦ inl (w.if-rest-lt-PAGE_SIZE.true, w.count-is) | else-rest-lt-PAGE_SIZE w ↦ inr (w.if-rest-lt-PAGE_SIZE.false, w.count-is) ] in
