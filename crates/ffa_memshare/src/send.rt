@@ -20,8 +20,8 @@ ghost use Rattle.ffa_memshare.specs.Shared.{IsRoom};
 ghost use Rattle.ffa_memshare.specs.Stored.{offers_in, transaction_of};
 
 use crate::changed::{Changed, Sent, changed_sender};
+use crate::checks::send::check_offer;
 use crate::holders::Holders;
-use crate::offer::check_offer;
 use crate::page_run::read_send;
 use crate::pool::Pool;
 use crate::transaction::OpenTransaction;

@@ -1,11 +1,8 @@
 //! One open transaction.
 ghost use Rattle.std.specs.Prelude.{◌≡◌, length, Some, None};
-ghost use Rattle.std.specs.Result.{result_err};
 ghost use Rattle.arrayvec.specs.ArrayVec.{array_vec_len};
-ghost use Rattle.ffa_model.specs.Access.{held_by, right_by};
-ghost use Rattle.ffa_model.specs.Calls.{first_failure};
+ghost use Rattle.ffa_model.specs.Access.{held_by, is_receiver, right_by};
 ghost use Rattle.ffa_model.specs.Identifiers.{place};
-ghost use Rattle.ffa_model.specs.MemoryReturn.{is_unheld, reclaim_guards};
 ghost use Rattle.ffa_model.specs.State.{Page};
 ghost use Rattle.ffa_model.specs.Transactions.{are_executable, are_writable};
 ghost use Rattle.ffa_pages.specs.Entry.{base_at};
@@ -16,14 +13,14 @@ ghost use Rattle.ffa_memshare.specs.Grants.{new_right};
 ghost use Rattle.ffa_memshare.specs.Sent.{right_after};
 ghost use Rattle.ffa_memshare.specs.Shared.{IsHeld};
 
-use crate::checks::{Common, common_of};
+use crate::common::{Common, common_of};
 use crate::grants::NewRight;
 use crate::holders::Holders;
 use crate::marks::{Mark, mark_all};
 use crate::moves::move_rights;
 use crate::page_ranges::PageRanges;
 use arrayvec::ArrayVec;
-use ffa_model::{EndpointId, ErrorCode, Kind, MOST_RECEIVERS, Receiver, Rights};
+use ffa_model::{EndpointId, Kind, MOST_RECEIVERS, Receiver, Rights};
 use ffa_pages::PageTable;
 use ffa_physmem::PhysMem;
 use ffa_stage2::Layout;
@@ -43,6 +40,16 @@ pub struct OpenTransaction {
 
 impl OpenTransaction {
     ghost use Rattle.ffa_memshare.specs.Stored.{transaction_of};
+
+    // Whether it is offered to an endpoint.
+    pub(crate) fn is_receiver(&self, endpoint: EndpointId) -> bool
+        ensures { result ≡ is_receiver endpoint.0 (transaction_of self.now) }
+    {
+        self.receivers
+            .as_slice()
+            .iter()
+            .any(|receiver| receiver.endpoint == endpoint)
+    }
 
     // The right that an endpoint holds.
     pub(crate) fn held(&self, endpoint: EndpointId) -> Option<Rights>
@@ -65,16 +72,6 @@ impl OpenTransaction {
         }
     }
 
-    // Whether no receiver holds it.
-    fn is_unheld(&self) -> bool
-        ensures { result ≡ is_unheld (Some (transaction_of self.now)) }
-    {
-        self.receivers
-            .as_slice()
-            .iter()
-            .all(|receiver| self.held(receiver.endpoint).is_none())
-    }
-
     // What all its pages have.
     pub(crate) fn common(&self, pages: &PageTable, base: u32) -> Common
         requires { ArePlaced base (length pages.now) self.now.ranges }
@@ -82,29 +79,6 @@ impl OpenTransaction {
         ensures executable { result.is_executable ≡ are_executable (bases_in pages.now base) self.now.ranges }
     {
         common_of(pages, base, &self.ranges)
-    }
-
-    // Whether its sender may end it, or why not.
-    pub(crate) fn check_reclaim(
-        &self,
-        pages: &PageTable,
-        base: u32,
-        caller: EndpointId,
-        flags: u32,
-    ) -> Result<(), ErrorCode>
-        requires { ArePlaced base (length pages.now) self.now.ranges }
-        ensures { result_err result ≡ first_failure (reclaim_guards (bases_in pages.now base) caller.0 flags (Some (transaction_of self.now))) }
-    {
-        if flags > 1 || self.sender != caller {
-            return Err(ErrorCode::InvalidParameters);
-        }
-        if !self.is_unheld() {
-            return Err(ErrorCode::Denied);
-        }
-        if flags == 1 && !self.common(pages, base).is_writable {
-            return Err(ErrorCode::Denied);
-        }
-        Ok(())
     }
 
     // Gives its pages back to the sender, who has its own right to them, and zeros where that is asked.

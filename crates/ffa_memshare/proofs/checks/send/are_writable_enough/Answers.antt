@@ -5,7 +5,7 @@ use Rattle.ffa_model.specs.Transactions.{are_writable}
 use Rattle.ffa_memshare.specs.Named.{bases_in}
 use Rattle.ffa_memshare.specs.Offers.{grants_writes}
 use Rattle.ffa_memshare.proofs.Offered.{writes-enough}
-use Rattle.ffa_memshare.proofs.offer.are_writable_enough.Goals as goal
+use Rattle.ffa_memshare.proofs.checks.send.are_writable_enough.Goals as goal
 
 pub returns-then-is_writable : goal.returns-then-is_writable
 returns-then-is_writable c =

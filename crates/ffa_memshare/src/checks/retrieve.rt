@@ -1,8 +1,7 @@
-//! The most that a receiver may hold of an open transaction, and what it asks for.
+//! The checks of FFA_MEM_RETRIEVE_REQ: what a receiver asks for, and the most that it may hold.
 ghost use Rattle.std.specs.Prelude.{◌≡◌, ◌==◌, length, find, IfOk, Some};
 ghost use Rattle.std.specs.Result.{result_err};
 ghost use Rattle.ffa_model.specs.declared.transaction.Receiver.{Receiver as Named};
-ghost use Rattle.ffa_model.specs.Access.{is_receiver};
 ghost use Rattle.ffa_model.specs.Calls.{first_failure};
 ghost use Rattle.ffa_model.specs.MemoryRetrieve.{asked_right, holding_guards, is_kind_right, right_for};
 ghost use Rattle.ffa_model.specs.Rights.{is_at_most, is_same_kind};
@@ -11,23 +10,12 @@ ghost use Rattle.ffa_memshare.specs.Asked.{is_asked_for};
 ghost use Rattle.ffa_memshare.specs.Named.{bases_in};
 ghost use Rattle.ffa_memshare.specs.Ranges.{ArePlaced};
 
-use crate::checks::common_of;
 use crate::transaction::OpenTransaction;
 use ffa_model::{Data, EndpointId, ErrorCode, Kind, Receiver, RetrieveDesc, Rights};
 use ffa_pages::PageTable;
 
 impl OpenTransaction {
     ghost use Rattle.ffa_memshare.specs.Stored.{transaction_of};
-
-    // Whether it is offered to an endpoint.
-    pub(crate) fn is_receiver(&self, endpoint: EndpointId) -> bool
-        ensures { result ≡ is_receiver endpoint.0 (transaction_of self.now) }
-    {
-        self.receivers
-            .as_slice()
-            .iter()
-            .any(|receiver| receiver.endpoint == endpoint)
-    }
 
     // What it says of a receiver.
     fn receiver(&self, endpoint: EndpointId) -> Option<Receiver>

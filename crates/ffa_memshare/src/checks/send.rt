@@ -1,19 +1,21 @@
-//! Whether an endpoint may send what it offers.
-ghost use Rattle.std.specs.Prelude.{◌≡◌, ℕ, length, List, OnOk, IfOk, IfErr, Bool, Some, true, false, not, ◌&&◌, ◌||◌};
+//! The checks of FFA_MEM_DONATE, FFA_MEM_LEND and FFA_MEM_SHARE: whether an endpoint may send what it offers.
+ghost use Rattle.std.specs.Prelude.{◌≡◌, ◌<◌, ℕ, length, List, OnOk, IfOk, IfErr, Bool, Some, true, false, not, ◌&&◌, ◌||◌};
 ghost use Rattle.std.specs.List.{list_all};
 ghost use Rattle.arrayvec.specs.ArrayVec.{array_vec_len};
 ghost use Rattle.ffa_model.specs.declared.operation.ErrorCode.{ErrorCode as Code};
 ghost use Rattle.ffa_model.specs.Calls.{first_failure};
-ghost use Rattle.ffa_model.specs.MemorySend.{after_offer, are_grants_within, are_known, is_inside};
+ghost use Rattle.ffa_model.specs.MemorySend.{after_offer, are_grants_within, are_known, is_inside, is_sendable};
 ghost use Rattle.ffa_model.specs.SendDescriptor.{send_record};
 ghost use Rattle.ffa_model.specs.Transactions.{are_writable, pages_in};
 ghost use Rattle.ffa_rxtx.specs.Parts.{candidates_in};
-ghost use Rattle.ffa_memshare.specs.Named.{bases_in};
+ghost use Rattle.ffa_memshare.specs.Named.{all_named, bases_in};
 ghost use Rattle.ffa_memshare.specs.Offers.{AreAligned, IsOwnOffer, grants_writes};
+ghost use Rattle.ffa_memshare.specs.Ranges.{ArePlaced, IsPlaced, in_range, in_ranges};
 
-use crate::checks::{are_sendable, common_of};
+use crate::common::common_of;
+use crate::grants::first_page;
 use crate::page_ranges::PageRanges;
-use ffa_model::{Data, EndpointId, ErrorCode, Range, Receiver, SendDesc};
+use ffa_model::{Data, EndpointId, ErrorCode, PageNo, Range, Receiver, SendDesc};
 use ffa_pages::PageTable;
 use ffa_rxtx::Buffers;
 use ffa_stage2::Layout;
@@ -42,6 +44,61 @@ fn are_inside(ranges: &[Range], pages: &PageTable, base: u32) -> bool
     ensures { result ≡ list_all (is_inside (bases_in pages.now base)) ranges.now }
 {
     ranges.iter().all(|range| is_inside(range, pages, base))
+}
+
+// Whether an endpoint may send a page.
+fn is_sendable(
+    pages: &PageTable,
+    base: u32,
+    buffers: &Buffers,
+    sender: EndpointId,
+    page: PageNo,
+) -> bool
+    requires { page.0 < length pages.now }
+    ensures { result ≡ is_sendable sender.0 (candidates_in pages.now base) buffers.now page.0 }
+{
+    pages.base_of(page).is_some()
+        && pages.owner_of(page) == sender
+        && pages.slot_of(page).is_none()
+        && !buffers.is_buffer(page)
+}
+
+// Whether an endpoint may send the pages of a range.
+fn is_range_sendable(
+    pages: &PageTable,
+    base: u32,
+    buffers: &Buffers,
+    sender: EndpointId,
+    range: &Range,
+) -> bool
+    requires { IsPlaced base (length pages.now) range.now }
+    ensures { result ≡ all_named (length pages.now) (in_range base range.now) (is_sendable sender.0 (candidates_in pages.now base) buffers.now) }
+{
+    let _pages = pages.pages();
+    let first = first_page(base, range);
+    let mut all = true;
+    for page in first..first + range.pages {
+        all &= is_sendable(pages, base, buffers, sender, PageNo(page));
+    }
+    all
+}
+
+// Whether an endpoint may send the pages of these ranges.
+fn are_sendable(
+    pages: &PageTable,
+    base: u32,
+    buffers: &Buffers,
+    sender: EndpointId,
+    ranges: &PageRanges,
+) -> bool
+    requires { ArePlaced base (length pages.now) ranges.now }
+    ensures { result ≡ all_named (length pages.now) (in_ranges base ranges.now) (is_sendable sender.0 (candidates_in pages.now base) buffers.now) }
+{
+    let mut all = true;
+    for place in 0..ranges.len() {
+        all &= is_range_sendable(pages, base, buffers, sender, &ranges.at(place));
+    }
+    all
 }
 
 // Whether somebody is granted rw.

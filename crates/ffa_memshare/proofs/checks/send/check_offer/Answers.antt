@@ -7,7 +7,7 @@ use Rattle.ffa_model.specs.Transactions.{pages_in}
 use Rattle.ffa_rxtx.specs.Parts.{candidates_in}
 use Rattle.ffa_memshare.specs.Named.{bases_in}
 use Rattle.ffa_memshare.proofs.Offered.{checked-offered}
-use Rattle.ffa_memshare.proofs.offer.check_offer.Goals as goal
+use Rattle.ffa_memshare.proofs.checks.send.check_offer.Goals as goal
 
 pub are_writable_enough-requires-clause-own : goal.are_writable_enough-requires-clause-own
 are_writable_enough-requires-clause-own c =
