@@ -81,24 +81,40 @@ impl Pool {
         let is_full = buffers.is_full(caller);
         let right = open.check_retrieve(pages, layout.base, is_full, caller, &asked)?;
         let size = open.hand_over(ram, layout, pages, buffers, caller, transfer.version, right);
-        open.pass_on(pages, layout.base, caller, right);
         let changed = Changed::of(&open.ranges, Some(caller));
-        let kind = open.kind;
-        self.take(slot, kind, caller, right);
+        self.take(pages, layout.base, slot, caller, right);
         Ok(Retrieved { size, changed })
     }
 
-    // Notes that an endpoint holds the open transaction in a slot, which is of this kind. A donate is open no more.
-    fn take(&mut self, slot: usize, kind: Kind, endpoint: EndpointId, right: Rights)
+    // Notes that an endpoint holds the open transaction in a slot with this right. The pages of a donate are its own then,
+    // with this right, and the donate is open no more.
+    fn take(
+        &mut self,
+        pages: &mut PageTable,
+        base: u32,
+        slot: usize,
+        endpoint: EndpointId,
+        right: Rights,
+    )
         requires open { (x : ℕ × Transaction) × (slot_at self.old.slots slot ≡ Some x) }
+        requires placed { (h : ℕ) (t : Transaction) → slot_at self.old.slots slot ≡ Some (h, t) → ArePlaced base (length pages.old) t.ranges }
+        requires owned { (h : ℕ) (t : Transaction) → slot_at self.old.slots slot ≡ Some (h, t)
+            → (p : ℕ) → in_ranges base t.ranges p ≡ true → owner_at pages.old p ≢ manager }
+        requires endpoint { endpoint.0 ≢ manager }
         requires known { identifier (place endpoint.0) ≡ endpoint.0 }
         requires few { place endpoint.0 < MOST_ENDPOINTS }
-        ensures slot { (h : ℕ) (t : Transaction) → slot_at self.old.slots slot ≡ Some (h, t) → IsTaken kind self.old self.new h endpoint.0 right }
+        ensures slot { (h : ℕ) (t : Transaction) → slot_at self.old.slots slot ≡ Some (h, t) → IsTaken t.kind self.old self.new h endpoint.0 right }
         ensures offers { (h : ℕ) (t : Transaction) → slot_at self.old.slots slot ≡ Some (h, t)
-            → offers_in self.new ≡ taken_in kind (offers_in self.old) h t endpoint.0 right }
+            → offers_in self.new ≡ taken_in t.kind (offers_in self.old) h t endpoint.0 right }
+        ensures pages { (h : ℕ) (t : Transaction) → slot_at self.old.slots slot ≡ Some (h, t)
+            → IsPassedOn t.kind pages.old pages.new (in_ranges base t.ranges) endpoint right }
     {
-        match kind {
-            Kind::Donate => self.close(slot),
+        let open = self.at(slot);
+        match open.kind {
+            Kind::Donate => {
+                mark_all(pages, base, &open.ranges, Mark::Given(endpoint, right));
+                self.close(slot);
+            }
             Kind::Share | Kind::Lend => self.set_held(slot, endpoint, Some(right)),
         }
     }
@@ -130,19 +146,6 @@ impl OpenTransaction {
         move_rights(ram, layout, pages, &self.ranges, index, to_caller, false);
         let response = self.response(caller, right);
         answer(ram, buffers, caller, version, &response)
-    }
-
-    // Makes the pages of a donate an endpoint's own, with this right.
-    fn pass_on(&self, pages: &mut PageTable, base: u32, endpoint: EndpointId, right: Rights)
-        requires placed { ArePlaced base (length pages.old) self.now.ranges }
-        requires owned { (p : ℕ) → in_ranges base self.now.ranges p ≡ true → owner_at pages.old p ≢ manager }
-        requires endpoint { endpoint.0 ≢ manager }
-        ensures { IsPassedOn self.now.kind pages.old pages.new (in_ranges base self.now.ranges) endpoint right }
-    {
-        match self.kind {
-            Kind::Donate => mark_all(pages, base, &self.ranges, Mark::Given(endpoint, right)),
-            Kind::Share | Kind::Lend => {}
-        }
     }
 
     // What an endpoint is told that has this right to the pages.

@@ -1,6 +1,7 @@
 //! One open transaction.
-ghost use Rattle.std.specs.Prelude.{◌≡◌, length, Some, None};
+ghost use Rattle.std.specs.Prelude.{◌≡◌, ◌==◌, length, find, Some, None};
 ghost use Rattle.arrayvec.specs.ArrayVec.{array_vec_len};
+ghost use Rattle.ffa_model.specs.declared.transaction.Receiver.{Receiver as Named};
 ghost use Rattle.ffa_model.specs.Access.{held_by, is_receiver, right_by};
 ghost use Rattle.ffa_model.specs.Identifiers.{place};
 ghost use Rattle.ffa_model.specs.State.{Page};
@@ -41,14 +42,23 @@ pub struct OpenTransaction {
 impl OpenTransaction {
     ghost use Rattle.ffa_memshare.specs.Stored.{transaction_of};
 
-    // Whether it is offered to an endpoint.
-    pub(crate) fn is_receiver(&self, endpoint: EndpointId) -> bool
-        ensures { result ≡ is_receiver endpoint.0 (transaction_of self.now) }
+    // What it says of a receiver.
+    pub(crate) fn receiver(&self, endpoint: EndpointId) -> Option<Receiver>
+        ensures { result ≡ find (λ (r : Named). r.endpoint.0 == endpoint.0) self.now.receivers.items }
     {
         self.receivers
             .as_slice()
             .iter()
-            .any(|receiver| receiver.endpoint == endpoint)
+            .copied()
+            .find(|receiver| receiver.endpoint == endpoint)
+    }
+
+    // Whether it is offered to an endpoint.
+    #[tactic(auto, using(crate::proofs::Receivers::found_any))]
+    pub(crate) fn is_receiver(&self, endpoint: EndpointId) -> bool
+        ensures { result ≡ is_receiver endpoint.0 (transaction_of self.now) }
+    {
+        self.receiver(endpoint).is_some()
     }
 
     // The right that an endpoint holds.

@@ -1,69 +1,55 @@
 //! The checks of FFA_MEM_RETRIEVE_REQ: what a receiver asks for, and the most that it may hold.
-ghost use Rattle.std.specs.Prelude.{◌≡◌, ◌==◌, length, find, IfOk, Some};
+ghost use Rattle.std.specs.Prelude.{◌≡◌, ℕ, length, is_some, IfOk, IfSome, Some};
 ghost use Rattle.std.specs.Result.{result_err};
-ghost use Rattle.ffa_model.specs.declared.transaction.Receiver.{Receiver as Named};
+ghost use Rattle.ffa_model.specs.Access.{is_receiver};
 ghost use Rattle.ffa_model.specs.Calls.{first_failure};
 ghost use Rattle.ffa_model.specs.MemoryRetrieve.{asked_right, holding_guards, is_kind_right, right_for};
-ghost use Rattle.ffa_model.specs.Rights.{is_at_most, is_same_kind};
+ghost use Rattle.ffa_model.specs.Rights.{is_at_most};
 ghost use Rattle.ffa_model.specs.Transactions.{ceiling, grant_to};
-ghost use Rattle.ffa_memshare.specs.Asked.{is_asked_for};
+ghost use Rattle.ffa_memshare.specs.Asked.{is_described};
 ghost use Rattle.ffa_memshare.specs.Named.{bases_in};
 ghost use Rattle.ffa_memshare.specs.Ranges.{ArePlaced};
 
 use crate::transaction::OpenTransaction;
-use ffa_model::{Data, EndpointId, ErrorCode, Kind, Receiver, RetrieveDesc, Rights};
+use ffa_model::{Data, EndpointId, ErrorCode, Kind, RetrieveDesc, Rights};
 use ffa_pages::PageTable;
 
 impl OpenTransaction {
     ghost use Rattle.ffa_memshare.specs.Stored.{transaction_of};
 
-    // What it says of a receiver.
-    fn receiver(&self, endpoint: EndpointId) -> Option<Receiver>
-        ensures { result ≡ find (λ (r : Named). r.endpoint.0 == endpoint.0) self.now.receivers.items }
+    // The data right that an endpoint is granted, if the transaction is offered to it: ro where none is named.
+    #[tactic(auto, using(crate::proofs::Receivers::found_any))]
+    fn granted_to(&self, endpoint: EndpointId) -> Option<Data>
+        ensures known { is_some result ≡ is_receiver endpoint.0 (transaction_of self.now) }
+        ensures granted { IfSome result (λ granted. granted ≡ grant_to (transaction_of self.now) endpoint.0) }
     {
-        self.receivers
-            .as_slice()
-            .iter()
-            .copied()
-            .find(|receiver| receiver.endpoint == endpoint)
+        let receiver = self.receiver(endpoint)?;
+        Some(receiver.grant.unwrap_or(Data::Ro))
     }
 
-    // The data right that an endpoint is granted, which is ro where nothing is.
-    fn grant_to(&self, endpoint: EndpointId) -> Data
-        ensures { result ≡ grant_to (transaction_of self.now) endpoint.0 }
-    {
-        match self.receiver(endpoint) {
-            Some(receiver) => receiver.grant.unwrap_or(Data::Ro),
-            None => Data::Ro,
-        }
-    }
-
-    // The most that an endpoint may hold.
-    fn ceiling(&self, pages: &PageTable, base: u32, endpoint: EndpointId) -> Rights
+    // The most that an endpoint may hold that is granted this data right.
+    fn ceiling(&self, pages: &PageTable, base: u32, granted: Data) -> Rights
         requires { ArePlaced base (length pages.now) self.now.ranges }
-        ensures { result ≡ ceiling (bases_in pages.now base) (transaction_of self.now) endpoint.0 }
+        ensures { (e : ℕ) → grant_to (transaction_of self.now) e ≡ granted → result ≡ ceiling (bases_in pages.now base) (transaction_of self.now) e }
     {
         match self.kind {
             Kind::Share => Rights {
-                level: self.grant_to(endpoint),
+                level: granted,
                 exec: false,
             },
             Kind::Lend => Rights {
-                level: self.grant_to(endpoint),
+                level: granted,
                 exec: self.receivers.len() == 1 && self.common(pages, base).is_executable,
             },
             Kind::Donate => self.common(pages, base).right(),
         }
     }
 
-    // Whether an endpoint asks for it: the transaction is offered to the endpoint, and is the one that it describes.
-    fn is_asked_for(&self, caller: EndpointId, asked: &RetrieveDesc) -> bool
-        ensures { result ≡ is_asked_for caller.0 asked.now (transaction_of self.now) }
+    // Whether it is the transaction that is described.
+    fn is_described(&self, asked: &RetrieveDesc) -> bool
+        ensures { result ≡ is_described asked.now (transaction_of self.now) }
     {
-        self.is_receiver(caller)
-            && asked.sender == self.sender
-            && asked.tag == self.tag
-            && is_kind_right(self.kind, asked.kind)
+        asked.sender == self.sender && asked.tag == self.tag && is_kind_right(self.kind, asked.kind)
     }
 
     // The right that an endpoint gets whose RX is full or not, or why it gets none.
@@ -79,10 +65,13 @@ impl OpenTransaction {
         ensures refusal { result_err result ≡ first_failure (holding_guards (bases_in pages.now base) is_full caller.0 asked.now (Some (transaction_of self.now))) }
         ensures right { IfOk result (λ right. right ≡ right_for (bases_in pages.now base) (transaction_of self.now) caller.0 asked.now) }
     {
-        if !self.is_asked_for(caller, asked) {
+        let Some(granted) = self.granted_to(caller) else {
+            return Err(ErrorCode::InvalidParameters);
+        };
+        if !self.is_described(asked) {
             return Err(ErrorCode::InvalidParameters);
         }
-        let most = self.ceiling(pages, base, caller);
+        let most = self.ceiling(pages, base, granted);
         let right = asked_right(most, asked);
         if self.held(caller).is_some() || !is_at_most(right, most) {
             return Err(ErrorCode::Denied);
@@ -120,17 +109,7 @@ fn is_kind_right(kind: Kind, asked: Option<Kind>) -> bool
     ensures { result ≡ is_kind_right kind asked }
 {
     match asked {
-        Some(asked) => is_same_kind(kind, asked),
+        Some(asked) => kind == asked,
         None => true,
-    }
-}
-
-fn is_same_kind(kind: Kind, other: Kind) -> bool
-    ensures { result ≡ is_same_kind kind other }
-{
-    match kind {
-        Kind::Share => matches!(other, Kind::Share),
-        Kind::Lend => matches!(other, Kind::Lend),
-        Kind::Donate => matches!(other, Kind::Donate),
     }
 }
