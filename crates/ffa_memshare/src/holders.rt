@@ -1,5 +1,5 @@
 //! Who holds an open transaction, and with which right.
-ghost use Rattle.std.specs.Prelude.{◌≡◌, ◌<◌, Some, None};
+ghost use Rattle.std.specs.Prelude.{◌≡◌, ◌<◌, None};
 ghost use Rattle.std.specs.FinMap as finite;
 ghost use Rattle.ffa_model.specs.declared.limits.TheConstants.{MOST_ENDPOINTS};
 ghost use Rattle.ffa_model.specs.Identifiers.{identifier, place};

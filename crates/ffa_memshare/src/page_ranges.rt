@@ -69,7 +69,9 @@ impl PageRanges {
         ensures { result ≡ ranges.now.items }
     {
         let mut list = ArrayVec::new();
-        push_placed(&mut list, pages, base, ranges.as_slice());
+        for range in ranges.as_slice() {
+            list.push(PageRange::of(pages, base, range));
+        }
         PageRanges { base, list }
     }
 
@@ -78,7 +80,9 @@ impl PageRanges {
         ensures { result ≡ self.now }
     {
         let mut list = ArrayVec::new();
-        push_all(&mut list, self.list.as_slice());
+        for range in self.list.as_slice() {
+            list.push(*range);
+        }
         PageRanges {
             base: self.base,
             list,
@@ -107,45 +111,8 @@ impl PageRanges {
         requires { ranges.old.items ≡ [] }
         ensures { ranges.new.items ≡ self.now }
     {
-        push_ranges(self.base, self.list.as_slice(), ranges);
-    }
-}
-
-// Puts these ranges of the RAM at an address, which has these pages, into an empty list.
-fn push_placed(
-    list: &mut ArrayVec<PageRange, MOST_RANGES>,
-    pages: &PageTable,
-    base: u32,
-    ranges: &[Range],
-)
-    requires empty { list.old.items ≡ [] }
-    requires few { length ranges.now ≤ MOST_RANGES }
-    requires placed { ArePlaced base (length pages.now) ranges.now }
-    ensures { map (range_at base) list.new.items ≡ ranges.now }
-{
-    for range in ranges {
-        list.push(PageRange::of(pages, base, range));
-    }
-}
-
-// Puts the same ranges into an empty list.
-fn push_all(list: &mut ArrayVec<PageRange, MOST_RANGES>, ranges: &[PageRange])
-    requires empty { list.old.items ≡ [] }
-    requires few { length ranges.now ≤ MOST_RANGES }
-    ensures { list.new.items ≡ ranges.now }
-{
-    for range in ranges {
-        list.push(*range);
-    }
-}
-
-// Puts these ranges of the RAM at an address into an empty list.
-fn push_ranges(base: u32, list: &[PageRange], ranges: &mut ArrayVec<Range, MOST_RANGES>)
-    requires few { length list.now ≤ MOST_RANGES }
-    requires empty { ranges.old.items ≡ [] }
-    ensures { ranges.new.items ≡ map (range_at base) list.now }
-{
-    for range in list {
-        ranges.push(range.range(base));
+        for range in self.list.as_slice() {
+            ranges.push(range.range(self.base));
+        }
     }
 }

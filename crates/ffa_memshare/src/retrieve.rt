@@ -1,5 +1,5 @@
 //! FFA_MEM_RETRIEVE_REQ.
-ghost use Rattle.std.specs.Prelude.{List, Bool, ℕ, ◌≡◌, ◌≢◌, ◌≤◌, ◌<◌, ◌*◌, length, true, is_some, Option, Some, IfOk, IfErr, OnOk, OnErr};
+ghost use Rattle.std.specs.Prelude.{List, ℕ, ◌≡◌, ◌≢◌, ◌<◌, length, true, is_some, Option, Some, IfOk, IfErr, OnOk, OnErr};
 ghost use Rattle.std.specs.FinMap as finite;
 ghost use Rattle.std.specs.Result.{result_err};
 ghost use Rattle.arrayvec.specs.ArrayVec.{array_vec_len};
@@ -7,7 +7,7 @@ ghost use Rattle.ffa_model.specs.declared.limits.TheConstants.{MOST_ENDPOINTS};
 ghost use Rattle.ffa_model.specs.Buffers.{buffers_in, buffers_with_rx, is_full};
 ghost use Rattle.ffa_model.specs.Calls.{first_failure};
 ghost use Rattle.ffa_model.specs.Identifiers.{identifier, manager, place};
-ghost use Rattle.ffa_model.specs.MemoryRetrieve.{asking_guards, holding_guards, response_to, retrieve_guards, taken_in};
+ghost use Rattle.ffa_model.specs.MemoryRetrieve.{holding_guards, response_to, retrieve_guards, taken_in};
 ghost use Rattle.ffa_model.specs.ResponseBytes.{response_record};
 ghost use Rattle.ffa_model.specs.RetrieveDescriptor.{retrieve_of};
 ghost use Rattle.ffa_model.specs.State.{Buffers as Own, Transaction};
@@ -20,7 +20,7 @@ ghost use Rattle.ffa_memshare.specs.Ranges.{ArePlaced, in_ranges};
 ghost use Rattle.ffa_memshare.specs.Retrieved.{IsAnswered, IsPassedOn, IsRetrieved, IsTaken};
 ghost use Rattle.ffa_memshare.specs.Scenes.{descriptor_in, scene_in, transfer_of};
 ghost use Rattle.ffa_memshare.specs.Shared.{IsHeld, IsShared};
-ghost use Rattle.ffa_memshare.specs.Stored.{map_in, offers_in, slot_at, transaction_of};
+ghost use Rattle.ffa_memshare.specs.Stored.{offers_in, slot_at, transaction_of};
 
 use crate::answer::answer;
 use crate::changed::{Changed, Retrieved};

@@ -99,7 +99,6 @@ impl Pool {
             caller.0 (transfer_of transfer.now) (send_of kind (descriptor_in (M.ram ram.now) buffers.now caller.0 transfer.now)))
             ≡ first_failure (room_guards (offers_in self.now) caller.0)) }
         ensures handle { IfOk result (λ t. t.handle ≡ next_handle (offers_in self.now) caller.0) }
-        ensures kind { IfOk result (λ t. t.kind ≡ kind) }
         ensures offered { IfOk result (λ t. IsOffered pages.now layout.now.base caller.0 kind
             (descriptor_in (M.ram ram.now) buffers.now caller.0 transfer.now) (transaction_of t)) }
     {

@@ -1,5 +1,5 @@
 //! The checks of FFA_MEM_DONATE, FFA_MEM_LEND and FFA_MEM_SHARE: whether an endpoint may send what it offers.
-ghost use Rattle.std.specs.Prelude.{◌≡◌, ◌<◌, ℕ, length, List, OnOk, IfOk, IfErr, Bool, Some, true, false, not, ◌&&◌, ◌||◌};
+ghost use Rattle.std.specs.Prelude.{◌≡◌, ◌<◌, ℕ, length, List, OnOk, IfOk, IfErr, Bool, Some, true, not, ◌&&◌, ◌||◌};
 ghost use Rattle.std.specs.List.{list_all};
 ghost use Rattle.arrayvec.specs.ArrayVec.{array_vec_len};
 ghost use Rattle.ffa_model.specs.declared.operation.ErrorCode.{ErrorCode as Code};
