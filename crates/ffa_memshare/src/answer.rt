@@ -29,7 +29,8 @@ pub fn answer<M: PhysMem>(
 {
     match buffers.of(endpoint) {
         Some(mapped) => {
-            let _ranges = response.ranges.as_slice();
+            // Proof step: the ranges are `MOST_RANGES` at most.
+            let _ = response.ranges.as_slice();
             let size = write_response(response, version, ram.page_mut(mapped.rx));
             buffers.mark_full(endpoint);
             size as u32

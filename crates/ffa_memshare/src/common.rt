@@ -53,7 +53,8 @@ fn common_with(pages: &PageTable, base: u32, range: &Range, before: Common) -> C
     ensures writable { result.is_writable ≡ (before.is_writable && all_named (length pages.now) (in_range base range.now) (λ p. may_store (base_at pages.now p))) }
     ensures executable { result.is_executable ≡ (before.is_executable && all_named (length pages.now) (in_range base range.now) (λ p. may_fetch (base_at pages.now p))) }
 {
-    let _pages = pages.pages();
+    // Proof step: the number of pages is 2^14 at most.
+    let _ = pages.pages();
     let first = first_page(base, range);
     let mut common = before;
     for page in first..first + range.pages {

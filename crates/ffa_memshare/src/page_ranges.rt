@@ -1,5 +1,5 @@
 //! Ranges of whole pages of RAM, as an open transaction keeps them.
-ghost use Rattle.std.specs.Prelude.{◌≡◌, ◌<◌, ◌≤◌, [], length, map, slice_index_or};
+ghost use Rattle.std.specs.Prelude.{◌≡◌, ◌<◌, ◌≤◌, [], length, slice_index_or};
 ghost use Rattle.ffa_model.specs.declared.limits.TheConstants.{MOST_RANGES};
 ghost use Rattle.ffa_memshare.specs.PageRanges.{range_at};
 ghost use Rattle.ffa_memshare.specs.Ranges.{ArePlaced, IsPlaced};
@@ -23,7 +23,8 @@ impl PageRange {
         requires { IsPlaced base (length pages.now) range.now }
         ensures { range_at base result ≡ range.now }
     {
-        let _most = pages.pages();
+        // Proof step: the number of pages is 2^14 at most.
+        let _ = pages.pages();
         PageRange {
             first: first_page(base, range) as u16,
             pages: range.pages as u16,

@@ -140,7 +140,8 @@ impl OpenTransaction {
             (buffers_in buffers.old caller.0) self.now.handle (transaction_of self.now) caller.0 version right result }
         ensures full { buffers.new ≡ buffers_with_rx buffers.old caller.0 true }
     {
-        let _ranges = self.ranges.len();
+        // Proof step: the ranges are `MOST_RANGES` at most.
+        let _ = self.ranges.len();
         let index = caller.place();
         let to_caller = NewRight::Same(Some(right));
         move_rights(ram, layout, pages, &self.ranges, index, to_caller, false);

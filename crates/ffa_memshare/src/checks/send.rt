@@ -74,7 +74,8 @@ fn is_range_sendable(
     requires { IsPlaced base (length pages.now) range.now }
     ensures { result ≡ all_named (length pages.now) (in_range base range.now) (is_sendable sender.0 (candidates_in pages.now base) buffers.now) }
 {
-    let _pages = pages.pages();
+    // Proof step: the number of pages is 2^14 at most.
+    let _ = pages.pages();
     let first = first_page(base, range);
     let mut all = true;
     for page in first..first + range.pages {

@@ -29,5 +29,5 @@ returns-clause-ram g c =
     ∙ ap (λ n. bytes ++ drop n c.page_mut.result.now) (sym (length-response_bytes c.args.version (response_record c.args.response.now)))
     ∙ ap (λ (page : List ℕ). bytes ++ drop (length bytes) page) c.page_mut.ensures.value)
     ∙ sym (short-run c.in-Some.mapped.pages (g.M.PhysMem.ram c.args.ram.now) rx bytes inside.some
-    (omega (arith, length-response_bytes c.args.version (response_record c.args.response.now), header-few c.args.version, c.as_slice-ranges.ensures.fits, ap length c.as_slice-ranges.ensures.value)))
+    (omega (arith, length-response_bytes c.args.version (response_record c.args.response.now), header-few c.args.version, c.as_slice.ensures.fits, ap length c.as_slice.ensures.value)))
     ∙ ap (λ (o : Option Buffers). with_rx_bytes (g.M.PhysMem.ram c.args.ram.now) o bytes) c.in-Some.ensures

@@ -15,7 +15,7 @@ answer-requires-clause-total g c =
     let l = c.args.layout.now in
     let ranges = c.args.self.now.ranges in
     let (access, built) = c.requires.held.room.built in
-    let most : length ranges ≤ 64 = omega (arith, c.len-ranges.ensures.count, c.len-ranges.ensures.few) in
+    let most : length ranges ≤ 64 = omega (arith, c.len.ensures.count, c.len.ensures.few) in
     subst (λ (xs : List Range). page_total xs < 2 ^ 32) (sym (ap (λ (r : ResponseRecord). r.ranges) c.response-response.ensures))
     (few-pages l.base l.blocks ranges built.fits.few most c.requires.held.placed)
 
