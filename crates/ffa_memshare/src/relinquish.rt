@@ -16,7 +16,7 @@ ghost use Rattle.ffa_memshare.specs.Stored.{offers_in};
 
 use crate::changed::Changed;
 use crate::grants::NewRight;
-use crate::moves::move_rights;
+use crate::page_changes::change_pages;
 use crate::page_run::{PageRun, read_relinquish};
 use crate::pool::Pool;
 use ffa_model::{EndpointId, ErrorCode, RelinquishDesc};
@@ -61,7 +61,7 @@ impl Pool {
         open.check_relinquish(caller, &asked)?;
         let index = caller.place();
         let nothing = NewRight::Same(None);
-        move_rights(ram, layout, pages, &open.ranges, index, nothing, asked.zero);
+        change_pages(ram, layout, pages, &open.ranges, index, nothing, asked.zero);
         let changed = Changed::of(&open.ranges, Some(caller));
         self.set_held(slot, caller, None);
         Ok(changed)

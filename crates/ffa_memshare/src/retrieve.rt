@@ -20,15 +20,15 @@ ghost use Rattle.ffa_memshare.specs.Ranges.{ArePlaced, in_ranges};
 ghost use Rattle.ffa_memshare.specs.Retrieved.{IsAnswered, IsPassedOn, IsRetrieved, IsTaken};
 ghost use Rattle.ffa_memshare.specs.Scenes.{descriptor_in, scene_in, transfer_of};
 ghost use Rattle.ffa_memshare.specs.Shared.{IsHeld, IsShared};
-ghost use Rattle.ffa_memshare.specs.Stored.{offers_in, slot_at, transaction_of};
+ghost use Rattle.ffa_memshare.specs.Stored.{offers_in, pool_slot, view_of};
 
-use crate::answer::answer;
 use crate::changed::{Changed, Retrieved};
 use crate::grants::NewRight;
 use crate::marks::{Mark, mark_all};
-use crate::moves::move_rights;
+use crate::page_changes::change_pages;
 use crate::page_run::read_retrieve;
 use crate::pool::Pool;
+use crate::respond::respond;
 use crate::transaction::OpenTransaction;
 use crate::transfer::Transfer;
 use arrayvec::ArrayVec;
@@ -96,17 +96,17 @@ impl Pool {
         endpoint: EndpointId,
         right: Rights,
     )
-        requires open { (x : ℕ × Transaction) × (slot_at self.old.slots slot ≡ Some x) }
-        requires placed { (h : ℕ) (t : Transaction) → slot_at self.old.slots slot ≡ Some (h, t) → ArePlaced base (length pages.old) t.ranges }
-        requires owned { (h : ℕ) (t : Transaction) → slot_at self.old.slots slot ≡ Some (h, t)
+        requires open { (x : ℕ × Transaction) × (pool_slot self.old.slots slot ≡ Some x) }
+        requires placed { (h : ℕ) (t : Transaction) → pool_slot self.old.slots slot ≡ Some (h, t) → ArePlaced base (length pages.old) t.ranges }
+        requires owned { (h : ℕ) (t : Transaction) → pool_slot self.old.slots slot ≡ Some (h, t)
             → (p : ℕ) → in_ranges base t.ranges p ≡ true → owner_at pages.old p ≢ manager }
         requires endpoint { endpoint.0 ≢ manager }
         requires known { identifier (place endpoint.0) ≡ endpoint.0 }
         requires few { place endpoint.0 < MOST_ENDPOINTS }
-        ensures slot { (h : ℕ) (t : Transaction) → slot_at self.old.slots slot ≡ Some (h, t) → IsTaken t.kind self.old self.new h endpoint.0 right }
-        ensures offers { (h : ℕ) (t : Transaction) → slot_at self.old.slots slot ≡ Some (h, t)
+        ensures slot { (h : ℕ) (t : Transaction) → pool_slot self.old.slots slot ≡ Some (h, t) → IsTaken t.kind self.old self.new h endpoint.0 right }
+        ensures offers { (h : ℕ) (t : Transaction) → pool_slot self.old.slots slot ≡ Some (h, t)
             → offers_in self.new ≡ taken_in t.kind (offers_in self.old) h t endpoint.0 right }
-        ensures pages { (h : ℕ) (t : Transaction) → slot_at self.old.slots slot ≡ Some (h, t)
+        ensures pages { (h : ℕ) (t : Transaction) → pool_slot self.old.slots slot ≡ Some (h, t)
             → IsPassedOn t.kind pages.old pages.new (in_ranges base t.ranges) endpoint right }
     {
         let open = self.at(slot);
@@ -133,25 +133,25 @@ impl OpenTransaction {
         version: Version,
         right: Rights,
     ) -> u32
-        requires held { IsHeld (M.ram ram.old) layout.now.base (array_vec_len layout.now.regions) layout.now.blocks pages.now (transaction_of self.now) }
+        requires held { IsHeld (M.ram ram.old) layout.now.base (array_vec_len layout.now.regions) layout.now.blocks pages.now (view_of self.now) }
         requires caller { IsCaller (array_vec_len layout.now.regions) (length (M.ram ram.old).pages) caller.0 buffers.old }
         requires buffers { is_some (buffers_in buffers.old caller.0) ≡ true }
         ensures answered { IsAnswered (M.ram ram.old) (M.ram ram.new) layout.now.base (array_vec_len layout.now.regions) layout.now.blocks
-            (buffers_in buffers.old caller.0) self.now.handle (transaction_of self.now) caller.0 version right result }
+            (buffers_in buffers.old caller.0) self.now.handle (view_of self.now) caller.0 version right result }
         ensures full { buffers.new ≡ buffers_with_rx buffers.old caller.0 true }
     {
         // Proof step: the ranges are `MOST_RANGES` at most.
         let _ = self.ranges.len();
         let index = caller.place();
         let to_caller = NewRight::Same(Some(right));
-        move_rights(ram, layout, pages, &self.ranges, index, to_caller, false);
+        change_pages(ram, layout, pages, &self.ranges, index, to_caller, false);
         let response = self.response(caller, right);
-        answer(ram, buffers, caller, version, &response)
+        respond(ram, buffers, caller, version, &response)
     }
 
     // What an endpoint is told that has this right to the pages.
     fn response(&self, endpoint: EndpointId, right: Rights) -> Response
-        ensures { response_record result ≡ response_to self.now.handle (transaction_of self.now) endpoint.0 right }
+        ensures { response_record result ≡ response_to self.now.handle (view_of self.now) endpoint.0 right }
     {
         let mut response = Response {
             sender: self.sender,

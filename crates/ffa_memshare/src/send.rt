@@ -17,7 +17,7 @@ ghost use Rattle.ffa_memshare.specs.Offers.{IsOffered};
 ghost use Rattle.ffa_memshare.specs.Scenes.{descriptor_in, scene_in, transfer_of};
 ghost use Rattle.ffa_memshare.specs.Sent.{IsSent};
 ghost use Rattle.ffa_memshare.specs.Shared.{IsRoom};
-ghost use Rattle.ffa_memshare.specs.Stored.{offers_in, transaction_of};
+ghost use Rattle.ffa_memshare.specs.Stored.{offers_in, view_of};
 
 use crate::changed::{Changed, Sent, changed_sender};
 use crate::checks::send::check_offer;
@@ -100,7 +100,7 @@ impl Pool {
             ≡ first_failure (room_guards (offers_in self.now) caller.0)) }
         ensures handle { IfOk result (λ t. t.handle ≡ next_handle (offers_in self.now) caller.0) }
         ensures offered { IfOk result (λ t. IsOffered pages.now layout.now.base caller.0 kind
-            (descriptor_in (M.ram ram.now) buffers.now caller.0 transfer.now) (transaction_of t)) }
+            (descriptor_in (M.ram ram.now) buffers.now caller.0 transfer.now) (view_of t)) }
     {
         let bytes = transfer.descriptor(ram, buffers, caller)?;
         let Ok(offer) = read_send(&bytes, transfer.version, kind) else {

@@ -18,7 +18,7 @@ use crate::common::{Common, common_of};
 use crate::grants::NewRight;
 use crate::holders::Holders;
 use crate::marks::{Mark, mark_all};
-use crate::moves::move_rights;
+use crate::page_changes::change_pages;
 use crate::page_ranges::PageRanges;
 use arrayvec::ArrayVec;
 use ffa_model::{EndpointId, Kind, MOST_RECEIVERS, Receiver, Rights};
@@ -40,7 +40,7 @@ pub struct OpenTransaction {
 }
 
 impl OpenTransaction {
-    ghost use Rattle.ffa_memshare.specs.Stored.{transaction_of};
+    ghost use Rattle.ffa_memshare.specs.Stored.{view_of};
 
     // What it says of a receiver.
     pub(crate) fn receiver(&self, endpoint: EndpointId) -> Option<Receiver>
@@ -56,21 +56,21 @@ impl OpenTransaction {
     // Whether it is offered to an endpoint.
     #[tactic(auto, using(crate::proofs::Receivers::found_any))]
     pub(crate) fn is_receiver(&self, endpoint: EndpointId) -> bool
-        ensures { result ≡ is_receiver endpoint.0 (transaction_of self.now) }
+        ensures { result ≡ is_receiver endpoint.0 (view_of self.now) }
     {
         self.receiver(endpoint).is_some()
     }
 
     // The right that an endpoint holds.
     pub(crate) fn held(&self, endpoint: EndpointId) -> Option<Rights>
-        ensures { result ≡ held_by (transaction_of self.now) endpoint.0 }
+        ensures { result ≡ held_by (view_of self.now) endpoint.0 }
     {
         self.held.of(endpoint)
     }
 
     // What an endpoint may do with one of its pages, to which the sender's own right is this.
     pub(crate) fn right_to(&self, endpoint: EndpointId, base: Rights) -> Option<Rights>
-        ensures { (page : Page) → page.base ≡ base → result ≡ right_by endpoint.0 page (transaction_of self.now) (held_by (transaction_of self.now) endpoint.0) }
+        ensures { (page : Page) → page.base ≡ base → result ≡ right_by endpoint.0 page (view_of self.now) (held_by (view_of self.now) endpoint.0) }
     {
         let held = self.held(endpoint);
         if held.is_some() {
@@ -99,14 +99,14 @@ impl OpenTransaction {
         pages: &mut PageTable,
         zero: bool,
     )
-        requires { IsHeld (M.ram ram.old) layout.now.base (array_vec_len layout.now.regions) layout.now.blocks pages.old (transaction_of self.now) }
+        requires { IsHeld (M.ram ram.old) layout.now.base (array_vec_len layout.now.regions) layout.now.blocks pages.old (view_of self.now) }
         ensures moved { IsMoved (M.ram ram.old) (M.ram ram.new) (array_vec_len layout.now.regions) layout.now.blocks
             (place self.now.sender.0) (in_ranges layout.now.base self.now.ranges) (base_at pages.old) zero }
         ensures marked { IsMarked pages.old pages.new (in_ranges layout.now.base self.now.ranges) (Mark.Named None) }
     {
         let ranges = &self.ranges;
         let index = self.sender.place();
-        move_rights(ram, layout, pages, ranges, index, NewRight::Base, zero);
+        change_pages(ram, layout, pages, ranges, index, NewRight::Base, zero);
         mark_all(pages, layout.base, ranges, Mark::Named(None));
     }
 
@@ -119,7 +119,7 @@ impl OpenTransaction {
         pages: &mut PageTable,
         slot: u8,
     )
-        requires { IsHeld (M.ram ram.old) layout.now.base (array_vec_len layout.now.regions) layout.now.blocks pages.old (transaction_of self.now) }
+        requires { IsHeld (M.ram ram.old) layout.now.base (array_vec_len layout.now.regions) layout.now.blocks pages.old (view_of self.now) }
         ensures moved { IsMoved (M.ram ram.old) (M.ram ram.new) (array_vec_len layout.now.regions) layout.now.blocks
             (place self.now.sender.0) (in_ranges layout.now.base self.now.ranges) (new_right (right_after self.now.kind) pages.old) self.now.zero }
         ensures marked { IsMarked pages.old pages.new (in_ranges layout.now.base self.now.ranges) (Mark.Named (Some slot)) }
@@ -127,7 +127,7 @@ impl OpenTransaction {
         let ranges = &self.ranges;
         let index = self.sender.place();
         let right = right_after(self.kind);
-        move_rights(ram, layout, pages, ranges, index, right, self.zero);
+        change_pages(ram, layout, pages, ranges, index, right, self.zero);
         mark_all(pages, layout.base, ranges, Mark::Named(Some(slot)));
     }
 }

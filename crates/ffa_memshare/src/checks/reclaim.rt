@@ -11,7 +11,7 @@ use ffa_model::{EndpointId, ErrorCode};
 use ffa_pages::PageTable;
 
 impl OpenTransaction {
-    ghost use Rattle.ffa_memshare.specs.Stored.{transaction_of};
+    ghost use Rattle.ffa_memshare.specs.Stored.{view_of};
 
     // Whether its sender may end it, or why not.
     pub(crate) fn check_reclaim(
@@ -22,7 +22,7 @@ impl OpenTransaction {
         flags: u32,
     ) -> Result<(), ErrorCode>
         requires { ArePlaced base (length pages.now) self.now.ranges }
-        ensures { result_err result ≡ first_failure (reclaim_guards (bases_in pages.now base) caller.0 flags (Some (transaction_of self.now))) }
+        ensures { result_err result ≡ first_failure (reclaim_guards (bases_in pages.now base) caller.0 flags (Some (view_of self.now))) }
     {
         if flags > 1 || self.sender != caller {
             return Err(ErrorCode::InvalidParameters);
@@ -38,7 +38,7 @@ impl OpenTransaction {
 
     // Whether no receiver holds it.
     fn is_unheld(&self) -> bool
-        ensures { result ≡ is_unheld (Some (transaction_of self.now)) }
+        ensures { result ≡ is_unheld (Some (view_of self.now)) }
     {
         self.receivers
             .as_slice()

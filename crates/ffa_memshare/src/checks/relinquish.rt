@@ -8,7 +8,7 @@ use crate::transaction::OpenTransaction;
 use ffa_model::{Data, EndpointId, ErrorCode, Kind, RelinquishDesc};
 
 impl OpenTransaction {
-    ghost use Rattle.ffa_memshare.specs.Stored.{transaction_of};
+    ghost use Rattle.ffa_memshare.specs.Stored.{view_of};
 
     // Whether an endpoint may give up what it asks to, or why not.
     pub(crate) fn check_relinquish(
@@ -16,7 +16,7 @@ impl OpenTransaction {
         caller: EndpointId,
         asked: &RelinquishDesc,
     ) -> Result<(), ErrorCode>
-        ensures { result_err result ≡ first_failure (holder_guards caller.0 asked.now (Some (transaction_of self.now))) }
+        ensures { result_err result ≡ first_failure (holder_guards caller.0 asked.now (Some (view_of self.now))) }
     {
         if asked.endpoint != caller || !self.is_receiver(caller) {
             return Err(ErrorCode::InvalidParameters);
@@ -29,7 +29,7 @@ impl OpenTransaction {
 
     // Whether an endpoint may fill the pages with zeros: it holds a lend, and may write to them.
     fn is_zeroable(&self, endpoint: EndpointId) -> bool
-        ensures { result ≡ is_zeroable endpoint.0 (Some (transaction_of self.now)) }
+        ensures { result ≡ is_zeroable endpoint.0 (Some (view_of self.now)) }
     {
         match self.held(endpoint) {
             Some(right) => matches!(self.kind, Kind::Lend) && right.level == Data::Rw,

@@ -15,13 +15,13 @@ use ffa_model::{Data, EndpointId, ErrorCode, Kind, RetrieveDesc, Rights};
 use ffa_pages::PageTable;
 
 impl OpenTransaction {
-    ghost use Rattle.ffa_memshare.specs.Stored.{transaction_of};
+    ghost use Rattle.ffa_memshare.specs.Stored.{view_of};
 
     // The data right that an endpoint is granted, if the transaction is offered to it: ro where none is named.
     #[tactic(auto, using(crate::proofs::Receivers::found_any))]
     fn granted_to(&self, endpoint: EndpointId) -> Option<Data>
-        ensures known { is_some result ≡ is_receiver endpoint.0 (transaction_of self.now) }
-        ensures granted { IfSome result (λ granted. granted ≡ grant_to (transaction_of self.now) endpoint.0) }
+        ensures known { is_some result ≡ is_receiver endpoint.0 (view_of self.now) }
+        ensures granted { IfSome result (λ granted. granted ≡ grant_to (view_of self.now) endpoint.0) }
     {
         let receiver = self.receiver(endpoint)?;
         Some(receiver.grant.unwrap_or(Data::Ro))
@@ -30,7 +30,7 @@ impl OpenTransaction {
     // The most that an endpoint may hold that is granted this data right.
     fn ceiling(&self, pages: &PageTable, base: u32, granted: Data) -> Rights
         requires { ArePlaced base (length pages.now) self.now.ranges }
-        ensures { (e : ℕ) → grant_to (transaction_of self.now) e ≡ granted → result ≡ ceiling (bases_in pages.now base) (transaction_of self.now) e }
+        ensures { (e : ℕ) → grant_to (view_of self.now) e ≡ granted → result ≡ ceiling (bases_in pages.now base) (view_of self.now) e }
     {
         match self.kind {
             Kind::Share => Rights {
@@ -47,7 +47,7 @@ impl OpenTransaction {
 
     // Whether it is the transaction that is described.
     fn is_described(&self, asked: &RetrieveDesc) -> bool
-        ensures { result ≡ is_described asked.now (transaction_of self.now) }
+        ensures { result ≡ is_described asked.now (view_of self.now) }
     {
         asked.sender == self.sender && asked.tag == self.tag && is_kind_right(self.kind, asked.kind)
     }
@@ -62,8 +62,8 @@ impl OpenTransaction {
         asked: &RetrieveDesc,
     ) -> Result<Rights, ErrorCode>
         requires { ArePlaced base (length pages.now) self.now.ranges }
-        ensures refusal { result_err result ≡ first_failure (holding_guards (bases_in pages.now base) is_full caller.0 asked.now (Some (transaction_of self.now))) }
-        ensures right { IfOk result (λ right. right ≡ right_for (bases_in pages.now base) (transaction_of self.now) caller.0 asked.now) }
+        ensures refusal { result_err result ≡ first_failure (holding_guards (bases_in pages.now base) is_full caller.0 asked.now (Some (view_of self.now))) }
+        ensures right { IfOk result (λ right. right ≡ right_for (bases_in pages.now base) (view_of self.now) caller.0 asked.now) }
     {
         let Some(granted) = self.granted_to(caller) else {
             return Err(ErrorCode::InvalidParameters);

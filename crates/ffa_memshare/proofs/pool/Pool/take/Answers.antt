@@ -6,17 +6,17 @@ use Rattle.ffa_model.specs.State.{Transaction}
 use Rattle.ffa_memshare.specs.Changes.{IsMarked}
 use Rattle.ffa_memshare.specs.Ranges.{in_ranges}
 use Rattle.ffa_memshare.specs.Retrieved.{IsPassedOn, IsTaken}
-use Rattle.ffa_memshare.specs.Stored.{offers_in, slot_at, transaction_of}
+use Rattle.ffa_memshare.specs.Stored.{offers_in, pool_slot, view_of}
 use Rattle.ffa_memshare.specs.declared.marks.Mark.TheVariants.{Given}
 use Rattle.ffa_memshare.proofs.Asks.{same-open}
 use Rattle.ffa_memshare.proofs.Retrieves.{held-taken, kept-passed, taken-offers}
 use Rattle.ffa_memshare.proofs.pool.Pool.take.Goals as goal
 
 pub mark_all-requires-clause-placed : goal.mark_all-requires-clause-placed
-mark_all-requires-clause-placed c = c.requires.placed c.at-open.result.now.handle (transaction_of c.at-open.result.now) c.at-open.ensures.value
+mark_all-requires-clause-placed c = c.requires.placed c.at-open.result.now.handle (view_of c.at-open.result.now) c.at-open.ensures.value
 
 pub mark_all-requires-clause-owned : goal.mark_all-requires-clause-owned
-mark_all-requires-clause-owned c = c.requires.owned c.at-open.result.now.handle (transaction_of c.at-open.result.now) c.at-open.ensures.value
+mark_all-requires-clause-owned c = c.requires.owned c.at-open.result.now.handle (view_of c.at-open.result.now) c.at-open.ensures.value
 
 pub returns-in-Donate-clause-slot : goal.returns-in-Donate-clause-slot
 returns-in-Donate-clause-slot c h t at =
@@ -39,7 +39,7 @@ returns-in-Donate-clause-pages c h t at =
 
 pub returns-in-Share : goal.returns-in-Share
 returns-in-Share c =
-    let kinds : (h : ℕ) (t : Transaction) → slot_at c.args.self.now.slots c.args.slot ≡ Some (h, t) → (t.kind ≡ Share) ⊎ (t.kind ≡ Lend) = λ h t at. subst (λ (u : Transaction). (u.kind ≡ Share) ⊎ (u.kind ≡ Lend))
+    let kinds : (h : ℕ) (t : Transaction) → pool_slot c.args.self.now.slots c.args.slot ≡ Some (h, t) → (t.kind ≡ Share) ⊎ (t.kind ≡ Lend) = λ h t at. subst (λ (u : Transaction). (u.kind ≡ Share) ⊎ (u.kind ≡ Lend))
     (same-open c.args.self.now.slots c.args.slot h t c.at-open.result.now at c.at-open.ensures.value) c.in-Share.is in
     record {
       slot = λ h t at. held-taken t.kind (kinds h t at) c.args.self.now c.set_held.new.self h c.args.endpoint.0 c.args.right

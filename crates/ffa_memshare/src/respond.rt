@@ -1,4 +1,4 @@
-//! The answer to a retrieve, where its caller reads it.
+//! The response to a retrieve, where its caller reads it.
 ghost use Rattle.std.specs.Prelude.{◌≡◌, ◌<◌, ◌^◌, length, true, IsSomeAnd};
 ghost use Rattle.ffa_model.specs.Buffers.{buffers_in, buffers_with_rx};
 ghost use Rattle.ffa_model.specs.ResponseBytes.{response_bytes, response_record, response_size};
@@ -13,7 +13,7 @@ use ffa_rxtx::Buffers;
 
 /// Writes a response in this version to the start of RX of an endpoint that has buffers, says that RX is full, and answers
 /// how many bytes the response has. The other bytes of RX stay.
-pub fn answer<M: PhysMem>(
+pub fn respond<M: PhysMem>(
     ram: &mut M,
     buffers: &mut Buffers,
     endpoint: EndpointId,

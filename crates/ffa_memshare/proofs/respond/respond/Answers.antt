@@ -10,7 +10,7 @@ use Rattle.ffa_rxtx.specs.Parts.{IsInRam, with_rx_bytes}
 use Rattle.ffa_rxtx.specs.Stored.{buffers_of}
 use Rattle.ffa_rxtx.proofs.Runs.{short-run}
 use Rattle.ffa_model.proofs.ResponseSize.{length-response_bytes}
-use Rattle.ffa_memshare.proofs.answer.answer.Goals as goal
+use Rattle.ffa_memshare.proofs.respond.respond.Goals as goal
 
 header-few : (version : Version) → header_size version ≤ 48
 header-few Compact = omega arith
