@@ -11,7 +11,7 @@ use Rattle.ffa_model.proofs.Counts.{count, count-insert, counted, one, values_of
 use Rattle.ffa_model.proofs.Slots.{AreApart, entries_in}
 use Rattle.ffa_memshare.specs.SlotChanges.{IsFree}
 use Rattle.ffa_memshare.specs.declared.transaction.OpenTransaction.{OpenTransaction}
-use Rattle.ffa_memshare.specs.Stored.{IsPool, Pooled, Slot, map_in, offers_in, slot_at, slot_of, slots_of, transaction_of}
+use Rattle.ffa_memshare.specs.Stored.{IsPool, Pooled, Slot, map_in, offers_in, pool_slot, kept_slot, kept_slots, view_of}
 use Rattle.ffa_model.proofs.Places.{place-identifier}
 use Rattle.ffa_memshare.proofs.PoolKept.{unfound}
 
@@ -27,7 +27,7 @@ free_in zero zero (slot ∷ slots) = 0
 free_in zero (suc n) (slot ∷ slots) = vacant slot + free_in zero n slots
 free_in (suc w) n (slot ∷ slots) = free_in w n slots
 
-one-free : (w n : ℕ) (slots : List Slot) (k : ℕ) → w ≤ k → k < w + n → k < length slots → slot_at slots k ≡ None → 1 ≤ free_in w n slots
+one-free : (w n : ℕ) (slots : List Slot) (k : ℕ) → w ≤ k → k < w + n → k < length slots → pool_slot slots k ≡ None → 1 ≤ free_in w n slots
 one-free w n [] k from to lt free = absurd (omega arith)
 one-free zero zero (slot ∷ slots) k from to lt free = absurd (omega arith)
 one-free zero (suc n) (slot ∷ slots) zero from to lt free = let first = ap vacant free in omega (arith, first)
@@ -35,7 +35,7 @@ one-free zero (suc n) (slot ∷ slots) (suc k) from to lt free = let rest = one-
 one-free (suc w) n (slot ∷ slots) zero from to lt free = absurd (omega arith)
 one-free (suc w) n (slot ∷ slots) (suc k) from to lt free = one-free w n slots k (omega arith) (omega arith) (omega arith) free
 
-none-free : (w n : ℕ) (slots : List Slot) → ((k : ℕ) → w ≤ k → k < w + n → (x : ℕ × Transaction) × (slot_at slots k ≡ Some x)) → free_in w n slots ≡ 0
+none-free : (w n : ℕ) (slots : List Slot) → ((k : ℕ) → w ≤ k → k < w + n → (x : ℕ × Transaction) × (pool_slot slots k ≡ Some x)) → free_in w n slots ≡ 0
 none-free w n [] taken = refl
 none-free zero zero (slot ∷ slots) taken = refl
 none-free zero (suc n) (slot ∷ slots) taken =
@@ -89,9 +89,9 @@ module _ (test : Transaction → Bool) where
 
   -- where those that pass are in n slots from one on
   passing-free : (w n : ℕ) (slots : List Slot) → w + n ≤ length slots
-      → ((k : ℕ) (x : ℕ × Transaction) → slot_at slots k ≡ Some x → w ≤ k → k < w + n → test x.1 ≡ true)
-      → ((k : ℕ) (x : ℕ × Transaction) → slot_at slots k ≡ Some x → k < w → test x.1 ≡ false)
-      → ((k : ℕ) (x : ℕ × Transaction) → slot_at slots k ≡ Some x → w + n ≤ k → test x.1 ≡ false)
+      → ((k : ℕ) (x : ℕ × Transaction) → pool_slot slots k ≡ Some x → w ≤ k → k < w + n → test x.1 ≡ true)
+      → ((k : ℕ) (x : ℕ × Transaction) → pool_slot slots k ≡ Some x → k < w → test x.1 ≡ false)
+      → ((k : ℕ) (x : ℕ × Transaction) → pool_slot slots k ≡ Some x → w + n ≤ k → test x.1 ≡ false)
       → passing slots + free_in w n slots ≡ n
   passing-free zero zero [] fits inside before after = refl
   passing-free zero (suc n) [] fits inside before after = absurd (omega arith)
@@ -136,7 +136,7 @@ module _ (kept : Pooled) (pool : IsPool kept) (e : ℕ) (known : identifier (pla
       (λ k x at less. ne_eqb x.1.sender e (λ same. apart k x at same (λ here. omega (arith, here, less))))
       (λ k x at past. ne_eqb x.1.sender e (λ same. apart k x at same (λ here. omega (arith, here, past))))
     where
-      apart : (k : ℕ) (x : ℕ × Transaction) → slot_at kept.slots k ≡ Some x → x.1.sender ≡ e → (k / 16 ≡ place e → ⊥) → ⊥
+      apart : (k : ℕ) (x : ℕ × Transaction) → pool_slot kept.slots k ≡ Some x → x.1.sender ≡ e → (k / 16 ≡ place e → ⊥) → ⊥
       apart k x at same away = away (sym (place-identifier (k / 16)) ∙ ap place (sym (pool.places k x.0 x.1 at).sender ∙ same))
 
   pub few-open : (k : ℕ) → IsFree kept.slots (place e) k → nat_lt (open_count (offers_in kept) e) 16 ≡ true
@@ -144,23 +144,23 @@ module _ (kept : Pooled) (pool : IsPool kept) (e : ℕ) (known : identifier (pla
       let some = one-free (16 * place e) 16 kept.slots k (omega (arith, free.own)) (omega (arith, free.own)) free.within free.free in
       lt-ltb _ _ (omega (arith, sixteen, some))
 
-  pub all-open : ((k : ℕ) → 16 * place e ≤ k → k < 16 * place e + 16 → (x : ℕ × Transaction) × (slot_at kept.slots k ≡ Some x)) → nat_lt (open_count (offers_in kept) e) 16 ≡ false
+  pub all-open : ((k : ℕ) → 16 * place e ≤ k → k < 16 * place e + 16 → (x : ℕ × Transaction) × (pool_slot kept.slots k ≡ Some x)) → nat_lt (open_count (offers_in kept) e) 16 ≡ false
   all-open taken =
       let none = none-free (16 * place e) 16 kept.slots taken in
       le-ltb _ _ (omega (arith, sixteen, none))
 
 -- WHAT THE CODE FINDS IN A SLOT
 -- what a slot of the code has, clauses see
-seen-at : (items : List (Option OpenTransaction)) (k : ℕ) (o : Option OpenTransaction) → k < length items → o ≡ get_or items k o → slot_at (slots_of items) k ≡ slot_of o
+seen-at : (items : List (Option OpenTransaction)) (k : ℕ) (o : Option OpenTransaction) → k < length items → o ≡ get_or items k o → pool_slot (kept_slots items) k ≡ kept_slot o
 seen-at [] k o lt at = absurd (omega arith)
-seen-at (q ∷ items) zero o lt at = ap slot_of (sym at)
+seen-at (q ∷ items) zero o lt at = ap kept_slot (sym at)
 seen-at (q ∷ items) (suc k) o lt at = seen-at items k o (omega arith) at
 
-pub slot-free : (items : List (Option OpenTransaction)) (k : ℕ) (o : Option OpenTransaction) → k < length items → o ≡ get_or items k o → is_some o ≡ false → slot_at (slots_of items) k ≡ None
+pub slot-free : (items : List (Option OpenTransaction)) (k : ℕ) (o : Option OpenTransaction) → k < length items → o ≡ get_or items k o → is_some o ≡ false → pool_slot (kept_slots items) k ≡ None
 slot-free items k None lt at none = seen-at items k None lt at
 slot-free items k (Some t) lt at none = absurd (true≢false none)
 
 pub slot-taken : (items : List (Option OpenTransaction)) (k : ℕ) (o : Option OpenTransaction) → k < length items → o ≡ get_or items k o → is_some o ≡ true
-    → (x : ℕ × Transaction) × (slot_at (slots_of items) k ≡ Some x)
+    → (x : ℕ × Transaction) × (pool_slot (kept_slots items) k ≡ Some x)
 slot-taken items k None lt at some = absurd (false≢true some)
-slot-taken items k (Some t) lt at some = ((t.handle, transaction_of t), seen-at items k (Some t) lt at)
+slot-taken items k (Some t) lt at some = ((t.handle, view_of t), seen-at items k (Some t) lt at)

@@ -10,7 +10,7 @@ use Rattle.std.proofs.lemmas.List.{get_or-set_other, get_or-set_same}
 use Rattle.ffa_model.specs.declared.rights.Rights.{Rights}
 use Rattle.ffa_model.specs.Identifiers.{identifier, place}
 use Rattle.ffa_model.specs.Lists.{map_at}
-use Rattle.ffa_memshare.specs.Held.{Held, held_in, with_held}
+use Rattle.ffa_memshare.specs.Held.{Held, held_in, held_with}
 use Rattle.ffa_model.proofs.Places.{place-identifier, same-identifier}
 
 -- the holders whose places begin with k
@@ -90,14 +90,14 @@ held-nobody n =
 abbrev tied : ℕ → ℕ → Bool
 tied q e = eq_by_cmp nat_cmp q e
 
-get-with_held : (m : Held) (e : ℕ) (right : Option Rights) (q : ℕ) → finite.get (with_held m e right) q ≡ cond (tied q e) right (finite.get m q)
-get-with_held m e None q = finite.get-remove nat_cmp_total m e q
-get-with_held m e (Some right) q = finite.get-insert nat_cmp_total m e right q
+get-held_with : (m : Held) (e : ℕ) (right : Option Rights) (q : ℕ) → finite.get (held_with m e right) q ≡ cond (tied q e) right (finite.get m q)
+get-held_with m e None q = finite.get-remove nat_cmp_total m e q
+get-held_with m e (Some right) q = finite.get-insert nat_cmp_total m e right q
 
 pub held-set : (held : List (Option Rights)) (e : ℕ) (right : Option Rights) → e ≡ identifier (place e) → place e < length held
-    → held_in (set held (place e) right) ≡ with_held (held_in held) e right
+    → held_in (set held (place e) right) ≡ held_with (held_in held) e right
 held-set held e right known lt =
-    finite.same_map nat_cmp_total finite.nat_cmp-IsAntisymmetric _ _ (λ q. each q ∙ sym (get-with_held (held_in held) e right q))
+    finite.same_map nat_cmp_total finite.nat_cmp-IsAntisymmetric _ _ (λ q. each q ∙ sym (get-held_with (held_in held) e right q))
   where
     apart : (q : ℕ) → (q ≡ e → ⊥) → cond (tied q e) right (finite.get (held_in held) q) ≡ finite.get (held_in held) q
     apart q other = ap (λ b. cond b right (finite.get (held_in held) q)) (unsigned_tied q e ∙ ne_eqb q e other)

@@ -13,32 +13,32 @@ use Rattle.ffa_model.proofs.Slots.{map-freed, map-put}
 use Rattle.ffa_model.specs.declared.rights.Rights.{Rights}
 use Rattle.ffa_model.proofs.Written.{map-refill-set}
 use Rattle.ffa_memshare.specs.declared.transaction.OpenTransaction.{OpenTransaction}
-use Rattle.ffa_memshare.specs.Held.{Held, with_held, with_holder}
-use Rattle.ffa_memshare.specs.Stored.{IsInPlace, IsPool, Pooled, Slot, map_in, offers_in, slot_at, slot_of, slots_of, transaction_of}
+use Rattle.ffa_memshare.specs.Held.{Held, held_with, with_holder}
+use Rattle.ffa_memshare.specs.Stored.{IsInPlace, IsPool, Pooled, Slot, map_in, offers_in, pool_slot, kept_slot, kept_slots, view_of}
 use Rattle.ffa_memshare.proofs.PoolKept.{past-none}
 
 -- a slot that has a transaction is one of the slots
-pub slot-within : (slots : List Slot) (k : ℕ) (x : ℕ × Transaction) → slot_at slots k ≡ Some x → k < length slots
+pub slot-within : (slots : List Slot) (k : ℕ) (x : ℕ × Transaction) → pool_slot slots k ≡ Some x → k < length slots
 slot-within slots k x at = elim (cases_lt k (length slots)) [
   | inl lt ↦ lt
   | inr past ↦ absurd (none-some x (sym (past-none slots k past) ∙ at))
 ]
 
-module _ (kept : Pooled) (pool : IsPool kept) (k h : ℕ) (t u : Transaction) (at : slot_at kept.slots k ≡ Some (h, t)) where
+module _ (kept : Pooled) (pool : IsPool kept) (k h : ℕ) (t u : Transaction) (at : pool_slot kept.slots k ≡ Some (h, t)) where
   lt : k < length kept.slots
   lt = slot-within kept.slots k (h, t) at
 
   abbrev pub after : Pooled
   after = record { slots = set kept.slots k (Some (h, u)); sent = kept.sent }
 
-  here : (x : ℕ × Transaction) → slot_at after.slots k ≡ Some x → (h, u) ≡ x
+  here : (x : ℕ × Transaction) → pool_slot after.slots k ≡ Some x → (h, u) ≡ x
   here x at_k = same_Some (h, u) x (sym (get_or-set_same kept.slots k (Some (h, u)) None lt) ∙ at_k)
 
   -- a slot has the handle that it had
-  before : (j : ℕ) (x : ℕ × Transaction) → slot_at after.slots j ≡ Some x → (y : ℕ × Transaction) × (slot_at kept.slots j ≡ Some y) × (y.0 ≡ x.0)
+  before : (j : ℕ) (x : ℕ × Transaction) → pool_slot after.slots j ≡ Some x → (y : ℕ × Transaction) × (pool_slot kept.slots j ≡ Some y) × (y.0 ≡ x.0)
   before j x at_j = elim (cases_eq j k) [
     | inl same ↦
-        ((h, t), ap (slot_at kept.slots) same ∙ at, ap (λ (z : ℕ × Transaction). z.0) (here x (ap (slot_at after.slots) (sym same) ∙ at_j)))
+        ((h, t), ap (pool_slot kept.slots) same ∙ at, ap (λ (z : ℕ × Transaction). z.0) (here x (ap (pool_slot after.slots) (sym same) ∙ at_j)))
     | inr apart ↦ (x, sym (get_or-set_other kept.slots k j (Some (h, u)) None apart) ∙ at_j, refl)
   ]
 
@@ -51,7 +51,7 @@ module _ (kept : Pooled) (pool : IsPool kept) (k h : ℕ) (t u : Transaction) (a
         places = λ j g v at_j. elim (cases_eq j k) [
           | inl same ↦
               let its = pool.places k h t at in
-              let is : (h, u) ≡ (g, v) = here (g, v) (ap (slot_at after.slots) (sym same) ∙ at_j) in
+              let is : (h, u) ≡ (g, v) = here (g, v) (ap (pool_slot after.slots) (sym same) ∙ at_j) in
               subst (λ m. IsInPlace kept.sent m g v) (sym same)
               (subst (λ (x : ℕ × Transaction). IsInPlace kept.sent k x.0 x.1) is
               (record { sender = sender ∙ its.sender; number = (its.number.0, its.number.1 ∙ ap (λ e. handle_of e its.number.0) (sym sender), its.number.2, its.number.3) }))
@@ -95,8 +95,8 @@ module _ (kept : Pooled) (pool : IsPool kept) (k h : ℕ) (t u : Transaction) (a
 
 -- in the code: its holders were written where it lies
 pub held-slots : (xs ys : List (Option OpenTransaction)) (k : ℕ) (t : OpenTransaction) (m : Held) (e : ℕ) (right : Option Rights)
-    → ys ≡ xs → m ≡ with_held t.held e right
-    → slots_of (refill (length xs) xs (set ys k (Some (record t { held = m })))) ≡ set (slots_of xs) k (Some (t.handle, with_holder (transaction_of t) e right))
+    → ys ≡ xs → m ≡ held_with t.held e right
+    → kept_slots (refill (length xs) xs (set ys k (Some (record t { held = m })))) ≡ set (kept_slots xs) k (Some (t.handle, with_holder (view_of t) e right))
 held-slots xs ys k t m e right same is =
-    map-refill-set slot_of xs ys k (Some (record t { held = m })) same
-    ∙ ap (λ (h : Held). set (slots_of xs) k (Some (t.handle, record (transaction_of t) { held = h }))) is
+    map-refill-set kept_slot xs ys k (Some (record t { held = m })) same
+    ∙ ap (λ (h : Held). set (kept_slots xs) k (Some (t.handle, record (view_of t) { held = h }))) is

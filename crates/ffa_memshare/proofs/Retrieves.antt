@@ -1,6 +1,7 @@
 -- What an endpoint has taken.
-use Rattle.std.proofs.Common.{◌≡◌, ◌⊎◌, ℕ, suc, ◌+◌, ◌*◌, ◌^◌, ◌<◌, ◌≤◌, List, [], ◌∷◌, length, Some, refl, arith, inl, inr}
+use Rattle.std.proofs.Common.{◌≡◌, ◌⊎◌, Bool, Option, ℕ, suc, ◌+◌, ◌*◌, ◌^◌, ◌<◌, ◌≤◌, List, [], ◌∷◌, length, Some, refl, arith, inl, inr}
 use Rattle.std.proofs.lemmas.List.Sums.{sum_by-cons}
+use Rattle.ffa_model.specs.declared.endpoint.EndpointId.{EndpointId}
 use Rattle.ffa_model.specs.declared.rights.Kind.{Kind}
 use Rattle.ffa_model.specs.declared.rights.Kind.TheVariants.{Share, Lend, Donate}
 use Rattle.ffa_model.specs.declared.rights.Rights.{Rights}
@@ -9,8 +10,9 @@ use Rattle.ffa_model.specs.MemoryRetrieve.{taken_in}
 use Rattle.ffa_model.specs.SendDescriptor.{page_total}
 use Rattle.ffa_model.specs.State.{Transaction}
 use Rattle.ffa_model.specs.Transactions.{Offers, holding, with_transaction}
+use Rattle.ffa_pages.specs.Entry.{Entry}
 use Rattle.ffa_memshare.specs.Ranges.{ArePlaced, IsPlaced}
-use Rattle.ffa_memshare.specs.Retrieved.{IsTaken}
+use Rattle.ffa_memshare.specs.Retrieved.{IsPassedOn, IsTaken}
 use Rattle.ffa_memshare.specs.SlotChanges.{IsHeldBy}
 use Rattle.ffa_memshare.specs.Stored.{Pooled}
 
@@ -29,6 +31,12 @@ pub taken-offers : (kind : Kind) → ((kind ≡ Share) ⊎ (kind ≡ Lend)) → 
 taken-offers Share kinds o h t e right = refl
 taken-offers Lend kinds o h t e right = refl
 taken-offers Donate kinds o h t e right = not-donate kinds
+
+-- and its pages stay whose they were
+pub kept-passed : (kind : Kind) → ((kind ≡ Share) ⊎ (kind ≡ Lend)) → (table : List (Option Entry)) (named : ℕ → Bool) (e : EndpointId) (right : Rights) → IsPassedOn kind table table named e right
+kept-passed Share kinds table named e right = refl
+kept-passed Lend kinds table named e right = refl
+kept-passed Donate kinds table named e right = not-donate kinds
 
 -- the pages of ranges in RAM are few
 placed-total : (base blocks : ℕ) (ranges : List Range) → blocks ≤ 32 → ArePlaced base (512 * blocks) ranges → page_total ranges ≤ 16384 * length ranges

@@ -17,9 +17,9 @@ abbrev pub held_in : List (Option Rights) → Held
 held_in held = finite.from_entries (filter_map (λ x. x) (map_at (λ i. option_map (λ (right : Rights). (identifier i, right))) held))
 
 -- an endpoint holds this right, or none
-abbrev pub with_held : Held → ℕ → Option Rights → Held
-with_held held e None = finite.remove held e
-with_held held e (Some right) = finite.insert held e right
+abbrev pub held_with : Held → ℕ → Option Rights → Held
+held_with held e None = finite.remove held e
+held_with held e (Some right) = finite.insert held e right
 
 abbrev pub with_holder : Transaction → ℕ → Option Rights → Transaction
-with_holder t e right = record t { held = with_held t.held e right }
+with_holder t e right = record t { held = held_with t.held e right }

@@ -1,9 +1,9 @@
 //! Who holds an open transaction, and with which right.
-ghost use Rattle.std.specs.Prelude.{◌≡◌, ◌<◌, Some, None};
+ghost use Rattle.std.specs.Prelude.{◌≡◌, ◌<◌, None};
 ghost use Rattle.std.specs.FinMap as finite;
 ghost use Rattle.ffa_model.specs.declared.limits.TheConstants.{MOST_ENDPOINTS};
 ghost use Rattle.ffa_model.specs.Identifiers.{identifier, place};
-ghost use Rattle.ffa_memshare.specs.Held.{with_held};
+ghost use Rattle.ffa_memshare.specs.Held.{held_with};
 
 use arrayvec::ArrayVec;
 use ffa_model::{EndpointId, MOST_ENDPOINTS, Rights};
@@ -64,7 +64,7 @@ impl Holders {
     pub fn set(&mut self, endpoint: EndpointId, right: Option<Rights>)
         requires known { identifier (place endpoint.0) ≡ endpoint.0 }
         requires few { place endpoint.0 < MOST_ENDPOINTS }
-        ensures { self.new ≡ with_held self.old endpoint.0 right }
+        ensures { self.new ≡ held_with self.old endpoint.0 right }
     {
         self.rights[endpoint.place()] = right;
     }

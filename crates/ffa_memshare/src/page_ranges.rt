@@ -1,5 +1,5 @@
 //! Ranges of whole pages of RAM, as an open transaction keeps them.
-ghost use Rattle.std.specs.Prelude.{◌≡◌, ◌<◌, ◌≤◌, [], length, map, slice_index_or};
+ghost use Rattle.std.specs.Prelude.{◌≡◌, ◌<◌, ◌≤◌, [], length, slice_index_or};
 ghost use Rattle.ffa_model.specs.declared.limits.TheConstants.{MOST_RANGES};
 ghost use Rattle.ffa_memshare.specs.PageRanges.{range_at};
 ghost use Rattle.ffa_memshare.specs.Ranges.{ArePlaced, IsPlaced};
@@ -23,7 +23,8 @@ impl PageRange {
         requires { IsPlaced base (length pages.now) range.now }
         ensures { range_at base result ≡ range.now }
     {
-        let _most = pages.pages();
+        // Proof step: the number of pages is 2^14 at most.
+        let _ = pages.pages();
         PageRange {
             first: first_page(base, range) as u16,
             pages: range.pages as u16,
@@ -69,7 +70,9 @@ impl PageRanges {
         ensures { result ≡ ranges.now.items }
     {
         let mut list = ArrayVec::new();
-        push_placed(&mut list, pages, base, ranges.as_slice());
+        for range in ranges.as_slice() {
+            list.push(PageRange::of(pages, base, range));
+        }
         PageRanges { base, list }
     }
 
@@ -78,7 +81,9 @@ impl PageRanges {
         ensures { result ≡ self.now }
     {
         let mut list = ArrayVec::new();
-        push_all(&mut list, self.list.as_slice());
+        for range in self.list.as_slice() {
+            list.push(*range);
+        }
         PageRanges {
             base: self.base,
             list,
@@ -107,45 +112,8 @@ impl PageRanges {
         requires { ranges.old.items ≡ [] }
         ensures { ranges.new.items ≡ self.now }
     {
-        push_ranges(self.base, self.list.as_slice(), ranges);
-    }
-}
-
-// Puts these ranges of the RAM at an address, which has these pages, into an empty list.
-fn push_placed(
-    list: &mut ArrayVec<PageRange, MOST_RANGES>,
-    pages: &PageTable,
-    base: u32,
-    ranges: &[Range],
-)
-    requires empty { list.old.items ≡ [] }
-    requires few { length ranges.now ≤ MOST_RANGES }
-    requires placed { ArePlaced base (length pages.now) ranges.now }
-    ensures { map (range_at base) list.new.items ≡ ranges.now }
-{
-    for range in ranges {
-        list.push(PageRange::of(pages, base, range));
-    }
-}
-
-// Puts the same ranges into an empty list.
-fn push_all(list: &mut ArrayVec<PageRange, MOST_RANGES>, ranges: &[PageRange])
-    requires empty { list.old.items ≡ [] }
-    requires few { length ranges.now ≤ MOST_RANGES }
-    ensures { list.new.items ≡ ranges.now }
-{
-    for range in ranges {
-        list.push(*range);
-    }
-}
-
-// Puts these ranges of the RAM at an address into an empty list.
-fn push_ranges(base: u32, list: &[PageRange], ranges: &mut ArrayVec<Range, MOST_RANGES>)
-    requires few { length list.now ≤ MOST_RANGES }
-    requires empty { ranges.old.items ≡ [] }
-    ensures { ranges.new.items ≡ map (range_at base) list.now }
-{
-    for range in list {
-        ranges.push(range.range(base));
+        for range in self.list.as_slice() {
+            ranges.push(range.range(self.base));
+        }
     }
 }

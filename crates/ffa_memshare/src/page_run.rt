@@ -43,9 +43,11 @@ impl<'m, M: PhysMem> PageRun<'m, M> {
         ensures bytes { result ≡ run_front (M.ram ram.now) first.0 pages len }
         ensures whole { length (run_in (M.ram ram.now) first.0 pages) ≡ 4096 * pages }
     {
-        let _count = ram.pages();
+        // Proof step: the number of pages fits in 32 bits.
+        let _ = ram.pages();
         for i in 0..pages {
-            let _page = ram.page(PageNo(first.0 + i));
+            // Proof step: each page has `PAGE_SIZE` bytes.
+            let _ = ram.page(PageNo(first.0 + i));
         }
         PageRun {
             ram,

@@ -4,7 +4,7 @@ ghost use Rattle.std.specs.Result.{result_err};
 ghost use Rattle.arrayvec.specs.ArrayVec.{array_vec_len};
 ghost use Rattle.ffa_model.specs.Buffers.{buffers_in};
 ghost use Rattle.ffa_model.specs.Calls.{first_failure};
-ghost use Rattle.ffa_model.specs.MemoryReturn.{holder_guards, is_zeroable, relinquish_guards};
+ghost use Rattle.ffa_model.specs.MemoryReturn.{relinquish_guards};
 ghost use Rattle.ffa_model.specs.RelinquishDescriptor.{relinquish_of};
 ghost use Rattle.ffa_model.specs.State.{Buffers as Own};
 ghost use Rattle.ffa_model.specs.Transactions.{Offers};
@@ -12,15 +12,14 @@ ghost use Rattle.ffa_rxtx.specs.Parts.{IsInRam, tx_in};
 ghost use Rattle.ffa_memshare.specs.Callers.{IsCaller};
 ghost use Rattle.ffa_memshare.specs.Relinquished.{IsRelinquished};
 ghost use Rattle.ffa_memshare.specs.Shared.{IsShared};
-ghost use Rattle.ffa_memshare.specs.Stored.{offers_in, transaction_of};
+ghost use Rattle.ffa_memshare.specs.Stored.{offers_in};
 
 use crate::changed::Changed;
 use crate::grants::NewRight;
-use crate::moves::move_rights;
+use crate::page_changes::change_pages;
 use crate::page_run::{PageRun, read_relinquish};
 use crate::pool::Pool;
-use crate::transaction::OpenTransaction;
-use ffa_model::{Data, EndpointId, ErrorCode, Kind, RelinquishDesc};
+use ffa_model::{EndpointId, ErrorCode, RelinquishDesc};
 use ffa_pages::PageTable;
 use ffa_physmem::PhysMem;
 use ffa_rxtx::Buffers;
@@ -62,35 +61,10 @@ impl Pool {
         open.check_relinquish(caller, &asked)?;
         let index = caller.place();
         let nothing = NewRight::Same(None);
-        move_rights(ram, layout, pages, &open.ranges, index, nothing, asked.zero);
+        change_pages(ram, layout, pages, &open.ranges, index, nothing, asked.zero);
         let changed = Changed::of(&open.ranges, Some(caller));
         self.set_held(slot, caller, None);
         Ok(changed)
-    }
-}
-
-impl OpenTransaction {
-    // Whether an endpoint may give up what it asks to, or why not.
-    fn check_relinquish(&self, caller: EndpointId, asked: &RelinquishDesc) -> Result<(), ErrorCode>
-        ensures { result_err result ≡ first_failure (holder_guards caller.0 asked.now (Some (transaction_of self.now))) }
-    {
-        if asked.endpoint != caller || !self.is_receiver(caller) {
-            return Err(ErrorCode::InvalidParameters);
-        }
-        if self.held(caller).is_none() || (asked.zero && !self.is_zeroable(caller)) {
-            return Err(ErrorCode::Denied);
-        }
-        Ok(())
-    }
-
-    // Whether an endpoint may fill the pages with zeros: it holds a lend, and may write to them.
-    fn is_zeroable(&self, endpoint: EndpointId) -> bool
-        ensures { result ≡ is_zeroable endpoint.0 (Some (transaction_of self.now)) }
-    {
-        match self.held(endpoint) {
-            Some(right) => matches!(self.kind, Kind::Lend) && right.level == Data::Rw,
-            None => false,
-        }
     }
 }
 

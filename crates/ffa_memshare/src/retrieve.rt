@@ -1,5 +1,5 @@
 //! FFA_MEM_RETRIEVE_REQ.
-ghost use Rattle.std.specs.Prelude.{List, Bool, ℕ, ◌≡◌, ◌≢◌, ◌≤◌, ◌<◌, ◌*◌, length, true, is_some, Option, Some, IfOk, IfErr, OnOk, OnErr};
+ghost use Rattle.std.specs.Prelude.{List, ℕ, ◌≡◌, ◌≢◌, ◌<◌, length, true, is_some, Option, Some, IfOk, IfErr, OnOk, OnErr};
 ghost use Rattle.std.specs.FinMap as finite;
 ghost use Rattle.std.specs.Result.{result_err};
 ghost use Rattle.arrayvec.specs.ArrayVec.{array_vec_len};
@@ -7,7 +7,7 @@ ghost use Rattle.ffa_model.specs.declared.limits.TheConstants.{MOST_ENDPOINTS};
 ghost use Rattle.ffa_model.specs.Buffers.{buffers_in, buffers_with_rx, is_full};
 ghost use Rattle.ffa_model.specs.Calls.{first_failure};
 ghost use Rattle.ffa_model.specs.Identifiers.{identifier, manager, place};
-ghost use Rattle.ffa_model.specs.MemoryRetrieve.{asking_guards, holding_guards, response_to, retrieve_guards, taken_in};
+ghost use Rattle.ffa_model.specs.MemoryRetrieve.{holding_guards, response_to, retrieve_guards, taken_in};
 ghost use Rattle.ffa_model.specs.ResponseBytes.{response_record};
 ghost use Rattle.ffa_model.specs.RetrieveDescriptor.{retrieve_of};
 ghost use Rattle.ffa_model.specs.State.{Buffers as Own, Transaction};
@@ -20,15 +20,15 @@ ghost use Rattle.ffa_memshare.specs.Ranges.{ArePlaced, in_ranges};
 ghost use Rattle.ffa_memshare.specs.Retrieved.{IsAnswered, IsPassedOn, IsRetrieved, IsTaken};
 ghost use Rattle.ffa_memshare.specs.Scenes.{descriptor_in, scene_in};
 ghost use Rattle.ffa_memshare.specs.Shared.{IsHeld, IsShared};
-ghost use Rattle.ffa_memshare.specs.Stored.{map_in, offers_in, slot_at, transaction_of};
+ghost use Rattle.ffa_memshare.specs.Stored.{offers_in, pool_slot, view_of};
 
-use crate::answer::answer;
 use crate::changed::{Changed, Retrieved};
 use crate::grants::NewRight;
 use crate::marks::{Mark, mark_all};
-use crate::moves::move_rights;
+use crate::page_changes::change_pages;
 use crate::page_run::read_retrieve;
 use crate::pool::Pool;
+use crate::respond::respond;
 use crate::transaction::OpenTransaction;
 use crate::descriptor_call::DescriptorCall;
 use arrayvec::ArrayVec;
@@ -81,24 +81,40 @@ impl Pool {
         let is_full = buffers.is_full(caller);
         let right = open.check_retrieve(pages, layout.base, is_full, caller, &asked)?;
         let size = open.hand_over(ram, layout, pages, buffers, caller, call.version, right);
-        open.pass_on(pages, layout.base, caller, right);
         let changed = Changed::of(&open.ranges, Some(caller));
-        let kind = open.kind;
-        self.take(slot, kind, caller, right);
+        self.take(pages, layout.base, slot, caller, right);
         Ok(Retrieved { size, changed })
     }
 
-    // Notes that an endpoint holds the open transaction in a slot, which is of this kind. A donate is open no more.
-    fn take(&mut self, slot: usize, kind: Kind, endpoint: EndpointId, right: Rights)
-        requires open { (x : ℕ × Transaction) × (slot_at self.old.slots slot ≡ Some x) }
+    // Notes that an endpoint holds the open transaction in a slot with this right. The pages of a donate are its own then,
+    // with this right, and the donate is open no more.
+    fn take(
+        &mut self,
+        pages: &mut PageTable,
+        base: u32,
+        slot: usize,
+        endpoint: EndpointId,
+        right: Rights,
+    )
+        requires open { (x : ℕ × Transaction) × (pool_slot self.old.slots slot ≡ Some x) }
+        requires placed { (h : ℕ) (t : Transaction) → pool_slot self.old.slots slot ≡ Some (h, t) → ArePlaced base (length pages.old) t.ranges }
+        requires owned { (h : ℕ) (t : Transaction) → pool_slot self.old.slots slot ≡ Some (h, t)
+            → (p : ℕ) → in_ranges base t.ranges p ≡ true → owner_at pages.old p ≢ manager }
+        requires endpoint { endpoint.0 ≢ manager }
         requires known { identifier (place endpoint.0) ≡ endpoint.0 }
         requires few { place endpoint.0 < MOST_ENDPOINTS }
-        ensures slot { (h : ℕ) (t : Transaction) → slot_at self.old.slots slot ≡ Some (h, t) → IsTaken kind self.old self.new h endpoint.0 right }
-        ensures offers { (h : ℕ) (t : Transaction) → slot_at self.old.slots slot ≡ Some (h, t)
-            → offers_in self.new ≡ taken_in kind (offers_in self.old) h t endpoint.0 right }
+        ensures slot { (h : ℕ) (t : Transaction) → pool_slot self.old.slots slot ≡ Some (h, t) → IsTaken t.kind self.old self.new h endpoint.0 right }
+        ensures offers { (h : ℕ) (t : Transaction) → pool_slot self.old.slots slot ≡ Some (h, t)
+            → offers_in self.new ≡ taken_in t.kind (offers_in self.old) h t endpoint.0 right }
+        ensures pages { (h : ℕ) (t : Transaction) → pool_slot self.old.slots slot ≡ Some (h, t)
+            → IsPassedOn t.kind pages.old pages.new (in_ranges base t.ranges) endpoint right }
     {
-        match kind {
-            Kind::Donate => self.close(slot),
+        let open = self.at(slot);
+        match open.kind {
+            Kind::Donate => {
+                mark_all(pages, base, &open.ranges, Mark::Given(endpoint, right));
+                self.close(slot);
+            }
             Kind::Share | Kind::Lend => self.set_held(slot, endpoint, Some(right)),
         }
     }
@@ -117,37 +133,25 @@ impl OpenTransaction {
         version: Version,
         right: Rights,
     ) -> u32
-        requires held { IsHeld (M.ram ram.old) layout.now.base (array_vec_len layout.now.regions) layout.now.blocks pages.now (transaction_of self.now) }
+        requires held { IsHeld (M.ram ram.old) layout.now.base (array_vec_len layout.now.regions) layout.now.blocks pages.now (view_of self.now) }
         requires caller { IsCaller (array_vec_len layout.now.regions) (length (M.ram ram.old).pages) caller.0 buffers.old }
         requires buffers { is_some (buffers_in buffers.old caller.0) ≡ true }
         ensures answered { IsAnswered (M.ram ram.old) (M.ram ram.new) layout.now.base (array_vec_len layout.now.regions) layout.now.blocks
-            (buffers_in buffers.old caller.0) self.now.handle (transaction_of self.now) caller.0 version right result }
+            (buffers_in buffers.old caller.0) self.now.handle (view_of self.now) caller.0 version right result }
         ensures full { buffers.new ≡ buffers_with_rx buffers.old caller.0 true }
     {
-        let _ranges = self.ranges.len();
+        // Proof step: the ranges are `MOST_RANGES` at most.
+        let _ = self.ranges.len();
         let index = caller.place();
         let to_caller = NewRight::Same(Some(right));
-        move_rights(ram, layout, pages, &self.ranges, index, to_caller, false);
+        change_pages(ram, layout, pages, &self.ranges, index, to_caller, false);
         let response = self.response(caller, right);
-        answer(ram, buffers, caller, version, &response)
-    }
-
-    // Makes the pages of a donate an endpoint's own, with this right.
-    fn pass_on(&self, pages: &mut PageTable, base: u32, endpoint: EndpointId, right: Rights)
-        requires placed { ArePlaced base (length pages.old) self.now.ranges }
-        requires owned { (p : ℕ) → in_ranges base self.now.ranges p ≡ true → owner_at pages.old p ≢ manager }
-        requires endpoint { endpoint.0 ≢ manager }
-        ensures { IsPassedOn self.now.kind pages.old pages.new (in_ranges base self.now.ranges) endpoint right }
-    {
-        match self.kind {
-            Kind::Donate => mark_all(pages, base, &self.ranges, Mark::Given(endpoint, right)),
-            Kind::Share | Kind::Lend => {}
-        }
+        respond(ram, buffers, caller, version, &response)
     }
 
     // What an endpoint is told that has this right to the pages.
     fn response(&self, endpoint: EndpointId, right: Rights) -> Response
-        ensures { response_record result ≡ response_to self.now.handle (transaction_of self.now) endpoint.0 right }
+        ensures { response_record result ≡ response_to self.now.handle (view_of self.now) endpoint.0 right }
     {
         let mut response = Response {
             sender: self.sender,

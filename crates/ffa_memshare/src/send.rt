@@ -17,11 +17,11 @@ ghost use Rattle.ffa_memshare.specs.Offers.{IsOffered};
 ghost use Rattle.ffa_memshare.specs.Scenes.{descriptor_in, scene_in};
 ghost use Rattle.ffa_memshare.specs.Sent.{IsSent};
 ghost use Rattle.ffa_memshare.specs.Shared.{IsRoom};
-ghost use Rattle.ffa_memshare.specs.Stored.{offers_in, transaction_of};
+ghost use Rattle.ffa_memshare.specs.Stored.{offers_in, view_of};
 
 use crate::changed::{Changed, Sent, changed_sender};
+use crate::checks::send::check_offer;
 use crate::holders::Holders;
-use crate::offer::check_offer;
 use crate::page_run::read_send;
 use crate::pool::Pool;
 use crate::transaction::OpenTransaction;
@@ -99,9 +99,8 @@ impl Pool {
             caller.0 call.now.transfer (send_of kind (descriptor_in (M.ram ram.now) buffers.now caller.0 call.now)))
             ≡ first_failure (room_guards (offers_in self.now) caller.0)) }
         ensures handle { IfOk result (λ t. t.handle ≡ next_handle (offers_in self.now) caller.0) }
-        ensures kind { IfOk result (λ t. t.kind ≡ kind) }
         ensures offered { IfOk result (λ t. IsOffered pages.now layout.now.base caller.0 kind
-            (descriptor_in (M.ram ram.now) buffers.now caller.0 call.now) (transaction_of t)) }
+            (descriptor_in (M.ram ram.now) buffers.now caller.0 call.now) (view_of t)) }
     {
         let bytes = call.descriptor(ram, buffers, caller)?;
         let Ok(offer) = read_send(&bytes, call.version, kind) else {

@@ -1,11 +1,9 @@
 //! One open transaction.
-ghost use Rattle.std.specs.Prelude.{◌≡◌, length, Some, None};
-ghost use Rattle.std.specs.Result.{result_err};
+ghost use Rattle.std.specs.Prelude.{◌≡◌, ◌==◌, length, find, Some, None};
 ghost use Rattle.arrayvec.specs.ArrayVec.{array_vec_len};
-ghost use Rattle.ffa_model.specs.Access.{held_by, right_by};
-ghost use Rattle.ffa_model.specs.Calls.{first_failure};
+ghost use Rattle.ffa_model.specs.declared.transaction.Receiver.{Receiver as Named};
+ghost use Rattle.ffa_model.specs.Access.{held_by, is_receiver, right_by};
 ghost use Rattle.ffa_model.specs.Identifiers.{place};
-ghost use Rattle.ffa_model.specs.MemoryReturn.{is_unheld, reclaim_guards};
 ghost use Rattle.ffa_model.specs.State.{Page};
 ghost use Rattle.ffa_model.specs.Transactions.{are_executable, are_writable};
 ghost use Rattle.ffa_pages.specs.Entry.{base_at};
@@ -16,14 +14,14 @@ ghost use Rattle.ffa_memshare.specs.Grants.{new_right};
 ghost use Rattle.ffa_memshare.specs.Sent.{right_after};
 ghost use Rattle.ffa_memshare.specs.Shared.{IsHeld};
 
-use crate::checks::{Common, common_of};
+use crate::common::{Common, common_of};
 use crate::grants::NewRight;
 use crate::holders::Holders;
 use crate::marks::{Mark, mark_all};
-use crate::moves::move_rights;
+use crate::page_changes::change_pages;
 use crate::page_ranges::PageRanges;
 use arrayvec::ArrayVec;
-use ffa_model::{EndpointId, ErrorCode, Kind, MOST_RECEIVERS, Receiver, Rights};
+use ffa_model::{EndpointId, Kind, MOST_RECEIVERS, Receiver, Rights};
 use ffa_pages::PageTable;
 use ffa_physmem::PhysMem;
 use ffa_stage2::Layout;
@@ -42,18 +40,37 @@ pub struct OpenTransaction {
 }
 
 impl OpenTransaction {
-    ghost use Rattle.ffa_memshare.specs.Stored.{transaction_of};
+    ghost use Rattle.ffa_memshare.specs.Stored.{view_of};
+
+    // What it says of a receiver.
+    pub(crate) fn receiver(&self, endpoint: EndpointId) -> Option<Receiver>
+        ensures { result ≡ find (λ (r : Named). r.endpoint.0 == endpoint.0) self.now.receivers.items }
+    {
+        self.receivers
+            .as_slice()
+            .iter()
+            .copied()
+            .find(|receiver| receiver.endpoint == endpoint)
+    }
+
+    // Whether it is offered to an endpoint.
+    #[tactic(auto, using(crate::proofs::Receivers::found_any))]
+    pub(crate) fn is_receiver(&self, endpoint: EndpointId) -> bool
+        ensures { result ≡ is_receiver endpoint.0 (view_of self.now) }
+    {
+        self.receiver(endpoint).is_some()
+    }
 
     // The right that an endpoint holds.
     pub(crate) fn held(&self, endpoint: EndpointId) -> Option<Rights>
-        ensures { result ≡ held_by (transaction_of self.now) endpoint.0 }
+        ensures { result ≡ held_by (view_of self.now) endpoint.0 }
     {
         self.held.of(endpoint)
     }
 
     // What an endpoint may do with one of its pages, to which the sender's own right is this.
     pub(crate) fn right_to(&self, endpoint: EndpointId, base: Rights) -> Option<Rights>
-        ensures { (page : Page) → page.base ≡ base → result ≡ right_by endpoint.0 page (transaction_of self.now) (held_by (transaction_of self.now) endpoint.0) }
+        ensures { (page : Page) → page.base ≡ base → result ≡ right_by endpoint.0 page (view_of self.now) (held_by (view_of self.now) endpoint.0) }
     {
         let held = self.held(endpoint);
         if held.is_some() {
@@ -65,16 +82,6 @@ impl OpenTransaction {
         }
     }
 
-    // Whether no receiver holds it.
-    fn is_unheld(&self) -> bool
-        ensures { result ≡ is_unheld (Some (transaction_of self.now)) }
-    {
-        self.receivers
-            .as_slice()
-            .iter()
-            .all(|receiver| self.held(receiver.endpoint).is_none())
-    }
-
     // What all its pages have.
     pub(crate) fn common(&self, pages: &PageTable, base: u32) -> Common
         requires { ArePlaced base (length pages.now) self.now.ranges }
@@ -82,29 +89,6 @@ impl OpenTransaction {
         ensures executable { result.is_executable ≡ are_executable (bases_in pages.now base) self.now.ranges }
     {
         common_of(pages, base, &self.ranges)
-    }
-
-    // Whether its sender may end it, or why not.
-    pub(crate) fn check_reclaim(
-        &self,
-        pages: &PageTable,
-        base: u32,
-        caller: EndpointId,
-        flags: u32,
-    ) -> Result<(), ErrorCode>
-        requires { ArePlaced base (length pages.now) self.now.ranges }
-        ensures { result_err result ≡ first_failure (reclaim_guards (bases_in pages.now base) caller.0 flags (Some (transaction_of self.now))) }
-    {
-        if flags > 1 || self.sender != caller {
-            return Err(ErrorCode::InvalidParameters);
-        }
-        if !self.is_unheld() {
-            return Err(ErrorCode::Denied);
-        }
-        if flags == 1 && !self.common(pages, base).is_writable {
-            return Err(ErrorCode::Denied);
-        }
-        Ok(())
     }
 
     // Gives its pages back to the sender, who has its own right to them, and zeros where that is asked.
@@ -115,14 +99,14 @@ impl OpenTransaction {
         pages: &mut PageTable,
         zero: bool,
     )
-        requires { IsHeld (M.ram ram.old) layout.now.base (array_vec_len layout.now.regions) layout.now.blocks pages.old (transaction_of self.now) }
+        requires { IsHeld (M.ram ram.old) layout.now.base (array_vec_len layout.now.regions) layout.now.blocks pages.old (view_of self.now) }
         ensures moved { IsMoved (M.ram ram.old) (M.ram ram.new) (array_vec_len layout.now.regions) layout.now.blocks
             (place self.now.sender.0) (in_ranges layout.now.base self.now.ranges) (base_at pages.old) zero }
         ensures marked { IsMarked pages.old pages.new (in_ranges layout.now.base self.now.ranges) (Mark.Named None) }
     {
         let ranges = &self.ranges;
         let index = self.sender.place();
-        move_rights(ram, layout, pages, ranges, index, NewRight::Base, zero);
+        change_pages(ram, layout, pages, ranges, index, NewRight::Base, zero);
         mark_all(pages, layout.base, ranges, Mark::Named(None));
     }
 
@@ -135,7 +119,7 @@ impl OpenTransaction {
         pages: &mut PageTable,
         slot: u8,
     )
-        requires { IsHeld (M.ram ram.old) layout.now.base (array_vec_len layout.now.regions) layout.now.blocks pages.old (transaction_of self.now) }
+        requires { IsHeld (M.ram ram.old) layout.now.base (array_vec_len layout.now.regions) layout.now.blocks pages.old (view_of self.now) }
         ensures moved { IsMoved (M.ram ram.old) (M.ram ram.new) (array_vec_len layout.now.regions) layout.now.blocks
             (place self.now.sender.0) (in_ranges layout.now.base self.now.ranges) (new_right (right_after self.now.kind) pages.old) self.now.zero }
         ensures marked { IsMarked pages.old pages.new (in_ranges layout.now.base self.now.ranges) (Mark.Named (Some slot)) }
@@ -143,7 +127,7 @@ impl OpenTransaction {
         let ranges = &self.ranges;
         let index = self.sender.place();
         let right = right_after(self.kind);
-        move_rights(ram, layout, pages, ranges, index, right, self.zero);
+        change_pages(ram, layout, pages, ranges, index, right, self.zero);
         mark_all(pages, layout.base, ranges, Mark::Named(Some(slot)));
     }
 }

@@ -31,7 +31,7 @@ use Rattle.ffa_stage2.specs.Layout.{regions_in, layout_right}
 use Rattle.ffa_stage2.specs.Tables.{IsBuilt, KeepsRest, TableLaws, table_page}
 use Rattle.ffa_stage2.proofs.Rights.{built-same}
 use Rattle.ffa_pages.specs.Entry.{Entry, entry_at, first_entry, slot_at}
-use Rattle.ffa_memshare.specs.Stored.{map_in, slot_at as pool_slot}
+use Rattle.ffa_memshare.specs.Stored.{map_in, pool_slot}
 use Rattle.ffa_spmc.specs.Owners.{first_owners}
 use Rattle.ffa_model.specs.Endpoints.{have_uuids}
 use Rattle.ffa_model.specs.SoundState.{IsSoundState, are_bytes}

@@ -11,7 +11,7 @@ use Rattle.ffa_pages.specs.Entry.{Entry, entry_at, slot_at}
 use Rattle.ffa_memshare.specs.Changes.{IsMarked}
 use Rattle.ffa_memshare.specs.Held.{with_holder}
 use Rattle.ffa_memshare.specs.Ranges.{in_ranges}
-use Rattle.ffa_memshare.specs.Stored.{Slot, slot_at as pool_slot}
+use Rattle.ffa_memshare.specs.Stored.{Slot, pool_slot}
 use Rattle.ffa_memshare.specs.declared.marks.Mark.TheVariants.{Named}
 use Rattle.ffa_spmc.specs.Meaning.{AreOffers, IsOffered, slot_names}
 

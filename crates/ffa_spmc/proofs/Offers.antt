@@ -36,7 +36,7 @@ use Rattle.ffa_memshare.specs.Grants.{new_right, with_rights}
 use Rattle.ffa_memshare.specs.Ranges.{ArePlaced, in_ranges}
 use Rattle.ffa_memshare.specs.Scenes.{descriptor_in, scene_in}
 use Rattle.ffa_memshare.specs.Sent.{IsSent, right_after}
-use Rattle.ffa_memshare.specs.Stored.{Pooled, offers_in, slot_at as pool_slot}
+use Rattle.ffa_memshare.specs.Stored.{Pooled, offers_in, pool_slot}
 use Rattle.ffa_memshare.specs.declared.marks.Mark.TheVariants.{Named}
 use Rattle.ffa_spmc.specs.AccessChange.{IsAccessChange, is_whose}
 use Rattle.ffa_spmc.specs.Meaning.{AreOffers, IsManager, IsOffered, Parts, access_by_place, state_of}

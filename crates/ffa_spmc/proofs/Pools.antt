@@ -21,7 +21,7 @@ use Rattle.ffa_pages.specs.Entry.{Entry, base_at, entry_at, slot_at}
 use Rattle.ffa_stage2.specs.Tables.{table_page}
 use Rattle.ffa_memshare.specs.Named.{bases_in}
 use Rattle.ffa_memshare.specs.Shared.{IsHeld, IsRoom, IsShared}
-use Rattle.ffa_memshare.specs.Stored.{Slot, handle_in, named_in, page_in, slot_at as pool_slot}
+use Rattle.ffa_memshare.specs.Stored.{Slot, handle_in, named_in, page_in, pool_slot}
 use Rattle.ffa_spmc.specs.Meaning.{IsManager, Parts, access_by_place, slot_names, state_of}
 use Rattle.ffa_spmc.proofs.Held.{entry-past, owned-behind, owner-is, owners-size, page-held, page-past, parties_are, size_is}
 

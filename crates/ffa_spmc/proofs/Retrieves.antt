@@ -46,7 +46,7 @@ use Rattle.ffa_memshare.specs.Ranges.{in_ranges}
 use Rattle.ffa_memshare.specs.Retrieved.{IsPassedOn, IsRetrieved, IsTaken}
 use Rattle.ffa_memshare.specs.Scenes.{descriptor_in, scene_in}
 use Rattle.ffa_memshare.specs.SlotChanges.{IsClosed, IsHeldBy}
-use Rattle.ffa_memshare.specs.Stored.{Pooled, offers_in, slot_at as pool_slot}
+use Rattle.ffa_memshare.specs.Stored.{Pooled, offers_in, pool_slot}
 use Rattle.ffa_spmc.specs.AccessChange.{IsAccessChange}
 use Rattle.ffa_spmc.specs.Meaning.{AreOffers, HasTables, IsManager, IsOffered, Parts, access_by_place, state_of}
 use Rattle.ffa_spmc.specs.Replies.{retrieved_or_error}

@@ -15,7 +15,7 @@ use Rattle.ffa_model.specs.State.{State, Page, Transaction}
 use Rattle.ffa_model.specs.First.{first}
 use Rattle.ffa_model.specs.SoundState.{IsSoundState}
 use Rattle.ffa_memshare.specs.Ranges.{ArePlaced, in_ranges}
-use Rattle.ffa_memshare.specs.Stored.{Slot, map_in, slot_at as pool_slot}
+use Rattle.ffa_memshare.specs.Stored.{Slot, map_in, pool_slot}
 use Rattle.ffa_spmc.specs.declared.kept.Kept.{Kept}
 
 -- a page of the state, with the bytes that RAM holds

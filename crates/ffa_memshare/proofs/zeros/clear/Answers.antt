@@ -1,7 +1,4 @@
-use Rattle.std.proofs.Common.{refl, arith, subst}
-use Rattle.ffa_model.specs.declared.transaction.Range.{Range}
-use Rattle.ffa_memshare.specs.Changes.{IsCleared}
-use Rattle.ffa_memshare.specs.Ranges.{in_range}
+use Rattle.std.proofs.Common.{refl, arith}
 use Rattle.ffa_memshare.proofs.PagesCleared.{cleared-next}
 use Rattle.ffa_memshare.proofs.zeros.clear.Goals as goal
 
@@ -11,5 +8,4 @@ loop-place-preserved g c =
     let middle = g.M.PhysMem.ram c.loop-place.ram in
     let new = g.M.PhysMem.ram c.clear_range.new.ram in
     cleared-next old middle new old.base c.args.ranges.now c.loop-place.place c.at.result (omega (arith, c.loop-place-test.true, c.len-place-end.ensures.count))
-    c.loop-place.invariant
-    (subst (λ (r : Range). IsCleared middle new (in_range middle.base r)) (c.at.ensures c.at.result) c.clear_range.ensures) refl
+    (c.at.ensures c.at.result) c.loop-place.invariant c.clear_range.ensures refl

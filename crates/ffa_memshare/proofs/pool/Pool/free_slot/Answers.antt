@@ -6,7 +6,7 @@ use Rattle.ffa_model.specs.Identifiers.{place}
 use Rattle.ffa_model.specs.Transactions.{open_count}
 use Rattle.ffa_memshare.specs.declared.transaction.OpenTransaction.{OpenTransaction}
 use Rattle.ffa_memshare.specs.SlotChanges.{IsFree}
-use Rattle.ffa_memshare.specs.Stored.{Pooled, offers_in, slot_at, slot_of, slots_of}
+use Rattle.ffa_memshare.specs.Stored.{Pooled, offers_in, pool_slot, kept_slot, kept_slots}
 use Rattle.ffa_memshare.proofs.FreeSlots.{all-open, few-open, slot-free, slot-taken}
 use Rattle.ffa_memshare.proofs.pool.Pool.free_slot.Goals as goal
 
@@ -19,11 +19,11 @@ returns-then-is_none-clause-free c =
     let k = c.loop-slot.slot in
     let size = ap (λ (p : Pooled). length p.sent) c.self.view_is in
     let lt : k < length items =
-    omega (arith, c.loop-slot-test.true, c.place-first.ensures, c.requires.place, c.self.invariant.size, length-map items slot_of, size) in
+    omega (arith, c.loop-slot-test.true, c.place-first.ensures, c.requires.place, c.self.invariant.size, length-map items kept_slot, size) in
     record {
-      within = omega (arith, lt, length-map items slot_of, ap (λ (p : Pooled). length p.slots) c.self.view_is);
+      within = omega (arith, lt, length-map items kept_slot, ap (λ (p : Pooled). length p.slots) c.self.view_is);
       own = omega (arith, c.loop-slot-test.true, c.place-first.ensures, c.loop-slot.invariant.from);
-      free = ap (λ (p : Pooled). slot_at p.slots k) (sym c.self.view_is)
+      free = ap (λ (p : Pooled). pool_slot p.slots k) (sym c.self.view_is)
           ∙ slot-free items k c.index-deref-slot.result lt
           (c.index-deref-slot.is ∙ ap (λ (xs : List (Option OpenTransaction)). get_or xs k c.index-deref-slot.result) c.deref.ensures.0) c.if-is_none.ensures;
     }
@@ -31,7 +31,7 @@ returns-then-is_none-clause-free c =
 pub returns-then-is_none-clause-few : goal.returns-then-is_none-clause-few
 returns-then-is_none-clause-few c =
     sym (subst (λ (p : Pooled). nat_lt (open_count (offers_in p) c.args.sender.0) 16 ≡ true) c.self.view_is
-    (few-open (record { slots = slots_of c.self.inside.slots.items; sent = c.self.inside.sent.items }) c.self.invariant c.args.sender.0 c.requires.known
+    (few-open (record { slots = kept_slots c.self.inside.slots.items; sent = c.self.inside.sent.items }) c.self.invariant c.args.sender.0 c.requires.known
     (omega (arith, c.requires.place, ap (λ (p : Pooled). length p.sent) c.self.view_is)) c.loop-slot.slot
     (subst (λ (p : Pooled). IsFree p.slots (place c.args.sender.0) c.loop-slot.slot) (sym c.self.view_is) (returns-then-is_none-clause-free c))))
 
@@ -41,13 +41,13 @@ loop-slot-preserved c =
     let slot = c.loop-slot.slot in
     let size = ap (λ (p : Pooled). length p.sent) c.self.view_is in
     let lt : slot < length items =
-    omega (arith, c.loop-slot-test.true, c.place-first.ensures, c.requires.place, c.self.invariant.size, length-map items slot_of, size) in
+    omega (arith, c.loop-slot-test.true, c.place-first.ensures, c.requires.place, c.self.invariant.size, length-map items kept_slot, size) in
     let (x, at) = slot-taken items slot c.index-deref-slot.result lt
     (c.index-deref-slot.is ∙ ap (λ (xs : List (Option OpenTransaction)). get_or xs slot c.index-deref-slot.result) c.deref.ensures.0) c.if-is_none.ensures in
     record {
       from = omega (arith, c.loop-slot.invariant.from);
       taken = λ k from to. elim (cases_eq k slot) [
-        | inl same ↦ (x, ap (slot_at c.args.self.now.slots) same ∙ sym (ap (λ (p : Pooled). slot_at p.slots slot) c.self.view_is) ∙ at)
+        | inl same ↦ (x, ap (pool_slot c.args.self.now.slots) same ∙ sym (ap (λ (p : Pooled). pool_slot p.slots slot) c.self.view_is) ∙ at)
         | inr apart ↦ c.loop-slot.invariant.taken k from (omega arith)
       ];
     }
@@ -55,9 +55,9 @@ loop-slot-preserved c =
 pub returns-clause-few : goal.returns-clause-few
 returns-clause-few c =
     sym (subst (λ (p : Pooled). nat_lt (open_count (offers_in p) c.args.sender.0) 16 ≡ false) c.self.view_is
-    (all-open (record { slots = slots_of c.self.inside.slots.items; sent = c.self.inside.sent.items }) c.self.invariant c.args.sender.0 c.requires.known
+    (all-open (record { slots = kept_slots c.self.inside.slots.items; sent = c.self.inside.sent.items }) c.self.invariant c.args.sender.0 c.requires.known
     (omega (arith, c.requires.place, ap (λ (p : Pooled). length p.sent) c.self.view_is))
-    (λ k from to. let (x, at) = c.loop-slot.invariant.taken k from (omega (arith, c.loop-slot-test.false, c.place-first.ensures)) in (x, ap (λ (p : Pooled). slot_at p.slots k) c.self.view_is ∙ at))))
+    (λ k from to. let (x, at) = c.loop-slot.invariant.taken k from (omega (arith, c.loop-slot-test.false, c.place-first.ensures)) in (x, ap (λ (p : Pooled). pool_slot p.slots k) c.self.view_is ∙ at))))
 
 pub returns-then-is_none-clause-fits : goal.returns-then-is_none-clause-fits
 returns-then-is_none-clause-fits c =

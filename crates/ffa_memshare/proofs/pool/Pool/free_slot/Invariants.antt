@@ -1,12 +1,12 @@
 use Rattle.std.proofs.Common.{◌≡◌, ◌*◌, ◌<◌, ◌≤◌, ℕ, Some}
 use Rattle.ffa_model.specs.Identifiers.{place}
 use Rattle.ffa_model.specs.State.{Transaction}
-use Rattle.ffa_memshare.specs.Stored.{slot_at}
+use Rattle.ffa_memshare.specs.Stored.{pool_slot}
 use Rattle.ffa_memshare.proofs.pool.Pool.free_slot.Given as goal
 
 -- the slots so far have transactions
 abbrev pub invariant-loop-slot : goal.invariant-loop-slot
 invariant-loop-slot l = record {
   from : 16 * place l.fn.sender.0 ≤ l.slot;
-  taken : (k : ℕ) → 16 * place l.fn.sender.0 ≤ k → k < l.slot → (x : ℕ × Transaction) × (slot_at l.self.slots k ≡ Some x);
+  taken : (k : ℕ) → 16 * place l.fn.sender.0 ≤ k → k < l.slot → (x : ℕ × Transaction) × (pool_slot l.self.slots k ≡ Some x);
 }

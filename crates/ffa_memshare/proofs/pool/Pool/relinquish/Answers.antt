@@ -2,7 +2,7 @@ use Rattle.std.proofs.Common.{ℕ, None, subst}
 use Rattle.arrayvec.specs.ArrayVec.{array_vec_len}
 use Rattle.ffa_memshare.specs.Changes.{IsMoved}
 use Rattle.ffa_memshare.specs.Ranges.{in_ranges}
-use Rattle.ffa_memshare.specs.Stored.{transaction_of}
+use Rattle.ffa_memshare.specs.Stored.{view_of}
 use Rattle.ffa_memshare.proofs.Asks.{asked-open, asked-slot}
 use Rattle.ffa_memshare.proofs.pool.Pool.relinquish.Goals as goal
 
@@ -15,16 +15,16 @@ returns-clause-done g c =
     let it = c.at-open.result.now in
     let there = asked-slot slots k asked.handle it c.in-Some.ensures.found c.at-open.ensures.value in
     let old = g.M.PhysMem.ram c.args.ram.now in
-    let new = g.M.PhysMem.ram c.move_rights.new.ram in
+    let new = g.M.PhysMem.ram c.change_pages.new.ram in
     record {
       asked = asked;
-      transaction = transaction_of it;
+      transaction = view_of it;
       described = c.in_ok-asked.ensures.asked;
       was = asked-open slots k asked.handle it c.in-Some.ensures.found c.at-open.ensures.value c.at-open.ensures.open;
-      slot = record { slot = k; transaction = transaction_of it; was = there; slots = c.set_held.ensures.slots asked.handle (transaction_of it) there };
-      offers = c.set_held.ensures.offers asked.handle (transaction_of it) there;
+      slot = record { slot = k; transaction = view_of it; was = there; slots = c.set_held.ensures.slots asked.handle (view_of it) there };
+      offers = c.set_held.ensures.offers asked.handle (view_of it) there;
       moved =
           subst (λ (i : ℕ). IsMoved old new (array_vec_len l.regions) l.blocks i (in_ranges l.base it.ranges) (λ p. None) asked.zero) c.place-index.ensures
-          c.move_rights.ensures;
+          c.change_pages.ensures;
       access = c.of-changed.ensures;
     }

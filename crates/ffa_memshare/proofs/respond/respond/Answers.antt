@@ -1,0 +1,33 @@
+use Rattle.std.proofs.Common.{◌∙◌, ◌++◌, ◌≤◌, ℕ, List, Option, drop, length, sym, ap, subst, arith}
+use Rattle.std.specs.Prelude.{IsSomeAnd}
+use Rattle.ffa_model.specs.declared.endpoint.Version.{Version}
+use Rattle.ffa_model.specs.declared.endpoint.Version.TheVariants.{Compact, V1_1}
+use Rattle.ffa_model.specs.DescriptorPlaces.{header_size}
+use Rattle.ffa_model.specs.Ram.{with_page}
+use Rattle.ffa_model.specs.ResponseBytes.{response_bytes, response_record}
+use Rattle.ffa_model.specs.State.{Buffers}
+use Rattle.ffa_rxtx.specs.Parts.{IsInRam, with_rx_bytes}
+use Rattle.ffa_rxtx.specs.Stored.{buffers_of}
+use Rattle.ffa_rxtx.proofs.Runs.{short-run}
+use Rattle.ffa_model.proofs.ResponseSize.{length-response_bytes}
+use Rattle.ffa_memshare.proofs.respond.respond.Goals as goal
+
+header-few : (version : Version) → header_size version ≤ 48
+header-few Compact = omega arith
+header-few V1_1 = omega arith
+
+pub returns-clause-ram : goal.returns-clause-ram
+returns-clause-ram g c =
+    let rx : ℕ = c.in-Some.mapped.rx.0 in
+    let inside : IsInRam (length (g.M.PhysMem.ram c.args.ram.now).pages) (buffers_of c.in-Some.mapped) =
+    subst (λ (o : Option Buffers). IsSomeAnd o (λ b. IsInRam (length (g.M.PhysMem.ram c.args.ram.now).pages) b)) (sym c.in-Some.ensures) c.requires.rx in
+    let bytes : List ℕ = response_bytes c.args.version (response_record c.args.response.now) in
+    let old : List ℕ = c.page_mut.result.now in
+    g.met.M.PhysMem.one_page c.args.ram.now rx c.write_response-size.new.out
+    ∙ ap (with_page (g.M.PhysMem.ram c.args.ram.now) rx)
+    (c.write_response-size.ensures.bytes
+    ∙ ap (λ n. bytes ++ drop n c.page_mut.result.now) (sym (length-response_bytes c.args.version (response_record c.args.response.now)))
+    ∙ ap (λ (page : List ℕ). bytes ++ drop (length bytes) page) c.page_mut.ensures.value)
+    ∙ sym (short-run c.in-Some.mapped.pages (g.M.PhysMem.ram c.args.ram.now) rx bytes inside.some
+    (omega (arith, length-response_bytes c.args.version (response_record c.args.response.now), header-few c.args.version, c.as_slice.ensures.fits, ap length c.as_slice.ensures.value)))
+    ∙ ap (λ (o : Option Buffers). with_rx_bytes (g.M.PhysMem.ram c.args.ram.now) o bytes) c.in-Some.ensures

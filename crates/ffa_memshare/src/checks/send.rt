@@ -1,0 +1,161 @@
+//! The checks of FFA_MEM_DONATE, FFA_MEM_LEND and FFA_MEM_SHARE: whether an endpoint may send what it offers.
+ghost use Rattle.std.specs.Prelude.{◌≡◌, ◌<◌, ℕ, length, List, OnOk, IfOk, IfErr, Bool, Some, true, not, ◌&&◌, ◌||◌};
+ghost use Rattle.std.specs.List.{list_all};
+ghost use Rattle.arrayvec.specs.ArrayVec.{array_vec_len};
+ghost use Rattle.ffa_model.specs.declared.operation.ErrorCode.{ErrorCode as Code};
+ghost use Rattle.ffa_model.specs.Calls.{first_failure};
+ghost use Rattle.ffa_model.specs.MemorySend.{after_offer, are_grants_within, are_known, is_inside, is_sendable};
+ghost use Rattle.ffa_model.specs.SendDescriptor.{send_record};
+ghost use Rattle.ffa_model.specs.Transactions.{are_writable, pages_in};
+ghost use Rattle.ffa_rxtx.specs.Parts.{candidates_in};
+ghost use Rattle.ffa_memshare.specs.Named.{all_named, bases_in};
+ghost use Rattle.ffa_memshare.specs.Offers.{AreAligned, IsOwnOffer, grants_writes};
+ghost use Rattle.ffa_memshare.specs.Ranges.{ArePlaced, IsPlaced, in_range, in_ranges};
+
+use crate::common::common_of;
+use crate::grants::first_page;
+use crate::page_ranges::PageRanges;
+use ffa_model::{Data, EndpointId, ErrorCode, PageNo, Range, Receiver, SendDesc};
+use ffa_pages::PageTable;
+use ffa_rxtx::Buffers;
+use ffa_stage2::Layout;
+
+// Whether all receivers are endpoints, of this many.
+fn are_known(receivers: &[Receiver], endpoints: usize) -> bool
+    ensures { result ≡ are_known endpoints receivers.now }
+{
+    receivers
+        .iter()
+        .all(|receiver| receiver.endpoint.is_among(endpoints))
+}
+
+// Whether a range lies in the RAM of these pages.
+fn is_inside(range: &Range, pages: &PageTable, base: u32) -> bool
+    ensures { result ≡ is_inside (bases_in pages.now base) range.now }
+{
+    let start = u64::from(base);
+    let end = start + 4096 * u64::from(pages.pages());
+    let size = 4096 * u64::from(range.pages);
+    start <= range.address && range.address <= end && size <= end - range.address
+}
+
+// Whether all ranges do.
+fn are_inside(ranges: &[Range], pages: &PageTable, base: u32) -> bool
+    ensures { result ≡ list_all (is_inside (bases_in pages.now base)) ranges.now }
+{
+    ranges.iter().all(|range| is_inside(range, pages, base))
+}
+
+// Whether an endpoint may send a page.
+fn is_sendable(
+    pages: &PageTable,
+    base: u32,
+    buffers: &Buffers,
+    sender: EndpointId,
+    page: PageNo,
+) -> bool
+    requires { page.0 < length pages.now }
+    ensures { result ≡ is_sendable sender.0 (candidates_in pages.now base) buffers.now page.0 }
+{
+    pages.base_of(page).is_some()
+        && pages.owner_of(page) == sender
+        && pages.slot_of(page).is_none()
+        && !buffers.is_buffer(page)
+}
+
+// Whether an endpoint may send the pages of a range.
+fn is_range_sendable(
+    pages: &PageTable,
+    base: u32,
+    buffers: &Buffers,
+    sender: EndpointId,
+    range: &Range,
+) -> bool
+    requires { IsPlaced base (length pages.now) range.now }
+    ensures { result ≡ all_named (length pages.now) (in_range base range.now) (is_sendable sender.0 (candidates_in pages.now base) buffers.now) }
+{
+    // Proof step: the number of pages is 2^14 at most.
+    let _ = pages.pages();
+    let first = first_page(base, range);
+    let mut all = true;
+    for page in first..first + range.pages {
+        all &= is_sendable(pages, base, buffers, sender, PageNo(page));
+    }
+    all
+}
+
+// Whether an endpoint may send the pages of these ranges.
+fn are_sendable(
+    pages: &PageTable,
+    base: u32,
+    buffers: &Buffers,
+    sender: EndpointId,
+    ranges: &PageRanges,
+) -> bool
+    requires { ArePlaced base (length pages.now) ranges.now }
+    ensures { result ≡ all_named (length pages.now) (in_ranges base ranges.now) (is_sendable sender.0 (candidates_in pages.now base) buffers.now) }
+{
+    let mut all = true;
+    for place in 0..ranges.len() {
+        all &= is_range_sendable(pages, base, buffers, sender, &ranges.at(place));
+    }
+    all
+}
+
+// Whether somebody is granted rw.
+fn grants_writes(receivers: &[Receiver]) -> bool
+    ensures { result ≡ grants_writes receivers.now }
+{
+    receivers
+        .iter()
+        .any(|receiver| receiver.grant == Some(Data::Rw))
+}
+
+// Whether zeros are asked or somebody is granted rw.
+fn asks_for_writes(offer: &SendDesc) -> bool
+    ensures { result ≡ (offer.now.zero || grants_writes offer.now.receivers.items) }
+{
+    offer.zero || grants_writes(offer.receivers.as_slice())
+}
+
+// Whether the pages that are offered, which are those of these ranges, have rw themselves, where that is asked for.
+fn are_writable_enough(offer: &SendDesc, ranges: &PageRanges, pages: &PageTable, base: u32) -> bool
+    requires ranges { ranges.now ≡ offer.now.ranges.items }
+    requires own { (e : ℕ) × IsOwnOffer pages.now base e (send_record offer.now) }
+    ensures { result ≡ (list_all (are_grants_within (bases_in pages.now base) offer.now.receivers.items) (pages_in (bases_in pages.now base) offer.now.ranges.items)
+        && (not offer.now.zero || are_writable (bases_in pages.now base) offer.now.ranges.items)) }
+{
+    let is_writable = common_of(pages, base, ranges).is_writable;
+    is_writable || !asks_for_writes(offer)
+}
+
+// The ranges of what an endpoint offers, where it may send that, or why it may not.
+pub(crate) fn check_offer(
+    offer: &SendDesc,
+    layout: &Layout,
+    pages: &PageTable,
+    buffers: &Buffers,
+    caller: EndpointId,
+) -> Result<PageRanges, ErrorCode>
+    requires aligned { AreAligned offer.now.ranges.items }
+    ensures refused { IfErr result (λ code. (rest : List (Bool × Code)) → first_failure (after_offer (array_vec_len layout.now.regions) (candidates_in pages.now layout.now.base) (bases_in pages.now layout.now.base) buffers.now caller.0 (send_record offer.now) rest) ≡ Some code) }
+    ensures passed { OnOk result ((rest : List (Bool × Code)) → first_failure (after_offer (array_vec_len layout.now.regions) (candidates_in pages.now layout.now.base) (bases_in pages.now layout.now.base) buffers.now caller.0 (send_record offer.now) rest) ≡ first_failure rest) }
+    ensures offered { OnOk result (IsOwnOffer pages.now layout.now.base caller.0 (send_record offer.now)) }
+    ensures ranges { IfOk result (λ ranges. ranges ≡ offer.now.ranges.items) }
+{
+    let receivers = offer.receivers.as_slice();
+    if offer.sender != caller || !are_known(receivers, layout.regions.len()) {
+        return Err(ErrorCode::InvalidParameters);
+    }
+    if !are_inside(offer.ranges.as_slice(), pages, layout.base) {
+        return Err(ErrorCode::Denied);
+    }
+    let ranges = PageRanges::of(pages, layout.base, &offer.ranges);
+    if !are_sendable(pages, layout.base, buffers, caller, &ranges) {
+        return Err(ErrorCode::Denied);
+    }
+    if !are_writable_enough(offer, &ranges, pages, layout.base) {
+        return Err(ErrorCode::Denied);
+    }
+    Ok(ranges)
+}

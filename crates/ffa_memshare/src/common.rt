@@ -1,0 +1,80 @@
+//! What all pages of ranges have in common.
+ghost use Rattle.std.specs.Prelude.{◌≡◌, ◌<◌, ◌&&◌, length};
+ghost use Rattle.ffa_model.specs.Rights.{may_fetch, may_store};
+ghost use Rattle.ffa_model.specs.Transactions.{are_executable, are_writable};
+ghost use Rattle.ffa_pages.specs.Entry.{base_at};
+ghost use Rattle.ffa_memshare.specs.Named.{all_named, bases_in, most_of};
+ghost use Rattle.ffa_memshare.specs.Ranges.{ArePlaced, IsPlaced, in_range};
+
+use crate::grants::first_page;
+use crate::page_ranges::PageRanges;
+use ffa_model::{Data, PageNo, Range, Rights};
+use ffa_pages::PageTable;
+
+/// What all of some pages have.
+#[derive(Clone, Copy, Debug, PartialEq, Eq)]
+pub struct Common {
+    pub is_writable: bool,
+    pub is_executable: bool,
+}
+
+impl Common {
+    /// The most that may be done with all these pages.
+    pub fn right(self) -> Rights
+        ensures { result ≡ most_of self.is_writable self.is_executable }
+    {
+        Rights {
+            level: if self.is_writable { Data::Rw } else { Data::Ro },
+            exec: self.is_executable,
+        }
+    }
+
+    // What both these pages and one more have.
+    fn and(self, base: Option<Rights>) -> Common
+        ensures writable { result.is_writable ≡ (self.is_writable && may_store base) }
+        ensures executable { result.is_executable ≡ (self.is_executable && may_fetch base) }
+    {
+        match base {
+            Some(right) => Common {
+                is_writable: self.is_writable && right.level == Data::Rw,
+                is_executable: self.is_executable && right.exec,
+            },
+            None => Common {
+                is_writable: false,
+                is_executable: false,
+            },
+        }
+    }
+}
+
+// What these pages and those of a range have.
+fn common_with(pages: &PageTable, base: u32, range: &Range, before: Common) -> Common
+    requires { IsPlaced base (length pages.now) range.now }
+    ensures writable { result.is_writable ≡ (before.is_writable && all_named (length pages.now) (in_range base range.now) (λ p. may_store (base_at pages.now p))) }
+    ensures executable { result.is_executable ≡ (before.is_executable && all_named (length pages.now) (in_range base range.now) (λ p. may_fetch (base_at pages.now p))) }
+{
+    // Proof step: the number of pages is 2^14 at most.
+    let _ = pages.pages();
+    let first = first_page(base, range);
+    let mut common = before;
+    for page in first..first + range.pages {
+        common = common.and(pages.base_of(PageNo(page)));
+    }
+    common
+}
+
+/// What the owners of all pages of these ranges may do with them while no transaction names them.
+pub fn common_of(pages: &PageTable, base: u32, ranges: &PageRanges) -> Common
+    requires { ArePlaced base (length pages.now) ranges.now }
+    ensures writable { result.is_writable ≡ are_writable (bases_in pages.now base) ranges.now }
+    ensures executable { result.is_executable ≡ are_executable (bases_in pages.now base) ranges.now }
+{
+    let mut common = Common {
+        is_writable: true,
+        is_executable: true,
+    };
+    for place in 0..ranges.len() {
+        common = common_with(pages, base, &ranges.at(place), common);
+    }
+    common
+}

@@ -1,0 +1,40 @@
+//! The response to a retrieve, where its caller reads it.
+ghost use Rattle.std.specs.Prelude.{◌≡◌, ◌<◌, ◌^◌, length, true, IsSomeAnd};
+ghost use Rattle.ffa_model.specs.Buffers.{buffers_in, buffers_with_rx};
+ghost use Rattle.ffa_model.specs.ResponseBytes.{response_bytes, response_record, response_size};
+ghost use Rattle.ffa_model.specs.SendDescriptor.{page_total};
+ghost use Rattle.ffa_model.specs.State.{is_known_among};
+ghost use Rattle.ffa_rxtx.specs.Parts.{IsInRam, with_rx_bytes};
+
+use ffa_memdesc::write_response;
+use ffa_model::{EndpointId, Response, Version};
+use ffa_physmem::PhysMem;
+use ffa_rxtx::Buffers;
+
+/// Writes a response in this version to the start of RX of an endpoint that has buffers, says that RX is full, and answers
+/// how many bytes the response has. The other bytes of RX stay.
+pub fn respond<M: PhysMem>(
+    ram: &mut M,
+    buffers: &mut Buffers,
+    endpoint: EndpointId,
+    version: Version,
+    response: &Response,
+) -> u32
+    requires known { is_known_among (length buffers.old) endpoint.0 ≡ true }
+    requires rx { IsSomeAnd (buffers_in buffers.old endpoint.0) (λ b. IsInRam (length (M.ram ram.old).pages) b) }
+    requires total { page_total response.now.ranges.items < 2 ^ 32 }
+    ensures size { result ≡ response_size version response.now.ranges.items }
+    ensures ram { M.ram ram.new ≡ with_rx_bytes (M.ram ram.old) (buffers_in buffers.old endpoint.0) (response_bytes version (response_record response.now)) }
+    ensures full { buffers.new ≡ buffers_with_rx buffers.old endpoint.0 true }
+{
+    match buffers.of(endpoint) {
+        Some(mapped) => {
+            // Proof step: the ranges are `MOST_RANGES` at most.
+            let _ = response.ranges.as_slice();
+            let size = write_response(response, version, ram.page_mut(mapped.rx));
+            buffers.mark_full(endpoint);
+            size as u32
+        }
+        None => unreachable!(),
+    }
+}
