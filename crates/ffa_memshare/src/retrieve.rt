@@ -23,6 +23,7 @@ ghost use Rattle.ffa_memshare.specs.Shared.{IsHeld, IsShared};
 ghost use Rattle.ffa_memshare.specs.Stored.{offers_in, pool_slot, view_of};
 
 use crate::changed::{Changed, Retrieved};
+use crate::descriptor_call::DescriptorCall;
 use crate::grants::NewRight;
 use crate::marks::{Mark, mark_all};
 use crate::page_changes::change_pages;
@@ -30,7 +31,6 @@ use crate::page_run::read_retrieve;
 use crate::pool::Pool;
 use crate::respond::respond;
 use crate::transaction::OpenTransaction;
-use crate::descriptor_call::DescriptorCall;
 use arrayvec::ArrayVec;
 use ffa_model::{EndpointId, ErrorCode, Kind, Response, RetrieveDesc, Rights, Version};
 use ffa_pages::PageTable;

@@ -21,11 +21,11 @@ ghost use Rattle.ffa_memshare.specs.Stored.{offers_in, view_of};
 
 use crate::changed::{Changed, Sent, changed_sender};
 use crate::checks::send::check_offer;
+use crate::descriptor_call::DescriptorCall;
 use crate::holders::Holders;
 use crate::page_run::read_send;
 use crate::pool::Pool;
 use crate::transaction::OpenTransaction;
-use crate::descriptor_call::DescriptorCall;
 use ffa_model::{EndpointId, ErrorCode, Kind};
 use ffa_pages::PageTable;
 use ffa_physmem::PhysMem;

@@ -13,7 +13,7 @@ use Rattle.ffa_model.specs.Refusals.{is_error}
 use Rattle.ffa_model.specs.State.{Buffers, State}
 use Rattle.ffa_model.specs.Step.{service}
 use Rattle.ffa_memshare.specs.declared.changed.Changed.{Changed}
-use Rattle.ffa_memshare.specs.Stored.{Pooled, offers_in, slot_at as pool_slot}
+use Rattle.ffa_memshare.specs.Stored.{Pooled}
 use Rattle.ffa_pages.specs.Entry.{Entry}
 use Rattle.ffa_spmc.specs.declared.answer.Answer.{Answer}
 use Rattle.ffa_spmc.specs.AccessChange.{IsAccessChange}

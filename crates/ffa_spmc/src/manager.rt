@@ -65,7 +65,7 @@ impl<M: PhysMem + Drop> Manager<M> {
         let mut ram = ram;
         let layout = Layout::of(manifest);
         build(&mut ram, &layout);
-        // What built tables give holds from here on: the manager's invariant has it.
+        // Proof step: what built tables give holds from here on, and the manager's invariant has it.
         built_tables();
         // Owners and slots are filled in where they stand, since they are large to move.
         let mut kept = Kept::unfilled(manifest, layout);
@@ -94,6 +94,7 @@ impl<M: PhysMem + Drop> Manager<M> {
         ensures sound { IsSoundState self.now.state }
         ensures apart { AreApart self.now.state }
     {
+        // Proof step: the invariant of all parts is at hand where one is read.
         let _ = &self.kept;
     }
 

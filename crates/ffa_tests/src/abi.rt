@@ -42,14 +42,14 @@ C400006F DirectRequest { function: 3288334447, word: 1, flags: 2, payload: [7000
 C4000070 DirectResponse { function: 3288334448, word: 1, flags: 2, payload: [700079669251, 704374636548, 708669603845, 712964571142, 717259538439] }";
 
 const MEMORY: &str = "\
-84000071 MemDonate { total: 1, fragment: 2, address: 3, pages: 4 }
-84000072 MemLend { total: 1, fragment: 2, address: 3, pages: 4 }
-84000073 MemShare { total: 1, fragment: 2, address: 3, pages: 4 }
-84000074 MemRetrieve { total: 1, fragment: 2, address: 3, pages: 4 }
-C4000071 MemDonate { total: 1, fragment: 2, address: 700079669251, pages: 4 }
-C4000072 MemLend { total: 1, fragment: 2, address: 700079669251, pages: 4 }
-C4000073 MemShare { total: 1, fragment: 2, address: 700079669251, pages: 4 }
-C4000074 MemRetrieve { total: 1, fragment: 2, address: 700079669251, pages: 4 }
+84000071 MemDonate(Transfer { total: 1, fragment: 2, address: 3, pages: 4 })
+84000072 MemLend(Transfer { total: 1, fragment: 2, address: 3, pages: 4 })
+84000073 MemShare(Transfer { total: 1, fragment: 2, address: 3, pages: 4 })
+84000074 MemRetrieve(Transfer { total: 1, fragment: 2, address: 3, pages: 4 })
+C4000071 MemDonate(Transfer { total: 1, fragment: 2, address: 700079669251, pages: 4 })
+C4000072 MemLend(Transfer { total: 1, fragment: 2, address: 700079669251, pages: 4 })
+C4000073 MemShare(Transfer { total: 1, fragment: 2, address: 700079669251, pages: 4 })
+C4000074 MemRetrieve(Transfer { total: 1, fragment: 2, address: 700079669251, pages: 4 })
 84000076 MemRelinquish
 84000077 MemReclaim { low: 1, high: 2, flags: 3 }";
 

@@ -6,7 +6,7 @@ ghost use Rattle.ffa_spmc.specs.AccessChange.{is_of};
 ghost use Rattle.ffa_spmc.specs.Caching.{AreOut, most_pages};
 ghost use Rattle.ffa_tlb.specs.Lookups.{lookup};
 
-use ffa_memshare::{Changed, PageRanges};
+use ffa_memshare::{Changed, PageRanges, first_page};
 use ffa_model::{EndpointId, PageNo, Range};
 use ffa_tlb::Translations;
 
@@ -15,7 +15,7 @@ fn forget_range<T: Translations>(cache: &mut T, base: u32, endpoint: EndpointId,
     requires { IsPlaced base most_pages range.now }
     ensures { AreOut (T.entries cache.old) (T.entries cache.new) endpoint.0 (in_range base range.now) }
 {
-    let first = ((range.address - u64::from(base)) / 4096) as u32;
+    let first = first_page(base, range);
     for page in first..first + range.pages {
         cache.forget(endpoint, PageNo(page));
     }
