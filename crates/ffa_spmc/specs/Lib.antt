@@ -8,5 +8,6 @@ pub mod Meaning
 pub mod Replies
 pub mod AccessChange
 pub mod Served
+pub mod Booted
 pub mod Unowned
 pub mod Operated

@@ -12,7 +12,8 @@ ghost use Rattle.ffa_model.specs.Registers.{decode};
 ghost use Rattle.ffa_model.specs.State.{owner_of, version_of};
 ghost use Rattle.ffa_model.specs.Step.{serve, service};
 ghost use Rattle.ffa_spmc.specs.AccessChange.{IsAccessChange};
-ghost use Rattle.ffa_spmc.specs.Served.{IsAnswered, IsBooted};
+ghost use Rattle.ffa_spmc.specs.Booted.{IsBooted};
+ghost use Rattle.ffa_spmc.specs.Served.{IsAnswered};
 ghost use Rattle.ffa_spmc.specs.Unowned.{KeepsUnowned};
 
 mod accesses;

@@ -4,7 +4,7 @@ use Rattle.ffa_model.specs.declared.manifest.Manifest.{Manifest}
 use Rattle.ffa_stage2.specs.declared.layout.Layout.{Layout}
 use Rattle.ffa_stage2.specs.Layout.{IsBuiltFor, KeepsRestFor, layout_right, regions_in}
 use Rattle.ffa_spmc.specs.Meaning.{IsManager, Parts, state_of}
-use Rattle.ffa_spmc.specs.Served.{IsBooted}
+use Rattle.ffa_spmc.specs.Booted.{IsBooted}
 use Rattle.ffa_spmc.proofs.Boots.{cleared-behind, machine-first, state-first}
 use Rattle.ffa_spmc.proofs.Agreements.{agrees}
 use Rattle.ffa_spmc.proofs.manager.Manager.first.Goals as goal

@@ -1,0 +1,17 @@
+-- What a boot leaves.
+use Rattle.std.specs.Prelude.{◌≡◌, ℕ, ◌*◌, ◌<◌, ◌≤◌, length, replicate}
+use Rattle.ffa_model.specs.declared.manifest.Manifest.{Manifest}
+use Rattle.ffa_model.specs.Agreement.{Agrees}
+use Rattle.ffa_model.specs.First.{first}
+use Rattle.ffa_model.specs.Manifest.{table_pages}
+use Rattle.ffa_model.specs.Ram.{Ram, page_of}
+use Rattle.ffa_model.specs.SoundState.{IsSoundState}
+use Rattle.ffa_model.specs.State.{State}
+
+-- the first state of a manifest, which RAM's tables give and which is sound
+pub record IsBooted (m : Manifest) (s : State) (ram : Ram) : Type 0 where
+  pub state : s ≡ first m.ram_base m.ram_blocks m.endpoints.items
+  pub agrees : Agrees ram s
+  -- pages behind the tables are zeros
+  pub cleared : (p : ℕ) → length s.parties * table_pages m.ram_blocks ≤ p → p < length ram.pages → page_of ram p ≡ replicate 4096 0
+  pub sound : IsSoundState s
