@@ -3,8 +3,8 @@ ghost use Rattle.std.specs.Prelude.{◌≡◌, ◌<◌, slice_index};
 ghost use Rattle.ffa_model.specs.Registers.{additions, decode, is_function, low, memory, messages, notifications, setup};
 ghost use Rattle.ffa_abi.specs.Parts.{called_in, payload_of, transfer_of, widest};
 
-use ffa_model::{Call, Transfer};
 use ffa_model::function::*;
+use ffa_model::{Call, Transfer};
 
 /// The registers x0 to x7 of a call, of which the low half of x0 names the function.
 #[derive(Clone, Copy, Debug)]
@@ -111,9 +111,7 @@ impl Registers {
             FFA_MEM_DONATE | FFA_MEM_DONATE_64 => Call::MemDonate(self.transfer()),
             FFA_MEM_LEND | FFA_MEM_LEND_64 => Call::MemLend(self.transfer()),
             FFA_MEM_SHARE | FFA_MEM_SHARE_64 => Call::MemShare(self.transfer()),
-            FFA_MEM_RETRIEVE_REQ | FFA_MEM_RETRIEVE_REQ_64 => {
-                Call::MemRetrieve(self.transfer())
-            }
+            FFA_MEM_RETRIEVE_REQ | FFA_MEM_RETRIEVE_REQ_64 => { Call::MemRetrieve(self.transfer()) }
             FFA_MEM_RELINQUISH => Call::MemRelinquish,
             FFA_MEM_RECLAIM => Call::MemReclaim {
                 low: self.w(1),
