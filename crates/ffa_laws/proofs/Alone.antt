@@ -31,7 +31,7 @@ use Rattle.ffa_model.specs.Registers.{decode}
 use Rattle.ffa_model.specs.Setup.{info_bytes, is_count_alone, uuid_bytes}
 use Rattle.ffa_model.specs.Step.{serve, service, state_after, step}
 use Rattle.ffa_model.specs.declared.call.Transfer.{Transfer}
-use Rattle.ffa_model.specs.Transactions.{handle_of, next_handle, offers_of, scene_of}
+use Rattle.ffa_model.specs.Transactions.{handle_of, next_handle, open_of, scene_of}
 use Rattle.ffa_model.proofs.Guards.{guard-passes}
 use Rattle.ffa_laws.specs.Steady.{IsSteady}
 use Rattle.ffa_laws.specs.Events.{Event, Filled, Item, Own, Pending, Told, call_events, events, items, public_change, where_passed, where_true}
@@ -57,7 +57,7 @@ module _ (s : State) (steady : IsSteady s) (e p : ℕ) (owned : owner_of s p ≡
       of None none = absurd (no-offer s x none)
       of (Some r) none =
           let good = offer s x r none in
-          unnamed-opened s steady (next_handle (offers_of s) s.runner) (transaction_from kind r) (fresh s steady kind r good) (free s steady kind r good) p
+          unnamed-opened s steady (next_handle (open_of s) s.runner) (transaction_from kind r) (fresh s steady kind r good) (free s steady kind r good) p
           (elim (cases_Bool (names s r.ranges p)) [
             | inl named ↦ absurd (other (sym (offered-owner s steady kind r good p named) ∙ owned))
             | inr away ↦ away

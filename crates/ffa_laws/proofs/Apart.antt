@@ -32,7 +32,7 @@ use Rattle.ffa_model.specs.Registers.{decode}
 use Rattle.ffa_model.specs.Setup.{info_bytes, is_count_alone, uuid_bytes}
 use Rattle.ffa_model.specs.Step.{service, step}
 use Rattle.ffa_model.specs.declared.call.Transfer.{Transfer}
-use Rattle.ffa_model.specs.Transactions.{handle_of, holding, next_handle, not_holding, offers_of}
+use Rattle.ffa_model.specs.Transactions.{handle_of, holding, next_handle, not_holding, open_of}
 use Rattle.byteorder.specs.Endian.{little_bytes}
 use Rattle.ffa_laws.specs.OwnAccess.{AreApart}
 use Rattle.ffa_laws.proofs.Closed.{get-remove}
@@ -96,7 +96,7 @@ module _ (s : State) (apart : AreApart s) where
     where
       of : (o : Option SendRecord) → send_read s kind total ≡ o → AreApart (memory_sent s kind o)
       of None is = apart
-      of (Some r) is = with-one s.transactions (next_handle (offers_of s) s.runner) (transaction_from kind r) apart (descriptor-apart kind (descriptor_in s total) r is)
+      of (Some r) is = with-one s.transactions (next_handle (open_of s) s.runner) (transaction_from kind r) apart (descriptor-apart kind (descriptor_in s total) r is)
 
   apart-retrieved : (x : Transfer) → Taken s x → AreApart (memory_retrieve s x).state
   apart-retrieved x its = subst AreApart (sym (state-taken s x its)) (of its.of.kind)

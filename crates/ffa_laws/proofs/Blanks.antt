@@ -42,7 +42,7 @@ use Rattle.ffa_model.specs.Registers.{decode}
 use Rattle.ffa_model.specs.Setup.{info_bytes, is_count_alone, uuid_bytes}
 use Rattle.ffa_model.specs.Step.{serve, service, step}
 use Rattle.ffa_model.specs.declared.call.Transfer.{Transfer}
-use Rattle.ffa_model.specs.Transactions.{base_of, bases_of, handle_of, offers_of, scene_of}
+use Rattle.ffa_model.specs.Transactions.{own_right_of, own_rights_of, handle_of, open_of, scene_of}
 use Rattle.ffa_model.proofs.Accesses.{length-map_at}
 use Rattle.ffa_model.proofs.Runs.{flat-run-same}
 use Rattle.ffa_laws.specs.Steady.{IsAlone, IsSteady}
@@ -158,7 +158,7 @@ module _ (s : State) (hides : ℕ → Bool) where
   size-b = length-map_at (λ p page. blank_where (hides p) page) s.pages
 
   abbrev candidate : Bool → Option Page → Option Candidate
-  candidate named page = option_map (λ (q : Page). let c : Candidate = record { owner = q.owner; base = q.base; named = named } in c) page
+  candidate named page = option_map (λ (q : Page). let c : Candidate = record { owner = q.owner; own_right = q.own_right; named = named } in c) page
 
   candidate-blank : (named c : Bool) (page : Option Page) → candidate named (blank_where c page) ≡ candidate named page
   candidate-blank named false page = refl
@@ -173,21 +173,21 @@ module _ (s : State) (hides : ℕ → Bool) where
         page = fun_ext {f = candidate_at b} {g = candidate_at s} (λ p. ap (candidate (is_some (handle_at s p))) (page-b p) ∙ candidate-blank (is_some (handle_at s p)) (hides p) (page_at s p)) i;
       }
 
-  base-blank : (c : Bool) (page : Option Page) → option_map (λ (q : Page). q.base) (blank_where c page) ≡ option_map (λ (q : Page). q.base) page
-  base-blank false page = refl
-  base-blank true None = refl
-  base-blank true (Some q) = refl
+  own_right-blank : (c : Bool) (page : Option Page) → option_map (λ (q : Page). q.own_right) (blank_where c page) ≡ option_map (λ (q : Page). q.own_right) page
+  own_right-blank false page = refl
+  own_right-blank true None = refl
+  own_right-blank true (Some q) = refl
 
-  pub bases-b : bases_of b ≡ bases_of s
-  bases-b =
+  pub own_rights-b : own_rights_of b ≡ own_rights_of s
+  own_rights-b =
       λ i. record {
         ram_base = s.ram_base;
         pages = size-b i;
-        right = fun_ext {f = base_of b} {g = base_of s} (λ p. ap (option_map (λ (q : Page). q.base)) (page-b p) ∙ base-blank (hides p) (page_at s p)) i;
+        right = fun_ext {f = own_right_of b} {g = own_right_of s} (λ p. ap (option_map (λ (q : Page). q.own_right)) (page-b p) ∙ own_right-blank (hides p) (page_at s p)) i;
       }
 
   scene-b : scene_of b ≡ scene_of s
-  scene-b = λ i. record { endpoints = length s.parties; ram = candidates-b i; bases = bases-b i; buffers = s.buffers; offers = offers_of s }
+  scene-b = λ i. record { endpoints = length s.parties; ram = candidates-b i; own_rights = own_rights-b i; buffers = s.buffers; open_transactions = open_of s }
 
   -- two services that differ in such bytes at most
   pub record Alike (c d : Service) : Type 0 where
@@ -226,7 +226,7 @@ module _ (s : State) (hides : ℕ → Bool) where
         of (Some q) at =
             let mine : (q.owner == s.runner) ≡ true = eq-eqb q.owner s.runner (sym (ap (λ o. option_map_or (λ (x : Page). x.owner) o 0x8000) at) ∙ alone.owner) in
             bytes-shown shows p
-            (ap is_some ((λ i. right_of s.runner (at i) (option_and_then (transaction_of s) (alone.unnamed i))) ∙ ap (λ c. cond c (Some q.base) None) mine))
+            (ap is_some ((λ i. right_of s.runner (at i) (option_and_then (transaction_of s) (alone.unnamed i))) ∙ ap (λ c. cond c (Some q.own_right) None) mine))
 
     pub tx-shown : tx_bytes b s.runner ≡ tx_bytes s s.runner
     tx-shown = of (buffers_of s s.runner) refl
@@ -265,8 +265,8 @@ module _ (s : State) (hides : ℕ → Bool) where
         from : (o : Option Transaction) → blank hides (retrieved_from b d o) ≡ blank hides (retrieved_from s d o)
         from None = λ i. record s { pages = blanked-twice hides s.pages i }
         from (Some t) =
-            ap (λ bases. blank hides (retrieved_right b d.handle t s.runner (right_for bases t s.runner d))) bases-b
-            ∙ (let right = right_for (bases_of s) t s.runner d in
+            ap (λ own_rights. blank hides (retrieved_right b d.handle t s.runner (right_for own_rights t s.runner d))) own_rights-b
+            ∙ (let right = right_for (own_rights_of s) t s.runner d in
             λ i. record (retrieved_right s d.handle t s.runner right) { pages = given t.kind t.ranges s.runner right (response_bytes (version_of s s.runner) (response_to d.handle t s.runner right)) i })
 
     retrieve-b : (x : Transfer) → Alike (memory_retrieve b x) (memory_retrieve s x)
@@ -288,7 +288,7 @@ module _ (s : State) (hides : ℕ → Bool) where
     relinquish-b : Alike (memory_relinquish b) (memory_relinquish s)
     relinquish-b =
         record {
-          guards = λ i. first_failure (relinquish_guards (buffers_of s s.runner) (offers_of s) s.runner (relinquish_of (tx-b i)));
+          guards = λ i. first_failure (relinquish_guards (buffers_of s s.runner) (open_of s) s.runner (relinquish_of (tx-b i)));
           reply = refl;
           state = ap (λ tx. blank hides (relinquished b (relinquish_of tx))) tx-b ∙ relinquished-b (relinquish_of (tx_bytes s s.runner));
         }
@@ -296,7 +296,7 @@ module _ (s : State) (hides : ℕ → Bool) where
     reclaim-b : (low high flags : ℕ) → Alike (memory_reclaim b low high flags) (memory_reclaim s low high flags)
     reclaim-b low high flags =
         record {
-          guards = λ i. first_failure (reclaim_guards (bases-b i) s.runner flags (transaction_of s (handle_of high low)));
+          guards = λ i. first_failure (reclaim_guards (own_rights-b i) s.runner flags (transaction_of s (handle_of high low)));
           reply = refl;
           state = λ i. record (memory_reclaim s low high flags).state { pages = zeroed-blind hides (is_set 0 flags) s (named_ranges (transaction_of s (handle_of high low))) i };
         }

@@ -114,11 +114,11 @@ view-filled_other e f s bytes steady known_e known_f differ =
 
 -- ---- which pages may be buffers, in a view
 judged : ℕ → Bool → Option Page → Bool
-judged e named page = is_usable e (option_map (λ (q : Page). record { owner = q.owner; base = q.base; named = named }) page)
+judged e named page = is_usable e (option_map (λ (q : Page). record { owner = q.owner; own_right = q.own_right; named = named }) page)
 
 judged-other : (e : ℕ) (named b : Bool) (q : Page) → (q.owner == e) ≡ false → judged e named (kept b (Some q)) ≡ false
 unfolding judged
-judged-other e named true q other = ap (λ t. (t && not named) && may_write q.base.level) other
+judged-other e named true q other = ap (λ t. (t && not named) && may_write q.own_right.level) other
 judged-other e named false q other = refl
 
 pub view-usable : (e : ℕ) (s : State) → IsSteady s → (p : ℕ) → is_usable e (candidate_at (view e s) p) ≡ is_usable e (candidate_at s p)

@@ -1,4 +1,4 @@
--- Base rights and ceilings of a transaction that the viewer sent or is offered: a view has them.
+-- Own rights and ceilings of a transaction that the viewer sent or is offered: a view has them.
 use Rattle.std.proofs.Common.{◌≡◌, ◌∙◌, ℕ, Bool, true, false, cond, length, Option, Some, refl, ap}
 use Rattle.std.specs.Prelude.{◌==◌, ◌||◌, ◌&&◌, filter}
 use Rattle.std.specs.List.{list_all}
@@ -11,7 +11,7 @@ use Rattle.ffa_model.specs.Lists.{listed}
 use Rattle.ffa_model.specs.Rights.{may_fetch, may_store}
 use Rattle.ffa_model.specs.State.{State, Page, Transaction, owner_of, page_at, transaction_of}
 use Rattle.ffa_model.specs.Access.{is_naming, names, transaction_at}
-use Rattle.ffa_model.specs.Transactions.{are_writable, base_of, bases_of, ceiling, ceiling_in, grant_to, pages_in}
+use Rattle.ffa_model.specs.Transactions.{are_writable, own_right_of, own_rights_of, ceiling, ceiling_in, grant_to, pages_in}
 use Rattle.ffa_laws.specs.Steady.{IsSteady}
 use Rattle.ffa_laws.specs.View.{view, involves, is_near, kept, seen_by}
 use Rattle.ffa_model.proofs.KeptDonate.{same-tests}
@@ -33,23 +33,23 @@ module _ (e : ℕ) (s : State) (steady : IsSteady s) (h : ℕ) (t : Transaction)
   pub near-named : (p : ℕ) → names s t.ranges p ≡ true → is_near e s p ≡ true
   near-named p named = ap (λ o. owner_of s p == e || involves e o) (at-named s steady h t there p named) ∙ ap (λ b. owner_of s p == e || b) known ∙ or_true (owner_of s p == e)
 
-  right-seen : (p : ℕ) → names s t.ranges p ≡ true → base_of (view e s) p ≡ base_of s p
-  right-seen p named = ap (option_map (λ (page : Page). page.base)) (view-page e s p ∙ ap (λ b. kept b (page_at s p)) (near-named p named))
+  right-seen : (p : ℕ) → names s t.ranges p ≡ true → own_right_of (view e s) p ≡ own_right_of s p
+  right-seen p named = ap (option_map (λ (page : Page). page.own_right)) (view-page e s p ∙ ap (λ b. kept b (page_at s p)) (near-named p named))
 
-  -- a test of the base right of each of its pages
+  -- a test of the own right of each of its pages
   pub rights-seen : (test : Option Rights → Bool)
-      → list_all (λ p. test (base_of (view e s) p)) (pages_in (bases_of (view e s)) t.ranges) ≡ list_all (λ p. test (base_of s p)) (pages_in (bases_of s) t.ranges)
+      → list_all (λ p. test (own_right_of (view e s) p)) (pages_in (own_rights_of (view e s)) t.ranges) ≡ list_all (λ p. test (own_right_of s p)) (pages_in (own_rights_of s) t.ranges)
   rights-seen test =
-      ap (λ n. list_all (λ p. test (base_of (view e s) p)) (filter (names s t.ranges) (listed n (λ p. p)))) (length-map_at (λ q page. kept (is_near e s q) page) s.pages)
-      ∙ same-tests (λ p. test (base_of (view e s) p)) (λ p. test (base_of s p)) (names s t.ranges) (length s.pages) (λ p. p) (λ p lt named. ap test (right-seen p named))
+      ap (λ n. list_all (λ p. test (own_right_of (view e s) p)) (filter (names s t.ranges) (listed n (λ p. p)))) (length-map_at (λ q page. kept (is_near e s q) page) s.pages)
+      ∙ same-tests (λ p. test (own_right_of (view e s) p)) (λ p. test (own_right_of s p)) (names s t.ranges) (length s.pages) (λ p. p) (λ p lt named. ap test (right-seen p named))
 
-  pub writable-seen : are_writable (bases_of (view e s)) t.ranges ≡ are_writable (bases_of s) t.ranges
+  pub writable-seen : are_writable (own_rights_of (view e s)) t.ranges ≡ are_writable (own_rights_of s) t.ranges
   writable-seen = rights-seen may_store
 
-  pub ceiling-seen : (f : ℕ) → ceiling (bases_of (view e s)) (seen_by e t) f ≡ ceiling (bases_of s) t f
+  pub ceiling-seen : (f : ℕ) → ceiling (own_rights_of (view e s)) (seen_by e t) f ≡ ceiling (own_rights_of s) t f
   ceiling-seen f = of t.kind
     where
-      of : (kind : Kind) → ceiling_in kind (bases_of (view e s)) (seen_by e t) f ≡ ceiling_in kind (bases_of s) t f
+      of : (kind : Kind) → ceiling_in kind (own_rights_of (view e s)) (seen_by e t) f ≡ ceiling_in kind (own_rights_of s) t f
       of Share = refl
       of Lend = λ i. record { level = grant_to t f; exec = length t.receivers == 1 && rights-seen may_fetch i }
       of Donate = λ i. record { level = cond (rights-seen may_store i) Rw Ro; exec = rights-seen may_fetch i }

@@ -19,9 +19,9 @@ use Rattle.ffa_laws.proofs.Publics.{same_public}
 abbrev pub with_parts : State → List (Option Page) → List (Option Buffers) → Schedule → State
 with_parts s ps bs c = record s { pages = ps; buffers = bs; runner = c.runner; statuses = c.statuses; works = c.works }
 
--- the owner and the base right of a page
+-- the owner and the own right of a page
 abbrev pub standing : Option Page → Option (ℕ × Rights)
-standing page = option_map (λ (q : Page). (q.owner, q.base)) page
+standing page = option_map (λ (q : Page). (q.owner, q.own_right)) page
 
 -- pages that differ in their bytes alone
 pub record AreRewritten (old new : List (Option Page)) : Type 0 where
@@ -42,20 +42,20 @@ owner-standing (Some page) = refl
 pub same_owner : (x y : Option Page) → standing x ≡ standing y → option_map_or (λ (q : Page). q.owner) x 0x8000 ≡ option_map_or (λ (q : Page). q.owner) y 0x8000
 same_owner x y same = owner-standing x ∙ ap owner_in same ∙ sym (owner-standing y)
 
-base_in : Option (ℕ × Rights) → Option Rights
-base_in x = option_map (λ (t : ℕ × Rights). t.1) x
+own_right_in : Option (ℕ × Rights) → Option Rights
+own_right_in x = option_map (λ (t : ℕ × Rights). t.1) x
 
--- the base right of a page, if it is not the manager's
-abbrev pub page_base : Option Page → Option Rights
-page_base page = option_map (λ (q : Page). q.base) page
+-- the own right of a page, if it is not the manager's
+abbrev pub page_right : Option Page → Option Rights
+page_right page = option_map (λ (q : Page). q.own_right) page
 
-base-standing : (page : Option Page) → page_base page ≡ base_in (standing page)
-unfolding base_in
-base-standing None = refl
-base-standing (Some page) = refl
+right-standing : (page : Option Page) → page_right page ≡ own_right_in (standing page)
+unfolding own_right_in
+right-standing None = refl
+right-standing (Some page) = refl
 
-pub same_base : (x y : Option Page) → standing x ≡ standing y → page_base x ≡ page_base y
-same_base x y same = base-standing x ∙ ap base_in same ∙ sym (base-standing y)
+pub same_own_right : (x y : Option Page) → standing x ≡ standing y → page_right x ≡ page_right y
+same_own_right x y same = right-standing x ∙ ap own_right_in same ∙ sym (right-standing y)
 
 -- the buffers that e sees
 abbrev pub seen_buffers : ℕ → ℕ → List (Option Buffers) → List (Option Buffers)

@@ -9,7 +9,7 @@ use Rattle.std.proofs.lemmas.Bool.{cases_eq, eq-eqb, false≢true}
 use Rattle.ffa_laws.specs.View.{map_values}
 use Rattle.ffa_model.specs.State.{State, Transaction, transaction_of}
 use Rattle.ffa_model.specs.Access.{is_receiver}
-use Rattle.ffa_model.specs.Transactions.{offers_of, open_count}
+use Rattle.ffa_model.specs.Transactions.{open_of, open_count}
 use Rattle.ffa_laws.specs.View.{view, involves, seen_by}
 use Rattle.ffa_model.proofs.Counts.{count, count-insert, count-remove, one}
 use Rattle.ffa_model.proofs.Handles.{Transactions, get-beside, get-left, get-put, get-taken}
@@ -112,7 +112,7 @@ module _ (test : Transaction → Bool) (f : Transaction → Transaction) (keep :
           let is : finite.get m k ≡ Some t = finite.get-entries m k ∙ ap (finite.find nat_cmp k) some ∙ ap (λ b. cond b (Some t) (finite.find nat_cmp k es)) (unsigned_tied k k ∙ eq-eqb k k refl) in
           step m k t is kept (before (finite.remove m k) (smaller k t is) (kept-left m k t is kept))
 
-pub count-seen : (e : ℕ) (s : State) → open_count (offers_of (view e s)) e ≡ open_count (offers_of s) e
+pub count-seen : (e : ℕ) (s : State) → open_count (open_of (view e s)) e ≡ open_count (open_of s) e
 count-seen e s =
     counts (λ (t : Transaction). t.sender == e) (seen_by e) (λ h. involves e (transaction_of s h)) (λ t. refl) (finite.len s.transactions) s.transactions refl
     (λ k t is mine. ap (involves e) is ∙ ap (λ b. b || is_receiver e t) mine)

@@ -21,7 +21,7 @@ use Rattle.ffa_model.specs.Calls.{answered, first_failure}
 use Rattle.ffa_model.specs.Memory.{fetch_fault, number_at, page_of_address, read_fault, size_of, store_fault, stored, zeroed_if, zeroed_page}
 use Rattle.ffa_model.specs.MemoryReturn.{is_zeroable, memory_relinquish, relinquish_guards, relinquish_read, relinquished, relinquished_from}
 use Rattle.ffa_model.specs.Step.{serve, state_after, step}
-use Rattle.ffa_model.specs.Transactions.{not_holding, offers_of, with_offers, with_transaction}
+use Rattle.ffa_model.specs.Transactions.{not_holding, open_of, with_open, with_transaction}
 use Rattle.ffa_model.proofs.Guards.{guard-passes}
 use Rattle.ffa_laws.specs.Steady.{IsSteady}
 use Rattle.ffa_laws.specs.View.{is_near}
@@ -108,8 +108,8 @@ module _ (s : State) (steady : IsSteady s) (h : ℕ) (x : List ℕ) (its : IsZer
   abbrev asked : RelinquishDesc
   asked = its.asked
 
-  passes : first_failure (relinquish_guards (buffers_of s s.runner) (offers_of s) s.runner (Some asked)) ≡ None
-  passes = ap (λ o. first_failure (relinquish_guards (buffers_of s s.runner) (offers_of s) s.runner o)) (sym its.read) ∙ its.passes
+  passes : first_failure (relinquish_guards (buffers_of s s.runner) (open_of s) s.runner (Some asked)) ≡ None
+  passes = ap (λ o. first_failure (relinquish_guards (buffers_of s s.runner) (open_of s) s.runner o)) (sym its.read) ∙ its.passes
 
   record Lent : Type 0 where
     pub t : Transaction
@@ -119,8 +119,8 @@ module _ (s : State) (steady : IsSteady s) (h : ℕ) (x : List ℕ) (its : IsZer
   lent : Lent
   lent =
       of (transaction_of s asked.handle) (sym (ap (transaction_of s) its.handle))
-      (guard-passes (relinquish_guards (buffers_of s s.runner) (offers_of s) s.runner (Some asked)) 2 InvalidParameters (sym passes))
-      (guard-passes (relinquish_guards (buffers_of s s.runner) (offers_of s) s.runner (Some asked)) 4 Denied (sym passes))
+      (guard-passes (relinquish_guards (buffers_of s s.runner) (open_of s) s.runner (Some asked)) 2 InvalidParameters (sym passes))
+      (guard-passes (relinquish_guards (buffers_of s s.runner) (open_of s) s.runner (Some asked)) 4 Denied (sym passes))
     where
       asks : (zero zeroable : Bool) → (not zero || zeroable) ≡ true → zero ≡ true → zeroable ≡ true
       asks true zeroable is zeroes = is
@@ -144,7 +144,7 @@ module _ (s : State) (steady : IsSteady s) (h : ℕ) (x : List ℕ) (its : IsZer
 
   -- in a state that differs in pages of the loan alone, it leaves the same state
   abbrev after_zeros : State → State
-  after_zeros u = zeroed_if true (with_offers u (with_transaction (offers_of u) asked.handle (not_holding t u.runner))) t.ranges
+  after_zeros u = zeroed_if true (with_open u (with_transaction (open_of u) asked.handle (not_holding t u.runner))) t.ranges
 
   module _ (u : State) (same : blank hidden u ≡ blank hidden s) where
     passes-too : first_failure (memory_relinquish u).guards ≡ None
@@ -180,7 +180,7 @@ module _ (s : State) (steady : IsSteady s) (h : ℕ) (x : List ℕ) (its : IsZer
         ∙ ap (λ g. (answered g u (memory_relinquish u).state (memory_relinquish u).reply).state) passes-too
         ∙ ap (relinquished u) read-too
         ∙ ap (relinquished_from u asked) there-too
-        ∙ ap (λ zero. zeroed_if zero (with_offers u (with_transaction (offers_of u) asked.handle (not_holding t u.runner))) t.ranges) its.zero
+        ∙ ap (λ zero. zeroed_if zero (with_open u (with_transaction (open_of u) asked.handle (not_holding t u.runner))) t.ranges) its.zero
         ∙ zeroed-same
         ∙ ap after_zeros same
 

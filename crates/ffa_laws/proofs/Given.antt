@@ -18,7 +18,7 @@ use Rattle.ffa_model.specs.Access.{handle_at, is_naming, names, transaction_at}
 use Rattle.ffa_model.specs.Memory.{changed_pages, with_pages}
 use Rattle.ffa_model.specs.MemoryRetrieve.{donated_page}
 use Rattle.ffa_model.specs.MemoryReturn.{named_ranges}
-use Rattle.ffa_model.specs.Transactions.{base_of, bases_of, ceiling, ceiling_in, grant_to, pages_in}
+use Rattle.ffa_model.specs.Transactions.{own_right_of, own_rights_of, ceiling, ceiling_in, grant_to, pages_in}
 use Rattle.ffa_laws.specs.Events.{Closed, apply}
 use Rattle.ffa_laws.specs.Steady.{IsSteady, IsSteadyTransaction}
 use Rattle.ffa_laws.specs.View.{view, buffers_seen, involves, is_near, kept, seen_by, transactions_of}
@@ -136,8 +136,8 @@ module _ (s : State) (steady : IsSteady s) (h : ℕ) (t : Transaction) (there : 
   pub page-same : (p : ℕ) → names s t.ranges p ≡ false → page_at given p ≡ page_at s p
   page-same p away = page-given p ∙ ap (λ b. cond b (donated_page r right (page_at s p)) (page_at s p)) away
 
-  base-same : (p : ℕ) → names s t.ranges p ≡ false → base_of given p ≡ base_of s p
-  base-same p away = ap (option_map (λ (page : Page). page.base)) (page-same p away)
+  base-same : (p : ℕ) → names s t.ranges p ≡ false → own_right_of given p ≡ own_right_of s p
+  base-same p away = ap (option_map (λ (page : Page). page.own_right)) (page-same p away)
 
   owner-same : (p : ℕ) → names s t.ranges p ≡ false → owner_of given p ≡ owner_of s p
   owner-same p away = ap owner_in (page-same p away)
@@ -160,15 +160,15 @@ module _ (s : State) (steady : IsSteady s) (h : ℕ) (t : Transaction) (there : 
     ]
 
     rights-same : (test : Option Rights → Bool)
-        → list_all (λ p. test (base_of given p)) (pages_in (bases_of given) u.ranges) ≡ list_all (λ p. test (base_of s p)) (pages_in (bases_of s) u.ranges)
+        → list_all (λ p. test (own_right_of given p)) (pages_in (own_rights_of given) u.ranges) ≡ list_all (λ p. test (own_right_of s p)) (pages_in (own_rights_of s) u.ranges)
     rights-same test =
-        ap (λ n. list_all (λ p. test (base_of given p)) (filter (names s u.ranges) (listed n (λ p. p)))) size-given
-        ∙ same-tests (λ p. test (base_of given p)) (λ p. test (base_of s p)) (names s u.ranges) (length s.pages) (λ p. p) (λ p lt named. ap test (base-same p (apart p named)))
+        ap (λ n. list_all (λ p. test (own_right_of given p)) (filter (names s u.ranges) (listed n (λ p. p)))) size-given
+        ∙ same-tests (λ p. test (own_right_of given p)) (λ p. test (own_right_of s p)) (names s u.ranges) (length s.pages) (λ p. p) (λ p lt named. ap test (base-same p (apart p named)))
 
-    ceiling-same : (f : ℕ) → ceiling (bases_of given) u f ≡ ceiling (bases_of s) u f
+    ceiling-same : (f : ℕ) → ceiling (own_rights_of given) u f ≡ ceiling (own_rights_of s) u f
     ceiling-same f = of u.kind
       where
-        of : (kind : Kind) → ceiling_in kind (bases_of given) u f ≡ ceiling_in kind (bases_of s) u f
+        of : (kind : Kind) → ceiling_in kind (own_rights_of given) u f ≡ ceiling_in kind (own_rights_of s) u f
         of Share = refl
         of Lend = λ i. record { level = grant_to u f; exec = length u.receivers == 1 && rights-same may_fetch i }
         of Donate = λ i. record { level = cond (rights-same may_store i) Rw Ro; exec = rights-same may_fetch i }

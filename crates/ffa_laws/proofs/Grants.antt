@@ -14,24 +14,24 @@ use Rattle.ffa_model.specs.declared.transaction.Receiver.{Receiver}
 use Rattle.ffa_model.specs.Rights.{is_at_most, is_data_at_most, is_within, may_fetch, may_store}
 use Rattle.ffa_model.specs.State.{State, Page, Transaction, page_at}
 use Rattle.ffa_model.specs.Access.{covers, is_receiver, names}
-use Rattle.ffa_model.specs.Transactions.{Bases, are_executable, are_writable, base_of, bases_of, ceiling, ceiling_in, grant_to, pages_in}
+use Rattle.ffa_model.specs.Transactions.{OwnRights, are_executable, are_writable, own_right_of, own_rights_of, ceiling, ceiling_in, grant_to, pages_in}
 use Rattle.ffa_model.specs.MemorySend.{are_grants_within, is_grantable, is_inside}
 use Rattle.ffa_model.specs.SendDescriptor.{most_receivers, range_end}
 use Rattle.ffa_model.proofs.NamedPages.{listed-each}
-use Rattle.ffa_laws.proofs.Changes.{page_base}
+use Rattle.ffa_laws.proofs.Changes.{page_right}
 use Rattle.ffa_laws.proofs.Steadies.{two-receivers}
 
 -- a page of ranges that lie in RAM is in RAM
 abbrev has_address : ℕ → Range → Bool
 has_address address r = nat_le r.address address && nat_lt address (range_end r)
 
-in-range : (ram : Bases) (r : Range) (p : ℕ) → is_inside ram r ≡ true → has_address (ram.ram_base + 4096 * p) r ≡ true → p < ram.pages
+in-range : (ram : OwnRights) (r : Range) (p : ℕ) → is_inside ram r ≡ true → has_address (ram.ram_base + 4096 * p) r ≡ true → p < ram.pages
 in-range ram r p inside covered =
     let within = leb-true (range_end r) (ram.ram_base + 4096 * ram.pages) (and_parts (nat_le ram.ram_base r.address) _ inside).1 in
     let below = ltb-true (ram.ram_base + 4096 * p) (range_end r) (and_parts (nat_le r.address (ram.ram_base + 4096 * p)) _ covered).1 in
     omega (arith, within, below)
 
-pub covered-inside : (ram : Bases) (ranges : List Range) (p : ℕ) → list_all (is_inside ram) ranges ≡ true → covers ranges (ram.ram_base + 4096 * p) ≡ true → p < ram.pages
+pub covered-inside : (ram : OwnRights) (ranges : List Range) (p : ℕ) → list_all (is_inside ram) ranges ≡ true → covers ranges (ram.ram_base + 4096 * p) ≡ true → p < ram.pages
 covered-inside ram [] p inside covered = absurd (false≢true covered)
 covered-inside ram (r ∷ ranges) p inside covered =
     let (here, rest) = and_parts (is_inside ram r) (list_all (is_inside ram) ranges) inside in
@@ -69,30 +69,30 @@ level-within : (b : Bool) (level : Data) → (b ≡ true → is_data_at_most Rw 
 level-within true level is = is refl
 level-within false level is = refl
 
--- a ceiling is within the base right of each page that the grants are within
+-- a ceiling is within the own right of each page that the grants are within
 module _ (s : State) (t : Transaction) (p e : ℕ) (page : Page) (at : page_at s p ≡ Some page) (lt : p < length s.pages) (named : names s t.ranges p ≡ true) where
-  each : (test : ℕ → Bool) → list_all test (pages_in (bases_of s) t.ranges) ≡ true → test p ≡ true
+  each : (test : ℕ → Bool) → list_all test (pages_in (own_rights_of s) t.ranges) ≡ true → test p ≡ true
   each test all = listed-each test (names s t.ranges) (length s.pages) (λ q. q) all p lt named
 
-  base : base_of s p ≡ Some page.base
-  base = ap page_base at
+  base : own_right_of s p ≡ Some page.own_right
+  base = ap page_right at
 
-  execute : are_executable (bases_of s) t.ranges ≡ true → page.base.exec ≡ true
-  execute all = sym (ap may_fetch base) ∙ each (λ q. may_fetch (base_of s q)) all
+  execute : are_executable (own_rights_of s) t.ranges ≡ true → page.own_right.exec ≡ true
+  execute all = sym (ap may_fetch base) ∙ each (λ q. may_fetch (own_right_of s q)) all
 
-  pub granted-ceiling : list_all (are_grants_within (bases_of s) t.receivers) (pages_in (bases_of s) t.ranges) ≡ true
-      → is_within (Some (ceiling (bases_of s) t e)) (page_base (page_at s p)) ≡ true
-  granted-ceiling grants = ap (λ o. is_within (Some (ceiling (bases_of s) t e)) (page_base o)) at ∙ of t.kind
+  pub granted-ceiling : list_all (are_grants_within (own_rights_of s) t.receivers) (pages_in (own_rights_of s) t.ranges) ≡ true
+      → is_within (Some (ceiling (own_rights_of s) t e)) (page_right (page_at s p)) ≡ true
+  granted-ceiling grants = ap (λ o. is_within (Some (ceiling (own_rights_of s) t e)) (page_right o)) at ∙ of t.kind
     where
-      grant : is_data_at_most (grant_to t e) page.base.level ≡ true
-      grant = granted t.receivers e page.base (sym (ap (λ right. list_all (λ (r : Receiver). is_grantable r.grant right) t.receivers) base) ∙ each (are_grants_within (bases_of s) t.receivers) grants)
+      grant : is_data_at_most (grant_to t e) page.own_right.level ≡ true
+      grant = granted t.receivers e page.own_right (sym (ap (λ right. list_all (λ (r : Receiver). is_grantable r.grant right) t.receivers) base) ∙ each (are_grants_within (own_rights_of s) t.receivers) grants)
 
-      of : (kind : Kind) → is_at_most (ceiling_in kind (bases_of s) t e) page.base ≡ true
+      of : (kind : Kind) → is_at_most (ceiling_in kind (own_rights_of s) t e) page.own_right ≡ true
       of Share = and_from _ _ grant refl
-      of Lend = and_from _ _ grant (alone-executed (length t.receivers == 1) (are_executable (bases_of s) t.ranges) page.base.exec execute)
+      of Lend = and_from _ _ grant (alone-executed (length t.receivers == 1) (are_executable (own_rights_of s) t.ranges) page.own_right.exec execute)
       of Donate =
-          and_from _ _ (level-within (are_writable (bases_of s) t.ranges) page.base.level (λ all. sym (ap may_store base) ∙ each (λ q. may_store (base_of s q)) all))
-          (executed (are_executable (bases_of s) t.ranges) page.base.exec execute)
+          and_from _ _ (level-within (are_writable (own_rights_of s) t.ranges) page.own_right.level (λ all. sym (ap may_store base) ∙ each (λ q. may_store (own_right_of s q)) all))
+          (executed (are_executable (own_rights_of s) t.ranges) page.own_right.exec execute)
 
 -- a donate that has at most one receiver is to one
 pub one-taker : (t : Transaction) → length t.receivers ≤ most_receivers t.kind → (e f : ℕ) → t.kind ≡ Donate → is_receiver e t ≡ true → is_receiver f t ≡ true → e ≡ f

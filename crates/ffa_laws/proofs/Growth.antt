@@ -26,9 +26,9 @@ use Rattle.ffa_model.specs.Transactions.{handle_of}
 use Rattle.ffa_laws.specs.Steady.{IsSteady, is_joint}
 use Rattle.ffa_laws.specs.Isolation.{NeverGrow, is_joint_at}
 use Rattle.ffa_laws.proofs.Views.{found}
-use Rattle.ffa_laws.proofs.Taken.{Taken, base-before, before, manager-before, response, state-taken, taken}
+use Rattle.ffa_laws.proofs.Taken.{Taken, right-before, before, manager-before, response, state-taken, taken}
 use Rattle.ffa_laws.proofs.Within.{within-same, within-through}
-use Rattle.ffa_laws.proofs.Changes.{AreRewritten, same_base, standing, page_base, unwritten}
+use Rattle.ffa_laws.proofs.Changes.{AreRewritten, same_own_right, standing, page_right, unwritten}
 use Rattle.ffa_laws.proofs.Closed.{rewritten-zeroed_if}
 use Rattle.ffa_laws.proofs.ReturnLaws.{rewritten-relinquished}
 use Rattle.ffa_laws.proofs.SendLaws.{rewritten-sent}
@@ -47,19 +47,19 @@ test-holds true r some = refl
 test-holds false r some = absurd (false≢true some)
 
 module _ (s : State) (steady : IsSteady s) where
-  pub access-within : (e p : ℕ) → is_within (access s e p) (page_base (page_at s p)) ≡ true
+  pub access-within : (e p : ℕ) → is_within (access s e p) (page_right (page_at s p)) ≡ true
   access-within e p = go (page_at s p) refl (transaction_at s p) refl
     where
-      go : (page : Option Page) → page_at s p ≡ page → (o : Option Transaction) → transaction_at s p ≡ o → is_within (right_of e page o) (page_base page) ≡ true
+      go : (page : Option Page) → page_at s p ≡ page → (o : Option Transaction) → transaction_at s p ≡ o → is_within (right_of e page o) (page_right page) ≡ true
       go None at o open_at = refl
-      go (Some page) at None open_at = within-test (page.owner == e) page.base
+      go (Some page) at None open_at = within-test (page.owner == e) page.own_right
       go (Some page) at (Some u) open_at = held (held_by u e) refl
         where
-          held : (h : Option Rights) → held_by u e ≡ h → is_within (right_by e page u h) (Some page.base) ≡ true
-          held None is = within-test (is_share u.kind && u.sender == e) page.base
+          held : (h : Option Rights) → held_by u e ≡ h → is_within (right_by e page u h) (Some page.own_right) ≡ true
+          held None is = within-test (is_share u.kind && u.sender == e) page.own_right
           held (Some right) is =
               let (h, open_h, named) = found s p u open_at in
-              sym (ap (λ q. is_within (Some right) (page_base q)) at) ∙ (steady.transactions h u open_h).within p e right named is
+              sym (ap (λ q. is_within (Some right) (page_right q)) at) ∙ (steady.transactions h u open_h).within p e right named is
 
   access-alone : (e f p : ℕ) → e ≢ f → is_some (access s e p) ≡ true → is_some (access s f p) ≡ true → is_joint_at (transaction_at s p) ≡ true
   access-alone e f p differ one other = go (page_at s p) (transaction_at s p) refl one other
@@ -67,12 +67,12 @@ module _ (s : State) (steady : IsSteady s) where
       go : (page : Option Page) (o : Option Transaction) → transaction_at s p ≡ o → is_some (right_of e page o) ≡ true → is_some (right_of f page o) ≡ true → is_joint_at o ≡ true
       go None o open_at one other = absurd (false≢true one)
       go (Some page) None open_at one other =
-          absurd (differ (sym (eqb-true page.owner e (test-holds (page.owner == e) page.base one)) ∙ eqb-true page.owner f (test-holds (page.owner == f) page.base other)))
+          absurd (differ (sym (eqb-true page.owner e (test-holds (page.owner == e) page.own_right one)) ∙ eqb-true page.owner f (test-holds (page.owner == f) page.own_right other)))
       go (Some page) (Some u) open_at one other = held (held_by u e) refl (held_by u f) refl one other
         where
-          by_share : (g : ℕ) → is_some (cond (is_share u.kind && u.sender == g) (Some page.base) None) ≡ true → is_joint u ≡ true
+          by_share : (g : ℕ) → is_some (cond (is_share u.kind && u.sender == g) (Some page.own_right) None) ≡ true → is_joint u ≡ true
           by_share g some =
-              let (share, sender) = and_parts (is_share u.kind) (u.sender == g) (test-holds (is_share u.kind && u.sender == g) page.base some) in
+              let (share, sender) = and_parts (is_share u.kind) (u.sender == g) (test-holds (is_share u.kind && u.sender == g) page.own_right some) in
               ap (λ b. b || (is_lend u.kind && nat_le 2 (length u.receivers))) share
 
           held : (h : Option Rights) → held_by u e ≡ h → (k : Option Rights) → held_by u f ≡ k → is_some (right_by e page u h) ≡ true → is_some (right_by f page u k) ≡ true → is_joint u ≡ true
@@ -83,9 +83,9 @@ module _ (s : State) (steady : IsSteady s) where
               (steady.transactions h u open_h).alone e f right right_f differ is of_f
 
 -- ---- over a call and over a run
--- no page has a wider base right than before, and the manager's pages stay
+-- no page has a wider own right than before, and the manager's pages stay
 record KeepsRights (old new : List (Option Page)) : Type 0 where
-  pub bases : (p : ℕ) → is_within (page_base (get_or new p None)) (page_base (get_or old p None)) ≡ true
+  pub own_rights : (p : ℕ) → is_within (page_right (get_or new p None)) (page_right (get_or old p None)) ≡ true
   pub manager : (p : ℕ) → get_or old p None ≡ None → get_or new p None ≡ None
 
 stands-nowhere : (x : Option Page) → standing x ≡ None → x ≡ None
@@ -95,7 +95,7 @@ stands-nowhere (Some page) is = absurd (true≢false (ap is_some is))
 rewritten-rights : (old new : List (Option Page)) → AreRewritten old new → KeepsRights old new
 rewritten-rights old new rewritten =
     record {
-      bases = λ p. ap (λ r. is_within r (page_base (get_or old p None))) (same_base _ (get_or old p None) (rewritten.same p)) ∙ within-same (page_base (get_or old p None));
+      own_rights = λ p. ap (λ r. is_within r (page_right (get_or old p None))) (same_own_right _ (get_or old p None) (rewritten.same p)) ∙ within-same (page_right (get_or old p None));
       manager = λ p none. stands-nowhere _ (rewritten.same p ∙ ap standing none);
     }
 
@@ -105,7 +105,7 @@ same-rights s = rewritten-rights s.pages s.pages (unwritten s.pages)
 grown-from : (s t u : State) → KeepsRights s.pages t.pages → NeverGrow t u → NeverGrow s u
 grown-from s t u keeps later =
     record {
-      base = λ p. within-through (page_base (page_at u p)) (page_base (page_at t p)) (page_base (page_at s p)) (later.base p) (keeps.bases p);
+      base = λ p. within-through (page_right (page_at u p)) (page_right (page_at t p)) (page_right (page_at s p)) (later.base p) (keeps.own_rights p);
       within = later.within;
       manager = λ p none. later.manager p (keeps.manager p none);
       alone = later.alone;
@@ -113,7 +113,7 @@ grown-from s t u keeps later =
 
 not_grown : (s : State) → IsSteady s → NeverGrow s s
 not_grown s steady =
-    record { base = λ p. within-same (page_base (page_at s p)); within = access-within s steady; manager = λ p none. none; alone = access-alone s steady }
+    record { base = λ p. within-same (page_right (page_at s p)); within = access-within s steady; manager = λ p none. none; alone = access-alone s steady }
 
 module _ (s : State) (steady : IsSteady s) where
   -- what a donate gives is within what its sender had
@@ -129,7 +129,7 @@ module _ (s : State) (steady : IsSteady s) where
       keeps : KeepsRights s.pages (filled (before s x its) s.runner (response s x its)).pages
       keeps =
           record {
-            bases = λ p. ap (λ r. is_within r (page_base (page_at s p))) (same_base _ (page_at (before s x its) p) (filling.same p)) ∙ base-before s x its steady p;
+            own_rights = λ p. ap (λ r. is_within r (page_right (page_at s p))) (same_own_right _ (page_at (before s x its) p) (filling.same p)) ∙ right-before s x its steady p;
             manager = λ p none. stands-nowhere _ (filling.same p ∙ ap standing (manager-before s x its steady p none));
           }
 

@@ -16,7 +16,7 @@ use Rattle.ffa_model.specs.Lists.{map_at}
 use Rattle.ffa_model.specs.Rights.{is_lend, is_share, is_within}
 use Rattle.ffa_model.specs.State.{State, Transaction, owner_of, sent_by, transaction_of}
 use Rattle.ffa_model.specs.Access.{handle_at, held_by, is_naming, is_receiver, names}
-use Rattle.ffa_model.specs.Transactions.{Bases, base_of, bases_of, ceiling, ceiling_in, handle_of, holding, not_holding}
+use Rattle.ffa_model.specs.Transactions.{OwnRights, own_right_of, own_rights_of, ceiling, ceiling_in, handle_of, holding, not_holding}
 use Rattle.ffa_laws.specs.Steady.{IsSteady, IsSteadyTransaction, is_joint}
 use Rattle.ffa_laws.specs.View.{view, involves, is_near, kept, seen_by, transactions_of}
 use Rattle.ffa_laws.proofs.Maps.{first_no, first_none, first_one, first_some}
@@ -101,7 +101,7 @@ seen-unheld e t held other same = λ i. record t { held = hidden i }
         ∙ sym (ap (λ b. cond b t.held (finite.retain_keys t.held (λ f. f == e))) other)
 
 -- who holds a transaction doesn't touch ceilings
-ceiling-reheld : (b : Bases) (t : Transaction) (held : Holders) (e : ℕ) → ceiling b (record t { held = held }) e ≡ ceiling b t e
+ceiling-reheld : (b : OwnRights) (t : Transaction) (held : Holders) (e : ℕ) → ceiling b (record t { held = held }) e ≡ ceiling b t e
 ceiling-reheld b t held e = of t.kind
   where
     of : (kind : Kind) → ceiling_in kind b (record t { held = held }) e ≡ ceiling_in kind b t e
@@ -172,7 +172,7 @@ module _ (s : State) (steady : IsSteady s) (h : ℕ) (t : Transaction) (there : 
 
   -- ---- steadiness
   module _ (receivers : (e : ℕ) (right : Rights) → finite.get held e ≡ Some right → is_receiver e t ≡ true)
-      (rights : (p e : ℕ) (right : Rights) → names s t.ranges p ≡ true → finite.get held e ≡ Some right → is_within (Some right) (base_of s p) ≡ true) where
+      (rights : (p e : ℕ) (right : Rights) → names s t.ranges p ≡ true → finite.get held e ≡ Some right → is_within (Some right) (own_right_of s p) ≡ true) where
     good : IsSteadyTransaction s t
     good = steady.transactions h t there
 
@@ -189,7 +189,7 @@ module _ (s : State) (steady : IsSteady s) (h : ℕ) (t : Transaction) (there : 
           receiver = receivers;
           within = rights;
           alone = λ e f one other differ of_e of_f. joint e f differ (receivers e one of_e) (receivers f other of_f) t.kind refl;
-          ceilings = λ p e named. subst (λ (most : Rights). is_within (Some most) (base_of s p) ≡ true) (sym (ceiling-reheld (bases_of s) t held e)) (good.ceilings p e named);
+          ceilings = λ p e named. subst (λ (most : Rights). is_within (Some most) (own_right_of s p) ≡ true) (sym (ceiling-reheld (own_rights_of s) t held e)) (good.ceilings p e named);
           taker = good.taker;
         }
 

@@ -63,7 +63,7 @@ module _ (s : State) (steady : IsSteady s) (e p : ℕ) (owned : owner_of s p ≡
       go : (page : Option Page) → page_at s p ≡ page → right_of s.runner page None ≡ None
       go None at = refl
       go (Some q) at =
-          elim (q.owner == s.runner) as (λ b. (q.owner == s.runner) ≡ b → cond b (Some q.base) None ≡ None) [
+          elim (q.owner == s.runner) as (λ b. (q.owner == s.runner) ≡ b → cond b (Some q.own_right) None ≡ None) [
             | true ↦ λ mine. absurd (other (sym (eqb-true q.owner s.runner mine) ∙ ap (λ o. option_map_or (λ (x : Page). x.owner) o 0x8000) (sym at) ∙ owned))
             | false ↦ λ differs. refl
           ] refl

@@ -36,7 +36,7 @@ use Rattle.ffa_model.specs.Notifications.{binding, class_of, is_bound, has_bitma
 use Rattle.ffa_model.specs.Registers.{decode}
 use Rattle.ffa_model.specs.Step.{serve, service}
 use Rattle.ffa_model.specs.declared.call.Transfer.{Transfer}
-use Rattle.ffa_model.specs.Transactions.{handle_of, next_handle, offers_of, scene_of}
+use Rattle.ffa_model.specs.Transactions.{handle_of, next_handle, open_of, scene_of}
 use Rattle.ffa_model.proofs.Accesses.{held-itself, released-itself}
 use Rattle.ffa_model.proofs.Guards.{guard-passes}
 use Rattle.ffa_model.proofs.Sets.{Bits, contains-retained, same-itself, same_elements}
@@ -234,7 +234,7 @@ module _ (e : ℕ) (s : State) (steady : IsSteady s) where
       of : (o : Option SendRecord) → first_failure (send_guards (scene_of s) s.runner x o) ≡ None → AreNews e v (opens e s kind o)
       of None none = tt
       of (Some r) none =
-          let h = next_handle (offers_of s) s.runner in
+          let h = next_handle (open_of s) s.runner in
           let t = transaction_from kind r in
           news-where e v (is_receiver e t) _ (λ offered. changes e v (Opened h t _) (λ same.
           some≢none (sym (get-insert v.transactions h t h ∙ ap (λ b. cond b (Some t) (transaction_of v h)) (eq-eqb h h refl))
@@ -270,11 +270,11 @@ module _ (e : ℕ) (s : State) (steady : IsSteady s) where
           news-held d.handle s.runner None t (there-seen d.handle t there mine) (λ same.
           true≢false (sym holds ∙ ap is_some (sym same ∙ released-itself t s.runner))))
 
-      read : (o : Option RelinquishDesc) → first_failure (relinquish_guards (buffers_of s s.runner) (offers_of s) s.runner o) ≡ None → AreNews e v (releases e s o)
+      read : (o : Option RelinquishDesc) → first_failure (relinquish_guards (buffers_of s s.runner) (open_of s) s.runner o) ≡ None → AreNews e v (releases e s o)
       read None none = tt
       read (Some d) none =
           news-append e v (where_true (is_from e (transaction_of s d.handle)) (Held d.handle s.runner None ∷ [])) (where_true _ (Zeroed d.handle ∷ []))
-          (of d (transaction_of s d.handle) refl (guard-passes (relinquish_guards (buffers_of s s.runner) (offers_of s) s.runner (Some d)) 3 Denied (sym none)))
+          (of d (transaction_of s d.handle) refl (guard-passes (relinquish_guards (buffers_of s s.runner) (open_of s) s.runner (Some d)) 3 Denied (sym none)))
           (repeats e (apply_all e v (where_true (is_from e (transaction_of s d.handle)) (Held d.handle s.runner None ∷ []))) _ (Zeroed d.handle) refl)
 
   news-reclaimed : (h : ℕ) → AreNews e v (where_true (is_offered e (transaction_of s h)) (Closed h ∷ []))

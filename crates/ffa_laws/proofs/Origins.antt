@@ -25,7 +25,7 @@ use Rattle.ffa_model.specs.Setup.{info_bytes, is_count_alone, uuid_bytes}
 use Rattle.ffa_model.specs.State.{State, Transaction, transaction_of, version_of}
 use Rattle.ffa_model.specs.Step.{service, step}
 use Rattle.ffa_model.specs.declared.call.Transfer.{Transfer}
-use Rattle.ffa_model.specs.Transactions.{handle_of, holding, next_handle, not_holding, offers_of, scene_of}
+use Rattle.ffa_model.specs.Transactions.{handle_of, holding, next_handle, not_holding, open_of, scene_of}
 use Rattle.ffa_laws.proofs.Closed.{get-remove}
 use Rattle.ffa_laws.proofs.Form.{accessed-kept, served-kept}
 use Rattle.ffa_laws.proofs.Opened.{Transactions, get-insert}
@@ -48,7 +48,7 @@ pub record IsOpened (s next : State) (h : ℕ) : Type 0 where
   pub read : SendRecord
   pub is : IsOffer s read
   pub state : next ≡ memory_sent s kind (Some read)
-  pub handle : h ≡ next_handle (offers_of s) s.runner
+  pub handle : h ≡ next_handle (open_of s) s.runner
 
 same-open : (m : Transactions) (h : ℕ) → Lasts m m h
 same-open m h u is = record { before = u; there = is; ranges = refl }
@@ -79,14 +79,14 @@ module _ (s : State) (h : ℕ) where
     where
       of : (o : Option SendRecord) → first_failure (send_guards (scene_of s) s.runner x o) ≡ None → Comes s h (memory_sent s kind o)
       of None none = absurd (no-offer s x none)
-      of (Some r) none = go (h == next_handle (offers_of s) s.runner) refl
+      of (Some r) none = go (h == next_handle (open_of s) s.runner) refl
         where
-          go : (b : Bool) → (h == next_handle (offers_of s) s.runner) ≡ b → Comes s h (memory_sent s kind (Some r))
-          go true here = inr (record { kind = kind; read = r; is = offer s x r none; state = refl; handle = eqb-true h (next_handle (offers_of s) s.runner) here })
+          go : (b : Bool) → (h == next_handle (open_of s) s.runner) ≡ b → Comes s h (memory_sent s kind (Some r))
+          go true here = inr (record { kind = kind; read = r; is = offer s x r none; state = refl; handle = eqb-true h (next_handle (open_of s) s.runner) here })
           go false beside =
               inl (λ u is. record {
                 before = u;
-                there = sym (get-insert s.transactions (next_handle (offers_of s) s.runner) (transaction_from kind r) h ∙ ap (λ b. cond b (Some (transaction_from kind r)) (transaction_of s h)) beside) ∙ is;
+                there = sym (get-insert s.transactions (next_handle (open_of s) s.runner) (transaction_from kind r) h ∙ ap (λ b. cond b (Some (transaction_from kind r)) (transaction_of s h)) beside) ∙ is;
                 ranges = refl;
               })
 

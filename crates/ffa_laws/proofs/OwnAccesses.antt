@@ -34,7 +34,7 @@ use Rattle.ffa_model.specs.Registers.{decode}
 use Rattle.ffa_model.specs.Setup.{info_bytes, is_count_alone, uuid_bytes}
 use Rattle.ffa_model.specs.Step.{serve, service, step}
 use Rattle.ffa_model.specs.declared.call.Transfer.{Transfer}
-use Rattle.ffa_model.specs.Transactions.{bases_of, closed, handle_of, holding, next_handle, not_holding, offers_of, scene_of, with_offers, with_transaction}
+use Rattle.ffa_model.specs.Transactions.{own_rights_of, closed, handle_of, holding, next_handle, not_holding, open_of, scene_of, with_open, with_transaction}
 use Rattle.ffa_model.proofs.Accesses.{IsNamedOnce, access-closed, access-given, access-holding_beside, access-kept, access-released, access-released_beside, access-still, access-unchanged, access-zeroed, in-closed, named-in}
 use Rattle.ffa_model.proofs.CallAccesses.{access-filled, access-written}
 use Rattle.ffa_model.proofs.Guards.{guard-passes}
@@ -87,26 +87,26 @@ pub strangers : (e : ℕ) (page : Option Page) (t : Transaction) → held_by t e
 strangers e None t unheld other = refl
 strangers e (Some q) t unheld other = ap (right_by e q t) unheld ∙ shut (is_share t.kind)
   where
-    shut : (b : Bool) → cond (b && t.sender == e) (Some q.base) None ≡ None
-    shut true = ap (λ b. cond b (Some q.base) None) other
+    shut : (b : Bool) → cond (b && t.sender == e) (Some q.own_right) None ≡ None
+    shut true = ap (λ b. cond b (Some q.own_right) None) other
     shut false = refl
 
 -- by what is no share and isn't held
 pub shareless : (e : ℕ) (page : Option Page) (t : Transaction) → held_by t e ≡ None → is_share t.kind ≡ false → right_of e page (Some t) ≡ None
 shareless e None t unheld none = refl
-shareless e (Some q) t unheld none = ap (right_by e q t) unheld ∙ ap (λ b. cond (b && t.sender == e) (Some q.base) None) none
+shareless e (Some q) t unheld none = ap (right_by e q t) unheld ∙ ap (λ b. cond (b && t.sender == e) (Some q.own_right) None) none
 
 -- the sender's own, by a share
 sharers : (e : ℕ) (page : Option Page) (t : Transaction) → held_by t e ≡ None → (t.sender == e) ≡ true → is_share t.kind ≡ true → option_map_or (λ (q : Page). q.owner) page 0x8000 ≡ e
     → right_of e page (Some t) ≡ right_of e page None
 sharers e None t unheld sender share own = refl
 sharers e (Some q) t unheld sender share own =
-    ap (right_by e q t) unheld ∙ (λ i. cond (share i && sender i) (Some q.base) None) ∙ sym (ap (λ b. cond b (Some q.base) None) (eq-eqb q.owner e own))
+    ap (right_by e q t) unheld ∙ (λ i. cond (share i && sender i) (Some q.own_right) None) ∙ sym (ap (λ b. cond b (Some q.own_right) None) (eq-eqb q.owner e own))
 
 -- no owner
 pub ownerless : (e : ℕ) (page : Option Page) → (option_map_or (λ (q : Page). q.owner) page 0x8000 == e) ≡ false → right_of e page None ≡ None
 ownerless e None other = refl
-ownerless e (Some q) other = ap (λ b. cond b (Some q.base) None) other
+ownerless e (Some q) other = ap (λ b. cond b (Some q.own_right) None) other
 
 -- nobody holds a transaction that no receiver holds
 unheld-by : (t : Transaction) (e : ℕ) → is_unheld (Some t) ≡ true → ((right : Rights) → held_by t e ≡ Some right → is_receiver e t ≡ true) → held_by t e ≡ None
@@ -138,7 +138,7 @@ module _ (s : State) (steady : IsSteady s) where
   -- ---- a send
   module _ (kind : Kind) (r : SendRecord) (good : IsOffer s r) where
     abbrev h : ℕ
-    h = next_handle (offers_of s) s.runner
+    h = next_handle (open_of s) s.runner
 
     abbrev t : Transaction
     t = transaction_from kind r
@@ -198,25 +198,25 @@ module _ (s : State) (steady : IsSteady s) where
         none-within _ _ (zeroes s.runner p ∙ access-released s d.handle t there p (once p) named s.runner ∙ nothing (page_at s p)))
         (λ p named none. absurd (true≢false none))
       where
-        zeroes : (e p : ℕ) → access (relinquished_from s d (Some t)) e p ≡ access (with_offers s (with_transaction (offers_of s) d.handle (not_holding t s.runner))) e p
-        zeroes e p = access-zeroed d.zero (with_offers s (with_transaction (offers_of s) d.handle (not_holding t s.runner))) t.ranges e p
+        zeroes : (e p : ℕ) → access (relinquished_from s d (Some t)) e p ≡ access (with_open s (with_transaction (open_of s) d.handle (not_holding t s.runner))) e p
+        zeroes e p = access-zeroed d.zero (with_open s (with_transaction (open_of s) d.handle (not_holding t s.runner))) t.ranges e p
 
         not_sender : (t.sender == s.runner) ≡ false
         not_sender = ne_eqb t.sender s.runner (λ same. false≢true (sym (apart d.handle t there) ∙ ap (λ f. is_receiver f t) same ∙ offered))
 
-        nothing : (page : Option Page) → option_and_then (λ (q : Page). cond (is_share t.kind && t.sender == s.runner) (Some q.base) None) page ≡ None
+        nothing : (page : Option Page) → option_and_then (λ (q : Page). cond (is_share t.kind && t.sender == s.runner) (Some q.own_right) None) page ≡ None
         nothing None = refl
-        nothing (Some q) = elim (is_share t.kind) as (λ b. cond (b && t.sender == s.runner) (Some q.base) None ≡ None) [ true ↦ ap (λ b. cond b (Some q.base) None) not_sender | false ↦ refl ]
+        nothing (Some q) = elim (is_share t.kind) as (λ b. cond (b && t.sender == s.runner) (Some q.own_right) None ≡ None) [ true ↦ ap (λ b. cond b (Some q.own_right) None) not_sender | false ↦ refl ]
 
     relinquish-own : first_failure (memory_relinquish s).guards ≡ None → Own s (memory_relinquish s).state false true
     relinquish-own none = read (relinquish_read s) none
       where
-        of : (d : RelinquishDesc) (o : Option Transaction) → transaction_of s d.handle ≡ o → first_failure (relinquish_guards (buffers_of s s.runner) (offers_of s) s.runner (Some d)) ≡ None → Own s (relinquished_from s d o) false true
-        of d None there none = absurd (false≢true (sym (ap (is_offered s.runner) there) ∙ guard-passes (relinquish_guards (buffers_of s s.runner) (offers_of s) s.runner (Some d)) 2 InvalidParameters (sym none)))
-        of d (Some t) there none = relinquished-own d t there (sym (ap (is_offered s.runner) there) ∙ guard-passes (relinquish_guards (buffers_of s s.runner) (offers_of s) s.runner (Some d)) 2 InvalidParameters (sym none))
+        of : (d : RelinquishDesc) (o : Option Transaction) → transaction_of s d.handle ≡ o → first_failure (relinquish_guards (buffers_of s s.runner) (open_of s) s.runner (Some d)) ≡ None → Own s (relinquished_from s d o) false true
+        of d None there none = absurd (false≢true (sym (ap (is_offered s.runner) there) ∙ guard-passes (relinquish_guards (buffers_of s s.runner) (open_of s) s.runner (Some d)) 2 InvalidParameters (sym none)))
+        of d (Some t) there none = relinquished-own d t there (sym (ap (is_offered s.runner) there) ∙ guard-passes (relinquish_guards (buffers_of s s.runner) (open_of s) s.runner (Some d)) 2 InvalidParameters (sym none))
 
-        read : (o : Option RelinquishDesc) → first_failure (relinquish_guards (buffers_of s s.runner) (offers_of s) s.runner o) ≡ None → Own s (relinquished s o) false true
-        read None none = absurd (false≢true (guard-passes (relinquish_guards (buffers_of s s.runner) (offers_of s) s.runner None) 1 InvalidParameters (sym none)))
+        read : (o : Option RelinquishDesc) → first_failure (relinquish_guards (buffers_of s s.runner) (open_of s) s.runner o) ≡ None → Own s (relinquished s o) false true
+        read None none = absurd (false≢true (guard-passes (relinquish_guards (buffers_of s s.runner) (open_of s) s.runner None) 1 InvalidParameters (sym none)))
         read (Some d) none = of d (transaction_of s d.handle) refl none
 
   -- ---- a reclaim
@@ -235,8 +235,8 @@ module _ (s : State) (steady : IsSteady s) where
         | false ↦ λ other. none-within _ _ (in-it s.runner p named ∙ shareless s.runner (page_at s p) t (none-held s.runner) other)
       ] refl)
     where
-      zeroes : (e p : ℕ) → access (reclaimed s h zero) e p ≡ access (with_offers s (closed (offers_of s) h)) e p
-      zeroes e p = access-zeroed zero (with_offers s (closed (offers_of s) h)) (named_ranges (transaction_of s h)) e p
+      zeroes : (e p : ℕ) → access (reclaimed s h zero) e p ≡ access (with_open s (closed (open_of s) h)) e p
+      zeroes e p = access-zeroed zero (with_open s (closed (open_of s) h)) (named_ranges (transaction_of s h)) e p
 
       owner : (p : ℕ) → names s t.ranges p ≡ true → owner_of s p ≡ s.runner
       owner p named = (steady.transactions h t there).owned p named ∙ mine
@@ -253,12 +253,12 @@ module _ (s : State) (steady : IsSteady s) where
       h : ℕ
       h = handle_of high low
 
-      of : (o : Option Transaction) → transaction_of s h ≡ o → first_failure (reclaim_guards (bases_of s) s.runner flags o) ≡ None → Own s (reclaimed s h (is_set 0 flags)) true false
-      of None there none = absurd (false≢true (guard-passes (reclaim_guards (bases_of s) s.runner flags None) 1 InvalidParameters (sym none)))
+      of : (o : Option Transaction) → transaction_of s h ≡ o → first_failure (reclaim_guards (own_rights_of s) s.runner flags o) ≡ None → Own s (reclaimed s h (is_set 0 flags)) true false
+      of None there none = absurd (false≢true (guard-passes (reclaim_guards (own_rights_of s) s.runner flags None) 1 InvalidParameters (sym none)))
       of (Some t) there none =
           reclaimed-own h (is_set 0 flags) t there
-          (eqb-true t.sender s.runner (guard-passes (reclaim_guards (bases_of s) s.runner flags (Some t)) 1 InvalidParameters (sym none)))
-          (guard-passes (reclaim_guards (bases_of s) s.runner flags (Some t)) 2 Denied (sym none))
+          (eqb-true t.sender s.runner (guard-passes (reclaim_guards (own_rights_of s) s.runner flags (Some t)) 1 InvalidParameters (sym none)))
+          (guard-passes (reclaim_guards (own_rights_of s) s.runner flags (Some t)) 2 Denied (sym none))
 
   -- ---- a retrieve
   module _ (apart : AreApart s) (x : Transfer) (its : Taken s x) where
@@ -289,20 +289,20 @@ module _ (s : State) (steady : IsSteady s) where
     nothing-before : (p : ℕ) → names s u.ranges p ≡ true → access s s.runner p ≡ None
     nothing-before p named = in-it s.runner p named ∙ strangers s.runner (page_at s p) u (is_none-None (held_by u s.runner) its.is.unheld) not_sender
 
-    held-own : Own s (with_offers s (with_transaction (offers_of s) k (holding u s.runner right))) true false
+    held-own : Own s (with_open s (with_transaction (open_of s) k (holding u s.runner right))) true false
     held-own =
-        by_pages s (with_offers s (with_transaction (offers_of s) k (holding u s.runner right))) (names s u.ranges) true false
+        by_pages s (with_open s (with_transaction (open_of s) k (holding u s.runner right))) (names s u.ranges) true false
         (λ e p away. access-unchanged s k u (holding u s.runner right) there refl p (once p) away e)
         (λ e p named other. access-holding_beside s k u there p (once p) named s.runner right e (λ same. other (sym same)))
         (λ p named none. absurd (true≢false none))
         (λ p named none. none-within _ _ (nothing-before p named))
 
-    given-own : u.kind ≡ Donate → Own s (with_pages (with_offers s (closed (offers_of s) k)) u.ranges (donated_page s.runner right)) true false
+    given-own : u.kind ≡ Donate → Own s (with_pages (with_open s (closed (open_of s) k)) u.ranges (donated_page s.runner right)) true false
     given-own donate =
-        by_pages s (with_pages (with_offers s (closed (offers_of s) k)) u.ranges (donated_page s.runner right)) (names s u.ranges) true false
-        (λ e p away. access-kept (with_offers s (closed (offers_of s) k)) u.ranges s.runner e right p away ∙ access-still s k u there p (once p) away e)
+        by_pages s (with_pages (with_open s (closed (open_of s) k)) u.ranges (donated_page s.runner right)) (names s u.ranges) true false
+        (λ e p away. access-kept (with_open s (closed (open_of s) k)) u.ranges s.runner e right p away ∙ access-still s k u there p (once p) away e)
         (λ e p named other.
-        access-given (with_offers s (closed (offers_of s) k)) u.ranges s.runner e right p named (in-closed s k u there p (once p) named)
+        access-given (with_open s (closed (open_of s) k)) u.ranges s.runner e right p named (in-closed s k u there p (once p) named)
         ∙ nobody (page_at s p) (ne_eqb s.runner e other)
         ∙ sym (in-it e p named ∙ shareless e (page_at s p) u (unheld e other) (ap is_share donate)))
         (λ p named none. absurd (true≢false none))

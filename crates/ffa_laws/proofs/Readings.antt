@@ -26,7 +26,7 @@ use Rattle.ffa_model.specs.MemoryReturn.{named_ranges, is_zeroable, memory_relin
 use Rattle.ffa_model.specs.RunStates.{schedule_of}
 use Rattle.ffa_model.specs.Step.{step, serve}
 use Rattle.ffa_model.specs.Registers.{decode}
-use Rattle.ffa_model.specs.Transactions.{not_holding, offers_of}
+use Rattle.ffa_model.specs.Transactions.{not_holding, open_of}
 use Rattle.ffa_model.proofs.Accesses.{length-map_at, named-in}
 use Rattle.ffa_model.proofs.Guards.{guard-passes}
 use Rattle.ffa_laws.specs.Steady.{IsSteady}
@@ -427,7 +427,7 @@ module _ (e : ℕ) (s : State) where
         base-after h false = refl
         base-after h true = base-kept e hidden (readable e s) (Held h s.runner None)
 
-        read : (o : Option RelinquishDesc) → first_failure (relinquish_guards (buffers_of s s.runner) (offers_of s) s.runner o) ≡ None → AreFit (readable e s) (releases e s o)
+        read : (o : Option RelinquishDesc) → first_failure (relinquish_guards (buffers_of s s.runner) (open_of s) s.runner o) ≡ None → AreFit (readable e s) (releases e s o)
         read None none = tt
         read (Some d) none =
             let held = where_true (is_from e (transaction_of s d.handle)) (Held d.handle s.runner None ∷ []) in
@@ -435,7 +435,7 @@ module _ (e : ℕ) (s : State) where
             (fit-one (readable e s) (is_from e (transaction_of s d.handle)) (Held d.handle s.runner None) (λ is. fits-held d))
             (fit-one (apply_all e (readable e s) (all_readably e s held)) _ (Zeroed d.handle) (λ both.
             zeroing d (transaction_of s d.handle) refl
-            (asks d.zero (is_zeroable s.runner (transaction_of s d.handle)) (guard-passes (relinquish_guards (buffers_of s s.runner) (offers_of s) s.runner (Some d)) 4 Denied (sym none)) (grind (arith, cases_Bool d.zero, both)))
+            (asks d.zero (is_zeroable s.runner (transaction_of s d.handle)) (guard-passes (relinquish_guards (buffers_of s s.runner) (open_of s) s.runner (Some d)) 4 Denied (sym none)) (grind (arith, cases_Bool d.zero, both)))
             (apply_all e (readable e s) (all_readably e s held)) (base-after d.handle (is_from e (transaction_of s d.handle)))
             (held-ranges d.handle (is_from e (transaction_of s d.handle)))))
           where

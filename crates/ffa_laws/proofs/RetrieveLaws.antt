@@ -22,7 +22,7 @@ use Rattle.ffa_model.specs.ResponseBytes.{response_size}
 use Rattle.ffa_model.specs.RetrieveDescriptor.{retrieve_of}
 use Rattle.ffa_model.specs.RunStates.{schedule_of}
 use Rattle.ffa_model.specs.declared.call.Transfer.{Transfer}
-use Rattle.ffa_model.specs.Transactions.{Bases, bases_of, ceiling, holding, offers_of, scene_of, with_offers, with_transaction}
+use Rattle.ffa_model.specs.Transactions.{OwnRights, own_rights_of, ceiling, holding, open_of, scene_of, with_open, with_transaction}
 use Rattle.ffa_model.specs.MemoryRetrieve.{asked_right, asking_guards, donated_if, holding_guards, is_kind_right, memory_retrieve, response_length, retrieve_guards, retrieve_read, retrieved, retrieved_from, retrieved_right, right_for, taken_in, with_retrieved}
 use Rattle.ffa_laws.specs.Steady.{IsSteady}
 use Rattle.ffa_laws.specs.View.{view, involves, is_near, kept, seen_by}
@@ -48,15 +48,15 @@ first-fails false code guards is = refl
 first-fails true code guards is = absurd (false≢true (sym is))
 
 -- what e isn't offered, it can't retrieve
-not-offered : (bases : Bases) (full : Bool) (e : ℕ) (d : RetrieveDesc) (o : Option Transaction) → is_offered e o ≡ false → first_failure (holding_guards bases full e d o) ≡ Some InvalidParameters
-not-offered bases full e d None is = refl
-not-offered bases full e d (Some t) is =
+not-offered : (own_rights : OwnRights) (full : Bool) (e : ℕ) (d : RetrieveDesc) (o : Option Transaction) → is_offered e o ≡ false → first_failure (holding_guards own_rights full e d o) ≡ Some InvalidParameters
+not-offered own_rights full e d None is = refl
+not-offered own_rights full e d (Some t) is =
     first-fails (is_receiver e t) InvalidParameters
     ((d.sender.0 == t.sender, InvalidParameters)
     ∷ (d.tag == t.tag, InvalidParameters)
     ∷ (is_kind_right t.kind d.kind, InvalidParameters)
     ∷ (is_none (held_by t e), Denied)
-    ∷ (is_at_most (right_for bases t e d) (ceiling bases t e), Denied)
+    ∷ (is_at_most (right_for own_rights t e d) (ceiling own_rights t e), Denied)
     ∷ (not full, Busy)
     ∷ [])
     is
@@ -72,13 +72,13 @@ module _ (s : State) (steady : IsSteady s) where
   full = is_full (buffers_in s.buffers s.runner)
 
   same-failure : (d : RetrieveDesc) (o : Option Transaction) → transaction_of s d.handle ≡ o
-      → first_failure (holding_guards (bases_of v) full s.runner d (shown s.runner o)) ≡ first_failure (holding_guards (bases_of s) full s.runner d o)
+      → first_failure (holding_guards (own_rights_of v) full s.runner d (shown s.runner o)) ≡ first_failure (holding_guards (own_rights_of s) full s.runner d o)
   same-failure d None there = refl
   same-failure d (Some t) there =
-      elim (is_receiver s.runner t) as (λ b. is_receiver s.runner t ≡ b → first_failure (holding_guards (bases_of v) full s.runner d (shown s.runner (Some t))) ≡ first_failure (holding_guards (bases_of s) full s.runner d (Some t))) [
+      elim (is_receiver s.runner t) as (λ b. is_receiver s.runner t ≡ b → first_failure (holding_guards (own_rights_of v) full s.runner d (shown s.runner (Some t))) ≡ first_failure (holding_guards (own_rights_of s) full s.runner d (Some t))) [
         | true ↦ λ receiver.
             let known = offered-involved s.runner t receiver in
-            ap (λ b. first_failure (holding_guards (bases_of v) full s.runner d (option_map (seen_by s.runner) (kept b (Some t))))) known
+            ap (λ b. first_failure (holding_guards (own_rights_of v) full s.runner d (option_map (seen_by s.runner) (kept b (Some t))))) known
             ∙ (λ i. first_failure (
             (is_receiver s.runner t, InvalidParameters)
             ∷ (d.sender.0 == t.sender, InvalidParameters)
@@ -89,15 +89,15 @@ module _ (s : State) (steady : IsSteady s) where
             ∷ (not full, Busy)
             ∷ []))
         | false ↦ λ other.
-            not-offered (bases_of v) full s.runner d (shown s.runner (Some t))
+            not-offered (own_rights_of v) full s.runner d (shown s.runner (Some t))
             (elim (involves s.runner (Some t)) as (λ b. is_offered s.runner (option_map (seen_by s.runner) (kept b (Some t))) ≡ false) [ true ↦ other | false ↦ refl ])
-            ∙ sym (not-offered (bases_of s) full s.runner d (Some t) other)
+            ∙ sym (not-offered (own_rights_of s) full s.runner d (Some t) other)
       ] refl
 
   same-asking : (o : Option RetrieveDesc) → first_failure (asking_guards (scene_of v) s.runner o) ≡ first_failure (asking_guards (scene_of s) s.runner o)
   same-asking None = refl
   same-asking (Some d) =
-      (λ i. first_failure (holding_guards (bases_of v) (full-seen s steady s.runner i) s.runner d (view-transaction s.runner s d.handle i)))
+      (λ i. first_failure (holding_guards (own_rights_of v) (full-seen s steady s.runner i) s.runner d (view-transaction s.runner s d.handle i)))
       ∙ same-failure d (transaction_of s d.handle) refl
 
   -- checks before others that give the same
@@ -148,10 +148,10 @@ module _ (s : State) (steady : IsSteady s) (x : Transfer) (its : Taken s x) wher
   own-taken : with_retrieved seen h (seen_by s.runner t) s.runner right ≡ view s.runner (with_retrieved s h t s.runner right)
   own-taken = kinds t.kind
     where
-      held : with_offers seen (with_transaction (offers_of seen) h (holding (seen_by s.runner t) s.runner right)) ≡ view s.runner (reheld s h t holders)
+      held : with_open seen (with_transaction (open_of seen) h (holding (seen_by s.runner t) s.runner right)) ≡ view s.runner (reheld s h t holders)
       held = sym (view-reheld s steady h t its.is.there holders s.runner (holding (seen_by s.runner t) s.runner right) known (seen-taken s.runner t right))
 
-      kinds : (kind : Kind) → with_offers (donated_if (is_donate kind) seen t.ranges s.runner right) (taken_in kind (offers_of seen) h (seen_by s.runner t) s.runner right)
+      kinds : (kind : Kind) → with_open (donated_if (is_donate kind) seen t.ranges s.runner right) (taken_in kind (open_of seen) h (seen_by s.runner t) s.runner right)
           ≡ view s.runner (taken_as kind)
       kinds Share = held
       kinds Lend = held

@@ -19,7 +19,7 @@ use Rattle.ffa_model.specs.Memory.{with_pages, zeroed_if, zeroed_page}
 use Rattle.ffa_model.specs.MemoryReturn.{holder_guards, memory_reclaim, memory_relinquish, named_ranges, relinquish_guards, relinquish_read, relinquished, relinquished_from, returned_guards}
 use Rattle.ffa_model.specs.RelinquishDescriptor.{relinquish_of}
 use Rattle.ffa_model.specs.RunStates.{schedule_of}
-use Rattle.ffa_model.specs.Transactions.{handle_of, not_holding, offers_of}
+use Rattle.ffa_model.specs.Transactions.{handle_of, not_holding, open_of}
 use Rattle.ffa_laws.specs.Steady.{IsSteady}
 use Rattle.ffa_laws.specs.View.{view, involves, is_near, kept, seen_by}
 use Rattle.ffa_laws.specs.Events.{Event, Held, Zeroed, apply_all, public_change, releases, where_true, with_holder}
@@ -158,10 +158,10 @@ module _ (s : State) (steady : IsSteady s) where
             ∙ sym (second-fails (d.endpoint.0 == r) (is_receiver r t) ((is_some (held_by t r), Denied) ∷ (not d.zero || (is_lend t.kind && may_store (held_by t r)), Denied) ∷ []) (unoffered (t.sender == r) (is_receiver r t) unknown))
       ] refl
 
-  same-guards : (d : Option RelinquishDesc) → first_failure (relinquish_guards (buffers_of s r) (offers_of v) r d) ≡ first_failure (relinquish_guards (buffers_of s r) (offers_of s) r d)
+  same-guards : (d : Option RelinquishDesc) → first_failure (relinquish_guards (buffers_of s r) (open_of v) r d) ≡ first_failure (relinquish_guards (buffers_of s r) (open_of s) r d)
   same-guards None = refl
   same-guards (Some d) =
-      same-first (is_some (buffers_of s r)) InvalidParameters (returned_guards (offers_of v) r (Some d)) (returned_guards (offers_of s) r (Some d))
+      same-first (is_some (buffers_of s r)) InvalidParameters (returned_guards (open_of v) r (Some d)) (returned_guards (open_of s) r (Some d))
       (λ mapped. ap (λ o. first_failure (holder_guards r d o)) (view-transaction r s d.handle) ∙ same-holder d (transaction_of s d.handle))
 
   -- the checks that the call passes
@@ -185,13 +185,13 @@ module _ (s : State) (steady : IsSteady s) where
       in_view : transaction_of v d.handle ≡ Some (seen_by r t)
       in_view = view-transaction r s d.handle ∙ ap (shown r) there ∙ ap (λ b. option_map (seen_by r) (kept b (Some t))) known
 
-  same-state : (d : Option RelinquishDesc) → first_failure (relinquish_guards (buffers_of s r) (offers_of s) r d) ≡ None → relinquished v d ≡ view r (relinquished s d)
-  same-state None none = absurd (false≢true (guard-passes (relinquish_guards (buffers_of s r) (offers_of s) r None) 1 InvalidParameters (sym none)))
+  same-state : (d : Option RelinquishDesc) → first_failure (relinquish_guards (buffers_of s r) (open_of s) r d) ≡ None → relinquished v d ≡ view r (relinquished s d)
+  same-state None none = absurd (false≢true (guard-passes (relinquish_guards (buffers_of s r) (open_of s) r None) 1 InvalidParameters (sym none)))
   same-state (Some d) none = same-left d (transaction_of s d.handle) refl none
 
   pub own-relinquish : IsOwn s (memory_relinquish v) (memory_relinquish s)
   own-relinquish = (
-    (λ i. first_failure (relinquish_guards (own-buffers r s steady.runner i) (offers_of v) r (read-seen i))) ∙ same-guards (relinquish_read s),
+    (λ i. first_failure (relinquish_guards (own-buffers r s steady.runner i) (open_of v) r (read-seen i))) ∙ same-guards (relinquish_read s),
     λ none. (ap (relinquished v) read-seen ∙ same-state (relinquish_read s) none, refl),
   )
 
@@ -297,8 +297,8 @@ other-relinquish e s steady other = by_descriptor (relinquish_read s)
     of d None there zeros asked tells none = absurd (false≢true (guard-passes (guards s steady d None) 2 InvalidParameters (sym none)))
     of d (Some t) there zeros asked tells none = other-left e s steady other d t there zeros asked tells
 
-    by_descriptor : (d : Option RelinquishDesc) → first_failure (relinquish_guards (buffers_of s s.runner) (offers_of s) s.runner d) ≡ None
+    by_descriptor : (d : Option RelinquishDesc) → first_failure (relinquish_guards (buffers_of s s.runner) (open_of s) s.runner d) ≡ None
         → view e (relinquished s d) ≡ apply_all e (view e s) (releases e s d ++ public_change s (relinquished s d))
-    by_descriptor None none = absurd (false≢true (guard-passes (relinquish_guards (buffers_of s s.runner) (offers_of s) s.runner None) 1 InvalidParameters (sym none)))
+    by_descriptor None none = absurd (false≢true (guard-passes (relinquish_guards (buffers_of s s.runner) (open_of s) s.runner None) 1 InvalidParameters (sym none)))
     by_descriptor (Some d) none =
         of d (transaction_of s d.handle) refl _ (λ told. grind (arith, told, cases_Bool d.zero)) (λ known asked. grind (arith, known, asked)) none

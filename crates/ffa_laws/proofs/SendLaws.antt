@@ -27,7 +27,7 @@ use Rattle.ffa_model.specs.Calls.{first_failure}
 use Rattle.ffa_model.specs.RunStates.{schedule_of}
 use Rattle.ffa_model.specs.SendDescriptor.{SendRecord, most_receivers, send_of}
 use Rattle.ffa_model.specs.declared.call.Transfer.{Transfer}
-use Rattle.ffa_model.specs.Transactions.{Bases, Scene, are_writable, base_of, bases_of, handle_of, next_handle, offers_of, open_count, pages_in, scene_of, sends_of}
+use Rattle.ffa_model.specs.Transactions.{OwnRights, Scene, are_writable, own_right_of, own_rights_of, handle_of, next_handle, open_of, open_count, pages_in, scene_of, sends_of}
 use Rattle.ffa_model.specs.MemorySend.{are_grants_within, are_known, handle_reply, is_buffer, is_grantable, is_inside, is_own, is_sendable, memory_send, memory_sent, send_guards, send_read, transaction_from, descriptor_in}
 use Rattle.ffa_laws.specs.Steady.{IsAlone, IsSteady, IsSteadyTransaction}
 use Rattle.ffa_laws.specs.View.{view, buffers_seen, hidden, involves, is_near, kept}
@@ -59,11 +59,11 @@ use Rattle.ffa_laws.proofs.Views.{kept_none, or_true, view-named, view-page}
 pub record IsOffer (s : State) (r : SendRecord) : Type 0 where
   pub sender : r.sender ≡ s.runner
   pub known : are_known (length s.parties) r.receivers ≡ true
-  pub inside : list_all (is_inside (bases_of s)) r.ranges ≡ true
-  pub free : list_all (is_sendable s.runner (candidates s) s.buffers) (pages_in (bases_of s) r.ranges) ≡ true
-  pub grants : list_all (are_grants_within (bases_of s) r.receivers) (pages_in (bases_of s) r.ranges) ≡ true
-  pub zeroed : r.zero ≡ true → are_writable (bases_of s) r.ranges ≡ true
-  pub few : open_count (offers_of s) s.runner < MOST_OPEN
+  pub inside : list_all (is_inside (own_rights_of s)) r.ranges ≡ true
+  pub free : list_all (is_sendable s.runner (candidates s) s.buffers) (pages_in (own_rights_of s) r.ranges) ≡ true
+  pub grants : list_all (are_grants_within (own_rights_of s) r.receivers) (pages_in (own_rights_of s) r.ranges) ≡ true
+  pub zeroed : r.zero ≡ true → are_writable (own_rights_of s) r.ranges ≡ true
+  pub few : open_count (open_of s) s.runner < MOST_OPEN
   pub sent : sent_by s s.runner < MOST_SENDS
 
 pub offer : (s : State) (x : Transfer) (r : SendRecord) → first_failure (send_guards (scene_of s) s.runner x (Some r)) ≡ None → IsOffer s r
@@ -75,11 +75,11 @@ offer s x r none =
       free = guard-passes (send_guards (scene_of s) s.runner x (Some r)) 8 Denied (sym none);
       grants = guard-passes (send_guards (scene_of s) s.runner x (Some r)) 9 Denied (sym none);
       zeroed = zeroes r.zero (guard-passes (send_guards (scene_of s) s.runner x (Some r)) 10 Denied (sym none));
-      few = ltb-true (open_count (offers_of s) s.runner) MOST_OPEN (guard-passes (send_guards (scene_of s) s.runner x (Some r)) 11 NoMemory (sym none));
+      few = ltb-true (open_count (open_of s) s.runner) MOST_OPEN (guard-passes (send_guards (scene_of s) s.runner x (Some r)) 11 NoMemory (sym none));
       sent = ltb-true (sent_by s s.runner) MOST_SENDS (guard-passes (send_guards (scene_of s) s.runner x (Some r)) 12 NoMemory (sym none));
     }
   where
-    zeroes : (zero : Bool) → (not zero || are_writable (bases_of s) r.ranges) ≡ true → zero ≡ true → are_writable (bases_of s) r.ranges ≡ true
+    zeroes : (zero : Bool) → (not zero || are_writable (own_rights_of s) r.ranges) ≡ true → zero ≡ true → are_writable (own_rights_of s) r.ranges ≡ true
     zeroes true is _ = is
     zeroes false is asked = absurd (false≢true asked)
 
@@ -88,7 +88,7 @@ pub no-offer : (s : State) (x : Transfer) → first_failure (send_guards (scene_
 no-offer s x none = false≢true (guard-passes (send_guards (scene_of s) s.runner x None) 5 InvalidParameters (sym none))
 
 -- ---- pages that may be sent
-module _ (s : State) (ranges : List Range) (free : list_all (is_sendable s.runner (candidates s) s.buffers) (pages_in (bases_of s) ranges) ≡ true) where
+module _ (s : State) (ranges : List Range) (free : list_all (is_sendable s.runner (candidates s) s.buffers) (pages_in (own_rights_of s) ranges) ≡ true) where
   sendable-each : (p : ℕ) → p < length s.pages → names s ranges p ≡ true → is_sendable s.runner (candidates s) s.buffers p ≡ true
   sendable-each p lt named = listed-each (is_sendable s.runner (candidates s) s.buffers) (names s ranges) (length s.pages) (λ q. q) free p lt named
 
@@ -97,8 +97,8 @@ module _ (s : State) (ranges : List Range) (free : list_all (is_sendable s.runne
 
 -- ---- the guards, in the runner's view
 -- the guards of a send before the one that asks whether all pages may be sent, and those behind it
-abbrev asked_first : Bool → ℕ → ℕ → Bases → ℕ → Transfer → SendRecord → List (Bool × ErrorCode)
-asked_first mapped room endpoints bases e x r =
+abbrev asked_first : Bool → ℕ → ℕ → OwnRights → ℕ → Transfer → SendRecord → List (Bool × ErrorCode)
+asked_first mapped room endpoints own_rights e x r =
     (mapped, InvalidParameters)
     ∷ (x.total == x.fragment, InvalidParameters)
     ∷ (nat_le x.total room, InvalidParameters)
@@ -106,15 +106,15 @@ asked_first mapped room endpoints bases e x r =
     ∷ (x.pages == 0, InvalidParameters)
     ∷ (r.sender == e, InvalidParameters)
     ∷ (are_known endpoints r.receivers, InvalidParameters)
-    ∷ (list_all (is_inside bases) r.ranges, Denied)
+    ∷ (list_all (is_inside own_rights) r.ranges, Denied)
     ∷ []
 
 abbrev asked_of_pages : Scene → ℕ → SendRecord → List (Bool × ErrorCode)
 asked_of_pages c e r =
-    (list_all (are_grants_within c.bases r.receivers) (pages_in c.bases r.ranges), Denied)
-    ∷ (not r.zero || are_writable c.bases r.ranges, Denied)
-    ∷ (nat_lt (open_count c.offers e) MOST_OPEN, NoMemory)
-    ∷ (nat_lt (sends_of c.offers e) MOST_SENDS, NoMemory)
+    (list_all (are_grants_within c.own_rights r.receivers) (pages_in c.own_rights r.ranges), Denied)
+    ∷ (not r.zero || are_writable c.own_rights r.ranges, Denied)
+    ∷ (nat_lt (open_count c.open_transactions e) MOST_OPEN, NoMemory)
+    ∷ (nat_lt (sends_of c.open_transactions e) MOST_SENDS, NoMemory)
     ∷ []
 
 module _ (s : State) (steady : IsSteady s) where
@@ -168,7 +168,7 @@ module _ (s : State) (steady : IsSteady s) where
   owned-near p owner = ap (λ t. t || involves s.runner (transaction_at s p)) (eq-eqb (owner_of s p) s.runner owner)
 
   judged : Bool → Option Page → Bool
-  judged named page = is_own s.runner (option_map (λ (q : Page). let c : Candidate = record { owner = q.owner; base = q.base; named = named } in c) page)
+  judged named page = is_own s.runner (option_map (λ (q : Page). let c : Candidate = record { owner = q.owner; own_right = q.own_right; named = named } in c) page)
 
   judged-other : (named b : Bool) (q : Page) → (q.owner == s.runner) ≡ false → judged named (kept b (Some q)) ≡ false
   unfolding judged
@@ -205,28 +205,28 @@ module _ (s : State) (steady : IsSteady s) where
   module _ (ranges : List Range) where
     -- tests of all pages that are named
     tests-seen : (test also : ℕ → Bool) → ((p : ℕ) → p < length s.pages → names s ranges p ≡ true → test p ≡ also p)
-        → list_all test (pages_in (bases_of v) ranges) ≡ list_all also (pages_in (bases_of s) ranges)
+        → list_all test (pages_in (own_rights_of v) ranges) ≡ list_all also (pages_in (own_rights_of s) ranges)
     tests-seen test also same =
         ap (λ n. list_all test (filter (names s ranges) (listed n (λ p. p)))) size-seen
         ∙ same-tests test also (names s ranges) (length s.pages) (λ p. p) same
 
-    all-sendable-seen : list_all (is_sendable s.runner (candidates v) v.buffers) (pages_in (bases_of v) ranges) ≡ list_all (is_sendable s.runner (candidates s) s.buffers) (pages_in (bases_of s) ranges)
+    all-sendable-seen : list_all (is_sendable s.runner (candidates v) v.buffers) (pages_in (own_rights_of v) ranges) ≡ list_all (is_sendable s.runner (candidates s) s.buffers) (pages_in (own_rights_of s) ranges)
     all-sendable-seen = tests-seen (is_sendable s.runner (candidates v) v.buffers) (is_sendable s.runner (candidates s) s.buffers) (λ p lt named. sendable-seen p lt)
 
     -- where all may be sent, the runner sees their rights
-    module _ (free : list_all (is_sendable s.runner (candidates s) s.buffers) (pages_in (bases_of s) ranges) ≡ true) where
-      base-seen : (p : ℕ) → p < length s.pages → names s ranges p ≡ true → base_of v p ≡ base_of s p
+    module _ (free : list_all (is_sendable s.runner (candidates s) s.buffers) (pages_in (own_rights_of s) ranges) ≡ true) where
+      base-seen : (p : ℕ) → p < length s.pages → names s ranges p ≡ true → own_right_of v p ≡ own_right_of s p
       base-seen p lt named =
           let (page, at, alone) = sendable-alone s ranges free p lt named in
-          ap (option_map (λ (page : Page). page.base)) (view-page s.runner s p ∙ ap (λ b. kept b (page_at s p)) (alone-near s s.runner p alone))
+          ap (option_map (λ (page : Page). page.own_right)) (view-page s.runner s p ∙ ap (λ b. kept b (page_at s p)) (alone-near s s.runner p alone))
 
-      grants-seen : (receivers : List Receiver) → list_all (are_grants_within (bases_of v) receivers) (pages_in (bases_of v) ranges) ≡ list_all (are_grants_within (bases_of s) receivers) (pages_in (bases_of s) ranges)
+      grants-seen : (receivers : List Receiver) → list_all (are_grants_within (own_rights_of v) receivers) (pages_in (own_rights_of v) ranges) ≡ list_all (are_grants_within (own_rights_of s) receivers) (pages_in (own_rights_of s) ranges)
       grants-seen receivers =
-          tests-seen (are_grants_within (bases_of v) receivers) (are_grants_within (bases_of s) receivers)
+          tests-seen (are_grants_within (own_rights_of v) receivers) (are_grants_within (own_rights_of s) receivers)
           (λ p lt named. ap (λ right. list_all (λ (r : Receiver). is_grantable r.grant right) receivers) (base-seen p lt named))
 
-      writable-seen : are_writable (bases_of v) ranges ≡ are_writable (bases_of s) ranges
-      writable-seen = tests-seen (λ p. may_store (base_of v p)) (λ p. may_store (base_of s p)) (λ p lt named. ap may_store (base-seen p lt named))
+      writable-seen : are_writable (own_rights_of v) ranges ≡ are_writable (own_rights_of s) ranges
+      writable-seen = tests-seen (λ p. may_store (own_right_of v p)) (λ p. may_store (own_right_of s p)) (λ p lt named. ap may_store (base-seen p lt named))
 
   -- how often it has sent, and so the next handle
   sends-seen : sent_by v s.runner ≡ sent_by s s.runner
@@ -237,7 +237,7 @@ module _ (s : State) (steady : IsSteady s) where
       inside : place s.runner < length s.sent
       inside = let lt = known-place (length s.parties) s.runner steady.some steady.runner in let each = steady.sends in omega (arith, lt, each)
 
-  handle-seen : next_handle (offers_of v) s.runner ≡ next_handle (offers_of s) s.runner
+  handle-seen : next_handle (open_of v) s.runner ≡ next_handle (open_of s) s.runner
   handle-seen = ap (λ n. handle_of s.runner (n + 1)) sends-seen
 
   same-failure : (x : Transfer) (r : Option SendRecord) → first_failure (send_guards (scene_of v) s.runner x r) ≡ first_failure (send_guards (scene_of s) s.runner x r)
@@ -250,11 +250,11 @@ module _ (s : State) (steady : IsSteady s) where
       ∷ (false, InvalidParameters)
       ∷ [])
   same-failure x (Some r) =
-      (λ i. first_failure (asked_first (some-seen s steady s.runner i) (room-seen s steady s.runner i) (length s.parties) (record { ram_base = s.ram_base; pages = size-seen i; right = base_of s }) s.runner x r
+      (λ i. first_failure (asked_first (some-seen s steady s.runner i) (room-seen s steady s.runner i) (length s.parties) (record { ram_base = s.ram_base; pages = size-seen i; right = own_right_of s }) s.runner x r
       ++ (all-sendable-seen r.ranges i, Denied)
       ∷ asked_of_pages (scene_of v) s.runner r))
-      ∙ same-later Denied (asked_first (is_some (buffers_in s.buffers s.runner)) (room_of (buffers_in s.buffers s.runner)) (length s.parties) (bases_of s) s.runner x r)
-      (list_all (is_sendable s.runner (candidates s) s.buffers) (pages_in (bases_of s) r.ranges)) (asked_of_pages (scene_of v) s.runner r) (asked_of_pages (scene_of s) s.runner r)
+      ∙ same-later Denied (asked_first (is_some (buffers_in s.buffers s.runner)) (room_of (buffers_in s.buffers s.runner)) (length s.parties) (own_rights_of s) s.runner x r)
+      (list_all (is_sendable s.runner (candidates s) s.buffers) (pages_in (own_rights_of s) r.ranges)) (asked_of_pages (scene_of v) s.runner r) (asked_of_pages (scene_of s) s.runner r)
       (λ free i. first_failure (
       (grants-seen r.ranges free r.receivers i, Denied)
       ∷ (not r.zero || writable-seen r.ranges free i, Denied)
@@ -265,14 +265,14 @@ module _ (s : State) (steady : IsSteady s) where
 -- ---- a send that is not refused
 module _ (s : State) (steady : IsSteady s) (kind : Kind) (r : SendRecord) (good : IsOffer s r) where
   abbrev h : ℕ
-  h = next_handle (offers_of s) s.runner
+  h = next_handle (open_of s) s.runner
 
   abbrev t : Transaction
   t = transaction_from kind r
 
   -- each page is the runner's alone
   named-inside : (p : ℕ) → names s r.ranges p ≡ true → p < length s.pages
-  named-inside p named = covered-inside (bases_of s) r.ranges p good.inside named
+  named-inside p named = covered-inside (own_rights_of s) r.ranges p good.inside named
 
   pub alone : (p : ℕ) → names s r.ranges p ≡ true → (page : Page) × (page_at s p ≡ Some page) × IsAlone s s.runner p
   alone p named = sendable-alone s r.ranges good.free p (named-inside p named) named
@@ -471,7 +471,7 @@ other-send e s steady known other kind x none = of (send_read s kind x.total) no
         (told-opened s steady kind r (offer s x r none) e known other ∙ old (is_receiver e (transaction_from kind r)))
       where
         event : Event
-        event = Opened (next_handle (offers_of s) s.runner) (transaction_from kind r) (named_pages (memory_sent s kind (Some r)) r.ranges)
+        event = Opened (next_handle (open_of s) s.runner) (transaction_from kind r) (named_pages (memory_sent s kind (Some r)) r.ranges)
 
         size : (b : Bool) → length (apply_all e (view e s) (where_true b (event ∷ []))).pages ≡ length s.pages
         size true = length-map_at _ (view e s).pages ∙ length-map_at _ s.pages

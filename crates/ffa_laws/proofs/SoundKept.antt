@@ -7,9 +7,9 @@ use Rattle.ffa_model.specs.RunStates.{Schedule, schedule_of, with_schedule}
 use Rattle.ffa_model.specs.Notifications.{Notifications, with_notifications}
 use Rattle.ffa_model.specs.Sound.{IsSound}
 use Rattle.ffa_model.specs.SoundState.{IsKnown, IsSoundBinding, IsSoundBuffers, IsSoundPage, IsSoundPending, IsSoundState}
-use Rattle.ffa_model.specs.Transactions.{bases_of}
+use Rattle.ffa_model.specs.Transactions.{own_rights_of}
 use Rattle.ffa_model.proofs.Kept.{same-transaction, same-usable}
-use Rattle.ffa_laws.proofs.Changes.{AreRewritten, same_base, same_owner, unwritten, with_parts}
+use Rattle.ffa_laws.proofs.Changes.{AreRewritten, same_own_right, same_owner, unwritten, with_parts}
 
 -- pages whose owners are endpoints, and that hold bytes
 abbrev pub AreSoundPages : State → List (Option Page) → Type 0
@@ -23,8 +23,8 @@ module _ (s : State) (sound : IsSoundState s) where
     abbrev z : State
     z = with_parts s ps bs c
 
-    same-bases : bases_of z ≡ bases_of s
-    same-bases = λ i. record { ram_base = s.ram_base; pages = rewritten.each i; right = λ p. same_base (get_or ps p None) (page_at s p) (rewritten.same p) i }
+    same-own-rights : own_rights_of z ≡ own_rights_of s
+    same-own-rights = λ i. record { ram_base = s.ram_base; pages = rewritten.each i; right = λ p. same_own_right (get_or ps p None) (page_at s p) (rewritten.same p) i }
 
     same-owners : (p : ℕ) → owner_of z p ≡ owner_of s p
     same-owners p = same_owner (get_or ps p None) (page_at s p) (rewritten.same p)
@@ -47,7 +47,7 @@ module _ (s : State) (sound : IsSoundState s) where
               };
           parties = sound.parties;
           pages = λ p page is. let good = pages p page is in record { owner = good.owner; size = good.size; bytes = good.bytes };
-          transactions = λ h t is. same-transaction s z h t same-bases same-owners refl (omega arith) (sound.transactions h t is);
+          transactions = λ h t is. same-transaction s z h t same-own-rights same-owners refl (omega arith) (sound.transactions h t is);
           one = λ p h k lt at_h at_k. sound.one p h k (subst (λ n. p < n) rewritten.each lt) at_h at_k;
           few = sound.few;
           sent = sound.sent;
@@ -55,8 +55,8 @@ module _ (s : State) (sound : IsSoundState s) where
               let good = buffers e b known is in
               record {
                 count = good.count;
-                tx = λ p its. same-usable s z e p (λ i. (same-bases i).right p) (same-owners p) (λ none. none) (good.tx p its);
-                rx = λ p its. same-usable s z e p (λ i. (same-bases i).right p) (same-owners p) (λ none. none) (good.rx p its);
+                tx = λ p its. same-usable s z e p (λ i. (same-own-rights i).right p) (same-owners p) (λ none. none) (good.tx p its);
+                rx = λ p its. same-usable s z e p (λ i. (same-own-rights i).right p) (same-owners p) (λ none. none) (good.rx p its);
                 apart = good.apart;
               };
           schedule = schedule;

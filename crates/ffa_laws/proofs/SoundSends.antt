@@ -13,7 +13,7 @@ use Rattle.ffa_model.specs.Messages.{tx_bytes}
 use Rattle.ffa_model.specs.SendDescriptor.{SendRecord}
 use Rattle.ffa_model.specs.SoundState.{IsSoundState}
 use Rattle.ffa_model.specs.declared.call.Transfer.{Transfer}
-use Rattle.ffa_model.specs.Transactions.{bases_of, offers_of, open_count, pages_in, scene_of}
+use Rattle.ffa_model.specs.Transactions.{own_rights_of, open_of, open_count, pages_in, scene_of}
 use Rattle.ffa_model.specs.MemorySend.{descriptor_in, is_sendable, memory_send, memory_sent, send_guards, send_read, transaction_from}
 use Rattle.ffa_model.proofs.KeptCalls.{offered-sound}
 use Rattle.ffa_model.proofs.KeptSend.{IsSendable}
@@ -31,10 +31,10 @@ module _ (s : State) (sound : IsSoundState s) (kind : Kind) (x : Transfer) where
       record {
         sender = subst (λ e. is_known s e ≡ true) (sym good.sender) (runner-known s sound);
         inside = good.inside;
-        free = subst (λ e. list_all (is_sendable e (candidates s) s.buffers) (pages_in (bases_of s) r.ranges) ≡ true) (sym good.sender) good.free;
+        free = subst (λ e. list_all (is_sendable e (candidates s) s.buffers) (pages_in (own_rights_of s) r.ranges) ≡ true) (sym good.sender) good.free;
         grants = good.grants;
         zeroed = good.zeroed;
-        few = subst (λ e. open_count (offers_of s) e < MOST_OPEN) (sym good.sender) good.few;
+        few = subst (λ e. open_count (open_of s) e < MOST_OPEN) (sym good.sender) good.few;
         sent = subst (λ e. sent_by s e < MOST_SENDS) (sym good.sender) good.sent;
         unheld = λ e. finite.get-empty nat_cmp e;
         receivers = good.known;

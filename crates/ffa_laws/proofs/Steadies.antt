@@ -5,7 +5,7 @@ use Rattle.std.specs.List.{list_any}
 use Rattle.std.specs.Option.{option_map, option_map_or}
 use Rattle.ffa_model.specs.declared.transaction.Receiver.{Receiver}
 use Rattle.ffa_model.specs.Rights.{is_within}
-use Rattle.ffa_model.specs.Transactions.{Bases, bases_of, ceiling}
+use Rattle.ffa_model.specs.Transactions.{OwnRights, own_rights_of, ceiling}
 use Rattle.ffa_model.specs.Identifiers.{place}
 use Rattle.ffa_model.specs.State.{State, Page, Buffers, page_at, owner_of, is_known_among, is_known, transaction_of}
 use Rattle.ffa_model.specs.Access.{handle_at, transaction_at}
@@ -20,7 +20,7 @@ use Rattle.std.specs.Prelude.{◌||◌, not}
 use Rattle.std.specs.Option.{option_and_then}
 use Rattle.std.proofs.lemmas.Bool.{false≢true, eqb-true, and_parts, or_cases}
 use Rattle.std.proofs.lemmas.Bool.Decides.{nat_tests}
-use Rattle.ffa_laws.proofs.Changes.{AreRewritten, with_parts, same_base, same_owner}
+use Rattle.ffa_laws.proofs.Changes.{AreRewritten, with_parts, same_own_right, same_owner}
 use Rattle.ffa_laws.proofs.Written.{at-changed, is_at, with_rx_full}
 
 -- a page that e owns, and that no transaction names, is there, and e's alone
@@ -32,7 +32,7 @@ own-alone s e p is = of (page_at s p) refl is
     none (Some h) n = absurd (false≢true n)
 
     of : (o : Option Page) → page_at s p ≡ o
-        → is_own e (option_map (λ (page : Page). let c : Candidate = record { owner = page.owner; base = page.base; named = is_some (handle_at s p) } in c) o) ≡ true
+        → is_own e (option_map (λ (page : Page). let c : Candidate = record { owner = page.owner; own_right = page.own_right; named = is_some (handle_at s p) } in c) o) ≡ true
         → (page : Page) × (page_at s p ≡ Some page) × IsAlone s e p
     of None at is = absurd (false≢true is)
     of (Some page) at is =
@@ -72,8 +72,8 @@ module _ (s : State) (steady : IsSteady s) (ps : List (Option Page)) (bs : List 
   alone-kept : (e p : ℕ) → IsAlone s e p → IsAlone (with_parts s ps bs c) e p
   alone-kept e p alone = record { owner = same_owner (get_or ps p None) (page_at s p) (rewritten.same p) ∙ alone.owner; unnamed = alone.unnamed }
 
-  same-bases : bases_of (with_parts s ps bs c) ≡ bases_of s
-  same-bases = λ i. record { ram_base = s.ram_base; pages = rewritten.each i; right = λ p. same_base (get_or ps p None) (page_at s p) (rewritten.same p) i }
+  same-own-rights : own_rights_of (with_parts s ps bs c) ≡ own_rights_of s
+  same-own-rights = λ i. record { ram_base = s.ram_base; pages = rewritten.each i; right = λ p. same_own_right (get_or ps p None) (page_at s p) (rewritten.same p) i }
 
   pub steady-changed : length bs ≡ length s.buffers → is_known_among (length s.parties) c.runner ≡ true
       → ((i by : ℕ) → requester (get_or c.works i None) ≡ Some by → is_known_among (length s.parties) by ≡ true)
@@ -90,9 +90,9 @@ module _ (s : State) (steady : IsSteady s) (ps : List (Option Page)) (bs : List 
         transactions = λ h t is. record {
           owned = λ p named. same_owner (get_or ps p None) (page_at s p) (rewritten.same p) ∙ (steady.transactions h t is).owned p named;
           receiver = (steady.transactions h t is).receiver;
-          within = λ p e right named holds. ap (is_within (Some right)) (same_base (get_or ps p None) (page_at s p) (rewritten.same p)) ∙ (steady.transactions h t is).within p e right named holds;
+          within = λ p e right named holds. ap (is_within (Some right)) (same_own_right (get_or ps p None) (page_at s p) (rewritten.same p)) ∙ (steady.transactions h t is).within p e right named holds;
           alone = (steady.transactions h t is).alone;
-          ceilings = λ p e named. subst (λ (b : Bases). is_within (Some (ceiling b t e)) (b.right p) ≡ true) (sym same-bases) ((steady.transactions h t is).ceilings p e named);
+          ceilings = λ p e named. subst (λ (b : OwnRights). is_within (Some (ceiling b t e)) (b.right p) ≡ true) (sym same-own-rights) ((steady.transactions h t is).ceilings p e named);
           taker = (steady.transactions h t is).taker;
         };
         sends = steady.sends;

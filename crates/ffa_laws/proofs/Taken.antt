@@ -17,12 +17,12 @@ use Rattle.ffa_model.specs.Buffers.{buffers_in, filled, is_full, room_of}
 use Rattle.ffa_model.specs.Calls.{first_failure}
 use Rattle.ffa_model.specs.ResponseBytes.{response_bytes}
 use Rattle.ffa_model.specs.declared.call.Transfer.{Transfer}
-use Rattle.ffa_model.specs.Transactions.{base_of, bases_of, ceiling, offers_of, scene_of, with_offers}
+use Rattle.ffa_model.specs.Transactions.{own_right_of, own_rights_of, ceiling, open_of, scene_of, with_open}
 use Rattle.ffa_model.specs.MemoryRetrieve.{asking_guards, donated_if, donated_page, holding_guards, memory_retrieve, response_to, retrieve_read, retrieved, retrieved_from, right_for, taken_in}
 use Rattle.ffa_laws.specs.Steady.{IsSteady}
 use Rattle.ffa_model.proofs.Guards.{guard-passes}
 use Rattle.ffa_laws.proofs.BufferLaws.{steady-filled}
-use Rattle.ffa_laws.proofs.Changes.{page_base}
+use Rattle.ffa_laws.proofs.Changes.{page_right}
 use Rattle.ffa_laws.proofs.Given.{page-given, page-same, size-given, steady-given, unnamed-away}
 use Rattle.ffa_laws.proofs.Holders.{Holders, get-taken, reheld, steady-reheld}
 use Rattle.ffa_laws.proofs.Within.{within-same, within-through}
@@ -32,7 +32,7 @@ pub record IsTaking (s : State) (d : RetrieveDesc) (t : Transaction) : Type 0 wh
   pub there : transaction_of s d.handle ≡ Some t
   pub receiver : is_receiver s.runner t ≡ true
   pub unheld : is_none (held_by t s.runner) ≡ true
-  pub within : is_at_most (right_for (bases_of s) t s.runner d) (ceiling (bases_of s) t s.runner) ≡ true
+  pub within : is_at_most (right_for (own_rights_of s) t s.runner d) (ceiling (own_rights_of s) t s.runner) ≡ true
 
 -- what a retrieve reads, and the transaction it is of
 pub record Taken (s : State) (x : Transfer) : Type 0 where
@@ -58,8 +58,8 @@ taken s x none = read (retrieve_read s x.total) refl none
     full = is_full (buffers_in s.buffers s.runner)
 
     naming : (d : RetrieveDesc) (o : Option Transaction) → retrieve_read s x.total ≡ Some d → transaction_of s d.handle ≡ o
-        → first_failure (checks s x (holding_guards (bases_of s) full s.runner d o)) ≡ None → Taken s x
-    naming d None is there passed = absurd (false≢true (guard-passes (checks s x (holding_guards (bases_of s) full s.runner d None)) 5 InvalidParameters (sym passed)))
+        → first_failure (checks s x (holding_guards (own_rights_of s) full s.runner d o)) ≡ None → Taken s x
+    naming d None is there passed = absurd (false≢true (guard-passes (checks s x (holding_guards (own_rights_of s) full s.runner d None)) 5 InvalidParameters (sym passed)))
     naming d (Some t) is there passed =
         record {
           asked = d;
@@ -68,9 +68,9 @@ taken s x none = read (retrieve_read s x.total) refl none
           is =
               record {
                 there = there;
-                receiver = guard-passes (checks s x (holding_guards (bases_of s) full s.runner d (Some t))) 5 InvalidParameters (sym passed);
-                unheld = guard-passes (checks s x (holding_guards (bases_of s) full s.runner d (Some t))) 9 Denied (sym passed);
-                within = guard-passes (checks s x (holding_guards (bases_of s) full s.runner d (Some t))) 10 Denied (sym passed);
+                receiver = guard-passes (checks s x (holding_guards (own_rights_of s) full s.runner d (Some t))) 5 InvalidParameters (sym passed);
+                unheld = guard-passes (checks s x (holding_guards (own_rights_of s) full s.runner d (Some t))) 9 Denied (sym passed);
+                within = guard-passes (checks s x (holding_guards (own_rights_of s) full s.runner d (Some t))) 10 Denied (sym passed);
               };
         }
 
@@ -86,7 +86,7 @@ module _ (s : State) (x : Transfer) (its : Taken s x) where
   h = its.asked.handle
 
   abbrev pub right : Rights
-  right = right_for (bases_of s) t s.runner its.asked
+  right = right_for (own_rights_of s) t s.runner its.asked
 
   -- who holds it then
   abbrev pub holders : Holders
@@ -94,7 +94,7 @@ module _ (s : State) (x : Transfer) (its : Taken s x) where
 
   -- the state before RX is filled, by the kind
   abbrev pub taken_as : Kind → State
-  taken_as kind = with_offers (donated_if (is_donate kind) s t.ranges s.runner right) (taken_in kind (offers_of s) h t s.runner right)
+  taken_as kind = with_open (donated_if (is_donate kind) s t.ranges s.runner right) (taken_in kind (open_of s) h t s.runner right)
 
   abbrev pub before : State
   before = taken_as t.kind
@@ -114,10 +114,10 @@ module _ (s : State) (x : Transfer) (its : Taken s x) where
         of Lend = refl
         of Donate = size-given s steady h t its.is.there s.runner right
 
-    -- the right is within each page's base right
-    right-within : (p : ℕ) → names s t.ranges p ≡ true → is_within (Some right) (base_of s p) ≡ true
+    -- the right is within each page's own right
+    right-within : (p : ℕ) → names s t.ranges p ≡ true → is_within (Some right) (own_right_of s p) ≡ true
     right-within p named =
-        within-through (Some right) (Some (ceiling (bases_of s) t s.runner)) (base_of s p) its.is.within ((steady.transactions h t its.is.there).ceilings p s.runner named)
+        within-through (Some right) (Some (ceiling (own_rights_of s) t s.runner)) (own_right_of s p) its.is.within ((steady.transactions h t its.is.there).ceilings p s.runner named)
 
     -- ---- steadiness
     each-holder : (P : ℕ → Rights → Type 0) → P s.runner right → ((e : ℕ) (other : Rights) → held_by t e ≡ Some other → P e other)
@@ -133,7 +133,7 @@ module _ (s : State) (x : Transfer) (its : Taken s x) where
         let good = steady.transactions h t its.is.there in
         steady-reheld s steady h t its.is.there holders
         (each-holder (λ e other. is_receiver e t ≡ true) its.is.receiver good.receiver)
-        (λ p e other named. each-holder (λ f one. is_within (Some one) (base_of s p) ≡ true) (right-within p named) (λ f one. good.within p f one named) e other)
+        (λ p e other named. each-holder (λ f one. is_within (Some one) (own_right_of s p) ≡ true) (right-within p named) (λ f one. good.within p f one named) e other)
 
     pub steady-before : IsSteady before
     steady-before = of t.kind
@@ -143,22 +143,22 @@ module _ (s : State) (x : Transfer) (its : Taken s x) where
         of Lend = steady-held
         of Donate = steady-given s steady h t its.is.there s.runner right
 
-    -- ---- pages: a base right is no more than before, the manager's pages stay, and so do those in no transaction
-    pub base-before : (p : ℕ) → is_within (base_of before p) (base_of s p) ≡ true
-    base-before p = of t.kind
+    -- ---- pages: an own right is no more than before, the manager's pages stay, and so do those in no transaction
+    pub right-before : (p : ℕ) → is_within (own_right_of before p) (own_right_of s p) ≡ true
+    right-before p = of t.kind
       where
-        given-within : (page : Option Page) → page_at s p ≡ page → names s t.ranges p ≡ true → is_within (page_base (donated_page s.runner right page)) (page_base page) ≡ true
+        given-within : (page : Option Page) → page_at s p ≡ page → names s t.ranges p ≡ true → is_within (page_right (donated_page s.runner right page)) (page_right page) ≡ true
         given-within None at named = refl
-        given-within (Some q) at named = ap (λ page. is_within (Some right) (page_base page)) (sym at) ∙ right-within p named
+        given-within (Some q) at named = ap (λ page. is_within (Some right) (page_right page)) (sym at) ∙ right-within p named
 
-        of : (kind : Kind) → is_within (base_of (taken_as kind) p) (base_of s p) ≡ true
-        of Share = within-same (base_of s p)
-        of Lend = within-same (base_of s p)
+        of : (kind : Kind) → is_within (own_right_of (taken_as kind) p) (own_right_of s p) ≡ true
+        of Share = within-same (own_right_of s p)
+        of Lend = within-same (own_right_of s p)
         of Donate =
-            ap (λ page. is_within (page_base page) (base_of s p)) (page-given s steady h t its.is.there s.runner right p)
-            ∙ elim (names s t.ranges p) as (λ b. names s t.ranges p ≡ b → is_within (page_base (cond b (donated_page s.runner right (page_at s p)) (page_at s p))) (base_of s p) ≡ true) [
+            ap (λ page. is_within (page_right page) (own_right_of s p)) (page-given s steady h t its.is.there s.runner right p)
+            ∙ elim (names s t.ranges p) as (λ b. names s t.ranges p ≡ b → is_within (page_right (cond b (donated_page s.runner right (page_at s p)) (page_at s p))) (own_right_of s p) ≡ true) [
               | true ↦ given-within (page_at s p) refl
-              | false ↦ λ away. within-same (base_of s p)
+              | false ↦ λ away. within-same (own_right_of s p)
             ] refl
 
     pub manager-before : (p : ℕ) → page_at s p ≡ None → page_at before p ≡ None

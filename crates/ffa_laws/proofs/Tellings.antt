@@ -29,12 +29,12 @@ use Rattle.ffa_model.specs.MemoryRetrieve.{retrieve_read, right_for}
 use Rattle.ffa_model.specs.Messages.{tx_bytes}
 use Rattle.ffa_model.specs.Registers.{decode}
 use Rattle.ffa_model.specs.Step.{serve, service, step}
-use Rattle.ffa_model.specs.Transactions.{next_handle, offers_of}
+use Rattle.ffa_model.specs.Transactions.{next_handle, open_of}
 use Rattle.ffa_model.proofs.Runs.{flat-run-same}
 use Rattle.ffa_laws.specs.View.{involves, is_near, kept, view}
 use Rattle.ffa_laws.specs.Events.{Event, Wrote, Opened, Zeroed, Public, call_events, delivers, events, is_same_public, messages, named_pages, opens, public_change, public_part, releases, takes, takes_from, taking, told_by, where_passed, where_true}
 use Rattle.ffa_laws.specs.Readable.{all_readably, blank, blank_where, blanked, is_unreadable, readable, readably, revealed}
-use Rattle.ffa_laws.proofs.Blanks.{access-b, access_at-b, bases-b, blank-twice, call-b, outcome-b, page-b, sent-b, service-b, state-b}
+use Rattle.ffa_laws.proofs.Blanks.{access-b, access_at-b, own_rights-b, blank-twice, call-b, outcome-b, page-b, sent-b, service-b, state-b}
 use Rattle.ffa_laws.proofs.Maps.{map_at-same, map_at-twice}
 use Rattle.ffa_laws.proofs.ReadRuns.{heard-messages}
 use Rattle.ffa_laws.proofs.Readings.{kept-blank, same-access, some-shown, view-blank}
@@ -106,9 +106,9 @@ module _ (e : ℕ) (s : State) (hides : ℕ → Bool) where
       opened-b kind None = refl
       opened-b kind (Some r) = of (is_receiver e (transaction_from kind r))
         where
-          of : (c : Bool) → all_readably e s (where_true c (Opened (next_handle (offers_of s) s.runner) (transaction_from kind r) (named_pages (memory_sent b kind (Some r)) r.ranges) ∷ []))
-              ≡ all_readably e s (where_true c (Opened (next_handle (offers_of s) s.runner) (transaction_from kind r) (named_pages (memory_sent s kind (Some r)) r.ranges) ∷ []))
-          of true = λ i. Opened (next_handle (offers_of s) s.runner) (transaction_from kind r) (same-named hides (is_unreadable s e) away (memory_sent b kind (Some r)) (memory_sent s kind (Some r)) r.ranges (sent-b s hides kind (Some r)) i) ∷ []
+          of : (c : Bool) → all_readably e s (where_true c (Opened (next_handle (open_of s) s.runner) (transaction_from kind r) (named_pages (memory_sent b kind (Some r)) r.ranges) ∷ []))
+              ≡ all_readably e s (where_true c (Opened (next_handle (open_of s) s.runner) (transaction_from kind r) (named_pages (memory_sent s kind (Some r)) r.ranges) ∷ []))
+          of true = λ i. Opened (next_handle (open_of s) s.runner) (transaction_from kind r) (same-named hides (is_unreadable s e) away (memory_sent b kind (Some r)) (memory_sent s kind (Some r)) r.ranges (sent-b s hides kind (Some r)) i) ∷ []
           of false = refl
 
       sends-b : (kind : Kind) (total : ℕ) → all_readably e s (opens e b kind (send_read b kind total)) ≡ all_readably e s (opens e s kind (send_read s kind total))
@@ -120,7 +120,7 @@ module _ (e : ℕ) (s : State) (hides : ℕ → Bool) where
         where
           of : (o : Option Transaction) → takes_from e b d o ≡ takes_from e s d o
           of None = refl
-          of (Some t) = ap (λ bases. where_true (t.sender == e) (taking t.kind d.handle s.runner (right_for bases t s.runner d) ∷ [])) (bases-b s hides)
+          of (Some t) = ap (λ own_rights. where_true (t.sender == e) (taking t.kind d.handle s.runner (right_for own_rights t s.runner d) ∷ [])) (own_rights-b s hides)
 
       told-b : (call : calls.Call) → all_readably e s (told_by e b call) ≡ all_readably e s (told_by e s call)
       told-b (MemDonate x) = sends-b Donate x.total

@@ -141,7 +141,7 @@ right-shown e None t of_page = ap (λ q. right_of e q (shown e t)) (kept_none (0
 right-shown e (Some page) None of_page =
     elim (page.owner == e) as (λ b. (page.owner == e) ≡ b → right_of e (kept (b || false) (Some page)) None ≡ right_of e (Some page) None) [
       | true ↦ λ mine. refl
-      | false ↦ λ other. sym (ap (λ b. cond b (Some page.base) None) other)
+      | false ↦ λ other. sym (ap (λ b. cond b (Some page.own_right) None) other)
     ] refl
 right-shown e (Some page) (Some u) of_page =
     elim (involves e (Some u)) as (λ b. involves e (Some u) ≡ b → right_of e (kept (page.owner == e || b) (Some page)) (option_map (seen_by e) (kept b (Some u))) ≡ right_of e (Some page) (Some u)) [

@@ -35,7 +35,7 @@ use Rattle.ffa_model.specs.Registers.{decode}
 use Rattle.ffa_model.specs.Setup.{info_bytes, is_count_alone, uuid_bytes}
 use Rattle.ffa_model.specs.Step.{service, step}
 use Rattle.ffa_model.specs.declared.call.Transfer.{Transfer}
-use Rattle.ffa_model.specs.Transactions.{are_writable, base_of, bases_of, closed, handle_of, offers_of, scene_of, with_offers}
+use Rattle.ffa_model.specs.Transactions.{are_writable, own_right_of, own_rights_of, closed, handle_of, open_of, scene_of, with_open}
 use Rattle.ffa_model.proofs.Accesses.{access-closed, access-zeroed, named-in, page-changed}
 use Rattle.ffa_model.proofs.Guards.{guard-passes}
 use Rattle.ffa_model.proofs.NamedPages.{listed-each}
@@ -76,22 +76,22 @@ usable-writes : (s : State) (e p : ℕ) → is_usable e (candidate_at s p) ≡ t
 usable-writes s e p is = of (page_at s p) (handle_at s p) is
   where
     of : (page : Option Page) (o : Option ℕ)
-        → is_usable e (option_map (λ (q : Page). let c : Candidate = record { owner = q.owner; base = q.base; named = is_some o } in c) page) ≡ true
+        → is_usable e (option_map (λ (q : Page). let c : Candidate = record { owner = q.owner; own_right = q.own_right; named = is_some o } in c) page) ≡ true
         → may_store (right_of e page (option_and_then (transaction_of s) o)) ≡ true
     of None o is = absurd (false≢true is)
     of (Some q) None is =
         let (own, write) = and_parts _ _ is in
         let (mine, unnamed) = and_parts (q.owner == e) _ own in
-        ap (λ b. may_store (cond b (Some q.base) None)) mine ∙ write
+        ap (λ b. may_store (cond b (Some q.own_right) None)) mine ∙ write
     of (Some q) (Some h) is =
         let (own, write) = and_parts _ _ is in
         let (mine, unnamed) = and_parts (q.owner == e) false own in
         absurd (false≢true unnamed)
 
--- an owner of a page in no transaction has the page's base right
-base-owner : (e : ℕ) (page : Option Page) → option_map_or (λ (q : Page). q.owner) page 0x8000 ≡ e → right_of e page None ≡ option_map (λ (q : Page). q.base) page
+-- an owner of a page in no transaction has the page's own right
+base-owner : (e : ℕ) (page : Option Page) → option_map_or (λ (q : Page). q.owner) page 0x8000 ≡ e → right_of e page None ≡ option_map (λ (q : Page). q.own_right) page
 base-owner e None own = refl
-base-owner e (Some q) own = ap (λ b. cond b (Some q.base) None) (eq-eqb q.owner e own)
+base-owner e (Some q) own = ap (λ b. cond b (Some q.own_right) None) (eq-eqb q.owner e own)
 
 module _ (s : State) (sound : IsSoundState s) (p : ℕ) (no_right : may_store (access s s.runner p) ≡ false) where
   steady : IsSteady s
@@ -126,9 +126,9 @@ module _ (s : State) (sound : IsSoundState s) (p : ℕ) (no_right : may_store (a
       ] refl
 
   -- a page of ranges that are all writable
-  writable : (ranges : List Range) → are_writable (bases_of s) ranges ≡ true → names s ranges p ≡ true → may_store (base_of s p) ≡ false → page_at s p ≡ None
+  writable : (ranges : List Range) → are_writable (own_rights_of s) ranges ≡ true → names s ranges p ≡ true → may_store (own_right_of s p) ≡ false → page_at s p ≡ None
   writable ranges all named not = elim (cases_lt p (length s.pages)) [
-    | inl lt ↦ absurd (false≢true (sym not ∙ listed-each (λ q. may_store (base_of s q)) (names s ranges) (length s.pages) (λ q. q) all p lt named))
+    | inl lt ↦ absurd (false≢true (sym not ∙ listed-each (λ q. may_store (own_right_of s q)) (names s ranges) (length s.pages) (λ q. q) all p lt named))
     | inr past ↦ get_or_past s.pages p None past
   ]
 
@@ -177,15 +177,15 @@ module _ (s : State) (sound : IsSoundState s) (p : ℕ) (no_right : may_store (a
           go None not may = false≢true may
           go (Some right) not may = false≢true (sym not ∙ may)
 
-      of : (d : RelinquishDesc) (o : Option Transaction) → transaction_of s d.handle ≡ o → first_failure (relinquish_guards (buffers_of s s.runner) (offers_of s) s.runner (Some d)) ≡ None → bytes_in (relinquished_from s d o).pages p ≡ bytes_in s.pages p
+      of : (d : RelinquishDesc) (o : Option Transaction) → transaction_of s d.handle ≡ o → first_failure (relinquish_guards (buffers_of s s.runner) (open_of s) s.runner (Some d)) ≡ None → bytes_in (relinquished_from s d o).pages p ≡ bytes_in s.pages p
       of d None there none = refl
       of d (Some t) there none =
-          let zeroable = guard-passes (relinquish_guards (buffers_of s s.runner) (offers_of s) s.runner (Some d)) 4 Denied (sym none) in
+          let zeroable = guard-passes (relinquish_guards (buffers_of s s.runner) (open_of s) s.runner (Some d)) 4 Denied (sym none) in
           elsewhere-zeroed d.zero t.ranges (λ asked named.
           let (lend, held) = and_parts (is_lend t.kind) (may_store (held_by t s.runner)) (sym (ap (is_zeroable s.runner) there) ∙ asks d.zero (is_zeroable s.runner (transaction_of s d.handle)) zeroable asked) in
           holds t (page_at s p) (sym (ap (λ o. may_store (right_of s.runner (page_at s p) o)) (named-in s p d.handle t (λ k j at_k at_j. steady.one p k j at_k at_j) there named)) ∙ no_right) held)
 
-      read : (o : Option RelinquishDesc) → first_failure (relinquish_guards (buffers_of s s.runner) (offers_of s) s.runner o) ≡ None → bytes_in (relinquished s o).pages p ≡ bytes_in s.pages p
+      read : (o : Option RelinquishDesc) → first_failure (relinquish_guards (buffers_of s s.runner) (open_of s) s.runner o) ≡ None → bytes_in (relinquished s o).pages p ≡ bytes_in s.pages p
       read None none = refl
       read (Some d) none = of d (transaction_of s d.handle) refl none
 
@@ -200,15 +200,15 @@ module _ (s : State) (sound : IsSoundState s) (p : ℕ) (no_right : may_store (a
       asks true all is asked = is
       asks false all is asked = absurd (false≢true asked)
 
-      of : (o : Option Transaction) → transaction_of s h ≡ o → first_failure (reclaim_guards (bases_of s) s.runner flags o) ≡ None → bytes_in (zeroed_if (is_set 0 flags) s (named_ranges o)).pages p ≡ bytes_in s.pages p
-      of None there none = absurd (false≢true (guard-passes (reclaim_guards (bases_of s) s.runner flags None) 1 InvalidParameters (sym none)))
+      of : (o : Option Transaction) → transaction_of s h ≡ o → first_failure (reclaim_guards (own_rights_of s) s.runner flags o) ≡ None → bytes_in (zeroed_if (is_set 0 flags) s (named_ranges o)).pages p ≡ bytes_in s.pages p
+      of None there none = absurd (false≢true (guard-passes (reclaim_guards (own_rights_of s) s.runner flags None) 1 InvalidParameters (sym none)))
       of (Some t) there none =
-          let mine : t.sender ≡ s.runner = eqb-true t.sender s.runner (guard-passes (reclaim_guards (bases_of s) s.runner flags (Some t)) 1 InvalidParameters (sym none)) in
-          let all = guard-passes (reclaim_guards (bases_of s) s.runner flags (Some t)) 3 Denied (sym none) in
+          let mine : t.sender ≡ s.runner = eqb-true t.sender s.runner (guard-passes (reclaim_guards (own_rights_of s) s.runner flags (Some t)) 1 InvalidParameters (sym none)) in
+          let all = guard-passes (reclaim_guards (own_rights_of s) s.runner flags (Some t)) 3 Denied (sym none) in
           elsewhere-zeroed (is_set 0 flags) t.ranges (λ asked named.
-          writable t.ranges (asks (is_set 0 flags) (are_writable (bases_of s) t.ranges) all asked) named
+          writable t.ranges (asks (is_set 0 flags) (are_writable (own_rights_of s) t.ranges) all asked) named
           (ap may_store (sym (base-owner s.runner (page_at s p) ((steady.transactions h t there).owned p named ∙ mine)))
-          ∙ sym (ap may_store (access-zeroed (is_set 0 flags) (with_offers s (closed (offers_of s) h)) (named_ranges (transaction_of s h)) s.runner p ∙ access-closed s h t there p (λ k j at_k at_j. steady.one p k j at_k at_j) named s.runner))
+          ∙ sym (ap may_store (access-zeroed (is_set 0 flags) (with_open s (closed (open_of s) h)) (named_ranges (transaction_of s h)) s.runner p ∙ access-closed s h t there p (λ k j at_k at_j. steady.one p k j at_k at_j) named s.runner))
           ∙ later))
 
   -- ---- any call, and any operation

@@ -32,7 +32,7 @@ use Rattle.ffa_model.specs.RunStates.{direct_request, direct_response, msg_wait,
 use Rattle.ffa_model.specs.Messages.{header_in, message_in, tx_bytes}
 use Rattle.ffa_model.specs.Notifications.{binding, class_of, has_bitmaps_in, is_bound, manager_class, notifications_of, message_bits, with_notifications, with_pending}
 use Rattle.ffa_model.specs.SendDescriptor.{SendRecord}
-use Rattle.ffa_model.specs.Transactions.{bases_of, handle_of, holding, next_handle, not_holding, offers_of, with_offers, with_transaction}
+use Rattle.ffa_model.specs.Transactions.{own_rights_of, handle_of, holding, next_handle, not_holding, open_of, with_open, with_transaction}
 use Rattle.ffa_model.specs.MemorySend.{memory_sent, send_read, transaction_from}
 use Rattle.ffa_model.specs.MemoryRetrieve.{retrieve_read, right_for}
 use Rattle.ffa_model.specs.MemoryReturn.{named_ranges, relinquish_read}
@@ -101,7 +101,7 @@ with_held t f (Some right) = holding t f right
 
 abbrev pub with_holder : State → ℕ → ℕ → Option Rights → Option Transaction → State
 with_holder v h f right None = v
-with_holder v h f right (Some t) = with_offers v (with_transaction (offers_of v) h (with_held t f right))
+with_holder v h f right (Some t) = with_open v (with_transaction (open_of v) h (with_held t f right))
 
 -- a transaction and its pages leave
 abbrev pub without : State → ℕ → State
@@ -158,7 +158,7 @@ abbrev pub opens : ℕ → State → Kind → Option SendRecord → List Event
 opens e s kind None = []
 opens e s kind (Some r) =
     where_true (is_receiver e (transaction_from kind r))
-    (Opened (next_handle (offers_of s) s.runner) (transaction_from kind r) (named_pages (memory_sent s kind (Some r)) r.ranges) ∷ [])
+    (Opened (next_handle (open_of s) s.runner) (transaction_from kind r) (named_pages (memory_sent s kind (Some r)) r.ranges) ∷ [])
 
 -- the runner takes what e sent
 abbrev pub taking : Kind → ℕ → ℕ → Rights → Event
@@ -169,7 +169,7 @@ taking Share h f right = Held h f (Some right)
 abbrev pub takes_from : ℕ → State → RetrieveDesc → Option Transaction → List Event
 takes_from e s d None = []
 takes_from e s d (Some t) =
-    where_true (t.sender == e) (taking t.kind d.handle s.runner (right_for (bases_of s) t s.runner d) ∷ [])
+    where_true (t.sender == e) (taking t.kind d.handle s.runner (right_for (own_rights_of s) t s.runner d) ∷ [])
 
 abbrev pub takes : ℕ → State → Option RetrieveDesc → List Event
 takes e s None = []

@@ -2,7 +2,7 @@
 use Rattle.std.specs.Prelude.{◌≡◌, ◌≢◌, ℕ, ◌==◌, Bool, true, false, ◌&&◌, List, [], ◌∷◌, ◌++◌, Option, None, is_none, is_some, if◌then◌else◌}
 use Rattle.std.specs.Option.{option_map_or}
 use Rattle.ffa_model.specs.Lists.{is_in_run}
-use Rattle.ffa_model.specs.Transactions.{base_of}
+use Rattle.ffa_model.specs.Transactions.{own_right_of}
 use Rattle.ffa_model.specs.declared.operation.Op.{Op}
 use Rattle.ffa_model.specs.declared.operation.Op.TheVariants.{Call, Load, Store, Fetch}
 use Rattle.ffa_model.specs.declared.operation.Outcome.{Outcome}
@@ -67,8 +67,8 @@ is_joint_at t = option_map_or is_joint t false
 
 -- from one state to a later one
 pub record NeverGrow (s t : State) : Type 0 where
-  pub base : (p : ℕ) → is_within (base_of t p) (base_of s p) ≡ true
-  pub within : (e p : ℕ) → is_within (access t e p) (base_of t p) ≡ true
+  pub base : (p : ℕ) → is_within (own_right_of t p) (own_right_of s p) ≡ true
+  pub within : (e p : ℕ) → is_within (access t e p) (own_right_of t p) ≡ true
   pub manager : (p : ℕ) → page_at s p ≡ None → page_at t p ≡ None
   pub alone : (e f p : ℕ) → e ≢ f → is_some (access t e p) ≡ true → is_some (access t f p) ≡ true → is_joint_at (transaction_at t p) ≡ true
 

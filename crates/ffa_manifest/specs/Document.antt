@@ -18,7 +18,7 @@ pub record Parts : Type 0 where
   pub endpoints : List Endpoint
 
 abbrev pub parts_of : Manifest → Parts
-parts_of m = record { ram_base = m.ram_base; ram_blocks = m.ram_blocks; endpoints = m.endpoints.items }
+parts_of m = record { ram_base = m.ram_base.0; ram_blocks = m.ram_blocks; endpoints = m.endpoints.items }
 
 unfoldable pub top_keys : Members → Result (Unit {0}) ManifestError
 top_keys ms = only_keys (codes "ram_base" ∷ codes "ram_blocks" ∷ codes "endpoint" ∷ []) ms

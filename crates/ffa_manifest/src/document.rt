@@ -9,7 +9,7 @@ use crate::endpoints::endpoints_from;
 use crate::error::ManifestError;
 use crate::keys::{integer_at, items_at, only_keys};
 use crate::place::Place;
-use ffa_model::{MOST_ENDPOINTS, Manifest};
+use ffa_model::{Address, MOST_ENDPOINTS, Manifest};
 use toml::{Table, Value};
 
 #[tactic(auto, unfolding(crate::specs::Document::top_keys))]
@@ -69,5 +69,5 @@ pub(crate) fn machine(table: &Table) -> Result<Manifest, ManifestError>
         endpoints: values.len() as u32,
     };
     let endpoints = endpoints_from(values, &place)?;
-    Ok(Manifest::of(ram_base, ram_blocks, endpoints))
+    Ok(Manifest::of(Address(ram_base), ram_blocks, endpoints))
 }

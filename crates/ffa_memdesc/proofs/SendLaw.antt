@@ -100,19 +100,19 @@ receives_again kind b h =
     (ap not (none_again (λ (r : Receiver). r.endpoint.0 == endpoint_field b.bytes (access_place b i)) (receiver_in b) i (λ j before. ne_eqb _ _ ((h i lt).new j before)))))
 
 -- range i, and those before it
-record Offers (b : Versioned) (i : ℕ) : Type 0 where
+record OpenTransactions (b : Versioned) (i : ℕ) : Type 0 where
   range : IsRange b.bytes (range_place b i)
   apart : (j : ℕ) → j < i → AreApart (range_in b i) (range_in b j)
 
-offers : (b : Versioned) → holds_at_each (is_range_beside b) (range_count b) ≡ true → (i : ℕ) → i < range_count b → Offers b i
-offers b e i lt =
+open_transactions : (b : Versioned) → holds_at_each (is_range_beside b) (range_count b) ≡ true → (i : ℕ) → i < range_count b → OpenTransactions b i
+open_transactions b e i lt =
     let (range, apart) = and_parts _ _ (holds_told (is_range_beside b) (range_count b) e i lt) in
     record {
       range = range_told b.bytes (range_place b i) range;
       apart = λ j before. apart_told (range_in b i) (range_in b j) (all_told (are_apart (range_in b i)) (range_in b) i apart j before);
     }
 
-offers_again : (b : Versioned) → ((i : ℕ) → i < range_count b → Offers b i) → holds_at_each (is_range_beside b) (range_count b) ≡ true
+offers_again : (b : Versioned) → ((i : ℕ) → i < range_count b → OpenTransactions b i) → holds_at_each (is_range_beside b) (range_count b) ≡ true
 offers_again b h =
     holds_again (is_range_beside b) (range_count b) (λ i lt.
     and_from _ _ (range_again b.bytes (range_place b i) (h i lt).range)
@@ -145,8 +145,8 @@ facts kind b header e composite body =
       accesses = λ i lt. (receives kind b q1.0 i lt).access;
       distinct = λ i j before lt. (receives kind b q1.0 i lt).new j before;
       composite = composite_told b composite;
-      each = λ i lt. (offers b q1.1 i lt).range;
-      apart = λ i j before lt. (offers b q1.1 i lt).apart j before;
+      each = λ i lt. (open_transactions b q1.1 i lt).range;
+      apart = λ i j before lt. (open_transactions b q1.1 i lt).apart j before;
       total = eqb-true _ _ q2.1;
       sender = refl;
       zero = refl;

@@ -11,7 +11,7 @@ use Rattle.ffa_model.proofs.Counts.{count, count-insert, counted, one, values_of
 use Rattle.ffa_model.proofs.Slots.{AreApart, entries_in}
 use Rattle.ffa_memshare.specs.SlotChanges.{IsFree}
 use Rattle.ffa_memshare.specs.declared.transaction.OpenTransaction.{OpenTransaction}
-use Rattle.ffa_memshare.specs.Stored.{IsPool, Pooled, Slot, map_in, offers_in, pool_slot, kept_slot, kept_slots, view_of}
+use Rattle.ffa_memshare.specs.Stored.{IsPool, Pooled, Slot, map_in, open_in, pool_slot, kept_slot, kept_slots, view_of}
 use Rattle.ffa_model.proofs.Places.{place-identifier}
 use Rattle.ffa_memshare.proofs.PoolKept.{unfound}
 
@@ -125,7 +125,7 @@ module _ (test : Transaction → Bool) where
 
 module _ (kept : Pooled) (pool : IsPool kept) (e : ℕ) (known : identifier (place e) ≡ e) (lt : place e < length kept.sent) where
   -- open transactions and free slots are eight together
-  sixteen : open_count (offers_in kept) e + free_in (16 * place e) 16 kept.slots ≡ 16
+  sixteen : open_count (open_in kept) e + free_in (16 * place e) 16 kept.slots ≡ 16
   sixteen =
       ap (λ n. n + free_in (16 * place e) 16 kept.slots) (count-slots (λ (t : Transaction). t.sender == e) kept.slots pool.apart)
       ∙ passing-free (λ (t : Transaction). t.sender == e) (16 * place e) 16 kept.slots (omega (arith, pool.size, lt))
@@ -139,12 +139,12 @@ module _ (kept : Pooled) (pool : IsPool kept) (e : ℕ) (known : identifier (pla
       apart : (k : ℕ) (x : ℕ × Transaction) → pool_slot kept.slots k ≡ Some x → x.1.sender ≡ e → (k / 16 ≡ place e → ⊥) → ⊥
       apart k x at same away = away (sym (place-identifier (k / 16)) ∙ ap place (sym (pool.places k x.0 x.1 at).sender ∙ same))
 
-  pub few-open : (k : ℕ) → IsFree kept.slots (place e) k → nat_lt (open_count (offers_in kept) e) 16 ≡ true
+  pub few-open : (k : ℕ) → IsFree kept.slots (place e) k → nat_lt (open_count (open_in kept) e) 16 ≡ true
   few-open k free =
       let some = one-free (16 * place e) 16 kept.slots k (omega (arith, free.own)) (omega (arith, free.own)) free.within free.free in
       lt-ltb _ _ (omega (arith, sixteen, some))
 
-  pub all-open : ((k : ℕ) → 16 * place e ≤ k → k < 16 * place e + 16 → (x : ℕ × Transaction) × (pool_slot kept.slots k ≡ Some x)) → nat_lt (open_count (offers_in kept) e) 16 ≡ false
+  pub all-open : ((k : ℕ) → 16 * place e ≤ k → k < 16 * place e + 16 → (x : ℕ × Transaction) × (pool_slot kept.slots k ≡ Some x)) → nat_lt (open_count (open_in kept) e) 16 ≡ false
   all-open taken =
       let none = none-free (16 * place e) 16 kept.slots taken in
       le-ltb _ _ (omega (arith, sixteen, none))

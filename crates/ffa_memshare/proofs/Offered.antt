@@ -22,9 +22,9 @@ use Rattle.ffa_model.specs.State.{Buffers}
 use Rattle.ffa_model.specs.Transactions.{are_writable, pages_in}
 use Rattle.ffa_model.proofs.NamedPages.{listed-each}
 use Rattle.ffa_model.proofs.Listed.{get_or-listed, length-listed}
-use Rattle.ffa_pages.specs.Entry.{Entry, base_at, entry_at, owner_at}
+use Rattle.ffa_pages.specs.Entry.{Entry, own_right_at, entry_at, owner_at}
 use Rattle.ffa_rxtx.specs.Parts.{candidate_in, candidates_in}
-use Rattle.ffa_memshare.specs.Named.{bases_in}
+use Rattle.ffa_memshare.specs.Named.{own_rights_in}
 use Rattle.ffa_memshare.specs.Offers.{AreAligned, IsOwnOffer, grants_writes}
 use Rattle.ffa_memshare.specs.Ranges.{ArePlaced, IsPlaced, in_range, in_ranges}
 
@@ -50,13 +50,13 @@ sent-other kind b r send =
 
 -- ranges of whole pages inside RAM
 pub inside-placed : (table : List (Option Entry)) (base : ℕ) (ranges : List Range) → base % 4096 ≡ 0 → AreAligned ranges
-    → list_all (is_inside (bases_in table base)) ranges ≡ true → ArePlaced base (length table) ranges
+    → list_all (is_inside (own_rights_in table base)) ranges ≡ true → ArePlaced base (length table) ranges
 inside-placed table base [] whole aligned all i r lt is = absurd (omega arith)
 inside-placed table base (q ∷ ranges) whole aligned all zero r lt is = of r (is ∙ refl) (aligned 0 r lt is)
   where
     of : (r : Range) → r ≡ q → r.address % 4096 ≡ 0 → IsPlaced base (length table) r
     of r same own =
-        let (this, rest) = and_parts (is_inside (bases_in table base) q) _ all in
+        let (this, rest) = and_parts (is_inside (own_rights_in table base) q) _ all in
         let (low, high) = and_parts _ _ this in
         let from : base ≤ q.address = leb-true _ _ low in
         let to : q.address + 4096 * q.pages ≤ base + 4096 * length table = leb-true _ _ high in
@@ -64,7 +64,7 @@ inside-placed table base (q ∷ ranges) whole aligned all zero r lt is = of r (i
         let pages : r.pages ≡ q.pages = ap (λ (x : Range). x.pages) same in
         record { aligned = omega (arith, whole, own, from, address); within = omega (arith, whole, own, from, to, address, pages) }
 inside-placed table base (q ∷ ranges) whole aligned all (suc i) r lt is =
-    inside-placed table base ranges whole (λ j x less at. aligned (suc j) x (omega arith) at) (and_parts (is_inside (bases_in table base) q) _ all).1 i r (omega arith) is
+    inside-placed table base ranges whole (λ j x less at. aligned (suc j) x (omega arith) at) (and_parts (is_inside (own_rights_in table base) q) _ all).1 i r (omega arith) is
 
 -- a page that ranges have is one of RAM's
 pub named-within : (base count : ℕ) (ranges : List Range) (p : ℕ) → ArePlaced base count ranges → in_ranges base ranges p ≡ true → p < count
@@ -80,7 +80,7 @@ named-within base count (q ∷ ranges) p placed is = elim (or_cases (in_range ba
 ]
 
 abbrev candidate : Option Entry → Option Candidate
-candidate o = option_map (λ (x : Entry). record { owner = x.owner; base = x.base; named = is_some x.slot }) o
+candidate o = option_map (λ (x : Entry). record { owner = x.owner; own_right = x.own_right; named = is_some x.slot }) o
 
 -- a page of an endpoint alone
 own-entry : (e : ℕ) (o : Option Entry) → is_own e (candidate o) ≡ true → (x : Entry) × (o ≡ Some x) × (x.owner ≡ e)
@@ -89,8 +89,8 @@ own-entry e (Some x) own = (x, refl, eqb-true x.owner e (and_parts (x.owner == e
 
 -- what passed the checks is the endpoint's own
 pub checked-offered : (table : List (Option Entry)) (base e : ℕ) (buffers : List (Option Buffers)) (r : SendRecord) → base % 4096 ≡ 0 → AreAligned r.ranges → r.sender ≡ e
-    → list_all (is_inside (bases_in table base)) r.ranges ≡ true
-    → list_all (is_sendable e (candidates_in table base) buffers) (pages_in (bases_in table base) r.ranges) ≡ true
+    → list_all (is_inside (own_rights_in table base)) r.ranges ≡ true
+    → list_all (is_sendable e (candidates_in table base) buffers) (pages_in (own_rights_in table base) r.ranges) ≡ true
     → IsOwnOffer table base e r
 checked-offered table base e buffers r whole aligned sender inside sendable =
     let placed = inside-placed table base r.ranges whole aligned inside in
@@ -158,16 +158,16 @@ module _ (all one keep : ℕ → Bool) (w : Bool) where
 -- so are those of all pages that an endpoint owns
 pub writes-enough : (table : List (Option Entry)) (base : ℕ) (ranges : List Range) (receivers : List Receiver) (zeros : Bool)
     → ((p : ℕ) → in_ranges base ranges p ≡ true → (x : Entry) × (entry_at table p ≡ Some x))
-    → (are_writable (bases_in table base) ranges || not (zeros || grants_writes receivers))
-    ≡ (list_all (are_grants_within (bases_in table base) receivers) (pages_in (bases_in table base) ranges) && (not zeros || are_writable (bases_in table base) ranges))
+    → (are_writable (own_rights_in table base) ranges || not (zeros || grants_writes receivers))
+    ≡ (list_all (are_grants_within (own_rights_in table base) receivers) (pages_in (own_rights_in table base) ranges) && (not zeros || are_writable (own_rights_in table base) ranges))
 writes-enough table base ranges receivers zeros owned =
-    of (are_writable (bases_in table base) ranges) zeros (grants_writes receivers)
-    ∙ ap (λ b. b && (not zeros || are_writable (bases_in table base) ranges))
-    (sym (each-grants (are_grants_within (bases_in table base) receivers) (λ p. may_store (base_at table p)) (in_ranges base ranges) (grants_writes receivers) (listed (length table) (λ p. p))
+    of (are_writable (own_rights_in table base) ranges) zeros (grants_writes receivers)
+    ∙ ap (λ b. b && (not zeros || are_writable (own_rights_in table base) ranges))
+    (sym (each-grants (are_grants_within (own_rights_in table base) receivers) (λ p. may_store (own_right_at table p)) (in_ranges base ranges) (grants_writes receivers) (listed (length table) (λ p. p))
     (λ p named. let (x, is) = owned p named in
-    ap (λ (o : Option Entry). list_all (λ (r : Receiver). is_grantable r.grant (option_map (λ (e : Entry). e.base) o)) receivers) is
-    ∙ page-grants receivers x.base
-    ∙ ap (λ (o : Option Entry). not (grants_writes receivers) || may_store (option_map (λ (e : Entry). e.base) o)) (sym is))))
+    ap (λ (o : Option Entry). list_all (λ (r : Receiver). is_grantable r.grant (option_map (λ (e : Entry). e.own_right) o)) receivers) is
+    ∙ page-grants receivers x.own_right
+    ∙ ap (λ (o : Option Entry). not (grants_writes receivers) || may_store (option_map (λ (e : Entry). e.own_right) o)) (sym is))))
   where
     of : (w z g : Bool) → (w || not (z || g)) ≡ ((not g || w) && (not z || w))
     of true true true = refl

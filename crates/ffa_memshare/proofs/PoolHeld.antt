@@ -14,7 +14,7 @@ use Rattle.ffa_model.specs.declared.rights.Rights.{Rights}
 use Rattle.ffa_model.proofs.Written.{map-refill-set}
 use Rattle.ffa_memshare.specs.declared.transaction.OpenTransaction.{OpenTransaction}
 use Rattle.ffa_memshare.specs.Held.{Held, held_with, with_holder}
-use Rattle.ffa_memshare.specs.Stored.{IsInPlace, IsPool, Pooled, Slot, map_in, offers_in, pool_slot, kept_slot, kept_slots, view_of}
+use Rattle.ffa_memshare.specs.Stored.{IsInPlace, IsPool, Pooled, Slot, map_in, open_in, pool_slot, kept_slot, kept_slots, view_of}
 use Rattle.ffa_memshare.proofs.PoolKept.{past-none}
 
 -- a slot that has a transaction is one of the slots
@@ -89,9 +89,9 @@ module _ (kept : Pooled) (pool : IsPool kept) (k h : ℕ) (t u : Transaction) (a
       ∙ once (tied q) (Some u) (finite.get (map_in kept.slots) q)
       ∙ sym (finite.get-insert nat_cmp_total (map_in kept.slots) h u q))
 
-  -- and the pool means the offers with the transaction as it is now
-  pub held-offers : offers_in after ≡ with_transaction (offers_in kept) h u
-  held-offers = λ i. record { transactions = replaced i; sent = kept.sent }
+  -- and the pool means the open transactions with the transaction as it is now
+  pub held-open : open_in after ≡ with_transaction (open_in kept) h u
+  held-open = λ i. record { transactions = replaced i; sent = kept.sent }
 
 -- in the code: its holders were written where it lies
 pub held-slots : (xs ys : List (Option OpenTransaction)) (k : ℕ) (t : OpenTransaction) (m : Held) (e : ℕ) (right : Option Rights)

@@ -9,7 +9,7 @@ use Rattle.ffa_model.specs.declared.transaction.Range.{Range}
 use Rattle.ffa_model.specs.MemoryRetrieve.{taken_in}
 use Rattle.ffa_model.specs.SendDescriptor.{page_total}
 use Rattle.ffa_model.specs.State.{Transaction}
-use Rattle.ffa_model.specs.Transactions.{Offers, holding, with_transaction}
+use Rattle.ffa_model.specs.Transactions.{OpenTransactions, holding, with_transaction}
 use Rattle.ffa_pages.specs.Entry.{Entry}
 use Rattle.ffa_memshare.specs.Ranges.{ArePlaced, IsPlaced}
 use Rattle.ffa_memshare.specs.Retrieved.{IsPassedOn, IsTaken}
@@ -26,11 +26,11 @@ held-taken Share kinds old new h e right held = held
 held-taken Lend kinds old new h e right held = held
 held-taken Donate kinds old new h e right held = not-donate kinds
 
-pub taken-offers : (kind : Kind) → ((kind ≡ Share) ⊎ (kind ≡ Lend)) → (o : Offers) (h : ℕ) (t : Transaction) (e : ℕ) (right : Rights)
+pub taken-open : (kind : Kind) → ((kind ≡ Share) ⊎ (kind ≡ Lend)) → (o : OpenTransactions) (h : ℕ) (t : Transaction) (e : ℕ) (right : Rights)
     → with_transaction o h (holding t e right) ≡ taken_in kind o h t e right
-taken-offers Share kinds o h t e right = refl
-taken-offers Lend kinds o h t e right = refl
-taken-offers Donate kinds o h t e right = not-donate kinds
+taken-open Share kinds o h t e right = refl
+taken-open Lend kinds o h t e right = refl
+taken-open Donate kinds o h t e right = not-donate kinds
 
 -- and its pages stay whose they were
 pub kept-passed : (kind : Kind) → ((kind ≡ Share) ⊎ (kind ≡ Lend)) → (table : List (Option Entry)) (named : ℕ → Bool) (e : EndpointId) (right : Rights) → IsPassedOn kind table table named e right

@@ -12,7 +12,7 @@ use Rattle.ffa_memshare.specs.Changed.{IsChanged}
 use Rattle.ffa_memshare.specs.Changes.{IsMoved}
 use Rattle.ffa_memshare.specs.Ranges.{in_ranges}
 use Rattle.ffa_memshare.specs.SlotChanges.{IsHeldBy}
-use Rattle.ffa_memshare.specs.Stored.{Pooled, map_in, offers_in}
+use Rattle.ffa_memshare.specs.Stored.{Pooled, map_in, open_in}
 
 -- the open transactions of this many endpoints, and the RAM from an address on with its blocks, after e has given up what
 -- these bytes describe: e holds the transaction no more, has no right to its pages, and they are zeros where that is asked; this is
@@ -23,6 +23,6 @@ pub record IsRelinquished (old new : Pooled) (ram after : Ram) (base n blocks e 
   pub described : relinquish_of bytes ≡ Some asked
   pub was : finite.get (map_in old.slots) asked.handle ≡ Some transaction
   pub slot : IsHeldBy old new asked.handle e None
-  pub offers : offers_in new ≡ with_transaction (offers_in old) asked.handle (not_holding transaction e)
+  pub open_transactions : open_in new ≡ with_transaction (open_in old) asked.handle (not_holding transaction e)
   pub moved : IsMoved ram after n blocks (place e) (in_ranges base transaction.ranges) (λ p. None) asked.zero
   pub access : IsChanged changed transaction.ranges (Some (record { 0 = e }))

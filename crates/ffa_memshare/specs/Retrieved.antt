@@ -20,10 +20,10 @@ use Rattle.ffa_memshare.specs.declared.changed.Changed.{Changed}
 use Rattle.ffa_memshare.specs.declared.marks.Mark.TheVariants.{Given}
 use Rattle.ffa_memshare.specs.Changed.{IsChanged}
 use Rattle.ffa_memshare.specs.Changes.{IsMarked, IsMoved}
-use Rattle.ffa_memshare.specs.Named.{bases_in}
+use Rattle.ffa_memshare.specs.Named.{own_rights_in}
 use Rattle.ffa_memshare.specs.Ranges.{in_ranges}
 use Rattle.ffa_memshare.specs.SlotChanges.{IsClosed, IsHeldBy}
-use Rattle.ffa_memshare.specs.Stored.{Pooled, map_in, offers_in}
+use Rattle.ffa_memshare.specs.Stored.{Pooled, map_in, open_in}
 
 -- the pages of a donate are the endpoint's own, with this right; others stay
 abbrev pub IsPassedOn : Kind → List (Option Entry) → List (Option Entry) → (ℕ → Bool) → EndpointId → Rights → Type 0
@@ -54,9 +54,9 @@ pub record IsRetrieved (old new : Pooled) (ram after : Ram) (table given : List 
   pub right : Rights
   pub described : retrieve_of e.0 bytes ≡ Some asked
   pub was : finite.get (map_in old.slots) asked.handle ≡ Some transaction
-  pub is : right ≡ right_for (bases_in table base) transaction e.0 asked
+  pub is : right ≡ right_for (own_rights_in table base) transaction e.0 asked
   pub slot : IsTaken transaction.kind old new asked.handle e.0 right
-  pub offers : offers_in new ≡ taken_in transaction.kind (offers_in old) asked.handle transaction e.0 right
+  pub open_transactions : open_in new ≡ taken_in transaction.kind (open_in old) asked.handle transaction e.0 right
   pub pages : IsPassedOn transaction.kind table given (in_ranges base transaction.ranges) e right
   pub answer : IsAnswered ram after base n blocks own asked.handle transaction e.0 bytes.version right size
   pub access : IsChanged changed transaction.ranges (Some e)

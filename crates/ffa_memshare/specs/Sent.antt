@@ -12,7 +12,7 @@ use Rattle.ffa_model.specs.Transactions.{next_handle}
 use Rattle.ffa_pages.specs.Entry.{Entry}
 use Rattle.ffa_memshare.specs.declared.changed.Changed.{Changed}
 use Rattle.ffa_memshare.specs.declared.grants.NewRight.{NewRight}
-use Rattle.ffa_memshare.specs.declared.grants.NewRight.TheVariants.{Same, Base}
+use Rattle.ffa_memshare.specs.declared.grants.NewRight.TheVariants.{Same, Own}
 use Rattle.ffa_memshare.specs.declared.marks.Mark.TheVariants.{Named}
 use Rattle.ffa_memshare.specs.Changed.{IsChanged, changed_sender}
 use Rattle.ffa_memshare.specs.Changes.{IsMarked, IsMoved}
@@ -20,11 +20,11 @@ use Rattle.ffa_memshare.specs.Grants.{new_right}
 use Rattle.ffa_memshare.specs.Offers.{IsOwnOffer}
 use Rattle.ffa_memshare.specs.Ranges.{in_ranges}
 use Rattle.ffa_memshare.specs.SlotChanges.{IsOpened}
-use Rattle.ffa_memshare.specs.Stored.{Pooled, offers_in}
+use Rattle.ffa_memshare.specs.Stored.{Pooled, open_in}
 
 -- what a sender keeps: of a share its own right, and else nothing
 abbrev pub right_after : Kind → NewRight
-right_after Share = Base
+right_after Share = Own
 right_after Lend = Same None
 right_after Donate = Same None
 
@@ -38,8 +38,8 @@ pub record IsSent (old new : Pooled) (table marked : List (Option Entry)) (ram a
   pub described : send_of kind bytes ≡ Some offer
   pub own : IsOwnOffer table base e offer
   pub other : is_receiver e (transaction_from kind offer) ≡ false
-  pub opened : IsOpened old new slot (next_handle (offers_in old) e) (transaction_from kind offer)
-  pub offers : offers_in new ≡ offered_in (offers_in old) e kind offer
+  pub opened : IsOpened old new slot (next_handle (open_in old) e) (transaction_from kind offer)
+  pub open_transactions : open_in new ≡ offered_in (open_in old) e kind offer
   pub marks : IsMarked table marked (in_ranges base offer.ranges) (Named (Some slot))
   pub moved : IsMoved ram after n blocks (place e) (in_ranges base offer.ranges) (new_right (right_after kind) table) offer.zero
   pub access : IsChanged changed offer.ranges (changed_sender kind e)

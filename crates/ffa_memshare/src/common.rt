@@ -2,13 +2,13 @@
 ghost use Rattle.std.specs.Prelude.{◌≡◌, ◌<◌, ◌&&◌, length};
 ghost use Rattle.ffa_model.specs.Rights.{may_fetch, may_store};
 ghost use Rattle.ffa_model.specs.Transactions.{are_executable, are_writable};
-ghost use Rattle.ffa_pages.specs.Entry.{base_at};
-ghost use Rattle.ffa_memshare.specs.Named.{all_named, bases_in, most_of};
+ghost use Rattle.ffa_pages.specs.Entry.{own_right_at};
+ghost use Rattle.ffa_memshare.specs.Named.{all_named, own_rights_in, most_of};
 ghost use Rattle.ffa_memshare.specs.Ranges.{ArePlaced, IsPlaced, in_range};
 
 use crate::grants::first_page;
 use crate::page_ranges::PageRanges;
-use ffa_model::{Data, PageNo, Range, Rights};
+use ffa_model::{Address, Data, PageNo, Range, Rights};
 use ffa_pages::PageTable;
 
 /// What all of some pages have.
@@ -30,11 +30,11 @@ impl Common {
     }
 
     // What both these pages and one more have.
-    fn and(self, base: Option<Rights>) -> Common
-        ensures writable { result.is_writable ≡ (self.is_writable && may_store base) }
-        ensures executable { result.is_executable ≡ (self.is_executable && may_fetch base) }
+    fn and(self, own_right: Option<Rights>) -> Common
+        ensures writable { result.is_writable ≡ (self.is_writable && may_store own_right) }
+        ensures executable { result.is_executable ≡ (self.is_executable && may_fetch own_right) }
     {
-        match base {
+        match own_right {
             Some(right) => Common {
                 is_writable: self.is_writable && right.level == Data::Rw,
                 is_executable: self.is_executable && right.exec,
@@ -48,26 +48,26 @@ impl Common {
 }
 
 // What these pages and those of a range have.
-fn common_with(pages: &PageTable, base: u32, range: &Range, before: Common) -> Common
-    requires { IsPlaced base (length pages.now) range.now }
-    ensures writable { result.is_writable ≡ (before.is_writable && all_named (length pages.now) (in_range base range.now) (λ p. may_store (base_at pages.now p))) }
-    ensures executable { result.is_executable ≡ (before.is_executable && all_named (length pages.now) (in_range base range.now) (λ p. may_fetch (base_at pages.now p))) }
+fn common_with(pages: &PageTable, base: Address, range: &Range, before: Common) -> Common
+    requires { IsPlaced base.0 (length pages.now) range.now }
+    ensures writable { result.is_writable ≡ (before.is_writable && all_named (length pages.now) (in_range base.0 range.now) (λ p. may_store (own_right_at pages.now p))) }
+    ensures executable { result.is_executable ≡ (before.is_executable && all_named (length pages.now) (in_range base.0 range.now) (λ p. may_fetch (own_right_at pages.now p))) }
 {
     // Proof step: the number of pages is 2^14 at most.
     let _ = pages.pages();
     let first = first_page(base, range);
     let mut common = before;
     for page in first..first + range.pages {
-        common = common.and(pages.base_of(PageNo(page)));
+        common = common.and(pages.own_right_of(PageNo(page)));
     }
     common
 }
 
 /// What the owners of all pages of these ranges may do with them while no transaction names them.
-pub fn common_of(pages: &PageTable, base: u32, ranges: &PageRanges) -> Common
-    requires { ArePlaced base (length pages.now) ranges.now }
-    ensures writable { result.is_writable ≡ are_writable (bases_in pages.now base) ranges.now }
-    ensures executable { result.is_executable ≡ are_executable (bases_in pages.now base) ranges.now }
+pub fn common_of(pages: &PageTable, base: Address, ranges: &PageRanges) -> Common
+    requires { ArePlaced base.0 (length pages.now) ranges.now }
+    ensures writable { result.is_writable ≡ are_writable (own_rights_in pages.now base.0) ranges.now }
+    ensures executable { result.is_executable ≡ are_executable (own_rights_in pages.now base.0) ranges.now }
 {
     let mut common = Common {
         is_writable: true,

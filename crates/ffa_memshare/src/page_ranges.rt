@@ -6,7 +6,7 @@ ghost use Rattle.ffa_memshare.specs.Ranges.{ArePlaced, IsPlaced};
 
 use crate::grants::first_page;
 use arrayvec::ArrayVec;
-use ffa_model::{MOST_RANGES, Range};
+use ffa_model::{Address, MOST_RANGES, Range};
 use ffa_pages::PageTable;
 use std::marker::Model;
 
@@ -19,9 +19,9 @@ pub(crate) struct PageRange {
 
 impl PageRange {
     // A range of the RAM at an address.
-    fn of(pages: &PageTable, base: u32, range: &Range) -> PageRange
-        requires { IsPlaced base (length pages.now) range.now }
-        ensures { range_at base result ≡ range.now }
+    fn of(pages: &PageTable, base: Address, range: &Range) -> PageRange
+        requires { IsPlaced base.0 (length pages.now) range.now }
+        ensures { range_at base.0 result ≡ range.now }
     {
         // Proof step: the number of pages is 2^14 at most.
         let _ = pages.pages();
@@ -31,11 +31,11 @@ impl PageRange {
         }
     }
 
-    fn range(self, base: u32) -> Range
-        ensures { result ≡ range_at base self }
+    fn range(self, base: Address) -> Range
+        ensures { result ≡ range_at base.0 self }
     {
         Range {
-            address: u64::from(base) + 4096 * u64::from(self.first),
+            address: u64::from(base.0) + 4096 * u64::from(self.first),
             pages: u32::from(self.pages),
         }
     }
@@ -44,7 +44,7 @@ impl PageRange {
 /// Ranges of pages of one RAM, four bytes for each: a transaction is small to keep and to move. Contracts see the ranges.
 #[derive(Debug, Drop)]
 pub struct PageRanges {
-    base: u32,
+    base: Address,
     list: ArrayVec<PageRange, MOST_RANGES>,
 }
 
@@ -56,17 +56,17 @@ impl Model for PageRanges {
 
     ghost Value = { List Range };
 
-    ghost view = { λ r. map (range_at r.base) r.list.items };
+    ghost view = { λ r. map (range_at r.base.0) r.list.items };
 }
 
 impl PageRanges {
     /// These ranges, of pages of the RAM at an address.
     pub(crate) fn of(
         pages: &PageTable,
-        base: u32,
+        base: Address,
         ranges: &ArrayVec<Range, MOST_RANGES>,
     ) -> PageRanges
-        requires { ArePlaced base (length pages.now) ranges.now.items }
+        requires { ArePlaced base.0 (length pages.now) ranges.now.items }
         ensures { result ≡ ranges.now.items }
     {
         let mut list = ArrayVec::new();

@@ -7,14 +7,14 @@ ghost use Rattle.ffa_model.specs.Calls.{first_failure};
 ghost use Rattle.ffa_model.specs.Identifiers.{place};
 ghost use Rattle.ffa_model.specs.MemoryReturn.{named_ranges, reclaim_guards};
 ghost use Rattle.ffa_model.specs.Transactions.{closed};
-ghost use Rattle.ffa_pages.specs.Entry.{base_at};
+ghost use Rattle.ffa_pages.specs.Entry.{own_right_at};
 ghost use Rattle.ffa_memshare.specs.Changed.{IsChanged, changed_reclaimer};
 ghost use Rattle.ffa_memshare.specs.Changes.{IsMarked, IsMoved};
-ghost use Rattle.ffa_memshare.specs.Named.{bases_in};
+ghost use Rattle.ffa_memshare.specs.Named.{own_rights_in};
 ghost use Rattle.ffa_memshare.specs.Ranges.{in_ranges};
 ghost use Rattle.ffa_memshare.specs.Shared.{IsShared};
 ghost use Rattle.ffa_memshare.specs.SlotChanges.{IsClosed};
-ghost use Rattle.ffa_memshare.specs.Stored.{map_in, offers_in};
+ghost use Rattle.ffa_memshare.specs.Stored.{map_in, open_in};
 
 use crate::changed::{Changed, changed_sender};
 use crate::marks::Mark;
@@ -43,17 +43,17 @@ impl Pool {
         handle: u64,
         flags: u32,
     ) -> Result<Changed, ErrorCode>
-        requires { IsShared (M.ram ram.old) layout.now.base (array_vec_len layout.now.regions) layout.now.blocks pages.old self.old.slots }
-        ensures refusal { result_err result ≡ first_failure (reclaim_guards (bases_in pages.old layout.now.base) caller.0 flags (finite.get (map_in self.old.slots) handle)) }
+        requires { IsShared (M.ram ram.old) layout.now.base.0 (array_vec_len layout.now.regions) layout.now.blocks pages.old self.old.slots }
+        ensures refusal { result_err result ≡ first_failure (reclaim_guards (own_rights_in pages.old layout.now.base.0) caller.0 flags (finite.get (map_in self.old.slots) handle)) }
         ensures kept { OnErr result (self.new ≡ self.old) }
         ensures kept_pages { OnErr result (pages.new ≡ pages.old) }
         ensures kept_ram { OnErr result (M.ram ram.new ≡ M.ram ram.old) }
         ensures slot { OnOk result (IsClosed self.old self.new handle) }
-        ensures offers { OnOk result (offers_in self.new ≡ closed (offers_in self.old) handle) }
+        ensures open_transactions { OnOk result (open_in self.new ≡ closed (open_in self.old) handle) }
         ensures ram { OnOk result (IsMoved (M.ram ram.old) (M.ram ram.new) (array_vec_len layout.now.regions) layout.now.blocks
-            (place caller.0) (in_ranges layout.now.base (named_ranges (finite.get (map_in self.old.slots) handle))) (base_at pages.old) (flags == 1)) }
+            (place caller.0) (in_ranges layout.now.base.0 (named_ranges (finite.get (map_in self.old.slots) handle))) (own_right_at pages.old) (flags == 1)) }
         ensures pages { OnOk result (IsMarked pages.old pages.new
-            (in_ranges layout.now.base (named_ranges (finite.get (map_in self.old.slots) handle))) (Mark.Named None)) }
+            (in_ranges layout.now.base.0 (named_ranges (finite.get (map_in self.old.slots) handle))) (Mark.Named None)) }
         ensures changed { IfOk result (λ changed. IsChanged changed (named_ranges (finite.get (map_in self.old.slots) handle))
             (changed_reclaimer (finite.get (map_in self.old.slots) handle) caller.0)) }
     {

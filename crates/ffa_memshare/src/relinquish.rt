@@ -7,12 +7,12 @@ ghost use Rattle.ffa_model.specs.Calls.{first_failure};
 ghost use Rattle.ffa_model.specs.MemoryReturn.{relinquish_guards};
 ghost use Rattle.ffa_model.specs.RelinquishDescriptor.{relinquish_of};
 ghost use Rattle.ffa_model.specs.State.{Buffers as Own};
-ghost use Rattle.ffa_model.specs.Transactions.{Offers};
+ghost use Rattle.ffa_model.specs.Transactions.{OpenTransactions};
 ghost use Rattle.ffa_rxtx.specs.Parts.{IsInRam, tx_in};
 ghost use Rattle.ffa_memshare.specs.Callers.{IsCaller};
 ghost use Rattle.ffa_memshare.specs.Relinquished.{IsRelinquished};
 ghost use Rattle.ffa_memshare.specs.Shared.{IsShared};
-ghost use Rattle.ffa_memshare.specs.Stored.{offers_in};
+ghost use Rattle.ffa_memshare.specs.Stored.{open_in};
 
 use crate::changed::Changed;
 use crate::grants::NewRight;
@@ -43,13 +43,13 @@ impl Pool {
         buffers: &Buffers,
         caller: EndpointId,
     ) -> Result<Changed, ErrorCode>
-        requires shared { IsShared (M.ram ram.old) layout.now.base (array_vec_len layout.now.regions) layout.now.blocks pages.now self.old.slots }
+        requires shared { IsShared (M.ram ram.old) layout.now.base.0 (array_vec_len layout.now.regions) layout.now.blocks pages.now self.old.slots }
         requires caller { IsCaller (array_vec_len layout.now.regions) (length (M.ram ram.old).pages) caller.0 buffers.now }
-        ensures refusal { result_err result ≡ first_failure (relinquish_guards (buffers_in buffers.now caller.0) (offers_in self.old) caller.0
+        ensures refusal { result_err result ≡ first_failure (relinquish_guards (buffers_in buffers.now caller.0) (open_in self.old) caller.0
             (relinquish_of (tx_in (M.ram ram.old) (buffers_in buffers.now caller.0)))) }
         ensures kept { OnErr result (self.new ≡ self.old) }
         ensures kept_ram { OnErr result (M.ram ram.new ≡ M.ram ram.old) }
-        ensures done { IfOk result (λ changed. IsRelinquished self.old self.new (M.ram ram.old) (M.ram ram.new) layout.now.base
+        ensures done { IfOk result (λ changed. IsRelinquished self.old self.new (M.ram ram.old) (M.ram ram.new) layout.now.base.0
             (array_vec_len layout.now.regions) layout.now.blocks caller.0 (tx_in (M.ram ram.old) (buffers_in buffers.now caller.0)) changed) }
     {
         let asked = asked_in(ram, buffers, caller)?;
@@ -75,7 +75,7 @@ fn asked_in<M: PhysMem>(
     caller: EndpointId,
 ) -> Result<RelinquishDesc, ErrorCode>
     requires { (b : Own) → buffers_in buffers.now caller.0 ≡ Some b → IsInRam (length (M.ram ram.now).pages) b }
-    ensures refused { IfErr result (λ code. (offers : Offers) → first_failure (relinquish_guards (buffers_in buffers.now caller.0) offers caller.0
+    ensures refused { IfErr result (λ code. (open_transactions : OpenTransactions) → first_failure (relinquish_guards (buffers_in buffers.now caller.0) open_transactions caller.0
         (relinquish_of (tx_in (M.ram ram.now) (buffers_in buffers.now caller.0)))) ≡ Some code) }
     ensures buffers { OnOk result (is_some (buffers_in buffers.now caller.0) ≡ true) }
     ensures asked { IfOk result (λ asked. relinquish_of (tx_in (M.ram ram.now) (buffers_in buffers.now caller.0)) ≡ Some asked) }

@@ -11,16 +11,16 @@ ghost use Rattle.ffa_model.specs.MemoryRetrieve.{holding_guards, response_to, re
 ghost use Rattle.ffa_model.specs.ResponseBytes.{response_record};
 ghost use Rattle.ffa_model.specs.RetrieveDescriptor.{retrieve_of};
 ghost use Rattle.ffa_model.specs.State.{Buffers as Own, Transaction};
-ghost use Rattle.ffa_model.specs.Transactions.{Offers};
+ghost use Rattle.ffa_model.specs.Transactions.{OpenTransactions};
 ghost use Rattle.ffa_pages.specs.Entry.{Entry, owner_at};
 ghost use Rattle.ffa_rxtx.specs.Parts.{IsInRam};
 ghost use Rattle.ffa_memshare.specs.Callers.{IsCaller};
-ghost use Rattle.ffa_memshare.specs.Named.{bases_in};
+ghost use Rattle.ffa_memshare.specs.Named.{own_rights_in};
 ghost use Rattle.ffa_memshare.specs.Ranges.{ArePlaced, in_ranges};
 ghost use Rattle.ffa_memshare.specs.Retrieved.{IsAnswered, IsPassedOn, IsRetrieved, IsTaken};
 ghost use Rattle.ffa_memshare.specs.Scenes.{descriptor_in, scene_in};
 ghost use Rattle.ffa_memshare.specs.Shared.{IsHeld, IsShared};
-ghost use Rattle.ffa_memshare.specs.Stored.{offers_in, pool_slot, view_of};
+ghost use Rattle.ffa_memshare.specs.Stored.{open_in, pool_slot, view_of};
 
 use crate::changed::{Changed, Retrieved};
 use crate::descriptor_call::DescriptorCall;
@@ -32,7 +32,7 @@ use crate::pool::Pool;
 use crate::respond::respond;
 use crate::transaction::OpenTransaction;
 use arrayvec::ArrayVec;
-use ffa_model::{EndpointId, ErrorCode, Kind, Response, RetrieveDesc, Rights, Version};
+use ffa_model::{Address, EndpointId, ErrorCode, Kind, Response, RetrieveDesc, Rights, Version};
 use ffa_pages::PageTable;
 use ffa_physmem::PhysMem;
 use ffa_rxtx::Buffers;
@@ -58,17 +58,17 @@ impl Pool {
         caller: EndpointId,
         call: &DescriptorCall,
     ) -> Result<Retrieved, ErrorCode>
-        requires shared { IsShared (M.ram ram.old) layout.now.base (array_vec_len layout.now.regions) layout.now.blocks pages.old self.old.slots }
+        requires shared { IsShared (M.ram ram.old) layout.now.base.0 (array_vec_len layout.now.regions) layout.now.blocks pages.old self.old.slots }
         requires caller { IsCaller (array_vec_len layout.now.regions) (length (M.ram ram.old).pages) caller.0 buffers.old }
         ensures refusal { result_err result ≡ first_failure (retrieve_guards
-            (scene_in (array_vec_len layout.now.regions) pages.old layout.now.base buffers.old (offers_in self.old)) caller.0 call.now.transfer
+            (scene_in (array_vec_len layout.now.regions) pages.old layout.now.base.0 buffers.old (open_in self.old)) caller.0 call.now.transfer
             (retrieve_of caller.0 (descriptor_in (M.ram ram.old) buffers.old caller.0 call.now))) }
         ensures kept { OnErr result (self.new ≡ self.old) }
         ensures kept_pages { OnErr result (pages.new ≡ pages.old) }
         ensures kept_buffers { OnErr result (buffers.new ≡ buffers.old) }
         ensures kept_ram { OnErr result (M.ram ram.new ≡ M.ram ram.old) }
         ensures full { OnOk result (buffers.new ≡ buffers_with_rx buffers.old caller.0 true) }
-        ensures done { IfOk result (λ retrieved. IsRetrieved self.old self.new (M.ram ram.old) (M.ram ram.new) pages.old pages.new layout.now.base
+        ensures done { IfOk result (λ retrieved. IsRetrieved self.old self.new (M.ram ram.old) (M.ram ram.new) pages.old pages.new layout.now.base.0
             (array_vec_len layout.now.regions) layout.now.blocks (buffers_in buffers.old caller.0) caller
             (descriptor_in (M.ram ram.old) buffers.old caller.0 call.now) retrieved.size retrieved.changed) }
     {
@@ -91,23 +91,23 @@ impl Pool {
     fn take(
         &mut self,
         pages: &mut PageTable,
-        base: u32,
+        base: Address,
         slot: usize,
         endpoint: EndpointId,
         right: Rights,
     )
         requires open { (x : ℕ × Transaction) × (pool_slot self.old.slots slot ≡ Some x) }
-        requires placed { (h : ℕ) (t : Transaction) → pool_slot self.old.slots slot ≡ Some (h, t) → ArePlaced base (length pages.old) t.ranges }
+        requires placed { (h : ℕ) (t : Transaction) → pool_slot self.old.slots slot ≡ Some (h, t) → ArePlaced base.0 (length pages.old) t.ranges }
         requires owned { (h : ℕ) (t : Transaction) → pool_slot self.old.slots slot ≡ Some (h, t)
-            → (p : ℕ) → in_ranges base t.ranges p ≡ true → owner_at pages.old p ≢ manager }
+            → (p : ℕ) → in_ranges base.0 t.ranges p ≡ true → owner_at pages.old p ≢ manager }
         requires endpoint { endpoint.0 ≢ manager }
         requires known { identifier (place endpoint.0) ≡ endpoint.0 }
         requires few { place endpoint.0 < MOST_ENDPOINTS }
         ensures slot { (h : ℕ) (t : Transaction) → pool_slot self.old.slots slot ≡ Some (h, t) → IsTaken t.kind self.old self.new h endpoint.0 right }
-        ensures offers { (h : ℕ) (t : Transaction) → pool_slot self.old.slots slot ≡ Some (h, t)
-            → offers_in self.new ≡ taken_in t.kind (offers_in self.old) h t endpoint.0 right }
+        ensures open_transactions { (h : ℕ) (t : Transaction) → pool_slot self.old.slots slot ≡ Some (h, t)
+            → open_in self.new ≡ taken_in t.kind (open_in self.old) h t endpoint.0 right }
         ensures pages { (h : ℕ) (t : Transaction) → pool_slot self.old.slots slot ≡ Some (h, t)
-            → IsPassedOn t.kind pages.old pages.new (in_ranges base t.ranges) endpoint right }
+            → IsPassedOn t.kind pages.old pages.new (in_ranges base.0 t.ranges) endpoint right }
     {
         let open = self.at(slot);
         match open.kind {
@@ -133,10 +133,10 @@ impl OpenTransaction {
         version: Version,
         right: Rights,
     ) -> u32
-        requires held { IsHeld (M.ram ram.old) layout.now.base (array_vec_len layout.now.regions) layout.now.blocks pages.now (view_of self.now) }
+        requires held { IsHeld (M.ram ram.old) layout.now.base.0 (array_vec_len layout.now.regions) layout.now.blocks pages.now (view_of self.now) }
         requires caller { IsCaller (array_vec_len layout.now.regions) (length (M.ram ram.old).pages) caller.0 buffers.old }
         requires buffers { is_some (buffers_in buffers.old caller.0) ≡ true }
-        ensures answered { IsAnswered (M.ram ram.old) (M.ram ram.new) layout.now.base (array_vec_len layout.now.regions) layout.now.blocks
+        ensures answered { IsAnswered (M.ram ram.old) (M.ram ram.new) layout.now.base.0 (array_vec_len layout.now.regions) layout.now.blocks
             (buffers_in buffers.old caller.0) self.now.handle (view_of self.now) caller.0 version right result }
         ensures full { buffers.new ≡ buffers_with_rx buffers.old caller.0 true }
     {
@@ -176,13 +176,13 @@ fn asked_in<M: PhysMem>(
     call: &DescriptorCall,
 ) -> Result<RetrieveDesc, ErrorCode>
     requires { (b : Own) → buffers_in buffers.now caller.0 ≡ Some b → IsInRam (length (M.ram ram.now).pages) b }
-    ensures refused { IfErr result (λ code. (n base : ℕ) (table : List (Option Entry)) (offers : Offers)
-        → first_failure (retrieve_guards (scene_in n table base buffers.now offers) caller.0 call.now.transfer
+    ensures refused { IfErr result (λ code. (n base : ℕ) (table : List (Option Entry)) (open_transactions : OpenTransactions)
+        → first_failure (retrieve_guards (scene_in n table base buffers.now open_transactions) caller.0 call.now.transfer
         (retrieve_of caller.0 (descriptor_in (M.ram ram.now) buffers.now caller.0 call.now))) ≡ Some code) }
-    ensures passed { IfOk result (λ asked. (n base : ℕ) (table : List (Option Entry)) (offers : Offers)
-        → first_failure (retrieve_guards (scene_in n table base buffers.now offers) caller.0 call.now.transfer
+    ensures passed { IfOk result (λ asked. (n base : ℕ) (table : List (Option Entry)) (open_transactions : OpenTransactions)
+        → first_failure (retrieve_guards (scene_in n table base buffers.now open_transactions) caller.0 call.now.transfer
         (retrieve_of caller.0 (descriptor_in (M.ram ram.now) buffers.now caller.0 call.now)))
-        ≡ first_failure (holding_guards (bases_in table base) (is_full (buffers_in buffers.now caller.0)) caller.0 asked (finite.get offers.transactions asked.handle))) }
+        ≡ first_failure (holding_guards (own_rights_in table base) (is_full (buffers_in buffers.now caller.0)) caller.0 asked (finite.get open_transactions.transactions asked.handle))) }
     ensures buffers { OnOk result (is_some (buffers_in buffers.now caller.0) ≡ true) }
     ensures asked { IfOk result (λ asked. retrieve_of caller.0 (descriptor_in (M.ram ram.now) buffers.now caller.0 call.now) ≡ Some asked) }
 {

@@ -17,7 +17,7 @@ ghost use Rattle.ffa_memshare.specs.Offers.{IsOffered};
 ghost use Rattle.ffa_memshare.specs.Scenes.{descriptor_in, scene_in};
 ghost use Rattle.ffa_memshare.specs.Sent.{IsSent};
 ghost use Rattle.ffa_memshare.specs.Shared.{IsRoom};
-ghost use Rattle.ffa_memshare.specs.Stored.{offers_in, view_of};
+ghost use Rattle.ffa_memshare.specs.Stored.{open_in, view_of};
 
 use crate::changed::{Changed, Sent, changed_sender};
 use crate::checks::send::check_offer;
@@ -55,18 +55,18 @@ impl Pool {
         kind: Kind,
         call: &DescriptorCall,
     ) -> Result<Sent, ErrorCode>
-        requires room { IsRoom (M.ram ram.old) layout.now.base (array_vec_len layout.now.regions) layout.now.blocks pages.old }
+        requires room { IsRoom (M.ram ram.old) layout.now.base.0 (array_vec_len layout.now.regions) layout.now.blocks pages.old }
         requires caller { IsCaller (array_vec_len layout.now.regions) (length (M.ram ram.old).pages) caller.0 buffers.now }
         requires endpoints { length self.old.sent ≡ array_vec_len layout.now.regions }
         requires tables { (p : ℕ) → p < table_page layout.now.blocks (array_vec_len layout.now.regions) 0 → entry_at pages.old p ≡ None }
         ensures refusal { result_err result ≡ first_failure (send_guards
-            (scene_in (array_vec_len layout.now.regions) pages.old layout.now.base buffers.now (offers_in self.old))
+            (scene_in (array_vec_len layout.now.regions) pages.old layout.now.base.0 buffers.now (open_in self.old))
             caller.0 call.now.transfer (send_of kind (descriptor_in (M.ram ram.old) buffers.now caller.0 call.now))) }
         ensures kept { OnErr result (self.new ≡ self.old) }
         ensures kept_pages { OnErr result (pages.new ≡ pages.old) }
         ensures kept_ram { OnErr result (M.ram ram.new ≡ M.ram ram.old) }
-        ensures handle { IfOk result (λ sent. sent.handle ≡ next_handle (offers_in self.old) caller.0) }
-        ensures sent { IfOk result (λ sent. IsSent self.old self.new pages.old pages.new (M.ram ram.old) (M.ram ram.new) layout.now.base
+        ensures handle { IfOk result (λ sent. sent.handle ≡ next_handle (open_in self.old) caller.0) }
+        ensures sent { IfOk result (λ sent. IsSent self.old self.new pages.old pages.new (M.ram ram.old) (M.ram ram.new) layout.now.base.0
             (array_vec_len layout.now.regions) layout.now.blocks caller.0 kind (descriptor_in (M.ram ram.old) buffers.now caller.0 call.now) sent.changed) }
     {
         let open = self.offered(ram, layout, pages, buffers, caller, kind, call)?;
@@ -92,14 +92,14 @@ impl Pool {
         requires buffers { (b : Own) → buffers_in buffers.now caller.0 ≡ Some b → IsInRam (length (M.ram ram.now).pages) b }
         requires caller { place caller.0 < length self.now.sent }
         ensures refused { IfErr result (λ code. first_failure (send_guards
-            (scene_in (array_vec_len layout.now.regions) pages.now layout.now.base buffers.now (offers_in self.now))
+            (scene_in (array_vec_len layout.now.regions) pages.now layout.now.base.0 buffers.now (open_in self.now))
             caller.0 call.now.transfer (send_of kind (descriptor_in (M.ram ram.now) buffers.now caller.0 call.now))) ≡ Some code) }
         ensures passed { OnOk result (first_failure (send_guards
-            (scene_in (array_vec_len layout.now.regions) pages.now layout.now.base buffers.now (offers_in self.now))
+            (scene_in (array_vec_len layout.now.regions) pages.now layout.now.base.0 buffers.now (open_in self.now))
             caller.0 call.now.transfer (send_of kind (descriptor_in (M.ram ram.now) buffers.now caller.0 call.now)))
-            ≡ first_failure (room_guards (offers_in self.now) caller.0)) }
-        ensures handle { IfOk result (λ t. t.handle ≡ next_handle (offers_in self.now) caller.0) }
-        ensures offered { IfOk result (λ t. IsOffered pages.now layout.now.base caller.0 kind
+            ≡ first_failure (room_guards (open_in self.now) caller.0)) }
+        ensures handle { IfOk result (λ t. t.handle ≡ next_handle (open_in self.now) caller.0) }
+        ensures offered { IfOk result (λ t. IsOffered pages.now layout.now.base.0 caller.0 kind
             (descriptor_in (M.ram ram.now) buffers.now caller.0 call.now) (view_of t)) }
     {
         let bytes = call.descriptor(ram, buffers, caller)?;

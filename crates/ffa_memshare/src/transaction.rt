@@ -6,9 +6,9 @@ ghost use Rattle.ffa_model.specs.Access.{held_by, is_receiver, right_by};
 ghost use Rattle.ffa_model.specs.Identifiers.{place};
 ghost use Rattle.ffa_model.specs.State.{Page};
 ghost use Rattle.ffa_model.specs.Transactions.{are_executable, are_writable};
-ghost use Rattle.ffa_pages.specs.Entry.{base_at};
+ghost use Rattle.ffa_pages.specs.Entry.{own_right_at};
 ghost use Rattle.ffa_memshare.specs.Changes.{IsMarked, IsMoved};
-ghost use Rattle.ffa_memshare.specs.Named.{bases_in};
+ghost use Rattle.ffa_memshare.specs.Named.{own_rights_in};
 ghost use Rattle.ffa_memshare.specs.Ranges.{ArePlaced, in_ranges};
 ghost use Rattle.ffa_memshare.specs.Grants.{new_right};
 ghost use Rattle.ffa_memshare.specs.Sent.{right_after};
@@ -21,7 +21,7 @@ use crate::marks::{Mark, mark_all};
 use crate::page_changes::change_pages;
 use crate::page_ranges::PageRanges;
 use arrayvec::ArrayVec;
-use ffa_model::{EndpointId, Kind, MOST_RECEIVERS, Receiver, Rights};
+use ffa_model::{Address, EndpointId, Kind, MOST_RECEIVERS, Receiver, Rights};
 use ffa_pages::PageTable;
 use ffa_physmem::PhysMem;
 use ffa_stage2::Layout;
@@ -69,24 +69,24 @@ impl OpenTransaction {
     }
 
     // What an endpoint may do with one of its pages, to which the sender's own right is this.
-    pub(crate) fn right_to(&self, endpoint: EndpointId, base: Rights) -> Option<Rights>
-        ensures { (page : Page) → page.base ≡ base → result ≡ right_by endpoint.0 page (view_of self.now) (held_by (view_of self.now) endpoint.0) }
+    pub(crate) fn right_to(&self, endpoint: EndpointId, own_right: Rights) -> Option<Rights>
+        ensures { (page : Page) → page.own_right ≡ own_right → result ≡ right_by endpoint.0 page (view_of self.now) (held_by (view_of self.now) endpoint.0) }
     {
         let held = self.held(endpoint);
         if held.is_some() {
             return held;
         }
         match self.kind {
-            Kind::Share if self.sender == endpoint => Some(base),
+            Kind::Share if self.sender == endpoint => Some(own_right),
             Kind::Share | Kind::Lend | Kind::Donate => None,
         }
     }
 
     // What all its pages have.
-    pub(crate) fn common(&self, pages: &PageTable, base: u32) -> Common
-        requires { ArePlaced base (length pages.now) self.now.ranges }
-        ensures writable { result.is_writable ≡ are_writable (bases_in pages.now base) self.now.ranges }
-        ensures executable { result.is_executable ≡ are_executable (bases_in pages.now base) self.now.ranges }
+    pub(crate) fn common(&self, pages: &PageTable, base: Address) -> Common
+        requires { ArePlaced base.0 (length pages.now) self.now.ranges }
+        ensures writable { result.is_writable ≡ are_writable (own_rights_in pages.now base.0) self.now.ranges }
+        ensures executable { result.is_executable ≡ are_executable (own_rights_in pages.now base.0) self.now.ranges }
     {
         common_of(pages, base, &self.ranges)
     }
@@ -99,14 +99,14 @@ impl OpenTransaction {
         pages: &mut PageTable,
         zero: bool,
     )
-        requires { IsHeld (M.ram ram.old) layout.now.base (array_vec_len layout.now.regions) layout.now.blocks pages.old (view_of self.now) }
+        requires { IsHeld (M.ram ram.old) layout.now.base.0 (array_vec_len layout.now.regions) layout.now.blocks pages.old (view_of self.now) }
         ensures moved { IsMoved (M.ram ram.old) (M.ram ram.new) (array_vec_len layout.now.regions) layout.now.blocks
-            (place self.now.sender.0) (in_ranges layout.now.base self.now.ranges) (base_at pages.old) zero }
-        ensures marked { IsMarked pages.old pages.new (in_ranges layout.now.base self.now.ranges) (Mark.Named None) }
+            (place self.now.sender.0) (in_ranges layout.now.base.0 self.now.ranges) (own_right_at pages.old) zero }
+        ensures marked { IsMarked pages.old pages.new (in_ranges layout.now.base.0 self.now.ranges) (Mark.Named None) }
     {
         let ranges = &self.ranges;
         let index = self.sender.place();
-        change_pages(ram, layout, pages, ranges, index, NewRight::Base, zero);
+        change_pages(ram, layout, pages, ranges, index, NewRight::Own, zero);
         mark_all(pages, layout.base, ranges, Mark::Named(None));
     }
 
@@ -119,10 +119,10 @@ impl OpenTransaction {
         pages: &mut PageTable,
         slot: u8,
     )
-        requires { IsHeld (M.ram ram.old) layout.now.base (array_vec_len layout.now.regions) layout.now.blocks pages.old (view_of self.now) }
+        requires { IsHeld (M.ram ram.old) layout.now.base.0 (array_vec_len layout.now.regions) layout.now.blocks pages.old (view_of self.now) }
         ensures moved { IsMoved (M.ram ram.old) (M.ram ram.new) (array_vec_len layout.now.regions) layout.now.blocks
-            (place self.now.sender.0) (in_ranges layout.now.base self.now.ranges) (new_right (right_after self.now.kind) pages.old) self.now.zero }
-        ensures marked { IsMarked pages.old pages.new (in_ranges layout.now.base self.now.ranges) (Mark.Named (Some slot)) }
+            (place self.now.sender.0) (in_ranges layout.now.base.0 self.now.ranges) (new_right (right_after self.now.kind) pages.old) self.now.zero }
+        ensures marked { IsMarked pages.old pages.new (in_ranges layout.now.base.0 self.now.ranges) (Mark.Named (Some slot)) }
     {
         let ranges = &self.ranges;
         let index = self.sender.place();
@@ -137,7 +137,7 @@ fn right_after(kind: Kind) -> NewRight
     ensures { result ≡ right_after kind }
 {
     match kind {
-        Kind::Share => NewRight::Base,
+        Kind::Share => NewRight::Own,
         Kind::Lend | Kind::Donate => NewRight::Same(None),
     }
 }

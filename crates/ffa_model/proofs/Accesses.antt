@@ -12,7 +12,7 @@ use Rattle.ffa_model.specs.Rights.{is_share}
 use Rattle.ffa_model.specs.State.{State, Page, Transaction, page_at, transaction_of}
 use Rattle.ffa_model.specs.Access.{access, handle_at, held_by, is_naming, names, right_by, right_of, transaction_at}
 use Rattle.ffa_model.specs.Memory.{with_pages, zeroed_if, zeroed_page}
-use Rattle.ffa_model.specs.Transactions.{closed, holding, not_holding, offers_of, opened, with_offers, with_transaction}
+use Rattle.ffa_model.specs.Transactions.{closed, holding, not_holding, open_of, opened, with_open, with_transaction}
 use Rattle.ffa_model.specs.MemoryRetrieve.{donated_page}
 use Rattle.ffa_model.proofs.Handles.{IsAlone, alone-in, get-beside, get-left, get-put, get-taken, none-in, none-passes, same-in}
 
@@ -80,7 +80,7 @@ unnamed-in s p never = none-in (is_naming s p) refl s.transactions (λ h. of h (
 -- A SEND
 module _ (s : State) (h : ℕ) (t : Transaction) (new : transaction_of s h ≡ None) where
   abbrev pub after_send : State
-  after_send = with_offers s (opened (offers_of s) h t)
+  after_send = with_open s (opened (open_of s) h t)
 
   beside : (p k : ℕ) → is_naming s p (transaction_of after_send k) ≡ true → (k ≡ h → ⊥) → is_naming s p (transaction_of s k) ≡ true
   beside p k passes other = sym (ap (is_naming s p) (get-beside s.transactions h t k other)) ∙ passes
@@ -103,10 +103,10 @@ module _ (s : State) (h : ℕ) (t : Transaction) (new : transaction_of s h ≡ N
 
     -- gives access to nobody but a share's sender
     pub access-opened : (e : ℕ) → held_by t e ≡ None
-        → access after_send e p ≡ option_and_then (λ (page : Page). if is_share t.kind && t.sender == e then Some page.base else None) (page_at s p)
+        → access after_send e p ≡ option_and_then (λ (page : Page). if is_share t.kind && t.sender == e then Some page.own_right else None) (page_at s p)
     access-opened e none = ap (right_of e (page_at s p)) in-opened ∙ of (page_at s p)
       where
-        of : (o : Option Page) → right_of e o (Some t) ≡ option_and_then (λ (page : Page). if is_share t.kind && t.sender == e then Some page.base else None) o
+        of : (o : Option Page) → right_of e o (Some t) ≡ option_and_then (λ (page : Page). if is_share t.kind && t.sender == e then Some page.own_right else None) o
         of None = refl
         of (Some page) = ap (right_by e page t) none
 
@@ -137,7 +137,7 @@ module _ (s : State) (h : ℕ) (t : Transaction) (new : transaction_of s h ≡ N
 -- A CHANGE of who holds an open transaction
 module _ (s : State) (h : ℕ) (t u : Transaction) (was : transaction_of s h ≡ Some t) (same_ranges : u.ranges ≡ t.ranges) (p : ℕ) (once : IsNamedOnce s p) where
   abbrev pub after_change : State
-  after_change = with_offers s (with_transaction (offers_of s) h u)
+  after_change = with_open s (with_transaction (open_of s) h u)
 
   tests-changed : (k : ℕ) → is_naming s p (transaction_of after_change k) ≡ is_naming s p (transaction_of s k)
   tests-changed k = elim (cases_eq k h) [
@@ -187,37 +187,37 @@ right-held (Some page) t u f kind sender held =
     ap (λ o. right_by f page u o) held ∙ of (held_by t f)
   where
     of : (o : Option Rights) → right_by f page u o ≡ right_by f page t o
-    of None = λ i. if is_share (kind i) && sender i == f then Some page.base else None
+    of None = λ i. if is_share (kind i) && sender i == f then Some page.own_right else None
     of (Some right) = refl
 
 module _ (s : State) (h : ℕ) (t : Transaction) (was : transaction_of s h ≡ Some t) (p : ℕ) (once : IsNamedOnce s p) (named : names s t.ranges p ≡ true) (e : ℕ) where
   -- e holds it
   pub access-holding : (right : Rights) (page : Page) → page_at s p ≡ Some page
-      → access (with_offers s (with_transaction (offers_of s) h (holding t e right))) e p ≡ Some right
+      → access (with_open s (with_transaction (open_of s) h (holding t e right))) e p ≡ Some right
   access-holding right page is =
       ap (right_of e (page_at s p)) (in-changed s h t (holding t e right) was refl p once named)
       ∙ ap (λ o. right_of e o (Some (holding t e right))) is
       ∙ ap (right_by e page (holding t e right)) (held-itself t e right)
 
   pub access-holding_beside : (right : Rights) (f : ℕ) → (f ≡ e → ⊥)
-      → access (with_offers s (with_transaction (offers_of s) h (holding t e right))) f p ≡ access s f p
+      → access (with_open s (with_transaction (open_of s) h (holding t e right))) f p ≡ access s f p
   access-holding_beside right f other =
       ap (right_of f (page_at s p)) (in-changed s h t (holding t e right) was refl p once named)
       ∙ right-held (page_at s p) t (holding t e right) f refl refl (held-beside t e right f other)
       ∙ sym (ap (right_of f (page_at s p)) (named-in s p h t once was named))
 
   -- e holds it no more: what it has then is a share's sender's alone
-  pub access-released : access (with_offers s (with_transaction (offers_of s) h (not_holding t e))) e p
-      ≡ option_and_then (λ (page : Page). if is_share t.kind && t.sender == e then Some page.base else None) (page_at s p)
+  pub access-released : access (with_open s (with_transaction (open_of s) h (not_holding t e))) e p
+      ≡ option_and_then (λ (page : Page). if is_share t.kind && t.sender == e then Some page.own_right else None) (page_at s p)
   access-released =
       ap (right_of e (page_at s p)) (in-changed s h t (not_holding t e) was refl p once named) ∙ of (page_at s p)
     where
-      of : (o : Option Page) → right_of e o (Some (not_holding t e)) ≡ option_and_then (λ (page : Page). if is_share t.kind && t.sender == e then Some page.base else None) o
+      of : (o : Option Page) → right_of e o (Some (not_holding t e)) ≡ option_and_then (λ (page : Page). if is_share t.kind && t.sender == e then Some page.own_right else None) o
       of None = refl
       of (Some page) = ap (right_by e page (not_holding t e)) (released-itself t e)
 
   pub access-released_beside : (f : ℕ) → (f ≡ e → ⊥)
-      → access (with_offers s (with_transaction (offers_of s) h (not_holding t e))) f p ≡ access s f p
+      → access (with_open s (with_transaction (open_of s) h (not_holding t e))) f p ≡ access s f p
   access-released_beside f other =
       ap (right_of f (page_at s p)) (in-changed s h t (not_holding t e) was refl p once named)
       ∙ right-held (page_at s p) t (not_holding t e) f refl refl (released-beside t e f other)
@@ -226,7 +226,7 @@ module _ (s : State) (h : ℕ) (t : Transaction) (was : transaction_of s h ≡ S
 -- A CLOSE
 module _ (s : State) (h : ℕ) (t : Transaction) (was : transaction_of s h ≡ Some t) (p : ℕ) (once : IsNamedOnce s p) where
   abbrev pub after_close : State
-  after_close = with_offers s (closed (offers_of s) h)
+  after_close = with_open s (closed (open_of s) h)
 
   left : (k : ℕ) → is_naming s p (transaction_of after_close k) ≡ true → (k ≡ h → ⊥) × (is_naming s p (transaction_of s k) ≡ true)
   left k passes = elim (cases_eq k h) [

@@ -20,7 +20,7 @@ use Rattle.ffa_model.specs.Memory.{page_with, with_pages, written, written_pages
 use Rattle.ffa_model.specs.Buffers.{Candidate, candidate_at, candidates, filled, filled_pages}
 use Rattle.ffa_model.specs.ResponseBytes.{response_bytes}
 use Rattle.ffa_model.specs.SendDescriptor.{SendRecord}
-use Rattle.ffa_model.specs.Transactions.{closed, handle_of, holding, next_handle, not_holding, offers_of, with_offers, with_transaction, bases_of, pages_in}
+use Rattle.ffa_model.specs.Transactions.{closed, handle_of, holding, next_handle, not_holding, open_of, with_open, with_transaction, own_rights_of, pages_in}
 use Rattle.ffa_model.specs.MemorySend.{is_own, is_sendable, memory_sent, offered_in, transaction_from}
 use Rattle.ffa_model.specs.MemoryRetrieve.{donated_if, donated_page, response_to, retrieved_right, with_retrieved, taken_in}
 use Rattle.ffa_model.specs.MemoryReturn.{reclaimed, relinquished_from}
@@ -70,7 +70,7 @@ access-filled s f bytes e p = of (buffers_of s f)
 
 -- what nobody but the sender of a share has in a page whose transaction it doesn't hold
 abbrev pub unheld_right : Transaction → ℕ → Option Page → Option Rights
-unheld_right t e page = option_and_then (λ (q : Page). if is_share t.kind && t.sender == e then Some q.base else None) page
+unheld_right t e page = option_and_then (λ (q : Page). if is_share t.kind && t.sender == e then Some q.own_right else None) page
 
 -- no page outside RAM gives a right
 right-past : (s : State) (e p : ℕ) (t : Option Transaction) → length s.pages ≤ p → right_of e (page_at s p) t ≡ None
@@ -78,7 +78,7 @@ right-past s e p t past = ap (λ page. right_of e page t) (get_or_past s.pages p
 
 -- A SEND
 -- a page that may be sent stands in no transaction
-pub sendable-unnamed : (s : State) (e p : ℕ) (ranges : List Range) → list_all (is_sendable e (candidates s) s.buffers) (pages_in (bases_of s) ranges) ≡ true
+pub sendable-unnamed : (s : State) (e p : ℕ) (ranges : List Range) → list_all (is_sendable e (candidates s) s.buffers) (pages_in (own_rights_of s) ranges) ≡ true
     → p < length s.pages → names s ranges p ≡ true → handle_at s p ≡ None
 sendable-unnamed s e p ranges all lt named =
     let one : is_sendable e (candidates s) s.buffers p ≡ true =
@@ -91,7 +91,7 @@ sendable-unnamed s e p ranges all lt named =
     none (Some h) is = absurd (false≢true is)
 
     of : (o : Option Page)
-        → is_own e (option_map (λ (page : Page). let c : Candidate = record { owner = page.owner; base = page.base; named = is_some (handle_at s p) } in c) o) ≡ true
+        → is_own e (option_map (λ (page : Page). let c : Candidate = record { owner = page.owner; own_right = page.own_right; named = is_some (handle_at s p) } in c) o) ≡ true
         → handle_at s p ≡ None
     of None h = absurd (false≢true h)
     of (Some page) h = none (handle_at s p) (and_parts _ _ h).1
@@ -105,13 +105,13 @@ pub runner-known : (s : State) → IsSoundState s → IsKnown s s.runner
 runner-known s sound = subst (λ n. is_known_among n s.runner ≡ true) sound.sized.works sound.schedule.runner
 
 -- a handle that has not been given is not open
-pub handle-new : (s : State) → IsSoundState s → (e : ℕ) → IsKnown s e → transaction_of s (next_handle (offers_of s) e) ≡ None
-handle-new s sound e known = of (transaction_of s (next_handle (offers_of s) e)) refl
+pub handle-new : (s : State) → IsSoundState s → (e : ℕ) → IsKnown s e → transaction_of s (next_handle (open_of s) e) ≡ None
+handle-new s sound e known = of (transaction_of s (next_handle (open_of s) e)) refl
   where
-    of : (o : Option Transaction) → transaction_of s (next_handle (offers_of s) e) ≡ o → o ≡ None
+    of : (o : Option Transaction) → transaction_of s (next_handle (open_of s) e) ≡ o → o ≡ None
     of None is = refl
     of (Some t) is =
-        let good : IsSoundTransaction s (next_handle (offers_of s) e) t = sound.transactions (next_handle (offers_of s) e) t is in
+        let good : IsSoundTransaction s (next_handle (open_of s) e) t = sound.transactions (next_handle (open_of s) e) t is in
         let number = good.number in
         let most_e : sent_by s e ≤ MOST_SENDS = sound.sent e known in
         let most_t : sent_by s t.sender ≤ MOST_SENDS = sound.sent t.sender good.sender in
@@ -126,59 +126,59 @@ module _ (s : State) (sound : IsSoundState s) where
   once p lt h k at_h at_k = sound.one p h k lt at_h at_k
 
   -- the pages that a send names give a right to nobody but a share's sender; others are as they were
-  pub send-named : (kind : Kind) (r : SendRecord) (e p : ℕ) → list_all (is_sendable s.runner (candidates s) s.buffers) (pages_in (bases_of s) r.ranges) ≡ true
+  pub send-named : (kind : Kind) (r : SendRecord) (e p : ℕ) → list_all (is_sendable s.runner (candidates s) s.buffers) (pages_in (own_rights_of s) r.ranges) ≡ true
       → p < length s.pages → names s r.ranges p ≡ true
       → access (memory_sent s kind (Some r)) e p ≡ unheld_right (transaction_from kind r) e (page_at s p)
   send-named kind r e p free lt named =
-      access-zeroed r.zero (with_offers s (offered_in (offers_of s) s.runner kind r)) r.ranges e p
-      ∙ access-opened s (next_handle (offers_of s) s.runner) (transaction_from kind r) (handle-new s sound s.runner (runner-known s sound)) p named
+      access-zeroed r.zero (with_open s (offered_in (open_of s) s.runner kind r)) r.ranges e p
+      ∙ access-opened s (next_handle (open_of s) s.runner) (transaction_from kind r) (handle-new s sound s.runner (runner-known s sound)) p named
       (sendable-unnamed s s.runner p r.ranges free lt named) e (finite.get-empty nat_cmp e)
 
   pub send-other : (kind : Kind) (r : SendRecord) (e p : ℕ) → p < length s.pages → names s r.ranges p ≡ false
       → access (memory_sent s kind (Some r)) e p ≡ access s e p
   send-other kind r e p lt other =
-      access-zeroed r.zero (with_offers s (offered_in (offers_of s) s.runner kind r)) r.ranges e p
-      ∙ access-beside s (next_handle (offers_of s) s.runner) (transaction_from kind r) (handle-new s sound s.runner (runner-known s sound)) p other (once p lt) e
+      access-zeroed r.zero (with_open s (offered_in (open_of s) s.runner kind r)) r.ranges e p
+      ∙ access-beside s (next_handle (open_of s) s.runner) (transaction_from kind r) (handle-new s sound s.runner (runner-known s sound)) p other (once p lt) e
 
   module _ (h : ℕ) (t : Transaction) (was : transaction_of s h ≡ Some t) (p : ℕ) (lt : p < length s.pages) where
     -- A RECLAIM: the pages are their owner's again
     pub reclaim-named : (zeros : Bool) (e : ℕ) → names s t.ranges p ≡ true → access (reclaimed s h zeros) e p ≡ right_of e (page_at s p) None
-    reclaim-named zeros e named = access-zeroed zeros (with_offers s (closed (offers_of s) h)) _ e p ∙ access-closed s h t was p (once p lt) named e
+    reclaim-named zeros e named = access-zeroed zeros (with_open s (closed (open_of s) h)) _ e p ∙ access-closed s h t was p (once p lt) named e
 
     pub reclaim-other : (zeros : Bool) (e : ℕ) → names s t.ranges p ≡ false → access (reclaimed s h zeros) e p ≡ access s e p
-    reclaim-other zeros e other = access-zeroed zeros (with_offers s (closed (offers_of s) h)) _ e p ∙ access-still s h t was p (once p lt) other e
+    reclaim-other zeros e other = access-zeroed zeros (with_open s (closed (open_of s) h)) _ e p ∙ access-still s h t was p (once p lt) other e
 
     -- A RELINQUISH by the runner
     pub relinquish-named : (d : RelinquishDesc) → d.handle ≡ h → names s t.ranges p ≡ true
         → access (relinquished_from s d (Some t)) s.runner p ≡ unheld_right t s.runner (page_at s p)
     relinquish-named d is named =
-        access-zeroed d.zero (with_offers s (with_transaction (offers_of s) d.handle (not_holding t s.runner))) t.ranges s.runner p
-        ∙ ap (λ k. access (with_offers s (with_transaction (offers_of s) k (not_holding t s.runner))) s.runner p) is
+        access-zeroed d.zero (with_open s (with_transaction (open_of s) d.handle (not_holding t s.runner))) t.ranges s.runner p
+        ∙ ap (λ k. access (with_open s (with_transaction (open_of s) k (not_holding t s.runner))) s.runner p) is
         ∙ access-released s h t was p (once p lt) named s.runner
 
     pub relinquish-beside : (d : RelinquishDesc) (f : ℕ) → d.handle ≡ h → names s t.ranges p ≡ true → (f ≡ s.runner → ⊥)
         → access (relinquished_from s d (Some t)) f p ≡ access s f p
     relinquish-beside d f is named other =
-        access-zeroed d.zero (with_offers s (with_transaction (offers_of s) d.handle (not_holding t s.runner))) t.ranges f p
-        ∙ ap (λ k. access (with_offers s (with_transaction (offers_of s) k (not_holding t s.runner))) f p) is
+        access-zeroed d.zero (with_open s (with_transaction (open_of s) d.handle (not_holding t s.runner))) t.ranges f p
+        ∙ ap (λ k. access (with_open s (with_transaction (open_of s) k (not_holding t s.runner))) f p) is
         ∙ access-released_beside s h t was p (once p lt) named s.runner f other
 
     pub relinquish-other : (d : RelinquishDesc) (f : ℕ) → d.handle ≡ h → names s t.ranges p ≡ false
         → access (relinquished_from s d (Some t)) f p ≡ access s f p
     relinquish-other d f is other =
-        access-zeroed d.zero (with_offers s (with_transaction (offers_of s) d.handle (not_holding t s.runner))) t.ranges f p
-        ∙ ap (λ k. access (with_offers s (with_transaction (offers_of s) k (not_holding t s.runner))) f p) is
+        access-zeroed d.zero (with_open s (with_transaction (open_of s) d.handle (not_holding t s.runner))) t.ranges f p
+        ∙ ap (λ k. access (with_open s (with_transaction (open_of s) k (not_holding t s.runner))) f p) is
         ∙ access-unchanged s h t (not_holding t s.runner) was refl p (once p lt) other f
 
     -- A RETRIEVE of a share or a lend by e: it has the right, and nobody else's access changes
     abbrev after_taking : ℕ → Rights → State
-    after_taking e right = with_offers s (with_transaction (offers_of s) h (holding t e right))
+    after_taking e right = with_open s (with_transaction (open_of s) h (holding t e right))
 
     taking : (e : ℕ) (right : Rights) (f : ℕ) → is_donate t.kind ≡ false → access (with_retrieved s h t e right) f p ≡ access (after_taking e right) f p
     taking e right f borrowed = of t.kind borrowed
       where
         of : (kind : Kind) → is_donate kind ≡ false
-            → access (with_offers (donated_if (is_donate kind) s t.ranges e right) (taken_in kind (offers_of s) h t e right)) f p ≡ access (after_taking e right) f p
+            → access (with_open (donated_if (is_donate kind) s t.ranges e right) (taken_in kind (open_of s) h t e right)) f p ≡ access (after_taking e right) f p
         of Share borrowed = refl
         of Lend borrowed = refl
         of Donate is = absurd (true≢false is)
@@ -206,12 +206,12 @@ module _ (s : State) (sound : IsSoundState s) where
 
     -- A RETRIEVE of a donate by e: it owns the pages with this right, and nobody else has any
     giving : (e : ℕ) (right : Rights) (f : ℕ) → is_donate t.kind ≡ true
-        → access (with_retrieved s h t e right) f p ≡ access (with_pages (with_offers s (closed (offers_of s) h)) t.ranges (donated_page e right)) f p
+        → access (with_retrieved s h t e right) f p ≡ access (with_pages (with_open s (closed (open_of s) h)) t.ranges (donated_page e right)) f p
     giving e right f donated = of t.kind donated
       where
         of : (kind : Kind) → is_donate kind ≡ true
-            → access (with_offers (donated_if (is_donate kind) s t.ranges e right) (taken_in kind (offers_of s) h t e right)) f p
-            ≡ access (with_pages (with_offers s (closed (offers_of s) h)) t.ranges (donated_page e right)) f p
+            → access (with_open (donated_if (is_donate kind) s t.ranges e right) (taken_in kind (open_of s) h t e right)) f p
+            ≡ access (with_pages (with_open s (closed (open_of s) h)) t.ranges (donated_page e right)) f p
         of Share is = absurd (false≢true is)
         of Lend is = absurd (false≢true is)
         of Donate donated = refl
@@ -221,12 +221,12 @@ module _ (s : State) (sound : IsSoundState s) where
     donate-named e right f donated named =
         access-filled (with_retrieved s h t e right) e (response_bytes (version_of s e) (response_to h t e right)) f p
         ∙ giving e right f donated
-        ∙ access-given (with_offers s (closed (offers_of s) h)) t.ranges e f right p named (in-closed s h t was p (once p lt) named)
+        ∙ access-given (with_open s (closed (open_of s) h)) t.ranges e f right p named (in-closed s h t was p (once p lt) named)
 
     pub donate-other : (e : ℕ) (right : Rights) (f : ℕ) → is_donate t.kind ≡ true → names s t.ranges p ≡ false
         → access (retrieved_right s h t e right) f p ≡ access s f p
     donate-other e right f donated other =
         access-filled (with_retrieved s h t e right) e (response_bytes (version_of s e) (response_to h t e right)) f p
         ∙ giving e right f donated
-        ∙ access-kept (with_offers s (closed (offers_of s) h)) t.ranges e f right p other
+        ∙ access-kept (with_open s (closed (open_of s) h)) t.ranges e f right p other
         ∙ access-still s h t was p (once p lt) other f

@@ -9,7 +9,7 @@ use Rattle.std.specs.FinMap.Entries.{by_order}
 use Rattle.std.proofs.lemmas.Bool.{eqb-true}
 use Rattle.std.proofs.lemmas.Option.{none-some}
 use Rattle.ffa_model.specs.State.{Transaction}
-use Rattle.ffa_model.specs.Transactions.{Offers, closed, open_count, opened, with_transaction}
+use Rattle.ffa_model.specs.Transactions.{OpenTransactions, closed, open_count, opened, with_transaction}
 use Rattle.ffa_model.proofs.Handles.{Transactions, get-taken}
 
 some-none : {A : Type 0} (x : A) → Some x ≡ None → ⊥
@@ -97,7 +97,7 @@ module _ (test : Transaction → Bool) where
       ∙ count-remove m k t is
 
 -- the same of what endpoints have sent
-module _ (o : Offers) (h : ℕ) (e : ℕ) where
+module _ (o : OpenTransactions) (h : ℕ) (e : ℕ) where
   pub open-opened : (t : Transaction) → finite.get o.transactions h ≡ None → open_count (opened o h t) e ≡ cond (t.sender == e) 1 0 + open_count o e
   open-opened t none = count-insert (λ (u : Transaction). u.sender == e) o.transactions h t none
 

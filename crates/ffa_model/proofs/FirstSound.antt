@@ -110,7 +110,7 @@ module _ (base blocks : ℕ) (es : List Endpoint) (good : is_accepted base block
   sound-page p page is = of (find (λ (x : ℕ × Region). has_page base p x.1) (owned_regions es)) refl is
     where
       of : (o : Option (ℕ × Region)) → find (λ (x : ℕ × Region). has_page base p x.1) (owned_regions es) ≡ o
-          → option_map (λ (x : ℕ × Region). let q : Page = record { owner = x.0; base = x.1.rights; bytes = replicate 4096 0 } in q) o ≡ Some page
+          → option_map (λ (x : ℕ × Region). let q : Page = record { owner = x.0; own_right = x.1.rights; bytes = replicate 4096 0 } in q) o ≡ Some page
           → IsSoundPage (first base blocks es) page
       of None found none = absurd (none-some page none)
       of (Some x) found some =

@@ -15,7 +15,7 @@ use Rattle.ffa_model.specs.State.{State, Page, Transaction, page_at, transaction
 use Rattle.ffa_model.specs.Access.{handle_at, is_naming, is_receiver, names, transaction_at}
 use Rattle.ffa_model.specs.Memory.{zeroed_if}
 use Rattle.ffa_model.specs.Buffers.{Candidate, candidate_at, is_usable}
-use Rattle.ffa_model.specs.Transactions.{bases_of, ceiling, closed, next_handle, offers_of, opened, with_offers}
+use Rattle.ffa_model.specs.Transactions.{own_rights_of, ceiling, closed, next_handle, open_of, opened, with_open}
 use Rattle.ffa_model.specs.MemorySend.{memory_sent, transaction_from}
 use Rattle.ffa_model.specs.MemoryRetrieve.{donated_if, with_retrieved, taken_in}
 use Rattle.ffa_model.specs.MemoryReturn.{reclaimed, relinquished_from}
@@ -39,7 +39,7 @@ usable-unnamed s e p usable = of (page_at s p) usable
     none (Some h) is = absurd (false≢true is)
 
     of : (o : Option Page)
-        → is_usable e (option_map (λ (page : Page). let c : Candidate = record { owner = page.owner; base = page.base; named = is_some (handle_at s p) } in c) o) ≡ true
+        → is_usable e (option_map (λ (page : Page). let c : Candidate = record { owner = page.owner; own_right = page.own_right; named = is_some (handle_at s p) } in c) o) ≡ true
         → handle_at s p ≡ None
     of None h = absurd (false≢true h)
     of (Some page) h = none (handle_at s p) (and_parts _ _ (and_parts _ _ h).0).1
@@ -56,7 +56,7 @@ module _ (s : State) (sound : IsSoundState s) where
   pub offered-sound : (kind : Kind) (r : SendRecord) → r.sender ≡ s.runner → IsSendable s (transaction_from kind r) → IsSoundState (memory_sent s kind (Some r))
   offered-sound kind r same good =
       zeroed-sound r.zero _ r.ranges
-      (subst (λ e. IsSoundState (with_offers s (opened (offers_of s) (next_handle (offers_of s) e) (transaction_from kind r)))) same
+      (subst (λ e. IsSoundState (with_open s (opened (open_of s) (next_handle (open_of s) e) (transaction_from kind r)))) same
       (opened-sound s sound (transaction_from kind r) good))
 
   pub relinquished-sound : (d : RelinquishDesc) (t : Transaction) → transaction_of s d.handle ≡ Some t → IsSoundState (relinquished_from s d (Some t))
@@ -70,17 +70,17 @@ module _ (s : State) (sound : IsSoundState s) where
     unbuffered : (p : ℕ) (e : ℕ) → is_usable e (candidate_at s p) ≡ true → names s t.ranges p ≡ false
     unbuffered p e usable = sym (ap (is_naming s p) was) ∙ none-passes (is_naming s p) refl s.transactions h (usable-unnamed s e p usable)
 
-    donated-sound : (e : ℕ) (right : Rights) → IsKnown s e → IsSoundState (with_offers (donated_if true s t.ranges e right) (closed (offers_of s) h))
+    donated-sound : (e : ℕ) (right : Rights) → IsKnown s e → IsSoundState (with_open (donated_if true s t.ranges e right) (closed (open_of s) h))
     donated-sound e right known =
-        given-sound (with_offers s (closed (offers_of s) h)) (closed-sound s sound h t was) t.ranges e right known
-        (λ p lt named. handle-none (with_offers s (closed (offers_of s) h)) p (in-closed s h t was p (λ k j at_k at_j. sound.one p k j lt at_k at_j) named))
+        given-sound (with_open s (closed (open_of s) h)) (closed-sound s sound h t was) t.ranges e right known
+        (λ p lt named. handle-none (with_open s (closed (open_of s) h)) p (in-closed s h t was p (λ k j at_k at_j. sound.one p k j lt at_k at_j) named))
         (λ f b is_known is. let its = sound.buffers f b is_known is in (λ p in_tx. unbuffered p f (its.tx p in_tx), λ p in_rx. unbuffered p f (its.rx p in_rx)))
 
-    pub taken-sound : (e : ℕ) (right : Rights) → IsKnown s e → is_receiver e t ≡ true → is_at_most right (ceiling (bases_of s) t e) ≡ true
+    pub taken-sound : (e : ℕ) (right : Rights) → IsKnown s e → is_receiver e t ≡ true → is_at_most right (ceiling (own_rights_of s) t e) ≡ true
         → IsSoundState (with_retrieved s h t e right)
     taken-sound e right known receiver within = of t.kind refl
       where
-        of : (kind : Kind) → t.kind ≡ kind → IsSoundState (with_offers (donated_if (is_donate kind) s t.ranges e right) (taken_in kind (offers_of s) h t e right))
+        of : (kind : Kind) → t.kind ≡ kind → IsSoundState (with_open (donated_if (is_donate kind) s t.ranges e right) (taken_in kind (open_of s) h t e right))
         of Share is = holding-sound s sound h t was e right receiver within (ap is_donate is)
         of Lend is = holding-sound s sound h t was e right receiver within (ap is_donate is)
         of Donate is = donated-sound e right known

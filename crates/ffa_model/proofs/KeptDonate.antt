@@ -17,7 +17,7 @@ use Rattle.ffa_model.specs.Rights.{is_at_most, may_fetch, may_store}
 use Rattle.ffa_model.specs.State.{State, Page, Transaction, Buffers, buffers_of, owner_of, page_at, transaction_of}
 use Rattle.ffa_model.specs.Access.{handle_at, is_naming, names}
 use Rattle.ffa_model.specs.Memory.{with_pages}
-use Rattle.ffa_model.specs.Transactions.{Bases, are_writable, base_of, bases_of, ceiling, ceiling_in, grant_to, pages_in}
+use Rattle.ffa_model.specs.Transactions.{OwnRights, are_writable, own_right_of, own_rights_of, ceiling, ceiling_in, grant_to, pages_in}
 use Rattle.ffa_model.specs.MemorySend.{are_grants_within, is_grantable, is_inside}
 use Rattle.ffa_model.specs.MemoryRetrieve.{donated_page}
 use Rattle.ffa_model.specs.SoundState.{IsKnown, IsSoundPage, IsSoundState, IsSoundTransaction}
@@ -52,18 +52,18 @@ module _ (s : State) (sound : IsSoundState s) (ranges : List Range) (e : ℕ) (r
   page-same : (p : ℕ) → names s ranges p ≡ false → page_at after_giving p ≡ page_at s p
   page-same p other = page-changed s ranges (donated_page e right) p refl ∙ ap (λ b. cond b (donated_page e right (page_at s p)) (page_at s p)) other
 
-  base-same : (p : ℕ) → names s ranges p ≡ false → base_of after_giving p ≡ base_of s p
-  base-same p other = ap (option_map (λ (page : Page). page.base)) (page-same p other)
+  base-same : (p : ℕ) → names s ranges p ≡ false → own_right_of after_giving p ≡ own_right_of s p
+  base-same p other = ap (option_map (λ (page : Page). page.own_right)) (page-same p other)
 
   owner-same : (p : ℕ) → names s ranges p ≡ false → owner_of after_giving p ≡ owner_of s p
   owner-same p other = ap (λ o. option_map_or (λ (page : Page). page.owner) o manager) (page-same p other)
 
   -- RAM as it is then, by the number of pages before
-  abbrev given_bases : Bases
-  given_bases = record { ram_base = s.ram_base; pages = length s.pages; right = base_of after_giving }
+  abbrev given_own_rights : OwnRights
+  given_own_rights = record { ram_base = s.ram_base; pages = length s.pages; right = own_right_of after_giving }
 
-  given_bases-are : bases_of after_giving ≡ given_bases
-  given_bases-are = λ i. record { ram_base = s.ram_base; pages = size i; right = base_of after_giving }
+  given_own_rights-are : own_rights_of after_giving ≡ given_own_rights
+  given_own_rights-are = λ i. record { ram_base = s.ram_base; pages = size i; right = own_right_of after_giving }
 
   module _ (h : ℕ) (t : Transaction) (is : transaction_of s h ≡ Some t) where
     good : IsSoundTransaction s h t
@@ -77,13 +77,13 @@ module _ (s : State) (sound : IsSoundState s) (ranges : List Range) (e : ℕ) (r
         of false is_other = is_other
         of true given = absurd (true≢false (sym (ap (is_naming s p) is ∙ named) ∙ none-passes (is_naming s p) refl s.transactions h (free p lt given)))
 
-    same-all : (test : Option Rights → Bool) → list_all (λ p. test (base_of after_giving p)) (pages_in given_bases t.ranges) ≡ list_all (λ p. test (base_of s p)) (pages_in given_bases t.ranges)
-    same-all test = same-tests (λ p. test (base_of after_giving p)) (λ p. test (base_of s p)) (names s t.ranges) (length s.pages) (λ p. p) (λ p lt named. ap test (base-same p (other p lt named)))
+    same-all : (test : Option Rights → Bool) → list_all (λ p. test (own_right_of after_giving p)) (pages_in given_own_rights t.ranges) ≡ list_all (λ p. test (own_right_of s p)) (pages_in given_own_rights t.ranges)
+    same-all test = same-tests (λ p. test (own_right_of after_giving p)) (λ p. test (own_right_of s p)) (names s t.ranges) (length s.pages) (λ p. p) (λ p lt named. ap test (base-same p (other p lt named)))
 
-    ceiling-same : (f : ℕ) → ceiling given_bases t f ≡ ceiling (bases_of s) t f
+    ceiling-same : (f : ℕ) → ceiling given_own_rights t f ≡ ceiling (own_rights_of s) t f
     ceiling-same f = of t.kind
       where
-        of : (kind : Kind) → ceiling_in kind given_bases t f ≡ ceiling_in kind (bases_of s) t f
+        of : (kind : Kind) → ceiling_in kind given_own_rights t f ≡ ceiling_in kind (own_rights_of s) t f
         of Share = refl
         of Lend = λ i. record { level = grant_to t f; exec = length t.receivers == 1 && same-all may_fetch i }
         of Donate = λ i. record { level = if same-all may_store i then Rw else Ro; exec = same-all may_fetch i }
@@ -93,15 +93,15 @@ module _ (s : State) (sound : IsSoundState s) (ranges : List Range) (e : ℕ) (r
         record {
           sender = good.sender;
           number = good.number;
-          inside = subst (λ (b : Bases). list_all (is_inside b) t.ranges ≡ true) (sym given_bases-are) good.inside;
+          inside = subst (λ (b : OwnRights). list_all (is_inside b) t.ranges ≡ true) (sym given_own_rights-are) good.inside;
           owned = λ p lt named.
               let within : p < length s.pages = subst (λ n. p < n) size lt in
               owner-same p (other p within named) ∙ good.owned p within named;
-          grants = subst (λ (b : Bases). list_all (are_grants_within b t.receivers) (pages_in b t.ranges) ≡ true) (sym given_bases-are)
+          grants = subst (λ (b : OwnRights). list_all (are_grants_within b t.receivers) (pages_in b t.ranges) ≡ true) (sym given_own_rights-are)
               (same-all (λ o. list_all (λ (r : Receiver). is_grantable r.grant o) t.receivers) ∙ good.grants);
-          zeroed = λ zero. subst (λ (b : Bases). are_writable b t.ranges ≡ true) (sym given_bases-are) (same-all may_store ∙ good.zeroed zero);
+          zeroed = λ zero. subst (λ (b : OwnRights). are_writable b t.ranges ≡ true) (sym given_own_rights-are) (same-all may_store ∙ good.zeroed zero);
           holder = good.holder;
-          within = λ f its held. subst (λ (b : Bases). is_at_most its (ceiling b t f) ≡ true) (sym given_bases-are)
+          within = λ f its held. subst (λ (b : OwnRights). is_at_most its (ceiling b t f) ≡ true) (sym given_own_rights-are)
               (subst (λ (most : Rights). is_at_most its most ≡ true) (sym (ceiling-same f)) (good.within f its held));
           donate = good.donate;
           receivers = good.receivers;

@@ -1,6 +1,6 @@
 -- The state stays sound when a send opens a transaction.
 use Rattle.std.proofs.Common.{◌≡◌, ◌∙◌, ◌⊎◌, ℕ, ◌+◌, ◌^◌, ◌<◌, ◌≤◌, Bool, true, false, cond, not, List, [], ◌∷◌, zero, suc, length, get_or, Option, Some, None, refl, sym, ap, subst, arith, inl, inr}
-use Rattle.std.specs.Prelude.{◌==◌, ◌||◌, is_some}
+use Rattle.std.specs.Prelude.{◌||◌, is_some}
 use Rattle.std.specs.List.{list_all, list_any}
 use Rattle.std.specs.Option.{option_map, option_map_or}
 use Rattle.std.specs.FinMap as finite
@@ -14,7 +14,7 @@ use Rattle.ffa_model.specs.State.{State, Page, Transaction, Buffers, owner_of, p
 use Rattle.ffa_model.specs.Access.{handle_at, held_by, is_naming, names}
 use Rattle.ffa_model.specs.Buffers.{Candidate, candidate_at, candidates, is_usable}
 use Rattle.ffa_model.specs.SendDescriptor.{most_receivers}
-use Rattle.ffa_model.specs.Transactions.{are_writable, bases_of, next_handle, offers_of, open_count, opened, with_offers, pages_in}
+use Rattle.ffa_model.specs.Transactions.{are_writable, own_rights_of, next_handle, open_of, open_count, opened, with_open, pages_in}
 use Rattle.ffa_model.specs.MemorySend.{are_grants_within, are_known, is_buffer, is_inside, is_own, is_sendable}
 use Rattle.ffa_model.specs.SoundState.{IsKnown, IsSoundState, IsSoundTransaction}
 use Rattle.ffa_model.proofs.Accesses.{once-beside, once-opened}
@@ -37,11 +37,11 @@ any-at test (o ∷ list) (suc i) b at passes = of (test o) (any-at test list i b
 -- what a send asks of the transaction that it opens
 pub record IsSendable (s : State) (t : Transaction) : Type 0 where
   pub sender : IsKnown s t.sender
-  pub inside : list_all (is_inside (bases_of s)) t.ranges ≡ true
-  pub free : list_all (is_sendable t.sender (candidates s) s.buffers) (pages_in (bases_of s) t.ranges) ≡ true
-  pub grants : list_all (are_grants_within (bases_of s) t.receivers) (pages_in (bases_of s) t.ranges) ≡ true
-  pub zeroed : t.zero ≡ true → are_writable (bases_of s) t.ranges ≡ true
-  pub few : open_count (offers_of s) t.sender < MOST_OPEN
+  pub inside : list_all (is_inside (own_rights_of s)) t.ranges ≡ true
+  pub free : list_all (is_sendable t.sender (candidates s) s.buffers) (pages_in (own_rights_of s) t.ranges) ≡ true
+  pub grants : list_all (are_grants_within (own_rights_of s) t.receivers) (pages_in (own_rights_of s) t.ranges) ≡ true
+  pub zeroed : t.zero ≡ true → are_writable (own_rights_of s) t.ranges ≡ true
+  pub few : open_count (open_of s) t.sender < MOST_OPEN
   pub sent : sent_by s t.sender < MOST_SENDS
   pub unheld : (e : ℕ) → held_by t e ≡ None
   pub receivers : are_known (length s.parties) t.receivers ≡ true
@@ -53,10 +53,10 @@ pub record IsSendable (s : State) (t : Transaction) : Type 0 where
 
 module _ (s : State) (sound : IsSoundState s) (t : Transaction) (good : IsSendable s t) where
   abbrev h : ℕ
-  h = next_handle (offers_of s) t.sender
+  h = next_handle (open_of s) t.sender
 
   abbrev pub after_send : State
-  after_send = with_offers s (opened (offers_of s) h t)
+  after_send = with_open s (opened (open_of s) h t)
 
   new : transaction_of s h ≡ None
   new = handle-new s sound t.sender good.sender
@@ -91,7 +91,7 @@ module _ (s : State) (sound : IsSoundState s) (t : Transaction) (good : IsSendab
   owned p lt named = of (page_at s p) (and_parts _ _ (one-sendable p lt named)).0
     where
       of : (o : Option Page)
-          → is_own t.sender (option_map (λ (page : Page). let c : Candidate = record { owner = page.owner; base = page.base; named = is_some (handle_at s p) } in c) o) ≡ true
+          → is_own t.sender (option_map (λ (page : Page). let c : Candidate = record { owner = page.owner; own_right = page.own_right; named = is_some (handle_at s p) } in c) o) ≡ true
           → option_map_or (λ (page : Page). page.owner) o manager ≡ t.sender
       of None h = absurd (false≢true h)
       of (Some page) h = eqb-true page.owner t.sender (and_parts _ _ h).0
@@ -140,24 +140,24 @@ module _ (s : State) (sound : IsSoundState s) (t : Transaction) (good : IsSendab
       inside : p < length s.pages
       inside = elim (cases_lt p (length s.pages)) [
         | inl lt ↦ lt
-        | inr past ↦ absurd (false≢true (sym (ap (λ o. is_usable e (option_map (λ (page : Page). let c : Candidate = record { owner = page.owner; base = page.base; named = is_some (handle_at s p) } in c) o)) (get_or_past s.pages p None past)) ∙ usable))
+        | inr past ↦ absurd (false≢true (sym (ap (λ o. is_usable e (option_map (λ (page : Page). let c : Candidate = record { owner = page.owner; own_right = page.own_right; named = is_some (handle_at s p) } in c) o)) (get_or_past s.pages p None past)) ∙ usable))
       ]
 
       of : (b : Bool) → names s t.ranges p ≡ b → names s t.ranges p ≡ false
       of false is = is
       of true is = absurd (false≢true (sym (ap not buffer) ∙ (and_parts _ _ (one-sendable p inside is)).1))
 
-  few-open : (e : ℕ) → IsKnown s e → open_count (offers_of after_send) e ≤ MOST_OPEN
+  few-open : (e : ℕ) → IsKnown s e → open_count (open_of after_send) e ≤ MOST_OPEN
   few-open e known = elim (cases_eq t.sender e) [
     | inl same ↦ (
-        let more : open_count (offers_of after_send) e ≡ 1 + open_count (offers_of s) e =
-        open-opened (offers_of s) h e t new ∙ ap (λ b. cond b 1 0 + open_count (offers_of s) e) (eq-eqb t.sender e same) in
-        let most : open_count (offers_of s) e < MOST_OPEN = subst (λ n. open_count (offers_of s) n < MOST_OPEN) same good.few in
+        let more : open_count (open_of after_send) e ≡ 1 + open_count (open_of s) e =
+        open-opened (open_of s) h e t new ∙ ap (λ b. cond b 1 0 + open_count (open_of s) e) (eq-eqb t.sender e same) in
+        let most : open_count (open_of s) e < MOST_OPEN = subst (λ n. open_count (open_of s) n < MOST_OPEN) same good.few in
         omega (arith, more, most))
     | inr other ↦ (
-        let more : open_count (offers_of after_send) e ≡ 0 + open_count (offers_of s) e =
-        open-opened (offers_of s) h e t new ∙ ap (λ b. cond b 1 0 + open_count (offers_of s) e) (ne_eqb t.sender e other) in
-        let most : open_count (offers_of s) e ≤ MOST_OPEN = sound.few e known in
+        let more : open_count (open_of after_send) e ≡ 0 + open_count (open_of s) e =
+        open-opened (open_of s) h e t new ∙ ap (λ b. cond b 1 0 + open_count (open_of s) e) (ne_eqb t.sender e other) in
+        let most : open_count (open_of s) e ≤ MOST_OPEN = sound.few e known in
         omega (arith, more, most))
   ]
 

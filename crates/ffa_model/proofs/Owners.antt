@@ -69,7 +69,7 @@ owned_from k es = flat_map (λ (x : ℕ × Endpoint). map (λ (r : Region). (ide
 abbrev pub has : ℕ → ℕ → ℕ × Region → Bool
 has base p x = has_page base p x.1
 
--- the base right of a page that was found, where the owner is e
+-- the own right of a page that was found, where the owner is e
 abbrev right_if : ℕ → Option (ℕ × Region) → Option Rights
 right_if e None = None
 right_if e (Some x) = cond (x.0 == e) (Some x.1.rights) None
@@ -156,7 +156,7 @@ right-own base es p i bytes apart =
     ∙ ap (λ j. right_if (identifier j) (find (has base p) (owned_from 0 es))) (omega arith)
     ∙ right-owned base p 0 i es apart
   where
-    of : (o : Option (ℕ × Region)) → right_of (identifier i) (option_map (λ (x : ℕ × Region). record { owner = x.0; base = x.1.rights; bytes = bytes }) o) None ≡ right_if (identifier i) o
+    of : (o : Option (ℕ × Region)) → right_of (identifier i) (option_map (λ (x : ℕ × Region). record { owner = x.0; own_right = x.1.rights; bytes = bytes }) o) None ≡ right_if (identifier i) o
     of None = refl
     of (Some x) = refl
 
@@ -219,7 +219,7 @@ pub owned-behind : (base blocks n : ℕ) (es : List Endpoint) (p : ℕ) (bytes :
 owned-behind base blocks n es p bytes page placed is = of (find (has base p) (owned_regions es)) refl is
   where
     of : (o : Option (ℕ × Region)) → find (has base p) (owned_regions es) ≡ o
-        → option_map (λ (x : ℕ × Region). let q : Page = record { owner = x.0; base = x.1.rights; bytes = bytes } in q) o ≡ Some page → n * table_pages blocks ≤ p
+        → option_map (λ (x : ℕ × Region). let q : Page = record { owner = x.0; own_right = x.1.rights; bytes = bytes } in q) o ≡ Some page → n * table_pages blocks ≤ p
     of None _ none = absurd (none_some none)
       where
         none_some : None ≡ Some page → ⊥
@@ -246,7 +246,7 @@ pub right-unnamed : (base : ℕ) (es : List Endpoint) (p e : ℕ) (bytes : List 
 right-unnamed base es p e bytes unnamed = of (find (has base p) (owned_regions es)) refl
   where
     of : (o : Option (ℕ × Region)) → find (has base p) (owned_regions es) ≡ o
-        → right_of e (option_map (λ (x : ℕ × Region). let q : Page = record { owner = x.0; base = x.1.rights; bytes = bytes } in q) o) None ≡ None
+        → right_of e (option_map (λ (x : ℕ × Region). let q : Page = record { owner = x.0; own_right = x.1.rights; bytes = bytes } in q) o) None ≡ None
     of None is = refl
     of (Some x) is =
         let named = (find-passes (has base p) (λ (y : ℕ × Region). identifier (place y.0) == y.0) (owned_regions es) x (all-named 0 es) is).1 in

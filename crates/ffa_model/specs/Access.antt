@@ -53,12 +53,12 @@ transaction_at s p = option_and_then (map.get s.transactions) (handle_at s p)
 -- the right that a page's transaction gives: the held one, and in a share the sender's own
 abbrev pub right_by : ℕ → Page → Transaction → Option Rights → Option Rights
 right_by e page t (Some right) = Some right
-right_by e page t None = if is_share t.kind && t.sender == e then Some page.base else None
+right_by e page t None = if is_share t.kind && t.sender == e then Some page.own_right else None
 
 -- the right of e to a page that stands in this transaction, or in none
 abbrev pub right_of : ℕ → Option Page → Option Transaction → Option Rights
 right_of e None t = None
-right_of e (Some page) None = if page.owner == e then Some page.base else None
+right_of e (Some page) None = if page.owner == e then Some page.own_right else None
 right_of e (Some page) (Some t) = right_by e page t (held_by t e)
 
 abbrev pub access : State → ℕ → ℕ → Option Rights

@@ -32,7 +32,7 @@ is_full own = option_map_or (λ (b : Buffers). b.full) own false
 -- what decides whether a page may be a buffer: its owner, the owner's right, and whether an open transaction names it
 pub record Candidate : Type 0 where
   pub owner : ℕ
-  pub base : Rights
+  pub own_right : Rights
   pub named : Bool
 
 -- RAM as the checks of a call see it: where it begins, how many pages it has, and those that are not the manager's
@@ -53,10 +53,10 @@ is_run_address ram n address = (address % 4096 == 0 && nat_le ram.base address) 
 abbrev pub are_runs_apart : ℕ → ℕ → ℕ → Bool
 are_runs_apart n first other = nat_le (first + n) other || nat_le (other + n) first
 
--- a page of e alone, in no open transaction, with base rw
+-- a page of e alone, in no open transaction, with own right rw
 abbrev pub is_usable : ℕ → Option Candidate → Bool
 is_usable e None = false
-is_usable e (Some page) = (page.owner == e && not page.named) && may_write page.base.level
+is_usable e (Some page) = (page.owner == e && not page.named) && may_write page.own_right.level
 
 -- e may have a buffer in the n pages from an address on
 abbrev pub are_usable_at : ℕ → Candidates → ℕ → ℕ → Bool
@@ -91,7 +91,7 @@ new_buffers base tx rx pages = record { tx = page_number base tx; rx = page_numb
 -- ON A STATE
 abbrev pub candidate_at : State → ℕ → Option Candidate
 candidate_at s p =
-    option_map (λ (page : Page). record { owner = page.owner; base = page.base; named = is_some (handle_at s p) }) (page_at s p)
+    option_map (λ (page : Page). record { owner = page.owner; own_right = page.own_right; named = is_some (handle_at s p) }) (page_at s p)
 
 abbrev pub candidates : State → Candidates
 candidates s = record { base = s.ram_base; count = length s.pages; page = candidate_at s }

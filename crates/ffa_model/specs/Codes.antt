@@ -22,7 +22,7 @@ use Rattle.ffa_model.specs.declared.schedule.Work.TheVariants.{Run, Request}
 use Rattle.ffa_model.specs.Rights.{may_write}
 use Rattle.ffa_model.specs.State.{State, Party, Page, Transaction, Buffers}
 use Rattle.ffa_model.specs.RunStates.{Schedule, status_number}
-use Rattle.ffa_model.specs.Transactions.{Offers}
+use Rattle.ffa_model.specs.Transactions.{OpenTransactions}
 use Rattle.ffa_model.specs.Notifications.{Notifications}
 
 abbrev pub data_from : Bool → Data
@@ -105,7 +105,7 @@ coded_party =
 abbrev pub coded_page : Coded Page
 coded_page =
     code_by (ℕ × (Rights × List ℕ)) (coded× coded_ℕ (coded× coded_rights (coded_list coded_ℕ)))
-    (λ t. (t.owner, (t.base, t.bytes))) (λ p. record { owner = p.0; base = p.1.0; bytes = p.1.1 }) (λ _. refl)
+    (λ t. (t.owner, (t.own_right, t.bytes))) (λ p. record { owner = p.0; own_right = p.1.0; bytes = p.1.1 }) (λ _. refl)
 
 abbrev pub coded_range : Coded Range
 coded_range = code_by (ℕ × ℕ) (coded× coded_ℕ coded_ℕ) (λ r. (r.address, r.pages)) (λ p. record { address = p.0; pages = p.1 }) (λ _. refl)
@@ -157,7 +157,7 @@ coded_schedule =
     code_by (ℕ × (List Status × List (Option Work))) (coded× coded_ℕ (coded× (coded_list coded_status) (coded_list (coded_option coded_work))))
     (λ c. (c.runner, (c.statuses, c.works))) (λ p. record { runner = p.0; statuses = p.1.0; works = p.1.1 }) (λ _. refl)
 
-abbrev pub coded_offers : Coded Offers
+abbrev pub coded_offers : Coded OpenTransactions
 coded_offers =
     code_by (map.FinMap nat_cmp Transaction × List ℕ) (coded× (map.code coded_ℕ coded_transaction) (coded_list coded_ℕ))
     (λ o. (o.transactions, o.sent)) (λ p. record { transactions = p.0; sent = p.1 }) (λ _. refl)

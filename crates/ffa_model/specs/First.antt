@@ -19,7 +19,7 @@ party_of e = record { version = e.version; uuid = e.uuid; properties = e.propert
 -- a page of a region belongs to the region's endpoint, with the region's right as base; all others are the manager's
 abbrev pub page_with_bytes : ℕ → List Endpoint → ℕ → List ℕ → Option Page
 page_with_bytes base es p bytes =
-    option_map (λ (x : ℕ × Region). record { owner = x.0; base = x.1.rights; bytes = bytes })
+    option_map (λ (x : ℕ × Region). record { owner = x.0; own_right = x.1.rights; bytes = bytes })
     (find (λ (x : ℕ × Region). has_page base p x.1) (owned_regions es))
 
 -- the normal world runs, and each partition waits

@@ -1,5 +1,5 @@
 -- FFA_MEM_RETRIEVE_REQ (DEN0077A, 5 and 16).
-use Rattle.std.specs.Prelude.{ℕ, ◌==◌, Bool, true, false, not, nat_le, is_some, is_none, List, [], ◌∷◌, Option, Some, None, unwrap_or, if◌then◌else◌}
+use Rattle.std.specs.Prelude.{ℕ, ◌==◌, Bool, true, false, not, is_none, List, [], ◌∷◌, Option, Some, None, unwrap_or, if◌then◌else◌}
 use Rattle.std.specs.Option.{option_map, option_map_or}
 use Rattle.std.specs.FinMap as map
 use Rattle.ffa_model.specs.declared.operation.ErrorCode.{ErrorCode}
@@ -19,7 +19,7 @@ use Rattle.ffa_model.specs.MemorySend.{after_transfer, descriptor_in}
 use Rattle.ffa_model.specs.RetrieveDescriptor.{retrieve_of}
 use Rattle.ffa_model.specs.ResponseBytes.{ResponseRecord, response_bytes, response_size}
 use Rattle.ffa_model.specs.declared.call.Transfer.{Transfer}
-use Rattle.ffa_model.specs.Transactions.{Bases, Offers, Scene, bases_of, ceiling, closed, holding, with_transaction, offers_of, scene_of, with_offers}
+use Rattle.ffa_model.specs.Transactions.{OwnRights, OpenTransactions, Scene, own_rights_of, ceiling, closed, holding, with_transaction, open_of, scene_of, with_open}
 use Rattle.ffa_model.specs.Calls.{Service}
 
 -- the right that is asked: data that aren't specified are the most, and instructions that aren't are not executed
@@ -27,8 +27,8 @@ abbrev pub asked_right : Rights → RetrieveDesc → Rights
 asked_right most d = record { level = unwrap_or d.level most.level; exec = d.exec }
 
 -- the right that e gets
-abbrev pub right_for : Bases → Transaction → ℕ → RetrieveDesc → Rights
-right_for bases t e d = asked_right (ceiling bases t e) d
+abbrev pub right_for : OwnRights → Transaction → ℕ → RetrieveDesc → Rights
+right_for own_rights t e d = asked_right (ceiling own_rights t e) d
 
 -- a kind that isn't specified is any
 abbrev pub is_kind_right : Kind → Option Kind → Bool
@@ -36,29 +36,29 @@ is_kind_right kind None = true
 is_kind_right kind (Some k) = is_same_kind kind k
 
 -- the checks of the transaction that is asked for, in order, for an e whose RX is full or not
-abbrev pub holding_guards : Bases → Bool → ℕ → RetrieveDesc → Option Transaction → List (Bool × ErrorCode)
-holding_guards bases full e d None = (false, InvalidParameters) ∷ []
-holding_guards bases full e d (Some t) =
+abbrev pub holding_guards : OwnRights → Bool → ℕ → RetrieveDesc → Option Transaction → List (Bool × ErrorCode)
+holding_guards own_rights full e d None = (false, InvalidParameters) ∷ []
+holding_guards own_rights full e d (Some t) =
     (is_receiver e t, InvalidParameters)
     ∷ (d.sender.0 == t.sender, InvalidParameters)
     ∷ (d.tag == t.tag, InvalidParameters)
     ∷ (is_kind_right t.kind d.kind, InvalidParameters)
     ∷ (is_none (held_by t e), Denied)
-    ∷ (is_at_most (right_for bases t e d) (ceiling bases t e), Denied)
+    ∷ (is_at_most (right_for own_rights t e d) (ceiling own_rights t e), Denied)
     ∷ (not full, Busy)
     ∷ []
 
 abbrev pub asking_guards : Scene → ℕ → Option RetrieveDesc → List (Bool × ErrorCode)
 asking_guards c e None = (false, InvalidParameters) ∷ []
 asking_guards c e (Some d) =
-    holding_guards c.bases (is_full (buffers_in c.buffers e)) e d (map.get c.offers.transactions d.handle)
+    holding_guards c.own_rights (is_full (buffers_in c.buffers e)) e d (map.get c.open_transactions.transactions d.handle)
 
 -- the checks of a retrieve by e in order, with what the descriptor says, or None where the bytes are none
 abbrev pub retrieve_guards : Scene → ℕ → Transfer → Option RetrieveDesc → List (Bool × ErrorCode)
 retrieve_guards c e x d = after_transfer c.buffers e x (asking_guards c e d)
 
 -- what is open after e has retrieved the transaction of a handle: e holds the right, and of a donate nothing is open
-abbrev pub taken_in : Kind → Offers → ℕ → Transaction → ℕ → Rights → Offers
+abbrev pub taken_in : Kind → OpenTransactions → ℕ → Transaction → ℕ → Rights → OpenTransactions
 taken_in Donate o h t e right = closed o h
 taken_in Lend o h t e right = with_transaction o h (holding t e right)
 taken_in Share o h t e right = with_transaction o h (holding t e right)
@@ -80,14 +80,14 @@ response_to h t e right =
 -- ON A STATE
 -- the pages of a donate are e's own, with this right
 abbrev pub donated_page : ℕ → Rights → Option Page → Option Page
-donated_page e right page = option_map (λ (q : Page). record q { owner = e; base = right }) page
+donated_page e right page = option_map (λ (q : Page). record q { owner = e; own_right = right }) page
 
 abbrev pub donated_if : Bool → State → List Range → ℕ → Rights → State
 donated_if donated s ranges e right =
     record s { pages = if donated then changed_pages s ranges (donated_page e right) else s.pages }
 
 abbrev pub with_retrieved : State → ℕ → Transaction → ℕ → Rights → State
-with_retrieved s h t e right = with_offers (donated_if (is_donate t.kind) s t.ranges e right) (taken_in t.kind (offers_of s) h t e right)
+with_retrieved s h t e right = with_open (donated_if (is_donate t.kind) s t.ranges e right) (taken_in t.kind (open_of s) h t e right)
 
 -- and RX holds the response
 abbrev pub retrieved_right : State → ℕ → Transaction → ℕ → Rights → State
@@ -95,7 +95,7 @@ retrieved_right s h t e right = filled (with_retrieved s h t e right) e (respons
 
 abbrev pub retrieved_from : State → RetrieveDesc → Option Transaction → State
 retrieved_from s d None = s
-retrieved_from s d (Some t) = retrieved_right s d.handle t s.runner (right_for (bases_of s) t s.runner d)
+retrieved_from s d (Some t) = retrieved_right s d.handle t s.runner (right_for (own_rights_of s) t s.runner d)
 
 abbrev pub retrieved : State → Option RetrieveDesc → State
 retrieved s None = s

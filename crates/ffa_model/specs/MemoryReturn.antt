@@ -15,7 +15,7 @@ use Rattle.ffa_model.specs.Access.{is_from, is_offered, is_held_by, held_by}
 use Rattle.ffa_model.specs.Memory.{zeroed_if}
 use Rattle.ffa_model.specs.Messages.{tx_bytes}
 use Rattle.ffa_model.specs.RelinquishDescriptor.{relinquish_of}
-use Rattle.ffa_model.specs.Transactions.{Bases, Offers, bases_of, handle_of, are_writable, closed, not_holding, with_transaction, offers_of, with_offers}
+use Rattle.ffa_model.specs.Transactions.{OwnRights, OpenTransactions, own_rights_of, handle_of, are_writable, closed, not_holding, with_transaction, open_of, with_open}
 use Rattle.ffa_model.specs.Calls.{Service, success}
 
 -- FFA_MEM_RELINQUISH
@@ -34,18 +34,18 @@ holder_guards e d t =
     ∷ (not d.zero || is_zeroable e t, Denied)
     ∷ []
 
-abbrev pub returned_guards : Offers → ℕ → Option RelinquishDesc → List (Bool × ErrorCode)
-returned_guards offers e None = (false, InvalidParameters) ∷ []
-returned_guards offers e (Some d) = holder_guards e d (map.get offers.transactions d.handle)
+abbrev pub returned_guards : OpenTransactions → ℕ → Option RelinquishDesc → List (Bool × ErrorCode)
+returned_guards open_transactions e None = (false, InvalidParameters) ∷ []
+returned_guards open_transactions e (Some d) = holder_guards e d (map.get open_transactions.transactions d.handle)
 
 -- the checks of an e with these buffers in order, with what the descriptor says, or None where the bytes are none
-abbrev pub relinquish_guards : Option Buffers → Offers → ℕ → Option RelinquishDesc → List (Bool × ErrorCode)
-relinquish_guards own offers e d = (is_some own, InvalidParameters) ∷ returned_guards offers e d
+abbrev pub relinquish_guards : Option Buffers → OpenTransactions → ℕ → Option RelinquishDesc → List (Bool × ErrorCode)
+relinquish_guards own open_transactions e d = (is_some own, InvalidParameters) ∷ returned_guards open_transactions e d
 
 abbrev pub relinquished_from : State → RelinquishDesc → Option Transaction → State
 relinquished_from s d None = s
 relinquished_from s d (Some t) =
-    zeroed_if d.zero (with_offers s (with_transaction (offers_of s) d.handle (not_holding t s.runner))) t.ranges
+    zeroed_if d.zero (with_open s (with_transaction (open_of s) d.handle (not_holding t s.runner))) t.ranges
 
 abbrev pub relinquished : State → Option RelinquishDesc → State
 relinquished s None = s
@@ -58,7 +58,7 @@ relinquish_read s = relinquish_of (tx_bytes s s.runner)
 abbrev pub memory_relinquish : State → Service
 memory_relinquish s =
     record {
-      guards = relinquish_guards (buffers_of s s.runner) (offers_of s) s.runner (relinquish_read s);
+      guards = relinquish_guards (buffers_of s s.runner) (open_of s) s.runner (relinquish_read s);
       state = relinquished s (relinquish_read s);
       reply = success 0 0;
     }
@@ -75,22 +75,22 @@ named_ranges None = []
 named_ranges (Some t) = t.ranges
 
 -- the checks of a reclaim by e in order, of the transaction of the handle, if it is open
-abbrev pub reclaim_guards : Bases → ℕ → ℕ → Option Transaction → List (Bool × ErrorCode)
-reclaim_guards bases e flags t =
+abbrev pub reclaim_guards : OwnRights → ℕ → ℕ → Option Transaction → List (Bool × ErrorCode)
+reclaim_guards own_rights e flags t =
     (nat_le flags 1, InvalidParameters)
     ∷ (is_from e t, InvalidParameters)
     ∷ (is_unheld t, Denied)
-    ∷ (not (is_set 0 flags) || are_writable bases (named_ranges t), Denied)
+    ∷ (not (is_set 0 flags) || are_writable own_rights (named_ranges t), Denied)
     ∷ []
 
 abbrev pub reclaimed : State → ℕ → Bool → State
-reclaimed s h zero = zeroed_if zero (with_offers s (closed (offers_of s) h)) (named_ranges (transaction_of s h))
+reclaimed s h zero = zeroed_if zero (with_open s (closed (open_of s) h)) (named_ranges (transaction_of s h))
 
 -- the handle's low half stands in w1, and its high half in w2
 abbrev pub memory_reclaim : State → ℕ → ℕ → ℕ → Service
 memory_reclaim s low high flags =
     record {
-      guards = reclaim_guards (bases_of s) s.runner flags (transaction_of s (handle_of high low));
+      guards = reclaim_guards (own_rights_of s) s.runner flags (transaction_of s (handle_of high low));
       state = reclaimed s (handle_of high low) (is_set 0 flags);
       reply = success 0 0;
     }

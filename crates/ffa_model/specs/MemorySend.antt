@@ -22,15 +22,15 @@ use Rattle.ffa_model.specs.Messages.{tx_bytes}
 use Rattle.ffa_model.specs.DescriptorPlaces.{Versioned, in_version}
 use Rattle.ffa_model.specs.SendDescriptor.{SendRecord, send_of, range_end}
 use Rattle.ffa_model.specs.declared.call.Transfer.{Transfer}
-use Rattle.ffa_model.specs.Transactions.{Bases, Offers, Scene, sends_of, next_handle, open_count, opened, pages_in, are_writable, offers_of, scene_of, with_offers}
+use Rattle.ffa_model.specs.Transactions.{OwnRights, OpenTransactions, Scene, sends_of, next_handle, open_count, opened, pages_in, are_writable, open_of, scene_of, with_open}
 use Rattle.ffa_model.specs.Calls.{Service, success}
 
 abbrev pub are_known : ℕ → List Receiver → Bool
 are_known endpoints receivers = list_all (λ (r : Receiver). is_known_among endpoints r.endpoint.0) receivers
 
 -- a range that lies in RAM
-abbrev pub is_inside : Bases → Range → Bool
-is_inside bases r = nat_le bases.ram_base r.address && nat_le (range_end r) (bases.ram_base + 4096 * bases.pages)
+abbrev pub is_inside : OwnRights → Range → Bool
+is_inside own_rights r = nat_le own_rights.ram_base r.address && nat_le (range_end r) (own_rights.ram_base + 4096 * own_rights.pages)
 
 -- a page that e owns, and that no open transaction names
 abbrev pub is_own : ℕ → Option Candidate → Bool
@@ -50,8 +50,8 @@ is_grantable None right = true
 is_grantable (Some level) None = false
 is_grantable (Some level) (Some right) = is_data_at_most level right.level
 
-abbrev pub are_grants_within : Bases → List Receiver → ℕ → Bool
-are_grants_within bases receivers p = list_all (λ (r : Receiver). is_grantable r.grant (bases.right p)) receivers
+abbrev pub are_grants_within : OwnRights → List Receiver → ℕ → Bool
+are_grants_within own_rights receivers p = list_all (λ (r : Receiver). is_grantable r.grant (own_rights.right p)) receivers
 
 -- the checks of a descriptor's registers, in order, and then others: all of it stands in the first bytes of TX
 abbrev pub after_transfer : List (Option Buffers) → ℕ → Transfer → List (Bool × ErrorCode) → List (Bool × ErrorCode)
@@ -64,24 +64,24 @@ after_transfer buffers e x rest =
     ∷ rest
 
 -- the checks of what a send descriptor says, in order, and then others
-abbrev pub after_offer : ℕ → Candidates → Bases → List (Option Buffers) → ℕ → SendRecord → List (Bool × ErrorCode) → List (Bool × ErrorCode)
-after_offer endpoints ram bases buffers e r rest =
+abbrev pub after_offer : ℕ → Candidates → OwnRights → List (Option Buffers) → ℕ → SendRecord → List (Bool × ErrorCode) → List (Bool × ErrorCode)
+after_offer endpoints ram own_rights buffers e r rest =
     (r.sender == e, InvalidParameters)
     ∷ (are_known endpoints r.receivers, InvalidParameters)
-    ∷ (list_all (is_inside bases) r.ranges, Denied)
-    ∷ (list_all (is_sendable e ram buffers) (pages_in bases r.ranges), Denied)
-    ∷ (list_all (are_grants_within bases r.receivers) (pages_in bases r.ranges), Denied)
-    ∷ (not r.zero || are_writable bases r.ranges, Denied)
+    ∷ (list_all (is_inside own_rights) r.ranges, Denied)
+    ∷ (list_all (is_sendable e ram buffers) (pages_in own_rights r.ranges), Denied)
+    ∷ (list_all (are_grants_within own_rights r.receivers) (pages_in own_rights r.ranges), Denied)
+    ∷ (not r.zero || are_writable own_rights r.ranges, Denied)
     ∷ rest
 
 -- the checks of room for one more transaction
-abbrev pub room_guards : Offers → ℕ → List (Bool × ErrorCode)
-room_guards offers e = (nat_lt (open_count offers e) MOST_OPEN, NoMemory) ∷ (nat_lt (sends_of offers e) MOST_SENDS, NoMemory) ∷ []
+abbrev pub room_guards : OpenTransactions → ℕ → List (Bool × ErrorCode)
+room_guards open_transactions e = (nat_lt (open_count open_transactions e) MOST_OPEN, NoMemory) ∷ (nat_lt (sends_of open_transactions e) MOST_SENDS, NoMemory) ∷ []
 
 -- the checks of what is offered, or None where the bytes are no descriptor
 abbrev pub offer_guards : Scene → ℕ → Option SendRecord → List (Bool × ErrorCode)
 offer_guards c e None = (false, InvalidParameters) ∷ []
-offer_guards c e (Some r) = after_offer c.endpoints c.ram c.bases c.buffers e r (room_guards c.offers e)
+offer_guards c e (Some r) = after_offer c.endpoints c.ram c.own_rights c.buffers e r (room_guards c.open_transactions e)
 
 -- the checks of a send by e in order, with what the descriptor says
 abbrev pub send_guards : Scene → ℕ → Transfer → Option SendRecord → List (Bool × ErrorCode)
@@ -101,7 +101,7 @@ transaction_from kind r =
     }
 
 -- what is open after a send by e
-abbrev pub offered_in : Offers → ℕ → Kind → SendRecord → Offers
+abbrev pub offered_in : OpenTransactions → ℕ → Kind → SendRecord → OpenTransactions
 offered_in o e kind r = opened o (next_handle o e) (transaction_from kind r)
 
 -- the handle's low half in w2, and its high half in w3
@@ -120,12 +120,12 @@ send_read s kind total = send_of kind (descriptor_in s total)
 abbrev pub memory_sent : State → Kind → Option SendRecord → State
 memory_sent s kind None = s
 memory_sent s kind (Some r) =
-    zeroed_if r.zero (with_offers s (offered_in (offers_of s) s.runner kind r)) r.ranges
+    zeroed_if r.zero (with_open s (offered_in (open_of s) s.runner kind r)) r.ranges
 
 abbrev pub memory_send : State → Kind → Transfer → Service
 memory_send s kind x =
     record {
       guards = send_guards (scene_of s) s.runner x (send_read s kind x.total);
       state = memory_sent s kind (send_read s kind x.total);
-      reply = handle_reply (next_handle (offers_of s) s.runner);
+      reply = handle_reply (next_handle (open_of s) s.runner);
     }

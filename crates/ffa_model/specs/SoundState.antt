@@ -14,7 +14,7 @@ use Rattle.ffa_model.specs.Buffers.{are_runs_apart, candidate_at, is_usable}
 use Rattle.ffa_model.specs.SendDescriptor.{most_receivers}
 use Rattle.ffa_model.specs.RunStates.{schedule_of}
 use Rattle.ffa_model.specs.Sound.{IsSound}
-use Rattle.ffa_model.specs.Transactions.{are_writable, bases_of, ceiling, handle_of, offers_of, open_count, pages_in}
+use Rattle.ffa_model.specs.Transactions.{are_writable, own_rights_of, ceiling, handle_of, open_of, open_count, pages_in}
 use Rattle.ffa_model.specs.MemorySend.{are_grants_within, are_known, is_inside}
 use Rattle.ffa_model.specs.Notifications.{binding, class_of, has_bitmaps_in, is_bound, manager_class, notifications_of, receiver_bit}
 
@@ -31,7 +31,7 @@ pub record IsSoundParty (party : Party) : Type 0 where
   pub bytes : are_bytes party.uuid
   pub properties : party.properties < 2 ^ 32
 
--- a page that an endpoint owns; that it has a base right, and a page of the manager has none, is in the state's form
+-- a page that an endpoint owns; that it has an own right, and a page of the manager has none, is in the state's form
 pub record IsSoundPage (s : State) (page : Page) : Type 0 where
   pub owner : IsKnown s page.owner
   pub size : length page.bytes ≡ 4096
@@ -43,14 +43,14 @@ pub record IsSoundTransaction (s : State) (h : ℕ) (t : Transaction) : Type 0 w
   pub sender : IsKnown s t.sender
   pub number : (n : ℕ) × (h ≡ handle_of t.sender n) × (1 ≤ n) × (n ≤ sent_by s t.sender)
   -- its ranges lie in RAM, and its pages are its sender's
-  pub inside : list_all (is_inside (bases_of s)) t.ranges ≡ true
+  pub inside : list_all (is_inside (own_rights_of s)) t.ranges ≡ true
   pub owned : (p : ℕ) → p < length s.pages → names s t.ranges p ≡ true → owner_of s p ≡ t.sender
-  -- each grant is at most each page's base data right, and each page of one that zeroes has base rw
-  pub grants : list_all (are_grants_within (bases_of s) t.receivers) (pages_in (bases_of s) t.ranges) ≡ true
-  pub zeroed : t.zero ≡ true → are_writable (bases_of s) t.ranges ≡ true
+  -- each grant is at most each page's own data right, and each page of one that zeroes has own right rw
+  pub grants : list_all (are_grants_within (own_rights_of s) t.receivers) (pages_in (own_rights_of s) t.ranges) ≡ true
+  pub zeroed : t.zero ≡ true → are_writable (own_rights_of s) t.ranges ≡ true
   -- a holder is a receiver, and holds at most its ceiling; nobody holds a donate
   pub holder : (e : ℕ) (right : Rights) → held_by t e ≡ Some right → is_receiver e t ≡ true
-  pub within : (e : ℕ) (right : Rights) → held_by t e ≡ Some right → is_at_most right (ceiling (bases_of s) t e) ≡ true
+  pub within : (e : ℕ) (right : Rights) → held_by t e ≡ Some right → is_at_most right (ceiling (own_rights_of s) t e) ≡ true
   pub donate : (e : ℕ) → t.kind ≡ Donate → held_by t e ≡ None
   -- its receivers are endpoints; how many receivers and ranges it may have, and that its tag is a word
   pub receivers : are_known (length s.parties) t.receivers ≡ true
@@ -60,7 +60,7 @@ pub record IsSoundTransaction (s : State) (h : ℕ) (t : Transaction) : Type 0 w
   pub few_ranges : length t.ranges ≤ MOST_RANGES
   pub tag : t.tag < 2 ^ 64
 
--- two runs of pages of the endpoint alone, in no open transaction, with base rw
+-- two runs of pages of the endpoint alone, in no open transaction, with own right rw
 pub record IsSoundBuffers (s : State) (e : ℕ) (b : Buffers) : Type 0 where
   pub count : is_from_to 1 MOST_BUFFER_PAGES b.pages ≡ true
   pub tx : (p : ℕ) → is_in_run b.tx b.pages p ≡ true → is_usable e (candidate_at s p) ≡ true
@@ -113,7 +113,7 @@ pub record IsSoundState (s : State) : Type 0 where
       (p h k : ℕ) → p < length s.pages → is_naming s p (transaction_of s h) ≡ true
       → is_naming s p (transaction_of s k) ≡ true → h ≡ k
   -- how many transactions of an endpoint are open, and how many it has sent
-  pub few : (e : ℕ) → IsKnown s e → open_count (offers_of s) e ≤ MOST_OPEN
+  pub few : (e : ℕ) → IsKnown s e → open_count (open_of s) e ≤ MOST_OPEN
   pub sent : (e : ℕ) → IsKnown s e → sent_by s e ≤ MOST_SENDS
   pub buffers : (e : ℕ) (b : Buffers) → IsKnown s e → buffers_of s e ≡ Some b → IsSoundBuffers s e b
   pub schedule : IsSound (schedule_of s)

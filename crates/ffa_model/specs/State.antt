@@ -26,7 +26,7 @@ pub record Party : Type 0 where
 -- a page that an endpoint owns
 pub record Page : Type 0 where
   pub owner : ℕ
-  pub base : Rights
+  pub own_right : Rights
   pub bytes : List ℕ
 
 -- a memory management transaction that is open

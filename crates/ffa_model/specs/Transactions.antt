@@ -21,13 +21,13 @@ use Rattle.ffa_model.specs.Access.{covers}
 use Rattle.ffa_model.specs.Buffers.{Candidates, candidates}
 
 -- the open transactions, and how many sends each endpoint has made
-pub record Offers : Type 0 where
+pub record OpenTransactions : Type 0 where
   pub transactions : map.FinMap nat_cmp Transaction  -- by handle
   pub sent : List ℕ  -- by endpoint
 
--- RAM as grants and ceilings see it: where it begins, how many pages it has, and each page's base right, which its owner
+-- RAM as grants and ceilings see it: where it begins, how many pages it has, and each page's own right, which its owner
 -- has while no transaction names it
-pub record Bases : Type 0 where
+pub record OwnRights : Type 0 where
   pub ram_base : ℕ
   pub pages : ℕ
   pub right : ℕ → Option Rights
@@ -37,23 +37,23 @@ pub record Bases : Type 0 where
 pub record Scene : Type 0 where
   pub endpoints : ℕ
   pub ram : Candidates
-  pub bases : Bases
+  pub own_rights : OwnRights
   pub buffers : List (Option Buffers)
-  pub offers : Offers
+  pub open_transactions : OpenTransactions
 
 -- HANDLES
 -- the sender in the high half, and in the low half which of its sends it is, counted from 1
 abbrev pub handle_of : ℕ → ℕ → ℕ
 handle_of e number = word_of_halves number e
 
-abbrev pub sends_of : Offers → ℕ → ℕ
+abbrev pub sends_of : OpenTransactions → ℕ → ℕ
 sends_of o e = slice_index o.sent (place e)
 
-abbrev pub next_handle : Offers → ℕ → ℕ
+abbrev pub next_handle : OpenTransactions → ℕ → ℕ
 next_handle o e = handle_of e (sends_of o e + 1)
 
 -- how many open transactions e has sent
-abbrev pub open_count : Offers → ℕ → ℕ
+abbrev pub open_count : OpenTransactions → ℕ → ℕ
 open_count o e = length (filter (λ (t : Transaction). t.sender == e) (map.values o.transactions))
 
 -- CHANGES
@@ -65,28 +65,28 @@ abbrev pub not_holding : Transaction → ℕ → Transaction
 not_holding t e = record t { held = map.remove t.held e }
 
 -- its sender has made one send more, which is open
-abbrev pub opened : Offers → ℕ → Transaction → Offers
+abbrev pub opened : OpenTransactions → ℕ → Transaction → OpenTransactions
 opened o h t =
     record o { transactions = map.insert o.transactions h t; sent = slice_set o.sent (place t.sender) (sends_of o t.sender + 1) }
 
 -- the transaction of a handle is this one, or is open no more
-abbrev pub with_transaction : Offers → ℕ → Transaction → Offers
+abbrev pub with_transaction : OpenTransactions → ℕ → Transaction → OpenTransactions
 with_transaction o h t = record o { transactions = map.insert o.transactions h t }
 
-abbrev pub closed : Offers → ℕ → Offers
+abbrev pub closed : OpenTransactions → ℕ → OpenTransactions
 closed o h = record o { transactions = map.remove o.transactions h }
 
 -- CEILINGS
 -- the pages of RAM that the ranges name
-abbrev pub pages_in : Bases → List Range → List ℕ
-pages_in bases ranges = filter (λ p. covers ranges (bases.ram_base + 4096 * p)) (listed bases.pages (λ p. p))
+abbrev pub pages_in : OwnRights → List Range → List ℕ
+pages_in own_rights ranges = filter (λ p. covers ranges (own_rights.ram_base + 4096 * p)) (listed own_rights.pages (λ p. p))
 
--- whether all pages that the ranges name have base rw, and whether all have execution
-abbrev pub are_writable : Bases → List Range → Bool
-are_writable bases ranges = list_all (λ p. may_store (bases.right p)) (pages_in bases ranges)
+-- whether all pages that the ranges name have own right rw, and whether all have execution
+abbrev pub are_writable : OwnRights → List Range → Bool
+are_writable own_rights ranges = list_all (λ p. may_store (own_rights.right p)) (pages_in own_rights ranges)
 
-abbrev pub are_executable : Bases → List Range → Bool
-are_executable bases ranges = list_all (λ p. may_fetch (bases.right p)) (pages_in bases ranges)
+abbrev pub are_executable : OwnRights → List Range → Bool
+are_executable own_rights ranges = list_all (λ p. may_fetch (own_rights.right p)) (pages_in own_rights ranges)
 
 -- the data right that e is granted: ro where nothing is, but a send descriptor grants each receiver of a share or a lend one
 abbrev pub grant_to : Transaction → ℕ → Data
@@ -94,34 +94,34 @@ grant_to t e = unwrap_or (option_and_then (λ (r : Receiver). r.grant) (find (λ
 
 -- the most that e may hold: what all pages have in a donate; else the grant, and a lend to one may be executed where all
 -- pages may
-abbrev pub ceiling_in : Kind → Bases → Transaction → ℕ → Rights
-ceiling_in Donate bases t e =
-    record { level = if are_writable bases t.ranges then Rw else Ro; exec = are_executable bases t.ranges }
-ceiling_in Lend bases t e = record { level = grant_to t e; exec = length t.receivers == 1 && are_executable bases t.ranges }
-ceiling_in Share bases t e = record { level = grant_to t e; exec = false }
+abbrev pub ceiling_in : Kind → OwnRights → Transaction → ℕ → Rights
+ceiling_in Donate own_rights t e =
+    record { level = if are_writable own_rights t.ranges then Rw else Ro; exec = are_executable own_rights t.ranges }
+ceiling_in Lend own_rights t e = record { level = grant_to t e; exec = length t.receivers == 1 && are_executable own_rights t.ranges }
+ceiling_in Share own_rights t e = record { level = grant_to t e; exec = false }
 
-abbrev pub ceiling : Bases → Transaction → ℕ → Rights
-ceiling bases t e = ceiling_in t.kind bases t e
+abbrev pub ceiling : OwnRights → Transaction → ℕ → Rights
+ceiling own_rights t e = ceiling_in t.kind own_rights t e
 
 -- ON A STATE
-abbrev pub offers_of : State → Offers
-offers_of s = record { transactions = s.transactions; sent = s.sent }
+abbrev pub open_of : State → OpenTransactions
+open_of s = record { transactions = s.transactions; sent = s.sent }
 
-abbrev pub with_offers : State → Offers → State
-with_offers s o = record s { transactions = o.transactions; sent = o.sent }
+abbrev pub with_open : State → OpenTransactions → State
+with_open s o = record s { transactions = o.transactions; sent = o.sent }
 
-abbrev pub base_of : State → ℕ → Option Rights
-base_of s p = option_map (λ (page : Page). page.base) (page_at s p)
+abbrev pub own_right_of : State → ℕ → Option Rights
+own_right_of s p = option_map (λ (page : Page). page.own_right) (page_at s p)
 
-abbrev pub bases_of : State → Bases
-bases_of s = record { ram_base = s.ram_base; pages = length s.pages; right = base_of s }
+abbrev pub own_rights_of : State → OwnRights
+own_rights_of s = record { ram_base = s.ram_base; pages = length s.pages; right = own_right_of s }
 
 abbrev pub scene_of : State → Scene
 scene_of s =
     record {
       endpoints = length s.parties;
       ram = candidates s;
-      bases = bases_of s;
+      own_rights = own_rights_of s;
       buffers = s.buffers;
-      offers = offers_of s;
+      open_transactions = open_of s;
     }

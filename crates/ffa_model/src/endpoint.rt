@@ -79,6 +79,10 @@ pub enum Version {
     V1_1,
 }
 
+/// The address of a byte of RAM, below 4 GiB.
+#[derive(Clone, Copy, Debug, PartialEq, Eq, PartialOrd, Ord, Default)]
+pub struct Address(pub u32);
+
 /// The number of a page of 4096 bytes, counted from RAM's first page.
 #[derive(Clone, Copy, Debug, PartialEq, Eq, PartialOrd, Ord, Default)]
 pub struct PageNo(pub u32);
@@ -130,10 +134,10 @@ pub struct Region {
 
 impl Region {
     /// Whether a page of the RAM at this address is one of the region's.
-    pub fn has_page(&self, ram_base: u32, page: PageNo) -> bool
-        ensures { result ≡ has_page ram_base page.0 self.now }
+    pub fn has_page(&self, ram_base: Address, page: PageNo) -> bool
+        ensures { result ≡ has_page ram_base.0 page.0 self.now }
     {
-        let address = u64::from(ram_base) + 4096 * u64::from(page.0);
+        let address = u64::from(ram_base.0) + 4096 * u64::from(page.0);
         let start = u64::from(self.base);
         start <= address && address < start + 4096 * u64::from(self.pages)
     }
@@ -168,8 +172,8 @@ impl Endpoint {
     }
 
     /// The right that the endpoint's regions give it to a page of the RAM at this address.
-    pub fn right_to(&self, ram_base: u32, page: PageNo) -> Option<Rights>
-        ensures { result ≡ right_in ram_base self.now.regions.items page.0 }
+    pub fn right_to(&self, ram_base: Address, page: PageNo) -> Option<Rights>
+        ensures { result ≡ right_in ram_base.0 self.now.regions.items page.0 }
     {
         right_in(self.regions.as_slice(), ram_base, page)
     }
@@ -188,8 +192,8 @@ impl Endpoint {
 }
 
 /// The right of the first of these regions that has a page of the RAM at this address.
-pub fn right_in(regions: &[Region], ram_base: u32, page: PageNo) -> Option<Rights>
-    ensures { result ≡ right_in ram_base regions.now page.0 }
+pub fn right_in(regions: &[Region], ram_base: Address, page: PageNo) -> Option<Rights>
+    ensures { result ≡ right_in ram_base.0 regions.now page.0 }
 {
     regions
         .iter()

@@ -18,7 +18,7 @@ pub mod transaction;
 pub use call::{Call, Reply, Transfer};
 pub use certificate::CertRun;
 pub use descriptor::{RelinquishDesc, Response, RetrieveDesc, SendDesc};
-pub use endpoint::{Endpoint, EndpointId, PageNo, Properties, Region, Version, right_in};
+pub use endpoint::{Address, Endpoint, EndpointId, PageNo, Properties, Region, Version, right_in};
 pub use leaf::Leaf;
 pub use limits::{
     MOST_BUFFER_PAGES, MOST_ENDPOINTS, MOST_OPEN, MOST_RANGES, MOST_RECEIVERS, MOST_REGIONS,

@@ -2,7 +2,7 @@
 ghost use Rattle.std.specs.Prelude.{◌≡◌};
 ghost use Rattle.ffa_model.specs.Machines.{sixteen_writable, endpoint_with, built_in_endpoints, row_endpoints};
 
-use crate::endpoint::{Endpoint, Properties, Region, Version};
+use crate::endpoint::{Address, Endpoint, Properties, Region, Version};
 use crate::limits::MOST_ENDPOINTS;
 use crate::manifest::Manifest;
 use crate::rights::{Data, Rights};
@@ -50,16 +50,16 @@ fn two_endpoints() -> ArrayVec<Endpoint, MOST_ENDPOINTS>
 /// The machine of the program's demonstration: 2 MiB of RAM at 0x40000000, the normal world with 16 writable pages at
 /// 0x40010000, and one partition with 16 pages at 0x40020000 that it may write and execute.
 pub fn built_in() -> Manifest
-    ensures base { result.ram_base ≡ 0x40000000 }
+    ensures base { result.ram_base.0 ≡ 0x40000000 }
     ensures blocks { result.ram_blocks ≡ 1 }
     ensures endpoints { result.endpoints.items ≡ built_in_endpoints }
 {
-    Manifest::of(0x4000_0000, 1, two_endpoints())
+    Manifest::of(Address(0x4000_0000), 1, two_endpoints())
 }
 
 /// The built-in machine with a second partition, which has 16 writable pages at 0x40030000.
 pub fn row_machine() -> Manifest
-    ensures base { result.ram_base ≡ 0x40000000 }
+    ensures base { result.ram_base.0 ≡ 0x40000000 }
     ensures blocks { result.ram_blocks ≡ 1 }
     ensures endpoints { result.endpoints.items ≡ row_endpoints }
 {
@@ -68,5 +68,5 @@ pub fn row_machine() -> Manifest
     ];
     let mut endpoints = two_endpoints();
     endpoints.push(endpoint(uuid, 15, region(0x4003_0000, false)));
-    Manifest::of(0x4000_0000, 1, endpoints)
+    Manifest::of(Address(0x4000_0000), 1, endpoints)
 }

@@ -6,7 +6,7 @@ ghost use Rattle.ffa_model.specs.Regions.{right_in, regions_at, owner_in};
 ghost use Rattle.ffa_model.specs.State.{is_known_among, version_among};
 ghost use Rattle.ffa_model.specs.Endpoints.{have_uuids};
 
-use crate::endpoint::{Endpoint, EndpointId, PageNo, Version};
+use crate::endpoint::{Address, Endpoint, EndpointId, PageNo, Version};
 use crate::limits::MOST_ENDPOINTS;
 use crate::rights::Rights;
 use arrayvec::ArrayVec;
@@ -17,22 +17,22 @@ use arrayvec::ArrayVec;
 #[derive(Debug, Drop)]
 pub struct Manifest {
     /// The address of RAM's first byte.
-    pub ram_base: u32,
+    pub ram_base: Address,
     /// RAM's size, in blocks of 2 MiB.
     pub ram_blocks: u32,
     /// The normal world, then the partitions in the order of their identifiers.
     pub endpoints: ArrayVec<Endpoint, MOST_ENDPOINTS>,
-    pub ghost accepted: { is_accepted ram_base ram_blocks endpoints.items ≡ true },
+    pub ghost accepted: { is_accepted ram_base.0 ram_blocks endpoints.items ≡ true },
 }
 
 impl Manifest {
     /// The manifest of these parts.
     pub fn of(
-        ram_base: u32,
+        ram_base: Address,
         ram_blocks: u32,
         endpoints: ArrayVec<Endpoint, MOST_ENDPOINTS>,
     ) -> Manifest
-        requires { is_accepted ram_base ram_blocks endpoints.items ≡ true }
+        requires { is_accepted ram_base.0 ram_blocks endpoints.items ≡ true }
         ensures base { result.ram_base ≡ ram_base }
         ensures blocks { result.ram_blocks ≡ ram_blocks }
         ensures endpoints { result.endpoints.items ≡ endpoints.items }
@@ -47,9 +47,9 @@ impl Manifest {
     /// The address of an endpoint's level 1 table, by the endpoint's place in the manifest, from 0.
     pub fn root(&self, index: usize) -> u32
         requires { index < length self.now.endpoints.items }
-        ensures { result ≡ root_of self.now.ram_base self.now.ram_blocks index }
+        ensures { result ≡ root_of self.now.ram_base.0 self.now.ram_blocks index }
     {
-        self.ram_base + 4096 * (index as u32 * (2 + self.ram_blocks))
+        self.ram_base.0 + 4096 * (index as u32 * (2 + self.ram_blocks))
     }
 
     /// The form in which a known endpoint writes and reads descriptors.
@@ -62,7 +62,7 @@ impl Manifest {
 
     /// The right that the regions of the endpoint at a place give it to a page; nothing where there is no such endpoint.
     pub fn right_to(&self, place: usize, page: PageNo) -> Option<Rights>
-        ensures { result ≡ right_in self.now.ram_base (regions_at self.now.endpoints.items place) page.0 }
+        ensures { result ≡ right_in self.now.ram_base.0 (regions_at self.now.endpoints.items place) page.0 }
     {
         let endpoints = self.endpoints.as_slice();
         if place < endpoints.len() {
@@ -74,7 +74,7 @@ impl Manifest {
 
     /// The endpoint with a region that has the page, or the manager.
     pub fn owner_of(&self, page: PageNo) -> EndpointId
-        ensures { result.0 ≡ owner_in self.now.ram_base self.now.endpoints.items page.0 }
+        ensures { result.0 ≡ owner_in self.now.ram_base.0 self.now.endpoints.items page.0 }
     {
         for (place, endpoint) in self.endpoints.as_slice().iter().enumerate() {
             if endpoint.right_to(self.ram_base, page).is_some() {

@@ -17,11 +17,11 @@ abbrev owner_if : Option (ℕ × Region) → ℕ
 owner_if o = option_map_or (λ (x : ℕ × Region). x.0) o manager
 
 abbrev entry_if : Option (ℕ × Region) → Option Entry
-entry_if o = option_map (λ (x : ℕ × Region). record { owner = x.0; base = x.1.rights; slot = None }) o
+entry_if o = option_map (λ (x : ℕ × Region). record { owner = x.0; own_right = x.1.rights; slot = None }) o
 
 -- the entry of a page with this owner, if the owner has a right to it
 abbrev pub entry_with : ℕ → Option Rights → Option Entry
-entry_with owner right = option_map (λ (r : Rights). record { owner = owner; base = r; slot = None }) right
+entry_with owner right = option_map (λ (r : Rights). record { owner = owner; own_right = r; slot = None }) right
 
 pub first-managers : (base p owner : ℕ) (es : List Endpoint) → owner ≡ owner_in base es p → (owner == manager) ≡ true → first_entry base es p ≡ None
 first-managers base p owner es is managers = of (find (has base p) (owned_regions es)) refl (sym is ∙ eqb-true owner manager managers)

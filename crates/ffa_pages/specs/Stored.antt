@@ -9,15 +9,15 @@ use Rattle.ffa_pages.specs.declared.table.Standing.{Standing}
 use Rattle.ffa_pages.specs.declared.table.Standing.TheVariants.{Read, ReadExecute, Write, WriteExecute, NamedRead, NamedReadExecute, NamedWrite, NamedWriteExecute}
 use Rattle.ffa_pages.specs.Entry.{Entry}
 
-abbrev pub base_in : Standing → Rights
-base_in Read = record { level = Ro; exec = false }
-base_in ReadExecute = record { level = Ro; exec = true }
-base_in Write = record { level = Rw; exec = false }
-base_in WriteExecute = record { level = Rw; exec = true }
-base_in (NamedRead _) = record { level = Ro; exec = false }
-base_in (NamedReadExecute _) = record { level = Ro; exec = true }
-base_in (NamedWrite _) = record { level = Rw; exec = false }
-base_in (NamedWriteExecute _) = record { level = Rw; exec = true }
+abbrev pub own_right_in : Standing → Rights
+own_right_in Read = record { level = Ro; exec = false }
+own_right_in ReadExecute = record { level = Ro; exec = true }
+own_right_in Write = record { level = Rw; exec = false }
+own_right_in WriteExecute = record { level = Rw; exec = true }
+own_right_in (NamedRead _) = record { level = Ro; exec = false }
+own_right_in (NamedReadExecute _) = record { level = Ro; exec = true }
+own_right_in (NamedWrite _) = record { level = Rw; exec = false }
+own_right_in (NamedWriteExecute _) = record { level = Rw; exec = true }
 
 abbrev pub slot_in : Standing → Option ℕ
 slot_in Read = None
@@ -35,7 +35,7 @@ standing_of page = if page.owner.0 == manager then None else Some page.standing
 
 abbrev pub entry_of : KeptPage → Option Entry
 entry_of page =
-    option_map (λ (s : Standing). record { owner = page.owner.0; base = base_in s; slot = slot_in s }) (standing_of page)
+    option_map (λ (s : Standing). record { owner = page.owner.0; own_right = own_right_in s; slot = slot_in s }) (standing_of page)
 
 abbrev pub entries_of : List KeptPage → List (Option Entry)
 entries_of pages = map entry_of pages

@@ -2,8 +2,8 @@
 ghost use Rattle.std.specs.Prelude.{◌≡◌, ◌≢◌, ◌*◌, ◌<◌, ◌≤◌, [], length};
 ghost use Rattle.ffa_model.specs.Identifiers.{manager};
 ghost use Rattle.ffa_model.specs.Lists.{listed};
-ghost use Rattle.ffa_pages.specs.Entry.{entry_at, owner_at, base_at, slot_at, given, marked, first_entry};
-ghost use Rattle.ffa_pages.specs.Stored.{base_in, slot_in, standing_of, entry_of, entries_of};
+ghost use Rattle.ffa_pages.specs.Entry.{entry_at, owner_at, own_right_at, slot_at, given, marked, first_entry};
+ghost use Rattle.ffa_pages.specs.Stored.{own_right_in, slot_in, standing_of, entry_of, entries_of};
 
 use arrayvec::ArrayVec;
 use ffa_model::{Data, EndpointId, Manifest, PageNo, Rights};
@@ -29,11 +29,11 @@ enum Standing {
 }
 
 impl Standing {
-    fn of(base: Rights, slot: Option<u8>) -> Standing
-        ensures base { base_in result ≡ base }
+    fn of(own_right: Rights, slot: Option<u8>) -> Standing
+        ensures own_right { own_right_in result ≡ own_right }
         ensures slot { slot_in result ≡ slot }
     {
-        match (base.level, base.exec, slot) {
+        match (own_right.level, own_right.exec, slot) {
             (Data::Ro, false, None) => Standing::Read,
             (Data::Ro, true, None) => Standing::ReadExecute,
             (Data::Rw, false, None) => Standing::Write,
@@ -45,8 +45,8 @@ impl Standing {
         }
     }
 
-    fn base(self) -> Rights
-        ensures { result ≡ base_in self }
+    fn own_right(self) -> Rights
+        ensures { result ≡ own_right_in self }
     {
         let (level, exec) = match self {
             Standing::Read | Standing::NamedRead(_) => (Data::Ro, false),
@@ -122,7 +122,7 @@ impl PageTable {
     /// The table in which each page of a region is the region's endpoint's, with the region's right, all others are the
     /// manager's, and no transaction is open.
     pub fn of(manifest: &Manifest) -> PageTable
-        ensures { result ≡ listed (512 * manifest.now.ram_blocks) (first_entry manifest.now.ram_base manifest.now.endpoints.items) }
+        ensures { result ≡ listed (512 * manifest.now.ram_blocks) (first_entry manifest.now.ram_base.0 manifest.now.endpoints.items) }
     {
         let mut table = PageTable::none();
         table.fill(manifest);
@@ -141,7 +141,7 @@ impl PageTable {
     /// Makes the table of no RAM the one that `of` gives, where it stands: a table is large to move.
     pub fn fill(&mut self, manifest: &Manifest)
         requires { self.old ≡ [] }
-        ensures { self.new ≡ listed (512 * manifest.now.ram_blocks) (first_entry manifest.now.ram_base manifest.now.endpoints.items) }
+        ensures { self.new ≡ listed (512 * manifest.now.ram_blocks) (first_entry manifest.now.ram_base.0 manifest.now.endpoints.items) }
     {
         push_pages(&mut self.pages, manifest);
     }
@@ -163,11 +163,11 @@ impl PageTable {
     }
 
     /// The owner's right to a page that stands in no open transaction. A page of the manager has none.
-    pub fn base_of(&self, page: PageNo) -> Option<Rights>
+    pub fn own_right_of(&self, page: PageNo) -> Option<Rights>
         requires { page.0 < length self.now }
-        ensures { result ≡ base_at self.now page.0 }
+        ensures { result ≡ own_right_at self.now page.0 }
     {
-        self.kept(page).owned().map(|standing| standing.base())
+        self.kept(page).owned().map(|standing| standing.own_right())
     }
 
     /// The place in the pool of the open transaction that names a page, if one does.
@@ -179,13 +179,13 @@ impl PageTable {
     }
 
     /// Gives a page to an endpoint, with this right. A transaction that names the page goes on naming it.
-    pub fn give(&mut self, page: PageNo, owner: EndpointId, base: Rights)
+    pub fn give(&mut self, page: PageNo, owner: EndpointId, own_right: Rights)
         requires page { page.0 < length self.old }
         requires endpoint { owner.0 ≢ manager }
-        ensures { self.new ≡ given self.old page.0 owner.0 base }
+        ensures { self.new ≡ given self.old page.0 owner.0 own_right }
     {
         let slot = self.slot_of(page);
-        let standing = Standing::of(base, slot);
+        let standing = Standing::of(own_right, slot);
         self.pages[page.0 as usize] = KeptPage { owner, standing };
     }
 
@@ -197,7 +197,7 @@ impl PageTable {
     {
         let kept = self.kept(page);
         if let Some(standing) = kept.owned() {
-            let standing = Standing::of(standing.base(), slot);
+            let standing = Standing::of(standing.own_right(), slot);
             self.pages[page.0 as usize] = KeptPage { standing, ..kept };
         }
     }
@@ -214,7 +214,7 @@ impl PageTable {
 // Appends what is kept of each page from the start, to nothing yet.
 fn push_pages(pages: &mut ArrayVec<KeptPage, MOST_PAGES>, manifest: &Manifest)
     requires { pages.old.items ≡ [] }
-    ensures { entries_of pages.new.items ≡ listed (512 * manifest.now.ram_blocks) (first_entry manifest.now.ram_base manifest.now.endpoints.items) }
+    ensures { entries_of pages.new.items ≡ listed (512 * manifest.now.ram_blocks) (first_entry manifest.now.ram_base.0 manifest.now.endpoints.items) }
 {
     for page in 0..512 * manifest.ram_blocks {
         pages.push(first_kept(manifest, PageNo(page)));
@@ -223,16 +223,16 @@ fn push_pages(pages: &mut ArrayVec<KeptPage, MOST_PAGES>, manifest: &Manifest)
 
 // What is kept of a page from the start.
 fn first_kept(manifest: &Manifest, page: PageNo) -> KeptPage
-    ensures { entry_of result ≡ first_entry manifest.now.ram_base manifest.now.endpoints.items page.0 }
+    ensures { entry_of result ≡ first_entry manifest.now.ram_base.0 manifest.now.endpoints.items page.0 }
 {
     let owner = manifest.owner_of(page);
     if owner == EndpointId::MANAGER {
         return KeptPage::MANAGERS;
     }
     match manifest.right_to(owner.place(), page) {
-        Some(base) => KeptPage {
+        Some(own_right) => KeptPage {
             owner,
-            standing: Standing::of(base, None),
+            standing: Standing::of(own_right, None),
         },
         None => KeptPage::MANAGERS,
     }

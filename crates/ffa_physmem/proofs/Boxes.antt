@@ -16,7 +16,7 @@ module _ {A : Type 0} (m : FrameRam A) (i : ℕ) (b : Box (List ℕ) A) (inside 
   page_of-there = get_or-map (λ x. x.value) m.frames.items i b [] (simp length-map at inside) ∙ ap (λ x. x.value) (sym there)
 
   -- written, it is that of the RAM with these bytes, whatever proves that this is RAM
-  pub with_frame-there : (bytes : List ℕ) (aligned : m.base % 4096 ≡ 0) (fits : m.base + 4096 * vec_len m.frames ≤ 2 ^ 32) → record { base = m.base; frames = with_item m.frames i (with_value b bytes); aligned = aligned; fits = fits } ≡ with_frame m i bytes
+  pub with_frame-there : (bytes : List ℕ) (aligned : m.base.0 % 4096 ≡ 0) (fits : m.base.0 + 4096 * vec_len m.frames ≤ 2 ^ 32) → record { base = m.base; frames = with_item m.frames i (with_value b bytes); aligned = aligned; fits = fits } ≡ with_frame m i bytes
   with_frame-there bytes aligned fits =
       let held : slice_get m.frames.items i ≡ Some b = slice_get_read m.frames.items _ i b refl (simp length-map at inside) there in
       rw (held, with_frame) (λ j. record { base = m.base; frames = with_item m.frames i (with_value b bytes); aligned = ℕ_set _ _ aligned m.aligned j; fits = le_prop fits m.fits j })

@@ -8,7 +8,7 @@ use Rattle.ffa_model.specs.Ram.{Ram, with_page}
 use Rattle.ffa_physmem.specs.declared.frames.FrameRam.{FrameRam}
 
 abbrev pub ram_of : {A : Type 0} → FrameRam A → Ram
-ram_of m = record { base = m.base; pages = map (λ b. b.value) m.frames.items }
+ram_of m = record { base = m.base.0; pages = map (λ b. b.value) m.frames.items }
 
 -- the same RAM with other bytes in one frame
 abbrev pub with_frame : {A : Type 0} → FrameRam A → ℕ → List ℕ → FrameRam A
@@ -22,8 +22,8 @@ pub ram_of-with_frame : {A : Type 0} (m : FrameRam A) (i : ℕ) (bytes : List �
 ram_of-with_frame m i bytes =
     let pages = map (λ b. b.value) m.frames.items in
     elim (slice_get_cases m.frames.items i).1 [
-      | inl (b, inside, there, read) ↦ rw (there, with_frame) (ap (λ p. record { base = m.base; pages = p }) (map-set (λ x. x.value) m.frames.items i (with_value b bytes)))
+      | inl (b, inside, there, read) ↦ rw (there, with_frame) (ap (λ p. record { base = m.base.0; pages = p }) (map-set (λ x. x.value) m.frames.items i (with_value b bytes)))
       | inr (outside, missing) ↦
           let past : length pages ≤ i = simp length-map outside in
-          rw (missing, with_frame) (ap (λ p. record { base = m.base; pages = p }) (sym (set_past pages i bytes past)))
+          rw (missing, with_frame) (ap (λ p. record { base = m.base.0; pages = p }) (sym (set_past pages i bytes past)))
     ]

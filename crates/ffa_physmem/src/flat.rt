@@ -2,7 +2,7 @@
 ghost use Rattle.std.specs.Prelude.{◌≡◌, ℕ, ◌+◌, ◌*◌, ◌%◌, ◌^◌, ◌<◌, ◌≤◌, length, replicate, IfOk, vec_len};
 
 use crate::memory::PhysMem;
-use ffa_model::PageNo;
+use ffa_model::{Address, PageNo};
 use std::alloc::{AllocError, Allocator, Global};
 use std::fmt;
 
@@ -31,21 +31,21 @@ impl From<AllocError> for NoMemory {
 /// RAM in one piece.
 #[derive(Drop)]
 pub struct FlatRam<A: Allocator = Global> {
-    base: u32,
+    base: Address,
     pages: Vec<[u8; 4096], A>,
-    ghost aligned: { base % 4096 ≡ 0 },
-    ghost fits: { base + 4096 * vec_len pages ≤ 2 ^ 32 },
+    ghost aligned: { base.0 % 4096 ≡ 0 },
+    ghost fits: { base.0 + 4096 * vec_len pages ≤ 2 ^ 32 },
 }
 
 impl FlatRam {
     ghost use Rattle.ffa_model.specs.Ram.{zero_ram};
 
     /// RAM of this many pages, all zeros, from a page's address on. `NoMemory` comes only where the allocator refuses.
-    pub fn new(alloc: Global, base: u32, pages: u32) -> Result<FlatRam, NoMemory>
-        requires aligned { base % 4096 ≡ 0 }
+    pub fn new(alloc: Global, base: Address, pages: u32) -> Result<FlatRam, NoMemory>
+        requires aligned { base.0 % 4096 ≡ 0 }
         requires some { 1 ≤ pages }
-        requires fits { base + 4096 * pages ≤ 2 ^ 32 }
-        ensures { IfOk result (λ m. ⟦<FlatRam as PhysMem>⟧.ram m ≡ zero_ram base pages) }
+        requires fits { base.0 + 4096 * pages ≤ 2 ^ 32 }
+        ensures { IfOk result (λ m. ⟦<FlatRam as PhysMem>⟧.ram m ≡ zero_ram base.0 pages) }
     {
         FlatRam::new_in(alloc, base, pages)
     }
@@ -55,11 +55,11 @@ impl<A: Allocator> FlatRam<A> {
     ghost use Rattle.ffa_model.specs.Ram.{zero_ram};
 
     /// RAM as `new` makes it, over any allocator. `NoMemory` comes only where that refuses.
-    pub fn new_in(alloc: A, base: u32, pages: u32) -> Result<FlatRam<A>, NoMemory>
-        requires aligned { base % 4096 ≡ 0 }
+    pub fn new_in(alloc: A, base: Address, pages: u32) -> Result<FlatRam<A>, NoMemory>
+        requires aligned { base.0 % 4096 ≡ 0 }
         requires some { 1 ≤ pages }
-        requires fits { base + 4096 * pages ≤ 2 ^ 32 }
-        ensures { IfOk result (λ m. ⟦<FlatRam<A> as PhysMem>⟧.ram m ≡ zero_ram base pages) }
+        requires fits { base.0 + 4096 * pages ≤ 2 ^ 32 }
+        ensures { IfOk result (λ m. ⟦<FlatRam<A> as PhysMem>⟧.ram m ≡ zero_ram base.0 pages) }
     {
         let pages = zero_pages(alloc, pages)?;
         Ok(FlatRam { base, pages })
@@ -81,13 +81,13 @@ impl<A: Allocator> PhysMem for FlatRam<A> {
     ghost use Rattle.std.specs.Prelude.{refl};
     ghost use Rattle.std.specs.Vec.{with_item};
 
-    ghost ram = { λ m. record { base = m.base; pages = m.pages.items } };
+    ghost ram = { λ m. record { base = m.base.0; pages = m.pages.items } };
 
     ghost with_bytes = { λ m page bytes. record m { pages = with_item m.pages page bytes } };
 
     ghost one_page = { λ m page bytes. refl };
 
-    fn base(&self) -> u32 {
+    fn base(&self) -> Address {
         self.base
     }
 

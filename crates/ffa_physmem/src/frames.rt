@@ -3,16 +3,16 @@ ghost use Rattle.std.specs.Prelude.{◌≡◌, ℕ, ◌+◌, ◌*◌, ◌%◌, �
 
 use crate::flat::NoMemory;
 use crate::memory::PhysMem;
-use ffa_model::PageNo;
+use ffa_model::{Address, PageNo};
 use std::alloc::{AllocError, Allocator, Global};
 
 /// RAM in frames of one page each, which need not lie side by side in memory.
 #[derive(Drop)]
 pub struct FrameRam<A: Allocator = Global> {
-    base: u32,
+    base: Address,
     frames: Vec<Box<[u8; 4096], A>, A>,
-    ghost aligned: { base % 4096 ≡ 0 },
-    ghost fits: { base + 4096 * vec_len frames ≤ 2 ^ 32 },
+    ghost aligned: { base.0 % 4096 ≡ 0 },
+    ghost fits: { base.0 + 4096 * vec_len frames ≤ 2 ^ 32 },
 }
 
 impl FrameRam {
@@ -20,11 +20,11 @@ impl FrameRam {
 
     /// RAM of this many pages, all zeros, from a page's address on. `NoMemory` comes only where the allocator refuses, and
     /// then all that was taken is given back.
-    pub fn new(alloc: Global, base: u32, pages: u32) -> Result<FrameRam, NoMemory>
-        requires aligned { base % 4096 ≡ 0 }
+    pub fn new(alloc: Global, base: Address, pages: u32) -> Result<FrameRam, NoMemory>
+        requires aligned { base.0 % 4096 ≡ 0 }
         requires some { 1 ≤ pages }
-        requires fits { base + 4096 * pages ≤ 2 ^ 32 }
-        ensures { IfOk result (λ m. ⟦<FrameRam as PhysMem>⟧.ram m ≡ zero_ram base pages) }
+        requires fits { base.0 + 4096 * pages ≤ 2 ^ 32 }
+        ensures { IfOk result (λ m. ⟦<FrameRam as PhysMem>⟧.ram m ≡ zero_ram base.0 pages) }
     {
         FrameRam::new_in(alloc, base, pages)
     }
@@ -35,11 +35,11 @@ impl<A: Allocator + Copy> FrameRam<A> {
 
     /// RAM as `new` makes it, over any allocator. `NoMemory` comes only where that refuses, and then all that was taken
     /// is given back.
-    pub fn new_in(alloc: A, base: u32, pages: u32) -> Result<FrameRam<A>, NoMemory>
-        requires aligned { base % 4096 ≡ 0 }
+    pub fn new_in(alloc: A, base: Address, pages: u32) -> Result<FrameRam<A>, NoMemory>
+        requires aligned { base.0 % 4096 ≡ 0 }
         requires some { 1 ≤ pages }
-        requires fits { base + 4096 * pages ≤ 2 ^ 32 }
-        ensures { IfOk result (λ m. ⟦<FrameRam<A> as PhysMem>⟧.ram m ≡ zero_ram base pages) }
+        requires fits { base.0 + 4096 * pages ≤ 2 ^ 32 }
+        ensures { IfOk result (λ m. ⟦<FrameRam<A> as PhysMem>⟧.ram m ≡ zero_ram base.0 pages) }
     {
         let frames = zero_frames(alloc, pages)?;
         Ok(FrameRam { base, frames })
@@ -69,7 +69,7 @@ impl<A: Allocator> PhysMem for FrameRam<A> {
 
     ghost one_page = { ram_of-with_frame };
 
-    fn base(&self) -> u32 {
+    fn base(&self) -> Address {
         self.base
     }
 

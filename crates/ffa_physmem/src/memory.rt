@@ -4,7 +4,7 @@ ghost use Rattle.std.specs.Borrow.{sem, Lends, Array, u8 as byte};
 ghost use Rattle.ffa_model.specs.Ram.{Ram, page_of, with_page, word_of, with_word};
 
 use byteorder::{ByteOrder, LittleEndian};
-use ffa_model::PageNo;
+use ffa_model::{Address, PageNo};
 
 /// The bytes of a page.
 pub const PAGE_SIZE: usize = 4096;
@@ -18,10 +18,10 @@ pub trait PhysMem {
     ghost with_bytes: { Self → ℕ → List ℕ → Self };
 
     /// The address of the first byte.
-    fn base(&self) -> u32
-        ensures value { result ≡ (ram self.now).base }
-        ensures aligned { result % 4096 ≡ 0 }
-        ensures within { result + 4096 * length (ram self.now).pages ≤ 2 ^ 32 };
+    fn base(&self) -> Address
+        ensures value { result.0 ≡ (ram self.now).base }
+        ensures aligned { result.0 % 4096 ≡ 0 }
+        ensures within { result.0 + 4096 * length (ram self.now).pages ≤ 2 ^ 32 };
 
     /// The number of pages.
     fn pages(&self) -> u32

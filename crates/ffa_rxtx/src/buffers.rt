@@ -14,7 +14,7 @@ ghost use Rattle.ffa_rxtx.specs.Parts.{IsInRam, are_two_runs, candidate_in, cand
 ghost use Rattle.ffa_rxtx.specs.Stored.{buffers_of};
 
 use arrayvec::ArrayVec;
-use ffa_model::{Data, EndpointId, ErrorCode, MOST_BUFFER_PAGES, MOST_ENDPOINTS, PageNo};
+use ffa_model::{Address, Data, EndpointId, ErrorCode, MOST_BUFFER_PAGES, MOST_ENDPOINTS, PageNo};
 use ffa_pages::PageTable;
 use ffa_physmem::{PAGE_SIZE, PhysMem, put_front};
 use std::marker::Model;
@@ -118,11 +118,11 @@ impl Buffers {
     ///
     /// In this order: `Denied` where the caller has buffers; `InvalidParameters` where they aren't one to four pages, an
     /// address isn't that of a page, a page isn't in RAM, or one is in both; `Denied` where a page isn't the caller's,
-    /// stands in an open transaction, or has a base right without rw. An error changes nothing.
+    /// stands in an open transaction, or has an own right without rw. An error changes nothing.
     pub fn map(
         &mut self,
         table: &PageTable,
-        ram_base: u32,
+        ram_base: Address,
         caller: EndpointId,
         tx: u64,
         rx: u64,
@@ -130,9 +130,9 @@ impl Buffers {
     ) -> Result<(), ErrorCode>
         requires some { 1 ≤ length self.old }
         requires known { is_known_among (length self.old) caller.0 ≡ true }
-        ensures refusal { result_err result ≡ first_failure (map_guards caller.0 (buffers_in self.old caller.0) (candidates_in table.now ram_base) tx rx pages) }
+        ensures refusal { result_err result ≡ first_failure (map_guards caller.0 (buffers_in self.old caller.0) (candidates_in table.now ram_base.0) tx rx pages) }
         ensures kept { OnErr result (self.new ≡ self.old) }
-        ensures mapped { OnOk result (self.new ≡ buffers_with self.old caller.0 (Some (new_buffers ram_base tx rx pages))) }
+        ensures mapped { OnOk result (self.new ≡ buffers_with self.old caller.0 (Some (new_buffers ram_base.0 tx rx pages))) }
     {
         let mapped = self.checked(table, ram_base, caller, tx, rx, pages)?;
         self.put(caller, Some(mapped));
@@ -228,14 +228,14 @@ impl Buffers {
     fn checked(
         &self,
         table: &PageTable,
-        ram_base: u32,
+        ram_base: Address,
         caller: EndpointId,
         tx: u64,
         rx: u64,
         pages: u32,
     ) -> Result<Mapped, ErrorCode>
-        ensures refusal { result_err result ≡ first_failure (map_guards caller.0 (buffers_in self.now caller.0) (candidates_in table.now ram_base) tx rx pages) }
-        ensures buffers { IfOk result (λ mapped. buffers_of mapped ≡ new_buffers ram_base tx rx pages) }
+        ensures refusal { result_err result ≡ first_failure (map_guards caller.0 (buffers_in self.now caller.0) (candidates_in table.now ram_base.0) tx rx pages) }
+        ensures buffers { IfOk result (λ mapped. buffers_of mapped ≡ new_buffers ram_base.0 tx rx pages) }
     {
         if self.has(caller) {
             return Err(ErrorCode::Denied);
@@ -280,15 +280,15 @@ fn is_in_run(first: PageNo, pages: u32, page: PageNo) -> bool
 // common.
 fn two_runs(
     table: &PageTable,
-    ram_base: u32,
+    ram_base: Address,
     tx: u64,
     rx: u64,
     pages: u32,
 ) -> Result<(PageNo, PageNo), ErrorCode>
     requires { pages ≤ MOST_BUFFER_PAGES }
-    ensures refusal { result_err result ≡ (if are_two_runs (candidates_in table.now ram_base) pages tx rx then None else Some ErrorCode.InvalidParameters) }
-    ensures tx { IfOk result (λ runs. runs.0.0 ≡ page_number ram_base tx) }
-    ensures rx { IfOk result (λ runs. runs.1.0 ≡ page_number ram_base rx) }
+    ensures refusal { result_err result ≡ (if are_two_runs (candidates_in table.now ram_base.0) pages tx rx then None else Some ErrorCode.InvalidParameters) }
+    ensures tx { IfOk result (λ runs. runs.0.0 ≡ page_number ram_base.0 tx) }
+    ensures rx { IfOk result (λ runs. runs.1.0 ≡ page_number ram_base.0 rx) }
     ensures within { IfOk result (λ runs. (runs.0.0 + pages ≤ length table.now) × (runs.1.0 + pages ≤ length table.now)) }
 {
     let tx_page = run_at(table, ram_base, tx, pages)?;
@@ -310,13 +310,18 @@ fn are_apart(first: PageNo, other: PageNo, pages: u32) -> bool
 }
 
 // The first of this many pages at an address, which is `InvalidParameters` where they aren't there.
-fn run_at(table: &PageTable, ram_base: u32, address: u64, pages: u32) -> Result<PageNo, ErrorCode>
+fn run_at(
+    table: &PageTable,
+    ram_base: Address,
+    address: u64,
+    pages: u32,
+) -> Result<PageNo, ErrorCode>
     requires { pages ≤ MOST_BUFFER_PAGES }
-    ensures refusal { result_err result ≡ (if is_run_address (candidates_in table.now ram_base) pages address then None else Some ErrorCode.InvalidParameters) }
-    ensures page { IfOk result (λ page. page.0 ≡ page_number ram_base address) }
+    ensures refusal { result_err result ≡ (if is_run_address (candidates_in table.now ram_base.0) pages address then None else Some ErrorCode.InvalidParameters) }
+    ensures page { IfOk result (λ page. page.0 ≡ page_number ram_base.0 address) }
     ensures within { IfOk result (λ page. page.0 + pages ≤ length table.now) }
 {
-    let base = u64::from(ram_base);
+    let base = u64::from(ram_base.0);
     if address % 4096 != 0 || address < base {
         return Err(ErrorCode::InvalidParameters);
     }
@@ -348,7 +353,7 @@ fn is_usable(table: &PageTable, endpoint: EndpointId, page: PageNo) -> bool
     ensures { result ≡ is_usable endpoint.0 (candidate_in table.now page.0) }
 {
     let is_alone = table.owner_of(page) == endpoint && table.slot_of(page).is_none();
-    match table.base_of(page) {
+    match table.own_right_of(page) {
         Some(base) => is_alone && base.level == Data::Rw,
         None => false,
     }

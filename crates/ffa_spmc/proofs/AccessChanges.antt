@@ -26,7 +26,7 @@ use Rattle.ffa_model.specs.Setup.{info_bytes, is_count_alone, uuid_bytes}
 use Rattle.ffa_model.specs.SoundState.{IsSoundState}
 use Rattle.ffa_model.specs.State.{State, Page, Transaction, page_at, transaction_of, version_of}
 use Rattle.ffa_model.specs.Step.{serve, service}
-use Rattle.ffa_model.specs.Transactions.{bases_of, pages_in}
+use Rattle.ffa_model.specs.Transactions.{own_rights_of, pages_in}
 use Rattle.ffa_model.proofs.Accesses.{named-in}
 use Rattle.ffa_model.proofs.CallAccesses.{access-filled, donate-other, reclaim-other, relinquish-beside, relinquish-named, relinquish-other, retrieve-beside, retrieve-other, send-named, send-other, sendable-unnamed}
 use Rattle.ffa_laws.proofs.Form.{served-kept}
@@ -78,7 +78,7 @@ shareless Lend e f its = refl
 shareless Donate e f its = refl
 
 module _ (s : State) (sound : IsSoundState s) (f p : ℕ) (lt : p < length s.pages) where
-  module _ (kind : Kind) (r : SendRecord) (own : r.sender ≡ s.runner) (all : list_all (is_sendable s.runner (candidates s) s.buffers) (pages_in (bases_of s) r.ranges) ≡ true) where
+  module _ (kind : Kind) (r : SendRecord) (own : r.sender ≡ s.runner) (all : list_all (is_sendable s.runner (candidates s) s.buffers) (pages_in (own_rights_of s) r.ranges) ≡ true) where
     pub sent-kept : (names s r.ranges p && is_whose (changed_sender kind s.runner) f) ≡ false → access (memory_sent s kind (Some r)) f p ≡ access s f p
     sent-kept kept =
         by-page (access (memory_sent s kind (Some r)) f p ≡ access s f p) (names s r.ranges p) (is_whose (changed_sender kind s.runner) f) kept
@@ -88,7 +88,7 @@ module _ (s : State) (sound : IsSoundState s) (f p : ℕ) (lt : p < length s.pag
           | inl same ↦
               send-named s sound kind r f p all lt named
               ∙ sym (own-kept (is_share kind) r.sender f (page_at s p) (own ∙ sym same))
-              ∙ ap (λ b. cond b (option_map (λ (q : Page). q.base) (page_at s p)) None) (share-of kind s.runner f same none)
+              ∙ ap (λ b. cond b (option_map (λ (q : Page). q.own_right) (page_at s p)) None) (share-of kind s.runner f same none)
               ∙ owners-right (page_at s p) f (sendable-own s s.runner p r all lt named ∙ sym same)
               ∙ sym (ap (λ h. right_of f (page_at s p) (option_and_then (finite.get s.transactions) h)) (sendable-unnamed s s.runner p r.ranges all lt named))
         ])
@@ -98,10 +98,10 @@ module _ (s : State) (sound : IsSoundState s) (f p : ℕ) (lt : p < length s.pag
     sent-lost its =
         let (named, theirs) = and_parts (names s r.ranges p) (is_whose (changed_sender kind s.runner) f) its in
         send-named s sound kind r f p all lt named
-        ∙ ap (λ b. option_and_then (λ (q : Page). if b && r.sender == f then Some q.base else None) (page_at s p)) (shareless kind s.runner f theirs)
+        ∙ ap (λ b. option_and_then (λ (q : Page). if b && r.sender == f then Some q.own_right else None) (page_at s p)) (shareless kind s.runner f theirs)
         ∙ nothing (page_at s p)
       where
-        nothing : (o : Option Page) → option_and_then (λ (q : Page). if false && r.sender == f then Some q.base else None) o ≡ None
+        nothing : (o : Option Page) → option_and_then (λ (q : Page). if false && r.sender == f then Some q.own_right else None) o ≡ None
         nothing None = refl
         nothing (Some q) = refl
 
@@ -181,7 +181,7 @@ module _ (x y : Parts) (machine : IsManager x) (next : IsManager y) (blocks : y.
   outside : (z : State) (e p : ℕ) → length z.pages ≤ p → access z e p ≡ None
   outside z e p past = ap (λ page. right_of e page (transaction_at z p)) (get_or_past z.pages p None past)
 
-  module _ (changed : Changed) (named : List Range) (whose : Option EndpointId) (told : IsChanged changed named whose) (placed : ArePlaced x.manifest.ram_base (512 * x.manifest.ram_blocks) named)
+  module _ (changed : Changed) (named : List Range) (whose : Option EndpointId) (told : IsChanged changed named whose) (placed : ArePlaced x.manifest.ram_base.0 (512 * x.manifest.ram_blocks) named)
       (exclusive : (e p : ℕ) → p < length s.pages → (names s named p && is_whose whose e) ≡ true → (access s e p ≡ None) ⊎ (access t e p ≡ None))
       (rest : (e p : ℕ) → p < length s.pages → (names s named p && is_whose whose e) ≡ false → access t e p ≡ access s e p) where
     same-of : (e p : ℕ) → (names s named p && is_whose whose e) ≡ is_of s (Some changed) e p

@@ -65,8 +65,8 @@ module _ (x : Parts) (machine : IsManager x) where
 
   aligned : s.ram_base % 4096 ≡ 0
   aligned =
-      let base : s.ram_base ≡ x.manifest.ram_base = base_is x in
-      let place = (accepted x.manifest.ram_base x.manifest.ram_blocks x.manifest.endpoints.items x.manifest.accepted).aligned in
+      let base : s.ram_base ≡ x.manifest.ram_base.0 = base_is x in
+      let place = (accepted x.manifest.ram_base.0 x.manifest.ram_blocks x.manifest.endpoints.items x.manifest.accepted).aligned in
       omega (arith, base, place)
 
   -- an access of the runner over the walk ends where the state's does
@@ -148,7 +148,7 @@ module _ (x : Parts) (machine : IsManager x) where
         tables = store-tables address size value;
         layout = machine.layout;
         owners = machine.owners;
-        offers = machine.offers;
+        open_transactions = machine.open_transactions;
         sound = subst IsSoundState (sym (store-state address size value)) (step-sound s machine.sound (Store address size value));
       }
 

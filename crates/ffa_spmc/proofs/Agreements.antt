@@ -62,7 +62,7 @@ module _ (x : Parts) (machine : IsManager x) where
     | inr past ↦ absurd (none-some page (sym (page-past x p past) ∙ there))
   ]
     where
-      of : (o : Option Entry) → option_map (λ (e : Entry). let q : Page = record { owner = e.owner; base = e.base; bytes = page_of x.ram p } in q) o ≡ Some page → page_of x.ram p ≡ page.bytes
+      of : (o : Option Entry) → option_map (λ (e : Entry). let q : Page = record { owner = e.owner; own_right = e.own_right; bytes = page_of x.ram p } in q) o ≡ Some page → page_of x.ram p ≡ page.bytes
       of None e = absurd (none-some page e)
       of (Some entry) e = ap (λ (q : Page). q.bytes) (same_Some _ page e)
 

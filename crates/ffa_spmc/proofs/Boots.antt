@@ -46,26 +46,26 @@ regions-each (e ∷ es) zero = refl
 regions-each (e ∷ es) (suc i) = regions-each es i
 
 -- no endpoint owns a page before the end of the tables
-unowned : (m : Manifest) (p : ℕ) (bytes : List ℕ) → p < length m.endpoints.items * table_pages m.ram_blocks → page_with_bytes m.ram_base m.endpoints.items p bytes ≡ None
-unowned m p bytes low = of (page_with_bytes m.ram_base m.endpoints.items p bytes) refl
+unowned : (m : Manifest) (p : ℕ) (bytes : List ℕ) → p < length m.endpoints.items * table_pages m.ram_blocks → page_with_bytes m.ram_base.0 m.endpoints.items p bytes ≡ None
+unowned m p bytes low = of (page_with_bytes m.ram_base.0 m.endpoints.items p bytes) refl
   where
-    of : (o : Option Page) → page_with_bytes m.ram_base m.endpoints.items p bytes ≡ o → page_with_bytes m.ram_base m.endpoints.items p bytes ≡ None
+    of : (o : Option Page) → page_with_bytes m.ram_base.0 m.endpoints.items p bytes ≡ o → page_with_bytes m.ram_base.0 m.endpoints.items p bytes ≡ None
     of None is = is
     of (Some page) is =
-        let placed = (accepted m.ram_base m.ram_blocks m.endpoints.items m.accepted).placed in
-        absurd (omega (arith, low, owned-behind m.ram_base m.ram_blocks (length m.endpoints.items) m.endpoints.items p bytes page placed is))
+        let placed = (accepted m.ram_base.0 m.ram_blocks m.endpoints.items m.accepted).placed in
+        absurd (omega (arith, low, owned-behind m.ram_base.0 m.ram_blocks (length m.endpoints.items) m.endpoints.items p bytes page placed is))
 
 -- a RAM of zeros that stands where the manifest says
-pub zeros-of : (old zeros : Ram) (m : Manifest) → zeros ≡ zero_ram old.base (length old.pages) → old.base ≡ m.ram_base → length old.pages ≡ 512 * m.ram_blocks
-    → zeros ≡ zero_ram m.ram_base (512 * m.ram_blocks)
-zeros-of old zeros m cleared base size = cleared ∙ ap (λ (b : ℕ). zero_ram b (length old.pages)) base ∙ ap (zero_ram m.ram_base) size
+pub zeros-of : (old zeros : Ram) (m : Manifest) → zeros ≡ zero_ram old.base (length old.pages) → old.base ≡ m.ram_base.0 → length old.pages ≡ 512 * m.ram_blocks
+    → zeros ≡ zero_ram m.ram_base.0 (512 * m.ram_blocks)
+zeros-of old zeros m cleared base size = cleared ∙ ap (λ (b : ℕ). zero_ram b (length old.pages)) base ∙ ap (zero_ram m.ram_base.0) size
 
 -- nobody owns a page of the tables at first
-unentered : (m : Manifest) (p : ℕ) → p < length m.endpoints.items * table_pages m.ram_blocks → first_entry m.ram_base m.endpoints.items p ≡ None
-unentered m p low = of (find (λ (x : ℕ × Region). has_page m.ram_base p x.1) (owned_regions m.endpoints.items)) (unowned m p [] low)
+unentered : (m : Manifest) (p : ℕ) → p < length m.endpoints.items * table_pages m.ram_blocks → first_entry m.ram_base.0 m.endpoints.items p ≡ None
+unentered m p low = of (find (λ (x : ℕ × Region). has_page m.ram_base.0 p x.1) (owned_regions m.endpoints.items)) (unowned m p [] low)
   where
-    of : (o : Option (ℕ × Region)) → option_map (λ (x : ℕ × Region). let q : Page = record { owner = x.0; base = x.1.rights; bytes = [] } in q) o ≡ None
-        → option_map (λ (x : ℕ × Region). let e : Entry = record { owner = x.0; base = x.1.rights; slot = None } in e) o ≡ None
+    of : (o : Option (ℕ × Region)) → option_map (λ (x : ℕ × Region). let q : Page = record { owner = x.0; own_right = x.1.rights; bytes = [] } in q) o ≡ None
+        → option_map (λ (x : ℕ × Region). let e : Entry = record { owner = x.0; own_right = x.1.rights; slot = None } in e) o ≡ None
     of None none = refl
     of (Some x) some = absurd (none-some _ (sym some))
 
@@ -73,25 +73,25 @@ unentered m p low = of (find (λ (x : ℕ × Region). has_page m.ram_base p x.1)
 unnamed : (m : Manifest) (p : ℕ) → slot_at (first_owners m) p ≡ None
 unnamed m p = elim (cases_lt p (512 * m.ram_blocks)) [
   | inl lt ↦
-      ap (option_and_then (λ (e : Entry). e.slot)) (get_or-listed (512 * m.ram_blocks) (first_entry m.ram_base m.endpoints.items) p None lt)
-      ∙ of (find (λ (x : ℕ × Region). has_page m.ram_base p x.1) (owned_regions m.endpoints.items))
-  | inr past ↦ ap (option_and_then (λ (e : Entry). e.slot)) (get_or-listed_past (512 * m.ram_blocks) (first_entry m.ram_base m.endpoints.items) p None past)
+      ap (option_and_then (λ (e : Entry). e.slot)) (get_or-listed (512 * m.ram_blocks) (first_entry m.ram_base.0 m.endpoints.items) p None lt)
+      ∙ of (find (λ (x : ℕ × Region). has_page m.ram_base.0 p x.1) (owned_regions m.endpoints.items))
+  | inr past ↦ ap (option_and_then (λ (e : Entry). e.slot)) (get_or-listed_past (512 * m.ram_blocks) (first_entry m.ram_base.0 m.endpoints.items) p None past)
 ]
   where
-    of : (o : Option (ℕ × Region)) → option_and_then (λ (e : Entry). e.slot) (option_map (λ (x : ℕ × Region). let e : Entry = record { owner = x.0; base = x.1.rights; slot = None } in e) o) ≡ None
+    of : (o : Option (ℕ × Region)) → option_and_then (λ (e : Entry). e.slot) (option_map (λ (x : ℕ × Region). let e : Entry = record { owner = x.0; own_right = x.1.rights; slot = None } in e) o) ≡ None
     of None = refl
     of (Some x) = refl
 
 owners-first : (m : Manifest) → AreOwners m (first_owners m)
 owners-first m =
     record {
-      size = length-listed (512 * m.ram_blocks) (first_entry m.ram_base m.endpoints.items);
+      size = length-listed (512 * m.ram_blocks) (first_entry m.ram_base.0 m.endpoints.items);
       tables = λ p low. of p low (cases_lt p (512 * m.ram_blocks));
     }
   where
     of : (p : ℕ) → p < table_page m.ram_blocks (length m.endpoints.items) 0 → (p < 512 * m.ram_blocks) ⊎ (512 * m.ram_blocks ≤ p) → entry_at (first_owners m) p ≡ None
-    of p low (inl lt) = get_or-listed (512 * m.ram_blocks) (first_entry m.ram_base m.endpoints.items) p None lt ∙ unentered m p (omega (arith, low))
-    of p low (inr past) = get_or-listed_past (512 * m.ram_blocks) (first_entry m.ram_base m.endpoints.items) p None past
+    of p low (inl lt) = get_or-listed (512 * m.ram_blocks) (first_entry m.ram_base.0 m.endpoints.items) p None lt ∙ unentered m p (omega (arith, low))
+    of p low (inr past) = get_or-listed_past (512 * m.ram_blocks) (first_entry m.ram_base.0 m.endpoints.items) p None past
 
 -- nothing is open where all slots are free
 free : (n k : ℕ) → pool_slot (replicate n None) k ≡ None
@@ -106,24 +106,24 @@ none-open n = ap finite.from_entries (of n)
     of zero = refl
     of (suc n) = of n
 
-offers-first : (m : Manifest) (n : ℕ) → AreOffers m (first_owners m) (replicate n None)
-offers-first m n =
+open-first : (m : Manifest) (n : ℕ) → AreOffers m (first_owners m) (replicate n None)
+open-first m n =
     record {
       apart = λ i j y z at_i at_j same. absurd (none-some y (sym (free n i) ∙ at_i));
       offered = λ k h t at. absurd (none-some (h, t) (sym (free n k) ∙ at));
       marks = λ p k lt. (
         λ is. absurd (none-some k (sym (unnamed m p) ∙ is)),
-        λ names. absurd (false≢true (sym (ap (slot_names m.ram_base p) (free n k)) ∙ names)),
+        λ names. absurd (false≢true (sym (ap (slot_names m.ram_base.0 p) (free n k)) ∙ names)),
       );
     }
 
 -- the right that an endpoint's regions give it, by its place in the manifest
 abbrev own_right : Manifest → ℕ → ℕ → Option Rights
-own_right m i p = right_among m.ram_base (regions_at m.endpoints.items i) p
+own_right m i p = right_among m.ram_base.0 (regions_at m.endpoints.items i) p
 
 module _ (zeros : Ram) (x : Parts)
-    (cleared : zeros ≡ zero_ram x.manifest.ram_base (512 * x.manifest.ram_blocks))
-    (base : x.kept.layout.base ≡ x.manifest.ram_base) (blocks : x.kept.layout.blocks ≡ x.manifest.ram_blocks) (regions : regions_in x.kept.layout ≡ regions_of_each x.manifest.endpoints.items)
+    (cleared : zeros ≡ zero_ram x.manifest.ram_base.0 (512 * x.manifest.ram_blocks))
+    (base : x.kept.layout.base.0 ≡ x.manifest.ram_base.0) (blocks : x.kept.layout.blocks ≡ x.manifest.ram_blocks) (regions : regions_in x.kept.layout ≡ regions_of_each x.manifest.endpoints.items)
     (built : IsBuilt x.ram (array_vec_len x.kept.layout.regions) x.kept.layout.blocks (layout_right x.kept.layout))
     (rest : KeepsRest zeros x.ram (array_vec_len x.kept.layout.regions) x.kept.layout.blocks)
     (owners : x.kept.pages ≡ first_owners x.manifest) (slots : x.kept.pool.slots ≡ replicate (MOST_OPEN * length x.manifest.endpoints.items) None)
@@ -141,7 +141,7 @@ module _ (zeros : Ram) (x : Parts)
       sym (length-map layout.regions.items (λ (r : Regions). r.list.items)) ∙ ap length regions
       ∙ length-map es (λ (e : Endpoint). e.regions.items)
 
-  base-is : x.ram.base ≡ x.manifest.ram_base
+  base-is : x.ram.base ≡ x.manifest.ram_base.0
   base-is = rest.base ∙ ap (λ (r : Ram). r.base) cleared
 
   size-is : length x.ram.pages ≡ 512 * x.manifest.ram_blocks
@@ -150,7 +150,7 @@ module _ (zeros : Ram) (x : Parts)
   right-is : (e p : ℕ) → layout_right layout e p ≡ own_right x.manifest e p
   right-is e p =
       ap (λ (b : ℕ). right_among b (get_or (regions_in layout) e []) p) base
-      ∙ ap (λ (rs : List Region). right_among x.manifest.ram_base rs p) (ap (λ (rss : List (List Region)). get_or rss e []) regions ∙ regions-each es e)
+      ∙ ap (λ (rs : List Region). right_among x.manifest.ram_base.0 rs p) (ap (λ (rss : List (List Region)). get_or rss e []) regions ∙ regions-each es e)
 
   access-is : (i p : ℕ) → p < 512 * x.manifest.ram_blocks → own_right x.manifest i p ≡ access_by_place (state_of x) i p
   access-is i p lt = sym (access-first x size-is owners (ap map_in slots ∙ none-open (MOST_OPEN * length es)) i p (omega (arith, lt, size-is)))
@@ -177,22 +177,22 @@ module _ (zeros : Ram) (x : Parts)
       of_end same_n same_b h = rw (same_n, same_b) (omega (arith, h))
 
   -- and nobody owns one before
-  page-zeros : (p : ℕ) → p < length x.ram.pages → held_page x.ram x.kept.pages p ≡ page_with_bytes x.manifest.ram_base es p (replicate 4096 0)
+  page-zeros : (p : ℕ) → p < length x.ram.pages → held_page x.ram x.kept.pages p ≡ page_with_bytes x.manifest.ram_base.0 es p (replicate 4096 0)
   page-zeros p inside =
       sym (page-held x p inside) ∙ page-at x size-is owners p inside
       ∙ elim (cases_lt p (length es * table_pages x.manifest.ram_blocks)) [
         | inl low ↦ unowned x.manifest p (page_of x.ram p) low ∙ sym (unowned x.manifest p (replicate 4096 0) low)
-        | inr behind ↦ ap (page_with_bytes x.manifest.ram_base es p) (behind-zeros p inside behind)
+        | inr behind ↦ ap (page_with_bytes x.manifest.ram_base.0 es p) (behind-zeros p inside behind)
       ]
 
-  pages-first : listed (length x.ram.pages) (held_page x.ram x.kept.pages) ≡ listed (512 * x.manifest.ram_blocks) (λ p. page_with_bytes x.manifest.ram_base es p (replicate 4096 0))
+  pages-first : listed (length x.ram.pages) (held_page x.ram x.kept.pages) ≡ listed (512 * x.manifest.ram_blocks) (λ p. page_with_bytes x.manifest.ram_base.0 es p (replicate 4096 0))
   pages-first =
-      listed-same (length x.ram.pages) (held_page x.ram x.kept.pages) (λ p. page_with_bytes x.manifest.ram_base es p (replicate 4096 0)) page-zeros
-      ∙ ap (λ (n : ℕ). listed n (λ p. page_with_bytes x.manifest.ram_base es p (replicate 4096 0))) size-is
+      listed-same (length x.ram.pages) (held_page x.ram x.kept.pages) (λ p. page_with_bytes x.manifest.ram_base.0 es p (replicate 4096 0)) page-zeros
+      ∙ ap (λ (n : ℕ). listed n (λ p. page_with_bytes x.manifest.ram_base.0 es p (replicate 4096 0))) size-is
 
-  pub state-first : state_of x ≡ first x.manifest.ram_base x.manifest.ram_blocks es
+  pub state-first : state_of x ≡ first x.manifest.ram_base.0 x.manifest.ram_blocks es
   unfolding first
-  state-first = λ i. record (first x.manifest.ram_base x.manifest.ram_blocks es) {
+  state-first = λ i. record (first x.manifest.ram_base.0 x.manifest.ram_blocks es) {
     pages = pages-first i;
     transactions = (ap map_in slots ∙ none-open (MOST_OPEN * length es)) i;
     sent = sent i;
@@ -221,10 +221,10 @@ module _ (zeros : Ram) (x : Parts)
         tables = tables-first;
         layout = record { base = base; blocks = blocks; endpoints = many };
         owners = subst (AreOwners x.manifest) (sym owners) (owners-first x.manifest);
-        offers =
+        open_transactions =
             subst (λ (list : List (Option Entry)). AreOffers x.manifest list x.kept.pool.slots) (sym owners)
-            (subst (AreOffers x.manifest (first_owners x.manifest)) (sym slots) (offers-first x.manifest (MOST_OPEN * length es)));
-        sound = subst IsSoundState (sym state-first) (first-state-sound x.manifest.ram_base x.manifest.ram_blocks es x.manifest.accepted (uuid-at es uuids));
+            (subst (AreOffers x.manifest (first_owners x.manifest)) (sym slots) (open-first x.manifest (MOST_OPEN * length es)));
+        sound = subst IsSoundState (sym state-first) (first-state-sound x.manifest.ram_base.0 x.manifest.ram_blocks es x.manifest.accepted (uuid-at es uuids));
       }
 
   -- the pages behind the tables, the manager's too

@@ -43,15 +43,15 @@ module _ (x : Parts) (machine : IsManager x) (e : ℕ) (at : e ≡ x.kept.chain.
       (done-so r (λ none is. ap with_list (is ∙ ap (λ (f : ℕ). buffers_with x.kept.buffers f None) at)) gone)
       (done-replies r)
 
-  pub mapped : (tx rx pages : ℕ) → result_err r ≡ first_failure (map_guards e (buffers_in x.kept.buffers e) (candidates_in x.kept.pages x.manifest.ram_base) tx rx pages)
-      → OnOk r (list ≡ buffers_with x.kept.buffers e (Some (new_buffers x.manifest.ram_base tx rx pages)))
+  pub mapped : (tx rx pages : ℕ) → result_err r ≡ first_failure (map_guards e (buffers_in x.kept.buffers e) (candidates_in x.kept.pages x.manifest.ram_base.0) tx rx pages)
+      → OnOk r (list ≡ buffers_with x.kept.buffers e (Some (new_buffers x.manifest.ram_base.0 tx rx pages)))
       → replied (with_list list) (done_or_error r) ≡ served s (rxtx_map s tx rx pages)
   unfolding first
   mapped tx rx pages refusal there =
       answered-by s (with_list list) (rxtx_map s tx rx pages) r (λ done. success 0 0)
       (refusal
-      ∙ ap (λ (f : ℕ). first_failure (map_guards f (buffers_in x.kept.buffers f) (candidates_in x.kept.pages x.manifest.ram_base) tx rx pages)) at
+      ∙ ap (λ (f : ℕ). first_failure (map_guards f (buffers_in x.kept.buffers f) (candidates_in x.kept.pages x.manifest.ram_base.0) tx rx pages)) at
       ∙ sym (ap (λ ram. first_failure (map_guards x.kept.chain.runner (buffers_in x.kept.buffers x.kept.chain.runner) ram tx rx pages)) (candidates-are x machine)))
       (refused-so r (λ is. ap with_list is) same)
-      (done-so r (λ none is. ap with_list (is ∙ ap (λ (f : ℕ). buffers_with x.kept.buffers f (Some (new_buffers x.manifest.ram_base tx rx pages))) at)) there)
+      (done-so r (λ none is. ap with_list (is ∙ ap (λ (f : ℕ). buffers_with x.kept.buffers f (Some (new_buffers x.manifest.ram_base.0 tx rx pages))) at)) there)
       (done-replies r)

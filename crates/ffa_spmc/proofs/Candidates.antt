@@ -24,21 +24,21 @@ module _ (x : Parts) (machine : IsManager x) where
   candidate-is : (p : ℕ) → candidate_at s p ≡ candidate_in x.kept.pages p
   candidate-is p = elim (cases_lt p (length x.ram.pages)) [
     | inl lt ↦
-        ap (option_map (λ (page : Page). let q : Candidate = record { owner = page.owner; base = page.base; named = is_some (handle_at s p) } in q)) (page-held x p lt)
+        ap (option_map (λ (page : Page). let q : Candidate = record { owner = page.owner; own_right = page.own_right; named = is_some (handle_at s p) } in q)) (page-held x p lt)
         ∙ of lt (entry_at x.kept.pages p) refl
     | inr past ↦
-        ap (option_map (λ (page : Page). let q : Candidate = record { owner = page.owner; base = page.base; named = is_some (handle_at s p) } in q)) (page-past x p past)
-        ∙ sym (ap (option_map (λ (e : Entry). let q : Candidate = record { owner = e.owner; base = e.base; named = is_some e.slot } in q)) (entry-past x machine p past))
+        ap (option_map (λ (page : Page). let q : Candidate = record { owner = page.owner; own_right = page.own_right; named = is_some (handle_at s p) } in q)) (page-past x p past)
+        ∙ sym (ap (option_map (λ (e : Entry). let q : Candidate = record { owner = e.owner; own_right = e.own_right; named = is_some e.slot } in q)) (entry-past x machine p past))
   ]
     where
       of : p < length x.ram.pages → (o : Option Entry) → entry_at x.kept.pages p ≡ o
-          → option_map (λ (page : Page). let q : Candidate = record { owner = page.owner; base = page.base; named = is_some (handle_at s p) } in q)
-          (option_map (λ (e : Entry). let q : Page = record { owner = e.owner; base = e.base; bytes = page_of x.ram p } in q) o)
-          ≡ option_map (λ (e : Entry). let q : Candidate = record { owner = e.owner; base = e.base; named = is_some e.slot } in q) o
+          → option_map (λ (page : Page). let q : Candidate = record { owner = page.owner; own_right = page.own_right; named = is_some (handle_at s p) } in q)
+          (option_map (λ (e : Entry). let q : Page = record { owner = e.owner; own_right = e.own_right; bytes = page_of x.ram p } in q) o)
+          ≡ option_map (λ (e : Entry). let q : Candidate = record { owner = e.owner; own_right = e.own_right; named = is_some e.slot } in q) o
       of lt None is = refl
-      of lt (Some e) is = ap (λ b. Some (let q : Candidate = record { owner = e.owner; base = e.base; named = b } in q)) (named-is p e lt is)
+      of lt (Some e) is = ap (λ b. Some (let q : Candidate = record { owner = e.owner; own_right = e.own_right; named = b } in q)) (named-is p e lt is)
 
-  pub candidates-are : candidates s ≡ candidates_in x.kept.pages x.manifest.ram_base
+  pub candidates-are : candidates s ≡ candidates_in x.kept.pages x.manifest.ram_base.0
   candidates-are = λ i. record {
     base = base_is x i;
     count = (size_is x ∙ sym (owners-size x machine)) i;

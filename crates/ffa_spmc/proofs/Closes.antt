@@ -23,7 +23,7 @@ within slots k x at = elim (cases_lt k (length slots)) [
 ]
 
 -- an endpoint holds the transaction in a slot with another right, or holds it no more
-module _ (m : Manifest) (pages : List (Option Entry)) (slots : List Slot) (offers : AreOffers m pages slots) (k h : ℕ) (t : Transaction) (at : pool_slot slots k ≡ Some (h, t))
+module _ (m : Manifest) (pages : List (Option Entry)) (slots : List Slot) (open_transactions : AreOffers m pages slots) (k h : ℕ) (t : Transaction) (at : pool_slot slots k ≡ Some (h, t))
     (e : ℕ) (right : Option Rights) where
   abbrev reheld : List Slot
   reheld = set slots k (Some (h, with_holder t e right))
@@ -34,12 +34,12 @@ module _ (m : Manifest) (pages : List (Option Entry)) (slots : List Slot) (offer
   others : (j : ℕ) → (j ≡ k → ⊥) → pool_slot reheld j ≡ pool_slot slots j
   others j apart = get_or-set_other slots k j (Some (h, with_holder t e right)) None apart
 
-  names-alike : (p j : ℕ) → slot_names m.ram_base p (pool_slot reheld j) ≡ slot_names m.ram_base p (pool_slot slots j)
+  names-alike : (p j : ℕ) → slot_names m.ram_base.0 p (pool_slot reheld j) ≡ slot_names m.ram_base.0 p (pool_slot slots j)
   names-alike p j = elim (cases_eq j k) [
     | inl same ↦
-        ap (λ i. slot_names m.ram_base p (pool_slot reheld i)) same ∙ ap (slot_names m.ram_base p) reset
-        ∙ sym (ap (λ i. slot_names m.ram_base p (pool_slot slots i)) same ∙ ap (slot_names m.ram_base p) at)
-    | inr apart ↦ ap (slot_names m.ram_base p) (others j apart)
+        ap (λ i. slot_names m.ram_base.0 p (pool_slot reheld i)) same ∙ ap (slot_names m.ram_base.0 p) reset
+        ∙ sym (ap (λ i. slot_names m.ram_base.0 p (pool_slot slots i)) same ∙ ap (slot_names m.ram_base.0 p) at)
+    | inr apart ↦ ap (slot_names m.ram_base.0 p) (others j apart)
   ]
 
   -- what was in a slot before
@@ -62,17 +62,17 @@ module _ (m : Manifest) (pages : List (Option Entry)) (slots : List Slot) (offer
     | inr apart ↦ record { old = y; was = sym (others j apart) ∙ is; handle = refl; offered = λ good. good }
   ]
 
-  pub offers-reheld : AreOffers m pages reheld
-  offers-reheld =
+  pub open-reheld : AreOffers m pages reheld
+  open-reheld =
       record {
         apart = λ i j y z at_i at_j same.
             let a = was-in i y at_i in
             let b = was-in j z at_j in
-            offers.apart i j a.old b.old a.was b.was (a.handle ∙ same ∙ sym b.handle);
-        offered = λ j g u is. let a = was-in j (g, u) is in a.offered (offers.offered j a.old.0 a.old.1 a.was);
+            open_transactions.apart i j a.old b.old a.was b.was (a.handle ∙ same ∙ sym b.handle);
+        offered = λ j g u is. let a = was-in j (g, u) is in a.offered (open_transactions.offered j a.old.0 a.old.1 a.was);
         marks = λ p j lt. (
-          λ is. names-alike p j ∙ (offers.marks p j lt).0 is,
-          λ names. (offers.marks p j lt).1 (sym (names-alike p j) ∙ names),
+          λ is. names-alike p j ∙ (open_transactions.marks p j lt).0 is,
+          λ names. (open_transactions.marks p j lt).1 (sym (names-alike p j) ∙ names),
         );
       }
 
@@ -88,8 +88,8 @@ slot-marked old new named marked p = ap (option_and_then (λ (e : Entry). e.slot
     of false o = refl
 
 -- the slot of a transaction is freed, and no page's entry has it any more
-module _ (m : Manifest) (pages next : List (Option Entry)) (slots : List Slot) (offers : AreOffers m pages slots) (k h : ℕ) (t : Transaction) (at : pool_slot slots k ≡ Some (h, t))
-    (unmarked : (p : ℕ) → slot_at next p ≡ cond (in_ranges m.ram_base t.ranges p) None (slot_at pages p)) (size : length next ≡ length pages) where
+module _ (m : Manifest) (pages next : List (Option Entry)) (slots : List Slot) (open_transactions : AreOffers m pages slots) (k h : ℕ) (t : Transaction) (at : pool_slot slots k ≡ Some (h, t))
+    (unmarked : (p : ℕ) → slot_at next p ≡ cond (in_ranges m.ram_base.0 t.ranges p) None (slot_at pages p)) (size : length next ≡ length pages) where
   abbrev freed : List Slot
   freed = set slots k None
 
@@ -107,36 +107,36 @@ module _ (m : Manifest) (pages next : List (Option Entry)) (slots : List Slot) (
 
   module _ (p : ℕ) (lt : p < length pages) where
     -- of a page that the transaction names
-    here : in_ranges m.ram_base t.ranges p ≡ true → slot_at pages p ≡ Some k
-    here named = (offers.marks p k lt).1 (ap (slot_names m.ram_base p) at ∙ named)
+    here : in_ranges m.ram_base.0 t.ranges p ≡ true → slot_at pages p ≡ Some k
+    here named = (open_transactions.marks p k lt).1 (ap (slot_names m.ram_base.0 p) at ∙ named)
 
-    to-slot : (j : ℕ) → slot_at next p ≡ Some j → slot_names m.ram_base p (pool_slot freed j) ≡ true
-    to-slot j is = of (in_ranges m.ram_base t.ranges p) refl (sym (unmarked p) ∙ is)
+    to-slot : (j : ℕ) → slot_at next p ≡ Some j → slot_names m.ram_base.0 p (pool_slot freed j) ≡ true
+    to-slot j is = of (in_ranges m.ram_base.0 t.ranges p) refl (sym (unmarked p) ∙ is)
       where
-        of : (b : Bool) → in_ranges m.ram_base t.ranges p ≡ b → cond b None (slot_at pages p) ≡ Some j → slot_names m.ram_base p (pool_slot freed j) ≡ true
+        of : (b : Bool) → in_ranges m.ram_base.0 t.ranges p ≡ b → cond b None (slot_at pages p) ≡ Some j → slot_names m.ram_base.0 p (pool_slot freed j) ≡ true
         of true named none = absurd (none-some j none)
         of false other was = elim (cases_eq j k) [
-          | inl same ↦ absurd (false≢true (sym other ∙ sym (ap (slot_names m.ram_base p) at) ∙ (offers.marks p k lt).0 (was ∙ ap Some same)))
-          | inr apart ↦ ap (slot_names m.ram_base p) (beside j apart) ∙ (offers.marks p j lt).0 was
+          | inl same ↦ absurd (false≢true (sym other ∙ sym (ap (slot_names m.ram_base.0 p) at) ∙ (open_transactions.marks p k lt).0 (was ∙ ap Some same)))
+          | inr apart ↦ ap (slot_names m.ram_base.0 p) (beside j apart) ∙ (open_transactions.marks p j lt).0 was
         ]
 
-    from-slot : (j : ℕ) → slot_names m.ram_base p (pool_slot freed j) ≡ true → slot_at next p ≡ Some j
+    from-slot : (j : ℕ) → slot_names m.ram_base.0 p (pool_slot freed j) ≡ true → slot_at next p ≡ Some j
     from-slot j names = elim (cases_eq j k) [
-      | inl same ↦ absurd (false≢true (sym (ap (slot_names m.ram_base p) (ap (pool_slot freed) same ∙ gone)) ∙ names))
+      | inl same ↦ absurd (false≢true (sym (ap (slot_names m.ram_base.0 p) (ap (pool_slot freed) same ∙ gone)) ∙ names))
       | inr apart ↦
-          (let was : slot_at pages p ≡ Some j = (offers.marks p j lt).1 (sym (ap (slot_names m.ram_base p) (beside j apart)) ∙ names) in
-          unmarked p ∙ of (in_ranges m.ram_base t.ranges p) refl j apart was)
+          (let was : slot_at pages p ≡ Some j = (open_transactions.marks p j lt).1 (sym (ap (slot_names m.ram_base.0 p) (beside j apart)) ∙ names) in
+          unmarked p ∙ of (in_ranges m.ram_base.0 t.ranges p) refl j apart was)
     ]
       where
-        of : (b : Bool) → in_ranges m.ram_base t.ranges p ≡ b → (j : ℕ) → (j ≡ k → ⊥) → slot_at pages p ≡ Some j → cond b None (slot_at pages p) ≡ Some j
+        of : (b : Bool) → in_ranges m.ram_base.0 t.ranges p ≡ b → (j : ℕ) → (j ≡ k → ⊥) → slot_at pages p ≡ Some j → cond b None (slot_at pages p) ≡ Some j
         of true named j apart was = absurd (apart (same_Some j k (sym was ∙ here named)))
         of false other j apart was = was
 
-  pub offers-closed : AreOffers m next freed
-  offers-closed =
+  pub open-closed : AreOffers m next freed
+  open-closed =
       record {
-        apart = λ i j y z at_i at_j same. offers.apart i j y z (still i y at_i) (still j z at_j) same;
-        offered = λ j g u is. offers.offered j g u (still j (g, u) is);
+        apart = λ i j y z at_i at_j same. open_transactions.apart i j y z (still i y at_i) (still j z at_j) same;
+        offered = λ j g u is. open_transactions.offered j g u (still j (g, u) is);
         marks = λ p j lt. (
           to-slot p (subst (λ (n : ℕ). p < n) size lt) j,
           from-slot p (subst (λ (n : ℕ). p < n) size lt) j,
@@ -156,10 +156,10 @@ slot-opened old new named k marked p owned = ap (option_and_then (λ (e : Entry)
     of false its = refl
 
 -- a free slot has a new transaction, and the entries of its pages have the slot
-module _ (m : Manifest) (pages next : List (Option Entry)) (slots : List Slot) (offers : AreOffers m pages slots) (k h : ℕ) (t : Transaction)
+module _ (m : Manifest) (pages next : List (Option Entry)) (slots : List Slot) (open_transactions : AreOffers m pages slots) (k h : ℕ) (t : Transaction)
     (lt : k < length slots) (free : pool_slot slots k ≡ None) (new : (j : ℕ) (y : ℕ × Transaction) → pool_slot slots j ≡ Some y → y.0 ≡ h → ⊥) (good : IsOffered m t)
-    (unnamed : (p : ℕ) → p < length pages → in_ranges m.ram_base t.ranges p ≡ true → slot_at pages p ≡ None)
-    (marked : (p : ℕ) → p < length pages → slot_at next p ≡ cond (in_ranges m.ram_base t.ranges p) (Some k) (slot_at pages p)) (size : length next ≡ length pages) where
+    (unnamed : (p : ℕ) → p < length pages → in_ranges m.ram_base.0 t.ranges p ≡ true → slot_at pages p ≡ None)
+    (marked : (p : ℕ) → p < length pages → slot_at next p ≡ cond (in_ranges m.ram_base.0 t.ranges p) (Some k) (slot_at pages p)) (size : length next ≡ length pages) where
   abbrev filled : List Slot
   filled = set slots k (Some (h, t))
 
@@ -183,42 +183,42 @@ module _ (m : Manifest) (pages next : List (Option Entry)) (slots : List Slot) (
       of (inl a) (inl b) = a.0 ∙ sym b.0
       of (inl a) (inr b) = absurd (new j z b (sym same ∙ sym (ap (λ (w : ℕ × Transaction). w.0) a.1)))
       of (inr a) (inl b) = absurd (new i y a (same ∙ sym (ap (λ (w : ℕ × Transaction). w.0) b.1)))
-      of (inr a) (inr b) = offers.apart i j y z a b same
+      of (inr a) (inr b) = open_transactions.apart i j y z a b same
 
   offered-opened : (j g : ℕ) (u : Transaction) → pool_slot filled j ≡ Some (g, u) → IsOffered m u
   offered-opened j g u is = of (g, u) (either j (g, u) is)
     where
       of : (y : ℕ × Transaction) → ((j ≡ k) × ((h, t) ≡ y)) ⊎ (pool_slot slots j ≡ Some y) → IsOffered m y.1
       of y (inl a) = subst (λ (w : ℕ × Transaction). IsOffered m w.1) a.1 good
-      of y (inr b) = offers.offered j y.0 y.1 b
+      of y (inr b) = open_transactions.offered j y.0 y.1 b
 
   module _ (p : ℕ) (inside : p < length pages) where
-    to-opened : (j : ℕ) → slot_at next p ≡ Some j → slot_names m.ram_base p (pool_slot filled j) ≡ true
-    to-opened j is = of (in_ranges m.ram_base t.ranges p) refl (sym (marked p inside) ∙ is)
+    to-opened : (j : ℕ) → slot_at next p ≡ Some j → slot_names m.ram_base.0 p (pool_slot filled j) ≡ true
+    to-opened j is = of (in_ranges m.ram_base.0 t.ranges p) refl (sym (marked p inside) ∙ is)
       where
-        of : (b : Bool) → in_ranges m.ram_base t.ranges p ≡ b → cond b (Some k) (slot_at pages p) ≡ Some j → slot_names m.ram_base p (pool_slot filled j) ≡ true
-        of true named at = ap (λ i. slot_names m.ram_base p (pool_slot filled i)) (sym (same_Some k j at)) ∙ ap (slot_names m.ram_base p) put ∙ named
+        of : (b : Bool) → in_ranges m.ram_base.0 t.ranges p ≡ b → cond b (Some k) (slot_at pages p) ≡ Some j → slot_names m.ram_base.0 p (pool_slot filled j) ≡ true
+        of true named at = ap (λ i. slot_names m.ram_base.0 p (pool_slot filled i)) (sym (same_Some k j at)) ∙ ap (slot_names m.ram_base.0 p) put ∙ named
         of false other was = elim (cases_eq j k) [
-          | inl same ↦ absurd (false≢true (sym (ap (λ i. slot_names m.ram_base p (pool_slot slots i)) same ∙ ap (slot_names m.ram_base p) free) ∙ (offers.marks p j inside).0 was))
-          | inr apart ↦ ap (slot_names m.ram_base p) (rest j apart) ∙ (offers.marks p j inside).0 was
+          | inl same ↦ absurd (false≢true (sym (ap (λ i. slot_names m.ram_base.0 p (pool_slot slots i)) same ∙ ap (slot_names m.ram_base.0 p) free) ∙ (open_transactions.marks p j inside).0 was))
+          | inr apart ↦ ap (slot_names m.ram_base.0 p) (rest j apart) ∙ (open_transactions.marks p j inside).0 was
         ]
 
-    from-opened : (j : ℕ) → slot_names m.ram_base p (pool_slot filled j) ≡ true → slot_at next p ≡ Some j
+    from-opened : (j : ℕ) → slot_names m.ram_base.0 p (pool_slot filled j) ≡ true → slot_at next p ≡ Some j
     from-opened j names = elim (cases_eq j k) [
       | inl same ↦
-          (let named : in_ranges m.ram_base t.ranges p ≡ true = sym (ap (λ i. slot_names m.ram_base p (pool_slot filled i)) same ∙ ap (slot_names m.ram_base p) put) ∙ names in
+          (let named : in_ranges m.ram_base.0 t.ranges p ≡ true = sym (ap (λ i. slot_names m.ram_base.0 p (pool_slot filled i)) same ∙ ap (slot_names m.ram_base.0 p) put) ∙ names in
           marked p inside ∙ ap (λ b. cond b (Some k) (slot_at pages p)) named ∙ ap Some (sym same))
       | inr apart ↦
-          (let was : slot_at pages p ≡ Some j = (offers.marks p j inside).1 (sym (ap (slot_names m.ram_base p) (rest j apart)) ∙ names) in
-          marked p inside ∙ of (in_ranges m.ram_base t.ranges p) refl was)
+          (let was : slot_at pages p ≡ Some j = (open_transactions.marks p j inside).1 (sym (ap (slot_names m.ram_base.0 p) (rest j apart)) ∙ names) in
+          marked p inside ∙ of (in_ranges m.ram_base.0 t.ranges p) refl was)
     ]
       where
-        of : (b : Bool) → in_ranges m.ram_base t.ranges p ≡ b → slot_at pages p ≡ Some j → cond b (Some k) (slot_at pages p) ≡ Some j
+        of : (b : Bool) → in_ranges m.ram_base.0 t.ranges p ≡ b → slot_at pages p ≡ Some j → cond b (Some k) (slot_at pages p) ≡ Some j
         of true named was = absurd (none-some j (sym (unnamed p inside named) ∙ was))
         of false other was = was
 
-  pub offers-opened : AreOffers m next filled
-  offers-opened =
+  pub open-opened : AreOffers m next filled
+  open-opened =
       record {
         apart = apart-opened;
         offered = offered-opened;

@@ -45,7 +45,7 @@ module _ (x : Parts) (machine : IsManager x) where
   usable-there e p usable = of (page_at s p) refl usable
     where
       of : (o : Option Page) → page_at s p ≡ o
-          → is_usable e (option_map (λ (page : Page). let q : Candidate = record { owner = page.owner; base = page.base; named = is_some (handle_at s p) } in q) o) ≡ true
+          → is_usable e (option_map (λ (page : Page). let q : Candidate = record { owner = page.owner; own_right = page.own_right; named = is_some (handle_at s p) } in q) o) ≡ true
           → IsThere p
       of None at passes = absurd (false≢true passes)
       of (Some page) at passes = (page, at)
@@ -59,7 +59,7 @@ module _ (x : Parts) (machine : IsManager x) where
   usable-owner e p usable = of (page_at s p) refl usable
     where
       of : (o : Option Page) → page_at s p ≡ o
-          → is_usable e (option_map (λ (page : Page). let q : Candidate = record { owner = page.owner; base = page.base; named = is_some (handle_at s p) } in q) o) ≡ true
+          → is_usable e (option_map (λ (page : Page). let q : Candidate = record { owner = page.owner; own_right = page.own_right; named = is_some (handle_at s p) } in q) o) ≡ true
           → owner_of s p ≡ e
       of None at passes = absurd (false≢true passes)
       of (Some page) at passes =

@@ -18,7 +18,7 @@ use Rattle.ffa_model.specs.SendDescriptor.{SendRecord}
 use Rattle.ffa_model.specs.MemorySend.{is_own, is_sendable, memory_sent}
 use Rattle.ffa_model.specs.MemoryRetrieve.{retrieved_right}
 use Rattle.ffa_model.specs.MemoryReturn.{relinquished_from}
-use Rattle.ffa_model.specs.Transactions.{base_of, bases_of, pages_in}
+use Rattle.ffa_model.specs.Transactions.{own_right_of, own_rights_of, pages_in}
 use Rattle.ffa_memshare.specs.Grants.{with_rights}
 use Rattle.ffa_model.specs.SoundState.{IsKnown, IsSoundState}
 use Rattle.ffa_spmc.specs.Meaning.{access_by_place}
@@ -64,7 +64,7 @@ owned-page s e p known own = of (page_at s p) refl own
 
 -- A SEND
 -- a page that may be sent is the runner's
-pub sendable-own : (s : State) (e p : ℕ) (r : SendRecord) → list_all (is_sendable e (candidates s) s.buffers) (pages_in (bases_of s) r.ranges) ≡ true
+pub sendable-own : (s : State) (e p : ℕ) (r : SendRecord) → list_all (is_sendable e (candidates s) s.buffers) (pages_in (own_rights_of s) r.ranges) ≡ true
     → p < length s.pages → names s r.ranges p ≡ true → owner_of s p ≡ e
 sendable-own s e p r all lt named = of (page_at s p) (and_parts _ _ one).0
   where
@@ -72,7 +72,7 @@ sendable-own s e p r all lt named = of (page_at s p) (and_parts _ _ one).0
     one = listed-each (is_sendable e (candidates s) s.buffers) (names s r.ranges) (length s.pages) (λ q. q) all p lt named
 
     of : (o : Option Page)
-        → is_own e (option_map (λ (page : Page). let c : Candidate = record { owner = page.owner; base = page.base; named = is_some (handle_at s p) } in c) o) ≡ true
+        → is_own e (option_map (λ (page : Page). let c : Candidate = record { owner = page.owner; own_right = page.own_right; named = is_some (handle_at s p) } in c) o) ≡ true
         → option_map_or (λ (q : Page). q.owner) o manager ≡ e
     of None h = absurd (false≢true h)
     of (Some page) h = eqb-true page.owner e (and_parts _ _ h).0
@@ -83,26 +83,26 @@ beside-owner s e f p own apart unnamed = ap (λ h. right_of f (page_at s p) (opt
   where
     of : (o : Option Page) → option_map_or (λ (q : Page). q.owner) o manager ≡ e → right_of f o None ≡ None
     of None own = refl
-    of (Some q) own = ap (λ b. cond b (Some q.base) None) (ne_eqb q.owner f (λ same. apart (sym same ∙ own)))
+    of (Some q) own = ap (λ b. cond b (Some q.own_right) None) (ne_eqb q.owner f (λ same. apart (sym same ∙ own)))
 
 -- the right that a sender keeps
 pub own-kept : (share : Bool) (sender e : ℕ) (page : Option Page) → sender ≡ e
-    → (if share then option_map (λ (q : Page). q.base) page else None) ≡ option_and_then (λ (q : Page). if share && sender == e then Some q.base else None) page
+    → (if share then option_map (λ (q : Page). q.own_right) page else None) ≡ option_and_then (λ (q : Page). if share && sender == e then Some q.own_right else None) page
 own-kept true sender e None is = refl
-own-kept true sender e (Some q) is = sym (ap (λ b. cond b (Some q.base) None) (eq-eqb sender e is))
+own-kept true sender e (Some q) is = sym (ap (λ b. cond b (Some q.own_right) None) (eq-eqb sender e is))
 own-kept false sender e None is = refl
 own-kept false sender e (Some q) is = refl
 
 pub none-kept : (share : Bool) (sender e : ℕ) (page : Option Page) → (sender ≡ e → ⊥)
-    → None ≡ option_and_then (λ (q : Page). if share && sender == e then Some q.base else None) page
+    → None ≡ option_and_then (λ (q : Page). if share && sender == e then Some q.own_right else None) page
 none-kept share sender e None apart = refl
-none-kept true sender e (Some q) apart = sym (ap (λ b. cond b (Some q.base) None) (ne_eqb sender e apart))
+none-kept true sender e (Some q) apart = sym (ap (λ b. cond b (Some q.own_right) None) (ne_eqb sender e apart))
 none-kept false sender e (Some q) apart = refl
 
 -- nobody else had a right to the pages, and nobody gets one
 pub send-beside : (s : State) → IsSoundState s → (kind : Kind) (r : SendRecord) (f p : ℕ)
     → r.sender ≡ s.runner
-    → list_all (is_sendable s.runner (candidates s) s.buffers) (pages_in (bases_of s) r.ranges) ≡ true
+    → list_all (is_sendable s.runner (candidates s) s.buffers) (pages_in (own_rights_of s) r.ranges) ≡ true
     → p < length s.pages → names s r.ranges p ≡ true → (f ≡ s.runner → ⊥)
     → access s f p ≡ access (memory_sent s kind (Some r)) f p
 send-beside s sound kind r f p own all lt named apart =
@@ -113,9 +113,9 @@ send-beside s sound kind r f p own all lt named apart =
 -- the sender of a share keeps its own right, and of all else it has none
 pub send-granted : (s : State) → IsSoundState s → (kind : Kind) (r : SendRecord) (right : ℕ → Option Rights) (i p : ℕ)
     → r.sender ≡ s.runner
-    → list_all (is_sendable s.runner (candidates s) s.buffers) (pages_in (bases_of s) r.ranges) ≡ true
+    → list_all (is_sendable s.runner (candidates s) s.buffers) (pages_in (own_rights_of s) r.ranges) ≡ true
     → p < length s.pages
-    → right p ≡ (if is_share kind then base_of s p else None)
+    → right p ≡ (if is_share kind then own_right_of s p else None)
     → with_rights (access_by_place s) (place s.runner) (names s r.ranges) right i p ≡ access_by_place (memory_sent s kind (Some r)) i p
 send-granted s sound kind r right i p own all lt is =
     granted-by (access_by_place s) (place s.runner) (names s r.ranges) right i p (access_by_place (memory_sent s kind (Some r)) i p)

@@ -37,13 +37,13 @@ transaction-empty s p none = ap (option_and_then (finite.get s.transactions)) (h
 
 -- a page that the first owners say, with these bytes
 page-first : (base p : ℕ) (es : List Endpoint) (bytes : List ℕ)
-    → option_map (λ (e : Entry). let q : Page = record { owner = e.owner; base = e.base; bytes = bytes } in q) (first_entry base es p) ≡ page_with_bytes base es p bytes
+    → option_map (λ (e : Entry). let q : Page = record { owner = e.owner; own_right = e.own_right; bytes = bytes } in q) (first_entry base es p) ≡ page_with_bytes base es p bytes
 page-first base p es bytes = of (find (λ (x : ℕ × Region). has_page base p x.1) (owned_regions es))
   where
     of : (o : Option (ℕ × Region))
-        → option_map (λ (e : Entry). let q : Page = record { owner = e.owner; base = e.base; bytes = bytes } in q)
-        (option_map (λ (x : ℕ × Region). let e : Entry = record { owner = x.0; base = x.1.rights; slot = None } in e) o)
-        ≡ option_map (λ (x : ℕ × Region). record { owner = x.0; base = x.1.rights; bytes = bytes }) o
+        → option_map (λ (e : Entry). let q : Page = record { owner = e.owner; own_right = e.own_right; bytes = bytes } in q)
+        (option_map (λ (x : ℕ × Region). let e : Entry = record { owner = x.0; own_right = x.1.rights; slot = None } in e) o)
+        ≡ option_map (λ (x : ℕ × Region). record { owner = x.0; own_right = x.1.rights; bytes = bytes }) o
     of None = refl
     of (Some x) = refl
 
@@ -51,7 +51,7 @@ module _ (x : Parts) where
   abbrev s : State
   s = state_of x
 
-  pub base_is : s.ram_base ≡ x.manifest.ram_base
+  pub base_is : s.ram_base ≡ x.manifest.ram_base.0
   base_is = refl
 
   pub parties_are : length s.parties ≡ length x.manifest.endpoints.items
@@ -76,22 +76,22 @@ module _ (x : Parts) where
 
   -- where the owners are the manifest's
   module _ (size : length x.ram.pages ≡ 512 * x.manifest.ram_blocks) (owners : x.kept.pages ≡ first_owners x.manifest) where
-    entry-at : (p : ℕ) → p < length x.ram.pages → entry_at x.kept.pages p ≡ first_entry x.manifest.ram_base x.manifest.endpoints.items p
+    entry-at : (p : ℕ) → p < length x.ram.pages → entry_at x.kept.pages p ≡ first_entry x.manifest.ram_base.0 x.manifest.endpoints.items p
     entry-at p lt =
         ap (λ (owners : List (Option Entry)). entry_at owners p) owners
-        ∙ get_or-listed (512 * x.manifest.ram_blocks) (first_entry x.manifest.ram_base x.manifest.endpoints.items) p None (subst (λ (n : ℕ). p < n) size lt)
+        ∙ get_or-listed (512 * x.manifest.ram_blocks) (first_entry x.manifest.ram_base.0 x.manifest.endpoints.items) p None (subst (λ (n : ℕ). p < n) size lt)
 
-    pub page-at : (p : ℕ) → p < length x.ram.pages → page_at s p ≡ page_with_bytes x.manifest.ram_base x.manifest.endpoints.items p (page_of x.ram p)
+    pub page-at : (p : ℕ) → p < length x.ram.pages → page_at s p ≡ page_with_bytes x.manifest.ram_base.0 x.manifest.endpoints.items p (page_of x.ram p)
     page-at p lt =
         page-held p lt
-        ∙ ap (option_map (λ (e : Entry). let q : Page = record { owner = e.owner; base = e.base; bytes = page_of x.ram p } in q)) (entry-at p lt)
-        ∙ page-first x.manifest.ram_base p x.manifest.endpoints.items (page_of x.ram p)
+        ∙ ap (option_map (λ (e : Entry). let q : Page = record { owner = e.owner; own_right = e.own_right; bytes = page_of x.ram p } in q)) (entry-at p lt)
+        ∙ page-first x.manifest.ram_base.0 p x.manifest.endpoints.items (page_of x.ram p)
 
     -- where besides nothing is open, the access of an endpoint is the right of its own regions
-    pub access-first : s.transactions ≡ finite.empty → (i p : ℕ) → p < length x.ram.pages → access s (identifier i) p ≡ right_in x.manifest.ram_base (regions_at x.manifest.endpoints.items i) p
+    pub access-first : s.transactions ≡ finite.empty → (i p : ℕ) → p < length x.ram.pages → access s (identifier i) p ≡ right_in x.manifest.ram_base.0 (regions_at x.manifest.endpoints.items i) p
     access-first none i p lt =
         ap (right_of (identifier i) (page_at s p)) (transaction-empty s p none) ∙ ap (λ (page : Option Page). right_of (identifier i) page None) (page-at p lt)
-        ∙ right-own x.manifest.ram_base x.manifest.endpoints.items p i (page_of x.ram p) (accepted x.manifest.ram_base x.manifest.ram_blocks x.manifest.endpoints.items x.manifest.accepted).apart
+        ∙ right-own x.manifest.ram_base.0 x.manifest.endpoints.items p i (page_of x.ram p) (accepted x.manifest.ram_base.0 x.manifest.ram_blocks x.manifest.endpoints.items x.manifest.accepted).apart
 
   -- of a machine
   module _ (machine : IsManager x) where
@@ -112,7 +112,7 @@ module _ (x : Parts) where
     ]
       where
         of : (o : Option Entry)
-            → option_map_or (λ (q : Page). q.owner) (option_map (λ (e : Entry). let q : Page = record { owner = e.owner; base = e.base; bytes = page_of x.ram p } in q) o) manager
+            → option_map_or (λ (q : Page). q.owner) (option_map (λ (e : Entry). let q : Page = record { owner = e.owner; own_right = e.own_right; bytes = page_of x.ram p } in q) o) manager
             ≡ option_map_or (λ (e : Entry). e.owner) o manager
         of None = refl
         of (Some e) = refl
@@ -124,7 +124,7 @@ module _ (x : Parts) where
       | inl low ↦ elim (cases_lt p (length x.ram.pages)) [
         | inl lt ↦
             absurd (none-some page
-            (sym (page-held p lt ∙ ap (option_map (λ (e : Entry). let q : Page = record { owner = e.owner; base = e.base; bytes = page_of x.ram p } in q)) (machine.owners.tables p low)) ∙ there))
+            (sym (page-held p lt ∙ ap (option_map (λ (e : Entry). let q : Page = record { owner = e.owner; own_right = e.own_right; bytes = page_of x.ram p } in q)) (machine.owners.tables p low)) ∙ there))
         | inr past ↦ absurd (none-some page (sym (page-past p past) ∙ there))
       ]
     ]
@@ -144,7 +144,7 @@ module _ (x : Parts) where
     endpoint-known e known =
         subst (λ (n : ℕ). place e < n) counted
         (known-place (length x.kept.chain.works) e
-        (subst (λ (n : ℕ). 1 ≤ n) (sym counted) (accepted x.manifest.ram_base x.manifest.ram_blocks x.manifest.endpoints.items x.manifest.accepted).some_endpoints)
+        (subst (λ (n : ℕ). 1 ≤ n) (sym counted) (accepted x.manifest.ram_base.0 x.manifest.ram_blocks x.manifest.endpoints.items x.manifest.accepted).some_endpoints)
         known)
 
     -- so is the runner

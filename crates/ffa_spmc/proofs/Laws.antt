@@ -55,8 +55,8 @@ module _ (s : State) (sound : IsSoundState s) where
   pub run_confidential-now : AreApart s → (ops : List Op) → RunConfidential s ops
   run_confidential-now apart ops = run_confidential s ops steady apart
 
-  pub offers-now : AreApart s → (op : Op) → OfferSaysNothing s op
-  offers-now apart op = offer_says_nothing s op steady apart
+  pub open-now : AreApart s → (op : Op) → OfferSaysNothing s op
+  open-now apart op = offer_says_nothing s op steady apart
 
   pub loans-now : ZeroedIsForgotten s
   loans-now = zeroed_is_forgotten s steady

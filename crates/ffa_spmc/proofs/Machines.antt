@@ -72,7 +72,7 @@ machine-served x ram buffers chain bitmaps machine tables call is =
       tables = tables;
       layout = machine.layout;
       owners = machine.owners;
-      offers = machine.offers;
+      open_transactions = machine.open_transactions;
       sound = subst IsSoundState (sym is) (call-sound (state_of x) machine.sound call);
     }
 

@@ -26,18 +26,18 @@ use Rattle.ffa_spmc.specs.Meaning.{AreOwners, HasTables, IsManager, Parts, acces
 use Rattle.ffa_spmc.proofs.Held.{size_is}
 
 -- a fact on the layout's base, number of endpoints and blocks, of the manifest's
-pub of-manifest : (x : Parts) → IsManager x → (P : ℕ → ℕ → ℕ → Type 0) → P x.kept.layout.base (array_vec_len x.kept.layout.regions) x.kept.layout.blocks
-    → P x.manifest.ram_base (length x.manifest.endpoints.items) x.manifest.ram_blocks
+pub of-manifest : (x : Parts) → IsManager x → (P : ℕ → ℕ → ℕ → Type 0) → P x.kept.layout.base.0 (array_vec_len x.kept.layout.regions) x.kept.layout.blocks
+    → P x.manifest.ram_base.0 (length x.manifest.endpoints.items) x.manifest.ram_blocks
 of-manifest x machine P is =
     subst (λ (b : ℕ). P b (length x.manifest.endpoints.items) x.manifest.ram_blocks) machine.layout.base
-    (subst (λ (n : ℕ). P x.kept.layout.base n x.manifest.ram_blocks) machine.layout.endpoints
-    (subst (λ (b : ℕ). P x.kept.layout.base (array_vec_len x.kept.layout.regions) b) machine.layout.blocks is))
+    (subst (λ (n : ℕ). P x.kept.layout.base.0 n x.manifest.ram_blocks) machine.layout.endpoints
+    (subst (λ (b : ℕ). P x.kept.layout.base.0 (array_vec_len x.kept.layout.regions) b) machine.layout.blocks is))
 
--- what an entry says of owner and base right
+-- what an entry says of owner and own right
 abbrev pub own_part : Entry → ℕ × Rights
-own_part e = (e.owner, e.base)
+own_part e = (e.owner, e.own_right)
 
--- owners and base rights are the same, whatever names the pages
+-- owners and own rights are the same, whatever names the pages
 pub record SameOwners (old new : List (Option Entry)) : Type 0 where
   pub size : length new ≡ length old
   pub owners : (p : ℕ) → option_map own_part (entry_at new p) ≡ option_map own_part (entry_at old p)
@@ -65,7 +65,7 @@ module _ (x : Parts) (machine : IsManager x) (ram : Ram) (pages : List (Option E
   held-moved p = of (entry_at x.kept.pages p) (entry_at pages p) refl (same.owners p)
     where
       held : List ℕ → Option Entry → Option Page
-      held bytes o = option_map (λ (e : Entry). let q : Page = record { owner = e.owner; base = e.base; bytes = bytes } in q) o
+      held bytes o = option_map (λ (e : Entry). let q : Page = record { owner = e.owner; own_right = e.own_right; bytes = bytes } in q) o
 
       none : (b : Bool) → cond {A = Option Page} b None None ≡ None
       none true = refl
@@ -73,8 +73,8 @@ module _ (x : Parts) (machine : IsManager x) (ram : Ram) (pages : List (Option E
 
       bytes : (b : Bool) (e f : Entry) → own_part f ≡ own_part e → page_of ram p ≡ cond b (replicate 4096 0) (page_of x.ram p)
           → held (page_of ram p) (Some f) ≡ cond b (zeroed_page (held (page_of x.ram p) (Some e))) (held (page_of x.ram p) (Some e))
-      bytes true e f alike are = λ i. Some (let q : Page = record { owner = (alike i).0; base = (alike i).1; bytes = are i } in q)
-      bytes false e f alike are = λ i. Some (let q : Page = record { owner = (alike i).0; base = (alike i).1; bytes = are i } in q)
+      bytes true e f alike are = λ i. Some (let q : Page = record { owner = (alike i).0; own_right = (alike i).1; bytes = are i } in q)
+      bytes false e f alike are = λ i. Some (let q : Page = record { owner = (alike i).0; own_right = (alike i).1; bytes = are i } in q)
 
       of : (o n : Option Entry) → entry_at x.kept.pages p ≡ o → option_map own_part n ≡ option_map own_part o
           → held (page_of ram p) n ≡ cond (zero && names s ranges p) (zeroed_page (held (page_of x.ram p) o)) (held (page_of x.ram p) o)
@@ -124,13 +124,13 @@ module _ (x : Parts) (machine : IsManager x) (ram : Ram) (pages : List (Option E
       none (Some e) is = absurd (none-some (own_part e) (sym is))
 
 -- THE PAGES OF A DONATE, which are another endpoint's
-module _ (old new : List (Option Entry)) (named : ℕ → Bool) (owner : EndpointId) (base : Rights) (marked : IsMarked old new named (Given owner base)) where
+module _ (old new : List (Option Entry)) (named : ℕ → Bool) (owner : EndpointId) (right : Rights) (marked : IsMarked old new named (Given owner right)) where
   -- no transaction names them
   pub slot-given : (p : ℕ) → slot_at new p ≡ cond (named p) None (slot_at old p)
   slot-given p = ap (option_and_then (λ (e : Entry). e.slot)) (marked.entries p) ∙ of (named p) (entry_at old p)
     where
       of : (b : Bool) (o : Option Entry)
-          → option_and_then (λ (e : Entry). e.slot) (cond b (option_map (λ (e : Entry). let f : Entry = record { owner = owner.0; base = base; slot = None } in f) o) o)
+          → option_and_then (λ (e : Entry). e.slot) (cond b (option_map (λ (e : Entry). let f : Entry = record { owner = owner.0; own_right = right; slot = None } in f) o) o)
           ≡ cond b None (option_and_then (λ (e : Entry). e.slot) o)
       of true None = refl
       of true (Some e) = refl
@@ -139,27 +139,27 @@ module _ (old new : List (Option Entry)) (named : ℕ → Bool) (owner : Endpoin
   pub none-given : (p : ℕ) → entry_at old p ≡ None → entry_at new p ≡ None
   none-given p none = marked.entries p ∙ of (named p) (entry_at old p) none
     where
-      of : (b : Bool) (o : Option Entry) → o ≡ None → cond b (option_map (λ (e : Entry). let f : Entry = record { owner = owner.0; base = base; slot = None } in f) o) o ≡ None
+      of : (b : Bool) (o : Option Entry) → o ≡ None → cond b (option_map (λ (e : Entry). let f : Entry = record { owner = owner.0; own_right = right; slot = None } in f) o) o ≡ None
       of true None is = refl
       of true (Some e) is = absurd (none-some e (sym is))
       of false o is = is
 
-module _ (x : Parts) (machine : IsManager x) (ram : Ram) (pages : List (Option Entry)) (index : ℕ) (ranges : List Range) (right : ℕ → Option Rights)
-    (moved : IsMoved x.ram ram (length x.manifest.endpoints.items) x.manifest.ram_blocks index (names (state_of x) ranges) right false)
-    (owner : EndpointId) (base : Rights) (marked : IsMarked x.kept.pages pages (names (state_of x) ranges) (Given owner base)) where
+module _ (x : Parts) (machine : IsManager x) (ram : Ram) (pages : List (Option Entry)) (index : ℕ) (ranges : List Range) (rights : ℕ → Option Rights)
+    (moved : IsMoved x.ram ram (length x.manifest.endpoints.items) x.manifest.ram_blocks index (names (state_of x) ranges) rights false)
+    (owner : EndpointId) (right : Rights) (marked : IsMarked x.kept.pages pages (names (state_of x) ranges) (Given owner right)) where
   abbrev given : State
   given = state_of x
 
   held-given : (p : ℕ) → held_page ram pages p
-      ≡ cond (names given ranges p) (donated_page owner.0 base (held_page x.ram x.kept.pages p)) (held_page x.ram x.kept.pages p)
+      ≡ cond (names given ranges p) (donated_page owner.0 right (held_page x.ram x.kept.pages p)) (held_page x.ram x.kept.pages p)
   held-given p = ap (held (page_of ram p)) (marked.entries p) ∙ of (names given ranges p) (entry_at x.kept.pages p) refl
     where
       held : List ℕ → Option Entry → Option Page
-      held bytes o = option_map (λ (e : Entry). let q : Page = record { owner = e.owner; base = e.base; bytes = bytes } in q) o
+      held bytes o = option_map (λ (e : Entry). let q : Page = record { owner = e.owner; own_right = e.own_right; bytes = bytes } in q) o
 
       of : (b : Bool) (o : Option Entry) → entry_at x.kept.pages p ≡ o
-          → held (page_of ram p) (cond b (option_map (λ (e : Entry). let f : Entry = record { owner = owner.0; base = base; slot = None } in f) o) o)
-          ≡ cond b (donated_page owner.0 base (held (page_of x.ram p) o)) (held (page_of x.ram p) o)
+          → held (page_of ram p) (cond b (option_map (λ (e : Entry). let f : Entry = record { owner = owner.0; own_right = right; slot = None } in f) o) o)
+          ≡ cond b (donated_page owner.0 right (held (page_of x.ram p) o)) (held (page_of x.ram p) o)
       of true None is = refl
       of false None is = refl
       of b (Some e) is =
@@ -170,20 +170,20 @@ module _ (x : Parts) (machine : IsManager x) (ram : Ram) (pages : List (Option E
           ])
         where
           by : (b : Bool) → page_of ram p ≡ page_of x.ram p
-              → held (page_of ram p) (cond b (Some (let f : Entry = record { owner = owner.0; base = base; slot = None } in f)) (Some e))
-              ≡ cond b (donated_page owner.0 base (held (page_of x.ram p) (Some e))) (held (page_of x.ram p) (Some e))
-          by true same = ap (λ (bytes : List ℕ). Some (let q : Page = record { owner = owner.0; base = base; bytes = bytes } in q)) same
-          by false same = ap (λ (bytes : List ℕ). Some (let q : Page = record { owner = e.owner; base = e.base; bytes = bytes } in q)) same
+              → held (page_of ram p) (cond b (Some (let f : Entry = record { owner = owner.0; own_right = right; slot = None } in f)) (Some e))
+              ≡ cond b (donated_page owner.0 right (held (page_of x.ram p) (Some e))) (held (page_of x.ram p) (Some e))
+          by true same = ap (λ (bytes : List ℕ). Some (let q : Page = record { owner = owner.0; own_right = right; bytes = bytes } in q)) same
+          by false same = ap (λ (bytes : List ℕ). Some (let q : Page = record { owner = e.owner; own_right = e.own_right; bytes = bytes } in q)) same
 
-  pub pages-given : listed (length ram.pages) (held_page ram pages) ≡ changed_pages given ranges (donated_page owner.0 base)
+  pub pages-given : listed (length ram.pages) (held_page ram pages) ≡ changed_pages given ranges (donated_page owner.0 right)
   pages-given =
       ap (λ (n : ℕ). listed n (held_page ram pages)) moved.size
-      ∙ listed-same (length x.ram.pages) (held_page ram pages) (λ p. cond (names given ranges p) (donated_page owner.0 base (held_page x.ram x.kept.pages p)) (held_page x.ram x.kept.pages p)) (λ p lt. held-given p)
-      ∙ sym (map_at-listed (λ p page. if names given ranges p then donated_page owner.0 base page else page) (length x.ram.pages) (held_page x.ram x.kept.pages))
+      ∙ listed-same (length x.ram.pages) (held_page ram pages) (λ p. cond (names given ranges p) (donated_page owner.0 right (held_page x.ram x.kept.pages p)) (held_page x.ram x.kept.pages p)) (λ p lt. held-given p)
+      ∙ sym (map_at-listed (λ p page. if names given ranges p then donated_page owner.0 right page else page) (length x.ram.pages) (held_page x.ram x.kept.pages))
 
   pub owners-given : AreOwners x.manifest pages
   owners-given =
       record {
         size = marked.size ∙ machine.owners.size;
-        tables = λ p low. none-given x.kept.pages pages (names given ranges) owner base marked p (machine.owners.tables p low);
+        tables = λ p low. none-given x.kept.pages pages (names given ranges) owner right marked p (machine.owners.tables p low);
       }

@@ -23,7 +23,7 @@ use Rattle.ffa_model.specs.SendDescriptor.{SendRecord, send_of}
 use Rattle.ffa_model.specs.SoundState.{IsSoundState}
 use Rattle.ffa_model.specs.State.{State, Transaction, transaction_of, version_of}
 use Rattle.ffa_model.specs.declared.call.Transfer.{Transfer}
-use Rattle.ffa_model.specs.Transactions.{base_of, next_handle, offers_of, scene_of, with_offers}
+use Rattle.ffa_model.specs.Transactions.{own_right_of, next_handle, open_of, scene_of, with_open}
 use Rattle.ffa_model.proofs.CallAccesses.{handle-new, runner-known, sendable-unnamed}
 use Rattle.ffa_laws.proofs.SendLaws.{IsOffer, offer}
 use Rattle.ffa_laws.proofs.SoundSends.{send-sound}
@@ -36,14 +36,14 @@ use Rattle.ffa_memshare.specs.Grants.{new_right, with_rights}
 use Rattle.ffa_memshare.specs.Ranges.{ArePlaced, in_ranges}
 use Rattle.ffa_memshare.specs.Scenes.{descriptor_in, scene_in}
 use Rattle.ffa_memshare.specs.Sent.{IsSent, right_after}
-use Rattle.ffa_memshare.specs.Stored.{Pooled, offers_in, pool_slot}
+use Rattle.ffa_memshare.specs.Stored.{Pooled, open_in, pool_slot}
 use Rattle.ffa_memshare.specs.declared.marks.Mark.TheVariants.{Named}
 use Rattle.ffa_spmc.specs.AccessChange.{IsAccessChange, is_whose}
 use Rattle.ffa_spmc.specs.Meaning.{AreOffers, IsManager, IsOffered, Parts, access_by_place, state_of}
 use Rattle.ffa_spmc.specs.Replies.{handle_or_error}
 use Rattle.ffa_spmc.specs.Unowned.{KeepsUnowned}
 use Rattle.ffa_spmc.proofs.Answered.{answered-by, done-with, refused-so}
-use Rattle.ffa_spmc.proofs.Closes.{offers-opened, slot-opened}
+use Rattle.ffa_spmc.proofs.Closes.{open-opened, slot-opened}
 use Rattle.ffa_spmc.proofs.Granted.{send-granted}
 use Rattle.ffa_spmc.proofs.Held.{owners-size, parties_are, size_is}
 use Rattle.ffa_spmc.proofs.AccessChanges.{access-changed, none-changed, sent-kept, sent-lost}
@@ -77,13 +77,13 @@ module _ (x : Parts) (machine : IsManager x) (e : ℕ) (at : e ≡ x.kept.chain.
 
   -- what the pool has done
   abbrev IsDone : Changed → Type 0
-  IsDone changed = IsSent x.kept.pool pool x.kept.pages pages x.ram ram x.kept.layout.base (array_vec_len x.kept.layout.regions) x.kept.layout.blocks e kind bytes changed
+  IsDone changed = IsSent x.kept.pool pool x.kept.pages pages x.ram ram x.kept.layout.base.0 (array_vec_len x.kept.layout.regions) x.kept.layout.blocks e kind bytes changed
 
   read-is : send_of kind bytes ≡ send_read s kind a.total
   read-is = λ i. send_of kind (in_version (spoken i) (take call.transfer.total (sent-is x machine e at i)))
 
   -- the right that the sender keeps
-  kept-right : (its : Kind) (p : ℕ) → new_right (right_after its) x.kept.pages p ≡ (if is_share its then base_of s p else None)
+  kept-right : (its : Kind) (p : ℕ) → new_right (right_after its) x.kept.pages p ≡ (if is_share its then own_right_of s p else None)
   kept-right Share p = base-is x machine p
   kept-right Lend p = refl
   kept-right Donate p = refl
@@ -96,7 +96,7 @@ module _ (x : Parts) (machine : IsManager x) (e : ℕ) (at : e ≡ x.kept.chain.
     t = transaction_from kind r
 
     abbrev h : ℕ
-    h = next_handle (offers_of s) e
+    h = next_handle (open_of s) e
 
     abbrev right : ℕ → Option Rights
     right = new_right (right_after kind) x.kept.pages
@@ -124,10 +124,10 @@ module _ (x : Parts) (machine : IsManager x) (e : ℕ) (at : e ≡ x.kept.chain.
     state-from =
         (λ i. record s {
           pages = pages-moved x machine ram pages (place e) r.ranges right r.zero moves owners i;
-          transactions = (done.offers i).transactions;
-          sent = (done.offers i).sent;
+          transactions = (done.open_transactions i).transactions;
+          sent = (done.open_transactions i).sent;
         })
-        ∙ (λ i. zeroed_if r.zero (with_offers s (offered_in (offers_of s) (at i) kind r)) r.ranges)
+        ∙ (λ i. zeroed_if r.zero (with_open s (offered_in (open_of s) (at i) kind r)) r.ranges)
 
     pub state-sent : state_of after_offer ≡ memory_sent s kind (send_read s kind a.total)
     state-sent = state-from ∙ sym (ap (memory_sent s kind) read)
@@ -143,14 +143,14 @@ module _ (x : Parts) (machine : IsManager x) (e : ℕ) (at : e ≡ x.kept.chain.
     fresh : (j : ℕ) (y : ℕ × Transaction) → pool_slot x.kept.pool.slots j ≡ Some y → y.0 ≡ h → ⊥
     fresh j y there same =
         none-some y.1
-        (sym (ap (λ (f : ℕ). transaction_of s (next_handle (offers_of s) f)) at ∙ handle-new s machine.sound s.runner (runner-known s machine.sound))
+        (sym (ap (λ (f : ℕ). transaction_of s (next_handle (open_of s) f)) at ∙ handle-new s machine.sound s.runner (runner-known s machine.sound))
         ∙ ap (transaction_of s) (sym same) ∙ slot-open x machine j y.0 y.1 there)
 
     offered : IsOffered x.manifest t
     offered =
         record {
           placed =
-              subst (λ (n : ℕ). ArePlaced x.manifest.ram_base n r.ranges) machine.owners.size
+              subst (λ (n : ℕ). ArePlaced x.manifest.ram_base.0 n r.ranges) machine.owners.size
               (subst (λ (b : ℕ). ArePlaced b (length x.kept.pages) r.ranges) machine.layout.base done.own.placed);
           other = ap (λ (f : ℕ). is_receiver f t) done.own.sender ∙ done.other;
         }
@@ -173,9 +173,9 @@ module _ (x : Parts) (machine : IsManager x) (e : ℕ) (at : e ≡ x.kept.chain.
           tables = tables-moved x machine ram pages (place e) r.ranges right r.zero moves owners (state_of after_offer) granted;
           layout = machine.layout;
           owners = owners-moved x machine ram pages (place e) r.ranges right r.zero moves owners;
-          offers =
+          open_transactions =
               subst (AreOffers x.manifest pages) (sym done.opened.slots)
-              (offers-opened x.manifest x.kept.pages pages x.kept.pool.slots machine.offers done.slot h t done.opened.free.within done.opened.free.free fresh offered unnamed
+              (open-opened x.manifest x.kept.pages pages x.kept.pool.slots machine.open_transactions done.slot h t done.opened.free.within done.opened.free.free fresh offered unnamed
               (λ p lt. slot-opened x.kept.pages pages (names s r.ranges) done.slot marks p (owned p)) marks.size);
           sound = subst IsSoundState (sym state-sent) (send-sound s machine.sound kind a (sym none));
         }
@@ -196,9 +196,9 @@ module _ (x : Parts) (machine : IsManager x) (e : ℕ) (at : e ≡ x.kept.chain.
 
   -- the clauses of the pool's call
   module _ (result : Result Sent ErrorCode)
-      (refusal : result_err result ≡ first_failure (send_guards (scene_in (array_vec_len x.kept.layout.regions) x.kept.pages x.kept.layout.base x.kept.buffers (offers_in x.kept.pool)) e a (send_of kind bytes)))
+      (refusal : result_err result ≡ first_failure (send_guards (scene_in (array_vec_len x.kept.layout.regions) x.kept.pages x.kept.layout.base.0 x.kept.buffers (open_in x.kept.pool)) e a (send_of kind bytes)))
       (kept : OnErr result (pool ≡ x.kept.pool)) (kept_pages : OnErr result (pages ≡ x.kept.pages)) (kept_ram : OnErr result (ram ≡ x.ram))
-      (handle : IfOk result (λ sent. sent.handle ≡ next_handle (offers_in x.kept.pool) e)) (done : IfOk result (λ sent. IsDone sent.changed)) where
+      (handle : IfOk result (λ sent. sent.handle ≡ next_handle (open_in x.kept.pool) e)) (done : IfOk result (λ sent. IsDone sent.changed)) where
     refuses : result_err result ≡ first_failure guards
     refuses = refusal ∙ (λ i. first_failure (send_guards (scene-is x machine i) (at i) a (read-is i)))
 
@@ -212,8 +212,8 @@ module _ (x : Parts) (machine : IsManager x) (e : ℕ) (at : e ≡ x.kept.chain.
     told : IfOk result (λ sent. handle_reply sent.handle ≡ (memory_send s kind a).reply)
     told = of result handle
       where
-        of : (r : Result Sent ErrorCode) → IfOk r (λ sent. sent.handle ≡ next_handle (offers_in x.kept.pool) e) → IfOk r (λ sent. handle_reply sent.handle ≡ (memory_send s kind a).reply)
-        of (Ok sent) is = ap handle_reply (is ∙ ap (next_handle (offers_of s)) at)
+        of : (r : Result Sent ErrorCode) → IfOk r (λ sent. sent.handle ≡ next_handle (open_in x.kept.pool) e) → IfOk r (λ sent. handle_reply sent.handle ≡ (memory_send s kind a).reply)
+        of (Ok sent) is = ap handle_reply (is ∙ ap (next_handle (open_of s)) at)
         of (Err code) is = tt
 
     pub offer-served : replied (state_of after_offer) (handle_or_error result) ≡ served s (memory_send s kind a)

@@ -10,16 +10,16 @@ use Rattle.ffa_model.specs.Access.{access, handle_at, is_naming, names, right_of
 use Rattle.ffa_model.specs.Identifiers.{manager, place}
 use Rattle.ffa_model.specs.Ram.{page_of}
 use Rattle.ffa_model.specs.State.{State, Page, Transaction, is_known_among, owner_of, page_at, transaction_of}
-use Rattle.ffa_model.specs.Transactions.{base_of, bases_of}
+use Rattle.ffa_model.specs.Transactions.{own_right_of, own_rights_of}
 use Rattle.ffa_model.proofs.Accesses.{IsNamedOnce, named-in, unnamed-in}
 use Rattle.ffa_model.proofs.Handles.{alone-found, unpassed-none}
 use Rattle.ffa_model.proofs.Places.{known-place}
 use Rattle.ffa_model.proofs.Slots.{at-get, get-at}
 use Rattle.ffa_laws.specs.OwnAccess.{AreApart}
 use Rattle.ffa_laws.proofs.SoundSteady.{sound-steady}
-use Rattle.ffa_pages.specs.Entry.{Entry, base_at, entry_at, slot_at}
+use Rattle.ffa_pages.specs.Entry.{Entry, own_right_at, entry_at, slot_at}
 use Rattle.ffa_stage2.specs.Tables.{table_page}
-use Rattle.ffa_memshare.specs.Named.{bases_in}
+use Rattle.ffa_memshare.specs.Named.{own_rights_in}
 use Rattle.ffa_memshare.specs.Shared.{IsHeld, IsRoom, IsShared}
 use Rattle.ffa_memshare.specs.Stored.{Slot, handle_in, named_in, page_in, pool_slot}
 use Rattle.ffa_spmc.specs.Meaning.{IsManager, Parts, access_by_place, slot_names, state_of}
@@ -37,14 +37,14 @@ module _ (x : Parts) (machine : IsManager x) where
 
   -- what is in a slot is open, and what is open is in a slot
   pub slot-open : (k h : ℕ) (t : Transaction) → pool_slot slots k ≡ Some (h, t) → transaction_of s h ≡ Some t
-  slot-open k h t at = get-at slots k h t machine.offers.apart at
+  slot-open k h t at = get-at slots k h t machine.open_transactions.apart at
 
   pub open-slot : (h : ℕ) (t : Transaction) → transaction_of s h ≡ Some t → (k : ℕ) × (pool_slot slots k ≡ Some (h, t))
   open-slot h t is = let there = at-get slots h t is in (there.0, there.2)
 
   -- nobody is offered what it has sent itself
   pub senders-apart : AreApart s
-  senders-apart h t is = let slot = open-slot h t is in (machine.offers.offered slot.0 h t slot.1).other
+  senders-apart h t is = let slot = open-slot h t is in (machine.open_transactions.offered slot.0 h t slot.1).other
 
   once : (p : ℕ) → p < length x.ram.pages → IsNamedOnce s p
   once p lt h k at_h at_k = machine.sound.one p h k (subst (λ (n : ℕ). p < n) (sym (size_is x)) lt) at_h at_k
@@ -54,10 +54,10 @@ module _ (x : Parts) (machine : IsManager x) where
     entered = subst (λ (n : ℕ). p < n) (sym (owners-size x machine)) lt
 
     pub named-marked : (k h : ℕ) (t : Transaction) → pool_slot slots k ≡ Some (h, t) → names s t.ranges p ≡ true → slot_at pages p ≡ Some k
-    named-marked k h t at named = (machine.offers.marks p k entered).1 (ap (slot_names x.manifest.ram_base p) at ∙ named)
+    named-marked k h t at named = (machine.open_transactions.marks p k entered).1 (ap (slot_names x.manifest.ram_base.0 p) at ∙ named)
 
-    pub marked-named : (k : ℕ) → slot_at pages p ≡ Some k → slot_names x.manifest.ram_base p (pool_slot slots k) ≡ true
-    marked-named k is = (machine.offers.marks p k entered).0 is
+    pub marked-named : (k : ℕ) → slot_at pages p ≡ Some k → slot_names x.manifest.ram_base.0 p (pool_slot slots k) ≡ true
+    marked-named k is = (machine.open_transactions.marks p k entered).0 is
 
     abbrev Agree : Option ℕ → Type 0
     Agree o = (transaction_at s p ≡ named_in slots o) × (is_some (handle_at s p) ≡ is_some o) × (handle_at s p ≡ handle_in slots o)
@@ -82,7 +82,7 @@ module _ (x : Parts) (machine : IsManager x) where
     marked : (k : ℕ) → slot_at pages p ≡ Some k → Agree (Some k)
     marked k is = of (pool_slot slots k) refl (marked-named k is)
       where
-        of : (o : Slot) → pool_slot slots k ≡ o → slot_names x.manifest.ram_base p o ≡ true → Agree (Some k)
+        of : (o : Slot) → pool_slot slots k ≡ o → slot_names x.manifest.ram_base.0 p o ≡ true → Agree (Some k)
         of None at named = absurd (false≢true named)
         of (Some y) at named =
             let opened : transaction_of s y.0 ≡ Some y.1 = slot-open k y.0 y.1 at in
@@ -115,21 +115,21 @@ module _ (x : Parts) (machine : IsManager x) where
     access-kept e = λ i. right_of e (sym (page-held x p lt) i) (sym transaction-kept i)
 
   -- RAM as grants and ceilings see it
-  pub base-is : (p : ℕ) → base_at pages p ≡ base_of s p
+  pub base-is : (p : ℕ) → own_right_at pages p ≡ own_right_of s p
   base-is p = elim (cases_lt p (length x.ram.pages)) [
-    | inl lt ↦ of (entry_at pages p) ∙ sym (ap (option_map (λ (page : Page). page.base)) (page-held x p lt))
-    | inr past ↦ ap (option_map (λ (e : Entry). e.base)) (entry-past x machine p past) ∙ sym (ap (option_map (λ (page : Page). page.base)) (page-past x p past))
+    | inl lt ↦ of (entry_at pages p) ∙ sym (ap (option_map (λ (page : Page). page.own_right)) (page-held x p lt))
+    | inr past ↦ ap (option_map (λ (e : Entry). e.own_right)) (entry-past x machine p past) ∙ sym (ap (option_map (λ (page : Page). page.own_right)) (page-past x p past))
   ]
     where
-      of : (o : Option Entry) → option_map (λ (e : Entry). e.base) o ≡ option_map (λ (page : Page). page.base) (page_in (page_of x.ram p) o)
+      of : (o : Option Entry) → option_map (λ (e : Entry). e.own_right) o ≡ option_map (λ (page : Page). page.own_right) (page_in (page_of x.ram p) o)
       of None = refl
       of (Some e) = refl
 
-  pub bases-are : bases_in pages x.manifest.ram_base ≡ bases_of s
-  bases-are = λ i. record { ram_base = x.manifest.ram_base; pages = (owners-size x machine ∙ sym (size_is x)) i; right = λ p. base-is p i }
+  pub own_rights-are : own_rights_in pages x.manifest.ram_base.0 ≡ own_rights_of s
+  own_rights-are = λ i. record { ram_base = x.manifest.ram_base.0; pages = (owners-size x machine ∙ sym (size_is x)) i; right = λ p. base-is p i }
 
   -- what the calls of the pool ask
-  room : IsRoom x.ram x.manifest.ram_base (length x.manifest.endpoints.items) x.manifest.ram_blocks pages
+  room : IsRoom x.ram x.manifest.ram_base.0 (length x.manifest.endpoints.items) x.manifest.ram_blocks pages
   room = record { place = machine.tables.base; built = (access_by_place s, machine.tables.built); size = machine.owners.size }
 
   -- no endpoint is the manager
@@ -146,12 +146,12 @@ module _ (x : Parts) (machine : IsManager x) where
     own : (p : ℕ) → names s t.ranges p ≡ true → owner_of s p ≡ t.sender
     own p named = ((sound-steady s machine.sound).transactions h t opened).owned p named
 
-    pub held-in : IsHeld x.ram x.manifest.ram_base (length x.manifest.endpoints.items) x.manifest.ram_blocks pages t
+    pub held-in : IsHeld x.ram x.manifest.ram_base.0 (length x.manifest.endpoints.items) x.manifest.ram_blocks pages t
     held-in =
         record {
           room = room;
           sender = subst (λ (n : ℕ). place t.sender < n) (parties_are x) (known-place (length s.parties) t.sender machine.sound.sized.some known);
-          placed = (machine.offers.offered k h t at).placed;
+          placed = (machine.open_transactions.offered k h t at).placed;
           owned = λ p named is. known-owner (length s.parties) t.sender known (sym (own p named) ∙ owner-is x machine p ∙ is);
           behind = λ p named. of p named (page_at s p) refl;
         }
@@ -160,9 +160,9 @@ module _ (x : Parts) (machine : IsManager x) where
         of p named None there = absurd (known-owner (length s.parties) t.sender known (sym (own p named) ∙ ap (λ (o : Option Page). option_map_or (λ (q : Page). q.owner) o manager) there))
         of p named (Some page) there = owned-behind x machine p page there
 
-  pub pool-shared : IsShared x.ram x.kept.layout.base (array_vec_len x.kept.layout.regions) x.kept.layout.blocks pages slots
+  pub pool-shared : IsShared x.ram x.kept.layout.base.0 (array_vec_len x.kept.layout.regions) x.kept.layout.blocks pages slots
   pool-shared =
       subst (λ (b : ℕ). IsShared x.ram b (array_vec_len x.kept.layout.regions) x.kept.layout.blocks pages slots) (sym machine.layout.base)
-      (subst (λ (n : ℕ). IsShared x.ram x.manifest.ram_base n x.kept.layout.blocks pages slots) (sym machine.layout.endpoints)
-      (subst (λ (b : ℕ). IsShared x.ram x.manifest.ram_base (length x.manifest.endpoints.items) b pages slots) (sym machine.layout.blocks)
+      (subst (λ (n : ℕ). IsShared x.ram x.manifest.ram_base.0 n x.kept.layout.blocks pages slots) (sym machine.layout.endpoints)
+      (subst (λ (b : ℕ). IsShared x.ram x.manifest.ram_base.0 (length x.manifest.endpoints.items) b pages slots) (sym machine.layout.blocks)
       (record { room = room; each = held-in })))

@@ -17,18 +17,18 @@ use Rattle.ffa_model.specs.Memory.{zeroed_if}
 use Rattle.ffa_model.specs.Ram.{Ram}
 use Rattle.ffa_model.specs.SoundState.{IsSoundState}
 use Rattle.ffa_model.specs.State.{State, Transaction, transaction_of}
-use Rattle.ffa_model.specs.Transactions.{Bases, bases_of, closed, handle_of, offers_of, with_offers}
+use Rattle.ffa_model.specs.Transactions.{OwnRights, own_rights_of, closed, handle_of, open_of, with_open}
 use Rattle.ffa_model.proofs.Guards.{guard-passes}
 use Rattle.ffa_model.proofs.KeptCalls.{reclaimed-sound}
-use Rattle.ffa_pages.specs.Entry.{Entry, base_at}
+use Rattle.ffa_pages.specs.Entry.{Entry, own_right_at}
 use Rattle.ffa_memshare.specs.declared.changed.Changed.{Changed}
 use Rattle.ffa_memshare.specs.Changed.{IsChanged, changed_reclaimer, changed_sender}
 use Rattle.ffa_memshare.specs.Changes.{IsMarked, IsMoved}
 use Rattle.ffa_memshare.specs.Grants.{with_rights}
-use Rattle.ffa_memshare.specs.Named.{bases_in}
+use Rattle.ffa_memshare.specs.Named.{own_rights_in}
 use Rattle.ffa_memshare.specs.Ranges.{in_ranges}
 use Rattle.ffa_memshare.specs.SlotChanges.{IsClosed}
-use Rattle.ffa_memshare.specs.Stored.{Pooled, map_in, offers_in}
+use Rattle.ffa_memshare.specs.Stored.{Pooled, map_in, open_in}
 use Rattle.ffa_memshare.specs.declared.marks.Mark.TheVariants.{Named}
 use Rattle.ffa_memshare.proofs.Joined.{reclaim-access}
 use Rattle.ffa_spmc.specs.AccessChange.{IsAccessChange, is_whose}
@@ -36,10 +36,10 @@ use Rattle.ffa_spmc.specs.Meaning.{AreOffers, IsManager, Parts, access_by_place,
 use Rattle.ffa_spmc.specs.Replies.{done_or_error}
 use Rattle.ffa_spmc.specs.Unowned.{KeepsUnowned}
 use Rattle.ffa_spmc.proofs.Answered.{answered-by, done-replies, done-so, refused-so}
-use Rattle.ffa_spmc.proofs.Closes.{offers-closed, slot-marked}
+use Rattle.ffa_spmc.proofs.Closes.{open-closed, slot-marked}
 use Rattle.ffa_spmc.proofs.AccessChanges.{access-changed, none-changed, reclaimed-kept, reclaimed-new}
 use Rattle.ffa_spmc.proofs.Moves.{SameOwners, marked-owners, of-manifest, owners-moved, pages-moved, tables-moved}
-use Rattle.ffa_spmc.proofs.Pools.{base-is, bases-are, slot-open}
+use Rattle.ffa_spmc.proofs.Pools.{base-is, own_rights-are, slot-open}
 use Rattle.ffa_spmc.proofs.Unowned.{open-entered, unowned-moved, unowned-same}
 
 -- the code's runner is that of the run states; and the pool has reclaimed a handle, or refused to
@@ -51,17 +51,17 @@ module _ (x : Parts) (machine : IsManager x) (e : ℕ) (at : e ≡ x.kept.chain.
   after_reclaim = record x { ram = ram; kept = record x.kept { pages = pages; pool = pool } }
 
   abbrev guards : List (Bool × ErrorCode)
-  guards = reclaim_guards (bases_of s) s.runner flags (transaction_of s h)
+  guards = reclaim_guards (own_rights_of s) s.runner flags (transaction_of s h)
 
   -- the pages that the handle's transaction names, as the pool sees them
   abbrev named : ℕ → Bool
-  named = in_ranges x.kept.layout.base (named_ranges (finite.get (map_in x.kept.pool.slots) h))
+  named = in_ranges x.kept.layout.base.0 (named_ranges (finite.get (map_in x.kept.pool.slots) h))
 
   -- what the pool has done
   pub record IsReclaimed : Type 0 where
     pub slot : IsClosed x.kept.pool pool h
-    pub offers : offers_in pool ≡ closed (offers_in x.kept.pool) h
-    pub moved : IsMoved x.ram ram (array_vec_len x.kept.layout.regions) x.kept.layout.blocks (place e) named (base_at x.kept.pages) (flags == 1)
+    pub open_transactions : open_in pool ≡ closed (open_in x.kept.pool) h
+    pub moved : IsMoved x.ram ram (array_vec_len x.kept.layout.regions) x.kept.layout.blocks (place e) named (own_right_at x.kept.pages) (flags == 1)
     pub marked : IsMarked x.kept.pages pages named (Named None)
 
   -- and what it tells of access
@@ -87,10 +87,10 @@ module _ (x : Parts) (machine : IsManager x) (e : ℕ) (at : e ≡ x.kept.chain.
     unheld = sym (ap is_unheld was) ∙ guard-passes guards 2 Denied none
 
     -- over the manifest and the state
-    moves : IsMoved x.ram ram (length x.manifest.endpoints.items) x.manifest.ram_blocks (place e) (names s t.ranges) (base_at x.kept.pages) (flags == 1)
+    moves : IsMoved x.ram ram (length x.manifest.endpoints.items) x.manifest.ram_blocks (place e) (names s t.ranges) (own_right_at x.kept.pages) (flags == 1)
     moves =
-        subst (λ o. IsMoved x.ram ram (length x.manifest.endpoints.items) x.manifest.ram_blocks (place e) (names s (named_ranges o)) (base_at x.kept.pages) (flags == 1)) was
-        (of-manifest x machine (λ base n blocks. IsMoved x.ram ram n blocks (place e) (in_ranges base (named_ranges (transaction_of s h))) (base_at x.kept.pages) (flags == 1)) done.moved)
+        subst (λ o. IsMoved x.ram ram (length x.manifest.endpoints.items) x.manifest.ram_blocks (place e) (names s (named_ranges o)) (own_right_at x.kept.pages) (flags == 1)) was
+        (of-manifest x machine (λ base n blocks. IsMoved x.ram ram n blocks (place e) (in_ranges base (named_ranges (transaction_of s h))) (own_right_at x.kept.pages) (flags == 1)) done.moved)
 
     marks : IsMarked x.kept.pages pages (names s t.ranges) (Named None)
     marks =
@@ -103,13 +103,13 @@ module _ (x : Parts) (machine : IsManager x) (e : ℕ) (at : e ≡ x.kept.chain.
     pub state-reclaimed : state_of after_reclaim ≡ reclaimed s h (is_set 0 flags)
     state-reclaimed =
         (λ i. record s {
-          pages = pages-moved x machine ram pages (place e) t.ranges (base_at x.kept.pages) (flags == 1) moves owners i;
-          transactions = (done.offers i).transactions;
-          sent = (done.offers i).sent;
+          pages = pages-moved x machine ram pages (place e) t.ranges (own_right_at x.kept.pages) (flags == 1) moves owners i;
+          transactions = (done.open_transactions i).transactions;
+          sent = (done.open_transactions i).sent;
         })
-        ∙ (λ i. zeroed_if (asked i) (with_offers s (closed (offers_of s) h)) (named_ranges (sym was i)))
+        ∙ (λ i. zeroed_if (asked i) (with_open s (closed (open_of s) h)) (named_ranges (sym was i)))
 
-    granted : (i p : ℕ) → p < length s.pages → with_rights (access_by_place s) (place e) (names s t.ranges) (base_at x.kept.pages) i p ≡ access_by_place (state_of after_reclaim) i p
+    granted : (i p : ℕ) → p < length s.pages → with_rights (access_by_place s) (place e) (names s t.ranges) (own_right_at x.kept.pages) i p ≡ access_by_place (state_of after_reclaim) i p
     granted i p lt =
         (λ k. with_rights (access_by_place s) (place (sym sender k)) (names s t.ranges) (λ q. base-is x machine q k) i p)
         ∙ reclaim-access s machine.sound h t was unheld (is_set 0 flags) i p lt
@@ -119,17 +119,17 @@ module _ (x : Parts) (machine : IsManager x) (e : ℕ) (at : e ≡ x.kept.chain.
     machine-reclaimed =
         record {
           laws = machine.laws;
-          tables = tables-moved x machine ram pages (place e) t.ranges (base_at x.kept.pages) (flags == 1) moves owners (state_of after_reclaim) granted;
+          tables = tables-moved x machine ram pages (place e) t.ranges (own_right_at x.kept.pages) (flags == 1) moves owners (state_of after_reclaim) granted;
           layout = machine.layout;
-          owners = owners-moved x machine ram pages (place e) t.ranges (base_at x.kept.pages) (flags == 1) moves owners;
-          offers =
+          owners = owners-moved x machine ram pages (place e) t.ranges (own_right_at x.kept.pages) (flags == 1) moves owners;
+          open_transactions =
               subst (AreOffers x.manifest pages) (sym done.slot.slots)
-              (offers-closed x.manifest x.kept.pages pages x.kept.pool.slots machine.offers done.slot.slot h t done.slot.was (slot-marked x.kept.pages pages (names s t.ranges) marks) marks.size);
+              (open-closed x.manifest x.kept.pages pages x.kept.pool.slots machine.open_transactions done.slot.slot h t done.slot.was (slot-marked x.kept.pages pages (names s t.ranges) marks) marks.size);
           sound = subst IsSoundState (sym state-reclaimed) (reclaimed-sound s machine.sound h t was (is_set 0 flags));
         }
 
     pub unowned-reclaimed : KeepsUnowned s x.ram ram
-    unowned-reclaimed = unowned-moved x machine ram (place e) t.ranges (base_at x.kept.pages) (flags == 1) moves (open-entered x machine h t was)
+    unowned-reclaimed = unowned-moved x machine ram (place e) t.ranges (own_right_at x.kept.pages) (flags == 1) moves (open-entered x machine h t was)
 
     by-sender : (f p : ℕ) → (names s t.ranges p && is_whose (changed_sender t.kind t.sender) f) ≡ (names s t.ranges p && is_whose (changed_sender t.kind e) f)
     by-sender f p = ap (λ (g : ℕ). names s t.ranges p && is_whose (changed_sender t.kind g) f) sender
@@ -138,15 +138,15 @@ module _ (x : Parts) (machine : IsManager x) (e : ℕ) (at : e ≡ x.kept.chain.
     access-reclaimed changed told =
         access-changed x after_reclaim machine machine-reclaimed refl changed t.ranges (changed_sender t.kind e)
         (subst (λ (o : Option Transaction). IsChanged changed (named_ranges o) (changed_reclaimer o e)) was told)
-        (machine.offers.offered done.slot.slot h t done.slot.was).placed
+        (machine.open_transactions.offered done.slot.slot h t done.slot.was).placed
         (λ f p lt its. inl (reclaimed-new s machine.sound f p lt h t was unheld (by-sender f p ∙ its)))
         (λ f p lt kept. ap (λ (z : State). access z f p) state-reclaimed ∙ reclaimed-kept s machine.sound f p lt h t was unheld (is_set 0 flags) (by-sender f p ∙ kept))
 
   -- the clauses of the pool's call
-  module _ (r : Result Changed ErrorCode) (refusal : result_err r ≡ first_failure (reclaim_guards (bases_in x.kept.pages x.kept.layout.base) e flags (finite.get (map_in x.kept.pool.slots) h)))
+  module _ (r : Result Changed ErrorCode) (refusal : result_err r ≡ first_failure (reclaim_guards (own_rights_in x.kept.pages x.kept.layout.base.0) e flags (finite.get (map_in x.kept.pool.slots) h)))
       (kept : OnErr r (pool ≡ x.kept.pool)) (kept_pages : OnErr r (pages ≡ x.kept.pages)) (kept_ram : OnErr r (ram ≡ x.ram))
-      (slot : OnOk r (IsClosed x.kept.pool pool h)) (offers : OnOk r (offers_in pool ≡ closed (offers_in x.kept.pool) h))
-      (moved : OnOk r (IsMoved x.ram ram (array_vec_len x.kept.layout.regions) x.kept.layout.blocks (place e) named (base_at x.kept.pages) (flags == 1)))
+      (slot : OnOk r (IsClosed x.kept.pool pool h)) (open_transactions : OnOk r (open_in pool ≡ closed (open_in x.kept.pool) h))
+      (moved : OnOk r (IsMoved x.ram ram (array_vec_len x.kept.layout.regions) x.kept.layout.blocks (place e) named (own_right_at x.kept.pages) (flags == 1)))
       (marked : OnOk r (IsMarked x.kept.pages pages named (Named None))) (changed : IfOk r IsTold) where
     unchanged : OnErr r (after_reclaim ≡ x)
     unchanged = of r kept kept_pages kept_ram
@@ -156,25 +156,25 @@ module _ (x : Parts) (machine : IsManager x) (e : ℕ) (at : e ≡ x.kept.chain.
         of (Err code) same_pool same_pages same_ram = λ i. record x { ram = same_ram i; kept = record x.kept { pages = same_pages i; pool = same_pool i } }
 
     done : OnOk r IsReclaimed
-    done = of r slot offers moved marked
+    done = of r slot open_transactions moved marked
       where
-        of : (r : Result Changed ErrorCode) → OnOk r (IsClosed x.kept.pool pool h) → OnOk r (offers_in pool ≡ closed (offers_in x.kept.pool) h)
-            → OnOk r (IsMoved x.ram ram (array_vec_len x.kept.layout.regions) x.kept.layout.blocks (place e) named (base_at x.kept.pages) (flags == 1))
+        of : (r : Result Changed ErrorCode) → OnOk r (IsClosed x.kept.pool pool h) → OnOk r (open_in pool ≡ closed (open_in x.kept.pool) h)
+            → OnOk r (IsMoved x.ram ram (array_vec_len x.kept.layout.regions) x.kept.layout.blocks (place e) named (own_right_at x.kept.pages) (flags == 1))
             → OnOk r (IsMarked x.kept.pages pages named (Named None)) → OnOk r IsReclaimed
-        of (Ok told) closes leaves moves marks = record { slot = closes; offers = leaves; moved = moves; marked = marks }
+        of (Ok told) closes leaves moves marks = record { slot = closes; open_transactions = leaves; moved = moves; marked = marks }
         of (Err code) a b c d = tt
 
     refuses : result_err r ≡ first_failure guards
     refuses =
         refusal
-        ∙ ap (λ (b : ℕ). first_failure (reclaim_guards (bases_in x.kept.pages b) e flags (transaction_of s h))) machine.layout.base
-        ∙ ap (λ (b : Bases). first_failure (reclaim_guards b e flags (transaction_of s h))) (bases-are x machine)
-        ∙ ap (λ (f : ℕ). first_failure (reclaim_guards (bases_of s) f flags (transaction_of s h))) at
+        ∙ ap (λ (b : ℕ). first_failure (reclaim_guards (own_rights_in x.kept.pages b) e flags (transaction_of s h))) machine.layout.base
+        ∙ ap (λ (b : OwnRights). first_failure (reclaim_guards b e flags (transaction_of s h))) (own_rights-are x machine)
+        ∙ ap (λ (f : ℕ). first_failure (reclaim_guards (own_rights_of s) f flags (transaction_of s h))) at
 
     pub reclaim-served : replied (state_of after_reclaim) (done_or_error r) ≡ served s (memory_reclaim s low high flags)
     reclaim-served =
         answered-by s (state_of after_reclaim) (memory_reclaim s low high flags) r (λ done. success 0 0)
-        (refuses ∙ ap (λ (k : ℕ). first_failure (reclaim_guards (bases_of s) s.runner flags (transaction_of s k))) handle)
+        (refuses ∙ ap (λ (k : ℕ). first_failure (reclaim_guards (own_rights_of s) s.runner flags (transaction_of s k))) handle)
         (refused-so r (λ is. ap state_of is) unchanged)
         (done-so r (λ none facts. state-reclaimed (sym none ∙ refuses) facts ∙ ap (λ (k : ℕ). reclaimed s k (is_set 0 flags)) handle) done)
         (done-replies r)

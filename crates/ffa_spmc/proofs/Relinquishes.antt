@@ -17,7 +17,7 @@ use Rattle.ffa_model.specs.Ram.{Ram}
 use Rattle.ffa_model.specs.RelinquishDescriptor.{relinquish_of}
 use Rattle.ffa_model.specs.SoundState.{IsSoundState}
 use Rattle.ffa_model.specs.State.{State, Transaction, transaction_of}
-use Rattle.ffa_model.specs.Transactions.{not_holding, offers_of, with_offers, with_transaction}
+use Rattle.ffa_model.specs.Transactions.{not_holding, open_of, with_open, with_transaction}
 use Rattle.ffa_model.proofs.Guards.{guard-passes}
 use Rattle.ffa_model.proofs.KeptCalls.{relinquished-sound}
 use Rattle.ffa_memshare.specs.declared.changed.Changed.{Changed}
@@ -25,14 +25,14 @@ use Rattle.ffa_memshare.specs.Changes.{IsMoved}
 use Rattle.ffa_memshare.specs.Grants.{with_rights}
 use Rattle.ffa_memshare.specs.Ranges.{in_ranges}
 use Rattle.ffa_memshare.specs.Relinquished.{IsRelinquished}
-use Rattle.ffa_memshare.specs.Stored.{Pooled, offers_in}
+use Rattle.ffa_memshare.specs.Stored.{Pooled, open_in}
 use Rattle.ffa_rxtx.specs.Parts.{tx_in}
 use Rattle.ffa_spmc.specs.AccessChange.{IsAccessChange}
 use Rattle.ffa_spmc.specs.Meaning.{AreOffers, IsManager, Parts, access_by_place, state_of}
 use Rattle.ffa_spmc.specs.Replies.{done_or_error}
 use Rattle.ffa_spmc.specs.Unowned.{KeepsUnowned}
 use Rattle.ffa_spmc.proofs.Answered.{answered-by, done-replies, done-with, refused-so}
-use Rattle.ffa_spmc.proofs.Closes.{offers-reheld}
+use Rattle.ffa_spmc.proofs.Closes.{open-reheld}
 use Rattle.ffa_spmc.proofs.Granted.{relinquish-granted}
 use Rattle.ffa_spmc.proofs.AccessChanges.{access-changed, none-changed, relinquished-kept, relinquished-lost}
 use Rattle.ffa_spmc.proofs.Moves.{of-manifest, pages-moved, same-owners, tables-moved}
@@ -56,7 +56,7 @@ module _ (x : Parts) (machine : IsManager x) (e : ℕ) (at : e ≡ x.kept.chain.
 
   -- what the pool has done
   abbrev IsDone : Changed → Type 0
-  IsDone changed = IsRelinquished x.kept.pool pool x.ram ram x.kept.layout.base (array_vec_len x.kept.layout.regions) x.kept.layout.blocks e bytes changed
+  IsDone changed = IsRelinquished x.kept.pool pool x.ram ram x.kept.layout.base.0 (array_vec_len x.kept.layout.regions) x.kept.layout.blocks e bytes changed
 
   module _ (changed : Changed) (none : None ≡ first_failure guards) (done : IsDone changed) where
     abbrev d : RelinquishDesc
@@ -75,13 +75,13 @@ module _ (x : Parts) (machine : IsManager x) (e : ℕ) (at : e ≡ x.kept.chain.
     offered : is_receiver s.runner t ≡ true
     offered =
         sym (ap (is_offered s.runner) was)
-        ∙ guard-passes (relinquish_guards (buffers_in x.kept.buffers s.runner) (offers_of s) s.runner (Some d)) 2 InvalidParameters
-        (none ∙ ap (λ o. first_failure (relinquish_guards (buffers_in x.kept.buffers s.runner) (offers_of s) s.runner o)) read)
+        ∙ guard-passes (relinquish_guards (buffers_in x.kept.buffers s.runner) (open_of s) s.runner (Some d)) 2 InvalidParameters
+        (none ∙ ap (λ o. first_failure (relinquish_guards (buffers_in x.kept.buffers s.runner) (open_of s) s.runner o)) read)
 
     other : t.sender ≡ s.runner → ⊥
     other same =
         let slot = open-slot x machine d.handle t was in
-        false≢true (sym (machine.offers.offered slot.0 d.handle t slot.1).other ∙ ap (λ (f : ℕ). is_receiver f t) same ∙ offered)
+        false≢true (sym (machine.open_transactions.offered slot.0 d.handle t slot.1).other ∙ ap (λ (f : ℕ). is_receiver f t) same ∙ offered)
 
     moves : IsMoved x.ram ram (length x.manifest.endpoints.items) x.manifest.ram_blocks (place e) (names s t.ranges) (λ p. None) d.zero
     moves = of-manifest x machine (λ base n blocks. IsMoved x.ram ram n blocks (place e) (in_ranges base t.ranges) (λ p. None) d.zero) done.moved
@@ -90,10 +90,10 @@ module _ (x : Parts) (machine : IsManager x) (e : ℕ) (at : e ≡ x.kept.chain.
     state-from =
         (λ i. record s {
           pages = pages-moved x machine ram x.kept.pages (place e) t.ranges (λ p. None) d.zero moves (same-owners x.kept.pages) i;
-          transactions = (done.offers i).transactions;
-          sent = (done.offers i).sent;
+          transactions = (done.open_transactions i).transactions;
+          sent = (done.open_transactions i).sent;
         })
-        ∙ (λ i. zeroed_if d.zero (with_offers s (with_transaction (offers_of s) d.handle (not_holding t (at i)))) t.ranges)
+        ∙ (λ i. zeroed_if d.zero (with_open s (with_transaction (open_of s) d.handle (not_holding t (at i)))) t.ranges)
 
     pub state-relinquished : state_of after_relinquish ≡ relinquished s (relinquish_read s)
     state-relinquished = state-from ∙ sym (ap (relinquished s) read ∙ ap (relinquished_from s d) was)
@@ -111,9 +111,9 @@ module _ (x : Parts) (machine : IsManager x) (e : ℕ) (at : e ≡ x.kept.chain.
           tables = tables-moved x machine ram x.kept.pages (place e) t.ranges (λ p. None) d.zero moves (same-owners x.kept.pages) (state_of after_relinquish) granted;
           layout = machine.layout;
           owners = machine.owners;
-          offers =
+          open_transactions =
               subst (AreOffers x.manifest x.kept.pages) (sym done.slot.slots)
-              (offers-reheld x.manifest x.kept.pages x.kept.pool.slots machine.offers done.slot.slot d.handle done.slot.transaction done.slot.was e None);
+              (open-reheld x.manifest x.kept.pages x.kept.pool.slots machine.open_transactions done.slot.slot d.handle done.slot.transaction done.slot.was e None);
           sound = subst IsSoundState (sym state-from) (relinquished-sound s machine.sound d t was);
         }
 
@@ -126,17 +126,17 @@ module _ (x : Parts) (machine : IsManager x) (e : ℕ) (at : e ≡ x.kept.chain.
     pub access-relinquished : IsAccessChange s (state_of after_relinquish) (Some changed)
     access-relinquished =
         access-changed x after_relinquish machine machine-relinquished refl changed t.ranges (Some (record { 0 = e })) done.access
-        (let slot = open-slot x machine d.handle t was in (machine.offers.offered slot.0 d.handle t slot.1).placed)
+        (let slot = open-slot x machine d.handle t was in (machine.open_transactions.offered slot.0 d.handle t slot.1).placed)
         (λ f p lt its. inr (ap (λ (z : State). access z f p) state-from ∙ relinquished-lost s machine.sound f p lt d.handle t was d refl other (by-runner f p ∙ its)))
         (λ f p lt kept. ap (λ (z : State). access z f p) state-from ∙ relinquished-kept s machine.sound f p lt d.handle t was d refl (by-runner f p ∙ kept))
 
   -- the clauses of the pool's call
-  module _ (r : Result Changed ErrorCode) (refusal : result_err r ≡ first_failure (relinquish_guards (buffers_in x.kept.buffers e) (offers_in x.kept.pool) e (relinquish_of bytes)))
+  module _ (r : Result Changed ErrorCode) (refusal : result_err r ≡ first_failure (relinquish_guards (buffers_in x.kept.buffers e) (open_in x.kept.pool) e (relinquish_of bytes)))
       (kept : OnErr r (pool ≡ x.kept.pool)) (kept_ram : OnErr r (ram ≡ x.ram)) (done : IfOk r IsDone) where
     refuses : result_err r ≡ first_failure guards
     refuses =
         refusal
-        ∙ (λ i. first_failure (relinquish_guards (buffers_in x.kept.buffers (at i)) (offers_of s) (at i) (relinquish_of (sent-is x machine e at i))))
+        ∙ (λ i. first_failure (relinquish_guards (buffers_in x.kept.buffers (at i)) (open_of s) (at i) (relinquish_of (sent-is x machine e at i))))
 
     unchanged : OnErr r (after_relinquish ≡ x)
     unchanged = of r kept kept_ram

@@ -15,12 +15,13 @@ use Rattle.ffa_model.specs.Step.{service}
 use Rattle.ffa_memshare.specs.declared.changed.Changed.{Changed}
 use Rattle.ffa_memshare.specs.Stored.{Pooled}
 use Rattle.ffa_pages.specs.Entry.{Entry}
+use Rattle.ffa_tlb.specs.declared.translations.Entry.{Entry as Held}
 use Rattle.ffa_spmc.specs.declared.answer.Answer.{Answer}
 use Rattle.ffa_spmc.specs.AccessChange.{IsAccessChange}
 use Rattle.ffa_spmc.specs.Managed.{Managed}
 use Rattle.ffa_spmc.specs.Meaning.{Parts, state_of}
 use Rattle.ffa_spmc.specs.Replies.{done_or_error, reply_of, reply_or_error}
-use Rattle.ffa_spmc.specs.Served.{IsAnswered, IsReplied}
+use Rattle.ffa_spmc.specs.Served.{IsAnswered, IsReplied, IsTold}
 use Rattle.ffa_spmc.specs.Unowned.{KeepsUnowned}
 use Rattle.ffa_spmc.proofs.AccessChanges.{access-served, none-changed}
 
@@ -75,10 +76,10 @@ module _ (x y : Parts) (now : Managed) (seen : managed_of x ≡ now) (c : State 
 
 -- and of a call on memory, whose answer tells this change
 module _ (x y : Parts) (now : Managed) (seen : managed_of x ≡ now) (c : State → Service) (answer : Answer) (changed : Option Changed) where
-  pub answered-with : replied (state_of y) answer.reply ≡ served (state_of x) (c (state_of x)) → (is_error answer.reply ≡ true → y ≡ x)
+  pub told-with : replied (state_of y) answer.reply ≡ served (state_of x) (c (state_of x)) → (is_error answer.reply ≡ true → y ≡ x)
       → KeepsUnowned (state_of x) x.ram y.ram → answer.changed ≡ changed → IsAccessChange (state_of x) (state_of y) changed
-      → (is_error answer.reply ≡ true → answer.changed ≡ None) → IsAnswered now (managed_of y) (c now.state) answer
-  answered-with is kept unowned told change none =
+      → (is_error answer.reply ≡ true → answer.changed ≡ None) → IsTold now (managed_of y) (c now.state) answer
+  told-with is kept unowned told change none =
       record {
         replied = replied-with x y now seen c answer.reply is kept unowned;
         access = subst (λ (o : Option Changed). IsAccessChange now.state (state_of y) o) (sym told)
@@ -86,14 +87,17 @@ module _ (x y : Parts) (now : Managed) (seen : managed_of x ≡ now) (c : State 
         unchanged = none;
       }
 
--- a call that isn't on memory changes nobody's access
-pub answered-beside : (old new : Managed) (call same : calls.Call) (answer : Answer) (reply : Reply) → call ≡ same → is_memory_call same ≡ false
-    → answer.reply ≡ reply → answer.changed ≡ None → IsReplied old new (service old.state same) reply → IsAnswered old new (service old.state call) answer
-answered-beside old new call same answer reply is beside replies none its =
-    subst (λ (a : calls.Call). IsAnswered old new (service old.state a) answer) (sym is)
+-- a call that isn't on memory changes nobody's access, and what a cache holds stays
+pub answered-beside : (old new : Managed) (held : List Held) (call same : calls.Call) (reply : Reply) → call ≡ same → is_memory_call same ≡ false
+    → IsReplied old new (service old.state same) reply → IsAnswered old new held held (service old.state call) reply
+answered-beside old new held call same reply is beside its =
+    subst (λ (a : calls.Call). IsAnswered old new held held (service old.state a) reply) (sym is)
     (record {
-      replied = subst (IsReplied old new (service old.state same)) (sym replies) its;
-      access = subst (λ (o : Option Changed). IsAccessChange old.state new.state o) (sym none)
-          (none-changed old.state new.state (λ e p. ap (λ (t : Stepped). access t.state e p) its.served ∙ access-served old.state e p same beside));
-      unchanged = λ error. none;
+      replied = its;
+      forgotten = record {
+        changed = None;
+        access = none-changed old.state new.state (λ e p. ap (λ (t : Stepped). access t.state e p) its.served ∙ access-served old.state e p same beside);
+        rest = λ e p. refl;
+      };
+      unchanged = λ error. refl;
     })

@@ -31,7 +31,7 @@ use Rattle.ffa_model.specs.Rights.{is_at_most, is_donate}
 use Rattle.ffa_model.specs.SoundState.{IsKnown, IsSoundState}
 use Rattle.ffa_model.specs.State.{State, Transaction, Buffers, is_known, transaction_of, version_of}
 use Rattle.ffa_model.specs.declared.call.Transfer.{Transfer}
-use Rattle.ffa_model.specs.Transactions.{bases_of, ceiling, scene_of}
+use Rattle.ffa_model.specs.Transactions.{own_rights_of, ceiling, scene_of}
 use Rattle.ffa_model.proofs.CallAccesses.{access-filled, runner-known}
 use Rattle.ffa_model.proofs.Guards.{guard-passes}
 use Rattle.ffa_model.proofs.KeptCalls.{taken-sound}
@@ -41,37 +41,37 @@ use Rattle.ffa_rxtx.specs.Parts.{candidates_in, with_rx_bytes}
 use Rattle.ffa_memshare.specs.declared.changed.Retrieved.{Retrieved as Taken}
 use Rattle.ffa_memshare.specs.Changes.{IsMoved}
 use Rattle.ffa_memshare.specs.Grants.{with_rights}
-use Rattle.ffa_memshare.specs.Named.{bases_in}
+use Rattle.ffa_memshare.specs.Named.{own_rights_in}
 use Rattle.ffa_memshare.specs.Ranges.{in_ranges}
 use Rattle.ffa_memshare.specs.Retrieved.{IsPassedOn, IsRetrieved, IsTaken}
 use Rattle.ffa_memshare.specs.Scenes.{descriptor_in, scene_in}
 use Rattle.ffa_memshare.specs.SlotChanges.{IsClosed, IsHeldBy}
-use Rattle.ffa_memshare.specs.Stored.{Pooled, offers_in, pool_slot}
+use Rattle.ffa_memshare.specs.Stored.{Pooled, open_in, pool_slot}
 use Rattle.ffa_spmc.specs.AccessChange.{IsAccessChange}
 use Rattle.ffa_spmc.specs.Meaning.{AreOffers, HasTables, IsManager, IsOffered, Parts, access_by_place, state_of}
 use Rattle.ffa_spmc.specs.Replies.{retrieved_or_error}
 use Rattle.ffa_spmc.specs.Unowned.{KeepsUnowned}
 use Rattle.ffa_spmc.proofs.Answered.{answered-by, passed-state, refused-so}
 use Rattle.ffa_spmc.proofs.Candidates.{candidates-are}
-use Rattle.ffa_spmc.proofs.Closes.{offers-closed, offers-reheld}
+use Rattle.ffa_spmc.proofs.Closes.{open-closed, open-reheld}
 use Rattle.ffa_spmc.proofs.Donations.{owners-passed, pages-passed}
 use Rattle.ffa_spmc.proofs.Fills.{runner-there, state-filled, tables-filled, after_fill}
 use Rattle.ffa_spmc.proofs.Granted.{donate-granted, retrieve-granted}
 use Rattle.ffa_spmc.proofs.Held.{parties_are}
 use Rattle.ffa_spmc.proofs.AccessChanges.{access-changed, none-changed, retrieved-kept, retrieved-new}
 use Rattle.ffa_spmc.proofs.Moves.{of-manifest, same-owners, slot-given, tables-moved}
-use Rattle.ffa_spmc.proofs.Pools.{bases-are, open-slot, slot-open}
+use Rattle.ffa_spmc.proofs.Pools.{own_rights-are, open-slot, slot-open}
 use Rattle.ffa_spmc.proofs.Sends.{sent-is}
 use Rattle.ffa_spmc.proofs.Unowned.{open-entered, unowned-filled, unowned-moved, unowned-same, unowned-then}
 
 -- what the checks of a call read is the same in the state
-pub scene-is : (x : Parts) → IsManager x → scene_in (array_vec_len x.kept.layout.regions) x.kept.pages x.kept.layout.base x.kept.buffers (offers_in x.kept.pool) ≡ scene_of (state_of x)
+pub scene-is : (x : Parts) → IsManager x → scene_in (array_vec_len x.kept.layout.regions) x.kept.pages x.kept.layout.base.0 x.kept.buffers (open_in x.kept.pool) ≡ scene_of (state_of x)
 scene-is x machine = λ i. record {
   endpoints = (machine.layout.endpoints ∙ sym (parties_are x)) i;
   ram = (ap (candidates_in x.kept.pages) machine.layout.base ∙ sym (candidates-are x machine)) i;
-  bases = (ap (bases_in x.kept.pages) machine.layout.base ∙ bases-are x machine) i;
+  own_rights = (ap (own_rights_in x.kept.pages) machine.layout.base ∙ own_rights-are x machine) i;
   buffers = x.kept.buffers;
-  offers = offers_in x.kept.pool;
+  open_transactions = open_in x.kept.pool;
 }
 
 -- the code's runner is that of the run states; and it has retrieved what its TX describes, or was refused
@@ -97,7 +97,7 @@ module _ (x : Parts) (machine : IsManager x) (e : EndpointId) (at : e.0 ≡ x.ke
 
   -- what the pool has done
   abbrev IsDone : Taken → Type 0
-  IsDone taken = IsRetrieved x.kept.pool pool x.ram ram x.kept.pages pages x.kept.layout.base (array_vec_len x.kept.layout.regions) x.kept.layout.blocks (buffers_in x.kept.buffers e.0) e bytes taken.size taken.changed
+  IsDone taken = IsRetrieved x.kept.pool pool x.ram ram x.kept.pages pages x.kept.layout.base.0 (array_vec_len x.kept.layout.regions) x.kept.layout.blocks (buffers_in x.kept.buffers e.0) e bytes taken.size taken.changed
 
   descriptor-is : retrieve_of e.0 bytes ≡ retrieve_read s total
   descriptor-is = λ i. retrieve_of (at i) (in_version (spoken i) (take total (sent-is x machine e.0 at i)))
@@ -118,24 +118,24 @@ module _ (x : Parts) (machine : IsManager x) (e : EndpointId) (at : e.0 ≡ x.ke
     was : transaction_of s d.handle ≡ Some t
     was = done.was
 
-    right-is : right ≡ right_for (bases_of s) t s.runner d
-    right-is = done.is ∙ (λ i. right_for ((ap (bases_in x.kept.pages) machine.layout.base ∙ bases-are x machine) i) t (at i) d)
+    right-is : right ≡ right_for (own_rights_of s) t s.runner d
+    right-is = done.is ∙ (λ i. right_for ((ap (own_rights_in x.kept.pages) machine.layout.base ∙ own_rights-are x machine) i) t (at i) d)
 
     -- the checks have passed
     abbrev checked : List (Bool × ErrorCode)
-    checked = after_transfer s.buffers s.runner registers (holding_guards (bases_of s) (is_full (buffers_in s.buffers s.runner)) s.runner d (Some t))
+    checked = after_transfer s.buffers s.runner registers (holding_guards (own_rights_of s) (is_full (buffers_in s.buffers s.runner)) s.runner d (Some t))
 
     passes : None ≡ first_failure checked
     passes =
         none
         ∙ ap (λ o. first_failure (retrieve_guards (scene_of s) s.runner registers o)) read
-        ∙ ap (λ o. first_failure (after_transfer s.buffers s.runner registers (holding_guards (bases_of s) (is_full (buffers_in s.buffers s.runner)) s.runner d o))) was
+        ∙ ap (λ o. first_failure (after_transfer s.buffers s.runner registers (holding_guards (own_rights_of s) (is_full (buffers_in s.buffers s.runner)) s.runner d o))) was
 
     receiver : is_receiver s.runner t ≡ true
     receiver = guard-passes checked 5 InvalidParameters passes
 
-    within : is_at_most right (ceiling (bases_of s) t s.runner) ≡ true
-    within = ap (λ (r : Rights). is_at_most r (ceiling (bases_of s) t s.runner)) right-is ∙ guard-passes checked 10 Denied passes
+    within : is_at_most right (ceiling (own_rights_of s) t s.runner) ≡ true
+    within = ap (λ (r : Rights). is_at_most r (ceiling (own_rights_of s) t s.runner)) right-is ∙ guard-passes checked 10 Denied passes
 
     known : IsKnown s s.runner
     known = runner-known s machine.sound
@@ -154,8 +154,8 @@ module _ (x : Parts) (machine : IsManager x) (e : EndpointId) (at : e.0 ≡ x.ke
     state-taken =
         (λ i. record s {
           pages = pages-passed x machine done.answer.granted pages (place e.0) t.ranges e right moves t.kind passed i;
-          transactions = (done.offers i).transactions;
-          sent = (done.offers i).sent;
+          transactions = (done.open_transactions i).transactions;
+          sent = (done.open_transactions i).sent;
         })
         ∙ (λ i. with_retrieved s d.handle t (at i) right)
 
@@ -176,8 +176,8 @@ module _ (x : Parts) (machine : IsManager x) (e : EndpointId) (at : e.0 ≡ x.ke
         ∙ access-filled (with_retrieved s d.handle t s.runner right) s.runner (response_bytes (version_of s s.runner) (response_to d.handle t s.runner right)) (identifier i) p
         ∙ sym (ap (λ (z : State). access_by_place z i p) state-taken)
 
-    offers-taken : AreOffers x.manifest pages pool.slots
-    offers-taken = of t.kind refl done.slot passed
+    open-taken : AreOffers x.manifest pages pool.slots
+    open-taken = of t.kind refl done.slot passed
       where
         of : (kind : Kind) → t.kind ≡ kind → IsTaken kind x.kept.pool pool d.handle e.0 right → IsPassedOn kind x.kept.pages pages (names s t.ranges) e right → AreOffers x.manifest pages pool.slots
         of Donate is taken marked =
@@ -185,17 +185,17 @@ module _ (x : Parts) (machine : IsManager x) (e : EndpointId) (at : e.0 ≡ x.ke
             let same : its.transaction ≡ t = same_Some its.transaction t (sym (slot-open x machine its.slot d.handle its.transaction its.was) ∙ was) in
             let there : pool_slot x.kept.pool.slots its.slot ≡ Some (d.handle, t) = its.was ∙ ap (λ (u : Transaction). Some (d.handle, u)) same in
             subst (AreOffers x.manifest pages) (sym its.slots)
-            (offers-closed x.manifest x.kept.pages pages x.kept.pool.slots machine.offers its.slot d.handle t there (slot-given x.kept.pages pages (names s t.ranges) e right marked) marked.size)
+            (open-closed x.manifest x.kept.pages pages x.kept.pool.slots machine.open_transactions its.slot d.handle t there (slot-given x.kept.pages pages (names s t.ranges) e right marked) marked.size)
         of Lend is taken same =
             let its : IsHeldBy x.kept.pool pool d.handle e.0 (Some right) = taken in
             subst (λ (table : List (Option Entry)). AreOffers x.manifest table pool.slots) (sym same)
             (subst (AreOffers x.manifest x.kept.pages) (sym its.slots)
-            (offers-reheld x.manifest x.kept.pages x.kept.pool.slots machine.offers its.slot d.handle its.transaction its.was e.0 (Some right)))
+            (open-reheld x.manifest x.kept.pages x.kept.pool.slots machine.open_transactions its.slot d.handle its.transaction its.was e.0 (Some right)))
         of Share is taken same =
             let its : IsHeldBy x.kept.pool pool d.handle e.0 (Some right) = taken in
             subst (λ (table : List (Option Entry)). AreOffers x.manifest table pool.slots) (sym same)
             (subst (AreOffers x.manifest x.kept.pages) (sym its.slots)
-            (offers-reheld x.manifest x.kept.pages x.kept.pool.slots machine.offers its.slot d.handle its.transaction its.was e.0 (Some right)))
+            (open-reheld x.manifest x.kept.pages x.kept.pool.slots machine.open_transactions its.slot d.handle its.transaction its.was e.0 (Some right)))
 
     machine-taken : IsManager before
     machine-taken =
@@ -204,7 +204,7 @@ module _ (x : Parts) (machine : IsManager x) (e : EndpointId) (at : e.0 ≡ x.ke
           tables = tables-moved x machine done.answer.granted x.kept.pages (place e.0) t.ranges (λ p. Some right) false moves (same-owners x.kept.pages) (state_of before) access-taken;
           layout = machine.layout;
           owners = owners-passed x machine done.answer.granted pages (place e.0) t.ranges e right moves t.kind passed;
-          offers = offers-taken;
+          open_transactions = open-taken;
           sound = subst IsSoundState (sym state-taken) (taken-sound s machine.sound d.handle t was s.runner right known receiver within);
         }
 
@@ -233,7 +233,7 @@ module _ (x : Parts) (machine : IsManager x) (e : EndpointId) (at : e.0 ≡ x.ke
           tables = subst (λ (y : Parts). HasTables y.ram y.manifest (access_by_place (state_of y))) (sym filled-is) (tables-filled before machine-taken e.0 there answer);
           layout = machine.layout;
           owners = machine-taken.owners;
-          offers = offers-taken;
+          open_transactions = open-taken;
           sound =
               subst IsSoundState (passed-state s (memory_retrieve s registers) (sym none) ∙ sym state-retrieved)
               (call-sound s machine.sound (MemRetrieve registers));
@@ -253,7 +253,7 @@ module _ (x : Parts) (machine : IsManager x) (e : EndpointId) (at : e.0 ≡ x.ke
 
     -- of access
     offered : IsOffered x.manifest t
-    offered = let slot = open-slot x machine d.handle t was in machine.offers.offered slot.0 d.handle t slot.1
+    offered = let slot = open-slot x machine d.handle t was in machine.open_transactions.offered slot.0 d.handle t slot.1
 
     by-runner : (f p : ℕ) → (names s t.ranges p && s.runner == f) ≡ (names s t.ranges p && e.0 == f)
     by-runner f p = ap (λ (g : ℕ). names s t.ranges p && g == f) (sym at)
@@ -264,7 +264,7 @@ module _ (x : Parts) (machine : IsManager x) (e : EndpointId) (at : e.0 ≡ x.ke
         (λ f p lt its. inl (retrieved-new s machine.sound f p lt d.handle t was s.runner unheld other (by-runner f p ∙ its)))
         (λ f p lt kept.
         ap (λ (z : State). access z f p) (state-retrieved ∙ ap (retrieved s) read ∙ ap (retrieved_from s d) was)
-        ∙ retrieved-kept s machine.sound f p lt d.handle t was s.runner (right_for (bases_of s) t s.runner d) (by-runner f p ∙ kept))
+        ∙ retrieved-kept s machine.sound f p lt d.handle t was s.runner (right_for (own_rights_of s) t s.runner d) (by-runner f p ∙ kept))
       where
         none-of : (o : Option Rights) → is_none o ≡ true → o ≡ None
         none-of None is = refl
@@ -279,7 +279,7 @@ module _ (x : Parts) (machine : IsManager x) (e : EndpointId) (at : e.0 ≡ x.ke
   -- the clauses of the pool's call
   module _ (r : Result Taken ErrorCode)
       (refusal : result_err r ≡ first_failure (retrieve_guards
-      (scene_in (array_vec_len x.kept.layout.regions) x.kept.pages x.kept.layout.base x.kept.buffers (offers_in x.kept.pool)) e.0 registers (retrieve_of e.0 bytes)))
+      (scene_in (array_vec_len x.kept.layout.regions) x.kept.pages x.kept.layout.base.0 x.kept.buffers (open_in x.kept.pool)) e.0 registers (retrieve_of e.0 bytes)))
       (kept : OnErr r (pool ≡ x.kept.pool)) (kept_pages : OnErr r (pages ≡ x.kept.pages)) (kept_buffers : OnErr r (buffers ≡ x.kept.buffers)) (kept_ram : OnErr r (ram ≡ x.ram))
       (full : OnOk r (buffers ≡ buffers_with_rx x.kept.buffers e.0 true)) (done : IfOk r IsDone) where
     refuses : result_err r ≡ first_failure guards

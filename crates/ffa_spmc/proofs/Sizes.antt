@@ -29,7 +29,7 @@ use Rattle.ffa_model.specs.SendDescriptor.{SendRecord}
 use Rattle.ffa_model.specs.Setup.{info_bytes, is_count_alone, uuid_bytes}
 use Rattle.ffa_model.specs.State.{State, Buffers, Page, Transaction, buffers_of, transaction_of, version_of}
 use Rattle.ffa_model.specs.Step.{service, step}
-use Rattle.ffa_model.specs.Transactions.{bases_of, closed, handle_of, not_holding, offers_of, with_offers, with_transaction}
+use Rattle.ffa_model.specs.Transactions.{own_rights_of, closed, handle_of, not_holding, open_of, with_open, with_transaction}
 use Rattle.ffa_model.proofs.Accesses.{length-map_at}
 use Rattle.ffa_laws.proofs.Form.{accessed-kept, served-kept}
 use Rattle.ffa_spmc.specs.Unowned.{pages_of_tables}
@@ -57,7 +57,7 @@ of-pages s n is = ap (λ (k : ℕ). (length s.parties, k)) is
 
 sent-sizes : (s : State) (kind : Kind) (r : Option SendRecord) → sizes (memory_sent s kind r) ≡ sizes s
 sent-sizes s kind None = refl
-sent-sizes s kind (Some r) = of-pages s _ (changed-size r.zero (with_offers s (offered_in (offers_of s) s.runner kind r)) r.ranges zeroed_page)
+sent-sizes s kind (Some r) = of-pages s _ (changed-size r.zero (with_open s (offered_in (open_of s) s.runner kind r)) r.ranges zeroed_page)
 
 retrieved-sizes : (s : State) (d : Option RetrieveDesc) → sizes (retrieved s d) ≡ sizes s
 retrieved-sizes s None = refl
@@ -66,7 +66,7 @@ retrieved-sizes s (Some d) = of (transaction_of s d.handle)
     of : (o : Option Transaction) → sizes (retrieved_from s d o) ≡ sizes s
     of None = refl
     of (Some t) =
-        let right : Rights = right_for (bases_of s) t s.runner d in
+        let right : Rights = right_for (own_rights_of s) t s.runner d in
         let before : State = with_retrieved s d.handle t s.runner right in
         of-pages s _
         (filled-size before.pages (response_bytes (version_of s s.runner) (response_to d.handle t s.runner right)) (buffers_of before s.runner)
@@ -78,7 +78,7 @@ relinquished-sizes s (Some d) = of (transaction_of s d.handle)
   where
     of : (o : Option Transaction) → sizes (relinquished_from s d o) ≡ sizes s
     of None = refl
-    of (Some t) = of-pages s _ (changed-size d.zero (with_offers s (with_transaction (offers_of s) d.handle (not_holding t s.runner))) t.ranges zeroed_page)
+    of (Some t) = of-pages s _ (changed-size d.zero (with_open s (with_transaction (open_of s) d.handle (not_holding t s.runner))) t.ranges zeroed_page)
 
 service-sizes : (s : State) (call : calls.Call) → sizes (service s call).state ≡ sizes s
 service-sizes s (PartitionInfoGet uuid flags) =
@@ -95,7 +95,7 @@ service-sizes s (MemRetrieve x) = retrieved-sizes s (retrieve_read s x.total)
 service-sizes s MemRelinquish = relinquished-sizes s (relinquish_read s)
 service-sizes s (MemReclaim low high flags) =
     let h : ℕ = handle_of high low in
-    of-pages s _ (changed-size (is_set 0 flags) (with_offers s (closed (offers_of s) h)) (named_ranges (transaction_of s h)) zeroed_page)
+    of-pages s _ (changed-size (is_set 0 flags) (with_open s (closed (open_of s) h)) (named_ranges (transaction_of s h)) zeroed_page)
 service-sizes s call = refl
 
 step-sizes : (s : State) (op : Op) → sizes (step s op).state ≡ sizes s

@@ -25,13 +25,13 @@ module _ (x : Parts) (p at : ℕ) (bytes : List ℕ) (inside : p < length x.ram.
   held-here = of (entry_at x.kept.pages p)
     where
       of : (o : Option Entry)
-          → option_map (λ (e : Entry). let q : Page = record { owner = e.owner; base = e.base; bytes = page_of new p } in q) o
-          ≡ page_with at bytes (option_map (λ (e : Entry). let q : Page = record { owner = e.owner; base = e.base; bytes = page_of x.ram p } in q) o)
+          → option_map (λ (e : Entry). let q : Page = record { owner = e.owner; own_right = e.own_right; bytes = page_of new p } in q) o
+          ≡ page_with at bytes (option_map (λ (e : Entry). let q : Page = record { owner = e.owner; own_right = e.own_right; bytes = page_of x.ram p } in q) o)
       of None = refl
-      of (Some e) = ap (λ (content : List ℕ). Some (let q : Page = record { owner = e.owner; base = e.base; bytes = content } in q)) page-here
+      of (Some e) = ap (λ (content : List ℕ). Some (let q : Page = record { owner = e.owner; own_right = e.own_right; bytes = content } in q)) page-here
 
   held-there : (q : ℕ) → q ≢ p → held_page new x.kept.pages q ≡ held_page x.ram x.kept.pages q
-  held-there q other = ap (λ (content : List ℕ). option_map (λ (e : Entry). let r : Page = record { owner = e.owner; base = e.base; bytes = content } in r) (entry_at x.kept.pages q)) (page-there q other)
+  held-there q other = ap (λ (content : List ℕ). option_map (λ (e : Entry). let r : Page = record { owner = e.owner; own_right = e.own_right; bytes = content } in r) (entry_at x.kept.pages q)) (page-there q other)
 
   pages-written : listed (length new.pages) (held_page new x.kept.pages) ≡ set (listed (length x.ram.pages) (held_page x.ram x.kept.pages)) p (page_with at bytes (page_at (state_of x) p))
   pages-written =

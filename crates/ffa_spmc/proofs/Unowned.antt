@@ -74,8 +74,8 @@ module _ (x : Parts) (machine : IsManager x) where
 
   unentered : (p : ℕ) → p < length x.ram.pages → page_at s p ≡ None → (e : Entry) → entry_at x.kept.pages p ≡ Some e → ⊥
   unentered p lt none e is =
-      none-some (let q : Page = record { owner = e.owner; base = e.base; bytes = page_of x.ram p } in q)
-      (sym none ∙ page-held x p lt ∙ ap (option_map (λ (e : Entry). let q : Page = record { owner = e.owner; base = e.base; bytes = page_of x.ram p } in q)) is)
+      none-some (let q : Page = record { owner = e.owner; own_right = e.own_right; bytes = page_of x.ram p } in q)
+      (sym none ∙ page-held x p lt ∙ ap (option_map (λ (e : Entry). let q : Page = record { owner = e.owner; own_right = e.own_right; bytes = page_of x.ram p } in q)) is)
 
   -- as those that an open transaction names
   pub open-entered : (h : ℕ) (t : Transaction) → transaction_of s h ≡ Some t → AreEntered t.ranges

@@ -1,11 +1,13 @@
 -- What a call changes of access.
-use Rattle.std.specs.Prelude.{◌≡◌, ◌⊎◌, ℕ, ◌==◌, Bool, true, false, ◌&&◌, length, Option, Some, None, IfSome}
+use Rattle.std.specs.Prelude.{◌≡◌, ◌⊎◌, ℕ, ◌==◌, Bool, true, false, ◌&&◌, List, length, Option, Some, None, IfSome, if◌then◌else◌}
 use Rattle.std.specs.Option.{option_map_or}
 use Rattle.ffa_model.specs.declared.endpoint.EndpointId.{EndpointId}
 use Rattle.ffa_model.specs.Access.{access, names}
 use Rattle.ffa_model.specs.State.{State}
 use Rattle.ffa_memshare.specs.declared.changed.Changed.{Changed}
 use Rattle.ffa_memshare.specs.Ranges.{ArePlaced}
+use Rattle.ffa_tlb.specs.declared.translations.Entry.{Entry}
+use Rattle.ffa_tlb.specs.Lookups.{lookup}
 
 -- whether an endpoint is e
 abbrev pub is_whose : Option EndpointId → ℕ → Bool
@@ -24,3 +26,9 @@ pub record IsAccessChange (old new : State) (changed : Option Changed) : Type 0 
   pub exclusive : (e p : ℕ) → is_of old changed e p ≡ true → (access old e p ≡ None) ⊎ (access new e p ≡ None)
   -- every other access is as before
   pub rest : (e p : ℕ) → is_of old changed e p ≡ false → access new e p ≡ access old e p
+
+-- of what a cache held nothing is left where an access changed, and all the rest
+pub record IsForgotten (old new : State) (held kept : List Entry) : Type 0 where
+  pub changed : Option Changed
+  pub access : IsAccessChange old new changed
+  pub rest : (e p : ℕ) → lookup kept e p ≡ (if is_of old changed e p then None else lookup held e p)

@@ -10,7 +10,7 @@ use Rattle.ffa_model.specs.State.{State}
 
 -- the first state of a manifest, which RAM's tables give and which is sound
 pub record IsBooted (m : Manifest) (s : State) (ram : Ram) : Type 0 where
-  pub state : s ≡ first m.ram_base m.ram_blocks m.endpoints.items
+  pub state : s ≡ first m.ram_base.0 m.ram_blocks m.endpoints.items
   pub agrees : Agrees ram s
   -- pages behind the tables are zeros
   pub cleared : (p : ℕ) → length s.parties * table_pages m.ram_blocks ≤ p → p < length ram.pages → page_of ram p ≡ replicate 4096 0

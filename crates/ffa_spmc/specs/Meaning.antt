@@ -21,7 +21,7 @@ use Rattle.ffa_spmc.specs.declared.kept.Kept.{Kept}
 -- a page of the state, with the bytes that RAM holds
 abbrev pub held_page : Ram → List (Option Entry) → ℕ → Option Page
 held_page ram owners p =
-    option_map (λ (e : Entry). record { owner = e.owner; base = e.base; bytes = page_of ram p }) (entry_at owners p)
+    option_map (λ (e : Entry). record { owner = e.owner; own_right = e.own_right; bytes = page_of ram p }) (entry_at owners p)
 
 -- the parts of a machine
 pub record Parts : Type 0 where
@@ -32,8 +32,8 @@ pub record Parts : Type 0 where
 -- the state that they mean
 abbrev pub state_of : Parts → State
 state_of x =
-    record (first x.manifest.ram_base x.manifest.ram_blocks x.manifest.endpoints.items) {
-      ram_base = x.manifest.ram_base;
+    record (first x.manifest.ram_base.0 x.manifest.ram_blocks x.manifest.endpoints.items) {
+      ram_base = x.manifest.ram_base.0;
       transactions = map_in x.kept.pool.slots;
       sent = x.kept.pool.sent;
       pages = listed (length x.ram.pages) (held_page x.ram x.kept.pages);
@@ -52,13 +52,13 @@ access_by_place s i p = access s (identifier i) p
 
 -- RAM stands where the manifest says, and its tables are built for these rights, by place and page
 pub record HasTables (ram : Ram) (m : Manifest) (right : ℕ → ℕ → Option Rights) : Type 0 where
-  pub base : ram.base ≡ m.ram_base
+  pub base : ram.base ≡ m.ram_base.0
   pub size : length ram.pages ≡ 512 * m.ram_blocks
   pub built : IsBuilt ram (length m.endpoints.items) m.ram_blocks right
 
 -- the layout by which rights are changed is that of the manifest's tables
 pub record IsLayoutOf (m : Manifest) (layout : Layout) : Type 0 where
-  pub base : layout.base ≡ m.ram_base
+  pub base : layout.base.0 ≡ m.ram_base.0
   pub blocks : layout.blocks ≡ m.ram_blocks
   pub endpoints : array_vec_len layout.regions ≡ length m.endpoints.items
 
@@ -70,7 +70,7 @@ pub record AreOwners (m : Manifest) (pages : List (Option Entry)) : Type 0 where
 -- what a send descriptor has said of an open transaction: its ranges are whole pages of RAM, and its sender is none of the
 -- receivers
 pub record IsOffered (m : Manifest) (t : Transaction) : Type 0 where
-  pub placed : ArePlaced m.ram_base (512 * m.ram_blocks) t.ranges
+  pub placed : ArePlaced m.ram_base.0 (512 * m.ram_blocks) t.ranges
   pub other : is_receiver t.sender t ≡ false
 
 -- whether the transaction in a slot names a page of the RAM at an address
@@ -84,7 +84,7 @@ pub record AreOffers (m : Manifest) (pages : List (Option Entry)) (slots : List 
   pub apart :
       (i j : ℕ) (x y : ℕ × Transaction) → pool_slot slots i ≡ Some x → pool_slot slots j ≡ Some y → x.0 ≡ y.0 → i ≡ j
   pub offered : (k h : ℕ) (t : Transaction) → pool_slot slots k ≡ Some (h, t) → IsOffered m t
-  pub marks : (p k : ℕ) → p < length pages → (slot_at pages p ≡ Some k) ↔ (slot_names m.ram_base p (pool_slot slots k) ≡ true)
+  pub marks : (p k : ℕ) → p < length pages → (slot_at pages p ≡ Some k) ↔ (slot_names m.ram_base.0 p (pool_slot slots k) ≡ true)
 
 -- the tables give the access of the state, which is sound; what built tables give is noted once and for all
 pub record IsManager (x : Parts) : Type 0 where
@@ -92,5 +92,5 @@ pub record IsManager (x : Parts) : Type 0 where
   pub tables : HasTables x.ram x.manifest (access_by_place (state_of x))
   pub layout : IsLayoutOf x.manifest x.kept.layout
   pub owners : AreOwners x.manifest x.kept.pages
-  pub offers : AreOffers x.manifest x.kept.pages x.kept.pool.slots
+  pub open_transactions : AreOffers x.manifest x.kept.pages x.kept.pool.slots
   pub sound : IsSoundState (state_of x)

@@ -6,4 +6,4 @@ use Rattle.ffa_pages.specs.Entry.{Entry, first_entry}
 
 -- the owners that the manifest's regions say
 abbrev pub first_owners : Manifest → List (Option Entry)
-first_owners m = listed (512 * m.ram_blocks) (first_entry m.ram_base m.endpoints.items)
+first_owners m = listed (512 * m.ram_blocks) (first_entry m.ram_base.0 m.endpoints.items)

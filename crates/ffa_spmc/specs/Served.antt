@@ -1,10 +1,11 @@
 -- What each call's part of the manager promises.
-use Rattle.std.specs.Prelude.{◌≡◌, true, None}
+use Rattle.std.specs.Prelude.{◌≡◌, true, List, None}
 use Rattle.ffa_model.specs.declared.call.Reply.{Reply}
 use Rattle.ffa_model.specs.Calls.{Service, replied, served}
 use Rattle.ffa_model.specs.Refusals.{is_error}
+use Rattle.ffa_tlb.specs.declared.translations.Entry.{Entry}
 use Rattle.ffa_spmc.specs.declared.answer.Answer.{Answer}
-use Rattle.ffa_spmc.specs.AccessChange.{IsAccessChange}
+use Rattle.ffa_spmc.specs.AccessChange.{IsAccessChange, IsForgotten}
 use Rattle.ffa_spmc.specs.Managed.{Managed}
 use Rattle.ffa_spmc.specs.Unowned.{KeepsUnowned}
 
@@ -15,8 +16,14 @@ pub record IsReplied (old new : Managed) (c : Service) (reply : Reply) : Type 0 
   pub refused : is_error reply ≡ true → new ≡ old
   pub unowned : KeepsUnowned old.state old.ram new.ram
 
--- and what the answer says that it changes of access is so
-pub record IsAnswered (old new : Managed) (c : Service) (answer : Answer) : Type 0 where
+-- and what the answer to a call on memory tells that it changes of access is so
+pub record IsTold (old new : Managed) (c : Service) (answer : Answer) : Type 0 where
   pub replied : IsReplied old new c answer.reply
   pub access : IsAccessChange old.state new.state answer.changed
   pub unchanged : is_error answer.reply ≡ true → answer.changed ≡ None
+
+-- a call of the runner is replied to, and a cache that held one list of entries holds another that forgets what changed
+pub record IsAnswered (old new : Managed) (held kept : List Entry) (c : Service) (reply : Reply) : Type 0 where
+  pub replied : IsReplied old new c reply
+  pub forgotten : IsForgotten old.state new.state held kept
+  pub unchanged : is_error reply ≡ true → kept ≡ held

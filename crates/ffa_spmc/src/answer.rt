@@ -1,4 +1,4 @@
-//! Answers to calls: what the caller sees, and whose access to which pages changed.
+//! Answers to calls on memory: what the caller sees, and whose access to which pages changed.
 ghost use Rattle.std.specs.Prelude.{true, ◌≡◌, None};
 ghost use Rattle.std.specs.Option.{option_map};
 ghost use Rattle.std.specs.Result.{result_ok};
@@ -9,37 +9,17 @@ ghost use Rattle.ffa_spmc.specs.Replies.{done_or_error, handle_or_error, retriev
 
 use crate::replies::{DONE, handle_reply};
 use ffa_memshare::{Changed, Retrieved, Sent};
-use ffa_model::{ErrorCode, Outcome, Reply};
+use ffa_model::{ErrorCode, Reply};
 
-/// What a call answers.
+/// What a call on memory answers.
 #[derive(Drop)]
 pub(crate) struct Answer {
     pub reply: Reply,
-    /// Whose access to which pages changed, where a call on memory was done. Any other call changes none.
-    pub changed: Option<Changed>,
-}
-
-/// What a call in registers comes to.
-#[derive(Drop)]
-pub(crate) struct Called {
-    /// What the runner sees.
-    pub outcome: Outcome,
-    /// As in its answer.
+    /// Whose access to which pages changed, where the call was done.
     pub changed: Option<Changed>,
 }
 
 impl Answer {
-    // To a call that isn't on memory.
-    pub(crate) fn of(reply: Reply) -> Answer
-        ensures reply { result.reply ≡ reply }
-        ensures changed { result.changed ≡ None }
-    {
-        Answer {
-            reply,
-            changed: None,
-        }
-    }
-
     // To a send: the handle, or the code for which it was refused.
     pub(crate) fn sent(sent: Result<Sent, ErrorCode>) -> Answer
         ensures reply { result.reply ≡ handle_or_error sent }
@@ -90,6 +70,9 @@ impl Answer {
         ensures reply { result.reply ≡ Reply.Error code }
         ensures changed { result.changed ≡ None }
     {
-        Answer::of(Reply::Error(code))
+        Answer {
+            reply: Reply::Error(code),
+            changed: None,
+        }
     }
 }

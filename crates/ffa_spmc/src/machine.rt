@@ -25,13 +25,11 @@ ghost use Rattle.ffa_spmc.specs.Unowned.{KeepsUnowned};
 
 mod accesses;
 mod certificates;
-mod forgetting;
 
 use crate::manager::Manager;
 use ffa_model::{EndpointId, Manifest, Op, Outcome, PageNo, Rights};
 use ffa_physmem::PhysMem;
 use ffa_tlb::{NoTlb, Translations};
-use forgetting::forget;
 use std::marker::Model;
 
 /// A machine over any RAM, with any cache of leaves. Contracts see its state, which is that of the small machine, its RAM
@@ -69,7 +67,7 @@ impl<M: PhysMem + Drop> Machine<M> {
     /// The machine of a manifest in its first state: it clears the RAM and builds the tables. All pages behind the tables
     /// are zeros, the manager's too. Each of its accesses walks the tables.
     pub fn boot(manifest: &Manifest, ram: M) -> Machine<M>
-        requires base { (M.ram ram).base ≡ manifest.now.ram_base }
+        requires base { (M.ram ram).base ≡ manifest.now.ram_base.0 }
         requires size { length (M.ram ram).pages ≡ 512 * manifest.now.ram_blocks }
         ensures { IsBooted manifest.now result.state result.ram }
     {
@@ -80,7 +78,7 @@ impl<M: PhysMem + Drop> Machine<M> {
 impl<M: PhysMem + Drop, T: Translations + Drop> Machine<M, T> {
     /// The same machine, with a cache that holds nothing at first.
     pub fn boot_with(manifest: &Manifest, ram: M, cache: T) -> Machine<M, T>
-        requires base { (M.ram ram).base ≡ manifest.now.ram_base }
+        requires base { (M.ram ram).base ≡ manifest.now.ram_base.0 }
         requires size { length (M.ram ram).pages ≡ 512 * manifest.now.ram_blocks }
         ensures booted { IsBooted manifest.now result.state result.ram }
         ensures held { result.held ≡ [] }
@@ -95,7 +93,7 @@ impl<M: PhysMem + Drop, T: Translations + Drop> Machine<M, T> {
     // Not inlined, since its frame holds copies of what the machine keeps, which no caller needs once it runs.
     #[inline(never)]
     pub fn boot_cleared(manifest: &Manifest, ram: M, cache: T) -> Machine<M, T>
-        requires { M.ram ram ≡ zero_ram manifest.now.ram_base (512 * manifest.now.ram_blocks) }
+        requires { M.ram ram ≡ zero_ram manifest.now.ram_base.0 (512 * manifest.now.ram_blocks) }
         ensures booted { IsBooted manifest.now result.state result.ram }
         ensures held { result.held ≡ [] }
     {
@@ -243,11 +241,10 @@ impl<M: PhysMem + Drop, T: Translations + Drop> Machine<M, T> {
     {
         // Proof step: the state is sound, and the tables give its access.
         self.manager.holds();
-        let called = self.manager.call(x);
+        let outcome = self.manager.call(x, &mut self.cache);
         // Proof step: so it is afterwards.
         self.manager.holds();
-        forget(&mut self.cache, self.manager.ram_base(), &called.changed);
-        called.outcome
+        outcome
     }
 
     /// Does operations one after another, each of the endpoint that runs then, and fills in their outcomes.
@@ -274,7 +271,7 @@ impl<M: PhysMem + Drop, T: Translations + Drop> Machine<M, T> {
         // list of operations that reveals the same to it and tells it the same readably.
         ensures confidential { RunConfidential self.old.state ops.now }
 
-        // No base right is above the one before, no access above the base right, and the manager's pages stay its own.
+        // No own right is above the one before, no access above the own right, and the manager's pages stay its own.
         ensures never_grow { NeverGrow self.old.state self.new.state }
 
         // A page that an endpoint has alone is what it was, where the endpoint didn't run and, if the page is its RX,

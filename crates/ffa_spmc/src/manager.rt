@@ -11,7 +11,7 @@ ghost use Rattle.ffa_model.specs.Refusals.{is_refusal, passes_no_error};
 ghost use Rattle.ffa_model.specs.Registers.{decode};
 ghost use Rattle.ffa_model.specs.State.{owner_of, version_of};
 ghost use Rattle.ffa_model.specs.Step.{serve, service};
-ghost use Rattle.ffa_spmc.specs.AccessChange.{IsAccessChange};
+ghost use Rattle.ffa_spmc.specs.AccessChange.{IsForgotten};
 ghost use Rattle.ffa_spmc.specs.Booted.{IsBooted};
 ghost use Rattle.ffa_spmc.specs.Served.{IsAnswered};
 ghost use Rattle.ffa_spmc.specs.Unowned.{KeepsUnowned};
@@ -19,17 +19,18 @@ ghost use Rattle.ffa_spmc.specs.Unowned.{KeepsUnowned};
 mod accesses;
 mod buffers;
 mod certificates;
+mod forgetting;
 mod memory;
 mod messages;
 mod notifications;
 
-use crate::answer::{Answer, Called};
 use crate::kept::Kept;
 use ffa_model::{
-    Call, EndpointId, ErrorCode, Kind, Manifest, Outcome, PageNo, Reply, Rights, Version,
+    Address, Call, EndpointId, ErrorCode, Kind, Manifest, Outcome, PageNo, Reply, Rights, Version,
 };
 use ffa_physmem::PhysMem;
 use ffa_stage2::{Layout, build, built_tables};
+use ffa_tlb::Translations;
 use std::marker::Model;
 
 /// The partition manager over any RAM. Contracts see its state, which is that of the small machine, and its RAM with
@@ -60,7 +61,7 @@ impl<M: PhysMem + Drop> Manager<M> {
     // where a machine boots, since a call would hand what it keeps on through a copy more.
     #[inline(always)]
     pub(crate) fn first(manifest: &Manifest, ram: M) -> Manager<M>
-        requires { M.ram ram ≡ zero_ram manifest.now.ram_base (512 * manifest.now.ram_blocks) }
+        requires { M.ram ram ≡ zero_ram manifest.now.ram_base.0 (512 * manifest.now.ram_blocks) }
         ensures { IsBooted manifest.now result.state result.ram }
     {
         let mut ram = ram;
@@ -100,8 +101,8 @@ impl<M: PhysMem + Drop> Manager<M> {
     }
 
     // The address of RAM's first page.
-    pub(crate) fn ram_base(&self) -> u32
-        ensures { result ≡ self.now.state.ram_base }
+    pub(crate) fn ram_base(&self) -> Address
+        ensures { result.0 ≡ self.now.state.ram_base }
     {
         self.manifest.ram_base
     }
@@ -149,88 +150,82 @@ impl<M: PhysMem + Drop> Manager<M> {
         }
     }
 
-    // A call of the runner, in its registers. It and what makes the answer are inlined, so that no call moves what only a
-    // call on memory answers.
+    // A call of the runner, in its registers, after which the cache holds nothing that the call has made untrue.
     #[inline(always)]
-    pub(crate) fn call(&mut self, x: [u64; 8]) -> Called
-        ensures outcome { result.outcome ≡ (serve self.old.state (decode x)).outcome }
+    pub(crate) fn call<T: Translations>(&mut self, x: [u64; 8], cache: &mut T) -> Outcome
+        ensures outcome { result ≡ (serve self.old.state (decode x)).outcome }
         ensures state { self.new.state ≡ (serve self.old.state (decode x)).state }
-        ensures refused { is_refusal result.outcome ≡ true → self.new ≡ self.old }
+        ensures refused { is_refusal result ≡ true → self.new ≡ self.old }
         ensures unowned { KeepsUnowned self.old.state self.old.ram self.new.ram }
-        ensures access { IsAccessChange self.old.state self.new.state result.changed }
-        ensures unchanged { is_refusal result.outcome ≡ true → result.changed ≡ None }
+        ensures forgotten { IsForgotten self.old.state self.new.state (T.entries cache.old) (T.entries cache.new) }
+        ensures unchanged { is_refusal result ≡ true → T.entries cache.new ≡ T.entries cache.old }
     {
-        let answer = self.answer(ffa_abi::decode(x));
-        Called {
-            outcome: Outcome::Regs {
-                runner: self.kept.chain.runner(),
-                x: ffa_abi::encode(&answer.reply),
-            },
-            changed: answer.changed,
+        let reply = self.reply(ffa_abi::decode(x), cache);
+        Outcome::Regs {
+            runner: self.kept.chain.runner(),
+            x: ffa_abi::encode(&reply),
         }
     }
 
-    // The answer to a call of the runner.
+    // The reply to a call of the runner. Each arm answers for itself.
     #[inline(always)]
-    fn answer(&mut self, call: Call) -> Answer
+    fn reply<T: Translations>(&mut self, call: Call, cache: &mut T) -> Reply
         requires { passes_no_error call ≡ true }
-        ensures { IsAnswered self.old self.new (service self.old.state call) result }
+        ensures { IsAnswered self.old self.new (T.entries cache.old) (T.entries cache.new) (service self.old.state call) result }
     {
         match call {
-            Call::Version { version } => Answer::of(ffa_setup::version(version)),
-            Call::Features { function } => Answer::of(ffa_setup::features(function)),
-            Call::RxRelease => Answer::of(self.release()),
-            Call::RxtxMap { tx, rx, pages } => Answer::of(self.map(tx, rx, pages)),
-            Call::RxtxUnmap { endpoint } => Answer::of(self.unmap(endpoint)),
-            Call::PartitionInfoGet { uuid, flags } => Answer::of(self.partition_info(uuid, flags)),
-            Call::IdGet => Answer::of(ffa_setup::id(self.kept.chain.runner())),
-            Call::SpmIdGet => Answer::of(ffa_setup::spm_id()),
-            Call::MsgWait => Answer::of(self.wait()),
-            Call::Yield => Answer::of(self.yield_now()),
-            Call::Run { target } => Answer::of(self.run_partition(target)),
+            Call::Version { version } => ffa_setup::version(version),
+            Call::Features { function } => ffa_setup::features(function),
+            Call::RxRelease => self.release(),
+            Call::RxtxMap { tx, rx, pages } => self.map(tx, rx, pages),
+            Call::RxtxUnmap { endpoint } => self.unmap(endpoint),
+            Call::PartitionInfoGet { uuid, flags } => self.partition_info(uuid, flags),
+            Call::IdGet => ffa_setup::id(self.kept.chain.runner()),
+            Call::SpmIdGet => ffa_setup::spm_id(),
+            Call::MsgWait => self.wait(),
+            Call::Yield => self.yield_now(),
+            Call::Run { target } => self.run_partition(target),
             Call::DirectRequest {
                 function,
                 word,
                 flags,
                 payload,
-            } => Answer::of(self.request(function, word, flags, payload)),
+            } => self.request(function, word, flags, payload),
             Call::DirectResponse {
                 function,
                 word,
                 flags,
                 payload,
-            } => Answer::of(self.respond(function, word, flags, payload)),
-            Call::MsgSend2 => Answer::of(self.send()),
-            Call::MemDonate(transfer) => self.offer(Kind::Donate, transfer),
-            Call::MemLend(transfer) => self.offer(Kind::Lend, transfer),
-            Call::MemShare(transfer) => self.offer(Kind::Share, transfer),
-            Call::MemRetrieve(transfer) => self.retrieve(transfer),
-            Call::MemRelinquish => self.relinquish(),
-            Call::MemReclaim { low, high, flags } => self.reclaim(low, high, flags),
-            Call::BitmapCreate { endpoint, contexts } => {
-                Answer::of(self.create_bitmaps(endpoint, contexts))
-            }
-            Call::BitmapDestroy { endpoint } => Answer::of(self.destroy_bitmaps(endpoint)),
+            } => self.respond(function, word, flags, payload),
+            Call::MsgSend2 => self.send(),
+            Call::MemDonate(transfer) => self.offer(Kind::Donate, transfer, cache),
+            Call::MemLend(transfer) => self.offer(Kind::Lend, transfer, cache),
+            Call::MemShare(transfer) => self.offer(Kind::Share, transfer, cache),
+            Call::MemRetrieve(transfer) => self.retrieve(transfer, cache),
+            Call::MemRelinquish => self.relinquish(cache),
+            Call::MemReclaim { low, high, flags } => self.reclaim(low, high, flags, cache),
+            Call::BitmapCreate { endpoint, contexts } => { self.create_bitmaps(endpoint, contexts) }
+            Call::BitmapDestroy { endpoint } => self.destroy_bitmaps(endpoint),
             Call::NotificationBind {
                 word,
                 flags,
                 low,
                 high,
-            } => Answer::of(self.bind(word, flags, low, high)),
+            } => self.bind(word, flags, low, high),
             Call::NotificationUnbind {
                 word,
                 flags,
                 low,
                 high,
-            } => Answer::of(self.unbind(word, flags, low, high)),
+            } => self.unbind(word, flags, low, high),
             Call::NotificationSet {
                 word,
                 flags,
                 low,
                 high,
-            } => Answer::of(self.set(word, flags, low, high)),
-            Call::NotificationGet { receiver, flags } => Answer::of(self.get(receiver, flags)),
-            Call::Unknown => Answer::of(Reply::Error(ErrorCode::NotSupported)),
+            } => self.set(word, flags, low, high),
+            Call::NotificationGet { receiver, flags } => self.get(receiver, flags),
+            Call::Unknown => Reply::Error(ErrorCode::NotSupported),
         }
     }
 }

@@ -1,21 +1,16 @@
--- A change in one block of one endpoint keeps the tables built, with one right changed.
-use Rattle.std.proofs.Common.{◌≡◌, ◌≢◌, ◌∙◌, ℕ, ◌+◌, ◌-◌, ◌*◌, ◌/◌, ◌%◌, ◌^◌, ◌<◌, ◌≤◌, true, false, refl, ap, sym, arith, List, Option, length, inl, inr, ◌⊎◌}
-use Rattle.std.specs.Prelude.{◌==◌, ◌&&◌, if◌then◌else◌}
-use Rattle.std.proofs.lemmas.Bool.{cases_eq, cases_Bool}
-use Rattle.std.proofs.lemmas.Bool.Decides.{nat_tests}
+-- A change in one block of one endpoint keeps the tables built.
+use Rattle.std.proofs.Common.{◌≡◌, ◌≢◌, ◌∙◌, ℕ, ◌+◌, ◌*◌, ◌%◌, ◌^◌, ◌<◌, ◌≤◌, refl, ap, sym, arith, List, Option, length, inl, inr, ◌⊎◌}
+use Rattle.std.proofs.lemmas.Bool.{cases_eq}
 use Rattle.std.proofs.lemmas.Nat.{same_from_place}
 use Rattle.ffa_model.specs.Ram.{Ram, page_of, word_of}
 use Rattle.ffa_model.specs.Manifest.{table_pages}
-use Rattle.ffa_model.specs.Walk.{Answer, is_in_ram, mapped_answer}
 use Rattle.ffa_model.specs.declared.rights.Rights.{Rights}
 use Rattle.ffa_stage2.specs.declared.blocks.Place.{Place}
-use Rattle.ffa_stage2.specs.Tables.{IsBuilt, InBlock, HasRoom, table_page, table_link, level2_place, level2_word, block_address, rights_of_block, with_right, answer, is_in_page, WalkChanges, KeepsOthers, BlocksWhereOne}
-use Rattle.ffa_stage2.specs.Places.{IsPlace, Maps, KeepsBeside, with_one, word_at, IsPlaceOf}
+use Rattle.ffa_stage2.specs.Tables.{IsBuilt, InBlock, HasRoom, table_page, table_link, level2_place, level2_word, block_address, rights_of_block, KeepsOthers, BlocksWhereOne}
+use Rattle.ffa_stage2.specs.Places.{IsPlace, Maps, KeepsBeside, word_at, IsPlaceOf}
 use Rattle.ffa_stage2.proofs.Kept.{HasRoom-kept}
 use Rattle.ffa_stage2.proofs.OneBlock.{IsMapped-rights, IsMapped-same, IsBlockWhereOne-of}
 use Rattle.ffa_stage2.proofs.Places.{table_page-below}
-use Rattle.ffa_stage2.proofs.Rights.{with_right-same, with_right-other}
-use Rattle.ffa_stage2.proofs.Walks.{walk-built}
 
 -- two table pages
 apart : (b e s e' s' : ℕ) → s < table_pages b → s' < table_pages b → ((e ≢ e') ⊎ (s ≢ s')) → table_page b e s ≢ table_page b e' s'
@@ -49,19 +44,6 @@ place-of ram n b e k x fits whole he hk at =
 pub maps-of : (ram : Ram) (b e k : ℕ) (x : Place) (rights : ℕ → Option Rights) → IsPlaceOf ram b e k x → InBlock ram b e rights k
     → Maps ram x (rights_of_block rights k)
 maps-of ram b e k x rights at mapped = rw (at.middle, at.entry, at.table, at.link, at.address) mapped
-
--- the right to one page of a block
-with_right-block : (access : ℕ → ℕ → Option Rights) (e p : ℕ) (right : Option Rights) (j : ℕ) → j < 512
-    → with_one (rights_of_block (access e) (p / 512)) (p % 512) right j ≡ rights_of_block (with_right access e p right e) (p / 512) j
-with_right-block access e p right j hj = elim (cases_eq j (p % 512)) [
-  | inl same ↦
-      let here : (j == p % 512) ≡ true = grind (arith, nat_tests) in
-      let number : 512 * (p / 512) + j ≡ p = omega arith in
-      rw (here, number) (sym (with_right-same access e p right))
-  | inr other ↦
-      let off : (j == p % 512) ≡ false = grind (arith, nat_tests) in
-      rw off (sym (with_right-other access e p right e (512 * (p / 512) + j) (inr (λ same. other (omega arith)))))
-]
 
 module _ (old new : Ram) (n b e k : ℕ) (f g : ℕ → ℕ → Option Rights) (x : Place) (built : IsBuilt old n b f) (he : e < n) (hk : k < b)
     (at : IsPlaceOf old b e k x) (beside : KeepsBeside old new x) (mapped : Maps new x (rights_of_block (g e) k))
@@ -162,46 +144,3 @@ blocks-built ram n b access built e k he hk =
     let place : ram.base % 0x4000000 ≡ 0 = built.fits.place in
     let within : ram.base + 0x200000 * b ≤ 2 ^ 32 = built.fits.within in
     IsBlockWhereOne-of _ _ _ _ _ (omega arith) (omega arith) (omega arith) (built.each e k he hk)
-
-module _ (old new : Ram) (n b : ℕ) (access : ℕ → ℕ → Option Rights) (e p : ℕ) (right : Option Rights) (x : Place) (built : IsBuilt old n b access) (he : e < n) (hp : p < 512 * b)
-    (at : IsPlaceOf old b e (p / 512) x) (beside : KeepsBeside old new x)
-    (mapped : (rights : ℕ → Option Rights) → Maps old x rights → Maps new x (with_one rights (p % 512) right)) where
-  pub built-changed : IsBuilt new n b (with_right access e p right)
-  built-changed =
-      built-beside old new n b e (p / 512) access (with_right access e p right) x built he (omega arith) at beside
-      (IsMapped-rights _ _ _ _ (with_one (rights_of_block (access e) (p / 512)) (p % 512) right) (rights_of_block (with_right access e p right e) (p / 512))
-      (with_right-block access e p right)
-      (mapped (rights_of_block (access e) (p / 512)) (maps-of old b e (p / 512) x (access e) at (built.each e (p / 512) he (omega arith)))))
-      (λ e' k' j _ _ hj far. sym (with_right-other access e p right e' (512 * k' + j) (elim far [
-        | inl other ↦ inl other
-        | inr other ↦ inr (λ same. other (omega arith))
-      ])))
-
-  -- the answers, old and new
-  answer-changed : (e' a : ℕ) → answer new (with_right access e p right) e' a ≡ (if e' == e && is_in_page old p a then mapped_answer right a else answer old access e' a)
-  answer-changed e' a =
-      let stays : new.base ≡ old.base = beside.base in
-      let size : length new.pages ≡ length old.pages = beside.size in
-      rw (stays, size) (elim (cases_Bool (is_in_ram old a)) [
-        | inl here ↦ elim (cases_eq e' e) [
-          | inl same ↦ elim (cases_eq ((a - old.base) / 4096) p) [
-            | inl at ↦
-                let t : (e' == e && is_in_page old p a) ≡ true = grind (arith, nat_tests) in
-                rw (here, t) (ap (λ (r : Option Rights). mapped_answer r a) (rw (same, at) (with_right-same access e p right)))
-            | inr off ↦
-                let t : (e' == e && is_in_page old p a) ≡ false = grind (arith, nat_tests) in
-                rw (here, t) (ap (λ (r : Option Rights). mapped_answer r a) (with_right-other access e p right e' ((a - old.base) / 4096) (inr off)))
-          ]
-          | inr other ↦
-              let t : (e' == e && is_in_page old p a) ≡ false = grind (arith, nat_tests) in
-              rw (here, t) (ap (λ (r : Option Rights). mapped_answer r a) (with_right-other access e p right e' ((a - old.base) / 4096) (inl other)))
-        ]
-        | inr out ↦
-            let t : (e' == e && is_in_page old p a) ≡ false = grind (arith, nat_tests, built.fits.size) in
-            rw (out, t)
-      ])
-
-  pub walks-changed : WalkChanges old new n b e p right
-  walks-changed e' a he' ha =
-      walk-built new n b (with_right access e p right) e' a built-changed he' ha ∙ answer-changed e' a
-      ∙ ap (λ (r : Answer). if e' == e && is_in_page old p a then mapped_answer right a else r) (sym (walk-built old n b access e' a built he' ha))

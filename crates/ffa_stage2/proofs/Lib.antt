@@ -10,3 +10,5 @@ pub mod Cleared
 pub mod Links
 pub mod Lanes
 pub mod OneBlock
+pub mod PageRuns
+pub mod RunChanges

@@ -1,8 +1,7 @@
 -- One block of RAM: its level 2 word, its level 3 page and 512 rights.
-use Rattle.std.proofs.Common.{◌≡◌, ◌≢◌, ◌∙◌, ℕ, ◌+◌, ◌-◌, ◌*◌, ◌/◌, ◌%◌, ◌^◌, ◌<◌, ◌≤◌, true, false, refl, ap, sym, arith, List, [], length, Option, Some, None, inl, inr}
-use Rattle.std.specs.Prelude.{◌==◌, is_some}
-use Rattle.std.proofs.lemmas.Bool.{cases_eq, false≢true}
-use Rattle.std.proofs.lemmas.Bool.Decides.{nat_tests}
+use Rattle.std.proofs.Common.{◌≡◌, ◌≢◌, ◌∙◌, ℕ, ◌+◌, ◌-◌, ◌*◌, ◌/◌, ◌%◌, ◌^◌, ◌<◌, ◌≤◌, true, refl, ap, sym, arith, List, [], length, Option, Some, None, inl, inr}
+use Rattle.std.specs.Prelude.{is_some}
+use Rattle.std.proofs.lemmas.Bool.{false≢true}
 use Rattle.std.proofs.lemmas.List.{get_or-set_other, get_or-set_same, length-set}
 use Rattle.ffa_model.specs.Ram.{Ram, page_of, with_page, word_of, with_word}
 use Rattle.ffa_model.specs.Descriptor.{page_word}
@@ -10,7 +9,7 @@ use Rattle.ffa_model.specs.declared.rights.Rights.{Rights}
 use Rattle.ffa_physmem.proofs.Words.{word_of-with_word_same, word_of-with_word_other, length-with_word}
 use Rattle.ffa_stage2.specs.declared.blocks.Place.{Place}
 use Rattle.ffa_stage2.specs.Blocks.{block_word, IsOne, IsBlock, IsMapped, IsBlockWhereOne, IsUniform}
-use Rattle.ffa_stage2.specs.Places.{with_one, word_at, IsPlace, Maps, Names, KeepsBeside, IsSpread}
+use Rattle.ffa_stage2.specs.Places.{word_at, IsPlace, Maps, Names, KeepsBeside}
 use Rattle.ffa_stage2.proofs.Descriptors.{page_word-of_block, block_word-type, block_word-fits, same_right}
 
 -- ---- the law
@@ -123,34 +122,6 @@ pub written-middle : (old new : Ram) (x : Place) (value : ℕ) → IsPlace old x
     → new ≡ with_page old x.middle.0 (with_word (page_of old x.middle.0) x.entry value) → IsWritten old new x.middle.0 x.entry value
 written-middle old new x value place fits is = written old x.middle.0 x.entry value place.middle place.whole_middle place.entry fits new is
 
-pub written-table : (old new : Ram) (x : Place) (within value : ℕ) → IsPlace old x → within < 512 → value < 2 ^ 64
-    → new ≡ with_page old x.table.0 (with_word (page_of old x.table.0) within value) → IsWritten old new x.table.0 within value
-written-table old new x within value place hw fits is = written old x.table.0 within value place.table place.whole_table hw fits new is
-
--- ---- 512 writes
-
-pub IsSpread-none : (ram : Ram) (page word : ℕ) → length (page_of ram page) ≡ 4096 → IsSpread ram ram page word 0
-IsSpread-none ram page word whole = record {
-  base = refl;
-  size = refl;
-  pages = λ p _. refl;
-  whole = whole;
-  words = λ j hj. absurd (omega (arith, hj));
-}
-
-pub IsSpread-next : (old middle new : Ram) (page word count : ℕ) → IsSpread old middle page word count → IsWritten middle new page count (word + 4096 * count)
-    → IsSpread old new page word (count + 1)
-IsSpread-next old middle new page word count before write = record {
-  base = write.base ∙ before.base;
-  size = write.size ∙ before.size;
-  pages = λ p other. write.pages p other ∙ before.pages p other;
-  whole = write.whole;
-  words = λ j hj. elim (cases_eq j count) [
-    | inl last ↦ ap (λ (i : ℕ). word_of (page_of new page) i) last ∙ write.here ∙ ap (λ (i : ℕ). word + 4096 * i) (sym last)
-    | inr other ↦ write.words j other ∙ before.words j (omega (arith, hj, other))
-  ];
-}
-
 -- ---- at one place
 
 pub IsPlace-kept : (old new : Ram) (x : Place) → IsPlace old x → KeepsBeside old new x → IsPlace new x
@@ -244,37 +215,6 @@ block-word ram x rights j place block hj =
     ap (λ (w : ℕ). w + 2 + 4096 * j) block.is ∙ sym (block-page x.address j block.right place.aligned place.within hj)
     ∙ ap (λ (r : Option Rights). page_word (x.address + 4096 * j) r) (sym (block.one j hj))
 
--- a block split
-pub split-names : (old middle new : Ram) (x : Place) (rights : ℕ → Option Rights) → IsPlace old x → IsBlock (word_at old x) x.address rights
-    → IsSpread old middle x.table.0 (word_at old x + 2) 512 → IsWritten middle new x.middle.0 x.entry x.link → Names new x rights
-split-names old middle new x rights place block spread write = record {
-  is = write.here;
-  pages = λ j hj.
-      ap (λ (bytes : List ℕ). word_of bytes j) (write.pages x.table.0 (λ same. place.apart (sym same)))
-      ∙ spread.words j hj ∙ block-word old x rights j place block hj;
-}
-
-pub split-beside : (old middle new : Ram) (x : Place) (word : ℕ) → IsPlace old x
-    → IsSpread old middle x.table.0 word 512 → IsWritten middle new x.middle.0 x.entry x.link → KeepsBeside old new x
-split-beside old middle new x word place spread write =
-    let first = KeepsBeside-of_table old middle x place spread.base spread.size spread.pages spread.whole in
-    KeepsBeside-then old middle new x first (KeepsBeside-of_middle middle new x x.link (IsPlace-kept old middle x place first) write)
-
--- one page's descriptor written
-pub write-names : (old new : Ram) (x : Place) (rights : ℕ → Option Rights) (within value : ℕ) (right : Option Rights) → IsPlace old x → Names old x rights
-    → IsWritten old new x.table.0 within value → value ≡ page_word (x.address + 4096 * within) right → Names new x (with_one rights within right)
-write-names old new x rights within value right place names write is = record {
-  is = ap (λ (bytes : List ℕ). word_of bytes x.entry) (write.pages x.middle.0 place.apart) ∙ names.is;
-  pages = λ j hj. elim (cases_eq j within) [
-    | inl same ↦
-        let here : (j == within) ≡ true = grind (arith, nat_tests) in
-        rw here (rw same (write.here ∙ is))
-    | inr other ↦
-        let off : (j == within) ≡ false = grind (arith, nat_tests) in
-        rw off (write.words j other ∙ names.pages j hj)
-  ];
-}
-
 -- ---- one right
 
 -- a uniform table whose page has a right has it for all pages
@@ -309,16 +249,6 @@ join-maps old new x rights value r place one write is = inl (record {
   one = one;
   is = write.here ∙ is ∙ omega (arith, block-first x.address r place.aligned place.within);
 })
-
--- nothing is changed where the page has the right
-pub with_one-same : (rights : ℕ → Option Rights) (within : ℕ) (right : Option Rights) → rights within ≡ right → (j : ℕ) → rights j ≡ with_one rights within right j
-with_one-same rights within right is j = elim (cases_eq j within) [
-  | inl same ↦ let here : (j == within) ≡ true = grind (arith, nat_tests) in rw here (ap rights same ∙ is)
-  | inr other ↦ let off : (j == within) ≡ false = grind (arith, nat_tests) in rw off
-]
-
-pub with_one-here : (rights : ℕ → Option Rights) (within : ℕ) (right : Option Rights) → with_one rights within right within ≡ right
-with_one-here rights within right = let here : (within == within) ≡ true = grind (arith, nat_tests) in rw here
 
 -- a right that isn't nothing
 pub some_of : (right : Option Rights) → is_some right ≡ true → (r : Rights) × (right ≡ Some r)

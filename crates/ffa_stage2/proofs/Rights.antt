@@ -1,11 +1,11 @@
 -- Access functions.
-use Rattle.std.proofs.Common.{◌≡◌, ◌≢◌, ◌∙◌, ℕ, ◌+◌, ◌*◌, ◌<◌, true, false, arith, Option, inl, inr, ◌⊎◌}
-use Rattle.std.specs.Prelude.{◌==◌, ◌&&◌, ◌||◌, nat_lt}
-use Rattle.std.proofs.lemmas.Bool.{cases_eq}
+use Rattle.std.proofs.Common.{◌≡◌, ◌≢◌, ◌∙◌, ℕ, ◌+◌, ◌*◌, ◌<◌, ◌≤◌, true, false, arith, Option, inl, inr, ◌⊎◌}
+use Rattle.std.specs.Prelude.{◌==◌, ◌&&◌, ◌||◌, nat_le, nat_lt}
+use Rattle.std.proofs.lemmas.Bool.{cases_eq, cases_lt}
 use Rattle.std.proofs.lemmas.Bool.Decides.{nat_tests}
 use Rattle.ffa_model.specs.Ram.{Ram}
 use Rattle.ffa_model.specs.declared.rights.Rights.{Rights}
-use Rattle.ffa_stage2.specs.Tables.{IsBuilt, with_right, rights_of_block}
+use Rattle.ffa_stage2.specs.Tables.{IsBuilt, with_pages, with_right, rights_of_block}
 use Rattle.ffa_stage2.specs.Words.{rights_until, no_access}
 use Rattle.ffa_stage2.proofs.OneBlock.{IsMapped-rights}
 
@@ -16,6 +16,42 @@ pub with_right-other : (access : ℕ → ℕ → Option Rights) (e p : ℕ) (rig
     → with_right access e p right e' p' ≡ access e' p'
 with_right-other access e p right e' p' (inl h) = let t : (e' == e && p' == p) ≡ false = grind (arith, nat_tests) in rw t
 with_right-other access e p right e' p' (inr h) = let t : (e' == e && p' == p) ≡ false = grind (arith, nat_tests) in rw t
+
+-- a run of no page
+pub with_pages-none : (access : ℕ → ℕ → Option Rights) (e first : ℕ) (right : Option Rights) (e' p : ℕ) → access e' p ≡ with_pages access e first first right e' p
+with_pages-none access e first right e' p =
+    let off : (e' == e && (nat_le first p && nat_lt p first)) ≡ false = grind (arith, nat_tests) in
+    rw off
+
+pub with_pages-other : (access : ℕ → ℕ → Option Rights) (e first end : ℕ) (right : Option Rights) (e' p : ℕ) → ((e' ≢ e) ⊎ ((p < first) ⊎ (end ≤ p)))
+    → with_pages access e first end right e' p ≡ access e' p
+with_pages-other access e first end right e' p (inl far) =
+    let off : (e' == e && (nat_le first p && nat_lt p end)) ≡ false = grind (arith, nat_tests) in rw off
+with_pages-other access e first end right e' p (inr (inl low)) =
+    let off : (e' == e && (nat_le first p && nat_lt p end)) ≡ false = grind (arith, nat_tests) in rw off
+with_pages-other access e first end right e' p (inr (inr high)) =
+    let off : (e' == e && (nat_le first p && nat_lt p end)) ≡ false = grind (arith, nat_tests) in rw off
+
+-- a run and the run behind it
+pub with_pages-more : (access : ℕ → ℕ → Option Rights) (e first next end : ℕ) (right : Option Rights) (e' p : ℕ) → first ≤ next → next ≤ end
+    → with_pages (with_pages access e first next right) e next end right e' p ≡ with_pages access e first end right e' p
+with_pages-more access e first next end right e' p low high = elim (cases_lt p next) [
+  | inl before ↦
+      let out : (e' == e && (nat_le next p && nat_lt p end)) ≡ false = grind (arith, nat_tests) in
+      let same : (e' == e && (nat_le first p && nat_lt p next)) ≡ (e' == e && (nat_le first p && nat_lt p end)) = grind (arith, nat_tests) in
+      rw (out, same)
+  | inr behind ↦
+      let out : (e' == e && (nat_le first p && nat_lt p next)) ≡ false = grind (arith, nat_tests) in
+      let same : (e' == e && (nat_le next p && nat_lt p end)) ≡ (e' == e && (nat_le first p && nat_lt p end)) = grind (arith, nat_tests) in
+      rw (out, same)
+]
+
+-- a run of one page
+pub with_pages-one : (access : ℕ → ℕ → Option Rights) (e page : ℕ) (right : Option Rights) (e' p : ℕ)
+    → with_pages access e page (page + 1) right e' p ≡ with_right access e page right e' p
+with_pages-one access e page right e' p =
+    let same : (e' == e && (nat_le page p && nat_lt p (page + 1))) ≡ (e' == e && p == page) = grind (arith, nat_tests) in
+    rw same
 
 -- tables are built alike for two accesses that agree on every endpoint and page
 pub built-same : (ram : Ram) (n b : ℕ) (f g : ℕ → ℕ → Option Rights) → IsBuilt ram n b f

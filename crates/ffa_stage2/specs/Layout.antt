@@ -19,7 +19,7 @@ regions_in layout = lists_of layout.regions.items
 
 -- the right that endpoint e has to page p from the start
 abbrev pub layout_right : Layout → ℕ → ℕ → Option Rights
-layout_right layout e p = right_among layout.base (slice_index_or (regions_in layout) e []) p
+layout_right layout e p = right_among layout.base.0 (slice_index_or (regions_in layout) e []) p
 
 -- the tables of the layout's endpoints stand in the RAM, and endpoint e has `access e p` to page p
 abbrev pub IsBuiltFor : Layout → Ram → (ℕ → ℕ → Option Rights) → Type 0

@@ -1,5 +1,5 @@
 -- On the way to a changed block: one place of one endpoint's tables, and what each step leaves there.
-use Rattle.std.specs.Prelude.{◌≡◌, ◌≢◌, ℕ, ◌+◌, ◌*◌, ◌%◌, ◌^◌, ◌<◌, ◌≤◌, ◌==◌, if◌then◌else◌, List, length, Option}
+use Rattle.std.specs.Prelude.{◌≡◌, ◌≢◌, ℕ, ◌+◌, ◌*◌, ◌%◌, ◌^◌, ◌<◌, ◌≤◌, ◌⊎◌, ◌&&◌, nat_le, nat_lt, if◌then◌else◌, List, length, Option}
 use Rattle.ffa_model.specs.Ram.{Ram, page_of, word_of}
 use Rattle.ffa_model.specs.declared.rights.Rights.{Rights}
 use Rattle.ffa_stage2.specs.declared.blocks.Place.{Place}
@@ -14,9 +14,15 @@ pub record IsPlaceOf (ram : Ram) (blocks e k : ℕ) (x : Place) : Type 0 where
   pub link : x.link ≡ table_link ram.base blocks e (2 + k)
   pub address : x.address ≡ block_address ram k
 
--- the rights with that to one page changed
-abbrev pub with_one : (ℕ → Option Rights) → ℕ → Option Rights → ℕ → Option Rights
-with_one rights within right j = if j == within then right else rights j
+-- the rights with those to the pages from one up to another changed
+abbrev pub with_run : (ℕ → Option Rights) → ℕ → ℕ → Option Rights → ℕ → Option Rights
+with_run rights from to right j = if nat_le from j && nat_lt j to then right else rights j
+
+-- the words of a page from one place up to another became `first + step * j`, and the others are as before
+pub record IsRunWritten (old new : List ℕ) (from to first step : ℕ) : Type 0 where
+  pub whole : length new ≡ 4096
+  pub here : (j : ℕ) → from ≤ j → j < to → word_of new j ≡ first + step * j
+  pub beside : (j : ℕ) → ((j < from) ⊎ (to ≤ j)) → word_of new j ≡ word_of old j
 
 -- the 8 words from place `at` on are `first`, `first` + 4096, and so on, modulo 2^64
 abbrev pub IsRun : List ℕ → ℕ → ℕ → Type 0
@@ -56,10 +62,11 @@ pub record KeepsBeside (old new : Ram) (x : Place) : Type 0 where
   pub whole_middle : length (page_of new x.middle.0) ≡ 4096
   pub whole_table : length (page_of new x.table.0) ≡ 4096
 
--- from old to new the first words of one page became these, and no other page changed
-pub record IsSpread (old new : Ram) (page word count : ℕ) : Type 0 where
+-- from old to new the words of one page from one place up to another became these, and nothing else changed
+pub record IsFilled (old new : Ram) (page from to : ℕ) (word : ℕ → ℕ) : Type 0 where
   pub base : new.base ≡ old.base
   pub size : length new.pages ≡ length old.pages
   pub pages : (p : ℕ) → p ≢ page → page_of new p ≡ page_of old p
   pub whole : length (page_of new page) ≡ 4096
-  pub words : (j : ℕ) → j < count → word_of (page_of new page) j ≡ word + 4096 * j
+  pub here : (j : ℕ) → from ≤ j → j < to → word_of (page_of new page) j ≡ word j
+  pub beside : (j : ℕ) → ((j < from) ⊎ (to ≤ j)) → word_of (page_of new page) j ≡ word_of (page_of old page) j

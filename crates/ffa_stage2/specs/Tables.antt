@@ -64,6 +64,10 @@ pub record IsBuilt (ram : Ram) (endpoints blocks : ℕ) (access : ℕ → ℕ �
 abbrev pub with_right : (ℕ → ℕ → Option Rights) → ℕ → ℕ → Option Rights → ℕ → ℕ → Option Rights
 with_right access endpoint page right e p = if e == endpoint && p == page then right else access e p
 
+-- the access with the rights to the pages from one up to another changed
+abbrev pub with_pages : (ℕ → ℕ → Option Rights) → ℕ → ℕ → ℕ → Option Rights → ℕ → ℕ → Option Rights
+with_pages access endpoint first end right e p = if e == endpoint && (nat_le first p && nat_lt p end) then right else access e p
+
 -- what the walk of endpoint e's table answers at an address: what its access gives in RAM, and nothing elsewhere
 abbrev pub answer : Ram → (ℕ → ℕ → Option Rights) → ℕ → ℕ → Answer
 answer ram access e address =
@@ -91,6 +95,19 @@ WalkChanges old new endpoints blocks endpoint page right =
     (e address : ℕ) → e < endpoints → address < 2 ^ 32
     → walk new (root_of new.base blocks e) address
     ≡ (if e == endpoint && is_in_page old page address
+    then mapped_answer right address
+    else walk old (root_of old.base blocks e) address)
+
+-- whether an address stands in the pages of the RAM from one up to another
+abbrev pub is_in_pages : Ram → ℕ → ℕ → ℕ → Bool
+is_in_pages ram first end address = nat_le (ram.base + 4096 * first) address && nat_lt address (ram.base + 4096 * end)
+
+-- from old to new one endpoint's walk gives another right at these pages, and every other walk is as before
+abbrev pub WalksChange : Ram → Ram → ℕ → ℕ → ℕ → ℕ → ℕ → Option Rights → Type 0
+WalksChange old new endpoints blocks endpoint first end right =
+    (e address : ℕ) → e < endpoints → address < 2 ^ 32
+    → walk new (root_of new.base blocks e) address
+    ≡ (if e == endpoint && is_in_pages old first end address
     then mapped_answer right address
     else walk old (root_of old.base blocks e) address)
 

@@ -1,18 +1,18 @@
 //! One block of RAM in an endpoint's tables: a block of 2 MiB where its 512 pages have one right other than nothing, and
 //! else a table of level 3.
-ghost use Rattle.std.specs.Prelude.{◌≡◌, ℕ, ◌+◌, ◌*◌, ◌%◌, ◌^◌, ◌<◌, ◌≤◌, ◌↔◌, IsTrue, length, Option, Some};
+ghost use Rattle.std.specs.Prelude.{◌≡◌, ℕ, ◌+◌, ◌*◌, ◌%◌, ◌^◌, ◌<◌, ◌≤◌, ◌↔◌, ◌≢◌, ◌⊎◌, IsTrue, is_some, false, true, length, Option, Some};
 ghost use Rattle.arrayvec.specs.ArrayVec.{array_vec_len};
 ghost use Rattle.ffa_model.specs.Ram.{page_of};
 ghost use Rattle.ffa_model.specs.Descriptor.{page_word};
 ghost use Rattle.ffa_model.specs.declared.rights.Rights.{Rights};
 ghost use Rattle.ffa_stage2.specs.Blocks.{IsOne};
 ghost use Rattle.ffa_stage2.specs.Tables.{HasRoom};
-ghost use Rattle.ffa_stage2.specs.Places.{IsPlace, Maps, Names, KeepsBeside, IsSpread, with_one, word_at, IsPlaceOf};
+ghost use Rattle.ffa_stage2.specs.Places.{IsPlace, IsFilled, Maps, Names, KeepsBeside, with_run, word_at, IsPlaceOf};
 
 use crate::layout::Layout;
-use crate::runs::uniform;
+use crate::runs::{spread_run, uniform, write_run};
 use crate::tables::leaf;
-use ffa_model::{PageNo, Rights};
+use ffa_model::{Address, PageNo, Rights};
 use ffa_physmem::PhysMem;
 
 /// The type of a block's descriptor, in bits 1:0.
@@ -42,7 +42,7 @@ impl Place {
         requires block { block < layout.now.blocks }
         ensures { IsPlaceOf (M.ram memory.now) layout.now.blocks index block result }
     {
-        let base = memory.base();
+        let Address(base) = memory.base();
         let table = layout.table_page(index, 2 + block);
         Place {
             middle: layout.table_page(index, 1),
@@ -59,50 +59,6 @@ impl Place {
         ensures { result ≡ word_at (M.ram memory.now) self.now }
     {
         memory.read_word(self.middle, self.entry)
-    }
-}
-
-// The descriptor of a page, as the tables have it.
-fn page_now<M: PhysMem>(memory: &M, place: &Place, within: u32) -> u64
-    requires place { IsPlace (M.ram memory.now) place.now }
-    requires mapped { (rights : ℕ → Option Rights) × Maps (M.ram memory.now) place.now rights }
-    requires within { within < 512 }
-    ensures { (rights : ℕ → Option Rights)
-        → Maps (M.ram memory.now) place.now rights
-        → result ≡ page_word (place.now.address + 4096 * within) (rights within) }
-{
-    let word = place.word(memory);
-    if word % 4 == BLOCK {
-        return word + PAGE + 4096 * u64::from(within);
-    }
-    memory.read_word(place.table, within as usize)
-}
-
-// Writes the descriptors of 512 pages, of which this is the first.
-fn spread<M: PhysMem>(memory: &mut M, table: PageNo, word: u64)
-    requires table { table.0 < length (M.ram memory.old).pages }
-    requires whole { length (page_of (M.ram memory.old) table.0) ≡ 4096 }
-    requires word { word + 0x200000 ≤ 2 ^ 64 }
-    ensures { IsSpread (M.ram memory.old) (M.ram memory.new) table.0 word 512 }
-{
-    for page in 0..512u32 {
-        memory.write_word(table, page as usize, word + 4096 * u64::from(page));
-    }
-}
-
-// Puts a table of level 3 where a block stands.
-fn split<M: PhysMem>(memory: &mut M, place: &Place)
-    requires place { IsPlace (M.ram memory.old) place.now }
-    requires mapped { (rights : ℕ → Option Rights) × Maps (M.ram memory.old) place.now rights }
-    ensures named { (rights : ℕ → Option Rights)
-        → Maps (M.ram memory.old) place.now rights
-        → Names (M.ram memory.new) place.now rights }
-    ensures beside { KeepsBeside (M.ram memory.old) (M.ram memory.new) place.now }
-{
-    let word = place.word(memory);
-    if word % 4 == BLOCK {
-        spread(memory, place.table, word + PAGE);
-        memory.write_word(place.middle, place.entry, place.link);
     }
 }
 
@@ -158,21 +114,119 @@ fn join<M: PhysMem>(memory: &mut M, place: &Place, within: u32, right: Option<Ri
     }
 }
 
-// Gives another right to one page of a block.
-pub(crate) fn change<M: PhysMem>(memory: &mut M, place: &Place, within: u32, right: Option<Rights>)
+// Gives pages of a table the right of the block whose word this is.
+fn keep<M: PhysMem>(memory: &mut M, place: &Place, from: u32, to: u32, word: u64)
     requires place { IsPlace (M.ram memory.old) place.now }
-    requires mapped { (rights : ℕ → Option Rights) × Maps (M.ram memory.old) place.now rights }
-    requires within { within < 512 }
-    ensures mapped { (rights : ℕ → Option Rights)
-        → Maps (M.ram memory.old) place.now rights
-        → Maps (M.ram memory.new) place.now (with_one rights within right) }
+    requires from { from ≤ to }
+    requires to { to ≤ 512 }
+    requires word { word + 0x200002 ≤ 2 ^ 64 }
+    ensures { IsFilled (M.ram memory.old) (M.ram memory.new) place.now.table.0 from to (λ j. word + 2 + 4096 * j) }
+{
+    let page = memory.page_mut(place.table);
+    spread_run(page, from as usize, to as usize, word + PAGE);
+}
+
+// Gives a right to pages of a table.
+fn fill<M: PhysMem>(memory: &mut M, place: &Place, from: u32, to: u32, right: Option<Rights>)
+    requires place { IsPlace (M.ram memory.old) place.now }
+    requires from { from ≤ to }
+    requires to { to ≤ 512 }
+    ensures { IsFilled (M.ram memory.old) (M.ram memory.new) place.now.table.0 from to (λ j. page_word (place.now.address + 4096 * j) right) }
+{
+    let first = leaf(place.address, right);
+    let step = if right.is_some() { 4096 } else { 0 };
+    let page = memory.page_mut(place.table);
+    write_run(page, from as usize, to as usize, first, step);
+}
+
+// Gives a right to all pages of a block by its one word.
+fn put_block<M: PhysMem>(memory: &mut M, place: &Place, right: Option<Rights>)
+    requires place { IsPlace (M.ram memory.old) place.now }
+    requires some { is_some right ≡ true }
+    ensures mapped { Maps (M.ram memory.new) place.now (λ j. right) }
     ensures beside { KeepsBeside (M.ram memory.old) (M.ram memory.new) place.now }
 {
-    let word = leaf(place.address + 4096 * u64::from(within), right);
-    if page_now(memory, place, within) == word {
+    let word = leaf(place.address, right) - PAGE;
+    if place.word(memory) != word {
+        memory.write_word(place.middle, place.entry, word);
+    }
+}
+
+// Gives a right to pages of a block that stands, of which this is the word. The table is named when it is whole.
+fn split<M: PhysMem>(
+    memory: &mut M,
+    place: &Place,
+    from: u32,
+    to: u32,
+    right: Option<Rights>,
+    word: u64,
+)
+    requires place { IsPlace (M.ram memory.old) place.now }
+    requires mapped { (rights : ℕ → Option Rights) × Maps (M.ram memory.old) place.now rights }
+    requires from { from < to }
+    requires to { to ≤ 512 }
+    requires part { (to < from + 512) ⊎ (is_some right ≡ false) }
+    requires word { word ≡ word_at (M.ram memory.old) place.now }
+    requires block { word % 4 ≡ 1 }
+    ensures mapped { (rights : ℕ → Option Rights)
+        → Maps (M.ram memory.old) place.now rights
+        → Maps (M.ram memory.new) place.now (with_run rights from to right) }
+    ensures beside { KeepsBeside (M.ram memory.old) (M.ram memory.new) place.now }
+{
+    if leaf(place.address, right) == word + PAGE {
         return;
     }
-    split(memory, place);
-    memory.write_word(place.table, within as usize, word);
-    join(memory, place, within, right);
+    keep(memory, place, 0, from, word);
+    keep(memory, place, to, 512, word);
+    fill(memory, place, from, to, right);
+    memory.write_word(place.middle, place.entry, place.link);
+}
+
+// Gives a right to pages of a table that stands.
+fn change_table<M: PhysMem>(
+    memory: &mut M,
+    place: &Place,
+    from: u32,
+    to: u32,
+    right: Option<Rights>,
+)
+    requires place { IsPlace (M.ram memory.old) place.now }
+    requires from { from < to }
+    requires to { to ≤ 512 }
+    ensures mapped { (rights : ℕ → Option Rights)
+        → Names (M.ram memory.old) place.now rights
+        → Maps (M.ram memory.new) place.now (with_run rights from to right) }
+    ensures beside { KeepsBeside (M.ram memory.old) (M.ram memory.new) place.now }
+{
+    fill(memory, place, from, to, right);
+    join(memory, place, to - 1, right);
+}
+
+// Gives a right to the pages of a block from one up to another.
+pub(crate) fn change<M: PhysMem>(
+    memory: &mut M,
+    place: &Place,
+    from: u32,
+    to: u32,
+    right: Option<Rights>,
+)
+    requires place { IsPlace (M.ram memory.old) place.now }
+    requires mapped { (rights : ℕ → Option Rights) × Maps (M.ram memory.old) place.now rights }
+    requires from { from < to }
+    requires to { to ≤ 512 }
+    ensures mapped { (rights : ℕ → Option Rights)
+        → Maps (M.ram memory.old) place.now rights
+        → Maps (M.ram memory.new) place.now (with_run rights from to right) }
+    ensures beside { KeepsBeside (M.ram memory.old) (M.ram memory.new) place.now }
+{
+    if to - from == 512 && right.is_some() {
+        put_block(memory, place, right);
+        return;
+    }
+    let word = place.word(memory);
+    if word % 4 == BLOCK {
+        split(memory, place, from, to, right, word);
+    } else {
+        change_table(memory, place, from, to, right);
+    }
 }

@@ -5,7 +5,7 @@ ghost use Rattle.ffa_model.specs.Manifest.{table_pages};
 
 use arrayvec::ArrayVec;
 use ffa_model::{
-    Endpoint, MOST_ENDPOINTS, MOST_REGIONS, Manifest, PageNo, Region, Rights, right_in,
+    Address, Endpoint, MOST_ENDPOINTS, MOST_REGIONS, Manifest, PageNo, Region, Rights, right_in,
 };
 
 /// The regions of one endpoint.
@@ -32,14 +32,14 @@ impl Regions {
 #[derive(Debug, Drop)]
 pub struct Layout {
     /// The address of RAM's first byte.
-    pub base: u32,
+    pub base: Address,
     /// RAM's size, in blocks of 2 MiB.
     pub blocks: u32,
     /// The regions by the endpoint's place in the manifest.
     pub regions: ArrayVec<Regions, MOST_ENDPOINTS>,
-    pub ghost place: { base % 0x4000000 ≡ 0 },
+    pub ghost place: { base.0 % 0x4000000 ≡ 0 },
     pub ghost few: { blocks ≤ 32 },
-    pub ghost within: { base + 0x200000 * blocks ≤ 2 ^ 32 },
+    pub ghost within: { base.0 + 0x200000 * blocks ≤ 2 ^ 32 },
     pub ghost room: { array_vec_len regions * table_pages blocks ≤ 512 * blocks },
 }
 
@@ -50,7 +50,7 @@ impl Layout {
 
     /// The layout of a machine: its RAM, and its endpoints' regions in the same order.
     pub fn of(manifest: &Manifest) -> Layout
-        ensures base { result.base ≡ manifest.now.ram_base }
+        ensures base { result.base.0 ≡ manifest.now.ram_base.0 }
         ensures blocks { result.blocks ≡ manifest.now.ram_blocks }
         ensures regions { regions_in result ≡ regions_of_each manifest.now.endpoints.items }
     {
@@ -88,8 +88,8 @@ impl Layout {
     pub(crate) fn table_link(&self, index: usize, table: u32) -> u64
         requires index { index < array_vec_len self.now.regions }
         requires table { table < table_pages self.now.blocks }
-        ensures { result ≡ table_link self.now.base self.now.blocks index table }
+        ensures { result ≡ table_link self.now.base.0 self.now.blocks index table }
     {
-        u64::from(self.base) + 4096 * u64::from(self.table_page(index, table).0) + 3
+        u64::from(self.base.0) + 4096 * u64::from(self.table_page(index, table).0) + 3
     }
 }

@@ -8,4 +8,4 @@ pub mod tables;
 
 pub use layout::{Layout, Regions};
 pub use runs::uniform;
-pub use tables::{build, built_tables, leaf, set_page};
+pub use tables::{build, built_tables, leaf, set_page, set_pages};

@@ -1,11 +1,11 @@
 //! The tables in RAM's first pages: for each endpoint in order a page of level 1, one of level 2, and one of level 3 for
 //! each block of 2 MiB.
-ghost use Rattle.std.specs.Prelude.{◌≡◌, ℕ, ◌+◌, ◌*◌, ◌<◌, length, Option};
+ghost use Rattle.std.specs.Prelude.{◌≡◌, ℕ, ◌+◌, ◌*◌, ◌<◌, ◌≤◌, length, Option};
 ghost use Rattle.arrayvec.specs.ArrayVec.{array_vec_len};
 ghost use Rattle.ffa_model.specs.Descriptor.{page_word};
 ghost use Rattle.ffa_model.specs.declared.rights.Rights.{Rights};
 ghost use Rattle.ffa_stage2.specs.Layout.{layout_right, IsBuiltFor, BlocksWhereOneFor, WalksToFor, TablesAreFor, KeepsRestFor};
-ghost use Rattle.ffa_stage2.specs.Tables.{with_right, WalkChanges, KeepsOthers, TableLaws};
+ghost use Rattle.ffa_stage2.specs.Tables.{with_pages, with_right, WalkChanges, WalksChange, KeepsOthers, TableLaws};
 ghost use Rattle.ffa_stage2.specs.Words.{linked, rights_until};
 
 use crate::blocks::{Place, change};
@@ -65,15 +65,48 @@ pub fn set_page<M: PhysMem>(
         → IsBuiltFor layout.now (M.ram memory.old) access
         → BlocksWhereOneFor layout.now (M.ram memory.new) (with_right access index page.0 right) }
 {
-    let place = Place::of(memory, layout, index, page.0 / 512);
-    change(memory, &place, page.0 % 512, right);
+    set_pages(memory, layout, index, page, 1, right);
+}
+
+/// Gives one endpoint, named by its place in the manifest from 0, another right to pages that follow one another. No
+/// other access changes, and no byte outside that endpoint's table pages.
+pub fn set_pages<M: PhysMem>(
+    memory: &mut M,
+    layout: &Layout,
+    index: usize,
+    first: PageNo,
+    count: u32,
+    right: Option<Rights>,
+)
+    requires built { (access : ℕ → ℕ → Option Rights) × IsBuiltFor layout.now (M.ram memory.old) access }
+    requires index { index < array_vec_len layout.now.regions }
+    requires pages { first.0 + count ≤ 512 * layout.now.blocks }
+    ensures built { (access : ℕ → ℕ → Option Rights)
+        → IsBuiltFor layout.now (M.ram memory.old) access
+        → IsBuiltFor layout.now (M.ram memory.new) (with_pages access index first.0 (first.0 + count) right) }
+    ensures walks { WalksChange (M.ram memory.old) (M.ram memory.new)
+        (array_vec_len layout.now.regions) layout.now.blocks index first.0 (first.0 + count) right }
+    ensures others { KeepsOthers (M.ram memory.old) (M.ram memory.new) layout.now.blocks index }
+    ensures blocks { (access : ℕ → ℕ → Option Rights)
+        → IsBuiltFor layout.now (M.ram memory.old) access
+        → BlocksWhereOneFor layout.now (M.ram memory.new) (with_pages access index first.0 (first.0 + count) right) }
+{
+    let end = first.0 + count;
+    let mut next = first.0;
+    while next < end {
+        let block = next / 512;
+        let to = end.min(512 * (block + 1));
+        let place = Place::of(memory, layout, index, block);
+        change(memory, &place, next % 512, to - 512 * block, right);
+        next = to;
+    }
 }
 
 // Clears the table pages.
 fn clear_tables<M: PhysMem>(memory: &mut M, layout: &Layout)
-    requires base { (M.ram memory.old).base ≡ layout.now.base }
+    requires base { (M.ram memory.old).base ≡ layout.now.base.0 }
     requires size { length (M.ram memory.old).pages ≡ 512 * layout.now.blocks }
-    ensures tables { TablesAreFor layout.now (M.ram memory.new) (linked layout.now.base layout.now.blocks 0) }
+    ensures tables { TablesAreFor layout.now (M.ram memory.new) (linked layout.now.base.0 layout.now.blocks 0) }
     ensures rest { KeepsRestFor layout.now (M.ram memory.old) (M.ram memory.new) }
 {
     for page in 0..layout.regions.len() as u32 * (2 + layout.blocks) {
@@ -84,17 +117,17 @@ fn clear_tables<M: PhysMem>(memory: &mut M, layout: &Layout)
 // Links the tables of one endpoint.
 fn link<M: PhysMem>(memory: &mut M, layout: &Layout, index: usize)
     requires index { index < array_vec_len layout.now.regions }
-    requires base { (M.ram memory.old).base ≡ layout.now.base }
-    requires tables { TablesAreFor layout.now (M.ram memory.old) (linked layout.now.base layout.now.blocks index) }
-    ensures tables { TablesAreFor layout.now (M.ram memory.new) (linked layout.now.base layout.now.blocks (index + 1)) }
+    requires base { (M.ram memory.old).base ≡ layout.now.base.0 }
+    requires tables { TablesAreFor layout.now (M.ram memory.old) (linked layout.now.base.0 layout.now.blocks index) }
+    ensures tables { TablesAreFor layout.now (M.ram memory.new) (linked layout.now.base.0 layout.now.blocks (index + 1)) }
     ensures rest { KeepsRestFor layout.now (M.ram memory.old) (M.ram memory.new) }
 {
     let top = layout.table_page(index, 0);
     let middle = layout.table_page(index, 1);
-    let first = (layout.base >> 21) % 512;
+    let first = (layout.base.0 >> 21) % 512;
     memory.write_word(
         top,
-        (layout.base >> 30) as usize,
+        (layout.base.0 >> 30) as usize,
         layout.table_link(index, 1),
     );
     for block in 0..layout.blocks {
@@ -118,7 +151,7 @@ fn grant<M: PhysMem>(memory: &mut M, layout: &Layout, index: usize)
 
 // Builds the tables of all endpoints, with no rights.
 fn link_all<M: PhysMem>(memory: &mut M, layout: &Layout)
-    requires base { (M.ram memory.old).base ≡ layout.now.base }
+    requires base { (M.ram memory.old).base ≡ layout.now.base.0 }
     requires size { length (M.ram memory.old).pages ≡ 512 * layout.now.blocks }
     ensures built { IsBuiltFor layout.now (M.ram memory.new) (rights_until (layout_right layout.now) 0 0) }
     ensures rest { KeepsRestFor layout.now (M.ram memory.old) (M.ram memory.new) }
@@ -132,7 +165,7 @@ fn link_all<M: PhysMem>(memory: &mut M, layout: &Layout)
 /// Builds the tables of all endpoints, where each has the rights of its regions and no other, in a RAM that stands
 /// where the layout says. No page behind the table pages changes.
 pub fn build<M: PhysMem>(memory: &mut M, layout: &Layout)
-    requires base { (M.ram memory.old).base ≡ layout.now.base }
+    requires base { (M.ram memory.old).base ≡ layout.now.base.0 }
     requires size { length (M.ram memory.old).pages ≡ 512 * layout.now.blocks }
     ensures built { IsBuiltFor layout.now (M.ram memory.new) (layout_right layout.now) }
     ensures rest { KeepsRestFor layout.now (M.ram memory.old) (M.ram memory.new) }

@@ -2,7 +2,7 @@
 use crate::checks::{holds, same};
 use crate::machines::{booted, booted_in_frames, booted_with, four_in_turn};
 use ffa_manifest::read;
-use ffa_model::{CertRun, Data, EndpointId, Manifest, PageNo, Rights, row_machine};
+use ffa_model::{Address, CertRun, Data, EndpointId, Manifest, PageNo, Rights, row_machine};
 use ffa_physmem::{FlatRam, PhysMem};
 use ffa_spmc::Machine;
 use ffa_tlb::{NoTlb, Translations};
@@ -122,7 +122,7 @@ fn machines_of_every_size_and_kind(rt: HostRuntime) -> Result<(), Fail> {
 
 // The machine's RAM once more.
 fn copied(alloc: Global, machine: &Machine<FlatRam>) -> Result<FlatRam, Fail> {
-    let mut copy = FlatRam::new(alloc, BASE, 512)?;
+    let mut copy = FlatRam::new(alloc, Address(BASE), 512)?;
     for page in 0..512 {
         if page < copy.pages() && page < machine.ram().pages() {
             *copy.page_mut(PageNo(page)) = *machine.ram().page(PageNo(page));

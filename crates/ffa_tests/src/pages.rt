@@ -14,7 +14,7 @@ const ALL: Rights = Rights {
     exec: true,
 };
 
-// What is kept of a page: its owner, the base right, and the slot of the transaction that names it.
+// What is kept of a page: its owner, the own right, and the slot of the transaction that names it.
 fn entry(table: &PageTable, page: u32) -> Option<(EndpointId, Option<Rights>, Option<u8>)> {
     if page >= table.pages() {
         return None;
@@ -22,7 +22,7 @@ fn entry(table: &PageTable, page: u32) -> Option<(EndpointId, Option<Rights>, Op
     let page = PageNo(page);
     Some((
         table.owner_of(page),
-        table.base_of(page),
+        table.own_right_of(page),
         table.slot_of(page),
     ))
 }

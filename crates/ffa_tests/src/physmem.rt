@@ -1,7 +1,7 @@
 //! RAM through its trait's bound, and frames over a small heap.
 use crate::checks::{holds, same};
 use crate::words::{clear, copy, set_word, word};
-use ffa_model::PageNo;
+use ffa_model::{Address, PageNo};
 use ffa_physmem::frames::zero_frames;
 use ffa_physmem::{FlatRam, FrameRam, NoMemory, PhysMem};
 use linked_list_allocator::LocalHeap;
@@ -19,7 +19,11 @@ fn byte<M: PhysMem>(memory: &M, page: u32, place: usize) -> Option<u8> {
 
 // Writes words, reads them back, clears a page and copies the front of one.
 fn use_pages<M: PhysMem>(memory: &mut M, rt: &impl Abort) {
-    same(rt, (memory.base(), memory.pages()), (0x4000_0000, 2));
+    same(
+        rt,
+        (memory.base(), memory.pages()),
+        (Address(0x4000_0000), 2),
+    );
     set_word(memory, 0, 0, 0x0807_0605_0403_0201);
     set_word(memory, 0, 511, 0x1817_1615_1413_1211);
     set_word(memory, 1, 1, 0x2827_2625_2423_2221);
@@ -37,14 +41,14 @@ fn use_pages<M: PhysMem>(memory: &mut M, rt: &impl Abort) {
 
 #[test]
 fn flat_ram(rt: HostRuntime) -> Result<(), Fail> {
-    let mut memory = FlatRam::new(rt.alloc(), 0x4000_0000, 2)?;
+    let mut memory = FlatRam::new(rt.alloc(), Address(0x4000_0000), 2)?;
     use_pages(&mut memory, &rt);
     Ok(())
 }
 
 #[test]
 fn frame_ram(rt: HostRuntime) -> Result<(), Fail> {
-    let mut memory = FrameRam::new(rt.alloc(), 0x4000_0000, 2)?;
+    let mut memory = FrameRam::new(rt.alloc(), Address(0x4000_0000), 2)?;
     use_pages(&mut memory, &rt);
     Ok(())
 }
@@ -72,7 +76,7 @@ fn zeros_or_no_memory<M: PhysMem + Drop>(
     match made {
         Ok(ram) => {
             holds(rt, 3 * 4096 <= heap.used());
-            same(rt, (ram.base(), ram.pages()), (0x4000_0000, 3));
+            same(rt, (ram.base(), ram.pages()), (Address(0x4000_0000), 3));
             for page in 0..ram.pages() {
                 holds(rt, ram.page(PageNo(page)).iter().all(|byte| *byte == 0));
             }
@@ -90,10 +94,10 @@ fn zeros_or_no_memory<M: PhysMem + Drop>(
 fn ram_is_zeros_or_refused(rt: HostRuntime) -> Result<(), Fail> {
     for room in [16, 64, 4096 + 64, 8192 + 64, 12288, 12288 + 48] {
         let heap = LocalHeap::new(rt.alloc(), room)?;
-        let flat = FlatRam::new_in(&heap, 0x4000_0000, 3);
+        let flat = FlatRam::new_in(&heap, Address(0x4000_0000), 3);
         same(&rt, flat.is_ok(), 12288 <= room);
         zeros_or_no_memory(&rt, &heap, flat);
-        let frames = FrameRam::new_in(&heap, 0x4000_0000, 3);
+        let frames = FrameRam::new_in(&heap, Address(0x4000_0000), 3);
         same(&rt, frames.is_ok(), 12288 + 48 <= room);
         zeros_or_no_memory(&rt, &heap, frames);
     }

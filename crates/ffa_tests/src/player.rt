@@ -17,7 +17,7 @@ fn rows(alloc: Global) -> Result<Player<FlatRam>, Fail> {
 // The word at an address of RAM.
 fn word(player: &Player<FlatRam>, address: u32) -> Option<u64> {
     let ram = player.machine().ram();
-    let offset = address.checked_sub(ram.base())?;
+    let offset = address.checked_sub(ram.base().0)?;
     if offset / 4096 < ram.pages() {
         let index = offset % 4096 / 8;
         Some(ram.read_word(PageNo(offset / 4096), index as usize))

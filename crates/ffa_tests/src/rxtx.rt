@@ -1,12 +1,12 @@
 //! Buffers on the pages of the row machine.
 use crate::words::word;
-use ffa_model::{Data, EndpointId, ErrorCode, PageNo, Rights, row_machine};
+use ffa_model::{Address, Data, EndpointId, ErrorCode, PageNo, Rights, row_machine};
 use ffa_pages::PageTable;
 use ffa_physmem::{FlatRam, PhysMem};
 use ffa_rxtx::{Buffers, Mapped};
 use std::test::Fail;
 
-const BASE: u32 = 0x4000_0000;
+const BASE: Address = Address(0x4000_0000);
 
 const FIRST: EndpointId = EndpointId(0x8001);
 

@@ -8,7 +8,7 @@ use crate::checks::{holds, same, same_at};
 use crate::words::word;
 use arrayvec::ArrayVec;
 use byteorder::{ByteOrder, LittleEndian};
-use ffa_model::{Data, PageNo, Region, Rights, built_in, row_machine};
+use ffa_model::{Address, Data, PageNo, Region, Rights, built_in, row_machine};
 use ffa_physmem::{FlatRam, NoMemory, PhysMem};
 use ffa_stage2::{Layout, Regions, build, leaf, set_page, uniform};
 use std::alloc::Global;
@@ -17,7 +17,7 @@ use std::process::Abort;
 // Two blocks of RAM, where the first endpoint has the first block's page 16 and the whole second block, and the
 // second endpoint nothing.
 fn two_blocks(rights: Rights) -> Layout
-    ensures base { result.base ≡ 0x40000000 }
+    ensures base { result.base.0 ≡ 0x40000000 }
     ensures blocks { result.blocks ≡ 2 }
     ensures endpoints { array_vec_len result.regions ≡ 2 }
 {
@@ -33,7 +33,7 @@ fn two_blocks(rights: Rights) -> Layout
     regions.push(Regions { list });
     regions.push(Regions::default());
     Layout {
-        base: 0x4000_0000,
+        base: Address(0x4000_0000),
         blocks: 2,
         regions,
     }
@@ -126,7 +126,7 @@ const DATA: Rights = Rights {
 
 // The largest machine: endpoint e has the blocks from 4 e + 1 to 4 e + 3.
 fn whole_blocks() -> Layout
-    ensures base { result.base ≡ 0x40000000 }
+    ensures base { result.base.0 ≡ 0x40000000 }
     ensures blocks { result.blocks ≡ 32 }
     ensures endpoints { array_vec_len result.regions ≡ 8 }
 {
@@ -141,7 +141,7 @@ fn whole_blocks() -> Layout
         regions.push(Regions { list });
     }
     Layout {
-        base: 0x4000_0000,
+        base: Address(0x4000_0000),
         blocks: 32,
         regions,
     }

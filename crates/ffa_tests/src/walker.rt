@@ -2,7 +2,7 @@
 ghost use Rattle.std.specs.Prelude.{◌≡◌, IfOk, true};
 ghost use Rattle.ffa_model.specs.Walk.{is_page_address};
 
-use ffa_model::{PageNo, Size};
+use ffa_model::{Address, PageNo, Size};
 use ffa_physmem::{FlatRam, FrameRam, NoMemory, PhysMem};
 use ffa_walker::{FaultKind, Leaf, fetch, load, store, translate};
 use std::alloc::Global;
@@ -16,7 +16,7 @@ const ADDRESS: u64 = 0x4000_1234;
 fn ram_with_word(alloc: Global, word: u64) -> Result<FlatRam, NoMemory>
     ensures { IfOk result (λ memory. is_page_address (⟦<FlatRam as PhysMem>⟧.ram memory) 0x40000000 ≡ true) }
 {
-    let mut memory = FlatRam::new(alloc, BASE, 512)?;
+    let mut memory = FlatRam::new(alloc, Address(BASE), 512)?;
     memory.write_word(PageNo(0), 1, word);
     memory.write_word(PageNo(1), 0x46, 0x0807_065a_0403_0201);
     Ok(memory)
@@ -26,7 +26,7 @@ fn ram_with_word(alloc: Global, word: u64) -> Result<FlatRam, NoMemory>
 fn frames_with_word(alloc: Global, word: u64) -> Result<FrameRam, NoMemory>
     ensures { IfOk result (λ memory. is_page_address (⟦<FrameRam as PhysMem>⟧.ram memory) 0x40000000 ≡ true) }
 {
-    let mut memory = FrameRam::new(alloc, BASE, 512)?;
+    let mut memory = FrameRam::new(alloc, Address(BASE), 512)?;
     memory.write_word(PageNo(0), 1, word);
     memory.write_word(PageNo(1), 0x46, 0x0807_065a_0403_0201);
     Ok(memory)

@@ -106,7 +106,7 @@ fn push_cert<M: PhysMem + Drop, T: Translations + Drop>(text: &mut Text, machine
     ensures items { text.new.items ≡ cert_text machine.now.state }
     ensures len { array_vec_len text.new ≡ 25 }
 {
-    let base = u64::from(machine.ram().base());
+    let base = u64::from(machine.ram().base().0);
     let last = u64::from(machine.ram().pages().saturating_sub(1));
     text::push_word(text, b"cert");
     text::push_hex(text, 8, base);
@@ -150,7 +150,7 @@ fn root_at<M: PhysMem + Drop, T: Translations + Drop>(machine: &Machine<M, T>, p
 {
     let ram = machine.ram();
     let blocks = u64::from(ram.pages() / 512);
-    u64::from(ram.base()) + 4096 * (place as u64 * (2 + blocks))
+    u64::from(ram.base().0) + 4096 * (place as u64 * (2 + blocks))
 }
 
 // Appends a run to no text yet.
@@ -163,7 +163,7 @@ fn push_run<M: PhysMem + Drop, T: Translations + Drop>(
     requires { text.old.items ≡ [] }
     ensures { text.new.items ≡ cert_run_text machine.now.state run.now }
 {
-    let base = u64::from(machine.ram().base());
+    let base = u64::from(machine.ram().base().0);
     text::push_word(text, b"pages");
     text::push_hex(text, 8, base + 4096 * u64::from(run.first.0));
     text::push_hex(text, 8, base + 4096 * u64::from(run.last.0) + 4095);

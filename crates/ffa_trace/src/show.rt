@@ -12,7 +12,7 @@ ghost use Rattle.ffa_trace.specs.Output.{Writes};
 
 use crate::output::{self, PlayError};
 use crate::text::{self, CAPACITY, Text};
-use ffa_model::{EndpointId, PageNo, Rights};
+use ffa_model::{Address, EndpointId, PageNo, Rights};
 use ffa_physmem::PhysMem;
 use ffa_spmc::Machine;
 use ffa_tlb::Translations;
@@ -63,7 +63,7 @@ fn push_run<M: PhysMem + Drop, T: Translations + Drop>(
     requires last { last < length machine.now.state.pages }
     ensures { text.new.items ≡ run_text machine.now.state (first, last) }
 {
-    let base = machine.ram().base();
+    let Address(base) = machine.ram().base();
     let owner = machine.owner_of(PageNo(first));
     text::push_word(text, b"pages");
     text::push_hex(text, 8, u64::from(base + 4096 * first));

@@ -80,7 +80,7 @@ fn read_number<M: PhysMem>(memory: &M, physical: u64, size: Size) -> u64
     ensures number { result ≡ spec.number_in_ram (M.ram memory.now) physical (size_of size) }
     ensures fits { result < 256 ^ size_of size }
 {
-    let place = physical - u64::from(memory.base());
+    let place = physical - u64::from(memory.base().0);
     let page = memory.page(PageNo((place / 4096) as u32));
     let bytes = &page[(place % 4096) as usize..];
     match size {
@@ -97,7 +97,7 @@ fn write_number<M: PhysMem>(memory: &mut M, physical: u64, size: Size, value: u6
     requires aligned { physical % size_of size ≡ 0 }
     ensures { M.ram memory.new ≡ spec.with_bytes_at (M.ram memory.old) physical (little_bytes (size_of size) value) }
 {
-    let place = physical - u64::from(memory.base());
+    let place = physical - u64::from(memory.base().0);
     let page = memory.page_mut(PageNo((place / 4096) as u32));
     let bytes = &mut page[(place % 4096) as usize..];
     match size {

@@ -185,7 +185,7 @@ fn gives_table3<M: PhysMem>(
 fn page_behind<M: PhysMem>(memory: &M, address: u64) -> u64
     ensures { result ≡ (address - (M.ram memory.now).base) / 4096 }
 {
-    address.saturating_sub(u64::from(memory.base())) / 4096
+    address.saturating_sub(u64::from(memory.base().0)) / 4096
 }
 
 // Whether the walks from a word of level 3 are those of the runs.
@@ -263,7 +263,7 @@ fn have_access<M: PhysMem>(
     requires place { place < MOST_ENDPOINTS }
     ensures { IsTrue result ↔ HaveAccess (M.ram memory.now) runs.now place start size access }
 {
-    let base = u64::from(memory.base());
+    let base = u64::from(memory.base().0);
     let ram_end = base + 4096 * u64::from(memory.pages());
     let first = start.max(base);
     let end = (start + size).min(ram_end);

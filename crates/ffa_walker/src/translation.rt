@@ -12,7 +12,7 @@ use ffa_physmem::PhysMem;
 pub fn is_in_ram<M: PhysMem>(memory: &M, address: u64) -> bool
     ensures { result ≡ walk.is_in_ram (M.ram memory.now) address }
 {
-    let base = u64::from(memory.base());
+    let base = u64::from(memory.base().0);
     base <= address && address < base + 4096 * u64::from(memory.pages())
 }
 
@@ -22,7 +22,7 @@ pub(crate) fn read_entry<M: PhysMem>(memory: &M, table: u64, index: u64) -> u64
     requires index { index < 512 }
     ensures { result ≡ walk.entry (M.ram memory.now) table index }
 {
-    let page = (table - u64::from(memory.base())) / 4096;
+    let page = (table - u64::from(memory.base().0)) / 4096;
     memory.read_word(PageNo(page as u32), index as usize)
 }
 

@@ -279,7 +279,7 @@ fn play_on<'a, A: Allocator + Copy, M: PhysMem + Drop, R: Read, W: Write>(
     trace: &mut R,
     out: &mut W,
 ) -> Result<(), Failure<'a>>
-    requires { M.ram ram ≡ zero_ram manifest.now.ram_base (512 * manifest.now.ram_blocks) }
+    requires { M.ram ram ≡ zero_ram manifest.now.ram_base.0 (512 * manifest.now.ram_blocks) }
     ensures played { OnOk result (IsPlayed (first_of (parts_of manifest.now)) (R.remaining trace.old) (W.contents out.old) (W.contents out.new)) }
     ensures failed { IfErr result (PlayFails (first_of (parts_of manifest.now)) (R.remaining trace.old) (W.contents out.old) (W.contents out.new)) }
 {
@@ -301,7 +301,7 @@ fn play_in<'a, A: Allocator + Copy, M: PhysMem + Drop, T: Translations + Drop, R
     trace: &mut R,
     out: &mut W,
 ) -> Result<(), Failure<'a>>
-    requires { M.ram ram ≡ zero_ram manifest.now.ram_base (512 * manifest.now.ram_blocks) }
+    requires { M.ram ram ≡ zero_ram manifest.now.ram_base.0 (512 * manifest.now.ram_blocks) }
     ensures played { OnOk result (IsPlayed (first_of (parts_of manifest.now)) (R.remaining trace.old) (W.contents out.old) (W.contents out.new)) }
     ensures failed { IfErr result (PlayFails (first_of (parts_of manifest.now)) (R.remaining trace.old) (W.contents out.old) (W.contents out.new)) }
 {

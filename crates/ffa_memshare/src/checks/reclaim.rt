@@ -3,11 +3,11 @@ ghost use Rattle.std.specs.Prelude.{◌≡◌, length, Some};
 ghost use Rattle.std.specs.Result.{result_err};
 ghost use Rattle.ffa_model.specs.Calls.{first_failure};
 ghost use Rattle.ffa_model.specs.MemoryReturn.{is_unheld, reclaim_guards};
-ghost use Rattle.ffa_memshare.specs.Named.{bases_in};
+ghost use Rattle.ffa_memshare.specs.Named.{own_rights_in};
 ghost use Rattle.ffa_memshare.specs.Ranges.{ArePlaced};
 
 use crate::transaction::OpenTransaction;
-use ffa_model::{EndpointId, ErrorCode};
+use ffa_model::{Address, EndpointId, ErrorCode};
 use ffa_pages::PageTable;
 
 impl OpenTransaction {
@@ -17,12 +17,12 @@ impl OpenTransaction {
     pub(crate) fn check_reclaim(
         &self,
         pages: &PageTable,
-        base: u32,
+        base: Address,
         caller: EndpointId,
         flags: u32,
     ) -> Result<(), ErrorCode>
-        requires { ArePlaced base (length pages.now) self.now.ranges }
-        ensures { result_err result ≡ first_failure (reclaim_guards (bases_in pages.now base) caller.0 flags (Some (view_of self.now))) }
+        requires { ArePlaced base.0 (length pages.now) self.now.ranges }
+        ensures { result_err result ≡ first_failure (reclaim_guards (own_rights_in pages.now base.0) caller.0 flags (Some (view_of self.now))) }
     {
         if flags > 1 || self.sender != caller {
             return Err(ErrorCode::InvalidParameters);

@@ -7,11 +7,11 @@ ghost use Rattle.ffa_model.specs.MemoryRetrieve.{asked_right, holding_guards, is
 ghost use Rattle.ffa_model.specs.Rights.{is_at_most};
 ghost use Rattle.ffa_model.specs.Transactions.{ceiling, grant_to};
 ghost use Rattle.ffa_memshare.specs.Asked.{is_described};
-ghost use Rattle.ffa_memshare.specs.Named.{bases_in};
+ghost use Rattle.ffa_memshare.specs.Named.{own_rights_in};
 ghost use Rattle.ffa_memshare.specs.Ranges.{ArePlaced};
 
 use crate::transaction::OpenTransaction;
-use ffa_model::{Data, EndpointId, ErrorCode, Kind, RetrieveDesc, Rights};
+use ffa_model::{Address, Data, EndpointId, ErrorCode, Kind, RetrieveDesc, Rights};
 use ffa_pages::PageTable;
 
 impl OpenTransaction {
@@ -28,9 +28,9 @@ impl OpenTransaction {
     }
 
     // The most that an endpoint may hold that is granted this data right.
-    fn ceiling(&self, pages: &PageTable, base: u32, granted: Data) -> Rights
-        requires { ArePlaced base (length pages.now) self.now.ranges }
-        ensures { (e : ℕ) → grant_to (view_of self.now) e ≡ granted → result ≡ ceiling (bases_in pages.now base) (view_of self.now) e }
+    fn ceiling(&self, pages: &PageTable, base: Address, granted: Data) -> Rights
+        requires { ArePlaced base.0 (length pages.now) self.now.ranges }
+        ensures { (e : ℕ) → grant_to (view_of self.now) e ≡ granted → result ≡ ceiling (own_rights_in pages.now base.0) (view_of self.now) e }
     {
         match self.kind {
             Kind::Share => Rights {
@@ -56,14 +56,14 @@ impl OpenTransaction {
     pub(crate) fn check_retrieve(
         &self,
         pages: &PageTable,
-        base: u32,
+        base: Address,
         is_full: bool,
         caller: EndpointId,
         asked: &RetrieveDesc,
     ) -> Result<Rights, ErrorCode>
-        requires { ArePlaced base (length pages.now) self.now.ranges }
-        ensures refusal { result_err result ≡ first_failure (holding_guards (bases_in pages.now base) is_full caller.0 asked.now (Some (view_of self.now))) }
-        ensures right { IfOk result (λ right. right ≡ right_for (bases_in pages.now base) (view_of self.now) caller.0 asked.now) }
+        requires { ArePlaced base.0 (length pages.now) self.now.ranges }
+        ensures refusal { result_err result ≡ first_failure (holding_guards (own_rights_in pages.now base.0) is_full caller.0 asked.now (Some (view_of self.now))) }
+        ensures right { IfOk result (λ right. right ≡ right_for (own_rights_in pages.now base.0) (view_of self.now) caller.0 asked.now) }
     {
         let Some(granted) = self.granted_to(caller) else {
             return Err(ErrorCode::InvalidParameters);

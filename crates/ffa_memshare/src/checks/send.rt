@@ -8,14 +8,14 @@ ghost use Rattle.ffa_model.specs.MemorySend.{after_offer, are_grants_within, are
 ghost use Rattle.ffa_model.specs.SendDescriptor.{send_record};
 ghost use Rattle.ffa_model.specs.Transactions.{are_writable, pages_in};
 ghost use Rattle.ffa_rxtx.specs.Parts.{candidates_in};
-ghost use Rattle.ffa_memshare.specs.Named.{all_named, bases_in};
+ghost use Rattle.ffa_memshare.specs.Named.{all_named, own_rights_in};
 ghost use Rattle.ffa_memshare.specs.Offers.{AreAligned, IsOwnOffer, grants_writes};
 ghost use Rattle.ffa_memshare.specs.Ranges.{ArePlaced, IsPlaced, in_range, in_ranges};
 
 use crate::common::common_of;
 use crate::grants::first_page;
 use crate::page_ranges::PageRanges;
-use ffa_model::{Data, EndpointId, ErrorCode, PageNo, Range, Receiver, SendDesc};
+use ffa_model::{Address, Data, EndpointId, ErrorCode, PageNo, Range, Receiver, SendDesc};
 use ffa_pages::PageTable;
 use ffa_rxtx::Buffers;
 use ffa_stage2::Layout;
@@ -30,18 +30,18 @@ fn are_known(receivers: &[Receiver], endpoints: usize) -> bool
 }
 
 // Whether a range lies in the RAM of these pages.
-fn is_inside(range: &Range, pages: &PageTable, base: u32) -> bool
-    ensures { result ≡ is_inside (bases_in pages.now base) range.now }
+fn is_inside(range: &Range, pages: &PageTable, base: Address) -> bool
+    ensures { result ≡ is_inside (own_rights_in pages.now base.0) range.now }
 {
-    let start = u64::from(base);
+    let start = u64::from(base.0);
     let end = start + 4096 * u64::from(pages.pages());
     let size = 4096 * u64::from(range.pages);
     start <= range.address && range.address <= end && size <= end - range.address
 }
 
 // Whether all ranges do.
-fn are_inside(ranges: &[Range], pages: &PageTable, base: u32) -> bool
-    ensures { result ≡ list_all (is_inside (bases_in pages.now base)) ranges.now }
+fn are_inside(ranges: &[Range], pages: &PageTable, base: Address) -> bool
+    ensures { result ≡ list_all (is_inside (own_rights_in pages.now base.0)) ranges.now }
 {
     ranges.iter().all(|range| is_inside(range, pages, base))
 }
@@ -49,15 +49,15 @@ fn are_inside(ranges: &[Range], pages: &PageTable, base: u32) -> bool
 // Whether an endpoint may send a page.
 fn is_sendable(
     pages: &PageTable,
-    base: u32,
+    base: Address,
     buffers: &Buffers,
     sender: EndpointId,
     page: PageNo,
 ) -> bool
     requires { page.0 < length pages.now }
-    ensures { result ≡ is_sendable sender.0 (candidates_in pages.now base) buffers.now page.0 }
+    ensures { result ≡ is_sendable sender.0 (candidates_in pages.now base.0) buffers.now page.0 }
 {
-    pages.base_of(page).is_some()
+    pages.own_right_of(page).is_some()
         && pages.owner_of(page) == sender
         && pages.slot_of(page).is_none()
         && !buffers.is_buffer(page)
@@ -66,13 +66,13 @@ fn is_sendable(
 // Whether an endpoint may send the pages of a range.
 fn is_range_sendable(
     pages: &PageTable,
-    base: u32,
+    base: Address,
     buffers: &Buffers,
     sender: EndpointId,
     range: &Range,
 ) -> bool
-    requires { IsPlaced base (length pages.now) range.now }
-    ensures { result ≡ all_named (length pages.now) (in_range base range.now) (is_sendable sender.0 (candidates_in pages.now base) buffers.now) }
+    requires { IsPlaced base.0 (length pages.now) range.now }
+    ensures { result ≡ all_named (length pages.now) (in_range base.0 range.now) (is_sendable sender.0 (candidates_in pages.now base.0) buffers.now) }
 {
     // Proof step: the number of pages is 2^14 at most.
     let _ = pages.pages();
@@ -87,13 +87,13 @@ fn is_range_sendable(
 // Whether an endpoint may send the pages of these ranges.
 fn are_sendable(
     pages: &PageTable,
-    base: u32,
+    base: Address,
     buffers: &Buffers,
     sender: EndpointId,
     ranges: &PageRanges,
 ) -> bool
-    requires { ArePlaced base (length pages.now) ranges.now }
-    ensures { result ≡ all_named (length pages.now) (in_ranges base ranges.now) (is_sendable sender.0 (candidates_in pages.now base) buffers.now) }
+    requires { ArePlaced base.0 (length pages.now) ranges.now }
+    ensures { result ≡ all_named (length pages.now) (in_ranges base.0 ranges.now) (is_sendable sender.0 (candidates_in pages.now base.0) buffers.now) }
 {
     let mut all = true;
     for place in 0..ranges.len() {
@@ -119,11 +119,16 @@ fn asks_for_writes(offer: &SendDesc) -> bool
 }
 
 // Whether the pages that are offered, which are those of these ranges, have rw themselves, where that is asked for.
-fn are_writable_enough(offer: &SendDesc, ranges: &PageRanges, pages: &PageTable, base: u32) -> bool
+fn are_writable_enough(
+    offer: &SendDesc,
+    ranges: &PageRanges,
+    pages: &PageTable,
+    base: Address,
+) -> bool
     requires ranges { ranges.now ≡ offer.now.ranges.items }
-    requires own { (e : ℕ) × IsOwnOffer pages.now base e (send_record offer.now) }
-    ensures { result ≡ (list_all (are_grants_within (bases_in pages.now base) offer.now.receivers.items) (pages_in (bases_in pages.now base) offer.now.ranges.items)
-        && (not offer.now.zero || are_writable (bases_in pages.now base) offer.now.ranges.items)) }
+    requires own { (e : ℕ) × IsOwnOffer pages.now base.0 e (send_record offer.now) }
+    ensures { result ≡ (list_all (are_grants_within (own_rights_in pages.now base.0) offer.now.receivers.items) (pages_in (own_rights_in pages.now base.0) offer.now.ranges.items)
+        && (not offer.now.zero || are_writable (own_rights_in pages.now base.0) offer.now.ranges.items)) }
 {
     let is_writable = common_of(pages, base, ranges).is_writable;
     is_writable || !asks_for_writes(offer)
@@ -138,9 +143,9 @@ pub(crate) fn check_offer(
     caller: EndpointId,
 ) -> Result<PageRanges, ErrorCode>
     requires aligned { AreAligned offer.now.ranges.items }
-    ensures refused { IfErr result (λ code. (rest : List (Bool × Code)) → first_failure (after_offer (array_vec_len layout.now.regions) (candidates_in pages.now layout.now.base) (bases_in pages.now layout.now.base) buffers.now caller.0 (send_record offer.now) rest) ≡ Some code) }
-    ensures passed { OnOk result ((rest : List (Bool × Code)) → first_failure (after_offer (array_vec_len layout.now.regions) (candidates_in pages.now layout.now.base) (bases_in pages.now layout.now.base) buffers.now caller.0 (send_record offer.now) rest) ≡ first_failure rest) }
-    ensures offered { OnOk result (IsOwnOffer pages.now layout.now.base caller.0 (send_record offer.now)) }
+    ensures refused { IfErr result (λ code. (rest : List (Bool × Code)) → first_failure (after_offer (array_vec_len layout.now.regions) (candidates_in pages.now layout.now.base.0) (own_rights_in pages.now layout.now.base.0) buffers.now caller.0 (send_record offer.now) rest) ≡ Some code) }
+    ensures passed { OnOk result ((rest : List (Bool × Code)) → first_failure (after_offer (array_vec_len layout.now.regions) (candidates_in pages.now layout.now.base.0) (own_rights_in pages.now layout.now.base.0) buffers.now caller.0 (send_record offer.now) rest) ≡ first_failure rest) }
+    ensures offered { OnOk result (IsOwnOffer pages.now layout.now.base.0 caller.0 (send_record offer.now)) }
     ensures ranges { IfOk result (λ ranges. ranges ≡ offer.now.ranges.items) }
 {
     let receivers = offer.receivers.as_slice();

@@ -35,7 +35,7 @@ impl<M: PhysMem + Drop> Manager<M> {
     pub(crate) fn page_of(&self, addr: u64) -> Option<PageNo>
         ensures { option_map (λ (page : PageNo). page.0) result ≡ memory.page_of_address self.now.state addr }
     {
-        let base = u64::from(self.manifest.ram_base);
+        let base = u64::from(self.manifest.ram_base.0);
         if base <= addr && addr < 1 << 32 {
             Some(PageNo(((addr - base) / 4096) as u32))
         } else {

@@ -1,20 +1,40 @@
-//! The calls on memory. Each stands alone, so that other calls have no room for it.
+//! The calls on memory. Each stands alone, so that other calls have no room for it, and has the cache forget whose access to
+//! which pages it changed.
 ghost use Rattle.ffa_model.specs.MemoryRetrieve.{memory_retrieve};
 ghost use Rattle.ffa_model.specs.MemoryReturn.{memory_reclaim, memory_relinquish};
 ghost use Rattle.ffa_model.specs.MemorySend.{memory_send};
-ghost use Rattle.ffa_spmc.specs.Served.{IsAnswered};
+ghost use Rattle.ffa_spmc.specs.Served.{IsAnswered, IsTold};
 
+use super::forgetting::forget;
 use super::{Manager, word_of_halves};
 use crate::answer::Answer;
 use ffa_memshare::DescriptorCall;
-use ffa_model::{Kind, Transfer};
+use ffa_model::{Kind, Reply, Transfer};
 use ffa_physmem::PhysMem;
+use ffa_tlb::Translations;
 
 impl<M: PhysMem + Drop> Manager<M> {
     // FFA_MEM_DONATE, FFA_MEM_LEND or FFA_MEM_SHARE of the runner.
     #[inline(never)]
-    pub(super) fn offer(&mut self, kind: Kind, transfer: Transfer) -> Answer
-        ensures { IsAnswered self.old self.new (memory_send self.old.state kind transfer) result }
+    pub(super) fn offer<T: Translations>(
+        &mut self,
+        kind: Kind,
+        transfer: Transfer,
+        cache: &mut T,
+    ) -> Reply
+        ensures { IsAnswered self.old self.new (T.entries cache.old) (T.entries cache.new) (memory_send self.old.state kind transfer) result }
+    {
+        // Proof step: the state is sound.
+        self.holds();
+        let base = self.ram_base();
+        let answer = self.offered(kind, transfer);
+        forget(cache, base, &answer.changed);
+        answer.reply
+    }
+
+    // The same, and whose access it changed.
+    fn offered(&mut self, kind: Kind, transfer: Transfer) -> Answer
+        ensures { IsTold self.old self.new (memory_send self.old.state kind transfer) result }
     {
         let version = self.version();
         let call = DescriptorCall { transfer, version };
@@ -34,8 +54,20 @@ impl<M: PhysMem + Drop> Manager<M> {
 
     // FFA_MEM_RETRIEVE_REQ of the runner.
     #[inline(never)]
-    pub(super) fn retrieve(&mut self, transfer: Transfer) -> Answer
-        ensures { IsAnswered self.old self.new (memory_retrieve self.old.state transfer) result }
+    pub(super) fn retrieve<T: Translations>(&mut self, transfer: Transfer, cache: &mut T) -> Reply
+        ensures { IsAnswered self.old self.new (T.entries cache.old) (T.entries cache.new) (memory_retrieve self.old.state transfer) result }
+    {
+        // Proof step: the state is sound.
+        self.holds();
+        let base = self.ram_base();
+        let answer = self.retrieved(transfer);
+        forget(cache, base, &answer.changed);
+        answer.reply
+    }
+
+    // The same, and whose access it changed.
+    fn retrieved(&mut self, transfer: Transfer) -> Answer
+        ensures { IsTold self.old self.new (memory_retrieve self.old.state transfer) result }
     {
         let version = self.version();
         let call = DescriptorCall { transfer, version };
@@ -54,8 +86,20 @@ impl<M: PhysMem + Drop> Manager<M> {
 
     // FFA_MEM_RELINQUISH of the runner.
     #[inline(never)]
-    pub(super) fn relinquish(&mut self) -> Answer
-        ensures { IsAnswered self.old self.new (memory_relinquish self.old.state) result }
+    pub(super) fn relinquish<T: Translations>(&mut self, cache: &mut T) -> Reply
+        ensures { IsAnswered self.old self.new (T.entries cache.old) (T.entries cache.new) (memory_relinquish self.old.state) result }
+    {
+        // Proof step: the state is sound.
+        self.holds();
+        let base = self.ram_base();
+        let answer = self.relinquished();
+        forget(cache, base, &answer.changed);
+        answer.reply
+    }
+
+    // The same, and whose access it changed.
+    fn relinquished(&mut self) -> Answer
+        ensures { IsTold self.old self.new (memory_relinquish self.old.state) result }
     {
         let runner = self.kept.chain.runner();
         let kept = &mut self.kept;
@@ -71,8 +115,26 @@ impl<M: PhysMem + Drop> Manager<M> {
 
     // FFA_MEM_RECLAIM of the runner.
     #[inline(never)]
-    pub(super) fn reclaim(&mut self, low: u32, high: u32, flags: u32) -> Answer
-        ensures { IsAnswered self.old self.new (memory_reclaim self.old.state low high flags) result }
+    pub(super) fn reclaim<T: Translations>(
+        &mut self,
+        low: u32,
+        high: u32,
+        flags: u32,
+        cache: &mut T,
+    ) -> Reply
+        ensures { IsAnswered self.old self.new (T.entries cache.old) (T.entries cache.new) (memory_reclaim self.old.state low high flags) result }
+    {
+        // Proof step: the state is sound.
+        self.holds();
+        let base = self.ram_base();
+        let answer = self.reclaimed(low, high, flags);
+        forget(cache, base, &answer.changed);
+        answer.reply
+    }
+
+    // The same, and whose access it changed.
+    fn reclaimed(&mut self, low: u32, high: u32, flags: u32) -> Answer
+        ensures { IsTold self.old self.new (memory_reclaim self.old.state low high flags) result }
     {
         let runner = self.kept.chain.runner();
         let handle = word_of_halves(low, high);

@@ -110,7 +110,7 @@ fn is_free_range(scene: &Scene, bytes: &[u8], index: u64) -> bool {
         .all(|page| is_free(scene, page))
 }
 
-// Whether a page is one of the caller's sixteen, in no open transaction and no buffer. All of them have base right rw, so
+// Whether a page is one of the caller's sixteen, in no open transaction and no buffer. All of them have own right rw, so
 // no grant and no zeros ask for too much.
 fn is_free(scene: &Scene, page: u128) -> bool {
     let first = match scene.caller {

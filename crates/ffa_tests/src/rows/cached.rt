@@ -6,7 +6,7 @@ use super::memory::{LEND, MAPPED, RELINQUISH, RETRIEVE, RETRIEVED, TO_FIRST, TO_
 use super::*;
 use crate::checks::{holds, holds_at};
 use crate::tlb::Always;
-use ffa_model::{EndpointId, PageNo};
+use ffa_model::{Address, EndpointId, PageNo};
 use ffa_physmem::FlatRam;
 use ffa_spmc::Machine;
 use ffa_tlb::{InTurn, Tlb};
@@ -139,7 +139,7 @@ impl PhysMem for Counting {
 
     ghost one_page = { λ m page bytes. refl };
 
-    fn base(&self) -> u32 {
+    fn base(&self) -> Address {
         self.ram.base()
     }
 
@@ -166,7 +166,7 @@ fn counting_ram(alloc: Global) -> Result<Counting, Fail>
     ensures { IfOk result (λ ram. ⟦<Counting as PhysMem>⟧.ram ram ≡ zero_ram 0x40000000 512) }
 {
     Ok(Counting {
-        ram: FlatRam::new(alloc, 0x4000_0000, 512)?,
+        ram: FlatRam::new(alloc, Address(0x4000_0000), 512)?,
         reads: Cell::new(0),
     })
 }

@@ -11,7 +11,7 @@ use super::memory::{MAPPED, RETRIEVE, TO_FIRST, TO_SECOND};
 use super::*;
 use crate::checks::same_at;
 use ffa_manifest::read;
-use ffa_model::{FaultKind, Leaf, PageNo};
+use ffa_model::{Address, FaultKind, Leaf, PageNo};
 use ffa_physmem::FlatRam;
 use ffa_spmc::Machine;
 use ffa_walker::{is_in_ram, translate};
@@ -97,7 +97,7 @@ impl Watched {
 
     // Whether some walk leads to a page.
     fn is_reached(&self, page: PageNo) -> bool {
-        let base = u64::from(self.ram.base());
+        let base = u64::from(self.ram.base().0);
         let address = u64::wrapping_add(base, 4096 * u64::from(page.0));
         self.walks.iter().any(|walk| match walk.answer.get() {
             Ok(leaf) => leaf.phys == address,
@@ -149,7 +149,7 @@ impl PhysMem for Watched {
 
     ghost one_page = { λ m page bytes. refl };
 
-    fn base(&self) -> u32 {
+    fn base(&self) -> Address {
         self.ram.base()
     }
 
@@ -192,7 +192,7 @@ impl PhysMem for Watched {
 impl Watched {
     // RAM of zeros for a machine.
     fn new(alloc: Global, manifest: &Manifest) -> Result<Watched, Fail>
-        ensures { IfOk result (λ ram. ⟦<Watched as PhysMem>⟧.ram ram ≡ zero_ram manifest.now.ram_base (512 * manifest.now.ram_blocks)) }
+        ensures { IfOk result (λ ram. ⟦<Watched as PhysMem>⟧.ram ram ≡ zero_ram manifest.now.ram_base.0 (512 * manifest.now.ram_blocks)) }
     {
         let walks = walks_of(alloc, manifest)?;
         let ram = FlatRam::new(alloc, manifest.ram_base, 512 * manifest.ram_blocks)?;
@@ -220,7 +220,7 @@ fn push_walks(walks: &mut Vec<Walk>, manifest: &Manifest, root: u32) -> Result<(
         if (page + 3) % 512 < 6 {
             walks.push(Walk {
                 root,
-                address: u64::from(manifest.ram_base) + 4096 * u64::from(page),
+                address: u64::from(manifest.ram_base.0) + 4096 * u64::from(page),
                 answer: Cell::new(Err(FaultKind::Translation)),
                 changes: Cell::new(0),
             })?;

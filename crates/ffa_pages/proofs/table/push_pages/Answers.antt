@@ -9,12 +9,12 @@ use Rattle.ffa_pages.proofs.table.push_pages.Goals as goal
 
 pub push-requires : goal.push-requires
 push-requires c =
-    let a = accepted c.args.manifest.now.ram_base c.args.manifest.now.ram_blocks c.args.manifest.now.endpoints.items c.args.manifest.now.accepted in
+    let a = accepted c.args.manifest.now.ram_base.0 c.args.manifest.now.ram_blocks c.args.manifest.now.endpoints.items c.args.manifest.now.accepted in
     (omega arith, omega (arith, c.loop-page.invariant.count, a.few_blocks, c.loop-page-test.true, c.loop-page.auto.page-end))
 
 pub loop-page-preserved : goal.loop-page-preserved
 loop-page-preserved c =
-    let first : ℕ → Option Entry = first_entry c.args.manifest.now.ram_base c.args.manifest.now.endpoints.items in
+    let first : ℕ → Option Entry = first_entry c.args.manifest.now.ram_base.0 c.args.manifest.now.endpoints.items in
     record {
       count = omega (arith, c.push.ensures.len, c.loop-page.invariant.count);
       entries =

@@ -9,5 +9,5 @@ use Rattle.ffa_pages.proofs.table.push_pages.Given as goal
 abbrev pub invariant-loop-page : goal.invariant-loop-page
 invariant-loop-page l = record {
   count : array_vec_len l.pages ≡ l.page;
-  entries : entries_of l.pages.items ≡ listed l.page (first_entry l.manifest.ram_base l.manifest.endpoints.items);
+  entries : entries_of l.pages.items ≡ listed l.page (first_entry l.manifest.ram_base.0 l.manifest.endpoints.items);
 }

@@ -67,7 +67,7 @@ call 84000077 1
 // The word at an address of RAM.
 fn word<M: PhysMem + Drop>(player: &Player<M>, address: u32) -> Option<u64> {
     let ram = player.machine().ram();
-    let offset = address.checked_sub(ram.base())?;
+    let offset = address.checked_sub(ram.base().0)?;
     if offset / 4096 < ram.pages() {
         let index = offset % 4096 / 8;
         Some(ram.read_word(PageNo(offset / 4096), index as usize))
@@ -82,7 +82,7 @@ fn words_of_a_lend<M: PhysMem + Drop>(
     manifest: &Manifest,
     ram: M,
 ) -> Result<[Option<u64>; 7], Fail>
-    requires { M.ram ram ≡ zero_ram manifest.now.ram_base (512 * manifest.now.ram_blocks) }
+    requires { M.ram ram ≡ zero_ram manifest.now.ram_base.0 (512 * manifest.now.ram_blocks) }
 {
     let mut player = Player::new(Machine::boot_cleared(manifest, ram, NoTlb));
     let mut out = Vec::new(alloc);

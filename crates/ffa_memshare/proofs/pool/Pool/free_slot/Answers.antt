@@ -6,7 +6,7 @@ use Rattle.ffa_model.specs.Identifiers.{place}
 use Rattle.ffa_model.specs.Transactions.{open_count}
 use Rattle.ffa_memshare.specs.declared.transaction.OpenTransaction.{OpenTransaction}
 use Rattle.ffa_memshare.specs.SlotChanges.{IsFree}
-use Rattle.ffa_memshare.specs.Stored.{Pooled, offers_in, pool_slot, kept_slot, kept_slots}
+use Rattle.ffa_memshare.specs.Stored.{Pooled, open_in, pool_slot, kept_slot, kept_slots}
 use Rattle.ffa_memshare.proofs.FreeSlots.{all-open, few-open, slot-free, slot-taken}
 use Rattle.ffa_memshare.proofs.pool.Pool.free_slot.Goals as goal
 
@@ -30,7 +30,7 @@ returns-then-is_none-clause-free c =
 
 pub returns-then-is_none-clause-few : goal.returns-then-is_none-clause-few
 returns-then-is_none-clause-few c =
-    sym (subst (λ (p : Pooled). nat_lt (open_count (offers_in p) c.args.sender.0) 16 ≡ true) c.self.view_is
+    sym (subst (λ (p : Pooled). nat_lt (open_count (open_in p) c.args.sender.0) 16 ≡ true) c.self.view_is
     (few-open (record { slots = kept_slots c.self.inside.slots.items; sent = c.self.inside.sent.items }) c.self.invariant c.args.sender.0 c.requires.known
     (omega (arith, c.requires.place, ap (λ (p : Pooled). length p.sent) c.self.view_is)) c.loop-slot.slot
     (subst (λ (p : Pooled). IsFree p.slots (place c.args.sender.0) c.loop-slot.slot) (sym c.self.view_is) (returns-then-is_none-clause-free c))))
@@ -54,7 +54,7 @@ loop-slot-preserved c =
 
 pub returns-clause-few : goal.returns-clause-few
 returns-clause-few c =
-    sym (subst (λ (p : Pooled). nat_lt (open_count (offers_in p) c.args.sender.0) 16 ≡ false) c.self.view_is
+    sym (subst (λ (p : Pooled). nat_lt (open_count (open_in p) c.args.sender.0) 16 ≡ false) c.self.view_is
     (all-open (record { slots = kept_slots c.self.inside.slots.items; sent = c.self.inside.sent.items }) c.self.invariant c.args.sender.0 c.requires.known
     (omega (arith, c.requires.place, ap (λ (p : Pooled). length p.sent) c.self.view_is))
     (λ k from to. let (x, at) = c.loop-slot.invariant.taken k from (omega (arith, c.loop-slot-test.false, c.place-first.ensures)) in (x, ap (λ (p : Pooled). pool_slot p.slots k) c.self.view_is ∙ at))))

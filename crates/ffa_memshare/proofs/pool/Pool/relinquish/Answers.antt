@@ -22,9 +22,9 @@ returns-clause-done g c =
       described = c.in_ok-asked.ensures.asked;
       was = asked-open slots k asked.handle it c.in-Some.ensures.found c.at-open.ensures.value c.at-open.ensures.open;
       slot = record { slot = k; transaction = view_of it; was = there; slots = c.set_held.ensures.slots asked.handle (view_of it) there };
-      offers = c.set_held.ensures.offers asked.handle (view_of it) there;
+      open_transactions = c.set_held.ensures.open_transactions asked.handle (view_of it) there;
       moved =
-          subst (λ (i : ℕ). IsMoved old new (array_vec_len l.regions) l.blocks i (in_ranges l.base it.ranges) (λ p. None) asked.zero) c.place-index.ensures
+          subst (λ (i : ℕ). IsMoved old new (array_vec_len l.regions) l.blocks i (in_ranges l.base.0 it.ranges) (λ p. None) asked.zero) c.place-index.ensures
           c.change_pages.ensures;
       access = c.of-changed.ensures;
     }

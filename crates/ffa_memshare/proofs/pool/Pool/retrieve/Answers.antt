@@ -14,7 +14,7 @@ hand_over-size-requires-clause-held g c =
 
 pub take-requires-clause-placed : goal.take-requires-clause-placed
 take-requires-clause-placed g c h t at =
-    subst (λ (n : ℕ). ArePlaced c.args.layout.now.base n t.ranges) (sym c.requires.shared.room.size) (c.requires.shared.each c.in-Some.slot h t at).placed
+    subst (λ (n : ℕ). ArePlaced c.args.layout.now.base.0 n t.ranges) (sym c.requires.shared.room.size) (c.requires.shared.each c.in-Some.slot h t at).placed
 
 pub take-requires-clause-owned : goal.take-requires-clause-owned
 take-requires-clause-owned g c h t at = (c.requires.shared.each c.in-Some.slot h t at).owned
@@ -35,10 +35,10 @@ returns-clause-done g c =
       was = asked-open slots k asked.handle it c.in-Some.ensures.found c.at-open.ensures.value c.at-open.ensures.open;
       is = c.in_ok-right.ensures.right;
       slot = c.take.ensures.slot asked.handle (view_of it) there;
-      offers = c.take.ensures.offers asked.handle (view_of it) there;
+      open_transactions = c.take.ensures.open_transactions asked.handle (view_of it) there;
       pages = c.take.ensures.pages asked.handle (view_of it) there;
       answer =
-          subst (λ (h : ℕ). IsAnswered (g.M.PhysMem.ram c.args.ram.now) (g.M.PhysMem.ram c.hand_over-size.new.ram) l.base (array_vec_len l.regions) l.blocks
+          subst (λ (h : ℕ). IsAnswered (g.M.PhysMem.ram c.args.ram.now) (g.M.PhysMem.ram c.hand_over-size.new.ram) l.base.0 (array_vec_len l.regions) l.blocks
           (buffers_in c.args.buffers.now c.args.caller.0) h (view_of it) c.args.caller.0 c.args.call.now.version c.in_ok-right.right c.hand_over-size.result)
           (same-handle slots k asked.handle it c.in-Some.ensures.found c.at-open.ensures.value)
           c.hand_over-size.ensures.answered;

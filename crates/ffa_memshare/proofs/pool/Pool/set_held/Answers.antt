@@ -4,8 +4,8 @@ use Rattle.ffa_model.specs.State.{Transaction}
 use Rattle.ffa_model.specs.Transactions.{with_transaction}
 use Rattle.ffa_memshare.specs.declared.transaction.OpenTransaction.{OpenTransaction}
 use Rattle.ffa_memshare.specs.Held.{with_holder}
-use Rattle.ffa_memshare.specs.Stored.{IsPool, Pooled, Slot, offers_in, pool_slot, kept_slots, view_of}
-use Rattle.ffa_memshare.proofs.PoolHeld.{held-offers, held-pool, held-slots}
+use Rattle.ffa_memshare.specs.Stored.{IsPool, Pooled, Slot, open_in, pool_slot, kept_slots, view_of}
+use Rattle.ffa_memshare.proofs.PoolHeld.{held-open, held-pool, held-slots}
 use Rattle.ffa_memshare.proofs.Reclaims.{slot-kept}
 use Rattle.ffa_memshare.proofs.pool.Pool.set_held.Goals as goal
 
@@ -38,8 +38,8 @@ returns-clause-slots c h t at =
     ∙ ap (λ (x : ℕ × Transaction). set (kept_slots xs) k (Some (x.0, with_holder x.1 e c.args.right))) (same_Some _ (h, t) (sym there ∙ was))
     ∙ ap (λ (p : Pooled). set p.slots k (Some (h, with_holder t e c.args.right))) c.self.view_is
 
-pub returns-clause-offers : goal.returns-clause-offers
-returns-clause-offers c h t at =
+pub returns-clause-open_transactions : goal.returns-clause-open_transactions
+returns-clause-open_transactions c h t at =
     let xs = c.self.inside.slots.items in
     let k = c.args.slot in
     let e = c.args.endpoint.0 in
@@ -49,8 +49,8 @@ returns-clause-offers c h t at =
     let was : pool_slot (kept_slots xs) k ≡ Some (h, t) = ap (λ (p : Pooled). pool_slot p.slots k) c.self.view_is ∙ at in
     let there = slot-kept xs k found it (h, t) was
     (c.index-deref_mut-slot.is ∙ ap (λ (ys : List (Option OpenTransaction)). get_or ys k found) c.deref_mut.ensures.value) (c.index-deref_mut-slot.is ∙ c.in-Some.is) in
-    ap (λ (slots : List Slot). offers_in (record { slots = slots; sent = c.self.inside.sent.items }))
+    ap (λ (slots : List Slot). open_in (record { slots = slots; sent = c.self.inside.sent.items }))
     (held-slots xs c.deref_mut.result.now k it c.set.new.self e c.args.right c.deref_mut.ensures.value c.set.ensures
     ∙ ap (λ (x : ℕ × Transaction). set (kept_slots xs) k (Some (x.0, with_holder x.1 e c.args.right))) (same_Some _ (h, t) (sym there ∙ was)))
-    ∙ held-offers old c.self.invariant k h t (with_holder t e c.args.right) was
-    ∙ ap (λ (p : Pooled). with_transaction (offers_in p) h (with_holder t e c.args.right)) c.self.view_is
+    ∙ held-open old c.self.invariant k h t (with_holder t e c.args.right) was
+    ∙ ap (λ (p : Pooled). with_transaction (open_in p) h (with_holder t e c.args.right)) c.self.view_is

@@ -6,10 +6,10 @@ use Rattle.ffa_model.specs.State.{Transaction}
 use Rattle.ffa_memshare.specs.Changes.{IsMarked}
 use Rattle.ffa_memshare.specs.Ranges.{in_ranges}
 use Rattle.ffa_memshare.specs.Retrieved.{IsPassedOn, IsTaken}
-use Rattle.ffa_memshare.specs.Stored.{offers_in, pool_slot, view_of}
+use Rattle.ffa_memshare.specs.Stored.{open_in, pool_slot, view_of}
 use Rattle.ffa_memshare.specs.declared.marks.Mark.TheVariants.{Given}
 use Rattle.ffa_memshare.proofs.Asks.{same-open}
-use Rattle.ffa_memshare.proofs.Retrieves.{held-taken, kept-passed, taken-offers}
+use Rattle.ffa_memshare.proofs.Retrieves.{held-taken, kept-passed, taken-open}
 use Rattle.ffa_memshare.proofs.pool.Pool.take.Goals as goal
 
 pub mark_all-requires-clause-placed : goal.mark_all-requires-clause-placed
@@ -24,18 +24,18 @@ returns-in-Donate-clause-slot c h t at =
     subst (λ (kind : Kind). IsTaken kind c.args.self.now c.close.new.self h c.args.endpoint.0 c.args.right) (sym c.in-Donate.is ∙ ap (λ (u : Transaction). u.kind) same)
     (record { slot = c.args.slot; transaction = t; was = at; slots = c.close.ensures.slots })
 
-pub returns-in-Donate-clause-offers : goal.returns-in-Donate-clause-offers
-returns-in-Donate-clause-offers c h t at =
+pub returns-in-Donate-clause-open_transactions : goal.returns-in-Donate-clause-open_transactions
+returns-in-Donate-clause-open_transactions c h t at =
     let same = same-open c.args.self.now.slots c.args.slot h t c.at-open.result.now at c.at-open.ensures.value in
-    subst (λ (kind : Kind). offers_in c.close.new.self ≡ taken_in kind (offers_in c.args.self.now) h t c.args.endpoint.0 c.args.right)
-    (sym c.in-Donate.is ∙ ap (λ (u : Transaction). u.kind) same) (c.close.ensures.offers h t at)
+    subst (λ (kind : Kind). open_in c.close.new.self ≡ taken_in kind (open_in c.args.self.now) h t c.args.endpoint.0 c.args.right)
+    (sym c.in-Donate.is ∙ ap (λ (u : Transaction). u.kind) same) (c.close.ensures.open_transactions h t at)
 
 pub returns-in-Donate-clause-pages : goal.returns-in-Donate-clause-pages
 returns-in-Donate-clause-pages c h t at =
     let same = same-open c.args.self.now.slots c.args.slot h t c.at-open.result.now at c.at-open.ensures.value in
-    subst (λ (kind : Kind). IsPassedOn kind c.args.pages.now c.mark_all.new.pages (in_ranges c.args.base t.ranges) c.args.endpoint c.args.right)
+    subst (λ (kind : Kind). IsPassedOn kind c.args.pages.now c.mark_all.new.pages (in_ranges c.args.base.0 t.ranges) c.args.endpoint c.args.right)
     (sym c.in-Donate.is ∙ ap (λ (u : Transaction). u.kind) same)
-    (subst (λ (u : Transaction). IsMarked c.args.pages.now c.mark_all.new.pages (in_ranges c.args.base u.ranges) (Given c.args.endpoint c.args.right)) same c.mark_all.ensures)
+    (subst (λ (u : Transaction). IsMarked c.args.pages.now c.mark_all.new.pages (in_ranges c.args.base.0 u.ranges) (Given c.args.endpoint c.args.right)) same c.mark_all.ensures)
 
 pub returns-in-Share : goal.returns-in-Share
 returns-in-Share c =
@@ -44,7 +44,7 @@ returns-in-Share c =
     record {
       slot = λ h t at. held-taken t.kind (kinds h t at) c.args.self.now c.set_held.new.self h c.args.endpoint.0 c.args.right
           (record { slot = c.args.slot; transaction = t; was = at; slots = c.set_held.ensures.slots h t at });
-      offers = λ h t at. c.set_held.ensures.offers h t at
-          ∙ taken-offers t.kind (kinds h t at) (offers_in c.args.self.now) h t c.args.endpoint.0 c.args.right;
-      pages = λ h t at. kept-passed t.kind (kinds h t at) c.args.pages.now (in_ranges c.args.base t.ranges) c.args.endpoint c.args.right;
+      open_transactions = λ h t at. c.set_held.ensures.open_transactions h t at
+          ∙ taken-open t.kind (kinds h t at) (open_in c.args.self.now) h t c.args.endpoint.0 c.args.right;
+      pages = λ h t at. kept-passed t.kind (kinds h t at) c.args.pages.now (in_ranges c.args.base.0 t.ranges) c.args.endpoint c.args.right;
     }

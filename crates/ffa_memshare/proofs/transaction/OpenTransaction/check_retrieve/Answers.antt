@@ -1,20 +1,20 @@
 use Rattle.std.proofs.Common.{◌≡◌, rules, sym}
 use Rattle.ffa_model.specs.Transactions.{ceiling}
-use Rattle.ffa_memshare.specs.Named.{bases_in}
+use Rattle.ffa_memshare.specs.Named.{own_rights_in}
 use Rattle.ffa_memshare.specs.Stored.{view_of}
 use Rattle.ffa_memshare.proofs.transaction.OpenTransaction.check_retrieve.Goals as goal
 
 pub returns-then-is_some-clause-refusal : goal.returns-then-is_some-clause-refusal
 returns-then-is_some-clause-refusal c =
-    let most : c.ceiling-most.result ≡ ceiling (bases_in c.args.pages.now c.args.base) (view_of c.args.self.now) c.args.caller.0 = c.ceiling-most.ensures c.args.caller.0 (sym c.in-Some.ensures.granted) in
+    let most : c.ceiling-most.result ≡ ceiling (own_rights_in c.args.pages.now c.args.base.0) (view_of c.args.self.now) c.args.caller.0 = c.ceiling-most.ensures c.args.caller.0 (sym c.in-Some.ensures.granted) in
     search (rules, most)
 
 pub returns-then-is_full-clause-refusal : goal.returns-then-is_full-clause-refusal
 returns-then-is_full-clause-refusal c =
-    let most : c.ceiling-most.result ≡ ceiling (bases_in c.args.pages.now c.args.base) (view_of c.args.self.now) c.args.caller.0 = c.ceiling-most.ensures c.args.caller.0 (sym c.in-Some.ensures.granted) in
+    let most : c.ceiling-most.result ≡ ceiling (own_rights_in c.args.pages.now c.args.base.0) (view_of c.args.self.now) c.args.caller.0 = c.ceiling-most.ensures c.args.caller.0 (sym c.in-Some.ensures.granted) in
     search (rules, most)
 
 pub returns-clause-refusal : goal.returns-clause-refusal
 returns-clause-refusal c =
-    let most : c.ceiling-most.result ≡ ceiling (bases_in c.args.pages.now c.args.base) (view_of c.args.self.now) c.args.caller.0 = c.ceiling-most.ensures c.args.caller.0 (sym c.in-Some.ensures.granted) in
+    let most : c.ceiling-most.result ≡ ceiling (own_rights_in c.args.pages.now c.args.base.0) (view_of c.args.self.now) c.args.caller.0 = c.ceiling-most.ensures c.args.caller.0 (sym c.in-Some.ensures.granted) in
     search (rules, most)

@@ -17,7 +17,7 @@ respond-requires-clause-total g c =
     let (access, built) = c.requires.held.room.built in
     let most : length ranges ≤ 64 = omega (arith, c.len.ensures.count, c.len.ensures.few) in
     subst (λ (xs : List Range). page_total xs < 2 ^ 32) (sym (ap (λ (r : ResponseRecord). r.ranges) c.response-response.ensures))
-    (few-pages l.base l.blocks ranges built.fits.few most c.requires.held.placed)
+    (few-pages l.base.0 l.blocks ranges built.fits.few most c.requires.held.placed)
 
 pub returns-clause-answered : goal.returns-clause-answered
 returns-clause-answered g c =
@@ -28,7 +28,7 @@ returns-clause-answered g c =
     record {
       granted = granted;
       moved =
-          subst (λ (k : ℕ). IsMoved old granted (array_vec_len l.regions) l.blocks k (in_ranges l.base ranges) (λ p. Some c.args.right) false) c.place-index.ensures
+          subst (λ (k : ℕ). IsMoved old granted (array_vec_len l.regions) l.blocks k (in_ranges l.base.0 ranges) (λ p. Some c.args.right) false) c.place-index.ensures
           c.change_pages.ensures;
       answered =
           c.respond.ensures.ram

@@ -6,7 +6,7 @@ use Rattle.ffa_model.proofs.manifest.Manifest.owner_of.Goals as goal
 
 pub returns-then-is_some : goal.returns-then-is_some
 returns-then-is_some c =
-    let base : ℕ = c.args.self.now.ram_base in
+    let base : ℕ = c.args.self.now.ram_base.0 in
     let items : List Endpoint = c.as_slice-endpoint-items.result.now in
     let i : ℕ = c.loop-place.place in
     let rest : drop i items ≡ c.endpoint-item.result ∷ drop (i + 1) items =
@@ -20,7 +20,7 @@ returns-then-is_some c =
 
 pub loop-place-preserved : goal.loop-place-preserved
 loop-place-preserved c =
-    let base : ℕ = c.args.self.now.ram_base in
+    let base : ℕ = c.args.self.now.ram_base.0 in
     let items : List Endpoint = c.as_slice-endpoint-items.result.now in
     let i : ℕ = c.loop-place.place in
     let rest : drop i items ≡ c.endpoint-item.result ∷ drop (i + 1) items =

@@ -5,5 +5,5 @@ use Rattle.ffa_model.proofs.manifest.Manifest.owner_of.Given as goal
 -- no endpoint so far has the page
 abbrev pub invariant-loop-place : goal.invariant-loop-place
 invariant-loop-place l =
-    owner_from l.self.ram_base l.page.0 l.place (drop l.place l.endpoint-items)
-    ≡ owner_from l.self.ram_base l.page.0 0 l.endpoint-items
+    owner_from l.self.ram_base.0 l.page.0 l.place (drop l.place l.endpoint-items)
+    ≡ owner_from l.self.ram_base.0 l.page.0 0 l.endpoint-items

@@ -8,12 +8,12 @@ use Rattle.ffa_model.proofs.manifest.Manifest.right_to.Goals as goal
 pub returns-then-place-endpoints : goal.returns-then-place-endpoints
 returns-then-place-endpoints c =
     c.right_to.ensures
-    ∙ ap (λ (rs : List Region). right_in c.args.self.now.ram_base rs c.args.page.0)
+    ∙ ap (λ (rs : List Region). right_in c.args.self.now.ram_base.0 rs c.args.page.0)
     (sym (regions_at-there c.as_slice-endpoints.result.now c.args.place c.index-endpoints-place.result c.index-endpoints-place.is c.if-place-endpoints.true)
     ∙ ap (λ (es : List Endpoint). regions_at es c.args.place) c.as_slice-endpoints.ensures.value)
 
 pub returns-else-place-endpoints : goal.returns-else-place-endpoints
 returns-else-place-endpoints c =
-    ap (λ (rs : List Region). right_in c.args.self.now.ram_base rs c.args.page.0)
+    ap (λ (rs : List Region). right_in c.args.self.now.ram_base.0 rs c.args.page.0)
     (sym (regions_at-past c.as_slice-endpoints.result.now c.args.place c.if-place-endpoints.false)
     ∙ ap (λ (es : List Endpoint). regions_at es c.args.place) c.as_slice-endpoints.ensures.value)

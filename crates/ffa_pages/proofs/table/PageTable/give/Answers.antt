@@ -10,6 +10,6 @@ use Rattle.ffa_pages.proofs.table.PageTable.give.Goals as goal
 pub returns : goal.returns
 returns c =
     let page : KeptPage = record { owner = c.args.owner; standing = c.of-standing.result } in
-    let kept = entry_of-owned page c.args.base c.slot_of-slot.result (ne_eqb c.args.owner.0 manager c.requires.endpoint) c.of-standing.ensures.base c.of-standing.ensures.slot in
+    let kept = entry_of-owned page c.args.own_right c.slot_of-slot.result (ne_eqb c.args.owner.0 manager c.requires.endpoint) c.of-standing.ensures.own_right c.of-standing.ensures.slot in
     map-refill-set entry_of c.self.inside.pages.items c.deref_mut.result.now c.args.page.0 page c.deref_mut.ensures.value
     ∙ cc

@@ -13,5 +13,5 @@ returns-in-Some c =
     map-refill-set entry_of c.self.inside.pages.items c.deref_mut.result.now p (record c.kept-kept.result { standing = c.of-standing.result }) c.deref_mut.ensures.value
     ∙ ap (λ (table : List (Option Entry)). slice_set table p (entry_of (record c.kept-kept.result { standing = c.of-standing.result }))) c.self.view_is
     ∙ ap (λ (o : Option Entry). slice_set c.args.self.now p o)
-    (entry_of-marked c.kept-kept.result c.in-Some.standing c.of-standing.result c.args.slot c.in-Some.ensures (c.of-standing.ensures.base ∙ c.base.ensures) c.of-standing.ensures.slot)
+    (entry_of-marked c.kept-kept.result c.in-Some.standing c.of-standing.result c.args.slot c.in-Some.ensures (c.of-standing.ensures.own_right ∙ c.own_right.ensures) c.of-standing.ensures.slot)
     ∙ ap (λ (o : Option Entry). slice_set c.args.self.now p (option_map marked o)) c.kept-kept.ensures

@@ -3,7 +3,7 @@ use Rattle.ffa_model.specs.SoundState.{IsSoundState}
 use Rattle.ffa_laws.specs.OwnAccess.{AreApart}
 use Rattle.ffa_spmc.specs.Cached.{AreWalks}
 use Rattle.ffa_spmc.specs.Snapshot.{Snapshot}
-use Rattle.ffa_spmc.proofs.Laws.{access-now, confidential-now, integrity-now, no_growth-now, offers-now, silence-now, step-now, writers-now}
+use Rattle.ffa_spmc.proofs.Laws.{access-now, confidential-now, integrity-now, no_growth-now, open-now, silence-now, step-now, writers-now}
 use Rattle.ffa_spmc.proofs.machine.Machine.op.Goals as goal
 
 pub returns-clause-step : goal.returns-clause-step
@@ -48,6 +48,6 @@ returns-clause-confidential g c =
 
 pub returns-clause-silent_offers : goal.returns-clause-silent_offers
 returns-clause-silent_offers g c =
-    offers-now c.args.self.now.state
+    open-now c.args.self.now.state
     (subst (λ (seen : Snapshot). IsSoundState seen.state) c.self.view_is c.holds.ensures.sound)
     (subst (λ (seen : Snapshot). AreApart seen.state) c.self.view_is c.holds.ensures.apart) c.args.op.now

@@ -13,7 +13,7 @@ pub invariant_of-result : goal.invariant_of-result
 invariant_of-result g c =
     let x : Parts = record { ram = g.M.PhysMem.ram c.build.new.memory; manifest = c.args.manifest.now; kept = record c.unfilled-kept.result { pages = c.fill.new.self; pool = c.fill-2.new.self } } in
     let same = c.unfilled-kept.ensures.layout in
-    let base = ap (λ (l : Layout). l.base) same ∙ c.of-layout.ensures.base in
+    let base = ap (λ (l : Layout). l.base.0) same ∙ c.of-layout.ensures.base in
     let blocks = ap (λ (l : Layout). l.blocks) same ∙ c.of-layout.ensures.blocks in
     let regions = ap regions_in same ∙ c.of-layout.ensures.regions in
     let built = subst (λ (l : Layout). IsBuiltFor l (g.M.PhysMem.ram c.build.new.memory) (layout_right l)) (sym same) c.build.ensures.built in
@@ -27,7 +27,7 @@ pub returns : goal.returns
 returns g c =
     let x : Parts = record { ram = g.M.PhysMem.ram c.build.new.memory; manifest = c.args.manifest.now; kept = record c.unfilled-kept.result { pages = c.fill.new.self; pool = c.fill-2.new.self } } in
     let same = c.unfilled-kept.ensures.layout in
-    let base = ap (λ (l : Layout). l.base) same ∙ c.of-layout.ensures.base in
+    let base = ap (λ (l : Layout). l.base.0) same ∙ c.of-layout.ensures.base in
     let blocks = ap (λ (l : Layout). l.blocks) same ∙ c.of-layout.ensures.blocks in
     let regions = ap regions_in same ∙ c.of-layout.ensures.regions in
     let built = subst (λ (l : Layout). IsBuiltFor l (g.M.PhysMem.ram c.build.new.memory) (layout_right l)) (sym same) c.build.ensures.built in

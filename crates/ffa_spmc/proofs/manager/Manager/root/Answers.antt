@@ -19,7 +19,7 @@ root-requires g c =
 pub returns-clause-value : goal.returns-clause-value
 returns-clause-value g c =
     let x = parts_of g.M.PhysMem.ram c.self.inside in
-    c.root.ensures ∙ ap (root_of x.manifest.ram_base x.manifest.ram_blocks) (c.place.ensures ∙ ap place c.runner.ensures.runner)
+    c.root.ensures ∙ ap (root_of x.manifest.ram_base.0 x.manifest.ram_blocks) (c.place.ensures ∙ ap place c.runner.ensures.runner)
     ∙ ap (λ (base : ℕ). root_of base x.manifest.ram_blocks (place x.kept.chain.runner)) (sym c.self.invariant.tables.base)
     ∙ sym (root-is x c.self.invariant (place x.kept.chain.runner))
     ∙ ap (λ (seen : Managed). root seen.state (place seen.state.runner)) c.self.view_is
@@ -29,7 +29,7 @@ returns-clause-page g c =
     let x = parts_of g.M.PhysMem.ram c.self.inside in
     subst (λ (seen : Managed). is_page_address seen.ram c.root.result ≡ true) c.self.view_is
     (ap (is_page_address x.ram)
-    (c.root.ensures ∙ ap (root_of x.manifest.ram_base x.manifest.ram_blocks) (c.place.ensures ∙ ap place c.runner.ensures.runner)
+    (c.root.ensures ∙ ap (root_of x.manifest.ram_base.0 x.manifest.ram_blocks) (c.place.ensures ∙ ap place c.runner.ensures.runner)
     ∙ ap (λ (base : ℕ). root_of base x.manifest.ram_blocks (place x.kept.chain.runner)) (sym c.self.invariant.tables.base)
     ∙ sym (root-is x c.self.invariant (place x.kept.chain.runner)))
     ∙ runner-root x c.self.invariant)

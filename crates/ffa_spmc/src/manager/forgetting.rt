@@ -7,13 +7,13 @@ ghost use Rattle.ffa_spmc.specs.Caching.{AreOut, most_pages};
 ghost use Rattle.ffa_tlb.specs.Lookups.{lookup};
 
 use ffa_memshare::{Changed, PageRanges, first_page};
-use ffa_model::{EndpointId, PageNo, Range};
+use ffa_model::{Address, EndpointId, PageNo, Range};
 use ffa_tlb::Translations;
 
 // Forgets what is held for an endpoint and the pages of a range in the RAM at an address.
-fn forget_range<T: Translations>(cache: &mut T, base: u32, endpoint: EndpointId, range: &Range)
-    requires { IsPlaced base most_pages range.now }
-    ensures { AreOut (T.entries cache.old) (T.entries cache.new) endpoint.0 (in_range base range.now) }
+fn forget_range<T: Translations>(cache: &mut T, base: Address, endpoint: EndpointId, range: &Range)
+    requires { IsPlaced base.0 most_pages range.now }
+    ensures { AreOut (T.entries cache.old) (T.entries cache.new) endpoint.0 (in_range base.0 range.now) }
 {
     let first = first_page(base, range);
     for page in first..first + range.pages {
@@ -24,12 +24,12 @@ fn forget_range<T: Translations>(cache: &mut T, base: u32, endpoint: EndpointId,
 // The same of these ranges.
 fn forget_ranges<T: Translations>(
     cache: &mut T,
-    base: u32,
+    base: Address,
     endpoint: EndpointId,
     ranges: &PageRanges,
 )
-    requires { ArePlaced base most_pages ranges.now }
-    ensures { AreOut (T.entries cache.old) (T.entries cache.new) endpoint.0 (in_ranges base ranges.now) }
+    requires { ArePlaced base.0 most_pages ranges.now }
+    ensures { AreOut (T.entries cache.old) (T.entries cache.new) endpoint.0 (in_ranges base.0 ranges.now) }
 {
     for place in 0..ranges.len() {
         forget_range(cache, base, endpoint, &ranges.at(place));
@@ -37,10 +37,10 @@ fn forget_ranges<T: Translations>(
 }
 
 // Forgets what is held for the endpoint and the pages to which its access changed.
-pub(super) fn forget<T: Translations>(cache: &mut T, base: u32, changed: &Option<Changed>)
-    requires { IfSome changed.now (λ c. ArePlaced base most_pages c.ranges) }
+pub(super) fn forget<T: Translations>(cache: &mut T, base: Address, changed: &Option<Changed>)
+    requires { IfSome changed.now (λ c. ArePlaced base.0 most_pages c.ranges) }
     ensures unchanged { changed.now ≡ None → T.entries cache.new ≡ T.entries cache.old }
-    ensures forgotten { (s : State) → s.ram_base ≡ base → (e p : ℕ) →
+    ensures forgotten { (s : State) → s.ram_base ≡ base.0 → (e p : ℕ) →
         lookup (T.entries cache.new) e p ≡ (if is_of s changed.now e p then None else lookup (T.entries cache.old) e p) }
 {
     if let Some(changed) = changed

@@ -5,7 +5,7 @@ use Rattle.ffa_model.specs.declared.transaction.Range.{Range}
 use Rattle.ffa_memshare.specs.Ranges.{in_range, in_ranges}
 use Rattle.ffa_memshare.proofs.Places.{in_ranges-next}
 use Rattle.ffa_tlb.specs.Lookups.{lookup}
-use Rattle.ffa_spmc.proofs.machine.forgetting.forget_ranges.Goals as goal
+use Rattle.ffa_spmc.proofs.manager.forgetting.forget_ranges.Goals as goal
 
 -- forgotten by the one or by the other is forgotten
 forgotten-twice : (its before one : Bool) (held : Option Leaf)
@@ -17,7 +17,7 @@ forgotten-twice true false one held = refl
 
 pub loop-place-preserved : goal.loop-place-preserved
 loop-place-preserved g c f q =
-    let base = c.args.base in
+    let base = c.args.base.0 in
     let ranges = c.args.ranges.now in
     let k = c.loop-place.place in
     let range = c.at.result in

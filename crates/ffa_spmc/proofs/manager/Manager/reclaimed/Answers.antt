@@ -4,13 +4,12 @@ use Rattle.ffa_model.specs.declared.call.Reply.{Reply}
 use Rattle.ffa_model.specs.Calls.{replied}
 use Rattle.ffa_model.specs.MemoryReturn.{memory_reclaim}
 use Rattle.ffa_spmc.specs.Meaning.{Parts, state_of}
-use Rattle.ffa_spmc.specs.Managed.{Managed}
-use Rattle.ffa_spmc.proofs.Replied.{answered-with, kept-memory, refused-done}
+use Rattle.ffa_spmc.proofs.Replied.{told-with, kept-memory, refused-done}
 use Rattle.ffa_model.specs.State.{State}
 use Rattle.ffa_spmc.proofs.Inside.{parts_of}
 use Rattle.ffa_spmc.proofs.Pools.{pool-shared}
 use Rattle.ffa_spmc.proofs.Reclaims.{reclaim-changes, reclaim-machine, reclaim-served, reclaim-unowned}
-use Rattle.ffa_spmc.proofs.manager.Manager.reclaim.Goals as goal
+use Rattle.ffa_spmc.proofs.manager.Manager.reclaimed.Goals as goal
 
 pub reclaim-requires : goal.reclaim-requires
 reclaim-requires g c =
@@ -24,19 +23,19 @@ invariant_of-self g c =
     c.word_of_halves-handle.result c.word_of_halves-handle.ensures
     (g.M.PhysMem.ram c.reclaim.new.ram) c.reclaim.new.pages c.reclaim.new.self c.reclaim.result c.reclaim.ensures.refusal
     c.reclaim.ensures.kept c.reclaim.ensures.kept_pages c.reclaim.ensures.kept_ram
-    c.reclaim.ensures.slot c.reclaim.ensures.offers c.reclaim.ensures.ram c.reclaim.ensures.pages c.reclaim.ensures.changed
+    c.reclaim.ensures.slot c.reclaim.ensures.open_transactions c.reclaim.ensures.ram c.reclaim.ensures.pages c.reclaim.ensures.changed
 
 pub returns : goal.returns
 returns g c =
     let x = parts_of g.M.PhysMem.ram c.self.inside in
     let y : Parts = record x { ram = g.M.PhysMem.ram c.reclaim.new.ram; kept = record x.kept { pages = c.reclaim.new.pages; pool = c.reclaim.new.self } } in
-    answered-with x y c.args.self.now c.self.view_is (λ (s : State). memory_reclaim s c.args.low c.args.high c.args.flags) c.returned.result (result_ok c.reclaim.result)
+    told-with x y c.args.self.now c.self.view_is (λ (s : State). memory_reclaim s c.args.low c.args.high c.args.flags) c.returned.result (result_ok c.reclaim.result)
     (ap (λ (reply : Reply). replied (state_of y) reply) c.returned.ensures.reply
     ∙ reclaim-served x c.self.invariant c.runner-runner.result.0 c.runner-runner.ensures.runner c.args.low c.args.high c.args.flags
     c.word_of_halves-handle.result c.word_of_halves-handle.ensures
     (g.M.PhysMem.ram c.reclaim.new.ram) c.reclaim.new.pages c.reclaim.new.self c.reclaim.result c.reclaim.ensures.refusal
     c.reclaim.ensures.kept c.reclaim.ensures.kept_pages c.reclaim.ensures.kept_ram
-    c.reclaim.ensures.slot c.reclaim.ensures.offers c.reclaim.ensures.ram c.reclaim.ensures.pages c.reclaim.ensures.changed)
+    c.reclaim.ensures.slot c.reclaim.ensures.open_transactions c.reclaim.ensures.ram c.reclaim.ensures.pages c.reclaim.ensures.changed)
     (refused-done c.reclaim.result c.returned.result.reply c.returned.ensures.reply
     (kept-memory x c.reclaim.result (g.M.PhysMem.ram c.reclaim.new.ram) c.reclaim.new.pages c.reclaim.new.self
     c.reclaim.ensures.kept_ram c.reclaim.ensures.kept_pages c.reclaim.ensures.kept))
@@ -44,11 +43,11 @@ returns g c =
     c.word_of_halves-handle.result c.word_of_halves-handle.ensures
     (g.M.PhysMem.ram c.reclaim.new.ram) c.reclaim.new.pages c.reclaim.new.self c.reclaim.result c.reclaim.ensures.refusal
     c.reclaim.ensures.kept c.reclaim.ensures.kept_pages c.reclaim.ensures.kept_ram
-    c.reclaim.ensures.slot c.reclaim.ensures.offers c.reclaim.ensures.ram c.reclaim.ensures.pages c.reclaim.ensures.changed)
+    c.reclaim.ensures.slot c.reclaim.ensures.open_transactions c.reclaim.ensures.ram c.reclaim.ensures.pages c.reclaim.ensures.changed)
     c.returned.ensures.changed
     (reclaim-changes x c.self.invariant c.runner-runner.result.0 c.runner-runner.ensures.runner c.args.low c.args.high c.args.flags
     c.word_of_halves-handle.result c.word_of_halves-handle.ensures
     (g.M.PhysMem.ram c.reclaim.new.ram) c.reclaim.new.pages c.reclaim.new.self c.reclaim.result c.reclaim.ensures.refusal
     c.reclaim.ensures.kept c.reclaim.ensures.kept_pages c.reclaim.ensures.kept_ram
-    c.reclaim.ensures.slot c.reclaim.ensures.offers c.reclaim.ensures.ram c.reclaim.ensures.pages c.reclaim.ensures.changed)
+    c.reclaim.ensures.slot c.reclaim.ensures.open_transactions c.reclaim.ensures.ram c.reclaim.ensures.pages c.reclaim.ensures.changed)
     c.returned.ensures.unchanged

@@ -9,12 +9,12 @@ use Rattle.ffa_memshare.specs.declared.changed.Sent.{Sent}
 use Rattle.ffa_spmc.specs.Meaning.{Parts, state_of}
 use Rattle.ffa_spmc.specs.Managed.{Managed}
 use Rattle.ffa_spmc.proofs.Fills.{caller-is}
-use Rattle.ffa_spmc.proofs.Replied.{answered-with, kept-memory, refused-told}
+use Rattle.ffa_spmc.proofs.Replied.{told-with, kept-memory, refused-told}
 use Rattle.ffa_model.specs.State.{State}
 use Rattle.ffa_model.specs.MemorySend.{handle_reply}
 use Rattle.ffa_spmc.proofs.Inside.{parts_of}
 use Rattle.ffa_spmc.proofs.Offers.{offer-endpoints, offer-changes, offer-machine, offer-served, offer-unowned}
-use Rattle.ffa_spmc.proofs.manager.Manager.offer.Goals as goal
+use Rattle.ffa_spmc.proofs.manager.Manager.offered.Goals as goal
 
 pub send-requires-clause-caller : goal.send-requires-clause-caller
 send-requires-clause-caller g c =
@@ -37,7 +37,7 @@ pub returns : goal.returns
 returns g c =
     let x = parts_of g.M.PhysMem.ram c.self.inside in
     let y : Parts = record x { ram = g.M.PhysMem.ram c.send.new.ram; kept = record x.kept { pages = c.send.new.pages; pool = c.send.new.self } } in
-    answered-with x y c.args.self.now c.self.view_is (λ (s : State). memory_send s c.args.kind c.args.transfer) c.sent.result (option_map (λ (sent : Sent). sent.changed) (result_ok c.send.result))
+    told-with x y c.args.self.now c.self.view_is (λ (s : State). memory_send s c.args.kind c.args.transfer) c.sent.result (option_map (λ (sent : Sent). sent.changed) (result_ok c.send.result))
     (ap (λ (reply : Reply). replied (state_of y) reply) c.sent.ensures.reply
     ∙ offer-served x c.self.invariant c.runner-runner.result.0 c.runner-runner.ensures.runner c.args.kind (record { transfer = c.args.transfer; version = c.version-version.result }) (c.version-version.ensures ∙ sym (ap (λ (seen : Managed). version_of seen.state seen.state.runner) c.self.view_is))
     (g.M.PhysMem.ram c.send.new.ram) c.send.new.pages c.send.new.self

@@ -9,14 +9,14 @@ use Rattle.ffa_memshare.specs.declared.changed.Retrieved.{Retrieved as Taken}
 use Rattle.ffa_spmc.specs.Meaning.{Parts, state_of}
 use Rattle.ffa_spmc.specs.Managed.{Managed}
 use Rattle.ffa_spmc.proofs.Fills.{caller-is}
-use Rattle.ffa_spmc.proofs.Replied.{answered-with, kept-buffers, refused-told}
+use Rattle.ffa_spmc.proofs.Replied.{told-with, kept-buffers, refused-told}
 use Rattle.ffa_model.specs.State.{State}
 use Rattle.ffa_memshare.specs.declared.descriptor_call.DescriptorCall.{DescriptorCall}
 use Rattle.ffa_model.specs.declared.call.Reply.TheVariants.{Retrieved}
 use Rattle.ffa_spmc.proofs.Inside.{parts_of}
 use Rattle.ffa_spmc.proofs.Pools.{pool-shared}
 use Rattle.ffa_spmc.proofs.Retrieves.{retrieve-changes, retrieve-machine, retrieve-served, retrieve-unowned}
-use Rattle.ffa_spmc.proofs.manager.Manager.retrieve.Goals as goal
+use Rattle.ffa_spmc.proofs.manager.Manager.retrieved.Goals as goal
 
 pub retrieve-requires-clause-shared : goal.retrieve-requires-clause-shared
 retrieve-requires-clause-shared g c =
@@ -42,7 +42,7 @@ returns g c =
     let x = parts_of g.M.PhysMem.ram c.self.inside in
     let its : DescriptorCall = record { transfer = c.args.transfer; version = c.version-version.result } in
     let y : Parts = record x { ram = g.M.PhysMem.ram c.retrieve.new.ram; kept = record x.kept { pages = c.retrieve.new.pages; pool = c.retrieve.new.self; buffers = c.retrieve.new.buffers } } in
-    answered-with x y c.args.self.now c.self.view_is (λ (s : State). memory_retrieve s c.args.transfer) c.retrieved.result (option_map (λ (taken : Taken). taken.changed) (result_ok c.retrieve.result))
+    told-with x y c.args.self.now c.self.view_is (λ (s : State). memory_retrieve s c.args.transfer) c.retrieved.result (option_map (λ (taken : Taken). taken.changed) (result_ok c.retrieve.result))
     (ap (λ (reply : Reply). replied (state_of y) reply) c.retrieved.ensures.reply
     ∙ retrieve-served x c.self.invariant c.runner-runner.result c.runner-runner.ensures.runner its (c.version-version.ensures ∙ sym (ap (λ (seen : Managed). version_of seen.state seen.state.runner) c.self.view_is))
     (g.M.PhysMem.ram c.retrieve.new.ram) c.retrieve.new.pages c.retrieve.new.self c.retrieve.new.buffers

@@ -4,15 +4,14 @@ use Rattle.ffa_model.specs.declared.call.Reply.{Reply}
 use Rattle.ffa_model.specs.Calls.{replied}
 use Rattle.ffa_model.specs.MemoryReturn.{memory_relinquish}
 use Rattle.ffa_spmc.specs.Meaning.{Parts, state_of}
-use Rattle.ffa_spmc.specs.Managed.{Managed}
 use Rattle.ffa_spmc.proofs.Fills.{caller-is}
 use Rattle.ffa_spmc.proofs.Answered.{refused-both}
-use Rattle.ffa_spmc.proofs.Replied.{answered-with, refused-done}
+use Rattle.ffa_spmc.proofs.Replied.{told-with, refused-done}
 use Rattle.ffa_model.specs.State.{State}
 use Rattle.ffa_spmc.proofs.Inside.{parts_of}
 use Rattle.ffa_spmc.proofs.Pools.{pool-shared}
 use Rattle.ffa_spmc.proofs.Relinquishes.{relinquish-changes, relinquish-machine, relinquish-served, relinquish-unowned}
-use Rattle.ffa_spmc.proofs.manager.Manager.relinquish.Goals as goal
+use Rattle.ffa_spmc.proofs.manager.Manager.relinquished.Goals as goal
 
 pub relinquish-requires-clause-shared : goal.relinquish-requires-clause-shared
 relinquish-requires-clause-shared g c =
@@ -34,7 +33,7 @@ pub returns : goal.returns
 returns g c =
     let x = parts_of g.M.PhysMem.ram c.self.inside in
     let y : Parts = record x { ram = g.M.PhysMem.ram c.relinquish.new.ram; kept = record x.kept { pool = c.relinquish.new.self } } in
-    answered-with x y c.args.self.now c.self.view_is (λ (s : State). memory_relinquish s) c.returned.result (result_ok c.relinquish.result)
+    told-with x y c.args.self.now c.self.view_is (λ (s : State). memory_relinquish s) c.returned.result (result_ok c.relinquish.result)
     (ap (λ (reply : Reply). replied (state_of y) reply) c.returned.ensures.reply
     ∙ relinquish-served x c.self.invariant c.runner-runner.result.0 c.runner-runner.ensures.runner (g.M.PhysMem.ram c.relinquish.new.ram) c.relinquish.new.self
     c.relinquish.result c.relinquish.ensures.refusal c.relinquish.ensures.kept c.relinquish.ensures.kept_ram c.relinquish.ensures.done)

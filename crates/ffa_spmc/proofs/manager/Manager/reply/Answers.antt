@@ -1,0 +1,51 @@
+use Rattle.std.proofs.Common.{refl}
+use Rattle.ffa_spmc.proofs.Replied.{answered-beside}
+use Rattle.ffa_spmc.proofs.manager.Manager.reply.Goals as goal
+
+pub returns-in-RxRelease : goal.returns-in-RxRelease
+returns-in-RxRelease g c = answered-beside c.args.self.now _ _ _ _ c.release.result c.in-RxRelease.is refl c.release.ensures
+
+pub returns-in-RxtxMap : goal.returns-in-RxtxMap
+returns-in-RxtxMap g c = answered-beside c.args.self.now _ _ _ _ c.map.result c.in-RxtxMap.is refl c.map.ensures
+
+pub returns-in-RxtxUnmap : goal.returns-in-RxtxUnmap
+returns-in-RxtxUnmap g c = answered-beside c.args.self.now _ _ _ _ c.unmap.result c.in-RxtxUnmap.is refl c.unmap.ensures
+
+pub returns-in-PartitionInfoGet : goal.returns-in-PartitionInfoGet
+returns-in-PartitionInfoGet g c = answered-beside c.args.self.now _ _ _ _ c.partition_info.result c.in-PartitionInfoGet.is refl c.partition_info.ensures
+
+pub returns-in-MsgWait : goal.returns-in-MsgWait
+returns-in-MsgWait g c = answered-beside c.args.self.now _ _ _ _ c.wait.result c.in-MsgWait.is refl c.wait.ensures
+
+pub returns-in-Yield : goal.returns-in-Yield
+returns-in-Yield g c = answered-beside c.args.self.now _ _ _ _ c.yield_now.result c.in-Yield.is refl c.yield_now.ensures
+
+pub returns-in-Run : goal.returns-in-Run
+returns-in-Run g c = answered-beside c.args.self.now _ _ _ _ c.run_partition.result c.in-Run.is refl c.run_partition.ensures
+
+pub returns-in-DirectRequest : goal.returns-in-DirectRequest
+returns-in-DirectRequest g c = answered-beside c.args.self.now _ _ _ _ c.request.result c.in-DirectRequest.is refl c.request.ensures
+
+pub returns-in-DirectResponse : goal.returns-in-DirectResponse
+returns-in-DirectResponse g c = answered-beside c.args.self.now _ _ _ _ c.respond.result c.in-DirectResponse.is refl c.respond.ensures
+
+pub returns-in-MsgSend2 : goal.returns-in-MsgSend2
+returns-in-MsgSend2 g c = answered-beside c.args.self.now _ _ _ _ c.send.result c.in-MsgSend2.is refl c.send.ensures
+
+pub returns-in-BitmapCreate : goal.returns-in-BitmapCreate
+returns-in-BitmapCreate g c = answered-beside c.args.self.now _ _ _ _ c.create_bitmaps.result c.in-BitmapCreate.is refl c.create_bitmaps.ensures
+
+pub returns-in-BitmapDestroy : goal.returns-in-BitmapDestroy
+returns-in-BitmapDestroy g c = answered-beside c.args.self.now _ _ _ _ c.destroy_bitmaps.result c.in-BitmapDestroy.is refl c.destroy_bitmaps.ensures
+
+pub returns-in-NotificationBind : goal.returns-in-NotificationBind
+returns-in-NotificationBind g c = answered-beside c.args.self.now _ _ _ _ c.bind.result c.in-NotificationBind.is refl c.bind.ensures
+
+pub returns-in-NotificationUnbind : goal.returns-in-NotificationUnbind
+returns-in-NotificationUnbind g c = answered-beside c.args.self.now _ _ _ _ c.unbind.result c.in-NotificationUnbind.is refl c.unbind.ensures
+
+pub returns-in-NotificationSet : goal.returns-in-NotificationSet
+returns-in-NotificationSet g c = answered-beside c.args.self.now _ _ _ _ c.set.result c.in-NotificationSet.is refl c.set.ensures
+
+pub returns-in-NotificationGet : goal.returns-in-NotificationGet
+returns-in-NotificationGet g c = answered-beside c.args.self.now _ _ _ _ c.get.result c.in-NotificationGet.is refl c.get.ensures

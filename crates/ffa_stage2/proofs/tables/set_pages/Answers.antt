@@ -1,0 +1,82 @@
+use Rattle.std.proofs.Common.{◌≡◌, ◌+◌, ◌*◌, ◌/◌, ◌%◌, ◌-◌, ◌<◌, arith, subst}
+use Rattle.arrayvec.specs.ArrayVec.{array_vec_len}
+use Rattle.ffa_stage2.specs.Tables.{IsBuilt, rights_of_block, with_pages}
+use Rattle.ffa_stage2.proofs.Rights.{built-same, with_pages-none}
+use Rattle.ffa_stage2.proofs.Changes.{place-of, maps-of, others-beside, blocks-built}
+use Rattle.ffa_stage2.proofs.RunChanges.{KeepsOthers-same, KeepsOthers-then, runs-built, runs-walk}
+use Rattle.ffa_stage2.proofs.tables.set_pages.Goals as goal
+
+pub loop-next-init : goal.loop-next-init
+loop-next-init g c =
+    let l = c.args.layout.now in
+    record {
+      from = omega arith;
+      upto = omega arith;
+      built = λ access h. built-same (g.M.PhysMem.ram c.args.memory.now) (array_vec_len l.regions) l.blocks access _ h (λ e p _ _. with_pages-none access c.args.index c.args.first.0 c.args.right e p);
+      others = KeepsOthers-same _ _ _;
+    }
+
+pub of-place-requires-clause-fits : goal.of-place-requires-clause-fits
+of-place-requires-clause-fits g c =
+    let (access, built) = c.requires.built in
+    (c.loop-next.invariant.built access built).fits
+
+pub change-requires-clause-place : goal.change-requires-clause-place
+change-requires-clause-place g c =
+    let (access, built) = c.requires.built in
+    let now = c.loop-next.invariant.built access built in
+    let index = c.args.index in
+    place-of (g.M.PhysMem.ram c.loop-next.memory) _ _ index (c.loop-next.next / 512) _ now.fits (λ s hs. now.whole index s c.requires.index hs)
+    c.requires.index (omega (arith, c.requires.pages, c.loop-next-test.true)) c.of-place.ensures
+
+pub change-requires-clause-mapped : goal.change-requires-clause-mapped
+change-requires-clause-mapped g c =
+    let (access, built) = c.requires.built in
+    let now = c.loop-next.invariant.built access built in
+    let k = c.loop-next.next / 512 in
+    let rights = with_pages access c.args.index c.args.first.0 c.loop-next.next c.args.right c.args.index in (
+      rights_of_block rights k,
+      maps-of (g.M.PhysMem.ram c.loop-next.memory) _ c.args.index k _ rights c.of-place.ensures
+          (now.each c.args.index k c.requires.index (omega (arith, c.requires.pages, c.loop-next-test.true))),
+    )
+
+pub loop-next-preserved : goal.loop-next-preserved
+loop-next-preserved g c =
+    let i = c.loop-next.invariant in
+    let k = c.loop-next.next / 512 in
+    let hk : k < c.args.layout.now.blocks = omega (arith, c.requires.pages, c.loop-next-test.true) in
+    record {
+      from = omega (arith, i.from, c.min-to.ensures, c.loop-next-test.true);
+      upto = omega (arith, c.min-to.ensures);
+      built = λ access h.
+          runs-built (g.M.PhysMem.ram c.loop-next.memory) (g.M.PhysMem.ram c.change.new.memory) _ _ c.args.index c.args.first.0 c.loop-next.next c.min-to.result k
+          (c.loop-next.next % 512) (c.min-to.result - 512 * k) access c.args.right _ (i.built access h) c.requires.index hk c.of-place.ensures c.change.ensures.beside
+          i.from (omega (arith, c.min-to.ensures, c.loop-next-test.true)) (omega arith) (omega (arith, c.min-to.ensures, c.loop-next-test.true)) (omega (arith, c.min-to.ensures))
+          c.change.ensures.mapped;
+      others = KeepsOthers-then _ _ _ _ _ i.others (others-beside (g.M.PhysMem.ram c.loop-next.memory) (g.M.PhysMem.ram c.change.new.memory) _ c.args.index k _ hk c.of-place.ensures c.change.ensures.beside);
+    }
+
+pub returns-clause-built : goal.returns-clause-built
+returns-clause-built g c access h =
+    let i = c.loop-next.invariant in
+    let l = c.args.layout.now in
+    let all : c.loop-next.next ≡ c.args.first.0 + c.args.count = omega (arith, i.upto, c.loop-next-test.false) in
+    subst (λ n. IsBuilt (g.M.PhysMem.ram c.loop-next.memory) (array_vec_len l.regions) l.blocks (with_pages access c.args.index c.args.first.0 n c.args.right)) all (i.built access h)
+
+pub returns-clause-walks : goal.returns-clause-walks
+returns-clause-walks g c =
+    let (access, built) = c.requires.built in
+    let i = c.loop-next.invariant in
+    let l = c.args.layout.now in
+    let all : c.loop-next.next ≡ c.args.first.0 + c.args.count = omega (arith, i.upto, c.loop-next-test.false) in
+    runs-walk (g.M.PhysMem.ram c.args.memory.now) (g.M.PhysMem.ram c.loop-next.memory) (array_vec_len l.regions) l.blocks access c.args.index c.args.first.0 _ c.args.right built
+    (subst (λ n. IsBuilt (g.M.PhysMem.ram c.loop-next.memory) (array_vec_len l.regions) l.blocks (with_pages access c.args.index c.args.first.0 n c.args.right)) all (i.built access built))
+    c.requires.pages i.others.base i.others.size
+
+pub returns-clause-blocks : goal.returns-clause-blocks
+returns-clause-blocks g c access h =
+    let i = c.loop-next.invariant in
+    let l = c.args.layout.now in
+    let all : c.loop-next.next ≡ c.args.first.0 + c.args.count = omega (arith, i.upto, c.loop-next-test.false) in
+    blocks-built (g.M.PhysMem.ram c.loop-next.memory) _ _ _
+    (subst (λ n. IsBuilt (g.M.PhysMem.ram c.loop-next.memory) (array_vec_len l.regions) l.blocks (with_pages access c.args.index c.args.first.0 n c.args.right)) all (i.built access h))

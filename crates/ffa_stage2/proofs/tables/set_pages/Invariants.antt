@@ -1,0 +1,20 @@
+use Rattle.std.proofs.Common.{ℕ, ◌-◌, ◌≤◌, Option}
+use Rattle.ffa_model.specs.declared.rights.Rights.{Rights}
+use Rattle.arrayvec.specs.ArrayVec.{array_vec_len}
+use Rattle.ffa_stage2.specs.Tables.{IsBuilt, KeepsOthers, with_pages}
+use Rattle.ffa_stage2.proofs.tables.set_pages.Given as goal
+
+-- the pages so far
+abbrev pub invariant-loop-next : goal.invariant-loop-next
+invariant-loop-next g l = record {
+  from : l.fn.first.0 ≤ l.next;
+  upto : l.next ≤ l.end;
+  built : (access : ℕ → ℕ → Option Rights)
+      → IsBuilt (g.M.PhysMem.ram l.fn.memory) (array_vec_len l.layout.regions) l.layout.blocks access
+      → IsBuilt (g.M.PhysMem.ram l.memory) (array_vec_len l.layout.regions) l.layout.blocks (with_pages access l.index l.fn.first.0 l.next l.right);
+  others : KeepsOthers (g.M.PhysMem.ram l.fn.memory) (g.M.PhysMem.ram l.memory) l.layout.blocks l.index;
+}
+
+-- the pages that are left
+abbrev pub decreases-loop-next : goal.decreases-loop-next
+decreases-loop-next g l = l.end - l.next
