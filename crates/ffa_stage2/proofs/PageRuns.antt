@@ -1,78 +1,65 @@
 -- Runs of pages of one block: the words that are written for them, and the rights that they get.
-use Rattle.std.proofs.Common.{◌≡◌, ◌≢◌, ◌∙◌, ℕ, ◌+◌, ◌*◌, ◌%◌, ◌^◌, ◌<◌, ◌≤◌, true, false, refl, ap, sym, arith, List, [], length, Option, Some, None, inl, inr, ◌⊎◌, ◌↔◌, mul-le-mul_right}
+use Rattle.std.proofs.Common.{◌≡◌, ◌∙◌, ℕ, ◌+◌, ◌*◌, ◌%◌, ◌^◌, ◌<◌, ◌≤◌, true, false, refl, ap, sym, arith, List, length, Option, Some, None, inl, inr, ◌⊎◌, ◌↔◌, mul-le-mul_right}
 use Rattle.std.specs.Prelude.{◌&&◌, nat_le, nat_lt, is_some, if◌then◌else◌}
 use Rattle.std.proofs.lemmas.Bool.{cases_eq, cases_lt, false≢true}
-use Rattle.std.proofs.lemmas.List.{get_or-set_other, get_or-set_same, length-set}
 use Rattle.std.proofs.lemmas.Bool.Decides.{nat_tests}
-use Rattle.ffa_model.specs.Ram.{Ram, page_of, with_page, word_of, with_word}
+use Rattle.ffa_model.specs.Ram.{Ram, page_of, word_of}
 use Rattle.ffa_model.specs.Descriptor.{page_word}
 use Rattle.ffa_model.specs.declared.rights.Rights.{Rights}
-use Rattle.ffa_physmem.proofs.Words.{word_of-with_word_same, word_of-with_word_other, length-with_word}
 use Rattle.ffa_stage2.specs.declared.blocks.Place.{Place}
 use Rattle.ffa_stage2.specs.Blocks.{IsOne, IsBlock, IsMixed}
-use Rattle.ffa_stage2.specs.Places.{IsFilled, IsPlace, IsRunWritten, KeepsBeside, Maps, Names, with_run, word_at}
+use Rattle.ffa_stage2.specs.Places.{IsFilled, IsPlace, KeepsBeside, Maps, Names, with_run, word_at}
 use Rattle.ffa_stage2.proofs.Descriptors.{block_word-fits, same_right}
 use Rattle.ffa_stage2.proofs.OneBlock.{IsWritten, IsPlace-kept, KeepsBeside-of_table, KeepsBeside-then, IsMapped-rights, block-first, block-page, block-word}
 
--- ---- words of one page
+-- ---- words of one page of RAM
 
-pub IsRunWritten-none : (page : List ℕ) (from first step : ℕ) → length page ≡ 4096 → IsRunWritten page page from from first step
-IsRunWritten-none page from first step whole = record {
+pub IsFilled-none : (ram : Ram) (page from : ℕ) (word : ℕ → ℕ) → length (page_of ram page) ≡ 4096 → IsFilled ram ram page from from word
+IsFilled-none ram page from word whole = record {
+  base = refl;
+  size = refl;
+  pages = λ p _. refl;
   whole = whole;
   here = λ j low high. absurd (omega (arith, low, high));
   beside = λ j _. refl;
 }
 
--- one more word, which was written or stood there
-pub IsRunWritten-next : (old middle new : List ℕ) (from to first step : ℕ) → from ≤ to → IsRunWritten old middle from to first step
-    → length new ≡ 4096 → word_of new to ≡ first + step * to → ((j : ℕ) → j ≢ to → word_of new j ≡ word_of middle j)
-    → IsRunWritten old new from (to + 1) first step
-IsRunWritten-next old middle new from to first step le before whole last others = record {
-  whole = whole;
+-- one more word
+pub IsFilled-next : (old middle new : Ram) (page from to : ℕ) (word : ℕ → ℕ) → from ≤ to → IsFilled old middle page from to word
+    → IsWritten middle new page to (word to) → IsFilled old new page from (to + 1) word
+IsFilled-next old middle new page from to word le before write = record {
+  base = write.base ∙ before.base;
+  size = write.size ∙ before.size;
+  pages = λ p other. write.pages p other ∙ before.pages p other;
+  whole = write.whole;
   here = λ j low high. elim (cases_eq j to) [
-    | inl at ↦ ap (word_of new) at ∙ last ∙ ap (λ (i : ℕ). first + step * i) (sym at)
-    | inr other ↦ others j other ∙ before.here j low (omega (arith, high, other))
+    | inl at ↦ ap (word_of (page_of new page)) at ∙ write.here ∙ ap word (sym at)
+    | inr other ↦ write.words j other ∙ before.here j low (omega (arith, high, other))
   ];
   beside = λ j off. elim off [
     | inl low ↦ elim (cases_eq j to) [
       | inl at ↦ absurd (omega (arith, low, le, at))
-      | inr other ↦ others j other ∙ before.beside j (inl low)
+      | inr other ↦ write.words j other ∙ before.beside j (inl low)
     ]
-    | inr high ↦ others j (λ at. absurd (omega (arith, high, at))) ∙ before.beside j (inr (omega (arith, high)))
+    | inr high ↦ write.words j (λ at. absurd (omega (arith, high, at))) ∙ before.beside j (inr (omega (arith, high)))
   ];
 }
 
-pub IsRunWritten-put : (old middle : List ℕ) (from to first step value : ℕ) → to < 512 → from ≤ to → IsRunWritten old middle from to first step
-    → value ≡ first + step * to → value < 2 ^ 64 → IsRunWritten old (with_word middle to value) from (to + 1) first step
-IsRunWritten-put old middle from to first step value lt le before is fits =
-    IsRunWritten-next old middle (with_word middle to value) from to first step le before
-    (length-with_word middle to value (omega (arith, before.whole)) ∙ before.whole)
-    (word_of-with_word_same middle to value (omega (arith, before.whole)) fits ∙ is)
-    (λ j other. word_of-with_word_other middle to j value (omega (arith, before.whole)) (λ same. other (sym same)))
-
-pub IsRunWritten-there : (old middle : List ℕ) (from to first step : ℕ) → from ≤ to → IsRunWritten old middle from to first step
-    → word_of middle to ≡ first + step * to → IsRunWritten old middle from (to + 1) first step
-IsRunWritten-there old middle from to first step le before is = IsRunWritten-next old middle middle from to first step le before before.whole is (λ j _. refl)
+-- the same words, told in another way
+pub IsFilled-same : (old new : Ram) (page from to : ℕ) (word other : ℕ → ℕ) → to ≤ 512 → IsFilled old new page from to word
+    → ((j : ℕ) → j < 512 → word j ≡ other j) → IsFilled old new page from to other
+IsFilled-same old new page from to word other few f words = record {
+  base = f.base;
+  size = f.size;
+  pages = f.pages;
+  whole = f.whole;
+  here = λ j low high. f.here j low high ∙ words j (omega (arith, high, few));
+  beside = f.beside;
+}
 
 -- a word of a run fits
 pub run-fits : (first step to : ℕ) → step ≤ 4096 → to < 512 → first + 0x200000 ≤ 2 ^ 64 → first + step * to < 2 ^ 64
 run-fits first step to few lt fits = omega (arith, mul-le-mul_right to few)
-
--- ---- words of one page of RAM
-
-pub IsFilled-of : (old new : Ram) (page from to first step : ℕ) (word : ℕ → ℕ) (start bytes : List ℕ) → page < length old.pages → to ≤ 512
-    → new ≡ with_page old page bytes → start ≡ page_of old page → IsRunWritten start bytes from to first step
-    → ((j : ℕ) → j < 512 → first + step * j ≡ word j) → IsFilled old new page from to word
-IsFilled-of old new page from to first step word start bytes below few is begins run words =
-    let now : page_of (with_page old page bytes) page ≡ bytes = get_or-set_same old.pages page bytes [] below in
-    rw is (record {
-      base = refl;
-      size = length-set old.pages page bytes;
-      pages = λ p other. get_or-set_other old.pages page p bytes [] other;
-      whole = ap length now ∙ run.whole;
-      here = λ j low high. ap (λ (b : List ℕ). word_of b j) now ∙ run.here j low high ∙ words j (omega (arith, high, few));
-      beside = λ j off. ap (λ (b : List ℕ). word_of b j) now ∙ run.beside j off ∙ ap (λ (b : List ℕ). word_of b j) begins;
-    })
 
 pub KeepsBeside-of_filled : (old new : Ram) (x : Place) (from to : ℕ) (word : ℕ → ℕ) → IsPlace old x → IsFilled old new x.table.0 from to word → KeepsBeside old new x
 KeepsBeside-of_filled old new x from to word place f = KeepsBeside-of_table old new x place f.base f.size f.pages f.whole

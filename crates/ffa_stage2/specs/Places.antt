@@ -18,12 +18,6 @@ pub record IsPlaceOf (ram : Ram) (blocks e k : ℕ) (x : Place) : Type 0 where
 abbrev pub with_run : (ℕ → Option Rights) → ℕ → ℕ → Option Rights → ℕ → Option Rights
 with_run rights from to right j = if nat_le from j && nat_lt j to then right else rights j
 
--- the words of a page from one place up to another became `first + step * j`, and the others are as before
-pub record IsRunWritten (old new : List ℕ) (from to first step : ℕ) : Type 0 where
-  pub whole : length new ≡ 4096
-  pub here : (j : ℕ) → from ≤ j → j < to → word_of new j ≡ first + step * j
-  pub beside : (j : ℕ) → ((j < from) ⊎ (to ≤ j)) → word_of new j ≡ word_of old j
-
 -- the 8 words from place `at` on are `first`, `first` + 4096, and so on, modulo 2^64
 abbrev pub IsRun : List ℕ → ℕ → ℕ → Type 0
 IsRun page at first = (j : ℕ) → j < 8 → word_of page (at + j) ≡ (first + 4096 * j) % 2 ^ 64

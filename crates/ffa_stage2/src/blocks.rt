@@ -10,7 +10,7 @@ ghost use Rattle.ffa_stage2.specs.Tables.{HasRoom};
 ghost use Rattle.ffa_stage2.specs.Places.{IsPlace, IsFilled, Maps, Names, KeepsBeside, with_run, word_at, IsPlaceOf};
 
 use crate::layout::Layout;
-use crate::runs::{spread_run, uniform, write_run};
+use crate::runs::uniform;
 use crate::tables::leaf;
 use ffa_model::{Address, PageNo, Rights};
 use ffa_physmem::PhysMem;
@@ -114,6 +114,21 @@ fn join<M: PhysMem>(memory: &mut M, place: &Place, within: u32, right: Option<Ri
     }
 }
 
+// Writes words of a table one by one, from one place up to another: each is `first` plus `step` times its place.
+fn write_words<M: PhysMem>(memory: &mut M, table: PageNo, from: u32, to: u32, first: u64, step: u64)
+    requires table { table.0 < length (M.ram memory.old).pages }
+    requires whole { length (page_of (M.ram memory.old) table.0) ≡ 4096 }
+    requires from { from ≤ to }
+    requires to { to ≤ 512 }
+    requires step { step ≤ 4096 }
+    requires fits { first + 0x200000 ≤ 2 ^ 64 }
+    ensures { IsFilled (M.ram memory.old) (M.ram memory.new) table.0 from to (λ j. first + step * j) }
+{
+    for place in from..to {
+        memory.write_word(table, place as usize, first + step * u64::from(place));
+    }
+}
+
 // Gives pages of a table the right of the block whose word this is.
 fn keep<M: PhysMem>(memory: &mut M, place: &Place, from: u32, to: u32, word: u64)
     requires place { IsPlace (M.ram memory.old) place.now }
@@ -122,8 +137,7 @@ fn keep<M: PhysMem>(memory: &mut M, place: &Place, from: u32, to: u32, word: u64
     requires word { word + 0x200002 ≤ 2 ^ 64 }
     ensures { IsFilled (M.ram memory.old) (M.ram memory.new) place.now.table.0 from to (λ j. word + 2 + 4096 * j) }
 {
-    let page = memory.page_mut(place.table);
-    spread_run(page, from as usize, to as usize, word + PAGE);
+    write_words(memory, place.table, from, to, word + PAGE, 4096);
 }
 
 // Gives a right to pages of a table.
@@ -133,10 +147,15 @@ fn fill<M: PhysMem>(memory: &mut M, place: &Place, from: u32, to: u32, right: Op
     requires to { to ≤ 512 }
     ensures { IsFilled (M.ram memory.old) (M.ram memory.new) place.now.table.0 from to (λ j. page_word (place.now.address + 4096 * j) right) }
 {
-    let first = leaf(place.address, right);
     let step = if right.is_some() { 4096 } else { 0 };
-    let page = memory.page_mut(place.table);
-    write_run(page, from as usize, to as usize, first, step);
+    write_words(
+        memory,
+        place.table,
+        from,
+        to,
+        leaf(place.address, right),
+        step,
+    );
 }
 
 // Gives a right to all pages of a block by its one word.

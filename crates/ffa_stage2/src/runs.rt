@@ -1,8 +1,7 @@
 //! Words of a page that rise by one page each.
 ghost use Rattle.std.specs.Prelude.{◌≡◌, ℕ, ◌+◌, ◌*◌, ◌/◌, ◌%◌, ◌^◌, ◌<◌, ◌≤◌, ◌↔◌, IsTrue, length};
-ghost use Rattle.ffa_model.specs.Ram.{word_of, with_word};
 ghost use Rattle.ffa_stage2.specs.Blocks.{IsUniform};
-ghost use Rattle.ffa_stage2.specs.Places.{IsRun, IsRunWritten};
+ghost use Rattle.ffa_stage2.specs.Places.{IsRun};
 
 use byteorder::{ByteOrder, LittleEndian};
 use std::simd::prelude::*;
@@ -35,49 +34,4 @@ pub fn uniform(page: &[u8; 4096]) -> bool
         }
     }
     true
-}
-
-// The word at a place of a page.
-fn word_at(page: &[u8; 4096], place: usize) -> u64
-    requires { place < 512 }
-    ensures { result ≡ word_of page.now place }
-{
-    LittleEndian::read_u64(&page[8 * place..])
-}
-
-// Writes the word at a place of a page.
-fn put_word(page: &mut [u8; 4096], place: usize, word: u64)
-    requires { place < 512 }
-    ensures { page.new ≡ with_word page.old place word }
-{
-    LittleEndian::write_u64(&mut page[8 * place..], word);
-}
-
-/// Writes the words of a page from one place up to another: each is `first` plus 4096 times its place.
-pub(crate) fn spread_run(page: &mut [u8; 4096], from: usize, to: usize, first: u64)
-    requires from { from ≤ to }
-    requires to { to ≤ 512 }
-    requires fits { first + 0x200000 ≤ 2 ^ 64 }
-    ensures { IsRunWritten page.old page.new from to first 4096 }
-{
-    for place in from..to {
-        put_word(page, place, first + 4096 * place as u64);
-    }
-}
-
-/// Writes the words of a page from one place up to another: each is `first` plus `step` times its place. Where such a
-/// word stands already nothing is written.
-pub(crate) fn write_run(page: &mut [u8; 4096], from: usize, to: usize, first: u64, step: u64)
-    requires from { from ≤ to }
-    requires to { to ≤ 512 }
-    requires step { step ≤ 4096 }
-    requires fits { first + 0x200000 ≤ 2 ^ 64 }
-    ensures { IsRunWritten page.old page.new from to first step }
-{
-    for place in from..to {
-        let word = first + step * place as u64;
-        if word_at(page, place) != word {
-            put_word(page, place, word);
-        }
-    }
 }
