@@ -55,10 +55,12 @@ fn common_with(pages: &PageTable, base: Address, range: &Range, before: Common) 
 {
     // Proof step: the number of pages is 2^14 at most.
     let _ = pages.pages();
-    let first = first_page(base, range);
+    let mut next = first_page(base, range);
+    let end = next + range.pages;
     let mut common = before;
-    for page in first..first + range.pages {
-        common = common.and(pages.own_right_of(PageNo(page)));
+    while next < end {
+        common = common.and(pages.own_right_of(PageNo(next)));
+        next = pages.alike_until(PageNo(next), end);
     }
     common
 }

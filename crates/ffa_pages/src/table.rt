@@ -1,5 +1,5 @@
 //! The owners of pages.
-ghost use Rattle.std.specs.Prelude.{◌≡◌, ◌≢◌, ◌*◌, ◌<◌, ◌≤◌, [], length};
+ghost use Rattle.std.specs.Prelude.{◌≡◌, ◌≢◌, ℕ, ◌*◌, ◌<◌, ◌≤◌, [], length};
 ghost use Rattle.ffa_model.specs.Identifiers.{manager};
 ghost use Rattle.ffa_model.specs.Lists.{listed};
 ghost use Rattle.ffa_pages.specs.Entry.{entry_at, owner_at, own_right_at, slot_at, given, marked, first_entry};
@@ -15,7 +15,7 @@ const MOST_PAGES: usize = 16384;
 
 // The right of a page's owner while the page stands in no open transaction, and the place in the pool of the open
 // transaction that names the page. One enum has both in two bytes: as two fields they take four.
-#[derive(Clone, Copy, Default)]
+#[derive(Clone, Copy, Default, PartialEq, Eq)]
 enum Standing {
     #[default]
     Read,
@@ -73,7 +73,7 @@ impl Standing {
 
 // What is kept of a page, in four bytes. Of a page of the manager, which `EndpointId::MANAGER` owns, the standing says
 // nothing.
-#[derive(Clone, Copy, Default)]
+#[derive(Clone, Copy, Default, PartialEq, Eq)]
 struct KeptPage {
     owner: EndpointId,
     standing: Standing,
@@ -176,6 +176,24 @@ impl PageTable {
         ensures { result ≡ slot_at self.now page.0 }
     {
         self.kept(page).owned().and_then(|standing| standing.slot())
+    }
+
+    /// Up to which page, at most an end, all pages from one on are alike: of one owner, with one own right, and named by one
+    /// open transaction or by none.
+    pub fn alike_until(&self, first: PageNo, end: u32) -> u32
+        requires some { first.0 < end }
+        requires end { end ≤ length self.now }
+        ensures some { first.0 < result }
+        ensures end { result ≤ end }
+        ensures alike { (p : ℕ) → first.0 ≤ p → p < result → entry_at self.now p ≡ entry_at self.now first.0 }
+    {
+        let kept = self.kept(first);
+        for page in first.0 + 1..end {
+            if self.kept(PageNo(page)) != kept {
+                return page;
+            }
+        }
+        end
     }
 
     /// Gives a page to an endpoint, with this right. A transaction that names the page goes on naming it.

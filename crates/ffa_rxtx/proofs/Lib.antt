@@ -1,2 +1,3 @@
+pub mod PagesMet
 pub mod Refusals
 pub mod Runs

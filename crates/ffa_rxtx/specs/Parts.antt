@@ -1,5 +1,5 @@
 -- What the checks of a mapping read, and the bytes of TX and RX, over the parts of the machine.
-use Rattle.std.specs.Prelude.{ℕ, zero, suc, ◌+◌, ◌≤◌, Bool, ◌&&◌, List, [], length, take, drop, is_some, Option, None, Some}
+use Rattle.std.specs.Prelude.{ℕ, zero, suc, ◌+◌, ◌≤◌, Bool, false, ◌&&◌, ◌||◌, nat_lt, List, [], length, take, drop, is_some, Option, None, Some}
 use Rattle.std.specs.List.{flat_map}
 use Rattle.std.specs.Option.{option_map, option_map_or}
 use Rattle.ffa_model.specs.Lists.{run}
@@ -43,3 +43,12 @@ pub record IsInRam (pages : ℕ) (b : Buffers) : Type 0 where
   pub some : 1 ≤ b.pages
   pub tx : b.tx + b.pages ≤ pages
   pub rx : b.rx + b.pages ≤ pages
+
+-- whether n pages from a first one on have one from another up to an end: there are pages of both, and each begin before
+-- the others end
+abbrev pub is_run_met : ℕ → ℕ → ℕ → ℕ → Bool
+is_run_met first end run n = nat_lt 0 n && (nat_lt first end && (nat_lt run end && nat_lt first (run + n)))
+
+-- whether TX or RX has
+abbrev pub are_met : ℕ → ℕ → Option Buffers → Bool
+are_met first end own = option_map_or (λ (b : Buffers). is_run_met first end b.tx b.pages || is_run_met first end b.rx b.pages) own false

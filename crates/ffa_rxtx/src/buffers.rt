@@ -1,16 +1,16 @@
 //! Who has mapped buffers, and which.
-ghost use Rattle.std.specs.Prelude.{◌≡◌, ◌+◌, ◌*◌, ◌||◌, ◌<◌, ◌≤◌, length, replicate, is_some, if◌then◌else◌, true, false, OnOk, OnErr, IfOk, IsSomeAnd};
+ghost use Rattle.std.specs.Prelude.{◌≡◌, ℕ, ◌+◌, ◌*◌, ◌<◌, ◌≤◌, ◌↔◌, IsTrue, length, replicate, is_some, if◌then◌else◌, true, false, OnOk, OnErr, IfOk, IsSomeAnd};
 ghost use Rattle.std.specs.Option.{option_map, option_map_or};
 ghost use Rattle.std.specs.Result.{result_err};
 ghost use Rattle.std.specs.List.{list_all};
 ghost use Rattle.ffa_model.specs.declared.limits.TheConstants.{MOST_BUFFER_PAGES, MOST_ENDPOINTS};
-ghost use Rattle.ffa_model.specs.Lists.{is_in_run, run};
+ghost use Rattle.ffa_model.specs.Lists.{run};
 ghost use Rattle.ffa_model.specs.Buffers.{are_runs_apart, buffers_in, buffers_with, buffers_with_rx, is_full, is_run_address, is_usable, map_guards, new_buffers, page_number, release_guards, unmap_guards};
 ghost use Rattle.ffa_model.specs.Calls.{first_failure};
 ghost use Rattle.ffa_model.specs.Identifiers.{place};
 ghost use Rattle.ffa_model.specs.MemorySend.{is_buffer};
 ghost use Rattle.ffa_model.specs.State.{Buffers as Own, is_known_among};
-ghost use Rattle.ffa_rxtx.specs.Parts.{IsInRam, are_two_runs, candidate_in, candidates_in, with_rx_bytes};
+ghost use Rattle.ffa_rxtx.specs.Parts.{IsInRam, are_met, is_run_met, are_two_runs, candidate_in, candidates_in, with_rx_bytes};
 ghost use Rattle.ffa_rxtx.specs.Stored.{buffers_of};
 
 use arrayvec::ArrayVec;
@@ -101,14 +101,14 @@ impl Buffers {
         }
     }
 
-    /// Whether somebody has a buffer in a page.
-    pub fn is_buffer(&self, page: PageNo) -> bool
-        ensures { result ≡ is_buffer self.now page.0 }
+    /// Whether somebody has a buffer in a page from one up to another.
+    pub fn is_any_buffer(&self, first: PageNo, end: u32) -> bool
+        ensures { IsTrue result ↔ (p : ℕ) × (first.0 ≤ p) × (p < end) × (is_buffer self.now p ≡ true) }
     {
         self.entries
             .as_slice()
             .iter()
-            .any(|entry| has_page(*entry, page))
+            .any(|entry| are_met(*entry, first, end))
     }
 
     /// FFA_RXTX_MAP of an endpoint, in the RAM of this table from `ram_base` on: TX and RX are as many pages as the caller
@@ -258,22 +258,23 @@ impl Buffers {
     }
 }
 
-// Whether buffers, if there are any, stand in a page.
-fn has_page(buffers: Option<Mapped>, page: PageNo) -> bool
-    ensures { result ≡ option_map_or (λ (x : Own). is_in_run x.tx x.pages page.0 || is_in_run x.rx x.pages page.0) (option_map buffers_of buffers) false }
+// Whether buffers, if there are any, stand in a page from one up to another.
+fn are_met(buffers: Option<Mapped>, first: PageNo, end: u32) -> bool
+    ensures { result ≡ are_met first.0 end (option_map buffers_of buffers) }
 {
     match buffers {
-        Some(mapped) => is_in_run(mapped.tx, mapped.pages, page)
-            || is_in_run(mapped.rx, mapped.pages, page),
+        Some(mapped) => is_run_met(mapped.tx, mapped.pages, first, end)
+            || is_run_met(mapped.rx, mapped.pages, first, end),
         None => false,
     }
 }
 
-// Whether a page is one of this many from the first on.
-fn is_in_run(first: PageNo, pages: u32, page: PageNo) -> bool
-    ensures { result ≡ is_in_run first.0 pages page.0 }
+// Whether this many pages from a first one on have one from another up to an end.
+fn is_run_met(run: PageNo, pages: u32, first: PageNo, end: u32) -> bool
+    ensures { result ≡ is_run_met first.0 end run.0 pages }
 {
-    first <= page && page.0 - first.0 < pages
+    let behind = u64::from(run.0) + u64::from(pages);
+    pages > 0 && first.0 < end && run.0 < end && u64::from(first.0) < behind
 }
 
 // The first pages of the runs at two addresses, which are `InvalidParameters` where one is none or they have a page in

@@ -4,10 +4,10 @@ ghost use Rattle.std.specs.List.{list_all};
 ghost use Rattle.arrayvec.specs.ArrayVec.{array_vec_len};
 ghost use Rattle.ffa_model.specs.declared.operation.ErrorCode.{ErrorCode as Code};
 ghost use Rattle.ffa_model.specs.Calls.{first_failure};
-ghost use Rattle.ffa_model.specs.MemorySend.{after_offer, are_grants_within, are_known, is_inside, is_sendable};
+ghost use Rattle.ffa_model.specs.MemorySend.{after_offer, are_grants_within, are_known, is_inside, is_own, is_sendable};
 ghost use Rattle.ffa_model.specs.SendDescriptor.{send_record};
 ghost use Rattle.ffa_model.specs.Transactions.{are_writable, pages_in};
-ghost use Rattle.ffa_rxtx.specs.Parts.{candidates_in};
+ghost use Rattle.ffa_rxtx.specs.Parts.{candidate_in, candidates_in};
 ghost use Rattle.ffa_memshare.specs.Named.{all_named, own_rights_in};
 ghost use Rattle.ffa_memshare.specs.Offers.{AreAligned, IsOwnOffer, grants_writes};
 ghost use Rattle.ffa_memshare.specs.Ranges.{ArePlaced, IsPlaced, in_range, in_ranges};
@@ -46,21 +46,14 @@ fn are_inside(ranges: &[Range], pages: &PageTable, base: Address) -> bool
     ranges.iter().all(|range| is_inside(range, pages, base))
 }
 
-// Whether an endpoint may send a page.
-fn is_sendable(
-    pages: &PageTable,
-    base: Address,
-    buffers: &Buffers,
-    sender: EndpointId,
-    page: PageNo,
-) -> bool
+// Whether a page is an endpoint's, and no open transaction names it.
+fn is_own(pages: &PageTable, sender: EndpointId, page: PageNo) -> bool
     requires { page.0 < length pages.now }
-    ensures { result ≡ is_sendable sender.0 (candidates_in pages.now base.0) buffers.now page.0 }
+    ensures { result ≡ is_own sender.0 (candidate_in pages.now page.0) }
 {
     pages.own_right_of(page).is_some()
         && pages.owner_of(page) == sender
         && pages.slot_of(page).is_none()
-        && !buffers.is_buffer(page)
 }
 
 // Whether an endpoint may send the pages of a range.
@@ -76,10 +69,12 @@ fn is_range_sendable(
 {
     // Proof step: the number of pages is 2^14 at most.
     let _ = pages.pages();
-    let first = first_page(base, range);
-    let mut all = true;
-    for page in first..first + range.pages {
-        all &= is_sendable(pages, base, buffers, sender, PageNo(page));
+    let mut next = first_page(base, range);
+    let end = next + range.pages;
+    let mut all = !buffers.is_any_buffer(PageNo(next), end);
+    while next < end {
+        all &= is_own(pages, sender, PageNo(next));
+        next = pages.alike_until(PageNo(next), end);
     }
     all
 }
