@@ -1,5 +1,5 @@
 //! The owners of pages.
-ghost use Rattle.std.specs.Prelude.{◌≡◌, ◌≢◌, ℕ, ◌*◌, ◌<◌, ◌≤◌, [], length};
+ghost use Rattle.std.specs.Prelude.{◌≡◌, ◌≢◌, ℕ, ◌*◌, ◌<◌, ◌≤◌, ◌⊎◌, [], length, slice_set};
 ghost use Rattle.ffa_model.specs.Identifiers.{manager};
 ghost use Rattle.ffa_model.specs.Lists.{listed};
 ghost use Rattle.ffa_pages.specs.Entry.{entry_at, owner_at, own_right_at, slot_at, given, marked, first_entry};
@@ -204,7 +204,7 @@ impl PageTable {
     {
         let slot = self.slot_of(page);
         let standing = Standing::of(own_right, slot);
-        self.pages[page.0 as usize] = KeptPage { owner, standing };
+        self.put(page, KeptPage { owner, standing });
     }
 
     /// Says which open transaction names a page that an endpoint owns, by its place in the pool, or that none does. Of a
@@ -216,8 +216,31 @@ impl PageTable {
         let kept = self.kept(page);
         if let Some(standing) = kept.owned() {
             let standing = Standing::of(standing.own_right(), slot);
-            self.pages[page.0 as usize] = KeptPage { standing, ..kept };
+            self.put(page, KeptPage { standing, ..kept });
         }
+    }
+
+    /// Makes the pages behind one, up to an end, like that one: of its owner, with its own right, and named by its
+    /// transaction, if one names it.
+    pub fn repeat(&mut self, first: PageNo, end: u32)
+        requires some { first.0 < end }
+        requires end { end ≤ length self.old }
+        ensures size { length self.new ≡ length self.old }
+        ensures like { (p : ℕ) → first.0 ≤ p → p < end → entry_at self.new p ≡ entry_at self.old first.0 }
+        ensures beside { (p : ℕ) → ((p < first.0) ⊎ (end ≤ p)) → entry_at self.new p ≡ entry_at self.old p }
+    {
+        let kept = self.kept(first);
+        for page in first.0 + 1..end {
+            self.put(PageNo(page), kept);
+        }
+    }
+
+    // Keeps this of a page.
+    fn put(&mut self, page: PageNo, kept: KeptPage)
+        requires { page.0 < length self.old }
+        ensures { self.new ≡ slice_set self.old page.0 (entry_of kept) }
+    {
+        self.pages[page.0 as usize] = kept;
     }
 
     // What is kept of a page.

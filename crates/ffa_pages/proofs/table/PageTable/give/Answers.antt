@@ -1,9 +1,7 @@
 use Rattle.std.proofs.Common.{◌∙◌}
 use Rattle.std.proofs.lemmas.Bool.{ne_eqb}
-use Rattle.ffa_model.proofs.Written.{map-refill-set}
 use Rattle.ffa_model.specs.Identifiers.{manager}
 use Rattle.ffa_pages.specs.declared.table.KeptPage.{KeptPage}
-use Rattle.ffa_pages.specs.Stored.{entry_of}
 use Rattle.ffa_pages.proofs.Kept.{entry_of-owned}
 use Rattle.ffa_pages.proofs.table.PageTable.give.Goals as goal
 
@@ -11,5 +9,4 @@ pub returns : goal.returns
 returns c =
     let page : KeptPage = record { owner = c.args.owner; standing = c.of-standing.result } in
     let kept = entry_of-owned page c.args.own_right c.slot_of-slot.result (ne_eqb c.args.owner.0 manager c.requires.endpoint) c.of-standing.ensures.own_right c.of-standing.ensures.slot in
-    map-refill-set entry_of c.self.inside.pages.items c.deref_mut.result.now c.args.page.0 page c.deref_mut.ensures.value
-    ∙ cc
+    c.put.ensures ∙ cc

@@ -1,0 +1,14 @@
+use Rattle.std.proofs.Common.{◌≡◌, ℕ, ◌<◌, ◌≤◌, ◌⊎◌, length}
+use Rattle.ffa_pages.specs.Entry.{entry_at}
+use Rattle.ffa_pages.specs.Stored.{entry_of}
+use Rattle.ffa_pages.proofs.table.PageTable.repeat.Given as goal
+
+-- the pages so far
+abbrev pub invariant-loop-page : goal.invariant-loop-page
+invariant-loop-page l = record {
+  some : l.fn.first.0 < l.page;
+  size : length l.self ≡ length l.fn.self;
+  like : (p : ℕ) → l.fn.first.0 ≤ p → p < l.page → entry_at l.self p ≡ entry_at l.fn.self l.fn.first.0;
+  beside : (p : ℕ) → ((p < l.fn.first.0) ⊎ (l.page ≤ p)) → entry_at l.self p ≡ entry_at l.fn.self p;
+  kept : entry_of l.kept ≡ entry_at l.fn.self l.fn.first.0;
+}
