@@ -4,18 +4,23 @@ use ffa_abi::{decode, encode, is_function};
 use ffa_model::{Call, ErrorCode, Reply};
 use std::test::Fail;
 
-// Registers with something in each upper half, of which the low half of x0 is the identifier.
+// Something in each upper half, and each register's number in its low half.
+const NUMBERED: [u64; 8] = [
+    0xFF_0000_0000,
+    0xA1_0000_0001,
+    0xA2_0000_0002,
+    0xA3_0000_0003,
+    0xA4_0000_0004,
+    0xA5_0000_0005,
+    0xA6_0000_0006,
+    0xA7_0000_0007,
+];
+
+// These registers, of which the low half of x0 is the identifier.
 fn registers(function: u32) -> [u64; 8] {
-    [
-        0xFF_0000_0000 + u64::from(function),
-        0xA1_0000_0001,
-        0xA2_0000_0002,
-        0xA3_0000_0003,
-        0xA4_0000_0004,
-        0xA5_0000_0005,
-        0xA6_0000_0006,
-        0xA7_0000_0007,
-    ]
+    let mut registers = NUMBERED;
+    registers[0] |= u64::from(function);
+    registers
 }
 
 // Identifiers, and the calls that registers with them are, as `{:?}` prints them: register n, where it is passed whole,
@@ -98,22 +103,21 @@ fn no_calls(rt: HostRuntime) {
     holds(&rt, !is_function(0x8400_0075));
 }
 
+// FFA_ERROR with a number in w2.
+fn refusal(number: i32) -> [u64; 8] {
+    let mut registers = [0; 8];
+    registers[0] = 0x8400_0060;
+    registers[2] = u64::from(i32::cast_unsigned(number));
+    registers
+}
+
 #[test]
 fn error_codes(rt: HostRuntime) {
-    for (code, number) in [
-        (ErrorCode::NotSupported, -1),
-        (ErrorCode::InvalidParameters, -2),
-        (ErrorCode::NoMemory, -3),
-        (ErrorCode::Busy, -4),
-        (ErrorCode::Denied, -6),
-    ] {
-        let w2 = u64::from(i32::cast_unsigned(number));
-        same(
-            &rt,
-            encode(&Reply::Error(code)),
-            [0x8400_0060, 0, w2, 0, 0, 0, 0, 0],
-        );
-    }
+    same(&rt, encode(&Reply::Error(ErrorCode::NotSupported)), refusal(-1));
+    same(&rt, encode(&Reply::Error(ErrorCode::InvalidParameters)), refusal(-2));
+    same(&rt, encode(&Reply::Error(ErrorCode::NoMemory)), refusal(-3));
+    same(&rt, encode(&Reply::Error(ErrorCode::Busy)), refusal(-4));
+    same(&rt, encode(&Reply::Error(ErrorCode::Denied)), refusal(-6));
 }
 
 #[test]

@@ -125,8 +125,10 @@ fn are_writable_enough(
     ensures { result ≡ (list_all (are_grants_within (own_rights_in pages.now base.0) offer.now.receivers.items) (pages_in (own_rights_in pages.now base.0) offer.now.ranges.items)
         && (not offer.now.zero || are_writable (own_rights_in pages.now base.0) offer.now.ranges.items)) }
 {
-    let is_writable = common_of(pages, base, ranges).is_writable;
-    is_writable || !asks_for_writes(offer)
+    if !asks_for_writes(offer) {
+        return true;
+    }
+    common_of(pages, base, ranges).is_writable
 }
 
 // The ranges of what an endpoint offers, where it may send that, or why it may not.

@@ -1,4 +1,4 @@
-use Rattle.std.proofs.Common.{◌≡◌, ◌∙◌, List, sym, ap}
+use Rattle.std.proofs.Common.{◌≡◌, ◌∙◌, Bool, true, false, List, refl, sym, ap}
 use Rattle.std.specs.Prelude.{not, ◌||◌}
 use Rattle.ffa_model.specs.declared.transaction.Range.{Range}
 use Rattle.ffa_model.specs.Transactions.{are_writable}
@@ -7,20 +7,25 @@ use Rattle.ffa_memshare.specs.Offers.{grants_writes}
 use Rattle.ffa_memshare.proofs.Offered.{writes-enough}
 use Rattle.ffa_memshare.proofs.checks.send.are_writable_enough.Goals as goal
 
-pub returns-then-is_writable : goal.returns-then-is_writable
-returns-then-is_writable c =
+or-true : (b : Bool) → (b || true) ≡ true
+or-true true = refl
+or-true false = refl
+
+or-false : (b : Bool) → (b || false) ≡ b
+or-false true = refl
+or-false false = refl
+
+pub returns-then-not-asks_for_writes : goal.returns-then-not-asks_for_writes
+returns-then-not-asks_for_writes c =
     let o = c.args.offer.now in
-    let is : c.common_of-is_writable.result.is_writable ≡ are_writable (own_rights_in c.args.pages.now c.args.base.0) o.ranges.items =
-    c.common_of-is_writable.ensures.writable ∙ ap (λ (ranges : List Range). are_writable (own_rights_in c.args.pages.now c.args.base.0) ranges) c.requires.ranges in
-    c.if-is_writable.true
-    ∙ sym (ap (λ b. b || not (o.zero || grants_writes o.receivers.items)) (sym is ∙ c.if-is_writable.true))
+    let is : Bool = are_writable (own_rights_in c.args.pages.now c.args.base.0) o.ranges.items in
+    sym (or-true is) ∙ ap (λ b. is || b) (sym (ap not c.if-not-asks_for_writes.true) ∙ ap not c.asks_for_writes.ensures)
     ∙ writes-enough c.args.pages.now c.args.base.0 o.ranges.items o.receivers.items o.zero (λ p named. let (e, its) = c.requires.own in ((its.own p named).0, (its.own p named).1))
 
-pub returns-else-is_writable : goal.returns-else-is_writable
-returns-else-is_writable c =
+pub returns : goal.returns
+returns c =
     let o = c.args.offer.now in
-    let is : c.common_of-is_writable.result.is_writable ≡ are_writable (own_rights_in c.args.pages.now c.args.base.0) o.ranges.items =
-    c.common_of-is_writable.ensures.writable ∙ ap (λ (ranges : List Range). are_writable (own_rights_in c.args.pages.now c.args.base.0) ranges) c.requires.ranges in
-    ap not c.asks_for_writes.ensures
-    ∙ sym (ap (λ b. b || not (o.zero || grants_writes o.receivers.items)) (sym is ∙ c.if-is_writable.false))
+    let is : Bool = are_writable (own_rights_in c.args.pages.now c.args.base.0) o.ranges.items in
+    c.common_of.ensures.writable ∙ ap (λ (ranges : List Range). are_writable (own_rights_in c.args.pages.now c.args.base.0) ranges) c.requires.ranges
+    ∙ sym (or-false is) ∙ ap (λ b. is || b) (sym (ap not c.if-not-asks_for_writes.false) ∙ ap not c.asks_for_writes.ensures)
     ∙ writes-enough c.args.pages.now c.args.base.0 o.ranges.items o.receivers.items o.zero (λ p named. let (e, its) = c.requires.own in ((its.own p named).0, (its.own p named).1))
