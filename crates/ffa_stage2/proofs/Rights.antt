@@ -1,21 +1,13 @@
 -- Access functions.
-use Rattle.std.proofs.Common.{◌≡◌, ◌≢◌, ◌∙◌, ℕ, ◌+◌, ◌*◌, ◌<◌, ◌≤◌, true, false, arith, Option, inl, inr, ◌⊎◌}
+use Rattle.std.proofs.Common.{◌≡◌, ◌≢◌, ◌∙◌, ℕ, ◌+◌, ◌*◌, ◌<◌, ◌≤◌, true, false, sym, ap, arith, Option, inl, inr, ◌⊎◌}
 use Rattle.std.specs.Prelude.{◌==◌, ◌&&◌, ◌||◌, nat_le, nat_lt}
-use Rattle.std.proofs.lemmas.Bool.{cases_eq, cases_lt}
+use Rattle.std.proofs.lemmas.Bool.{cases_Bool, cases_lt}
 use Rattle.std.proofs.lemmas.Bool.Decides.{nat_tests}
 use Rattle.ffa_model.specs.Ram.{Ram}
 use Rattle.ffa_model.specs.declared.rights.Rights.{Rights}
 use Rattle.ffa_stage2.specs.Tables.{IsBuilt, with_pages, with_right, rights_of_block}
 use Rattle.ffa_stage2.specs.Words.{rights_until, no_access}
 use Rattle.ffa_stage2.proofs.OneBlock.{IsMapped-rights}
-
-pub with_right-same : (access : ℕ → ℕ → Option Rights) (e p : ℕ) (right : Option Rights) → with_right access e p right e p ≡ right
-with_right-same access e p right = let t : (e == e && p == p) ≡ true = grind (arith, nat_tests) in rw t
-
-pub with_right-other : (access : ℕ → ℕ → Option Rights) (e p : ℕ) (right : Option Rights) (e' p' : ℕ) → ((e' ≢ e) ⊎ (p' ≢ p))
-    → with_right access e p right e' p' ≡ access e' p'
-with_right-other access e p right e' p' (inl h) = let t : (e' == e && p' == p) ≡ false = grind (arith, nat_tests) in rw t
-with_right-other access e p right e' p' (inr h) = let t : (e' == e && p' == p) ≡ false = grind (arith, nat_tests) in rw t
 
 -- a run of no page
 pub with_pages-none : (access : ℕ → ℕ → Option Rights) (e first : ℕ) (right : Option Rights) (e' p : ℕ) → access e' p ≡ with_pages access e first first right e' p
@@ -64,22 +56,20 @@ built-same ram n b f g built same = record {
   each = λ e k he hk. IsMapped-rights _ _ _ _ (rights_of_block (f e) k) (rights_of_block (g e) k) (λ j hj. same e (512 * k + j) he (omega arith)) (built.each e k he hk);
 }
 
--- one more page has its right
-pub rights_until-next : (rights : ℕ → ℕ → Option Rights) (done page e p : ℕ)
-    → with_right (rights_until rights done page) done page (rights done page) e p ≡ rights_until rights done (page + 1) e p
-rights_until-next rights done page e p = elim (cases_eq e done) [
-  | inr far ↦
-      let more : (nat_lt e done || (e == done && nat_lt p (page + 1))) ≡ (nat_lt e done || (e == done && nat_lt p page)) = grind (arith, nat_tests) in
-      with_right-other (rights_until rights done page) done page (rights done page) e p (inl far) ∙ rw more
-  | inl same ↦ elim (cases_eq p page) [
-    | inr far ↦
-        let more : (nat_lt e done || (e == done && nat_lt p (page + 1))) ≡ (nat_lt e done || (e == done && nat_lt p page)) = grind (arith, nat_tests) in
-        with_right-other (rights_until rights done page) done page (rights done page) e p (inr far) ∙ rw more
-    | inl at ↦
-        let now : (nat_lt e done || (e == done && nat_lt p (page + 1))) ≡ true = grind (arith, nat_tests) in
-        let changed : (e == done && p == page) ≡ true = grind (arith, nat_tests) in
-        rw (now, changed) (rw (same, at))
-  ]
+-- a run of pages more have theirs, which is one
+pub rights_until-next : (rights : ℕ → ℕ → Option Rights) (done page until : ℕ) (its : Option Rights) → page ≤ until
+    → ((p : ℕ) → page ≤ p → p < until → rights done p ≡ its) → (e p : ℕ)
+    → with_pages (rights_until rights done page) done page until its e p ≡ rights_until rights done until e p
+rights_until-next rights done page until its le same e p = elim (cases_Bool (e == done && (nat_le page p && nat_lt p until))) [
+  | inl here ↦
+      let at : e ≡ done = grind (arith, here, nat_tests) in
+      let low : page ≤ p = grind (arith, here, nat_tests) in
+      let high : p < until = grind (arith, here, nat_tests) in
+      let now : (nat_lt e done || (e == done && nat_lt p until)) ≡ true = grind (arith, at, high, nat_tests) in
+      rw (here, now) (sym (ap (λ n. rights n p) at ∙ same p low high))
+  | inr out ↦
+      let kept : (nat_lt e done || (e == done && nat_lt p until)) ≡ (nat_lt e done || (e == done && nat_lt p page)) = grind (arith, le, out, nat_tests) in
+      rw (out, kept)
 ]
 
 -- all pages of an endpoint have theirs

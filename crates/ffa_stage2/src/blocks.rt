@@ -221,6 +221,15 @@ fn change_table<M: PhysMem>(
     join(memory, place, to - 1, right);
 }
 
+// Whether the pages of a block from one up to another are all of them.
+fn is_whole(from: u32, to: u32) -> bool
+    requires from { from < to }
+    requires to { to ≤ 512 }
+    ensures { IsTrue result ↔ (to ≡ from + 512) }
+{
+    to - from == 512
+}
+
 // Gives a right to the pages of a block from one up to another.
 pub(crate) fn change<M: PhysMem>(
     memory: &mut M,
@@ -238,7 +247,7 @@ pub(crate) fn change<M: PhysMem>(
         → Maps (M.ram memory.new) place.now (with_run rights from to right) }
     ensures beside { KeepsBeside (M.ram memory.old) (M.ram memory.new) place.now }
 {
-    if to - from == 512 && right.is_some() {
+    if is_whole(from, to) && right.is_some() {
         put_block(memory, place, right);
         return;
     }

@@ -74,6 +74,24 @@ impl Layout {
         right_in(self.regions[index].list.as_slice(), self.base, page)
     }
 
+    // Up to which page of the RAM an endpoint's regions give all from one on the same right, or none of them any.
+    pub(crate) fn right_until(&self, index: usize, first: PageNo) -> u32
+        requires index { index < array_vec_len self.now.regions }
+        requires page { first.0 < 512 * self.now.blocks }
+        ensures some { first.0 < result }
+        ensures end { result ≤ 512 * self.now.blocks }
+        ensures same { (p : ℕ) → first.0 ≤ p → p < result → layout_right self.now index p ≡ layout_right self.now index first.0 }
+    {
+        let right = self.right(index, first);
+        let end = 512 * self.blocks;
+        for page in first.0 + 1..end {
+            if self.right(index, PageNo(page)) != right {
+                return page;
+            }
+        }
+        end
+    }
+
     // One of an endpoint's table pages: 0 is level 1, 1 is level 2, and 2 + k is level 3 of block k.
     pub(crate) fn table_page(&self, index: usize, table: u32) -> PageNo
         requires index { index < array_vec_len self.now.regions }

@@ -136,16 +136,20 @@ fn link<M: PhysMem>(memory: &mut M, layout: &Layout, index: usize)
     }
 }
 
-// Gives one endpoint the rights of its regions.
+// Gives one endpoint the rights of its regions, a run of pages with one right at a time.
 fn grant<M: PhysMem>(memory: &mut M, layout: &Layout, index: usize)
     requires index { index < array_vec_len layout.now.regions }
     requires built { IsBuiltFor layout.now (M.ram memory.old) (rights_until (layout_right layout.now) index 0) }
     ensures built { IsBuiltFor layout.now (M.ram memory.new) (rights_until (layout_right layout.now) (index + 1) 0) }
     ensures rest { KeepsRestFor layout.now (M.ram memory.old) (M.ram memory.new) }
 {
-    for page in 0..512 * layout.blocks {
-        let right = layout.right(index, PageNo(page));
-        set_page(memory, layout, index, PageNo(page), right);
+    let end = 512 * layout.blocks;
+    let mut next = 0;
+    while next < end {
+        let right = layout.right(index, PageNo(next));
+        let until = layout.right_until(index, PageNo(next));
+        set_pages(memory, layout, index, PageNo(next), until - next, right);
+        next = until;
     }
 }
 

@@ -1,4 +1,4 @@
-use Rattle.std.proofs.Common.{sym, arith}
+use Rattle.std.proofs.Common.{◌≡◌, ◌+◌, sym, arith}
 use Rattle.ffa_stage2.specs.Places.{with_run}
 use Rattle.ffa_stage2.proofs.OneBlock.{IsMapped-rights, table-here, typed-other}
 use Rattle.ffa_stage2.proofs.PageRuns.{with_run-here}
@@ -9,8 +9,9 @@ returns-then-is_some-clause-mapped g c rights maps =
     let from = c.args.from in
     let to = c.args.to in
     let right = c.args.right in
+    let whole : to ≡ from + 512 = c.is_whole.ensures.0 c.if-is_whole.true in
     IsMapped-rights _ _ _ _ (λ j. right) (with_run rights from to right)
-    (λ j hj. sym (with_run-here rights from to right j (omega (arith, c.if-to-from-eq512.true, c.requires.to, c.requires.from)) (omega (arith, hj, c.if-to-from-eq512.true, c.requires.from))))
+    (λ j hj. sym (with_run-here rights from to right j (omega (arith, whole, c.requires.to)) (omega (arith, hj, whole))))
     c.put_block.ensures.mapped
 
 pub returns-else-word-eq-BLOCK-clause-mapped : goal.returns-else-word-eq-BLOCK-clause-mapped

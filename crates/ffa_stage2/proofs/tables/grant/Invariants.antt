@@ -1,3 +1,4 @@
+use Rattle.std.proofs.Common.{◌-◌, ◌≤◌}
 use Rattle.arrayvec.specs.ArrayVec.{array_vec_len}
 use Rattle.ffa_stage2.specs.Layout.{layout_right}
 use Rattle.ffa_stage2.specs.Tables.{IsBuilt, KeepsRest}
@@ -5,8 +6,13 @@ use Rattle.ffa_stage2.specs.Words.{rights_until}
 use Rattle.ffa_stage2.proofs.tables.grant.Given as goal
 
 -- the pages so far
-abbrev pub invariant-loop-page : goal.invariant-loop-page
-invariant-loop-page g l = record {
-  built : IsBuilt (g.M.PhysMem.ram l.memory) (array_vec_len l.layout.regions) l.layout.blocks (rights_until (layout_right l.layout) l.index l.page);
+abbrev pub invariant-loop-next : goal.invariant-loop-next
+invariant-loop-next g l = record {
+  until : l.next ≤ l.end;
+  built : IsBuilt (g.M.PhysMem.ram l.memory) (array_vec_len l.layout.regions) l.layout.blocks (rights_until (layout_right l.layout) l.index l.next);
   rest : KeepsRest (g.M.PhysMem.ram l.fn.memory) (g.M.PhysMem.ram l.memory) (array_vec_len l.layout.regions) l.layout.blocks;
 }
+
+-- the pages that are left
+abbrev pub decreases-loop-next : goal.decreases-loop-next
+decreases-loop-next g l = l.end - l.next
