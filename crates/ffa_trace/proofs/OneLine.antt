@@ -1,14 +1,16 @@
 -- One line: what is known once its text was written, or could not be.
-use Rattle.std.proofs.Common.{◌≡◌, ℕ, true, List, [], codes, Option, Some, None, Result, Ok, Err, sym, ap, ◌∙◌, subst, refl}
-use Rattle.std.specs.Prelude.{is_some}
+use Rattle.std.proofs.Common.{◌≡◌, ◌∷◌, ℕ, true, List, [], Option, Some, None, Result, Ok, Err, sym, ap, ◌∙◌, subst, arith, refl}
+use Rattle.std.specs.Prelude.{is_some, MatchResult}
 use Rattle.std.specs.Option.{option_map_or}
 use Rattle.std.specs.Io.KnownBytes.{Appends, Keeps}
 use Rattle.std.proofs.KnownBytes.{Appends-nil}
 use Rattle.ffa_model.specs.State.{State}
 use Rattle.ffa_model.specs.TraceLines.{Line, skip, line_of, is_good}
 use Rattle.ffa_model.specs.TraceText.{line_text, line_after, text_of, after}
-use Rattle.ffa_trace.specs.Output.{TookFront, Writes, WritesIfRoom}
-use Rattle.ffa_trace.specs.Feeding.{LineDone}
+use Rattle.ffa_model.specs.declared.operation.Outcome.{Outcome}
+use Rattle.ffa_trace.specs.Output.{TookFront, Writes}
+use Rattle.ffa_trace.specs.Feeding.{LineDone, LineEnded}
+use Rattle.ffa_trace.specs.Lines.{Answered}
 use Rattle.ffa_trace.specs.declared.output.PlayError.{PlayError}
 use Rattle.ffa_trace.specs.declared.output.PlayError.TheVariants.{Read, Write, NoMemory, BadLine}
 
@@ -31,13 +33,25 @@ module _ (start now : State) (held holds : Option (List ℕ)) (number : ℕ) (by
   line_written (Err NoMemory) w = absurd w
   line_written (Err (BadLine n)) w = absurd w
 
-  -- the same of the line that needs memory and changes nothing
-  pub line_written_if_room : (r : Result (Unit {0}) PlayError) → bytes ≡ codes "audit" → now ≡ start → WritesIfRoom held holds (line_text start line) r → LineDone start now held holds number bytes r
-  line_written_if_room (Ok x) named same w = line_written (Ok x) w
-  line_written_if_room (Err Read) named same w = absurd w
-  line_written_if_room (Err Write) named same w = line_written (Err Write) w
-  line_written_if_room (Err NoMemory) named same w = (named, same, w)
-  line_written_if_room (Err (BadLine n)) named same w = absurd w
+-- a line that was read was answered
+pub line_answered : (start now : State) (held holds : Option (List ℕ)) (number : ℕ) (bytes : List ℕ) (line : Line) → Some line ≡ line_of bytes
+    → (r : Result (Option Outcome) PlayError) → Answered start now held holds line r → MatchResult r (λ o. LineDone {X = Unit {0}} start now held holds number bytes (Ok tt)) (λ e. LineDone {X = Unit {0}} start now held holds number bytes (Err e))
+line_answered start now held holds number bytes line is (Ok outcome) (next, written, came) = line_written start now held holds number bytes line is next (Ok tt) written
+line_answered start now held holds number bytes line is (Err Read) a = absurd a
+line_answered start now held holds number bytes line is (Err Write) (next, written) = line_written start now held holds number bytes line is next (Err Write) written
+line_answered start now held holds number bytes line is (Err NoMemory) (asks, same, kept) = (sym is ∙ ap (λ l. Some l) asks, same, kept)
+line_answered start now held holds number bytes line is (Err (BadLine n)) a = absurd a
+
+-- a line whose bytes needed no memory
+pub line_ended : (start now : State) (held holds : Option (List ℕ)) (number : ℕ) (bytes : List ℕ) (r : Result (Unit {0}) PlayError)
+    → LineDone start now held holds number bytes r → LineEnded start now held holds number bytes r
+unfolding line_of
+line_ended start now held holds number bytes (Ok x) d = d
+line_ended start now held holds number bytes (Err Read) d = absurd d
+line_ended start now held holds number bytes (Err Write) d = d
+line_ended start now held holds number [] (Err NoMemory) (asks, same, kept) = absurd cc
+line_ended start now held holds number (c ∷ bytes) (Err NoMemory) (asks, same, kept) = (same, kept, omega arith)
+line_ended start now held holds number bytes (Err (BadLine n)) d = d
 
 -- an empty line or a comment
 pub line_skipped : (s : State) (a : Option (List ℕ)) (number : ℕ) (bytes : List ℕ) → Some skip ≡ line_of bytes → LineDone {X = Unit {0}} s s a a number bytes (Ok tt)

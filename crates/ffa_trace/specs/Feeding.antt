@@ -1,8 +1,8 @@
 -- The steps of a play, which private functions promise one another: a line, bytes that are kept, a block of lines.
-use Rattle.std.specs.Prelude.{◌≡◌, ◌≤◌, ◌⊎◌, ℕ, ◌+◌, true, false, List, [], ◌∷◌, ◌++◌, length, codes, Option, Result, Ok, Err}
+use Rattle.std.specs.Prelude.{◌≡◌, ◌≤◌, ◌⊎◌, ℕ, ◌+◌, true, false, List, [], ◌∷◌, ◌++◌, length, Option, Some, Result, Ok, Err}
 use Rattle.std.specs.Io.KnownBytes.{Appends, Keeps}
 use Rattle.ffa_model.specs.State.{State}
-use Rattle.ffa_model.specs.TraceLines.{feed, has_no_feed, is_good, joined}
+use Rattle.ffa_model.specs.TraceLines.{audit, feed, has_no_feed, is_good, joined, line_of}
 use Rattle.ffa_model.specs.TraceText.{text_of, after}
 use Rattle.ffa_trace.specs.Played.{Did, Began, DidAndBegan, most_lines}
 use Rattle.ffa_trace.specs.declared.output.PlayError.{PlayError}
@@ -19,7 +19,7 @@ LineDone start now held holds number line (Ok _) = (is_good line ≡ true) × (n
 LineDone start now held holds number line (Err Write) = Began start now held holds line
 LineDone start now held holds number line (Err (BadLine n)) = (is_good line ≡ false) × (n ≡ number) × (now ≡ start) × Keeps held holds
 LineDone start now held holds number line (Err Read) = ⊥
-LineDone start now held holds number line (Err NoMemory) = (line ≡ codes "audit") × (now ≡ start) × Keeps held holds
+LineDone start now held holds number line (Err NoMemory) = (line_of line ≡ Some audit) × (now ≡ start) × Keeps held holds
 
 -- the same where memory was taken for its bytes before
 abbrev pub LineEnded : {X : Type 0} → State → State → Option (List ℕ) → Option (List ℕ) → ℕ → List ℕ → Result X PlayError → Type 0

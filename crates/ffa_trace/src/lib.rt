@@ -3,10 +3,12 @@
 
 mod certificate;
 mod line;
+mod lines;
 pub mod output;
 mod player;
 mod show;
 pub mod text;
 
+pub use lines::Line;
 pub use output::PlayError;
 pub use player::Player;

@@ -6,10 +6,11 @@ ghost use Rattle.ffa_model.specs.Memory.{size_of};
 ghost use Rattle.ffa_model.specs.Step.{step};
 ghost use Rattle.ffa_model.specs.TraceText.{hex, spaced, ended, outcome_text};
 ghost use Rattle.ffa_trace.specs.Feeding.{LineDone, LineEnded, Kept, IsNumbered, Fed};
+ghost use Rattle.ffa_trace.specs.Lines.{Answered, meant};
 ghost use Rattle.ffa_trace.specs.Output.{Writes};
-ghost use Rattle.ffa_trace.specs.Parsed.{IsOther};
 ghost use Rattle.ffa_trace.specs.Played.{Played};
 
+use crate::lines::Line;
 use crate::output::{self, PlayError};
 use crate::{certificate, line, show, text};
 use ffa_model::{Op, Outcome, Size};
@@ -67,6 +68,20 @@ impl<M: PhysMem + Drop, T: Translations + Drop> Player<M, T> {
         ensures { Played self.old.state self.new.state (W.contents writer.old) (W.contents writer.new) (R.remaining reader.old) (R.remaining reader.new) result }
     {
         self.play_in(alloc, reader, writer)
+    }
+
+    /// Does a line, and writes its text. It answers what came of the operation that the line is.
+    ///
+    /// Only `Line::Audit` wants memory: where that is refused, nothing is done and nothing is written.
+    pub fn line<A: Allocator + Copy, W: Write>(
+        &mut self,
+        alloc: A,
+        line: &Line,
+        writer: &mut W,
+    ) -> Result<Option<Outcome>, PlayError>
+        ensures { Answered self.old.state self.new.state (W.contents writer.old) (W.contents writer.new) (meant line.now) result }
+    {
+        answer(&mut self.machine, alloc, writer, line)
     }
 
     /// Plays as `play` does, with memory of any allocator.
@@ -247,21 +262,6 @@ fn do_store<M: PhysMem + Drop, T: Translations + Drop, W: Write>(
     }
 }
 
-// Does a fetch, alike.
-fn do_fetch<M: PhysMem + Drop, T: Translations + Drop, W: Write>(
-    machine: &mut Machine<M, T>,
-    writer: &mut W,
-    number: u64,
-    words: &[u8],
-) -> Result<(), PlayError>
-    ensures { LineDone machine.old.state machine.new.state (W.contents writer.old) (W.contents writer.new) number (codes "fetch " ++ words.now) result }
-{
-    match line::fetch(words) {
-        Some(addr) => operate(machine, writer, &Op::Fetch { addr }),
-        None => Err(PlayError::BadLine(number)),
-    }
-}
-
 // Does a line of another command, of which a trace has few.
 #[inline(never)]
 fn do_other<M: PhysMem + Drop, T: Translations + Drop, A: Allocator + Copy, W: Write>(
@@ -271,17 +271,35 @@ fn do_other<M: PhysMem + Drop, T: Translations + Drop, A: Allocator + Copy, W: W
     number: u64,
     bytes: &[u8],
 ) -> Result<(), PlayError>
-    requires { IsOther bytes.now }
     ensures { LineDone machine.old.state machine.new.state (W.contents writer.old) (W.contents writer.new) number bytes.now result }
 {
-    if let Some(words) = bytes.strip_prefix(b"fetch ") {
-        do_fetch(machine, writer, number, words)
-    } else if bytes == b"show".as_slice() {
-        show::write_show(machine, writer)
-    } else if bytes == b"audit".as_slice() {
-        certificate::write_audit(machine, alloc, writer)
-    } else {
-        Err(PlayError::BadLine(number))
+    match Line::read(bytes) {
+        Some(line) => {
+            answer(machine, alloc, writer, &line)?;
+            Ok(())
+        }
+        None => Err(PlayError::BadLine(number)),
+    }
+}
+
+// Does a line that was read, and writes its text. It answers what came of the operation that the line is.
+fn answer<M: PhysMem + Drop, T: Translations + Drop, A: Allocator + Copy, W: Write>(
+    machine: &mut Machine<M, T>,
+    alloc: A,
+    writer: &mut W,
+    line: &Line,
+) -> Result<Option<Outcome>, PlayError>
+    ensures { Answered machine.old.state machine.new.state (W.contents writer.old) (W.contents writer.new) (meant line.now) result }
+{
+    match *line {
+        Line::Operation(op) => {
+            let outcome = machine.op(&op);
+            write_outcome(writer, &op, &outcome)?;
+            Ok(Some(outcome))
+        }
+        Line::Show => show::write_show(machine, writer).map(|()| None),
+        Line::Audit => certificate::write_audit(machine, alloc, writer).map(|()| None),
+        Line::Nothing => Ok(None),
     }
 }
 

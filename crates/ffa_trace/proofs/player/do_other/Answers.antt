@@ -1,27 +1,13 @@
-use Rattle.std.proofs.Common.{◌≡◌, ◌≢◌, ◌∙◌, ℕ, List, ◌++◌, codes, refl, sym, ap, subst}
-use Rattle.std.specs.Option.{MatchOption}
-use Rattle.std.proofs.lemmas.Bool.{true≢false}
-use Rattle.std.proofs.lemmas.Bool.Decides.{Decides-eqb}
-use Rattle.std.proofs.lemmas.Slice.Eq.{bytes_eq-Decides, strip_prefix_is}
-use Rattle.ffa_model.specs.TraceLines.{audit, show, line_of}
-use Rattle.ffa_trace.proofs.LineCommands.{audit_line, show_line, no_line}
-use Rattle.ffa_trace.proofs.OneLine.{line_written, line_written_if_room, line_bad}
+use Rattle.std.proofs.Common.{Ok, Err}
+use Rattle.std.proofs.lemmas.Result.{err_from_is_err_and}
+use Rattle.ffa_trace.proofs.OneLine.{line_answered}
 use Rattle.ffa_trace.proofs.player.do_other.Goals as goal
 
-pub returns-then-eq : goal.returns-then-eq
-returns-then-eq g c =
-    let is = (bytes_eq-Decides c.args.bytes.now c.as_slice.result.now).0 (sym c.if-eq.ensures) ∙ c.as_slice.ensures in
-    line_written _ _ _ _ c.args.number c.args.bytes.now show (show_line ∙ ap line_of (sym is)) refl c.write_show.result c.write_show.ensures
+pub returns-in_err-answer-in-Some : goal.returns-in_err-answer-in-Some
+returns-in_err-answer-in-Some g c =
+    let p = err_from_is_err_and c.from_residual.result c.from_residual.ensures.1 in
+    rw (p.1, p.2) (line_answered _ _ _ _ c.args.number c.args.bytes.now _ c.in-Some.ensures (Err c.in_err-answer-in-Some.field-0.0) c.in_err-answer-in-Some.ensures)
 
-pub returns-then-eq-2 : goal.returns-then-eq-2
-returns-then-eq-2 g c =
-    let is = (bytes_eq-Decides c.args.bytes.now c.as_slice-else-eq.result.now).0 (sym c.if-eq-2.ensures) ∙ c.as_slice-else-eq.ensures in
-    line_written_if_room _ _ _ _ c.args.number c.args.bytes.now audit (audit_line ∙ ap line_of (sym is)) refl c.write_audit.result is refl c.write_audit.ensures
-
-pub returns-else-eq-2 : goal.returns-else-eq-2
-returns-else-eq-2 g c =
-    let no_fetch = subst (λ r. MatchOption r ((words : List ℕ) → c.args.bytes.now ≢ codes "fetch " ++ words) (λ x. c.args.bytes.now ≡ codes "fetch " ++ x.now)) c.in_default.is
-    (strip_prefix_is Decides-eqb c.args.bytes.now (codes "fetch ") c.strip_prefix.result c.strip_prefix.ensures.cases) in
-    let no_show = λ (is : c.args.bytes.now ≡ codes "show"). true≢false (sym ((bytes_eq-Decides c.args.bytes.now c.as_slice.result.now).1 (is ∙ sym c.as_slice.ensures)) ∙ sym c.if-eq.ensures) in
-    let no_audit = λ (is : c.args.bytes.now ≡ codes "audit"). true≢false (sym ((bytes_eq-Decides c.args.bytes.now c.as_slice-else-eq.result.now).1 (is ∙ sym c.as_slice-else-eq.ensures)) ∙ sym c.if-eq-2.ensures) in
-    line_bad _ _ c.args.number _ (no_line c.args.bytes.now c.requires no_fetch no_show no_audit)
+pub returns-in_ok-answer-in-Some : goal.returns-in_ok-answer-in-Some
+returns-in_ok-answer-in-Some g c =
+    line_answered _ _ _ _ c.args.number c.args.bytes.now _ c.in-Some.ensures (Ok c.in_ok-answer-in-Some.field-0) c.in_ok-answer-in-Some.ensures
