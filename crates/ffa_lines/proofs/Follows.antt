@@ -1,0 +1,141 @@
+-- A play line by line.
+use Rattle.std.proofs.Common.{◌≡◌, ◌≢◌, ◌+◌, ◌-◌, ◌≤◌, ℕ, Bool, true, false, List, [], ◌∷◌, ◌++◌, length, Option, None, Some, Result, Ok, Err, inl, inr, sym, ap, ◌∙◌, subst, arith, append_assoc, append-nil, length-append, refl}
+use Rattle.std.specs.Prelude.{is_some}
+use Rattle.std.specs.Option.{option_map_or}
+use Rattle.std.specs.Io.KnownBytes.{Appends, Consumes, IsAtEnd}
+use Rattle.std.proofs.KnownBytes.{Appends-nil, Appends-trans, Consumes-nil, Consumes-trans}
+use Rattle.std.proofs.lemmas.List.Folds.{list_all-append}
+use Rattle.ffa_model.specs.State.{State}
+use Rattle.ffa_model.specs.TraceLines.{Line, feed, line_of, is_good, is_line, has_no_feed, joined}
+use Rattle.ffa_model.specs.TraceText.{line_after, after, after_all}
+use Rattle.ffa_trace.proofs.Runs.{joined-append}
+use Rattle.ffa_trace.specs.declared.output.PlayError.{PlayError}
+use Rattle.ffa_trace.specs.declared.output.PlayError.TheVariants.{Read, Write, NoMemory, BadLine}
+use Rattle.ffa_lines.specs.Followed.{Followed, EndsBadly, DiffersAt, PlayedIn, Compared}
+use Rattle.ffa_lines.specs.Forms.{line_text_in, text_of_in, text_in}
+use Rattle.ffa_lines.specs.Reading.{IsAll, ReadsLine}
+use Rattle.ffa_lines.specs.declared.comparison.Difference.{Difference}
+use Rattle.ffa_lines.specs.declared.form.Form.{Form}
+
+pub followed_none : (form : Form) (s : State) (had : Option (List ℕ)) → Followed form s s had had [] []
+followed_none form s had = record { each = refl; read = Consumes-nil had; state = refl; said = refl }
+
+-- there is no line, or one
+pub no_line : (had has : Option (List ℕ)) (line : List ℕ) (number : ℕ) (b : Bool) → b ≡ false → ReadsLine had has line number (Ok b) → IsAtEnd had
+no_line had has line number true h r = absurd cc
+no_line had has line number false h r = r
+
+pub one_line : (had has : Option (List ℕ)) (line : List ℕ) (number : ℕ) (b : Bool) → b ≡ true → ReadsLine had has line number (Ok b)
+    → Consumes had has (line ++ feed ∷ []) × (has_no_feed line ≡ true)
+one_line had has line number true h r = r
+one_line had has line number false h r = absurd cc
+
+after_one : (s : State) (lines : List (List ℕ)) (line : List ℕ) → after_all s (lines ++ line ∷ []) ≡ after (after_all s lines) line
+after_one s [] line = refl
+after_one s (l ∷ ls) line = after_one (after s l) ls line
+
+text_one : (form : Form) (n : ℕ) (s : State) (lines : List (List ℕ)) (line : List ℕ)
+    → text_in form n s (lines ++ line ∷ []) ≡ text_in form n s lines ++ text_of_in form (n + length lines) (after_all s lines) line
+text_one form n s [] line = append-nil _ ∙ ap (λ k. text_of_in form k s line) (omega arith)
+text_one form n s (l ∷ ls) line =
+    let count : n + 1 + length ls ≡ n + length (l ∷ ls) = omega arith in
+    ap (λ t. text_of_in form n s l ++ t) (text_one form (n + 1) (after s l) ls line)
+    ∙ sym (append_assoc (text_of_in form n s l) (text_in form (n + 1) (after s l) ls) _)
+    ∙ ap (λ k. text_in form n s (l ∷ ls) ++ text_of_in form k (after_all s (l ∷ ls)) line) count
+
+module _ (form : Form) (start mid : State) (had has : Option (List ℕ)) (lines : List (List ℕ)) (text : List ℕ) (f : Followed form start mid had has lines text) (number : ℕ) (count : number ≡ 1 + length lines) where
+  -- a line more
+  pub followed_more : (now : State) (then : Option (List ℕ)) (line : List ℕ) (meant : Line) (said : List ℕ) → Consumes has then (line ++ feed ∷ []) → has_no_feed line ≡ true
+      → Some meant ≡ line_of line → now ≡ line_after mid meant → said ≡ line_text_in form number mid meant → Followed form start now had then (lines ++ line ∷ []) (text ++ said)
+  unfolding after text_of_in
+  followed_more now then line meant said read single is next makes = record {
+    each =
+        let good : is_good line ≡ true = ap is_some (sym is) in
+        list_all-append is_line lines (line ∷ []) ∙ rw (f.each, single, good) refl;
+    read = subst (Consumes had then) (sym (joined-append lines (line ∷ []))) (Consumes-trans had has then (joined lines) (line ++ feed ∷ []) f.read read);
+    state =
+        next ∙ ap (λ l. option_map_or (line_after mid) l mid) is ∙ ap (λ s. after s line) f.state ∙ sym (after_one start lines line);
+    said =
+        let own : said ≡ text_of_in form number mid line = makes ∙ ap (λ l. option_map_or (line_text_in form number mid) l []) is in
+        ap (λ t. t ++ said) f.said ∙ ap (λ t. text_in form 1 start lines ++ t) (own ∙ ap (λ n. text_of_in form n mid line) count ∙ ap (λ s. text_of_in form (1 + length lines) s line) f.state)
+        ∙ sym (text_one form 1 start lines line);
+  }
+
+  -- a line that is none
+  pub ends_badly : (then : Option (List ℕ)) (line : List ℕ) → Consumes has then (line ++ feed ∷ []) → has_no_feed line ≡ true → None ≡ line_of line → EndsBadly form start had text number
+  ends_badly then line read single is = record {
+    state = mid;
+    left = has;
+    lines = lines;
+    bad = line;
+    followed = f;
+    is_next = count;
+    single = single;
+    none = inl (ap is_some (sym is), (then, read));
+  }
+
+  -- a rest that no LF ends
+  pub ends_unended : (line : List ℕ) → IsAll has line → has_no_feed line ≡ true → 1 ≤ length line → EndsBadly form start had text number
+  ends_unended line all single some = record {
+    state = mid;
+    left = has;
+    lines = lines;
+    bad = line;
+    followed = f;
+    is_next = count;
+    single = single;
+    none = inr (some, all);
+  }
+
+  -- what was read is no line
+  pub unread_played : (e : PlayError) (then : Option (List ℕ)) (line : List ℕ) → ReadsLine has then line number (Err e)
+      → (now : State) (held holds : Option (List ℕ)) → Appends held holds text → PlayedIn {X = Unit {0}} form start now held holds had (Err e)
+  unread_played Read then line r now held holds written = tt
+  unread_played Write then line r now held holds written = absurd r
+  unread_played NoMemory then line r now held holds written = tt
+  unread_played (BadLine n) then line (is, all, single, some) now held holds written =
+      (text, subst (EndsBadly form start had text) (sym is) (ends_unended line all single some), written)
+
+  pub unread_compared : (e : PlayError) (then : Option (List ℕ)) (line : List ℕ) → ReadsLine has then line number (Err e)
+      → (expected more : List ℕ) → expected ≡ text ++ more → Compared form start had expected (Err e)
+  unread_compared Read then line r expected more alike = tt
+  unread_compared Write then line r expected more alike = absurd r
+  unread_compared NoMemory then line r expected more alike = tt
+  unread_compared (BadLine n) then line (is, all, single, some) expected more alike =
+      (text, more, alike, subst (EndsBadly form start had text) (sym is) (ends_unended line all single some))
+
+  -- a text that doesn't go on as is expected
+  pub differs_in_line : (then : Option (List ℕ)) (line : List ℕ) (meant : Line) (said expected more : List ℕ) (place : ℕ) → Consumes has then (line ++ feed ∷ []) → Some meant ≡ line_of line
+      → said ≡ line_text_in form number mid meant → expected ≡ text ++ more → place ≡ length text → ((rest : List ℕ) → more ≢ said ++ rest)
+      → DiffersAt form start had expected (record { number = number; place = place })
+  unfolding text_of_in
+  differs_in_line then line meant said expected more place read is makes alike at other = record {
+    state = mid;
+    left = has;
+    lines = lines;
+    text = text;
+    more = more;
+    followed = f;
+    alike = alike;
+    number = count;
+    place = at;
+    differs =
+        let own : said ≡ text_of_in form number mid line = makes ∙ ap (λ l. option_map_or (line_text_in form number mid) l []) is in
+        inl (line, then, read, ap is_some (sym is), λ rest same. other rest (same ∙ ap (λ t. t ++ rest) (sym own)));
+  }
+
+  -- no line is left, and the expected text goes on
+  pub differs_at_end : (expected more : List ℕ) (place : ℕ) → IsAtEnd has → expected ≡ text ++ more → place ≡ length text → 1 ≤ length more
+      → DiffersAt form start had expected (record { number = number; place = place })
+  differs_at_end expected more place at_end alike at some = record {
+    state = mid;
+    left = has;
+    lines = lines;
+    text = text;
+    more = more;
+    followed = f;
+    alike = alike;
+    number = count;
+    place = at;
+    differs = inr (at_end, some);
+  }

@@ -1,0 +1,37 @@
+-- Registers with names behind them.
+use Rattle.std.proofs.Common.{◌≡◌, ℕ, true, List, [], ◌∷◌, ◌++◌, Option, None, Some, Result, Ok, Err, sym, ap, ◌∙◌, append_assoc, refl}
+use Rattle.std.specs.Prelude.{IfErr, OnOk}
+use Rattle.ffa_model.specs.declared.endpoint.EndpointId.{EndpointId}
+use Rattle.ffa_model.specs.declared.operation.Outcome.{Outcome}
+use Rattle.ffa_model.specs.declared.operation.Outcome.TheVariants.{Regs}
+use Rattle.ffa_model.specs.State.{State}
+use Rattle.ffa_model.specs.Step.{step}
+use Rattle.ffa_model.specs.TraceLines.{Line, operate, show, audit, skip, feed}
+use Rattle.ffa_model.specs.TraceText.{ended, line_text, line_after, outcome_words}
+use Rattle.ffa_trace.specs.Lines.{outcome_of}
+use Rattle.ffa_trace.specs.declared.output.PlayError.{PlayError}
+use Rattle.ffa_trace.specs.declared.output.PlayError.TheVariants.{NoMemory}
+use Rattle.ffa_lines.specs.Forms.{PutsIn, names_mark, outcome_in, unnumbered_in}
+use Rattle.ffa_lines.specs.declared.form.Form.{Form}
+
+registers_named : (form : Form) → form.names ≡ true → (s : State) (line : Line) (runner : EndpointId) (x old mid new : List ℕ) → Some (Regs runner x) ≡ outcome_of s line
+    → mid ≡ old ++ line_text s line → ((front : List ℕ) → mid ≡ ended front → new ≡ ended (front ++ names_mark x)) → new ≡ old ++ unnumbered_in form s line
+registers_named form asked s (operate op) runner x old mid new came written put = of (step s op).outcome (some came) written
+  where
+    some : {o : Outcome} → Some (Regs runner x) ≡ Some o → o ≡ Regs runner x
+    some p = cc
+
+    of : (o : Outcome) → o ≡ Regs runner x → mid ≡ old ++ ended (outcome_words op o) → new ≡ old ++ outcome_in form op o
+    of o is written =
+        let words = outcome_words op (Regs runner x) in
+        let apart : mid ≡ ended (old ++ words) = written ∙ ap (λ o. old ++ ended (outcome_words op o)) is ∙ sym (append_assoc old words (feed ∷ [])) in
+        put (old ++ words) apart ∙ ap ended (append_assoc old words (names_mark x)) ∙ append_assoc old (words ++ names_mark x) (feed ∷ []) ∙ rw (is, asked) refl
+registers_named form asked s show runner x old mid new came written put = absurd cc
+registers_named form asked s audit runner x old mid new came written put = absurd cc
+registers_named form asked s skip runner x old mid new came written put = absurd cc
+
+pub puts_named : (form : Form) → form.names ≡ true → (s now : State) (line : Line) (runner : EndpointId) (x old mid new : List ℕ) → now ≡ line_after s line
+    → Some (Regs runner x) ≡ outcome_of s line → mid ≡ old ++ line_text s line
+    → (r : Result (Unit {0}) PlayError) → IfErr r (λ e. e ≡ NoMemory) → OnOk r ((front : List ℕ) → mid ≡ ended front → new ≡ ended (front ++ names_mark x)) → PutsIn form s now line old new r
+puts_named form asked s now line runner x old mid new next came written (Ok _) failed put = (next, registers_named form asked s line runner x old mid new came written put)
+puts_named form asked s now line runner x old mid new next came written (Err e) failed put = failed

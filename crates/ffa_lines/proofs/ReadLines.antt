@@ -1,0 +1,65 @@
+-- What reading up to an LF gives.
+use Rattle.std.proofs.Common.{◌≡◌, ◌≢◌, ◌+◌, ◌-◌, ◌≤◌, ℕ, suc, Bool, true, false, List, [], ◌∷◌, ◌++◌, length, take, Option, None, Some, Result, Ok, Err, inl, inr, sym, ap, ◌∙◌, subst, arith, length-append, refl}
+use Rattle.std.specs.Prelude.{◌==◌, All, IfSome}
+use Rattle.std.specs.Io.KnownBytes.{Consumes}
+use Rattle.std.specs.Io.{StopsAt}
+use Rattle.std.specs.Io.BufRead.{take_through}
+use Rattle.std.proofs.lemmas.Bool.{cases_Bool, eqb-true}
+use Rattle.std.proofs.lemmas.List.Folds.{list_all-append}
+use Rattle.std.proofs.Math.Seq.{take-append_seam}
+use Rattle.ffa_model.specs.TraceLines.{feed, has_no_feed}
+use Rattle.ffa_trace.specs.declared.output.PlayError.{PlayError}
+use Rattle.ffa_trace.specs.declared.output.PlayError.TheVariants.{Read, Write, NoMemory, BadLine}
+use Rattle.ffa_lines.specs.Reading.{IsAll, ReadsLine, TakesFeed}
+
+one_free : (x : ℕ) (xs : List ℕ) → x ≢ feed → has_no_feed xs ≡ true → has_no_feed (x ∷ xs) ≡ true
+one_free x xs other rest =
+    elim (cases_Bool (x == feed)) [
+      | inl same ↦ absurd (other (eqb-true x feed same))
+      | inr differs ↦ rw (differs, rest) refl
+    ]
+
+free : (xs : List ℕ) → All (λ x. x ≢ feed) xs → has_no_feed xs ≡ true
+free [] each = refl
+free (x ∷ xs) each = one_free x xs (each 0 0 (omega arith)) (free xs (λ k d inside. each (suc k) d (omega (arith, inside))))
+
+-- all bytes were read where no LF was
+all_through : (xs : List ℕ) → has_no_feed (take_through feed xs) ≡ true → take_through feed xs ≡ xs
+all_through [] h = refl
+all_through (x ∷ xs) h =
+    elim (cases_Bool (x == feed)) [
+      | inl same ↦ absurd (none same h)
+      | inr differs ↦ rw differs (ap (λ l. x ∷ l) (all_through xs (more differs h)))
+    ]
+  where
+    none : x == feed ≡ true → has_no_feed (take_through feed (x ∷ xs)) ≡ true → ⊥
+    none same h = absurd cc
+
+    more : x == feed ≡ false → has_no_feed (take_through feed (x ∷ xs)) ≡ true → has_no_feed (take_through feed xs) ≡ true
+    more differs h = cc
+
+-- the bytes before the last have no LF
+front_free : (front : List ℕ) (last : ℕ) → StopsAt (front ++ last ∷ []) feed → has_no_feed front ≡ true
+front_free front last stops =
+    let count : length (front ++ last ∷ []) - 1 ≡ length front = omega (arith, length-append front (last ∷ [])) in
+    free front (subst (All (λ x. x ≢ feed)) (ap (λ n. take n (front ++ last ∷ [])) count ∙ take-append_seam front (last ∷ [])) stops)
+
+pub line_read : (had has : Option (List ℕ)) (all line : List ℕ) (number : ℕ) (r : Result Bool PlayError) → Consumes had has all → StopsAt all feed
+    → IfSome had (λ xs. all ≡ take_through feed xs) → TakesFeed all line number r → ReadsLine had has line number r
+line_read had has all line number (Ok true) read stops through is =
+    (subst (Consumes had has) is read, front_free line feed (subst (λ l. StopsAt l feed) is stops))
+line_read had has all line number (Ok false) read stops through is = absurd is
+line_read had has all line number (Err Read) read stops through is = tt
+line_read had has all line number (Err NoMemory) read stops through is = tt
+line_read had has all line number (Err Write) read stops through is = absurd is
+line_read had has all line number (Err (BadLine n)) read stops through (number_is, same, (front, last, are, other)) =
+    (number_is, whole had through, subst (λ l. has_no_feed l ≡ true) (sym same) single, omega (arith, ap length same, ap length are, length-append front (last ∷ [])))
+  where
+    single : has_no_feed all ≡ true
+    single =
+        let before = front_free front last (subst (λ l. StopsAt l feed) are stops) in
+        ap has_no_feed are ∙ list_all-append _ front (last ∷ []) ∙ rw (before, one_free last [] other refl) refl
+
+    whole : (had : Option (List ℕ)) → IfSome had (λ xs. all ≡ take_through feed xs) → IsAll had line
+    whole None through = tt
+    whole (Some xs) through = sym (all_through xs (ap has_no_feed (sym through) ∙ single)) ∙ sym through ∙ sym same

@@ -1,0 +1,66 @@
+-- What a play line by line leaves.
+use Rattle.std.specs.Prelude.{◌≡◌, ◌≢◌, ◌≤◌, ◌⊎◌, ℕ, ◌+◌, true, false, List, [], ◌∷◌, ◌++◌, length, Option, None, Some, Result, Ok, Err, ⊤}
+use Rattle.std.specs.Io.KnownBytes.{Appends, Consumes, IsAtEnd}
+use Rattle.ffa_model.specs.State.{State}
+use Rattle.ffa_model.specs.TraceLines.{feed, has_no_feed, is_good, are_lines, joined}
+use Rattle.ffa_model.specs.TraceText.{after_all}
+use Rattle.ffa_trace.specs.declared.output.PlayError.{PlayError}
+use Rattle.ffa_trace.specs.declared.output.PlayError.TheVariants.{Read, Write, NoMemory, BadLine}
+use Rattle.ffa_lines.specs.declared.form.Form.{Form}
+use Rattle.ffa_lines.specs.declared.comparison.Difference.{Difference}
+use Rattle.ffa_lines.specs.Forms.{text_in, text_of_in}
+use Rattle.ffa_lines.specs.Reading.{IsAll}
+
+-- What follows speaks of the machine's state before and now (`start`, `now`), and of what was unread in the reader before and after.
+
+-- these lines were read and done, and this is their text
+pub record Followed (form : Form) (start now : State) (had has : Option (List ℕ)) (lines : List (List ℕ)) (text : List ℕ) : Type 0 where
+  pub each : are_lines lines ≡ true
+  pub read : Consumes had has (joined lines)
+  pub state : now ≡ after_all start lines
+  pub said : text ≡ text_in form 1 start lines
+
+-- the line behind these is none of the format, or a rest that no LF ends
+pub record EndsBadly (form : Form) (start : State) (had : Option (List ℕ)) (text : List ℕ) (number : ℕ) : Type 0 where
+  pub state : State
+  pub left : Option (List ℕ)
+  pub lines : List (List ℕ)
+  pub bad : List ℕ
+  pub followed : Followed form start state had left lines text
+  pub is_next : number ≡ 1 + length lines
+  pub single : has_no_feed bad ≡ true
+  pub none : ((is_good bad ≡ false) × ((after_bad : Option (List ℕ)) × Consumes left after_bad (bad ++ feed ∷ []))) ⊎ ((1 ≤ length bad) × IsAll left bad)
+
+-- a play that writes each text: whole, or up to a bad line
+abbrev pub PlayedIn : {X : Type 0} → Form → State → State → Option (List ℕ) → Option (List ℕ) → Option (List ℕ) → Result X PlayError → Type 0
+PlayedIn form start now held holds had (Ok _) =
+    (left : Option (List ℕ)) × (lines : List (List ℕ)) × (text : List ℕ) × Followed form start now had left lines text × IsAtEnd left × Appends held holds text
+PlayedIn form start now held holds had (Err (BadLine n)) = (text : List ℕ) × EndsBadly form start had text n × Appends held holds text
+PlayedIn form start now held holds had (Err Read) = ⊤
+PlayedIn form start now held holds had (Err Write) = ⊤
+PlayedIn form start now held holds had (Err NoMemory) = ⊤
+
+-- the text of these lines begins what is expected, and then either the next line's text doesn't go on with it, or no line is left and the
+-- expected text goes on
+pub record DiffersAt (form : Form) (start : State) (had : Option (List ℕ)) (expected : List ℕ) (difference : Difference) : Type 0 where
+  pub state : State
+  pub left : Option (List ℕ)
+  pub lines : List (List ℕ)
+  pub text : List ℕ
+  pub more : List ℕ
+  pub followed : Followed form start state had left lines text
+  pub alike : expected ≡ text ++ more
+  pub number : difference.number ≡ 1 + length lines
+  pub place : difference.place ≡ length text
+  pub differs : ((line : List ℕ) × (after_line : Option (List ℕ)) × Consumes left after_line (line ++ feed ∷ []) × (is_good line ≡ true)
+      × ((rest : List ℕ) → more ≢ text_of_in form difference.number state line ++ rest)) ⊎ (IsAtEnd left × (1 ≤ length more))
+
+-- a comparison: the whole text is what is expected, or it differs, or a line is none
+abbrev pub Compared : Form → State → Option (List ℕ) → List ℕ → Result (Option Difference) PlayError → Type 0
+Compared form start had expected (Ok None) =
+    (now : State) × (left : Option (List ℕ)) × (lines : List (List ℕ)) × Followed form start now had left lines expected × IsAtEnd left
+Compared form start had expected (Ok (Some difference)) = DiffersAt form start had expected difference
+Compared form start had expected (Err (BadLine n)) = (text : List ℕ) × (more : List ℕ) × (expected ≡ text ++ more) × EndsBadly form start had text n
+Compared form start had expected (Err Read) = ⊤
+Compared form start had expected (Err Write) = ⊤
+Compared form start had expected (Err NoMemory) = ⊤

@@ -1,0 +1,3 @@
+pub mod Followed
+pub mod Forms
+pub mod Reading

@@ -1,0 +1,58 @@
+//! A play against a text that is expected.
+ghost use Rattle.ffa_lines.specs.Followed.{Compared};
+ghost use Rattle.ffa_lines.specs.Forms.{plain};
+
+use crate::form::{Form, make_text};
+use crate::read::next_line;
+use ffa_physmem::PhysMem;
+use ffa_tlb::Translations;
+use ffa_trace::{Line, PlayError, Player};
+use std::alloc::Allocator;
+use std::io::BufRead;
+
+/// Where a text first differs from what is expected.
+#[derive(Clone, Copy, Debug, PartialEq, Eq)]
+pub struct Difference {
+    /// The number of the line whose text differs, counted from 1, or of the line behind the last, where the expected text
+    /// goes on.
+    pub number: u64,
+    /// How many bytes of the expected text the lines before it printed.
+    pub place: usize,
+}
+
+/// Does the lines that the reader gives, one after another, up to the first whose text isn't how the expected text goes on,
+/// and answers where that is. The bytes of the line at which it stopped stand in `bytes`, and its text in `text`.
+pub fn compare<M: PhysMem + Drop, T: Translations + Drop, A: Allocator + Copy, R: BufRead>(
+    player: &mut Player<M, T>,
+    alloc: A,
+    reader: &mut R,
+    expected: &[u8],
+    bytes: &mut Vec<u8, A>,
+    text: &mut Vec<u8, A>,
+) -> Result<Option<Difference>, PlayError>
+    ensures { Compared plain player.old.state (R.remaining reader.old) expected.now result }
+{
+    let plain = Form {
+        number: false,
+        names: false,
+    };
+    let mut rest = expected;
+    let mut number = 1;
+    while number < u64::MAX {
+        let place = expected.len() - rest.len();
+        let differs = Some(Difference { number, place });
+        if !next_line(reader, bytes, number)? {
+            return Ok(if rest.is_empty() { None } else { differs });
+        }
+        let Some(line) = Line::read(bytes) else {
+            return Err(PlayError::BadLine(number));
+        };
+        make_text(player, alloc, plain, number, &line, text)?;
+        let Some(more) = rest.strip_prefix(text.as_slice()) else {
+            return Ok(differs);
+        };
+        rest = more;
+        number += 1;
+    }
+    Err(PlayError::Read)
+}

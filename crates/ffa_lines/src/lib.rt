@@ -1,0 +1,13 @@
+//! Plays a trace line by line: with the number of each line, with the names of what registers hold, or against a text that
+//! is expected.
+#![tactic(auto)]
+
+mod comparison;
+mod form;
+mod playing;
+mod read;
+
+pub use comparison::{Difference, compare};
+pub use form::{Form, make_text};
+pub use playing::play;
+pub use read::next_line;
