@@ -6,17 +6,24 @@ ghost use Rattle.ffa_abi.specs.Parts.{called_in, payload_of, transfer_of, widest
 use ffa_model::function::*;
 use ffa_model::{Call, Transfer};
 
+// The low half of a register.
+pub(crate) fn low(register: u64) -> u32
+    ensures { result ≡ low register }
+{
+    (register % (1 << 32)) as u32
+}
+
 /// The registers x0 to x7 of a call, of which the low half of x0 names the function.
 #[derive(Clone, Copy, Debug)]
 struct Registers([u64; 8]);
 
 impl Registers {
-    // The low half of a register.
+    // The low half of a register, by its number.
     fn w(&self, index: usize) -> u32
         requires { index < 8 }
         ensures { result ≡ low (slice_index self.now.0 index) }
     {
-        (self.0[index] % (1 << 32)) as u32
+        low(self.0[index])
     }
 
     // A whole register in the 64-bit form of a call, whose identifier has bit 30 set, and else its low half.

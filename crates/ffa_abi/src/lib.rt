@@ -2,8 +2,10 @@
 #![tactic(auto)]
 
 mod call;
+mod names;
 mod reply;
 
 pub use call::{decode, is_function};
 pub use ffa_model::{Call, Reply};
+pub use names::{call_name, error_name};
 pub use reply::encode;

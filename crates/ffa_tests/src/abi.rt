@@ -1,6 +1,6 @@
 //! The identifiers and values of the standard.
 use crate::checks::{holds, holds_at, same, same_at};
-use ffa_abi::{decode, encode, is_function};
+use ffa_abi::{call_name, decode, encode, error_name, is_function};
 use ffa_model::{Call, ErrorCode, Reply};
 use std::test::Fail;
 
@@ -162,4 +162,39 @@ fn replies(rt: HostRuntime) {
         encode(&Reply::Retrieved(0x60)),
         [0x8400_0075, 0x60, 0x60, 0, 0, 0, 0, 0],
     );
+}
+
+// w0 and w2, and the names of the call and of the error: a dash where there is none.
+const NAMES: &str = "\
+84000060 FFFFFFFE FFA_ERROR INVALID_PARAMETERS
+84000060 FFFFFFFF FFA_ERROR NOT_SUPPORTED
+84000060 FFFFFFFA FFA_ERROR DENIED
+84000060 FFFFFFF7 FFA_ERROR NO_DATA
+84000060 FFFFFFF6 FFA_ERROR -
+84000060 00000000 FFA_ERROR -
+84000061 FFFFFFFE FFA_SUCCESS -
+C4000061 00000000 FFA_SUCCESS -
+8400006F 00000000 FFA_MSG_SEND_DIRECT_REQ -
+C4000070 00000000 FFA_MSG_SEND_DIRECT_RESP -
+84000075 00000060 FFA_MEM_RETRIEVE_RESP -
+84000086 00000000 FFA_MSG_SEND2 -
+00010001 00000000 - -
+FFFFFFFF FFFFFFFF - -
+C4000060 FFFFFFFE - -
+C4000063 00000000 - -
+C4000075 00000000 - -";
+
+#[test]
+fn names_of_calls_and_errors(rt: HostRuntime) -> Result<(), Fail> {
+    for row in NAMES.lines() {
+        let (w0, rest) = row.split_once(' ').ok_or("no w0")?;
+        let (w2, wanted) = rest.split_once(' ').ok_or("no w2")?;
+        let mut x = registers(u32::from_str_radix(w0, 16)?);
+        x[2] = (0xA2 << 32) | u64::from(u32::from_str_radix(w2, 16)?);
+        let call = call_name(&x).unwrap_or("-");
+        let error = error_name(&x).unwrap_or("-");
+        let found = format!(in rt.alloc(); "{call} {error}")?;
+        same_at(&rt, found.as_str(), wanted, &row);
+    }
+    Ok(())
 }
