@@ -136,8 +136,8 @@ module _ (s : State) (steady : IsSteady s) (h : ℕ) (t : Transaction) (there : 
   pub page-same : (p : ℕ) → names s t.ranges p ≡ false → page_at given p ≡ page_at s p
   page-same p away = page-given p ∙ ap (λ b. cond b (donated_page r right (page_at s p)) (page_at s p)) away
 
-  base-same : (p : ℕ) → names s t.ranges p ≡ false → own_right_of given p ≡ own_right_of s p
-  base-same p away = ap (option_map (λ (page : Page). page.own_right)) (page-same p away)
+  own_right-same : (p : ℕ) → names s t.ranges p ≡ false → own_right_of given p ≡ own_right_of s p
+  own_right-same p away = ap (option_map (λ (page : Page). page.own_right)) (page-same p away)
 
   owner-same : (p : ℕ) → names s t.ranges p ≡ false → owner_of given p ≡ owner_of s p
   owner-same p away = ap owner_in (page-same p away)
@@ -163,7 +163,7 @@ module _ (s : State) (steady : IsSteady s) (h : ℕ) (t : Transaction) (there : 
         → list_all (λ p. test (own_right_of given p)) (pages_in (own_rights_of given) u.ranges) ≡ list_all (λ p. test (own_right_of s p)) (pages_in (own_rights_of s) u.ranges)
     rights-same test =
         ap (λ n. list_all (λ p. test (own_right_of given p)) (filter (names s u.ranges) (listed n (λ p. p)))) size-given
-        ∙ same-tests (λ p. test (own_right_of given p)) (λ p. test (own_right_of s p)) (names s u.ranges) (length s.pages) (λ p. p) (λ p lt named. ap test (base-same p (apart p named)))
+        ∙ same-tests (λ p. test (own_right_of given p)) (λ p. test (own_right_of s p)) (names s u.ranges) (length s.pages) (λ p. p) (λ p lt named. ap test (own_right-same p (apart p named)))
 
     ceiling-same : (f : ℕ) → ceiling (own_rights_of given) u f ≡ ceiling (own_rights_of s) u f
     ceiling-same f = of u.kind
@@ -178,9 +178,9 @@ module _ (s : State) (steady : IsSteady s) (h : ℕ) (t : Transaction) (there : 
         record {
           owned = λ p named. owner-same p (apart p named) ∙ was.owned p named;
           receiver = was.receiver;
-          within = λ p e its named held. ap (is_within (Some its)) (base-same p (apart p named)) ∙ was.within p e its named held;
+          within = λ p e its named held. ap (is_within (Some its)) (own_right-same p (apart p named)) ∙ was.within p e its named held;
           alone = was.alone;
-          ceilings = λ p e named. (λ i. is_within (Some (ceiling-same e i)) (base-same p (apart p named) i)) ∙ was.ceilings p e named;
+          ceilings = λ p e named. (λ i. is_within (Some (ceiling-same e i)) (own_right-same p (apart p named) i)) ∙ was.ceilings p e named;
           taker = was.taker;
         }
 

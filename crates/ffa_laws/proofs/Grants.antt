@@ -74,24 +74,24 @@ module _ (s : State) (t : Transaction) (p e : ℕ) (page : Page) (at : page_at s
   each : (test : ℕ → Bool) → list_all test (pages_in (own_rights_of s) t.ranges) ≡ true → test p ≡ true
   each test all = listed-each test (names s t.ranges) (length s.pages) (λ q. q) all p lt named
 
-  base : own_right_of s p ≡ Some page.own_right
-  base = ap page_right at
+  own_right-is : own_right_of s p ≡ Some page.own_right
+  own_right-is = ap page_right at
 
   execute : are_executable (own_rights_of s) t.ranges ≡ true → page.own_right.exec ≡ true
-  execute all = sym (ap may_fetch base) ∙ each (λ q. may_fetch (own_right_of s q)) all
+  execute all = sym (ap may_fetch own_right-is) ∙ each (λ q. may_fetch (own_right_of s q)) all
 
   pub granted-ceiling : list_all (are_grants_within (own_rights_of s) t.receivers) (pages_in (own_rights_of s) t.ranges) ≡ true
       → is_within (Some (ceiling (own_rights_of s) t e)) (page_right (page_at s p)) ≡ true
   granted-ceiling grants = ap (λ o. is_within (Some (ceiling (own_rights_of s) t e)) (page_right o)) at ∙ of t.kind
     where
       grant : is_data_at_most (grant_to t e) page.own_right.level ≡ true
-      grant = granted t.receivers e page.own_right (sym (ap (λ right. list_all (λ (r : Receiver). is_grantable r.grant right) t.receivers) base) ∙ each (are_grants_within (own_rights_of s) t.receivers) grants)
+      grant = granted t.receivers e page.own_right (sym (ap (λ right. list_all (λ (r : Receiver). is_grantable r.grant right) t.receivers) own_right-is) ∙ each (are_grants_within (own_rights_of s) t.receivers) grants)
 
       of : (kind : Kind) → is_at_most (ceiling_in kind (own_rights_of s) t e) page.own_right ≡ true
       of Share = and_from _ _ grant refl
       of Lend = and_from _ _ grant (alone-executed (length t.receivers == 1) (are_executable (own_rights_of s) t.ranges) page.own_right.exec execute)
       of Donate =
-          and_from _ _ (level-within (are_writable (own_rights_of s) t.ranges) page.own_right.level (λ all. sym (ap may_store base) ∙ each (λ q. may_store (own_right_of s q)) all))
+          and_from _ _ (level-within (are_writable (own_rights_of s) t.ranges) page.own_right.level (λ all. sym (ap may_store own_right-is) ∙ each (λ q. may_store (own_right_of s q)) all))
           (executed (are_executable (own_rights_of s) t.ranges) page.own_right.exec execute)
 
 -- a donate that has at most one receiver is to one

@@ -105,7 +105,7 @@ same-rights s = rewritten-rights s.pages s.pages (unwritten s.pages)
 grown-from : (s t u : State) → KeepsRights s.pages t.pages → NeverGrow t u → NeverGrow s u
 grown-from s t u keeps later =
     record {
-      base = λ p. within-through (page_right (page_at u p)) (page_right (page_at t p)) (page_right (page_at s p)) (later.base p) (keeps.own_rights p);
+      own_right = λ p. within-through (page_right (page_at u p)) (page_right (page_at t p)) (page_right (page_at s p)) (later.own_right p) (keeps.own_rights p);
       within = later.within;
       manager = λ p none. later.manager p (keeps.manager p none);
       alone = later.alone;
@@ -113,7 +113,7 @@ grown-from s t u keeps later =
 
 not_grown : (s : State) → IsSteady s → NeverGrow s s
 not_grown s steady =
-    record { base = λ p. within-same (page_right (page_at s p)); within = access-within s steady; manager = λ p none. none; alone = access-alone s steady }
+    record { own_right = λ p. within-same (page_right (page_at s p)); within = access-within s steady; manager = λ p none. none; alone = access-alone s steady }
 
 module _ (s : State) (steady : IsSteady s) where
   -- what a donate gives is within what its sender had

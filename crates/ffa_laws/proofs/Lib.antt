@@ -62,4 +62,4 @@ pub mod ReadRuns
 pub mod Tellings
 pub mod Forgotten
 pub mod Origins
-pub mod Offers
+pub mod Waiting

@@ -215,18 +215,18 @@ module _ (s : State) (steady : IsSteady s) where
 
     -- where all may be sent, the runner sees their rights
     module _ (free : list_all (is_sendable s.runner (candidates s) s.buffers) (pages_in (own_rights_of s) ranges) ≡ true) where
-      base-seen : (p : ℕ) → p < length s.pages → names s ranges p ≡ true → own_right_of v p ≡ own_right_of s p
-      base-seen p lt named =
+      own_right-seen : (p : ℕ) → p < length s.pages → names s ranges p ≡ true → own_right_of v p ≡ own_right_of s p
+      own_right-seen p lt named =
           let (page, at, alone) = sendable-alone s ranges free p lt named in
           ap (option_map (λ (page : Page). page.own_right)) (view-page s.runner s p ∙ ap (λ b. kept b (page_at s p)) (alone-near s s.runner p alone))
 
       grants-seen : (receivers : List Receiver) → list_all (are_grants_within (own_rights_of v) receivers) (pages_in (own_rights_of v) ranges) ≡ list_all (are_grants_within (own_rights_of s) receivers) (pages_in (own_rights_of s) ranges)
       grants-seen receivers =
           tests-seen (are_grants_within (own_rights_of v) receivers) (are_grants_within (own_rights_of s) receivers)
-          (λ p lt named. ap (λ right. list_all (λ (r : Receiver). is_grantable r.grant right) receivers) (base-seen p lt named))
+          (λ p lt named. ap (λ right. list_all (λ (r : Receiver). is_grantable r.grant right) receivers) (own_right-seen p lt named))
 
       writable-seen : are_writable (own_rights_of v) ranges ≡ are_writable (own_rights_of s) ranges
-      writable-seen = tests-seen (λ p. may_store (own_right_of v p)) (λ p. may_store (own_right_of s p)) (λ p lt named. ap may_store (base-seen p lt named))
+      writable-seen = tests-seen (λ p. may_store (own_right_of v p)) (λ p. may_store (own_right_of s p)) (λ p lt named. ap may_store (own_right-seen p lt named))
 
   -- how often it has sent, and so the next handle
   sends-seen : sent_by v s.runner ≡ sent_by s s.runner

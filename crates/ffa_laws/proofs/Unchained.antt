@@ -111,9 +111,6 @@ module _ (c : Schedule) (sound : IsSound c) (some : 1 ≤ length c.works) (few :
   yielded≢blocked : Yielded ≡ Blocked → ⊥
   yielded≢blocked h = cc
 
-  yielded≢waiting : Yielded ≡ Waiting → ⊥
-  yielded≢waiting h = cc
-
   -- the normal world is in the chain
   not_normal : (status : Status) → status ≢ Running → status ≢ Blocked → status_in c 0 ≡ status → ⊥
   not_normal status not_running not_blocked is = elim sound.normal [

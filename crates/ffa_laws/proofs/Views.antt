@@ -109,10 +109,6 @@ pub or_true : (b : Bool) → (b || true) ≡ true
 or_true true = refl
 or_true false = refl
 
-or_false : (b : Bool) → (b || false) ≡ b
-or_false true = refl
-or_false false = refl
-
 -- an open transaction that names a page is its owner's, and its holders are its receivers
 pub record IsOf (page : Option Page) (t : Option Transaction) : Type 0 where
   pub owner : (u : Transaction) → t ≡ Some u → option_map_or (λ (q : Page). q.owner) page 0x8000 ≡ u.sender

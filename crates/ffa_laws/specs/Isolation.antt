@@ -67,7 +67,7 @@ is_joint_at t = option_map_or is_joint t false
 
 -- from one state to a later one
 pub record NeverGrow (s t : State) : Type 0 where
-  pub base : (p : ℕ) → is_within (own_right_of t p) (own_right_of s p) ≡ true
+  pub own_right : (p : ℕ) → is_within (own_right_of t p) (own_right_of s p) ≡ true
   pub within : (e p : ℕ) → is_within (access t e p) (own_right_of t p) ≡ true
   pub manager : (p : ℕ) → page_at s p ≡ None → page_at t p ≡ None
   pub alone : (e f p : ℕ) → e ≢ f → is_some (access t e p) ≡ true → is_some (access t f p) ≡ true → is_joint_at (transaction_at t p) ≡ true

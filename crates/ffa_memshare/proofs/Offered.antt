@@ -1,10 +1,10 @@
 -- What an endpoint offers that passed the checks.
-use Rattle.std.proofs.Common.{◌≡◌, ◌≢◌, ◌∙◌, ℕ, zero, suc, ◌+◌, ◌*◌, ◌%◌, ◌<◌, ◌≤◌, Bool, true, false, cond, List, [], ◌∷◌, length, get_or, Option, Some, None, refl, sym, ap, arith, inl, inr}
+use Rattle.std.proofs.Common.{◌≡◌, ◌∙◌, ℕ, zero, suc, ◌+◌, ◌*◌, ◌%◌, ◌<◌, ◌≤◌, Bool, true, false, cond, List, [], ◌∷◌, length, get_or, Option, Some, None, refl, sym, ap, arith, inl, inr}
 use Rattle.std.specs.Prelude.{◌==◌, not, ◌&&◌, ◌||◌, is_some, filter}
 use Rattle.std.specs.List.{list_all}
 use Rattle.std.specs.Option.{option_map, option_map_or}
-use Rattle.std.proofs.lemmas.Bool.{and_parts, cases_lt, eqb-true, leb-true, ltb-true, ne_eqb, or_cases, false≢true}
-use Rattle.std.proofs.lemmas.Option.{none-some}
+use Rattle.std.proofs.Math.Bool.{or-and_distrib_left, or-true}
+use Rattle.std.proofs.lemmas.Bool.{and_parts, eqb-true, leb-true, ltb-true, ne_eqb, or_cases, false≢true}
 use Rattle.ffa_model.specs.declared.rights.Data.{Data}
 use Rattle.ffa_model.specs.declared.rights.Data.TheVariants.{Ro, Rw}
 use Rattle.ffa_model.specs.declared.rights.Rights.{Rights}
@@ -13,7 +13,6 @@ use Rattle.ffa_model.specs.declared.transaction.Range.{Range}
 use Rattle.ffa_model.specs.declared.transaction.Receiver.{Receiver}
 use Rattle.ffa_model.specs.Buffers.{Candidate}
 use Rattle.ffa_model.specs.DescriptorPlaces.{Versioned, range_count, receiver_count}
-use Rattle.ffa_model.specs.Identifiers.{manager}
 use Rattle.ffa_model.specs.Lists.{listed}
 use Rattle.ffa_model.specs.MemorySend.{are_grants_within, is_grantable, is_inside, is_own, is_sendable}
 use Rattle.ffa_model.specs.Rights.{may_store, may_write}
@@ -22,7 +21,7 @@ use Rattle.ffa_model.specs.State.{Buffers}
 use Rattle.ffa_model.specs.Transactions.{are_writable, pages_in}
 use Rattle.ffa_model.proofs.NamedPages.{listed-each}
 use Rattle.ffa_model.proofs.Listed.{get_or-listed, length-listed}
-use Rattle.ffa_pages.specs.Entry.{Entry, own_right_at, entry_at, owner_at}
+use Rattle.ffa_pages.specs.Entry.{Entry, own_right_at, entry_at}
 use Rattle.ffa_rxtx.specs.Parts.{candidate_in, candidates_in}
 use Rattle.ffa_memshare.specs.Named.{own_rights_in}
 use Rattle.ffa_memshare.specs.Offers.{AreAligned, IsOwnOffer, grants_writes}
@@ -104,20 +103,6 @@ checked-offered table base e buffers r whole aligned sender inside sendable =
           (named-within base (length table) r.ranges p placed named) named)).0;
     }
 
--- so no page of it is the manager's, and none is one of the tables
-pub own-owned : (table : List (Option Entry)) (base e : ℕ) (r : SendRecord) → IsOwnOffer table base e r → e ≢ manager
-    → (p : ℕ) → in_ranges base r.ranges p ≡ true → owner_at table p ≢ manager
-own-owned table base e r own other p named is =
-    let (x, at, its) = own.own p named in
-    other (sym its ∙ sym (ap (λ (o : Option Entry). option_map_or (λ (y : Entry). y.owner) o manager) at) ∙ is)
-
-pub own-behind : (table : List (Option Entry)) (base e : ℕ) (r : SendRecord) (first : ℕ) → IsOwnOffer table base e r
-    → ((p : ℕ) → p < first → entry_at table p ≡ None) → (p : ℕ) → in_ranges base r.ranges p ≡ true → first ≤ p
-own-behind table base e r first own none p named = elim (cases_lt p first) [
-  | inl before ↦ (let (x, at, its) = own.own p named in absurd (none-some x (sym (none p before) ∙ at)))
-  | inr behind ↦ behind
-]
-
 -- GRANTS
 both : (m w : Bool) → (m && (not w || m)) ≡ (not true || m)
 both true true = refl
@@ -139,20 +124,12 @@ page-grants (q ∷ receivers) right = of q.grant (page-grants receivers right)
 
 module _ (all one keep : ℕ → Bool) (w : Bool) where
   each-grants : (xs : List ℕ) → ((p : ℕ) → keep p ≡ true → all p ≡ (not w || one p)) → list_all all (filter keep xs) ≡ (not w || list_all one (filter keep xs))
-  each-grants [] each = of w
-    where
-      of : (w : Bool) → true ≡ (not w || true)
-      of true = refl
-      of false = refl
+  each-grants [] each = sym (or-true (not w))
   each-grants (p ∷ xs) each = of (keep p) refl (each-grants xs each)
     where
-      split : (w a b : Bool) → ((not w || a) && (not w || b)) ≡ (not w || (a && b))
-      split true a b = refl
-      split false a b = refl
-
       of : (b : Bool) → keep p ≡ b → list_all all (filter keep xs) ≡ (not w || list_all one (filter keep xs))
           → list_all all (cond b (p ∷ filter keep xs) (filter keep xs)) ≡ (not w || list_all one (cond b (p ∷ filter keep xs) (filter keep xs)))
-      of true kept rest = ap (λ b. b && list_all all (filter keep xs)) (each p kept) ∙ ap (λ b. (not w || one p) && b) rest ∙ split w (one p) (list_all one (filter keep xs))
+      of true kept rest = ap (λ b. b && list_all all (filter keep xs)) (each p kept) ∙ ap (λ b. (not w || one p) && b) rest ∙ sym (or-and_distrib_left (not w) (one p) (list_all one (filter keep xs)))
       of false out rest = rest
 
 -- so are those of all pages that an endpoint owns

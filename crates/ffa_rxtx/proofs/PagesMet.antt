@@ -1,72 +1,46 @@
 -- Pages in which somebody has a buffer, of some that lie in a row.
-use Rattle.std.proofs.Common.{◌≡◌, ◌∙◌, ℕ, ◌<◌, ◌≤◌, Bool, true, false, List, [], ◌∷◌, Option, Some, None, refl, ap, sym, arith, inl, inr}
-use Rattle.std.specs.Prelude.{◌||◌}
-use Rattle.std.specs.List.{list_any}
-use Rattle.std.specs.Option.{option_map_or}
-use Rattle.std.proofs.lemmas.Bool.{cases_Bool, cases_lt}
-use Rattle.std.proofs.lemmas.Bool.Decides.{nat_tests}
-use Rattle.ffa_model.specs.Lists.{is_in_run}
+use Rattle.std.proofs.Common.{◌≡◌, ◌∙◌, ℕ, suc, ◌<◌, ◌≤◌, Bool, true, false, List, [], ◌∷◌, length, Option, None, refl, ap, arith, inl, inr, ◌↔◌, IsTrue}
+use Rattle.std.specs.Prelude.{MatchBool}
+use Rattle.std.specs.List.{AllWithin, HoldsAt}
+use Rattle.std.specs.Option.{option_map}
+use Rattle.std.proofs.lemmas.Bool.{false≢true, or_cases}
+use Rattle.std.proofs.lemmas.List.{get_or-map, length-map}
+use Rattle.std.proofs.lemmas.List.Folds.{list_any_at}
 use Rattle.ffa_model.specs.MemorySend.{is_buffer}
 use Rattle.ffa_model.specs.State.{Buffers}
-use Rattle.ffa_rxtx.specs.Parts.{are_met, is_run_met}
-
-abbrev has_page : ℕ → Option Buffers → Bool
-has_page p own = option_map_or (λ (b : Buffers). is_in_run b.tx b.pages p || is_in_run b.rx b.pages p) own false
+use Rattle.ffa_rxtx.specs.declared.buffers.Mapped.{Mapped}
+use Rattle.ffa_rxtx.specs.Parts.{have_page}
+use Rattle.ffa_rxtx.specs.Stored.{buffers_of, list_of}
 
 module _ (first end : ℕ) where
-  run-page : (run n : ℕ) → is_run_met first end run n ≡ true → (p : ℕ) × (first ≤ p) × (p < end) × (is_in_run run n p ≡ true)
-  run-page run n met = elim (cases_lt run first) [
-    | inl before ↦ (first, omega arith, grind (arith, met, nat_tests), grind (arith, met, before, nat_tests))
-    | inr behind ↦ (run, omega (arith, behind), grind (arith, met, nat_tests), grind (arith, met, nat_tests))
+  -- one of these pages passes a test
+  abbrev pub IsAnyPage : (ℕ → Bool) → Type 0
+  IsAnyPage test = (p : ℕ) × (first ≤ p) × (p < end) × (test p ≡ true)
+
+  -- one of these pages is an endpoint's buffer
+  abbrev pub HasPage : Option Mapped → Type 0
+  HasPage own = IsAnyPage (have_page (option_map buffers_of own))
+
+  found : (all : List (Option Mapped)) (k : ℕ) → k < length all → HoldsAt HasPage all k → IsAnyPage (is_buffer (list_of all))
+  found all k lt here =
+      let (p, low, high, is) = here None in (
+        p,
+        low,
+        high,
+        list_any_at (λ (own : Option Buffers). have_page own p) (list_of all) k None (omega (arith, lt, length-map all (option_map buffers_of)))
+            (ap (λ (own : Option Buffers). have_page own p) (get_or-map (option_map buffers_of) all k None None lt) ∙ is),
+      )
+
+  away : (all : List (Option Mapped)) → AllWithin (λ own. HasPage own → ⊥) all 0 (length all) → (p : ℕ) → first ≤ p → p < end → is_buffer (list_of all) p ≡ true → ⊥
+  away [] none p low high is = false≢true is
+  away (own ∷ all) none p low high is = elim (or_cases (have_page (option_map buffers_of own) p) (is_buffer (list_of all) p) is) [
+    | inl here ↦ none 0 None (omega arith) (omega arith) (p, low, high, here)
+    | inr there ↦ away all (λ k d from to. none (suc k) d (omega arith) (omega arith)) p low high there
   ]
 
-  page-run : (run n p : ℕ) → first ≤ p → p < end → is_in_run run n p ≡ true → is_run_met first end run n ≡ true
-  page-run run n p low high is = grind (arith, low, high, is, nat_tests)
-
-  or-left : (a b : Bool) → a ≡ true → (a || b) ≡ true
-  or-left true b is = refl
-  or-left false b is = cc
-
-  or-right : (a b : Bool) → b ≡ true → (a || b) ≡ true
-  or-right true b is = refl
-  or-right false b is = is
-
-  buffers-page : (own : Option Buffers) → are_met first end own ≡ true → (p : ℕ) × (first ≤ p) × (p < end) × (has_page p own ≡ true)
-  buffers-page None met = cc
-  buffers-page (Some b) met = elim (cases_Bool (is_run_met first end b.tx b.pages)) [
-    | inl tx ↦
-        let (p, low, high, is) = run-page b.tx b.pages tx in
-        (p, low, high, or-left (is_in_run b.tx b.pages p) (is_in_run b.rx b.pages p) is)
-    | inr out ↦
-        let (p, low, high, is) = run-page b.rx b.pages (sym (ap (λ t. t || is_run_met first end b.rx b.pages) out) ∙ met) in
-        (p, low, high, or-right (is_in_run b.tx b.pages p) (is_in_run b.rx b.pages p) is)
-  ]
-
-  page-buffers : (own : Option Buffers) (p : ℕ) → first ≤ p → p < end → has_page p own ≡ true → are_met first end own ≡ true
-  page-buffers None p low high is = cc
-  page-buffers (Some b) p low high is = elim (cases_Bool (is_in_run b.tx b.pages p)) [
-    | inl tx ↦ or-left (is_run_met first end b.tx b.pages) (is_run_met first end b.rx b.pages) (page-run b.tx b.pages p low high tx)
-    | inr out ↦
-        or-right (is_run_met first end b.tx b.pages) (is_run_met first end b.rx b.pages)
-        (page-run b.rx b.pages p low high (sym (ap (λ t. t || is_in_run b.rx b.pages p) out) ∙ is))
-  ]
-
-  pub any-page : (all : List (Option Buffers)) → list_any (are_met first end) all ≡ true → (p : ℕ) × (first ≤ p) × (p < end) × (is_buffer all p ≡ true)
-  any-page [] met = cc
-  any-page (own ∷ all) met = elim (cases_Bool (are_met first end own)) [
-    | inl here ↦
-        let (p, low, high, is) = buffers-page own here in
-        (p, low, high, or-left (has_page p own) (is_buffer all p) is)
-    | inr out ↦
-        let (p, low, high, is) = any-page all (sym (ap (λ t. t || list_any (are_met first end) all) out) ∙ met) in
-        (p, low, high, or-right (has_page p own) (is_buffer all p) is)
-  ]
-
-  pub page-any : (all : List (Option Buffers)) (p : ℕ) → first ≤ p → p < end → is_buffer all p ≡ true → list_any (are_met first end) all ≡ true
-  page-any [] p low high is = cc
-  page-any (own ∷ all) p low high is = elim (cases_Bool (has_page p own)) [
-    | inl here ↦ or-left (are_met first end own) (list_any (are_met first end) all) (page-buffers own p low high here)
-    | inr out ↦
-        or-right (are_met first end own) (list_any (are_met first end) all)
-        (page-any all p low high (sym (ap (λ t. t || is_buffer all p) out) ∙ is))
-  ]
+  -- somebody's are found, or none of anybody's
+  pub any-buffer : (all : List (Option Mapped)) (any : Bool)
+      → MatchBool any ((k : ℕ) × (k < length all) × HoldsAt HasPage all k) (AllWithin (λ own. HasPage own → ⊥) all 0 (length all))
+      → IsTrue any ↔ IsAnyPage (is_buffer (list_of all))
+  any-buffer all true (k, lt, here) = (λ is. found all k lt here, λ its. refl)
+  any-buffer all false none = (λ is. absurd (false≢true is), λ its. (let (p, low, high, is) = its in absurd (away all none p low high is)))

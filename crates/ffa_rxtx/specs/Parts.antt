@@ -1,8 +1,8 @@
 -- What the checks of a mapping read, and the bytes of TX and RX, over the parts of the machine.
-use Rattle.std.specs.Prelude.{ℕ, zero, suc, ◌+◌, ◌≤◌, Bool, false, ◌&&◌, ◌||◌, nat_lt, List, [], length, take, drop, is_some, Option, None, Some}
+use Rattle.std.specs.Prelude.{ℕ, zero, suc, ◌+◌, ◌≤◌, Bool, false, ◌&&◌, ◌||◌, List, [], length, take, drop, is_some, Option, None, Some}
 use Rattle.std.specs.List.{flat_map}
 use Rattle.std.specs.Option.{option_map, option_map_or}
-use Rattle.ffa_model.specs.Lists.{run}
+use Rattle.ffa_model.specs.Lists.{is_in_run, run}
 use Rattle.ffa_model.specs.Ram.{Ram, page_of, with_page, with_bytes}
 use Rattle.ffa_model.specs.State.{Buffers}
 use Rattle.ffa_model.specs.Buffers.{Candidate, Candidates, are_runs_apart, is_run_address, page_number}
@@ -44,11 +44,6 @@ pub record IsInRam (pages : ℕ) (b : Buffers) : Type 0 where
   pub tx : b.tx + b.pages ≤ pages
   pub rx : b.rx + b.pages ≤ pages
 
--- whether n pages from a first one on have one from another up to an end: there are pages of both, and each begin before
--- the others end
-abbrev pub is_run_met : ℕ → ℕ → ℕ → ℕ → Bool
-is_run_met first end run n = nat_lt 0 n && (nat_lt first end && (nat_lt run end && nat_lt first (run + n)))
-
--- whether TX or RX has
-abbrev pub are_met : ℕ → ℕ → Option Buffers → Bool
-are_met first end own = option_map_or (λ (b : Buffers). is_run_met first end b.tx b.pages || is_run_met first end b.rx b.pages) own false
+-- whether TX or RX has a page
+abbrev pub have_page : Option Buffers → ℕ → Bool
+have_page own p = option_map_or (λ (b : Buffers). is_in_run b.tx b.pages p || is_in_run b.rx b.pages p) own false

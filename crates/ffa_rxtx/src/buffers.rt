@@ -4,13 +4,13 @@ ghost use Rattle.std.specs.Option.{option_map, option_map_or};
 ghost use Rattle.std.specs.Result.{result_err};
 ghost use Rattle.std.specs.List.{list_all};
 ghost use Rattle.ffa_model.specs.declared.limits.TheConstants.{MOST_BUFFER_PAGES, MOST_ENDPOINTS};
-ghost use Rattle.ffa_model.specs.Lists.{run};
+ghost use Rattle.ffa_model.specs.Lists.{is_in_run, run};
 ghost use Rattle.ffa_model.specs.Buffers.{are_runs_apart, buffers_in, buffers_with, buffers_with_rx, is_full, is_run_address, is_usable, map_guards, new_buffers, page_number, release_guards, unmap_guards};
 ghost use Rattle.ffa_model.specs.Calls.{first_failure};
 ghost use Rattle.ffa_model.specs.Identifiers.{place};
 ghost use Rattle.ffa_model.specs.MemorySend.{is_buffer};
 ghost use Rattle.ffa_model.specs.State.{Buffers as Own, is_known_among};
-ghost use Rattle.ffa_rxtx.specs.Parts.{IsInRam, are_met, is_run_met, are_two_runs, candidate_in, candidates_in, with_rx_bytes};
+ghost use Rattle.ffa_rxtx.specs.Parts.{IsInRam, are_two_runs, candidate_in, candidates_in, have_page, with_rx_bytes};
 ghost use Rattle.ffa_rxtx.specs.Stored.{buffers_of};
 
 use arrayvec::ArrayVec;
@@ -108,7 +108,7 @@ impl Buffers {
         self.entries
             .as_slice()
             .iter()
-            .any(|entry| are_met(*entry, first, end))
+            .any(|entry| is_any_in(*entry, first, end))
     }
 
     /// FFA_RXTX_MAP of an endpoint, in the RAM of this table from `ram_base` on: TX and RX are as many pages as the caller
@@ -258,20 +258,20 @@ impl Buffers {
     }
 }
 
-// Whether buffers, if there are any, stand in a page from one up to another.
-fn are_met(buffers: Option<Mapped>, first: PageNo, end: u32) -> bool
-    ensures { result ≡ are_met first.0 end (option_map buffers_of buffers) }
+// Whether one of these buffers, if there are any, has a page from one up to another.
+fn is_any_in(buffers: Option<Mapped>, first: PageNo, end: u32) -> bool
+    ensures { IsTrue result ↔ (p : ℕ) × (first.0 ≤ p) × (p < end) × (have_page (option_map buffers_of buffers) p ≡ true) }
 {
     match buffers {
-        Some(mapped) => is_run_met(mapped.tx, mapped.pages, first, end)
-            || is_run_met(mapped.rx, mapped.pages, first, end),
+        Some(mapped) => has_page_in(mapped.tx, mapped.pages, first, end)
+            || has_page_in(mapped.rx, mapped.pages, first, end),
         None => false,
     }
 }
 
-// Whether this many pages from a first one on have one from another up to an end.
-fn is_run_met(run: PageNo, pages: u32, first: PageNo, end: u32) -> bool
-    ensures { result ≡ is_run_met first.0 end run.0 pages }
+// Whether a run of this many pages has one from another up to an end.
+fn has_page_in(run: PageNo, pages: u32, first: PageNo, end: u32) -> bool
+    ensures { IsTrue result ↔ (p : ℕ) × (first.0 ≤ p) × (p < end) × (is_in_run run.0 pages p ≡ true) }
 {
     let behind = u64::from(run.0) + u64::from(pages);
     pages > 0 && first.0 < end && run.0 < end && u64::from(first.0) < behind
@@ -355,7 +355,7 @@ fn is_usable(table: &PageTable, endpoint: EndpointId, page: PageNo) -> bool
 {
     let is_alone = table.owner_of(page) == endpoint && table.slot_of(page).is_none();
     match table.own_right_of(page) {
-        Some(base) => is_alone && base.level == Data::Rw,
+        Some(own_right) => is_alone && own_right.level == Data::Rw,
         None => false,
     }
 }

@@ -14,10 +14,6 @@ pub refused-both : {X : Type 0} (r : Result X ErrorCode) {P Q R : Type 0} → (P
 refused-both (Ok x) join p q = tt
 refused-both (Err code) join p q = join p q
 
-pub done-both : {X : Type 0} (r : Result X ErrorCode) {P Q R : Type 0} → (P → Q → R) → OnOk r P → OnOk r Q → OnOk r R
-done-both (Ok x) join p q = join p q
-done-both (Err code) join p q = tt
-
 pub refused-so : {X : Type 0} (r : Result X ErrorCode) {P Q : Type 0} → (P → Q) → OnErr r P → OnErr r Q
 refused-so (Ok x) so p = tt
 refused-so (Err code) so p = so p

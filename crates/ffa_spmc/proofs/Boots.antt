@@ -37,7 +37,7 @@ use Rattle.ffa_model.specs.Endpoints.{have_uuids}
 use Rattle.ffa_model.specs.SoundState.{IsSoundState, are_bytes}
 use Rattle.ffa_model.specs.Uuid.{is_uuid}
 use Rattle.ffa_laws.proofs.Firsts.{first-state-sound}
-use Rattle.ffa_spmc.specs.Meaning.{AreOffers, AreOwners, HasTables, IsManager, Parts, access_by_place, held_page, slot_names, state_of}
+use Rattle.ffa_spmc.specs.Meaning.{AreOpenTransactions, AreOwners, HasTables, IsManager, Parts, access_by_place, held_page, slot_names, state_of}
 use Rattle.ffa_spmc.proofs.Held.{access-first, page-at, page-held, parties_are}
 
 regions-each : (es : List Endpoint) (i : ℕ) → get_or (regions_of_each es) i [] ≡ regions_at es i
@@ -106,7 +106,7 @@ none-open n = ap finite.from_entries (of n)
     of zero = refl
     of (suc n) = of n
 
-open-first : (m : Manifest) (n : ℕ) → AreOffers m (first_owners m) (replicate n None)
+open-first : (m : Manifest) (n : ℕ) → AreOpenTransactions m (first_owners m) (replicate n None)
 open-first m n =
     record {
       apart = λ i j y z at_i at_j same. absurd (none-some y (sym (free n i) ∙ at_i));
@@ -222,8 +222,8 @@ module _ (zeros : Ram) (x : Parts)
         layout = record { base = base; blocks = blocks; endpoints = many };
         owners = subst (AreOwners x.manifest) (sym owners) (owners-first x.manifest);
         open_transactions =
-            subst (λ (list : List (Option Entry)). AreOffers x.manifest list x.kept.pool.slots) (sym owners)
-            (subst (AreOffers x.manifest (first_owners x.manifest)) (sym slots) (open-first x.manifest (MOST_OPEN * length es)));
+            subst (λ (list : List (Option Entry)). AreOpenTransactions x.manifest list x.kept.pool.slots) (sym owners)
+            (subst (AreOpenTransactions x.manifest (first_owners x.manifest)) (sym slots) (open-first x.manifest (MOST_OPEN * length es)));
         sound = subst IsSoundState (sym state-first) (first-state-sound x.manifest.ram_base.0 x.manifest.ram_blocks es x.manifest.accepted (uuid-at es uuids));
       }
 

@@ -1,7 +1,8 @@
 -- The certificate of a machine, and that its tables give it.
 use Rattle.std.proofs.Common.{◌≡◌, ◌∙◌, ℕ, zero, suc, ◌+◌, ◌-◌, ◌*◌, ◌/◌, ◌^◌, ◌<◌, ◌≤◌, Bool, true, false, [], ◌∷◌, length, set, Option, None, refl, sym, ap, subst, arith, inl, inr}
-use Rattle.std.specs.Prelude.{◌&&◌, if◌then◌else◌, nat_lt}
+use Rattle.std.specs.Prelude.{if◌then◌else◌, nat_lt}
 use Rattle.std.specs.List.{list_all}
+use Rattle.std.proofs.Math.Bool.{and-false}
 use Rattle.std.proofs.lemmas.Bool.{cases_lt, lt-ltb}
 use Rattle.std.proofs.lemmas.Bool.Decides.{nat_tests}
 use Rattle.std.proofs.lemmas.List.Folds.{list_all-append}
@@ -23,10 +24,6 @@ use Rattle.ffa_spmc.proofs.Held.{size_is}
 
 -- ALL ENDPOINTS
 
-either : (b : Bool) → b && false ≡ false
-either true = refl
-either false = refl
-
 module _ {X : Type 0} where
   -- one more that passes
   pub all_more : (p : X → Bool) (f : ℕ → X) (n : ℕ) → list_all p (listed n f) ≡ true → p (f n) ≡ true → list_all p (listed (n + 1) f) ≡ true
@@ -36,7 +33,7 @@ module _ {X : Type 0} where
   pub one_fails : (p : X → Bool) (f : ℕ → X) (i n : ℕ) → i < n → p (f i) ≡ false → list_all p (listed n f) ≡ false
   one_fails p f i zero h e = absurd (omega (arith, h))
   one_fails p f zero (suc n) h e = rw e refl
-  one_fails p f (suc i) (suc n) h e = rw (one_fails p (λ k. f (suc k)) i n (omega (arith, h)) e) (either (p (f 0)))
+  one_fails p f (suc i) (suc n) h e = rw (one_fails p (λ k. f (suc k)) i n (omega (arith, h)) e) (and-false (p (f 0)))
 
 -- the access of the endpoints at the places below n
 abbrev pub accesses_below : State → ℕ → ℕ → ℕ → Option Rights

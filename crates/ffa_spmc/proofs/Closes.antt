@@ -13,7 +13,7 @@ use Rattle.ffa_memshare.specs.Held.{with_holder}
 use Rattle.ffa_memshare.specs.Ranges.{in_ranges}
 use Rattle.ffa_memshare.specs.Stored.{Slot, pool_slot}
 use Rattle.ffa_memshare.specs.declared.marks.Mark.TheVariants.{Named}
-use Rattle.ffa_spmc.specs.Meaning.{AreOffers, IsOffered, slot_names}
+use Rattle.ffa_spmc.specs.Meaning.{AreOpenTransactions, IsOffered, slot_names}
 
 -- a slot that has a transaction is one of the pool's
 within : (slots : List Slot) (k : ℕ) (x : ℕ × Transaction) → pool_slot slots k ≡ Some x → k < length slots
@@ -23,7 +23,7 @@ within slots k x at = elim (cases_lt k (length slots)) [
 ]
 
 -- an endpoint holds the transaction in a slot with another right, or holds it no more
-module _ (m : Manifest) (pages : List (Option Entry)) (slots : List Slot) (open_transactions : AreOffers m pages slots) (k h : ℕ) (t : Transaction) (at : pool_slot slots k ≡ Some (h, t))
+module _ (m : Manifest) (pages : List (Option Entry)) (slots : List Slot) (open_transactions : AreOpenTransactions m pages slots) (k h : ℕ) (t : Transaction) (at : pool_slot slots k ≡ Some (h, t))
     (e : ℕ) (right : Option Rights) where
   abbrev reheld : List Slot
   reheld = set slots k (Some (h, with_holder t e right))
@@ -62,7 +62,7 @@ module _ (m : Manifest) (pages : List (Option Entry)) (slots : List Slot) (open_
     | inr apart ↦ record { old = y; was = sym (others j apart) ∙ is; handle = refl; offered = λ good. good }
   ]
 
-  pub open-reheld : AreOffers m pages reheld
+  pub open-reheld : AreOpenTransactions m pages reheld
   open-reheld =
       record {
         apart = λ i j y z at_i at_j same.
@@ -88,7 +88,7 @@ slot-marked old new named marked p = ap (option_and_then (λ (e : Entry). e.slot
     of false o = refl
 
 -- the slot of a transaction is freed, and no page's entry has it any more
-module _ (m : Manifest) (pages next : List (Option Entry)) (slots : List Slot) (open_transactions : AreOffers m pages slots) (k h : ℕ) (t : Transaction) (at : pool_slot slots k ≡ Some (h, t))
+module _ (m : Manifest) (pages next : List (Option Entry)) (slots : List Slot) (open_transactions : AreOpenTransactions m pages slots) (k h : ℕ) (t : Transaction) (at : pool_slot slots k ≡ Some (h, t))
     (unmarked : (p : ℕ) → slot_at next p ≡ cond (in_ranges m.ram_base.0 t.ranges p) None (slot_at pages p)) (size : length next ≡ length pages) where
   abbrev freed : List Slot
   freed = set slots k None
@@ -132,7 +132,7 @@ module _ (m : Manifest) (pages next : List (Option Entry)) (slots : List Slot) (
         of true named j apart was = absurd (apart (same_Some j k (sym was ∙ here named)))
         of false other j apart was = was
 
-  pub open-closed : AreOffers m next freed
+  pub open-closed : AreOpenTransactions m next freed
   open-closed =
       record {
         apart = λ i j y z at_i at_j same. open_transactions.apart i j y z (still i y at_i) (still j z at_j) same;
@@ -156,7 +156,7 @@ slot-opened old new named k marked p owned = ap (option_and_then (λ (e : Entry)
     of false its = refl
 
 -- a free slot has a new transaction, and the entries of its pages have the slot
-module _ (m : Manifest) (pages next : List (Option Entry)) (slots : List Slot) (open_transactions : AreOffers m pages slots) (k h : ℕ) (t : Transaction)
+module _ (m : Manifest) (pages next : List (Option Entry)) (slots : List Slot) (open_transactions : AreOpenTransactions m pages slots) (k h : ℕ) (t : Transaction)
     (lt : k < length slots) (free : pool_slot slots k ≡ None) (new : (j : ℕ) (y : ℕ × Transaction) → pool_slot slots j ≡ Some y → y.0 ≡ h → ⊥) (good : IsOffered m t)
     (unnamed : (p : ℕ) → p < length pages → in_ranges m.ram_base.0 t.ranges p ≡ true → slot_at pages p ≡ None)
     (marked : (p : ℕ) → p < length pages → slot_at next p ≡ cond (in_ranges m.ram_base.0 t.ranges p) (Some k) (slot_at pages p)) (size : length next ≡ length pages) where
@@ -217,7 +217,7 @@ module _ (m : Manifest) (pages next : List (Option Entry)) (slots : List Slot) (
         of true named was = absurd (none-some j (sym (unnamed p inside named) ∙ was))
         of false other was = was
 
-  pub open-opened : AreOffers m next filled
+  pub open-opened : AreOpenTransactions m next filled
   open-opened =
       record {
         apart = apart-opened;

@@ -4,6 +4,7 @@ use Rattle.std.specs.Prelude.{◌==◌, ◌&&◌, if◌then◌else◌, is_some}
 use Rattle.std.specs.List.{list_all}
 use Rattle.std.specs.Option.{option_and_then, option_map, option_map_or}
 use Rattle.std.specs.FinMap as finite
+use Rattle.std.proofs.Math.Bool.{and-false}
 use Rattle.std.proofs.lemmas.Bool.{and_parts, cases_eq, eq-eqb, eqb-true, ne_eqb, false≢true}
 use Rattle.ffa_model.specs.declared.descriptor.RelinquishDesc.{RelinquishDesc}
 use Rattle.ffa_model.specs.declared.rights.Kind.{Kind}
@@ -36,12 +37,8 @@ granted-by : (access : ℕ → ℕ → Option Rights) (index : ℕ) (named : ℕ
     → with_rights access index named right i p ≡ target
 granted-by access index named right i p target own others beside = of (named p) refl
   where
-    off : (b : Bool) → (b && false) ≡ false
-    off true = refl
-    off false = refl
-
     of : (b : Bool) → named p ≡ b → cond (i == index && b) (right p) (access i p) ≡ target
-    of false is = ap (λ b. cond b (right p) (access i p)) (off (i == index)) ∙ beside is
+    of false is = ap (λ b. cond b (right p) (access i p)) (and-false (i == index)) ∙ beside is
     of true is = elim (cases_eq i index) [
       | inl same ↦ ap (λ b. cond (b && true) (right p) (access i p)) (eq-eqb i index same) ∙ own same is
       | inr apart ↦ ap (λ b. cond (b && true) (right p) (access i p)) (ne_eqb i index apart) ∙ others apart is

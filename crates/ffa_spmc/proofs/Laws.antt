@@ -21,7 +21,7 @@ use Rattle.ffa_laws.proofs.Growth.{never_grow, step_never_grows}
 use Rattle.ffa_laws.proofs.Integrities.{integrity}
 use Rattle.ffa_laws.proofs.Laws.{one_step}
 use Rattle.ffa_laws.proofs.News.{silence}
-use Rattle.ffa_laws.proofs.Offers.{offer_says_nothing}
+use Rattle.ffa_laws.proofs.Waiting.{offer_says_nothing}
 use Rattle.ffa_laws.proofs.OwnAccesses.{own_access}
 use Rattle.ffa_laws.proofs.ReadRuns.{run_confidential}
 use Rattle.ffa_laws.proofs.Readings.{confidential}

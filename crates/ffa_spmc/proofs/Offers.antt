@@ -39,7 +39,7 @@ use Rattle.ffa_memshare.specs.Sent.{IsSent, right_after}
 use Rattle.ffa_memshare.specs.Stored.{Pooled, open_in, pool_slot}
 use Rattle.ffa_memshare.specs.declared.marks.Mark.TheVariants.{Named}
 use Rattle.ffa_spmc.specs.AccessChange.{IsAccessChange, is_whose}
-use Rattle.ffa_spmc.specs.Meaning.{AreOffers, IsManager, IsOffered, Parts, access_by_place, state_of}
+use Rattle.ffa_spmc.specs.Meaning.{AreOpenTransactions, IsManager, IsOffered, Parts, access_by_place, state_of}
 use Rattle.ffa_spmc.specs.Replies.{handle_or_error}
 use Rattle.ffa_spmc.specs.Unowned.{KeepsUnowned}
 use Rattle.ffa_spmc.proofs.Answered.{answered-by, done-with, refused-so}
@@ -48,7 +48,7 @@ use Rattle.ffa_spmc.proofs.Granted.{send-granted}
 use Rattle.ffa_spmc.proofs.Held.{owners-size, parties_are, size_is}
 use Rattle.ffa_spmc.proofs.AccessChanges.{access-changed, none-changed, sent-kept, sent-lost}
 use Rattle.ffa_spmc.proofs.Moves.{SameOwners, marked-owners, of-manifest, owners-moved, pages-moved, tables-moved}
-use Rattle.ffa_spmc.proofs.Pools.{base-is, named-kept, slot-open}
+use Rattle.ffa_spmc.proofs.Pools.{named-kept, own_right-is, slot-open}
 use Rattle.ffa_spmc.proofs.Retrieves.{scene-is}
 use Rattle.ffa_spmc.proofs.Sends.{sent-is}
 use Rattle.ffa_spmc.proofs.Unowned.{unowned-moved, unowned-same}
@@ -84,7 +84,7 @@ module _ (x : Parts) (machine : IsManager x) (e : ℕ) (at : e ≡ x.kept.chain.
 
   -- the right that the sender keeps
   kept-right : (its : Kind) (p : ℕ) → new_right (right_after its) x.kept.pages p ≡ (if is_share its then own_right_of s p else None)
-  kept-right Share p = base-is x machine p
+  kept-right Share p = own_right-is x machine p
   kept-right Lend p = refl
   kept-right Donate p = refl
 
@@ -174,7 +174,7 @@ module _ (x : Parts) (machine : IsManager x) (e : ℕ) (at : e ≡ x.kept.chain.
           layout = machine.layout;
           owners = owners-moved x machine ram pages (place e) r.ranges right r.zero moves owners;
           open_transactions =
-              subst (AreOffers x.manifest pages) (sym done.opened.slots)
+              subst (AreOpenTransactions x.manifest pages) (sym done.opened.slots)
               (open-opened x.manifest x.kept.pages pages x.kept.pool.slots machine.open_transactions done.slot h t done.opened.free.within done.opened.free.free fresh offered unnamed
               (λ p lt. slot-opened x.kept.pages pages (names s r.ranges) done.slot marks p (owned p)) marks.size);
           sound = subst IsSoundState (sym state-sent) (send-sound s machine.sound kind a (sym none));

@@ -115,8 +115,8 @@ module _ (x : Parts) (machine : IsManager x) where
     access-kept e = λ i. right_of e (sym (page-held x p lt) i) (sym transaction-kept i)
 
   -- RAM as grants and ceilings see it
-  pub base-is : (p : ℕ) → own_right_at pages p ≡ own_right_of s p
-  base-is p = elim (cases_lt p (length x.ram.pages)) [
+  pub own_right-is : (p : ℕ) → own_right_at pages p ≡ own_right_of s p
+  own_right-is p = elim (cases_lt p (length x.ram.pages)) [
     | inl lt ↦ of (entry_at pages p) ∙ sym (ap (option_map (λ (page : Page). page.own_right)) (page-held x p lt))
     | inr past ↦ ap (option_map (λ (e : Entry). e.own_right)) (entry-past x machine p past) ∙ sym (ap (option_map (λ (page : Page). page.own_right)) (page-past x p past))
   ]
@@ -126,7 +126,7 @@ module _ (x : Parts) (machine : IsManager x) where
       of (Some e) = refl
 
   pub own_rights-are : own_rights_in pages x.manifest.ram_base.0 ≡ own_rights_of s
-  own_rights-are = λ i. record { ram_base = x.manifest.ram_base.0; pages = (owners-size x machine ∙ sym (size_is x)) i; right = λ p. base-is p i }
+  own_rights-are = λ i. record { ram_base = x.manifest.ram_base.0; pages = (owners-size x machine ∙ sym (size_is x)) i; right = λ p. own_right-is p i }
 
   -- what the calls of the pool ask
   room : IsRoom x.ram x.manifest.ram_base.0 (length x.manifest.endpoints.items) x.manifest.ram_blocks pages

@@ -32,14 +32,14 @@ use Rattle.ffa_memshare.specs.Stored.{Pooled, map_in, open_in}
 use Rattle.ffa_memshare.specs.declared.marks.Mark.TheVariants.{Named}
 use Rattle.ffa_memshare.proofs.Joined.{reclaim-access}
 use Rattle.ffa_spmc.specs.AccessChange.{IsAccessChange, is_whose}
-use Rattle.ffa_spmc.specs.Meaning.{AreOffers, IsManager, Parts, access_by_place, state_of}
+use Rattle.ffa_spmc.specs.Meaning.{AreOpenTransactions, IsManager, Parts, access_by_place, state_of}
 use Rattle.ffa_spmc.specs.Replies.{done_or_error}
 use Rattle.ffa_spmc.specs.Unowned.{KeepsUnowned}
 use Rattle.ffa_spmc.proofs.Answered.{answered-by, done-replies, done-so, refused-so}
 use Rattle.ffa_spmc.proofs.Closes.{open-closed, slot-marked}
 use Rattle.ffa_spmc.proofs.AccessChanges.{access-changed, none-changed, reclaimed-kept, reclaimed-new}
 use Rattle.ffa_spmc.proofs.Moves.{SameOwners, marked-owners, of-manifest, owners-moved, pages-moved, tables-moved}
-use Rattle.ffa_spmc.proofs.Pools.{base-is, own_rights-are, slot-open}
+use Rattle.ffa_spmc.proofs.Pools.{own_right-is, own_rights-are, slot-open}
 use Rattle.ffa_spmc.proofs.Unowned.{open-entered, unowned-moved, unowned-same}
 
 -- the code's runner is that of the run states; and the pool has reclaimed a handle, or refused to
@@ -111,7 +111,7 @@ module _ (x : Parts) (machine : IsManager x) (e : ℕ) (at : e ≡ x.kept.chain.
 
     granted : (i p : ℕ) → p < length s.pages → with_rights (access_by_place s) (place e) (names s t.ranges) (own_right_at x.kept.pages) i p ≡ access_by_place (state_of after_reclaim) i p
     granted i p lt =
-        (λ k. with_rights (access_by_place s) (place (sym sender k)) (names s t.ranges) (λ q. base-is x machine q k) i p)
+        (λ k. with_rights (access_by_place s) (place (sym sender k)) (names s t.ranges) (λ q. own_right-is x machine q k) i p)
         ∙ reclaim-access s machine.sound h t was unheld (is_set 0 flags) i p lt
         ∙ sym (ap (λ (z : State). access_by_place z i p) state-reclaimed)
 
@@ -123,7 +123,7 @@ module _ (x : Parts) (machine : IsManager x) (e : ℕ) (at : e ≡ x.kept.chain.
           layout = machine.layout;
           owners = owners-moved x machine ram pages (place e) t.ranges (own_right_at x.kept.pages) (flags == 1) moves owners;
           open_transactions =
-              subst (AreOffers x.manifest pages) (sym done.slot.slots)
+              subst (AreOpenTransactions x.manifest pages) (sym done.slot.slots)
               (open-closed x.manifest x.kept.pages pages x.kept.pool.slots machine.open_transactions done.slot.slot h t done.slot.was (slot-marked x.kept.pages pages (names s t.ranges) marks) marks.size);
           sound = subst IsSoundState (sym state-reclaimed) (reclaimed-sound s machine.sound h t was (is_set 0 flags));
         }

@@ -28,7 +28,7 @@ use Rattle.ffa_memshare.specs.Relinquished.{IsRelinquished}
 use Rattle.ffa_memshare.specs.Stored.{Pooled, open_in}
 use Rattle.ffa_rxtx.specs.Parts.{tx_in}
 use Rattle.ffa_spmc.specs.AccessChange.{IsAccessChange}
-use Rattle.ffa_spmc.specs.Meaning.{AreOffers, IsManager, Parts, access_by_place, state_of}
+use Rattle.ffa_spmc.specs.Meaning.{AreOpenTransactions, IsManager, Parts, access_by_place, state_of}
 use Rattle.ffa_spmc.specs.Replies.{done_or_error}
 use Rattle.ffa_spmc.specs.Unowned.{KeepsUnowned}
 use Rattle.ffa_spmc.proofs.Answered.{answered-by, done-replies, done-with, refused-so}
@@ -112,7 +112,7 @@ module _ (x : Parts) (machine : IsManager x) (e : ℕ) (at : e ≡ x.kept.chain.
           layout = machine.layout;
           owners = machine.owners;
           open_transactions =
-              subst (AreOffers x.manifest x.kept.pages) (sym done.slot.slots)
+              subst (AreOpenTransactions x.manifest x.kept.pages) (sym done.slot.slots)
               (open-reheld x.manifest x.kept.pages x.kept.pool.slots machine.open_transactions done.slot.slot d.handle done.slot.transaction done.slot.was e None);
           sound = subst IsSoundState (sym state-from) (relinquished-sound s machine.sound d t was);
         }

@@ -48,7 +48,7 @@ use Rattle.ffa_memshare.specs.Scenes.{descriptor_in, scene_in}
 use Rattle.ffa_memshare.specs.SlotChanges.{IsClosed, IsHeldBy}
 use Rattle.ffa_memshare.specs.Stored.{Pooled, open_in, pool_slot}
 use Rattle.ffa_spmc.specs.AccessChange.{IsAccessChange}
-use Rattle.ffa_spmc.specs.Meaning.{AreOffers, HasTables, IsManager, IsOffered, Parts, access_by_place, state_of}
+use Rattle.ffa_spmc.specs.Meaning.{AreOpenTransactions, HasTables, IsManager, IsOffered, Parts, access_by_place, state_of}
 use Rattle.ffa_spmc.specs.Replies.{retrieved_or_error}
 use Rattle.ffa_spmc.specs.Unowned.{KeepsUnowned}
 use Rattle.ffa_spmc.proofs.Answered.{answered-by, passed-state, refused-so}
@@ -176,25 +176,25 @@ module _ (x : Parts) (machine : IsManager x) (e : EndpointId) (at : e.0 ≡ x.ke
         ∙ access-filled (with_retrieved s d.handle t s.runner right) s.runner (response_bytes (version_of s s.runner) (response_to d.handle t s.runner right)) (identifier i) p
         ∙ sym (ap (λ (z : State). access_by_place z i p) state-taken)
 
-    open-taken : AreOffers x.manifest pages pool.slots
+    open-taken : AreOpenTransactions x.manifest pages pool.slots
     open-taken = of t.kind refl done.slot passed
       where
-        of : (kind : Kind) → t.kind ≡ kind → IsTaken kind x.kept.pool pool d.handle e.0 right → IsPassedOn kind x.kept.pages pages (names s t.ranges) e right → AreOffers x.manifest pages pool.slots
+        of : (kind : Kind) → t.kind ≡ kind → IsTaken kind x.kept.pool pool d.handle e.0 right → IsPassedOn kind x.kept.pages pages (names s t.ranges) e right → AreOpenTransactions x.manifest pages pool.slots
         of Donate is taken marked =
             let its : IsClosed x.kept.pool pool d.handle = taken in
             let same : its.transaction ≡ t = same_Some its.transaction t (sym (slot-open x machine its.slot d.handle its.transaction its.was) ∙ was) in
             let there : pool_slot x.kept.pool.slots its.slot ≡ Some (d.handle, t) = its.was ∙ ap (λ (u : Transaction). Some (d.handle, u)) same in
-            subst (AreOffers x.manifest pages) (sym its.slots)
+            subst (AreOpenTransactions x.manifest pages) (sym its.slots)
             (open-closed x.manifest x.kept.pages pages x.kept.pool.slots machine.open_transactions its.slot d.handle t there (slot-given x.kept.pages pages (names s t.ranges) e right marked) marked.size)
         of Lend is taken same =
             let its : IsHeldBy x.kept.pool pool d.handle e.0 (Some right) = taken in
-            subst (λ (table : List (Option Entry)). AreOffers x.manifest table pool.slots) (sym same)
-            (subst (AreOffers x.manifest x.kept.pages) (sym its.slots)
+            subst (λ (table : List (Option Entry)). AreOpenTransactions x.manifest table pool.slots) (sym same)
+            (subst (AreOpenTransactions x.manifest x.kept.pages) (sym its.slots)
             (open-reheld x.manifest x.kept.pages x.kept.pool.slots machine.open_transactions its.slot d.handle its.transaction its.was e.0 (Some right)))
         of Share is taken same =
             let its : IsHeldBy x.kept.pool pool d.handle e.0 (Some right) = taken in
-            subst (λ (table : List (Option Entry)). AreOffers x.manifest table pool.slots) (sym same)
-            (subst (AreOffers x.manifest x.kept.pages) (sym its.slots)
+            subst (λ (table : List (Option Entry)). AreOpenTransactions x.manifest table pool.slots) (sym same)
+            (subst (AreOpenTransactions x.manifest x.kept.pages) (sym its.slots)
             (open-reheld x.manifest x.kept.pages x.kept.pool.slots machine.open_transactions its.slot d.handle its.transaction its.was e.0 (Some right)))
 
     machine-taken : IsManager before

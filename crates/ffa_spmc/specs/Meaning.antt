@@ -80,7 +80,7 @@ slot_names base p (Some x) = in_ranges base x.1.ranges p
 
 -- no two slots have one handle, each open transaction is as a descriptor says, and a page's entry has the slot whose
 -- transaction names the page
-pub record AreOffers (m : Manifest) (pages : List (Option Entry)) (slots : List Slot) : Type 0 where
+pub record AreOpenTransactions (m : Manifest) (pages : List (Option Entry)) (slots : List Slot) : Type 0 where
   pub apart :
       (i j : ℕ) (x y : ℕ × Transaction) → pool_slot slots i ≡ Some x → pool_slot slots j ≡ Some y → x.0 ≡ y.0 → i ≡ j
   pub offered : (k h : ℕ) (t : Transaction) → pool_slot slots k ≡ Some (h, t) → IsOffered m t
@@ -92,5 +92,5 @@ pub record IsManager (x : Parts) : Type 0 where
   pub tables : HasTables x.ram x.manifest (access_by_place (state_of x))
   pub layout : IsLayoutOf x.manifest x.kept.layout
   pub owners : AreOwners x.manifest x.kept.pages
-  pub open_transactions : AreOffers x.manifest x.kept.pages x.kept.pool.slots
+  pub open_transactions : AreOpenTransactions x.manifest x.kept.pages x.kept.pool.slots
   pub sound : IsSoundState (state_of x)

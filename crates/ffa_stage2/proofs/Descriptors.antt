@@ -102,18 +102,6 @@ entry-page ram p i =
     let e : (ram.base + 4096 * p - ram.base) / 4096 ≡ p = omega arith in
     ap (λ (q : ℕ). word_of (page_of ram q) i) e
 
-page_word-some_fits : (level : Data) (exec : Bool) (address : ℕ) → page_word address (Some (record { level = level; exec = exec })) < 2 ^ 64
-unfolding page_word
-page_word-some_fits Ro true address = omega arith
-page_word-some_fits Ro false address = omega arith
-page_word-some_fits Rw true address = omega arith
-page_word-some_fits Rw false address = omega arith
-
-pub page_word-fits : (right : Option Rights) (address : ℕ) → page_word address right < 2 ^ 64
-unfolding page_word
-page_word-fits None address = omega arith
-page_word-fits (Some r) address = page_word-some_fits r.level r.exec address
-
 -- ---- one right of many pages
 
 page_word-some_of_block : (level : Data) (exec : Bool) (g j : ℕ) → g < 2 ^ 27 → j < 512

@@ -138,16 +138,6 @@ IsPlace-kept old new x place beside = record {
   within = place.within;
 }
 
-pub KeepsBeside-same : (ram : Ram) (x : Place) → IsPlace ram x → KeepsBeside ram ram x
-KeepsBeside-same ram x place = record {
-  base = refl;
-  size = refl;
-  pages = λ p _ _. refl;
-  words = λ j _ _. refl;
-  whole_middle = place.whole_middle;
-  whole_table = place.whole_table;
-}
-
 pub KeepsBeside-then : (old middle new : Ram) (x : Place) → KeepsBeside old middle x → KeepsBeside middle new x → KeepsBeside old new x
 KeepsBeside-then old middle new x first second = record {
   base = second.base ∙ first.base;

@@ -1,5 +1,5 @@
 -- Runs of pages of one block: the words that are written for them, and the rights that they get.
-use Rattle.std.proofs.Common.{◌≡◌, ◌∙◌, ℕ, ◌+◌, ◌*◌, ◌%◌, ◌^◌, ◌<◌, ◌≤◌, true, false, refl, ap, sym, arith, List, length, Option, Some, None, inl, inr, ◌⊎◌, ◌↔◌, mul-le-mul_right}
+use Rattle.std.proofs.Common.{◌≡◌, ◌∙◌, ℕ, ◌+◌, ◌*◌, ◌%◌, ◌^◌, ◌<◌, ◌≤◌, true, false, refl, ap, sym, arith, List, Option, Some, None, inl, inr, ◌⊎◌, ◌↔◌, mul-le-mul_right}
 use Rattle.std.specs.Prelude.{◌&&◌, nat_le, nat_lt, is_some, if◌then◌else◌}
 use Rattle.std.proofs.lemmas.Bool.{cases_eq, cases_lt, false≢true}
 use Rattle.std.proofs.lemmas.Bool.Decides.{nat_tests}
@@ -13,16 +13,6 @@ use Rattle.ffa_stage2.proofs.Descriptors.{block_word-fits, same_right}
 use Rattle.ffa_stage2.proofs.OneBlock.{IsWritten, IsPlace-kept, KeepsBeside-of_table, KeepsBeside-then, IsMapped-rights, block-first, block-page, block-word}
 
 -- ---- words of one page of RAM
-
-pub IsFilled-none : (ram : Ram) (page from : ℕ) (word : ℕ → ℕ) → length (page_of ram page) ≡ 4096 → IsFilled ram ram page from from word
-IsFilled-none ram page from word whole = record {
-  base = refl;
-  size = refl;
-  pages = λ p _. refl;
-  whole = whole;
-  here = λ j low high. absurd (omega (arith, low, high));
-  beside = λ j _. refl;
-}
 
 -- one more word
 pub IsFilled-next : (old middle new : Ram) (page from to : ℕ) (word : ℕ → ℕ) → from ≤ to → IsFilled old middle page from to word
@@ -102,20 +92,6 @@ with_run-same rights from to right r one is j hj = elim (cases_lt j from) [
     | inr over ↦ sym (with_run-high rights from to right j (omega (arith, over)))
   ]
 ]
-
--- words of a table for a run
-pub fill-names : (old new : Ram) (x : Place) (rights : ℕ → Option Rights) (from to : ℕ) (right : Option Rights) → IsPlace old x → Names old x rights
-    → IsFilled old new x.table.0 from to (λ j. page_word (x.address + 4096 * j) right) → Names new x (with_run rights from to right)
-fill-names old new x rights from to right place names f = record {
-  is = ap (λ (bytes : List ℕ). word_of bytes x.entry) (f.pages x.middle.0 place.apart) ∙ names.is;
-  pages = λ j hj. elim (cases_lt j from) [
-    | inl low ↦ rw (with_run-low rights from to right j low) (f.beside j (inl low) ∙ names.pages j hj)
-    | inr above ↦ elim (cases_lt j to) [
-      | inl high ↦ rw (with_run-here rights from to right j (omega (arith, above)) high) (f.here j (omega (arith, above)) high)
-      | inr over ↦ rw (with_run-high rights from to right j (omega (arith, over))) (f.beside j (inr (omega (arith, over))) ∙ names.pages j hj)
-    ]
-  ];
-}
 
 -- a block split: the pages before the run, those behind it, the run, and the word that names the table
 pub split-names : (old low high full new : Ram) (x : Place) (rights : ℕ → Option Rights) (from to : ℕ) (right : Option Rights) (word : ℕ)

@@ -1,5 +1,5 @@
 -- Where the table pages stand.
-use Rattle.std.proofs.Common.{◌≡◌, ℕ, ◌+◌, ◌*◌, ◌%◌, ◌^◌, ◌<◌, ◌≤◌, true, false, arith, length}
+use Rattle.std.proofs.Common.{◌≡◌, ℕ, ◌+◌, ◌*◌, ◌%◌, ◌<◌, ◌≤◌, true, false, arith, length}
 use Rattle.std.proofs.lemmas.Bool.Decides.{nat_tests}
 use Rattle.std.proofs.lemmas.Nat.{mul-add-lt}
 use Rattle.std.proofs.Common.{List, mul-le-mul_right}
@@ -41,11 +41,6 @@ pub root-address : (ram : Ram) (n b e : ℕ) → HasRoom ram n b → e < n → i
 root-address ram n b e fits he =
     let top : root_of ram.base b e ≡ ram.base + 4096 * table_page b e 0 = omega arith in
     rw top (table_page-address ram n b e 0 fits he (omega arith))
-
--- and it fits 32 bits
-pub root-fits : (ram : Ram) (n b e : ℕ) → HasRoom ram n b → e < n → root_of ram.base b e < 2 ^ 32
-root-fits ram n b e fits he =
-    omega (arith, table_page-below ram n b e 0 fits he (omega arith), fits.size, fits.within)
 
 -- the RAM of an accepted manifest has room for the tables
 pub accepted-room : (base b : ℕ) (es : List Endpoint) (n : ℕ) → is_accepted base b es ≡ true → n ≡ length es → n * table_pages b ≤ 512 * b

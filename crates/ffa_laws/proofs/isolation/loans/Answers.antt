@@ -1,5 +1,5 @@
 use Rattle.ffa_laws.proofs.Forgotten.{zeroed_is_forgotten}
-use Rattle.ffa_laws.proofs.Offers.{offer_says_nothing}
+use Rattle.ffa_laws.proofs.Waiting.{offer_says_nothing}
 use Rattle.ffa_laws.proofs.isolation.loans.Goals as goal
 
 pub returns-clause-zeroed : goal.returns-clause-zeroed

@@ -1,19 +1,11 @@
-use Rattle.std.proofs.Common.{◌≡◌, ◌∙◌, Bool, true, false, List, refl, sym, ap}
+use Rattle.std.proofs.Common.{◌∙◌, Bool, List, sym, ap}
 use Rattle.std.specs.Prelude.{not, ◌||◌}
+use Rattle.std.proofs.Math.Bool.{or-false, or-true}
 use Rattle.ffa_model.specs.declared.transaction.Range.{Range}
 use Rattle.ffa_model.specs.Transactions.{are_writable}
 use Rattle.ffa_memshare.specs.Named.{own_rights_in}
-use Rattle.ffa_memshare.specs.Offers.{grants_writes}
 use Rattle.ffa_memshare.proofs.Offered.{writes-enough}
 use Rattle.ffa_memshare.proofs.checks.send.are_writable_enough.Goals as goal
-
-or-true : (b : Bool) → (b || true) ≡ true
-or-true true = refl
-or-true false = refl
-
-or-false : (b : Bool) → (b || false) ≡ b
-or-false true = refl
-or-false false = refl
 
 pub returns-then-not-asks_for_writes : goal.returns-then-not-asks_for_writes
 returns-then-not-asks_for_writes c =

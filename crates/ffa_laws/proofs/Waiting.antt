@@ -1,4 +1,4 @@
--- An offer that isn't retrieved: the bytes of its pages make no difference to who it is made to.
+-- A transaction that isn't retrieved: the bytes of its pages make no difference to who it is offered to.
 use Rattle.std.proofs.Common.{◌+◌, ◌*◌, ◌≡◌, ◌≢◌, ◌∙◌, ℕ, Bool, true, false, cond, List, [], ◌∷◌, ◌++◌, map, Option, Some, None, is_some, refl, sym, ap, inl, inr}
 use Rattle.std.specs.Prelude.{◌==◌, is_none}
 use Rattle.std.specs.Option.{option_and_then}
