@@ -1,3 +1,4 @@
 pub mod Follows
 pub mod Names
+pub mod Plain
 pub mod ReadLines
