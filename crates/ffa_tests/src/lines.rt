@@ -86,7 +86,9 @@ fn finds_the_first_line_that_differs(rt: HostRuntime) -> Result<(), Fail> {
     assert_eq!(rt; compared(alloc, whole)?, Ok(None));
     for (byte, number, place) in [(0, 2, 0), (145, 2, 0), (147, 4, 146), (200, 5, 151)] {
         let mut turned = whole.to_vec(alloc)?;
-        turned[byte] = b'?';
+        if let Some(place) = turned.get_mut(byte) {
+            *place = b'?';
+        }
         let wanted = Some(Difference { number, place });
         assert_eq!(rt; compared(alloc, turned.as_slice())?, Ok(wanted));
     }
@@ -94,7 +96,9 @@ fn finds_the_first_line_that_differs(rt: HostRuntime) -> Result<(), Fail> {
         number: 6,
         place: 297,
     });
-    assert_eq!(rt; compared(alloc, &whole[..whole.len() - 1])?, Ok(wanted));
+    let mut shorter = whole.to_vec(alloc)?;
+    shorter.pop();
+    assert_eq!(rt; compared(alloc, shorter.as_slice())?, Ok(wanted));
     let mut longer = whole.to_vec(alloc)?;
     longer.push(b'\n')?;
     let wanted = Some(Difference {
