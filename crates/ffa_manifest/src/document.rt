@@ -12,15 +12,18 @@ use crate::place::Place;
 use ffa_model::{Address, MOST_ENDPOINTS, Manifest};
 use toml::{Table, Value};
 
+/// The keys of the top table.
+pub(crate) const TOP_KEYS: [&str; 3] = ["ram_base", "ram_blocks", "endpoint"];
+
 #[tactic(auto, unfolding(crate::specs::Document::top_keys))]
-fn top_keys(table: &Table) -> Result<(), ManifestError>
+pub(crate) fn top_keys(table: &Table) -> Result<(), ManifestError>
     ensures { Exact (λ u. u) result (top_keys_in (table_view table.now)) }
 {
-    only_keys(table, &["ram_base", "ram_blocks", "endpoint"])
+    only_keys(table, &TOP_KEYS)
 }
 
 #[tactic(auto, unfolding(crate::specs::Document::ram_base_at))]
-fn ram_base_at(table: &Table) -> Result<u32, ManifestError>
+pub(crate) fn ram_base_at(table: &Table) -> Result<u32, ManifestError>
     ensures number { Exact (λ n. n) result (ram_base_in (table_view table.now)) }
     ensures highest { IfOk result (λ n. n ≤ 0xFC000000) }
 {
@@ -31,7 +34,7 @@ fn ram_base_at(table: &Table) -> Result<u32, ManifestError>
 }
 
 #[tactic(auto, unfolding(crate::specs::Document::ram_blocks_at))]
-fn ram_blocks_at(table: &Table) -> Result<u32, ManifestError>
+pub(crate) fn ram_blocks_at(table: &Table) -> Result<u32, ManifestError>
     ensures number { Exact (λ n. n) result (ram_blocks_in (table_view table.now)) }
     ensures most { IfOk result (λ n. n ≤ 32) }
 {
@@ -42,7 +45,7 @@ fn ram_blocks_at(table: &Table) -> Result<u32, ManifestError>
 }
 
 #[tactic(auto, unfolding(crate::specs::Endpoints::endpoint_items))]
-fn endpoint_items(table: &Table) -> Result<&[Value], ManifestError>
+pub(crate) fn endpoint_items(table: &Table) -> Result<&[Value], ManifestError>
     ensures items { Exact (λ vs. items_view vs.now) result (endpoint_items_in (table_view table.now)) }
     ensures few { IfOk result (λ vs. length vs.now ≤ MOST_ENDPOINTS) }
 {

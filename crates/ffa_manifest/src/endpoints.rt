@@ -16,18 +16,24 @@ use bitflags::Flags;
 use ffa_model::{Endpoint, MOST_ENDPOINTS, Properties, Version};
 use toml::{Table, Value};
 
+/// The keys of the first endpoint's table.
+pub(crate) const NORMAL_WORLD_KEYS: [&str; 3] = ["version", "properties", "regions"];
+
+/// The keys of each other endpoint's table.
+pub(crate) const PARTITION_KEYS: [&str; 4] = ["version", "uuid", "properties", "regions"];
+
 #[tactic(auto, unfolding(crate::specs::Endpoints::normal_world_keys))]
-fn normal_world_keys(table: &Table) -> Result<(), ManifestError>
+pub(crate) fn normal_world_keys(table: &Table) -> Result<(), ManifestError>
     ensures { Exact (λ u. u) result (normal_world_keys_in (table_view table.now)) }
 {
-    only_keys(table, &["version", "properties", "regions"])
+    only_keys(table, &NORMAL_WORLD_KEYS)
 }
 
 #[tactic(auto, unfolding(crate::specs::Endpoints::partition_keys))]
-fn partition_keys(table: &Table) -> Result<(), ManifestError>
+pub(crate) fn partition_keys(table: &Table) -> Result<(), ManifestError>
     ensures { Exact (λ u. u) result (partition_keys_in (table_view table.now)) }
 {
-    only_keys(table, &["version", "uuid", "properties", "regions"])
+    only_keys(table, &PARTITION_KEYS)
 }
 
 // The version that a text names.
@@ -43,21 +49,21 @@ fn version_of(text: &str) -> Result<Version, ManifestError>
 }
 
 #[tactic(auto, unfolding(crate::specs::Endpoints::version_at))]
-fn version_at(table: &Table) -> Result<Version, ManifestError>
+pub(crate) fn version_at(table: &Table) -> Result<Version, ManifestError>
     ensures { Exact (λ v. v) result (version_in (table_view table.now)) }
 {
     version_of(text_at(table, "version")?)
 }
 
 #[tactic(auto, unfolding(crate::specs::Endpoints::uuid_at))]
-fn uuid_at(table: &Table) -> Result<[u8; 16], ManifestError>
+pub(crate) fn uuid_at(table: &Table) -> Result<[u8; 16], ManifestError>
     ensures { Exact (λ bytes. bytes) result (uuid_in (table_view table.now)) }
 {
     identifier(text_at(table, "uuid")?)
 }
 
 #[tactic(auto, unfolding(crate::specs::Endpoints::properties_at))]
-fn properties_at(table: &Table) -> Result<Properties, ManifestError>
+pub(crate) fn properties_at(table: &Table) -> Result<Properties, ManifestError>
     ensures { Exact (λ p. p.0) result (properties_in (table_view table.now)) }
 {
     match integer_at(table, "properties")? {
@@ -76,7 +82,7 @@ fn receives(properties: Properties) -> bool
 }
 
 #[tactic(auto, unfolding(crate::specs::Endpoints::normal_world_properties))]
-fn normal_world_properties(table: &Table) -> Result<Properties, ManifestError>
+pub(crate) fn normal_world_properties(table: &Table) -> Result<Properties, ManifestError>
     ensures { Exact (λ p. p.0) result (normal_world_properties_in (table_view table.now)) }
 {
     let properties = properties_at(table)?;
@@ -121,7 +127,7 @@ fn partition(table: &Table, place: &Place, before: &[Endpoint]) -> Result<Endpoi
 }
 
 #[tactic(auto, unfolding(crate::specs::Endpoints::next_endpoint))]
-fn next_endpoint(
+pub(crate) fn next_endpoint(
     value: &Value,
     place: &Place,
     before: &[Endpoint],

@@ -10,7 +10,7 @@ ghost use Rattle.ffa_manifest.specs.Keys.{only_keys as only_keys_in, value_at as
 use crate::error::ManifestError;
 use toml::{Table, Value};
 
-fn is_among(key: &str, names: &[&str]) -> bool
+pub(crate) fn is_among(key: &str, names: &[&str]) -> bool
     ensures { result ≡ list_any (λ n. bytes_eq key.now n.now) names.now }
 {
     names.iter().any(|name| key == *name)

@@ -1,7 +1,7 @@
 //! Reads manifests: the description of a machine in TOML, accepted whole or refused by its first cause.
 #![tactic(auto)]
 
-ghost use Rattle.std.specs.Prelude.{◌≡◌, ◌≢◌, Ok, Err, IfOk, IfErr};
+ghost use Rattle.std.specs.Prelude.{◌≡◌, ◌≢◌, ◌↔◌, Ok, Err, IfOk, IfErr, IfSome, IsNone, IsOk};
 ghost use Rattle.ffa_manifest.specs.Document.{machine_of, parts_of};
 
 mod document;
@@ -9,12 +9,15 @@ mod endpoints;
 pub mod error;
 mod identifier;
 mod keys;
+mod locate;
 mod place;
+pub mod refusal;
 mod regions;
 
 pub use error::ManifestError;
 pub use ffa_model::Manifest;
-use std::alloc::Global;
+pub use refusal::Refusal;
+use std::alloc::{AllocError, Global};
 
 /// Reads the text of a manifest: a machine's RAM, and its endpoints with their regions.
 ///
@@ -29,5 +32,38 @@ pub fn read(alloc: Global, text: &str) -> Result<Manifest, ManifestError>
         Ok(table) => document::machine(&table),
         Err(e) if e.is_memory() => Err(ManifestError::NoMemory),
         Err(_) => Err(ManifestError::Toml),
+    }
+}
+
+/// Why a text is refused, and where: of a text that is accepted, nothing.
+///
+/// The cause is the one that `read` answers. The place is where reading ends, with the key and the value that stand there.
+/// Endpoints and regions count from 1: endpoint 1 is the normal world. The clauses say nothing of the place, which tests
+/// show.
+///
+/// # Errors
+///
+/// There is no memory.
+#[tactic(auto, unfolding(crate::specs::Document::machine_of))]
+pub fn explain(alloc: Global, text: &str) -> Result<Option<Refusal>, AllocError>
+    ensures accepted { IfOk result (λ found. IsNone found ↔ IsOk (machine_of text.now)) }
+    ensures refused { IfOk result (λ found. IfSome found (λ r. machine_of text.now ≡ Err r.cause)) }
+{
+    let table = match toml::table_from_str(alloc, text) {
+        Ok(table) => table,
+        Err(e) if e.is_memory() => return Err(AllocError),
+        Err(e) => {
+            return Ok(Some(Refusal {
+                cause: ManifestError::Toml,
+                place: locate::in_text(alloc, &e)?,
+            }));
+        }
+    };
+    match document::machine(&table) {
+        Ok(_) => Ok(None),
+        Err(cause) => Ok(Some(Refusal {
+            cause,
+            place: locate::in_top(alloc, &table)?,
+        })),
     }
 }

@@ -1,9 +1,11 @@
 //! The regions of an endpoint.
-ghost use Rattle.std.specs.Prelude.{◌≡◌, ◌≤◌, ◌++◌, length};
+ghost use Rattle.std.specs.Prelude.{◌≡◌, ◌≤◌, ◌++◌, IfOk, codes, length};
 ghost use Rattle.std.specs.List.{list_all};
 ghost use Rattle.toml.specs.View.{view, table_view, items_view};
 ghost use Rattle.ffa_model.specs.Manifest.{is_apart, regions_of};
 ghost use Rattle.ffa_manifest.specs.Reading.{Exact};
+ghost use Rattle.ffa_manifest.specs.declared.error.ManifestError.TheVariants.{RegionCount};
+ghost use Rattle.ffa_manifest.specs.Keys.{items_at};
 ghost use Rattle.ffa_manifest.specs.Place.{is_in};
 ghost use Rattle.ffa_manifest.specs.Regions.{region_keys as keys_in, base_at as base_in, pages_at as pages_in, rights_named as rights_of_word, rights_at as rights_in, region as region_in, is_free as is_free_in, next_region as next_in, regions_from as regions_in, regions_at as regions_of_table};
 
@@ -14,22 +16,25 @@ use arrayvec::ArrayVec;
 use ffa_model::{Data, Endpoint, MOST_REGIONS, Region, Rights};
 use toml::{Table, Value};
 
+/// The keys of a region's table.
+pub(crate) const REGION_KEYS: [&str; 3] = ["base", "pages", "rights"];
+
 #[tactic(auto, unfolding(crate::specs::Regions::region_keys))]
-fn region_keys(table: &Table) -> Result<(), ManifestError>
+pub(crate) fn region_keys(table: &Table) -> Result<(), ManifestError>
     ensures { Exact (λ u. u) result (keys_in (table_view table.now)) }
 {
-    only_keys(table, &["base", "pages", "rights"])
+    only_keys(table, &REGION_KEYS)
 }
 
 #[tactic(auto, unfolding(crate::specs::Regions::base_at))]
-fn base_at(table: &Table) -> Result<Option<u64>, ManifestError>
+pub(crate) fn base_at(table: &Table) -> Result<Option<u64>, ManifestError>
     ensures { Exact (λ n. n) result (base_in (table_view table.now)) }
 {
     integer_at(table, "base")
 }
 
 #[tactic(auto, unfolding(crate::specs::Regions::pages_at))]
-fn pages_at(table: &Table) -> Result<Option<u64>, ManifestError>
+pub(crate) fn pages_at(table: &Table) -> Result<Option<u64>, ManifestError>
     ensures { Exact (λ n. n) result (pages_in (table_view table.now)) }
 {
     integer_at(table, "pages")
@@ -54,7 +59,7 @@ fn rights_named(word: &str) -> Option<Rights>
 }
 
 #[tactic(auto, unfolding(crate::specs::Regions::rights_at))]
-fn rights_at(table: &Table) -> Result<Rights, ManifestError>
+pub(crate) fn rights_at(table: &Table) -> Result<Rights, ManifestError>
     ensures { Exact (λ r. r) result (rights_in (table_view table.now)) }
 {
     match rights_named(text_at(table, "rights")?) {
@@ -64,7 +69,7 @@ fn rights_at(table: &Table) -> Result<Rights, ManifestError>
 }
 
 #[tactic(auto, unfolding(crate::specs::Regions::region))]
-fn region(table: &Table, place: &Place) -> Result<Region, ManifestError>
+pub(crate) fn region(table: &Table, place: &Place) -> Result<Region, ManifestError>
     ensures { Exact (λ r. r) result (region_in (is_in place.now) (table_view table.now)) }
 {
     region_keys(table)?;
@@ -79,7 +84,7 @@ fn region(table: &Table, place: &Place) -> Result<Region, ManifestError>
     }
 }
 
-fn is_apart(region: &Region, other: &Region) -> bool
+pub(crate) fn is_apart(region: &Region, other: &Region) -> bool
     ensures { result ≡ is_apart region.now other.now }
 {
     let end = u64::from(region.base) + 4096 * u64::from(region.pages);
@@ -101,7 +106,7 @@ fn is_free(region: &Region, endpoints: &[Endpoint]) -> bool
 }
 
 #[tactic(auto, using(crate::proofs::Taken::is_free_of_both), unfolding(crate::specs::Regions::next_region))]
-fn next_region(
+pub(crate) fn next_region(
     value: &Value,
     place: &Place,
     endpoints: &[Endpoint],
@@ -122,7 +127,7 @@ fn next_region(
 }
 
 #[tactic(auto, unfolding(crate::specs::Regions::regions_from))]
-fn regions_from(
+pub(crate) fn regions_from(
     values: &[Value],
     place: &Place,
     endpoints: &[Endpoint],
@@ -138,6 +143,14 @@ fn regions_from(
     Ok(own)
 }
 
+/// The items of the array `regions`.
+pub(crate) fn region_items(table: &Table) -> Result<&[Value], ManifestError>
+    ensures items { Exact (λ vs. items_view vs.now) result (items_at (codes "regions") MOST_REGIONS RegionCount (table_view table.now)) }
+    ensures few { IfOk result (λ vs. length vs.now ≤ MOST_REGIONS) }
+{
+    items_at(table, "regions", MOST_REGIONS, ManifestError::RegionCount)
+}
+
 /// The regions of an endpoint's table, which lie apart from those of the endpoints before it.
 #[tactic(auto, unfolding(crate::specs::Regions::regions_at))]
 pub(crate) fn regions_at(
@@ -147,6 +160,6 @@ pub(crate) fn regions_at(
 ) -> Result<ArrayVec<Region, MOST_REGIONS>, ManifestError>
     ensures { Exact (λ rs. rs.items) result (regions_of_table (is_in place.now) (regions_of endpoints.now) (table_view table.now)) }
 {
-    let values = items_at(table, "regions", MOST_REGIONS, ManifestError::RegionCount)?;
+    let values = region_items(table)?;
     regions_from(values, place, endpoints)
 }

@@ -1,0 +1,74 @@
+//! What is told of a manifest that is refused.
+
+use crate::error::ManifestError;
+use std::fmt;
+
+/// Why a manifest is refused, and where. It prints as one line.
+#[derive(Debug, Drop)]
+pub struct Refusal {
+    /// The first cause that applies, in the order in which the text is read.
+    pub cause: ManifestError,
+    /// Where it applies.
+    pub place: Location,
+}
+
+/// Where a manifest is refused. Endpoints count from 1, the normal world, and so do the regions of each endpoint.
+#[derive(Debug, Drop)]
+pub struct Location {
+    /// The endpoint, or `None` in the top table.
+    pub endpoint: Option<usize>,
+    /// The endpoint's region, or `None` in the endpoint's own table.
+    pub region: Option<usize>,
+    /// What stands there.
+    pub found: Found,
+}
+
+/// What is refused in a manifest. Keys and values of the text stand on one line, values as TOML, and end in `...` where
+/// they are cut.
+#[derive(Debug, Drop)]
+pub enum Found {
+    /// The text is no TOML: what the parser says of it, with a line and a column that count from 1.
+    NoToml(String),
+    /// A key that isn't one of the table's.
+    UnknownKey(String),
+    /// One of the table's keys, which it lacks.
+    MissingKey(&'static str),
+    /// The value at one of the table's keys, and what is wrong with it.
+    Value {
+        key: &'static str,
+        value: String,
+        fault: &'static str,
+    },
+    /// The value that stands for the whole endpoint or region, and what is wrong with it.
+    Whole {
+        value: String,
+        fault: &'static str,
+    },
+}
+
+impl fmt::Display for Refusal {
+    fn fmt<W: fmt::Write>(&self, f: &mut fmt::Formatter<W>) -> fmt::Result {
+        let found = &self.place.found;
+        match (self.place.endpoint, self.place.region) {
+            (None, _) => write!(f, "{found}"),
+            (Some(endpoint), None) => write!(f, "endpoint {endpoint}: {found}"),
+            (Some(endpoint), Some(region)) => {
+                write!(f, "endpoint {endpoint}, region {region}: {found}")
+            }
+        }
+    }
+}
+
+impl std::error::Error for Refusal {}
+
+impl fmt::Display for Found {
+    fn fmt<W: fmt::Write>(&self, f: &mut fmt::Formatter<W>) -> fmt::Result {
+        match self {
+            Found::NoToml(said) => write!(f, "{said}"),
+            Found::UnknownKey(key) => write!(f, "key '{key}' is unknown"),
+            Found::MissingKey(key) => write!(f, "'{key}' is missing"),
+            Found::Value { key, value, fault } => write!(f, "{key} = {value}: {fault}"),
+            Found::Whole { value, fault } => write!(f, "{value}: {fault}"),
+        }
+    }
+}
