@@ -1,25 +1,19 @@
 -- From a parse to what its words ask for.
-use Rattle.std.proofs.Common.{◌≡◌, List, Result, true, false, refl, ap, ap₂, subst, ◌∙◌}
+use Rattle.std.proofs.Common.{◌≡◌, List, Result, true, refl, ap, subst, ◌∙◌}
 use Rattle.clap.proofs.OnLiterals.{clap_on_literals}
-use Rattle.clap.specs.Words.{AddsSubcommand, App, FailsBy, HasMatchesOf, Text, app_of, fault_of, is_simple, is_simple_and_free, subcommand_of, subcommand_rows_of, with_subcommand}
+use Rattle.clap.specs.Words.{App, FailsBy, HasMatchesOf, Text, fault_of, is_simple, is_simple_and_free, subcommand_of, subcommand_rows_of}
 use Rattle.clap.specs.declared.error.Error.{Error}
 use Rattle.clap.specs.declared.parser.matches.ArgMatches.{ArgMatches}
-use Rattle.clap.specs.declared.builder.command.Command.{Command}
-use Rattle.clap.specs.declared.builder.command.Command.TheViews.{out-Command}
-use Rattle.ffa_command.specs.Commands.{program, bare, run_app, demo_app, check_app, layout_app}
-
--- one more command
-pub with_command : (old sub new : Command) (a s : App) → AddsSubcommand old sub new → (out-Command sub).has_globals ≡ false → app_of old ≡ a → app_of sub ≡ s → app_of new ≡ with_subcommand a s.top
-with_command old sub new a s adds local old_is sub_is = adds.shape local ∙ ap₂ with_subcommand old_is (ap (λ (x : App). x.top) sub_is)
+use Rattle.ffa_command.specs.Commands.{program, bare, run_app, demo_app, compare_app, check_app, layout_app}
 
 -- clap says what the matches of these commands are
 pub is_simple_program : is_simple program ≡ true
-unfolding clap_on_literals program bare run_app demo_app check_app layout_app
+unfolding clap_on_literals program bare run_app demo_app compare_app check_app layout_app
 is_simple_program = refl
 
 -- clap says which faults it finds in the words of these commands
 pub is_free_program : is_simple_and_free program ≡ true
-unfolding clap_on_literals program bare run_app demo_app check_app layout_app
+unfolding clap_on_literals program bare run_app demo_app compare_app check_app layout_app
 is_free_program = refl
 
 -- the command that was met, with its matches

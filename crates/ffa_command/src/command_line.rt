@@ -1,37 +1,71 @@
 //! What the command line asks for.
-ghost use Rattle.std.specs.Prelude.{◌≡◌, IfOk, false, option_map};
-ghost use Rattle.clap.specs.Words.{app_of, rule_of, with_rule, found_of, first_of, rows_of, subcommand_rows_of};
-ghost use Rattle.clap.specs.declared.builder.command.Command.TheViews.{out-Command};
-ghost use Rattle.ffa_command.specs.Commands.{manifest_of, trace_of, path_rule, flag_rule, with_flags, manifest_id, trace_id, frames_id, tlb_id, is_given, run_app, demo_app, check_app, layout_app, bare, program, ask_of, asked, asked_in, asked_run, asked_demo, asked_check, asked_layout};
+ghost use Rattle.std.specs.Prelude.{◌≡◌, option_map};
+ghost use Rattle.clap.specs.Words.{found_of, first_of, rows_of, subcommand_rows_of};
+ghost use Rattle.ffa_command.specs.Commands.{ask_of, manifest_of, trace_of, expected_of, verbose_of, is_input, reads_once, asked_in, is_given, machine_in, text_in, named_in, named, named_run, named_demo, named_compare, named_check, named_layout};
 
-use clap::{Arg, ArgAction, ArgMatches, Command};
-use std::alloc::{AllocError, Global};
+use clap::ArgMatches;
 
-/// A command with its paths, which are words of the command line.
+/// The word that stands for standard input in a path's place.
+pub const STANDARD_INPUT: &str = "-";
+
+/// How the machine of a play is built.
+#[derive(Clone, Copy, Debug, PartialEq, Eq)]
+pub struct MachineOptions {
+    /// RAM lies in frames, a piece of memory for each page, and not in one piece.
+    pub frames: bool,
+    /// The last few translations of addresses are held, as a TLB does.
+    pub tlb: bool,
+}
+
+/// How the text of a play is written.
+#[derive(Clone, Copy, Debug, PartialEq, Eq)]
+pub struct TextOptions {
+    /// The text of each line is written before more of the trace is read.
+    pub line_buffered: bool,
+    /// Each text begins with the number of its line.
+    pub number: bool,
+    /// The name of a call and of an error stands behind its registers.
+    pub names: bool,
+}
+
+/// A command with its paths, which are words of the command line, and what its flags say.
+///
+/// At most one of its paths is `STANDARD_INPUT`. Where `verbose` is set, more is said on standard error of what is
+/// refused.
 #[derive(Clone, Copy, Debug, PartialEq, Eq)]
 pub enum Request<'a> {
-    /// To play a trace on the machine of a manifest, with RAM in frames or in one piece, and with a cache of
-    /// translations or none.
+    /// To play a trace on the machine of a manifest.
     Run {
         manifest: &'a str,
         trace: &'a str,
-        frames: bool,
-        tlb: bool,
+        machine: MachineOptions,
+        text: TextOptions,
+        verbose: bool,
     },
-    /// To play a trace on the built-in machine, with RAM in frames or in one piece, and with a cache of translations or
-    /// none.
+    /// To play a trace on the built-in machine.
     Demo {
         trace: &'a str,
-        frames: bool,
-        tlb: bool,
+        machine: MachineOptions,
+        text: TextOptions,
+        verbose: bool,
+    },
+    /// To compare what a trace prints on the machine of a manifest with what is expected.
+    Compare {
+        manifest: &'a str,
+        trace: &'a str,
+        expected: &'a str,
+        machine: MachineOptions,
+        verbose: bool,
     },
     /// To say whether a manifest is accepted.
     Check {
         manifest: &'a str,
+        verbose: bool,
     },
     /// To print where the tables of a manifest's machine stand.
     Layout {
         manifest: &'a str,
+        verbose: bool,
     },
 }
 
@@ -42,8 +76,9 @@ impl<'a> Request<'a> {
     {
         match *self {
             Request::Run { manifest, .. }
-            | Request::Check { manifest }
-            | Request::Layout { manifest } => Some(manifest),
+            | Request::Compare { manifest, .. }
+            | Request::Check { manifest, .. }
+            | Request::Layout { manifest, .. } => Some(manifest),
             Request::Demo { .. } => None,
         }
     }
@@ -53,118 +88,54 @@ impl<'a> Request<'a> {
         ensures { option_map (λ path. path.now) result ≡ trace_of (ask_of self.now) }
     {
         match *self {
-            Request::Run { trace, .. } | Request::Demo { trace, .. } => Some(trace),
+            Request::Run { trace, .. }
+            | Request::Demo { trace, .. }
+            | Request::Compare { trace, .. } => Some(trace),
             Request::Check { .. } | Request::Layout { .. } => None,
         }
     }
+
+    /// The path of the expected text that it names.
+    pub fn expected(&self) -> Option<&'a str>
+        ensures { option_map (λ path. path.now) result ≡ expected_of (ask_of self.now) }
+    {
+        match *self {
+            Request::Compare { expected, .. } => Some(expected),
+            _ => None,
+        }
+    }
+
+    /// Whether more is to be said of what is refused.
+    pub fn is_verbose(&self) -> bool
+        ensures { result ≡ verbose_of (ask_of self.now) }
+    {
+        match *self {
+            Request::Run { verbose, .. }
+            | Request::Demo { verbose, .. }
+            | Request::Compare { verbose, .. }
+            | Request::Check { verbose, .. }
+            | Request::Layout { verbose, .. } => verbose,
+        }
+    }
+
+    // Whether at most one of the paths is standard input, which can be read once only.
+    #[tactic(auto, unfolding(crate::specs::Commands::reads_once))]
+    fn reads_once(&self) -> bool
+        ensures { result ≡ reads_once (ask_of self.now) }
+    {
+        let manifest = is_input(self.manifest());
+        let trace = is_input(self.trace());
+        let expected = is_input(self.expected());
+        u8::from(manifest) + u8::from(trace) + u8::from(expected) <= 1
+    }
 }
 
-fn path<'a>(alloc: Global, id: &'a str, help: &'a str) -> Arg<'a>
-    ensures rule { rule_of result ≡ path_rule id.entry.now }
-    ensures local { result.global ≡ false }
+// Whether a path is given and is standard input.
+#[tactic(auto, unfolding(crate::specs::Commands::is_input))]
+fn is_input(path: Option<&str>) -> bool
+    ensures { result ≡ is_input (option_map (λ p. p.now) path.entry) }
 {
-    Arg::new(alloc, id).required(true).help(help)
-}
-
-// The command with a manifest's path.
-fn with_manifest<'a>(alloc: Global, command: Command<'a>) -> Result<Command<'a>, AllocError>
-    requires local { (out-Command command).has_globals ≡ false }
-    ensures app { IfOk result (λ c. app_of c ≡ with_rule (app_of command.entry) (path_rule manifest_id)) }
-    ensures local { IfOk result (λ c. (out-Command c).has_globals ≡ false) }
-{
-    command.arg(path(alloc, "manifest", "The machine's manifest, a TOML file"))
-}
-
-// The command with a trace's path.
-fn with_trace<'a>(alloc: Global, command: Command<'a>) -> Result<Command<'a>, AllocError>
-    requires local { (out-Command command).has_globals ≡ false }
-    ensures app { IfOk result (λ c. app_of c ≡ with_rule (app_of command.entry) (path_rule trace_id)) }
-    ensures local { IfOk result (λ c. (out-Command c).has_globals ≡ false) }
-{
-    command.arg(path(alloc, "trace", "The trace: a line for each operation"))
-}
-
-fn flag<'a>(alloc: Global, id: &'a str, help: &'a str) -> Arg<'a>
-    ensures rule { rule_of result ≡ flag_rule id.entry.now }
-    ensures local { result.global ≡ false }
-{
-    Arg::new(alloc, id)
-        .long(id)
-        .action(ArgAction::SetTrue)
-        .help(help)
-}
-
-// The command with the flags for RAM in frames and for a cache of translations.
-fn with_flags<'a>(alloc: Global, command: Command<'a>) -> Result<Command<'a>, AllocError>
-    requires local { (out-Command command).has_globals ≡ false }
-    ensures app { IfOk result (λ c. app_of c ≡ with_flags (app_of command.entry)) }
-    ensures local { IfOk result (λ c. (out-Command c).has_globals ≡ false) }
-{
-    let frames = "Keeps RAM in frames, a piece of memory for each page";
-    let tlb = "Holds the last few translations of addresses, as a TLB does";
-    command
-        .arg(flag(alloc, "frames", frames))?
-        .arg(flag(alloc, "tlb", tlb))
-}
-
-#[tactic(auto, unfolding(crate::specs::Commands::run_app))]
-fn run_command<'a>(alloc: Global) -> Result<Command<'a>, AllocError>
-    ensures app { IfOk result (λ c. app_of c ≡ run_app) }
-    ensures local { IfOk result (λ c. (out-Command c).has_globals ≡ false) }
-{
-    let command = Command::new(alloc, "run").about("Plays a trace on the machine of a manifest");
-    let command = with_trace(alloc, with_manifest(alloc, command)?)?;
-    with_flags(alloc, command)
-}
-
-#[tactic(auto, unfolding(crate::specs::Commands::demo_app))]
-fn demo_command<'a>(alloc: Global) -> Result<Command<'a>, AllocError>
-    ensures app { IfOk result (λ c. app_of c ≡ demo_app) }
-    ensures local { IfOk result (λ c. (out-Command c).has_globals ≡ false) }
-{
-    let command = Command::new(alloc, "demo").about("Plays a trace on the built-in machine");
-    with_flags(alloc, with_trace(alloc, command)?)
-}
-
-#[tactic(auto, unfolding(crate::specs::Commands::check_app))]
-fn check_command<'a>(alloc: Global) -> Result<Command<'a>, AllocError>
-    ensures app { IfOk result (λ c. app_of c ≡ check_app) }
-    ensures local { IfOk result (λ c. (out-Command c).has_globals ≡ false) }
-{
-    let command = Command::new(alloc, "check").about("Says whether a manifest is accepted");
-    with_manifest(alloc, command)
-}
-
-#[tactic(auto, unfolding(crate::specs::Commands::layout_app))]
-fn layout_command<'a>(alloc: Global) -> Result<Command<'a>, AllocError>
-    ensures app { IfOk result (λ c. app_of c ≡ layout_app) }
-    ensures local { IfOk result (λ c. (out-Command c).has_globals ≡ false) }
-{
-    let command = Command::new(alloc, "layout").about("Prints where each endpoint's tables stand");
-    with_manifest(alloc, command)
-}
-
-// Help names the program by its own name, whatever the first word is.
-#[tactic(auto, unfolding(crate::specs::Commands::bare))]
-fn bare<'a>(alloc: Global) -> Result<Command<'a>, AllocError>
-    ensures { IfOk result (λ c. app_of c ≡ bare) }
-{
-    Command::new(alloc, "ffaplay")
-        .about("Plays FF-A calls and memory accesses on a small machine")
-        .subcommand_required(true)
-        .bin_name("ffaplay")
-}
-
-/// The program's command line.
-#[tactic(auto, unfolding(crate::specs::Commands::program))]
-pub(crate) fn program<'a>(alloc: Global) -> Result<Command<'a>, AllocError>
-    ensures { IfOk result (λ c. app_of c ≡ program) }
-{
-    bare(alloc)?
-        .subcommand(run_command(alloc)?)?
-        .subcommand(demo_command(alloc)?)?
-        .subcommand(check_command(alloc)?)?
-        .subcommand(layout_command(alloc)?)
+    path == Some(STANDARD_INPUT)
 }
 
 fn text_of<'a>(matches: &ArgMatches<'a>, id: &str) -> Option<&'a str>
@@ -179,69 +150,119 @@ fn is_given(matches: &ArgMatches<'_>, id: &str) -> bool
     text_of(matches, id) == Some("true")
 }
 
-#[tactic(auto, unfolding(crate::specs::Commands::asked_run))]
-fn asked_run<'a>(matches: &ArgMatches<'a>) -> Option<Request<'a>>
-    ensures { option_map ask_of result ≡ asked_run (rows_of (found_of matches.now)) }
+#[tactic(auto, unfolding(crate::specs::Commands::machine_in))]
+fn machine_in(matches: &ArgMatches<'_>) -> MachineOptions
+    ensures { result ≡ machine_in (rows_of (found_of matches.now)) }
+{
+    MachineOptions {
+        frames: is_given(matches, "frames"),
+        tlb: is_given(matches, "tlb"),
+    }
+}
+
+#[tactic(auto, unfolding(crate::specs::Commands::text_in))]
+fn text_in(matches: &ArgMatches<'_>) -> TextOptions
+    ensures { result ≡ text_in (rows_of (found_of matches.now)) }
+{
+    TextOptions {
+        line_buffered: is_given(matches, "line-buffered"),
+        number: is_given(matches, "number"),
+        names: is_given(matches, "names"),
+    }
+}
+
+#[tactic(auto, unfolding(crate::specs::Commands::named_run))]
+fn named_run<'a>(matches: &ArgMatches<'a>) -> Option<Request<'a>>
+    ensures { option_map ask_of result ≡ named_run (rows_of (found_of matches.now)) }
 {
     let manifest = text_of(matches, "manifest")?;
     let trace = text_of(matches, "trace")?;
-    let frames = is_given(matches, "frames");
-    let tlb = is_given(matches, "tlb");
     Some(Request::Run {
         manifest,
         trace,
-        frames,
-        tlb,
+        machine: machine_in(matches),
+        text: text_in(matches),
+        verbose: is_given(matches, "verbose"),
     })
 }
 
-#[tactic(auto, unfolding(crate::specs::Commands::asked_demo))]
-fn asked_demo<'a>(matches: &ArgMatches<'a>) -> Option<Request<'a>>
-    ensures { option_map ask_of result ≡ asked_demo (rows_of (found_of matches.now)) }
+#[tactic(auto, unfolding(crate::specs::Commands::named_demo))]
+fn named_demo<'a>(matches: &ArgMatches<'a>) -> Option<Request<'a>>
+    ensures { option_map ask_of result ≡ named_demo (rows_of (found_of matches.now)) }
 {
     let trace = text_of(matches, "trace")?;
-    let frames = is_given(matches, "frames");
-    let tlb = is_given(matches, "tlb");
-    Some(Request::Demo { trace, frames, tlb })
+    Some(Request::Demo {
+        trace,
+        machine: machine_in(matches),
+        text: text_in(matches),
+        verbose: is_given(matches, "verbose"),
+    })
 }
 
-#[tactic(auto, unfolding(crate::specs::Commands::asked_check))]
-fn asked_check<'a>(matches: &ArgMatches<'a>) -> Option<Request<'a>>
-    ensures { option_map ask_of result ≡ asked_check (rows_of (found_of matches.now)) }
+#[tactic(auto, unfolding(crate::specs::Commands::named_compare))]
+fn named_compare<'a>(matches: &ArgMatches<'a>) -> Option<Request<'a>>
+    ensures { option_map ask_of result ≡ named_compare (rows_of (found_of matches.now)) }
 {
     let manifest = text_of(matches, "manifest")?;
-    Some(Request::Check { manifest })
+    let trace = text_of(matches, "trace")?;
+    let expected = text_of(matches, "expected")?;
+    Some(Request::Compare {
+        manifest,
+        trace,
+        expected,
+        machine: machine_in(matches),
+        verbose: is_given(matches, "verbose"),
+    })
 }
 
-#[tactic(auto, unfolding(crate::specs::Commands::asked_layout))]
-fn asked_layout<'a>(matches: &ArgMatches<'a>) -> Option<Request<'a>>
-    ensures { option_map ask_of result ≡ asked_layout (rows_of (found_of matches.now)) }
+#[tactic(auto, unfolding(crate::specs::Commands::named_check))]
+fn named_check<'a>(matches: &ArgMatches<'a>) -> Option<Request<'a>>
+    ensures { option_map ask_of result ≡ named_check (rows_of (found_of matches.now)) }
 {
     let manifest = text_of(matches, "manifest")?;
-    Some(Request::Layout { manifest })
+    let verbose = is_given(matches, "verbose");
+    Some(Request::Check { manifest, verbose })
 }
 
-#[tactic(auto, unfolding(crate::specs::Commands::asked))]
-fn asked<'a>(name: &str, matches: &ArgMatches<'a>) -> Option<Request<'a>>
-    ensures { option_map ask_of result ≡ asked name.now (rows_of (found_of matches.now)) }
+#[tactic(auto, unfolding(crate::specs::Commands::named_layout))]
+fn named_layout<'a>(matches: &ArgMatches<'a>) -> Option<Request<'a>>
+    ensures { option_map ask_of result ≡ named_layout (rows_of (found_of matches.now)) }
+{
+    let manifest = text_of(matches, "manifest")?;
+    let verbose = is_given(matches, "verbose");
+    Some(Request::Layout { manifest, verbose })
+}
+
+#[tactic(auto, unfolding(crate::specs::Commands::named))]
+fn named<'a>(name: &str, matches: &ArgMatches<'a>) -> Option<Request<'a>>
+    ensures { option_map ask_of result ≡ named name.now (rows_of (found_of matches.now)) }
 {
     if name == "run" {
-        asked_run(matches)
+        named_run(matches)
     } else if name == "demo" {
-        asked_demo(matches)
+        named_demo(matches)
+    } else if name == "compare" {
+        named_compare(matches)
     } else if name == "check" {
-        asked_check(matches)
+        named_check(matches)
     } else if name == "layout" {
-        asked_layout(matches)
+        named_layout(matches)
     } else {
         None
     }
+}
+
+/// What the matches of the program's command line name, however often that reads standard input.
+pub(crate) fn named_by<'a>(matches: &ArgMatches<'a>) -> Option<Request<'a>>
+    ensures { option_map ask_of result ≡ named_in (subcommand_rows_of matches.now) }
+{
+    let (name, inner) = matches.subcommand()?;
+    named(name, inner)
 }
 
 /// What the matches of the program's command line ask for.
 pub(crate) fn asked_by<'a>(matches: &ArgMatches<'a>) -> Option<Request<'a>>
     ensures { option_map ask_of result ≡ asked_in (subcommand_rows_of matches.now) }
 {
-    let (name, inner) = matches.subcommand()?;
-    asked(name, inner)
+    named_by(matches).filter(|request| request.reads_once())
 }

@@ -1,0 +1,201 @@
+//! The program's commands and their words, as `clap` is told of them.
+ghost use Rattle.std.specs.Prelude.{◌≡◌, IfOk, false};
+ghost use Rattle.clap.specs.Words.{app_of, rule_of};
+ghost use Rattle.clap.specs.declared.builder.command.Command.TheViews.{out-Command};
+ghost use Rattle.ffa_command.specs.Commands.{bare, program};
+ghost use Rattle.ffa_command.specs.Tables.{rule_for, with_words, with_commands, app_for};
+
+use clap::{Arg, ArgAction, Command};
+use std::alloc::{AllocError, Global};
+
+/// The version of the program.
+pub const VERSION: &str = "0.1.0";
+/// The toolchain that the program is proved with.
+pub const TOOLCHAIN: &str = "rattle-kit-13b";
+// `VERSION`, and `TOOLCHAIN` in brackets.
+const VERSION_TEXT: &str = "0.1.0 (rattle-kit-13b)";
+
+// What the help of the program ends with.
+const AFTER_HELP: &str = "\
+Status:
+   0  done
+   1  the manifest is refused
+   2  a line is none of a trace
+   3  a file can't be read, the output can't be written or memory is short
+   4  the trace's text is another than expected
+  64  the words make no sense
+
+Manual: docs/USING.md";
+
+// A word of a command.
+#[derive(Clone, Copy)]
+enum Word<'a> {
+    // A path that has to be given.
+    Path { id: &'a str, help: &'a str },
+    // A flag, which may be given by its name.
+    Flag { id: &'a str, help: &'a str },
+}
+
+// A command of the program.
+#[derive(Clone, Copy)]
+struct Entry<'a> {
+    name: &'a str,
+    about: &'a str,
+    words: &'a [Word<'a>],
+}
+
+const MANIFEST: Word = Word::Path {
+    id: "manifest",
+    help: "The machine's manifest, a TOML file; - is standard input",
+};
+
+const TRACE: Word = Word::Path {
+    id: "trace",
+    help: "The trace: a line for each operation; - is standard input",
+};
+
+const EXPECTED: Word = Word::Path {
+    id: "expected",
+    help: "What the trace is expected to print",
+};
+
+const FRAMES: Word = Word::Flag {
+    id: "frames",
+    help: "Keeps RAM in frames, a piece of memory for each page",
+};
+
+const TLB: Word = Word::Flag {
+    id: "tlb",
+    help: "Holds the last few translations of addresses, as a TLB does",
+};
+
+const LINE_BUFFERED: Word = Word::Flag {
+    id: "line-buffered",
+    help: "Writes the text of each line before more of the trace is read",
+};
+
+const NUMBER: Word = Word::Flag {
+    id: "number",
+    help: "Begins each text with the number of its line",
+};
+
+const NAMES: Word = Word::Flag {
+    id: "names",
+    help: "Writes the name of a call and of an error behind its registers",
+};
+
+const VERBOSE: Word = Word::Flag {
+    id: "verbose",
+    help: "Says more on standard error of what is refused",
+};
+
+const RUN: Entry = Entry {
+    name: "run",
+    about: "Plays a trace on the machine of a manifest",
+    words: &[
+        MANIFEST,
+        TRACE,
+        FRAMES,
+        TLB,
+        LINE_BUFFERED,
+        NUMBER,
+        NAMES,
+        VERBOSE,
+    ],
+};
+
+const DEMO: Entry = Entry {
+    name: "demo",
+    about: "Plays a trace on the built-in machine",
+    words: &[TRACE, FRAMES, TLB, LINE_BUFFERED, NUMBER, NAMES, VERBOSE],
+};
+
+const COMPARE: Entry = Entry {
+    name: "compare",
+    about: "Compares what a trace prints with what is expected",
+    words: &[MANIFEST, TRACE, EXPECTED, FRAMES, TLB, VERBOSE],
+};
+
+const CHECK: Entry = Entry {
+    name: "check",
+    about: "Says whether a manifest is accepted",
+    words: &[MANIFEST, VERBOSE],
+};
+
+const LAYOUT: Entry = Entry {
+    name: "layout",
+    about: "Prints where each endpoint's tables stand",
+    words: &[MANIFEST, VERBOSE],
+};
+
+fn arg<'a>(alloc: Global, word: &Word<'a>) -> Arg<'a>
+    ensures rule { rule_of result ≡ rule_for word.now }
+    ensures local { result.global ≡ false }
+{
+    match *word {
+        Word::Path { id, help } => Arg::new(alloc, id).required(true).help(help),
+        Word::Flag { id, help } => Arg::new(alloc, id)
+            .long(id)
+            .action(ArgAction::SetTrue)
+            .help(help),
+    }
+}
+
+// The command with these words.
+fn with_words<'a>(
+    alloc: Global,
+    mut command: Command<'a>,
+    words: &[Word<'a>],
+) -> Result<Command<'a>, AllocError>
+    requires local { (out-Command command).has_globals ≡ false }
+    ensures app { IfOk result (λ c. app_of c ≡ with_words words.now (app_of command.entry)) }
+    ensures local { IfOk result (λ c. (out-Command c).has_globals ≡ false) }
+{
+    for word in words {
+        command = command.arg(arg(alloc, word))?;
+    }
+    Ok(command)
+}
+
+fn command<'a>(alloc: Global, entry: &Entry<'a>) -> Result<Command<'a>, AllocError>
+    ensures app { IfOk result (λ c. app_of c ≡ app_for entry.now) }
+    ensures local { IfOk result (λ c. (out-Command c).has_globals ≡ false) }
+{
+    with_words(
+        alloc,
+        Command::new(alloc, entry.name).about(entry.about),
+        entry.words,
+    )
+}
+
+// Help names the program by its own name, whatever the first word is.
+#[tactic(auto, unfolding(crate::specs::Commands::bare))]
+fn bare<'a>(alloc: Global) -> Result<Command<'a>, AllocError>
+    ensures { IfOk result (λ c. app_of c ≡ bare) }
+{
+    Command::new(alloc, "ffaplay")
+        .about("Plays FF-A calls and memory accesses on a small machine")
+        .version(VERSION_TEXT)
+        .after_help(AFTER_HELP)
+        .subcommand_required(true)
+        .bin_name("ffaplay")
+}
+
+// The program with these commands.
+fn with_commands<'a>(alloc: Global, entries: &[Entry<'a>]) -> Result<Command<'a>, AllocError>
+    ensures { IfOk result (λ c. app_of c ≡ with_commands entries.now bare) }
+{
+    let mut program = bare(alloc)?;
+    for entry in entries {
+        program = program.subcommand(command(alloc, entry)?)?;
+    }
+    Ok(program)
+}
+
+/// The program's command line.
+#[tactic(auto, unfolding(crate::specs::Commands::program, crate::specs::Commands::run_app, crate::specs::Commands::demo_app, crate::specs::Commands::compare_app, crate::specs::Commands::check_app, crate::specs::Commands::layout_app))]
+pub(crate) fn program<'a>(alloc: Global) -> Result<Command<'a>, AllocError>
+    ensures { IfOk result (λ c. app_of c ≡ program) }
+{
+    with_commands(alloc, &[RUN, DEMO, COMPARE, CHECK, LAYOUT])
+}
