@@ -1,13 +1,87 @@
 //! Worked command lines.
 use crate::checks::{holds_at, same, same_at};
-use ffa_command::{ErrorKind, Request, request};
+use ffa_command::{
+    ErrorKind, MachineOptions, Request, STANDARD_INPUT, TOOLCHAIN, TextOptions, VERSION, request,
+};
 use std::alloc::{AllocError, Global};
 use std::process::Abort;
 use std::test::Fail;
 
-// What words ask for, or the kind of their mistake.
-fn asked<'a>(alloc: Global, words: &'a [&'a str]) -> Result<Request<'a>, ErrorKind> {
-    request(alloc, words).map_err(|error| error.kind())
+// The flags that are given, each behind a space.
+fn push_flags(words: &mut String, flags: &[(&str, bool)]) -> Result<(), AllocError> {
+    for (name, is_given) in flags {
+        if *is_given {
+            write!(words, " --{name}")?;
+        }
+    }
+    Ok(())
+}
+
+fn push_machine(words: &mut String, machine: MachineOptions) -> Result<(), AllocError> {
+    push_flags(words, &[("frames", machine.frames), ("tlb", machine.tlb)])
+}
+
+fn push_text(words: &mut String, text: TextOptions) -> Result<(), AllocError> {
+    push_flags(
+        words,
+        &[
+            ("line-buffered", text.line_buffered),
+            ("number", text.number),
+            ("names", text.names),
+        ],
+    )
+}
+
+// A request in words: its command, its paths and then its flags.
+fn push_request(words: &mut String, request: &Request<'_>) -> Result<(), AllocError> {
+    match *request {
+        Request::Run {
+            manifest,
+            trace,
+            machine,
+            text,
+            ..
+        } => {
+            write!(words, "run {manifest} {trace}")?;
+            push_machine(words, machine)?;
+            push_text(words, text)
+        }
+        Request::Demo {
+            trace,
+            machine,
+            text,
+            ..
+        } => {
+            write!(words, "demo {trace}")?;
+            push_machine(words, machine)?;
+            push_text(words, text)
+        }
+        Request::Compare {
+            manifest,
+            trace,
+            expected,
+            machine,
+            ..
+        } => {
+            write!(words, "compare {manifest} {trace} {expected}")?;
+            push_machine(words, machine)
+        }
+        Request::Check { manifest, .. } => write!(words, "check {manifest}"),
+        Request::Layout { manifest, .. } => write!(words, "layout {manifest}"),
+    }
+}
+
+// What words ask for, in words, or the kind of their mistake.
+fn asked<'a>(alloc: Global, words: &'a [&'a str]) -> Result<String, AllocError> {
+    match request(alloc, words) {
+        Ok(request) => {
+            let mut text = String::new(alloc);
+            push_request(&mut text, &request)?;
+            push_flags(&mut text, &[("verbose", request.is_verbose())])?;
+            Ok(text)
+        }
+        Err(error) => format!(in alloc; "{:?}", error.kind()),
+    }
 }
 
 fn words_of(alloc: Global, line: &str) -> Result<Vec<&str>, AllocError> {
@@ -21,12 +95,13 @@ fn words_of(alloc: Global, line: &str) -> Result<Vec<&str>, AllocError> {
 fn check_line(rt: &impl Abort, alloc: Global, row: &str) -> Result<(), Fail> {
     let (line, wanted) = row.split_once(" => ").ok_or("no arrow")?;
     let words = words_of(alloc, line)?;
-    let found = format!(in alloc; "{:?}", asked(alloc, words.as_slice()))?;
+    let found = asked(alloc, words.as_slice())?;
     same_at(rt, found.as_str(), wanted, &row);
     Ok(())
 }
 
-// Each row is a command line, an arrow and what it asks for, or the kind of its mistake, as `{:?}` prints it.
+// Each row is a command line, an arrow and what it asks for: the command, its paths and its flags, or the kind of its
+// mistake, as `{:?}` prints it.
 fn check(rt: &impl Abort, alloc: Global, rows: &str) -> Result<(), Fail> {
     for row in rows.lines() {
         check_line(rt, alloc, row)?;
@@ -37,14 +112,39 @@ fn check(rt: &impl Abort, alloc: Global, rows: &str) -> Result<(), Fail> {
 #[test]
 fn commands_with_their_paths(rt: HostRuntime) -> Result<(), Fail> {
     let rows = "\
-ffaplay run row.toml first.trace => Ok(Run { manifest: \"row.toml\", trace: \"first.trace\", frames: false, tlb: false })
-ffaplay run row.toml --frames first.trace => Ok(Run { manifest: \"row.toml\", trace: \"first.trace\", frames: true, tlb: false })
-ffaplay run row.toml --tlb first.trace => Ok(Run { manifest: \"row.toml\", trace: \"first.trace\", frames: false, tlb: true })
-ffaplay demo first.trace => Ok(Demo { trace: \"first.trace\", frames: false, tlb: false })
-ffaplay demo --tlb first.trace => Ok(Demo { trace: \"first.trace\", frames: false, tlb: true })
-ffaplay demo first.trace --tlb --frames => Ok(Demo { trace: \"first.trace\", frames: true, tlb: true })
-ffaplay check row.toml => Ok(Check { manifest: \"row.toml\" })
-ffaplay layout -- row.toml => Ok(Layout { manifest: \"row.toml\" })
+ffaplay run row.toml first.trace => run row.toml first.trace
+ffaplay demo first.trace => demo first.trace
+ffaplay compare row.toml first.trace first.text => compare row.toml first.trace first.text
+ffaplay check row.toml => check row.toml
+ffaplay layout -- row.toml => layout row.toml
+ffaplay run - first.trace => run - first.trace
+ffaplay run row.toml - => run row.toml -
+ffaplay demo - => demo -
+ffaplay compare row.toml - first.text => compare row.toml - first.text
+ffaplay compare row.toml first.trace -- - => compare row.toml first.trace -
+ffaplay check - => check -
+ffaplay layout - => layout -
+";
+    check(&rt, rt.alloc(), rows)
+}
+
+#[test]
+fn commands_with_flags(rt: HostRuntime) -> Result<(), Fail> {
+    let rows = "\
+ffaplay run row.toml --frames first.trace => run row.toml first.trace --frames
+ffaplay run row.toml --tlb first.trace => run row.toml first.trace --tlb
+ffaplay run --line-buffered row.toml first.trace => run row.toml first.trace --line-buffered
+ffaplay run row.toml first.trace --number => run row.toml first.trace --number
+ffaplay run row.toml first.trace --names => run row.toml first.trace --names
+ffaplay run --verbose row.toml first.trace => run row.toml first.trace --verbose
+ffaplay demo --tlb first.trace => demo first.trace --tlb
+ffaplay demo first.trace --tlb --frames => demo first.trace --frames --tlb
+ffaplay demo --names - --number --line-buffered => demo - --line-buffered --number --names
+ffaplay demo --verbose first.trace => demo first.trace --verbose
+ffaplay compare --tlb a --frames b c => compare a b c --frames --tlb
+ffaplay compare a b c --verbose => compare a b c --verbose
+ffaplay check --verbose row.toml => check row.toml --verbose
+ffaplay layout row.toml --verbose => layout row.toml --verbose
 ";
     check(&rt, rt.alloc(), rows)
 }
@@ -52,42 +152,89 @@ ffaplay layout -- row.toml => Ok(Layout { manifest: \"row.toml\" })
 #[test]
 fn mistakes(rt: HostRuntime) -> Result<(), Fail> {
     let rows = "\
-ffaplay => Err(MissingSubcommand)
-ffaplay play => Err(InvalidSubcommand)
-ffaplay run row.toml => Err(MissingRequiredArgument)
-ffaplay demo a b => Err(UnknownArgument)
-ffaplay check --frames a => Err(UnknownArgument)
-ffaplay layout --tlb a => Err(UnknownArgument)
-ffaplay demo --frames=4 a => Err(TooManyValues)
+ffaplay => MissingSubcommand
+ffaplay --frames => UnknownArgument
+ffaplay play => InvalidSubcommand
+ffaplay run row.toml => MissingRequiredArgument
+ffaplay compare row.toml first.trace => MissingRequiredArgument
+ffaplay demo a b => UnknownArgument
+ffaplay check --frames a => UnknownArgument
+ffaplay layout --tlb a => UnknownArgument
+ffaplay compare --number a b c => UnknownArgument
+ffaplay check --names a => UnknownArgument
+ffaplay demo --version a => UnknownArgument
+ffaplay demo --frames=4 a => TooManyValues
+ffaplay demo --names --names a => ArgumentConflict
 ";
     check(&rt, rt.alloc(), rows)
 }
 
-// The help that these words ask for.
-fn help_for(alloc: Global, words: &[&str]) -> Result<String, Fail> {
+#[test]
+fn standard_input_twice(rt: HostRuntime) -> Result<(), Fail> {
+    let rows = "\
+ffaplay run - - => ArgumentConflict
+ffaplay compare - - c => ArgumentConflict
+ffaplay compare - b - => ArgumentConflict
+ffaplay compare a - - => ArgumentConflict
+ffaplay compare - - - => ArgumentConflict
+";
+    check(&rt, rt.alloc(), rows)
+}
+
+// The text with which these words end, where it has this kind.
+fn text_for(alloc: Global, words: &[&str], kind: ErrorKind) -> Result<String, Fail> {
     match request(alloc, words) {
-        Err(error) if error.kind() == ErrorKind::DisplayHelp => Ok(format!(in alloc; "{error}")?),
-        _ => Err("no help")?,
+        Err(error) if error.kind() == kind => Ok(format!(in alloc; "{error}")?),
+        _ => Err("no such text")?,
     }
 }
 
-// The help has each part of a text, which a bar parts.
-fn has_parts(rt: &impl Abort, help: &str, parts: &str) {
+// The text has each part of another, which a bar parts.
+fn has_parts(rt: &impl Abort, text: &str, parts: &str) {
     for part in parts.split('|') {
-        holds_at(rt, help.contains(part), &part);
+        holds_at(rt, text.contains(part), &part);
     }
+}
+
+#[test]
+fn standard_input_twice_is_named(rt: HostRuntime) -> Result<(), Fail> {
+    let words = ["ffaplay", "run", STANDARD_INPUT, STANDARD_INPUT];
+    let text = text_for(rt.alloc(), &words, ErrorKind::ArgumentConflict)?;
+    let part = "error: '-' stands for standard input, which can be given once only\n";
+    has_parts(&rt, text.as_str(), part);
+    Ok(())
+}
+
+#[test]
+fn version_names_the_toolchain(rt: HostRuntime) -> Result<(), Fail> {
+    let alloc = rt.alloc();
+    let wanted = format!(in alloc; "ffaplay {VERSION} ({TOOLCHAIN})\n")?;
+    for word in ["--version", "-V"] {
+        let text = text_for(alloc, &["/tmp/other", word], ErrorKind::DisplayVersion)?;
+        same(&rt, text.as_str(), wanted.as_str());
+    }
+    Ok(())
 }
 
 // Whatever name the program was started by.
 #[test]
 fn help_names_each_command(rt: HostRuntime) -> Result<(), Fail> {
-    let help = help_for(rt.alloc(), &["/tmp/other", "--help"])?;
+    let words = ["/tmp/other", "--help"];
+    let help = text_for(rt.alloc(), &words, ErrorKind::DisplayHelp)?;
     let parts = "\
 Usage: ffaplay <COMMAND>
-|  run     Plays a trace on the machine of a manifest
-|  demo    Plays a trace on the built-in machine
-|  check   Says whether a manifest is accepted
-|  layout  Prints where each endpoint's tables stand
+|  run      Plays a trace on the machine of a manifest
+|  demo     Plays a trace on the built-in machine
+|  compare  Compares what a trace prints with what is expected
+|  check    Says whether a manifest is accepted
+|  layout   Prints where each endpoint's tables stand
+|
+Status:
+   0  done
+|
+  64  the words make no sense
+
+Manual: docs/USING.md
 ";
     has_parts(&rt, help.as_str(), parts);
     Ok(())
@@ -95,12 +242,25 @@ Usage: ffaplay <COMMAND>
 
 #[test]
 fn help_of_a_command_names_its_words(rt: HostRuntime) -> Result<(), Fail> {
-    let help = help_for(rt.alloc(), &["ffaplay", "run", "--help"])?;
+    let words = ["ffaplay", "run", "--help"];
+    let help = text_for(rt.alloc(), &words, ErrorKind::DisplayHelp)?;
     let parts = "\
 Usage: ffaplay run [OPTIONS] <manifest> <trace>
-|  <manifest>  The machine's manifest, a TOML file
-|  <trace>     The trace: a line for each operation
-|  --frames|  --tlb";
+|  <manifest>  The machine's manifest, a TOML file; - is standard input
+|  <trace>     The trace: a line for each operation; - is standard input
+|  --frames |  --tlb |  --line-buffered |  --number |  --names |  --verbose ";
+    has_parts(&rt, help.as_str(), parts);
+    Ok(())
+}
+
+#[test]
+fn help_of_a_comparison_names_the_expected_text(rt: HostRuntime) -> Result<(), Fail> {
+    let words = ["ffaplay", "compare", "--help"];
+    let help = text_for(rt.alloc(), &words, ErrorKind::DisplayHelp)?;
+    let parts = "\
+Usage: ffaplay compare [OPTIONS] <manifest> <trace> <expected>
+|  <expected>  What the trace is expected to print
+";
     has_parts(&rt, help.as_str(), parts);
     Ok(())
 }
