@@ -1,5 +1,5 @@
 -- The command line of the program, and what its words ask for.
-use Rattle.std.specs.Prelude.{◌≡◌, ◌⊎◌, ◌∷◌, List, [], Bool, true, false, Option, Some, None, codes, if◌then◌else◌, nat_le, option_and_then}
+use Rattle.std.specs.Prelude.{◌≡◌, ◌⊎◌, ◌∷◌, List, [], Bool, true, false, ◌||◌, Option, Some, None, codes, if◌then◌else◌, nat_le, option_and_then}
 use Rattle.std.specs.List.{count_by}
 use Rattle.std.specs.Str.{bytes_eq}
 use Rattle.std.specs.Option.{option_map_or}
@@ -108,6 +108,14 @@ verbose_of (layout m v) = v
 -- whether a path is given and is `-`, which stands for standard input
 unfoldable pub is_input : Option Text → Bool
 is_input path = option_map_or (λ p. bytes_eq p (codes "-")) path false
+
+-- whether each text is to be written before more of the trace is read
+abbrev pub answers_at_once : Ask → Bool
+answers_at_once (run m t o w v) = w.line_buffered || is_input (Some t)
+answers_at_once (demo t o w v) = w.line_buffered || is_input (Some t)
+answers_at_once (compare m t e o v) = false
+answers_at_once (check m v) = false
+answers_at_once (layout m v) = false
 
 -- standard input can be read once: at most one of the paths is `-`
 unfoldable pub reads_once : Ask → Bool

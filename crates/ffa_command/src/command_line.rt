@@ -1,7 +1,7 @@
 //! What the command line asks for.
 ghost use Rattle.std.specs.Prelude.{◌≡◌, option_map};
 ghost use Rattle.clap.specs.Words.{found_of, first_of, rows_of, subcommand_rows_of};
-ghost use Rattle.ffa_command.specs.Commands.{ask_of, manifest_of, trace_of, expected_of, verbose_of, is_input, reads_once, asked_in, is_given, machine_in, text_in, named_in, named, named_run, named_demo, named_compare, named_check, named_layout};
+ghost use Rattle.ffa_command.specs.Commands.{ask_of, manifest_of, trace_of, expected_of, verbose_of, answers_at_once, is_input, reads_once, asked_in, is_given, machine_in, text_in, named_in, named, named_run, named_demo, named_compare, named_check, named_layout};
 
 use clap::ArgMatches;
 
@@ -115,6 +115,20 @@ impl<'a> Request<'a> {
             | Request::Compare { verbose, .. }
             | Request::Check { verbose, .. }
             | Request::Layout { verbose, .. } => verbose,
+        }
+    }
+
+    /// Whether the text of each line is to be written before more of the trace is read: where the trace is standard input,
+    /// since who writes it may wait for the answer, and where that is asked for.
+    #[tactic(auto, unfolding(crate::specs::Commands::is_input))]
+    pub fn answers_at_once(&self) -> bool
+        ensures { result ≡ answers_at_once (ask_of self.now) }
+    {
+        match *self {
+            Request::Run { trace, text, .. } | Request::Demo { trace, text, .. } => {
+                text.line_buffered || is_input(Some(trace))
+            }
+            Request::Compare { .. } | Request::Check { .. } | Request::Layout { .. } => false,
         }
     }
 

@@ -11,9 +11,9 @@ use std::alloc::{AllocError, Global};
 /// The version of the program.
 pub const VERSION: &str = "0.1.0";
 /// The toolchain that the program is proved with.
-pub const TOOLCHAIN: &str = "rattle-kit-13b";
+pub const TOOLCHAIN: &str = "rattle-kit-13f";
 // `VERSION`, and `TOOLCHAIN` in brackets.
-const VERSION_TEXT: &str = "0.1.0 (rattle-kit-13b)";
+const VERSION_TEXT: &str = "0.1.0 (rattle-kit-13f)";
 
 // What the help of the program ends with.
 const AFTER_HELP: &str = "\

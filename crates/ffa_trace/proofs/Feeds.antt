@@ -1,5 +1,5 @@
 -- Bytes of a block, line by line.
-use Rattle.std.proofs.Common.{◌≡◌, ℕ, ◌+◌, ◌≤◌, ◌≢◌, inl, inr, true, List, [], ◌∷◌, ◌++◌, length, take, drop, position, Option, Some, None, Result, Ok, Err, sym, ap, ◌∙◌, arith, append_assoc, append-nil, take-append-drop, length-append, take_all, refl}
+use Rattle.std.proofs.Common.{◌≡◌, ℕ, ◌+◌, ◌≤◌, ◌≢◌, true, List, [], ◌∷◌, ◌++◌, length, take, drop, position, Option, Some, None, Result, Ok, Err, sym, ap, ◌∙◌, arith, append_assoc, append-nil, take-append-drop, length-append, take_all, refl}
 use Rattle.std.specs.Prelude.{◌==◌}
 use Rattle.std.proofs.lemmas.List.{drop_more}
 use Rattle.std.proofs.lemmas.List.Folds.{list_all-append}
@@ -69,7 +69,7 @@ module _ (s m : State) (a b : Option (List ℕ)) (number next : ℕ) (old bytes 
               ∙ ap (λ l. joined t.fed.lines ++ l) (sym (append_assoc begun (take end rest) (feed ∷ []))) ∙ line_ended t.fed.lines (begun ++ take end rest) [];
           unended = refl;
           counted = omega (arith, t.fed.counted, length-append t.fed.lines ((begun ++ take end rest) ∷ []));
-          numbered = (omega (arith, can), inl refl);
+          numbered = (omega (arith, can), λ some. absurd (omega (arith, some)));
         };
       }
 
@@ -139,7 +139,7 @@ module _ (s m : State) (a b : Option (List ℕ)) (number next : ℕ) (old bytes 
     whole = bytes_now ∙ ap (λ l. joined t.fed.lines ++ l) (sym k);
     unended = ap has_no_feed k ∙ no_feed-append begun rest t.fed.unended (rest_free rest h);
     counted = t.fed.counted;
-    numbered = (omega (arith, can), inr can);
+    numbered = (omega (arith, can), λ some. can);
   }
   all_taken left (Err Read) h can k = absurd k
   all_taken left (Err Write) h can k = absurd k

@@ -1,11 +1,11 @@
 -- A play, block by block.
-use Rattle.std.proofs.Common.{◌≡◌, inl, inr, ℕ, List, [], ◌∷◌, ◌++◌, ◌<◌, length, take, Option, Ok, Err, sym, ap, ◌∙◌, subst, arith, append_assoc, append-nil, length-append, refl}
+use Rattle.std.proofs.Common.{◌≡◌, inl, inr, ℕ, List, [], ◌∷◌, ◌++◌, ◌<◌, ◌≤◌, length, take, Option, Ok, Err, sym, ap, ◌∙◌, subst, arith, append_assoc, append-nil, length-append, refl}
 use Rattle.std.specs.Io.KnownBytes.{Consumes, IsAtEnd}
 use Rattle.std.proofs.KnownBytes.{Consumes-nil, Consumes-trans}
 use Rattle.std.proofs.lemmas.List.{nil_from_length}
 use Rattle.ffa_model.specs.State.{State}
 use Rattle.ffa_model.specs.TraceLines.{feed, joined}
-use Rattle.ffa_trace.specs.Feeding.{Feeding, Fed}
+use Rattle.ffa_trace.specs.Feeding.{Feeding, StopsIn}
 use Rattle.ffa_trace.specs.Played.{Played}
 use Rattle.ffa_trace.specs.declared.output.PlayError.{PlayError}
 use Rattle.ffa_trace.specs.declared.output.PlayError.TheVariants.{Read, Write, NoMemory, BadLine}
@@ -26,7 +26,7 @@ pub playing_none : (s : State) (held had : Option (List ℕ)) → Playing s s he
 playing_none s held had = record {
   seen = [];
   read = Consumes-nil had;
-  fed = record { lines = []; did = did_none s held; whole = refl; unended = refl; counted = omega arith; numbered = (omega arith, inl refl) };
+  fed = record { lines = []; did = did_none s held; whole = refl; unended = refl; counted = omega arith; numbered = (omega arith, λ some. omega arith) };
 }
 
 module _ (s m : State) (a b had has : Option (List ℕ)) (number : ℕ) (begun : List ℕ) (p : Playing s m a b had has number begun) where
@@ -47,9 +47,9 @@ module _ (s m : State) (a b had has : Option (List ℕ)) (number : ℕ) (begun :
   }
 
   -- a block that failed
-  pub block_failed : (n : State) (c : Option (List ℕ)) (e : PlayError) (then : Option (List ℕ)) (next : ℕ) (block left : List ℕ) → Consumes has then block
-      → Fed {X = Unit {0}} m n b c number next (begun ++ block) left (Err e) → Played {X = Unit {0}} s n a c had then (Err e)
-  block_failed n c Read then next block left read (ms, more, did, whole, full, some) = (
+  pub block_failed : (n : State) (c : Option (List ℕ)) (e : PlayError) (then : Option (List ℕ)) (block : List ℕ) → Consumes has then block
+      → StopsIn m n b c number (begun ++ block) e → Played {X = Unit {0}} s n a c had then (Err e)
+  block_failed n c Read then block read (ms, more, did, whole, full, some) = (
     p.fed.lines ++ ms,
     more,
     did_more p.fed.did did,
@@ -57,7 +57,7 @@ module _ (s m : State) (a b had has : Option (List ℕ)) (number : ℕ) (begun :
     omega (arith, p.fed.counted, full, length-append p.fed.lines ms),
     inr (omega (arith, p.fed.counted, full, length-append p.fed.lines ms), some),
   )
-  block_failed n c Write then next block left read (ms, line, more, did, whole, can) = (
+  block_failed n c Write then block read (ms, line, more, did, whole, can) = (
     p.fed.lines ++ ms,
     line,
     more,
@@ -65,7 +65,7 @@ module _ (s m : State) (a b had has : Option (List ℕ)) (number : ℕ) (begun :
     subst (Consumes had then) (lines_more p.fed.lines ms p.seen begun block (line ++ feed ∷ more) p.fed.whole whole) (Consumes-trans had has then p.seen block p.read read),
     omega (arith, p.fed.counted, can, length-append p.fed.lines ms),
   )
-  block_failed n c NoMemory then next block left read (ms, more, did, whole, can, some) = (
+  block_failed n c NoMemory then block read (ms, more, did, whole, can, some) = (
     p.fed.lines ++ ms,
     more,
     did_more p.fed.did did,
@@ -73,7 +73,7 @@ module _ (s m : State) (a b had has : Option (List ℕ)) (number : ℕ) (begun :
     omega (arith, p.fed.counted, can, length-append p.fed.lines ms),
     some,
   )
-  block_failed n c (BadLine k) then next block left read (ms, bad, more, did, whole, place, can, free, wrong) = (
+  block_failed n c (BadLine k) then block read (ms, bad, more, did, whole, place, can, free, wrong) = (
     p.fed.lines ++ ms,
     bad,
     feed ∷ more,
@@ -93,3 +93,22 @@ module _ (s m : State) (a b had has : Option (List ℕ)) (number : ℕ) (begun :
       append-nil p.seen ∙ p.fed.whole ∙ ap (λ l. joined p.fed.lines ++ l) (nil_from_length begun none) ∙ append-nil (joined p.fed.lines) in
       let nothing : Consumes has then [] = subst (λ n. Consumes has then (take n block)) zero read in
       (p.fed.lines, p.fed.did, subst (Consumes had then) whole (Consumes-trans had has then p.seen [] p.read nothing), end zero room, omega (arith, p.fed.numbered.0, p.fed.counted))
+
+  -- a read gave nothing, and a line has begun
+  pub cut_short : (then : Option (List ℕ)) (count : ℕ) (block : List ℕ) → count ≡ 0 → Consumes has then (take count block) → (count ≡ 0 → 0 < length block → IsAtEnd then)
+      → 0 < length block → 1 ≤ length begun → Played {X = Unit {0}} s m a b had then (Err (BadLine number))
+  cut_short then count block zero read end room some =
+      let whole : p.seen ++ [] ≡ joined p.fed.lines ++ (begun ++ []) =
+      append-nil p.seen ∙ p.fed.whole ∙ ap (λ l. joined p.fed.lines ++ l) (sym (append-nil begun)) in
+      let nothing : Consumes has then [] = subst (λ n. Consumes has then (take n block)) zero read in
+      (
+        p.fed.lines,
+        begun,
+        [],
+        p.fed.did,
+        subst (Consumes had then) whole (Consumes-trans had has then p.seen [] p.read nothing),
+        p.fed.counted,
+        p.fed.numbered.1 some,
+        p.fed.unended,
+        inr (refl, some, end zero room),
+      )

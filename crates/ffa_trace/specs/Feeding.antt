@@ -1,5 +1,5 @@
 -- The steps of a play, which private functions promise one another: a line, bytes that are kept, a block of lines.
-use Rattle.std.specs.Prelude.{◌≡◌, ◌≤◌, ◌⊎◌, ℕ, ◌+◌, true, false, List, [], ◌∷◌, ◌++◌, length, Option, Some, Result, Ok, Err}
+use Rattle.std.specs.Prelude.{◌≡◌, ◌≤◌, ℕ, ◌+◌, true, false, List, [], ◌∷◌, ◌++◌, length, Option, Some, Result, Ok, Err}
 use Rattle.std.specs.Io.KnownBytes.{Appends, Keeps}
 use Rattle.ffa_model.specs.State.{State}
 use Rattle.ffa_model.specs.TraceLines.{audit, feed, has_no_feed, is_good, joined, line_of}
@@ -41,7 +41,7 @@ Kept old new bytes (Err (BadLine n)) = ⊥
 
 -- the next line's number: it can be counted, but for the one behind the last, with which no line has begun
 abbrev pub IsNumbered : ℕ → List ℕ → Type 0
-IsNumbered number begun = (number ≤ 1 + most_lines) × ((begun ≡ []) ⊎ (number ≤ most_lines))
+IsNumbered number begun = (number ≤ 1 + most_lines) × (1 ≤ length begun → number ≤ most_lines)
 
 -- whole lines, all done, and then `rest`, which begins the line of number `next`
 pub record Feeding (start now : State) (held holds : Option (List ℕ)) (number next : ℕ) (bytes rest : List ℕ) : Type 0 where
@@ -52,14 +52,18 @@ pub record Feeding (start now : State) (held holds : Option (List ℕ)) (number 
   pub counted : next ≡ number + length lines
   pub numbered : IsNumbered next rest
 
-abbrev pub Fed : {X : Type 0} → State → State → Option (List ℕ) → Option (List ℕ) → ℕ → ℕ → List ℕ → List ℕ → Result X PlayError → Type 0
-Fed start now held holds number next bytes rest (Ok _) = Feeding start now held holds number next bytes rest
-Fed start now held holds number next bytes rest (Err Read) = (lines : List (List ℕ)) × (more : List ℕ)
+-- why no more is done: what can't be read, written, kept or understood, in the line behind those that were done
+abbrev pub StopsIn : State → State → Option (List ℕ) → Option (List ℕ) → ℕ → List ℕ → PlayError → Type 0
+StopsIn start now held holds number bytes Read = (lines : List (List ℕ)) × (more : List ℕ)
     × Did start now held holds lines × (bytes ≡ joined lines ++ more) × (number + length lines ≡ 1 + most_lines) × (1 ≤ length more)
-Fed start now held holds number next bytes rest (Err NoMemory) = (lines : List (List ℕ)) × (more : List ℕ)
+StopsIn start now held holds number bytes NoMemory = (lines : List (List ℕ)) × (more : List ℕ)
     × Did start now held holds lines × (bytes ≡ joined lines ++ more) × (number + length lines ≤ most_lines) × (1 ≤ length more)
-Fed start now held holds number next bytes rest (Err Write) = (lines : List (List ℕ)) × (line : List ℕ) × (more : List ℕ)
+StopsIn start now held holds number bytes Write = (lines : List (List ℕ)) × (line : List ℕ) × (more : List ℕ)
     × DidAndBegan start now held holds lines line × (bytes ≡ joined lines ++ (line ++ feed ∷ more)) × (number + length lines ≤ most_lines)
-Fed start now held holds number next bytes rest (Err (BadLine n)) = (lines : List (List ℕ)) × (bad : List ℕ) × (more : List ℕ)
+StopsIn start now held holds number bytes (BadLine n) = (lines : List (List ℕ)) × (bad : List ℕ) × (more : List ℕ)
     × Did start now held holds lines × (bytes ≡ joined lines ++ (bad ++ feed ∷ more))
     × (n ≡ number + length lines) × (n ≤ most_lines) × (has_no_feed bad ≡ true) × (is_good bad ≡ false)
+
+abbrev pub Fed : {X : Type 0} → State → State → Option (List ℕ) → Option (List ℕ) → ℕ → ℕ → List ℕ → List ℕ → Result X PlayError → Type 0
+Fed start now held holds number next bytes rest (Ok _) = Feeding start now held holds number next bytes rest
+Fed start now held holds number next bytes rest (Err e) = StopsIn start now held holds number bytes e

@@ -11,4 +11,4 @@ pub mod text;
 
 pub use lines::Line;
 pub use output::PlayError;
-pub use player::Player;
+pub use player::{Begun, Player};

@@ -1,11 +1,11 @@
 //! The player of traces.
-ghost use Rattle.std.specs.Prelude.{◌≡◌, ◌*◌, codes, ◌==◌, true, [], ◌++◌, ◌∷◌, position, OnOk};
+ghost use Rattle.std.specs.Prelude.{◌≡◌, ◌*◌, codes, ◌==◌, true, [], ◌++◌, ◌∷◌, position, IfErr, IfOk, OnOk};
 ghost use Rattle.std.specs.List.{flat_map};
 ghost use Rattle.ffa_model.specs.TraceLines.{feed, has_no_feed};
 ghost use Rattle.ffa_model.specs.Memory.{size_of};
 ghost use Rattle.ffa_model.specs.Step.{step};
 ghost use Rattle.ffa_model.specs.TraceText.{hex, spaced, ended, outcome_text};
-ghost use Rattle.ffa_trace.specs.Feeding.{LineDone, LineEnded, Kept, IsNumbered, Fed};
+ghost use Rattle.ffa_trace.specs.Feeding.{LineDone, LineEnded, Kept, IsNumbered, Fed, Feeding, StopsIn};
 ghost use Rattle.ffa_trace.specs.Lines.{Answered, meant};
 ghost use Rattle.ffa_trace.specs.Output.{Writes};
 ghost use Rattle.ffa_trace.specs.Played.{Played};
@@ -39,6 +39,30 @@ impl<M: PhysMem + Drop, T: Translations + Drop> Model for Player<M, T> {
     ghost coded = { coded_snapshot };
 
     ghost view = { λ player. player.machine };
+}
+
+/// The bytes of a line whose LF hasn't come yet, and the line's number.
+#[derive(Debug, Drop)]
+pub struct Begun<A: Allocator = Global> {
+    /// The bytes, none of which is an LF.
+    pub bytes: Vec<u8, A>,
+    /// The number, counted from 1.
+    pub number: u64,
+    pub ghost unended: { has_no_feed bytes.items ≡ true },
+    pub ghost numbered: { IsNumbered number bytes.items },
+}
+
+impl<A: Allocator> Begun<A> {
+    /// The first line, of which no byte has come.
+    pub fn new(alloc: A) -> Begun<A>
+        ensures bytes { result.bytes.items ≡ [] }
+        ensures number { result.number ≡ 1 }
+    {
+        Begun {
+            bytes: Vec::new(alloc),
+            number: 1,
+        }
+    }
 }
 
 impl<M: PhysMem + Drop, T: Translations + Drop> Player<M, T> {
@@ -84,7 +108,25 @@ impl<M: PhysMem + Drop, T: Translations + Drop> Player<M, T> {
         answer(&mut self.machine, alloc, writer, line)
     }
 
-    /// Plays as `play` does, with memory of any allocator.
+    /// Takes bytes of a trace, of which `begun` came before: does each line that ends in them, and writes its text, and
+    /// answers what has begun of the line behind these.
+    ///
+    /// So no text of a line whose LF has come is kept back. It asks the writer for `write` alone, and tries nothing again
+    /// after an error. After `PlayError::Read` there are more lines than can be counted.
+    pub fn feed<A: Allocator + Copy, W: Write>(
+        &mut self,
+        alloc: A,
+        begun: Begun<A>,
+        bytes: &[u8],
+        writer: &mut W,
+    ) -> Result<Begun<A>, PlayError>
+        ensures fed { IfOk result (λ next. Feeding self.old.state self.new.state (W.contents writer.old) (W.contents writer.new) begun.number next.number (begun.bytes.items ++ bytes.now) next.bytes.items) }
+        ensures failed { IfErr result (StopsIn self.old.state self.new.state (W.contents writer.old) (W.contents writer.new) begun.number (begun.bytes.items ++ bytes.now)) }
+    {
+        feed(&mut self.machine, alloc, writer, begun, bytes)
+    }
+
+    /// Plays as `play` does, with memory of any allocator. It is `feed`, with what each `read` gave, before the next `read`.
     pub fn play_in<A: Allocator + Copy, R: Read, W: Write>(
         &mut self,
         alloc: A,
@@ -107,26 +149,43 @@ fn play_lines<M: PhysMem + Drop, T: Translations + Drop, A: Allocator + Copy, R:
 ) -> Result<(), PlayError>
     ensures { Played machine.old.state machine.new.state (W.contents writer.old) (W.contents writer.new) (R.remaining reader.old) (R.remaining reader.new) result }
 {
-    let mut begun = Vec::new(alloc);
-    let mut number = 1;
+    let mut begun = Begun::new(alloc);
     let mut block = [0; BLOCK];
     for _ in 0..u64::MAX - 1 {
         match reader.read(&mut block) {
-            Ok(0) if begun.is_empty() => return Ok(()),
-            Ok(0) => return Err(PlayError::BadLine(number)),
-            Ok(count) => {
-                let bytes = &block[..count];
-                feed(machine, alloc, writer, &mut begun, &mut number, bytes)?;
-            }
+            Ok(0) if begun.bytes.is_empty() => return Ok(()),
+            Ok(0) => return Err(PlayError::BadLine(begun.number)),
+            Ok(count) => begun = feed(machine, alloc, writer, begun, &block[..count])?,
             Err(_) => return Err(PlayError::Read),
         }
     }
     Err(PlayError::Read)
 }
 
+fn feed<M: PhysMem + Drop, T: Translations + Drop, A: Allocator + Copy, W: Write>(
+    machine: &mut Machine<M, T>,
+    alloc: A,
+    writer: &mut W,
+    begun: Begun<A>,
+    bytes: &[u8],
+) -> Result<Begun<A>, PlayError>
+    ensures fed { IfOk result (λ next. Feeding machine.old.state machine.new.state (W.contents writer.old) (W.contents writer.new) begun.number next.number (begun.bytes.items ++ bytes.now) next.bytes.items) }
+    ensures failed { IfErr result (StopsIn machine.old.state machine.new.state (W.contents writer.old) (W.contents writer.new) begun.number (begun.bytes.items ++ bytes.now)) }
+{
+    let Begun {
+        bytes: mut line,
+        mut number,
+    } = begun;
+    do_lines(machine, alloc, writer, &mut line, &mut number, bytes)?;
+    Ok(Begun {
+        bytes: line,
+        number,
+    })
+}
+
 // Takes bytes that were read: `begun` are those of the line that hasn't ended, and `number` is its number. The last number
 // is that of no line, so bytes behind the lines that can be counted are those of an input that is too long.
-fn feed<M: PhysMem + Drop, T: Translations + Drop, A: Allocator + Copy, W: Write>(
+fn do_lines<M: PhysMem + Drop, T: Translations + Drop, A: Allocator + Copy, W: Write>(
     machine: &mut Machine<M, T>,
     alloc: A,
     writer: &mut W,

@@ -1,6 +1,6 @@
 use Rattle.std.proofs.Common.{length}
 use Rattle.ffa_trace.proofs.Feeds.{Taking}
-use Rattle.ffa_trace.proofs.player.feed.Given as goal
+use Rattle.ffa_trace.proofs.player.do_lines.Given as goal
 
 abbrev pub invariant-loop-number : goal.invariant-loop-number
 invariant-loop-number g l =
