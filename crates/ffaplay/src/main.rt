@@ -4,12 +4,12 @@
 mod commands;
 pub mod layout;
 
-pub use commands::{perform, perform_in, show};
-use ffa_command::ErrorKind;
+pub use commands::{Files, perform, perform_in, show};
+use ffa_command::{ErrorKind, STANDARD_INPUT};
 pub use ffa_command::{Request, request};
 use std::alloc::AllocError;
 use std::fs::{self, File};
-use std::io::BufWriter;
+use std::io::{BufWriter, Read};
 use std::process::ExitCode;
 use std::{env, io};
 
@@ -46,7 +46,9 @@ fn status(rt: &HostRuntime) -> Result<u8, AllocError> {
         Ok(request) => carry_out(rt, &request),
         Err(error) => match error.kind() {
             ErrorKind::OutOfMemory => Err(AllocError),
-            ErrorKind::DisplayHelp => Ok(show(&error, &mut rt.stdout(), &mut rt.stderr())),
+            ErrorKind::DisplayHelp | ErrorKind::DisplayVersion => {
+                Ok(show(&error, &mut rt.stdout(), &mut rt.stderr()))
+            }
             _ => {
                 let _ = error.print(rt);
                 Ok(64)
@@ -58,25 +60,73 @@ fn status(rt: &HostRuntime) -> Result<u8, AllocError> {
 // Opens the files, and does what was asked for.
 fn carry_out(rt: &HostRuntime, request: &Request<'_>) -> Result<u8, AllocError> {
     let alloc = rt.alloc();
-    let manifest = match request.manifest() {
-        Some(path) => unless_no_memory(fs::read(rt, path))?,
-        None => None,
+    let mut reason = None;
+    let manifest = unless_no_memory(whole(rt, request.manifest()), &mut reason)?;
+    let trace = unless_no_memory(opened(rt, request.trace()), &mut reason)?;
+    let expected = unless_no_memory(whole(rt, request.expected()), &mut reason)?;
+    let files = Files {
+        manifest: manifest.as_ref().map(|bytes| bytes.as_slice()),
+        trace,
+        expected: expected.as_ref().map(|bytes| bytes.as_slice()),
+        reason,
     };
-    let trace = match request.trace() {
-        Some(path) => unless_no_memory(fs::open(rt, path))?,
-        None => None,
-    };
-    let mut out = BufWriter::with_capacity(alloc, OUTPUT, rt.stdout()).map_err(|_| AllocError)?;
-    let mut err = rt.stderr();
-    let bytes = manifest.as_ref().map(|bytes| bytes.as_slice());
-    Ok(perform(alloc, request, bytes, trace, &mut out, &mut err))
+    // With no room nothing is gathered: each write goes to standard output at once.
+    let room = if request.answers_at_once() { 0 } else { OUTPUT };
+    let mut out = BufWriter::with_capacity(alloc, room, rt.stdout()).map_err(|_| AllocError)?;
+    Ok(perform(alloc, request, files, &mut out, &mut rt.stderr()))
 }
 
-// What was read, or nothing where it can't be read.
-fn unless_no_memory<T>(read: io::Result<T>) -> Result<Option<T>, AllocError> {
+// What a trace is read from.
+#[derive(Drop)]
+enum Input {
+    File(File),
+    Standard(io::Stdin),
+}
+
+impl Read for Input {
+    fn read(&mut self, buf: &mut [u8]) -> io::Result<usize> {
+        match self {
+            Input::File(file) => file.read(buf),
+            Input::Standard(input) => input.read(buf),
+        }
+    }
+}
+
+// What reads the file at a path, where one is named.
+fn opened(rt: &HostRuntime, path: Option<&str>) -> io::Result<Option<Input>> {
+    match path {
+        None => Ok(None),
+        Some(STANDARD_INPUT) => Ok(Some(Input::Standard(rt.stdin()))),
+        Some(path) => Ok(Some(Input::File(fs::open(rt, path)?))),
+    }
+}
+
+// The bytes of the file at a path, where one is named.
+fn whole(rt: &HostRuntime, path: Option<&str>) -> io::Result<Option<Vec<u8>>> {
+    match path {
+        None => Ok(None),
+        Some(STANDARD_INPUT) => {
+            let mut bytes = Vec::new(rt.alloc());
+            rt.stdin().read_to_end(&mut bytes)?;
+            Ok(Some(bytes))
+        }
+        Some(path) => Ok(Some(fs::read(rt, path)?)),
+    }
+}
+
+// What was read, or nothing where it can't be read. The first reason for that stays.
+fn unless_no_memory<T>(
+    read: io::Result<Option<T>>,
+    reason: &mut Option<io::ErrorKind>,
+) -> Result<Option<T>, AllocError> {
     match read {
-        Ok(value) => Ok(Some(value)),
+        Ok(value) => Ok(value),
         Err(error) if error.kind() == io::ErrorKind::OutOfMemory => Err(AllocError),
-        Err(_) => Ok(None),
+        Err(error) => {
+            if reason.is_none() {
+                *reason = Some(error.kind());
+            }
+            Ok(None)
+        }
     }
 }
