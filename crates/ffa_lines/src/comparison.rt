@@ -21,7 +21,9 @@ pub struct Difference {
 }
 
 /// Does the lines that the reader gives, one after another, up to the first whose text isn't how the expected text goes on,
-/// and answers where that is. The bytes of the line at which it stopped stand in `bytes`, and its text in `text`.
+/// and answers where that is. The bytes of the line at which it stopped stand in `bytes`, without the LF that ends them, and
+/// its text in `text`. The bytes of a bad line stand there as they stand in the trace, with the LF that ends them, where
+/// one does.
 pub fn compare<M: PhysMem + Drop, T: Translations + Drop, A: Allocator + Copy, R: BufRead>(
     player: &mut Player<M, T>,
     alloc: A,
@@ -45,6 +47,7 @@ pub fn compare<M: PhysMem + Drop, T: Translations + Drop, A: Allocator + Copy, R
             return Ok(if rest.is_empty() { None } else { differs });
         }
         let Some(line) = Line::read(bytes) else {
+            bytes.push(b'\n').map_err(|_| PlayError::NoMemory)?;
             return Err(PlayError::BadLine(number));
         };
         make_text(player, alloc, plain, number, &line, text)?;

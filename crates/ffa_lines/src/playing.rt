@@ -10,7 +10,8 @@ use std::alloc::Allocator;
 use std::io::{BufRead, Write};
 
 /// Does the lines that the reader gives, one after another, and writes the text of each in this form before the next is
-/// read. Lines count from 1. The bytes of the line at which it stopped stand in `bytes`.
+/// read. Lines count from 1. The bytes of a bad line stand in `bytes` as they stand in the trace, with the LF that ends
+/// them, where one does.
 pub fn play<M: PhysMem + Drop, T: Translations + Drop, A: Allocator + Copy, R: BufRead, W: Write>(
     player: &mut Player<M, T>,
     alloc: A,
@@ -28,6 +29,7 @@ pub fn play<M: PhysMem + Drop, T: Translations + Drop, A: Allocator + Copy, R: B
             return Ok(());
         }
         let Some(line) = Line::read(bytes) else {
+            bytes.push(b'\n').map_err(|_| PlayError::NoMemory)?;
             return Err(PlayError::BadLine(number));
         };
         make_text(player, alloc, form, number, &line, &mut text)?;

@@ -1,6 +1,6 @@
 //! Plays line by line: with numbers, with names, and against a text that is expected.
 use crate::machines::booted;
-use ffa_lines::{Difference, Form, compare, next_line, play};
+use ffa_lines::{Difference, Form, LineFault, compare, line_fault, next_line, play};
 use ffa_model::built_in;
 use ffa_physmem::FlatRam;
 use ffa_trace::{PlayError, Player};
@@ -54,12 +54,67 @@ fn writes_numbers_and_names_where_they_are_asked_for(rt: HostRuntime) -> Result<
     Ok(())
 }
 
+// A bad line stands as it does in the trace: with the LF that ends it, or as a rest without one.
 #[test]
 fn stops_at_a_bad_line(rt: HostRuntime) -> Result<(), Fail> {
-    for (trace, number) in [("show\nshow \n", 2), ("\nfetch 0\nshow", 3)] {
-        let (_, ended) = played(rt.alloc(), Form::default(), trace.as_bytes())?;
+    let alloc = rt.alloc();
+    for (trace, number, bad) in [
+        ("show\nshow \n", 2, "show \n"),
+        ("\nfetch 0\nshow", 3, "show"),
+    ] {
+        let (mut player, mut out, mut bytes) = (player(alloc)?, Vec::new(alloc), Vec::new(alloc));
+        let mut left = trace.as_bytes();
+        let form = Form::default();
+        let ended = play(&mut player, alloc, form, &mut left, &mut out, &mut bytes);
         assert_eq!(rt; ended, Err(PlayError::BadLine(number)));
+        assert_eq!(rt; bytes.as_slice(), bad.as_bytes());
     }
+    Ok(())
+}
+
+// Lines without the LF that ends them, and what is wrong with each; the last of them are good.
+const FAULTS: &str = "\
+shows;column 1: an unknown command
+ show;column 1: an empty word
+Call 84000063;column 1: an unknown command
+show\t;column 1: an unknown command
+show ;column 6: an empty word
+load  40010000 8;column 6: an empty word
+fetch zz;column 7: no hexadecimal number
+call 84000063 0x1;column 15: no hexadecimal number
+call 8400006300000000F;column 6: a number of more than 16 digits
+call;column 5: 0 registers
+call 1 2 3 4 5 6 7 8 9;column 6: 9 registers
+load 40010000 3;column 15: a size that is none of 1, 2, 4 and 8
+store 40010000 2AF;column 16: a value of 3 digits, which are none of 2, 4, 8 and 16
+store 40010000 2;column 16: a value of 1 digit, which is none of 2, 4, 8 and 16
+store 40010000 2H;column 16: no hexadecimal number
+load 1234;column 10: a word is missing
+store;column 6: a word is missing
+fetch;column 6: a word is missing
+load 40010000 8 0;column 17: a word too many
+show 1;column 6: a word too many
+show\r;a CR before the line's end
+show;
+# 1 \r;
+;
+";
+
+#[test]
+fn says_what_is_wrong_with_a_line(rt: HostRuntime) -> Result<(), Fail> {
+    let alloc = rt.alloc();
+    for row in FAULTS.split_terminator('\n') {
+        let (line, wanted) = row.split_once(';').unwrap_or((row, "?"));
+        let fault = line_fault(format!(in alloc; "{line}\n")?.as_bytes());
+        let said = match fault {
+            Some(fault) => format!(in alloc; "{fault}")?,
+            None => String::new(alloc),
+        };
+        assert_eq!(rt; said.as_str(), wanted);
+        assert_eq!(rt; line_fault(line.as_bytes()), Some(LineFault::NoEnd));
+    }
+    let said = format!(in alloc; "{}", LineFault::NoEnd)?;
+    assert_eq!(rt; said.as_str(), "no line end");
     Ok(())
 }
 
