@@ -1,6 +1,7 @@
 //! What is told where a trace prints another text than is expected.
+ghost use Rattle.std.specs.Prelude.{◌≡◌, IfErr};
 
-use ffa_trace::{PlayError, output};
+use super::failure::Failure;
 use std::alloc::Allocator;
 use std::io::Write;
 use std::{fmt, io};
@@ -38,18 +39,16 @@ impl fmt::Display for Printed<'_> {
 }
 
 impl<'a> Difference<'a> {
-    /// Writes the trace's line with its number, what is expected and what is found, and for registers which of them differ.
-    /// Of a text of several lines it tells the first that differs.
-    pub(super) fn write<A: Allocator, W: Write>(
-        &self,
-        alloc: A,
-        out: &mut W,
-    ) -> Result<(), PlayError> {
+    /// The trace's line with its number, what is expected and what is found, and for registers which of them differ. Of a
+    /// text of several lines the first is told that differs.
+    pub(super) fn told<A: Allocator>(&self, alloc: A) -> Result<Vec<u8, A>, Failure<'static>>
+        ensures { IfErr result (λ failure. failure ≡ Failure.NoMemory) }
+    {
         let mut text = Vec::new(alloc);
         match self.put(&mut text) {
-            Ok(()) => output::write_text(out, &text),
+            Ok(()) => Ok(text),
             // A text in memory takes all that there is memory for.
-            Err(_) => Err(PlayError::NoMemory),
+            Err(_) => Err(Failure::NoMemory),
         }
     }
 
@@ -99,11 +98,12 @@ fn put_registers<A: Allocator>(
     }
     let is_end = |byte: &u8| *byte == b' ' || *byte == b'\n';
     let words = expected.split(is_end).zip(found.split(is_end));
-    let mut before = "differ:   ";
+    let mut is_first = true;
     for (name, (one, other)) in REGISTERS.iter().zip(words) {
         if one != other {
+            let before = if is_first { "differ:   " } else { ", " };
             write!(text, "{before}{name}")?;
-            before = ", ";
+            is_first = false;
         }
     }
     writeln!(text)

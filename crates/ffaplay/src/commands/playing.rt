@@ -1,11 +1,13 @@
 //! Plays of a trace: its text printed as the player prints it or in a form, or compared with a text that is expected.
-ghost use Rattle.std.specs.Prelude.{◌≡◌, ◌*◌, OnOk, IfErr};
+ghost use Rattle.std.specs.Prelude.{◌≡◌, ◌*◌, OnOk, IfErr, IfOk};
+ghost use Rattle.std.specs.Io.Buffered.{reader_remaining};
 ghost use Rattle.ffa_model.specs.Ram.{zero_ram};
 ghost use Rattle.ffa_manifest.specs.Document.{parts_of};
 ghost use Rattle.ffaplay.specs.Performed.{IsDoneBy, PlayFails, PrintsIn, first_of, form_of};
 
 use super::difference::Difference;
 use super::failure::Failure;
+use super::write;
 use ffa_command::{MachineOptions, TextOptions};
 use ffa_lines::{Form, line_fault};
 use ffa_model::Manifest;
@@ -165,6 +167,20 @@ fn play_plainly<
     }
 }
 
+// A reader that is read line by line.
+fn buffered<A: Allocator, R: Read + Drop>(
+    alloc: A,
+    reader: R,
+) -> Result<BufReader<R, A>, Failure<'static>>
+    ensures unread { IfOk result (λ b. reader_remaining R.remaining b ≡ R.remaining reader) }
+    ensures failed { IfErr result (λ failure. failure ≡ Failure.NoMemory) }
+{
+    match BufReader::new(alloc, reader) {
+        Ok(reader) => Ok(reader),
+        Err(_) => Err(Failure::NoMemory),
+    }
+}
+
 fn play_formed<
     'a,
     A: Allocator + Copy,
@@ -183,7 +199,7 @@ fn play_formed<
     ensures failed { IfErr result (PlayFails (Task.Formed form) player.old.state (R.remaining trace.entry.reader) (W.contents out.old) (W.contents out.new)) }
 {
     let Trace { path, reader } = trace;
-    let mut reader = BufReader::new(alloc, reader).map_err(|_| Failure::NoMemory)?;
+    let mut reader = buffered(alloc, reader)?;
     let mut line = Vec::new(alloc);
     match ffa_lines::play(player, alloc, form, &mut reader, out, &mut line) {
         Ok(()) => Ok(()),
@@ -210,21 +226,20 @@ fn compare<
     ensures failed { IfErr result (PlayFails (Task.Compare expected.entry) player.old.state (R.remaining trace.entry.reader) (W.contents out.old) (W.contents out.new)) }
 {
     let Trace { path, reader } = trace;
-    let mut reader = BufReader::new(alloc, reader).map_err(|_| Failure::NoMemory)?;
+    let mut reader = buffered(alloc, reader)?;
     let (mut line, mut text) = (Vec::new(alloc), Vec::new(alloc));
     match ffa_lines::compare(player, alloc, &mut reader, expected, &mut line, &mut text) {
         Ok(None) => Ok(()),
         Ok(Some(place)) => {
-            let told = Difference {
+            let difference = Difference {
                 number: place.number,
                 line: &line,
                 expected: expected.get(place.place..).unwrap_or(&[]),
                 found: &text,
             };
-            match told.write(alloc, out) {
-                Ok(()) => Err(Failure::Differs),
-                Err(error) => Err(Failure::of_play(path, error, None)),
-            }
+            let told = difference.told(alloc)?;
+            write(out, &told)?;
+            Err(Failure::Differs)
         }
         Err(error) => Err(Failure::of_play(path, error, line_fault(&line))),
     }
