@@ -1,9 +1,10 @@
 -- A play line by line.
-use Rattle.std.proofs.Common.{◌≡◌, ◌≢◌, ◌+◌, ◌-◌, ◌≤◌, ℕ, Bool, true, false, List, [], ◌∷◌, ◌++◌, length, Option, None, Some, Result, Ok, Err, inl, inr, sym, ap, ◌∙◌, subst, arith, append_assoc, append-nil, length-append, refl}
+use Rattle.std.proofs.Common.{◌≡◌, ◌≢◌, ◌+◌, ◌≤◌, ℕ, Bool, true, false, List, [], ◌∷◌, ◌++◌, length, Option, None, Some, Ok, Err, inl, inr, sym, ap, ◌∙◌, subst, arith, append_assoc, append-nil, refl}
 use Rattle.std.specs.Prelude.{is_some}
 use Rattle.std.specs.Option.{option_map_or}
 use Rattle.std.specs.Io.KnownBytes.{Appends, Consumes, IsAtEnd}
-use Rattle.std.proofs.KnownBytes.{Appends-nil, Appends-trans, Consumes-nil, Consumes-trans}
+use Rattle.std.proofs.KnownBytes.{Consumes-nil, Consumes-trans}
+use Rattle.std.proofs.lemmas.Bool.{and_from}
 use Rattle.std.proofs.lemmas.List.Folds.{list_all-append}
 use Rattle.ffa_model.specs.State.{State}
 use Rattle.ffa_model.specs.TraceLines.{Line, feed, line_of, is_good, is_line, has_no_feed, joined}
@@ -13,12 +14,13 @@ use Rattle.ffa_trace.specs.declared.output.PlayError.{PlayError}
 use Rattle.ffa_trace.specs.declared.output.PlayError.TheVariants.{Read, Write, NoMemory, BadLine}
 use Rattle.ffa_lines.specs.Followed.{Followed, EndsBadly, DiffersAt, PlayedIn, Compared}
 use Rattle.ffa_lines.specs.Forms.{line_text_in, text_of_in, text_in}
+use Rattle.ffa_lines.proofs.Cuts.{cuts_none}
+use Rattle.ffa_lines.proofs.CutOff.{cuts_printed}
 use Rattle.ffa_lines.specs.Reading.{IsAll, ReadsLine}
-use Rattle.ffa_lines.specs.declared.comparison.Difference.{Difference}
 use Rattle.ffa_lines.specs.declared.form.Form.{Form}
 
 pub followed_none : (form : Form) (s : State) (had : Option (List ℕ)) → Followed form s s had had [] []
-followed_none form s had = record { each = refl; read = Consumes-nil had; state = refl; said = refl }
+followed_none form s had = record { each = refl; read = Consumes-nil had; state = refl; said = refl; cut = cuts_none }
 
 -- there is no line, or one
 pub no_line : (had has : Option (List ℕ)) (line : List ℕ) (number : ℕ) (b : Bool) → b ≡ false → ReadsLine had has line number (Ok b) → IsAtEnd had
@@ -34,7 +36,7 @@ after_one : (s : State) (lines : List (List ℕ)) (line : List ℕ) → after_al
 after_one s [] line = refl
 after_one s (l ∷ ls) line = after_one (after s l) ls line
 
-text_one : (form : Form) (n : ℕ) (s : State) (lines : List (List ℕ)) (line : List ℕ)
+pub text_one : (form : Form) (n : ℕ) (s : State) (lines : List (List ℕ)) (line : List ℕ)
     → text_in form n s (lines ++ line ∷ []) ≡ text_in form n s lines ++ text_of_in form (n + length lines) (after_all s lines) line
 text_one form n s [] line = append-nil _ ∙ ap (λ k. text_of_in form k s line) (omega arith)
 text_one form n s (l ∷ ls) line =
@@ -55,11 +57,15 @@ module _ (form : Form) (start mid : State) (had has : Option (List ℕ)) (lines 
     read = subst (Consumes had then) (sym (joined-append lines (line ∷ []))) (Consumes-trans had has then (joined lines) (line ++ feed ∷ []) f.read read);
     state =
         next ∙ ap (λ l. option_map_or (line_after mid) l mid) is ∙ ap (λ s. after s line) f.state ∙ sym (after_one start lines line);
-    said =
-        let own : said ≡ text_of_in form number mid line = makes ∙ ap (λ l. option_map_or (line_text_in form number mid) l []) is in
-        ap (λ t. t ++ said) f.said ∙ ap (λ t. text_in form 1 start lines ++ t) (own ∙ ap (λ n. text_of_in form n mid line) count ∙ ap (λ s. text_of_in form (1 + length lines) s line) f.state)
-        ∙ sym (text_one form 1 start lines line);
+    said = whole;
+    cut = cuts_printed form start (lines ++ line ∷ []) (text ++ said) whole;
   }
+    where
+      whole : text ++ said ≡ text_in form 1 start (lines ++ line ∷ [])
+      whole =
+          let own : said ≡ text_of_in form number mid line = makes ∙ ap (λ l. option_map_or (line_text_in form number mid) l []) is in
+          ap (λ t. t ++ said) f.said ∙ ap (λ t. text_in form 1 start lines ++ t) (own ∙ ap (λ n. text_of_in form n mid line) count ∙ ap (λ s. text_of_in form (1 + length lines) s line) f.state)
+          ∙ sym (text_one form 1 start lines line)
 
   -- a line that is none
   pub ends_badly : (then : Option (List ℕ)) (line : List ℕ) → Consumes has then (line ++ feed ∷ []) → has_no_feed line ≡ true → None ≡ line_of line → EndsBadly form start had text number
@@ -105,11 +111,11 @@ module _ (form : Form) (start mid : State) (had has : Option (List ℕ)) (lines 
       (text, more, alike, subst (EndsBadly form start had text) (sym is) (ends_unended line all single some))
 
   -- a text that doesn't go on as is expected
-  pub differs_in_line : (then : Option (List ℕ)) (line : List ℕ) (meant : Line) (said expected more : List ℕ) (place : ℕ) → Consumes has then (line ++ feed ∷ []) → Some meant ≡ line_of line
+  pub differs_in_line : (then : Option (List ℕ)) (line : List ℕ) (meant : Line) (said expected more : List ℕ) (place : ℕ) → Consumes has then (line ++ feed ∷ []) → has_no_feed line ≡ true → Some meant ≡ line_of line
       → said ≡ line_text_in form number mid meant → expected ≡ text ++ more → place ≡ length text → ((rest : List ℕ) → more ≢ said ++ rest)
       → DiffersAt form start had expected (record { number = number; place = place })
   unfolding text_of_in
-  differs_in_line then line meant said expected more place read is makes alike at other = record {
+  differs_in_line then line meant said expected more place read single is makes alike at other = record {
     state = mid;
     left = has;
     lines = lines;
@@ -121,7 +127,7 @@ module _ (form : Form) (start mid : State) (had has : Option (List ℕ)) (lines 
     place = at;
     differs =
         let own : said ≡ text_of_in form number mid line = makes ∙ ap (λ l. option_map_or (line_text_in form number mid) l []) is in
-        inl (line, then, read, ap is_some (sym is), λ rest same. other rest (same ∙ ap (λ t. t ++ rest) (sym own)));
+        inl (line, then, read, and_from _ _ single (ap is_some (sym is)), λ rest same. other rest (same ∙ ap (λ t. t ++ rest) (sym own)));
   }
 
   -- no line is left, and the expected text goes on

@@ -1,4 +1,7 @@
+pub mod CutOff
+pub mod Cuts
 pub mod Follows
 pub mod Names
 pub mod Plain
 pub mod ReadLines
+pub mod Unequal

@@ -1,5 +1,5 @@
 -- Registers with names behind them.
-use Rattle.std.proofs.Common.{◌≡◌, ℕ, true, List, [], ◌∷◌, ◌++◌, Option, None, Some, Result, Ok, Err, sym, ap, ◌∙◌, append_assoc, refl}
+use Rattle.std.proofs.Common.{◌≡◌, ℕ, true, List, [], ◌∷◌, ◌++◌, Some, Result, Ok, Err, sym, ap, ◌∙◌, append_assoc, refl}
 use Rattle.std.specs.Prelude.{IfErr, OnOk}
 use Rattle.ffa_model.specs.declared.endpoint.EndpointId.{EndpointId}
 use Rattle.ffa_model.specs.declared.operation.Outcome.{Outcome}

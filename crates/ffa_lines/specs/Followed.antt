@@ -2,23 +2,25 @@
 use Rattle.std.specs.Prelude.{◌≡◌, ◌≢◌, ◌≤◌, ◌⊎◌, ℕ, ◌+◌, true, false, List, [], ◌∷◌, ◌++◌, length, Option, None, Some, Result, Ok, Err, ⊤}
 use Rattle.std.specs.Io.KnownBytes.{Appends, Consumes, IsAtEnd}
 use Rattle.ffa_model.specs.State.{State}
-use Rattle.ffa_model.specs.TraceLines.{feed, has_no_feed, is_good, are_lines, joined}
-use Rattle.ffa_model.specs.TraceText.{after_all}
+use Rattle.ffa_model.specs.TraceLines.{feed, has_no_feed, is_good, is_line, are_lines, joined}
+use Rattle.ffa_model.specs.TraceText.{after_all, text}
 use Rattle.ffa_trace.specs.declared.output.PlayError.{PlayError}
 use Rattle.ffa_trace.specs.declared.output.PlayError.TheVariants.{Read, Write, NoMemory, BadLine}
 use Rattle.ffa_lines.specs.declared.form.Form.{Form}
 use Rattle.ffa_lines.specs.declared.comparison.Difference.{Difference}
+use Rattle.ffa_lines.specs.Cut.{CutsTo}
 use Rattle.ffa_lines.specs.Forms.{text_in, text_of_in}
 use Rattle.ffa_lines.specs.Reading.{IsAll}
 
 -- What follows speaks of the machine's state before and now (`start`, `now`), and of what was unread in the reader before and after.
 
--- these lines were read and done, and this is their text
-pub record Followed (form : Form) (start now : State) (had has : Option (List ℕ)) (lines : List (List ℕ)) (text : List ℕ) : Type 0 where
+-- these lines were read and done, and this is their text, of which the plain text is left when numbers and names are cut off
+pub record Followed (form : Form) (start now : State) (had has : Option (List ℕ)) (lines : List (List ℕ)) (printed : List ℕ) : Type 0 where
   pub each : are_lines lines ≡ true
   pub read : Consumes had has (joined lines)
   pub state : now ≡ after_all start lines
-  pub said : text ≡ text_in form 1 start lines
+  pub said : printed ≡ text_in form 1 start lines
+  pub cut : CutsTo printed (text start lines)
 
 -- the line behind these is none of the format, or a rest that no LF ends
 pub record EndsBadly (form : Form) (start : State) (had : Option (List ℕ)) (text : List ℕ) (number : ℕ) : Type 0 where
@@ -40,8 +42,14 @@ PlayedIn form start now held holds had (Err Read) = ⊤
 PlayedIn form start now held holds had (Err Write) = ⊤
 PlayedIn form start now held holds had (Err NoMemory) = ⊤
 
--- the text of these lines begins what is expected, and then either the next line's text doesn't go on with it, or no line is left and the
--- expected text goes on
+-- The rest of what is expected doesn't go on as the play does: it doesn't begin with the next line's text, which has this number, or it is
+-- not empty where no line is left.
+abbrev pub GoesOnOtherwise : Form → ℕ → State → Option (List ℕ) → List ℕ → Type 0
+GoesOnOtherwise form number state left more =
+    ((line : List ℕ) × (after_line : Option (List ℕ)) × Consumes left after_line (line ++ feed ∷ []) × (is_line line ≡ true) × ((rest : List ℕ) → more ≢ text_of_in form number state line ++ rest))
+    ⊎ (IsAtEnd left × (1 ≤ length more))
+
+-- the text of these lines begins what is expected, and then it goes on otherwise
 pub record DiffersAt (form : Form) (start : State) (had : Option (List ℕ)) (expected : List ℕ) (difference : Difference) : Type 0 where
   pub state : State
   pub left : Option (List ℕ)
@@ -52,8 +60,7 @@ pub record DiffersAt (form : Form) (start : State) (had : Option (List ℕ)) (ex
   pub alike : expected ≡ text ++ more
   pub number : difference.number ≡ 1 + length lines
   pub place : difference.place ≡ length text
-  pub differs : ((line : List ℕ) × (after_line : Option (List ℕ)) × Consumes left after_line (line ++ feed ∷ []) × (is_good line ≡ true)
-      × ((rest : List ℕ) → more ≢ text_of_in form difference.number state line ++ rest)) ⊎ (IsAtEnd left × (1 ≤ length more))
+  pub differs : GoesOnOtherwise form difference.number state left more
 
 -- a comparison: the whole text is what is expected, or it differs, or a line is none
 abbrev pub Compared : Form → State → Option (List ℕ) → List ℕ → Result (Option Difference) PlayError → Type 0
@@ -64,3 +71,8 @@ Compared form start had expected (Err (BadLine n)) = (text : List ℕ) × (more 
 Compared form start had expected (Err Read) = ⊤
 Compared form start had expected (Err Write) = ⊤
 Compared form start had expected (Err NoMemory) = ⊤
+
+-- of all lines that a reader of known bytes can give, none print what is expected
+abbrev pub NeverPrints : Form → State → Option (List ℕ) → List ℕ → Type 0
+NeverPrints form start None expected = ⊤
+NeverPrints form start (Some trace) expected = (lines : List (List ℕ)) → are_lines lines ≡ true → trace ≡ joined lines → text_in form 1 start lines ≢ expected

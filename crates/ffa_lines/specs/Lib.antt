@@ -1,3 +1,4 @@
+pub mod Cut
 pub mod Followed
 pub mod Forms
 pub mod Reading

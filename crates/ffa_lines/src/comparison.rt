@@ -1,5 +1,6 @@
 //! A play against a text that is expected.
-ghost use Rattle.ffa_lines.specs.Followed.{Compared};
+ghost use Rattle.std.specs.Prelude.{IfOk, IfSome};
+ghost use Rattle.ffa_lines.specs.Followed.{Compared, NeverPrints};
 ghost use Rattle.ffa_lines.specs.Forms.{plain};
 
 use crate::form::{Form, make_text};
@@ -32,7 +33,8 @@ pub fn compare<M: PhysMem + Drop, T: Translations + Drop, A: Allocator + Copy, R
     bytes: &mut Vec<u8, A>,
     text: &mut Vec<u8, A>,
 ) -> Result<Option<Difference>, PlayError>
-    ensures { Compared plain player.old.state (R.remaining reader.old) expected.now result }
+    ensures compared { Compared plain player.old.state (R.remaining reader.old) expected.now result }
+    ensures unequal { IfOk result (λ d. IfSome d (λ _. NeverPrints plain player.old.state (R.remaining reader.old) expected.now)) }
 {
     let plain = Form {
         number: false,

@@ -10,30 +10,31 @@ use Rattle.ffa_trace.specs.Lines.{meant}
 use Rattle.ffa_lines.specs.Followed.{Followed}
 use Rattle.ffa_lines.specs.Forms.{plain}
 use Rattle.ffa_lines.proofs.Follows.{followed_more, ends_badly, unread_compared, differs_in_line, differs_at_end, no_line, one_line}
+use Rattle.ffa_lines.proofs.Unequal.{never_prints}
 use Rattle.ffa_lines.proofs.comparison.compare.Goals as goal
 
-pub returns-in_err-next_line : goal.returns-in_err-next_line
-returns-in_err-next_line g c =
+pub returns-in_err-next_line-clause-compared : goal.returns-in_err-next_line-clause-compared
+returns-in_err-next_line-clause-compared g c =
     let i = c.loop-number.invariant in
     let p = err_from_is_err_and c.from_residual.result c.from_residual.ensures.1 in
     rw (p.1, p.2) (unread_compared _ _ _ _ _ i.0 i.1 i.2 c.loop-number.number i.4 c.in_err-next_line.field-0.0 (g.R.Read.remaining c.next_line.new.reader) c.next_line.new.line.items c.in_err-next_line.ensures _ c.loop-number.rest.now i.3)
 
-pub returns-then-is_empty : goal.returns-then-is_empty
-returns-then-is_empty g c =
+pub returns-then-is_empty-clause-compared : goal.returns-then-is_empty-clause-compared
+returns-then-is_empty-clause-compared g c =
     let i = c.loop-number.invariant in
     let none = nil_from_length c.loop-number.rest.now (eqb-true _ _ (sym c.is_empty.ensures ∙ c.if-is_empty.true)) in
     let whole = sym (i.3 ∙ ap (λ r. i.1 ++ r) none ∙ append-nil i.1) in
     (c.loop-number.player.state, _, i.0, subst (Followed plain _ _ _ _ i.0) whole i.2, no_line (g.R.Read.remaining c.loop-number.reader) (g.R.Read.remaining c.next_line.new.reader) c.next_line.new.line.items c.loop-number.number _ c.if-not-branch.true c.in_ok-next_line.ensures)
 
-pub returns-else-is_empty : goal.returns-else-is_empty
-returns-else-is_empty g c =
+pub returns-else-is_empty-clause-compared : goal.returns-else-is_empty-clause-compared
+returns-else-is_empty-clause-compared g c =
     let i = c.loop-number.invariant in
     let some = eqb-false _ _ (sym c.is_empty.ensures ∙ c.if-is_empty.false) in
     differs_at_end _ _ _ _ _ i.0 i.1 i.2 c.loop-number.number i.4 _ c.loop-number.rest.now _ (no_line (g.R.Read.remaining c.loop-number.reader) (g.R.Read.remaining c.next_line.new.reader) c.next_line.new.line.items c.loop-number.number _ c.if-not-branch.true c.in_ok-next_line.ensures) i.3
     (omega (arith, ap length i.3, length-append i.1 c.loop-number.rest.now)) (omega (arith, some))
 
-pub returns-in_default : goal.returns-in_default
-returns-in_default g c =
+pub returns-in_default-clause-compared : goal.returns-in_default-clause-compared
+returns-in_default-clause-compared g c =
     let i = c.loop-number.invariant in
     let one = one_line (g.R.Read.remaining c.loop-number.reader) (g.R.Read.remaining c.next_line.new.reader) c.next_line.new.line.items c.loop-number.number _ c.if-not-branch.false c.in_ok-next_line.ensures in (
       i.1,
@@ -42,21 +43,27 @@ returns-in_default g c =
       ends_badly _ _ _ _ _ i.0 i.1 i.2 c.loop-number.number i.4 _ c.next_line.new.line.items one.0 one.1 (c.in_default.ensures ∙ ap line_of c.deref.ensures.value),
     )
 
-pub returns-in_err-make_text : goal.returns-in_err-make_text
-returns-in_err-make_text g c =
+pub returns-in_err-make_text-clause-compared : goal.returns-in_err-make_text-clause-compared
+returns-in_err-make_text-clause-compared g c =
     let p = err_from_is_err_and c.from_residual-in_err-make_text.result c.from_residual-in_err-make_text.ensures.1 in
     rw (p.1, p.2, c.in_err-make_text.ensures) tt
 
-pub returns-in_default-strip_prefix : goal.returns-in_default-strip_prefix
-returns-in_default-strip_prefix g c =
+pub returns-in_default-strip_prefix-clause-compared : goal.returns-in_default-strip_prefix-clause-compared
+returns-in_default-strip_prefix-clause-compared g c =
     let i = c.loop-number.invariant in
     let one = one_line (g.R.Read.remaining c.loop-number.reader) (g.R.Read.remaining c.next_line.new.reader) c.next_line.new.line.items c.loop-number.number _ c.if-not-branch.false c.in_ok-next_line.ensures in
     let rest = c.loop-number.rest.now in
     let said = c.make_text.new.text.items in
     let other = subst (λ r. MatchOption r ((words : List ℕ) → rest ≢ c.as_slice.result.now ++ words) (λ x. rest ≡ c.as_slice.result.now ++ x.now)) c.in_default-strip_prefix.is
     (strip_prefix_is Decides-eqb rest c.as_slice.result.now c.strip_prefix.result c.strip_prefix.ensures.cases) in
-    differs_in_line _ _ _ _ _ i.0 i.1 i.2 c.loop-number.number i.4 _ c.next_line.new.line.items (meant c.in-Some.line) said _ rest _ one.0 (c.in-Some.ensures ∙ ap line_of c.deref.ensures.value)
+    differs_in_line _ _ _ _ _ i.0 i.1 i.2 c.loop-number.number i.4 _ c.next_line.new.line.items (meant c.in-Some.line) said _ rest _ one.0 one.1 (c.in-Some.ensures ∙ ap line_of c.deref.ensures.value)
     c.in_ok-make_text.ensures.1 i.3 (omega (arith, ap length i.3, length-append i.1 rest)) (λ words same. other words (same ∙ ap (λ t. t ++ words) (sym c.as_slice.ensures.value)))
+
+pub returns-else-is_empty-clause-unequal : goal.returns-else-is_empty-clause-unequal
+returns-else-is_empty-clause-unequal g c = never_prints _ _ _ _ _ (returns-else-is_empty-clause-compared g c)
+
+pub returns-in_default-strip_prefix-clause-unequal : goal.returns-in_default-strip_prefix-clause-unequal
+returns-in_default-strip_prefix-clause-unequal g c = never_prints _ _ _ _ _ (returns-in_default-strip_prefix-clause-compared g c)
 
 pub loop-number-preserved : goal.loop-number-preserved
 loop-number-preserved g c =
