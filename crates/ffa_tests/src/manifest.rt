@@ -1,7 +1,7 @@
 //! Worked values: machines as text, and changes of one that have each cause.
 
 use crate::checks::{same, same_at};
-use ffa_manifest::{ManifestError, read};
+use ffa_manifest::{ManifestError, explain, read};
 use ffa_model::{Endpoint, Manifest, Version, row_machine};
 use std::alloc::{AllocError, Global};
 use std::process::Abort;
@@ -276,5 +276,53 @@ fn a_compact_endpoint(rt: HostRuntime) -> Result<(), Fail> {
         };
         same(&rt, endpoint.version, wanted);
     }
+    Ok(())
+}
+
+// Changes of ROW as above, and with what begins and ends that tells where the manifest is refused.
+const PLACES: &str = "\
+ram_base = 0x40000000 => ram_base = 0x41000000 => ram_base = 1090519040: => 64 MiB from 0x04000000 to 0xFC000000
+ram_base = 0x40000000 => ram_base = true => ram_base = true: => 0xFC000000
+ram_blocks = 1 => ram_blocks = 33 => ram_blocks = 33: => no number from 1 to 32
+ram_blocks = 1 => blocks = 1 => key 'blocks' => is unknown
+ram_blocks = 1 => # => 'ram_blocks' => is missing
+1.1 => 1.0 => endpoint 1: version = \"1.0\": => neither \"1.1\" nor \"compact\"
+properties = 6 => properties = 1 => endpoint 1: properties = 1: => none of 0, 2, 4 and 6
+properties = 15 => properties = 16 => endpoint 2: properties = 16: => no number from 0 to 15
+00112233 => 0011 => endpoint 2: uuid = \"0011-4455- => no UUID, or the Nil UUID
+pages = 16, rights = \"rwx\" => pages = 16 => endpoint 2, region 1: 'rights' => is missing
+0x40020000 => 0x40020001 => endpoint 2, region 1: => not whole pages, at least one, in RAM behind the tables
+0x40030000 => 0x40028000 => endpoint 3, region 1: => a page of it is in a region before it
+ram_blocks = 1 => ram_blocks 1 => TOML parse error at line 2 => ";
+
+// Where a text is refused, or nothing where it is accepted.
+fn place_in(alloc: Global, text: &str) -> Result<String, AllocError> {
+    match explain(alloc, text)? {
+        None => Ok(String::new(alloc)),
+        Some(refusal) => format!(in alloc; "{refusal}"),
+    }
+}
+
+#[test]
+fn places_where_manifests_are_refused(rt: HostRuntime) -> Result<(), Fail> {
+    let alloc = rt.alloc();
+    assert!(rt; place_in(alloc, ROW)?.is_empty());
+    for row in PLACES.lines() {
+        let (old, rest) = row.split_once(" => ").ok_or("no change")?;
+        let (new, rest) = rest.split_once(" => ").ok_or("no beginning")?;
+        let (begins, ends) = rest.split_once(" => ").ok_or("no end")?;
+        let text = ROW.replacen(alloc, old, new, 1)?;
+        let told = place_in(alloc, text.as_str())?;
+        assert!(rt; told.as_str().starts_with(begins), "{told}");
+        assert!(rt; told.as_str().ends_with(ends), "{told}");
+    }
+    Ok(())
+}
+
+#[test]
+fn places_of_what_is_no_table(rt: HostRuntime) -> Result<(), Fail> {
+    let text = "ram_base = 0x40000000\nram_blocks = 1\nendpoint = [7]\n";
+    let told = place_in(rt.alloc(), text)?;
+    assert_eq!(rt; told.as_str(), "endpoint 1: 7: no table");
     Ok(())
 }

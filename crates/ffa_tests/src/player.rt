@@ -2,7 +2,7 @@
 use crate::machines::booted;
 use ffa_model::{PageNo, built_in, row_machine};
 use ffa_physmem::{FlatRam, PhysMem};
-use ffa_trace::{PlayError, Player};
+use ffa_trace::{Begun, PlayError, Player};
 use std::alloc::Global;
 use std::test::Fail;
 
@@ -152,5 +152,28 @@ fn prints_the_certificate(rt: HostRuntime) -> Result<(), Fail> {
     let (text, played) = play(&mut player, rt.alloc(), b"audit \n");
     assert_eq!(rt; played, Err(PlayError::BadLine(1)));
     assert!(rt; text.is_empty());
+    Ok(())
+}
+
+// Bytes of a trace in pieces: each text is there as soon as the LF of its line has come.
+#[test]
+fn answers_each_line_when_its_end_has_come(rt: HostRuntime) -> Result<(), Fail> {
+    let alloc = rt.alloc();
+    let mut player = demonstration(alloc)?;
+    let mut out = Vec::new(alloc);
+    let mut begun = Begun::new(alloc);
+    for (piece, so_far) in [
+        ("store 4001", ""),
+        ("0000 2A\n", "done\n"),
+        ("\n", "done\n"),
+        ("load 40010000 1\nfet", "done\ndata 2A\n"),
+        ("ch 0", "done\ndata 2A\n"),
+        ("\n", "done\ndata 2A\nfault translation\n"),
+    ] {
+        begun = player.feed(alloc, begun, piece.as_bytes(), &mut out)?;
+        assert_eq!(rt; out.as_slice(), so_far.as_bytes());
+    }
+    assert!(rt; begun.bytes.is_empty());
+    assert_eq!(rt; begun.number, 5);
     Ok(())
 }

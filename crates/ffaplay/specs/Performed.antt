@@ -1,5 +1,5 @@
 -- What a command of the program leaves.
-use Rattle.std.specs.Prelude.{◌≡◌, ◌≢◌, ◌≤◌, ◌⊎◌, ℕ, ◌+◌, Bool, true, false, List, ◌∷◌, ◌++◌, length, codes, IsUtf8, Option, None, Some, Ok, Err, is_some, ⊤}
+use Rattle.std.specs.Prelude.{◌≡◌, ◌≤◌, ◌⊎◌, ℕ, ◌+◌, Bool, true, false, List, ◌∷◌, ◌++◌, length, codes, IsUtf8, Option, None, Some, Ok, Err, is_some, ⊤}
 use Rattle.std.specs.Io.KnownBytes.{Appends, Keeps}
 use Rattle.ffa_model.specs.State.{State}
 use Rattle.ffa_model.specs.First.{first}
@@ -13,6 +13,7 @@ use Rattle.ffa_trace.specs.declared.output.PlayError.{PlayError}
 use Rattle.ffa_trace.specs.declared.output.PlayError.TheVariants as play_error
 use Rattle.ffa_lines.specs.declared.form.Form.{Form}
 use Rattle.ffa_lines.specs.declared.fault.LineFault.{LineFault}
+use Rattle.ffa_lines.specs.Followed.{NeverPrints}
 use Rattle.ffa_lines.specs.Forms.{plain, text_in}
 use Rattle.ffa_lines.specs.Reading.{IsAll}
 use Rattle.ffaplay.specs.Layouts.{layout_text}
@@ -80,10 +81,6 @@ pub record PrintsExpected (start : State) (trace expected : Option (List ℕ)) :
   pub all : IsAll trace (joined lines)
   pub same : expected ≡ Some (text start lines)
 
--- whichever lines a trace is, where its reader tells its bytes, they print another text than this
-abbrev pub PrintsAnother : State → Option (List ℕ) → List ℕ → Type 0
-PrintsAnother start trace expected = (lines : List (List ℕ)) → are_lines lines ≡ true → trace ≡ Some (joined lines) → text start lines ≢ expected
-
 -- a comparison stopped at line n: what is expected begins with the text of the lines before it
 abbrev pub IsCutShort : State → (trace expected : Option (List ℕ)) → ℕ → Type 0
 IsCutShort start trace expected n = (lines : List (List ℕ)) × EndsBadly trace lines n × ((more : List ℕ) × (expected ≡ Some (text start lines ++ more)))
@@ -136,7 +133,7 @@ abbrev pub Differs : Request → (manifest trace expected : Option (List ℕ)) �
 Differs (request.Run m t o w v) manifest trace expected = ⊥
 Differs (request.Demo t o w v) manifest trace expected = ⊥
 Differs (request.Compare m t e o v) manifest trace expected =
-    (parts : Parts) × Describes manifest parts × ((bytes : List ℕ) × (expected ≡ Some bytes) × PrintsAnother (first_of parts) trace bytes)
+    (parts : Parts) × Describes manifest parts × ((bytes : List ℕ) × (expected ≡ Some bytes) × NeverPrints plain (first_of parts) trace bytes)
 Differs (request.Check m v) manifest trace expected = ⊥
 Differs (request.Layout m v) manifest trace expected = ⊥
 
@@ -183,7 +180,7 @@ StopsBy (Compare expected) start trace held holds n = IsCutShort start trace (So
 abbrev pub DiffersBy : Task → State → Option (List ℕ) → Type 0
 DiffersBy Plain start trace = ⊥
 DiffersBy (Formed form) start trace = ⊥
-DiffersBy (Compare expected) start trace = PrintsAnother start trace expected.now
+DiffersBy (Compare expected) start trace = NeverPrints plain start trace expected.now
 
 -- a task fails; a play refuses no manifest
 abbrev pub PlayFails : Task → State → (trace held holds : Option (List ℕ)) → Failure → Type 0

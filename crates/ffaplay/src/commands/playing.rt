@@ -235,7 +235,8 @@ fn compare<
                 number: place.number,
                 line: &line,
                 expected: expected.get(place.place..).unwrap_or(&[]),
-                found: &text,
+                // At the end of the trace the text is still that of its last line.
+                found: if line.is_empty() { &[] } else { &text },
             };
             let told = difference.told(alloc)?;
             write(out, &told)?;

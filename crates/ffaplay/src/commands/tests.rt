@@ -1,12 +1,15 @@
 //! The commands on worked manifests and traces.
 
 use super::*;
+use ffa_command::{MachineOptions, TextOptions};
 use std::io;
 use std::process::Abort;
 use std::test::Fail;
 
 // A block of 2 MiB of which a page is lent.
 mod blocks;
+// Numbers, names, comparisons, and what more is said.
+mod lines;
 // The worked example of the manual.
 mod manual;
 // Memory that is refused.
@@ -49,25 +52,40 @@ properties = 15
 regions = [{ base = 0xFC110000, pages = 1, rights = \"rwx\" }]
 ";
 
+const MACHINE: MachineOptions = MachineOptions {
+    frames: false,
+    tlb: false,
+};
+
+const TEXT: TextOptions = TextOptions {
+    line_buffered: false,
+    number: false,
+    names: false,
+};
+
 const RUN: Request<'static> = Request::Run {
     manifest: "row.toml",
     trace: "row.trace",
-    frames: false,
-    tlb: false,
+    machine: MACHINE,
+    text: TEXT,
+    verbose: false,
 };
 
 const DEMO: Request<'static> = Request::Demo {
     trace: "no.trace",
-    frames: false,
-    tlb: false,
+    machine: MACHINE,
+    text: TEXT,
+    verbose: false,
 };
 
 const CHECK: Request<'static> = Request::Check {
     manifest: "row.toml",
+    verbose: false,
 };
 
 const LAYOUT: Request<'static> = Request::Layout {
     manifest: "row.toml",
+    verbose: false,
 };
 
 // A first trace, and what it prints on the built-in machine.
@@ -84,17 +102,26 @@ struct Ended {
     err: Vec<u8>,
 }
 
+fn performed(alloc: Global, request: &Request<'_>, files: Files<'_, &[u8]>) -> Ended {
+    let mut out = Vec::new(alloc);
+    let mut err = Vec::new(alloc);
+    let status = perform(alloc, request, files, &mut out, &mut err);
+    Ended { status, out, err }
+}
+
 fn performed_once(
     alloc: Global,
     request: &Request<'_>,
     manifest: Option<&[u8]>,
     trace: Option<&str>,
 ) -> Ended {
-    let mut out = Vec::new(alloc);
-    let mut err = Vec::new(alloc);
-    let trace = trace.map(|text| text.as_bytes());
-    let status = perform(alloc, request, manifest, trace, &mut out, &mut err);
-    Ended { status, out, err }
+    let files = Files {
+        manifest,
+        trace: trace.map(|text| text.as_bytes()),
+        expected: None,
+        reason: None,
+    };
+    performed(alloc, request, files)
 }
 
 // The kinds of machine that play: with RAM in frames or in one piece, and with a cache of translations or none.
@@ -102,18 +129,32 @@ const KINDS: [(bool, bool); 4] = [(false, false), (true, false), (false, true), 
 
 // The same command on a machine of one kind.
 fn on_kind<'a>(request: &Request<'a>, (frames, tlb): (bool, bool)) -> Request<'a> {
+    let machine = MachineOptions { frames, tlb };
     match *request {
         Request::Run {
             manifest,
             trace,
+            text,
+            verbose,
             ..
         } => Request::Run {
             manifest,
             trace,
-            frames,
-            tlb,
+            machine,
+            text,
+            verbose,
         },
-        Request::Demo { trace, .. } => Request::Demo { trace, frames, tlb },
+        Request::Demo {
+            trace,
+            text,
+            verbose,
+            ..
+        } => Request::Demo {
+            trace,
+            machine,
+            text,
+            verbose,
+        },
         other => other,
     }
 }
@@ -332,8 +373,13 @@ fn tells(
     (status, told): (u8, &str),
 ) {
     let mut err = Vec::new(alloc);
-    let trace = trace.map(|text| text.as_bytes());
-    let ended = perform(alloc, request, Some(manifest), trace, &mut out, &mut err);
+    let files = Files {
+        manifest: Some(manifest),
+        trace: trace.map(|text| text.as_bytes()),
+        expected: None,
+        reason: None,
+    };
+    let ended = perform(alloc, request, files, &mut out, &mut err);
     assert_eq!(rt; ended, status);
     assert_eq!(rt; err.as_slice(), told.as_bytes());
 }

@@ -2,7 +2,7 @@
 //! size. What a manifest is read with is refused by the script tests/refused-memory.
 
 use super::{DEMO, FIRST, FIRST_TEXT, KINDS, ROW, RUN, on_kind, performed_once};
-use crate::perform_in;
+use crate::{Files, perform_in};
 use ffa_command::Request;
 use linked_list_allocator::LocalHeap;
 use std::alloc::Global;
@@ -75,11 +75,15 @@ fn is_done(
     let heap = LocalHeap::new(alloc, room)?;
     let mut out = Vec::with_capacity(alloc, text.len())?;
     let mut err = Vec::with_capacity(alloc, 64)?;
-    let reader = Some(InPieces {
-        bytes: trace.as_bytes(),
-    });
-    let manifest = Some(ROW.as_bytes());
-    let status = perform_in(alloc, &heap, request, manifest, reader, &mut out, &mut err);
+    let files = Files {
+        manifest: Some(ROW.as_bytes()),
+        trace: Some(InPieces {
+            bytes: trace.as_bytes(),
+        }),
+        expected: None,
+        reason: None,
+    };
+    let status = perform_in(alloc, &heap, request, files, &mut out, &mut err);
     assert_eq!(rt; heap.used(), 0);
     if status == 0 {
         assert_eq!(rt; out.as_slice(), text);
@@ -151,8 +155,13 @@ fn assert_refused(
     let heap = LocalHeap::new(alloc, 16)?;
     let mut out = Vec::new(alloc);
     let mut err = Vec::with_capacity(alloc, 64)?;
-    let (bytes, trace) = (manifest.as_bytes(), Some(LEND.as_bytes()));
-    let status = perform_in(alloc, &heap, &RUN, Some(bytes), trace, &mut out, &mut err);
+    let files = Files {
+        manifest: Some(manifest.as_bytes()),
+        trace: Some(LEND.as_bytes()),
+        expected: None,
+        reason: None,
+    };
+    let status = perform_in(alloc, &heap, &RUN, files, &mut out, &mut err);
     assert_eq!(rt; status, 1);
     assert_eq!(rt; err.as_slice(), message.as_bytes());
     assert!(rt; out.is_empty());

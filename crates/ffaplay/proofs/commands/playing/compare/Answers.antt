@@ -1,4 +1,6 @@
 use Rattle.std.proofs.Common.{subst, sym, Some}
+use Rattle.ffa_lines.specs.Followed.{NeverPrints}
+use Rattle.ffa_lines.specs.Forms.{plain}
 use Rattle.ffaplay.specs.Performed.{PrintsExpected, PlayFails, failure_of}
 use Rattle.ffaplay.specs.declared.commands.failure.Failure.TheVariants.{Read}
 use Rattle.ffaplay.specs.declared.commands.playing.Task.TheVariants.{Compare}
@@ -7,7 +9,7 @@ use Rattle.ffaplay.proofs.commands.playing.compare.Goals as goal
 
 pub returns-in-Ok-None-clause-played : goal.returns-in-Ok-None-clause-played
 returns-in-Ok-None-clause-played g c =
-    let whole = compared_whole _ _ _ (rw c.in-Ok-None.field-0-is at c.in-Ok-None.ensures) in
+    let whole = compared_whole _ _ _ (rw c.in-Ok-None.field-0-is at c.in-Ok-None.ensures.compared) in
     (subst (λ had. PrintsExpected c.args.player.now.state had (Some c.args.expected.now)) c.in_ok-reader.ensures.unread whole, kept (g.W.Write.contents c.args.out.now))
 
 pub returns-clause-failed : goal.returns-clause-failed
@@ -17,7 +19,8 @@ returns-clause-failed g c =
     let unread = Read c.args.trace.path in
     subst (PlayFails (Compare c.args.expected) start (g.R.Read.remaining c.args.trace.reader) held held) (sym c.of_play.ensures)
     (subst (λ had. PlayFails (Compare c.args.expected) start had held held (failure_of unread c.line_fault.result c.in-Err.error)) c.in_ok-reader.ensures.unread
-    (compared_failed start _ held c.args.expected unread tt c.line_fault.result c.in-Err.error c.in-Err.ensures))
+    (compared_failed start _ held c.args.expected unread tt c.line_fault.result c.in-Err.error c.in-Err.ensures.compared))
 
 pub returns-in-Ok-Some-clause-failed : goal.returns-in-Ok-Some-clause-failed
-returns-in-Ok-Some-clause-failed g c = ?
+returns-in-Ok-Some-clause-failed g c =
+    subst (λ had. NeverPrints plain c.args.player.now.state had c.args.expected.now) c.in_ok-reader.ensures.unread (rw c.in-Ok-Some.field-0-is at c.in-Ok-Some.ensures.unequal)

@@ -1,0 +1,174 @@
+//! Numbers, names, comparisons, and what more is said of what is refused.
+
+use super::{CHECK, Ended, FIRST, FIRST_TEXT, Files, MACHINE, ROW, TEXT, Wanted, performed};
+use ffa_command::{Request, TextOptions};
+use std::alloc::Global;
+use std::io::ErrorKind;
+use std::process::Abort;
+use std::test::Fail;
+
+// The built-in machine, with numbers and names, and with more said of what is refused.
+const SAY_ALL: Request<'static> = Request::Demo {
+    trace: "no.trace",
+    machine: MACHINE,
+    text: TextOptions {
+        line_buffered: false,
+        number: true,
+        names: true,
+    },
+    verbose: true,
+};
+
+const PLAIN: Request<'static> = Request::Demo {
+    trace: "no.trace",
+    machine: MACHINE,
+    text: TEXT,
+    verbose: true,
+};
+
+const COMPARE: Request<'static> = Request::Compare {
+    manifest: "row.toml",
+    trace: "row.trace",
+    expected: "row.text",
+    machine: MACHINE,
+    verbose: true,
+};
+
+const VERBOSE_CHECK: Request<'static> = Request::Check {
+    manifest: "row.toml",
+    verbose: true,
+};
+
+// What is printed of FIRST with numbers and names: the table of accesses has its number once.
+const FIRST_NUMBERED: &str =
+    "1: regs 0000 0000000084000061 0000000000000000 0000000000000000 0000000000000000 0000000000000000 0000000000000000 0000000000000000 0000000000000000 # FFA_SUCCESS\n2: done\n3: data 2A\n4: fault translation\n5: runner 0000\npages 40000000 4000FFFF 8000 --- ---\npages 40010000 4001FFFF 0000 rw- ---\npages 40020000 4002FFFF 8001 --- rwx\npages 40030000 401FFFFF 8000 --- ---\n";
+
+fn ended(rt: &impl Abort, got: &Ended, wanted: Wanted<'_>) {
+    assert_eq!(rt; got.status, wanted.status);
+    assert_eq!(rt; got.out.as_slice(), wanted.out.as_bytes());
+    assert_eq!(rt; got.err.as_slice(), wanted.err.as_bytes());
+}
+
+fn files<'a>(manifest: &'a str, trace: &'a str, expected: &'a str) -> Files<'a, &'a [u8]> {
+    Files {
+        manifest: Some(manifest.as_bytes()),
+        trace: Some(trace.as_bytes()),
+        expected: Some(expected.as_bytes()),
+        reason: None,
+    }
+}
+
+#[test]
+fn writes_numbers_and_names(rt: HostRuntime) {
+    for (request, out) in [(SAY_ALL, FIRST_NUMBERED), (PLAIN, FIRST_TEXT)] {
+        let got = performed(rt.alloc(), &request, files("", FIRST, ""));
+        let (status, err) = (0, "");
+        ended(&rt, &got, Wanted { status, out, err });
+    }
+}
+
+#[test]
+fn says_why_a_line_is_bad(rt: HostRuntime) {
+    let trace = "# two good lines\nload 40010000 1\nload 4001\n";
+    let got = performed(rt.alloc(), &SAY_ALL, files("", trace, ""));
+    let wanted = Wanted {
+        status: 2,
+        out: "2: data 00\n",
+        err: "ffaplay: line 3: bad line\nffaplay: column 10: a word is missing\n",
+    };
+    ended(&rt, &got, wanted);
+    let got = performed(rt.alloc(), &PLAIN, files("", "load 40010000 1", ""));
+    let wanted = Wanted {
+        status: 2,
+        out: "",
+        err: "ffaplay: line 1: bad line\nffaplay: no line end\n",
+    };
+    ended(&rt, &got, wanted);
+}
+
+#[test]
+fn says_where_a_manifest_is_refused(rt: HostRuntime) -> Result<(), Fail> {
+    let overlapping = ROW.replacen(rt.alloc(), "rights = \"rwx\"", "rights = \"wr\"", 1)?;
+    let first = "ffaplay: manifest: M5 WrongKind\n";
+    let both =
+        "ffaplay: manifest: M5 WrongKind\nffaplay: endpoint 2, region 1: rights = \"wr\": none of \"ro\", \"rw\", \"rox\" and \"rwx\"\n";
+    for (request, err) in [(CHECK, first), (VERBOSE_CHECK, both)] {
+        let got = performed(rt.alloc(), &request, files(overlapping.as_str(), "", ""));
+        let (status, out) = (1, "");
+        ended(&rt, &got, Wanted { status, out, err });
+    }
+    Ok(())
+}
+
+#[test]
+fn says_why_a_file_cannot_be_read(rt: HostRuntime) {
+    let unread = Files {
+        manifest: Some(ROW.as_bytes()),
+        trace: None,
+        expected: None,
+        reason: Some(ErrorKind::NotFound),
+    };
+    let got = performed(rt.alloc(), &COMPARE, unread);
+    let wanted = Wanted {
+        status: 3,
+        out: "",
+        err: "ffaplay: cannot read row.trace\nffaplay: entity not found\n",
+    };
+    ended(&rt, &got, wanted);
+}
+
+fn compared(alloc: Global, expected: &str) -> Ended {
+    let trace = "store 40010000 2A\ncall 84000069\nload 40010000 1\n";
+    performed(alloc, &COMPARE, files(ROW, trace, expected))
+}
+
+// What the trace of `compared` prints.
+const EXPECTED: &str =
+    "done\nregs 0000 0000000084000061 0000000000000000 0000000000000000 0000000000000000 0000000000000000 0000000000000000 0000000000000000 0000000000000000\ndata 2A\n";
+
+#[test]
+fn compares_texts(rt: HostRuntime) -> Result<(), Fail> {
+    let (alloc, err) = (rt.alloc(), "");
+    let (status, out) = (0, "");
+    ended(&rt, &compared(alloc, EXPECTED), Wanted { status, out, err });
+    let other = EXPECTED.replacen(alloc, "data 2A", "data 2B", 1)?;
+    let wanted = Wanted {
+        status: 4,
+        out: "line 3: load 40010000 1\nexpected: data 2B\nfound:    data 2A\n",
+        err,
+    };
+    ended(&rt, &compared(alloc, other.as_str()), wanted);
+    let shorter = EXPECTED.replacen(alloc, "data 2A\n", "", 1)?;
+    let wanted = Wanted {
+        status: 4,
+        out: "line 3: load 40010000 1\nexpected: (the end)\nfound:    data 2A\n",
+        err,
+    };
+    ended(&rt, &compared(alloc, shorter.as_str()), wanted);
+    let longer = EXPECTED.replacen(alloc, "data 2A\n", "data 2A\ndone", 1)?;
+    let wanted = Wanted {
+        status: 4,
+        out: "line 4: (the end)\nexpected: done (no line end)\nfound:    (the end)\n",
+        err,
+    };
+    ended(&rt, &compared(alloc, longer.as_str()), wanted);
+    Ok(())
+}
+
+// Which registers differ is told by name.
+#[test]
+fn names_registers_that_differ(rt: HostRuntime) -> Result<(), Fail> {
+    let alloc = rt.alloc();
+    let other = EXPECTED.replacen(
+        alloc,
+        "0000 0000000084000061 0000000000000000 0000000000000000",
+        "8001 0000000084000061 0000000000000000 0000000000000001",
+        1,
+    )?;
+    let got = compared(alloc, other.as_str());
+    assert_eq!(rt; got.status, 4);
+    let lines = got.out.as_slice();
+    assert!(rt; lines.starts_with(b"line 2: call 84000069\nexpected: regs 8001 "));
+    assert!(rt; lines.ends_with(b"\ndiffer:   runner, x2\n"));
+    Ok(())
+}
