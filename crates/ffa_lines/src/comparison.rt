@@ -2,6 +2,7 @@
 ghost use Rattle.std.specs.Prelude.{IfOk, IfSome};
 ghost use Rattle.ffa_lines.specs.Followed.{Compared, NeverPrints};
 ghost use Rattle.ffa_lines.specs.Forms.{plain};
+ghost use Rattle.ffa_lines.specs.Whole.{LeavesBad};
 
 use crate::form::{Form, make_text};
 use crate::read::next_line;
@@ -34,6 +35,7 @@ pub fn compare<M: PhysMem + Drop, T: Translations + Drop, A: Allocator + Copy, R
     text: &mut Vec<u8, A>,
 ) -> Result<Option<Difference>, PlayError>
     ensures compared { Compared plain player.old.state (R.remaining reader.old) expected.now result }
+    ensures bad_line { LeavesBad result bytes.new.items }
     ensures unequal { IfOk result (λ d. IfSome d (λ _. NeverPrints plain player.old.state (R.remaining reader.old) expected.now)) }
 {
     let plain = Form {
