@@ -76,15 +76,18 @@ fn words_fault(line: &[u8]) -> LineFault {
         return LineFault::Words { column: 1, cause };
     };
     let mut column = usize::saturating_add(name.len(), 2);
-    let mut count = 0;
+    let (mut count, mut ninth) = (0, column);
     for word in words {
         count = usize::saturating_add(count, 1);
+        if count == 9 {
+            ninth = column;
+        }
         if let Some(cause) = word_fault(command, count, word) {
             return LineFault::Words { column, cause };
         }
         column = usize::saturating_add(column, usize::saturating_add(word.len(), 1));
     }
-    count_fault(command, count, line.len())
+    count_fault(command, count, ninth, line.len())
 }
 
 fn command_named(name: &[u8]) -> Option<Command> {
@@ -148,12 +151,16 @@ fn value_fault(word: &[u8]) -> Option<WordFault> {
     }
 }
 
-// What is wrong with a line of so many bytes, with so many words behind the command, of which each is as it should be.
-fn count_fault(command: Command, count: usize, bytes: usize) -> LineFault {
+// What is wrong with a line of so many bytes, with so many words behind the command, of which each is as it should be. The
+// ninth word stands at this column.
+fn count_fault(command: Command, count: usize, ninth: usize, bytes: usize) -> LineFault {
     match command {
         Command::Call => LineFault::Words {
-            // A space stands behind the name, or the line ends there.
-            column: if count == 0 { 5 } else { 6 },
+            column: if count == 0 {
+                usize::saturating_add(bytes, 1)
+            } else {
+                ninth
+            },
             cause: WordFault::Registers(count),
         },
         Command::Load | Command::Store | Command::Fetch => LineFault::Words {

@@ -84,7 +84,7 @@ fetch zz;column 7: no hexadecimal number
 call 84000063 0x1;column 15: no hexadecimal number
 call 8400006300000000F;column 6: a number of more than 16 digits
 call;column 5: 0 registers
-call 1 2 3 4 5 6 7 8 9;column 6: 9 registers
+call 1 2 3 4 5 6 7 8 9;column 22: 9 registers
 load 40010000 3;column 15: a size that is none of 1, 2, 4 and 8
 store 40010000 2AF;column 16: a value of 3 digits, which are none of 2, 4, 8 and 16
 store 40010000 2;column 16: a value of 1 digit, which is none of 2, 4, 8 and 16

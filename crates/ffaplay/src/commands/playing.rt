@@ -231,12 +231,15 @@ fn compare<
     match ffa_lines::compare(player, alloc, &mut reader, expected, &mut line, &mut text) {
         Ok(None) => Ok(()),
         Ok(Some(place)) => {
+            if line.is_empty() {
+                // At the end of the trace the text is still that of its last line.
+                text.clear();
+            }
             let difference = Difference {
                 number: place.number,
                 line: &line,
                 expected: expected.get(place.place..).unwrap_or(&[]),
-                // At the end of the trace the text is still that of its last line.
-                found: if line.is_empty() { &[] } else { &text },
+                found: &text,
             };
             let told = difference.told(alloc)?;
             write(out, &told)?;

@@ -1,5 +1,6 @@
 //! Numbers, names, comparisons, and what more is said of what is refused.
 
+use super::manual::{ACCESSES, ACCESSES_TEXT, PARTITIONS};
 use super::{CHECK, Ended, FIRST, FIRST_TEXT, Files, MACHINE, ROW, TEXT, Wanted, performed};
 use ffa_command::{Request, TextOptions};
 use std::alloc::Global;
@@ -171,4 +172,32 @@ fn names_registers_that_differ(rt: HostRuntime) -> Result<(), Fail> {
     assert!(rt; lines.starts_with(b"line 2: call 84000069\nexpected: regs 8001 "));
     assert!(rt; lines.ends_with(b"\ndiffer:   runner, x2\n"));
     Ok(())
+}
+
+// The examples of the manual: a play compared with what stands in examples/accesses.out, and with a byte of it turned.
+#[test]
+fn compares_as_the_manual_shows(rt: HostRuntime) -> Result<(), Fail> {
+    let alloc = rt.alloc();
+    let got = performed(alloc, &COMPARE, files(PARTITIONS, ACCESSES, ACCESSES_TEXT));
+    let (status, out, err) = (0, "", "");
+    ended(&rt, &got, Wanted { status, out, err });
+    let other = ACCESSES_TEXT.replacen(alloc, "CDEF\ndata 01", "CDEE\ndata 01", 1)?;
+    let got = performed(alloc, &COMPARE, files(PARTITIONS, ACCESSES, other.as_str()));
+    let wanted = Wanted {
+        status: 4,
+        out: "line 4: load 40010008 2\nexpected: data CDEE\nfound:    data CDEF\n",
+        err,
+    };
+    ended(&rt, &got, wanted);
+    Ok(())
+}
+
+// The example of the manual for what more is said of a bad line.
+#[test]
+fn says_what_the_manual_shows(rt: HostRuntime) {
+    let trace = "call 84000069\ncall 84000066 4001E000 4001F000 1 0 0 0 0 0\n";
+    let got = performed(rt.alloc(), &PLAIN, files("", trace, ""));
+    assert_eq!(rt; got.status, 2);
+    let told = "ffaplay: line 2: bad line\nffaplay: column 43: 9 registers\n";
+    assert_eq!(rt; got.err.as_slice(), told.as_bytes());
 }

@@ -3,7 +3,7 @@
 use super::{CHECK, LAYOUT, RUN, done, ends};
 
 // examples/partitions.toml
-const PARTITIONS: &str =
+pub(super) const PARTITIONS: &str =
     "# Two partitions beside the normal world, in 4 MiB of RAM. The table pages are 40000000 to 4000BFFF.
 ram_base = 0x40000000
 ram_blocks = 2
@@ -33,7 +33,7 @@ regions = [
 ";
 
 // examples/accesses.trace, and what it prints
-const ACCESSES: &str =
+pub(super) const ACCESSES: &str =
     "# The normal world, 0000, runs first. It stores eight bytes and loads some of them again.
 store 40010008 0123456789abcdef
 load 40010008 8
@@ -55,7 +55,7 @@ load 40010008 8
 show
 ";
 
-const ACCESSES_TEXT: &str = "done
+pub(super) const ACCESSES_TEXT: &str = "done
 data 0123456789ABCDEF
 data CDEF
 data 01
