@@ -34,6 +34,7 @@ impl Pool {
     /// In this order: `InvalidParameters` where the word is above 1 or no transaction of the caller with this handle is
     /// open; `Denied` where a receiver holds it, or zeros are asked of a page whose own right isn't rw. An error changes
     /// nothing.
+    #[inline(always)]
     pub fn reclaim<M: PhysMem>(
         &mut self,
         ram: &mut M,

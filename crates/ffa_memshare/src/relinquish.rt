@@ -35,6 +35,7 @@ impl Pool {
     /// In this order: `InvalidParameters` where the caller has no buffers, TX has no descriptor, it names another endpoint
     /// than the caller, or no transaction with its handle is open that is offered to the caller; `Denied` where the caller
     /// doesn't hold it, or zeros are asked of what the caller doesn't hold in a lend with rw. An error changes nothing.
+    #[inline(always)]
     pub fn relinquish<M: PhysMem>(
         &mut self,
         ram: &mut M,

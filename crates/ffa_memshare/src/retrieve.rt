@@ -49,6 +49,7 @@ impl Pool {
     /// bytes are none, no transaction with its handle is open that is offered to the caller, or it describes another sender,
     /// tag or kind; `Denied` where the caller holds it already, or asks for more than it may hold; `Busy` where RX is full.
     /// An error changes nothing.
+    #[inline(always)]
     pub fn retrieve<M: PhysMem>(
         &mut self,
         ram: &mut M,

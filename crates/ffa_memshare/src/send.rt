@@ -45,6 +45,7 @@ impl Pool {
     /// no endpoint; `Denied` where a range isn't in RAM, a page isn't the caller's, stands in an open transaction or is
     /// somebody's buffer, or has less itself than is granted or than zeros need; `NoMemory` where `MOST_OPEN` transactions of
     /// the caller are open or it has made `MOST_SENDS` sends. An error changes nothing.
+    #[inline(always)]
     pub fn send<M: PhysMem>(
         &mut self,
         ram: &mut M,

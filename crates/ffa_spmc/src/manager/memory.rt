@@ -1,5 +1,5 @@
 //! The calls on memory. Each stands alone, so that other calls have no room for it, and has the cache forget whose access to
-//! which pages it changed.
+//! which pages it changed. What the pool does for it is inlined here, since its answer is large to hand on.
 ghost use Rattle.ffa_model.specs.MemoryRetrieve.{memory_retrieve};
 ghost use Rattle.ffa_model.specs.MemoryReturn.{memory_reclaim, memory_relinquish};
 ghost use Rattle.ffa_model.specs.MemorySend.{memory_send};
@@ -33,6 +33,7 @@ impl<M: PhysMem + Drop> Manager<M> {
     }
 
     // The same, and whose access it changed.
+    #[inline(always)]
     fn offered(&mut self, kind: Kind, transfer: Transfer) -> Answer
         ensures { IsTold self.old self.new (memory_send self.old.state kind transfer) result }
     {
@@ -66,6 +67,7 @@ impl<M: PhysMem + Drop> Manager<M> {
     }
 
     // The same, and whose access it changed.
+    #[inline(always)]
     fn retrieved(&mut self, transfer: Transfer) -> Answer
         ensures { IsTold self.old self.new (memory_retrieve self.old.state transfer) result }
     {
@@ -98,6 +100,7 @@ impl<M: PhysMem + Drop> Manager<M> {
     }
 
     // The same, and whose access it changed.
+    #[inline(always)]
     fn relinquished(&mut self) -> Answer
         ensures { IsTold self.old self.new (memory_relinquish self.old.state) result }
     {
@@ -133,6 +136,7 @@ impl<M: PhysMem + Drop> Manager<M> {
     }
 
     // The same, and whose access it changed.
+    #[inline(always)]
     fn reclaimed(&mut self, low: u32, high: u32, flags: u32) -> Answer
         ensures { IsTold self.old self.new (memory_reclaim self.old.state low high flags) result }
     {
