@@ -113,6 +113,13 @@ impl<M: PhysMem + Drop, T: Translations + Drop> Machine<M, T> {
         self.manager.ram()
     }
 
+    /// Ends the machine, and gives its RAM back with the bytes that it has in the end.
+    pub fn into_ram(self) -> M
+        ensures { M.ram result ≡ self.ram }
+    {
+        self.manager.into_ram()
+    }
+
     /// The cache. Whatever it answers is what the walk of a page's first address answers now.
     pub fn cache(&self) -> &T
         ensures held { T.entries result.now ≡ self.now.held }

@@ -88,6 +88,13 @@ impl<M: PhysMem + Drop> Manager<M> {
         &self.ram
     }
 
+    // The RAM with the bytes that it has in the end, where nothing is managed any more.
+    pub(crate) fn into_ram(self) -> M
+        ensures { M.ram result ≡ self.ram }
+    {
+        self.ram
+    }
+
     // What holds of every manager: the tables give the access of the state, which is sound, and in which nobody is offered
     // what it has sent itself.
     #[inline(always)]
