@@ -56,7 +56,7 @@ const TRACE: Word = Word::Path {
 
 const EXPECTED: Word = Word::Path {
     id: "expected",
-    help: "What the trace is expected to print",
+    help: "What the trace is expected to print; - is standard input",
 };
 
 const FRAMES: Word = Word::Flag {
