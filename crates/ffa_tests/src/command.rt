@@ -259,7 +259,7 @@ fn help_of_a_comparison_names_the_expected_text(rt: HostRuntime) -> Result<(), F
     let help = text_for(rt.alloc(), &words, ErrorKind::DisplayHelp)?;
     let parts = "\
 Usage: ffaplay compare [OPTIONS] <manifest> <trace> <expected>
-|  <expected>  What the trace is expected to print
+|  <expected>  What the trace is expected to print; - is standard input
 ";
     has_parts(&rt, help.as_str(), parts);
     Ok(())
