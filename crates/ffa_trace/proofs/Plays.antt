@@ -100,8 +100,7 @@ module _ (s m : State) (a b had has : Option (List ℕ)) (number : ℕ) (begun :
   cut_short then count block zero read end room some =
       let whole : p.seen ++ [] ≡ joined p.fed.lines ++ (begun ++ []) =
       append-nil p.seen ∙ p.fed.whole ∙ ap (λ l. joined p.fed.lines ++ l) (sym (append-nil begun)) in
-      let nothing : Consumes has then [] = subst (λ n. Consumes has then (take n block)) zero read in
-      (
+      let nothing : Consumes has then [] = subst (λ n. Consumes has then (take n block)) zero read in (
         p.fed.lines,
         begun,
         [],
