@@ -1,0 +1,3 @@
+pub mod HeldSteps
+pub mod HeldFramesSteps
+pub mod FirstPages

@@ -1,0 +1,4 @@
+pub mod Border
+pub mod Boarded
+pub mod Booting
+pub mod Lending
