@@ -45,12 +45,12 @@ normal_world_properties-pass ms n h =
     ap (λ x. nat_lt x 16 && (not (is_set 0 x) && not (is_set 3 x))) (sym g.1) ∙ passes
 
 -- the first endpoint is the normal world, each other one a partition
-abbrev is_next : List Endpoint → Endpoint → Bool
+abbrev pub is_next : List Endpoint → Endpoint → Bool
 is_next [] e = is_normal_world e
 is_next (b ∷ bs) e = is_partition e
 
 -- an endpoint after these
-record EndpointRead (placed : Region → Bool) (before : List Endpoint) (e : Endpoint) : Type 0 where
+pub record EndpointRead (placed : Region → Bool) (before : List Endpoint) (e : Endpoint) : Type 0 where
   pub regions : RegionsRead placed (regions_of before) e.regions.items
   pub identified : is_next before e ≡ true
 
@@ -81,7 +81,7 @@ partition-read placed b bs ms e apart h =
       identified = rw (uuid_at-some ms uuid some, properties_at-small ms properties few) refl;
     })
 
-none-some : (n : ℕ) → (suc n == 0) ≡ false
+pub none-some : (n : ℕ) → (suc n == 0) ≡ false
 none-some n = ne_eqb (suc n) 0 (λ e. absurd (omega arith))
 
 next_endpoint-read : (placed : Region → Bool) (before : List Endpoint) (d : Data) (e : Endpoint) → are_apart (regions_of before) ≡ true → next_endpoint placed before d ≡ Ok e → EndpointRead placed before e
@@ -98,7 +98,7 @@ regions_of-last [] e = append-nil e.regions.items
 regions_of-last (b ∷ es) e = rw (regions_of-last es e) (sym (append_assoc b.regions.items (regions_of es) e.regions.items))
 
 -- the first is the normal world, the others are partitions, where there is a first
-abbrev are_named : List Endpoint → Bool
+abbrev pub are_named : List Endpoint → Bool
 are_named [] = true
 are_named (e ∷ es) = are_identified (e ∷ es)
 
@@ -109,23 +109,25 @@ are_named-last (b ∷ es) e h named =
     rw (first, list_all-append is_partition es (e ∷ []), others, named) refl
 
 -- the endpoints so far meet the conditions
-record EndpointsRead (placed : Region → Bool) (es : List Endpoint) : Type 0 where
+pub record EndpointsRead (placed : Region → Bool) (es : List Endpoint) : Type 0 where
   pub named : are_named es ≡ true
   pub counted : are_counted es ≡ true
   pub in_place : list_all placed (regions_of es) ≡ true
   pub apart : are_apart (regions_of es) ≡ true
 
-one_more : (placed : Region → Bool) (es : List Endpoint) (d : Data) (e : Endpoint) → EndpointsRead placed es → next_endpoint placed es d ≡ Ok e → EndpointsRead placed (es ++ e ∷ [])
-one_more placed es d e so_far is =
-    let next = next_endpoint-read placed es d e so_far.apart is in
-    record {
-      named = are_named-last es e so_far.named next.identified;
-      counted = rw (list_all-append (λ (x : Endpoint). is_from_to 1 MOST_REGIONS (length x.regions.items)) es (e ∷ []), so_far.counted, next.regions.counted) refl;
-      in_place = rw (regions_of-last es e, list_all-append placed (regions_of es) e.regions.items, so_far.in_place, next.regions.sound.in_place) refl;
-      apart = rw (regions_of-last es e) next.regions.sound.apart;
-    }
+-- with one more endpoint after them
+pub EndpointsRead-last : (placed : Region → Bool) (es : List Endpoint) (e : Endpoint) → EndpointsRead placed es → EndpointRead placed es e → EndpointsRead placed (es ++ e ∷ [])
+EndpointsRead-last placed es e so_far next = record {
+  named = are_named-last es e so_far.named next.identified;
+  counted = rw (list_all-append (λ (x : Endpoint). is_from_to 1 MOST_REGIONS (length x.regions.items)) es (e ∷ []), so_far.counted, next.regions.counted) refl;
+  in_place = rw (regions_of-last es e, list_all-append placed (regions_of es) e.regions.items, so_far.in_place, next.regions.sound.in_place) refl;
+  apart = rw (regions_of-last es e) next.regions.sound.apart;
+}
 
-named_some : (es : List Endpoint) → is_from_to 1 MOST_ENDPOINTS (length es) ≡ true → are_named es ≡ true → are_identified es ≡ true
+one_more : (placed : Region → Bool) (es : List Endpoint) (d : Data) (e : Endpoint) → EndpointsRead placed es → next_endpoint placed es d ≡ Ok e → EndpointsRead placed (es ++ e ∷ [])
+one_more placed es d e so_far is = EndpointsRead-last placed es e so_far (next_endpoint-read placed es d e so_far.apart is)
+
+pub named_some : (es : List Endpoint) → is_from_to 1 MOST_ENDPOINTS (length es) ≡ true → are_named es ≡ true → are_identified es ≡ true
 named_some [] some h = cc
 named_some (e ∷ es) some h = h
 

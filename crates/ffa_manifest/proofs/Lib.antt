@@ -5,3 +5,5 @@ pub mod Bits
 pub mod Steps
 pub mod RegionsRead
 pub mod Accepted
+pub mod FirstFailure
+pub mod AcceptedParts

@@ -39,7 +39,7 @@ or-swap true false = refl
 or-swap false true = refl
 or-swap false false = refl
 
-is_apart-swap : (r q : Region) → is_apart r q ≡ is_apart q r
+pub is_apart-swap : (r q : Region) → is_apart r q ≡ is_apart q r
 is_apart-swap r q = or-swap (nat_le (r.base + 4096 * r.pages) q.base) (nat_le (q.base + 4096 * q.pages) r.base)
 
 -- one more region that is apart from all
@@ -55,13 +55,17 @@ pub record AreSound (placed : Region → Bool) (taken own : List Region) : Type 
   pub in_place : list_all placed own ≡ true
   pub apart : are_apart (taken ++ own) ≡ true
 
+-- with one more region that lies where it may and is free
+pub AreSound-last : (placed : Region → Bool) (taken own : List Region) (r : Region) → AreSound placed taken own → placed r ≡ true → is_free (taken ++ own) r ≡ true → AreSound placed taken (own ++ r ∷ [])
+AreSound-last placed taken own r so_far fits free = record {
+  in_place = rw (list_all-append placed own (r ∷ []), so_far.in_place, fits) refl;
+  apart = rw (← append_assoc taken own (r ∷ [])) (are_apart-last (taken ++ own) r so_far.apart free);
+}
+
 one_more : (placed : Region → Bool) (taken own : List Region) (d : Data) (r : Region) → AreSound placed taken own → next_region placed (taken ++ own) d ≡ Ok r → AreSound placed taken (own ++ r ∷ [])
 one_more placed taken own d r so_far is =
     let (fits, free) = next_region-passes placed (taken ++ own) d r is in
-    record {
-      in_place = rw (list_all-append placed own (r ∷ []), so_far.in_place, fits) refl;
-      apart = rw (← append_assoc taken own (r ∷ [])) (are_apart-last (taken ++ own) r so_far.apart free);
-    }
+    AreSound-last placed taken own r so_far fits free
 
 -- at least one region, and no more than an endpoint may have
 pub record RegionsRead (placed : Region → Bool) (taken own : List Region) : Type 0 where

@@ -4,3 +4,4 @@ pub mod Place
 pub mod Regions
 pub mod Endpoints
 pub mod Document
+pub mod Parts

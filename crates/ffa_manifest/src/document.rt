@@ -8,7 +8,7 @@ ghost use Rattle.ffa_manifest.specs.Endpoints.{endpoint_items as endpoint_items_
 use crate::endpoints::endpoints_from;
 use crate::error::ManifestError;
 use crate::keys::{integer_at, items_at, only_keys};
-use crate::place::Place;
+use crate::place::{Place, is_ram_base};
 use ffa_model::{Address, MOST_ENDPOINTS, Manifest};
 use toml::{Table, Value};
 
@@ -28,7 +28,7 @@ pub(crate) fn ram_base_at(table: &Table) -> Result<u32, ManifestError>
     ensures highest { IfOk result (λ n. n ≤ 0xFC000000) }
 {
     match integer_at(table, "ram_base")? {
-        Some(n) if n % 0x400_0000 == 0 && 0x400_0000 <= n && n <= 0xFC00_0000 => Ok(n as u32),
+        Some(n) if is_ram_base(n) => Ok(n as u32),
         _ => Err(ManifestError::RamBase),
     }
 }

@@ -74,7 +74,7 @@ pub(crate) fn properties_at(table: &Table) -> Result<Properties, ManifestError>
 
 // Whether direct requests or notifications are to be received.
 #[tactic(auto, using(crate::proofs::Bits::contains_first, crate::proofs::Bits::contains_fourth))]
-fn receives(properties: Properties) -> bool
+pub(crate) fn receives(properties: Properties) -> bool
     ensures { result ≡ (is_set 0 properties.0 || is_set 3 properties.0) }
 {
     properties.contains(Properties::RECEIVES_DIRECT_REQUESTS)

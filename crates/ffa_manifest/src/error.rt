@@ -2,7 +2,8 @@
 
 use thiserror::Error;
 
-/// The cause for which a manifest is refused: the first that applies, in the order in which the text is read.
+/// The cause for which a manifest is refused: the first that applies, in the order in which the text is read, or would
+/// be.
 #[derive(Clone, Copy, Debug, PartialEq, Eq, Error)]
 pub enum ManifestError {
     /// The allocator refused memory.
@@ -29,7 +30,7 @@ pub enum ManifestError {
     /// There is no endpoint, or more than `MOST_ENDPOINTS`.
     #[error("M8 EndpointCount")]
     EndpointCount,
-    /// A UUID can't be read, or it's the Nil UUID.
+    /// A UUID can't be read, or it's the Nil UUID, or parts give the normal world another.
     #[error("M9 Uuid")]
     Uuid,
     /// `properties` isn't from 0 to 15, or the normal world is to receive direct requests or notifications.

@@ -10,12 +10,14 @@ pub mod error;
 mod identifier;
 mod keys;
 mod locate;
+mod parts;
 mod place;
 pub mod refusal;
 mod regions;
 
 pub use error::ManifestError;
 pub use ffa_model::Manifest;
+pub use parts::of_parts;
 pub use refusal::Refusal;
 use std::alloc::{AllocError, Global};
 

@@ -1,8 +1,16 @@
 //! Where the regions of a machine may lie.
 ghost use Rattle.std.specs.Prelude.{◌≡◌, ◌≤◌};
 ghost use Rattle.ffa_model.specs.declared.limits.TheConstants.{MOST_ENDPOINTS};
+ghost use Rattle.ffa_model.specs.Manifest.{is_ram_base as is_ram_base_in};
 
 use ffa_model::{Region, Rights};
+
+/// Whether RAM may begin at this address: a multiple of 64 MiB from 0x04000000 to 0xFC000000.
+pub(crate) fn is_ram_base(base: u64) -> bool
+    ensures { result ≡ is_ram_base_in base }
+{
+    base % 0x400_0000 == 0 && 0x400_0000 <= base && base <= 0xFC00_0000
+}
 
 /// A machine's RAM, of which the front holds the tables of its endpoints.
 #[derive(Clone, Copy, Debug)]

@@ -92,14 +92,14 @@ pub(crate) fn is_apart(region: &Region, other: &Region) -> bool
     end <= u64::from(other.base) || other_end <= u64::from(region.base)
 }
 
-fn is_apart_from_all(region: &Region, others: &[Region]) -> bool
+pub(crate) fn is_apart_from_all(region: &Region, others: &[Region]) -> bool
     ensures { result ≡ is_free_in others.now region.now }
 {
     others.iter().all(|other| is_apart(region, other))
 }
 
 // No endpoint has a page of the region.
-fn is_free(region: &Region, endpoints: &[Endpoint]) -> bool
+pub(crate) fn is_free(region: &Region, endpoints: &[Endpoint]) -> bool
     ensures { result ≡ list_all (λ (e : Endpoint). is_free_in e.regions.items region.now) endpoints.now }
 {
     endpoints.iter().all(|endpoint| is_apart_from_all(region, endpoint.regions.as_slice()))

@@ -1,8 +1,9 @@
 //! Worked values: machines as text, and changes of one that have each cause.
 
 use crate::checks::{same, same_at};
-use ffa_manifest::{ManifestError, explain, read};
-use ffa_model::{Endpoint, Manifest, Version, row_machine};
+use arrayvec::ArrayVec;
+use ffa_manifest::{ManifestError, explain, of_parts, read};
+use ffa_model::{Endpoint, Manifest, Properties, Region, Rights, Version, row_machine};
 use std::alloc::{AllocError, Global};
 use std::process::Abort;
 use std::test::Fail;
@@ -325,4 +326,89 @@ fn places_of_what_is_no_table(rt: HostRuntime) -> Result<(), Fail> {
     let told = place_in(rt.alloc(), text)?;
     assert_eq!(rt; told.as_str(), "endpoint 1: 7: no table");
     Ok(())
+}
+
+// An endpoint with this byte throughout its UUID, and 16 pages from here on.
+fn endpoint(uuid: u8, properties: Properties, base: u32) -> Endpoint {
+    let mut regions = ArrayVec::new();
+    regions.push(Region {
+        base,
+        pages: 16,
+        rights: Rights::default(),
+    });
+    Endpoint {
+        version: Version::V1_1,
+        uuid: [uuid; 16],
+        properties,
+        regions,
+    }
+}
+
+// The cause for which two endpoints make no machine in 2 MiB from 0x40000000 on, which holds their tables up to
+// 0x40006000.
+fn cause_of_two(first: Endpoint, second: Endpoint) -> Option<ManifestError> {
+    let mut endpoints = ArrayVec::new();
+    endpoints.push(first);
+    endpoints.push(second);
+    of_parts(0x4000_0000, 1, endpoints).err()
+}
+
+#[test]
+fn machines_of_parts(rt: HostRuntime) -> Result<(), Fail> {
+    let manifest = of_parts(0x4000_0000, 1, row_machine().endpoints)?;
+    assert_row_machine(&rt, &manifest);
+    same(
+        &rt,
+        of_parts(0x4100_0000, 1, row_machine().endpoints).err(),
+        Some(ManifestError::RamBase),
+    );
+    same(
+        &rt,
+        of_parts(0x4000_0000, 33, row_machine().endpoints).err(),
+        Some(ManifestError::RamBlocks),
+    );
+    same(
+        &rt,
+        of_parts(0x4000_0000, 1, ArrayVec::new()).err(),
+        Some(ManifestError::EndpointCount),
+    );
+    Ok(())
+}
+
+#[test]
+fn endpoints_of_parts(rt: HostRuntime) {
+    let none = Properties::default();
+    let receiving = Properties::RECEIVES_DIRECT_REQUESTS;
+    let first = 0x4001_0000;
+    let second = 0x4002_0000;
+    same(
+        &rt,
+        cause_of_two(endpoint(0, none, first), endpoint(1, receiving, second)),
+        None,
+    );
+    same(
+        &rt,
+        cause_of_two(endpoint(0, none, first), endpoint(0, none, second)),
+        Some(ManifestError::Uuid),
+    );
+    same(
+        &rt,
+        cause_of_two(endpoint(0, receiving, first), endpoint(1, none, second)),
+        Some(ManifestError::Property),
+    );
+    same(
+        &rt,
+        cause_of_two(Endpoint::default(), endpoint(1, none, second)),
+        Some(ManifestError::RegionCount),
+    );
+    same(
+        &rt,
+        cause_of_two(endpoint(0, none, 0x4000_5000), endpoint(1, none, second)),
+        Some(ManifestError::RegionOutside),
+    );
+    same(
+        &rt,
+        cause_of_two(endpoint(0, none, first), endpoint(1, none, 0x4001_F000)),
+        Some(ManifestError::RegionOverlap),
+    );
 }

@@ -1,0 +1,137 @@
+//! The machine of parts, without a text.
+ghost use Rattle.std.specs.Prelude.{true, ◌≡◌, ◌↔◌, ◌++◌, [], Some, None, IfOk, IfErr, IsOk};
+ghost use Rattle.std.specs.Result.{result_err};
+ghost use Rattle.ffa_model.specs.Manifest.{is_accepted, is_nil as is_nil_in, regions_of};
+ghost use Rattle.ffa_manifest.specs.Document.{parts_of};
+ghost use Rattle.ffa_manifest.specs.Place.{is_in};
+ghost use Rattle.ffa_manifest.specs.Parts.{parts_from, first_cause, first_failure, tests_of_each, region_tests, endpoint_tests, are_properties_after, is_uuid_after};
+
+use crate::endpoints::receives;
+use crate::error::ManifestError;
+use crate::place::{Place, is_ram_base};
+use crate::regions::{is_apart_from_all, is_free};
+use arrayvec::ArrayVec;
+use bitflags::Flags;
+use ffa_model::{Address, Endpoint, MOST_ENDPOINTS, Manifest, Properties, Region};
+
+fn is_nil(uuid: &[u8; 16]) -> bool
+    ensures { result ≡ is_nil_in uuid.now }
+{
+    uuid.iter().all(|byte| *byte == 0)
+}
+
+// Whether an endpoint after these may have the UUID.
+fn is_uuid_after(before: &[Endpoint], uuid: &[u8; 16]) -> bool
+    ensures { result ≡ is_uuid_after before.now uuid.now }
+{
+    if before.is_empty() {
+        is_nil(uuid)
+    } else {
+        !is_nil(uuid)
+    }
+}
+
+// Whether an endpoint after these may have the properties.
+fn are_properties_after(before: &[Endpoint], properties: Properties) -> bool
+    ensures { result ≡ are_properties_after before.now properties.0 }
+{
+    properties.bits() < 16 && !(before.is_empty() && receives(properties))
+}
+
+// A region's place, and whether a region of an endpoint before it or an own one before it has a page of it.
+#[tactic(auto, using(crate::proofs::Taken::is_free_of_both), unfolding(crate::specs::Parts::region_tests))]
+fn check_region(
+    place: &Place,
+    before: &[Endpoint],
+    own: &[Region],
+    region: &Region,
+) -> Result<(), ManifestError>
+    ensures { result_err result ≡ first_failure (region_tests (is_in place.now) (regions_of before.now ++ own.now) region.now) }
+{
+    let (base, pages) = (u64::from(region.base), u64::from(region.pages));
+    if place.region(base, pages, region.rights).is_none() {
+        return Err(ManifestError::RegionOutside);
+    }
+    if is_free(region, before) && is_apart_from_all(region, own) {
+        Ok(())
+    } else {
+        Err(ManifestError::RegionOverlap)
+    }
+}
+
+// The regions of an endpoint after these.
+fn check_regions(
+    place: &Place,
+    before: &[Endpoint],
+    regions: &[Region],
+) -> Result<(), ManifestError>
+    ensures { result_err result ≡ first_failure (tests_of_each (λ own r. region_tests (is_in place.now) (regions_of before.now ++ own) r) [] regions.now) }
+{
+    for (index, region) in regions.iter().enumerate() {
+        check_region(place, before, &regions[..index], region)?;
+    }
+    Ok(())
+}
+
+// An endpoint after these.
+#[tactic(auto, unfolding(crate::specs::Parts::endpoint_tests))]
+fn check_endpoint(
+    place: &Place,
+    before: &[Endpoint],
+    endpoint: &Endpoint,
+) -> Result<(), ManifestError>
+    ensures { result_err result ≡ first_failure (endpoint_tests (is_in place.now) before.now endpoint.now) }
+{
+    if !is_uuid_after(before, &endpoint.uuid) {
+        return Err(ManifestError::Uuid);
+    }
+    if !are_properties_after(before, endpoint.properties) {
+        return Err(ManifestError::Property);
+    }
+    if endpoint.regions.is_empty() {
+        return Err(ManifestError::RegionCount);
+    }
+    check_regions(place, before, endpoint.regions.as_slice())
+}
+
+fn check_endpoints(place: &Place, endpoints: &[Endpoint]) -> Result<(), ManifestError>
+    ensures { result_err result ≡ first_failure (tests_of_each (endpoint_tests (is_in place.now)) [] endpoints.now) }
+{
+    for (index, endpoint) in endpoints.iter().enumerate() {
+        check_endpoint(place, &endpoints[..index], endpoint)?;
+    }
+    Ok(())
+}
+
+/// The manifest of these parts, or the first cause for which they make no machine, in the order in which a text would be
+/// read: RAM's place and size, the count of endpoints, and then each endpoint whole before the next: its UUID (zeros for
+/// the normal world, other than zeros for a partition), its properties, the count of its regions, and each region: its
+/// place, and whether it is apart from all that came before it. It takes no memory.
+#[tactic(auto, unfolding(crate::specs::Parts::first_cause, crate::specs::Parts::tests_of))]
+pub fn of_parts(
+    ram_base: u32,
+    ram_blocks: u32,
+    endpoints: ArrayVec<Endpoint, MOST_ENDPOINTS>,
+) -> Result<Manifest, ManifestError>
+    ensures accepted { IfOk result (λ m. (parts_of m ≡ parts_from ram_base ram_blocks endpoints.items)
+        × (first_cause (parts_from ram_base ram_blocks endpoints.items) ≡ None)) }
+    ensures refused { IfErr result (λ e. first_cause (parts_from ram_base ram_blocks endpoints.items) ≡ Some e) }
+    ensures accepted_where { IsOk result ↔ (is_accepted ram_base ram_blocks endpoints.items ≡ true) }
+{
+    if !is_ram_base(u64::from(ram_base)) {
+        return Err(ManifestError::RamBase);
+    }
+    if ram_blocks < 1 || 32 < ram_blocks {
+        return Err(ManifestError::RamBlocks);
+    }
+    if endpoints.is_empty() {
+        return Err(ManifestError::EndpointCount);
+    }
+    let place = Place {
+        base: ram_base,
+        blocks: ram_blocks,
+        endpoints: endpoints.len() as u32,
+    };
+    check_endpoints(&place, endpoints.as_slice())?;
+    Ok(Manifest::of(Address(ram_base), ram_blocks, endpoints))
+}
