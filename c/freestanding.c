@@ -1,0 +1,100 @@
+/* Links libffa_c.a with no C library: what firmware has to give, one boot in pages of its own, and their return. The few lines
+ * of assembler tell Linux the result; firmware has none of them. */
+#include "gorseplumb.h"
+#include "lending.h"
+
+void *memcpy(void *to, const void *from, size_t size);
+void *memmove(void *to, const void *from, size_t size);
+void *memset(void *to, int byte, size_t size);
+
+void *memcpy(void *to, const void *from, size_t size) {
+    unsigned char *t = to;
+    const unsigned char *f = from;
+    while (size--) *t++ = *f++;
+    return to;
+}
+
+void *memmove(void *to, const void *from, size_t size) {
+    unsigned char *t = to;
+    const unsigned char *f = from;
+    if (t < f) return memcpy(to, from, size);
+    while (size--) t[size] = f[size];
+    return to;
+}
+
+void *memset(void *to, int byte, size_t size) {
+    unsigned char *t = to;
+    while (size--) *t++ = (unsigned char)byte;
+    return to;
+}
+
+struct tried {
+    bool ok;
+    void *p;
+};
+
+struct tried rattle_alloc(size_t size, size_t align);
+struct tried rattle_realloc(void *block, size_t kept, size_t size, size_t align);
+void rattle_dealloc(void *block);
+
+/* Memory that is given and never taken back, since a boot takes little. */
+static _Alignas(16) unsigned char memory[1 << 20];
+static size_t taken;
+
+struct tried rattle_alloc(size_t size, size_t align) {
+    size_t whole = ((size != 0 ? size : align) + 15) & ~(size_t)15;
+    if (whole > sizeof memory - taken) return (struct tried){false, memory};
+    taken += whole;
+    return (struct tried){true, memory + taken - whole};
+}
+
+struct tried rattle_realloc(void *block, size_t kept, size_t size, size_t align) {
+    struct tried moved = rattle_alloc(size, align);
+    if (moved.ok) memcpy(moved.p, block, kept);
+    return moved;
+}
+
+void rattle_dealloc(void *block) { (void)block; }
+
+static _Alignas(FFA_PAGE_SIZE) struct ffa_page pages[512];
+static struct ffa_machine machine;
+static struct ffa_lent list;
+
+/* The normal world and one partition, in RAM of 2 MiB. */
+static const struct ffa_parts parts = {
+    .ram_base = 0x40000000,
+    .ram_blocks = 1,
+    .endpoint_count = 2,
+    .endpoints = {
+        {.properties = 6, .region_count = 1, .regions = {{0x40010000, 16, FFA_WRITE}}},
+        {.properties = 15, .uuid = {1}, .region_count = 1, .regions = {{0x40020000, 16, FFA_WRITE | FFA_EXECUTE}}},
+    },
+};
+
+static int run(void) {
+    if (lend_all(&list, pages, 512) != FFA_OK) return 1;
+    if (ffa_boot_lent_parts(&machine, &list, &parts) != FFA_OK) return 2;
+    if (ffa_store(&machine, 0x40010000, 1, 0x2A).kind != FFA_DONE) return 3;
+    if (ffa_load(&machine, 0x40010000, 1).value != 0x2A || pages[16].bytes[0] != 0x2A) return 4;
+    if (ffa_free(&machine, &list) != FFA_OK || !take_all_back(&list, pages, 512)) return 5;
+    return 0;
+}
+
+void _start(void);
+
+#if defined(__aarch64__)
+void _start(void) {
+    register long status __asm__("x0") = run();
+    register long number __asm__("x8") = 93;
+    __asm__ volatile("svc 0" : : "r"(status), "r"(number));
+    __builtin_unreachable();
+}
+#elif defined(__x86_64__)
+__attribute__((force_align_arg_pointer)) void _start(void) {
+    long status = run();
+    __asm__ volatile("syscall" : : "a"(60L), "D"(status) : "rcx", "r11", "memory");
+    __builtin_unreachable();
+}
+#else
+#error "no end for this processor"
+#endif

@@ -1,0 +1,217 @@
+/* Gorseplumb from C: a partition manager core of FF-A 1.1, as a machine that does one operation at a time.
+ *
+ * Link libffa_c.a with it, and the three functions of heap.c, which give the archive its memory (or three of your own). Each
+ * function here keeps the contract that stands beside its namesake in crates/ffa_c/src, and the proof reaches to there: that
+ * the declarations below are those of the crate is tested, and not proved, and so is what is said of pieces of memory.
+ *
+ * What C owes, and nothing checks:
+ *
+ * - A pointer is not null, points to memory of its type that C may write, and no other parameter of the call points there.
+ *   Text may be read only, and then `size` bytes of it may be read.
+ * - A struct that holds a machine, a list or a page is { 0 } at first. C writes neither of its fields afterwards (but for
+ *   a slot's, below), and doesn't follow `at`. It may be moved by copying it, if only the copy is used from then on.
+ * - One call at a time on a machine, a list or a slot: no other call may be on its way with it, on no processor and in no
+ *   signal or interrupt handler.
+ * - Memory that is lent is nobody else's until it is taken back: C neither reads nor writes it, through any mapping.
+ */
+#ifndef GORSEPLUMB_H
+#define GORSEPLUMB_H
+
+#include <stdbool.h>
+#include <stddef.h>
+#include <stdint.h>
+
+#ifdef __cplusplus
+extern "C" {
+#endif
+
+#define FFA_PAGE_SIZE 4096
+
+/* A machine, or none. { 0 } is none. */
+struct ffa_machine {
+    bool live;
+    void *at;
+};
+
+/* A list of pages that are lent, or none. { 0 } is none. */
+struct ffa_lent {
+    bool live;
+    void *at;
+};
+
+/* A page's memory of 4096 bytes, or none. { 0 } is none. C gives a page by writing both fields: `live`, and the address in
+ * `at`. */
+struct ffa_slot {
+    bool live;
+    void *at;
+};
+
+/* Registers x0 to x7. */
+struct ffa_registers {
+    uint64_t x[8];
+};
+
+enum ffa_kind {
+    FFA_REGISTERS = 0,  /* `runner` runs next and sees the registers `x` */
+    FFA_DATA = 1,       /* `value` is what was loaded or fetched, the lowest byte first */
+    FFA_DONE = 2,       /* a store was done */
+    FFA_FAULT = 3,      /* `value` is an enum ffa_fault */
+    FFA_NO_MACHINE = 4, /* there is no machine, and nothing was done */
+    FFA_BAD_SIZE = 5    /* the size is none of 1, 2, 4 and 8, and nothing was done */
+};
+
+enum ffa_fault {
+    FFA_FAULT_TRANSLATION = 1,
+    FFA_FAULT_PERMISSION = 2,
+    FFA_FAULT_ALIGNMENT = 3,
+    FFA_FAULT_ACCESS_FLAG = 4,
+    FFA_FAULT_OUTSIDE_RAM = 5
+};
+
+/* What an operation gives. What its kind doesn't name is zero. */
+struct ffa_outcome {
+    uint32_t kind;
+    uint32_t runner;
+    uint64_t value;
+    uint64_t x[8];
+};
+
+/* The bytes of a page. */
+struct ffa_page {
+    uint8_t bytes[FFA_PAGE_SIZE];
+};
+
+/* Pages in a row that an endpoint owns from the start. */
+struct ffa_region {
+    uint32_t base;   /* the address of the first byte */
+    uint32_t pages;  /* how many */
+    uint32_t rights; /* to all of them: FFA_READ, FFA_WRITE with it, and FFA_EXECUTE with either */
+};
+
+#define FFA_READ 1
+#define FFA_WRITE 3
+#define FFA_EXECUTE 4
+
+#define FFA_MOST_REGIONS 16
+#define FFA_MOST_ENDPOINTS 8
+
+/* An endpoint of a machine. The first is the normal world, whose UUID is zeros. */
+struct ffa_endpoint {
+    uint32_t version;    /* the form of its descriptors: 0 is that of FF-A 1.1, 1 the compact one */
+    uint32_t properties; /* as in a manifest's text: 1 receives direct requests, 2 sends them, 4 indirect messages, 8 notifications */
+    uint8_t uuid[16];
+    uint32_t region_count; /* of `regions`, from the first on; what stands behind is not read */
+    struct ffa_region regions[FFA_MOST_REGIONS];
+};
+
+/* A manifest as numbers. */
+struct ffa_parts {
+    uint32_t ram_base;       /* the address of RAM's first byte: a multiple of 64 MiB */
+    uint32_t ram_blocks;     /* of 2 MiB each, from 1 to 32 */
+    uint32_t endpoint_count; /* of `endpoints`, from the first on; what stands behind is not read */
+    struct ffa_endpoint endpoints[FFA_MOST_ENDPOINTS];
+};
+
+/* What boots, ffa_free and functions of lists answer. */
+enum ffa_answer {
+    FFA_OK = 0,
+    FFA_NO_MEMORY = 1, /* an allocation was refused */
+
+    /* The manifest is refused: the first cause that applies, as docs/USING.md numbers them (M2 to M14). */
+    FFA_TOML = 2,            /* the text is no TOML, or no UTF-8 */
+    FFA_UNKNOWN_KEY = 3,     /* a key that is none of its table's */
+    FFA_MISSING_KEY = 4,     /* a table lacks one of its keys */
+    FFA_WRONG_KIND = 5,      /* a value of another kind, or rights that are none */
+    FFA_RAM_BASE = 6,        /* no multiple of 64 MiB from 04000000 to FC000000 */
+    FFA_RAM_BLOCKS = 7,      /* not from 1 to 32 */
+    FFA_ENDPOINT_COUNT = 8,  /* not from 1 to 8 */
+    FFA_UUID = 9,            /* can't be read, zeros for a partition, or other than zeros for the normal world */
+    FFA_PROPERTY = 10,       /* not from 0 to 15, or the normal world is to receive */
+    FFA_REGION_COUNT = 11,   /* not from 1 to 16 */
+    FFA_REGION_OUTSIDE = 12, /* not whole pages in RAM behind the tables, or none */
+    FFA_REGION_OVERLAP = 13, /* has a page of a region before it */
+    FFA_VERSION = 14,        /* no version */
+
+    FFA_OCCUPIED = 15,    /* what is to be made, or to be filled, is there already */
+    FFA_NO_LIST = 16,     /* there is no list */
+    FFA_NO_PAGE = 17,     /* there is no page in the slot, or none in the list */
+    FFA_HAS_PAGES = 18,   /* the list has pages still */
+    FFA_NOTHING_RUNS = 19, /* there is no machine */
+    FFA_WRONG_COUNT = 20  /* the list has more pages than the manifest's RAM, or fewer */
+};
+
+/* What a question answers where there is no machine. */
+#define FFA_NOTHING UINT32_C(0xFFFFFFFF)
+
+/* Makes the machine of a manifest's text of `size` bytes, in its first state, with RAM from the heap. FFA_OK: there was none,
+ * the text describes a machine, and this is its first state. Else nothing has changed: FFA_OCCUPIED, FFA_NO_MEMORY, or the
+ * cause for which the text is refused, which is the first in the order of reading. */
+uint32_t ffa_boot(struct ffa_machine *machine, const uint8_t *text, size_t size);
+
+/* The same of a manifest as numbers, for which no memory is needed but the machine's own and its RAM. Refused are first, in this
+ * order, what tells of no machine at all: more endpoints than there are places; and of each endpoint a version that is none, more
+ * regions than there are places, and rights that are none; and then, in the order in which a text would be read, what makes no
+ * machine. */
+uint32_t ffa_boot_parts(struct ffa_machine *machine, const struct ffa_parts *parts);
+
+/* The same in RAM that is lent: the pages of the list, in order. FFA_OK: the list is empty then, and all pages behind the
+ * tables are zeros. Else what there was of a machine is as before, and the list has as many pages as before, with the same
+ * bytes unless the answer is FFA_NO_MEMORY: FFA_OCCUPIED, FFA_NO_LIST, FFA_NO_MEMORY, a cause as above, or
+ * FFA_WRONG_COUNT, where the pages aren't as many as the manifest's RAM has (512 for each block). */
+uint32_t ffa_boot_lent(struct ffa_machine *machine, struct ffa_lent *lent, const uint8_t *text, size_t size);
+uint32_t ffa_boot_lent_parts(struct ffa_machine *machine, struct ffa_lent *lent, const struct ffa_parts *parts);
+
+/* One operation of the endpoint that runs: a call with eight registers, a load of 1, 2, 4 or 8 bytes, a store of the value's
+ * lowest bytes, as many as `size` says, and a fetch of one instruction. The outcome and the machine's next state are those
+ * of the definition of the machine, and with them goes every promise that the machine's own operations make (docs/THEOREMS.md).
+ * FFA_NO_MACHINE and FFA_BAD_SIZE: nothing was done. */
+struct ffa_outcome ffa_call(struct ffa_machine *machine, const struct ffa_registers *registers);
+struct ffa_outcome ffa_load(struct ffa_machine *machine, uint64_t address, uint32_t size);
+struct ffa_outcome ffa_store(struct ffa_machine *machine, uint64_t address, uint32_t size, uint64_t value);
+struct ffa_outcome ffa_fetch(struct ffa_machine *machine, uint64_t address);
+
+/* Questions, which change nothing. FFA_NOTHING: there is no machine.
+ *
+ * The endpoint that runs, and how many there are. */
+uint32_t ffa_runner(struct ffa_machine *machine);
+uint32_t ffa_endpoints(struct ffa_machine *machine);
+
+/* Who owns a page, which counts from RAM's first: an endpoint, or 0x8000, which is the manager. FFA_NOTHING: there is no such
+ * page either. */
+uint32_t ffa_owner(struct ffa_machine *machine, uint32_t page);
+
+/* What an endpoint may do with a page: 0 is nothing, 1 to read, 3 to write too, and 4 more to execute. It is 0 where there is
+ * no such endpoint or page. */
+uint32_t ffa_access(struct ffa_machine *machine, uint16_t endpoint, uint32_t page);
+
+/* Copies the bytes of a page of RAM, and says whether there is such a page. Where there is none, `bytes` stays. */
+bool ffa_read_page(struct ffa_machine *machine, uint32_t page, struct ffa_page *bytes);
+
+/* Ends the machine. RAM of the heap goes back to the heap, and `lent` stays as it is (it may be { 0 }). RAM that was lent goes whole to
+ * `lent`, an empty list: every page, in order, with the bytes that it has. FFA_OK: there is no machine any more. Else nothing has
+ * changed: FFA_NOTHING_RUNS, and where RAM was lent FFA_NO_LIST or FFA_HAS_PAGES. */
+uint32_t ffa_free(struct ffa_machine *machine, struct ffa_lent *lent);
+
+/* Makes an empty list with room for so many pages: one piece of memory for the list and one for its pages' addresses. FFA_OK,
+ * FFA_OCCUPIED, or FFA_NO_MEMORY; where it isn't FFA_OK nothing has changed. */
+uint32_t ffa_begin_lending(struct ffa_lent *lent, uint32_t pages);
+
+/* Moves a page from its slot to the end of the list, and leaves the slot empty. FFA_OK, FFA_NO_LIST, FFA_NO_PAGE, or
+ * FFA_NO_MEMORY, for which the list has to have no room; where it isn't FFA_OK nothing has changed. */
+uint32_t ffa_lend(struct ffa_lent *lent, struct ffa_slot *slot);
+
+/* Moves the list's last page to an empty slot. FFA_OK, FFA_NO_LIST, FFA_OCCUPIED, where there is a page in the slot, or
+ * FFA_NO_PAGE, where the list has none; where it isn't FFA_OK nothing has changed. */
+uint32_t ffa_take_back(struct ffa_lent *lent, struct ffa_slot *slot);
+
+/* The number of pages in the list; 0 where there is no list. */
+uint64_t ffa_lent_pages(struct ffa_lent *lent);
+
+/* Ends an empty list; there is none then. FFA_OK, FFA_NO_LIST or FFA_HAS_PAGES; where it isn't FFA_OK nothing has changed. */
+uint32_t ffa_end_lending(struct ffa_lent *lent);
+
+#ifdef __cplusplus
+}
+#endif
+
+#endif

@@ -1,0 +1,356 @@
+/* The first row of the manual, a lend that is retrieved, given up and reclaimed, what the border answers out of order, pages
+ * that are lent and given back, and each piece of memory refused in turn. It brings the library's memory itself. */
+#include <stdio.h>
+#include <stdlib.h>
+#include <string.h>
+#include "gorseplumb.h"
+#include "lending.h"
+#include "machine.toml.h"
+
+static struct ffa_machine machine;
+
+/* The library's memory: counts the pieces that it has, and refuses the one of a number. */
+struct tried {
+    bool ok;
+    void *p;
+};
+
+static size_t pieces, asked, refused;
+
+static struct tried tried(void *block) {
+    static char nothing;
+    return (struct tried){block != NULL, block != NULL ? block : &nothing};
+}
+
+struct tried rattle_alloc(size_t size, size_t align);
+struct tried rattle_realloc(void *block, size_t kept, size_t size, size_t align);
+void rattle_dealloc(void *block);
+
+struct tried rattle_alloc(size_t size, size_t align) {
+    if (++asked == refused) return tried(NULL);
+    struct tried got = tried(malloc(size != 0 ? size : align));
+    pieces += got.ok;
+    return got;
+}
+
+struct tried rattle_realloc(void *block, size_t kept, size_t size, size_t align) {
+    (void)kept;
+    if (++asked == refused) return tried(NULL);
+    return tried(realloc(block, size != 0 ? size : align));
+}
+
+void rattle_dealloc(void *block) {
+    pieces--;
+    free(block);
+}
+
+#define CHECK(holds) \
+    do { \
+        if (!(holds)) { \
+            fprintf(stderr, "%s:%d: %s\n", __FILE__, __LINE__, #holds); \
+            exit(1); \
+        } \
+    } while (0)
+
+/* A call, which is to give these registers to this runner. Registers that aren't given are zero. */
+#define CALL(runner_, x0, x1, x2, x3, ...) \
+    do { \
+        struct ffa_registers given = {{__VA_ARGS__}}; \
+        struct ffa_outcome told = ffa_call(&machine, &given); \
+        CHECK(told.kind == FFA_REGISTERS && told.runner == (runner_) && told.value == 0); \
+        const uint64_t wanted[8] = {x0, x1, x2, x3}; \
+        CHECK(memcmp(told.x, wanted, sizeof wanted) == 0); \
+    } while (0)
+
+static void stores(uint64_t address, uint64_t value) {
+    struct ffa_outcome told = ffa_store(&machine, address, 8, value);
+    CHECK(told.kind == FFA_DONE && told.runner == 0 && told.value == 0);
+}
+
+static void loads(uint64_t address, uint32_t size, uint64_t value) {
+    struct ffa_outcome told = ffa_load(&machine, address, size);
+    CHECK(told.kind == FFA_DATA && told.value == value);
+}
+
+static void faults(struct ffa_outcome told, uint64_t fault) { CHECK(told.kind == FFA_FAULT && told.value == fault); }
+
+static const uint8_t *text = (const uint8_t *)manifest;
+static const size_t text_size = sizeof manifest - 1;
+
+static void first_row(void) {
+    CALL(0, 0x84000061, 0, 0, 0, 0x84000069);
+    CHECK(ffa_store(&machine, 0x40010000, 1, 0x2A).kind == FFA_DONE);
+    loads(0x40010000, 1, 0x2A);
+    faults(ffa_load(&machine, 0x40020000, 1), FFA_FAULT_TRANSLATION);
+    faults(ffa_load(&machine, 0x40010001, 2), FFA_FAULT_ALIGNMENT);
+    faults(ffa_fetch(&machine, 0x40010000), FFA_FAULT_PERMISSION);
+    CHECK(ffa_runner(&machine) == 0 && ffa_endpoints(&machine) == 3);
+    CHECK(ffa_owner(&machine, 0) == 0x8000 && ffa_owner(&machine, 16) == 0 && ffa_owner(&machine, 63) == 0x8002);
+    CHECK(ffa_owner(&machine, 511) == 0x8000 && ffa_owner(&machine, 512) == FFA_NOTHING);
+    for (uint32_t page = 0; page < 513; page++) {
+        uint32_t rights = page < 512 ? page / 16 : 0;
+        CHECK(ffa_access(&machine, 0, page) == (rights == 1 ? 3u : 0u));
+        CHECK(ffa_access(&machine, 0x8001, page) == (rights == 2 ? 7u : 0u));
+        CHECK(ffa_access(&machine, 0x8002, page) == (rights == 3 ? 3u : 0u));
+        CHECK(ffa_access(&machine, 0x8000, page) == 0 && ffa_access(&machine, 0x1234, page) == 0);
+    }
+    static struct ffa_page bytes;
+    CHECK(ffa_read_page(&machine, 16, &bytes) && bytes.bytes[0] == 0x2A && bytes.bytes[1] == 0);
+    CHECK(!ffa_read_page(&machine, 512, &bytes) && !ffa_read_page(&machine, UINT32_MAX, &bytes));
+}
+
+static void lend(void) {
+    CALL(0, 0x84000061, 0, 0, 0, 0x84000066, 0x4001E000, 0x4001F000, 1);
+    CALL(0x8002, 0x8400006D, 0x80020000, 0, 0, 0x8400006D, 0x80020000);
+    CALL(0x8002, 0x84000061, 0, 0, 0, 0x84000066, 0x4003E000, 0x4003F000, 1);
+    CALL(0, 0x8400006B, 0x80020000, 0, 0, 0x8400006B);
+    CALL(0x8001, 0x8400006D, 0x80010000, 0, 0, 0x8400006D, 0x80010000);
+    CALL(0x8001, 0x84000061, 0, 0, 0, 0x84000066, 0x4002E000, 0x4002F000, 1);
+
+    /* 8001 lends the page at 40021000 to 8002, and has it no more. */
+    stores(0x4002E000, 0x8001);
+    stores(0x4002E018, 0x0000000100000010);
+    stores(0x4002E020, 0x30);
+    stores(0x4002E030, 0x0000004000028002);
+    stores(0x4002E040, 0x0000000100000001);
+    stores(0x4002E050, 0x40021000);
+    stores(0x4002E058, 1);
+    CALL(0x8001, 0x84000061, 0, 1, 0x8001, 0x84000072, 0x60, 0x60);
+    faults(ffa_load(&machine, 0x40021000, 1), FFA_FAULT_TRANSLATION);
+    CHECK(ffa_access(&machine, 0x8001, 33) == 0);
+
+    /* 8002 retrieves it, and stores a byte. */
+    CALL(0, 0x8400006B, 0x80010000, 0, 0, 0x8400006B);
+    CALL(0x8002, 0x8400006D, 0x80020000, 0, 0, 0x8400006D, 0x80020000);
+    stores(0x4003E000, 0x8001);
+    stores(0x4003E008, 0x0000800100000001);
+    stores(0x4003E018, 0x0000000100000010);
+    stores(0x4003E020, 0x30);
+    stores(0x4003E030, 0x0000000000028002);
+    CALL(0x8002, 0x84000075, 0x60, 0x60, 0, 0x84000074, 0x40, 0x40);
+    loads(0x4003F000, 8, 0x00000010002F8001);
+    CHECK(ffa_access(&machine, 0x8002, 33) == 3);
+    CHECK(ffa_store(&machine, 0x40021000, 1, 0x5A).kind == FFA_DONE);
+
+    /* A reclaim is denied while it is held, and gives the byte back afterwards. */
+    CALL(0, 0x8400006B, 0x80020000, 0, 0, 0x8400006B);
+    CALL(0x8001, 0x8400006D, 0x80010000, 0, 0, 0x8400006D, 0x80010000);
+    CALL(0x8001, 0x84000060, 0, 0xFFFFFFFA, 0, 0x84000077, 1, 0x8001);
+    CALL(0, 0x8400006B, 0x80010000, 0, 0, 0x8400006B);
+    CALL(0x8002, 0x8400006D, 0x80020000, 0, 0, 0x8400006D, 0x80020000);
+    stores(0x4003E000, 0x0000800100000001);
+    stores(0x4003E008, 0x0000000100000000);
+    CHECK(ffa_store(&machine, 0x4003E010, 2, 0x8002).kind == FFA_DONE);
+    CALL(0x8002, 0x84000061, 0, 0, 0, 0x84000076);
+    faults(ffa_load(&machine, 0x40021000, 1), FFA_FAULT_TRANSLATION);
+    CALL(0, 0x8400006B, 0x80020000, 0, 0, 0x8400006B);
+    CALL(0x8001, 0x8400006D, 0x80010000, 0, 0, 0x8400006D, 0x80010000);
+    CALL(0x8001, 0x84000061, 0, 0, 0, 0x84000077, 1, 0x8001);
+    loads(0x40021000, 1, 0x5A);
+    CALL(0x8001, 0x84000060, 0, 0xFFFFFFFE, 0, 0x84000077, 1, 0x8001);
+}
+
+static void out_of_order(void) {
+    struct ffa_registers none = {{0}};
+    static struct ffa_page bytes;
+    struct ffa_lent untouched = {0};
+    CHECK(ffa_free(&machine, &untouched) == FFA_OK && ffa_free(&machine, &untouched) == FFA_NOTHING_RUNS);
+    CHECK(!machine.live && machine.at == NULL && !untouched.live);
+    CHECK(ffa_call(&machine, &none).kind == FFA_NO_MACHINE && ffa_fetch(&machine, 0).kind == FFA_NO_MACHINE);
+    CHECK(ffa_load(&machine, 0, 1).kind == FFA_NO_MACHINE && ffa_store(&machine, 0, 1, 0).kind == FFA_NO_MACHINE);
+    CHECK(ffa_runner(&machine) == FFA_NOTHING && ffa_endpoints(&machine) == FFA_NOTHING);
+    CHECK(ffa_owner(&machine, 0) == FFA_NOTHING);
+    CHECK(ffa_access(&machine, 0, 0) == FFA_NOTHING && !ffa_read_page(&machine, 0, &bytes));
+    CHECK(ffa_boot(&machine, (const uint8_t *)"", 0) == 4 && !machine.live);
+    CHECK(ffa_boot(&machine, (const uint8_t *)"\xFF", 1) == 2 && ffa_boot(&machine, (const uint8_t *)"a = ", 4) == 2);
+    CHECK(ffa_boot(&machine, text, text_size) == FFA_OK);
+    CHECK(ffa_store(&machine, 0x40010000, 1, 0x2A).kind == FFA_DONE);
+    CHECK(ffa_boot(&machine, text, text_size) == FFA_OCCUPIED);
+    loads(0x40010000, 1, 0x2A);
+    for (uint32_t size = 0; size < 20; size++) {
+        bool is_size = size == 1 || size == 2 || size == 4 || size == 8;
+        CHECK(ffa_load(&machine, 0x40010000, size).kind == (is_size ? FFA_DATA : FFA_BAD_SIZE));
+        CHECK(ffa_store(&machine, 0x40010000, size, 0).kind == (is_size ? FFA_DONE : FFA_BAD_SIZE));
+    }
+    /* A machine is moved with its struct. */
+    struct ffa_machine moved = machine;
+    machine = (struct ffa_machine){0};
+    CHECK(ffa_runner(&moved) == 0 && ffa_free(&moved, &untouched) == FFA_OK);
+}
+
+static struct ffa_page pages[513];
+static struct ffa_lent list;
+
+static void lists(void) {
+    struct ffa_slot slot = {0}, full = {true, &pages[0]};
+    CHECK(ffa_lend(&list, &full) == FFA_NO_LIST && full.live && ffa_take_back(&list, &slot) == FFA_NO_LIST);
+    CHECK(ffa_end_lending(&list) == FFA_NO_LIST && ffa_lent_pages(&list) == 0);
+    CHECK(ffa_boot_lent(&machine, &list, text, text_size) == FFA_NO_LIST);
+    CHECK(ffa_free(&machine, &list) == FFA_NOTHING_RUNS);
+    CHECK(ffa_begin_lending(&list, 4) == FFA_OK && ffa_begin_lending(&list, 4) == FFA_OCCUPIED);
+    CHECK(ffa_lend(&list, &slot) == FFA_NO_PAGE && ffa_take_back(&list, &slot) == FFA_NO_PAGE);
+    CHECK(ffa_lend(&list, &full) == FFA_OK && !full.live && ffa_lend(&list, &full) == FFA_NO_PAGE);
+    CHECK(ffa_lent_pages(&list) == 1 && ffa_end_lending(&list) == FFA_HAS_PAGES);
+    slot = (struct ffa_slot){true, &pages[1]};
+    CHECK(ffa_take_back(&list, &slot) == FFA_OCCUPIED && slot.at == &pages[1]);
+    CHECK(ffa_boot_lent(&machine, &list, text, text_size) == FFA_WRONG_COUNT && ffa_lent_pages(&list) == 1);
+    CHECK(ffa_boot_lent(&machine, &list, text, 4) == 2 && ffa_lent_pages(&list) == 1);
+    slot.live = false;
+    CHECK(ffa_take_back(&list, &slot) == FFA_OK && slot.live && slot.at == &pages[0]);
+    CHECK(ffa_end_lending(&list) == FFA_OK && !list.live && pieces == 0);
+}
+
+/* The machine of machine.toml.h as numbers. */
+static struct ffa_parts row_parts(void) {
+    struct ffa_parts parts = {.ram_base = 0x40000000, .ram_blocks = 1, .endpoint_count = 3};
+    static const uint8_t uuid[16] = {0x00, 0x11, 0x22, 0x33, 0x44, 0x55, 0x66, 0x77, 0x88, 0x99, 0xAA, 0xBB, 0xCC, 0xDD, 0xEE, 0xFF};
+    for (uint32_t place = 0; place < 3; place++) {
+        struct ffa_endpoint *endpoint = &parts.endpoints[place];
+        endpoint->properties = place == 0 ? 6 : 15;
+        endpoint->region_count = 1;
+        endpoint->regions[0] = (struct ffa_region){0x40010000 + 0x10000 * place, 16, FFA_WRITE};
+        if (place != 0) memcpy(endpoint->uuid, uuid, sizeof uuid);
+    }
+    parts.endpoints[1].regions[0].rights |= FFA_EXECUTE;
+    parts.endpoints[2].uuid[0] = 0x10;
+    return parts;
+}
+
+/* What a boot of these numbers answers, which leaves nothing behind. */
+static uint32_t refusal(const struct ffa_parts *parts) {
+    struct ffa_lent untouched = {0};
+    uint32_t answer = ffa_boot_parts(&machine, parts);
+    if (answer == FFA_OK) CHECK(ffa_free(&machine, &untouched) == FFA_OK);
+    CHECK(!machine.live && pieces == 0);
+    return answer;
+}
+
+static void numbers(void) {
+    struct ffa_parts right = row_parts(), parts;
+    struct ffa_lent untouched = {0};
+    CHECK(ffa_boot_parts(&machine, &right) == FFA_OK && ffa_boot_parts(&machine, &right) == FFA_OCCUPIED);
+    first_row();
+    lend();
+    CHECK(ffa_free(&machine, &untouched) == FFA_OK);
+#define REFUSED(answer_, ...) \
+    do { \
+        parts = right; \
+        __VA_ARGS__; \
+        CHECK(refusal(&parts) == (answer_)); \
+    } while (0)
+    REFUSED(FFA_OK, parts.endpoints[1].version = 1);
+    REFUSED(FFA_WRONG_KIND, parts.endpoints[2].regions[0].rights = 2);
+    REFUSED(FFA_WRONG_KIND, parts.endpoints[0].regions[0].rights = 0);
+    REFUSED(FFA_RAM_BASE, parts.ram_base = 0x42000000);
+    REFUSED(FFA_RAM_BLOCKS, parts.ram_blocks = 33);
+    REFUSED(FFA_ENDPOINT_COUNT, parts.endpoint_count = 0);
+    REFUSED(FFA_ENDPOINT_COUNT, parts.endpoint_count = 9);
+    REFUSED(FFA_UUID, memset(parts.endpoints[1].uuid, 0, 16));
+    REFUSED(FFA_UUID, parts.endpoints[0].uuid[15] = 1);
+    REFUSED(FFA_PROPERTY, parts.endpoints[1].properties = 16);
+    REFUSED(FFA_PROPERTY, parts.endpoints[0].properties = 1);
+    REFUSED(FFA_REGION_COUNT, parts.endpoints[2].region_count = 0);
+    REFUSED(FFA_REGION_COUNT, parts.endpoints[2].region_count = 17);
+    REFUSED(FFA_REGION_OUTSIDE, parts.endpoints[0].regions[0].base = 0x40008000);
+    REFUSED(FFA_REGION_OUTSIDE, parts.endpoints[0].regions[0].pages = 0);
+    REFUSED(FFA_REGION_OUTSIDE, parts.endpoints[2].regions[0].pages = 0xFFFFFFFF);
+    REFUSED(FFA_REGION_OVERLAP, parts.endpoints[2].regions[0].base = 0x4002F000);
+    REFUSED(FFA_VERSION, parts.endpoints[1].version = 2);
+    /* What tells of no machine at all comes before what makes none. */
+    REFUSED(FFA_VERSION, parts.endpoints[1].version = 2, parts.ram_base = 1);
+    REFUSED(FFA_RAM_BASE, parts.ram_base = 1, parts.ram_blocks = 0);
+#undef REFUSED
+}
+
+static void lent_machine(void) {
+    struct ffa_parts parts = row_parts();
+    memset(pages, 0xA5, sizeof pages);
+    CHECK(lend_all(&list, pages, 512) == FFA_OK);
+    size_t before = pieces;
+    asked = 0;
+    CHECK(ffa_boot_lent_parts(&machine, &list, &parts) == FFA_OK);
+    /* One piece of memory, once: the machine. The list has two, of before. */
+    CHECK(asked == 1 && pieces == before + 1 && ffa_lent_pages(&list) == 0);
+    CHECK(ffa_boot_lent_parts(&machine, &list, &parts) == FFA_OCCUPIED);
+    CHECK(ffa_boot_lent(&machine, &list, text, text_size) == FFA_OCCUPIED);
+    first_row();
+    lend();
+    /* RAM is the pages themselves: what was stored is there. */
+    CHECK(pages[16].bytes[0] == 0x2A && pages[33].bytes[0] == 0x5A && pages[511].bytes[0] == 0 && pages[512].bytes[0] == 0xA5);
+    static struct ffa_page bytes;
+    for (uint32_t page = 0; page < 512; page++) {
+        CHECK(ffa_read_page(&machine, page, &bytes) && memcmp(&bytes, &pages[page], sizeof bytes) == 0);
+    }
+    /* A machine ends only where there is an empty list for its pages. */
+    struct ffa_lent other = {0};
+    struct ffa_slot slot = {true, &pages[512]};
+    CHECK(ffa_free(&machine, &other) == FFA_NO_LIST && machine.live);
+    CHECK(ffa_lend(&list, &slot) == FFA_OK && ffa_free(&machine, &list) == FFA_HAS_PAGES && machine.live);
+    CHECK(ffa_take_back(&list, &slot) == FFA_OK && slot.at == &pages[512]);
+    CHECK(ffa_load(&machine, 0x40021000, 1).kind != FFA_NO_MACHINE);
+    CHECK(ffa_free(&machine, &list) == FFA_OK && !machine.live && ffa_lent_pages(&list) == 512);
+    CHECK(pages[33].bytes[0] == 0x5A && take_all_back(&list, pages, 512) && pieces == 0);
+    /* A machine over the heap's RAM gives no pages back. */
+    CHECK(ffa_begin_lending(&list, 0) == FFA_OK && ffa_boot(&machine, text, text_size) == FFA_OK);
+    CHECK(ffa_free(&machine, &list) == FFA_OK && ffa_lent_pages(&list) == 0);
+    CHECK(ffa_end_lending(&list) == FFA_OK && pieces == 0);
+    /* A manifest that is refused leaves the pages lent. */
+    parts.ram_blocks = 2;
+    CHECK(lend_all(&list, pages, 512) == FFA_OK && ffa_boot_lent_parts(&machine, &list, &parts) == FFA_WRONG_COUNT);
+    parts.ram_blocks = 0;
+    CHECK(ffa_boot_lent_parts(&machine, &list, &parts) == FFA_RAM_BLOCKS && ffa_lent_pages(&list) == 512);
+    CHECK(take_all_back(&list, pages, 512) && ffa_boot_lent_parts(&machine, &list, &parts) == FFA_NO_LIST && pieces == 0);
+}
+
+/* Each piece of memory is refused in turn: the answer says so, and nothing stays behind. */
+static void refusals(void) {
+    struct ffa_parts parts = row_parts();
+    struct ffa_lent untouched = {0};
+    uint32_t answer;
+    for (int as_text = 0; as_text < 2; as_text++) {
+        answer = FFA_NO_MEMORY;
+        size_t turn = 0;
+        for (; answer != FFA_OK; turn++) {
+            asked = 0;
+            refused = turn + 1;
+            answer = as_text ? ffa_boot(&machine, text, text_size) : ffa_boot_parts(&machine, &parts);
+            refused = 0;
+            CHECK(answer == FFA_OK || (answer == FFA_NO_MEMORY && !machine.live && pieces == 0));
+        }
+        CHECK(as_text ? turn > 3 : turn == 3);
+        CHECK(ffa_free(&machine, &untouched) == FFA_OK);
+    }
+    CHECK(lend_all(&list, pages, 512) == FFA_OK);
+    size_t before = pieces;
+    answer = FFA_NO_MEMORY;
+    for (size_t turn = 0; answer != FFA_OK; turn++) {
+        asked = 0;
+        refused = turn + 1;
+        answer = ffa_boot_lent(&machine, &list, text, text_size);
+        refused = 0;
+        CHECK(answer == FFA_OK || (answer == FFA_NO_MEMORY && !machine.live && pieces == before && ffa_lent_pages(&list) == 512));
+    }
+    CHECK(ffa_free(&machine, &list) == FFA_OK && take_all_back(&list, pages, 512));
+    asked = 0;
+    refused = 1;
+    CHECK(ffa_begin_lending(&list, 4) == FFA_NO_MEMORY && !list.live);
+    asked = 0;
+    refused = 2;
+    CHECK(ffa_begin_lending(&list, 4) == FFA_NO_MEMORY && !list.live && pieces == 0);
+    refused = 0;
+}
+
+int main(void) {
+    CHECK(ffa_boot(&machine, text, text_size) == FFA_OK);
+    first_row();
+    lend();
+    out_of_order();
+    CHECK(pieces == 0);
+    lists();
+    numbers();
+    lent_machine();
+    refusals();
+    CHECK(pieces == 0);
+    puts("ok");
+    return 0;
+}

@@ -1,0 +1,77 @@
+#!/usr/bin/env bash
+# Builds the C library and what stands in this folder over it, with every warning an error, and runs it: the test under
+# sanitizers, the example, the traces of examples/ through the border beside the program, and a link with no C library; for
+# AArch64 too, where there are a compiler and an emulator for it. With --install it first installs Debian's packages for that.
+set -euo pipefail
+here=$(cd "$(dirname "${BASH_SOURCE[0]}")" && pwd)
+top=$(dirname "$here")
+player=${FFAPLAY:-$top/ffaplay} # the program, whose answers to traces are compared
+packages="gcc clang libc6-dev gcc-aarch64-linux-gnu libc6-dev-arm64-cross qemu-user-static"
+if [[ ${1:-} == --install ]]; then
+    apt-get update >/dev/null && apt-get install -y $packages >/dev/null
+fi
+to=$(mktemp -d)
+trap 'rm -rf "$to"' EXIT
+strict="-std=c11 -Wall -Wextra -Wpedantic -Wshadow -Werror -I$here"
+sanitized="-O1 -g -fsanitize=address,undefined -fno-sanitize-recover=all"
+missing=0
+
+# The archive for a target: archive NAME ARGUMENT..
+archive() {
+    local name=$1
+    shift
+    (cd "$top/crates/ffa_c" && rt lib "$@") >"$to/log" 2>&1 || { cat "$to/log" >&2; exit 1; }
+    cp "$top/crates/ffa_c/out/libffa_c.a" "$to/$name.a"
+}
+
+has() {
+    command -v "$1" >/dev/null || { echo "not run: no $1 (Debian has it in: $packages)"; missing=1; return 1; }
+}
+
+# Plays each trace that there is, on RAM of the heap and on lent pages: plays NAME COMMAND..
+plays() {
+    local name=$1 machine trace kind
+    shift
+    for pair in machine:first machine:calls partitions:accesses partitions:messages partitions:sharing; do
+        machine=$top/examples/${pair%:*}.toml trace=$top/examples/${pair#*:}.trace
+        "$player" run "$machine" "$trace" >"$to/expected"
+        for kind in heap lent; do
+            "$@" $kind "$machine" "$trace" >"$to/played"
+            cmp "$to/expected" "$to/played" || { echo "$name: $kind: $pair differs" >&2; exit 1; }
+        done
+    done
+    echo "$name: five traces, on the heap's RAM and on lent pages: as the program prints them"
+}
+
+archive native
+"$player" check "$top/examples/machine.toml" >/dev/null
+for compiler in gcc clang; do
+    has $compiler || continue
+    $compiler $strict $sanitized "$here/test.c" "$to/native.a" -o "$to/test"
+    echo "$compiler, sanitized: $("$to/test")"
+    $compiler $strict -O2 "$here/test.c" "$to/native.a" -o "$to/test"
+    echo "$compiler: $("$to/test")"
+    $compiler $strict $sanitized "$here/example.c" "$here/heap.c" "$to/native.a" -o "$to/example"
+    "$to/example"
+    $compiler $strict $sanitized "$here/play.c" "$here/heap.c" "$to/native.a" -o "$to/play"
+    plays "$compiler, sanitized" "$to/play"
+    $compiler $strict -O2 -ffreestanding -fno-stack-protector -nostdlib -static -Wl,--gc-sections "$here/freestanding.c" "$to/native.a" -o "$to/free"
+    "$to/free"
+    echo "$compiler: linked with no C library, and run"
+done
+symbols=$(nm -u "$to/native.a" | sed -n 's/^ *U //p' | grep -v '^_R\|\$' | sort -u | tr '\n' ' ')
+echo "asked of the program: $symbols"
+
+if has aarch64-linux-gnu-gcc && has qemu-aarch64-static; then
+    archive arm --target aarch64-unknown-linux-gnu
+    arm="aarch64-linux-gnu-gcc $strict -O2 -static"
+    $arm "$here/test.c" "$to/arm.a" -o "$to/test"
+    echo "AArch64: $(qemu-aarch64-static "$to/test")"
+    $arm "$here/play.c" "$here/heap.c" "$to/arm.a" -o "$to/play"
+    plays AArch64 qemu-aarch64-static "$to/play"
+    $arm -ffreestanding -fno-stack-protector -nostdlib -Wl,--gc-sections "$here/freestanding.c" "$to/arm.a" -o "$to/free"
+    qemu-aarch64-static "$to/free"
+    echo "AArch64: linked with no C library, and run"
+    archive native
+fi
+if ((missing)); then echo "passed, but for what was not run"; else echo "passed"; fi

@@ -1,0 +1,53 @@
+-- How the machine stores a `HeldFrames`, and what one is put together from. Assumes `Logic`.
+use Rattle.ffa_lent.proofs.Owners.{owner_in}
+use Rattle.ffa_lent.proofs.Steps.{List, [], ◌∷◌, Option, refl, Val, ‵, RattleType, Ptr, ptr_val, bare}
+use denote.Exit.{no}
+use denote.Param.{layout}
+use denote.Param.Laws.{Laws, arg_laws}
+use denote.Struct.Laws.{RawPtr-plain}
+use mir.Syntax.{Dict, impl, tnil, dnil}
+use seplogic.Ra.Ura.{Ura}
+use types.Kit.{Item, Goal, Step}
+use types.Logic.{Logic}
+use Rattle.std.proofs.Handle.{heap_val}
+use Rattle.std.proofs.alloc.Global.TheLaws.{the_field_plain, the_row_laws as heap_laws}
+use Rattle.std.proofs.boxed.Box.TheLaws.{the_row_laws as boxes_laws}
+use Rattle.std.specs.contracts.alloc.Global.{the_row as Heap}
+use Rattle.std.specs.contracts.boxed.Box.{the_row as Box}
+use Rattle.std.specs.contracts.impls.GlobalAllocator.TheImpl.{ghosts}
+use Rattle.ffa_lent.specs.Slots.{slot_owns}
+use Rattle.ffa_lent.specs.contracts.frames.Frames as frames
+use Rattle.ffa_lent.proofs.frames.Frames.TheLaws.{the_row_laws}
+use Rattle.ffa_c.specs.contracts.held_frames.HeldFrames as held
+use Rattle.ffa_c.proofs.held_frames.HeldFrames.TheLaws.{lowers}
+use Rattle.ffa_c.proofs.Heap.{argument, heap_is}
+
+abbrev pub Frames : RattleType
+Frames = frames.the_row
+
+abbrev pub Argument : RattleType
+Argument = argument Frames
+
+abbrev pub argument_laws : Laws Argument
+argument_laws = arg_laws (bare (layout Frames)) no Frames the_row_laws refl
+
+abbrev pub FramesBox : RattleType
+FramesBox = Box Frames Heap ghosts
+
+abbrev pub box_laws : Laws FramesBox
+box_laws = boxes_laws Frames Heap ghosts the_row_laws heap_laws
+
+abbrev pub drops : Dict
+drops = impl ("ffa_c::ffa_lent++frames++Frames+Destruct::drop" ∷ []) tnil dnil
+
+abbrev pub HeldFrames : RattleType
+HeldFrames = held.the_row
+
+abbrev pub held_vals : HeldFrames.Denot → List Val
+held_vals d = lowers.lowered d ∷ []
+
+module _ {M : Type 1} {𝓤 : Ura M} {𝓛 : Logic 𝓤} {K : Type 0} {Γ : List (Item 𝓤)} {G : Goal 𝓤 𝓛.H} where
+  pub held_in : K → (p : Ptr) (a : Heap.Denot) (v : Option Frames.Denot)
+      → let d : HeldFrames.Denot = record { at = p; alloc = a; value = v } in Step K 𝓛 (‵ (HeldFrames.own_val d (held_vals d)) ∷ Γ) G (‵ (slot_owns (ghosts.dealloc_token a) Frames p v) ∷ Γ) G
+  held_in t p a v = let d : HeldFrames.Denot = record { at = p; alloc = a; value = v } in
+      owner_in t held.the_type (RawPtr-plain, (the_field_plain, tt)) d (held_vals d) ((ptr_val p ∷ [], (heap_val ∷ [], tt)), (refl, (refl, (heap_is a, tt))))

@@ -1,0 +1,4 @@
+pub mod Reasons
+pub mod Heap
+pub mod HeldSteps
+pub mod HeldFramesSteps

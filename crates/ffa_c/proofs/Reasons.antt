@@ -1,0 +1,34 @@
+-- How many pages the RAM of a machine in its first state has, and what tells why a manifest isn't booted.
+use Rattle.std.proofs.Common.{◌≡◌, ◌≢◌, ◌⊎◌, ℕ, List, Option, None, Some, ◌*◌, ◌∙◌, ap, refl, inl, inr, length, IsUtf8, IfSome}
+use Rattle.ffa_model.proofs.Listed.{length-listed}
+use Rattle.ffa_model.specs.First.{first, page_with_bytes}
+use Rattle.ffa_model.specs.State.{State}
+use Rattle.ffa_manifest.specs.Document.{Parts}
+use Rattle.ffa_manifest.specs.declared.error.ManifestError.{ManifestError}
+use Rattle.ffa_manifest.specs.declared.error.ManifestError.TheVariants.{NoMemory}
+use Rattle.ffa_spmc.specs.Snapshot.{Snapshot}
+use Rattle.ffa_c.specs.Booting.{IsFirst, IsRefusedFor, TellsWhy}
+use Rattle.ffa_c.specs.Given.{IsGivenFor}
+use Rattle.ffa_c.specs.declared.parts.FfaParts.{FfaParts}
+
+pub first-pages : (parts : Parts) (s : Snapshot) → IsFirst parts s → length s.ram.pages ≡ 512 * parts.ram_blocks
+unfolding first
+first-pages parts s h = h.agrees.size ∙ ap (λ (x : State). length x.pages) h.state ∙ length-listed _ _
+
+-- any text, and any numbers, may be refused for want of memory
+pub text-wants-memory : (text : List ℕ) → IsUtf8 text → IsRefusedFor text NoMemory
+text-wants-memory text utf8 = record { garbled = λ garbled. absurd (garbled utf8); read = λ _ other. absurd (other refl) }
+
+pub numbers-want-memory : (given : FfaParts) → IsGivenFor given NoMemory
+numbers-want-memory given other = absurd (other refl)
+
+-- why a manifest that was read isn't booted in these pages
+pub pages-why : (describes : Parts → Type 0) (is_cause : ManifestError → Type 0) (parts : Parts) (list : Option (List (List ℕ))) (number : ℕ)
+    → describes parts → is_cause NoMemory
+    → IfSome list (λ pages. (number ≡ 1) ⊎ ((number ≡ 20) × (length pages ≢ 512 * parts.ram_blocks)))
+    → IfSome list (λ pages. TellsWhy describes is_cause (length pages) number)
+pages-why describes is_cause parts None number described wanting why = why
+pages-why describes is_cause parts (Some pages) number described wanting why = elim why [
+  | inl want ↦ inl (NoMemory, want, wanting)
+  | inr (told, differs) ↦ inr (record { parts = parts; described = described; differs = differs; told = told })
+]

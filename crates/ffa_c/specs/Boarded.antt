@@ -1,0 +1,19 @@
+-- What a contract sees of a machine that C holds: its own snapshot, and whether its RAM is lent.
+use Rattle.std.specs.Prelude.{Bool, true, false, refl}
+use Rattle.std.specs.Coded.{Coded, code_by, coded_bool, coded×}
+use Rattle.ffa_spmc.specs.Snapshot.{Snapshot, coded_snapshot}
+use Rattle.ffa_c.specs.declared.kind.Kind.{Kind}
+use Rattle.ffa_c.specs.declared.kind.Kind.TheVariants.{Heap, Lent}
+
+pub record Boarded : Type 0 where
+  pub machine : Snapshot
+  pub is_lent : Bool
+
+abbrev pub coded_boarded : Coded Boarded
+coded_boarded =
+    code_by (Snapshot × Bool) (coded× coded_snapshot coded_bool)
+    (λ b. (b.machine, b.is_lent)) (λ p. record { machine = p.0; is_lent = p.1 }) (λ _. refl)
+
+abbrev pub boarded : Kind → Boarded
+boarded (Heap machine) = record { machine = machine; is_lent = false }
+boarded (Lent machine) = record { machine = machine; is_lent = true }

@@ -1,0 +1,72 @@
+-- What a boot tells C, and what C holds after it.
+use Rattle.std.specs.Prelude.{◌≡◌, ◌≢◌, ◌⊎◌, ℕ, ◌*◌, ◌<◌, ◌≤◌, Bool, List, length, replicate, Option, None, Some, Ok, Err, IsUtf8}
+use Rattle.ffa_model.specs.Agreement.{Agrees}
+use Rattle.ffa_model.specs.First.{first}
+use Rattle.ffa_model.specs.Manifest.{table_pages}
+use Rattle.ffa_model.specs.Ram.{page_of}
+use Rattle.ffa_model.specs.SoundState.{IsSoundState}
+use Rattle.ffa_manifest.specs.Document.{Parts, machine_of}
+use Rattle.ffa_manifest.specs.declared.error.ManifestError.{ManifestError}
+use Rattle.ffa_manifest.specs.declared.error.ManifestError.TheVariants as causes
+use Rattle.ffa_spmc.specs.Snapshot.{Snapshot}
+use Rattle.ffa_c.specs.Boarded.{Boarded}
+
+-- the number of a cause, as the manual gives it after the letter M
+abbrev pub cause_number : ManifestError → ℕ
+cause_number causes.NoMemory = 1
+cause_number causes.Toml = 2
+cause_number causes.UnknownKey = 3
+cause_number causes.MissingKey = 4
+cause_number causes.WrongKind = 5
+cause_number causes.RamBase = 6
+cause_number causes.RamBlocks = 7
+cause_number causes.EndpointCount = 8
+cause_number causes.Uuid = 9
+cause_number causes.Property = 10
+cause_number causes.RegionCount = 11
+cause_number causes.RegionOutside = 12
+cause_number causes.RegionOverlap = 13
+cause_number causes.Version = 14
+
+-- the machine of these parts in its first state: the tables give its access, and all pages behind them are zeros
+pub record IsFirst (parts : Parts) (s : Snapshot) : Type 0 where
+  pub state : s.state ≡ first parts.ram_base parts.ram_blocks parts.endpoints
+  pub agrees : Agrees s.ram s.state
+  pub cleared : (p : ℕ) → length s.state.parties * table_pages parts.ram_blocks ≤ p → p < length s.ram.pages → page_of s.ram p ≡ replicate 4096 0
+  pub sound : IsSoundState s.state
+
+-- the machine of parts that C described is in its first state, over RAM that is lent or not
+pub record IsBooted (describes : Parts → Type 0) (is_lent : Bool) (b : Boarded) : Type 0 where
+  pub parts : Parts
+  pub described : describes parts
+  pub begun : IsFirst parts b.machine
+  pub kind : b.is_lent ≡ is_lent
+
+-- the same of what C holds
+abbrev pub HasBooted : (Parts → Type 0) → Bool → Option Boarded → Type 0
+HasBooted describes is_lent None = ⊥
+HasBooted describes is_lent (Some b) = IsBooted describes is_lent b
+
+-- the number of a cause for which a manifest may be refused
+abbrev pub TellsCause : (ManifestError → Type 0) → ℕ → Type 0
+TellsCause is_cause number = (cause : ManifestError) × (number ≡ cause_number cause) × is_cause cause
+
+-- the manifest is of a machine whose RAM has another number of pages than are lent
+pub record IsWrongCount (describes : Parts → Type 0) (pages number : ℕ) : Type 0 where
+  pub parts : Parts
+  pub described : describes parts
+  pub differs : pages ≢ 512 * parts.ram_blocks
+  pub told : number ≡ 20
+
+-- the number tells why a manifest isn't booted in so many pages
+abbrev pub TellsWhy : (Parts → Type 0) → (ManifestError → Type 0) → ℕ → ℕ → Type 0
+TellsWhy describes is_cause pages number = TellsCause is_cause number ⊎ IsWrongCount describes pages number
+
+-- a text describes these parts
+abbrev pub Describes : List ℕ → Parts → Type 0
+Describes text parts = IsUtf8 text × (machine_of text ≡ Ok parts)
+
+-- a text is refused for this cause: it is no UTF-8, or as its reading says; for want of memory any text may be
+pub record IsRefusedFor (text : List ℕ) (cause : ManifestError) : Type 0 where
+  pub garbled : ¬ (IsUtf8 text) → cause ≡ causes.Toml
+  pub read : IsUtf8 text → cause ≢ causes.NoMemory → machine_of text ≡ Err cause

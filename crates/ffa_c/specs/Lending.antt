@@ -1,0 +1,33 @@
+-- What lending pages does to what C holds.
+use Rattle.std.specs.Prelude.{◌≡◌, ℕ, List, [], ◌∷◌, ◌++◌, length, Option, None, Some, if◌then◌else◌}
+use Rattle.ffa_c.specs.Boarded.{Boarded}
+
+-- a page goes from a slot to the end of a list: it is there once, and the slot is empty
+pub record IsLent (old new : Option (List (List ℕ))) (slot slot_after : Option (List ℕ)) : Type 0 where
+  pub pages : List (List ℕ)
+  pub page : List ℕ
+  pub list : old ≡ Some pages
+  pub given : slot ≡ Some page
+  pub added : new ≡ Some (pages ++ page ∷ [])
+  pub emptied : slot_after ≡ None
+
+-- whether there is an empty list for pages that are given back, as C is told
+abbrev pub list_answer : Option (List (List ℕ)) → ℕ
+list_answer None = 16
+list_answer (Some []) = 0
+list_answer (Some (page ∷ pages)) = 18
+
+-- what C is told where it ends what it holds: RAM that was lent needs an empty list
+abbrev pub freed_answer : Option Boarded → Option (List (List ℕ)) → ℕ
+freed_answer None list = 19
+freed_answer (Some b) list = if b.is_lent then list_answer list else 0
+
+-- the list afterwards: it has the pages of RAM that was lent, and else those of before
+abbrev pub given_back : Option Boarded → Option (List (List ℕ)) → Option (List (List ℕ))
+given_back None list = list
+given_back (Some b) list = if b.is_lent then Some b.machine.ram.pages else list
+
+-- how many pages a list has
+abbrev pub page_count : Option (List (List ℕ)) → ℕ
+page_count None = 0
+page_count (Some pages) = length pages

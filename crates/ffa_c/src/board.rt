@@ -1,0 +1,145 @@
+//! A machine with the outcomes that C sees, whichever RAM it has.
+ghost use Rattle.std.specs.Prelude.{◌≡◌, ◌<◌, ◌*◌, true, false, length};
+ghost use Rattle.ffa_model.specs.Access.{access};
+ghost use Rattle.ffa_model.specs.Ram.{page_of, zero_ram};
+ghost use Rattle.ffa_manifest.specs.Document.{parts_of};
+ghost use Rattle.ffa_c.specs.Booting.{IsFirst};
+ghost use Rattle.ffa_c.specs.Border.{HasDone, access_code, owner_number};
+
+use crate::kind::{Kind, access_by, done_by, endpoints_of, owner_by, page_in, pages_of, runner_of};
+use crate::outcome::FfaOutcome;
+use ffa_lent::{Frames, LentRam};
+use ffa_model::{EndpointId, Manifest, Op, PageNo};
+use ffa_physmem::{FlatRam, PhysMem};
+use ffa_spmc::Machine;
+use ffa_tlb::NoTlb;
+use std::marker::Model;
+
+/// A machine with no cache, and with RAM of the heap or RAM that is lent. Contracts see the machine, and which it is.
+#[derive(Drop)]
+pub struct Board {
+    kind: Kind,
+}
+
+impl Model for Board {
+    ghost use Rattle.ffa_c.specs.Boarded.{Boarded, boarded, coded_boarded};
+
+    ghost Value = { Boarded };
+
+    ghost coded = { coded_boarded };
+
+    ghost view = { λ b. boarded b.kind };
+}
+
+impl Board {
+    /// The machine of a manifest in its first state, in RAM that is zeros.
+    pub fn boot(manifest: &Manifest, ram: FlatRam) -> Board
+        requires { ⟦<FlatRam as PhysMem>⟧.ram ram ≡ zero_ram manifest.now.ram_base.0 (512 * manifest.now.ram_blocks) }
+        ensures first { IsFirst (parts_of manifest.now) result.machine }
+        ensures kind { result.is_lent ≡ false }
+    {
+        let kind = Kind::Heap(Machine::boot_cleared(manifest, ram, NoTlb));
+        Board { kind }
+    }
+
+    /// The machine of a manifest in its first state, in RAM that is lent, which it clears.
+    pub fn boot_lent(manifest: &Manifest, ram: LentRam) -> Board
+        requires base { (⟦<LentRam as PhysMem>⟧.ram ram).base ≡ manifest.now.ram_base.0 }
+        requires size { length (⟦<LentRam as PhysMem>⟧.ram ram).pages ≡ 512 * manifest.now.ram_blocks }
+        ensures first { IsFirst (parts_of manifest.now) result.machine }
+        ensures kind { result.is_lent ≡ true }
+    {
+        let kind = Kind::Lent(Machine::boot_with(manifest, ram, NoTlb));
+        Board { kind }
+    }
+
+    /// Whether the RAM is lent.
+    pub fn is_lent(&self) -> bool
+        ensures { result ≡ self.now.is_lent }
+    {
+        matches!(self.kind, Kind::Lent(_))
+    }
+
+    /// Ends the machine: the pages that were lent, with the bytes that they had in the end.
+    pub fn into_frames(self) -> Frames
+        requires { self.is_lent ≡ true }
+        ensures { result ≡ self.machine.ram.pages }
+    {
+        match self.kind {
+            Kind::Lent(machine) => machine.into_ram().into_frames(),
+            Kind::Heap(_) => unreachable!(),
+        }
+    }
+
+    /// Does one operation of the runner.
+    pub fn op(&mut self, op: &Op) -> FfaOutcome
+        ensures done { HasDone self.old.machine self.new.machine op.now result }
+        ensures kind { self.new.is_lent ≡ self.old.is_lent }
+    {
+        match &mut self.kind {
+            Kind::Heap(machine) => done_by(machine, op),
+            Kind::Lent(machine) => done_by(machine, op),
+        }
+    }
+
+    /// The endpoint that runs.
+    pub fn runner(&self) -> u32
+        ensures { result ≡ self.now.machine.state.runner }
+    {
+        match &self.kind {
+            Kind::Heap(machine) => runner_of(machine),
+            Kind::Lent(machine) => runner_of(machine),
+        }
+    }
+
+    /// The number of endpoints.
+    pub fn endpoints(&self) -> u32
+        ensures { result ≡ length self.now.machine.state.parties }
+    {
+        match &self.kind {
+            Kind::Heap(machine) => endpoints_of(machine),
+            Kind::Lent(machine) => endpoints_of(machine),
+        }
+    }
+
+    /// The number of pages.
+    pub fn pages(&self) -> u32
+        ensures { result ≡ length self.now.machine.ram.pages }
+    {
+        match &self.kind {
+            Kind::Heap(machine) => pages_of(machine),
+            Kind::Lent(machine) => pages_of(machine),
+        }
+    }
+
+    /// The owner of a page, or `NOTHING` where there is no such page; 0x8000 is the manager.
+    pub fn owner_of(&self, page: u32) -> u32
+        ensures { result ≡ owner_number self.now.machine page }
+    {
+        match &self.kind {
+            Kind::Heap(machine) => owner_by(machine, PageNo(page)),
+            Kind::Lent(machine) => owner_by(machine, PageNo(page)),
+        }
+    }
+
+    /// The right of an endpoint to a page, as a code.
+    pub fn access(&self, endpoint: u16, page: u32) -> u32
+        ensures { result ≡ access_code (access self.now.machine.state endpoint page) }
+    {
+        match &self.kind {
+            Kind::Heap(machine) => access_by(machine, EndpointId(endpoint), PageNo(page)),
+            Kind::Lent(machine) => access_by(machine, EndpointId(endpoint), PageNo(page)),
+        }
+    }
+
+    /// The bytes of a page.
+    pub fn page(&self, page: u32) -> &[u8; 4096]
+        requires { page < length self.now.machine.ram.pages }
+        ensures { result.now ≡ page_of self.now.machine.ram page }
+    {
+        match &self.kind {
+            Kind::Heap(machine) => page_in(machine, PageNo(page)),
+            Kind::Lent(machine) => page_in(machine, PageNo(page)),
+        }
+    }
+}

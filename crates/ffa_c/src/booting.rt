@@ -1,0 +1,248 @@
+//! Boots machines for C: over RAM of the heap, and over RAM that is lent.
+ghost use Rattle.std.specs.Prelude.{◌≡◌, ◌≢◌, ◌*◌, ◌⊎◌, [], length, true, false, Ok, Some, None, IfOk, IfErr, IfSome, IsUtf8};
+ghost use Rattle.ffa_manifest.specs.Document.{parts_of};
+ghost use Rattle.ffa_c.specs.Booting.{Describes, HasBooted, IsFirst, IsRefusedFor, TellsCause, TellsWhy, cause_number};
+ghost use Rattle.ffa_c.specs.Given.{Gives, IsGivenFor};
+ghost use Rattle.ffa_c.specs.Lending.{page_count};
+
+use crate::board::Board;
+use crate::lending::{FfaLent, NO_LIST, NO_MEMORY, OCCUPIED, WRONG_COUNT, put_list, take_list};
+use crate::machine::{FfaMachine, put};
+use crate::parts::{FfaParts, manifest_given};
+use ffa_lent::{Frames, LentRam};
+use ffa_manifest::ManifestError;
+use ffa_model::Manifest;
+use ffa_physmem::{FlatRam, NoMemory};
+use std::alloc::Global;
+use std::mem;
+
+/// Boots the machine of a manifest's text, in RAM of the heap. 0 is that it was booted. Else nothing has changed: `OCCUPIED`,
+/// where a machine stands already, 1, where there is no memory, or 2 to 14, the cause for which the manifest is refused.
+#[unsafe(no_mangle)]
+pub extern "C" fn ffa_boot(alloc: Global, machine: &mut FfaMachine, text: &[u8]) -> u32
+    ensures occupied { machine.old.live ≡ true → result ≡ OCCUPIED }
+    ensures booted { result ≡ 0 → (machine.old.held.value ≡ None) × HasBooted (Describes text.now) false machine.new.held.value }
+    ensures refused { result ≢ 0 → machine.new ≡ machine.old }
+    ensures cause { result ≢ 0 → machine.old.live ≡ false → TellsCause (IsRefusedFor text.now) result }
+{
+    if machine.live {
+        return OCCUPIED;
+    }
+    match manifest_of(alloc, text) {
+        Ok(manifest) => boot_heap(alloc, machine, &manifest),
+        Err(cause) => number_of(cause),
+    }
+}
+
+/// The same for a manifest that is given as numbers.
+#[unsafe(no_mangle)]
+pub extern "C" fn ffa_boot_parts(alloc: Global, machine: &mut FfaMachine, parts: &FfaParts) -> u32
+    ensures occupied { machine.old.live ≡ true → result ≡ OCCUPIED }
+    ensures booted { result ≡ 0 → (machine.old.held.value ≡ None) × HasBooted (Gives parts.now) false machine.new.held.value }
+    ensures refused { result ≢ 0 → machine.new ≡ machine.old }
+    ensures cause { result ≢ 0 → machine.old.live ≡ false → TellsCause (IsGivenFor parts.now) result }
+{
+    if machine.live {
+        OCCUPIED
+    } else {
+        match manifest_given(parts) {
+            Ok(manifest) => boot_heap(alloc, machine, &manifest),
+            Err(cause) => number_of(cause),
+        }
+    }
+}
+
+/// Boots the machine of a manifest's text in the pages of a list, which it clears, and leaves the list empty. 0 is that it was
+/// booted. Else there is no machine, as before, and the list has as many pages as before, with the bytes that they had unless
+/// it's for want of memory: `OCCUPIED`, `NO_LIST`, 1 to 14 as `ffa_boot` answers, or `WRONG_COUNT`, where the manifest's RAM
+/// has more pages or fewer.
+#[unsafe(no_mangle)]
+pub extern "C" fn ffa_boot_lent(
+    alloc: Global,
+    machine: &mut FfaMachine,
+    lent: &mut FfaLent,
+    text: &[u8],
+) -> u32
+    ensures occupied { machine.old.live ≡ true → result ≡ OCCUPIED }
+    ensures no_list { machine.old.live ≡ false → lent.old.live ≡ false → result ≡ NO_LIST }
+    ensures booted { result ≡ 0 → (machine.old.held.value ≡ None) × HasBooted (Describes text.now) true machine.new.held.value }
+    ensures emptied { result ≡ 0 → lent.new.held.value ≡ Some [] }
+    ensures machine { result ≢ 0 → machine.new ≡ machine.old }
+    ensures list { result ≢ 0 → result ≢ NO_MEMORY → lent.new.held.value ≡ lent.old.held.value }
+    ensures pages { result ≢ 0 → page_count lent.new.held.value ≡ page_count lent.old.held.value }
+    ensures cause { result ≢ 0 → machine.old.live ≡ false → IfSome lent.old.held.value (λ pages. TellsWhy (Describes text.now) (IsRefusedFor text.now) (length pages) result) }
+{
+    if machine.live {
+        OCCUPIED
+    } else if !lent.live {
+        NO_LIST
+    } else {
+        match manifest_of(alloc, text) {
+            Ok(manifest) => boot_lent(alloc, machine, lent, &manifest),
+            Err(cause) => number_of(cause),
+        }
+    }
+}
+
+/// The same for a manifest that is given as numbers.
+#[unsafe(no_mangle)]
+pub extern "C" fn ffa_boot_lent_parts(
+    alloc: Global,
+    machine: &mut FfaMachine,
+    lent: &mut FfaLent,
+    parts: &FfaParts,
+) -> u32
+    ensures occupied { machine.old.live ≡ true → result ≡ OCCUPIED }
+    ensures no_list { machine.old.live ≡ false → lent.old.live ≡ false → result ≡ NO_LIST }
+    ensures booted { result ≡ 0 → (machine.old.held.value ≡ None) × HasBooted (Gives parts.now) true machine.new.held.value }
+    ensures emptied { result ≡ 0 → lent.new.held.value ≡ Some [] }
+    ensures machine { result ≢ 0 → machine.new ≡ machine.old }
+    ensures list { result ≢ 0 → result ≢ NO_MEMORY → lent.new.held.value ≡ lent.old.held.value }
+    ensures pages { result ≢ 0 → page_count lent.new.held.value ≡ page_count lent.old.held.value }
+    ensures cause { result ≢ 0 → machine.old.live ≡ false → IfSome lent.old.held.value (λ pages. TellsWhy (Gives parts.now) (IsGivenFor parts.now) (length pages) result) }
+{
+    if machine.live {
+        OCCUPIED
+    } else if !lent.live {
+        NO_LIST
+    } else {
+        match manifest_given(parts) {
+            Ok(manifest) => boot_lent(alloc, machine, lent, &manifest),
+            Err(cause) => number_of(cause),
+        }
+    }
+}
+
+fn number_of(cause: ManifestError) -> u32
+    ensures number { result ≡ cause_number cause }
+    ensures positive { result ≢ 0 }
+{
+    match cause {
+        ManifestError::NoMemory => 1,
+        ManifestError::Toml => 2,
+        ManifestError::UnknownKey => 3,
+        ManifestError::MissingKey => 4,
+        ManifestError::WrongKind => 5,
+        ManifestError::RamBase => 6,
+        ManifestError::RamBlocks => 7,
+        ManifestError::EndpointCount => 8,
+        ManifestError::Uuid => 9,
+        ManifestError::Property => 10,
+        ManifestError::RegionCount => 11,
+        ManifestError::RegionOutside => 12,
+        ManifestError::RegionOverlap => 13,
+        ManifestError::Version => 14,
+    }
+}
+
+// The manifest that a text describes. Not inlined, so that no boot has its frame.
+#[inline(never)]
+pub(crate) fn manifest_of(alloc: Global, text: &[u8]) -> Result<Manifest, ManifestError>
+    ensures described { IfOk result (λ m. Describes text.now (parts_of m)) }
+    ensures refused { IfErr result (λ e. IsRefusedFor text.now e) }
+{
+    let Ok(text) = str::from_utf8(text) else {
+        return Err(ManifestError::Toml);
+    };
+    ffa_manifest::read(alloc, text)
+}
+
+// Boots a machine, where there is none, in RAM of the heap. Where there is no memory for it, nothing has changed.
+fn boot_heap(alloc: Global, machine: &mut FfaMachine, manifest: &Manifest) -> u32
+    requires { machine.old.held.value ≡ None }
+    ensures booted { result ≡ 0 → HasBooted (λ p. p ≡ parts_of manifest.now) false machine.new.held.value }
+    ensures refused { result ≢ 0 → (result ≡ NO_MEMORY) × (machine.new ≡ machine.old) }
+{
+    match boxed(alloc, manifest) {
+        Ok(board) => {
+            put(machine, board);
+            0
+        }
+        Err(NoMemory) => NO_MEMORY,
+    }
+}
+
+// The machine of a manifest over RAM of the heap, in a box.
+#[inline(never)]
+pub(crate) fn boxed(alloc: Global, manifest: &Manifest) -> Result<Box<Board>, NoMemory>
+    ensures { IfOk result (λ b. IsFirst (parts_of manifest.now) b.value.machine × (b.value.is_lent ≡ false)) }
+{
+    let ram = FlatRam::new(alloc, manifest.ram_base, 512 * manifest.ram_blocks)?;
+    match Box::new(alloc, Board::boot(manifest, ram)) {
+        Ok(board) => Ok(board),
+        Err(_) => Err(NoMemory),
+    }
+}
+
+// Boots a machine, where there is none, in the pages of a list.
+fn boot_lent(
+    alloc: Global,
+    machine: &mut FfaMachine,
+    lent: &mut FfaLent,
+    manifest: &Manifest,
+) -> u32
+    requires { machine.old.held.value ≡ None }
+    ensures booted { result ≡ 0 → HasBooted (λ p. p ≡ parts_of manifest.now) true machine.new.held.value }
+    ensures emptied { result ≡ 0 → lent.new.held.value ≡ Some [] }
+    ensures machine { result ≢ 0 → machine.new ≡ machine.old }
+    ensures list { result ≢ 0 → result ≢ NO_MEMORY → lent.new.held.value ≡ lent.old.held.value }
+    ensures pages { result ≢ 0 → page_count lent.new.held.value ≡ page_count lent.old.held.value }
+    ensures why { result ≢ 0 → IfSome lent.old.held.value (λ pages. (result ≡ NO_MEMORY) ⊎ ((result ≡ WRONG_COUNT) × (length pages ≢ 512 * manifest.now.ram_blocks))) }
+{
+    let Some(mut frames) = take_list(lent, alloc) else {
+        return NO_LIST;
+    };
+    let answer = boot_over(alloc, machine, &mut frames, manifest);
+    put_list(lent, frames);
+    answer
+}
+
+// Boots a machine, where there is none, in these pages.
+fn boot_over(
+    alloc: Global,
+    machine: &mut FfaMachine,
+    frames: &mut Frames,
+    manifest: &Manifest,
+) -> u32
+    requires { machine.old.held.value ≡ None }
+    ensures booted { result ≡ 0 → HasBooted (λ p. p ≡ parts_of manifest.now) true machine.new.held.value }
+    ensures emptied { result ≡ 0 → frames.new ≡ [] }
+    ensures machine { result ≢ 0 → machine.new ≡ machine.old }
+    ensures list { result ≢ 0 → result ≢ NO_MEMORY → frames.new ≡ frames.old }
+    ensures pages { result ≢ 0 → length frames.new ≡ length frames.old }
+    ensures why { result ≢ 0 → (result ≡ NO_MEMORY) ⊎ ((result ≡ WRONG_COUNT) × (length frames.old ≢ 512 * manifest.now.ram_blocks)) }
+{
+    if frames.pages() != 512 * manifest.ram_blocks as usize {
+        return WRONG_COUNT;
+    }
+    match boxed_over(alloc, manifest, frames) {
+        Ok(board) => {
+            put(machine, board);
+            0
+        }
+        Err(NoMemory) => NO_MEMORY,
+    }
+}
+
+// The machine of a manifest in the pages of a list, in a box.
+#[inline(never)]
+fn boxed_over(
+    alloc: Global,
+    manifest: &Manifest,
+    frames: &mut Frames,
+) -> Result<Box<Board>, NoMemory>
+    requires { length frames.old ≡ 512 * manifest.now.ram_blocks }
+    ensures booted { IfOk result (λ b. IsFirst (parts_of manifest.now) b.value.machine × (b.value.is_lent ≡ true)) }
+    ensures emptied { IfOk result (λ _. frames.new ≡ []) }
+    ensures pages { IfErr result (λ _. length frames.new ≡ length frames.old) }
+{
+    let pages = mem::replace(frames, Frames::none(alloc));
+    let ram = LentRam::new(manifest.ram_base, pages);
+    match Box::new(alloc, Board::boot_lent(manifest, ram)) {
+        Ok(board) => Ok(board),
+        Err(refused) => {
+            *frames = refused.value.into_frames();
+            Err(NoMemory)
+        }
+    }
+}

@@ -1,0 +1,198 @@
+//! The functions that C calls. `c/gorseplumb.h` declares them.
+ghost use Rattle.std.specs.Prelude.{◌≡◌, Some, None, IfSome, length, true, false};
+ghost use Rattle.ffa_model.specs.Access.{access};
+ghost use Rattle.ffa_model.specs.Ram.{page_of};
+ghost use Rattle.ffa_c.specs.Border.{Operated, OperatedSized, access_code, asked, has_page, owner_number, size_at};
+
+use crate::kind::NOTHING;
+use crate::machine::{FfaMachine, put, take};
+use crate::outcome::FfaOutcome;
+use ffa_model::{Op, Size};
+use std::alloc::Global;
+
+/// Eight registers.
+#[repr(C)]
+#[derive(Clone, Copy)]
+pub struct FfaRegisters {
+    pub x: [u64; 8],
+}
+
+/// The bytes of a page.
+#[repr(C)]
+pub struct FfaPage {
+    pub bytes: [u8; 4096],
+}
+
+/// A call of the runner, with eight registers.
+#[unsafe(no_mangle)]
+pub extern "C" fn ffa_call(
+    alloc: Global,
+    machine: &mut FfaMachine,
+    registers: &FfaRegisters,
+) -> FfaOutcome
+    ensures { Operated machine.old.held.value machine.new.held.value (Op.Call registers.now.x) result }
+{
+    operate(alloc, machine, &Op::Call(registers.x))
+}
+
+/// A load of 1, 2, 4 or 8 bytes.
+#[unsafe(no_mangle)]
+pub extern "C" fn ffa_load(
+    alloc: Global,
+    machine: &mut FfaMachine,
+    addr: u64,
+    size: u32,
+) -> FfaOutcome
+    ensures { OperatedSized machine.old.held.value machine.new.held.value size (λ s. Op.Load addr s) result }
+{
+    match size_of(size) {
+        Some(size) => operate(alloc, machine, &Op::Load { addr, size }),
+        None => FfaOutcome::nothing(5),
+    }
+}
+
+/// A store of the value's lowest 1, 2, 4 or 8 bytes.
+#[unsafe(no_mangle)]
+pub extern "C" fn ffa_store(
+    alloc: Global,
+    machine: &mut FfaMachine,
+    addr: u64,
+    size: u32,
+    value: u64,
+) -> FfaOutcome
+    ensures { OperatedSized machine.old.held.value machine.new.held.value size (λ s. Op.Store addr s value) result }
+{
+    match size_of(size) {
+        Some(size) => operate(alloc, machine, &Op::Store { addr, size, value }),
+        None => FfaOutcome::nothing(5),
+    }
+}
+
+/// A fetch of one instruction.
+#[unsafe(no_mangle)]
+pub extern "C" fn ffa_fetch(alloc: Global, machine: &mut FfaMachine, addr: u64) -> FfaOutcome
+    ensures { Operated machine.old.held.value machine.new.held.value (Op.Fetch addr) result }
+{
+    operate(alloc, machine, &Op::Fetch { addr })
+}
+
+#[inline]
+fn operate(alloc: Global, machine: &mut FfaMachine, op: &Op) -> FfaOutcome
+    ensures { Operated machine.old.held.value machine.new.held.value op.now result }
+{
+    match take(machine, alloc) {
+        None => FfaOutcome::nothing(4),
+        Some(mut board) => {
+            let outcome = board.op(op);
+            put(machine, board);
+            outcome
+        }
+    }
+}
+
+fn size_of(bytes: u32) -> Option<Size>
+    ensures { result ≡ size_at bytes }
+{
+    match bytes {
+        1 => Some(Size::B1),
+        2 => Some(Size::B2),
+        4 => Some(Size::B4),
+        8 => Some(Size::B8),
+        _ => None,
+    }
+}
+
+/// The endpoint that runs.
+#[unsafe(no_mangle)]
+pub extern "C" fn ffa_runner(alloc: Global, machine: &mut FfaMachine) -> u32
+    ensures same { machine.new.held.value ≡ machine.old.held.value }
+    ensures value { result ≡ asked (λ s. s.state.runner) machine.old.held.value }
+{
+    match take(machine, alloc) {
+        None => NOTHING,
+        Some(board) => {
+            let runner = board.runner();
+            put(machine, board);
+            runner
+        }
+    }
+}
+
+/// The number of endpoints.
+#[unsafe(no_mangle)]
+pub extern "C" fn ffa_endpoints(alloc: Global, machine: &mut FfaMachine) -> u32
+    ensures same { machine.new.held.value ≡ machine.old.held.value }
+    ensures value { result ≡ asked (λ s. length s.state.parties) machine.old.held.value }
+{
+    match take(machine, alloc) {
+        None => NOTHING,
+        Some(board) => {
+            let endpoints = board.endpoints();
+            put(machine, board);
+            endpoints
+        }
+    }
+}
+
+/// The owner of a page of the RAM; 0x8000 is the manager.
+#[unsafe(no_mangle)]
+pub extern "C" fn ffa_owner(alloc: Global, machine: &mut FfaMachine, page: u32) -> u32
+    ensures same { machine.new.held.value ≡ machine.old.held.value }
+    ensures value { result ≡ asked (λ s. owner_number s page) machine.old.held.value }
+{
+    match take(machine, alloc) {
+        None => NOTHING,
+        Some(board) => {
+            let owner = board.owner_of(page);
+            put(machine, board);
+            owner
+        }
+    }
+}
+
+/// The right of an endpoint to a page: 0 is none, 1 to read, 3 to write too, and 4 more to execute.
+#[unsafe(no_mangle)]
+pub extern "C" fn ffa_access(
+    alloc: Global,
+    machine: &mut FfaMachine,
+    endpoint: u16,
+    page: u32,
+) -> u32
+    ensures same { machine.new.held.value ≡ machine.old.held.value }
+    ensures value { result ≡ asked (λ s. access_code (access s.state endpoint page)) machine.old.held.value }
+{
+    match take(machine, alloc) {
+        None => NOTHING,
+        Some(board) => {
+            let access = board.access(endpoint, page);
+            put(machine, board);
+            access
+        }
+    }
+}
+
+/// Copies the bytes of a page, and says whether there is such a page.
+#[unsafe(no_mangle)]
+pub extern "C" fn ffa_read_page(
+    alloc: Global,
+    machine: &mut FfaMachine,
+    page: u32,
+    bytes: &mut FfaPage,
+) -> bool
+    ensures same { machine.new.held.value ≡ machine.old.held.value }
+    ensures there { result ≡ has_page machine.old.held.value page }
+    ensures read { result ≡ true → IfSome machine.old.held.value (λ b. bytes.new.bytes ≡ page_of b.machine.ram page) }
+    ensures kept { result ≡ false → bytes.new ≡ bytes.old }
+{
+    match take(machine, alloc) {
+        None => false,
+        Some(board) => {
+            let is_there = page < board.pages();
+            if is_there {
+                bytes.bytes = *board.page(page);
+            }
+            put(machine, board);
+            is_there
+        }
+    }
+}

@@ -1,0 +1,64 @@
+//! A board as C holds it, or none.
+ghost use Rattle.std.specs.Prelude.{◌≡◌, Option, Some, None, IsSome};
+ghost use Rattle.std.specs.Coded.{coded_option};
+ghost use Rattle.ffa_c.specs.Boarded.{Boarded, coded_boarded};
+
+use crate::board::Board;
+use std::alloc::{Allocator, Global};
+use std::marker::Model;
+
+/// The pointer to a board, which owns it, or a pointer that owns nothing.
+#[repr(C)]
+pub struct Held {
+    // It points to a `Board`. C is told of bytes, since it is to read and write none of them.
+    at: *mut u8,
+    // It takes no bytes.
+    alloc: Global,
+    pub ghost value: { Option Boarded } by { coded_option coded_boarded },
+}
+
+impl Model for Held {
+    ghost use Rattle.ffa_lent.specs.Slots.{slot_owns};
+    ghost use Rattle.ffa_c.specs.contracts.board.Board.{the_row as board_row};
+
+    ghost also_owns = { λ h. slot_owns (⟦<Global as Allocator>⟧.dealloc_token h.alloc) board_row h.at h.value };
+}
+
+impl Held {
+    /// A null pointer, which owns nothing.
+    pub fn none(alloc: Global) -> Held
+        ensures { result.value ≡ None }
+    {
+        Held {
+            at: std::ptr::null_mut(),
+            alloc,
+        }
+    }
+
+    /// The board behind this pointer.
+    pub fn close(board: Box<Board>) -> Held
+        ensures { result.value ≡ Some board.value }
+    {
+        let (at, alloc) = Box::into_raw_with_allocator(board);
+        Held {
+            at: at as *mut u8,
+            alloc,
+        }
+    }
+
+    /// The board that is held, as its box.
+    pub fn open(self) -> Box<Board>
+        requires { IsSome self.value }
+        ensures { self.value ≡ Some result.value }
+    {
+        let Held { at, alloc } = self;
+        unsafe { Box::from_raw(alloc, at as *mut Board) }
+    }
+
+    /// Lets a pointer go that owns nothing.
+    pub fn end(self)
+        requires { self.value ≡ None }
+    {
+        let Held { at: _, alloc: _ } = self;
+    }
+}

@@ -1,0 +1,107 @@
+//! A machine by where its RAM comes from, and what C asks of any machine.
+ghost use Rattle.std.specs.Prelude.{◌≡◌, ◌<◌, length};
+ghost use Rattle.ffa_model.specs.Access.{access};
+ghost use Rattle.ffa_model.specs.Ram.{page_of};
+ghost use Rattle.ffa_c.specs.Border.{HasDone, access_code, exec_code, level_code, owner_number};
+
+use crate::outcome::FfaOutcome;
+use ffa_lent::LentRam;
+use ffa_model::{Data, EndpointId, Op, PageNo, Rights};
+use ffa_physmem::{FlatRam, PhysMem};
+use ffa_spmc::Machine;
+
+/// What a question answers where there is no machine, or no such page.
+pub const NOTHING: u32 = 0xFFFF_FFFF;
+
+/// A machine over RAM of the heap, or over RAM that is lent.
+#[derive(Drop)]
+pub enum Kind {
+    /// The RAM is one piece of the heap.
+    Heap(Machine<FlatRam>),
+    /// The RAM is lent, page by page.
+    Lent(Machine<LentRam>),
+}
+
+/// An operation of a machine, with the outcome for C.
+#[inline]
+pub(crate) fn done_by<M: PhysMem + Drop>(machine: &mut Machine<M>, op: &Op) -> FfaOutcome
+    ensures { HasDone machine.old machine.new op.now result }
+{
+    FfaOutcome::of(&machine.op(op))
+}
+
+/// The endpoint that runs.
+pub(crate) fn runner_of<M: PhysMem + Drop>(machine: &Machine<M>) -> u32
+    ensures { result ≡ machine.now.state.runner }
+{
+    u32::from(machine.runner().0)
+}
+
+/// The number of endpoints.
+pub(crate) fn endpoints_of<M: PhysMem + Drop>(machine: &Machine<M>) -> u32
+    ensures { result ≡ length machine.now.state.parties }
+{
+    machine.endpoints() as u32
+}
+
+/// The number of pages.
+pub(crate) fn pages_of<M: PhysMem + Drop>(machine: &Machine<M>) -> u32
+    ensures { result ≡ length machine.now.ram.pages }
+{
+    machine.ram().pages()
+}
+
+/// The bytes of a page.
+pub(crate) fn page_in<M: PhysMem + Drop>(machine: &Machine<M>, page: PageNo) -> &[u8; 4096]
+    requires { page.0 < length machine.now.ram.pages }
+    ensures { result.now ≡ page_of machine.now.ram page.0 }
+{
+    machine.ram().page(page)
+}
+
+/// The owner of a page, or `NOTHING` where there is no such page; 0x8000 is the manager.
+pub(crate) fn owner_by<M: PhysMem + Drop>(machine: &Machine<M>, page: PageNo) -> u32
+    ensures { result ≡ owner_number machine.now page.0 }
+{
+    if page.0 < machine.ram().pages() {
+        u32::from(machine.owner_of(page).0)
+    } else {
+        NOTHING
+    }
+}
+
+/// The right of an endpoint to a page, as a code.
+pub(crate) fn access_by<M: PhysMem + Drop>(
+    machine: &Machine<M>,
+    endpoint: EndpointId,
+    page: PageNo,
+) -> u32
+    ensures { result ≡ access_code (access machine.now.state endpoint.0 page.0) }
+{
+    code_of(machine.access(endpoint, page))
+}
+
+// 1 for a right to read, 3 for one to write too, 4 more for one to execute, and 0 for none.
+fn code_of(rights: Option<Rights>) -> u32
+    ensures { result ≡ access_code rights }
+{
+    match rights {
+        None => 0,
+        Some(Rights { level, exec }) => level_code(level) + exec_code(exec),
+    }
+}
+
+fn level_code(level: Data) -> u32
+    ensures { result ≡ level_code level }
+{
+    match level {
+        Data::Ro => 1,
+        Data::Rw => 3,
+    }
+}
+
+fn exec_code(exec: bool) -> u32
+    ensures { result ≡ exec_code exec }
+{
+    if exec { 4 } else { 0 }
+}

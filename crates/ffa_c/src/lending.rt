@@ -1,0 +1,296 @@
+//! Pages that C lends, and gets back.
+ghost use Rattle.std.specs.Prelude.{◌≡◌, ◌≢◌, ℕ, [], length, true, false, Option, Some, None, IfSome, is_some};
+ghost use Rattle.std.specs.Option.{option_map};
+ghost use Rattle.ffa_c.specs.Lending.{IsLent, freed_answer, given_back, list_answer, page_count};
+
+use crate::board::Board;
+use crate::held_frames::HeldFrames;
+use crate::machine::{FfaMachine, put, take};
+use ffa_lent::{Frames, Lent, Slot};
+use std::alloc::Global;
+use std::mem;
+
+/// There is no memory.
+pub const NO_MEMORY: u32 = 1;
+
+/// What is to be made is there already.
+pub const OCCUPIED: u32 = 15;
+
+/// There is no list of pages.
+pub const NO_LIST: u32 = 16;
+
+/// There is no page in the slot, or none in the list.
+pub const NO_PAGE: u32 = 17;
+
+/// The list has pages still.
+pub const HAS_PAGES: u32 = 18;
+
+/// There is no machine.
+pub const NO_MACHINE: u32 = 19;
+
+/// The list has more pages or fewer than the manifest's RAM.
+pub const WRONG_COUNT: u32 = 20;
+
+/// A list of lent pages, or none. Memory of zeros is none.
+#[repr(C)]
+pub struct FfaLent {
+    /// Whether there is a list.
+    pub live: bool,
+    /// Where it is.
+    pub held: HeldFrames,
+    pub ghost agree: { live ≡ is_some held.value },
+}
+
+/// A page's memory, or none. Memory of zeros is none.
+#[repr(C)]
+pub struct FfaSlot {
+    /// Whether there is a page.
+    pub live: bool,
+    /// Where it is.
+    pub page: Slot,
+    pub ghost agree: { live ≡ is_some page.bytes },
+}
+
+// Takes the list out.
+#[inline]
+pub(crate) fn take_list(lent: &mut FfaLent, alloc: Global) -> Option<Box<Frames>>
+    ensures taken { lent.old.held.value ≡ option_map (λ b. b.value) result }
+    ensures none_left { lent.new.held.value ≡ None }
+{
+    if lent.live {
+        let held = mem::replace(&mut lent.held, HeldFrames::none(alloc));
+        lent.live = false;
+        Some(held.open())
+    } else {
+        None
+    }
+}
+
+// Puts a list where there is none.
+#[inline]
+pub(crate) fn put_list(lent: &mut FfaLent, frames: Box<Frames>)
+    requires { lent.old.held.value ≡ None }
+    ensures { lent.new.held.value ≡ Some frames.value }
+{
+    mem::replace(&mut lent.held, HeldFrames::close(frames)).end();
+    lent.live = true;
+}
+
+// Takes the page out.
+#[inline]
+fn take_page(slot: &mut FfaSlot) -> Option<Box<[u8; 4096], Lent>>
+    ensures taken { slot.old.page.bytes ≡ option_map (λ b. b.value) result }
+    ensures none_left { slot.new.page.bytes ≡ None }
+{
+    if slot.live {
+        let page = mem::replace(&mut slot.page, Slot::none(Lent));
+        slot.live = false;
+        Some(page.open())
+    } else {
+        None
+    }
+}
+
+// Puts a page where there is none.
+#[inline]
+fn put_page(slot: &mut FfaSlot, page: Box<[u8; 4096], Lent>)
+    requires { slot.old.page.bytes ≡ None }
+    ensures { slot.new.page.bytes ≡ Some page.value }
+{
+    mem::replace(&mut slot.page, Slot::close(page)).end();
+    slot.live = true;
+}
+
+/// Makes an empty list with room for so many pages. 0 is that it was made. Else nothing has changed: `OCCUPIED` or
+/// `NO_MEMORY`.
+#[unsafe(no_mangle)]
+pub extern "C" fn ffa_begin_lending(alloc: Global, lent: &mut FfaLent, pages: u32) -> u32
+    ensures occupied { lent.old.live ≡ true → result ≡ OCCUPIED }
+    ensures made { result ≡ 0 → (lent.old.held.value ≡ None) × (lent.new.held.value ≡ Some []) }
+    ensures refused { result ≢ 0 → lent.new ≡ lent.old }
+{
+    if lent.live {
+        return OCCUPIED;
+    }
+    match empty_list(alloc, pages as usize) {
+        Some(frames) => {
+            put_list(lent, frames);
+            0
+        }
+        None => NO_MEMORY,
+    }
+}
+
+// A list without pages.
+fn empty_list(alloc: Global, pages: usize) -> Option<Box<Frames>>
+    ensures { option_map (λ b. b.value) result ≡ option_map (λ _. []) result }
+{
+    let Ok(frames) = Frames::with_room(alloc, pages) else {
+        return None;
+    };
+    boxed_list(alloc, frames)
+}
+
+// A list in a box, if there is memory for that.
+fn boxed_list(alloc: Global, frames: Frames) -> Option<Box<Frames>>
+    ensures { option_map (λ b. b.value) result ≡ option_map (λ _. frames) result }
+{
+    Box::new(alloc, frames).ok()
+}
+
+/// Moves a page from its slot to the end of the list. 0 is that it was moved. Else nothing has changed: `NO_LIST`, `NO_PAGE`,
+/// or `NO_MEMORY`, where the list has no room.
+#[unsafe(no_mangle)]
+pub extern "C" fn ffa_lend(alloc: Global, lent: &mut FfaLent, slot: &mut FfaSlot) -> u32
+    ensures lent { result ≡ 0 → IsLent lent.old.held.value lent.new.held.value slot.old.page.bytes slot.new.page.bytes }
+    ensures list { result ≢ 0 → lent.new.held.value ≡ lent.old.held.value }
+    ensures page { result ≢ 0 → slot.new.page.bytes ≡ slot.old.page.bytes }
+    ensures no_list { lent.old.live ≡ false → result ≡ NO_LIST }
+    ensures no_page { lent.old.live ≡ true → slot.old.live ≡ false → result ≡ NO_PAGE }
+{
+    let Some(mut frames) = take_list(lent, alloc) else {
+        return NO_LIST;
+    };
+    let answer = lend_to(&mut frames, slot);
+    put_list(lent, frames);
+    answer
+}
+
+// Moves a page to the end of a list.
+fn lend_to(frames: &mut Frames, slot: &mut FfaSlot) -> u32
+    ensures lent { result ≡ 0 → IsLent (Some frames.old) (Some frames.new) slot.old.page.bytes slot.new.page.bytes }
+    ensures list { result ≢ 0 → frames.new ≡ frames.old }
+    ensures page { result ≢ 0 → slot.new.page.bytes ≡ slot.old.page.bytes }
+    ensures no_page { slot.old.live ≡ false → result ≡ NO_PAGE }
+{
+    let Some(page) = take_page(slot) else {
+        return NO_PAGE;
+    };
+    match frames.lend(page) {
+        Ok(()) => 0,
+        Err(page) => {
+            put_page(slot, page);
+            NO_MEMORY
+        }
+    }
+}
+
+/// Moves the last page of the list to the slot, which is empty. 0 is that it was moved. Else nothing has changed: `NO_LIST`,
+/// `OCCUPIED`, where there is a page in the slot, or `NO_PAGE`, where the list has none.
+#[unsafe(no_mangle)]
+pub extern "C" fn ffa_take_back(alloc: Global, lent: &mut FfaLent, slot: &mut FfaSlot) -> u32
+    ensures taken { result ≡ 0 → IsLent lent.new.held.value lent.old.held.value slot.new.page.bytes slot.old.page.bytes }
+    ensures list { result ≢ 0 → lent.new.held.value ≡ lent.old.held.value }
+    ensures page { result ≢ 0 → slot.new.page.bytes ≡ slot.old.page.bytes }
+    ensures no_list { lent.old.live ≡ false → result ≡ NO_LIST }
+    ensures occupied { lent.old.live ≡ true → slot.old.live ≡ true → result ≡ OCCUPIED }
+    ensures no_page { lent.old.live ≡ true → slot.old.live ≡ false → result ≢ 0 → lent.old.held.value ≡ Some [] }
+{
+    let Some(mut frames) = take_list(lent, alloc) else {
+        return NO_LIST;
+    };
+    let answer = take_from(&mut frames, slot);
+    put_list(lent, frames);
+    answer
+}
+
+// Moves the last page of a list to a slot.
+fn take_from(frames: &mut Frames, slot: &mut FfaSlot) -> u32
+    ensures taken { result ≡ 0 → IsLent (Some frames.new) (Some frames.old) slot.new.page.bytes slot.old.page.bytes }
+    ensures list { result ≢ 0 → frames.new ≡ frames.old }
+    ensures page { result ≢ 0 → slot.new.page.bytes ≡ slot.old.page.bytes }
+    ensures occupied { slot.old.live ≡ true → result ≡ OCCUPIED }
+    ensures no_page { slot.old.live ≡ false → result ≢ 0 → frames.old ≡ [] }
+{
+    if slot.live {
+        return OCCUPIED;
+    }
+    match frames.take_back() {
+        None => NO_PAGE,
+        Some(page) => {
+            put_page(slot, page);
+            0
+        }
+    }
+}
+
+/// The number of pages in the list; 0 where there is none.
+#[unsafe(no_mangle)]
+pub extern "C" fn ffa_lent_pages(alloc: Global, lent: &mut FfaLent) -> u64
+    ensures same { lent.new.held.value ≡ lent.old.held.value }
+    ensures count { result ≡ page_count lent.old.held.value }
+{
+    match take_list(lent, alloc) {
+        None => 0,
+        Some(frames) => {
+            let pages = frames.pages() as u64;
+            put_list(lent, frames);
+            pages
+        }
+    }
+}
+
+/// Ends an empty list. 0 is that it is none now. Else nothing has changed: `NO_LIST`, or `HAS_PAGES`.
+#[unsafe(no_mangle)]
+pub extern "C" fn ffa_end_lending(alloc: Global, lent: &mut FfaLent) -> u32
+    ensures ended { result ≡ 0 → (lent.old.held.value ≡ Some []) × (lent.new.held.value ≡ None) }
+    ensures refused { result ≢ 0 → lent.new.held.value ≡ lent.old.held.value }
+    ensures may { lent.old.held.value ≡ Some [] → result ≡ 0 }
+    ensures no_list { lent.old.live ≡ false → result ≡ NO_LIST }
+{
+    let Some(frames) = take_list(lent, alloc) else {
+        return NO_LIST;
+    };
+    if frames.pages() == 0 {
+        0
+    } else {
+        put_list(lent, frames);
+        HAS_PAGES
+    }
+}
+
+/// Ends a machine. RAM of the heap is given back to it. RAM that was lent goes, page by page and in order, with the bytes that
+/// it had in the end, to the list, which has to be there and empty. 0 is that the machine has ended. Else nothing has changed:
+/// `NO_MACHINE`, and for RAM that was lent `NO_LIST` or `HAS_PAGES`.
+#[unsafe(no_mangle)]
+pub extern "C" fn ffa_free(alloc: Global, machine: &mut FfaMachine, lent: &mut FfaLent) -> u32
+    ensures answer { result ≡ freed_answer machine.old.held.value lent.old.held.value }
+    ensures ended { result ≡ 0 → machine.new.held.value ≡ None }
+    ensures given_back { result ≡ 0 → lent.new.held.value ≡ given_back machine.old.held.value lent.old.held.value }
+    ensures machine { result ≢ 0 → machine.new.held.value ≡ machine.old.held.value }
+    ensures list { result ≢ 0 → lent.new.held.value ≡ lent.old.held.value }
+{
+    let Some(board) = take(machine, alloc) else {
+        return NO_MACHINE;
+    };
+    if board.is_lent() {
+        free_lent(alloc, machine, lent, board)
+    } else {
+        drop(board);
+        0
+    }
+}
+
+// Ends a machine over lent RAM, which was taken out, or puts it back.
+fn free_lent(alloc: Global, machine: &mut FfaMachine, lent: &mut FfaLent, board: Box<Board>) -> u32
+    requires taken { machine.old.held.value ≡ None }
+    requires lent { board.value.is_lent ≡ true }
+    ensures answer { result ≡ list_answer lent.old.held.value }
+    ensures ended { result ≡ 0 → machine.new.held.value ≡ None }
+    ensures given_back { result ≡ 0 → lent.new.held.value ≡ Some board.value.machine.ram.pages }
+    ensures machine { result ≢ 0 → machine.new.held.value ≡ Some board.value }
+    ensures list { result ≢ 0 → lent.new.held.value ≡ lent.old.held.value }
+{
+    let Some(mut frames) = take_list(lent, alloc) else {
+        put(machine, board);
+        return NO_LIST;
+    };
+    if frames.pages() != 0 {
+        put(machine, board);
+        put_list(lent, frames);
+        return HAS_PAGES;
+    }
+    *frames = Box::into_inner(board).into_frames();
+    put_list(lent, frames);
+    0
+}

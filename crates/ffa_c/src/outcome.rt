@@ -1,0 +1,71 @@
+//! Outcomes as C sees them.
+ghost use Rattle.std.specs.Prelude.{◌≡◌, replicate};
+ghost use Rattle.ffa_c.specs.Border.{packed, nothing_done, fault_number};
+
+use ffa_model::{FaultKind, Outcome};
+
+/// What an operation gives, by `kind`: 0 the registers that the next runner sees, 1 data, 2 done, 3 a fault, 4 no machine,
+/// 5 a size that is none.
+#[repr(C)]
+#[derive(Clone, Copy)]
+pub struct FfaOutcome {
+    pub kind: u32,
+    /// The endpoint that runs next, with registers.
+    pub runner: u32,
+    /// The data, or the fault: 1 translation, 2 permission, 3 alignment, 4 access flag, 5 outside RAM.
+    pub value: u64,
+    pub x: [u64; 8],
+}
+
+impl FfaOutcome {
+    /// An outcome for C.
+    #[inline]
+    pub fn of(outcome: &Outcome) -> FfaOutcome
+        ensures { result ≡ packed outcome.now }
+    {
+        match *outcome {
+            Outcome::Regs { runner, x } => FfaOutcome {
+                kind: 0,
+                runner: u32::from(runner.0),
+                value: 0,
+                x,
+            },
+            Outcome::Data(value) => plain(1, value),
+            Outcome::Done => plain(2, 0),
+            Outcome::Fault(fault) => plain(3, fault_code(fault)),
+        }
+    }
+
+    /// Nothing was done, for this reason.
+    pub fn nothing(kind: u32) -> FfaOutcome
+        ensures { result ≡ nothing_done kind }
+    {
+        plain(kind, 0)
+    }
+}
+
+fn plain(kind: u32, value: u64) -> FfaOutcome
+    ensures kind { result.kind ≡ kind }
+    ensures runner { result.runner ≡ 0 }
+    ensures value { result.value ≡ value }
+    ensures x { result.x ≡ replicate 8 0 }
+{
+    FfaOutcome {
+        kind,
+        runner: 0,
+        value,
+        x: [0; 8],
+    }
+}
+
+fn fault_code(fault: FaultKind) -> u64
+    ensures { result ≡ fault_number fault }
+{
+    match fault {
+        FaultKind::Translation => 1,
+        FaultKind::Permission => 2,
+        FaultKind::Alignment => 3,
+        FaultKind::AccessFlag => 4,
+        FaultKind::OutsideRam => 5,
+    }
+}

@@ -1,0 +1,160 @@
+//! A manifest as C gives it, without a text.
+ghost use Rattle.std.specs.Prelude.{◌≡◌, ◌≤◌, [], Some, None, IfOk, IfErr, length};
+ghost use Rattle.ffa_manifest.specs.Document.{parts_of};
+ghost use Rattle.ffa_manifest.specs.Reading.{Exact};
+ghost use Rattle.ffa_c.specs.Given.{Gives, counted, each_given, endpoint_given, parts_given, refusal_of, region_given, rights_given, version_given};
+
+use arrayvec::ArrayVec;
+use bitflags::Flags;
+use ffa_manifest::ManifestError;
+use ffa_model::{
+    Data, Endpoint, MOST_ENDPOINTS, MOST_REGIONS, Manifest, Properties, Region, Rights, Version,
+};
+
+/// Pages in a row that an endpoint owns from the start.
+#[repr(C)]
+#[derive(Clone, Copy)]
+pub struct FfaRegion {
+    /// The address of the first byte.
+    pub base: u32,
+    /// How many pages.
+    pub pages: u32,
+    /// The right to them: 1 to read, 3 to write too, and 4 more to execute.
+    pub rights: u32,
+}
+
+/// An endpoint. The first is the normal world.
+#[repr(C)]
+#[derive(Clone, Copy)]
+pub struct FfaEndpoint {
+    /// The form of its descriptors: 0 is that of FF-A 1.1, 1 the compact one.
+    pub version: u32,
+    /// What it takes part in, as bits.
+    pub properties: u32,
+    /// Zeros for the normal world.
+    pub uuid: [u8; 16],
+    /// How many of `regions` are given.
+    pub region_count: u32,
+    pub regions: [FfaRegion; MOST_REGIONS],
+}
+
+/// A machine.
+#[repr(C)]
+#[derive(Clone, Copy)]
+pub struct FfaParts {
+    /// The address of RAM's first byte.
+    pub ram_base: u32,
+    /// RAM's size, in blocks of 2 MiB.
+    pub ram_blocks: u32,
+    /// How many of `endpoints` are given.
+    pub endpoint_count: u32,
+    pub endpoints: [FfaEndpoint; MOST_ENDPOINTS],
+}
+
+fn rights_of(code: u32) -> Option<Rights>
+    ensures { result ≡ rights_given code }
+{
+    let (level, exec) = match code {
+        1 => (Data::Ro, false),
+        3 => (Data::Rw, false),
+        5 => (Data::Ro, true),
+        7 => (Data::Rw, true),
+        _ => return None,
+    };
+    Some(Rights { level, exec })
+}
+
+fn version_of(code: u32) -> Option<Version>
+    ensures { result ≡ version_given code }
+{
+    match code {
+        0 => Some(Version::V1_1),
+        1 => Some(Version::Compact),
+        _ => None,
+    }
+}
+
+fn region_of(given: &FfaRegion) -> Result<Region, ManifestError>
+    ensures { Exact (λ r. r) result (region_given given.now) }
+{
+    let Some(rights) = rights_of(given.rights) else {
+        return Err(ManifestError::WrongKind);
+    };
+    Ok(Region {
+        base: given.base,
+        pages: given.pages,
+        rights,
+    })
+}
+
+fn regions_of(given: &[FfaRegion]) -> Result<ArrayVec<Region, MOST_REGIONS>, ManifestError>
+    requires { length given.now ≤ MOST_REGIONS }
+    ensures { Exact (λ rs. rs.items) result (each_given region_given [] given.now) }
+{
+    let mut regions = ArrayVec::new();
+    for region in given {
+        regions.push(region_of(region)?);
+    }
+    Ok(regions)
+}
+
+// The regions that an endpoint gives, where its array has so many places.
+fn counted_regions(given: &FfaEndpoint) -> Result<ArrayVec<Region, MOST_REGIONS>, ManifestError>
+    ensures { Exact (λ rs. rs.items) result (counted region_given MOST_REGIONS ManifestError.RegionCount given.now.region_count given.now.regions) }
+{
+    let count = given.region_count as usize;
+    if count <= MOST_REGIONS {
+        regions_of(&given.regions[..count])
+    } else {
+        Err(ManifestError::RegionCount)
+    }
+}
+
+fn endpoint_of(given: &FfaEndpoint) -> Result<Endpoint, ManifestError>
+    ensures { Exact (λ e. e) result (endpoint_given given.now) }
+{
+    let Some(version) = version_of(given.version) else {
+        return Err(ManifestError::Version);
+    };
+    let regions = counted_regions(given)?;
+    Ok(Endpoint {
+        version,
+        uuid: given.uuid,
+        properties: Properties::from_bits_retain(given.properties),
+        regions,
+    })
+}
+
+fn endpoints_of(given: &[FfaEndpoint]) -> Result<ArrayVec<Endpoint, MOST_ENDPOINTS>, ManifestError>
+    requires { length given.now ≤ MOST_ENDPOINTS }
+    ensures { Exact (λ es. es.items) result (each_given endpoint_given [] given.now) }
+{
+    let mut endpoints = ArrayVec::new();
+    for endpoint in given {
+        endpoints.push(endpoint_of(endpoint)?);
+    }
+    Ok(endpoints)
+}
+
+// The endpoints that are given, where the array has so many places.
+fn counted_endpoints(given: &FfaParts) -> Result<ArrayVec<Endpoint, MOST_ENDPOINTS>, ManifestError>
+    ensures { Exact (λ es. es.items) result (counted endpoint_given MOST_ENDPOINTS ManifestError.EndpointCount given.now.endpoint_count given.now.endpoints) }
+{
+    let count = given.endpoint_count as usize;
+    if count <= MOST_ENDPOINTS {
+        endpoints_of(&given.endpoints[..count])
+    } else {
+        Err(ManifestError::EndpointCount)
+    }
+}
+
+/// The manifest that C's numbers give, or the first cause for which they are refused. It takes no memory.
+// Not inlined, so that no boot has its frame.
+#[inline(never)]
+pub(crate) fn manifest_given(given: &FfaParts) -> Result<Manifest, ManifestError>
+    ensures given { IfOk result (λ m. Gives given.now (parts_of m)) }
+    ensures refused { IfErr result (λ e. refusal_of (parts_given given.now) ≡ Some e) }
+{
+    let endpoints = counted_endpoints(given)?;
+    ffa_manifest::of_parts(given.ram_base, given.ram_blocks, endpoints)
+}

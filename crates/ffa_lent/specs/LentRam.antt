@@ -1,0 +1,29 @@
+-- RAM in frames, as its clauses see it.
+use Rattle.std.proofs.Common.{◌≡◌, ℕ, ◌≤◌, List, length, None, Some, map, slice_get, ap, sym, inl, inr}
+use Rattle.std.proofs.lemmas.List.{length-map, map-set, set_past}
+use Rattle.std.proofs.lemmas.Option.{slice_get_cases}
+use Rattle.std.specs.Vec.{with_item}
+use Rattle.std.specs.Box.{with_value}
+use Rattle.ffa_model.specs.Ram.{Ram, with_page}
+use Rattle.ffa_lent.specs.declared.frames.LentRam.{LentRam}
+
+abbrev pub ram_of : LentRam → Ram
+ram_of m = record { base = m.base.0; pages = map (λ b. b.value) m.frames.items }
+
+-- the same RAM with other bytes in one frame
+abbrev pub with_frame : LentRam → ℕ → List ℕ → LentRam
+with_frame m i bytes = elim (slice_get m.frames.items i) [
+  | None ↦ m
+  | Some b ↦ record m { frames = with_item m.frames i (with_value b bytes) }
+]
+
+-- only that page changes
+pub ram_of-with_frame : (m : LentRam) (i : ℕ) (bytes : List ℕ) → ram_of (with_frame m i bytes) ≡ with_page (ram_of m) i bytes
+ram_of-with_frame m i bytes =
+    let pages = map (λ b. b.value) m.frames.items in
+    elim (slice_get_cases m.frames.items i).1 [
+      | inl (b, inside, there, read) ↦ rw (there, with_frame) (ap (λ p. record { base = m.base.0; pages = p }) (map-set (λ x. x.value) m.frames.items i (with_value b bytes)))
+      | inr (outside, missing) ↦
+          let past : length pages ≤ i = simp length-map outside in
+          rw (missing, with_frame) (ap (λ p. record { base = m.base.0; pages = p }) (sym (set_past pages i bytes past)))
+    ]

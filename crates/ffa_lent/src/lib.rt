@@ -1,0 +1,10 @@
+//! RAM that its caller lends, page by page.
+#![tactic(auto)]
+
+pub mod frames;
+pub mod lent;
+pub mod slot;
+
+pub use frames::{Frames, LentRam};
+pub use lent::Lent;
+pub use slot::Slot;
