@@ -56,7 +56,7 @@ struct tried rattle_realloc(void *block, size_t kept, size_t size, size_t align)
 
 void rattle_dealloc(void *block) { (void)block; }
 
-static _Alignas(FFA_PAGE_SIZE) struct ffa_page pages[512];
+static _Alignas(FFA_PAGE_BYTES) struct ffa_page pages[512];
 static struct ffa_machine machine;
 static struct ffa_lent list;
 

@@ -25,7 +25,7 @@
 extern "C" {
 #endif
 
-#define FFA_PAGE_SIZE 4096
+#define FFA_PAGE_BYTES 4096
 
 /* A machine, or none. { 0 } is none. */
 struct ffa_machine {
@@ -78,7 +78,7 @@ struct ffa_outcome {
 
 /* The bytes of a page. */
 struct ffa_page {
-    uint8_t bytes[FFA_PAGE_SIZE];
+    uint8_t bytes[FFA_PAGE_BYTES];
 };
 
 /* Pages in a row that an endpoint owns from the start. */
@@ -112,39 +112,40 @@ struct ffa_parts {
     struct ffa_endpoint endpoints[FFA_MOST_ENDPOINTS];
 };
 
-/* What boots, ffa_free and functions of lists answer. */
+/* What boots, ffa_free and functions of lists answer. Names of the standard, as those of calls and error codes, aren't used, since
+ * firmware has headers with them. */
 enum ffa_answer {
     FFA_OK = 0,
-    FFA_NO_MEMORY = 1, /* an allocation was refused */
+    FFA_NO_ROOM = 1, /* an allocation was refused */
 
     /* The manifest is refused: the first cause that applies, as docs/USING.md numbers them (M2 to M14). */
-    FFA_TOML = 2,            /* the text is no TOML, or no UTF-8 */
-    FFA_UNKNOWN_KEY = 3,     /* a key that is none of its table's */
-    FFA_MISSING_KEY = 4,     /* a table lacks one of its keys */
-    FFA_WRONG_KIND = 5,      /* a value of another kind, or rights that are none */
-    FFA_RAM_BASE = 6,        /* no multiple of 64 MiB from 04000000 to FC000000 */
-    FFA_RAM_BLOCKS = 7,      /* not from 1 to 32 */
-    FFA_ENDPOINT_COUNT = 8,  /* not from 1 to 8 */
-    FFA_UUID = 9,            /* can't be read, zeros for a partition, or other than zeros for the normal world */
-    FFA_PROPERTY = 10,       /* not from 0 to 15, or the normal world is to receive */
-    FFA_REGION_COUNT = 11,   /* not from 1 to 16 */
-    FFA_REGION_OUTSIDE = 12, /* not whole pages in RAM behind the tables, or none */
-    FFA_REGION_OVERLAP = 13, /* has a page of a region before it */
-    FFA_VERSION = 14,        /* no version */
+    FFA_MANIFEST_TOML = 2,            /* the text is no TOML, or no UTF-8 */
+    FFA_MANIFEST_UNKNOWN_KEY = 3,     /* a key that is none of its table's */
+    FFA_MANIFEST_MISSING_KEY = 4,     /* a table lacks one of its keys */
+    FFA_MANIFEST_WRONG_KIND = 5,      /* a value of another kind, or rights that are none */
+    FFA_MANIFEST_RAM_BASE = 6,        /* no multiple of 64 MiB from 04000000 to FC000000 */
+    FFA_MANIFEST_RAM_BLOCKS = 7,      /* not from 1 to 32 */
+    FFA_MANIFEST_ENDPOINT_COUNT = 8,  /* not from 1 to 8 */
+    FFA_MANIFEST_UUID = 9,            /* can't be read, zeros for a partition, or other than zeros for the normal world */
+    FFA_MANIFEST_PROPERTY = 10,       /* not from 0 to 15, or the normal world is to receive */
+    FFA_MANIFEST_REGION_COUNT = 11,   /* not from 1 to 16 */
+    FFA_MANIFEST_REGION_OUTSIDE = 12, /* not whole pages in RAM behind the tables, or none */
+    FFA_MANIFEST_REGION_OVERLAP = 13, /* has a page of a region before it */
+    FFA_MANIFEST_VERSION = 14,        /* no version */
 
-    FFA_OCCUPIED = 15,    /* what is to be made, or to be filled, is there already */
-    FFA_NO_LIST = 16,     /* there is no list */
-    FFA_NO_PAGE = 17,     /* there is no page in the slot, or none in the list */
-    FFA_HAS_PAGES = 18,   /* the list has pages still */
+    FFA_OCCUPIED = 15,     /* what is to be made, or to be filled, is there already */
+    FFA_NO_LIST = 16,      /* there is no list */
+    FFA_NO_PAGE = 17,      /* there is no page in the slot, or none in the list */
+    FFA_HAS_PAGES = 18,    /* the list has pages still */
     FFA_NOTHING_RUNS = 19, /* there is no machine */
-    FFA_WRONG_COUNT = 20  /* the list has more pages than the manifest's RAM, or fewer */
+    FFA_WRONG_COUNT = 20   /* the list has more pages than the manifest's RAM, or fewer */
 };
 
 /* What a question answers where there is no machine. */
 #define FFA_NOTHING UINT32_C(0xFFFFFFFF)
 
 /* Makes the machine of a manifest's text of `size` bytes, in its first state, with RAM from the heap. FFA_OK: there was none,
- * the text describes a machine, and this is its first state. Else nothing has changed: FFA_OCCUPIED, FFA_NO_MEMORY, or the
+ * the text describes a machine, and this is its first state. Else nothing has changed: FFA_OCCUPIED, FFA_NO_ROOM, or the
  * cause for which the text is refused, which is the first in the order of reading. */
 uint32_t ffa_boot(struct ffa_machine *machine, const uint8_t *text, size_t size);
 
@@ -156,7 +157,7 @@ uint32_t ffa_boot_parts(struct ffa_machine *machine, const struct ffa_parts *par
 
 /* The same in RAM that is lent: the pages of the list, in order. FFA_OK: the list is empty then, and all pages behind the
  * tables are zeros. Else what there was of a machine is as before, and the list has as many pages as before, with the same
- * bytes unless the answer is FFA_NO_MEMORY: FFA_OCCUPIED, FFA_NO_LIST, FFA_NO_MEMORY, a cause as above, or
+ * bytes unless the answer is FFA_NO_ROOM: FFA_OCCUPIED, FFA_NO_LIST, FFA_NO_ROOM, a cause as above, or
  * FFA_WRONG_COUNT, where the pages aren't as many as the manifest's RAM has (512 for each block). */
 uint32_t ffa_boot_lent(struct ffa_machine *machine, struct ffa_lent *lent, const uint8_t *text, size_t size);
 uint32_t ffa_boot_lent_parts(struct ffa_machine *machine, struct ffa_lent *lent, const struct ffa_parts *parts);
@@ -193,11 +194,11 @@ bool ffa_read_page(struct ffa_machine *machine, uint32_t page, struct ffa_page *
 uint32_t ffa_free(struct ffa_machine *machine, struct ffa_lent *lent);
 
 /* Makes an empty list with room for so many pages: one piece of memory for the list and one for its pages' addresses. FFA_OK,
- * FFA_OCCUPIED, or FFA_NO_MEMORY; where it isn't FFA_OK nothing has changed. */
+ * FFA_OCCUPIED, or FFA_NO_ROOM; where it isn't FFA_OK nothing has changed. */
 uint32_t ffa_begin_lending(struct ffa_lent *lent, uint32_t pages);
 
 /* Moves a page from its slot to the end of the list, and leaves the slot empty. FFA_OK, FFA_NO_LIST, FFA_NO_PAGE, or
- * FFA_NO_MEMORY, for which the list has to have no room; where it isn't FFA_OK nothing has changed. */
+ * FFA_NO_ROOM, for which the list has to have no room; where it isn't FFA_OK nothing has changed. */
 uint32_t ffa_lend(struct ffa_lent *lent, struct ffa_slot *slot);
 
 /* Moves the list's last page to an empty slot. FFA_OK, FFA_NO_LIST, FFA_OCCUPIED, where there is a page in the slot, or

@@ -75,7 +75,7 @@ static void show(void) {
     while (ffa_owner(&machine, first) != FFA_NOTHING) {
         uint32_t behind = first + 1;
         while (ffa_owner(&machine, behind) != FFA_NOTHING && is_as_before(behind, endpoints)) behind++;
-        uint64_t start = RAM_BASE + (uint64_t)FFA_PAGE_SIZE * first, end = RAM_BASE + (uint64_t)FFA_PAGE_SIZE * behind;
+        uint64_t start = RAM_BASE + (uint64_t)FFA_PAGE_BYTES * first, end = RAM_BASE + (uint64_t)FFA_PAGE_BYTES * behind;
         printf("pages %08" PRIX64 " %08" PRIX64 " %04" PRIX32, start, end - 1, ffa_owner(&machine, first));
         for (uint32_t place = 0; place < endpoints; place++) {
             printf(" %s", rights[ffa_access(&machine, identifier(place), first)]);

@@ -239,26 +239,26 @@ static void numbers(void) {
         CHECK(refusal(&parts) == (answer_)); \
     } while (0)
     REFUSED(FFA_OK, parts.endpoints[1].version = 1);
-    REFUSED(FFA_WRONG_KIND, parts.endpoints[2].regions[0].rights = 2);
-    REFUSED(FFA_WRONG_KIND, parts.endpoints[0].regions[0].rights = 0);
-    REFUSED(FFA_RAM_BASE, parts.ram_base = 0x42000000);
-    REFUSED(FFA_RAM_BLOCKS, parts.ram_blocks = 33);
-    REFUSED(FFA_ENDPOINT_COUNT, parts.endpoint_count = 0);
-    REFUSED(FFA_ENDPOINT_COUNT, parts.endpoint_count = 9);
-    REFUSED(FFA_UUID, memset(parts.endpoints[1].uuid, 0, 16));
-    REFUSED(FFA_UUID, parts.endpoints[0].uuid[15] = 1);
-    REFUSED(FFA_PROPERTY, parts.endpoints[1].properties = 16);
-    REFUSED(FFA_PROPERTY, parts.endpoints[0].properties = 1);
-    REFUSED(FFA_REGION_COUNT, parts.endpoints[2].region_count = 0);
-    REFUSED(FFA_REGION_COUNT, parts.endpoints[2].region_count = 17);
-    REFUSED(FFA_REGION_OUTSIDE, parts.endpoints[0].regions[0].base = 0x40008000);
-    REFUSED(FFA_REGION_OUTSIDE, parts.endpoints[0].regions[0].pages = 0);
-    REFUSED(FFA_REGION_OUTSIDE, parts.endpoints[2].regions[0].pages = 0xFFFFFFFF);
-    REFUSED(FFA_REGION_OVERLAP, parts.endpoints[2].regions[0].base = 0x4002F000);
-    REFUSED(FFA_VERSION, parts.endpoints[1].version = 2);
+    REFUSED(FFA_MANIFEST_WRONG_KIND, parts.endpoints[2].regions[0].rights = 2);
+    REFUSED(FFA_MANIFEST_WRONG_KIND, parts.endpoints[0].regions[0].rights = 0);
+    REFUSED(FFA_MANIFEST_RAM_BASE, parts.ram_base = 0x42000000);
+    REFUSED(FFA_MANIFEST_RAM_BLOCKS, parts.ram_blocks = 33);
+    REFUSED(FFA_MANIFEST_ENDPOINT_COUNT, parts.endpoint_count = 0);
+    REFUSED(FFA_MANIFEST_ENDPOINT_COUNT, parts.endpoint_count = 9);
+    REFUSED(FFA_MANIFEST_UUID, memset(parts.endpoints[1].uuid, 0, 16));
+    REFUSED(FFA_MANIFEST_UUID, parts.endpoints[0].uuid[15] = 1);
+    REFUSED(FFA_MANIFEST_PROPERTY, parts.endpoints[1].properties = 16);
+    REFUSED(FFA_MANIFEST_PROPERTY, parts.endpoints[0].properties = 1);
+    REFUSED(FFA_MANIFEST_REGION_COUNT, parts.endpoints[2].region_count = 0);
+    REFUSED(FFA_MANIFEST_REGION_COUNT, parts.endpoints[2].region_count = 17);
+    REFUSED(FFA_MANIFEST_REGION_OUTSIDE, parts.endpoints[0].regions[0].base = 0x40008000);
+    REFUSED(FFA_MANIFEST_REGION_OUTSIDE, parts.endpoints[0].regions[0].pages = 0);
+    REFUSED(FFA_MANIFEST_REGION_OUTSIDE, parts.endpoints[2].regions[0].pages = 0xFFFFFFFF);
+    REFUSED(FFA_MANIFEST_REGION_OVERLAP, parts.endpoints[2].regions[0].base = 0x4002F000);
+    REFUSED(FFA_MANIFEST_VERSION, parts.endpoints[1].version = 2);
     /* What tells of no machine at all comes before what makes none. */
-    REFUSED(FFA_VERSION, parts.endpoints[1].version = 2, parts.ram_base = 1);
-    REFUSED(FFA_RAM_BASE, parts.ram_base = 1, parts.ram_blocks = 0);
+    REFUSED(FFA_MANIFEST_VERSION, parts.endpoints[1].version = 2, parts.ram_base = 1);
+    REFUSED(FFA_MANIFEST_RAM_BASE, parts.ram_base = 1, parts.ram_blocks = 0);
 #undef REFUSED
 }
 
@@ -298,7 +298,7 @@ static void lent_machine(void) {
     parts.ram_blocks = 2;
     CHECK(lend_all(&list, pages, 512) == FFA_OK && ffa_boot_lent_parts(&machine, &list, &parts) == FFA_WRONG_COUNT);
     parts.ram_blocks = 0;
-    CHECK(ffa_boot_lent_parts(&machine, &list, &parts) == FFA_RAM_BLOCKS && ffa_lent_pages(&list) == 512);
+    CHECK(ffa_boot_lent_parts(&machine, &list, &parts) == FFA_MANIFEST_RAM_BLOCKS && ffa_lent_pages(&list) == 512);
     CHECK(take_all_back(&list, pages, 512) && ffa_boot_lent_parts(&machine, &list, &parts) == FFA_NO_LIST && pieces == 0);
 }
 
@@ -308,35 +308,35 @@ static void refusals(void) {
     struct ffa_lent untouched = {0};
     uint32_t answer;
     for (int as_text = 0; as_text < 2; as_text++) {
-        answer = FFA_NO_MEMORY;
+        answer = FFA_NO_ROOM;
         size_t turn = 0;
         for (; answer != FFA_OK; turn++) {
             asked = 0;
             refused = turn + 1;
             answer = as_text ? ffa_boot(&machine, text, text_size) : ffa_boot_parts(&machine, &parts);
             refused = 0;
-            CHECK(answer == FFA_OK || (answer == FFA_NO_MEMORY && !machine.live && pieces == 0));
+            CHECK(answer == FFA_OK || (answer == FFA_NO_ROOM && !machine.live && pieces == 0));
         }
         CHECK(as_text ? turn > 3 : turn == 3);
         CHECK(ffa_free(&machine, &untouched) == FFA_OK);
     }
     CHECK(lend_all(&list, pages, 512) == FFA_OK);
     size_t before = pieces;
-    answer = FFA_NO_MEMORY;
+    answer = FFA_NO_ROOM;
     for (size_t turn = 0; answer != FFA_OK; turn++) {
         asked = 0;
         refused = turn + 1;
         answer = ffa_boot_lent(&machine, &list, text, text_size);
         refused = 0;
-        CHECK(answer == FFA_OK || (answer == FFA_NO_MEMORY && !machine.live && pieces == before && ffa_lent_pages(&list) == 512));
+        CHECK(answer == FFA_OK || (answer == FFA_NO_ROOM && !machine.live && pieces == before && ffa_lent_pages(&list) == 512));
     }
     CHECK(ffa_free(&machine, &list) == FFA_OK && take_all_back(&list, pages, 512));
     asked = 0;
     refused = 1;
-    CHECK(ffa_begin_lending(&list, 4) == FFA_NO_MEMORY && !list.live);
+    CHECK(ffa_begin_lending(&list, 4) == FFA_NO_ROOM && !list.live);
     asked = 0;
     refused = 2;
-    CHECK(ffa_begin_lending(&list, 4) == FFA_NO_MEMORY && !list.live && pieces == 0);
+    CHECK(ffa_begin_lending(&list, 4) == FFA_NO_ROOM && !list.live && pieces == 0);
     refused = 0;
 }
 
