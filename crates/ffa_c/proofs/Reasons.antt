@@ -1,7 +1,7 @@
 -- How many pages the RAM of a machine in its first state has, and what tells why a manifest isn't booted.
 use Rattle.std.proofs.Common.{◌≡◌, ◌≢◌, ◌⊎◌, ℕ, List, Option, None, Some, ◌*◌, ◌∙◌, ap, refl, inl, inr, length, IsUtf8, IfSome}
 use Rattle.ffa_model.proofs.Listed.{length-listed}
-use Rattle.ffa_model.specs.First.{first, page_with_bytes}
+use Rattle.ffa_model.specs.First.{first}
 use Rattle.ffa_model.specs.State.{State}
 use Rattle.ffa_manifest.specs.Document.{Parts}
 use Rattle.ffa_manifest.specs.declared.error.ManifestError.{ManifestError}
