@@ -1,12 +1,12 @@
 #!/usr/bin/env bash
 # Builds the C library and what stands in this folder over it, with every warning an error, and runs it: the test under
-# sanitizers, the example, the traces of examples/ through the border beside the program, and a link with no C library; for
+# sanitizers and valgrind, the example, the traces of examples/ through the border beside the program, and a link with no C library; for
 # AArch64 too, where there are a compiler and an emulator for it. With --install it first installs Debian's packages for that.
 set -euo pipefail
 here=$(cd "$(dirname "${BASH_SOURCE[0]}")" && pwd)
 top=$(dirname "$here")
 player=${FFAPLAY:-$top/ffaplay} # the program, whose answers to traces are compared
-packages="gcc clang libc6-dev gcc-aarch64-linux-gnu libc6-dev-arm64-cross qemu-user-static"
+packages="gcc g++ clang valgrind libc6-dev gcc-aarch64-linux-gnu libc6-dev-arm64-cross qemu-user-static"
 if [[ ${1:-} == --install ]]; then
     apt-get update >/dev/null && apt-get install -y $packages >/dev/null
 fi
@@ -59,6 +59,16 @@ for compiler in gcc clang; do
     "$to/free"
     echo "$compiler: linked with no C library, and run"
 done
+if has g++; then
+    printf '#include "gorseplumb.h"\n#include "lending.h"\n' >"$to/header.cpp"
+    g++ -std=c++17 -Wall -Wextra -Wpedantic -Werror "-I$here" -c "$to/header.cpp" -o "$to/header.o"
+    echo "g++: the headers are C++ too"
+fi
+# The archive isn't instrumented by the sanitizers: valgrind looks at what it reads and writes, too.
+if has gcc && has valgrind; then
+    gcc $strict -O1 -g "$here/test.c" "$to/native.a" -o "$to/test"
+    echo "valgrind: $(valgrind -q --error-exitcode=9 --leak-check=full "$to/test")"
+fi
 symbols=$(nm -u "$to/native.a" | sed -n 's/^ *U //p' | grep -v '^_R\|\$' | sort -u | tr '\n' ' ')
 echo "asked of the program: $symbols"
 
