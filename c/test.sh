@@ -28,6 +28,18 @@ has() {
     command -v "$1" >/dev/null || { echo "not run: no $1 (Debian has it in: $packages)"; missing=1; return 1; }
 }
 
+# Whether each word of a table is written by one store of 64 bits: looks at every store, but those to the stack, of the functions
+# that write tables, as they are compiled: stores NAME OBJDUMP PROGRAM
+stores() {
+    "$2" -d --no-show-raw-insn "$3" | awk '
+        /^[0-9a-f]+ <.*>:$/ { writes_tables = index($0, "<ffa_stage2::tables::") > 0 }
+        !writes_tables || /\(%rsp/ || /\[sp/ { next }
+        /\tmov[a-z]* +[%$][a-z0-9]+,-?(0x[0-9a-f]+)?\(%/ { if ($2 == "mov" && $3 ~ /^%r([abcd]x|[sd]i|bp|8|9|1[0-5]),/) whole++; else { print; others++ } }
+        /\tst[a-z]*\t/ { if ($2 == "str" && $3 ~ /^x/) whole++; else { print; others++ } }
+        END { exit !(whole && !others) }' >&2 || { echo "$1: a word of a table isn't written by one store of 64 bits" >&2; exit 1; }
+    echo "$1: each store of the functions that write tables is of 64 bits"
+}
+
 # Plays each trace that there is, on RAM of the heap and on lent pages: plays NAME COMMAND..
 plays() {
     local name=$1 machine trace kind
@@ -69,6 +81,7 @@ if has gcc && has valgrind; then
     gcc $strict -O1 -g "$here/test.c" "$to/native.a" -o "$to/test"
     echo "valgrind: $(valgrind -q --error-exitcode=9 --leak-check=full "$to/test")"
 fi
+if has gcc; then stores native objdump "$to/test"; fi
 symbols=$(nm -u "$to/native.a" | sed -n 's/^ *U //p' | grep -v '^_R\|\$' | sort -u | tr '\n' ' ')
 echo "asked of the program: $symbols"
 
@@ -77,6 +90,7 @@ if has aarch64-linux-gnu-gcc && has qemu-aarch64-static; then
     arm="aarch64-linux-gnu-gcc $strict -O2 -static"
     $arm "$here/test.c" "$to/arm.a" -o "$to/test"
     echo "AArch64: $(qemu-aarch64-static "$to/test")"
+    stores AArch64 aarch64-linux-gnu-objdump "$to/test"
     $arm "$here/play.c" "$here/heap.c" "$to/arm.a" -o "$to/play"
     plays AArch64 qemu-aarch64-static "$to/play"
     $arm -ffreestanding -fno-stack-protector -nostdlib -Wl,--gc-sections "$here/freestanding.c" "$to/arm.a" -o "$to/free"
