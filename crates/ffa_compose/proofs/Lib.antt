@@ -1,0 +1,10 @@
+pub mod Fields
+pub mod Places
+pub mod Headings
+pub mod Runs
+pub mod Splits
+pub mod Relinquishes
+pub mod Retrieves
+pub mod Sends
+pub mod Fitness
+pub mod Needs

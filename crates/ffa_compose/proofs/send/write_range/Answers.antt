@@ -1,0 +1,10 @@
+use Rattle.std.proofs.Common.{◌+◌, refl, arith}
+use Rattle.ffa_memdesc.proofs.Writes.{four, eight, wrote_as, three_parts}
+use Rattle.ffa_compose.proofs.send.write_range.Goals as goal
+
+pub returns : goal.returns
+returns c = λ old front w0.
+    let w1 = eight _ _ _ _ c.args.at (c.args.at + 8) _ refl w0 c.put_u64.ensures in
+    let w2 = four _ _ _ _ (c.args.at + 8) (c.args.at + 12) _ (omega arith) w1 c.put_u32.ensures in
+    let w3 = four _ _ _ _ (c.args.at + 12) (c.args.at + 16) _ (omega arith) w2 c.put_u32-2.ensures in
+    wrote_as _ _ _ _ _ (three_parts front _ _ _) w3

@@ -1,0 +1,10 @@
+use Rattle.std.proofs.Common.{◌≡◌, ℕ, ◌+◌, ◌*◌, ◌++◌, List, take, length}
+use Rattle.std.specs.List.{flat_map}
+use Rattle.ffa_model.specs.ResponseBytes.{range_bytes}
+use Rattle.ffa_memdesc.specs.Writing.{Wrote}
+use Rattle.ffa_compose.proofs.send.write_ranges.Given as goal
+
+abbrev pub invariant-loop-i : goal.invariant-loop-i
+invariant-loop-i l =
+    (length l.page ≡ length l.fn.page)
+    × ((old front : List ℕ) → Wrote old front l.at l.fn.page → Wrote old (front ++ flat_map range_bytes (take l.i l.ranges)) (l.at + 16 * l.i) l.page)

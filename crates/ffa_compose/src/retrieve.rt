@@ -1,0 +1,73 @@
+//! Retrieve descriptors.
+
+ghost use Rattle.std.specs.Prelude.{◌≡◌, ◌+◌, ◌*◌, take, drop};
+ghost use Rattle.ffa_model.specs.DescriptorPlaces.{in_version, header_size, data_code, exec_code, kind_code};
+ghost use Rattle.ffa_model.specs.RetrieveDescriptor.{Retrieve};
+
+use crate::access::write_access;
+use crate::heading::{Heading, header_size, write_heading};
+use ffa_model::{Data, EndpointId, Kind, RetrieveDesc, Version};
+
+/// The flags: the kind in bits 4:3.
+fn flags_of(kind: Option<Kind>) -> u32
+    ensures { result ≡ 8 * kind_code kind }
+{
+    match kind {
+        None => 0,
+        Some(Kind::Share) => 8,
+        Some(Kind::Lend) => 16,
+        Some(Kind::Donate) => 24,
+    }
+}
+
+/// The permissions: data in bits 1:0, instructions in bits 3:2.
+fn permissions_of(level: Option<Data>, exec: bool) -> u8
+    ensures { result ≡ data_code level + 4 * exec_code exec }
+{
+    let level = match level {
+        None => 0,
+        Some(Data::Ro) => 1,
+        Some(Data::Rw) => 2,
+    };
+    if exec { level + 8 } else { level + 4 }
+}
+
+/// Writes a retrieve descriptor for a receiver of this version (DEN0077A, 5.11 and 16) from the page's first byte on, and
+/// answers how many bytes it has. The rest of the page stays.
+pub fn write_retrieve(
+    version: Version,
+    desc: &RetrieveDesc,
+    receiver: EndpointId,
+    page: &mut [u8; 4096],
+) -> u32
+    ensures size { result ≡ header_size version + 16 }
+    ensures read { Retrieve receiver.0 (in_version version (take result page.new)) desc.now }
+    ensures rest { drop result page.new ≡ drop result page.old }
+{
+    let RetrieveDesc {
+        sender: EndpointId(sender),
+        handle,
+        tag,
+        kind,
+        level,
+        exec,
+    } = *desc;
+    let heading = Heading {
+        sender: EndpointId(sender),
+        attributes: 0,
+        flags: flags_of(kind),
+        handle,
+        tag,
+        count: 1,
+    };
+    let place = header_size(version);
+    write_heading(page, version, &heading);
+    write_access(
+        page,
+        place as usize,
+        receiver,
+        permissions_of(level, exec),
+        0,
+    );
+    place + 16
+}

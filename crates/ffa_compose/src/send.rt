@@ -1,0 +1,159 @@
+//! Send descriptors.
+
+ghost use Rattle.std.specs.Prelude.{◌≡◌, ◌+◌, ◌*◌, ◌^◌, ◌<◌, ◌≤◌, ℕ, List, length, ◌++◌, get_or, take, drop, None, IfOk, OnErr, if◌then◌else◌};
+ghost use Rattle.std.specs.List.{flat_map};
+ghost use Rattle.std.specs.Result.{result_err};
+ghost use Rattle.ffa_model.specs.declared.transaction.Receiver.{Receiver};
+ghost use Rattle.ffa_model.specs.declared.limits.TheConstants.{MOST_RANGES};
+ghost use Rattle.ffa_model.specs.DescriptorPlaces.{Versioned, in_version, data_code};
+ghost use Rattle.ffa_model.specs.SendDescriptor.{Send, send_record, attributes_of, page_total};
+ghost use Rattle.ffa_model.specs.SoundState.{are_bytes};
+ghost use Rattle.ffa_model.specs.ResponseBytes.{composite_bytes, range_bytes};
+ghost use Rattle.ffa_memdesc.specs.Writing.{Wrote};
+ghost use Rattle.ffa_compose.specs.Composed.{receiver_bytes, send_size};
+ghost use Rattle.ffa_compose.specs.Conditions.{conditions, first_broken};
+
+use crate::access::write_access;
+use crate::heading::{Heading, header_size, write_heading};
+use crate::put::{put_u32, put_u64};
+use crate::unfit::{Unfit, find_unfit};
+use ffa_model::{Data, EndpointId, Kind, Range, Receiver, SendDesc, Version};
+
+/// Normal memory, write-back, inner shareable.
+const NORMAL_MEMORY: u16 = 0x2f;
+
+/// The memory attributes: a donate, and a lend to one, leave them to the receiver.
+fn attributes_of(kind: Kind, count: u32) -> u16
+    ensures { result ≡ attributes_of kind count }
+{
+    match kind {
+        Kind::Donate => 0,
+        Kind::Lend if count == 1 => 0,
+        Kind::Lend | Kind::Share => NORMAL_MEMORY,
+    }
+}
+
+/// What the header of a send says.
+fn heading_of(kind: Kind, sender: EndpointId, zero: bool, tag: u64, count: u32) -> Heading
+    ensures exact { result ≡ record { sender = sender; attributes = attributes_of kind count; flags = if zero then 1 else 0; handle = 0; tag = tag; count = count } }
+    ensures sender_fits { sender.0 < 2 ^ 16 }
+    ensures tag_fits { tag < 2 ^ 64 }
+{
+    Heading {
+        sender,
+        attributes: attributes_of(kind, count),
+        flags: zero as u32,
+        handle: 0,
+        tag,
+        count,
+    }
+}
+
+/// The permissions: data in bits 1:0.
+fn grant_code(grant: Option<Data>) -> u8
+    ensures { result ≡ data_code grant }
+{
+    match grant {
+        None => 0,
+        Some(Data::Ro) => 1,
+        Some(Data::Rw) => 2,
+    }
+}
+
+/// How many pages the ranges have together. Nothing wraps.
+pub fn page_total(ranges: &[Range]) -> u64
+    requires { length ranges.now ≤ MOST_RANGES }
+    ensures { result ≡ page_total ranges.now }
+{
+    ranges.iter().map(|r| r.pages as u64).sum()
+}
+
+fn write_receivers(page: &mut [u8], at: usize, receivers: &[Receiver], composite: u32)
+    requires { at + 16 * length receivers.now ≤ length page.old }
+    ensures bytes { (old front : List ℕ) → Wrote old front at page.old
+        → Wrote old (front ++ flat_map (receiver_bytes composite) receivers.now) (at + 16 * length receivers.now) page.new }
+    ensures fit { (k : ℕ) → k < length receivers.now → (d : Receiver) → (get_or receivers.now k d).endpoint.0 < 2 ^ 16 }
+{
+    for i in 0..receivers.len() {
+        let receiver = &receivers[i];
+        write_access(
+            page,
+            at + 16 * i,
+            receiver.endpoint,
+            grant_code(receiver.grant),
+            composite,
+        );
+    }
+}
+
+fn write_composite(page: &mut [u8], at: usize, ranges: &[Range])
+    requires room { at + 16 ≤ length page.old }
+    requires few { length ranges.now ≤ MOST_RANGES }
+    requires total { page_total ranges.now < 2 ^ 32 }
+    ensures { (old front : List ℕ) → Wrote old front at page.old → Wrote old (front ++ composite_bytes ranges.now) (at + 16) page.new }
+{
+    put_u32(page, at, page_total(ranges) as u32);
+    put_u32(page, at + 4, ranges.len() as u32);
+    put_u64(page, at + 8, 0);
+}
+
+fn write_range(page: &mut [u8], at: usize, range: &Range)
+    requires { at + 16 ≤ length page.old }
+    ensures { (old front : List ℕ) → Wrote old front at page.old → Wrote old (front ++ range_bytes range.now) (at + 16) page.new }
+{
+    put_u64(page, at, range.address);
+    put_u32(page, at + 8, range.pages);
+    put_u32(page, at + 12, 0);
+}
+
+fn write_ranges(page: &mut [u8], at: usize, ranges: &[Range])
+    requires { at + 16 * length ranges.now ≤ length page.old }
+    ensures { (old front : List ℕ) → Wrote old front at page.old
+        → Wrote old (front ++ flat_map range_bytes ranges.now) (at + 16 * length ranges.now) page.new }
+{
+    for i in 0..ranges.len() {
+        write_range(page, at + 16 * i, &ranges[i]);
+    }
+}
+
+/// Writes what breaks no condition.
+fn write_fit(version: Version, kind: Kind, desc: &SendDesc, page: &mut [u8; 4096]) -> u32
+    requires { first_broken (conditions kind (send_record desc.now)) ≡ None }
+    ensures size { result ≡ send_size version (send_record desc.now) }
+    ensures read { Send kind (in_version version (take result page.new)) (send_record desc.now) }
+    ensures rest { drop result page.new ≡ drop result page.old }
+{
+    let receivers = desc.receivers.as_slice();
+    let ranges = desc.ranges.as_slice();
+    let count = receivers.len() as u32;
+    let array = header_size(version);
+    let composite = array + 16 * count;
+    let heading = heading_of(kind, desc.sender, desc.zero, desc.tag, count);
+    write_heading(page, version, &heading);
+    write_receivers(page, array as usize, receivers, composite);
+    write_composite(page, composite as usize, ranges);
+    write_ranges(page, composite as usize + 16, ranges);
+    composite + 16 + 16 * ranges.len() as u32
+}
+
+/// Writes a send descriptor of this kind from the page's first byte on (DEN0077A, 5.11 and 16), and answers how many
+/// bytes it has. The rest of the page stays. Where the record breaks a condition the page stays, the error says which, and
+/// no bytes are read as that record.
+pub fn write_send(
+    version: Version,
+    kind: Kind,
+    desc: &SendDesc,
+    page: &mut [u8; 4096],
+) -> Result<u32, Unfit>
+    ensures cause { result_err result ≡ first_broken (conditions kind (send_record desc.now)) }
+    ensures size { IfOk result (λ n. n ≡ send_size version (send_record desc.now)) }
+    ensures read { IfOk result (λ n. Send kind (in_version version (take n page.new)) (send_record desc.now)) }
+    ensures rest { IfOk result (λ n. drop n page.new ≡ drop n page.old) }
+    ensures none { OnErr result ((b : Versioned) → are_bytes b.bytes → Send kind b (send_record desc.now) → ⊥) }
+    ensures kept { OnErr result (page.new ≡ page.old) }
+{
+    match find_unfit(kind, desc) {
+        Some(unfit) => Err(unfit),
+        None => Ok(write_fit(version, kind, desc, page)),
+    }
+}
