@@ -6,12 +6,11 @@ use Rattle.std.proofs.lemmas.List.Folds.{list_any_at}
 use Rattle.std.specs.Prelude.{◌==◌, nat_le}
 use Rattle.ffa_model.specs.declared.limits.TheConstants.{MOST_RANGES}
 use Rattle.ffa_model.specs.declared.rights.Kind.{Kind}
-use Rattle.ffa_model.specs.declared.rights.Kind.TheVariants.{Share, Lend, Donate}
 use Rattle.ffa_model.specs.declared.transaction.Range.{Range}
 use Rattle.ffa_model.specs.declared.transaction.Receiver.{Receiver}
 use Rattle.ffa_model.specs.DescriptorPlaces.{data_code}
-use Rattle.ffa_model.specs.SendDescriptor.{SendRecord, IsGrant, AreApart, is_grant, is_named, are_apart, range_end}
-use Rattle.ffa_memdesc.proofs.Decisions.{either_told}
+use Rattle.ffa_model.specs.SendDescriptor.{SendRecord, AreApart, is_grant, is_named, are_apart, range_end}
+use Rattle.ffa_memdesc.proofs.SendLaw.{grant_told}
 use Rattle.ffa_compose.specs.Conditions.{are_distinct, are_all_apart, conditions, first_broken}
 use Rattle.ffa_compose.proofs.Sends.{Fit}
 
@@ -46,11 +45,6 @@ apart_at [] i j d all before lt = absurd (omega arith)
 apart_at (q ∷ qs) zero j d all before lt = absurd (omega arith)
 apart_at (q ∷ qs) (suc i) zero d all before lt = apart_told q (get_or qs i d) (all_at (are_apart q) qs i d (and_parts (list_all (are_apart q) qs) (are_all_apart qs) all).0 (omega arith))
 apart_at (q ∷ qs) (suc i) (suc j) d all before lt = apart_at qs i j d (and_parts (list_all (are_apart q) qs) (are_all_apart qs) all).1 (omega arith) (omega arith)
-
-grant_told : (kind : Kind) (p : ℕ) → is_grant kind p ≡ true → IsGrant kind p
-grant_told Share p e = either_told p 1 2 e
-grant_told Lend p e = either_told p 1 2 e
-grant_told Donate p e = eqb-true p 0 e
 
 pub fitness : (kind : Kind) (r : SendRecord) → first_broken (conditions kind r) ≡ None → length r.ranges ≤ MOST_RANGES → Fit kind r
 fitness kind r none few =

@@ -1,7 +1,5 @@
-pub mod Fields
 pub mod Places
 pub mod Headings
-pub mod Runs
 pub mod Splits
 pub mod Relinquishes
 pub mod Retrieves

@@ -10,11 +10,12 @@ use Rattle.ffa_model.specs.declared.transaction.Range.{Range}
 use Rattle.ffa_model.specs.declared.transaction.Receiver.{Receiver}
 use Rattle.ffa_model.specs.Lists.{listed}
 use Rattle.ffa_model.specs.DescriptorPlaces.{Versioned, u32_at, data_code, data_of, composite_place, receiver_count, range_count}
-use Rattle.ffa_model.specs.SendDescriptor.{SendRecord, Send, IsGrant, AreApart, is_grant, is_named, are_apart, most_flags, most_receivers, receiver_in, range_in, send_in}
+use Rattle.ffa_model.specs.SendDescriptor.{SendRecord, Send, IsGrant, AreApart, is_grant, is_named, are_apart, most_flags, most_receivers, receiver_in, range_in}
 use Rattle.ffa_model.specs.SoundState.{are_bytes}
 use Rattle.ffa_model.proofs.Listed.{length-listed}
 use Rattle.ffa_memdesc.proofs.Decisions.{either_true}
 use Rattle.ffa_memdesc.proofs.Listed.{all_again, none_again}
+use Rattle.ffa_memdesc.proofs.SendLaw.{send_is}
 use Rattle.ffa_compose.specs.Conditions.{are_distinct, are_all_apart, conditions, first_broken}
 
 holds : {A : Type 0} (t : Bool) (u : A) (x : Option A) → t ≡ true → x ≡ None → cond t x (Some u) ≡ None
@@ -65,15 +66,11 @@ all_apart_again (suc n) f h =
     and_from _ _ (all_again (are_apart (f 0)) (λ i. f (suc i)) n (λ i lt. apart_again (f 0) (f (suc i)) (h (suc i) 0 (omega arith) (omega arith))))
     (all_apart_again n (λ i. f (suc i)) (λ i j before lt. h (suc i) (suc j) (omega arith) (omega arith)))
 
--- what the bytes say is what the record has
-send_is : (kind : Kind) (b : Versioned) (r : SendRecord) → Send kind b r → send_in b ≡ r
-send_is kind b r s = sym (λ i. record { sender = s.sender i; zero = s.zero i; tag = s.tag i; receivers = s.receivers i; ranges = s.ranges i })
-
 pub needs : (kind : Kind) (b : Versioned) (r : SendRecord) → are_bytes b.bytes → Send kind b r → first_broken (conditions kind r) ≡ None
 needs kind b r bytes s =
     let many = length-listed (receiver_count b) (receiver_in b) in
     let much = length-listed (range_count b) (range_in b) in
-    subst (λ (x : SendRecord). first_broken (conditions kind x) ≡ None) (send_is kind b r s)
+    subst (λ (x : SendRecord). first_broken (conditions kind x) ≡ None) (send_is b r s.sender s.zero s.tag s.receivers s.ranges)
     (holds _ _ _ (flag_again kind _ s.flags)
     (holds _ _ _ (le-leb _ _ (subst (λ n. 1 ≤ n) (sym many) s.least))
     (holds _ _ _ (le-leb _ _ (subst (λ n. n ≤ most_receivers kind) (sym many) s.most))

@@ -4,7 +4,7 @@ ghost use Rattle.std.specs.Prelude.{◌≡◌, ◌+◌, ◌^◌, ◌<◌, ◌≤
 ghost use Rattle.ffa_memdesc.specs.Writing.{Wrote};
 ghost use Rattle.ffa_compose.specs.Composed.{entry_bytes};
 
-use crate::put::{put_u8, put_u16, put_u32, put_u64};
+use ffa_memdesc::put::{put_u8, put_u16, put_u32, put_u64};
 use ffa_model::EndpointId;
 
 /// Writes an access descriptor at a place. It tells the composite's place.

@@ -3,7 +3,6 @@
 
 mod access;
 mod heading;
-mod put;
 mod relinquish;
 mod retrieve;
 mod send;

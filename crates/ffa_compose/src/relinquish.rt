@@ -3,7 +3,7 @@
 ghost use Rattle.std.specs.Prelude.{◌≡◌, take, drop};
 ghost use Rattle.ffa_model.specs.RelinquishDescriptor.{Relinquish};
 
-use crate::put::{put_u16, put_u32, put_u64};
+use ffa_memdesc::put::{put_u16, put_u32, put_u64};
 use ffa_model::{EndpointId, RelinquishDesc};
 
 /// How many bytes a relinquish descriptor of one endpoint has.

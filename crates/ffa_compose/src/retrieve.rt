@@ -5,7 +5,8 @@ ghost use Rattle.ffa_model.specs.DescriptorPlaces.{in_version, header_size, data
 ghost use Rattle.ffa_model.specs.RetrieveDescriptor.{Retrieve};
 
 use crate::access::write_access;
-use crate::heading::{Heading, header_size, write_heading};
+use crate::heading::{Heading, write_heading};
+use ffa_memdesc::parts::header_size;
 use ffa_model::{Data, EndpointId, Kind, RetrieveDesc, Version};
 
 /// The flags: the kind in bits 4:3.

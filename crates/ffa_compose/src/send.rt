@@ -4,34 +4,18 @@ ghost use Rattle.std.specs.Prelude.{◌≡◌, ◌+◌, ◌*◌, ◌^◌, ◌<�
 ghost use Rattle.std.specs.List.{flat_map};
 ghost use Rattle.std.specs.Result.{result_err};
 ghost use Rattle.ffa_model.specs.declared.transaction.Receiver.{Receiver};
-ghost use Rattle.ffa_model.specs.declared.limits.TheConstants.{MOST_RANGES};
 ghost use Rattle.ffa_model.specs.DescriptorPlaces.{Versioned, in_version, data_code};
-ghost use Rattle.ffa_model.specs.SendDescriptor.{Send, send_record, attributes_of, page_total};
+ghost use Rattle.ffa_model.specs.SendDescriptor.{Send, send_record, attributes_of};
 ghost use Rattle.ffa_model.specs.SoundState.{are_bytes};
-ghost use Rattle.ffa_model.specs.ResponseBytes.{composite_bytes, range_bytes};
 ghost use Rattle.ffa_memdesc.specs.Writing.{Wrote};
 ghost use Rattle.ffa_compose.specs.Composed.{receiver_bytes, send_size};
 ghost use Rattle.ffa_compose.specs.Conditions.{conditions, first_broken};
 
 use crate::access::write_access;
-use crate::heading::{Heading, header_size, write_heading};
-use crate::put::{put_u32, put_u64};
+use crate::heading::{Heading, write_heading};
 use crate::unfit::{Unfit, find_unfit};
-use ffa_model::{Data, EndpointId, Kind, Range, Receiver, SendDesc, Version};
-
-/// Normal memory, write-back, inner shareable.
-const NORMAL_MEMORY: u16 = 0x2f;
-
-/// The memory attributes: a donate, and a lend to one, leave them to the receiver.
-fn attributes_of(kind: Kind, count: u32) -> u16
-    ensures { result ≡ attributes_of kind count }
-{
-    match kind {
-        Kind::Donate => 0,
-        Kind::Lend if count == 1 => 0,
-        Kind::Lend | Kind::Share => NORMAL_MEMORY,
-    }
-}
+use ffa_memdesc::parts::{attributes_of, header_size, write_composite, write_ranges};
+use ffa_model::{Data, EndpointId, Kind, Receiver, SendDesc, Version};
 
 /// What the header of a send says.
 fn heading_of(kind: Kind, sender: EndpointId, zero: bool, tag: u64, count: u32) -> Heading
@@ -60,14 +44,6 @@ fn grant_code(grant: Option<Data>) -> u8
     }
 }
 
-/// How many pages the ranges have together. Nothing wraps.
-pub fn page_total(ranges: &[Range]) -> u64
-    requires { length ranges.now ≤ MOST_RANGES }
-    ensures { result ≡ page_total ranges.now }
-{
-    ranges.iter().map(|r| r.pages as u64).sum()
-}
-
 fn write_receivers(page: &mut [u8], at: usize, receivers: &[Receiver], composite: u32)
     requires { at + 16 * length receivers.now ≤ length page.old }
     ensures bytes { (old front : List ℕ) → Wrote old front at page.old
@@ -83,36 +59,6 @@ fn write_receivers(page: &mut [u8], at: usize, receivers: &[Receiver], composite
             grant_code(receiver.grant),
             composite,
         );
-    }
-}
-
-fn write_composite(page: &mut [u8], at: usize, ranges: &[Range])
-    requires room { at + 16 ≤ length page.old }
-    requires few { length ranges.now ≤ MOST_RANGES }
-    requires total { page_total ranges.now < 2 ^ 32 }
-    ensures { (old front : List ℕ) → Wrote old front at page.old → Wrote old (front ++ composite_bytes ranges.now) (at + 16) page.new }
-{
-    put_u32(page, at, page_total(ranges) as u32);
-    put_u32(page, at + 4, ranges.len() as u32);
-    put_u64(page, at + 8, 0);
-}
-
-fn write_range(page: &mut [u8], at: usize, range: &Range)
-    requires { at + 16 ≤ length page.old }
-    ensures { (old front : List ℕ) → Wrote old front at page.old → Wrote old (front ++ range_bytes range.now) (at + 16) page.new }
-{
-    put_u64(page, at, range.address);
-    put_u32(page, at + 8, range.pages);
-    put_u32(page, at + 12, 0);
-}
-
-fn write_ranges(page: &mut [u8], at: usize, ranges: &[Range])
-    requires { at + 16 * length ranges.now ≤ length page.old }
-    ensures { (old front : List ℕ) → Wrote old front at page.old
-        → Wrote old (front ++ flat_map range_bytes ranges.now) (at + 16 * length ranges.now) page.new }
-{
-    for i in 0..ranges.len() {
-        write_range(page, at + 16 * i, &ranges[i]);
     }
 }
 

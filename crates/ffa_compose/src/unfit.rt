@@ -6,11 +6,12 @@ ghost use Rattle.ffa_model.specs.declared.limits.TheConstants.{MOST_RANGES};
 ghost use Rattle.ffa_model.specs.declared.transaction.Range.{Range};
 ghost use Rattle.ffa_model.specs.declared.transaction.Receiver.{Receiver};
 ghost use Rattle.ffa_model.specs.DescriptorPlaces.{data_code};
-ghost use Rattle.ffa_model.specs.SendDescriptor.{send_record, is_grant, is_named, are_apart, range_end, most_receivers, most_flags};
+ghost use Rattle.ffa_model.specs.SendDescriptor.{send_record, is_grant, range_end, most_receivers, most_flags};
 ghost use Rattle.ffa_compose.specs.Conditions.{are_distinct, are_all_apart, grant_cause, receiver_conditions, range_conditions, conditions, first_broken};
 
-use crate::send::page_total;
+use ffa_memdesc::parts::{is_apart_from, is_named, page_total, range_end};
 use ffa_model::{Data, EndpointId, Kind, MOST_RECEIVERS, Range, Receiver, SendDesc};
+use std::fmt;
 
 /// The condition of a send descriptor (DEN0077A, 5.11 and 16) that a record breaks.
 #[derive(Clone, Copy, Debug, PartialEq, Eq)]
@@ -75,12 +76,6 @@ fn grant_cause(kind: Kind) -> Unfit
     }
 }
 
-fn is_named(endpoint: EndpointId, receivers: &[Receiver]) -> bool
-    ensures { result ≡ is_named endpoint.0 receivers.now }
-{
-    receivers.iter().any(|r| r.endpoint.0 == endpoint.0)
-}
-
 fn are_distinct(receivers: &[Receiver]) -> bool
     ensures { result ≡ are_distinct receivers.now }
 {
@@ -88,25 +83,6 @@ fn are_distinct(receivers: &[Receiver]) -> bool
         [] => true,
         [first, rest @ ..] => !is_named(first.endpoint, rest) && are_distinct(rest),
     }
-}
-
-/// Where a range ends. Nothing wraps.
-fn range_end(range: &Range) -> u128
-    ensures { result ≡ range_end range.now }
-{
-    range.address as u128 + 4096 * range.pages as u128
-}
-
-fn are_apart(a: &Range, b: &Range) -> bool
-    ensures { result ≡ are_apart a.now b.now }
-{
-    range_end(a) <= b.address as u128 || range_end(b) <= a.address as u128
-}
-
-fn is_apart_from(range: &Range, others: &[Range]) -> bool
-    ensures { result ≡ list_all (are_apart range.now) others.now }
-{
-    others.iter().all(|r| are_apart(range, r))
 }
 
 fn are_all_apart(ranges: &[Range]) -> bool
@@ -191,5 +167,25 @@ pub fn find_unfit(kind: Kind, desc: &SendDesc) -> Option<Unfit>
     match unfit_receivers(kind, desc.sender, desc.receivers.as_slice()) {
         Some(unfit) => Some(unfit),
         None => unfit_ranges(desc.ranges.as_slice()),
+    }
+}
+
+impl fmt::Display for Unfit {
+    fn fmt<W: fmt::Write>(&self, f: &mut fmt::Formatter<W>) -> fmt::Result {
+        f.write_str(match self {
+            Unfit::ZeroedShare => "a share asks for zeroed pages",
+            Unfit::NoReceiver => "no receiver is named",
+            Unfit::SeveralReceiversOfADonate => "a donate has several receivers",
+            Unfit::GrantMissing => "a receiver of a share or a lend is granted no data right",
+            Unfit::GrantOfADonate => "a receiver of a donate is granted a data right",
+            Unfit::ReceiverIsSender => "the sender is named as a receiver",
+            Unfit::ReceiverTwice => "a receiver is named twice",
+            Unfit::NoRange => "no range is named",
+            Unfit::EmptyRange => "a range has no page",
+            Unfit::RangeUnaligned => "a range begins inside a page",
+            Unfit::RangeTooHigh => "a range ends above 2^48",
+            Unfit::RangesOverlap => "two ranges overlap",
+            Unfit::TooManyPages => "the ranges have 2^32 pages or more together",
+        })
     }
 }

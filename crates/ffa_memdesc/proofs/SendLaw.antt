@@ -12,7 +12,7 @@ use Rattle.ffa_memdesc.proofs.Listed.{holds_told, holds_again, none_told, none_a
 use Rattle.ffa_memdesc.proofs.Decisions.{cond_true, differ, differ_again, either_told, either_again, either_true}
 use Rattle.ffa_memdesc.proofs.HeaderLaw.{header_told, header_again}
 
-grant_told : (kind : Kind) (p : ℕ) → is_grant kind p ≡ true → IsGrant kind p
+pub grant_told : (kind : Kind) (p : ℕ) → is_grant kind p ≡ true → IsGrant kind p
 grant_told Share p e = either_told p 1 2 e
 grant_told Lend p e = either_told p 1 2 e
 grant_told Donate p e = eqb-true _ _ e
@@ -168,7 +168,7 @@ body_test kind b r h =
     (receives_again kind b (λ i lt. record { access = h.accesses i lt; new = λ j before. h.distinct i j before lt }))
     (offers_again b (λ i lt. record { range = h.each i lt; apart = λ j before. h.apart i j before lt }))) (eq-eqb _ _ h.total)
 
-send_is : (b : Versioned) (r : SendRecord) → r.sender ≡ sender_field b → r.zero ≡ (flags_field b == 1) → r.tag ≡ tag_field b
+pub send_is : (b : Versioned) (r : SendRecord) → r.sender ≡ sender_field b → r.zero ≡ (flags_field b == 1) → r.tag ≡ tag_field b
     → r.receivers ≡ receivers_in b (receiver_count b) → r.ranges ≡ ranges_in b (range_count b) → send_in b ≡ r
 send_is b r s z t n f = rw (← s, ← z, ← t, ← n, ← f) refl
 

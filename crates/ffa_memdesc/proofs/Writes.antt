@@ -31,14 +31,21 @@ set_is at x xs within = rw add-one (set_split xs at x within)
 pub wrote_start : (old : List ℕ) → Wrote old [] 0 old
 wrote_start old = record { place = refl; bytes = refl }
 
+-- what was written stands first, and the rest stays
+pub front_of : (old front new : List ℕ) (at : ℕ) → Wrote old front at new → take at new ≡ front
+front_of old front new at w = ap (λ (l : List ℕ). take at l) w.bytes ∙ take_at front (drop at old) at w.place
+
+pub rest_of : (old front new : List ℕ) (at : ℕ) → Wrote old front at new → drop at new ≡ drop at old
+rest_of old front new at w = ap (λ (l : List ℕ). drop at l) w.bytes ∙ drop_at front (drop at old) at w.place
+
 drop_front : (old front mid : List ℕ) (at n : ℕ) → Wrote old front at mid → drop (at + n) mid ≡ drop (at + n) old
 drop_front old front mid at n w =
-    sym (drop-drop n at mid) ∙ ap (λ (l : List ℕ). drop n l) (ap (λ (l : List ℕ). drop at l) w.bytes ∙ drop_at front (drop at old) at w.place) ∙ drop-drop n at old
+    sym (drop-drop n at mid) ∙ ap (λ (l : List ℕ). drop n l) (rest_of old front mid at w) ∙ drop-drop n at old
 
 -- n more bytes, up to the place `to`
 pub wrote_more : (old front mid new bytes : List ℕ) (at n to : ℕ) → at + n ≡ to → length bytes ≡ n → Wrote old front at mid → new ≡ take at mid ++ (bytes ++ drop (at + n) mid) → Wrote old (front ++ bytes) to new
 wrote_more old front mid new bytes at n to ends len w e =
-    let kept : take at mid ≡ front = ap (λ (l : List ℕ). take at l) w.bytes ∙ take_at front (drop at old) at w.place in
+    let kept = front_of old front mid at w in
     let rest = drop_front old front mid at n w in
     let place = w.place in
     record {

@@ -5,6 +5,8 @@ mod access;
 mod bytes;
 mod header;
 mod laws;
+pub mod parts;
+pub mod put;
 mod ranges;
 mod receivers;
 mod relinquish;

@@ -36,7 +36,7 @@ pub fn read_range_count<B: Bytes>(bytes: &B, header: &Header, composite: u32) ->
 }
 
 /// Where a range ends. Nothing wraps.
-fn range_end(range: &Range) -> u128
+pub fn range_end(range: &Range) -> u128
     ensures { result ≡ range_end range.now }
 {
     range.address as u128 + 4096 * range.pages as u128
@@ -48,10 +48,11 @@ fn are_apart(a: &Range, b: &Range) -> bool
     range_end(a) <= b.address as u128 || range_end(b) <= a.address as u128
 }
 
-fn is_apart_from(range: &Range, earlier: &[Range]) -> bool
-    ensures { result ≡ list_all (are_apart range.now) earlier.now }
+/// Whether the range has no page of these.
+pub fn is_apart_from(range: &Range, others: &[Range]) -> bool
+    ensures { result ≡ list_all (are_apart range.now) others.now }
 {
-    earlier.iter().all(|r| are_apart(range, r))
+    others.iter().all(|r| are_apart(range, r))
 }
 
 /// The range at this place, where it has no page of an earlier one.

@@ -34,7 +34,8 @@ pub fn data_of(code: u8) -> Option<Data>
     }
 }
 
-fn is_named(endpoint: EndpointId, receivers: &[Receiver]) -> bool
+/// Whether one of the receivers is this endpoint.
+pub fn is_named(endpoint: EndpointId, receivers: &[Receiver]) -> bool
     ensures { result ≡ is_named endpoint.0 receivers.now }
 {
     receivers.iter().any(|r| r.endpoint.0 == endpoint.0)

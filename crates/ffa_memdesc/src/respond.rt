@@ -1,45 +1,15 @@
 //! The answer to a retrieve, written where its caller reads it.
 
-ghost use Rattle.std.specs.Prelude.{◌≡◌, ◌+◌, ◌*◌, ◌^◌, ◌<◌, ◌≤◌, List, ℕ, length, [], ◌∷◌, ◌++◌, take, drop};
-ghost use Rattle.std.specs.List.{flat_map};
-ghost use Rattle.ffa_model.specs.declared.limits.TheConstants.{MOST_RANGES};
+ghost use Rattle.std.specs.Prelude.{◌≡◌, ◌+◌, ◌^◌, ◌<◌, ◌≤◌, List, ℕ, length, ◌++◌, drop};
 ghost use Rattle.ffa_model.specs.DescriptorPlaces.{header_size};
 ghost use Rattle.ffa_model.specs.SendDescriptor.{page_total};
-ghost use Rattle.ffa_model.specs.ResponseBytes.{le, flags_of, permissions_of, header_bytes, rest_bytes, access_bytes, composite_bytes, range_bytes, response_record, response_bytes, response_size};
+ghost use Rattle.ffa_model.specs.ResponseBytes.{flags_of, permissions_of, header_bytes, access_bytes, response_record, response_bytes, response_size};
 ghost use Rattle.ffa_memdesc.specs.Writing.{Wrote};
 
 use crate::header::{ENTRY_SIZE, NORMAL_MEMORY, header_size, told_access_size};
-use crate::ranges::page_total;
-use byteorder::{ByteOrder, LittleEndian};
-use ffa_model::{Data, Kind, Range, Response, Rights, Version};
-
-fn put_u8(out: &mut [u8], at: usize, value: u8)
-    requires { at + 1 ≤ length out.old }
-    ensures { out.new ≡ take at out.old ++ (value ∷ [] ++ drop (at + 1) out.old) }
-{
-    out[at] = value;
-}
-
-fn put_u16(out: &mut [u8], at: usize, value: u16)
-    requires { at + 2 ≤ length out.old }
-    ensures { out.new ≡ take at out.old ++ (le 2 value ++ drop (at + 2) out.old) }
-{
-    LittleEndian::write_u16(&mut out[at..], value);
-}
-
-fn put_u32(out: &mut [u8], at: usize, value: u32)
-    requires { at + 4 ≤ length out.old }
-    ensures { out.new ≡ take at out.old ++ (le 4 value ++ drop (at + 4) out.old) }
-{
-    LittleEndian::write_u32(&mut out[at..], value);
-}
-
-fn put_u64(out: &mut [u8], at: usize, value: u64)
-    requires { at + 8 ≤ length out.old }
-    ensures { out.new ≡ take at out.old ++ (le 8 value ++ drop (at + 8) out.old) }
-{
-    LittleEndian::write_u64(&mut out[at..], value);
-}
+use crate::parts::{write_composite, write_ranges, write_rest};
+use crate::put::{put_u8, put_u16, put_u32, put_u64};
+use ffa_model::{Data, Kind, Response, Rights, Version};
 
 /// The flags: the kind in bits 4:3, and in bit 0 whether the pages were zeroed.
 fn flags_of(kind: Kind, zero: bool) -> u32
@@ -79,21 +49,6 @@ fn write_header(out: &mut [u8], version: Version, response: &Response)
     write_rest(out, version);
 }
 
-/// The header's end: where the access descriptor stands, where the header tells it.
-fn write_rest(out: &mut [u8], version: Version)
-    requires { header_size version ≤ length out.old }
-    ensures { (old front : List ℕ) → Wrote old front 32 out.old → Wrote old (front ++ rest_bytes version) (header_size version) out.new }
-{
-    match version {
-        Version::Compact => {}
-        Version::V1_1 => {
-            put_u32(out, 32, 48);
-            put_u32(out, 36, 0);
-            put_u64(out, 40, 0);
-        }
-    }
-}
-
 /// The access descriptor, at a place, with the composite right behind it.
 fn write_access(out: &mut [u8], at: usize, response: &Response)
     requires room { at + 16 ≤ length out.old }
@@ -106,36 +61,6 @@ fn write_access(out: &mut [u8], at: usize, response: &Response)
     put_u8(out, at + 3, 0);
     put_u32(out, at + 4, at as u32 + ENTRY_SIZE);
     put_u64(out, at + 8, 0);
-}
-
-fn write_composite(out: &mut [u8], at: usize, ranges: &[Range])
-    requires room { at + 16 ≤ length out.old }
-    requires few { length ranges.now ≤ MOST_RANGES }
-    requires total { page_total ranges.now < 2 ^ 32 }
-    ensures { (old front : List ℕ) → Wrote old front at out.old → Wrote old (front ++ composite_bytes ranges.now) (at + 16) out.new }
-{
-    put_u32(out, at, page_total(ranges) as u32);
-    put_u32(out, at + 4, ranges.len() as u32);
-    put_u64(out, at + 8, 0);
-}
-
-fn write_range(out: &mut [u8], at: usize, range: &Range)
-    requires { at + 16 ≤ length out.old }
-    ensures { (old front : List ℕ) → Wrote old front at out.old → Wrote old (front ++ range_bytes range.now) (at + 16) out.new }
-{
-    put_u64(out, at, range.address);
-    put_u32(out, at + 8, range.pages);
-    put_u32(out, at + 12, 0);
-}
-
-fn write_ranges(out: &mut [u8], at: usize, ranges: &[Range])
-    requires { at + 16 * length ranges.now ≤ length out.old }
-    ensures { (old front : List ℕ) → Wrote old front at out.old
-        → Wrote old (front ++ flat_map range_bytes ranges.now) (at + 16 * length ranges.now) out.new }
-{
-    for i in 0..ranges.len() {
-        write_range(out, at + ENTRY_SIZE as usize * i, &ranges[i]);
-    }
 }
 
 // The response in the form of a version. Its callers know which, so all places are constants where it is inlined.

@@ -36,8 +36,8 @@ fn most_receivers(kind: Kind) -> u32
     }
 }
 
-/// The memory attributes of a send to this many receivers.
-fn attributes_of(kind: Kind, count: u32) -> u16
+/// The memory attributes of a send to this many receivers: a donate, and a lend to one, leave them to the receiver.
+pub fn attributes_of(kind: Kind, count: u32) -> u16
     ensures { result ≡ attributes_of kind count }
 {
     match kind {

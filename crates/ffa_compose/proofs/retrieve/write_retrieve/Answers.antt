@@ -2,9 +2,8 @@ use Rattle.std.proofs.Common.{ℕ, ◌+◌, ◌++◌, List, sym, subst, arith}
 use Rattle.ffa_model.specs.DescriptorPlaces.{in_version, header_size}
 use Rattle.ffa_model.specs.RetrieveDescriptor.{Retrieve}
 use Rattle.ffa_memdesc.specs.Writing.{Wrote}
-use Rattle.ffa_memdesc.proofs.Writes.{wrote_to}
+use Rattle.ffa_memdesc.proofs.Writes.{front_of, rest_of, wrote_to}
 use Rattle.ffa_compose.specs.Composed.{heading_bytes, entry_bytes, retrieve_heading, asked_of}
-use Rattle.ffa_compose.proofs.Fields.{front_of, rest_of}
 use Rattle.ffa_compose.proofs.Retrieves.{retrieves, kind_few}
 use Rattle.ffa_compose.proofs.retrieve.write_retrieve.Goals as goal
 

@@ -4,9 +4,8 @@ use Rattle.ffa_model.specs.declared.transaction.Receiver.{Receiver}
 use Rattle.ffa_model.specs.DescriptorPlaces.{in_version}
 use Rattle.ffa_model.specs.SendDescriptor.{Send, send_record, page_total}
 use Rattle.ffa_memdesc.specs.Writing.{Wrote}
-use Rattle.ffa_memdesc.proofs.Writes.{wrote_to}
+use Rattle.ffa_memdesc.proofs.Writes.{front_of, rest_of, wrote_to}
 use Rattle.ffa_compose.specs.Composed.{send_bytes, send_size}
-use Rattle.ffa_compose.proofs.Fields.{front_of, rest_of}
 use Rattle.ffa_compose.proofs.Fitness.{fitness}
 use Rattle.ffa_compose.proofs.Sends.{sends}
 use Rattle.ffa_compose.proofs.send.write_fit.Goals as goal
@@ -26,17 +25,17 @@ returns c =
     let w1 = c.write_receivers.ensures.bytes old _ w0 in
     let w2 = c.write_composite.ensures old _ w1 in
     let w3 = c.write_ranges.ensures old _ w2 in
-    let all : Wrote old (send_bytes version c.args.kind (send_record d)) (send_size version (send_record d)) c.write_ranges.new.page =
+    let all : Wrote old (send_bytes version c.args.kind (send_record d)) (send_size version (send_record d)) c.write_ranges.new.out =
     rw (c.heading_of-heading.ensures.exact, size, xs, rs) at w3 in
     let endpoints = subst (λ (l : List Receiver). (k : ℕ) → k < length l → (e : Receiver) → (get_or l k e).endpoint.0 < 2 ^ 16) xs c.write_receivers.ensures.fit in
     let few : length d.ranges.items ≤ 64 = omega arith in
     let fit = fitness c.args.kind (send_record d) c.requires few in
     record {
       size = long;
-      read = subst (λ (n : ℕ). Send c.args.kind (in_version version (take n c.write_ranges.new.page)) (send_record d)) (sym long)
+      read = subst (λ (n : ℕ). Send c.args.kind (in_version version (take n c.write_ranges.new.out)) (send_record d)) (sym long)
           (subst (λ (l : List ℕ). Send c.args.kind (in_version version l) (send_record d)) (sym (front_of _ _ _ _ all))
           (sends version c.args.kind (send_record d) fit (record { sender = c.heading_of-heading.ensures.sender_fits; tag = c.heading_of-heading.ensures.tag_fits; endpoints = endpoints })));
-      rest = subst (λ (n : ℕ). drop n c.write_ranges.new.page ≡ drop n old) (sym long) (rest_of _ _ _ _ all);
+      rest = subst (λ (n : ℕ). drop n c.write_ranges.new.out ≡ drop n old) (sym long) (rest_of _ _ _ _ all);
     }
 
 pub write_composite-requires-clause-total : goal.write_composite-requires-clause-total

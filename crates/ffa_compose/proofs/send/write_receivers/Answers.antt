@@ -4,7 +4,7 @@ use Rattle.std.specs.List.{flat_map}
 use Rattle.ffa_model.specs.declared.transaction.Receiver.{Receiver}
 use Rattle.ffa_memdesc.specs.Writing.{Wrote}
 use Rattle.ffa_compose.specs.Composed.{receiver_bytes, entry_bytes}
-use Rattle.ffa_compose.proofs.Runs.{goes_on, ends}
+use Rattle.ffa_memdesc.proofs.Runs.{goes_on, ends}
 use Rattle.ffa_compose.proofs.send.write_receivers.Goals as goal
 
 any_default : {X : Type 0} (xs : List X) (i : ℕ) (d e : X) → i < length xs → get_or xs i d ≡ get_or xs i e

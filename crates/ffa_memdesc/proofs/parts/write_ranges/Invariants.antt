@@ -2,7 +2,7 @@ use Rattle.std.proofs.Common.{◌≡◌, ℕ, ◌+◌, ◌*◌, ◌++◌, List, 
 use Rattle.std.specs.List.{flat_map}
 use Rattle.ffa_model.specs.ResponseBytes.{range_bytes}
 use Rattle.ffa_memdesc.specs.Writing.{Wrote}
-use Rattle.ffa_memdesc.proofs.respond.write_ranges.Given as goal
+use Rattle.ffa_memdesc.proofs.parts.write_ranges.Given as goal
 
 abbrev pub invariant-loop-i : goal.invariant-loop-i
 invariant-loop-i l =

@@ -2,7 +2,7 @@ use Rattle.std.proofs.Common.{ℕ, ◌++◌, ◌+◌, refl, subst, arith}
 use Rattle.ffa_model.specs.ResponseBytes.{le}
 use Rattle.ffa_memdesc.specs.Writing.{Wrote}
 use Rattle.ffa_memdesc.proofs.Writes.{four, eight, wrote_as, three_parts}
-use Rattle.ffa_memdesc.proofs.respond.write_composite.Goals as goal
+use Rattle.ffa_memdesc.proofs.parts.write_composite.Goals as goal
 
 pub returns : goal.returns
 returns c = λ old front w0.

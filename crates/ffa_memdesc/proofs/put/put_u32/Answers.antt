@@ -1,7 +1,7 @@
 use Rattle.std.proofs.Common.{arith}
 use Rattle.ffa_model.specs.ResponseBytes.{le}
 use Rattle.ffa_memdesc.proofs.Writes.{put_is}
-use Rattle.ffa_memdesc.proofs.respond.put_u32.Goals as goal
+use Rattle.ffa_memdesc.proofs.put.put_u32.Goals as goal
 
 pub returns : goal.returns
 unfolding le

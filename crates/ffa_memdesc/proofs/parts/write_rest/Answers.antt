@@ -1,6 +1,6 @@
 use Rattle.std.proofs.Common.{refl}
 use Rattle.ffa_memdesc.proofs.Writes.{four, eight, wrote_as, three_parts}
-use Rattle.ffa_memdesc.proofs.respond.write_rest.Goals as goal
+use Rattle.ffa_memdesc.proofs.parts.write_rest.Goals as goal
 
 pub returns-in-V1_1 : goal.returns-in-V1_1
 returns-in-V1_1 c = λ old front w0.

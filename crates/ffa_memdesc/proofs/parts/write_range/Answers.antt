@@ -1,6 +1,6 @@
 use Rattle.std.proofs.Common.{◌+◌, refl, arith}
 use Rattle.ffa_memdesc.proofs.Writes.{four, eight, wrote_as, three_parts}
-use Rattle.ffa_memdesc.proofs.respond.write_range.Goals as goal
+use Rattle.ffa_memdesc.proofs.parts.write_range.Goals as goal
 
 pub returns : goal.returns
 returns c = λ old front w0.

@@ -1,6 +1,0 @@
-use Rattle.std.proofs.Common.{arith}
-use Rattle.ffa_memdesc.proofs.Writes.{set_is}
-use Rattle.ffa_compose.proofs.put.put_u8.Goals as goal
-
-pub returns : goal.returns
-returns c = set_is c.args.at c.args.value c.args.page.now (omega arith)

@@ -1,0 +1,64 @@
+//! The parts that descriptors have in common (DEN0077A, 5.11 and 16): what is asked of them, and how they are written.
+
+ghost use Rattle.std.specs.Prelude.{◌≡◌, ◌+◌, ◌*◌, ◌^◌, ◌<◌, ◌≤◌, List, ℕ, length, ◌++◌};
+ghost use Rattle.std.specs.List.{flat_map};
+ghost use Rattle.ffa_model.specs.declared.limits.TheConstants.{MOST_RANGES};
+ghost use Rattle.ffa_model.specs.DescriptorPlaces.{header_size};
+ghost use Rattle.ffa_model.specs.SendDescriptor.{page_total};
+ghost use Rattle.ffa_model.specs.ResponseBytes.{rest_bytes, composite_bytes, range_bytes};
+ghost use Rattle.ffa_memdesc.specs.Writing.{Wrote};
+
+use crate::header::ENTRY_SIZE;
+pub use crate::header::{header_size, told_access_size};
+use crate::put::{put_u32, put_u64};
+pub use crate::ranges::{is_apart_from, page_total, range_end};
+pub use crate::receivers::is_named;
+pub use crate::send::attributes_of;
+use ffa_model::{Range, Version};
+
+/// Writes the header's end, behind its first 32 bytes: where the access descriptors stand, where the header tells it.
+pub fn write_rest(out: &mut [u8], version: Version)
+    requires { header_size version ≤ length out.old }
+    ensures { (old front : List ℕ) → Wrote old front 32 out.old → Wrote old (front ++ rest_bytes version) (header_size version) out.new }
+{
+    match version {
+        Version::Compact => {}
+        Version::V1_1 => {
+            put_u32(out, 32, 48);
+            put_u32(out, 36, 0);
+            put_u64(out, 40, 0);
+        }
+    }
+}
+
+/// Writes a composite at a place, without its ranges: how many pages and how many ranges there are.
+pub fn write_composite(out: &mut [u8], at: usize, ranges: &[Range])
+    requires room { at + 16 ≤ length out.old }
+    requires few { length ranges.now ≤ MOST_RANGES }
+    requires total { page_total ranges.now < 2 ^ 32 }
+    ensures { (old front : List ℕ) → Wrote old front at out.old → Wrote old (front ++ composite_bytes ranges.now) (at + 16) out.new }
+{
+    put_u32(out, at, page_total(ranges) as u32);
+    put_u32(out, at + 4, ranges.len() as u32);
+    put_u64(out, at + 8, 0);
+}
+
+fn write_range(out: &mut [u8], at: usize, range: &Range)
+    requires { at + 16 ≤ length out.old }
+    ensures { (old front : List ℕ) → Wrote old front at out.old → Wrote old (front ++ range_bytes range.now) (at + 16) out.new }
+{
+    put_u64(out, at, range.address);
+    put_u32(out, at + 8, range.pages);
+    put_u32(out, at + 12, 0);
+}
+
+/// Writes ranges from a place on, one behind another.
+pub fn write_ranges(out: &mut [u8], at: usize, ranges: &[Range])
+    requires { at + 16 * length ranges.now ≤ length out.old }
+    ensures { (old front : List ℕ) → Wrote old front at out.old
+        → Wrote old (front ++ flat_map range_bytes ranges.now) (at + 16 * length ranges.now) out.new }
+{
+    for i in 0..ranges.len() {
+        write_range(out, at + ENTRY_SIZE as usize * i, &ranges[i]);
+    }
+}
