@@ -68,7 +68,7 @@ module _ (form : Form) (start mid : State) (had has : Option (List ℕ)) (lines 
           ∙ sym (text_one form 1 start lines line)
 
   -- a line that is none
-  pub ends_badly : (then : Option (List ℕ)) (line : List ℕ) → Consumes has then (line ++ feed ∷ []) → has_no_feed line ≡ true → None ≡ line_of line → EndsBadly form start had text number
+  abbrev pub ends_badly : (then : Option (List ℕ)) (line : List ℕ) → Consumes has then (line ++ feed ∷ []) → has_no_feed line ≡ true → None ≡ line_of line → EndsBadly form start had text number
   ends_badly then line read single is = record {
     state = mid;
     left = has;
@@ -81,7 +81,7 @@ module _ (form : Form) (start mid : State) (had has : Option (List ℕ)) (lines 
   }
 
   -- a rest that no LF ends
-  pub ends_unended : (line : List ℕ) → IsAll has line → has_no_feed line ≡ true → 1 ≤ length line → EndsBadly form start had text number
+  abbrev pub ends_unended : (line : List ℕ) → IsAll has line → has_no_feed line ≡ true → 1 ≤ length line → EndsBadly form start had text number
   ends_unended line all single some = record {
     state = mid;
     left = has;

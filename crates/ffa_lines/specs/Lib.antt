@@ -1,5 +1,7 @@
+pub mod Asking
 pub mod Cut
 pub mod Followed
 pub mod Forms
+pub mod Guards
 pub mod Reading
 pub mod Whole

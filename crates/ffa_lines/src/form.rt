@@ -1,7 +1,8 @@
 //! The forms in which a line's text is written.
 ghost use Rattle.std.specs.Prelude.{◌≡◌, ◌++◌, ℕ, List, IfErr, OnOk};
-ghost use Rattle.ffa_model.specs.TraceText.{ended};
+ghost use Rattle.ffa_model.specs.TraceText.{ended, line_text};
 ghost use Rattle.ffa_trace.specs.Lines.{meant};
+ghost use Rattle.ffa_lines.specs.Asking.{unasked_by};
 ghost use Rattle.ffa_lines.specs.Forms.{PutsIn, WritesIn, names_mark, number_mark};
 
 use ffa_abi::{call_name, error_name};
@@ -44,6 +45,31 @@ pub fn make_text<M: PhysMem + Drop, T: Translations + Drop, A: Allocator + Copy>
     }
 }
 
+/// The same, and puts the plain text into `said`, which a line that says nothing leaves as it is.
+pub(crate) fn make_texts<M: PhysMem + Drop, T: Translations + Drop, A: Allocator + Copy>(
+    player: &mut Player<M, T>,
+    alloc: A,
+    form: Form,
+    number: u64,
+    line: &Line,
+    said: &mut Vec<u8, A>,
+    text: &mut Vec<u8, A>,
+) -> Result<(), PlayError>
+    ensures made { WritesIn form player.old.state player.new.state number (meant line.now) text.new.items result }
+    ensures said { OnOk result (said.new.items ≡ unasked_by player.old.state (meant line.now) said.old.items) }
+{
+    text.clear();
+    match line {
+        Line::Nothing => Ok(()),
+        Line::Operation(_) | Line::Show | Line::Audit => {
+            if form.number {
+                put_number(text, number)?;
+            }
+            put_texts(player, alloc, form, line, said, text)
+        }
+    }
+}
+
 fn put_number<A: Allocator>(text: &mut Vec<u8, A>, number: u64) -> Result<(), PlayError>
     ensures written { OnOk result (text.new.items ≡ text.old.items ++ number_mark number) }
     ensures failed { IfErr result (λ e. e ≡ PlayError.NoMemory) }
@@ -69,6 +95,29 @@ fn put_text<M: PhysMem + Drop, T: Translations + Drop, A: Allocator + Copy>(
     }
 }
 
+// The same, with the plain text in `said`.
+fn put_texts<M: PhysMem + Drop, T: Translations + Drop, A: Allocator + Copy>(
+    player: &mut Player<M, T>,
+    alloc: A,
+    form: Form,
+    line: &Line,
+    said: &mut Vec<u8, A>,
+    text: &mut Vec<u8, A>,
+) -> Result<(), PlayError>
+    ensures put { PutsIn form player.old.state player.new.state (meant line.now) text.old.items text.new.items result }
+    ensures said { OnOk result (said.new.items ≡ line_text player.old.state (meant line.now)) }
+{
+    said.clear();
+    let Ok(outcome) = player.line(alloc, line, said) else {
+        return Err(PlayError::NoMemory);
+    };
+    put_bytes(text, said)?;
+    match outcome {
+        Some(Outcome::Regs { x, .. }) if form.names => put_names(text, &x),
+        _ => Ok(()),
+    }
+}
+
 // Puts names before the LF that ends a text.
 fn put_names<A: Allocator>(text: &mut Vec<u8, A>, x: &[u64; 8]) -> Result<(), PlayError>
     ensures written { OnOk result ((front : List ℕ) → text.old.items ≡ ended front → text.new.items ≡ ended (front ++ names_mark x.now)) }
@@ -91,6 +140,13 @@ fn put<A: Allocator>(text: &mut Vec<u8, A>, word: &str) -> Result<(), PlayError>
     ensures written { OnOk result (text.new.items ≡ text.old.items ++ word.now) }
     ensures failed { IfErr result (λ e. e ≡ PlayError.NoMemory) }
 {
-    text.extend_from_slice(word.as_bytes())
+    put_bytes(text, word.as_bytes())
+}
+
+fn put_bytes<A: Allocator>(text: &mut Vec<u8, A>, bytes: &[u8]) -> Result<(), PlayError>
+    ensures written { OnOk result (text.new.items ≡ text.old.items ++ bytes.now) }
+    ensures failed { IfErr result (λ e. e ≡ PlayError.NoMemory) }
+{
+    text.extend_from_slice(bytes)
         .map_err(|_| PlayError::NoMemory)
 }

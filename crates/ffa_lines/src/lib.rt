@@ -1,15 +1,17 @@
-//! Plays a trace line by line: with the number of each line, with the names of what registers hold, or against a text that
-//! is expected; and says why a line is none of the format.
+//! Plays a trace line by line: with the number of each line, with the names of what registers hold, with guards that are
+//! checked, or against a text that is expected; and says why a line is none of the format.
 #![tactic(auto)]
 
 mod comparison;
 mod fault;
 mod form;
+mod guards;
 mod playing;
 mod read;
 
 pub use comparison::{Difference, compare};
 pub use fault::{LineFault, WordFault, line_fault};
 pub use form::{Form, make_text};
+pub use guards::{Asks, Breach, guard_text, play_guarded};
 pub use playing::play;
 pub use read::next_line;
