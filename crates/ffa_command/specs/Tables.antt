@@ -2,14 +2,16 @@
 -- for stands in Commands.
 use Rattle.std.specs.Prelude.{List, [], ◌∷◌}
 use Rattle.clap.specs.Words.{App, Rule, new_app, with_rule, with_subcommand}
-use Rattle.ffa_command.specs.Commands.{path_rule, flag_rule}
+use Rattle.ffa_command.specs.Commands.{path_rule, flag_rule, value_rule, number_rule}
 use Rattle.ffa_command.specs.declared.program.Entry.{Entry}
 use Rattle.ffa_command.specs.declared.program.Word.{Word}
-use Rattle.ffa_command.specs.declared.program.Word.TheVariants.{Path, Flag}
+use Rattle.ffa_command.specs.declared.program.Word.TheVariants.{Path, Flag, Value, Number}
 
 abbrev pub rule_for : Word → Rule
 rule_for (Path id help) = path_rule id.now
 rule_for (Flag id help) = flag_rule id.now
+rule_for (Value id help needed) = value_rule id.now needed
+rule_for (Number id help usual) = number_rule id.now usual.now
 
 -- the command with these words
 abbrev pub with_words : List Word → App → App

@@ -1,7 +1,8 @@
 //! What the command line asks for.
 ghost use Rattle.std.specs.Prelude.{◌≡◌, option_map};
+ghost use Rattle.std.specs.Option.{option_and_then};
 ghost use Rattle.clap.specs.Words.{found_of, first_of, rows_of, subcommand_rows_of};
-ghost use Rattle.ffa_command.specs.Commands.{ask_of, manifest_of, trace_of, expected_of, verbose_of, answers_at_once, is_input, reads_once, asked_in, is_given, machine_in, text_in, named_in, named, named_run, named_demo, named_compare, named_check, named_layout};
+ghost use Rattle.ffa_command.specs.Commands.{ask_of, words_of, manifest_of, trace_of, expected_of, verbose_of, answers_at_once, is_input, reads_once, asked_in, is_given, number_of, machine_in, text_in, words_in, named_in, named, named_run, named_demo, named_compare, named_check, named_layout, named_descriptor, named_generate};
 
 use clap::ArgMatches;
 
@@ -28,10 +29,33 @@ pub struct TextOptions {
     pub names: bool,
 }
 
+/// The words that say what a descriptor of a memory transaction is to hold, as they were given.
+#[derive(Clone, Copy, Debug, PartialEq, Eq)]
+pub struct DescriptorWords<'a> {
+    /// What the descriptor is for: a call on memory, by the last word of its name.
+    pub kind: &'a str,
+    /// Where TX stands.
+    pub tx: &'a str,
+    /// The transaction's sender.
+    pub from: Option<&'a str>,
+    /// The transaction's receivers, each with its right.
+    pub to: Option<&'a str>,
+    /// The transaction's pages.
+    pub pages: Option<&'a str>,
+    pub handle: Option<&'a str>,
+    pub tag: Option<&'a str>,
+    /// The kind of the transaction that is retrieved.
+    pub of: Option<&'a str>,
+    /// The pages are to be zeroed.
+    pub zero: bool,
+    /// The descriptor has the compact form.
+    pub compact: bool,
+}
+
 /// A command with its paths, which are words of the command line, and what its flags say.
 ///
-/// At most one of its paths is `STANDARD_INPUT`. Where `verbose` is set, more is said on standard error of what is
-/// refused.
+/// At most one of its paths is `STANDARD_INPUT`. Where `strict` is set, the trace's guards are checked. Where `verbose` is set,
+/// more is said on standard error of what is refused.
 #[derive(Clone, Copy, Debug, PartialEq, Eq)]
 pub enum Request<'a> {
     /// To play a trace on the machine of a manifest.
@@ -40,6 +64,7 @@ pub enum Request<'a> {
         trace: &'a str,
         machine: MachineOptions,
         text: TextOptions,
+        strict: bool,
         verbose: bool,
     },
     /// To play a trace on the built-in machine.
@@ -47,6 +72,7 @@ pub enum Request<'a> {
         trace: &'a str,
         machine: MachineOptions,
         text: TextOptions,
+        strict: bool,
         verbose: bool,
     },
     /// To compare what a trace prints on the machine of a manifest with what is expected.
@@ -67,6 +93,18 @@ pub enum Request<'a> {
         manifest: &'a str,
         verbose: bool,
     },
+    /// To print the lines of a trace that write a descriptor and make its call.
+    Descriptor {
+        words: DescriptorWords<'a>,
+    },
+    /// To print a trace of so many lines for the machine of a manifest, or how often its calls and accesses ended in which way.
+    Generate {
+        manifest: &'a str,
+        seed: u64,
+        lines: u64,
+        count: bool,
+        verbose: bool,
+    },
 }
 
 impl<'a> Request<'a> {
@@ -78,8 +116,9 @@ impl<'a> Request<'a> {
             Request::Run { manifest, .. }
             | Request::Compare { manifest, .. }
             | Request::Check { manifest, .. }
-            | Request::Layout { manifest, .. } => Some(manifest),
-            Request::Demo { .. } => None,
+            | Request::Layout { manifest, .. }
+            | Request::Generate { manifest, .. } => Some(manifest),
+            Request::Demo { .. } | Request::Descriptor { .. } => None,
         }
     }
 
@@ -91,7 +130,10 @@ impl<'a> Request<'a> {
             Request::Run { trace, .. }
             | Request::Demo { trace, .. }
             | Request::Compare { trace, .. } => Some(trace),
-            Request::Check { .. } | Request::Layout { .. } => None,
+            Request::Check { .. }
+            | Request::Layout { .. }
+            | Request::Descriptor { .. }
+            | Request::Generate { .. } => None,
         }
     }
 
@@ -114,7 +156,9 @@ impl<'a> Request<'a> {
             | Request::Demo { verbose, .. }
             | Request::Compare { verbose, .. }
             | Request::Check { verbose, .. }
-            | Request::Layout { verbose, .. } => verbose,
+            | Request::Layout { verbose, .. }
+            | Request::Generate { verbose, .. } => verbose,
+            Request::Descriptor { .. } => false,
         }
     }
 
@@ -128,7 +172,11 @@ impl<'a> Request<'a> {
             Request::Run { trace, text, .. } | Request::Demo { trace, text, .. } => {
                 text.line_buffered || is_input(Some(trace))
             }
-            Request::Compare { .. } | Request::Check { .. } | Request::Layout { .. } => false,
+            Request::Compare { .. }
+            | Request::Check { .. }
+            | Request::Layout { .. }
+            | Request::Descriptor { .. }
+            | Request::Generate { .. } => false,
         }
     }
 
@@ -164,6 +212,20 @@ fn is_given(matches: &ArgMatches<'_>, id: &str) -> bool
     text_of(matches, id) == Some("true")
 }
 
+// The decimal number that a text writes.
+fn read_number(text: &str) -> Option<u64>
+    ensures { result ≡ number_of text.now }
+{
+    text.parse().ok()
+}
+
+// The number that was given, or that stands for one that wasn't.
+fn number_of(matches: &ArgMatches<'_>, id: &str) -> Option<u64>
+    ensures { result ≡ option_and_then number_of (first_of id.now (rows_of (found_of matches.now))) }
+{
+    read_number(text_of(matches, id)?)
+}
+
 #[tactic(auto, unfolding(crate::specs::Commands::machine_in))]
 fn machine_in(matches: &ArgMatches<'_>) -> MachineOptions
     ensures { result ≡ machine_in (rows_of (found_of matches.now)) }
@@ -196,6 +258,7 @@ fn named_run<'a>(matches: &ArgMatches<'a>) -> Option<Request<'a>>
         trace,
         machine: machine_in(matches),
         text: text_in(matches),
+        strict: is_given(matches, "strict"),
         verbose: is_given(matches, "verbose"),
     })
 }
@@ -209,6 +272,7 @@ fn named_demo<'a>(matches: &ArgMatches<'a>) -> Option<Request<'a>>
         trace,
         machine: machine_in(matches),
         text: text_in(matches),
+        strict: is_given(matches, "strict"),
         verbose: is_given(matches, "verbose"),
     })
 }
@@ -247,6 +311,50 @@ fn named_layout<'a>(matches: &ArgMatches<'a>) -> Option<Request<'a>>
     Some(Request::Layout { manifest, verbose })
 }
 
+#[tactic(auto, unfolding(crate::specs::Commands::words_in))]
+fn words_in<'a>(matches: &ArgMatches<'a>, kind: &'a str, tx: &'a str) -> DescriptorWords<'a>
+    ensures { words_of result ≡ words_in (rows_of (found_of matches.now)) kind.entry.now tx.entry.now }
+{
+    DescriptorWords {
+        kind,
+        tx,
+        from: text_of(matches, "from"),
+        to: text_of(matches, "to"),
+        pages: text_of(matches, "pages"),
+        handle: text_of(matches, "handle"),
+        tag: text_of(matches, "tag"),
+        of: text_of(matches, "of"),
+        zero: is_given(matches, "zero"),
+        compact: is_given(matches, "compact"),
+    }
+}
+
+#[tactic(auto, unfolding(crate::specs::Commands::named_descriptor))]
+fn named_descriptor<'a>(matches: &ArgMatches<'a>) -> Option<Request<'a>>
+    ensures { option_map ask_of result ≡ named_descriptor (rows_of (found_of matches.now)) }
+{
+    let kind = text_of(matches, "kind")?;
+    let tx = text_of(matches, "tx")?;
+    let words = words_in(matches, kind, tx);
+    Some(Request::Descriptor { words })
+}
+
+#[tactic(auto, unfolding(crate::specs::Commands::named_generate))]
+fn named_generate<'a>(matches: &ArgMatches<'a>) -> Option<Request<'a>>
+    ensures { option_map ask_of result ≡ named_generate (rows_of (found_of matches.now)) }
+{
+    let manifest = text_of(matches, "manifest")?;
+    let seed = number_of(matches, "seed")?;
+    let lines = number_of(matches, "lines")?;
+    Some(Request::Generate {
+        manifest,
+        seed,
+        lines,
+        count: is_given(matches, "count"),
+        verbose: is_given(matches, "verbose"),
+    })
+}
+
 #[tactic(auto, unfolding(crate::specs::Commands::named))]
 fn named<'a>(name: &str, matches: &ArgMatches<'a>) -> Option<Request<'a>>
     ensures { option_map ask_of result ≡ named name.now (rows_of (found_of matches.now)) }
@@ -261,6 +369,10 @@ fn named<'a>(name: &str, matches: &ArgMatches<'a>) -> Option<Request<'a>>
         named_check(matches)
     } else if name == "layout" {
         named_layout(matches)
+    } else if name == "descriptor" {
+        named_descriptor(matches)
+    } else if name == "generate" {
+        named_generate(matches)
     } else {
         None
     }

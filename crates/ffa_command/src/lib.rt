@@ -9,7 +9,7 @@ mod program;
 
 pub use clap::error::ErrorKind;
 use clap::{ArgMatches, Command, Error};
-pub use command_line::{MachineOptions, Request, STANDARD_INPUT, TextOptions};
+pub use command_line::{DescriptorWords, MachineOptions, Request, STANDARD_INPUT, TextOptions};
 pub use program::{TOOLCHAIN, VERSION};
 use std::alloc::{AllocError, Global};
 

@@ -5,6 +5,7 @@ ghost use Rattle.clap.specs.declared.builder.command.Command.TheViews.{out-Comma
 ghost use Rattle.ffa_command.specs.Commands.{bare, program};
 ghost use Rattle.ffa_command.specs.Tables.{rule_for, with_words, with_commands, app_for};
 
+use clap::builder::ValueParser;
 use clap::{Arg, ArgAction, Command};
 use std::alloc::{AllocError, Global};
 
@@ -23,6 +24,7 @@ Status:
    2  a line is none of a trace
    3  a file can't be read, the output can't be written or memory is short
    4  the trace's text is another than expected
+   5  a guard of the trace isn't met
   64  the words make no sense
 
 Manual: docs/USING.md";
@@ -31,9 +33,27 @@ Manual: docs/USING.md";
 #[derive(Clone, Copy)]
 enum Word<'a> {
     // A path that has to be given.
-    Path { id: &'a str, help: &'a str },
+    Path {
+        id: &'a str,
+        help: &'a str,
+    },
     // A flag, which may be given by its name.
-    Flag { id: &'a str, help: &'a str },
+    Flag {
+        id: &'a str,
+        help: &'a str,
+    },
+    // A value, which is given behind its name, and may be left out where it isn't needed.
+    Value {
+        id: &'a str,
+        help: &'a str,
+        needed: bool,
+    },
+    // A decimal number below 2^64, which may be given behind its name, and which stands for it otherwise.
+    Number {
+        id: &'a str,
+        help: &'a str,
+        usual: &'a str,
+    },
 }
 
 // A command of the program.
@@ -84,6 +104,11 @@ const NAMES: Word = Word::Flag {
     help: "Writes the name of a call and of an error behind its registers",
 };
 
+const STRICT: Word = Word::Flag {
+    id: "strict",
+    help: "Checks guards: `#= TEXT`, which the line before prints, and `#@ ENDPOINT`, which runs",
+};
+
 const VERBOSE: Word = Word::Flag {
     id: "verbose",
     help: "Says more on standard error of what is refused",
@@ -100,6 +125,7 @@ const RUN: Entry = Entry {
         LINE_BUFFERED,
         NUMBER,
         NAMES,
+        STRICT,
         VERBOSE,
     ],
 };
@@ -107,7 +133,16 @@ const RUN: Entry = Entry {
 const DEMO: Entry = Entry {
     name: "demo",
     about: "Plays a trace on the built-in machine",
-    words: &[TRACE, FRAMES, TLB, LINE_BUFFERED, NUMBER, NAMES, VERBOSE],
+    words: &[
+        TRACE,
+        FRAMES,
+        TLB,
+        LINE_BUFFERED,
+        NUMBER,
+        NAMES,
+        STRICT,
+        VERBOSE,
+    ],
 };
 
 const COMPARE: Entry = Entry {
@@ -128,6 +163,94 @@ const LAYOUT: Entry = Entry {
     words: &[MANIFEST, VERBOSE],
 };
 
+const KIND: Word = Word::Path {
+    id: "kind",
+    help: "What it is for: donate, lend, share, retrieve or relinquish",
+};
+
+const TX_ADDRESS: Word = Word::Value {
+    id: "tx",
+    help: "The address of TX of the endpoint that calls, as 4002E000",
+    needed: true,
+};
+
+const FROM: Word = Word::Value {
+    id: "from",
+    help: "The transaction's sender, as 8001",
+    needed: false,
+};
+
+const TO: Word = Word::Value {
+    id: "to",
+    help: "Its receivers, each with its right: 8002:rw,8003:ro",
+    needed: false,
+};
+
+const PAGES: Word = Word::Value {
+    id: "pages",
+    help: "Its ranges, each with how many pages, in hexadecimal: 40021000+1,40025000+2",
+    needed: false,
+};
+
+const HANDLE: Word = Word::Value {
+    id: "handle",
+    help: "The handle of what is retrieved or relinquished, as 0000800100000001",
+    needed: false,
+};
+
+const TAG: Word = Word::Value {
+    id: "tag",
+    help: "The tag; 0 where it isn't given",
+    needed: false,
+};
+
+const OF: Word = Word::Value {
+    id: "of",
+    help: "The kind of what is retrieved: share, lend or donate; left open where it isn't given",
+    needed: false,
+};
+
+const ZERO: Word = Word::Flag {
+    id: "zero",
+    help: "Asks for zeroed pages",
+};
+
+const COMPACT: Word = Word::Flag {
+    id: "compact",
+    help: "Writes the form of an endpoint whose version is \"compact\"",
+};
+
+const SEED: Word = Word::Number {
+    id: "seed",
+    help: "Which trace it is: the same for a seed on each run",
+    usual: "1",
+};
+
+const LINES: Word = Word::Number {
+    id: "lines",
+    help: "How many lines it has",
+    usual: "1000",
+};
+
+const COUNT: Word = Word::Flag {
+    id: "count",
+    help: "Prints how often each call succeeded and each error and fault came, in place of the trace",
+};
+
+const DESCRIPTOR: Entry = Entry {
+    name: "descriptor",
+    about: "Prints the lines of a trace that write a descriptor and make its call",
+    words: &[
+        KIND, TX_ADDRESS, FROM, TO, PAGES, HANDLE, TAG, OF, ZERO, COMPACT,
+    ],
+};
+
+const GENERATE: Entry = Entry {
+    name: "generate",
+    about: "Prints a trace for the machine of a manifest",
+    words: &[MANIFEST, SEED, LINES, COUNT, VERBOSE],
+};
+
 fn arg<'a>(alloc: Global, word: &Word<'a>) -> Arg<'a>
     ensures rule { rule_of result ≡ rule_for word.now }
     ensures local { result.global ≡ false }
@@ -137,6 +260,17 @@ fn arg<'a>(alloc: Global, word: &Word<'a>) -> Arg<'a>
         Word::Flag { id, help } => Arg::new(alloc, id)
             .long(id)
             .action(ArgAction::SetTrue)
+            .help(help),
+        Word::Value { id, help, needed } => Arg::new(alloc, id)
+            .long(id)
+            .action(ArgAction::Set)
+            .required(needed)
+            .help(help),
+        Word::Number { id, help, usual } => Arg::new(alloc, id)
+            .long(id)
+            .action(ArgAction::Set)
+            .value_parser(ValueParser::unsigned(0, u64::MAX))
+            .default_value(usual)
             .help(help),
     }
 }
@@ -193,9 +327,12 @@ fn with_commands<'a>(alloc: Global, entries: &[Entry<'a>]) -> Result<Command<'a>
 }
 
 /// The program's command line.
-#[tactic(auto, unfolding(crate::specs::Commands::program, crate::specs::Commands::run_app, crate::specs::Commands::demo_app, crate::specs::Commands::compare_app, crate::specs::Commands::check_app, crate::specs::Commands::layout_app))]
+#[tactic(auto, unfolding(crate::specs::Commands::program, crate::specs::Commands::run_app, crate::specs::Commands::demo_app, crate::specs::Commands::compare_app, crate::specs::Commands::check_app, crate::specs::Commands::layout_app, crate::specs::Commands::descriptor_app, crate::specs::Commands::generate_app))]
 pub(crate) fn program<'a>(alloc: Global) -> Result<Command<'a>, AllocError>
     ensures { IfOk result (λ c. app_of c ≡ program) }
 {
-    with_commands(alloc, &[RUN, DEMO, COMPARE, CHECK, LAYOUT])
+    with_commands(
+        alloc,
+        &[RUN, DEMO, COMPARE, CHECK, LAYOUT, DESCRIPTOR, GENERATE],
+    )
 }
