@@ -1,0 +1,9 @@
+use Rattle.std.proofs.Common.{arith}
+use Rattle.std.specs.Prelude.{◌==◌}
+use Rattle.std.proofs.lemmas.Grind.{common_steps}
+use Rattle.std.proofs.lemmas.List.Splits.{length-slice_split}
+use Rattle.ffa_words.specs.Members.{comma}
+use Rattle.ffa_words.proofs.parts.commas.Goals as goal
+
+pub returns : goal.returns
+returns c = grind (arith, common_steps, length-slice_split (λ b. b == comma) c.args.text.now)
