@@ -1,0 +1,10 @@
+use Rattle.std.proofs.Common.{arith}
+use Rattle.ffa_generate.proofs.Growing.{grows_none, grows_more}
+use Rattle.ffa_generate.proofs.lines.put_entries.Goals as goal
+
+pub loop-count-init : goal.loop-count-init
+loop-count-init g c = (grows_none _, omega arith)
+
+pub loop-count-preserved : goal.loop-count-preserved
+loop-count-preserved g c =
+    (grows_more _ _ _ _ c.loop-count.invariant.0 c.in_ok-put_entry.ensures, omega (arith, c.loop-count-test.true))

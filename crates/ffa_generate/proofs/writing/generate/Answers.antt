@@ -1,0 +1,11 @@
+use Rattle.std.proofs.Common.{arith}
+use Rattle.ffa_generate.proofs.Growing.{wrote_first, wrote_next}
+use Rattle.ffa_generate.proofs.writing.generate.Goals as goal
+
+pub loop-left-init : goal.loop-left-init
+loop-left-init g c = (wrote_first _ _, omega arith)
+
+pub loop-left-preserved : goal.loop-left-preserved
+loop-left-preserved g c =
+    let i = c.loop-left.invariant in
+    (wrote_next _ _ _ _ _ _ i.1 c.in_ok-left.ensures.few i.0 c.in_ok-left.ensures.lines, omega (arith, i.1))

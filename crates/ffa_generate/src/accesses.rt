@@ -1,0 +1,99 @@
+//! Loads, stores and fetches at the edges of what an endpoint reaches.
+use crate::generator::Generator;
+use crate::lines::Stop;
+use crate::offers::Wish;
+use crate::pages::PAGE;
+use ffa_model::{Op, Size};
+use ffa_physmem::PhysMem;
+use ffa_tlb::Translations;
+use std::alloc::Allocator;
+
+/// The first address that has more than 32 bits.
+const TOO_HIGH: u64 = 1 << 32;
+
+impl<'m, M: PhysMem + Drop, T: Translations + Drop, A: Allocator + Copy> Generator<'m, M, T, A> {
+    /// One to three accesses.
+    pub fn play_accesses(&mut self) -> Result<(), Stop> {
+        let count = 1 + self.dice.below(3);
+        for _ in 0..count {
+            self.play_access()?;
+        }
+        Ok(())
+    }
+
+    fn play_access(&mut self) -> Result<(), Stop> {
+        let page = self.edge_page();
+        let size = self.dice.size();
+        let addr = page.wrapping_add(self.offset(size));
+        let op = match self.dice.below(3) {
+            0 => Op::Load { addr, size },
+            1 => Op::Fetch { addr },
+            _ => Op::Store {
+                addr,
+                size,
+                value: self.dice.word(),
+            },
+        };
+        if self.is_tx(addr) && !self.dice.one_in(4) {
+            return Ok(());
+        }
+        self.play(op)?;
+        Ok(())
+    }
+
+    // Whether it is in the runner's TX, which is mostly left to descriptors.
+    fn is_tx(&self, address: u64) -> bool {
+        match self.known_of(self.runner()).buffers {
+            Some(buffers) => address.wrapping_sub(buffers.tx) < PAGE * u64::from(buffers.pages),
+            None => false,
+        }
+    }
+
+    // A place in a page: at its beginning, at its end or between, mostly a multiple of the size.
+    fn offset(&mut self, size: Size) -> u64 {
+        let count = match size {
+            Size::B1 => 1,
+            Size::B2 => 2,
+            Size::B4 => 4,
+            Size::B8 => 8,
+        };
+        let word = self.dice.word();
+        let aligned = word % PAGE / 8 * 8;
+        self.dice.pick(&[0, PAGE - count, PAGE - 4, aligned, aligned, word % PAGE])
+    }
+
+    // A page at an edge of what the runner reaches.
+    fn edge_page(&mut self) -> u64 {
+        let runner = self.runner();
+        let other = self.any_endpoint();
+        let owner = if self.dice.one_in(2) { runner } else { other };
+        let region = self.any_region(owner);
+        let first = u64::from(region.base);
+        let end = first + PAGE * u64::from(region.pages);
+        let base = u64::from(self.machine.ram().base().0);
+        let ram_end = self.ram_end();
+        match self.dice.below(12) {
+            0 | 1 => first,
+            2 | 3 => end.wrapping_sub(PAGE),
+            4 => first.wrapping_sub(PAGE),
+            5 => end,
+            6 => base,
+            7 => self
+                .dice
+                .pick(&[ram_end, TOO_HIGH, 0, u64::MAX - (PAGE - 1)]),
+            8 | 9 => self.offered_page(),
+            _ => self.any_page(),
+        }
+    }
+
+    // A page that is lent out, or that the runner holds of another.
+    fn offered_page(&mut self) -> u64 {
+        let wish = self
+            .dice
+            .pick(&[Wish::Held, Wish::Held, Wish::OwnFree, Wish::OwnHeld]);
+        match self.any_offer(wish) {
+            Some(offer) => offer.parts[0].address,
+            None => self.any_page(),
+        }
+    }
+}

@@ -1,0 +1,121 @@
+//! An endpoint that gathers pages until it can have as many open transactions as there may be, and asks for one more.
+use crate::generator::Generator;
+use crate::lines::Stop;
+use crate::offers::Wish;
+use ffa_model::{EndpointId, Kind, MOST_ENDPOINTS, MOST_OPEN};
+use ffa_physmem::PhysMem;
+use ffa_tlb::Translations;
+use std::alloc::Allocator;
+
+/// A time of gathering begins once in so many turns.
+const PERIOD: u64 = 300;
+
+/// It ends after so many turns at the latest.
+const LONGEST: u64 = 60;
+
+/// Whoever has so few pages left gives none.
+const FEWEST_FREE: u32 = 4;
+
+/// How many pages one gives in a turn.
+const GIVEN: u32 = 2;
+
+impl<'m, M: PhysMem + Drop, T: Translations + Drop, A: Allocator + Copy> Generator<'m, M, T, A> {
+    /// Begins and ends times of gathering, by the number of turns.
+    pub fn plan_hoard(&mut self) {
+        let endpoints = self.endpoints();
+        match self.turns % PERIOD {
+            0 => {
+                let place = self.dice.place(endpoints);
+                self.hoarder = Some(EndpointId::at(place % MOST_ENDPOINTS));
+            }
+            LONGEST => self.hoarder = None,
+            _ => {}
+        }
+    }
+
+    /// What an endpoint does in its turn while another, or itself, gathers pages.
+    pub fn play_hoard(&mut self, hoarder: EndpointId) -> Result<(), Stop> {
+        self.give_up_all()?;
+        self.reclaim_all()?;
+        if self.runner() == hoarder {
+            self.gather()
+        } else {
+            self.give_pages(hoarder)
+        }
+    }
+
+    // The runner gives up what it holds.
+    fn give_up_all(&mut self) -> Result<(), Stop> {
+        for _ in 0..MOST_OPEN {
+            match self.any_offer(Wish::Held) {
+                Some(offer) => self.give_up(&offer, false)?,
+                None => return Ok(()),
+            }
+        }
+        Ok(())
+    }
+
+    // The runner ends its offers, but for those that somebody holds.
+    fn reclaim_all(&mut self) -> Result<(), Stop> {
+        for _ in 0..MOST_OPEN {
+            match self.any_offer(Wish::OwnFree) {
+                Some(offer) => self.reclaim(offer.handle, 0)?,
+                None => return Ok(()),
+            }
+        }
+        Ok(())
+    }
+
+    // The runner donates pages, one at a time, where it has enough.
+    fn give_pages(&mut self, hoarder: EndpointId) -> Result<(), Stop> {
+        let Some(buffers) = self.need_buffers()? else {
+            return Ok(());
+        };
+        for _ in 0..GIVEN {
+            if self.count_free(self.runner()) > FEWEST_FREE
+                && let Some(page) = self.free_page(self.runner())
+            {
+                self.send_page(buffers, Kind::Donate, hoarder, page)?;
+            }
+        }
+        Ok(())
+    }
+
+    // The runner takes what it was given, and sends as often as it may where it has the pages.
+    fn gather(&mut self) -> Result<(), Stop> {
+        for _ in 0..MOST_OPEN {
+            if let Some(offer) = self.any_offer(Wish::ToTake)
+                && offer.kind == Kind::Donate
+            {
+                self.take(&offer)?;
+            }
+        }
+        self.need_buffers()?;
+        let open = self.offers.count(Wish::OwnHeld, self.runner());
+        let wanted = (MOST_OPEN + 1).saturating_sub(open);
+        if self.count_free(self.runner()) as usize >= wanted {
+            self.send_all()?;
+            self.hoarder = None;
+        }
+        Ok(())
+    }
+
+    // The runner sends pages, one at a time, until it may open no more, and then tries each kind.
+    fn send_all(&mut self) -> Result<(), Stop> {
+        let Some(buffers) = self.need_buffers()? else {
+            return Ok(());
+        };
+        let to = self.another();
+        for _ in 0..MOST_OPEN {
+            if let Some(page) = self.free_page(self.runner()) {
+                self.send_page(buffers, Kind::Share, to, page)?;
+            }
+        }
+        for kind in [Kind::Share, Kind::Lend, Kind::Donate] {
+            if let Some(page) = self.free_page(self.runner()) {
+                self.send_page(buffers, kind, to, page)?;
+            }
+        }
+        self.reclaim_all()
+    }
+}

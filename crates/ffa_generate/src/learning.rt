@@ -1,0 +1,100 @@
+//! What is learned of the endpoints from the answers to their calls.
+use crate::generator::{Generator, NORMAL_WORLD};
+use ffa_model::function::FFA_RUN;
+use ffa_model::{Call, EndpointId, Work};
+use ffa_physmem::PhysMem;
+use ffa_tlb::Translations;
+use std::alloc::Allocator;
+
+/// An endpoint's buffers: the addresses of TX and RX, how many pages each has, and whether RX is full.
+#[derive(Clone, Copy)]
+pub struct Buffers {
+    pub tx: u64,
+    pub rx: u64,
+    pub pages: u32,
+    pub full: bool,
+}
+
+impl Buffers {
+    /// Whether the page at an address is one of them.
+    pub fn have_page(&self, address: u64) -> bool {
+        let size = 4096 * u64::from(self.pages);
+        address.wrapping_sub(self.tx) < size || address.wrapping_sub(self.rx) < size
+    }
+}
+
+/// What is known of an endpoint.
+#[derive(Clone, Copy, Default)]
+pub struct Known {
+    pub buffers: Option<Buffers>,
+    /// Its work, where it doesn't wait.
+    pub work: Option<Work>,
+    /// The bits of its own that it bound to another endpoint: the last ones, as a word, and to whom.
+    pub bound: Option<(u64, EndpointId)>,
+}
+
+impl Known {
+    /// RX is full, or empty.
+    pub fn set_full(&mut self, full: bool) {
+        if let Some(buffers) = &mut self.buffers {
+            buffers.full = full;
+        }
+    }
+}
+
+impl<'m, M: PhysMem + Drop, T: Translations + Drop, A: Allocator + Copy> Generator<'m, M, T, A> {
+    /// Learns from a call that was done, by what the next runner sees.
+    pub fn learn(&mut self, caller: EndpointId, call: Call, answer: &[u64; 8]) {
+        match call {
+            Call::RxtxMap { tx, rx, pages } => {
+                let full = false;
+                self.known_mut(caller).buffers = Some(Buffers {
+                    tx,
+                    rx,
+                    pages,
+                    full,
+                });
+            }
+            Call::RxtxUnmap { .. } => self.known_mut(caller).buffers = None,
+            Call::RxRelease => self.known_mut(caller).set_full(false),
+            Call::PartitionInfoGet { flags, .. } if flags % 2 == 0 => {
+                self.known_mut(caller).set_full(true);
+            }
+            Call::NotificationBind {
+                word,
+                low,
+                high,
+                ..
+            } => {
+                let bits = u64::from(high) << 32 | u64::from(low);
+                self.known_mut(caller).bound = Some((bits, EndpointId::in_high_half(word)));
+            }
+            Call::NotificationUnbind { .. } => self.known_mut(caller).bound = None,
+            _ => self.learn_states(caller, call, answer),
+        }
+    }
+
+    // Learns from a call that sets another endpoint going.
+    fn learn_states(&mut self, caller: EndpointId, call: Call, answer: &[u64; 8]) {
+        let runner = self.runner();
+        match call {
+            Call::MsgWait => {
+                self.known_mut(caller).work = None;
+                self.known_mut(caller).set_full(false);
+            }
+            Call::Run { .. } if answer[0] == u64::from(FFA_RUN) => {
+                self.known_mut(runner).work = Some(Work::Run);
+            }
+            Call::DirectRequest { .. } => {
+                self.known_mut(runner).work = Some(Work::Request(caller));
+            }
+            Call::DirectResponse { .. } => self.known_mut(caller).work = None,
+            _ => {}
+        }
+    }
+
+    /// Whether an endpoint could be sent a direct request now.
+    pub fn is_waiting(&self, endpoint: EndpointId) -> bool {
+        endpoint != NORMAL_WORLD && self.known_of(endpoint).work.is_none()
+    }
+}

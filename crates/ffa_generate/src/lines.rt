@@ -1,0 +1,81 @@
+//! The lines that a turn gave, and their text.
+ghost use Rattle.std.specs.Prelude.{◌≡◌, ◌≤◌, ◌<◌, ◌%◌, ◌^◌, length, IfOk, OnOk};
+ghost use Rattle.ffa_model.specs.Memory.{size_of};
+ghost use Rattle.ffa_script.specs.Script.{IsProper};
+ghost use Rattle.ffa_generate.specs.Traces.{GrowsByLine, GrowsByLines};
+
+use ffa_model::{Op, Size};
+use ffa_script::put_operation;
+use std::alloc::{AllocError, Allocator};
+
+/// Why a turn ends before its scenes do.
+#[derive(Clone, Copy)]
+pub enum Stop {
+    /// There is no memory for a line.
+    NoMemory,
+    /// The trace has all its lines.
+    Full,
+}
+
+/// A line of a trace.
+#[derive(Clone, Copy)]
+pub enum Entry {
+    Operation(Op),
+    Show,
+    Audit,
+}
+
+/// The same operation, where a store's value fits its size.
+pub fn fitted(op: &Op) -> Op
+    ensures { IsProper result }
+{
+    match *op {
+        Op::Store { addr, size, value } => Op::Store {
+            addr,
+            size,
+            value: lowest(value, size),
+        },
+        Op::Call(_) | Op::Load { .. } | Op::Fetch { .. } => *op,
+    }
+}
+
+// The lowest bytes of a value.
+fn lowest(value: u64, size: Size) -> u64
+    ensures { result < 256 ^ size_of size }
+{
+    match size {
+        Size::B1 => value % (1 << 8),
+        Size::B2 => value % (1 << 16),
+        Size::B4 => value % (1 << 32),
+        Size::B8 => value,
+    }
+}
+
+/// Puts the lines of the first entries behind a text, as many as there may be, and answers how many those are.
+pub fn put_entries<A: Allocator>(
+    text: &mut Vec<u8, A>,
+    entries: &[Entry],
+    most: u64,
+) -> Result<u64, AllocError>
+    ensures lines { IfOk result (λ count. GrowsByLines count text.old.items text.new.items) }
+    ensures few { IfOk result (λ count. count ≤ most) }
+{
+    let most = most.min(entries.len() as u64);
+    let mut count = 0;
+    while count < most {
+        put_entry(text, &entries[count as usize])?;
+        count += 1;
+    }
+    Ok(count)
+}
+
+// Puts a line behind a text.
+fn put_entry<A: Allocator>(text: &mut Vec<u8, A>, entry: &Entry) -> Result<(), AllocError>
+    ensures { OnOk result (GrowsByLine text.old.items text.new.items) }
+{
+    match entry {
+        Entry::Operation(op) => put_operation(text, &fitted(op)),
+        Entry::Show => text.extend_from_slice(b"show\n"),
+        Entry::Audit => text.extend_from_slice(b"audit\n"),
+    }
+}
