@@ -5,11 +5,13 @@ ghost use Rattle.std.specs.Io.KnownBytes.{Appends, Keeps};
 ghost use Rattle.ffa_model.specs.TraceText.{ended};
 ghost use Rattle.ffa_manifest.specs.Document.{Parts, parts_of};
 ghost use Rattle.ffaplay.specs.Layouts.{layout_text};
-ghost use Rattle.ffaplay.specs.Performed.{Describes, SomeCause, SomeBadLine, Differs, IsDone, FailsFor, FailsUnplayed, IsRead, needs_manifest, needs_trace, status_of};
+ghost use Rattle.ffaplay.specs.Performed.{Describes, SomeCause, SomeBadLine, Differs, IsDone, FailsFor, FailsUnplayed, IsRead, IsUnsaid, SomeUnmetGuard, needs_manifest, needs_trace, status_of};
 
 mod difference;
 pub mod failure;
 pub mod playing;
+mod unmet;
+mod writing;
 
 use crate::layout;
 use failure::Failure;
@@ -22,6 +24,7 @@ use playing::{Task, Trace, play};
 use std::alloc::{Allocator, Global};
 use std::fmt::Display;
 use std::io::{ErrorKind, Read, Write};
+use writing::{describe, generate_trace};
 
 /// What was read of the files that a command names. What it doesn't name is left alone.
 #[derive(Drop)]
@@ -40,10 +43,11 @@ pub struct Files<'a, R> {
 ///
 /// All output goes to `out`, which is flushed, and to `err` a line that says why a command isn't done, with a second line
 /// that says more where that is asked for. The status is 0 for a command that was done, 1 for a manifest that is refused, 2
-/// for a line that is none of a trace, 3 where a file can't be read, `out` can't be written or memory is short, and 4 where a
-/// trace prints another text than is expected. Faults are found in this order: the manifest's file, the manifest, the
-/// trace's file, the file of the expected text, RAM, the trace. An `out` that can't be flushed can't be written. This is
-/// told in place of a bad line and of a difference, since what was printed is lost, and of no other fault, which was found
+/// for a line that is none of a trace, 3 where a file can't be read, `out` can't be written or memory is short, 4 where a
+/// trace prints another text than is expected, 5 where a guard of the trace isn't met, and 64 where the words of a descriptor
+/// make no sense. Faults are found in this order: the words of a descriptor, the manifest's file, the manifest, the trace's
+/// file, the file of the expected text, RAM, the trace. An `out` that can't be flushed can't be written. This is told in
+/// place of a bad line, a difference and a guard, since what was printed is lost, and of no other fault, which was found
 /// before.
 pub fn perform<R: Read + Drop, W: Write, E: Write>(
     alloc: Global,
@@ -58,8 +62,10 @@ pub fn perform<R: Read + Drop, W: Write, E: Write>(
     ensures named { result ≡ 1 → needs_manifest request.now ≡ true }
     ensures bad { result ≡ 2 → (is_some files.entry.trace ≡ true) × SomeBadLine request.now (option_map (λ bytes. bytes.now) files.entry.manifest) (option_and_then (λ reader. R.remaining reader) files.entry.trace) (option_map (λ bytes. bytes.now) files.entry.expected) (W.contents out.old) (W.contents out.new) }
     ensures differs { result ≡ 4 → Differs request.now (option_map (λ bytes. bytes.now) files.entry.manifest) (option_and_then (λ reader. R.remaining reader) files.entry.trace) (option_map (λ bytes. bytes.now) files.entry.expected) }
+    ensures unmet { result ≡ 5 → (is_some files.entry.trace ≡ true) × SomeUnmetGuard request.now (option_map (λ bytes. bytes.now) files.entry.manifest) (option_and_then (λ reader. R.remaining reader) files.entry.trace) (W.contents out.old) (W.contents out.new) }
+    ensures unsaid { result ≡ 64 → IsUnsaid request.now × Keeps (W.contents out.old) (W.contents out.new) }
     ensures quiet { result ≡ 0 → Keeps (E.contents err.old) (E.contents err.new) }
-    ensures status { result ≤ 4 }
+    ensures status { (result ≤ 5) ⊎ (result ≡ 64) }
 {
     perform_in(alloc, alloc, request, files, out, err)
 }
@@ -80,8 +86,10 @@ pub fn perform_in<A: Allocator + Copy, R: Read + Drop, W: Write, E: Write>(
     ensures named { result ≡ 1 → needs_manifest request.now ≡ true }
     ensures bad { result ≡ 2 → (is_some files.entry.trace ≡ true) × SomeBadLine request.now (option_map (λ bytes. bytes.now) files.entry.manifest) (option_and_then (λ reader. R.remaining reader) files.entry.trace) (option_map (λ bytes. bytes.now) files.entry.expected) (W.contents out.old) (W.contents out.new) }
     ensures differs { result ≡ 4 → Differs request.now (option_map (λ bytes. bytes.now) files.entry.manifest) (option_and_then (λ reader. R.remaining reader) files.entry.trace) (option_map (λ bytes. bytes.now) files.entry.expected) }
+    ensures unmet { result ≡ 5 → (is_some files.entry.trace ≡ true) × SomeUnmetGuard request.now (option_map (λ bytes. bytes.now) files.entry.manifest) (option_and_then (λ reader. R.remaining reader) files.entry.trace) (W.contents out.old) (W.contents out.new) }
+    ensures unsaid { result ≡ 64 → IsUnsaid request.now × Keeps (W.contents out.old) (W.contents out.new) }
     ensures quiet { result ≡ 0 → Keeps (E.contents err.old) (E.contents err.new) }
-    ensures status { result ≤ 4 }
+    ensures status { (result ≤ 5) ⊎ (result ≡ 64) }
 {
     let Files {
         manifest,
@@ -89,10 +97,13 @@ pub fn perform_in<A: Allocator + Copy, R: Read + Drop, W: Write, E: Write>(
         expected,
         reason,
     } = files;
-    match do_request(manifests, alloc, request, manifest, trace, expected, out) {
+    let mut told = Vec::new(alloc);
+    match do_request(
+        manifests, alloc, request, manifest, trace, expected, out, &mut told,
+    ) {
         Ok(()) => 0,
         Err(failure) => {
-            let status = tell(err, &failure);
+            let status = tell(err, &failure, &told);
             if request.is_verbose() {
                 tell_more(manifests, err, &failure, manifest, reason);
             }
@@ -112,16 +123,20 @@ pub fn show<T: Display, W: Write, E: Write>(help: &T, out: &mut W, err: &mut E) 
     if written.is_ok() && out.flush().is_ok() {
         0
     } else {
-        tell(err, &Failure::Write)
+        tell(err, &Failure::Write, &[])
     }
 }
 
-// Says why a command isn't done, and answers the status. A difference has been told on the output.
-fn tell<E: Write>(err: &mut E, failure: &Failure<'_>) -> u8
+// Says why a command isn't done, and answers the status. A difference has been told on the output, and of a guard `told` says
+// what it wants.
+fn tell<E: Write>(err: &mut E, failure: &Failure<'_>, told: &[u8]) -> u8
     ensures { result ≡ status_of failure.now }
 {
     match failure {
         Failure::Differs => {}
+        Failure::Unmet(_) => {
+            let _ = err.write_all(told);
+        }
         _ => {
             let _ = writeln!(err, "ffaplay: {failure}");
         }
@@ -156,8 +171,8 @@ fn tell_refusal<E: Write>(alloc: Global, err: &mut E, bytes: &[u8]) -> std::io::
     }
 }
 
-// Does what was asked for, and flushes what it wrote. Where that fails, a command isn't done, and neither a bad line nor a
-// difference is told of, since the text is lost. Another failure was found before, and stays.
+// Does what was asked for, and flushes what it wrote. Where that fails, a command isn't done, and no bad line, difference or
+// guard is told of, since the text is lost. Another failure was found before, and stays.
 fn do_request<'a, A: Allocator + Copy, R: Read + Drop, W: Write>(
     manifests: Global,
     alloc: A,
@@ -166,18 +181,20 @@ fn do_request<'a, A: Allocator + Copy, R: Read + Drop, W: Write>(
     trace: Option<R>,
     expected: Option<&[u8]>,
     out: &mut W,
+    told: &mut Vec<u8, A>,
 ) -> Result<(), Failure<'a>>
     ensures done { OnOk result (IsDone request.now (option_map (λ bytes. bytes.now) manifest.entry) (option_and_then (λ reader. R.remaining reader) trace) (option_map (λ bytes. bytes.now) expected.entry) (W.contents out.old) (W.contents out.new)) }
     ensures read { OnOk result (needs_trace request.now ≡ true → is_some trace ≡ true) }
     ensures failed { IfErr result (FailsFor request.now (option_map (λ bytes. bytes.now) manifest.entry) (option_and_then (λ reader. R.remaining reader) trace) (option_map (λ bytes. bytes.now) expected.entry) (W.contents out.old) (W.contents out.new)) }
     ensures read_bad { IfErr result (IsRead (is_some trace)) }
 {
-    let done = do_command(manifests, alloc, request, manifest, trace, expected, out);
+    let done = do_command(
+        manifests, alloc, request, manifest, trace, expected, out, told,
+    );
     let flushed = out.flush();
     match done {
-        Ok(()) | Err(Failure::BadLine(..) | Failure::Differs) if flushed.is_err() => {
-            Err(Failure::Write)
-        }
+        Ok(()) | Err(Failure::BadLine(..) | Failure::Differs | Failure::Unmet(_))
+            if flushed.is_err() => { Err(Failure::Write) }
         _ => done,
     }
 }
@@ -190,6 +207,7 @@ fn do_command<'a, A: Allocator + Copy, R: Read + Drop, W: Write>(
     trace: Option<R>,
     expected: Option<&[u8]>,
     out: &mut W,
+    told: &mut Vec<u8, A>,
 ) -> Result<(), Failure<'a>>
     ensures done { OnOk result (IsDone request.now (option_map (λ bytes. bytes.now) manifest.entry) (option_and_then (λ reader. R.remaining reader) trace) (option_map (λ bytes. bytes.now) expected.entry) (W.contents out.old) (W.contents out.new)) }
     ensures read { OnOk result (needs_trace request.now ≡ true → is_some trace ≡ true) }
@@ -202,22 +220,24 @@ fn do_command<'a, A: Allocator + Copy, R: Read + Drop, W: Write>(
             trace: trace_path,
             machine,
             text,
+            strict,
             verbose,
         } => {
             let manifest = read_manifest(manifests, path, manifest)?;
             let trace = opened(trace_path, trace)?;
-            let task = Task::to_print(text, verbose);
-            play(alloc, &manifest, machine, task, trace, out)
+            let task = Task::to_print(text, strict, verbose);
+            play(alloc, &manifest, machine, task, trace, out, told)
         }
         Request::Demo {
             trace: path,
             machine,
             text,
+            strict,
             verbose,
         } => {
             let trace = opened(path, trace)?;
-            let task = Task::to_print(text, verbose);
-            play(alloc, &built_in(), machine, task, trace, out)
+            let task = Task::to_print(text, strict, verbose);
+            play(alloc, &built_in(), machine, task, trace, out, told)
         }
         Request::Compare {
             manifest: path,
@@ -231,17 +251,22 @@ fn do_command<'a, A: Allocator + Copy, R: Read + Drop, W: Write>(
             let Some(expected) = expected else {
                 return Err(Failure::Read(expected_path));
             };
-            play(
-                alloc,
-                &manifest,
-                machine,
-                Task::Compare(expected),
-                trace,
-                out,
-            )
+            let task = Task::Compare(expected);
+            play(alloc, &manifest, machine, task, trace, out, told)
         }
         Request::Check { manifest: path, .. } => accept(manifests, path, manifest, out),
         Request::Layout { manifest: path, .. } => lay_out(manifests, path, manifest, out),
+        Request::Descriptor { words } => describe(alloc, &words, out),
+        Request::Generate {
+            manifest: path,
+            seed,
+            lines,
+            count,
+            verbose: _,
+        } => {
+            let manifest = read_manifest(manifests, path, manifest)?;
+            generate_trace(alloc, &manifest, seed, lines, count, out)
+        }
     }
 }
 

@@ -4,7 +4,9 @@ ghost use Rattle.ffaplay.specs.Performed.{failure_of, status_of};
 
 use ffa_lines::LineFault;
 use ffa_manifest::ManifestError;
+use ffa_script::Unfit;
 use ffa_trace::PlayError;
+use ffa_words::WordsFault;
 use thiserror::Error;
 
 /// Why a command isn't done.
@@ -28,6 +30,15 @@ pub enum Failure<'a> {
     /// A trace prints another text than is expected, which the output has told.
     #[error("another text than expected")]
     Differs,
+    /// The guard in the line of this number, counted from 1, isn't met.
+    #[error("line {0}: a guard isn't met")]
+    Unmet(u64),
+    /// The words of a descriptor say none.
+    #[error("descriptor: {0}")]
+    Words(WordsFault),
+    /// No bytes are a descriptor that says what the words do.
+    #[error("descriptor: {0}")]
+    Unfit(Unfit),
 }
 
 impl<'a> Failure<'a> {
@@ -40,6 +51,8 @@ impl<'a> Failure<'a> {
             Failure::BadLine(..) => 2,
             Failure::Read(_) | Failure::Write | Failure::NoMemory => 3,
             Failure::Differs => 4,
+            Failure::Unmet(_) => 5,
+            Failure::Words(_) | Failure::Unfit(_) => 64,
         }
     }
 

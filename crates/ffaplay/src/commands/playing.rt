@@ -7,6 +7,7 @@ ghost use Rattle.ffaplay.specs.Performed.{IsDoneBy, PlayFails, PrintsIn, first_o
 
 use super::difference::Difference;
 use super::failure::Failure;
+use super::unmet::put_unmet;
 use super::write;
 use ffa_command::{MachineOptions, TextOptions};
 use ffa_lines::{Form, line_fault};
@@ -28,20 +29,25 @@ pub enum Task<'a> {
     Plain,
     /// It is printed in a form. What is wrong with a bad line is looked for.
     Formed(Form),
+    /// It is printed in a form, and the trace's guards are checked. What is wrong with a bad line is looked for.
+    Guarded(Form),
     /// It is compared with these bytes. What is wrong with a bad line is looked for.
     Compare(&'a [u8]),
 }
 
 impl Task<'_> {
-    /// To print in the form that is asked for. Where more is to be said of a bad line, it is played line by line.
-    pub(super) fn to_print(text: TextOptions, verbose: bool) -> Task<'static>
-        ensures { PrintsIn (form_of text) result }
+    /// To print in the form that is asked for, with guards or without. Where more is to be said of a bad line, it is played
+    /// line by line.
+    pub(super) fn to_print(text: TextOptions, strict: bool, verbose: bool) -> Task<'static>
+        ensures { PrintsIn strict (form_of text) result }
     {
         let form = Form {
             number: text.number,
             names: text.names,
         };
-        if form.number || form.names || verbose {
+        if strict {
+            Task::Guarded(form)
+        } else if form.number || form.names || verbose {
             Task::Formed(form)
         } else {
             Task::Plain
@@ -64,6 +70,7 @@ pub(super) fn play<'a, A: Allocator + Copy, R: Read + Drop, W: Write>(
     task: Task<'_>,
     trace: Trace<'a, R>,
     out: &mut W,
+    told: &mut Vec<u8, A>,
 ) -> Result<(), Failure<'a>>
     ensures played { OnOk result (IsDoneBy task.entry (first_of (parts_of manifest.now)) (R.remaining trace.entry.reader) (W.contents out.old) (W.contents out.new)) }
     ensures failed { IfErr result (PlayFails task.entry (first_of (parts_of manifest.now)) (R.remaining trace.entry.reader) (W.contents out.old) (W.contents out.new)) }
@@ -71,10 +78,10 @@ pub(super) fn play<'a, A: Allocator + Copy, R: Read + Drop, W: Write>(
     let (base, pages) = (manifest.ram_base, 512 * manifest.ram_blocks);
     if machine.frames {
         let ram = FrameRam::new_in(alloc, base, pages).map_err(|_| Failure::NoMemory)?;
-        play_on(alloc, manifest, ram, machine.tlb, task, trace, out)
+        play_on(alloc, manifest, ram, machine.tlb, task, trace, out, told)
     } else {
         let ram = FlatRam::new_in(alloc, base, pages).map_err(|_| Failure::NoMemory)?;
-        play_on(alloc, manifest, ram, machine.tlb, task, trace, out)
+        play_on(alloc, manifest, ram, machine.tlb, task, trace, out, told)
     }
 }
 
@@ -87,6 +94,7 @@ fn play_on<'a, A: Allocator + Copy, M: PhysMem + Drop, R: Read + Drop, W: Write>
     task: Task<'_>,
     trace: Trace<'a, R>,
     out: &mut W,
+    told: &mut Vec<u8, A>,
 ) -> Result<(), Failure<'a>>
     requires { M.ram ram ≡ zero_ram manifest.now.ram_base.0 (512 * manifest.now.ram_blocks) }
     ensures played { OnOk result (IsDoneBy task.entry (first_of (parts_of manifest.now)) (R.remaining trace.entry.reader) (W.contents out.old) (W.contents out.new)) }
@@ -94,9 +102,9 @@ fn play_on<'a, A: Allocator + Copy, M: PhysMem + Drop, R: Read + Drop, W: Write>
 {
     if tlb {
         let cache = Tlb::<InTurn, ENTRIES>::new(InTurn::default());
-        play_in(alloc, manifest, ram, cache, task, trace, out)
+        play_in(alloc, manifest, ram, cache, task, trace, out, told)
     } else {
-        play_in(alloc, manifest, ram, NoTlb, task, trace, out)
+        play_in(alloc, manifest, ram, NoTlb, task, trace, out, told)
     }
 }
 
@@ -116,13 +124,14 @@ fn play_in<
     task: Task<'_>,
     trace: Trace<'a, R>,
     out: &mut W,
+    told: &mut Vec<u8, A>,
 ) -> Result<(), Failure<'a>>
     requires { M.ram ram ≡ zero_ram manifest.now.ram_base.0 (512 * manifest.now.ram_blocks) }
     ensures played { OnOk result (IsDoneBy task.entry (first_of (parts_of manifest.now)) (R.remaining trace.entry.reader) (W.contents out.old) (W.contents out.new)) }
     ensures failed { IfErr result (PlayFails task.entry (first_of (parts_of manifest.now)) (R.remaining trace.entry.reader) (W.contents out.old) (W.contents out.new)) }
 {
     let mut player = Player::new(Machine::boot_cleared(manifest, ram, cache));
-    do_task(&mut player, alloc, task, trace, out)
+    do_task(&mut player, alloc, task, trace, out, told)
 }
 
 fn do_task<
@@ -138,6 +147,7 @@ fn do_task<
     task: Task<'_>,
     trace: Trace<'a, R>,
     out: &mut W,
+    told: &mut Vec<u8, A>,
 ) -> Result<(), Failure<'a>>
     ensures played { OnOk result (IsDoneBy task.entry player.old.state (R.remaining trace.entry.reader) (W.contents out.old) (W.contents out.new)) }
     ensures failed { IfErr result (PlayFails task.entry player.old.state (R.remaining trace.entry.reader) (W.contents out.old) (W.contents out.new)) }
@@ -145,6 +155,7 @@ fn do_task<
     match task {
         Task::Plain => play_plainly(player, alloc, trace, out),
         Task::Formed(form) => play_formed(player, alloc, form, trace, out),
+        Task::Guarded(form) => play_guarded(player, alloc, form, trace, out, told),
         Task::Compare(expected) => compare(player, alloc, expected, trace, out),
     }
 }
@@ -203,6 +214,38 @@ fn play_formed<
     let mut line = Vec::new(alloc);
     match ffa_lines::play(player, alloc, form, &mut reader, out, &mut line) {
         Ok(()) => Ok(()),
+        Err(error) => Err(Failure::of_play(path, error, line_fault(&line))),
+    }
+}
+
+// Plays a trace up to the first guard that isn't met. Where there is one, `told` says so.
+fn play_guarded<
+    'a,
+    A: Allocator + Copy,
+    M: PhysMem + Drop,
+    T: Translations + Drop,
+    R: Read + Drop,
+    W: Write,
+>(
+    player: &mut Player<M, T>,
+    alloc: A,
+    form: Form,
+    trace: Trace<'a, R>,
+    out: &mut W,
+    told: &mut Vec<u8, A>,
+) -> Result<(), Failure<'a>>
+    ensures played { OnOk result (IsDoneBy (Task.Guarded form) player.old.state (R.remaining trace.entry.reader) (W.contents out.old) (W.contents out.new)) }
+    ensures failed { IfErr result (PlayFails (Task.Guarded form) player.old.state (R.remaining trace.entry.reader) (W.contents out.old) (W.contents out.new)) }
+{
+    let Trace { path, reader } = trace;
+    let mut reader = buffered(alloc, reader)?;
+    let (mut line, mut found) = (Vec::new(alloc), Vec::new(alloc));
+    match ffa_lines::play_guarded(player, alloc, form, &mut reader, out, &mut line, &mut found) {
+        Ok(None) => Ok(()),
+        Ok(Some(breach)) => {
+            put_unmet(told, breach, &line, &found)?;
+            Err(Failure::Unmet(breach.number))
+        }
         Err(error) => Err(Failure::of_play(path, error, line_fault(&line))),
     }
 }

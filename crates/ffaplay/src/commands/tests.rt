@@ -14,6 +14,8 @@ mod lines;
 mod manual;
 // Memory that is refused.
 mod refused;
+// Guards, descriptors from words, and traces that are generated.
+mod writing;
 
 // A machine with two partitions.
 const ROW: &str = "ram_base = 0x40000000
@@ -68,6 +70,7 @@ const RUN: Request<'static> = Request::Run {
     trace: "row.trace",
     machine: MACHINE,
     text: TEXT,
+    strict: false,
     verbose: false,
 };
 
@@ -75,6 +78,7 @@ const DEMO: Request<'static> = Request::Demo {
     trace: "no.trace",
     machine: MACHINE,
     text: TEXT,
+    strict: false,
     verbose: false,
 };
 
@@ -135,6 +139,7 @@ fn on_kind<'a>(request: &Request<'a>, (frames, tlb): (bool, bool)) -> Request<'a
             manifest,
             trace,
             text,
+            strict,
             verbose,
             ..
         } => Request::Run {
@@ -142,17 +147,20 @@ fn on_kind<'a>(request: &Request<'a>, (frames, tlb): (bool, bool)) -> Request<'a
             trace,
             machine,
             text,
+            strict,
             verbose,
         },
         Request::Demo {
             trace,
             text,
+            strict,
             verbose,
             ..
         } => Request::Demo {
             trace,
             machine,
             text,
+            strict,
             verbose,
         },
         other => other,

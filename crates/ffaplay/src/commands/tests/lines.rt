@@ -17,6 +17,7 @@ const SAY_ALL: Request<'static> = Request::Demo {
         number: true,
         names: true,
     },
+    strict: false,
     verbose: true,
 };
 
@@ -24,6 +25,7 @@ const PLAIN: Request<'static> = Request::Demo {
     trace: "no.trace",
     machine: MACHINE,
     text: TEXT,
+    strict: false,
     verbose: true,
 };
 

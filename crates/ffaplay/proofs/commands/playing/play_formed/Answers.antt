@@ -1,4 +1,4 @@
-use Rattle.std.proofs.Common.{subst, sym}
+use Rattle.std.proofs.Common.{false, subst, sym}
 use Rattle.ffaplay.specs.Performed.{IsPlayed, PlayFails, failure_of}
 use Rattle.ffaplay.specs.declared.commands.failure.Failure.TheVariants.{Read}
 use Rattle.ffaplay.specs.declared.commands.playing.Task.TheVariants.{Formed}
@@ -7,7 +7,7 @@ use Rattle.ffaplay.proofs.commands.playing.play_formed.Goals as goal
 
 pub returns-in-Ok-clause-played : goal.returns-in-Ok-clause-played
 returns-in-Ok-clause-played g c =
-    subst (λ had. IsPlayed c.args.form c.args.player.now.state had (g.W.Write.contents c.args.out.now) (g.W.Write.contents c.play.new.writer)) c.in_ok-reader.ensures.unread
+    subst (λ had. IsPlayed false c.args.form c.args.player.now.state had (g.W.Write.contents c.args.out.now) (g.W.Write.contents c.play.new.writer)) c.in_ok-reader.ensures.unread
     (formed_whole c.in-Ok.field-0 _ _ _ _ _ _ c.in-Ok.ensures)
 
 pub returns-clause-failed : goal.returns-clause-failed
