@@ -1,7 +1,8 @@
 //! Worked command lines.
 use crate::checks::{holds_at, same, same_at};
 use ffa_command::{
-    ErrorKind, MachineOptions, Request, STANDARD_INPUT, TOOLCHAIN, TextOptions, VERSION, request,
+    DescriptorWords, ErrorKind, MachineOptions, Request, STANDARD_INPUT, TOOLCHAIN, TextOptions,
+    VERSION, request,
 };
 use std::alloc::{AllocError, Global};
 use std::process::Abort;
@@ -32,6 +33,24 @@ fn push_text(words: &mut String, text: TextOptions) -> Result<(), AllocError> {
     )
 }
 
+// The words of a descriptor: what it is for, where TX stands, and each other that is given behind its name.
+fn push_record(words: &mut String, record: &DescriptorWords<'_>) -> Result<(), AllocError> {
+    write!(words, "descriptor {} {}", record.kind, record.tx)?;
+    for (name, value) in [
+        ("from", record.from),
+        ("to", record.to),
+        ("pages", record.pages),
+        ("handle", record.handle),
+        ("tag", record.tag),
+        ("of", record.of),
+    ] {
+        if let Some(value) = value {
+            write!(words, " {name} {value}")?;
+        }
+    }
+    push_flags(words, &[("zero", record.zero), ("compact", record.compact)])
+}
+
 // A request in words: its command, its paths and then its flags.
 fn push_request(words: &mut String, request: &Request<'_>) -> Result<(), AllocError> {
     match *request {
@@ -40,21 +59,25 @@ fn push_request(words: &mut String, request: &Request<'_>) -> Result<(), AllocEr
             trace,
             machine,
             text,
+            strict,
             ..
         } => {
             write!(words, "run {manifest} {trace}")?;
             push_machine(words, machine)?;
-            push_text(words, text)
+            push_text(words, text)?;
+            push_flags(words, &[("strict", strict)])
         }
         Request::Demo {
             trace,
             machine,
             text,
+            strict,
             ..
         } => {
             write!(words, "demo {trace}")?;
             push_machine(words, machine)?;
-            push_text(words, text)
+            push_text(words, text)?;
+            push_flags(words, &[("strict", strict)])
         }
         Request::Compare {
             manifest,
@@ -68,6 +91,17 @@ fn push_request(words: &mut String, request: &Request<'_>) -> Result<(), AllocEr
         }
         Request::Check { manifest, .. } => write!(words, "check {manifest}"),
         Request::Layout { manifest, .. } => write!(words, "layout {manifest}"),
+        Request::Descriptor { words: record } => push_record(words, &record),
+        Request::Generate {
+            manifest,
+            seed,
+            lines,
+            count,
+            ..
+        } => {
+            write!(words, "generate {manifest} {seed} {lines}")?;
+            push_flags(words, &[("count", count)])
+        }
     }
 }
 
@@ -137,6 +171,8 @@ ffaplay run --line-buffered row.toml first.trace => run row.toml first.trace --l
 ffaplay run row.toml first.trace --number => run row.toml first.trace --number
 ffaplay run row.toml first.trace --names => run row.toml first.trace --names
 ffaplay run --verbose row.toml first.trace => run row.toml first.trace --verbose
+ffaplay run --strict row.toml first.trace => run row.toml first.trace --strict
+ffaplay demo first.trace --strict --names => demo first.trace --names --strict
 ffaplay demo --tlb first.trace => demo first.trace --tlb
 ffaplay demo first.trace --tlb --frames => demo first.trace --frames --tlb
 ffaplay demo --names - --number --line-buffered => demo - --line-buffered --number --names
@@ -145,6 +181,24 @@ ffaplay compare --tlb a --frames b c => compare a b c --frames --tlb
 ffaplay compare a b c --verbose => compare a b c --verbose
 ffaplay check --verbose row.toml => check row.toml --verbose
 ffaplay layout row.toml --verbose => layout row.toml --verbose
+";
+    check(&rt, rt.alloc(), rows)
+}
+
+#[test]
+fn commands_that_write(rt: HostRuntime) -> Result<(), Fail> {
+    let rows = "\
+ffaplay descriptor lend --tx 4002E000 --from 8001 --to 8002:rw --pages 40021000+1 => descriptor lend 4002E000 from 8001 to 8002:rw pages 40021000+1
+ffaplay descriptor relinquish --handle 100000001 --zero --tx=1000 --to 0 => descriptor relinquish 1000 to 0 handle 100000001 --zero
+ffaplay descriptor --compact retrieve --of lend --tag 7 --tx 0 => descriptor retrieve 0 tag 7 of lend --compact
+ffaplay generate row.toml => generate row.toml 1 1000
+ffaplay generate --seed 18446744073709551615 --lines 0 row.toml => generate row.toml 18446744073709551615 0
+ffaplay generate - --count --lines 20000 --verbose => generate - 1 20000 --count --verbose
+ffaplay descriptor lend --from 8001 => MissingRequiredArgument
+ffaplay descriptor lend --tx => InvalidValue
+ffaplay generate row.toml --lines ten => ValueValidation
+ffaplay generate row.toml --seed 18446744073709551616 => ValueValidation
+ffaplay generate row.toml --strict => UnknownArgument
 ";
     check(&rt, rt.alloc(), rows)
 }
@@ -161,6 +215,7 @@ ffaplay demo a b => UnknownArgument
 ffaplay check --frames a => UnknownArgument
 ffaplay layout --tlb a => UnknownArgument
 ffaplay compare --number a b c => UnknownArgument
+ffaplay compare --strict a b c => UnknownArgument
 ffaplay check --names a => UnknownArgument
 ffaplay demo --version a => UnknownArgument
 ffaplay demo --frames=4 a => TooManyValues
@@ -223,11 +278,13 @@ fn help_names_each_command(rt: HostRuntime) -> Result<(), Fail> {
     let help = text_for(rt.alloc(), &words, ErrorKind::DisplayHelp)?;
     let parts = "\
 Usage: ffaplay <COMMAND>
-|  run      Plays a trace on the machine of a manifest
-|  demo     Plays a trace on the built-in machine
-|  compare  Compares what a trace prints with what is expected
-|  check    Says whether a manifest is accepted
-|  layout   Prints where each endpoint's tables stand
+|  run         Plays a trace on the machine of a manifest
+|  demo        Plays a trace on the built-in machine
+|  compare     Compares what a trace prints with what is expected
+|  check       Says whether a manifest is accepted
+|  layout      Prints where each endpoint's tables stand
+|  descriptor  Prints the lines of a trace that write a descriptor and make its call
+|  generate    Prints a trace for the machine of a manifest
 |
 Status:
    0  done
@@ -248,7 +305,7 @@ fn help_of_a_command_names_its_words(rt: HostRuntime) -> Result<(), Fail> {
 Usage: ffaplay run [OPTIONS] <manifest> <trace>
 |  <manifest>  The machine's manifest, a TOML file; - is standard input
 |  <trace>     The trace: a line for each operation; - is standard input
-|  --frames |  --tlb |  --line-buffered |  --number |  --names |  --verbose ";
+|  --frames |  --tlb |  --line-buffered |  --number |  --names |  --strict |  --verbose ";
     has_parts(&rt, help.as_str(), parts);
     Ok(())
 }

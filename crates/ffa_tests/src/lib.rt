@@ -12,6 +12,9 @@ mod checks;
 mod command;
 #[cfg(test)]
 mod direct_messages;
+mod generate;
+#[cfg(test)]
+mod guards;
 #[cfg(test)]
 mod hostile;
 #[cfg(test)]
@@ -35,6 +38,8 @@ mod rxtx;
 #[cfg(test)]
 mod schedule;
 #[cfg(test)]
+mod script;
+#[cfg(test)]
 mod setup;
 #[cfg(test)]
 mod stage2;
@@ -42,6 +47,8 @@ mod stage2;
 mod streams;
 #[cfg(test)]
 mod tlb;
+#[cfg(test)]
+mod told;
 #[cfg(test)]
 mod walker;
 #[cfg(test)]

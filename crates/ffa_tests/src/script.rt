@@ -1,0 +1,201 @@
+//! Lines of traces that are written, as they stand in a trace.
+ghost use Rattle.std.specs.Prelude.{◌≡◌, ◌%◌};
+
+use crate::checks::same;
+use arrayvec::ArrayVec;
+use ffa_model::{
+    Address, Data, EndpointId, Kind, Op, Range, Receiver, RelinquishDesc, RetrieveDesc, SendDesc,
+    Size, Version,
+};
+use ffa_script::{Descriptor, ScriptError, Unfit, put_descriptor, put_operation, put_stores};
+use std::alloc::Global;
+use std::process::Abort;
+use std::test::Fail;
+
+const OPERATIONS: &str = "\
+call 84000063 10001
+call 0
+call FFFFFFFFFFFFFFFF 0 0 0 0 0 0 A
+load 4002E000 8
+load 0000000140000000 1
+store 40010000 2A
+fetch 00000000
+";
+
+const BYTES: &str = "\
+store 4002E000 0807060504030201
+store 4002E008 0C0B0A09
+store 4002E00C 0E0D
+store 4002E00E 0F
+";
+
+// 8001 lends the page at 40021000 to 8002, which may write it.
+const LEND: &str = "\
+store 4002E000 0000000000008001
+store 4002E008 0000000000000000
+store 4002E010 0000000000000000
+store 4002E018 0000000100000010
+store 4002E020 0000000000000030
+store 4002E028 0000000000000000
+store 4002E030 0000004000028002
+store 4002E038 0000000000000000
+store 4002E040 0000000100000001
+store 4002E048 0000000000000000
+store 4002E050 0000000040021000
+store 4002E058 0000000000000001
+call 84000072 60 60
+";
+
+// 8002 retrieves it, and says nothing that it needn't.
+const RETRIEVE: &str = "\
+store 4003E000 0000000000008001
+store 4003E008 0000800100000001
+store 4003E010 0000000000000000
+store 4003E018 0000000100000010
+store 4003E020 0000000000000030
+store 4003E028 0000000000000000
+store 4003E030 0000000000048002
+store 4003E038 0000000000000000
+call 84000074 40 40
+";
+
+// 8002 relinquishes it.
+const RELINQUISH: &str = "\
+store 4003E000 0000800100000001
+store 4003E008 0000000100000000
+store 4003E010 8002
+call 84000076
+";
+
+fn send(kind: Kind) -> Descriptor {
+    let mut receivers = ArrayVec::new();
+    receivers.push(Receiver {
+        endpoint: EndpointId(0x8002),
+        grant: Some(Data::Rw),
+    });
+    let mut ranges = ArrayVec::new();
+    ranges.push(Range {
+        address: 0x4002_1000,
+        pages: 1,
+    });
+    let desc = SendDesc {
+        sender: EndpointId(0x8001),
+        zero: false,
+        tag: 0,
+        receivers,
+        ranges,
+    };
+    Descriptor::Send { kind, desc }
+}
+
+fn retrieve() -> Descriptor {
+    let desc = RetrieveDesc {
+        sender: EndpointId(0x8001),
+        handle: 0x8001_0000_0001,
+        tag: 0,
+        kind: None,
+        level: None,
+        exec: false,
+    };
+    Descriptor::Retrieve {
+        desc,
+        receiver: EndpointId(0x8002),
+    }
+}
+
+fn relinquish() -> Descriptor {
+    Descriptor::Relinquish(RelinquishDesc {
+        handle: 0x8001_0000_0001,
+        zero: false,
+        endpoint: EndpointId(0x8002),
+    })
+}
+
+// These lines write the descriptor and make its call.
+fn is_written(
+    rt: &impl Abort,
+    alloc: Global,
+    descriptor: &Descriptor,
+    tx: u32,
+    wanted: &str,
+) -> Result<(), Fail>
+    requires { tx % 4096 ≡ 0 }
+{
+    let mut text = Vec::new(alloc);
+    put_descriptor(&mut text, Version::V1_1, descriptor, Address(tx))?;
+    same(rt, text.as_slice(), wanted.as_bytes());
+    Ok(())
+}
+
+#[test]
+fn operations_are_written(rt: HostRuntime) -> Result<(), Fail> {
+    let mut text = Vec::new(rt.alloc());
+    put_operation(
+        &mut text,
+        &Op::Call([0x8400_0063, 0x1_0001, 0, 0, 0, 0, 0, 0]),
+    )?;
+    put_operation(&mut text, &Op::Call([0; 8]))?;
+    put_operation(&mut text, &Op::Call([u64::MAX, 0, 0, 0, 0, 0, 0, 10]))?;
+    put_operation(
+        &mut text,
+        &Op::Load {
+            addr: 0x4002_E000,
+            size: Size::B8,
+        },
+    )?;
+    put_operation(
+        &mut text,
+        &Op::Load {
+            addr: 0x1_4000_0000,
+            size: Size::B1,
+        },
+    )?;
+    put_operation(
+        &mut text,
+        &Op::Store {
+            addr: 0x4001_0000,
+            size: Size::B1,
+            value: 0x2A,
+        },
+    )?;
+    put_operation(&mut text, &Op::Fetch { addr: 0 })?;
+    same(&rt, text.as_slice(), OPERATIONS.as_bytes());
+    Ok(())
+}
+
+#[test]
+fn bytes_are_stored(rt: HostRuntime) -> Result<(), Fail> {
+    let mut text = Vec::new(rt.alloc());
+    let bytes = [1, 2, 3, 4, 5, 6, 7, 8, 9, 10, 11, 12, 13, 14, 15];
+    put_stores(&mut text, Address(0x4002_E000), &bytes)?;
+    same(&rt, text.as_slice(), BYTES.as_bytes());
+    Ok(())
+}
+
+#[test]
+fn descriptors_are_written(rt: HostRuntime) -> Result<(), Fail> {
+    let alloc = rt.alloc();
+    is_written(&rt, alloc, &send(Kind::Lend), 0x4002_E000, LEND)?;
+    is_written(&rt, alloc, &retrieve(), 0x4003_E000, RETRIEVE)?;
+    is_written(&rt, alloc, &relinquish(), 0x4003_E000, RELINQUISH)
+}
+
+#[test]
+fn unfit_descriptor_is_told(rt: HostRuntime) -> Result<(), Fail> {
+    let mut text = Vec::from_slice(rt.alloc(), b"# text\n")?;
+    let put = put_descriptor(
+        &mut text,
+        Version::V1_1,
+        &send(Kind::Donate),
+        Address(0x4002_E000),
+    );
+    same(&rt, put, Err(ScriptError::Unfit(Unfit::GrantOfADonate)));
+    same(&rt, text.as_slice(), b"# text\n".as_slice());
+    let said = format!(in rt.alloc(); "{}", ScriptError::Unfit(Unfit::GrantOfADonate))?;
+    same(
+        &rt,
+        said.as_str(),
+        "a receiver of a donate is granted a data right",
+    );
+    Ok(())
+}
