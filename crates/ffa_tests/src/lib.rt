@@ -12,6 +12,7 @@ mod checks;
 mod command;
 #[cfg(test)]
 mod direct_messages;
+#[cfg(test)]
 mod generate;
 #[cfg(test)]
 mod guards;
