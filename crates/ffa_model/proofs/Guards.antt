@@ -1,17 +1,52 @@
 -- Guards in order.
-use Rattle.std.proofs.Common.{◌≡◌, ℕ, zero, suc, Bool, true, false, List, [], ◌∷◌, ◌++◌, get_or, map, Some, None, refl}
+use Rattle.std.proofs.Common.{◌≡◌, ℕ, zero, suc, Bool, true, false, List, [], ◌∷◌, ◌++◌, get_or, map, Some, None, refl, ap, sym, ◌∙◌, Option}
 use Rattle.std.specs.Prelude.{◌&&◌, if◌then◌else◌}
+use Rattle.std.specs.Option.{option_map}
+use Rattle.std.specs.Prelude.{Result, Ok, Err, IsErrAnd}
+use Rattle.std.specs.Result.{result_err}
 use Rattle.ffa_model.specs.declared.operation.ErrorCode.{ErrorCode}
-use Rattle.ffa_model.specs.Calls.{first_failure}
+use Rattle.ffa_model.specs.declared.refusal.Refusal.{Refusal}
+use Rattle.ffa_model.specs.declared.refusal.Refusal.TheVariants.{FunctionUnknown, FlagsReserved, TransactionsFull, RxFull, RxEmpty}
+use Rattle.ffa_model.specs.RefusalCodes.{code_of}
+use Rattle.ffa_model.specs.Calls.{first_failure, first_refusal}
+
+-- a check of each code, where only the code counts
+abbrev pub invalid : Refusal
+invalid = FlagsReserved
+
+abbrev pub no_memory : Refusal
+no_memory = TransactionsFull
+
+abbrev pub busy : Refusal
+busy = RxFull
+
+abbrev pub denied : Refusal
+denied = RxEmpty
+
+-- what a call answers is the code of the check that fails first
+pub failure-code : (guards : List (Bool × Refusal)) → first_failure guards ≡ option_map code_of (first_refusal guards)
+failure-code [] = refl
+failure-code ((true, one) ∷ guards) = failure-code guards
+failure-code ((false, one) ∷ guards) = refl
+
+-- so a call answers as its guards say, where its checks pass, and where it answers the code of the check that fails first
+pub answers-pass : (guards : List (Bool × Refusal)) → None ≡ first_refusal guards → None ≡ first_failure guards
+answers-pass guards is = ap (λ (o : Option Refusal). option_map code_of o) is ∙ sym (failure-code guards)
+
+pub answers-code : {T : Type 0} (guards : List (Bool × Refusal)) (refusal : Refusal) (answer : Result T ErrorCode) → Some refusal ≡ first_refusal guards
+    → IsErrAnd answer (λ code. code ≡ code_of refusal) → result_err answer ≡ first_failure guards
+answers-code guards refusal (Ok x) is code = absurd code
+answers-code guards refusal (Err e) is code =
+    ap (λ (o : ErrorCode). Some o) code ∙ ap (λ (o : Option Refusal). option_map code_of o) is ∙ sym (failure-code guards)
 
 -- where no guard fails, each passes
-pub guard-passes : (guards : List (Bool × ErrorCode)) (k : ℕ) (code : ErrorCode) → None ≡ first_failure guards → (get_or guards k (true, code)).0 ≡ true
-guard-passes [] k code none = refl
-guard-passes ((true, one) ∷ guards) zero code none = refl
-guard-passes ((true, one) ∷ guards) (suc k) code none = guard-passes guards k code none
-guard-passes ((false, one) ∷ guards) k code none = absurd (none_some none)
+pub guard-passes : (guards : List (Bool × Refusal)) (k : ℕ) → None ≡ first_failure guards → (get_or guards k (true, FunctionUnknown)).0 ≡ true
+guard-passes [] k none = refl
+guard-passes ((true, one) ∷ guards) zero none = refl
+guard-passes ((true, one) ∷ guards) (suc k) none = guard-passes guards k none
+guard-passes ((false, one) ∷ guards) k none = absurd (none_some none)
   where
-    none_some : None ≡ Some one → ⊥
+    none_some : None ≡ Some (code_of one) → ⊥
     none_some e = cc
 
 -- guards in a row with one code are one guard
@@ -19,8 +54,8 @@ abbrev pub each_passes : Bool → List Bool → Bool
 each_passes a [] = a
 each_passes a (b ∷ bs) = a && each_passes b bs
 
-pub one-code : (code : ErrorCode) (a : Bool) (bs : List Bool) (guards : List (Bool × ErrorCode))
-    → first_failure (map (λ (b : Bool). (b, code)) (a ∷ bs) ++ guards) ≡ (if each_passes a bs then first_failure guards else Some code)
+pub one-code : (code : Refusal) (a : Bool) (bs : List Bool) (guards : List (Bool × Refusal))
+    → first_failure (map (λ (b : Bool). (b, code)) (a ∷ bs) ++ guards) ≡ (if each_passes a bs then first_failure guards else Some (code_of code))
 one-code code a [] guards = refl
 one-code code true (b ∷ bs) guards = one-code code b bs guards
 one-code code false (b ∷ bs) guards = refl

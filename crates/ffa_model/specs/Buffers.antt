@@ -3,8 +3,8 @@ use Rattle.std.specs.Prelude.{ℕ, ◌+◌, ◌*◌, ◌-◌, ◌/◌, ◌%◌, 
 use Rattle.std.specs.List.{list_all}
 use Rattle.std.specs.Option.{option_map, option_map_or}
 use Rattle.ffa_model.specs.declared.limits.TheConstants.{MOST_BUFFER_PAGES}
-use Rattle.ffa_model.specs.declared.operation.ErrorCode.{ErrorCode}
-use Rattle.ffa_model.specs.declared.operation.ErrorCode.TheVariants.{InvalidParameters, Denied}
+use Rattle.ffa_model.specs.declared.refusal.Refusal.{Refusal}
+use Rattle.ffa_model.specs.declared.refusal.Refusal.TheVariants.{BuffersMapped, BufferPageCount, TxMisplaced, RxMisplaced, BuffersOverlap, TxUnusable, RxUnusable, EndpointNotZero, BuffersMissing, RxEmpty}
 use Rattle.ffa_model.specs.declared.rights.Rights.{Rights}
 use Rattle.ffa_model.specs.Identifiers.{place}
 use Rattle.ffa_model.specs.Lists.{run}
@@ -67,22 +67,22 @@ abbrev pub room_of : Option Buffers → ℕ
 room_of own = option_map_or (λ (b : Buffers). 4096 * b.pages) own 0
 
 -- the checks of each call, in order, for an endpoint e with these buffers of its own
-abbrev pub map_guards : ℕ → Option Buffers → Candidates → ℕ → ℕ → ℕ → List (Bool × ErrorCode)
+abbrev pub map_guards : ℕ → Option Buffers → Candidates → ℕ → ℕ → ℕ → List (Bool × Refusal)
 map_guards e own ram tx rx pages =
-    (is_none own, Denied)
-    ∷ (is_from_to 1 MOST_BUFFER_PAGES pages, InvalidParameters)
-    ∷ (is_run_address ram pages tx, InvalidParameters)
-    ∷ (is_run_address ram pages rx, InvalidParameters)
-    ∷ (are_runs_apart pages (page_number ram.base tx) (page_number ram.base rx), InvalidParameters)
-    ∷ (are_usable_at e ram pages tx, Denied)
-    ∷ (are_usable_at e ram pages rx, Denied)
+    (is_none own, BuffersMapped)
+    ∷ (is_from_to 1 MOST_BUFFER_PAGES pages, BufferPageCount)
+    ∷ (is_run_address ram pages tx, TxMisplaced)
+    ∷ (is_run_address ram pages rx, RxMisplaced)
+    ∷ (are_runs_apart pages (page_number ram.base tx) (page_number ram.base rx), BuffersOverlap)
+    ∷ (are_usable_at e ram pages tx, TxUnusable)
+    ∷ (are_usable_at e ram pages rx, RxUnusable)
     ∷ []
 
-abbrev pub unmap_guards : Option Buffers → ℕ → List (Bool × ErrorCode)
-unmap_guards own endpoint = (endpoint == 0, InvalidParameters) ∷ (is_some own, InvalidParameters) ∷ []
+abbrev pub unmap_guards : Option Buffers → ℕ → List (Bool × Refusal)
+unmap_guards own endpoint = (endpoint == 0, EndpointNotZero) ∷ (is_some own, BuffersMissing) ∷ []
 
-abbrev pub release_guards : Option Buffers → List (Bool × ErrorCode)
-release_guards own = (is_full own, Denied) ∷ []
+abbrev pub release_guards : Option Buffers → List (Bool × Refusal)
+release_guards own = (is_full own, RxEmpty) ∷ []
 
 -- the buffers of this many pages each from these addresses on, with RX empty
 abbrev pub new_buffers : ℕ → ℕ → ℕ → ℕ → Buffers

@@ -7,13 +7,19 @@ use Rattle.ffa_model.specs.declared.operation.Outcome.TheVariants.{Regs}
 use Rattle.ffa_model.specs.declared.call.Reply.{Reply}
 use Rattle.ffa_model.specs.declared.call.Reply.TheVariants.{Version, Error, Success, Passed, Retrieved}
 use Rattle.ffa_model.specs.declared.function.TheConstants.{FFA_ERROR, FFA_SUCCESS, FFA_MEM_RETRIEVE_RESP}
+use Rattle.ffa_model.specs.declared.refusal.Refusal.{Refusal}
 use Rattle.ffa_model.specs.State.{State}
+use Rattle.ffa_model.specs.RefusalCodes.{code_of}
 
--- A guard is a test, which passes where it is true, and the code that the call answers where it fails: the code of the
--- first that fails
-abbrev pub first_failure : List (Bool × ErrorCode) → Option ErrorCode
+-- A guard is a test, which passes where it is true, and the check's name. The first that fails is why a call is refused, and
+-- the call answers its code
+abbrev pub first_refusal : List (Bool × Refusal) → Option Refusal
+first_refusal [] = None
+first_refusal (guard ∷ guards) = if guard.0 then first_refusal guards else Some guard.1
+
+abbrev pub first_failure : List (Bool × Refusal) → Option ErrorCode
 first_failure [] = None
-first_failure (guard ∷ guards) = if guard.0 then first_failure guards else Some guard.1
+first_failure (guard ∷ guards) = if guard.0 then first_failure guards else Some (code_of guard.1)
 
 -- FF-A's number of a code, as 32 bits of two's complement (DEN0077A, 11.2)
 abbrev pub code_number : ErrorCode → ℕ
@@ -45,7 +51,7 @@ replied s reply = record { state = s; outcome = Regs (record { 0 = s.runner }) (
 
 -- how a call is served: its guards, and where all pass the state after it and the reply
 pub record Service : Type 0 where
-  pub guards : List (Bool × ErrorCode)
+  pub guards : List (Bool × Refusal)
   pub state : State
   pub reply : Reply
 

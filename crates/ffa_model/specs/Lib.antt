@@ -15,6 +15,7 @@ pub mod State
 pub mod Codes
 pub mod First
 pub mod Access
+pub mod RefusalCodes
 pub mod Calls
 pub mod Registers
 pub mod Memory

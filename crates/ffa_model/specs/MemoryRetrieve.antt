@@ -2,8 +2,8 @@
 use Rattle.std.specs.Prelude.{ℕ, ◌==◌, Bool, true, false, not, is_none, List, [], ◌∷◌, Option, Some, None, unwrap_or, if◌then◌else◌}
 use Rattle.std.specs.Option.{option_map, option_map_or}
 use Rattle.std.specs.FinMap as map
-use Rattle.ffa_model.specs.declared.operation.ErrorCode.{ErrorCode}
-use Rattle.ffa_model.specs.declared.operation.ErrorCode.TheVariants.{InvalidParameters, Busy, Denied}
+use Rattle.ffa_model.specs.declared.refusal.Refusal.{Refusal}
+use Rattle.ffa_model.specs.declared.refusal.Refusal.TheVariants.{HandleUnknown, NotReceiver, TransactionSenderDiffers, TagDiffers, KindDiffers, AlreadyRetrieved, RightTooMuch, RxFull, DescriptorMalformed}
 use Rattle.ffa_model.specs.declared.call.Reply.TheVariants.{Retrieved}
 use Rattle.ffa_model.specs.declared.descriptor.RetrieveDesc.{RetrieveDesc}
 use Rattle.ffa_model.specs.declared.rights.Rights.{Rights}
@@ -36,25 +36,25 @@ is_kind_right kind None = true
 is_kind_right kind (Some k) = is_same_kind kind k
 
 -- the checks of the transaction that is asked for, in order, for an e whose RX is full or not
-abbrev pub holding_guards : OwnRights → Bool → ℕ → RetrieveDesc → Option Transaction → List (Bool × ErrorCode)
-holding_guards own_rights full e d None = (false, InvalidParameters) ∷ []
+abbrev pub holding_guards : OwnRights → Bool → ℕ → RetrieveDesc → Option Transaction → List (Bool × Refusal)
+holding_guards own_rights full e d None = (false, HandleUnknown) ∷ []
 holding_guards own_rights full e d (Some t) =
-    (is_receiver e t, InvalidParameters)
-    ∷ (d.sender.0 == t.sender, InvalidParameters)
-    ∷ (d.tag == t.tag, InvalidParameters)
-    ∷ (is_kind_right t.kind d.kind, InvalidParameters)
-    ∷ (is_none (held_by t e), Denied)
-    ∷ (is_at_most (right_for own_rights t e d) (ceiling own_rights t e), Denied)
-    ∷ (not full, Busy)
+    (is_receiver e t, NotReceiver)
+    ∷ (d.sender.0 == t.sender, TransactionSenderDiffers)
+    ∷ (d.tag == t.tag, TagDiffers)
+    ∷ (is_kind_right t.kind d.kind, KindDiffers)
+    ∷ (is_none (held_by t e), AlreadyRetrieved)
+    ∷ (is_at_most (right_for own_rights t e d) (ceiling own_rights t e), RightTooMuch)
+    ∷ (not full, RxFull)
     ∷ []
 
-abbrev pub asking_guards : Scene → ℕ → Option RetrieveDesc → List (Bool × ErrorCode)
-asking_guards c e None = (false, InvalidParameters) ∷ []
+abbrev pub asking_guards : Scene → ℕ → Option RetrieveDesc → List (Bool × Refusal)
+asking_guards c e None = (false, DescriptorMalformed) ∷ []
 asking_guards c e (Some d) =
     holding_guards c.own_rights (is_full (buffers_in c.buffers e)) e d (map.get c.open_transactions.transactions d.handle)
 
 -- the checks of a retrieve by e in order, with what the descriptor says, or None where the bytes are none
-abbrev pub retrieve_guards : Scene → ℕ → Transfer → Option RetrieveDesc → List (Bool × ErrorCode)
+abbrev pub retrieve_guards : Scene → ℕ → Transfer → Option RetrieveDesc → List (Bool × Refusal)
 retrieve_guards c e x d = after_transfer c.buffers e x (asking_guards c e d)
 
 -- what is open after e has retrieved the transaction of a handle: e holds the right, and of a donate nothing is open

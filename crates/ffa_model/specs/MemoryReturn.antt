@@ -3,8 +3,8 @@
 use Rattle.std.specs.Prelude.{ℕ, ◌==◌, Bool, false, not, ◌&&◌, ◌||◌, nat_le, is_some, is_none, List, [], ◌∷◌, Option, Some, None}
 use Rattle.std.specs.List.{list_all}
 use Rattle.std.specs.FinMap as map
-use Rattle.ffa_model.specs.declared.operation.ErrorCode.{ErrorCode}
-use Rattle.ffa_model.specs.declared.operation.ErrorCode.TheVariants.{InvalidParameters, Denied}
+use Rattle.ffa_model.specs.declared.refusal.Refusal.{Refusal}
+use Rattle.ffa_model.specs.declared.refusal.Refusal.TheVariants.{EndpointIsAnother, NotOffered, NotHeld, ZerosNotAllowed, DescriptorMalformed, BuffersMissing, FlagsReserved, NotTheSenders, StillHeld, ZerosUnwritable}
 use Rattle.ffa_model.specs.declared.descriptor.RelinquishDesc.{RelinquishDesc}
 use Rattle.ffa_model.specs.declared.transaction.Range.{Range}
 use Rattle.ffa_model.specs.declared.transaction.Receiver.{Receiver}
@@ -26,21 +26,21 @@ is_zeroable e None = false
 is_zeroable e (Some t) = is_lend t.kind && may_store (held_by t e)
 
 -- the checks of the transaction that e gives up, in order
-abbrev pub holder_guards : ℕ → RelinquishDesc → Option Transaction → List (Bool × ErrorCode)
+abbrev pub holder_guards : ℕ → RelinquishDesc → Option Transaction → List (Bool × Refusal)
 holder_guards e d t =
-    (d.endpoint.0 == e, InvalidParameters)
-    ∷ (is_offered e t, InvalidParameters)
-    ∷ (is_held_by e t, Denied)
-    ∷ (not d.zero || is_zeroable e t, Denied)
+    (d.endpoint.0 == e, EndpointIsAnother)
+    ∷ (is_offered e t, NotOffered)
+    ∷ (is_held_by e t, NotHeld)
+    ∷ (not d.zero || is_zeroable e t, ZerosNotAllowed)
     ∷ []
 
-abbrev pub returned_guards : OpenTransactions → ℕ → Option RelinquishDesc → List (Bool × ErrorCode)
-returned_guards open_transactions e None = (false, InvalidParameters) ∷ []
+abbrev pub returned_guards : OpenTransactions → ℕ → Option RelinquishDesc → List (Bool × Refusal)
+returned_guards open_transactions e None = (false, DescriptorMalformed) ∷ []
 returned_guards open_transactions e (Some d) = holder_guards e d (map.get open_transactions.transactions d.handle)
 
 -- the checks of an e with these buffers in order, with what the descriptor says, or None where the bytes are none
-abbrev pub relinquish_guards : Option Buffers → OpenTransactions → ℕ → Option RelinquishDesc → List (Bool × ErrorCode)
-relinquish_guards own open_transactions e d = (is_some own, InvalidParameters) ∷ returned_guards open_transactions e d
+abbrev pub relinquish_guards : Option Buffers → OpenTransactions → ℕ → Option RelinquishDesc → List (Bool × Refusal)
+relinquish_guards own open_transactions e d = (is_some own, BuffersMissing) ∷ returned_guards open_transactions e d
 
 abbrev pub relinquished_from : State → RelinquishDesc → Option Transaction → State
 relinquished_from s d None = s
@@ -75,12 +75,12 @@ named_ranges None = []
 named_ranges (Some t) = t.ranges
 
 -- the checks of a reclaim by e in order, of the transaction of the handle, if it is open
-abbrev pub reclaim_guards : OwnRights → ℕ → ℕ → Option Transaction → List (Bool × ErrorCode)
+abbrev pub reclaim_guards : OwnRights → ℕ → ℕ → Option Transaction → List (Bool × Refusal)
 reclaim_guards own_rights e flags t =
-    (nat_le flags 1, InvalidParameters)
-    ∷ (is_from e t, InvalidParameters)
-    ∷ (is_unheld t, Denied)
-    ∷ (not (is_set 0 flags) || are_writable own_rights (named_ranges t), Denied)
+    (nat_le flags 1, FlagsReserved)
+    ∷ (is_from e t, NotTheSenders)
+    ∷ (is_unheld t, StillHeld)
+    ∷ (not (is_set 0 flags) || are_writable own_rights (named_ranges t), ZerosUnwritable)
     ∷ []
 
 abbrev pub reclaimed : State → ℕ → Bool → State

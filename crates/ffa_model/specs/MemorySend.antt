@@ -4,8 +4,8 @@ use Rattle.std.specs.List.{list_any, list_all}
 use Rattle.std.specs.Option.{option_map_or}
 use Rattle.std.specs.FinMap as map
 use Rattle.ffa_model.specs.declared.limits.TheConstants.{MOST_OPEN, MOST_SENDS}
-use Rattle.ffa_model.specs.declared.operation.ErrorCode.{ErrorCode}
-use Rattle.ffa_model.specs.declared.operation.ErrorCode.TheVariants.{InvalidParameters, NoMemory, Denied}
+use Rattle.ffa_model.specs.declared.refusal.Refusal.{Refusal}
+use Rattle.ffa_model.specs.declared.refusal.Refusal.TheVariants.{DescriptorMalformed, SenderIsAnother, ReceiverUnknown, RangeOutside, PageUnsendable, GrantTooMuch, ZerosUnwritable, TransactionsFull, HandlesUsedUp, BuffersMissing, Fragmented, DescriptorTooLong, BufferAddressGiven, BufferPagesGiven}
 use Rattle.ffa_model.specs.declared.call.Reply.{Reply}
 use Rattle.ffa_model.specs.declared.rights.Data.{Data}
 use Rattle.ffa_model.specs.declared.rights.Kind.{Kind}
@@ -54,37 +54,37 @@ abbrev pub are_grants_within : OwnRights → List Receiver → ℕ → Bool
 are_grants_within own_rights receivers p = list_all (λ (r : Receiver). is_grantable r.grant (own_rights.right p)) receivers
 
 -- the checks of a descriptor's registers, in order, and then others: all of it stands in the first bytes of TX
-abbrev pub after_transfer : List (Option Buffers) → ℕ → Transfer → List (Bool × ErrorCode) → List (Bool × ErrorCode)
+abbrev pub after_transfer : List (Option Buffers) → ℕ → Transfer → List (Bool × Refusal) → List (Bool × Refusal)
 after_transfer buffers e x rest =
-    (is_some (buffers_in buffers e), InvalidParameters)
-    ∷ (x.total == x.fragment, InvalidParameters)
-    ∷ (nat_le x.total (room_of (buffers_in buffers e)), InvalidParameters)
-    ∷ (x.address == 0, InvalidParameters)
-    ∷ (x.pages == 0, InvalidParameters)
+    (is_some (buffers_in buffers e), BuffersMissing)
+    ∷ (x.total == x.fragment, Fragmented)
+    ∷ (nat_le x.total (room_of (buffers_in buffers e)), DescriptorTooLong)
+    ∷ (x.address == 0, BufferAddressGiven)
+    ∷ (x.pages == 0, BufferPagesGiven)
     ∷ rest
 
 -- the checks of what a send descriptor says, in order, and then others
-abbrev pub after_offer : ℕ → Candidates → OwnRights → List (Option Buffers) → ℕ → SendRecord → List (Bool × ErrorCode) → List (Bool × ErrorCode)
+abbrev pub after_offer : ℕ → Candidates → OwnRights → List (Option Buffers) → ℕ → SendRecord → List (Bool × Refusal) → List (Bool × Refusal)
 after_offer endpoints ram own_rights buffers e r rest =
-    (r.sender == e, InvalidParameters)
-    ∷ (are_known endpoints r.receivers, InvalidParameters)
-    ∷ (list_all (is_inside own_rights) r.ranges, Denied)
-    ∷ (list_all (is_sendable e ram buffers) (pages_in own_rights r.ranges), Denied)
-    ∷ (list_all (are_grants_within own_rights r.receivers) (pages_in own_rights r.ranges), Denied)
-    ∷ (not r.zero || are_writable own_rights r.ranges, Denied)
+    (r.sender == e, SenderIsAnother)
+    ∷ (are_known endpoints r.receivers, ReceiverUnknown)
+    ∷ (list_all (is_inside own_rights) r.ranges, RangeOutside)
+    ∷ (list_all (is_sendable e ram buffers) (pages_in own_rights r.ranges), PageUnsendable)
+    ∷ (list_all (are_grants_within own_rights r.receivers) (pages_in own_rights r.ranges), GrantTooMuch)
+    ∷ (not r.zero || are_writable own_rights r.ranges, ZerosUnwritable)
     ∷ rest
 
 -- the checks of room for one more transaction
-abbrev pub room_guards : OpenTransactions → ℕ → List (Bool × ErrorCode)
-room_guards open_transactions e = (nat_lt (open_count open_transactions e) MOST_OPEN, NoMemory) ∷ (nat_lt (sends_of open_transactions e) MOST_SENDS, NoMemory) ∷ []
+abbrev pub room_guards : OpenTransactions → ℕ → List (Bool × Refusal)
+room_guards open_transactions e = (nat_lt (open_count open_transactions e) MOST_OPEN, TransactionsFull) ∷ (nat_lt (sends_of open_transactions e) MOST_SENDS, HandlesUsedUp) ∷ []
 
 -- the checks of what is offered, or None where the bytes are no descriptor
-abbrev pub offer_guards : Scene → ℕ → Option SendRecord → List (Bool × ErrorCode)
-offer_guards c e None = (false, InvalidParameters) ∷ []
+abbrev pub offer_guards : Scene → ℕ → Option SendRecord → List (Bool × Refusal)
+offer_guards c e None = (false, DescriptorMalformed) ∷ []
 offer_guards c e (Some r) = after_offer c.endpoints c.ram c.own_rights c.buffers e r (room_guards c.open_transactions e)
 
 -- the checks of a send by e in order, with what the descriptor says
-abbrev pub send_guards : Scene → ℕ → Transfer → Option SendRecord → List (Bool × ErrorCode)
+abbrev pub send_guards : Scene → ℕ → Transfer → Option SendRecord → List (Bool × Refusal)
 send_guards c e x r = after_transfer c.buffers e x (offer_guards c e r)
 
 -- the transaction that a send opens: nobody holds it

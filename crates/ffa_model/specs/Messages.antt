@@ -2,8 +2,8 @@
 -- notifies it.
 use Rattle.std.specs.Prelude.{ℕ, ◌+◌, ◌==◌, Bool, not, nat_le, List, [], ◌∷◌, length, take, is_some, Option}
 use Rattle.std.specs.Option.{option_map_or}
-use Rattle.ffa_model.specs.declared.operation.ErrorCode.{ErrorCode}
-use Rattle.ffa_model.specs.declared.operation.ErrorCode.TheVariants.{InvalidParameters, NoMemory, Busy, Denied}
+use Rattle.ffa_model.specs.declared.refusal.Refusal.{Refusal}
+use Rattle.ffa_model.specs.declared.refusal.Refusal.TheVariants.{BuffersMissing, FlagsReserved, HeaderReserved, SenderIsAnother, ReceiverUnknown, ReceiverIsCaller, MessageInHeader, MessageEmpty, MessageTooLong, MessagesUnsent, MessagesUnreceived, ReceiverBuffersMissing, ReceiverRxFull, ReceiverRxSmall}
 use Rattle.ffa_model.specs.State.{State, Party, Buffers, buffers_of, is_known_among, has_property}
 use Rattle.ffa_model.specs.Ram.{number_in}
 use Rattle.ffa_model.specs.Memory.{run_bytes}
@@ -32,22 +32,22 @@ header_in tx =
     }
 
 -- the checks of FFA_MSG_SEND2 in order, for a caller among these endpoints and their buffers
-abbrev pub send2_guards : List Party → List (Option Buffers) → ℕ → MessageHeader → List (Bool × ErrorCode)
+abbrev pub send2_guards : List Party → List (Option Buffers) → ℕ → MessageHeader → List (Bool × Refusal)
 send2_guards parties buffers caller m =
-    (is_some (buffers_in buffers caller), InvalidParameters)
-    ∷ (m.flags == 0, InvalidParameters)
-    ∷ (m.reserved == 0, InvalidParameters)
-    ∷ (m.sender == caller, InvalidParameters)
-    ∷ (is_known_among (length parties) m.receiver, InvalidParameters)
-    ∷ (not (m.receiver == caller), InvalidParameters)
-    ∷ (nat_le 20 m.offset, InvalidParameters)
-    ∷ (not (m.size == 0), InvalidParameters)
-    ∷ (nat_le (m.offset + m.size) (room_of (buffers_in buffers caller)), InvalidParameters)
-    ∷ (has_property parties caller 2, Denied)
-    ∷ (has_property parties m.receiver 2, Denied)
-    ∷ (is_some (buffers_in buffers m.receiver), Busy)
-    ∷ (not (is_full (buffers_in buffers m.receiver)), Busy)
-    ∷ (nat_le (m.offset + m.size) (room_of (buffers_in buffers m.receiver)), NoMemory)
+    (is_some (buffers_in buffers caller), BuffersMissing)
+    ∷ (m.flags == 0, FlagsReserved)
+    ∷ (m.reserved == 0, HeaderReserved)
+    ∷ (m.sender == caller, SenderIsAnother)
+    ∷ (is_known_among (length parties) m.receiver, ReceiverUnknown)
+    ∷ (not (m.receiver == caller), ReceiverIsCaller)
+    ∷ (nat_le 20 m.offset, MessageInHeader)
+    ∷ (not (m.size == 0), MessageEmpty)
+    ∷ (nat_le (m.offset + m.size) (room_of (buffers_in buffers caller)), MessageTooLong)
+    ∷ (has_property parties caller 2, MessagesUnsent)
+    ∷ (has_property parties m.receiver 2, MessagesUnreceived)
+    ∷ (is_some (buffers_in buffers m.receiver), ReceiverBuffersMissing)
+    ∷ (not (is_full (buffers_in buffers m.receiver)), ReceiverRxFull)
+    ∷ (nat_le (m.offset + m.size) (room_of (buffers_in buffers m.receiver)), ReceiverRxSmall)
     ∷ []
 
 -- the message that begins these bytes, with its header

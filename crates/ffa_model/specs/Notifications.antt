@@ -4,8 +4,8 @@ use Rattle.std.specs.Ordering.{nat_cmp}
 use Rattle.std.specs.Cmp.Lexicographic.{slice_cmp}
 use Rattle.std.specs.List.{list_any, list_all}
 use Rattle.std.specs.FinSet as finite_set
-use Rattle.ffa_model.specs.declared.operation.ErrorCode.{ErrorCode}
-use Rattle.ffa_model.specs.declared.operation.ErrorCode.TheVariants.{InvalidParameters, Denied}
+use Rattle.ffa_model.specs.declared.refusal.Refusal.{Refusal}
+use Rattle.ffa_model.specs.declared.refusal.Refusal.TheVariants.{NotNormalWorld, EndpointNotNormalWorld, ContextCount, BitmapsExist, BitmapsMissing, BitsPending, ReceiverIsAnother, SenderUnknown, SenderIsCaller, FlagsReserved, BitsNone, BitsTaken, BitsNotTheSenders, SenderIsAnother, ReceiverUnknown, ReceiverIsCaller, BitsNotTheCallers, ContextUnknown, ClassesUnknown}
 use Rattle.ffa_model.specs.declared.call.Reply.{Reply}
 use Rattle.ffa_model.specs.declared.call.Reply.TheVariants.{Success}
 use Rattle.ffa_model.specs.Bits.{bits, bits_of, high_half, is_set, word_of_halves, low_half, word_where}
@@ -118,33 +118,33 @@ with_framework_bit n receiver = with_pending n receiver manager_class message_bi
 -- the checks of each call in order, by a caller among this many endpoints
 
 -- FFA_NOTIFICATION_BITMAP_CREATE, with w1 and w2
-abbrev pub create_guards : Notifications → ℕ → ℕ → ℕ → List (Bool × ErrorCode)
+abbrev pub create_guards : Notifications → ℕ → ℕ → ℕ → List (Bool × Refusal)
 create_guards n caller endpoint contexts =
-    (caller == 0, Denied)
-    ∷ (endpoint == 0, InvalidParameters)
-    ∷ (contexts == 1, InvalidParameters)
-    ∷ (not (has_bitmaps_in n 0), Denied)
+    (caller == 0, NotNormalWorld)
+    ∷ (endpoint == 0, EndpointNotNormalWorld)
+    ∷ (contexts == 1, ContextCount)
+    ∷ (not (has_bitmaps_in n 0), BitmapsExist)
     ∷ []
 
 -- FFA_NOTIFICATION_BITMAP_DESTROY, with w1
-abbrev pub destroy_guards : Notifications → ℕ → ℕ → List (Bool × ErrorCode)
+abbrev pub destroy_guards : Notifications → ℕ → ℕ → List (Bool × Refusal)
 destroy_guards n caller endpoint =
-    (caller == 0, Denied)
-    ∷ (endpoint == 0, InvalidParameters)
-    ∷ (has_bitmaps_in n 0, Denied)
-    ∷ (not (has_pending n 0), Denied)
+    (caller == 0, NotNormalWorld)
+    ∷ (endpoint == 0, EndpointNotNormalWorld)
+    ∷ (has_bitmaps_in n 0, BitmapsMissing)
+    ∷ (not (has_pending n 0), BitsPending)
     ∷ []
 
 -- FFA_NOTIFICATION_BIND and FFA_NOTIFICATION_UNBIND alike, with w1, w2 and the bitmap, and then others: the sender stands in
 -- the high half of w1, the receiver in the low
-abbrev pub sender_guards : ℕ → Notifications → ℕ → ℕ → ℕ → ℕ → List (Bool × ErrorCode) → List (Bool × ErrorCode)
+abbrev pub sender_guards : ℕ → Notifications → ℕ → ℕ → ℕ → ℕ → List (Bool × Refusal) → List (Bool × Refusal)
 sender_guards endpoints n caller word flags bitmap rest =
-    (low_half word == caller, InvalidParameters)
-    ∷ (is_known_among endpoints (high_half word), InvalidParameters)
-    ∷ (not (high_half word == caller), InvalidParameters)
-    ∷ (flags == 0, InvalidParameters)
-    ∷ (not (bitmap == 0), InvalidParameters)
-    ∷ (has_bitmaps_in n caller, Denied)
+    (low_half word == caller, ReceiverIsAnother)
+    ∷ (is_known_among endpoints (high_half word), SenderUnknown)
+    ∷ (not (high_half word == caller), SenderIsCaller)
+    ∷ (flags == 0, FlagsReserved)
+    ∷ (not (bitmap == 0), BitsNone)
+    ∷ (has_bitmaps_in n caller, BitmapsMissing)
     ∷ rest
 
 -- FFA_NOTIFICATION_BIND
@@ -152,37 +152,37 @@ abbrev pub is_bindable : ℕ → Notifications → ℕ → ℕ → ℕ → Bool
 is_bindable endpoints n receiver sender bit =
     not (is_bound_to_another endpoints n receiver (class_of sender) bit sender) && not (is_pending n receiver (class_of sender) bit)
 
-abbrev pub bind_guards : ℕ → Notifications → ℕ → ℕ → ℕ → ℕ → List (Bool × ErrorCode)
+abbrev pub bind_guards : ℕ → Notifications → ℕ → ℕ → ℕ → ℕ → List (Bool × Refusal)
 bind_guards endpoints n caller word flags bitmap =
-    sender_guards endpoints n caller word flags bitmap ((list_all (is_bindable endpoints n caller (high_half word)) (bits_of bitmap), Denied) ∷ [])
+    sender_guards endpoints n caller word flags bitmap ((list_all (is_bindable endpoints n caller (high_half word)) (bits_of bitmap), BitsTaken) ∷ [])
 
 -- FFA_NOTIFICATION_UNBIND
 abbrev pub is_unbindable : Notifications → ℕ → ℕ → ℕ → Bool
 is_unbindable n receiver sender bit =
     is_bound n receiver (class_of sender) bit sender && not (is_pending n receiver (class_of sender) bit)
 
-abbrev pub unbind_guards : ℕ → Notifications → ℕ → ℕ → ℕ → ℕ → List (Bool × ErrorCode)
+abbrev pub unbind_guards : ℕ → Notifications → ℕ → ℕ → ℕ → ℕ → List (Bool × Refusal)
 unbind_guards endpoints n caller word flags bitmap =
-    sender_guards endpoints n caller word flags bitmap ((list_all (is_unbindable n caller (high_half word)) (bits_of bitmap), Denied) ∷ [])
+    sender_guards endpoints n caller word flags bitmap ((list_all (is_unbindable n caller (high_half word)) (bits_of bitmap), BitsNotTheSenders) ∷ [])
 
 -- FFA_NOTIFICATION_SET, with the same: the flag that delays the schedule receiver interrupt has no effect
-abbrev pub set_guards : ℕ → Notifications → ℕ → ℕ → ℕ → ℕ → List (Bool × ErrorCode)
+abbrev pub set_guards : ℕ → Notifications → ℕ → ℕ → ℕ → ℕ → List (Bool × Refusal)
 set_guards endpoints n caller word flags bitmap =
-    (high_half word == caller, InvalidParameters)
-    ∷ (is_known_among endpoints (low_half word), InvalidParameters)
-    ∷ (not (low_half word == caller), InvalidParameters)
-    ∷ (flags == 0 || flags == 2, InvalidParameters)
-    ∷ (not (bitmap == 0), InvalidParameters)
-    ∷ (list_all (λ k. is_bound n (low_half word) (class_of caller) k caller) (bits_of bitmap), Denied)
+    (high_half word == caller, SenderIsAnother)
+    ∷ (is_known_among endpoints (low_half word), ReceiverUnknown)
+    ∷ (not (low_half word == caller), ReceiverIsCaller)
+    ∷ (flags == 0 || flags == 2, FlagsReserved)
+    ∷ (not (bitmap == 0), BitsNone)
+    ∷ (list_all (λ k. is_bound n (low_half word) (class_of caller) k caller) (bits_of bitmap), BitsNotTheCallers)
     ∷ []
 
 -- FFA_NOTIFICATION_GET, with w1 and w2: the receiver stands in the low half of w1, its context in the high
-abbrev pub get_guards : Notifications → ℕ → ℕ → ℕ → List (Bool × ErrorCode)
+abbrev pub get_guards : Notifications → ℕ → ℕ → ℕ → List (Bool × Refusal)
 get_guards n caller word flags =
-    (low_half word == caller, InvalidParameters)
-    ∷ (high_half word == 0, InvalidParameters)
-    ∷ (nat_le flags 15, InvalidParameters)
-    ∷ (has_bitmaps_in n caller, Denied)
+    (low_half word == caller, ReceiverIsAnother)
+    ∷ (high_half word == 0, ContextUnknown)
+    ∷ (nat_le flags 15, ClassesUnknown)
+    ∷ (has_bitmaps_in n caller, BitmapsMissing)
     ∷ []
 
 -- the pending bits of a class, where the flags ask for it

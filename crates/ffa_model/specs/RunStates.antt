@@ -1,7 +1,7 @@
 -- Who runs, who waits, and for whom a partition works (DEN0077A, 8.2 and 15).
 use Rattle.std.specs.Prelude.{ℕ, ◌==◌, Bool, true, false, not, ◌||◌, List, [], ◌∷◌, length, replicate, Option, Some, None, slice_index_or, slice_set, is_some}
-use Rattle.ffa_model.specs.declared.operation.ErrorCode.{ErrorCode}
-use Rattle.ffa_model.specs.declared.operation.ErrorCode.TheVariants.{InvalidParameters, Busy, Denied}
+use Rattle.ffa_model.specs.declared.refusal.Refusal.{Refusal}
+use Rattle.ffa_model.specs.declared.refusal.Refusal.TheVariants.{SenderIsAnother, FlagsReserved, ReceiverUnknown, ReceiverIsCaller, ReceiverIsNormalWorld, RequestsUnsent, RequestsUnreceived, ReceiverNotWaiting, NoRequest, AnswerMisdirected, NotNormalWorld, TargetUnknown, ContextUnknown, TargetNotReady, NotRun, NobodyToYieldTo}
 use Rattle.ffa_model.specs.declared.schedule.Status.{Status}
 use Rattle.ffa_model.specs.declared.schedule.Status.TheVariants.{Running, Waiting, Yielded, Blocked}
 use Rattle.ffa_model.specs.declared.schedule.Work.{Work}
@@ -97,16 +97,16 @@ given_cycles c e Blocked = c
 -- the checks of each call, in order
 
 -- FFA_MSG_SEND_DIRECT_REQ, with w1 and w2
-abbrev pub request_guards : List Party → Schedule → ℕ → ℕ → List (Bool × ErrorCode)
+abbrev pub request_guards : List Party → Schedule → ℕ → ℕ → List (Bool × Refusal)
 request_guards parties c word flags =
-    (high_half word == c.runner, InvalidParameters)
-    ∷ (flags == 0, InvalidParameters)
-    ∷ (is_known_among (length parties) (low_half word), InvalidParameters)
-    ∷ (not (low_half word == c.runner), InvalidParameters)
-    ∷ (not (low_half word == 0), Denied)
-    ∷ (has_property parties c.runner 1, Denied)
-    ∷ (has_property parties (low_half word) 0, Denied)
-    ∷ (is_waiting (status_in c (low_half word)), Busy)
+    (high_half word == c.runner, SenderIsAnother)
+    ∷ (flags == 0, FlagsReserved)
+    ∷ (is_known_among (length parties) (low_half word), ReceiverUnknown)
+    ∷ (not (low_half word == c.runner), ReceiverIsCaller)
+    ∷ (not (low_half word == 0), ReceiverIsNormalWorld)
+    ∷ (has_property parties c.runner 1, RequestsUnsent)
+    ∷ (has_property parties (low_half word) 0, RequestsUnreceived)
+    ∷ (is_waiting (status_in c (low_half word)), ReceiverNotWaiting)
     ∷ []
 
 -- whether w1 names the runner and the endpoint whose request it answers
@@ -115,29 +115,29 @@ is_answer runner word None = false
 is_answer runner word (Some by) = word == word_of_two runner by
 
 -- FFA_MSG_SEND_DIRECT_RESP, with w1 and w2
-abbrev pub response_guards : Schedule → ℕ → ℕ → List (Bool × ErrorCode)
+abbrev pub response_guards : Schedule → ℕ → ℕ → List (Bool × Refusal)
 response_guards c word flags =
-    (is_some (requester (work_in c c.runner)), Denied)
-    ∷ (is_answer c.runner word (requester (work_in c c.runner)), InvalidParameters)
-    ∷ (flags == 0, InvalidParameters)
+    (is_some (requester (work_in c c.runner)), NoRequest)
+    ∷ (is_answer c.runner word (requester (work_in c c.runner)), AnswerMisdirected)
+    ∷ (flags == 0, FlagsReserved)
     ∷ []
 
 -- FFA_RUN among this many endpoints, with w1
-abbrev pub run_guards : ℕ → Schedule → ℕ → List (Bool × ErrorCode)
+abbrev pub run_guards : ℕ → Schedule → ℕ → List (Bool × Refusal)
 run_guards endpoints c word =
-    (c.runner == 0, Denied)
-    ∷ (is_partition_among endpoints (high_half word), InvalidParameters)
-    ∷ (low_half word == 0, InvalidParameters)
-    ∷ (is_waiting (status_in c (high_half word)) || is_yielded (status_in c (high_half word)), Busy)
+    (c.runner == 0, NotNormalWorld)
+    ∷ (is_partition_among endpoints (high_half word), TargetUnknown)
+    ∷ (low_half word == 0, ContextUnknown)
+    ∷ (is_waiting (status_in c (high_half word)) || is_yielded (status_in c (high_half word)), TargetNotReady)
     ∷ []
 
 -- FFA_MSG_WAIT
-abbrev pub wait_guards : Schedule → List (Bool × ErrorCode)
-wait_guards c = (is_run (work_in c c.runner), Denied) ∷ []
+abbrev pub wait_guards : Schedule → List (Bool × Refusal)
+wait_guards c = (is_run (work_in c c.runner), NotRun) ∷ []
 
 -- FFA_YIELD
-abbrev pub yield_guards : Schedule → List (Bool × ErrorCode)
-yield_guards c = (is_run (work_in c c.runner) || is_endpoint 0 (requester (work_in c c.runner)), Denied) ∷ []
+abbrev pub yield_guards : Schedule → List (Bool × Refusal)
+yield_guards c = (is_run (work_in c c.runner) || is_endpoint 0 (requester (work_in c c.runner)), NobodyToYieldTo) ∷ []
 
 -- what the endpoint that runs next sees: w0 and w1, and zeros
 abbrev pub passed : ℕ → ℕ → Reply

@@ -5,8 +5,9 @@ use Rattle.std.specs.Str.{bytes_eq}
 use Rattle.std.specs.List.{filter, flat_map, enumerate_from}
 use Rattle.ffa_model.specs.declared.endpoint.Version as versions
 use Rattle.ffa_model.specs.declared.endpoint.Version.TheVariants.{Compact, V1_1}
-use Rattle.ffa_model.specs.declared.operation.ErrorCode.{ErrorCode}
-use Rattle.ffa_model.specs.declared.operation.ErrorCode.TheVariants.{InvalidParameters, Busy, NotSupported}
+use Rattle.ffa_model.specs.declared.operation.ErrorCode.TheVariants.{NotSupported}
+use Rattle.ffa_model.specs.declared.refusal.Refusal.{Refusal}
+use Rattle.ffa_model.specs.declared.refusal.Refusal.TheVariants.{UuidUnknown, BuffersMissing, RxFull}
 use Rattle.ffa_model.specs.declared.call.Reply.{Reply}
 use Rattle.ffa_model.specs.declared.call.Reply.TheVariants.{Version, Error}
 use Rattle.ffa_model.specs.Bits.{bits, is_set}
@@ -65,11 +66,11 @@ abbrev pub is_any : {X : Type 0} → List X → Bool
 is_any [] = false
 is_any (x ∷ xs) = true
 
-abbrev pub info_guards : State → List ℕ → ℕ → List (Bool × ErrorCode)
+abbrev pub info_guards : State → List ℕ → ℕ → List (Bool × Refusal)
 info_guards s uuid flags =
-    (is_nil uuid || is_any (selected s.parties uuid), InvalidParameters)
-    ∷ (is_count_alone flags || is_some (buffers_of s s.runner), InvalidParameters)
-    ∷ (is_count_alone flags || not (is_full (buffers_of s s.runner)), Busy)
+    (is_nil uuid || is_any (selected s.parties uuid), UuidUnknown)
+    ∷ (is_count_alone flags || is_some (buffers_of s s.runner), BuffersMissing)
+    ∷ (is_count_alone flags || not (is_full (buffers_of s s.runner)), RxFull)
     ∷ []
 
 abbrev pub informed : State → List ℕ → ℕ → State

@@ -11,6 +11,7 @@ pub mod limits;
 pub mod machines;
 pub mod manifest;
 pub mod operation;
+pub mod refusal;
 pub mod rights;
 pub mod schedule;
 pub mod transaction;
@@ -27,6 +28,7 @@ pub use limits::{
 pub use machines::{built_in, row_machine};
 pub use manifest::Manifest;
 pub use operation::{ErrorCode, FaultKind, Op, Outcome, Size};
+pub use refusal::Refusal;
 pub use rights::{Data, Kind, Rights};
 pub use schedule::{Status, Work};
 pub use transaction::{Range, Receiver};
