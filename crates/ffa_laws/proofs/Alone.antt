@@ -11,7 +11,6 @@ use Rattle.ffa_model.specs.declared.operation.Op.{Op}
 use Rattle.ffa_model.specs.declared.operation.Op.TheVariants.{Call, Load, Store, Fetch}
 use Rattle.ffa_model.specs.declared.operation.Outcome.TheVariants.{Data, Done}
 use Rattle.ffa_model.specs.declared.operation.ErrorCode.{ErrorCode}
-use Rattle.ffa_model.specs.declared.operation.ErrorCode.TheVariants.{InvalidParameters}
 use Rattle.ffa_model.specs.declared.call.Call as calls
 use Rattle.ffa_model.specs.declared.call.Call.TheVariants.{PartitionInfoGet, MemDonate, MemLend, MemShare, MemRetrieve, MemRelinquish, MemReclaim, MsgSend2}
 use Rattle.ffa_model.specs.declared.rights.Kind.{Kind}
@@ -129,7 +128,7 @@ filled-rx e s p fills =
     let (none, its) = and_parts (is_none (first_failure (msg_send2 s).guards)) _ fills in
     let (receiver, rx) = and_parts ((header_in (tx_bytes s s.runner)).receiver == e) _ its in
     let guards = send2_guards s.parties s.buffers s.runner (header_in (tx_bytes s s.runner)) in
-    let known = guard-passes guards 4 InvalidParameters (sym (passed (first_failure guards) none)) in
+    let known = guard-passes guards 4 (sym (passed (first_failure guards) none)) in
     (ap (is_known s) (sym (eqb-true (header_in (tx_bytes s s.runner)).receiver e receiver)) ∙ known, rx)
 
 not_filled : (e : ℕ) (s : State) (p : ℕ) (rx : Bool) (op : Op) → (is_known s e ≡ true → is_rx s e p ≡ true → rx ≡ true) → are_quiet_events rx (events e s op) ≡ true → (is_indirect_message op && fills_rx_page s e p) ≡ false

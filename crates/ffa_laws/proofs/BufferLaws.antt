@@ -5,10 +5,10 @@ use Rattle.std.specs.Option.{option_map, option_map_or}
 use Rattle.std.proofs.lemmas.Bool.{cases_eq, eq-eqb, eqb-true}
 use Rattle.std.specs.List.{list_all}
 use Rattle.std.proofs.lemmas.Bool.Decides.{nat_tests}
+use Rattle.ffa_model.specs.declared.refusal.Refusal.TheVariants.{BuffersMapped, BufferPageCount, TxMisplaced, RxMisplaced, BuffersOverlap, TxUnusable, RxUnusable}
 use Rattle.ffa_model.specs.declared.limits.TheConstants.{MOST_BUFFER_PAGES}
 use Rattle.ffa_model.proofs.Runs.{run-each}
 use Rattle.ffa_model.specs.Manifest.{is_from_to}
-use Rattle.ffa_model.specs.declared.operation.ErrorCode.TheVariants.{InvalidParameters, Denied}
 use Rattle.ffa_model.specs.Rights.{may_write}
 use Rattle.ffa_model.specs.Lists.{map_at, run}
 use Rattle.ffa_model.specs.Identifiers.{identifier, place}
@@ -141,13 +141,13 @@ view-usable e s steady p = ap (judged e (is_some (handle_at (view e s) p))) (vie
 same-map_guards : (s : State) → IsSteady s → (tx rx pages : ℕ)
     → map_guards s.runner (buffers_of (view s.runner s) s.runner) (candidates (view s.runner s)) tx rx pages ≡ map_guards s.runner (buffers_of s s.runner) (candidates s) tx rx pages
 same-map_guards s steady tx rx pages =
-    λ i. (is_none (own-buffers s.runner s steady.runner i), Denied)
-    ∷ (is_from_to 1 MOST_BUFFER_PAGES pages, InvalidParameters)
-    ∷ (is_run_address (record { base = s.ram_base; count = size i; page = candidate_at s }) pages tx, InvalidParameters)
-    ∷ (is_run_address (record { base = s.ram_base; count = size i; page = candidate_at s }) pages rx, InvalidParameters)
-    ∷ (are_runs_apart pages (page_number s.ram_base tx) (page_number s.ram_base rx), InvalidParameters)
-    ∷ (list_all (λ p. view-usable s.runner s steady p i) (run (page_number s.ram_base tx) pages), Denied)
-    ∷ (list_all (λ p. view-usable s.runner s steady p i) (run (page_number s.ram_base rx) pages), Denied)
+    λ i. (is_none (own-buffers s.runner s steady.runner i), BuffersMapped)
+    ∷ (is_from_to 1 MOST_BUFFER_PAGES pages, BufferPageCount)
+    ∷ (is_run_address (record { base = s.ram_base; count = size i; page = candidate_at s }) pages tx, TxMisplaced)
+    ∷ (is_run_address (record { base = s.ram_base; count = size i; page = candidate_at s }) pages rx, RxMisplaced)
+    ∷ (are_runs_apart pages (page_number s.ram_base tx) (page_number s.ram_base rx), BuffersOverlap)
+    ∷ (list_all (λ p. view-usable s.runner s steady p i) (run (page_number s.ram_base tx) pages), TxUnusable)
+    ∷ (list_all (λ p. view-usable s.runner s steady p i) (run (page_number s.ram_base rx) pages), RxUnusable)
     ∷ []
   where
     size : length (view s.runner s).pages ≡ length s.pages
@@ -185,8 +185,8 @@ module _ (s : State) (steady : IsSteady s) where
   pub steady-map : (tx rx pages : ℕ) → first_failure (rxtx_map s tx rx pages).guards ≡ None → IsSteady (rxtx_map s tx rx pages).state
   steady-map tx rx pages none =
       steady-set (Some (new_buffers s.ram_base tx rx pages)) (λ x is.
-      let all_tx = run-each (λ p. is_usable s.runner (candidate_at s p)) (page_number s.ram_base tx) pages (guard-passes (map_guards s.runner (buffers_of s s.runner) (candidates s) tx rx pages) 5 Denied (sym none)) in
-      let all_rx = run-each (λ p. is_usable s.runner (candidate_at s p)) (page_number s.ram_base rx) pages (guard-passes (map_guards s.runner (buffers_of s s.runner) (candidates s) tx rx pages) 6 Denied (sym none)) in
+      let all_tx = run-each (λ p. is_usable s.runner (candidate_at s p)) (page_number s.ram_base tx) pages (guard-passes (map_guards s.runner (buffers_of s s.runner) (candidates s) tx rx pages) 5 (sym none)) in
+      let all_rx = run-each (λ p. is_usable s.runner (candidate_at s p)) (page_number s.ram_base rx) pages (guard-passes (map_guards s.runner (buffers_of s s.runner) (candidates s) tx rx pages) 6 (sym none)) in
       let new : new_buffers s.ram_base tx rx pages ≡ x = cc in
       subst (AreSteadyBuffers s s.runner) new (record { tx = λ p its. usable s s.runner p (all_tx p its); rx = λ p its. usable s s.runner p (all_rx p its) }))
 

@@ -7,7 +7,6 @@ use Rattle.std.proofs.lemmas.Bool.{and_parts, false≢true, ne_eqb}
 use Rattle.byteorder.specs.Endian.{little_bytes}
 use Rattle.ffa_model.specs.declared.call.Call.TheVariants.{MemRelinquish}
 use Rattle.ffa_model.specs.declared.descriptor.RelinquishDesc.{RelinquishDesc}
-use Rattle.ffa_model.specs.declared.operation.ErrorCode.TheVariants.{InvalidParameters, Denied}
 use Rattle.ffa_model.specs.declared.operation.FaultKind.{FaultKind}
 use Rattle.ffa_model.specs.declared.operation.Op.{Op}
 use Rattle.ffa_model.specs.declared.operation.Op.TheVariants.{Call, Load, Store, Fetch}
@@ -119,8 +118,8 @@ module _ (s : State) (steady : IsSteady s) (h : ℕ) (x : List ℕ) (its : IsZer
   lent : Lent
   lent =
       of (transaction_of s asked.handle) (sym (ap (transaction_of s) its.handle))
-      (guard-passes (relinquish_guards (buffers_of s s.runner) (open_of s) s.runner (Some asked)) 2 InvalidParameters (sym passes))
-      (guard-passes (relinquish_guards (buffers_of s s.runner) (open_of s) s.runner (Some asked)) 4 Denied (sym passes))
+      (guard-passes (relinquish_guards (buffers_of s s.runner) (open_of s) s.runner (Some asked)) 2 (sym passes))
+      (guard-passes (relinquish_guards (buffers_of s s.runner) (open_of s) s.runner (Some asked)) 4 (sym passes))
     where
       asks : (zero zeroable : Bool) → (not zero || zeroable) ≡ true → zero ≡ true → zeroable ≡ true
       asks true zeroable is zeroes = is

@@ -7,6 +7,7 @@ use Rattle.ffa_model.specs.State.{State}
 use Rattle.ffa_model.specs.Calls.{Service, Stepped, answered, first_failure, replied, served}
 use Rattle.ffa_model.specs.Memory.{accessed}
 use Rattle.ffa_laws.specs.View.{view}
+use Rattle.ffa_model.specs.declared.refusal.Refusal.{Refusal}
 
 abbrev pub viewed : ℕ → Stepped → Stepped
 viewed e st = record { state = view e st.state; outcome = st.outcome }
@@ -53,13 +54,13 @@ accessed-kept P s new outcome None old change = change refl
 accessed-kept P s new outcome (Some fault) old change = old
 
 -- guards that agree until one fails
-pub same-first : (passes : Bool) (code : ErrorCode) (xs ys : List (Bool × ErrorCode)) → (passes ≡ true → first_failure xs ≡ first_failure ys)
+pub same-first : (passes : Bool) (code : Refusal) (xs ys : List (Bool × Refusal)) → (passes ≡ true → first_failure xs ≡ first_failure ys)
     → first_failure ((passes, code) ∷ xs) ≡ first_failure ((passes, code) ∷ ys)
 same-first true code xs ys same = same refl
 same-first false code xs ys same = refl
 
 -- guards that agree behind one that passes
-pub same-later : (code : ErrorCode) (before : List (Bool × ErrorCode)) (passes : Bool) (xs ys : List (Bool × ErrorCode)) → (passes ≡ true → first_failure xs ≡ first_failure ys)
+pub same-later : (code : Refusal) (before : List (Bool × Refusal)) (passes : Bool) (xs ys : List (Bool × Refusal)) → (passes ≡ true → first_failure xs ≡ first_failure ys)
     → first_failure (before ++ (passes, code) ∷ xs) ≡ first_failure (before ++ (passes, code) ∷ ys)
 same-later code [] passes xs ys same = same-first passes code xs ys same
 same-later code ((test, other) ∷ before) passes xs ys same = same-first test other (before ++ (passes, code) ∷ xs) (before ++ (passes, code) ∷ ys) (λ is. same-later code before passes xs ys same)

@@ -9,7 +9,6 @@ use Rattle.ffa_model.specs.declared.descriptor.RelinquishDesc.{RelinquishDesc}
 use Rattle.ffa_model.specs.declared.operation.Op.{Op}
 use Rattle.ffa_model.specs.declared.call.Call as calls
 use Rattle.ffa_model.specs.declared.call.Call.TheVariants.{MemDonate, MemLend, MemShare, MemRetrieve, MemRelinquish, MemReclaim}
-use Rattle.ffa_model.specs.declared.operation.ErrorCode.TheVariants.{InvalidParameters}
 use Rattle.ffa_model.specs.declared.rights.Kind.{Kind}
 use Rattle.ffa_model.specs.declared.rights.Kind.TheVariants.{Share, Lend, Donate}
 use Rattle.ffa_model.specs.declared.transaction.Range.{Range}
@@ -95,7 +94,7 @@ module _ (s : State) (steady : IsSteady s) (e p : ℕ) (owned : owner_of s p ≡
       receiver = (header_in (tx_bytes s s.runner)).receiver
 
       known : is_known s receiver ≡ true
-      known = guard-passes (send2_guards s.parties s.buffers s.runner (header_in (tx_bytes s s.runner))) 4 InvalidParameters (sym passed)
+      known = guard-passes (send2_guards s.parties s.buffers s.runner (header_in (tx_bytes s s.runner))) 4 (sym passed)
 
   by-runner : (ps : List (Option Page)) (bytes : List ℕ) → page_in (filled_pages ps bytes (buffers_of s s.runner)) p ≡ page_in ps p
   by-runner ps bytes = elsewhere-filled ps s.runner bytes steady.runner (λ b is. of_another s.runner b steady.runner is other)

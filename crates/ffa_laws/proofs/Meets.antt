@@ -6,7 +6,6 @@ use Rattle.std.specs.Option.{option_and_then, option_map}
 use Rattle.byteorder.specs.Endian.{little_bytes}
 use Rattle.std.proofs.lemmas.Bool.{and_parts, cases_Bool, eq-eqb, eqb-true, false≢true, true≢false}
 use Rattle.ffa_model.specs.declared.descriptor.RelinquishDesc.{RelinquishDesc}
-use Rattle.ffa_model.specs.declared.operation.ErrorCode.TheVariants.{InvalidParameters, Denied, Busy}
 use Rattle.ffa_model.specs.declared.operation.Op.{Op}
 use Rattle.ffa_model.specs.declared.operation.Op.TheVariants.{Call, Load, Store, Fetch}
 use Rattle.ffa_model.specs.declared.call.Call as calls
@@ -156,7 +155,7 @@ module _ (e : ℕ) (s : State) (sound : IsSoundState s) (known : is_known s e �
       let filling = Filled (message_in (tx_bytes s s.runner)) in
       met-where e v (header.receiver == e) (filling ∷ where_true (has_bitmaps_in (notifications_of s) e) (Pending manager_class message_bits ∷ [])) (λ mine. (
         ap is_some (own-buffers e s known ∙ ap (buffers_of s) (sym (eqb-true header.receiver e mine)))
-            ∙ guard-passes (send2_guards s.parties s.buffers s.runner header) 11 Busy (sym none),
+            ∙ guard-passes (send2_guards s.parties s.buffers s.runner header) 11 (sym none),
         met-where e (apply e v filling) (has_bitmaps_in (notifications_of s) e) (Pending manager_class message_bits ∷ []) (λ has. (own-bitmaps e s known ∙ has, tt)),
       ))
 
@@ -173,8 +172,8 @@ module _ (e : ℕ) (s : State) (sound : IsSoundState s) (known : is_known s e �
   met-set word flags low high lt also none =
       let bitmap = word_of_halves low high in
       let guards = set_guards (length s.parties) (notifications_of s) s.runner word flags bitmap in
-      let some : not (bitmap == 0) ≡ true = guard-passes guards 4 InvalidParameters (sym none) in
-      let all = guard-passes guards 5 Denied (sym none) in
+      let some : not (bitmap == 0) ≡ true = guard-passes guards 4 (sym none) in
+      let all = guard-passes guards 5 (sym none) in
       met-where e v (low_half word == e) (Pending (class_of s.runner) (bits_of bitmap) ∷ []) (λ mine. (
         own-bitmaps e s known ∙ ap (has_bitmaps_in (notifications_of s)) (sym (eqb-true (low_half word) e mine))
             ∙ bound-bitmaps (low_half word) (class_of s.runner) s.runner (bits_of bitmap)

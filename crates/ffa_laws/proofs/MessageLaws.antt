@@ -5,8 +5,8 @@ use Rattle.std.specs.Option.{option_map_or}
 use Rattle.std.proofs.lemmas.Bool.{eq-eqb, eqb-true, true≢false}
 use Rattle.std.proofs.lemmas.Bool.Decides.{nat_tests}
 use Rattle.ffa_model.proofs.Runs.{flat-run-same}
+use Rattle.ffa_model.specs.declared.refusal.Refusal.TheVariants.{BuffersMissing, FlagsReserved, HeaderReserved, SenderIsAnother, ReceiverUnknown, ReceiverIsCaller, MessageInHeader, MessageEmpty, MessageTooLong, MessagesUnsent, MessagesUnreceived, ReceiverBuffersMissing, ReceiverRxFull, ReceiverRxSmall}
 use Rattle.ffa_model.specs.declared.operation.ErrorCode.{ErrorCode}
-use Rattle.ffa_model.specs.declared.operation.ErrorCode.TheVariants.{InvalidParameters, Busy, Denied, NoMemory}
 use Rattle.ffa_model.specs.Identifiers.{place}
 use Rattle.ffa_model.specs.State.{State, Page, Buffers, buffers_of, has_property, is_known, is_known_among}
 use Rattle.ffa_model.specs.Memory.{page_bytes, run_bytes}
@@ -54,20 +54,20 @@ module _ (s : State) (steady : IsSteady s) where
   -- that buffers are there, their size and that RX is full is all that the checks ask of them
   same-guards : (m : MessageHeader) → send2_guards s.parties (view s.runner s).buffers s.runner m ≡ send2_guards s.parties s.buffers s.runner m
   same-guards m = λ i.
-      (some-seen s.runner i, InvalidParameters)
-      ∷ (m.flags == 0, InvalidParameters)
-      ∷ (m.reserved == 0, InvalidParameters)
-      ∷ (m.sender == s.runner, InvalidParameters)
-      ∷ (is_known_among (length s.parties) m.receiver, InvalidParameters)
-      ∷ (not (m.receiver == s.runner), InvalidParameters)
-      ∷ (nat_le 20 m.offset, InvalidParameters)
-      ∷ (not (m.size == 0), InvalidParameters)
-      ∷ (nat_le (m.offset + m.size) (room-seen s.runner i), InvalidParameters)
-      ∷ (has_property s.parties s.runner 2, Denied)
-      ∷ (has_property s.parties m.receiver 2, Denied)
-      ∷ (some-seen m.receiver i, Busy)
-      ∷ (not (full-seen m.receiver i), Busy)
-      ∷ (nat_le (m.offset + m.size) (room-seen m.receiver i), NoMemory)
+      (some-seen s.runner i, BuffersMissing)
+      ∷ (m.flags == 0, FlagsReserved)
+      ∷ (m.reserved == 0, HeaderReserved)
+      ∷ (m.sender == s.runner, SenderIsAnother)
+      ∷ (is_known_among (length s.parties) m.receiver, ReceiverUnknown)
+      ∷ (not (m.receiver == s.runner), ReceiverIsCaller)
+      ∷ (nat_le 20 m.offset, MessageInHeader)
+      ∷ (not (m.size == 0), MessageEmpty)
+      ∷ (nat_le (m.offset + m.size) (room-seen s.runner i), MessageTooLong)
+      ∷ (has_property s.parties s.runner 2, MessagesUnsent)
+      ∷ (has_property s.parties m.receiver 2, MessagesUnreceived)
+      ∷ (some-seen m.receiver i, ReceiverBuffersMissing)
+      ∷ (not (full-seen m.receiver i), ReceiverRxFull)
+      ∷ (nat_le (m.offset + m.size) (room-seen m.receiver i), ReceiverRxSmall)
       ∷ []
 
   abbrev failure : Option ErrorCode
@@ -80,10 +80,10 @@ module _ (s : State) (steady : IsSteady s) where
   bytes = message_in (tx_bytes s s.runner)
 
   receiver-known : failure ≡ None → is_known s receiver ≡ true
-  receiver-known none = guard-passes (send2_guards s.parties s.buffers s.runner (header_in (tx_bytes s s.runner))) 4 InvalidParameters (sym none)
+  receiver-known none = guard-passes (send2_guards s.parties s.buffers s.runner (header_in (tx_bytes s s.runner))) 4 (sym none)
 
   receiver-other : failure ≡ None → receiver ≢ s.runner
-  receiver-other none = not-same receiver s.runner (guard-passes (send2_guards s.parties s.buffers s.runner (header_in (tx_bytes s s.runner))) 5 InvalidParameters (sym none))
+  receiver-other none = not-same receiver s.runner (guard-passes (send2_guards s.parties s.buffers s.runner (header_in (tx_bytes s s.runner))) 5 (sym none))
 
   pub own-send2 : IsOwn s (msg_send2 (view s.runner s)) (msg_send2 s)
   own-send2 = (

@@ -11,7 +11,6 @@ use Rattle.std.proofs.lemmas.Bool.{and_parts, cases_Bool, eq-eqb, false≢true, 
 use Rattle.std.proofs.lemmas.Option.{none-some, same_Some}
 use Rattle.ffa_model.specs.declared.descriptor.RelinquishDesc.{RelinquishDesc}
 use Rattle.ffa_model.specs.declared.operation.ErrorCode.{ErrorCode}
-use Rattle.ffa_model.specs.declared.operation.ErrorCode.TheVariants.{Denied}
 use Rattle.ffa_model.specs.declared.operation.FaultKind.{FaultKind}
 use Rattle.ffa_model.specs.declared.operation.Op.{Op}
 use Rattle.ffa_model.specs.declared.operation.Op.TheVariants.{Call, Load, Store, Fetch}
@@ -274,7 +273,7 @@ module _ (e : ℕ) (s : State) (steady : IsSteady s) where
       read None none = tt
       read (Some d) none =
           news-append e v (where_true (is_from e (transaction_of s d.handle)) (Held d.handle s.runner None ∷ [])) (where_true _ (Zeroed d.handle ∷ []))
-          (of d (transaction_of s d.handle) refl (guard-passes (relinquish_guards (buffers_of s s.runner) (open_of s) s.runner (Some d)) 3 Denied (sym none)))
+          (of d (transaction_of s d.handle) refl (guard-passes (relinquish_guards (buffers_of s s.runner) (open_of s) s.runner (Some d)) 3 (sym none)))
           (repeats e (apply_all e v (where_true (is_from e (transaction_of s d.handle)) (Held d.handle s.runner None ∷ []))) _ (Zeroed d.handle) refl)
 
   news-reclaimed : (h : ℕ) → AreNews e v (where_true (is_offered e (transaction_of s h)) (Closed h ∷ []))

@@ -9,7 +9,6 @@ use Rattle.std.proofs.Math.Path.{fun_ext}
 use Rattle.std.proofs.lemmas.Bool.{cases_Bool, and_parts, eq-eqb, eqb-true, false≢true, ne_eqb, true≢false}
 use Rattle.std.proofs.lemmas.Bool.Decides.{nat_tests}
 use Rattle.std.proofs.lemmas.List.{set-get_or}
-use Rattle.ffa_model.specs.declared.operation.ErrorCode.TheVariants.{InvalidParameters, Denied}
 use Rattle.ffa_model.specs.declared.call.Reply.{Reply}
 use Rattle.ffa_model.specs.declared.call.Reply.TheVariants.{Success}
 use Rattle.ffa_model.specs.Bits.{bits, bits_of, high_half, is_set, word_of_halves, low_half, word_where}
@@ -21,7 +20,7 @@ use Rattle.ffa_model.specs.Notifications.{Notifications, binding, bitmap_create,
 use Rattle.ffa_laws.specs.Steady.{IsSteady, IsSteadyBinding}
 use Rattle.ffa_laws.specs.View.{view}
 use Rattle.ffa_laws.specs.Events.{Bound, Event, Pending, Unbound, apply_all, binds, public_change, sets, unbinds, where_true}
-use Rattle.ffa_model.proofs.Guards.{guard-passes}
+use Rattle.ffa_model.proofs.Guards.{guard-passes, invalid, denied}
 use Rattle.ffa_laws.proofs.Maps.{map_at-set}
 use Rattle.ffa_laws.proofs.Form.{IsOwn, same-first}
 use Rattle.ffa_laws.proofs.Told.{IsTold}
@@ -106,14 +105,14 @@ module _ (s : State) (steady : IsSteady s) where
 
   pub own-create : (endpoint contexts : ℕ) → IsOwn s (bitmap_create v endpoint contexts) (bitmap_create s endpoint contexts)
   own-create endpoint contexts = (
-    same-first (s.runner == 0) Denied
-        ((endpoint == 0, InvalidParameters) ∷ (contexts == 1, InvalidParameters) ∷ (not (has_bitmaps_in nv 0), Denied) ∷ [])
-        ((endpoint == 0, InvalidParameters) ∷ (contexts == 1, InvalidParameters) ∷ (not (has_bitmaps_in n 0), Denied) ∷ []) (λ is_first. (
+    same-first (s.runner == 0) denied
+        ((endpoint == 0, invalid) ∷ (contexts == 1, invalid) ∷ (not (has_bitmaps_in nv 0), denied) ∷ [])
+        ((endpoint == 0, invalid) ∷ (contexts == 1, invalid) ∷ (not (has_bitmaps_in n 0), denied) ∷ []) (λ is_first. (
         let first : s.runner ≡ 0 = eqb-true s.runner 0 is_first in
         let same : has_bitmaps_in nv 0 ≡ has_bitmaps_in n 0 = subst (λ e. has_bitmaps_in nv e ≡ has_bitmaps_in n e) first (own-bitmaps s.runner s steady.runner) in
-        λ i. first_failure ((endpoint == 0, InvalidParameters) ∷ (contexts == 1, InvalidParameters) ∷ (not (same i), Denied) ∷ []))),
+        λ i. first_failure ((endpoint == 0, invalid) ∷ (contexts == 1, invalid) ∷ (not (same i), denied) ∷ []))),
     λ none. (
-      (let is_first : (s.runner == 0) ≡ true = guard-passes (create_guards n s.runner endpoint contexts) 0 Denied (sym none) in
+      (let is_first : (s.runner == 0) ≡ true = guard-passes (create_guards n s.runner endpoint contexts) 0 (sym none) in
           let first : (0 == s.runner) ≡ true = eq-eqb 0 s.runner (sym (eqb-true s.runner 0 is_first)) in
           λ i. record v { bitmaps = sym (map_at-set (λ j has. identifier j == s.runner && has) s.bitmaps 0 true ∙ ap (λ b. set v.bitmaps 0 (b && true)) first) i }),
       refl,
@@ -126,14 +125,14 @@ module _ (s : State) (steady : IsSteady s) where
 
   pub own-destroy : (endpoint : ℕ) → IsOwn s (bitmap_destroy v endpoint) (bitmap_destroy s endpoint)
   own-destroy endpoint = (
-    same-first (s.runner == 0) Denied
-        ((endpoint == 0, InvalidParameters) ∷ (has_bitmaps_in nv 0, Denied) ∷ (not (has_pending nv 0), Denied) ∷ [])
-        ((endpoint == 0, InvalidParameters) ∷ (has_bitmaps_in n 0, Denied) ∷ (not (has_pending n 0), Denied) ∷ []) (λ is_first. (
+    same-first (s.runner == 0) denied
+        ((endpoint == 0, invalid) ∷ (has_bitmaps_in nv 0, denied) ∷ (not (has_pending nv 0), denied) ∷ [])
+        ((endpoint == 0, invalid) ∷ (has_bitmaps_in n 0, denied) ∷ (not (has_pending n 0), denied) ∷ []) (λ is_first. (
         let first : s.runner ≡ 0 = eqb-true s.runner 0 is_first in
         let same : has_bitmaps_in nv 0 ≡ has_bitmaps_in n 0 = subst (λ e. has_bitmaps_in nv e ≡ has_bitmaps_in n e) first (own-bitmaps s.runner s steady.runner) in
         let pending : is_pending nv 0 ≡ is_pending n 0 = subst (λ e. is_pending nv e ≡ is_pending n e) first pending-same in
-        λ i. first_failure ((endpoint == 0, InvalidParameters) ∷ (same i, Denied)
-        ∷ (not (list_any (λ class. list_any (pending i class) (listed 64 (λ k. k))) (partition_class ∷ normal_class ∷ manager_class ∷ [])), Denied) ∷ []))),
+        λ i. first_failure ((endpoint == 0, invalid) ∷ (same i, denied)
+        ∷ (not (list_any (λ class. list_any (pending i class) (listed 64 (λ k. k))) (partition_class ∷ normal_class ∷ manager_class ∷ [])), denied) ∷ []))),
     λ none. (
       (λ i. record v {
         bitmaps = sym (map_at-set (λ j has. identifier j == s.runner && has) s.bitmaps 0 false ∙ ap (set v.bitmaps 0) (and_false (0 == s.runner))) i;
@@ -171,13 +170,13 @@ module _ (s : State) (steady : IsSteady s) where
     pub own-bind : IsOwn s (notification_bind v word flags low high) (notification_bind s word flags low high)
     own-bind = (
       (λ i. first_failure (
-          (low_half word == s.runner, InvalidParameters)
-          ∷ (is_known_among (length s.parties) sender, InvalidParameters)
-          ∷ (not (sender == s.runner), InvalidParameters)
-          ∷ (flags == 0, InvalidParameters)
-          ∷ (not (bitmap == 0), InvalidParameters)
-          ∷ (own-bitmaps s.runner s steady.runner i, Denied)
-          ∷ (list_all (fun_ext bindable-seen i) ks, Denied)
+          (low_half word == s.runner, invalid)
+          ∷ (is_known_among (length s.parties) sender, invalid)
+          ∷ (not (sender == s.runner), invalid)
+          ∷ (flags == 0, invalid)
+          ∷ (not (bitmap == 0), invalid)
+          ∷ (own-bitmaps s.runner s steady.runner i, denied)
+          ∷ (list_all (fun_ext bindable-seen i) ks, denied)
           ∷ [])),
       λ none. ((λ i. record v { bound = sym (seen-more (bound_to s.runner) s.bound (map entry ks) mine) i }), refl),
     )
@@ -185,13 +184,13 @@ module _ (s : State) (steady : IsSteady s) where
     pub own-unbind : IsOwn s (notification_unbind v word flags low high) (notification_unbind s word flags low high)
     own-unbind = (
       (λ i. first_failure (
-          (low_half word == s.runner, InvalidParameters)
-          ∷ (is_known_among (length s.parties) sender, InvalidParameters)
-          ∷ (not (sender == s.runner), InvalidParameters)
-          ∷ (flags == 0, InvalidParameters)
-          ∷ (not (bitmap == 0), InvalidParameters)
-          ∷ (own-bitmaps s.runner s steady.runner i, Denied)
-          ∷ (list_all (fun_ext unbindable-seen i) ks, Denied)
+          (low_half word == s.runner, invalid)
+          ∷ (is_known_among (length s.parties) sender, invalid)
+          ∷ (not (sender == s.runner), invalid)
+          ∷ (flags == 0, invalid)
+          ∷ (not (bitmap == 0), invalid)
+          ∷ (own-bitmaps s.runner s steady.runner i, denied)
+          ∷ (list_all (fun_ext unbindable-seen i) ks, denied)
           ∷ [])),
       λ none. ((λ i. record v { bound = sym (seen-less (bound_to s.runner) s.bound (map entry ks)) i }), refl),
     )
@@ -199,16 +198,16 @@ module _ (s : State) (steady : IsSteady s) where
     pub own-set : IsOwn s (notification_set v word flags low high) (notification_set s word flags low high)
     own-set = (
       (λ i. first_failure (
-          (sender == s.runner, InvalidParameters)
-          ∷ (is_known_among (length s.parties) (low_half word), InvalidParameters)
-          ∷ (not (low_half word == s.runner), InvalidParameters)
-          ∷ (flags == 0 || flags == 2, InvalidParameters)
-          ∷ (not (bitmap == 0), InvalidParameters)
-          ∷ (list_all (λ k. sent-seen (low_half word) (class_of s.runner) k i) ks, Denied)
+          (sender == s.runner, invalid)
+          ∷ (is_known_among (length s.parties) (low_half word), invalid)
+          ∷ (not (low_half word == s.runner), invalid)
+          ∷ (flags == 0 || flags == 2, invalid)
+          ∷ (not (bitmap == 0), invalid)
+          ∷ (list_all (λ k. sent-seen (low_half word) (class_of s.runner) k i) ks, denied)
           ∷ [])),
       λ none. (
-        (let known : is_known s (low_half word) ≡ true = guard-passes (set_guards (length s.parties) n s.runner word flags bitmap) 1 InvalidParameters (sym none) in
-            let differ : low_half word ≢ s.runner = not-same (low_half word) s.runner (guard-passes (set_guards (length s.parties) n s.runner word flags bitmap) 2 InvalidParameters (sym none)) in
+        (let known : is_known s (low_half word) ≡ true = guard-passes (set_guards (length s.parties) n s.runner word flags bitmap) 1 (sym none) in
+            let differ : low_half word ≢ s.runner = not-same (low_half word) s.runner (guard-passes (set_guards (length s.parties) n s.runner word flags bitmap) 2 (sym none)) in
             raised-absent (low_half word) (class_of s.runner) ks s.runner s known differ ∙ sym (raised-hidden (low_half word) (class_of s.runner) ks s.runner s differ)),
         refl,
       ),
@@ -228,10 +227,10 @@ module _ (s : State) (steady : IsSteady s) where
   pub own-get : (word flags : ℕ) → IsOwn s (notification_get v word flags) (notification_get s word flags)
   own-get word flags = (
     (λ i. first_failure (
-        (low_half word == s.runner, InvalidParameters)
-        ∷ (high_half word == 0, InvalidParameters)
-        ∷ (nat_le flags 15, InvalidParameters)
-        ∷ (own-bitmaps s.runner s steady.runner i, Denied)
+        (low_half word == s.runner, invalid)
+        ∷ (high_half word == 0, invalid)
+        ∷ (nat_le flags 15, invalid)
+        ∷ (own-bitmaps s.runner s steady.runner i, denied)
         ∷ [])),
     λ none. (
       (λ i. record v { pending = retained-commute s.pending (pending_to s.runner) (λ x. not (receiver_of_entry x == s.runner && is_set (class_of_entry x) flags)) i }),
@@ -412,7 +411,7 @@ module _ (e : ℕ) (s : State) where
     pub other-create : (endpoint contexts : ℕ) → IsTold e s (bitmap_create s endpoint contexts) []
     other-create endpoint contexts none =
         told-notified (bitmap_create s endpoint contexts).state (view e s) [] refl refl refl
-        (λ i. record (view e s) { bitmaps = bitmaps-away true (first-away (guard-passes (create_guards (notifications_of s) s.runner endpoint contexts) 0 Denied (sym none))) i })
+        (λ i. record (view e s) { bitmaps = bitmaps-away true (first-away (guard-passes (create_guards (notifications_of s) s.runner endpoint contexts) 0 (sym none))) i })
 
     -- all bindings of the normal world to e go
     listed-among : (test : ℕ → Bool) (m : ℕ) (g : ℕ → ℕ) (f : ℕ → List ℕ) (k : ℕ) → k < m → test (g k) ≡ true → among (f (g k)) (map f (filter test (listed m g))) ≡ true
@@ -470,7 +469,7 @@ module _ (e : ℕ) (s : State) where
         (λ i. record (view e s) { bitmaps = bitmaps-away false away i; bound = bound i }))
       where
         away : (0 == e) ≡ false
-        away = first-away (guard-passes (destroy_guards (notifications_of s) s.runner endpoint) 0 Denied (sym none))
+        away = first-away (guard-passes (destroy_guards (notifications_of s) s.runner endpoint) 0 (sym none))
 
         bound : finite_set.retain (finite_set.retain s.bound (λ x. not (receiver_of_entry x == 0))) (bound_to e) ≡ finite_set.difference (view e s).bound (finite_set.from_list (map left_entry left_bits))
         bound = same_bits _ _ (λ x.

@@ -11,7 +11,6 @@ use Rattle.ffa_model.specs.declared.descriptor.RelinquishDesc.{RelinquishDesc}
 use Rattle.ffa_model.specs.declared.operation.Op.{Op}
 use Rattle.ffa_model.specs.declared.operation.Op.TheVariants.{Call, Load, Store, Fetch}
 use Rattle.ffa_model.specs.declared.operation.Outcome.TheVariants.{Data, Done}
-use Rattle.ffa_model.specs.declared.operation.ErrorCode.TheVariants.{InvalidParameters, Denied}
 use Rattle.ffa_model.specs.declared.call.Call as calls
 use Rattle.ffa_model.specs.declared.call.Call.TheVariants.{PartitionInfoGet, MemDonate, MemLend, MemShare, MemRetrieve, MemRelinquish, MemReclaim, MsgSend2}
 use Rattle.ffa_model.specs.declared.rights.Kind.{Kind}
@@ -212,11 +211,11 @@ module _ (s : State) (steady : IsSteady s) where
     relinquish-own none = read (relinquish_read s) none
       where
         of : (d : RelinquishDesc) (o : Option Transaction) → transaction_of s d.handle ≡ o → first_failure (relinquish_guards (buffers_of s s.runner) (open_of s) s.runner (Some d)) ≡ None → Own s (relinquished_from s d o) false true
-        of d None there none = absurd (false≢true (sym (ap (is_offered s.runner) there) ∙ guard-passes (relinquish_guards (buffers_of s s.runner) (open_of s) s.runner (Some d)) 2 InvalidParameters (sym none)))
-        of d (Some t) there none = relinquished-own d t there (sym (ap (is_offered s.runner) there) ∙ guard-passes (relinquish_guards (buffers_of s s.runner) (open_of s) s.runner (Some d)) 2 InvalidParameters (sym none))
+        of d None there none = absurd (false≢true (sym (ap (is_offered s.runner) there) ∙ guard-passes (relinquish_guards (buffers_of s s.runner) (open_of s) s.runner (Some d)) 2 (sym none)))
+        of d (Some t) there none = relinquished-own d t there (sym (ap (is_offered s.runner) there) ∙ guard-passes (relinquish_guards (buffers_of s s.runner) (open_of s) s.runner (Some d)) 2 (sym none))
 
         read : (o : Option RelinquishDesc) → first_failure (relinquish_guards (buffers_of s s.runner) (open_of s) s.runner o) ≡ None → Own s (relinquished s o) false true
-        read None none = absurd (false≢true (guard-passes (relinquish_guards (buffers_of s s.runner) (open_of s) s.runner None) 1 InvalidParameters (sym none)))
+        read None none = absurd (false≢true (guard-passes (relinquish_guards (buffers_of s s.runner) (open_of s) s.runner None) 1 (sym none)))
         read (Some d) none = of d (transaction_of s d.handle) refl none
 
   -- ---- a reclaim
@@ -254,11 +253,11 @@ module _ (s : State) (steady : IsSteady s) where
       h = handle_of high low
 
       of : (o : Option Transaction) → transaction_of s h ≡ o → first_failure (reclaim_guards (own_rights_of s) s.runner flags o) ≡ None → Own s (reclaimed s h (is_set 0 flags)) true false
-      of None there none = absurd (false≢true (guard-passes (reclaim_guards (own_rights_of s) s.runner flags None) 1 InvalidParameters (sym none)))
+      of None there none = absurd (false≢true (guard-passes (reclaim_guards (own_rights_of s) s.runner flags None) 1 (sym none)))
       of (Some t) there none =
           reclaimed-own h (is_set 0 flags) t there
-          (eqb-true t.sender s.runner (guard-passes (reclaim_guards (own_rights_of s) s.runner flags (Some t)) 1 InvalidParameters (sym none)))
-          (guard-passes (reclaim_guards (own_rights_of s) s.runner flags (Some t)) 2 Denied (sym none))
+          (eqb-true t.sender s.runner (guard-passes (reclaim_guards (own_rights_of s) s.runner flags (Some t)) 1 (sym none)))
+          (guard-passes (reclaim_guards (own_rights_of s) s.runner flags (Some t)) 2 (sym none))
 
   -- ---- a retrieve
   module _ (apart : AreApart s) (x : Transfer) (its : Taken s x) where

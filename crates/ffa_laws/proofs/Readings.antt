@@ -10,7 +10,6 @@ use Rattle.ffa_model.specs.declared.operation.Op.{Op}
 use Rattle.ffa_model.specs.declared.rights.Rights.{Rights}
 use Rattle.ffa_model.specs.declared.descriptor.RelinquishDesc.{RelinquishDesc}
 use Rattle.ffa_model.specs.declared.operation.ErrorCode.{ErrorCode}
-use Rattle.ffa_model.specs.declared.operation.ErrorCode.TheVariants.{Denied}
 use Rattle.ffa_model.specs.declared.operation.Op.TheVariants.{Call, Load, Store, Fetch}
 use Rattle.ffa_model.specs.declared.call.Call as calls
 use Rattle.ffa_model.specs.declared.call.Call.TheVariants.{MemRelinquish}
@@ -435,7 +434,7 @@ module _ (e : ℕ) (s : State) where
             (fit-one (readable e s) (is_from e (transaction_of s d.handle)) (Held d.handle s.runner None) (λ is. fits-held d))
             (fit-one (apply_all e (readable e s) (all_readably e s held)) _ (Zeroed d.handle) (λ both.
             zeroing d (transaction_of s d.handle) refl
-            (asks d.zero (is_zeroable s.runner (transaction_of s d.handle)) (guard-passes (relinquish_guards (buffers_of s s.runner) (open_of s) s.runner (Some d)) 4 Denied (sym none)) (grind (arith, cases_Bool d.zero, both)))
+            (asks d.zero (is_zeroable s.runner (transaction_of s d.handle)) (guard-passes (relinquish_guards (buffers_of s s.runner) (open_of s) s.runner (Some d)) 4 (sym none)) (grind (arith, cases_Bool d.zero, both)))
             (apply_all e (readable e s) (all_readably e s held)) (base-after d.handle (is_from e (transaction_of s d.handle)))
             (held-ranges d.handle (is_from e (transaction_of s d.handle)))))
           where

@@ -4,8 +4,6 @@ use Rattle.std.specs.Prelude.{◌==◌, ◌||◌, nat_le, not}
 use Rattle.std.specs.Option.{option_map}
 use Rattle.std.specs.FinMap as finite
 use Rattle.std.proofs.lemmas.Bool.{eqb-true, false≢true, ne_eqb}
-use Rattle.ffa_model.specs.declared.operation.ErrorCode.{ErrorCode}
-use Rattle.ffa_model.specs.declared.operation.ErrorCode.TheVariants.{InvalidParameters, Denied}
 use Rattle.ffa_model.specs.declared.transaction.Range.{Range}
 use Rattle.ffa_model.specs.Bits.{is_set}
 use Rattle.ffa_model.specs.State.{State, Transaction, owner_of, page_at, transaction_of}
@@ -18,7 +16,7 @@ use Rattle.ffa_laws.specs.Steady.{IsSteady}
 use Rattle.ffa_laws.specs.View.{view, involves, is_near, kept, seen_by}
 use Rattle.ffa_model.specs.RunStates.{schedule_of}
 use Rattle.ffa_laws.specs.Events.{Closed, apply_all, closes, where_true}
-use Rattle.ffa_model.proofs.Guards.{guard-passes}
+use Rattle.ffa_model.proofs.Guards.{guard-passes, invalid, denied}
 use Rattle.ffa_model.proofs.Accesses.{length-map_at}
 use Rattle.ffa_laws.proofs.Views.{shown, view-page, view-transaction}
 use Rattle.ffa_laws.proofs.Form.{IsOwn}
@@ -27,6 +25,8 @@ use Rattle.ffa_laws.proofs.Maps.{map_at-id}
 use Rattle.ffa_laws.proofs.Changes.{other-told, own-same, with_public_parts}
 use Rattle.ffa_laws.proofs.Closed.{closed, closed-untold, near-closed, other-closed, own-closed, view-zeroed}
 use Rattle.ffa_laws.proofs.Ceilings.{writable-seen}
+use Rattle.ffa_model.specs.declared.operation.ErrorCode.TheVariants.{InvalidParameters}
+use Rattle.ffa_model.specs.declared.refusal.Refusal.{Refusal}
 
 -- the sender sees its transaction whole
 pub seen-whole : (e : ℕ) (t : Transaction) → (t.sender == e) ≡ true → shown e (Some t) ≡ Some t
@@ -39,7 +39,7 @@ from-seen e t other =
     ap (λ b. is_from e (option_map (seen_by e) (kept (b || is_receiver e t) (Some t)))) other
     ∙ elim (is_receiver e t) as (λ b. is_from e (option_map (seen_by e) (kept b (Some t))) ≡ false) [ true ↦ other | false ↦ refl ]
 
-pub second-fails : (a b : Bool) (guards : List (Bool × ErrorCode)) → b ≡ false → first_failure ((a, InvalidParameters) ∷ (b, InvalidParameters) ∷ guards) ≡ Some InvalidParameters
+pub second-fails : (a b : Bool) (guards : List (Bool × Refusal)) → b ≡ false → first_failure ((a, invalid) ∷ (b, invalid) ∷ guards) ≡ Some InvalidParameters
 second-fails true false guards is = refl
 second-fails false b guards is = refl
 second-fails true true guards is = absurd (false≢true (sym is))
@@ -61,21 +61,21 @@ module _ (s : State) (steady : IsSteady s) (h flags : ℕ) where
             let known : involves s.runner (Some t) ≡ true = ap (λ b. b || is_receiver s.runner t) mine in
             ap (λ o. first_failure (reclaim_guards (own_rights_of v) s.runner flags o)) (seen-whole s.runner t mine)
             ∙ (λ i. first_failure (
-            (nat_le flags 1, InvalidParameters)
-            ∷ (is_from s.runner (Some t), InvalidParameters)
-            ∷ (is_unheld (Some t), Denied)
-            ∷ (not (is_set 0 flags) || writable-seen s.runner s steady h t there known i, Denied)
+            (nat_le flags 1, invalid)
+            ∷ (is_from s.runner (Some t), invalid)
+            ∷ (is_unheld (Some t), denied)
+            ∷ (not (is_set 0 flags) || writable-seen s.runner s steady h t there known i, denied)
             ∷ []))
         | false ↦ λ other.
-            second-fails (nat_le flags 1) (is_from s.runner (shown s.runner (Some t))) ((is_unheld (shown s.runner (Some t)), Denied) ∷ (not (is_set 0 flags) || are_writable (own_rights_of v) (named_ranges (shown s.runner (Some t))), Denied) ∷ []) (from-seen s.runner t other)
-            ∙ sym (second-fails (nat_le flags 1) (is_from s.runner (Some t)) ((is_unheld (Some t), Denied) ∷ (not (is_set 0 flags) || are_writable (own_rights_of s) t.ranges, Denied) ∷ []) other)
+            second-fails (nat_le flags 1) (is_from s.runner (shown s.runner (Some t))) ((is_unheld (shown s.runner (Some t)), denied) ∷ (not (is_set 0 flags) || are_writable (own_rights_of v) (named_ranges (shown s.runner (Some t))), denied) ∷ []) (from-seen s.runner t other)
+            ∙ sym (second-fails (nat_le flags 1) (is_from s.runner (Some t)) ((is_unheld (Some t), denied) ∷ (not (is_set 0 flags) || are_writable (own_rights_of s) t.ranges, denied) ∷ []) other)
       ] refl
 
   same-state : (o : Option Transaction) → transaction_of s h ≡ o → first_failure (reclaim_guards (own_rights_of s) s.runner flags o) ≡ None → (zero : Bool)
       → reclaimed v h zero ≡ view s.runner (reclaimed s h zero)
-  same-state None there none zero = absurd (false≢true (guard-passes (reclaim_guards (own_rights_of s) s.runner flags None) 1 InvalidParameters (sym none)))
+  same-state None there none zero = absurd (false≢true (guard-passes (reclaim_guards (own_rights_of s) s.runner flags None) 1 (sym none)))
   same-state (Some t) there none zero =
-      let mine : (t.sender == s.runner) ≡ true = guard-passes (reclaim_guards (own_rights_of s) s.runner flags (Some t)) 1 InvalidParameters (sym none) in
+      let mine : (t.sender == s.runner) ≡ true = guard-passes (reclaim_guards (own_rights_of s) s.runner flags (Some t)) 1 (sym none) in
       let in_view : transaction_of v h ≡ Some t = view-transaction s.runner s h ∙ ap (shown s.runner) there ∙ seen-whole s.runner t mine in
       (λ i. zeroed_if zero (own-closed s steady h t there s.runner (eqb-true t.sender s.runner mine) i) (named_ranges (in_view i)))
       ∙ zeroed_if-seen s.runner (closed s h) zero t.ranges
@@ -104,7 +104,7 @@ zeroed-far e s true ranges far =
 module _ (e : ℕ) (s : State) (steady : IsSteady s) (other : s.runner ≢ e) (h flags : ℕ) where
   told-closed : (o : Option Transaction) → transaction_of s h ≡ o → first_failure (reclaim_guards (own_rights_of s) s.runner flags o) ≡ None → (asked : Bool)
       → view e (zeroed_if asked (closed s h) (named_ranges o)) ≡ apply_all e (view e s) (where_true (is_offered e o) (Closed h ∷ []))
-  told-closed None there none asked = absurd (false≢true (guard-passes (reclaim_guards (own_rights_of s) s.runner flags None) 1 InvalidParameters (sym none)))
+  told-closed None there none asked = absurd (false≢true (guard-passes (reclaim_guards (own_rights_of s) s.runner flags None) 1 (sym none)))
   told-closed (Some t) there none asked =
       sym (zeroed_if-seen e (closed s h) asked t.ranges)
       ∙ zeroed-far e (closed s h) asked t.ranges (λ p named. far p named)
@@ -114,7 +114,7 @@ module _ (e : ℕ) (s : State) (steady : IsSteady s) (other : s.runner ≢ e) (h
       ] refl
     where
       sender : (t.sender == s.runner) ≡ true
-      sender = guard-passes (reclaim_guards (own_rights_of s) s.runner flags (Some t)) 1 InvalidParameters (sym none)
+      sender = guard-passes (reclaim_guards (own_rights_of s) s.runner flags (Some t)) 1 (sym none)
 
       not_sender : (t.sender == e) ≡ false
       not_sender = ap (λ f. f == e) (eqb-true t.sender s.runner sender) ∙ ne_eqb s.runner e other

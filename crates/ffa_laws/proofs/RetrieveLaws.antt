@@ -6,8 +6,7 @@ use Rattle.std.specs.FinMap as finite
 use Rattle.std.proofs.lemmas.Bool.{cases_Bool, false≢true}
 use Rattle.ffa_model.specs.DescriptorPlaces.{in_version}
 use Rattle.ffa_model.specs.declared.descriptor.RetrieveDesc.{RetrieveDesc}
-use Rattle.ffa_model.specs.declared.operation.ErrorCode.{ErrorCode}
-use Rattle.ffa_model.specs.declared.operation.ErrorCode.TheVariants.{InvalidParameters, Busy, Denied}
+use Rattle.ffa_model.specs.declared.operation.ErrorCode.TheVariants.{InvalidParameters}
 use Rattle.ffa_model.specs.declared.call.Reply.TheVariants.{Retrieved}
 use Rattle.ffa_model.specs.declared.rights.Kind.{Kind}
 use Rattle.ffa_model.specs.declared.rights.Kind.TheVariants.{Share, Lend, Donate}
@@ -17,6 +16,7 @@ use Rattle.ffa_model.specs.Rights.{is_at_most, is_donate}
 use Rattle.ffa_model.specs.State.{State, Transaction, Buffers, buffers_of, transaction_of, version_of}
 use Rattle.ffa_model.specs.Access.{held_by, is_offered, is_receiver}
 use Rattle.ffa_model.specs.Buffers.{buffers_in, buffers_with_rx, filled, is_full}
+use Rattle.ffa_model.specs.RefusalCodes.{code_of}
 use Rattle.ffa_model.specs.Calls.{first_failure}
 use Rattle.ffa_model.specs.ResponseBytes.{response_size}
 use Rattle.ffa_model.specs.RetrieveDescriptor.{retrieve_of}
@@ -41,9 +41,11 @@ use Rattle.ffa_laws.proofs.Views.{held-seen, shown, view-transaction}
 use Rattle.ffa_laws.proofs.Written.{rewritten-filled, rx-own, seen-filled, with_rx_full}
 use Rattle.ffa_laws.proofs.Taken as retrieve
 use Rattle.ffa_laws.proofs.Taken.{Taken, checks, size-before, state-taken, steady-before, taken}
+use Rattle.ffa_model.proofs.Guards.{invalid, denied, busy}
+use Rattle.ffa_model.specs.declared.refusal.Refusal.{Refusal}
 
 -- ---- the guards, in the runner's view
-first-fails : (a : Bool) (code : ErrorCode) (guards : List (Bool × ErrorCode)) → a ≡ false → first_failure ((a, code) ∷ guards) ≡ Some code
+first-fails : (a : Bool) (code : Refusal) (guards : List (Bool × Refusal)) → a ≡ false → first_failure ((a, code) ∷ guards) ≡ Some (code_of code)
 first-fails false code guards is = refl
 first-fails true code guards is = absurd (false≢true (sym is))
 
@@ -51,13 +53,13 @@ first-fails true code guards is = absurd (false≢true (sym is))
 not-offered : (own_rights : OwnRights) (full : Bool) (e : ℕ) (d : RetrieveDesc) (o : Option Transaction) → is_offered e o ≡ false → first_failure (holding_guards own_rights full e d o) ≡ Some InvalidParameters
 not-offered own_rights full e d None is = refl
 not-offered own_rights full e d (Some t) is =
-    first-fails (is_receiver e t) InvalidParameters
-    ((d.sender.0 == t.sender, InvalidParameters)
-    ∷ (d.tag == t.tag, InvalidParameters)
-    ∷ (is_kind_right t.kind d.kind, InvalidParameters)
-    ∷ (is_none (held_by t e), Denied)
-    ∷ (is_at_most (right_for own_rights t e d) (ceiling own_rights t e), Denied)
-    ∷ (not full, Busy)
+    first-fails (is_receiver e t) invalid
+    ((d.sender.0 == t.sender, invalid)
+    ∷ (d.tag == t.tag, invalid)
+    ∷ (is_kind_right t.kind d.kind, invalid)
+    ∷ (is_none (held_by t e), denied)
+    ∷ (is_at_most (right_for own_rights t e d) (ceiling own_rights t e), denied)
+    ∷ (not full, busy)
     ∷ [])
     is
 
@@ -80,13 +82,13 @@ module _ (s : State) (steady : IsSteady s) where
             let known = offered-involved s.runner t receiver in
             ap (λ b. first_failure (holding_guards (own_rights_of v) full s.runner d (option_map (seen_by s.runner) (kept b (Some t))))) known
             ∙ (λ i. first_failure (
-            (is_receiver s.runner t, InvalidParameters)
-            ∷ (d.sender.0 == t.sender, InvalidParameters)
-            ∷ (d.tag == t.tag, InvalidParameters)
-            ∷ (is_kind_right t.kind d.kind, InvalidParameters)
-            ∷ (is_none (held-seen s.runner t i), Denied)
-            ∷ (is_at_most (asked_right (ceiling-seen s.runner s steady d.handle t there known s.runner i) d) (ceiling-seen s.runner s steady d.handle t there known s.runner i), Denied)
-            ∷ (not full, Busy)
+            (is_receiver s.runner t, invalid)
+            ∷ (d.sender.0 == t.sender, invalid)
+            ∷ (d.tag == t.tag, invalid)
+            ∷ (is_kind_right t.kind d.kind, invalid)
+            ∷ (is_none (held-seen s.runner t i), denied)
+            ∷ (is_at_most (asked_right (ceiling-seen s.runner s steady d.handle t there known s.runner i) d) (ceiling-seen s.runner s steady d.handle t there known s.runner i), denied)
+            ∷ (not full, busy)
             ∷ []))
         | false ↦ λ other.
             not-offered (own_rights_of v) full s.runner d (shown s.runner (Some t))
@@ -101,7 +103,7 @@ module _ (s : State) (steady : IsSteady s) where
       ∙ same-failure d (transaction_of s d.handle) refl
 
   -- checks before others that give the same
-  same-checks : (x : Transfer) (rest other : List (Bool × ErrorCode)) → first_failure rest ≡ first_failure other → first_failure (checks v x rest) ≡ first_failure (checks s x other)
+  same-checks : (x : Transfer) (rest other : List (Bool × Refusal)) → first_failure rest ≡ first_failure other → first_failure (checks v x rest) ≡ first_failure (checks s x other)
   same-checks x rest other same =
       λ i. cond (some-seen s steady s.runner i) (cond (x.total == x.fragment) (cond (nat_le x.total (room-seen s steady s.runner i)) (cond (x.address == 0) (cond (x.pages == 0) (same i) (Some InvalidParameters)) (Some InvalidParameters)) (Some InvalidParameters)) (Some InvalidParameters)) (Some InvalidParameters)
 

@@ -6,8 +6,6 @@ use Rattle.std.specs.Option.{option_map}
 use Rattle.std.proofs.lemmas.Bool.{cases_Bool, cases_eq, false≢true, true≢false}
 use Rattle.std.proofs.lemmas.Option.{none-some}
 use Rattle.ffa_model.specs.declared.descriptor.RelinquishDesc.{RelinquishDesc}
-use Rattle.ffa_model.specs.declared.operation.ErrorCode.{ErrorCode}
-use Rattle.ffa_model.specs.declared.operation.ErrorCode.TheVariants.{InvalidParameters, Denied}
 use Rattle.ffa_model.specs.declared.rights.Rights.{Rights}
 use Rattle.ffa_model.specs.declared.transaction.Range.{Range}
 use Rattle.ffa_model.specs.Bits.{is_set}
@@ -24,7 +22,7 @@ use Rattle.ffa_laws.specs.Steady.{IsSteady}
 use Rattle.ffa_laws.specs.View.{view, involves, is_near, kept, seen_by}
 use Rattle.ffa_laws.specs.Events.{Event, Held, Zeroed, apply_all, public_change, releases, where_true, with_holder}
 use Rattle.ffa_model.proofs.Accesses.{length-map_at, named-in, released-beside, released-itself}
-use Rattle.ffa_model.proofs.Guards.{guard-passes}
+use Rattle.ffa_model.proofs.Guards.{guard-passes, invalid, denied}
 use Rattle.ffa_model.proofs.Handles.{get-put}
 use Rattle.ffa_laws.proofs.Maps.{first_no, first_none, map_at-id}
 use Rattle.ffa_laws.proofs.Views.{held-seen, shown, view-transaction}
@@ -38,6 +36,7 @@ use Rattle.ffa_laws.proofs.Ceilings.{or_true}
 use Rattle.ffa_laws.proofs.Holders.{reheld, seen-released, seen-unheld, steady-reheld, view-reheld, view-untold}
 use Rattle.ffa_laws.proofs.ReclaimLaws.{second-fails, zeroed-far, zeroed_if-seen}
 use Rattle.ffa_laws.proofs.Steadies.{steady-changed}
+use Rattle.ffa_model.specs.declared.refusal.Refusal.{Refusal}
 
 -- zeros leave a state steady
 pub steady-zeroed : (asked : Bool) (s : State) (ranges : List Range) → IsSteady s → IsSteady (zeroed_if asked s ranges)
@@ -148,36 +147,36 @@ module _ (s : State) (steady : IsSteady s) where
       elim (involves r (Some t)) as (λ b. involves r (Some t) ≡ b → first_failure (holder_guards r d (option_map (seen_by r) (kept b (Some t)))) ≡ first_failure (holder_guards r d (Some t))) [
         | true ↦ λ known.
             (λ i. first_failure (
-            (d.endpoint.0 == r, InvalidParameters)
-            ∷ (is_receiver r t, InvalidParameters)
-            ∷ (is_some (held-seen r t i), Denied)
-            ∷ (not d.zero || (is_lend t.kind && may_store (held-seen r t i)), Denied)
+            (d.endpoint.0 == r, invalid)
+            ∷ (is_receiver r t, invalid)
+            ∷ (is_some (held-seen r t i), denied)
+            ∷ (not d.zero || (is_lend t.kind && may_store (held-seen r t i)), denied)
             ∷ []))
         | false ↦ λ unknown.
-            second-fails (d.endpoint.0 == r) false ((false, Denied) ∷ (not d.zero || false, Denied) ∷ []) refl
-            ∙ sym (second-fails (d.endpoint.0 == r) (is_receiver r t) ((is_some (held_by t r), Denied) ∷ (not d.zero || (is_lend t.kind && may_store (held_by t r)), Denied) ∷ []) (unoffered (t.sender == r) (is_receiver r t) unknown))
+            second-fails (d.endpoint.0 == r) false ((false, denied) ∷ (not d.zero || false, denied) ∷ []) refl
+            ∙ sym (second-fails (d.endpoint.0 == r) (is_receiver r t) ((is_some (held_by t r), denied) ∷ (not d.zero || (is_lend t.kind && may_store (held_by t r)), denied) ∷ []) (unoffered (t.sender == r) (is_receiver r t) unknown))
       ] refl
 
   same-guards : (d : Option RelinquishDesc) → first_failure (relinquish_guards (buffers_of s r) (open_of v) r d) ≡ first_failure (relinquish_guards (buffers_of s r) (open_of s) r d)
   same-guards None = refl
   same-guards (Some d) =
-      same-first (is_some (buffers_of s r)) InvalidParameters (returned_guards (open_of v) r (Some d)) (returned_guards (open_of s) r (Some d))
+      same-first (is_some (buffers_of s r)) invalid (returned_guards (open_of v) r (Some d)) (returned_guards (open_of s) r (Some d))
       (λ mapped. ap (λ o. first_failure (holder_guards r d o)) (view-transaction r s d.handle) ∙ same-holder d (transaction_of s d.handle))
 
   -- the checks that the call passes
-  abbrev guards : RelinquishDesc → Option Transaction → List (Bool × ErrorCode)
-  guards d o = (is_some (buffers_of s r), InvalidParameters) ∷ holder_guards r d o
+  abbrev guards : RelinquishDesc → Option Transaction → List (Bool × Refusal)
+  guards d o = (is_some (buffers_of s r), invalid) ∷ holder_guards r d o
 
   same-left : (d : RelinquishDesc) (o : Option Transaction) → transaction_of s d.handle ≡ o → first_failure (guards d o) ≡ None
       → relinquished_from v d (transaction_of v d.handle) ≡ view r (relinquished_from s d o)
-  same-left d None there none = absurd (false≢true (guard-passes (guards d None) 2 InvalidParameters (sym none)))
+  same-left d None there none = absurd (false≢true (guard-passes (guards d None) 2 (sym none)))
   same-left d (Some t) there none =
       ap (relinquished_from v d) in_view
       ∙ (λ i. zeroed_if d.zero (sym (view-reheld s steady d.handle t there (finite.remove t.held r) r (not_holding (seen_by r t) r) known (seen-released r r t)) i) t.ranges)
       ∙ zeroed_if-seen r (reheld s d.handle t (finite.remove t.held r)) d.zero t.ranges
     where
       offered : is_receiver r t ≡ true
-      offered = guard-passes (guards d (Some t)) 2 InvalidParameters (sym none)
+      offered = guard-passes (guards d (Some t)) 2 (sym none)
 
       known : involves r (Some t) ≡ true
       known = ap (λ b. (t.sender == r) || b) offered ∙ or_true (t.sender == r)
@@ -186,7 +185,7 @@ module _ (s : State) (steady : IsSteady s) where
       in_view = view-transaction r s d.handle ∙ ap (shown r) there ∙ ap (λ b. option_map (seen_by r) (kept b (Some t))) known
 
   same-state : (d : Option RelinquishDesc) → first_failure (relinquish_guards (buffers_of s r) (open_of s) r d) ≡ None → relinquished v d ≡ view r (relinquished s d)
-  same-state None none = absurd (false≢true (guard-passes (relinquish_guards (buffers_of s r) (open_of s) r None) 1 InvalidParameters (sym none)))
+  same-state None none = absurd (false≢true (guard-passes (relinquish_guards (buffers_of s r) (open_of s) r None) 1 (sym none)))
   same-state (Some d) none = same-left d (transaction_of s d.handle) refl none
 
   pub own-relinquish : IsOwn s (memory_relinquish v) (memory_relinquish s)
@@ -294,11 +293,11 @@ other-relinquish e s steady other = by_descriptor (relinquish_read s)
         → first_failure (guards s steady d o) ≡ None
         → view e (relinquished_from s d o)
         ≡ apply_all e (view e s) ((where_true (is_from e o) (Held d.handle s.runner None ∷ []) ++ where_true zeros (Zeroed d.handle ∷ [])) ++ public_change s (relinquished_from s d o))
-    of d None there zeros asked tells none = absurd (false≢true (guard-passes (guards s steady d None) 2 InvalidParameters (sym none)))
+    of d None there zeros asked tells none = absurd (false≢true (guard-passes (guards s steady d None) 2 (sym none)))
     of d (Some t) there zeros asked tells none = other-left e s steady other d t there zeros asked tells
 
     by_descriptor : (d : Option RelinquishDesc) → first_failure (relinquish_guards (buffers_of s s.runner) (open_of s) s.runner d) ≡ None
         → view e (relinquished s d) ≡ apply_all e (view e s) (releases e s d ++ public_change s (relinquished s d))
-    by_descriptor None none = absurd (false≢true (guard-passes (relinquish_guards (buffers_of s s.runner) (open_of s) s.runner None) 1 InvalidParameters (sym none)))
+    by_descriptor None none = absurd (false≢true (guard-passes (relinquish_guards (buffers_of s s.runner) (open_of s) s.runner None) 1 (sym none)))
     by_descriptor (Some d) none =
         of d (transaction_of s d.handle) refl _ (λ told. grind (arith, told, cases_Bool d.zero)) (λ known asked. grind (arith, known, asked)) none

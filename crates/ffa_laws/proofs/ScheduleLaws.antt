@@ -2,7 +2,6 @@
 use Rattle.std.proofs.Common.{◌≡◌, ◌∙◌, ℕ, suc, zero, ◌<◌, true, false, List, [], ◌∷◌, length, get_or, set, Option, Some, None, refl, sym, ap, arith, length-set}
 use Rattle.std.specs.Prelude.{◌++◌}
 use Rattle.std.proofs.lemmas.Bool.{eqb-true, false≢true}
-use Rattle.ffa_model.specs.declared.operation.ErrorCode.TheVariants.{InvalidParameters}
 use Rattle.ffa_model.specs.declared.schedule.Status.{Status}
 use Rattle.ffa_model.specs.declared.schedule.Status.TheVariants.{Running, Waiting, Yielded, Blocked}
 use Rattle.ffa_model.specs.declared.schedule.Work.{Work}
@@ -93,7 +92,7 @@ module _ (s : State) (steady : IsSteady s) where
   pub steady-request : (function word flags : ℕ) (payload : List ℕ) → first_failure (request_guards s.parties (schedule_of s) word flags) ≡ None → IsSteady (direct_request s function word flags payload).state
   steady-request function word flags payload none =
       scheduled-steady (requested (schedule_of s) (low_half word)) (record {
-        runner = guard-passes (request_guards s.parties (schedule_of s) word flags) 2 InvalidParameters (sym none);
+        runner = guard-passes (request_guards s.parties (schedule_of s) word flags) 2 (sym none);
         requesters = requesters-set (Known s) s.works (place (low_half word)) (Some (Request (record { 0 = s.runner }))) (λ by is. (let same : s.runner ≡ by = cc in ap (is_known_among (length s.parties)) (sym same) ∙ steady.runner)) steady.requesters;
       })
 
@@ -104,7 +103,7 @@ module _ (s : State) (steady : IsSteady s) where
   pub steady-run : (word : ℕ) → first_failure (run_guards (length s.parties) (schedule_of s) word) ≡ None → IsSteady (run_partition s word).state
   steady-run word none =
       scheduled-steady (given_cycles (schedule_of s) (high_half word) (status_in (schedule_of s) (high_half word)))
-      (given-known (high_half word) (status_in (schedule_of s) (high_half word)) (partition-known (length s.parties) (high_half word) (guard-passes (run_guards (length s.parties) (schedule_of s) word) 1 InvalidParameters (sym none))))
+      (given-known (high_half word) (status_in (schedule_of s) (high_half word)) (partition-known (length s.parties) (high_half word) (guard-passes (run_guards (length s.parties) (schedule_of s) word) 1 (sym none))))
 
   pub steady-yield : IsSteady (yield_now s).state
   steady-yield = scheduled-steady (switched (schedule_of s) Yielded 0) (record { runner = first-known; requesters = steady.requesters })
@@ -118,7 +117,7 @@ module _ (s : State) (steady : IsSteady s) where
   -- w1 of a response names the runner's requester in its low half
   pub answerer : (word flags : ℕ) → first_failure (response_guards (schedule_of s) word flags) ≡ None → (by : ℕ) × (requester (work_in (schedule_of s) s.runner) ≡ Some by) × (low_half word ≡ by)
   answerer word flags none =
-      let (by, is, named) = answers word (requester (work_in (schedule_of s) s.runner)) (guard-passes (response_guards (schedule_of s) word flags) 1 InvalidParameters (sym none)) in
+      let (by, is, named) = answers word (requester (work_in (schedule_of s) s.runner)) (guard-passes (response_guards (schedule_of s) word flags) 1 (sym none)) in
       let known = steady.requesters (place s.runner) by is in
       let small : by < 65536 = (let few = steady.few in let lt = known-place (length s.parties) by steady.some known in omega arith) in
       let low : low_half word ≡ by = omega arith in

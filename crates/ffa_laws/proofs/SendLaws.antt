@@ -11,8 +11,6 @@ use Rattle.std.proofs.lemmas.Option.{none-some, same_Some}
 use Rattle.ffa_model.specs.declared.limits.TheConstants.{MOST_OPEN, MOST_SENDS}
 use Rattle.ffa_model.proofs.Runs.{in-run}
 use Rattle.ffa_model.specs.DescriptorPlaces.{in_version}
-use Rattle.ffa_model.specs.declared.operation.ErrorCode.{ErrorCode}
-use Rattle.ffa_model.specs.declared.operation.ErrorCode.TheVariants.{InvalidParameters, NoMemory, Denied}
 use Rattle.ffa_model.specs.declared.rights.Kind.{Kind}
 use Rattle.ffa_model.specs.declared.transaction.Range.{Range}
 use Rattle.ffa_model.specs.declared.transaction.Receiver.{Receiver}
@@ -33,7 +31,7 @@ use Rattle.ffa_laws.specs.Steady.{IsAlone, IsSteady, IsSteadyTransaction}
 use Rattle.ffa_laws.specs.View.{view, buffers_seen, hidden, involves, is_near, kept}
 use Rattle.ffa_laws.specs.Events.{Event, Opened, apply, apply_all, named_pages, opens, public_change, where_true}
 use Rattle.ffa_model.proofs.CallAccesses.{handle-parts}
-use Rattle.ffa_model.proofs.Guards.{guard-passes}
+use Rattle.ffa_model.proofs.Guards.{guard-passes, invalid, denied, no_memory}
 use Rattle.ffa_model.proofs.KeptDonate.{same-tests}
 use Rattle.ffa_model.proofs.KeptSend.{any-at}
 use Rattle.ffa_model.proofs.NamedPages.{listed-each}
@@ -54,6 +52,7 @@ use Rattle.ffa_laws.proofs.Steadies.{alone-far, alone-near, own-alone}
 use Rattle.ffa_laws.proofs.Told.{IsTold}
 use Rattle.ffa_laws.proofs.Unchained.{identifier-known}
 use Rattle.ffa_laws.proofs.Views.{kept_none, or_true, view-named, view-page}
+use Rattle.ffa_model.specs.declared.refusal.Refusal.{Refusal}
 
 -- ---- what the guards say, where none fails
 pub record IsOffer (s : State) (r : SendRecord) : Type 0 where
@@ -69,14 +68,14 @@ pub record IsOffer (s : State) (r : SendRecord) : Type 0 where
 pub offer : (s : State) (x : Transfer) (r : SendRecord) → first_failure (send_guards (scene_of s) s.runner x (Some r)) ≡ None → IsOffer s r
 offer s x r none =
     record {
-      sender = eqb-true r.sender s.runner (guard-passes (send_guards (scene_of s) s.runner x (Some r)) 5 InvalidParameters (sym none));
-      known = guard-passes (send_guards (scene_of s) s.runner x (Some r)) 6 InvalidParameters (sym none);
-      inside = guard-passes (send_guards (scene_of s) s.runner x (Some r)) 7 Denied (sym none);
-      free = guard-passes (send_guards (scene_of s) s.runner x (Some r)) 8 Denied (sym none);
-      grants = guard-passes (send_guards (scene_of s) s.runner x (Some r)) 9 Denied (sym none);
-      zeroed = zeroes r.zero (guard-passes (send_guards (scene_of s) s.runner x (Some r)) 10 Denied (sym none));
-      few = ltb-true (open_count (open_of s) s.runner) MOST_OPEN (guard-passes (send_guards (scene_of s) s.runner x (Some r)) 11 NoMemory (sym none));
-      sent = ltb-true (sent_by s s.runner) MOST_SENDS (guard-passes (send_guards (scene_of s) s.runner x (Some r)) 12 NoMemory (sym none));
+      sender = eqb-true r.sender s.runner (guard-passes (send_guards (scene_of s) s.runner x (Some r)) 5 (sym none));
+      known = guard-passes (send_guards (scene_of s) s.runner x (Some r)) 6 (sym none);
+      inside = guard-passes (send_guards (scene_of s) s.runner x (Some r)) 7 (sym none);
+      free = guard-passes (send_guards (scene_of s) s.runner x (Some r)) 8 (sym none);
+      grants = guard-passes (send_guards (scene_of s) s.runner x (Some r)) 9 (sym none);
+      zeroed = zeroes r.zero (guard-passes (send_guards (scene_of s) s.runner x (Some r)) 10 (sym none));
+      few = ltb-true (open_count (open_of s) s.runner) MOST_OPEN (guard-passes (send_guards (scene_of s) s.runner x (Some r)) 11 (sym none));
+      sent = ltb-true (sent_by s s.runner) MOST_SENDS (guard-passes (send_guards (scene_of s) s.runner x (Some r)) 12 (sym none));
     }
   where
     zeroes : (zero : Bool) → (not zero || are_writable (own_rights_of s) r.ranges) ≡ true → zero ≡ true → are_writable (own_rights_of s) r.ranges ≡ true
@@ -85,7 +84,7 @@ offer s x r none =
 
 -- bytes that are no send descriptor are refused
 pub no-offer : (s : State) (x : Transfer) → first_failure (send_guards (scene_of s) s.runner x None) ≡ None → ⊥
-no-offer s x none = false≢true (guard-passes (send_guards (scene_of s) s.runner x None) 5 InvalidParameters (sym none))
+no-offer s x none = false≢true (guard-passes (send_guards (scene_of s) s.runner x None) 5 (sym none))
 
 -- ---- pages that may be sent
 module _ (s : State) (ranges : List Range) (free : list_all (is_sendable s.runner (candidates s) s.buffers) (pages_in (own_rights_of s) ranges) ≡ true) where
@@ -97,24 +96,24 @@ module _ (s : State) (ranges : List Range) (free : list_all (is_sendable s.runne
 
 -- ---- the guards, in the runner's view
 -- the guards of a send before the one that asks whether all pages may be sent, and those behind it
-abbrev asked_first : Bool → ℕ → ℕ → OwnRights → ℕ → Transfer → SendRecord → List (Bool × ErrorCode)
+abbrev asked_first : Bool → ℕ → ℕ → OwnRights → ℕ → Transfer → SendRecord → List (Bool × Refusal)
 asked_first mapped room endpoints own_rights e x r =
-    (mapped, InvalidParameters)
-    ∷ (x.total == x.fragment, InvalidParameters)
-    ∷ (nat_le x.total room, InvalidParameters)
-    ∷ (x.address == 0, InvalidParameters)
-    ∷ (x.pages == 0, InvalidParameters)
-    ∷ (r.sender == e, InvalidParameters)
-    ∷ (are_known endpoints r.receivers, InvalidParameters)
-    ∷ (list_all (is_inside own_rights) r.ranges, Denied)
+    (mapped, invalid)
+    ∷ (x.total == x.fragment, invalid)
+    ∷ (nat_le x.total room, invalid)
+    ∷ (x.address == 0, invalid)
+    ∷ (x.pages == 0, invalid)
+    ∷ (r.sender == e, invalid)
+    ∷ (are_known endpoints r.receivers, invalid)
+    ∷ (list_all (is_inside own_rights) r.ranges, denied)
     ∷ []
 
-abbrev asked_of_pages : Scene → ℕ → SendRecord → List (Bool × ErrorCode)
+abbrev asked_of_pages : Scene → ℕ → SendRecord → List (Bool × Refusal)
 asked_of_pages c e r =
-    (list_all (are_grants_within c.own_rights r.receivers) (pages_in c.own_rights r.ranges), Denied)
-    ∷ (not r.zero || are_writable c.own_rights r.ranges, Denied)
-    ∷ (nat_lt (open_count c.open_transactions e) MOST_OPEN, NoMemory)
-    ∷ (nat_lt (sends_of c.open_transactions e) MOST_SENDS, NoMemory)
+    (list_all (are_grants_within c.own_rights r.receivers) (pages_in c.own_rights r.ranges), denied)
+    ∷ (not r.zero || are_writable c.own_rights r.ranges, denied)
+    ∷ (nat_lt (open_count c.open_transactions e) MOST_OPEN, no_memory)
+    ∷ (nat_lt (sends_of c.open_transactions e) MOST_SENDS, no_memory)
     ∷ []
 
 module _ (s : State) (steady : IsSteady s) where
@@ -242,24 +241,24 @@ module _ (s : State) (steady : IsSteady s) where
 
   same-failure : (x : Transfer) (r : Option SendRecord) → first_failure (send_guards (scene_of v) s.runner x r) ≡ first_failure (send_guards (scene_of s) s.runner x r)
   same-failure x None = λ i. first_failure (
-      (some-seen s steady s.runner i, InvalidParameters)
-      ∷ (x.total == x.fragment, InvalidParameters)
-      ∷ (nat_le x.total (room-seen s steady s.runner i), InvalidParameters)
-      ∷ (x.address == 0, InvalidParameters)
-      ∷ (x.pages == 0, InvalidParameters)
-      ∷ (false, InvalidParameters)
+      (some-seen s steady s.runner i, invalid)
+      ∷ (x.total == x.fragment, invalid)
+      ∷ (nat_le x.total (room-seen s steady s.runner i), invalid)
+      ∷ (x.address == 0, invalid)
+      ∷ (x.pages == 0, invalid)
+      ∷ (false, invalid)
       ∷ [])
   same-failure x (Some r) =
       (λ i. first_failure (asked_first (some-seen s steady s.runner i) (room-seen s steady s.runner i) (length s.parties) (record { ram_base = s.ram_base; pages = size-seen i; right = own_right_of s }) s.runner x r
-      ++ (all-sendable-seen r.ranges i, Denied)
+      ++ (all-sendable-seen r.ranges i, denied)
       ∷ asked_of_pages (scene_of v) s.runner r))
-      ∙ same-later Denied (asked_first (is_some (buffers_in s.buffers s.runner)) (room_of (buffers_in s.buffers s.runner)) (length s.parties) (own_rights_of s) s.runner x r)
+      ∙ same-later denied (asked_first (is_some (buffers_in s.buffers s.runner)) (room_of (buffers_in s.buffers s.runner)) (length s.parties) (own_rights_of s) s.runner x r)
       (list_all (is_sendable s.runner (candidates s) s.buffers) (pages_in (own_rights_of s) r.ranges)) (asked_of_pages (scene_of v) s.runner r) (asked_of_pages (scene_of s) s.runner r)
       (λ free i. first_failure (
-      (grants-seen r.ranges free r.receivers i, Denied)
-      ∷ (not r.zero || writable-seen r.ranges free i, Denied)
-      ∷ (nat_lt (count-seen s.runner s i) MOST_OPEN, NoMemory)
-      ∷ (nat_lt (sends-seen i) MOST_SENDS, NoMemory)
+      (grants-seen r.ranges free r.receivers i, denied)
+      ∷ (not r.zero || writable-seen r.ranges free i, denied)
+      ∷ (nat_lt (count-seen s.runner s i) MOST_OPEN, no_memory)
+      ∷ (nat_lt (sends-seen i) MOST_SENDS, no_memory)
       ∷ []))
 
 -- ---- a send that is not refused

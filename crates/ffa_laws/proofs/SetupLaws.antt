@@ -1,7 +1,6 @@
 -- Partition information: in the runner's view, and to others.
 use Rattle.std.proofs.Common.{◌≡◌, ◌≢◌, ℕ, Bool, true, false, cond, List, [], ◌∷◌, length, is_some, refl, sym, ap, length-set}
 use Rattle.std.specs.Prelude.{◌||◌, not}
-use Rattle.ffa_model.specs.declared.operation.ErrorCode.TheVariants.{InvalidParameters, Busy}
 use Rattle.ffa_model.specs.Manifest.{is_nil}
 use Rattle.ffa_model.specs.Identifiers.{place}
 use Rattle.ffa_model.specs.State.{State, buffers_of, version_of}
@@ -17,6 +16,7 @@ use Rattle.ffa_laws.proofs.Changes.{other-changed}
 use Rattle.ffa_laws.proofs.Written.{rewritten-filled, rx-own, with_rx_full}
 use Rattle.ffa_laws.proofs.Told.{other-same}
 use Rattle.ffa_laws.proofs.BufferLaws.{far-repaged, own-buffers, steady-filled, view-filled}
+use Rattle.ffa_model.specs.declared.refusal.Refusal.TheVariants.{UuidUnknown, BuffersMissing, RxFull}
 
 module _ (s : State) (steady : IsSteady s) (words : List ℕ) (flags : ℕ) where
   abbrev uuid : List ℕ
@@ -24,9 +24,9 @@ module _ (s : State) (steady : IsSteady s) (words : List ℕ) (flags : ℕ) wher
 
   same-guards : info_guards (view s.runner s) uuid flags ≡ info_guards s uuid flags
   same-guards = λ i.
-      (is_nil uuid || is_any (selected s.parties uuid), InvalidParameters)
-      ∷ (is_count_alone flags || is_some (own-buffers s.runner s steady.runner i), InvalidParameters)
-      ∷ (is_count_alone flags || not (is_full (own-buffers s.runner s steady.runner i)), Busy)
+      (is_nil uuid || is_any (selected s.parties uuid), UuidUnknown)
+      ∷ (is_count_alone flags || is_some (own-buffers s.runner s steady.runner i), BuffersMissing)
+      ∷ (is_count_alone flags || not (is_full (own-buffers s.runner s steady.runner i)), RxFull)
       ∷ []
 
   view-informed : informed (view s.runner s) uuid flags ≡ view s.runner (informed s uuid flags)

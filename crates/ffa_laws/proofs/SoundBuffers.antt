@@ -4,7 +4,6 @@ use Rattle.std.proofs.lemmas.Bool.{cases_eq}
 use Rattle.std.proofs.lemmas.List.{get_or-set_other, get_or-set_same}
 use Rattle.std.proofs.lemmas.Option.{none-some, same_Some}
 use Rattle.ffa_model.proofs.Runs.{run-each}
-use Rattle.ffa_model.specs.declared.operation.ErrorCode.TheVariants.{InvalidParameters, Denied}
 use Rattle.ffa_model.specs.Identifiers.{place}
 use Rattle.ffa_model.specs.State.{State, Buffers, buffers_of, is_known}
 use Rattle.ffa_model.specs.Calls.{first_failure}
@@ -52,12 +51,12 @@ module _ (s : State) (sound : IsSoundState s) where
   pub map-sound : (tx rx pages : ℕ) → first_failure (rxtx_map s tx rx pages).guards ≡ None → IsSoundState (rxtx_map s tx rx pages).state
   map-sound tx rx pages none =
       set-sound (Some (new_buffers s.ram_base tx rx pages)) (λ b is. subst (λ (x : Buffers). IsSoundBuffers s s.runner x) (same_Some (new_buffers s.ram_base tx rx pages) b is) (record {
-        count = guard-passes (map_guards s.runner (buffers_of s s.runner) (candidates s) tx rx pages) 1 InvalidParameters (sym none);
+        count = guard-passes (map_guards s.runner (buffers_of s s.runner) (candidates s) tx rx pages) 1 (sym none);
         tx = run-each (λ p. is_usable s.runner (candidate_at s p)) (page_number s.ram_base tx) pages
-            (guard-passes (map_guards s.runner (buffers_of s s.runner) (candidates s) tx rx pages) 5 Denied (sym none));
+            (guard-passes (map_guards s.runner (buffers_of s s.runner) (candidates s) tx rx pages) 5 (sym none));
         rx = run-each (λ p. is_usable s.runner (candidate_at s p)) (page_number s.ram_base rx) pages
-            (guard-passes (map_guards s.runner (buffers_of s s.runner) (candidates s) tx rx pages) 6 Denied (sym none));
-        apart = guard-passes (map_guards s.runner (buffers_of s s.runner) (candidates s) tx rx pages) 4 InvalidParameters (sym none);
+            (guard-passes (map_guards s.runner (buffers_of s s.runner) (candidates s) tx rx pages) 6 (sym none));
+        apart = guard-passes (map_guards s.runner (buffers_of s s.runner) (candidates s) tx rx pages) 4 (sym none);
       }))
 
 -- these bytes stand in RX of f, which is full

@@ -4,7 +4,6 @@ use Rattle.std.specs.Prelude.{◌==◌, ◌||◌}
 use Rattle.std.proofs.lemmas.Bool.{cases_Bool, eq-eqb, eqb-true, false≢true, not_from_true, or_left, true≢false}
 use Rattle.std.proofs.lemmas.List.{set-get_or}
 use Rattle.ffa_model.specs.declared.limits.TheConstants.{MOST_ENDPOINTS}
-use Rattle.ffa_model.specs.declared.operation.ErrorCode.TheVariants.{InvalidParameters, Busy, Denied}
 use Rattle.ffa_model.specs.declared.schedule.Status.{Status}
 use Rattle.ffa_model.specs.declared.schedule.Status.TheVariants.{Running, Waiting, Yielded, Blocked}
 use Rattle.ffa_model.specs.declared.schedule.Work.{Work}
@@ -86,28 +85,28 @@ module _ (c : Schedule) (is : IsSound c) (some : 1 ≤ length c.works) (few : le
         started (low_half word) (Some (Request (record { 0 = c.runner }))) partition idle refl
       where
         known : is_known_among (length c.works) (low_half word) ≡ true
-        known = ap (λ n. is_known_among n (low_half word)) (sym each) ∙ guard-passes (request_guards parties c word flags) 2 InvalidParameters (sym none)
+        known = ap (λ n. is_known_among n (low_half word)) (sym each) ∙ guard-passes (request_guards parties c word flags) 2 (sym none)
 
         partition : is_partition_among (length c.works) (low_half word) ≡ true
         partition = elim (known-cases (length c.works) (low_half word) known) [
-          | inl first ↦ absurd (true≢false (sym (guard-passes (request_guards parties c word flags) 4 Denied (sym none)) ∙ not_from_true (low_half word == 0) (eq-eqb (low_half word) 0 first)))
+          | inl first ↦ absurd (true≢false (sym (guard-passes (request_guards parties c word flags) 4 (sym none)) ∙ not_from_true (low_half word == 0) (eq-eqb (low_half word) 0 first)))
           | inr is ↦ is
         ]
 
         idle : (is_waiting (status_in c (low_half word)) || is_yielded (status_in c (low_half word))) ≡ true
-        idle = or_left (is_waiting (status_in c (low_half word))) (is_yielded (status_in c (low_half word))) (guard-passes (request_guards parties c word flags) 7 Busy (sym none))
+        idle = or_left (is_waiting (status_in c (low_half word))) (is_yielded (status_in c (low_half word))) (guard-passes (request_guards parties c word flags) 7 (sym none))
 
   pub sound-run : (word : ℕ) → first_failure (run_guards (length c.works) c word) ≡ None → IsSound (given_cycles c (high_half word) (status_in c (high_half word)))
   sound-run word none = go (status_in c (high_half word)) refl
     where
       partition : is_partition_among (length c.works) (high_half word) ≡ true
-      partition = guard-passes (run_guards (length c.works) c word) 1 InvalidParameters (sym none)
+      partition = guard-passes (run_guards (length c.works) c word) 1 (sym none)
 
       normal : c.runner ≡ 0
-      normal = eqb-true c.runner 0 (guard-passes (run_guards (length c.works) c word) 0 Denied (sym none))
+      normal = eqb-true c.runner 0 (guard-passes (run_guards (length c.works) c word) 0 (sym none))
 
       idle : (is_waiting (status_in c (high_half word)) || is_yielded (status_in c (high_half word))) ≡ true
-      idle = guard-passes (run_guards (length c.works) c word) 3 Busy (sym none)
+      idle = guard-passes (run_guards (length c.works) c word) 3 (sym none)
 
       go : (status : Status) → status_in c (high_half word) ≡ status → IsSound (given_cycles c (high_half word) status)
       go Waiting at = started (high_half word) (Some Run) partition idle (ap Some (sym normal))
@@ -136,11 +135,11 @@ module _ (c : Schedule) (is : IsSound c) (some : 1 ≤ length c.works) (few : le
   yield-origin (Some (Request x)) h = ap Some (eqb-true x.0 0 h)
 
   pub sound-wait : first_failure (wait_guards c) ≡ None → IsSound (finished c 0)
-  sound-wait none = stopped None 0 (run-origin (work_in c c.runner) (guard-passes (wait_guards c) 0 Denied (sym none))) (inl refl)
+  sound-wait none = stopped None 0 (run-origin (work_in c c.runner) (guard-passes (wait_guards c) 0 (sym none))) (inl refl)
 
   pub sound-yield : first_failure (yield_guards c) ≡ None → IsSound (switched c Yielded 0)
   sound-yield none =
-      let from = yield-origin (work_in c c.runner) (guard-passes (yield_guards c) 0 Denied (sym none)) in
+      let from = yield-origin (work_in c c.runner) (guard-passes (yield_guards c) 0 (sym none)) in
       subst IsSound (λ i. record (switched c (outside-works (work_in c c.runner) 0 from i) 0) { works = set-get_or c.works (place c.runner) None i })
       (stopped (work_in c c.runner) 0 from (inr from))
 

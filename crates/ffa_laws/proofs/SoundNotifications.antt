@@ -7,7 +7,6 @@ use Rattle.std.specs.Cmp.Lexicographic.{slice_cmp}
 use Rattle.std.specs.FinSet as finite_set
 use Rattle.std.proofs.lemmas.Bool.{and_from, and_parts, cases_eq, eq-eqb, eqb-true, false≢true, lt-ltb, ltb-true, ne_eqb, not-true, not_from_false, not_from_true, or_cases, or_left, or_right, true≢false}
 use Rattle.std.proofs.lemmas.List.{get_or-set_other}
-use Rattle.ffa_model.specs.declared.operation.ErrorCode.TheVariants.{InvalidParameters, Denied}
 use Rattle.ffa_model.specs.Bits.{bits_of, high_half, is_set, word_of_halves, low_half}
 use Rattle.ffa_model.specs.Identifiers.{identifier, place}
 use Rattle.ffa_model.specs.Lists.{listed}
@@ -134,7 +133,7 @@ module _ (s : State) (sound : IsSoundState s) where
         where
           other : (x : List ℕ) → finite_set.contains s.pending x ≡ true → (good : IsSoundPending s x) → not (good.receiver == 0) ≡ true
           other x is good = not_from_false (good.receiver == 0) (elim (cases_eq good.receiver 0) [
-            | inl first ↦ absurd (true≢false (sym (guard-passes (destroy_guards n s.runner endpoint) 3 Denied (sym none)) ∙ not_from_true (has_pending n 0)
+            | inl first ↦ absurd (true≢false (sym (guard-passes (destroy_guards n s.runner endpoint) 3 (sym none)) ∙ not_from_true (has_pending n 0)
                 (pending-found n 0 good.class good.bit good.of_class good.in_word
                 (subst (λ e. is_pending n e good.class good.bit ≡ true) first (sym (ap (finite_set.contains s.pending) good.is) ∙ is)))))
             | inr differ ↦ ne_eqb good.receiver 0 differ
@@ -184,7 +183,7 @@ module _ (s : State) (sound : IsSoundState s) where
         (λ x is. let good = sound.pending x is in same-pending more x good (λ lt. let (f, its) = good.bound lt in (f, still (binding good.receiver good.class good.bit f) its)))
       where
         all : list_all may ks ≡ true
-        all = bits-pass (is_bindable (length s.parties) n s.runner sender) (word_of_halves low high) (guard-passes (bind_guards (length s.parties) n s.runner word flags (word_of_halves low high)) 6 Denied (sym none))
+        all = bits-pass (is_bindable (length s.parties) n s.runner sender) (word_of_halves low high) (guard-passes (bind_guards (length s.parties) n s.runner word flags (word_of_halves low high)) 6 (sym none))
 
         still : (x : List ℕ) → finite_set.contains s.bound x ≡ true → finite_set.contains more.bound x ≡ true
         still x is = contains-more s.bound (map entry ks) x ∙ or_left (finite_set.contains s.bound x) (among x (map entry ks)) is
@@ -217,9 +216,9 @@ module _ (s : State) (sound : IsSoundState s) where
             sender = sender;
             is = new.2;
             to_known = runner-known s sound;
-            from_known = guard-passes (bind_guards (length s.parties) n s.runner word flags (word_of_halves low high)) 1 InvalidParameters (sym none);
+            from_known = guard-passes (bind_guards (length s.parties) n s.runner word flags (word_of_halves low high)) 1 (sym none);
             in_word = ltb-true new.0 64 (and_parts (nat_lt new.0 64) _ new.1).0;
-            bitmaps = guard-passes (bind_guards (length s.parties) n s.runner word flags (word_of_halves low high)) 5 Denied (sym none);
+            bitmaps = guard-passes (bind_guards (length s.parties) n s.runner word flags (word_of_halves low high)) 5 (sym none);
             alone = new-alone new.0 new.1;
           }
         ]
@@ -228,7 +227,7 @@ module _ (s : State) (sound : IsSoundState s) where
     unbind-sound none = notifications-sound s sound less sound.sized.bitmaps bound pending
       where
         all : list_all (is_unbindable n s.runner sender) ks ≡ true
-        all = guard-passes (unbind_guards (length s.parties) n s.runner word flags (word_of_halves low high)) 6 Denied (sym none)
+        all = guard-passes (unbind_guards (length s.parties) n s.runner word flags (word_of_halves low high)) 6 (sym none)
 
         before : (x : List ℕ) → finite_set.contains less.bound x ≡ true → finite_set.contains s.bound x ≡ true
         before x is = (and_parts (finite_set.contains s.bound x) (not (among x (map entry ks))) (sym (contains-less s.bound (map entry ks) x) ∙ is)).0
@@ -280,14 +279,14 @@ module _ (s : State) (sound : IsSoundState s) where
         class = class_of s.runner;
         bit = k;
         is = same;
-        to_known = guard-passes (set_guards (length s.parties) n s.runner word flags (word_of_halves low high)) 1 InvalidParameters (sym none);
+        to_known = guard-passes (set_guards (length s.parties) n s.runner word flags (word_of_halves low high)) 1 (sym none);
         of_class = class-bound s.runner;
         in_word = ltb-true k 64 (and_parts (nat_lt k 64) _ passes).0;
         bound = λ lt. (s.runner, (and_parts (nat_lt k 64) _ passes).1);
       })
     where
       all : list_all (is_bit (bound_to (low_half word))) (bits_of (word_of_halves low high)) ≡ true
-      all = bits-pass (bound_to (low_half word)) (word_of_halves low high) (guard-passes (set_guards (length s.parties) n s.runner word flags (word_of_halves low high)) 5 Denied (sym none))
+      all = bits-pass (bound_to (low_half word)) (word_of_halves low high) (guard-passes (set_guards (length s.parties) n s.runner word flags (word_of_halves low high)) 5 (sym none))
 
   pub framework-sound : (f : ℕ) → IsKnown s f → IsSoundState (with_notifications s (with_framework_bit n f))
   framework-sound f to = raised-sound f manager_class message_bits (λ x is.

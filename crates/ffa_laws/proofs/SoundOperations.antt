@@ -4,7 +4,6 @@ use Rattle.byteorder.specs.Endian.{little_bytes}
 use Rattle.std.specs.Prelude.{◌-◌, ◌/◌, ◌%◌}
 use Rattle.ffa_model.specs.declared.operation.Op.{Op}
 use Rattle.ffa_model.specs.declared.operation.Op.TheVariants.{Call, Load, Store, Fetch}
-use Rattle.ffa_model.specs.declared.operation.ErrorCode.TheVariants.{InvalidParameters}
 use Rattle.ffa_model.specs.declared.operation.Outcome.TheVariants.{Data, Done}
 use Rattle.ffa_model.specs.declared.operation.Size.{Size}
 use Rattle.ffa_model.specs.declared.rights.Kind.TheVariants.{Share, Lend, Donate}
@@ -48,7 +47,7 @@ module _ (s : State) (sound : IsSoundState s) where
       framework-sound (filled s (header_in (tx_bytes s s.runner)).receiver (message_in (tx_bytes s s.runner)))
       (filled-state-sound s sound (header_in (tx_bytes s s.runner)).receiver (message_in (tx_bytes s s.runner)) (sent-sound s sound (buffers_of s (header_in (tx_bytes s s.runner)).receiver)))
       (header_in (tx_bytes s s.runner)).receiver
-      (guard-passes (send2_guards s.parties s.buffers s.runner (header_in (tx_bytes s s.runner))) 4 InvalidParameters (sym none))
+      (guard-passes (send2_guards s.parties s.buffers s.runner (header_in (tx_bytes s s.runner))) 4 (sym none))
 
   service-sound : (call : calls.Call) → first_failure (service s call).guards ≡ None → IsSoundState (service s call).state
   service-sound (Version version) none = sound

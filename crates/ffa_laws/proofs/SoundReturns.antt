@@ -2,7 +2,6 @@
 use Rattle.std.proofs.Common.{◌≡◌, ℕ, Option, Some, None, refl, sym}
 use Rattle.std.proofs.lemmas.Bool.{false≢true}
 use Rattle.ffa_model.specs.declared.descriptor.RelinquishDesc.{RelinquishDesc}
-use Rattle.ffa_model.specs.declared.operation.ErrorCode.TheVariants.{InvalidParameters}
 use Rattle.ffa_model.specs.State.{State, Transaction, transaction_of}
 use Rattle.ffa_model.specs.Bits.{is_set}
 use Rattle.ffa_model.specs.Calls.{first_failure}
@@ -18,7 +17,7 @@ module _ (s : State) (sound : IsSoundState s) where
     where
       of : (o : Option Transaction) → transaction_of s (handle_of high low) ≡ o → first_failure (reclaim_guards (own_rights_of s) s.runner flags o) ≡ None
           → IsSoundState (reclaimed s (handle_of high low) (is_set 0 flags))
-      of None there none = absurd (false≢true (guard-passes (reclaim_guards (own_rights_of s) s.runner flags None) 1 InvalidParameters (sym none)))
+      of None there none = absurd (false≢true (guard-passes (reclaim_guards (own_rights_of s) s.runner flags None) 1 (sym none)))
       of (Some t) there none = reclaimed-sound s sound (handle_of high low) t there (is_set 0 flags)
 
   pub relinquish-sound : IsSoundState (memory_relinquish s).state

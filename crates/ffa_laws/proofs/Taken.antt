@@ -5,8 +5,6 @@ use Rattle.std.specs.FinMap as finite
 use Rattle.std.proofs.lemmas.Bool.{eqb-true, false≢true}
 use Rattle.std.proofs.lemmas.Option.{same_Some}
 use Rattle.ffa_model.specs.declared.descriptor.RetrieveDesc.{RetrieveDesc}
-use Rattle.ffa_model.specs.declared.operation.ErrorCode.{ErrorCode}
-use Rattle.ffa_model.specs.declared.operation.ErrorCode.TheVariants.{InvalidParameters, Denied}
 use Rattle.ffa_model.specs.declared.rights.Kind.{Kind}
 use Rattle.ffa_model.specs.declared.rights.Kind.TheVariants.{Share, Lend, Donate}
 use Rattle.ffa_model.specs.declared.rights.Rights.{Rights}
@@ -20,12 +18,13 @@ use Rattle.ffa_model.specs.declared.call.Transfer.{Transfer}
 use Rattle.ffa_model.specs.Transactions.{own_right_of, own_rights_of, ceiling, open_of, scene_of, with_open}
 use Rattle.ffa_model.specs.MemoryRetrieve.{asking_guards, donated_if, donated_page, holding_guards, memory_retrieve, response_to, retrieve_read, retrieved, retrieved_from, right_for, taken_in}
 use Rattle.ffa_laws.specs.Steady.{IsSteady}
-use Rattle.ffa_model.proofs.Guards.{guard-passes}
+use Rattle.ffa_model.proofs.Guards.{guard-passes, invalid}
 use Rattle.ffa_laws.proofs.BufferLaws.{steady-filled}
 use Rattle.ffa_laws.proofs.Changes.{page_right}
 use Rattle.ffa_laws.proofs.Given.{page-given, page-same, size-given, steady-given, unnamed-away}
 use Rattle.ffa_laws.proofs.Holders.{Holders, get-taken, reheld, steady-reheld}
 use Rattle.ffa_laws.proofs.Within.{within-same, within-through}
+use Rattle.ffa_model.specs.declared.refusal.Refusal.{Refusal}
 
 -- ---- what a retrieve that nothing refuses has asked for
 pub record IsTaking (s : State) (d : RetrieveDesc) (t : Transaction) : Type 0 where
@@ -42,13 +41,13 @@ pub record Taken (s : State) (x : Transfer) : Type 0 where
   pub is : IsTaking s asked of
 
 -- the first checks, and the others
-abbrev pub checks : State → Transfer → List (Bool × ErrorCode) → List (Bool × ErrorCode)
+abbrev pub checks : State → Transfer → List (Bool × Refusal) → List (Bool × Refusal)
 checks s x rest =
-    (is_some (buffers_in s.buffers s.runner), InvalidParameters)
-    ∷ (x.total == x.fragment, InvalidParameters)
-    ∷ (nat_le x.total (room_of (buffers_in s.buffers s.runner)), InvalidParameters)
-    ∷ (x.address == 0, InvalidParameters)
-    ∷ (x.pages == 0, InvalidParameters)
+    (is_some (buffers_in s.buffers s.runner), invalid)
+    ∷ (x.total == x.fragment, invalid)
+    ∷ (nat_le x.total (room_of (buffers_in s.buffers s.runner)), invalid)
+    ∷ (x.address == 0, invalid)
+    ∷ (x.pages == 0, invalid)
     ∷ rest
 
 pub taken : (s : State) (x : Transfer) → first_failure (memory_retrieve s x).guards ≡ None → Taken s x
@@ -59,7 +58,7 @@ taken s x none = read (retrieve_read s x.total) refl none
 
     naming : (d : RetrieveDesc) (o : Option Transaction) → retrieve_read s x.total ≡ Some d → transaction_of s d.handle ≡ o
         → first_failure (checks s x (holding_guards (own_rights_of s) full s.runner d o)) ≡ None → Taken s x
-    naming d None is there passed = absurd (false≢true (guard-passes (checks s x (holding_guards (own_rights_of s) full s.runner d None)) 5 InvalidParameters (sym passed)))
+    naming d None is there passed = absurd (false≢true (guard-passes (checks s x (holding_guards (own_rights_of s) full s.runner d None)) 5 (sym passed)))
     naming d (Some t) is there passed =
         record {
           asked = d;
@@ -68,14 +67,14 @@ taken s x none = read (retrieve_read s x.total) refl none
           is =
               record {
                 there = there;
-                receiver = guard-passes (checks s x (holding_guards (own_rights_of s) full s.runner d (Some t))) 5 InvalidParameters (sym passed);
-                unheld = guard-passes (checks s x (holding_guards (own_rights_of s) full s.runner d (Some t))) 9 Denied (sym passed);
-                within = guard-passes (checks s x (holding_guards (own_rights_of s) full s.runner d (Some t))) 10 Denied (sym passed);
+                receiver = guard-passes (checks s x (holding_guards (own_rights_of s) full s.runner d (Some t))) 5 (sym passed);
+                unheld = guard-passes (checks s x (holding_guards (own_rights_of s) full s.runner d (Some t))) 9 (sym passed);
+                within = guard-passes (checks s x (holding_guards (own_rights_of s) full s.runner d (Some t))) 10 (sym passed);
               };
         }
 
     read : (o : Option RetrieveDesc) → retrieve_read s x.total ≡ o → first_failure (checks s x (asking_guards (scene_of s) s.runner o)) ≡ None → Taken s x
-    read None is passed = absurd (false≢true (guard-passes (checks s x (asking_guards (scene_of s) s.runner None)) 5 InvalidParameters (sym passed)))
+    read None is passed = absurd (false≢true (guard-passes (checks s x (asking_guards (scene_of s) s.runner None)) 5 (sym passed)))
     read (Some d) is passed = naming d (transaction_of s d.handle) is refl passed
 
 module _ (s : State) (x : Transfer) (its : Taken s x) where

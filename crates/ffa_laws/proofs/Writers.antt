@@ -10,7 +10,6 @@ use Rattle.ffa_model.specs.declared.operation.Op.{Op}
 use Rattle.ffa_model.specs.declared.operation.Op.TheVariants.{Call, Load, Store, Fetch}
 use Rattle.ffa_model.specs.declared.operation.Outcome.TheVariants.{Data, Done}
 use Rattle.ffa_model.specs.declared.operation.FaultKind.TheVariants.{Permission}
-use Rattle.ffa_model.specs.declared.operation.ErrorCode.TheVariants.{InvalidParameters, Denied}
 use Rattle.ffa_model.specs.declared.call.Call as calls
 use Rattle.ffa_model.specs.declared.call.Call.TheVariants.{PartitionInfoGet, MemDonate, MemLend, MemShare, MemRetrieve, MemRelinquish, MemReclaim, MsgSend2}
 use Rattle.ffa_model.specs.declared.rights.Kind.{Kind}
@@ -180,7 +179,7 @@ module _ (s : State) (sound : IsSoundState s) (p : ℕ) (no_right : may_store (a
       of : (d : RelinquishDesc) (o : Option Transaction) → transaction_of s d.handle ≡ o → first_failure (relinquish_guards (buffers_of s s.runner) (open_of s) s.runner (Some d)) ≡ None → bytes_in (relinquished_from s d o).pages p ≡ bytes_in s.pages p
       of d None there none = refl
       of d (Some t) there none =
-          let zeroable = guard-passes (relinquish_guards (buffers_of s s.runner) (open_of s) s.runner (Some d)) 4 Denied (sym none) in
+          let zeroable = guard-passes (relinquish_guards (buffers_of s s.runner) (open_of s) s.runner (Some d)) 4 (sym none) in
           elsewhere-zeroed d.zero t.ranges (λ asked named.
           let (lend, held) = and_parts (is_lend t.kind) (may_store (held_by t s.runner)) (sym (ap (is_zeroable s.runner) there) ∙ asks d.zero (is_zeroable s.runner (transaction_of s d.handle)) zeroable asked) in
           holds t (page_at s p) (sym (ap (λ o. may_store (right_of s.runner (page_at s p) o)) (named-in s p d.handle t (λ k j at_k at_j. steady.one p k j at_k at_j) there named)) ∙ no_right) held)
@@ -201,10 +200,10 @@ module _ (s : State) (sound : IsSoundState s) (p : ℕ) (no_right : may_store (a
       asks false all is asked = absurd (false≢true asked)
 
       of : (o : Option Transaction) → transaction_of s h ≡ o → first_failure (reclaim_guards (own_rights_of s) s.runner flags o) ≡ None → bytes_in (zeroed_if (is_set 0 flags) s (named_ranges o)).pages p ≡ bytes_in s.pages p
-      of None there none = absurd (false≢true (guard-passes (reclaim_guards (own_rights_of s) s.runner flags None) 1 InvalidParameters (sym none)))
+      of None there none = absurd (false≢true (guard-passes (reclaim_guards (own_rights_of s) s.runner flags None) 1 (sym none)))
       of (Some t) there none =
-          let mine : t.sender ≡ s.runner = eqb-true t.sender s.runner (guard-passes (reclaim_guards (own_rights_of s) s.runner flags (Some t)) 1 InvalidParameters (sym none)) in
-          let all = guard-passes (reclaim_guards (own_rights_of s) s.runner flags (Some t)) 3 Denied (sym none) in
+          let mine : t.sender ≡ s.runner = eqb-true t.sender s.runner (guard-passes (reclaim_guards (own_rights_of s) s.runner flags (Some t)) 1 (sym none)) in
+          let all = guard-passes (reclaim_guards (own_rights_of s) s.runner flags (Some t)) 3 (sym none) in
           elsewhere-zeroed (is_set 0 flags) t.ranges (λ asked named.
           writable t.ranges (asks (is_set 0 flags) (are_writable (own_rights_of s) t.ranges) all asked) named
           (ap may_store (sym (base-owner s.runner (page_at s p) ((steady.transactions h t there).owned p named ∙ mine)))
