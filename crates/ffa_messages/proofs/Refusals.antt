@@ -4,13 +4,14 @@ use Rattle.std.specs.Prelude.{◌==◌, not, nat_le, is_some, if◌then◌else�
 use Rattle.std.proofs.lemmas.Bool.{false≢true}
 use Rattle.ffa_model.specs.declared.operation.ErrorCode.{ErrorCode}
 use Rattle.ffa_model.specs.declared.operation.ErrorCode.TheVariants.{InvalidParameters, NoMemory, Busy, Denied}
+use Rattle.ffa_model.specs.declared.refusal.Refusal.{Refusal}
 use Rattle.ffa_model.specs.Bits.{high_half, low_half}
 use Rattle.ffa_model.specs.Buffers.{buffers_in, is_full, room_of}
 use Rattle.ffa_model.specs.Calls.{first_failure}
 use Rattle.ffa_model.specs.Messages.{MessageHeader, send2_guards}
 use Rattle.ffa_model.specs.RunStates.{Schedule, is_waiting, request_guards, status_in}
 use Rattle.ffa_model.specs.State.{Party, Buffers, has_property, is_known_among}
-use Rattle.ffa_model.proofs.Guards.{one-code}
+use Rattle.ffa_model.proofs.Guards.{one-code, invalid, denied, busy, no_memory}
 use Rattle.ffa_messages.specs.Parts.{is_addressed, has_free_rx, is_header_from, is_whole, may_request, take_part}
 
 pub request_refusal : (parties : List Party) (c : Schedule) (word flags : ℕ) → first_failure (request_guards parties c word flags)
@@ -18,12 +19,12 @@ pub request_refusal : (parties : List Party) (c : Schedule) (word flags : ℕ) �
     then (if may_request parties c.runner (low_half word) then (if is_waiting (status_in c (low_half word)) then None else Some Busy) else Some Denied)
     else Some InvalidParameters)
 request_refusal parties c word flags =
-    let busy : List (Bool × ErrorCode) = (is_waiting (status_in c (low_half word)), Busy) ∷ [] in
-    let denied : List (Bool × ErrorCode) =
-    (not (low_half word == 0), Denied) ∷ (has_property parties c.runner 1, Denied) ∷ (has_property parties (low_half word) 0, Denied) ∷ busy in
-    one-code InvalidParameters (high_half word == c.runner) ((flags == 0) ∷ is_known_among (length parties) (low_half word) ∷ not (low_half word == c.runner) ∷ []) denied
+    let busies : List (Bool × Refusal) = (is_waiting (status_in c (low_half word)), busy) ∷ [] in
+    let denials : List (Bool × Refusal) =
+    (not (low_half word == 0), denied) ∷ (has_property parties c.runner 1, denied) ∷ (has_property parties (low_half word) 0, denied) ∷ busies in
+    one-code invalid (high_half word == c.runner) ((flags == 0) ∷ is_known_among (length parties) (low_half word) ∷ not (low_half word == c.runner) ∷ []) denials
     ∙ ap (λ (next : Option ErrorCode). if is_addressed parties c.runner word flags then next else Some InvalidParameters)
-    (one-code Denied (not (low_half word == 0)) (has_property parties c.runner 1 ∷ has_property parties (low_half word) 0 ∷ []) busy)
+    (one-code denied (not (low_half word == 0)) (has_property parties c.runner 1 ∷ has_property parties (low_half word) 0 ∷ []) busies)
 
 pub send2_refusal : (parties : List Party) (buffers : List (Option Buffers)) (caller : ℕ) (m : MessageHeader) → first_failure (send2_guards parties buffers caller m)
     ≡ (if is_some (buffers_in buffers caller)
@@ -38,20 +39,20 @@ pub send2_refusal : (parties : List Party) (buffers : List (Option Buffers)) (ca
     else Some InvalidParameters)
     else Some InvalidParameters)
 send2_refusal parties buffers caller m =
-    let room : List (Bool × ErrorCode) = (nat_le (m.offset + m.size) (room_of (buffers_in buffers m.receiver)), NoMemory) ∷ [] in
-    let busy : List (Bool × ErrorCode) =
-    (is_some (buffers_in buffers m.receiver), Busy) ∷ (not (is_full (buffers_in buffers m.receiver)), Busy) ∷ room in
-    let denied : List (Bool × ErrorCode) = (has_property parties caller 2, Denied) ∷ (has_property parties m.receiver 2, Denied) ∷ busy in
-    let cut : List (Bool × ErrorCode) =
-    (nat_le 20 m.offset, InvalidParameters) ∷ (not (m.size == 0), InvalidParameters) ∷ (nat_le (m.offset + m.size) (room_of (buffers_in buffers caller)), InvalidParameters) ∷ denied in
+    let room : List (Bool × Refusal) = (nat_le (m.offset + m.size) (room_of (buffers_in buffers m.receiver)), no_memory) ∷ [] in
+    let busies : List (Bool × Refusal) =
+    (is_some (buffers_in buffers m.receiver), busy) ∷ (not (is_full (buffers_in buffers m.receiver)), busy) ∷ room in
+    let denials : List (Bool × Refusal) = (has_property parties caller 2, denied) ∷ (has_property parties m.receiver 2, denied) ∷ busies in
+    let cut : List (Bool × Refusal) =
+    (nat_le 20 m.offset, invalid) ∷ (not (m.size == 0), invalid) ∷ (nat_le (m.offset + m.size) (room_of (buffers_in buffers caller)), invalid) ∷ denials in
     ap (λ (next : Option ErrorCode). if is_some (buffers_in buffers caller) then next else Some InvalidParameters)
-    (one-code InvalidParameters (m.flags == 0) ((m.reserved == 0) ∷ (m.sender == caller) ∷ is_known_among (length parties) m.receiver ∷ not (m.receiver == caller) ∷ []) cut
+    (one-code invalid (m.flags == 0) ((m.reserved == 0) ∷ (m.sender == caller) ∷ is_known_among (length parties) m.receiver ∷ not (m.receiver == caller) ∷ []) cut
     ∙ ap (λ (next : Option ErrorCode). if is_header_from parties caller m then next else Some InvalidParameters)
-    (one-code InvalidParameters (nat_le 20 m.offset) (not (m.size == 0) ∷ nat_le (m.offset + m.size) (room_of (buffers_in buffers caller)) ∷ []) denied
+    (one-code invalid (nat_le 20 m.offset) (not (m.size == 0) ∷ nat_le (m.offset + m.size) (room_of (buffers_in buffers caller)) ∷ []) denials
     ∙ ap (λ (next : Option ErrorCode). if is_whole (room_of (buffers_in buffers caller)) m then next else Some InvalidParameters)
-    (one-code Denied (has_property parties caller 2) (has_property parties m.receiver 2 ∷ []) busy
+    (one-code denied (has_property parties caller 2) (has_property parties m.receiver 2 ∷ []) busies
     ∙ ap (λ (next : Option ErrorCode). if take_part parties caller m.receiver then next else Some Denied)
-    (one-code Busy (is_some (buffers_in buffers m.receiver)) (not (is_full (buffers_in buffers m.receiver)) ∷ []) room))))
+    (one-code busy (is_some (buffers_in buffers m.receiver)) (not (is_full (buffers_in buffers m.receiver)) ∷ []) room))))
 
 -- a message that is whole and from the caller is refused for its ends alone
 pub send2-ends : (parties : List Party) (buffers : List (Option Buffers)) (caller : ℕ) (m : MessageHeader)
