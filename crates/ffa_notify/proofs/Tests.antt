@@ -6,13 +6,14 @@ use Rattle.std.specs.Int.{bit_not, w64}
 use Rattle.std.specs.Int.RustNames.{bit_or}
 use denote.Enum.Bare.{sameb}
 use lib.Bits.{bit_and}
+use Rattle.ffa_model.proofs.Guards.{invalid, denied}
 use Rattle.ffa_notify.specs.contracts.class.Class.{the_type}
 use Rattle.ffa_notify.specs.declared.class.Class.{Class}
 use Rattle.ffa_notify.specs.declared.class.Class.TheVariants.{Partitions, NormalWorld, Manager}
 use Rattle.ffa_notify.specs.Stored.{class_number}
 use Rattle.ffa_model.specs.Bits.{bits_of, high_half, is_set, low_half}
 use Rattle.ffa_model.specs.Calls.{first_failure}
-use Rattle.ffa_model.specs.declared.operation.ErrorCode.TheVariants.{InvalidParameters, Denied}
+use Rattle.ffa_model.specs.declared.operation.ErrorCode.TheVariants.{Denied}
 use Rattle.ffa_model.specs.Lists.{listed}
 use Rattle.ffa_model.specs.Notifications.{Notifications, class_of, has_pending, is_bindable, is_bound, is_bound_to_another, is_pending, is_unbindable, manager_class, normal_class, partition_class, pending_word, set_guards}
 use Rattle.ffa_model.proofs.Bitmaps.{word_where-same, word_where-set}
@@ -106,17 +107,17 @@ module _ (endpoints : ℕ) (v : Notifications) (caller word flags bitmap own oth
   set-refusal b is =
       let outer = and_parts (own == caller) (is_known_among endpoints other && not (other == caller)) between in
       let inner = and_parts (is_known_among endpoints other) (not (other == caller)) outer.1 in
-      (λ t. first_failure ((sym outer.0 t, InvalidParameters)
-      ∷ (sym inner.0 t, InvalidParameters)
-      ∷ (sym inner.1 t, InvalidParameters)
-      ∷ (sym flagged t, InvalidParameters)
-      ∷ (sym (ap not (ne_eqb bitmap 0 some)) t, InvalidParameters)
-      ∷ (is t, Denied)
+      (λ t. first_failure ((sym outer.0 t, invalid)
+      ∷ (sym inner.0 t, invalid)
+      ∷ (sym inner.1 t, invalid)
+      ∷ (sym flagged t, invalid)
+      ∷ (sym (ap not (ne_eqb bitmap 0 some)) t, invalid)
+      ∷ (is t, denied)
       ∷ []))
-      ∙ (λ t. first_failure ((at_own t == caller, InvalidParameters)
-      ∷ (is_known_among endpoints (at_other t), InvalidParameters)
-      ∷ (not (at_other t == caller), InvalidParameters)
-      ∷ (flags == 0 || flags == 2, InvalidParameters)
-      ∷ (not (bitmap == 0), InvalidParameters)
-      ∷ (list_all (λ k. is_bound v (at_other t) (class_of caller) k caller) (bits_of bitmap), Denied)
+      ∙ (λ t. first_failure ((at_own t == caller, invalid)
+      ∷ (is_known_among endpoints (at_other t), invalid)
+      ∷ (not (at_other t == caller), invalid)
+      ∷ (flags == 0 || flags == 2, invalid)
+      ∷ (not (bitmap == 0), invalid)
+      ∷ (list_all (λ k. is_bound v (at_other t) (class_of caller) k caller) (bits_of bitmap), denied)
       ∷ []))

@@ -5,7 +5,7 @@ ghost use Rattle.ffa_model.specs.Bits.{bits_of, high_half, low_half};
 ghost use Rattle.ffa_model.specs.Calls.{first_failure};
 ghost use Rattle.ffa_model.specs.Notifications.{bind_guards, class_of, create_guards, destroy_guards, get_guards, get_reply, sender_guards, set_guards, unbind_guards, with_bitmaps, with_bound, with_framework_bit, with_pending, without_bitmaps, without_bound, without_pending};
 ghost use Rattle.ffa_model.specs.State.{is_known_among};
-ghost use Rattle.ffa_model.specs.declared.operation.ErrorCode.{ErrorCode as Code};
+ghost use Rattle.ffa_model.specs.declared.refusal.Refusal.{Refusal as Check};
 
 use crate::bitmaps::Bitmaps;
 use crate::class::Class;
@@ -203,8 +203,8 @@ impl Bitmaps {
         flags: u32,
         bitmap: u64,
     ) -> Result<EndpointId, ErrorCode>
-        ensures refused { IfErr result (λ code. (rest : List (Bool × Code)) → first_failure (sender_guards (length self.now.bitmaps) self.now caller.0 word flags bitmap rest) ≡ Some code) }
-        ensures passed { OnOk result ((rest : List (Bool × Code)) → first_failure (sender_guards (length self.now.bitmaps) self.now caller.0 word flags bitmap rest) ≡ first_failure rest) }
+        ensures refused { IfErr result (λ code. (rest : List (Bool × Check)) → first_failure (sender_guards (length self.now.bitmaps) self.now caller.0 word flags bitmap rest) ≡ Some code) }
+        ensures passed { OnOk result ((rest : List (Bool × Check)) → first_failure (sender_guards (length self.now.bitmaps) self.now caller.0 word flags bitmap rest) ≡ first_failure rest) }
         ensures sender { IfOk result (λ sender. sender.0 ≡ high_half word) }
         ensures known { IfOk result (λ sender. is_known_among (length self.now.bitmaps) sender.0 ≡ true) }
     {
