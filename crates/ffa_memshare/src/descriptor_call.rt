@@ -1,7 +1,7 @@
 //! Calls whose descriptor stands in TX.
 ghost use Rattle.std.specs.Prelude.{◌≡◌, length, List, OnOk, IfOk, IfErr, Bool, Some, is_some, true};
 ghost use Rattle.ffa_model.specs.MemorySend.{after_transfer};
-ghost use Rattle.ffa_model.specs.declared.operation.ErrorCode.{ErrorCode as Code};
+ghost use Rattle.ffa_model.specs.declared.refusal.Refusal.{Refusal as Check};
 ghost use Rattle.ffa_model.specs.Buffers.{buffers_in};
 ghost use Rattle.ffa_model.specs.Calls.{first_failure};
 ghost use Rattle.ffa_model.specs.State.{Buffers as Own};
@@ -33,8 +33,8 @@ impl DescriptorCall {
         caller: EndpointId,
     ) -> Result<PageRun<'m, M>, ErrorCode>
         requires tx { (b : Own) → buffers_in buffers.now caller.0 ≡ Some b → IsInRam (length (M.ram ram.now).pages) b }
-        ensures refused { IfErr result (λ code. (rest : List (Bool × Code)) → first_failure (after_transfer buffers.now caller.0 self.now.transfer rest) ≡ Some code) }
-        ensures passed { OnOk result ((rest : List (Bool × Code)) → first_failure (after_transfer buffers.now caller.0 self.now.transfer rest) ≡ first_failure rest) }
+        ensures refused { IfErr result (λ code. (rest : List (Bool × Check)) → first_failure (after_transfer buffers.now caller.0 self.now.transfer rest) ≡ Some code) }
+        ensures passed { OnOk result ((rest : List (Bool × Check)) → first_failure (after_transfer buffers.now caller.0 self.now.transfer rest) ≡ first_failure rest) }
         ensures buffers { OnOk result (is_some (buffers_in buffers.now caller.0) ≡ true) }
         ensures bytes { IfOk result (λ bytes. bytes ≡ (descriptor_in (M.ram ram.now) buffers.now caller.0 self.now).bytes) }
     {

@@ -2,7 +2,7 @@
 ghost use Rattle.std.specs.Prelude.{◌≡◌, ◌<◌, ℕ, length, List, OnOk, IfOk, IfErr, Bool, Some, true, not, ◌&&◌, ◌||◌};
 ghost use Rattle.std.specs.List.{list_all};
 ghost use Rattle.arrayvec.specs.ArrayVec.{array_vec_len};
-ghost use Rattle.ffa_model.specs.declared.operation.ErrorCode.{ErrorCode as Code};
+ghost use Rattle.ffa_model.specs.declared.refusal.Refusal.{Refusal as Check};
 ghost use Rattle.ffa_model.specs.Calls.{first_failure};
 ghost use Rattle.ffa_model.specs.MemorySend.{after_offer, are_grants_within, are_known, is_inside, is_own, is_sendable};
 ghost use Rattle.ffa_model.specs.SendDescriptor.{send_record};
@@ -140,8 +140,8 @@ pub(crate) fn check_offer(
     caller: EndpointId,
 ) -> Result<PageRanges, ErrorCode>
     requires aligned { AreAligned offer.now.ranges.items }
-    ensures refused { IfErr result (λ code. (rest : List (Bool × Code)) → first_failure (after_offer (array_vec_len layout.now.regions) (candidates_in pages.now layout.now.base.0) (own_rights_in pages.now layout.now.base.0) buffers.now caller.0 (send_record offer.now) rest) ≡ Some code) }
-    ensures passed { OnOk result ((rest : List (Bool × Code)) → first_failure (after_offer (array_vec_len layout.now.regions) (candidates_in pages.now layout.now.base.0) (own_rights_in pages.now layout.now.base.0) buffers.now caller.0 (send_record offer.now) rest) ≡ first_failure rest) }
+    ensures refused { IfErr result (λ code. (rest : List (Bool × Check)) → first_failure (after_offer (array_vec_len layout.now.regions) (candidates_in pages.now layout.now.base.0) (own_rights_in pages.now layout.now.base.0) buffers.now caller.0 (send_record offer.now) rest) ≡ Some code) }
+    ensures passed { OnOk result ((rest : List (Bool × Check)) → first_failure (after_offer (array_vec_len layout.now.regions) (candidates_in pages.now layout.now.base.0) (own_rights_in pages.now layout.now.base.0) buffers.now caller.0 (send_record offer.now) rest) ≡ first_failure rest) }
     ensures offered { OnOk result (IsOwnOffer pages.now layout.now.base.0 caller.0 (send_record offer.now)) }
     ensures ranges { IfOk result (λ ranges. ranges ≡ offer.now.ranges.items) }
 {
