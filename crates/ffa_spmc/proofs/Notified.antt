@@ -2,6 +2,7 @@
 use Rattle.std.proofs.Common.{◌≡◌, ◌∙◌, ℕ, Bool, true, List, length, Result, refl, sym, ap, subst}
 use Rattle.std.specs.Prelude.{⊤, IfOk, OnOk, OnErr}
 use Rattle.std.specs.Result.{result_err}
+use Rattle.ffa_model.specs.declared.refusal.Refusal.{Refusal}
 use Rattle.ffa_model.specs.declared.call.Call as calls
 use Rattle.ffa_model.specs.declared.call.Reply.{Reply}
 use Rattle.ffa_model.specs.declared.operation.ErrorCode.{ErrorCode}
@@ -81,7 +82,7 @@ module _ (x : Parts) where
             (refusal ∙ ap (λ (f : ℕ). first_failure (destroy_guards x.kept.bitmaps f endpoint)) at) same done (done-replies r)
 
         -- a call with a bitmap, by its guards and what it leaves
-        halved : (c : Service) (guards : ℕ → ℕ → ℕ → List (Bool × ErrorCode)) (change : ℕ → ℕ → Notifications) (asked : ℕ)
+        halved : (c : Service) (guards : ℕ → ℕ → ℕ → List (Bool × Refusal)) (change : ℕ → ℕ → Notifications) (asked : ℕ)
             → c.guards ≡ guards (length s.parties) x.kept.chain.runner asked → c.state ≡ with_notifications s (change x.kept.chain.runner asked) → c.reply ≡ success 0 0
             → (bitmap : ℕ) → bitmap ≡ asked
             → result_err r ≡ first_failure (guards (length x.kept.bitmaps.bitmaps) e bitmap) → OnErr r (new ≡ x.kept.bitmaps) → OnOk r (new ≡ change e bitmap)

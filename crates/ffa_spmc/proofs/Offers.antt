@@ -7,6 +7,7 @@ use Rattle.std.proofs.lemmas.Bool.{false≢true}
 use Rattle.std.proofs.lemmas.Option.{none-some}
 use Rattle.arrayvec.specs.ArrayVec.{array_vec_len}
 use Rattle.ffa_memshare.specs.declared.descriptor_call.DescriptorCall.{DescriptorCall}
+use Rattle.ffa_model.specs.declared.refusal.Refusal.{Refusal}
 use Rattle.ffa_model.specs.DescriptorPlaces.{Versioned, in_version}
 use Rattle.ffa_model.specs.declared.operation.ErrorCode.{ErrorCode}
 use Rattle.ffa_model.specs.declared.rights.Kind.{Kind}
@@ -72,7 +73,7 @@ module _ (x : Parts) (machine : IsManager x) (e : ℕ) (at : e ≡ x.kept.chain.
   abbrev bytes : Versioned
   bytes = descriptor_in x.ram x.kept.buffers e call
 
-  abbrev guards : List (Bool × ErrorCode)
+  abbrev guards : List (Bool × Refusal)
   guards = (memory_send s kind a).guards
 
   -- what the pool has done

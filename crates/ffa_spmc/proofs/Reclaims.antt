@@ -6,8 +6,8 @@ use Rattle.std.specs.FinMap as finite
 use Rattle.std.proofs.lemmas.Bool.{eqb-true, leb-true}
 use Rattle.std.proofs.lemmas.Bool.Decides.{nat_tests}
 use Rattle.arrayvec.specs.ArrayVec.{array_vec_len}
+use Rattle.ffa_model.specs.declared.refusal.Refusal.{Refusal}
 use Rattle.ffa_model.specs.declared.operation.ErrorCode.{ErrorCode}
-use Rattle.ffa_model.specs.declared.operation.ErrorCode.TheVariants.{InvalidParameters, Denied}
 use Rattle.ffa_model.specs.Access.{access, is_from, names}
 use Rattle.ffa_model.specs.Bits.{is_set}
 use Rattle.ffa_model.specs.Calls.{first_failure, replied, served, success}
@@ -50,7 +50,7 @@ module _ (x : Parts) (machine : IsManager x) (e : ℕ) (at : e ≡ x.kept.chain.
   abbrev pub after_reclaim : Parts
   after_reclaim = record x { ram = ram; kept = record x.kept { pages = pages; pool = pool } }
 
-  abbrev guards : List (Bool × ErrorCode)
+  abbrev guards : List (Bool × Refusal)
   guards = reclaim_guards (own_rights_of s) s.runner flags (transaction_of s h)
 
   -- the pages that the handle's transaction names, as the pool sees them
@@ -77,14 +77,14 @@ module _ (x : Parts) (machine : IsManager x) (e : ℕ) (at : e ≡ x.kept.chain.
 
     asked : (flags == 1) ≡ is_set 0 flags
     asked =
-        let few = leb-true flags 1 (guard-passes guards 0 InvalidParameters none) in
+        let few = leb-true flags 1 (guard-passes guards 0 none) in
         grind (arith, nat_tests)
 
     sender : t.sender ≡ e
-    sender = eqb-true t.sender s.runner (sym (ap (is_from s.runner) was) ∙ guard-passes guards 1 InvalidParameters none) ∙ sym at
+    sender = eqb-true t.sender s.runner (sym (ap (is_from s.runner) was) ∙ guard-passes guards 1 none) ∙ sym at
 
     unheld : is_unheld (Some t) ≡ true
-    unheld = sym (ap is_unheld was) ∙ guard-passes guards 2 Denied none
+    unheld = sym (ap is_unheld was) ∙ guard-passes guards 2 none
 
     -- over the manifest and the state
     moves : IsMoved x.ram ram (length x.manifest.endpoints.items) x.manifest.ram_blocks (place e) (names s t.ranges) (own_right_at x.kept.pages) (flags == 1)

@@ -4,8 +4,8 @@ use Rattle.std.specs.Prelude.{◌==◌, ◌&&◌, IfOk, OnErr}
 use Rattle.std.specs.Result.{result_err, result_ok}
 use Rattle.std.proofs.lemmas.Bool.{false≢true}
 use Rattle.arrayvec.specs.ArrayVec.{array_vec_len}
+use Rattle.ffa_model.specs.declared.refusal.Refusal.{Refusal}
 use Rattle.ffa_model.specs.declared.operation.ErrorCode.{ErrorCode}
-use Rattle.ffa_model.specs.declared.operation.ErrorCode.TheVariants.{InvalidParameters}
 use Rattle.ffa_model.specs.declared.descriptor.RelinquishDesc.{RelinquishDesc}
 use Rattle.ffa_model.specs.Access.{access, is_offered, is_receiver, names}
 use Rattle.ffa_model.specs.Buffers.{buffers_in}
@@ -51,7 +51,7 @@ module _ (x : Parts) (machine : IsManager x) (e : ℕ) (at : e ≡ x.kept.chain.
   abbrev bytes : List ℕ
   bytes = tx_in x.ram (buffers_in x.kept.buffers e)
 
-  abbrev guards : List (Bool × ErrorCode)
+  abbrev guards : List (Bool × Refusal)
   guards = (memory_relinquish s).guards
 
   -- what the pool has done
@@ -75,7 +75,7 @@ module _ (x : Parts) (machine : IsManager x) (e : ℕ) (at : e ≡ x.kept.chain.
     offered : is_receiver s.runner t ≡ true
     offered =
         sym (ap (is_offered s.runner) was)
-        ∙ guard-passes (relinquish_guards (buffers_in x.kept.buffers s.runner) (open_of s) s.runner (Some d)) 2 InvalidParameters
+        ∙ guard-passes (relinquish_guards (buffers_in x.kept.buffers s.runner) (open_of s) s.runner (Some d)) 2
         (none ∙ ap (λ o. first_failure (relinquish_guards (buffers_in x.kept.buffers s.runner) (open_of s) s.runner o)) read)
 
     other : t.sender ≡ s.runner → ⊥

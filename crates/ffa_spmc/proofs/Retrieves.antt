@@ -6,6 +6,7 @@ use Rattle.std.specs.Result.{result_err, result_ok}
 use Rattle.std.proofs.lemmas.Bool.{false≢true}
 use Rattle.std.proofs.lemmas.Option.{same_Some}
 use Rattle.arrayvec.specs.ArrayVec.{array_vec_len}
+use Rattle.ffa_model.specs.declared.refusal.Refusal.{Refusal}
 use Rattle.ffa_model.specs.MemorySend.{after_transfer}
 use Rattle.ffa_model.specs.declared.endpoint.Version.{Version}
 use Rattle.ffa_memshare.specs.declared.descriptor_call.DescriptorCall.{DescriptorCall}
@@ -15,7 +16,6 @@ use Rattle.ffa_model.specs.declared.call.Reply.TheVariants.{Retrieved}
 use Rattle.ffa_model.specs.declared.descriptor.RetrieveDesc.{RetrieveDesc}
 use Rattle.ffa_model.specs.declared.endpoint.EndpointId.{EndpointId}
 use Rattle.ffa_model.specs.declared.operation.ErrorCode.{ErrorCode}
-use Rattle.ffa_model.specs.declared.operation.ErrorCode.TheVariants.{InvalidParameters, Denied}
 use Rattle.ffa_model.specs.declared.rights.Kind.{Kind}
 use Rattle.ffa_model.specs.declared.rights.Kind.TheVariants.{Share, Lend, Donate}
 use Rattle.ffa_model.specs.declared.rights.Rights.{Rights}
@@ -92,7 +92,7 @@ module _ (x : Parts) (machine : IsManager x) (e : EndpointId) (at : e.0 ≡ x.ke
   abbrev bytes : Versioned
   bytes = descriptor_in x.ram x.kept.buffers e.0 call
 
-  abbrev guards : List (Bool × ErrorCode)
+  abbrev guards : List (Bool × Refusal)
   guards = (memory_retrieve s registers).guards
 
   -- what the pool has done
@@ -122,7 +122,7 @@ module _ (x : Parts) (machine : IsManager x) (e : EndpointId) (at : e.0 ≡ x.ke
     right-is = done.is ∙ (λ i. right_for ((ap (own_rights_in x.kept.pages) machine.layout.base ∙ own_rights-are x machine) i) t (at i) d)
 
     -- the checks have passed
-    abbrev checked : List (Bool × ErrorCode)
+    abbrev checked : List (Bool × Refusal)
     checked = after_transfer s.buffers s.runner registers (holding_guards (own_rights_of s) (is_full (buffers_in s.buffers s.runner)) s.runner d (Some t))
 
     passes : None ≡ first_failure checked
@@ -132,10 +132,10 @@ module _ (x : Parts) (machine : IsManager x) (e : EndpointId) (at : e.0 ≡ x.ke
         ∙ ap (λ o. first_failure (after_transfer s.buffers s.runner registers (holding_guards (own_rights_of s) (is_full (buffers_in s.buffers s.runner)) s.runner d o))) was
 
     receiver : is_receiver s.runner t ≡ true
-    receiver = guard-passes checked 5 InvalidParameters passes
+    receiver = guard-passes checked 5 passes
 
     within : is_at_most right (ceiling (own_rights_of s) t s.runner) ≡ true
-    within = ap (λ (r : Rights). is_at_most r (ceiling (own_rights_of s) t s.runner)) right-is ∙ guard-passes checked 10 Denied passes
+    within = ap (λ (r : Rights). is_at_most r (ceiling (own_rights_of s) t s.runner)) right-is ∙ guard-passes checked 10 passes
 
     known : IsKnown s s.runner
     known = runner-known s machine.sound
@@ -271,7 +271,7 @@ module _ (x : Parts) (machine : IsManager x) (e : EndpointId) (at : e.0 ≡ x.ke
         none-of (Some its) is = absurd (false≢true is)
 
         unheld : held_by t s.runner ≡ None
-        unheld = none-of (held_by t s.runner) (guard-passes checked 9 Denied passes)
+        unheld = none-of (held_by t s.runner) (guard-passes checked 9 passes)
 
         other : t.sender ≡ s.runner → ⊥
         other same = false≢true (sym offered.other ∙ ap (λ (f : ℕ). is_receiver f t) same ∙ receiver)

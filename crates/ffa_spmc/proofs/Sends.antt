@@ -12,7 +12,6 @@ use Rattle.ffa_model.specs.Lists.{is_in_run}
 use Rattle.ffa_model.specs.declared.call.Reply.TheVariants.{Error}
 use Rattle.ffa_model.specs.declared.endpoint.EndpointId.{EndpointId}
 use Rattle.ffa_model.specs.declared.operation.ErrorCode.{ErrorCode}
-use Rattle.ffa_model.specs.declared.operation.ErrorCode.TheVariants.{InvalidParameters}
 use Rattle.ffa_model.specs.Buffers.{buffers_in, buffers_with_rx, filled}
 use Rattle.ffa_model.specs.Calls.{answered, first_failure, replied, served, success}
 use Rattle.ffa_model.specs.First.{first, party_of}
@@ -82,11 +81,11 @@ module _ (x : Parts) (machine : IsManager x) where
 
     receiver-known : first_failure (send2_guards parties x.kept.buffers e (header_in tx)) ≡ None → is_known s receiver ≡ true
     unfolding first
-    receiver-known none = guard-passes (send2_guards parties x.kept.buffers e (header_in tx)) 4 InvalidParameters (sym none)
+    receiver-known none = guard-passes (send2_guards parties x.kept.buffers e (header_in tx)) 4 (sym none)
 
     receiver-other : first_failure (send2_guards parties x.kept.buffers e (header_in tx)) ≡ None → (receiver == e) ≡ false
     receiver-other none =
-        not-true (receiver == e) (guard-passes (send2_guards parties x.kept.buffers e (header_in tx)) 5 InvalidParameters (sym none))
+        not-true (receiver == e) (guard-passes (send2_guards parties x.kept.buffers e (header_in tx)) 5 (sym none))
 
     -- where the message passes its checks, the receiver's RX is beside the sender's TX: each page has one owner
     pub ends-apart : AreEndsApart parties x.ram x.kept.buffers e
