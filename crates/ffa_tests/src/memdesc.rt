@@ -62,7 +62,7 @@ pub(crate) const DONATE: [u64; 12] = [
     1,
 ];
 
-/// What 8002 gets for it.
+/// What 8002 gets for a retrieve of the lend.
 const LENT: [u64; 12] = [
     0x10_002f_8001,
     0x8001_0000_0001,
