@@ -1,10 +1,12 @@
 //! Plays line by line: with numbers, with names, and against a text that is expected.
+use crate::checks::{same, same_at};
 use crate::machines::booted;
-use ffa_lines::{Difference, Form, LineFault, compare, line_fault, next_line, play};
+use ffa_lines::{Difference, Form, compare, line_fault, next_line, play};
 use ffa_model::built_in;
 use ffa_physmem::FlatRam;
 use ffa_trace::{PlayError, Player};
-use std::alloc::Global;
+use std::alloc::{AllocError, Global};
+use std::process::Abort;
 use std::test::Fail;
 
 // A comment, a call, an empty line, a store, a call that is refused, and a load that faults.
@@ -29,47 +31,59 @@ fn player(alloc: Global) -> Result<Player<FlatRam>, Fail> {
     Ok(Player::new(booted(alloc, &built_in())?))
 }
 
-// What a trace prints in a form, and how its play ends.
-fn played(
-    alloc: Global,
-    form: Form,
-    trace: &[u8],
-) -> Result<(Vec<u8>, Result<(), PlayError>), Fail> {
+// What a play leaves: what it has printed, the bytes of its last line, and how it ends.
+#[derive(Drop)]
+struct Left {
+    out: Vec<u8>,
+    bytes: Vec<u8>,
+    ended: Result<(), PlayError>,
+}
+
+// Plays a trace in a form.
+fn played(alloc: Global, form: Form, trace: &[u8]) -> Result<Left, Fail> {
     let mut player = player(alloc)?;
-    let mut out = Vec::new(alloc);
-    let mut bytes = Vec::new(alloc);
+    let (mut out, mut bytes) = (Vec::new(alloc), Vec::new(alloc));
     let mut left = trace;
     let ended = play(&mut player, alloc, form, &mut left, &mut out, &mut bytes);
-    Ok((out, ended))
+    Ok(Left { out, bytes, ended })
+}
+
+fn prints(rt: &impl Abort, alloc: Global, form: Form, wanted: &str) -> Result<(), Fail> {
+    let left = played(alloc, form, TRACE.as_bytes())?;
+    same(rt, left.ended, Ok(()));
+    same(rt, left.out.as_slice(), wanted.as_bytes());
+    Ok(())
 }
 
 #[test]
 fn writes_numbers_and_names_where_they_are_asked_for(rt: HostRuntime) -> Result<(), Fail> {
-    let alloc = rt.alloc();
-    for (number, names, wanted) in [(false, false, TEXT), (true, true, ANNOTATED)] {
-        let (out, ended) = played(alloc, Form { number, names }, TRACE.as_bytes())?;
-        assert_eq!(rt; ended, Ok(()));
-        assert_eq!(rt; out.as_slice(), wanted.as_bytes());
-    }
+    let both = Form {
+        number: true,
+        names: true,
+    };
+    prints(&rt, rt.alloc(), Form::default(), TEXT)?;
+    prints(&rt, rt.alloc(), both, ANNOTATED)
+}
+
+// A play of a trace stops at this line, which is bad.
+fn stops_at(
+    rt: &impl Abort,
+    alloc: Global,
+    trace: &str,
+    number: u64,
+    bad: &str,
+) -> Result<(), Fail> {
+    let left = played(alloc, Form::default(), trace.as_bytes())?;
+    same(rt, left.ended, Err(PlayError::BadLine(number)));
+    same(rt, left.bytes.as_slice(), bad.as_bytes());
     Ok(())
 }
 
 // A bad line stands as it does in the trace: with the LF that ends it, or as a rest without one.
 #[test]
 fn stops_at_a_bad_line(rt: HostRuntime) -> Result<(), Fail> {
-    let alloc = rt.alloc();
-    for (trace, number, bad) in [
-        ("show\nshow \n", 2, "show \n"),
-        ("\nfetch 0\nshow", 3, "show"),
-    ] {
-        let (mut player, mut out, mut bytes) = (player(alloc)?, Vec::new(alloc), Vec::new(alloc));
-        let mut left = trace.as_bytes();
-        let form = Form::default();
-        let ended = play(&mut player, alloc, form, &mut left, &mut out, &mut bytes);
-        assert_eq!(rt; ended, Err(PlayError::BadLine(number)));
-        assert_eq!(rt; bytes.as_slice(), bad.as_bytes());
-    }
-    Ok(())
+    stops_at(&rt, rt.alloc(), "show\nshow \n", 2, "show \n")?;
+    stops_at(&rt, rt.alloc(), "\nfetch 0\nshow", 3, "show")
 }
 
 // Lines without the LF that ends them, and what is wrong with each; the last of them are good.
@@ -100,21 +114,30 @@ show;
 ;
 ";
 
+// What is said of a line, where anything is wrong with it.
+fn said_of(alloc: Global, line: &[u8]) -> Result<String, AllocError> {
+    match line_fault(line) {
+        Some(fault) => format!(in alloc; "{fault}"),
+        None => Ok(String::new(alloc)),
+    }
+}
+
+// Without an end a line has no other fault.
+fn check_fault(rt: &impl Abort, alloc: Global, row: &str) -> Result<(), Fail> {
+    let (line, wanted) = row.split_once(';').ok_or("no line")?;
+    let ended = format!(in alloc; "{line}\n")?;
+    let said = said_of(alloc, ended.as_bytes())?;
+    same_at(rt, said.as_str(), wanted, &row);
+    let said = said_of(alloc, line.as_bytes())?;
+    same_at(rt, said.as_str(), "no line end", &row);
+    Ok(())
+}
+
 #[test]
 fn says_what_is_wrong_with_a_line(rt: HostRuntime) -> Result<(), Fail> {
-    let alloc = rt.alloc();
     for row in FAULTS.split_terminator('\n') {
-        let (line, wanted) = row.split_once(';').unwrap_or((row, "?"));
-        let fault = line_fault(format!(in alloc; "{line}\n")?.as_bytes());
-        let said = match fault {
-            Some(fault) => format!(in alloc; "{fault}")?,
-            None => String::new(alloc),
-        };
-        assert_eq!(rt; said.as_str(), wanted);
-        assert_eq!(rt; line_fault(line.as_bytes()), Some(LineFault::NoEnd));
+        check_fault(&rt, rt.alloc(), row)?;
     }
-    let said = format!(in alloc; "{}", LineFault::NoEnd)?;
-    assert_eq!(rt; said.as_str(), "no line end");
     Ok(())
 }
 
@@ -133,48 +156,67 @@ fn compared(alloc: Global, expected: &[u8]) -> Result<Result<Option<Difference>,
     ))
 }
 
+// The expected text with a byte of one of its lines turned.
+fn differs_at(
+    rt: &impl Abort,
+    alloc: Global,
+    byte: usize,
+    number: u64,
+    place: usize,
+) -> Result<(), Fail> {
+    let mut turned = TEXT.as_bytes().to_vec(alloc)?;
+    if let Some(place) = turned.get_mut(byte) {
+        *place = b'?';
+    }
+    differs(rt, alloc, turned.as_slice(), number, place)
+}
+
+fn differs(
+    rt: &impl Abort,
+    alloc: Global,
+    expected: &[u8],
+    number: u64,
+    place: usize,
+) -> Result<(), Fail> {
+    let found = compared(alloc, expected)?;
+    same(rt, found, Ok(Some(Difference { number, place })));
+    Ok(())
+}
+
 // The expected text is the whole, the whole with a byte of one of its lines turned, a part, and the whole with more behind.
 #[test]
 fn finds_the_first_line_that_differs(rt: HostRuntime) -> Result<(), Fail> {
     let alloc = rt.alloc();
-    let whole = TEXT.as_bytes();
-    assert_eq!(rt; compared(alloc, whole)?, Ok(None));
-    for (byte, number, place) in [(0, 2, 0), (145, 2, 0), (147, 4, 146), (200, 5, 151)] {
-        let mut turned = whole.to_vec(alloc)?;
-        if let Some(place) = turned.get_mut(byte) {
-            *place = b'?';
-        }
-        let wanted = Some(Difference { number, place });
-        assert_eq!(rt; compared(alloc, turned.as_slice())?, Ok(wanted));
-    }
-    let wanted = Some(Difference {
-        number: 6,
-        place: 297,
-    });
-    let mut shorter = whole.to_vec(alloc)?;
-    shorter.pop();
-    assert_eq!(rt; compared(alloc, shorter.as_slice())?, Ok(wanted));
-    let mut longer = whole.to_vec(alloc)?;
-    longer.push(b'\n')?;
-    let wanted = Some(Difference {
-        number: 7,
-        place: whole.len(),
-    });
-    assert_eq!(rt; compared(alloc, longer.as_slice())?, Ok(wanted));
-    Ok(())
+    same(&rt, compared(alloc, TEXT.as_bytes())?, Ok(None));
+    differs_at(&rt, alloc, 0, 2, 0)?;
+    differs_at(&rt, alloc, 145, 2, 0)?;
+    differs_at(&rt, alloc, 147, 4, 146)?;
+    differs_at(&rt, alloc, 200, 5, 151)?;
+    let mut text = TEXT.as_bytes().to_vec(alloc)?;
+    text.pop();
+    differs(&rt, alloc, text.as_slice(), 6, 297)?;
+    text.extend_from_slice(b"\n\n")?;
+    differs(&rt, alloc, text.as_slice(), 7, TEXT.len())
+}
+
+// The next line, and what comes of reading it.
+fn reads(
+    rt: &impl Abort,
+    left: &mut &[u8],
+    line: &mut Vec<u8>,
+    wanted: Result<bool, PlayError>,
+    bytes: &str,
+) {
+    same(rt, next_line(left, line, 9), wanted);
+    same(rt, line.as_slice(), bytes.as_bytes());
 }
 
 #[test]
 fn reads_lines_up_to_an_end(rt: HostRuntime) {
     let mut line = Vec::new(rt.alloc());
     let mut left = b"a\n\nb".as_slice();
-    for (wanted, bytes) in [
-        (Ok(true), b"a".as_slice()),
-        (Ok(true), b""),
-        (Err(PlayError::BadLine(9)), b"b"),
-        (Ok(false), b""),
-    ] {
-        assert_eq!(rt; next_line(&mut left, &mut line, 9), wanted);
-        assert_eq!(rt; line.as_slice(), bytes);
-    }
+    reads(&rt, &mut left, &mut line, Ok(true), "a");
+    reads(&rt, &mut left, &mut line, Ok(true), "");
+    reads(&rt, &mut left, &mut line, Err(PlayError::BadLine(9)), "b");
+    reads(&rt, &mut left, &mut line, Ok(false), "");
 }

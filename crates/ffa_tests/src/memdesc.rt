@@ -1,12 +1,14 @@
-//! Worked descriptors: what they say, and which bytes are none.
+//! Worked descriptors: what they say, and which bytes are none. What bytes say is compared as it prints.
 
 ghost use Rattle.std.specs.Prelude.{◌^◌, ◌<◌};
 ghost use Rattle.ffa_model.specs.SendDescriptor.{page_total};
 
+use crate::checks::{holds, same, same_at};
 use arrayvec::ArrayVec;
 use byteorder::{ByteOrder, LittleEndian};
-use ffa_memdesc::{Bad, RelinquishDesc, Response, RetrieveDesc, SendDesc, write_response};
-use ffa_model::{Data, EndpointId, Kind, Range, Receiver, Rights, Version};
+use ffa_memdesc::{Bad, Response, read_relinquish, read_retrieve, read_send, write_response};
+use ffa_model::{Data, EndpointId, Kind, Range, Rights, Version};
+use std::alloc::{AllocError, Global};
 use std::process::Abort;
 use std::test::Fail;
 
@@ -60,19 +62,7 @@ pub(crate) const DONATE: [u64; 12] = [
     1,
 ];
 
-/// 8002 retrieves what 8001 lent.
-const RETRIEVE: [u64; 8] = [
-    0x8001,
-    0x8001_0000_0001,
-    0,
-    0x1_0000_0010,
-    0x30,
-    0,
-    0x2_8002,
-    0,
-];
-
-/// What 8002 gets for it.
+/// What 8002 gets for a retrieve of the lend.
 const LENT: [u64; 12] = [
     0x10_002f_8001,
     0x8001_0000_0001,
@@ -88,207 +78,153 @@ const LENT: [u64; 12] = [
     1,
 ];
 
-// What bytes in one piece say.
-fn read_send(bytes: &[u8], version: Version, kind: Kind) -> Result<SendDesc, Bad> {
-    ffa_memdesc::read_send(&bytes, version, kind)
+// The bytes of words, of which so many are taken.
+fn bytes_of(alloc: Global, words: &str, length: usize) -> Result<Vec<u8>, Fail> {
+    let mut bytes = Vec::new(alloc);
+    for word in words.split(' ') {
+        bytes.extend_from_slice(&u64::from_str_radix(word, 16)?.to_le_bytes())?;
+    }
+    bytes.truncate(length);
+    Ok(bytes)
 }
 
-fn read_retrieve(
+// What bytes say as a send, or that they are bad.
+fn said_of_send(
+    alloc: Global,
     bytes: &[u8],
     version: Version,
-    endpoint: EndpointId,
-) -> Result<RetrieveDesc, Bad> {
-    ffa_memdesc::read_retrieve(&bytes, version, endpoint)
-}
-
-fn read_relinquish(bytes: &[u8]) -> Result<RelinquishDesc, Bad> {
-    ffa_memdesc::read_relinquish(&bytes)
-}
-
-fn bytes_12(words: &[u64; 12]) -> [u8; 96] {
-    let mut bytes = [0; 96];
-    LittleEndian::write_u64_into(words, &mut bytes);
-    bytes
-}
-
-fn receiver(endpoint: u16, grant: Option<Data>) -> Receiver {
-    let endpoint = EndpointId(endpoint);
-    Receiver { endpoint, grant }
-}
-
-fn page_at(address: u64) -> Range {
-    Range { address, pages: 1 }
-}
-
-#[test]
-fn lend_is_read(rt: HostRuntime) -> Result<(), Fail> {
-    let send = read_send(&bytes_12(&LEND), Version::V1_1, Kind::Lend)?;
-    assert_eq!(rt; send.sender, EndpointId(0x8001));
-    assert!(rt; !send.zero);
-    assert_eq!(rt; send.tag, 0);
-    assert_eq!(rt;
-        send.receivers.as_slice(),
-        [receiver(0x8002, Some(Data::Rw))].as_slice()
-    );
-    assert_eq!(rt; send.ranges.as_slice(), [page_at(0x4002_1000)].as_slice());
-    Ok(())
-}
-
-#[test]
-fn lend_with_zeros_and_a_tag_is_read(rt: HostRuntime) -> Result<(), Fail> {
-    let mut words = LEND;
-    words[0] = 0x1_0000_8001;
-    words[2] = 0x1122_3344_5566_7788;
-    let send = read_send(&bytes_12(&words), Version::V1_1, Kind::Lend)?;
-    assert!(rt; send.zero);
-    assert_eq!(rt; send.tag, 0x1122_3344_5566_7788);
-    assert!(rt; read_send(&bytes_12(&words), Version::V1_1, Kind::Share).is_err());
-    Ok(())
-}
-
-#[test]
-fn lend_is_read_at_its_whole_length_alone(rt: HostRuntime) {
-    let bytes = bytes_12(&LEND);
-    for length in 0..96 {
-        assert!(rt;
-            read_send(&bytes[..length], Version::V1_1, Kind::Lend).is_err(),
-            "at {length}"
-        );
+    kind: Kind,
+) -> Result<String, AllocError> {
+    match read_send(&bytes, version, kind) {
+        Ok(desc) => format!(in alloc; "{desc:?}"),
+        Err(Bad) => String::from_str(alloc, "bad"),
     }
-    assert!(rt; read_send(&bytes, Version::V1_1, Kind::Lend).is_ok());
-    assert!(rt; read_send(&bytes, Version::V1_1, Kind::Share).is_err());
-    assert!(rt; read_send(&bytes, Version::V1_1, Kind::Donate).is_err());
 }
 
-#[test]
-fn share_is_read(rt: HostRuntime) -> Result<(), Fail> {
-    let mut bytes = [0; 112];
-    LittleEndian::write_u64_into(&SHARE, &mut bytes);
-    let send = read_send(&bytes, Version::V1_1, Kind::Share)?;
-    let readers = [
-        receiver(0, Some(Data::Ro)),
-        receiver(0x8002, Some(Data::Ro)),
-    ];
-    assert_eq!(rt; send.sender, EndpointId(0x8001));
-    assert_eq!(rt; send.receivers.as_slice(), readers.as_slice());
-    assert_eq!(rt; send.ranges.as_slice(), [page_at(0x4002_2000)].as_slice());
-    assert!(rt;
-        read_send(&bytes, Version::V1_1, Kind::Lend).is_ok(),
-        "a lend to several tells its memory too"
-    );
-    Ok(())
+fn said_of_retrieve(alloc: Global, bytes: &[u8], endpoint: u16) -> Result<String, AllocError> {
+    match read_retrieve(&bytes, Version::V1_1, EndpointId(endpoint)) {
+        Ok(desc) => format!(in alloc; "{desc:?}"),
+        Err(Bad) => String::from_str(alloc, "bad"),
+    }
 }
 
-#[test]
-fn donate_is_read(rt: HostRuntime) -> Result<(), Fail> {
-    let send = read_send(&bytes_12(&DONATE), Version::V1_1, Kind::Donate)?;
-    assert_eq!(rt; send.sender, EndpointId(0x8002));
-    assert_eq!(rt;
-        send.receivers.as_slice(),
-        [receiver(0x8001, None)].as_slice()
-    );
-    assert_eq!(rt; send.ranges.as_slice(), [page_at(0x4003_1000)].as_slice());
-    Ok(())
+fn said_of_relinquish(alloc: Global, bytes: &[u8]) -> Result<String, AllocError> {
+    match read_relinquish(&bytes) {
+        Ok(desc) => format!(in alloc; "{desc:?}"),
+        Err(Bad) => String::from_str(alloc, "bad"),
+    }
 }
 
-#[test]
-fn wrong_totals_and_ends_are_refused(rt: HostRuntime) {
-    let mut bytes = [0; 112];
-    let mut words = SHARE;
-    words[10] = 0x1_0000_0002;
-    LittleEndian::write_u64_into(&words, &mut bytes);
-    assert!(rt;
-        read_send(&bytes, Version::V1_1, Kind::Share).is_err(),
-        "two pages told, one given"
-    );
-    words[12] = 0xffff_ffff_ffff_f000;
-    words[13] = 2;
-    LittleEndian::write_u64_into(&words, &mut bytes);
-    assert!(rt;
-        read_send(&bytes, Version::V1_1, Kind::Share).is_err(),
-        "past the last address"
-    );
-    words[12] = 0xffff_ffff_e000;
-    LittleEndian::write_u64_into(&words, &mut bytes);
-    assert!(rt;
-        read_send(&bytes, Version::V1_1, Kind::Share).is_ok(),
-        "up to 2^48"
-    );
-}
-
-fn retrieve_with(permissions: u64) -> [u8; 64] {
-    let mut words = RETRIEVE;
-    words[6] = 0x8002 | permissions << 16 & 0xff_0000;
-    let mut bytes = [0; 64];
-    LittleEndian::write_u64_into(&words, &mut bytes);
-    bytes
-}
-
-#[test]
-fn retrieve_is_read(rt: HostRuntime) -> Result<(), Fail> {
-    let want = RetrieveDesc {
-        sender: EndpointId(0x8001),
-        handle: 0x8001_0000_0001,
-        tag: 0,
-        kind: None,
-        level: Some(Data::Rw),
-        exec: false,
+// What bytes say that are read as this: a send by its kind, a compact lend, a relinquish, or the retrieve of an endpoint.
+fn said_as(alloc: Global, read_as: &str, bytes: &[u8]) -> Result<String, Fail> {
+    let said = match read_as {
+        "lend" => said_of_send(alloc, bytes, Version::V1_1, Kind::Lend)?,
+        "share" => said_of_send(alloc, bytes, Version::V1_1, Kind::Share)?,
+        "donate" => said_of_send(alloc, bytes, Version::V1_1, Kind::Donate)?,
+        "compact" => said_of_send(alloc, bytes, Version::Compact, Kind::Lend)?,
+        "relinquish" => said_of_relinquish(alloc, bytes)?,
+        _ => said_of_retrieve(alloc, bytes, u16::from_str_radix(read_as, 16)?)?,
     };
-    let bytes = retrieve_with(2);
-    assert_eq!(rt;
-        read_retrieve(&bytes, Version::V1_1, EndpointId(0x8002))?,
-        want
-    );
-    assert!(rt; read_retrieve(&bytes, Version::V1_1, EndpointId(0x8001)).is_err());
+    Ok(said)
+}
+
+fn check_row(rt: &impl Abort, alloc: Global, row: &str) -> Result<(), Fail> {
+    let (bytes, wanted) = row.split_once(" => ").ok_or("no arrow")?;
+    let (read_as, bytes) = bytes.split_once(' ').ok_or("no length")?;
+    let (length, words) = bytes.split_once(' ').ok_or("no words")?;
+    let length = u32::from_str_radix(length, 16)?;
+    let bytes = bytes_of(alloc, words, length as usize)?;
+    let said = said_as(alloc, read_as, bytes.as_slice())?;
+    same_at(rt, said.as_str(), wanted, &row);
     Ok(())
 }
 
-#[test]
-fn short_retrieve_is_refused(rt: HostRuntime) {
-    let bytes = retrieve_with(2);
-    let endpoint = EndpointId(0x8002);
-    for length in 0..64 {
-        assert!(rt;
-            read_retrieve(&bytes[..length], Version::V1_1, endpoint).is_err(),
-            "at {length}"
-        );
-    }
-}
-
-#[test]
-fn permissions_of_a_retrieve_are_read(rt: HostRuntime) -> Result<(), Fail> {
-    let any = read_retrieve(&retrieve_with(0), Version::V1_1, EndpointId(0x8002))?;
-    assert_eq!(rt; (any.level, any.exec), (None, false));
-    let code = read_retrieve(&retrieve_with(8), Version::V1_1, EndpointId(0x8002))?;
-    assert_eq!(rt; (code.level, code.exec), (None, true));
-    let plain = read_retrieve(&retrieve_with(5), Version::V1_1, EndpointId(0x8002))?;
-    assert_eq!(rt; (plain.level, plain.exec), (Some(Data::Ro), false));
-    for reserved in [3, 12, 16] {
-        assert!(rt;
-            read_retrieve(&retrieve_with(reserved), Version::V1_1, EndpointId(0x8002)).is_err()
-        );
+// Each row is what bytes are read as, how many they are, the words that they are, an arrow, and what they say, as it
+// prints.
+fn check(rt: &impl Abort, alloc: Global, rows: &str) -> Result<(), Fail> {
+    for row in rows.lines() {
+        check_row(rt, alloc, row)?;
     }
     Ok(())
 }
 
+// The descriptors above, a byte too short, as another kind, and the lend with zeros and a tag, which is no share. A lend
+// to several tells its memory too.
+const SENDS: &str = "\
+lend 60 8001 0 0 100000010 30 0 4000028002 0 100000001 0 40021000 1 => SendDesc { sender: EndpointId(32769), zero: false, tag: 0, receivers: [Receiver { endpoint: EndpointId(32770), grant: Some(Rw) }], ranges: [Range { address: 1073876992, pages: 1 }] }
+lend 5F 8001 0 0 100000010 30 0 4000028002 0 100000001 0 40021000 1 => bad
+share 60 8001 0 0 100000010 30 0 4000028002 0 100000001 0 40021000 1 => bad
+donate 60 8001 0 0 100000010 30 0 4000028002 0 100000001 0 40021000 1 => bad
+lend 60 100008001 0 1122334455667788 100000010 30 0 4000028002 0 100000001 0 40021000 1 => SendDesc { sender: EndpointId(32769), zero: true, tag: 1234605616436508552, receivers: [Receiver { endpoint: EndpointId(32770), grant: Some(Rw) }], ranges: [Range { address: 1073876992, pages: 1 }] }
+share 60 100008001 0 1122334455667788 100000010 30 0 4000028002 0 100000001 0 40021000 1 => bad
+share 70 2F8001 0 0 200000010 30 0 5000010000 0 5000018002 0 100000001 0 40022000 1 => SendDesc { sender: EndpointId(32769), zero: false, tag: 0, receivers: [Receiver { endpoint: EndpointId(0), grant: Some(Ro) }, Receiver { endpoint: EndpointId(32770), grant: Some(Ro) }], ranges: [Range { address: 1073881088, pages: 1 }] }
+lend 70 2F8001 0 0 200000010 30 0 5000010000 0 5000018002 0 100000001 0 40022000 1 => SendDesc { sender: EndpointId(32769), zero: false, tag: 0, receivers: [Receiver { endpoint: EndpointId(0), grant: Some(Ro) }, Receiver { endpoint: EndpointId(32770), grant: Some(Ro) }], ranges: [Range { address: 1073881088, pages: 1 }] }
+donate 60 8002 0 0 100000010 30 0 4000008001 0 100000001 0 40031000 1 => SendDesc { sender: EndpointId(32770), zero: false, tag: 0, receivers: [Receiver { endpoint: EndpointId(32769), grant: None }], ranges: [Range { address: 1073942528, pages: 1 }] }
+";
+
+// The share with two pages told where one is given, past the last address, and up to 2^48.
+const ENDS: &str = "\
+share 70 2F8001 0 0 200000010 30 0 5000010000 0 5000018002 0 100000002 0 40022000 1 => bad
+share 70 2F8001 0 0 200000010 30 0 5000010000 0 5000018002 0 100000002 0 FFFFFFFFFFFFF000 2 => bad
+share 70 2F8001 0 0 200000010 30 0 5000010000 0 5000018002 0 100000002 0 FFFFFFFFE000 2 => SendDesc { sender: EndpointId(32769), zero: false, tag: 0, receivers: [Receiver { endpoint: EndpointId(0), grant: Some(Ro) }, Receiver { endpoint: EndpointId(32770), grant: Some(Ro) }], ranges: [Range { address: 281474976702464, pages: 2 }] }
+";
+
+// 8002 retrieves what 8001 lent, with each of some permissions. The last three are reserved.
+const RETRIEVES: &str = "\
+8002 40 8001 800100000001 0 100000010 30 0 28002 0 => RetrieveDesc { sender: EndpointId(32769), handle: 140741783322625, tag: 0, kind: None, level: Some(Rw), exec: false }
+8002 3F 8001 800100000001 0 100000010 30 0 28002 0 => bad
+8001 40 8001 800100000001 0 100000010 30 0 28002 0 => bad
+8002 40 8001 800100000001 0 100000010 30 0 8002 0 => RetrieveDesc { sender: EndpointId(32769), handle: 140741783322625, tag: 0, kind: None, level: None, exec: false }
+8002 40 8001 800100000001 0 100000010 30 0 88002 0 => RetrieveDesc { sender: EndpointId(32769), handle: 140741783322625, tag: 0, kind: None, level: None, exec: true }
+8002 40 8001 800100000001 0 100000010 30 0 58002 0 => RetrieveDesc { sender: EndpointId(32769), handle: 140741783322625, tag: 0, kind: None, level: Some(Ro), exec: false }
+8002 40 8001 800100000001 0 100000010 30 0 38002 0 => bad
+8002 40 8001 800100000001 0 100000010 30 0 C8002 0 => bad
+8002 40 8001 800100000001 0 100000010 30 0 108002 0 => bad
+";
+
+const RELINQUISHES: &str = "\
+relinquish 12 800100000001 100000000 8002 => RelinquishDesc { handle: 140741783322625, zero: false, endpoint: EndpointId(32770) }
+relinquish 11 800100000001 100000000 8002 => bad
+relinquish 12 800100000001 100000001 8002 => RelinquishDesc { handle: 140741783322625, zero: true, endpoint: EndpointId(32770) }
+relinquish 12 800100000001 100000002 8002 => bad
+";
+
+// A compact 8001 lends the page at 40021000 to 8002, which may write it. Bytes 3 and 24 to 27 are reserved, and no form
+// is the other.
+const COMPACT: &str = "\
+compact 50 8001 0 0 100000000 3000028002 0 100000001 0 40021000 1 => SendDesc { sender: EndpointId(32769), zero: false, tag: 0, receivers: [Receiver { endpoint: EndpointId(32770), grant: Some(Rw) }], ranges: [Range { address: 1073876992, pages: 1 }] }
+lend 50 8001 0 0 100000000 3000028002 0 100000001 0 40021000 1 => bad
+compact 60 8001 0 0 100000010 30 0 4000028002 0 100000001 0 40021000 1 => bad
+compact 50 1008001 0 0 100000000 3000028002 0 100000001 0 40021000 1 => bad
+compact 50 8001 0 0 100000001 3000028002 0 100000001 0 40021000 1 => bad
+compact 50 8001 0 0 100000100 3000028002 0 100000001 0 40021000 1 => bad
+compact 50 8001 0 0 100010000 3000028002 0 100000001 0 40021000 1 => bad
+compact 50 8001 0 0 101000000 3000028002 0 100000001 0 40021000 1 => bad
+";
+
 #[test]
-fn relinquish_is_read(rt: HostRuntime) -> Result<(), Fail> {
-    let mut bytes = [0; 18];
-    LittleEndian::write_u64(&mut bytes[..8], 0x8001_0000_0001);
-    LittleEndian::write_u32(&mut bytes[12..16], 1);
-    LittleEndian::write_u16(&mut bytes[16..], 0x8002);
-    let want = RelinquishDesc {
-        handle: 0x8001_0000_0001,
-        zero: false,
-        endpoint: EndpointId(0x8002),
-    };
-    assert_eq!(rt; read_relinquish(&bytes)?, want);
-    assert!(rt; read_relinquish(&bytes[..17]).is_err());
-    bytes[8] = 1;
-    assert!(rt; read_relinquish(&bytes)?.zero);
-    bytes[8] = 2;
-    assert!(rt; read_relinquish(&bytes).is_err());
-    Ok(())
+fn sends_are_read(rt: HostRuntime) -> Result<(), Fail> {
+    check(&rt, rt.alloc(), SENDS)
+}
+
+#[test]
+fn wrong_totals_and_ends_are_refused(rt: HostRuntime) -> Result<(), Fail> {
+    check(&rt, rt.alloc(), ENDS)
+}
+
+#[test]
+fn retrieves_are_read(rt: HostRuntime) -> Result<(), Fail> {
+    check(&rt, rt.alloc(), RETRIEVES)
+}
+
+#[test]
+fn relinquishes_are_read(rt: HostRuntime) -> Result<(), Fail> {
+    check(&rt, rt.alloc(), RELINQUISHES)
+}
+
+#[test]
+fn compact_lends_are_read(rt: HostRuntime) -> Result<(), Fail> {
+    check(&rt, rt.alloc(), COMPACT)
 }
 
 // One page at this address, that 8001 offered to 8002.
@@ -296,7 +232,7 @@ fn response(kind: Kind, zero: bool, level: Data, address: u64) -> Response
     ensures { page_total result.ranges.items < 2 ^ 32 }
 {
     let mut ranges = ArrayVec::new();
-    ranges.push(page_at(address));
+    ranges.push(Range { address, pages: 1 });
     Response {
         sender: EndpointId(0x8001),
         kind,
@@ -325,9 +261,9 @@ fn assert_writes(rt: &impl Abort, response: &Response, want: &[u64; 12])
     requires { page_total response.now.ranges.items < 2 ^ 32 }
 {
     let mut page = [0xa5; 4096];
-    assert_eq!(rt; write_response(response, Version::V1_1, &mut page), 96);
-    assert_eq!(rt; words_of(&page), *want);
-    assert!(rt; stays(&page));
+    same(rt, write_response(response, Version::V1_1, &mut page), 96);
+    same(rt, words_of(&page), *want);
+    holds(rt, stays(&page));
 }
 
 #[test]
@@ -366,48 +302,4 @@ fn response_to_a_donate_is_written(rt: HostRuntime) {
     want[6] = 0x40_0006_8001;
     want[10] = 0x4003_1000;
     assert_writes(&rt, &donated, &want);
-}
-
-/// A compact 8001 lends the page at 40021000 to 8002, which may write it.
-const COMPACT_LEND: [u64; 10] = [
-    0x8001,
-    0,
-    0,
-    0x1_0000_0000,
-    0x30_0002_8002,
-    0,
-    0x1_0000_0001,
-    0,
-    0x4002_1000,
-    1,
-];
-
-fn bytes_10(words: &[u64; 10]) -> [u8; 80] {
-    let mut bytes = [0; 80];
-    LittleEndian::write_u64_into(words, &mut bytes);
-    bytes
-}
-
-#[test]
-fn compact_lend_is_read(rt: HostRuntime) -> Result<(), Fail> {
-    let bytes = bytes_10(&COMPACT_LEND);
-    let send = read_send(&bytes, Version::Compact, Kind::Lend)?;
-    assert_eq!(rt; send.sender, EndpointId(0x8001));
-    assert_eq!(rt; send.receivers.len(), 1);
-    assert_eq!(rt; send.ranges.len(), 1);
-    assert!(rt; read_send(&bytes, Version::V1_1, Kind::Lend).is_err());
-    assert!(rt; read_send(&bytes_12(&LEND), Version::Compact, Kind::Lend).is_err());
-    Ok(())
-}
-
-#[test]
-fn compact_reserved_bytes_are_zero(rt: HostRuntime) {
-    for place in [3, 24, 25, 26, 27] {
-        let mut bytes = bytes_10(&COMPACT_LEND);
-        bytes[place] = 1;
-        assert!(rt;
-            read_send(&bytes, Version::Compact, Kind::Lend).is_err(),
-            "at {place}"
-        );
-    }
 }

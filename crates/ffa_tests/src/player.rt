@@ -1,9 +1,11 @@
 //! The player's machine as it boots, and lines that it takes and refuses.
-use crate::machines::booted;
+use crate::checks::{holds, same, same_at};
+use crate::machines::{booted, play};
 use ffa_model::{PageNo, built_in, row_machine};
 use ffa_physmem::{FlatRam, PhysMem};
 use ffa_trace::{Begun, PlayError, Player};
 use std::alloc::Global;
+use std::process::Abort;
 use std::test::Fail;
 
 fn demonstration(alloc: Global) -> Result<Player<FlatRam>, Fail> {
@@ -34,22 +36,21 @@ fn boots_with_tables(rt: HostRuntime) -> Result<(), Fail> {
         (0x4000_1000, 0x0000_0000_4000_2003),
         (0x4000_2080, 0x0040_0000_4001_07FF),
     ] {
-        assert_eq!(rt; word(&player, address), Some(want));
+        same(&rt, word(&player, address), Some(want));
     }
     let player = demonstration(rt.alloc())?;
-    assert_eq!(rt; word(&player, 0x4000_5100), Some(0x0000_0000_4002_07FF));
+    same(&rt, word(&player, 0x4000_5100), Some(0x0000_0000_4002_07FF));
     Ok(())
 }
 
 // Plays a trace, and what comes of it.
-fn play(
+fn played(
     player: &mut Player<FlatRam>,
     alloc: Global,
     trace: &[u8],
 ) -> (Vec<u8>, Result<(), PlayError>) {
     let mut out = Vec::new(alloc);
-    let mut left = trace;
-    let played = player.play(alloc, &mut left, &mut out);
+    let played = play(alloc, player, trace, &mut out);
     (out, played)
 }
 
@@ -57,13 +58,10 @@ fn play(
 #[test]
 fn passes_over_comments_of_any_bytes(rt: HostRuntime) -> Result<(), Fail> {
     let mut player = rows(rt.alloc())?;
-    let mut out = Vec::new(rt.alloc());
     let comment = [0x23, 0xFF, 0x80, 0x20, 0xC3, 0x0A];
-    assert_eq!(rt;
-        player.play(rt.alloc(), &mut comment.as_slice(), &mut out),
-        Ok(())
-    );
-    assert_eq!(rt; out.as_slice(), [].as_slice());
+    let (out, ended) = played(&mut player, rt.alloc(), &comment);
+    same(&rt, ended, Ok(()));
+    holds(&rt, out.is_empty());
     Ok(())
 }
 
@@ -95,33 +93,44 @@ shows|
  # a comment|
 load 40010000 1\r";
 
+// A line between two loads is refused, and the first of them was done.
+fn is_refused(rt: &impl Abort, alloc: Global, bad: &str) -> Result<(), Fail> {
+    let mut player = rows(alloc)?;
+    let trace = format!(in alloc; "load 40010000 1\n{bad}\nload 40010000 1\n")?;
+    let (out, ended) = played(&mut player, alloc, trace.as_bytes());
+    same_at(rt, out.as_slice(), b"data 00\n".as_slice(), &bad);
+    same_at(rt, ended, Err(PlayError::BadLine(2)), &bad);
+    Ok(())
+}
+
 #[test]
 fn refuses_what_is_no_line(rt: HostRuntime) -> Result<(), Fail> {
     for bad in BAD.split("|\n") {
-        let mut player = rows(rt.alloc())?;
-        let trace = format!(in rt.alloc(); "load 40010000 1\n{bad}\nload 40010000 1\n")?;
-        let (out, played) = play(&mut player, rt.alloc(), trace.as_bytes());
-        assert_eq!(rt; out.as_slice(), b"data 00\n".as_slice(), "{bad}");
-        assert_eq!(rt; played, Err(PlayError::BadLine(2)), "{bad}");
+        is_refused(&rt, rt.alloc(), bad)?;
     }
     Ok(())
 }
 
 #[test]
 fn refuses_a_line_that_does_not_end(rt: HostRuntime) -> Result<(), Fail> {
-    let mut player = rows(rt.alloc())?;
-    let mut out = Vec::new(rt.alloc());
-    let played = player.play(rt.alloc(), &mut b"load 40010000 1".as_slice(), &mut out);
-    assert_eq!(rt; played, Err(PlayError::BadLine(1)));
-    assert!(rt; out.is_empty());
+    let alloc = rt.alloc();
+    let mut player = rows(alloc)?;
+    let mut out = Vec::new(alloc);
+    let ended = play(alloc, &mut player, b"load 40010000 1", &mut out);
+    same(&rt, ended, Err(PlayError::BadLine(1)));
+    holds(&rt, out.is_empty());
     // Lines count from 1 again, and the machine goes on.
     let trace = "store 40010000 2A\nload 40010000 2\nload 4001\n";
-    let played = player.play(rt.alloc(), &mut trace.as_bytes(), &mut out);
-    assert_eq!(rt; played, Err(PlayError::BadLine(3)));
-    let played = player.play(rt.alloc(), &mut b"load 40010000 1\n".as_slice(), &mut out);
-    assert_eq!(rt; played, Ok(()));
-    assert_eq!(rt; out.as_slice(), b"done\ndata 002A\ndata 2A\n".as_slice());
-    assert_eq!(rt; player.machine().endpoints(), 3);
+    let ended = play(alloc, &mut player, trace.as_bytes(), &mut out);
+    same(&rt, ended, Err(PlayError::BadLine(3)));
+    let ended = play(alloc, &mut player, b"load 40010000 1\n", &mut out);
+    same(&rt, ended, Ok(()));
+    same(
+        &rt,
+        out.as_slice(),
+        b"done\ndata 002A\ndata 2A\n".as_slice(),
+    );
+    same(&rt, player.machine().endpoints(), 3);
     Ok(())
 }
 
@@ -133,10 +142,9 @@ fn takes_lines_longer_than_a_block(rt: HostRuntime) -> Result<(), Fail> {
     }
     trace.extend_from_slice(b"\nload 40010000 2\nload\n")?;
     let mut player = rows(rt.alloc())?;
-    let mut out = Vec::new(rt.alloc());
-    let played = player.play(rt.alloc(), &mut trace.as_slice(), &mut out);
-    assert_eq!(rt; played, Err(PlayError::BadLine(4)));
-    assert_eq!(rt; out.as_slice(), b"data 00\ndata 0000\n".as_slice());
+    let (out, ended) = played(&mut player, rt.alloc(), trace.as_slice());
+    same(&rt, ended, Err(PlayError::BadLine(4)));
+    same(&rt, out.as_slice(), b"data 00\ndata 0000\n".as_slice());
     Ok(())
 }
 
@@ -146,13 +154,28 @@ const CERTIFICATE: &str =
 #[test]
 fn prints_the_certificate(rt: HostRuntime) -> Result<(), Fail> {
     let mut player = demonstration(rt.alloc())?;
-    let (text, played) = play(&mut player, rt.alloc(), b"audit\n");
-    assert_eq!(rt; played, Ok(()));
-    assert_eq!(rt; text.as_slice(), CERTIFICATE.as_bytes());
-    let (text, played) = play(&mut player, rt.alloc(), b"audit \n");
-    assert_eq!(rt; played, Err(PlayError::BadLine(1)));
-    assert!(rt; text.is_empty());
+    let (text, ended) = played(&mut player, rt.alloc(), b"audit\n");
+    same(&rt, ended, Ok(()));
+    same(&rt, text.as_slice(), CERTIFICATE.as_bytes());
+    let (text, ended) = played(&mut player, rt.alloc(), b"audit \n");
+    same(&rt, ended, Err(PlayError::BadLine(1)));
+    holds(&rt, text.is_empty());
     Ok(())
+}
+
+// Pieces of a trace, and what is printed when each has come.
+const PIECES: &str =
+    "store 4001;|0000 2A\n;done\n|\n;done\n|load 40010000 1\nfet;done\ndata 2A\n|ch 0;done\ndata 2A\n|\n;done\ndata 2A\nfault translation\n";
+
+// A piece more has come.
+fn fed(
+    alloc: Global,
+    player: &mut Player<FlatRam>,
+    begun: Begun,
+    piece: &str,
+    out: &mut Vec<u8>,
+) -> Result<Begun, Fail> {
+    Ok(player.feed(alloc, begun, piece.as_bytes(), out)?)
 }
 
 // Bytes of a trace in pieces: each text is there as soon as the LF of its line has come.
@@ -162,18 +185,12 @@ fn answers_each_line_when_its_end_has_come(rt: HostRuntime) -> Result<(), Fail> 
     let mut player = demonstration(alloc)?;
     let mut out = Vec::new(alloc);
     let mut begun = Begun::new(alloc);
-    for (piece, so_far) in [
-        ("store 4001", ""),
-        ("0000 2A\n", "done\n"),
-        ("\n", "done\n"),
-        ("load 40010000 1\nfet", "done\ndata 2A\n"),
-        ("ch 0", "done\ndata 2A\n"),
-        ("\n", "done\ndata 2A\nfault translation\n"),
-    ] {
-        begun = player.feed(alloc, begun, piece.as_bytes(), &mut out)?;
-        assert_eq!(rt; out.as_slice(), so_far.as_bytes());
+    for row in PIECES.split('|') {
+        let (piece, so_far) = row.split_once(';').ok_or("no text")?;
+        begun = fed(alloc, &mut player, begun, piece, &mut out)?;
+        same_at(&rt, out.as_slice(), so_far.as_bytes(), &row);
     }
-    assert!(rt; begun.bytes.is_empty());
-    assert_eq!(rt; begun.number, 5);
+    holds(&rt, begun.bytes.is_empty());
+    same(&rt, begun.number, 5);
     Ok(())
 }

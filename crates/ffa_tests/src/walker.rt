@@ -2,6 +2,7 @@
 ghost use Rattle.std.specs.Prelude.{◌≡◌, IfOk, true};
 ghost use Rattle.ffa_model.specs.Walk.{is_page_address};
 
+use crate::checks::{same, same_at};
 use ffa_model::{Address, PageNo, Size};
 use ffa_physmem::{FlatRam, FrameRam, NoMemory, PhysMem};
 use ffa_walker::{FaultKind, Leaf, fetch, load, store, translate};
@@ -65,11 +66,11 @@ fn walks_any_word(rt: HostRuntime) -> Result<(), Fail> {
     ];
     for (word, leaf, byte) in rows {
         let memory = ram_with_word(rt.alloc(), word)?;
-        assert_eq!(rt; translate(&memory, BASE, ADDRESS), leaf, "{word:x}");
-        assert_eq!(rt; load(&memory, BASE, ADDRESS, Size::B1), byte, "{word:x}");
+        same_at(&rt, translate(&memory, BASE, ADDRESS), leaf, &word);
+        same_at(&rt, load(&memory, BASE, ADDRESS, Size::B1), byte, &word);
         let frames = frames_with_word(rt.alloc(), word)?;
-        assert_eq!(rt; translate(&frames, BASE, ADDRESS), leaf, "{word:x}");
-        assert_eq!(rt; load(&frames, BASE, ADDRESS, Size::B1), byte, "{word:x}");
+        same_at(&rt, translate(&frames, BASE, ADDRESS), leaf, &word);
+        same_at(&rt, load(&frames, BASE, ADDRESS, Size::B1), byte, &word);
     }
     Ok(())
 }
@@ -77,11 +78,12 @@ fn walks_any_word(rt: HostRuntime) -> Result<(), Fail> {
 #[test]
 fn stores_and_fetches(rt: HostRuntime) -> Result<(), Fail> {
     let mut memory = ram_with_word(rt.alloc(), 0x0000_0000_4000_07FD)?;
-    assert_eq!(rt; fetch(&memory, BASE, ADDRESS), Ok(0x0807_065a));
+    same(&rt, fetch(&memory, BASE, ADDRESS), Ok(0x0807_065a));
     store(&mut memory, BASE, ADDRESS, Size::B2, 0xFFFF_1234)?;
-    assert_eq!(rt;
+    same(
+        &rt,
         load(&memory, BASE, ADDRESS - 4, Size::B8),
-        Ok(0x0807_1234_0403_0201)
+        Ok(0x0807_1234_0403_0201),
     );
     Ok(())
 }
