@@ -1,17 +1,14 @@
 //! Loads, stores and fetches at the edges of what an endpoint reaches.
 use crate::generator::Generator;
-use crate::lines::Stop;
+use crate::layout::PAGE;
 use crate::offers::Wish;
-use crate::pages::PAGE;
+use crate::stage::{Stage, Stop};
 use ffa_model::{Op, Size};
-use ffa_physmem::PhysMem;
-use ffa_tlb::Translations;
-use std::alloc::Allocator;
 
 /// The first address that has more than 32 bits.
 const TOO_HIGH: u64 = 1 << 32;
 
-impl<'m, M: PhysMem + Drop, T: Translations + Drop, A: Allocator + Copy> Generator<'m, M, T, A> {
+impl<'m, S: Stage + Drop> Generator<'m, S> {
     /// One to three accesses.
     pub fn play_accesses(&mut self) -> Result<(), Stop> {
         let count = 1 + self.dice.below(3);
@@ -37,7 +34,7 @@ impl<'m, M: PhysMem + Drop, T: Translations + Drop, A: Allocator + Copy> Generat
         if self.is_tx(addr) && !self.dice.one_in(4) {
             return Ok(());
         }
-        self.play(op)?;
+        self.stage.play(&op)?;
         Ok(())
     }
 
@@ -70,8 +67,8 @@ impl<'m, M: PhysMem + Drop, T: Translations + Drop, A: Allocator + Copy> Generat
         let region = self.any_region(owner);
         let first = u64::from(region.base);
         let end = first + PAGE * u64::from(region.pages);
-        let base = u64::from(self.machine.ram().base().0);
-        let ram_end = self.ram_end();
+        let base = self.stage.ram_base();
+        let ram_end = self.stage.ram_end();
         match self.dice.below(12) {
             0 | 1 => first,
             2 | 3 => end.wrapping_sub(PAGE),

@@ -1,15 +1,12 @@
 //! Buffers that are mapped, unmapped and released.
 use crate::generator::{Generator, call};
+use crate::layout::PAGE;
 use crate::learning::Buffers;
-use crate::lines::Stop;
-use crate::pages::PAGE;
+use crate::stage::{Stage, Stop};
 use ffa_model::MOST_BUFFER_PAGES;
 use ffa_model::function::{FFA_RX_RELEASE, FFA_RXTX_MAP, FFA_RXTX_UNMAP};
-use ffa_physmem::PhysMem;
-use ffa_tlb::Translations;
-use std::alloc::Allocator;
 
-impl<'m, M: PhysMem + Drop, T: Translations + Drop, A: Allocator + Copy> Generator<'m, M, T, A> {
+impl<'m, S: Stage + Drop> Generator<'m, S> {
     /// The runner's buffers, which it maps where it has none. None where it can't.
     pub fn need_buffers(&mut self) -> Result<Option<Buffers>, Stop> {
         if let Some(buffers) = self.known_of(self.runner()).buffers {

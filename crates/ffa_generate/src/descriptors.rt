@@ -5,13 +5,10 @@ ghost use Rattle.ffa_generate.specs.declared.descriptors.TheConstants.{WORDS};
 use crate::flaws::PAGE_SIZE;
 use crate::generator::{Generator, call};
 use crate::learning::Buffers;
-use crate::lines::Stop;
+use crate::stage::{Stage, Stop};
 use byteorder::{ByteOrder, LittleEndian};
 use ffa_model::Size;
 use ffa_model::function::WIDE;
-use ffa_physmem::PhysMem;
-use ffa_tlb::Translations;
-use std::alloc::Allocator;
 
 /// How many words a page has.
 const WORDS: usize = 512;
@@ -39,7 +36,7 @@ const TRANSFER_FLAWS: [TransferFlaw; 5] = [
     TransferFlaw::Pages,
 ];
 
-impl<'m, M: PhysMem + Drop, T: Translations + Drop, A: Allocator + Copy> Generator<'m, M, T, A> {
+impl<'m, S: Stage + Drop> Generator<'m, S> {
     /// Stores the first bytes of a page into TX, but for the words that stand there.
     pub fn write_tx(
         &mut self,
@@ -64,7 +61,7 @@ impl<'m, M: PhysMem + Drop, T: Translations + Drop, A: Allocator + Copy> Generat
         requires { index < WORDS }
     {
         let address = tx.wrapping_add(8 * index as u64);
-        if self.word_at(address) == Some(word) {
+        if self.stage.word_at(address) == Some(word) {
             Ok(())
         } else {
             self.store(address, Size::B8, word)

@@ -1,11 +1,8 @@
 //! An endpoint that gathers pages until it can have as many open transactions as there may be, and asks for one more.
 use crate::generator::Generator;
-use crate::lines::Stop;
 use crate::offers::Wish;
+use crate::stage::{Stage, Stop};
 use ffa_model::{EndpointId, Kind, MOST_ENDPOINTS, MOST_OPEN};
-use ffa_physmem::PhysMem;
-use ffa_tlb::Translations;
-use std::alloc::Allocator;
 
 /// A time of gathering begins once in so many turns.
 const PERIOD: u64 = 300;
@@ -19,7 +16,7 @@ const FEWEST_FREE: u32 = 4;
 /// How many pages one gives in a turn.
 const GIVEN: u32 = 2;
 
-impl<'m, M: PhysMem + Drop, T: Translations + Drop, A: Allocator + Copy> Generator<'m, M, T, A> {
+impl<'m, S: Stage + Drop> Generator<'m, S> {
     /// Begins and ends times of gathering, by the number of turns.
     pub fn plan_hoard(&mut self) {
         let endpoints = self.endpoints();

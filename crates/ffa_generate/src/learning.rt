@@ -1,10 +1,8 @@
 //! What is learned of the endpoints from the answers to their calls.
 use crate::generator::{Generator, NORMAL_WORLD};
+use crate::stage::Stage;
 use ffa_model::function::FFA_RUN;
 use ffa_model::{Call, EndpointId, Work};
-use ffa_physmem::PhysMem;
-use ffa_tlb::Translations;
-use std::alloc::Allocator;
 
 /// An endpoint's buffers: the addresses of TX and RX, how many pages each has, and whether RX is full.
 #[derive(Clone, Copy)]
@@ -42,7 +40,7 @@ impl Known {
     }
 }
 
-impl<'m, M: PhysMem + Drop, T: Translations + Drop, A: Allocator + Copy> Generator<'m, M, T, A> {
+impl<'m, S: Stage + Drop> Generator<'m, S> {
     /// Learns from a call that was done, by what the next runner sees.
     pub fn learn(&mut self, caller: EndpointId, call: Call, answer: &[u64; 8]) {
         match call {

@@ -2,16 +2,19 @@
 //! and accesses at the edges of what an endpoint reaches. The same seed gives the same trace.
 #![tactic(auto)]
 
+ghost use Rattle.std.specs.Prelude.{OnOk};
+ghost use Rattle.ffa_turns.specs.Traces.{Wrote};
+
 mod accesses;
 mod buffers;
-mod counts;
 mod descriptors;
 mod dice;
 mod flaws;
 mod generator;
 mod hoard;
+mod layout;
 mod learning;
-mod lines;
+mod machine_stage;
 mod messages;
 mod notifications;
 mod offers;
@@ -21,9 +24,32 @@ mod returns;
 mod scenes;
 mod sends;
 mod setup;
+mod stage;
 mod steering;
-mod writing;
 
-pub use counts::{Access, Counts};
-pub use steering::wanted;
-pub use writing::{GenerateError, generate};
+use ffa_model::Manifest;
+use ffa_turns::write_turns;
+pub use ffa_turns::{Access, Counts, GenerateError};
+use generator::Generator;
+use machine_stage::MachineStage;
+use std::alloc::Allocator;
+use std::io::Write;
+
+/// Writes so many lines of a trace for the machine of a manifest, and answers how often what came. The same seed gives the
+/// same lines.
+// Not inlined, since its frame holds the machine.
+#[inline(never)]
+pub fn generate<A: Allocator + Copy, W: Write>(
+    alloc: A,
+    manifest: &Manifest,
+    seed: u64,
+    lines: u64,
+    out: &mut W,
+) -> Result<Counts, GenerateError>
+    ensures { OnOk result (Wrote lines (W.contents out.old) (W.contents out.new)) }
+{
+    let stage = MachineStage::new(alloc, manifest).map_err(|_| GenerateError::NoMemory)?;
+    let mut generator = Generator::new(manifest, stage, seed);
+    write_turns(alloc, &mut generator, lines, out)?;
+    Ok(generator.into_stage().into_counts())
+}

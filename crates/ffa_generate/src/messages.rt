@@ -1,13 +1,11 @@
 //! Direct messages, run states and indirect messages.
 use crate::flaws::PAGE_SIZE;
-use crate::generator::{Generator, NORMAL_WORLD, call};
-use crate::lines::Stop;
+use crate::generator::{Generator, NORMAL_WORLD, call, is_done};
+use crate::layout::has_properties;
+use crate::stage::{Stage, Stop};
 use byteorder::{ByteOrder, LittleEndian};
 use ffa_model::function::*;
 use ffa_model::{EndpointId, Properties, Work};
-use ffa_physmem::PhysMem;
-use ffa_tlb::Translations;
-use std::alloc::Allocator;
 
 /// How many bytes the header of a message has, up to a multiple of 8.
 const MESSAGE_START: u32 = 24;
@@ -17,7 +15,7 @@ pub fn pair(high: EndpointId, low: EndpointId) -> u64 {
     u64::from(high.0) << 16 | u64::from(low.0)
 }
 
-impl<'m, M: PhysMem + Drop, T: Translations + Drop, A: Allocator + Copy> Generator<'m, M, T, A> {
+impl<'m, S: Stage + Drop> Generator<'m, S> {
     /// FFA_RUN of a partition.
     pub fn run(&mut self, partition: EndpointId) -> Result<(), Stop> {
         self.call(call(FFA_RUN, &[pair(partition, EndpointId(0))]))?;
@@ -137,7 +135,7 @@ impl<'m, M: PhysMem + Drop, T: Translations + Drop, A: Allocator + Copy> Generat
     fn message_receiver(&mut self) -> EndpointId {
         let mut receiver = self.another();
         for _ in 0..4 {
-            if !self.has_properties(receiver, Properties::INDIRECT_MESSAGES) {
+            if !has_properties(self.manifest, receiver, Properties::INDIRECT_MESSAGES) {
                 receiver = self.another();
             }
         }
@@ -147,7 +145,7 @@ impl<'m, M: PhysMem + Drop, T: Translations + Drop, A: Allocator + Copy> Generat
     // FFA_MSG_SEND2 of a message to this receiver.
     fn send_message(&mut self, receiver: EndpointId) -> Result<(), Stop> {
         let answer = self.call(call(FFA_MSG_SEND2, &[]))?;
-        if crate::generator::is_done(&answer) {
+        if is_done(&answer) {
             self.known_mut(receiver).set_full(true);
         }
         Ok(())

@@ -1,12 +1,9 @@
 //! Notifications.
 use crate::generator::{Generator, NORMAL_WORLD, call};
-use crate::lines::Stop;
 use crate::messages::pair;
+use crate::stage::{Stage, Stop};
 use ffa_model::EndpointId;
 use ffa_model::function::*;
-use ffa_physmem::PhysMem;
-use ffa_tlb::Translations;
-use std::alloc::Allocator;
 
 /// The flags of FFA_NOTIFICATION_GET that ask for all classes.
 const ALL_CLASSES: u64 = 15;
@@ -33,7 +30,7 @@ const BITS_FLAWS: [BitsFlaw; 5] = [
     BitsFlaw::NoBit,
 ];
 
-impl<'m, M: PhysMem + Drop, T: Translations + Drop, A: Allocator + Copy> Generator<'m, M, T, A> {
+impl<'m, S: Stage + Drop> Generator<'m, S> {
     /// A call on notifications, as it should be or turned.
     pub fn play_notification(&mut self) -> Result<(), Stop> {
         if self.runner() == NORMAL_WORLD && self.dice.one_in(3) {

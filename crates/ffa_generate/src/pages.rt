@@ -1,72 +1,25 @@
 //! Which pages there are, and whose they are.
-ghost use Rattle.std.specs.Prelude.{◌<◌, length, IfSome};
-
 use crate::generator::Generator;
-use ffa_model::{Data, EndpointId, PageNo, Range, Region, Rights};
-use ffa_physmem::PhysMem;
-use ffa_tlb::Translations;
-use std::alloc::Allocator;
-
-/// How many bytes a page has.
-pub const PAGE: u64 = 4096;
+use crate::layout::{PAGE, count_regions, first_place, region_of, region_page, region_pages};
+use crate::stage::Stage;
+use ffa_model::{Data, EndpointId, Range, Region};
 
 /// How many pages are looked at, at most, where one is sought.
 const MOST_LOOKS: u64 = 512;
 
-impl<'m, M: PhysMem + Drop, T: Translations + Drop, A: Allocator + Copy> Generator<'m, M, T, A> {
-    // The page at an address.
-    fn page_at(&self, address: u64) -> Option<PageNo>
-        ensures in_ram { IfSome result (λ page. page.0 < length self.now.machine.ram.pages) }
-        ensures known { IfSome result (λ page. page.0 < length self.now.machine.state.pages) }
-    {
-        let base = u64::from(self.machine.ram().base().0);
-        let offset = address.checked_sub(base)?;
-        let page = offset / PAGE;
-        if page < u64::from(self.machine.ram().pages()) {
-            Some(PageNo(page as u32))
-        } else {
-            None
-        }
-    }
-
-    /// The address behind RAM's last byte.
-    pub fn ram_end(&self) -> u64 {
-        let base = u64::from(self.machine.ram().base().0);
-        base + PAGE * u64::from(self.machine.ram().pages())
-    }
-
-    /// The owner of the page at an address: the manager where that is outside RAM.
-    pub fn owner_of(&self, address: u64) -> EndpointId {
-        match self.page_at(address) {
-            Some(page) => self.machine.owner_of(page),
-            None => EndpointId::MANAGER,
-        }
-    }
-
-    /// What an endpoint may do with the page at an address.
-    pub fn access(&self, endpoint: EndpointId, address: u64) -> Option<Rights> {
-        self.machine.access(endpoint, self.page_at(address)?)
-    }
-
-    /// The word at an address of RAM.
-    pub fn word_at(&self, address: u64) -> Option<u64> {
-        let page = self.page_at(address)?;
-        let index = (address % PAGE / 8) as usize;
-        Some(self.machine.ram().read_word(page, index))
-    }
-
+impl<'m, S: Stage + Drop> Generator<'m, S> {
     /// Whether the page at an address is an endpoint's own, and could be sent or be a buffer.
     pub fn is_free(&self, endpoint: EndpointId, address: u64) -> bool {
         let buffers = self.known_of(endpoint).buffers;
-        self.owner_of(address) == endpoint
-            && self.access(endpoint, address).is_some()
+        self.stage.owner_of(address) == endpoint
+            && self.stage.access(endpoint, address).is_some()
             && !buffers.is_some_and(|buffers| buffers.have_page(address))
             && !self.offers.have_page(address)
     }
 
     // Whether it may also be written.
     fn is_free_to_write(&self, endpoint: EndpointId, address: u64) -> bool {
-        match self.access(endpoint, address) {
+        match self.stage.access(endpoint, address) {
             Some(rights) => rights.level == Data::Rw && self.is_free(endpoint, address),
             None => false,
         }
@@ -83,35 +36,10 @@ impl<'m, M: PhysMem + Drop, T: Translations + Drop, A: Allocator + Copy> Generat
         true
     }
 
-    /// How many pages all regions have.
-    pub fn region_pages(&self) -> u64 {
-        let mut total = 0;
-        for endpoint in self.manifest.endpoints.as_slice() {
-            for region in endpoint.regions.as_slice() {
-                total = u64::saturating_add(total, u64::from(region.pages));
-            }
-        }
-        total
-    }
-
-    /// The address of a page of the regions, by its place among them.
-    pub fn region_page(&self, place: u64) -> u64 {
-        let mut left = place;
-        for endpoint in self.manifest.endpoints.as_slice() {
-            for region in endpoint.regions.as_slice() {
-                if left < u64::from(region.pages) {
-                    return u64::from(region.base) + PAGE * left;
-                }
-                left -= u64::from(region.pages);
-            }
-        }
-        0
-    }
-
     /// The place of a page of the regions: mostly of one of the runner's own.
     fn any_place(&mut self) -> u64 {
-        let total = self.region_pages();
-        let mine = self.first_place(self.runner());
+        let total = region_pages(self.manifest);
+        let mine = first_place(self.manifest, self.runner());
         let word = self.dice.word();
         if self.dice.one_in(4) {
             word % total.max(1)
@@ -120,29 +48,12 @@ impl<'m, M: PhysMem + Drop, T: Translations + Drop, A: Allocator + Copy> Generat
         }
     }
 
-    // The place of an endpoint's first page.
-    fn first_place(&self, endpoint: EndpointId) -> u64 {
-        let mut before = 0;
-        for other in self
-            .manifest
-            .endpoints
-            .as_slice()
-            .iter()
-            .take(endpoint.place())
-        {
-            for region in other.regions.as_slice() {
-                before = u64::saturating_add(before, u64::from(region.pages));
-            }
-        }
-        before
-    }
-
     /// So many pages side by side that an endpoint could send, and may write: the address of the first.
     pub fn free_run(&mut self, endpoint: EndpointId, pages: u32) -> Option<u64> {
-        let total = self.region_pages().max(1);
+        let total = region_pages(self.manifest).max(1);
         let first = self.any_place();
         for step in 0..MOST_LOOKS {
-            let address = self.region_page(first.wrapping_add(step) % total);
+            let address = region_page(self.manifest, first.wrapping_add(step) % total);
             if self.is_free_run(endpoint, address, pages) {
                 return Some(address);
             }
@@ -159,8 +70,8 @@ impl<'m, M: PhysMem + Drop, T: Translations + Drop, A: Allocator + Copy> Generat
     /// How many pages an endpoint could send.
     pub fn count_free(&self, endpoint: EndpointId) -> u32 {
         let mut count = 0;
-        for place in 0..self.region_pages().min(MOST_LOOKS) {
-            if self.is_free_to_write(endpoint, self.region_page(place)) {
+        for place in 0..region_pages(self.manifest).min(MOST_LOOKS) {
+            if self.is_free_to_write(endpoint, region_page(self.manifest, place)) {
                 count = u32::saturating_add(count, 1);
             }
         }
@@ -169,30 +80,23 @@ impl<'m, M: PhysMem + Drop, T: Translations + Drop, A: Allocator + Copy> Generat
 
     /// A page of the regions, whosever it is.
     pub fn any_page(&mut self) -> u64 {
-        let total = self.region_pages().max(1);
+        let total = region_pages(self.manifest).max(1);
         let word = self.dice.word();
-        self.region_page(word % total)
+        region_page(self.manifest, word % total)
     }
 
     /// A region of an endpoint.
     pub fn any_region(&mut self, endpoint: EndpointId) -> Region {
-        let regions = match self.manifest.endpoints.as_slice().get(endpoint.place()) {
-            Some(endpoint) => endpoint.regions.as_slice(),
-            None => &[],
-        };
-        let place = self.dice.place(regions.len());
-        match regions.get(place) {
-            Some(region) => *region,
-            None => Region::default(),
-        }
+        let place = self.dice.place(count_regions(self.manifest, endpoint));
+        region_of(self.manifest, endpoint, place)
     }
 
     /// A page that an endpoint couldn't send: of another, of a buffer, in a transaction, of the tables or outside RAM.
     pub fn unfit_page(&mut self, endpoint: EndpointId) -> u64 {
-        let base = u64::from(self.machine.ram().base().0);
+        let base = self.stage.ram_base();
         match self.dice.below(5) {
             0 => base,
-            1 => self.ram_end(),
+            1 => self.stage.ram_end(),
             2 => match self.known_of(endpoint).buffers {
                 Some(buffers) => buffers.rx,
                 None => base,
@@ -209,6 +113,6 @@ impl<'m, M: PhysMem + Drop, T: Translations + Drop, A: Allocator + Copy> Generat
                 return address;
             }
         }
-        self.ram_end()
+        self.stage.ram_end()
     }
 }

@@ -1,14 +1,12 @@
 //! Retrieves.
 use crate::flaws::PAGE_SIZE;
 use crate::generator::{Generator, call, is_done};
-use crate::lines::Stop;
+use crate::layout::version_of;
 use crate::offers::{Offer, Wish};
+use crate::stage::{Stage, Stop};
 use ffa_compose::write_retrieve;
 use ffa_model::function::FFA_MEM_RETRIEVE_REQ;
 use ffa_model::{Data, EndpointId, Kind, RetrieveDesc};
-use ffa_physmem::PhysMem;
-use ffa_tlb::Translations;
-use std::alloc::Allocator;
 
 /// Whoever may write so few pages takes no donated page without that right.
 const FEWEST_WRITABLE: u32 = 10;
@@ -49,7 +47,7 @@ fn another_kind(kind: Kind) -> Kind {
     }
 }
 
-impl<'m, M: PhysMem + Drop, T: Translations + Drop, A: Allocator + Copy> Generator<'m, M, T, A> {
+impl<'m, S: Stage + Drop> Generator<'m, S> {
     /// One of the transactions that the runner looks for.
     pub fn any_offer(&mut self, wish: Wish) -> Option<Offer> {
         let runner = self.runner();
@@ -149,7 +147,7 @@ impl<'m, M: PhysMem + Drop, T: Translations + Drop, A: Allocator + Copy> Generat
             return Ok(());
         };
         let runner = self.runner();
-        let version = self.version_of(runner);
+        let version = version_of(self.manifest, runner);
         let mut page = [0; PAGE_SIZE];
         let length = write_retrieve(version, desc, runner, &mut page);
         if flaw == Some(RetrieveFlaw::Field) {

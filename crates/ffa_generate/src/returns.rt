@@ -1,16 +1,13 @@
 //! Relinquishes and reclaims.
 use crate::flaws::PAGE_SIZE;
 use crate::generator::{Generator, call, is_done};
-use crate::lines::Stop;
 use crate::offers::{Offer, Wish};
+use crate::stage::{Stage, Stop};
 use ffa_compose::write_relinquish;
 use ffa_model::function::{FFA_MEM_RECLAIM, FFA_MEM_RELINQUISH};
 use ffa_model::{Kind, RelinquishDesc};
-use ffa_physmem::PhysMem;
-use ffa_tlb::Translations;
-use std::alloc::Allocator;
 
-impl<'m, M: PhysMem + Drop, T: Translations + Drop, A: Allocator + Copy> Generator<'m, M, T, A> {
+impl<'m, S: Stage + Drop> Generator<'m, S> {
     /// Gives up what the runner holds, or tries it with what it doesn't hold.
     pub fn play_relinquish(&mut self) -> Result<(), Stop> {
         let wish = self

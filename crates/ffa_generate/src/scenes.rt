@@ -1,10 +1,7 @@
 //! What an endpoint does in its turn.
 use crate::generator::Generator;
-use crate::lines::{Entry, Stop};
-use crate::steering::wanted;
-use ffa_physmem::PhysMem;
-use ffa_tlb::Translations;
-use std::alloc::Allocator;
+use crate::stage::{Stage, Stop};
+use ffa_turns::{Entry, GenerateError, Turns};
 
 /// A few operations that belong together.
 #[derive(Clone, Copy)]
@@ -83,10 +80,10 @@ const SCENES: [Scene; 46] = [
 /// The most scenes of a turn.
 const MOST_SCENES: u32 = 3;
 
-impl<'m, M: PhysMem + Drop, T: Translations + Drop, A: Allocator + Copy> Generator<'m, M, T, A> {
-    /// A turn: the endpoint whose turn it is comes to run, and plays some scenes.
-    pub fn play_turn(&mut self) -> Result<(), Stop> {
-        let actor = wanted(self.turns, self.machine.endpoints());
+impl<'m, S: Stage + Drop> Generator<'m, S> {
+    // The endpoint whose turn it is comes to run, and plays some scenes.
+    fn play_scenes(&mut self) -> Result<(), Stop> {
+        let actor = self.stage.wanted(self.turns);
         self.plan_hoard();
         self.turns = self.turns.wrapping_add(1);
         self.hand_over(actor)?;
@@ -129,9 +126,19 @@ impl<'m, M: PhysMem + Drop, T: Translations + Drop, A: Allocator + Copy> Generat
     // Mostly the table of accesses, which is read quicker than the certificate.
     fn play_show(&mut self) -> Result<(), Stop> {
         if self.dice.one_in(8) {
-            self.put(Entry::Audit)
+            self.stage.put(Entry::Audit)
         } else {
-            self.put(Entry::Show)
+            self.stage.put(Entry::Show)
+        }
+    }
+}
+
+impl<'m, S: Stage + Drop> Turns for Generator<'m, S> {
+    fn play_turn(&mut self, most: u64) -> Result<&[Entry], GenerateError> {
+        self.stage.begin(most);
+        match self.play_scenes() {
+            Ok(()) | Err(Stop::Full) => Ok(self.stage.entries()),
+            Err(Stop::NoMemory) => Err(GenerateError::NoMemory),
         }
     }
 }

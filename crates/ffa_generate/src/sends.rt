@@ -1,16 +1,14 @@
 //! Sends: shares, lends and donates, as they should be and with something turned.
 use crate::flaws::PAGE_SIZE;
 use crate::generator::{Generator, call, is_done};
+use crate::layout::version_of;
 use crate::learning::Buffers;
-use crate::lines::Stop;
 use crate::offers::{MOST_PARTS, Offer, Taker};
+use crate::stage::{Stage, Stop};
 use arrayvec::ArrayVec;
 use ffa_compose::write_send;
 use ffa_model::function::{FFA_MEM_DONATE, FFA_MEM_LEND, FFA_MEM_SHARE};
 use ffa_model::{Data, EndpointId, Kind, MOST_RECEIVERS, Range, Receiver, SendDesc};
-use ffa_physmem::PhysMem;
-use ffa_tlb::Translations;
-use std::alloc::Allocator;
 
 /// Whoever has so few pages left gives none away for good.
 const FEWEST_FREE: u32 = 6;
@@ -88,7 +86,7 @@ fn ranges_of(parts: &[Range; MOST_PARTS]) -> ArrayVec<Range, 64> {
     ranges
 }
 
-impl<'m, M: PhysMem + Drop, T: Translations + Drop, A: Allocator + Copy> Generator<'m, M, T, A> {
+impl<'m, S: Stage + Drop> Generator<'m, S> {
     // A receiver, and what it is granted.
     fn receiver(&mut self, kind: Kind, endpoint: EndpointId) -> Receiver {
         let grant = match kind {
@@ -209,7 +207,7 @@ impl<'m, M: PhysMem + Drop, T: Translations + Drop, A: Allocator + Copy> Generat
             receivers,
             ranges: ranges_of(&parts),
         };
-        let version = self.version_of(runner);
+        let version = version_of(self.manifest, runner);
         let mut page = [0; PAGE_SIZE];
         let Ok(length) = write_send(version, kind, &desc, &mut page) else {
             return Ok(());

@@ -1,11 +1,9 @@
 //! Setup calls, and identifiers of no call.
 use crate::generator::{Generator, call};
-use crate::lines::Stop;
+use crate::layout::uuid_of;
+use crate::stage::{Stage, Stop};
 use byteorder::{ByteOrder, LittleEndian};
 use ffa_model::function::*;
-use ffa_physmem::PhysMem;
-use ffa_tlb::Translations;
-use std::alloc::Allocator;
 
 /// Identifiers that FFA_FEATURES is asked about.
 const ASKED: [u32; 10] = [
@@ -35,7 +33,7 @@ const NO_CALLS: [u32; 10] = [
     FFA_ERROR - 1,
 ];
 
-impl<'m, M: PhysMem + Drop, T: Translations + Drop, A: Allocator + Copy> Generator<'m, M, T, A> {
+impl<'m, S: Stage + Drop> Generator<'m, S> {
     /// A setup call.
     pub fn play_setup(&mut self) -> Result<(), Stop> {
         let x = match self.dice.below(4) {
@@ -70,10 +68,7 @@ impl<'m, M: PhysMem + Drop, T: Translations + Drop, A: Allocator + Copy> Generat
     // The words of a UUID: Nil, of a partition, or of nobody.
     fn any_uuid(&mut self) -> [u64; 4] {
         let endpoint = self.any_endpoint();
-        let uuid = match self.manifest.endpoints.as_slice().get(endpoint.place()) {
-            Some(endpoint) => endpoint.uuid,
-            None => [0; 16],
-        };
+        let uuid = uuid_of(self.manifest, endpoint);
         let word = |at: usize| u64::from(LittleEndian::read_u32(&uuid[at % 13..]));
         match self.dice.below(3) {
             0 => [0; 4],

@@ -82,8 +82,7 @@ fn generated(
     lines: u64,
     out: &mut Vec<u8>,
 ) -> Result<Counts, Fail> {
-    let machine = booted(alloc, manifest)?;
-    Ok(generate(alloc, manifest, machine, seed, lines, out)?)
+    Ok(generate(alloc, manifest, seed, lines, out)?)
 }
 
 fn count_lines(text: &[u8]) -> u64 {

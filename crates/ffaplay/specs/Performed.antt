@@ -10,7 +10,7 @@ use Rattle.ffa_manifest.specs.Document.{Parts, machine_of}
 use Rattle.ffa_manifest.specs.declared.error.ManifestError.{ManifestError}
 use Rattle.ffa_manifest.specs.declared.error.ManifestError.TheVariants.{Toml}
 use Rattle.ffa_compose.specs.declared.unfit.Unfit.{Unfit}
-use Rattle.ffa_generate.specs.Traces.{Wrote}
+use Rattle.ffa_turns.specs.Traces.{Wrote}
 use Rattle.ffa_script.specs.Written.{GrowsByDescriptor, unfit_of}
 use Rattle.ffa_words.specs.Told.{told}
 use Rattle.ffa_words.specs.declared.fault.WordsFault.{WordsFault}

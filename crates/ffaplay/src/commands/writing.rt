@@ -1,6 +1,6 @@
 //! Commands that write traces: the lines of a descriptor, and traces that are generated.
 ghost use Rattle.std.specs.Prelude.{◌≡◌, false, IfErr, OnOk};
-ghost use Rattle.ffa_generate.specs.Traces.{Wrote};
+ghost use Rattle.ffa_turns.specs.Traces.{Wrote};
 ghost use Rattle.ffaplay.specs.Performed.{FailsToSay, IsSaid, IsShort};
 
 use super::failure::Failure;
@@ -8,10 +8,7 @@ use super::write;
 use ffa_command::DescriptorWords;
 use ffa_generate::{Counts, GenerateError, generate};
 use ffa_model::Manifest;
-use ffa_physmem::FlatRam;
 use ffa_script::{ScriptError, put_descriptor};
-use ffa_spmc::Machine;
-use ffa_tlb::NoTlb;
 use ffa_words::read_words;
 use std::alloc::Allocator;
 use std::io::{self, Write};
@@ -36,6 +33,7 @@ pub(super) fn describe<A: Allocator, W: Write>(
         Err(ScriptError::Unfit(cause)) => Err(Failure::Unfit(cause)),
     }
 }
+
 /// Prints a trace of so many lines for the machine of a manifest, or, where that is asked for, how often each of its calls
 /// and accesses ended in which way.
 pub(super) fn generate_trace<A: Allocator + Copy, W: Write>(
@@ -69,10 +67,7 @@ fn generated<A: Allocator + Copy, W: Write>(
     ensures generated { OnOk result (Wrote lines (W.contents out.old) (W.contents out.new)) }
     ensures failed { IfErr result IsShort }
 {
-    let (base, pages) = (manifest.ram_base, 512 * manifest.ram_blocks);
-    let ram = FlatRam::new_in(alloc, base, pages).map_err(|_| Failure::NoMemory)?;
-    let machine = Machine::boot_cleared(manifest, ram, NoTlb);
-    match generate(alloc, manifest, machine, seed, lines, out) {
+    match generate(alloc, manifest, seed, lines, out) {
         Ok(counts) => Ok(counts),
         Err(GenerateError::NoMemory) => Err(Failure::NoMemory),
         Err(GenerateError::Write) => Err(Failure::Write),

@@ -14,8 +14,8 @@ use Rattle.ffa_model.specs.declared.operation.Outcome.{Outcome}
 use Rattle.ffa_model.specs.declared.operation.Outcome.TheVariants.{Regs, Data, Done, Fault}
 use Rattle.ffa_model.specs.Calls.{code_number}
 use Rattle.ffa_model.specs.Registers.{low, functions, is_form_of}
-use Rattle.ffa_generate.specs.declared.counts.Access.{Access}
-use Rattle.ffa_generate.specs.declared.counts.Access.TheVariants.{Load as LoadAccess, Store as StoreAccess, Fetch as FetchAccess}
+use Rattle.ffa_turns.specs.declared.counts.Access.{Access}
+use Rattle.ffa_turns.specs.declared.counts.Access.TheVariants.{Load as LoadAccess, Store as StoreAccess, Fetch as FetchAccess}
 
 -- ROWS
 

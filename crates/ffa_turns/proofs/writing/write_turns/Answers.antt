@@ -1,6 +1,6 @@
 use Rattle.std.proofs.Common.{arith}
-use Rattle.ffa_generate.proofs.Growing.{wrote_first, wrote_next}
-use Rattle.ffa_generate.proofs.writing.generate.Goals as goal
+use Rattle.ffa_turns.proofs.Growing.{wrote_first, wrote_next}
+use Rattle.ffa_turns.proofs.writing.write_turns.Goals as goal
 
 pub loop-left-init : goal.loop-left-init
 loop-left-init g c = (wrote_first _ _, omega arith)

@@ -1,15 +1,9 @@
-//! Generating a trace.
+//! Writing a trace turn by turn.
 ghost use Rattle.std.specs.Prelude.{◌≡◌, ◌≤◌, [], IfOk, OnOk};
 ghost use Rattle.std.specs.Io.KnownBytes.{Appends};
-ghost use Rattle.ffa_generate.specs.Traces.{GrowsByLines, Wrote};
+ghost use Rattle.ffa_turns.specs.Traces.{GrowsByLines, Wrote};
 
-use crate::counts::Counts;
-use crate::generator::Generator;
-use crate::lines::{Entry, Stop, put_entries};
-use ffa_model::Manifest;
-use ffa_physmem::PhysMem;
-use ffa_spmc::Machine;
-use ffa_tlb::Translations;
+use crate::entries::{Entry, put_entries};
 use std::alloc::Allocator;
 use std::io::Write;
 use thiserror::Error;
@@ -24,30 +18,32 @@ pub enum GenerateError {
     Write,
 }
 
-/// Writes so many lines of a trace for a machine, which is in its first state, and answers how often what came. The same
-/// seed gives the same lines.
-pub fn generate<M: PhysMem + Drop, T: Translations + Drop, A: Allocator + Copy, W: Write>(
+/// What gives the lines of a trace, a turn at a time.
+pub trait Turns {
+    /// Plays a turn, and answers its lines, of which no more than so many are taken.
+    fn play_turn(&mut self, most: u64) -> Result<&[Entry], GenerateError>;
+}
+
+/// Plays turns, and writes so many lines of a trace.
+pub fn write_turns<P: Turns, A: Allocator, W: Write>(
     alloc: A,
-    manifest: &Manifest,
-    machine: Machine<M, T>,
-    seed: u64,
+    turns: &mut P,
     lines: u64,
     out: &mut W,
-) -> Result<Counts, GenerateError>
+) -> Result<(), GenerateError>
     ensures { OnOk result (Wrote lines (W.contents out.old) (W.contents out.new)) }
 {
-    let mut generator = Generator::new(alloc, manifest, machine, seed);
     let mut text = Vec::new(alloc);
     let mut left = lines;
     while left > 0 {
-        left -= write_turn(&mut generator, &mut text, left, out)?;
+        left -= write_turn(turns, &mut text, left, out)?;
     }
-    Ok(generator.into_counts())
+    Ok(())
 }
 
 // Plays a turn, writes its lines, of which there may be so many, and answers how many those are.
-fn write_turn<M: PhysMem + Drop, T: Translations + Drop, A: Allocator + Copy, W: Write>(
-    generator: &mut Generator<'_, M, T, A>,
+fn write_turn<P: Turns, A: Allocator, W: Write>(
+    turns: &mut P,
     text: &mut Vec<u8, A>,
     most: u64,
     out: &mut W,
@@ -57,23 +53,10 @@ fn write_turn<M: PhysMem + Drop, T: Translations + Drop, A: Allocator + Copy, W:
     ensures some { IfOk result (λ count. 1 ≤ count) }
     ensures few { IfOk result (λ count. count ≤ most) }
 {
-    play_turn(generator, most)?;
-    let count = put_turn(text, &generator.entries, most)?;
+    let entries = turns.play_turn(most)?;
+    let count = put_turn(text, entries, most)?;
     write_text(out, text)?;
     Ok(count)
-}
-
-// Plays a turn anew, of at most so many lines.
-fn play_turn<M: PhysMem + Drop, T: Translations + Drop, A: Allocator + Copy>(
-    generator: &mut Generator<'_, M, T, A>,
-    most: u64,
-) -> Result<(), GenerateError> {
-    generator.entries.clear();
-    generator.room = most;
-    match generator.play_turn() {
-        Ok(()) | Err(Stop::Full) => Ok(()),
-        Err(Stop::NoMemory) => Err(GenerateError::NoMemory),
-    }
 }
 
 // Makes the text of a turn, of at most so many lines, and answers how many it has. A turn without lines says so.

@@ -1,6 +1,6 @@
 use Rattle.std.proofs.Common.{arith}
-use Rattle.ffa_generate.proofs.Growing.{grows_none, grows_more}
-use Rattle.ffa_generate.proofs.lines.put_entries.Goals as goal
+use Rattle.ffa_turns.proofs.Growing.{grows_none, grows_more}
+use Rattle.ffa_turns.proofs.entries.put_entries.Goals as goal
 
 pub loop-count-init : goal.loop-count-init
 loop-count-init g c = (grows_none _, omega arith)

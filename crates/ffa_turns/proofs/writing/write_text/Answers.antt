@@ -1,7 +1,7 @@
 use Rattle.std.proofs.Common.{◌++◌, take}
 use Rattle.std.proofs.KnownBytes.{Appends-trans}
-use Rattle.ffa_generate.proofs.Growing.{moves_front}
-use Rattle.ffa_generate.proofs.writing.write_text.Goals as goal
+use Rattle.ffa_turns.proofs.Growing.{moves_front}
+use Rattle.ffa_turns.proofs.writing.write_text.Goals as goal
 
 pub loop-rest-preserved : goal.loop-rest-preserved
 loop-rest-preserved g c =

@@ -1,6 +1,6 @@
 use Rattle.std.proofs.Common.{◌≡◌, ℕ, List, length, ◌++◌}
 use Rattle.std.specs.Io.KnownBytes.{Appends}
-use Rattle.ffa_generate.proofs.writing.write_text.Given as goal
+use Rattle.ffa_turns.proofs.writing.write_text.Given as goal
 
 -- the writer has what is gone from `rest`
 abbrev pub invariant-loop-rest : goal.invariant-loop-rest

@@ -1,6 +1,6 @@
 use Rattle.std.proofs.Common.{◌-◌, ◌≤◌}
-use Rattle.ffa_generate.specs.Traces.{GrowsByLines}
-use Rattle.ffa_generate.proofs.lines.put_entries.Given as goal
+use Rattle.ffa_turns.specs.Traces.{GrowsByLines}
+use Rattle.ffa_turns.proofs.entries.put_entries.Given as goal
 
 -- so many lines were put
 abbrev pub invariant-loop-count : goal.invariant-loop-count

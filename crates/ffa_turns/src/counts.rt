@@ -1,7 +1,7 @@
 //! How often what came.
 ghost use Rattle.std.specs.Prelude.{◌≡◌, ◌<◌, ◌==◌, suc, position, replicate, slice_index};
 ghost use Rattle.std.specs.Option.{option_map_or};
-ghost use Rattle.ffa_generate.specs.Counting.{row_of, row_of_access, row_of_operation, column_of_error, column_of_fault, error_numbers, column_of_registers, column_of, cell, CountsOne};
+ghost use Rattle.ffa_turns.specs.Counting.{row_of, row_of_access, row_of_operation, column_of_error, column_of_fault, error_numbers, column_of_registers, column_of, cell, CountsOne};
 
 use ffa_abi::call_name;
 use ffa_model::function::*;

@@ -2,20 +2,11 @@
 ghost use Rattle.std.specs.Prelude.{◌≡◌, ◌≤◌, ◌<◌, ◌%◌, ◌^◌, length, IfOk, OnOk};
 ghost use Rattle.ffa_model.specs.Memory.{size_of};
 ghost use Rattle.ffa_script.specs.Script.{IsProper};
-ghost use Rattle.ffa_generate.specs.Traces.{GrowsByLine, GrowsByLines};
+ghost use Rattle.ffa_turns.specs.Traces.{GrowsByLine, GrowsByLines};
 
 use ffa_model::{Op, Size};
 use ffa_script::put_operation;
 use std::alloc::{AllocError, Allocator};
-
-/// Why a turn ends before its scenes do.
-#[derive(Clone, Copy)]
-pub enum Stop {
-    /// There is no memory for a line.
-    NoMemory,
-    /// The trace has all its lines.
-    Full,
-}
 
 /// A line of a trace.
 #[derive(Clone, Copy)]

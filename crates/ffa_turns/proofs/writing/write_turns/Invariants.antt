@@ -1,6 +1,6 @@
 use Rattle.std.proofs.Common.{◌-◌, ◌≤◌}
-use Rattle.ffa_generate.specs.Traces.{Wrote}
-use Rattle.ffa_generate.proofs.writing.generate.Given as goal
+use Rattle.ffa_turns.specs.Traces.{Wrote}
+use Rattle.ffa_turns.proofs.writing.write_turns.Given as goal
 
 -- all lines were written but those that are left
 abbrev pub invariant-loop-left : goal.invariant-loop-left

@@ -1,9 +1,0 @@
-use Rattle.std.proofs.Common.{subst}
-use Rattle.std.specs.Io.KnownBytes.{Appends}
-use Rattle.ffa_generate.proofs.Growing.{wrote_text}
-use Rattle.ffa_generate.proofs.writing.write_turn.Goals as goal
-
-pub returns-clause-lines : goal.returns-clause-lines
-returns-clause-lines g c =
-    wrote_text _ _ _ _ c.in_ok-count.ensures.lines
-    (subst (Appends (g.W.Write.contents c.args.out.now) (g.W.Write.contents c.write_text.new.out)) c.deref-2.ensures.value c.in_ok-write_text.ensures)

@@ -1,0 +1,130 @@
+//! The machine that plays what is generated.
+ghost use Rattle.std.specs.Prelude.{◌<◌, length, IfSome};
+
+use crate::stage::{Stage, Stop};
+use ffa_model::{EndpointId, Manifest, Op, Outcome, PageNo, Rights};
+use ffa_physmem::{FlatRam, NoMemory, PhysMem};
+use ffa_spmc::Machine;
+use ffa_tlb::NoTlb;
+use ffa_turns::{Counts, Entry, fitted, wanted};
+use std::alloc::Allocator;
+
+/// How many bytes a page has.
+const PAGE: u64 = 4096;
+
+/// A machine, the lines of a turn, and how often what came.
+#[derive(Drop)]
+pub struct MachineStage<A: Allocator + Copy> {
+    machine: Machine<FlatRam<A>, NoTlb>,
+    entries: Vec<Entry, A>,
+    room: u64,
+    counts: Counts,
+}
+
+// The machine's contract is long, and nobody here needs it.
+fn operate<A: Allocator + Copy>(machine: &mut Machine<FlatRam<A>, NoTlb>, op: &Op) -> Outcome {
+    machine.op(op)
+}
+
+// The page at an address.
+fn page_at<A: Allocator + Copy>(
+    machine: &Machine<FlatRam<A>, NoTlb>,
+    address: u64,
+) -> Option<PageNo>
+    ensures in_ram { IfSome result (λ page. page.0 < length machine.now.ram.pages) }
+    ensures known { IfSome result (λ page. page.0 < length machine.now.state.pages) }
+{
+    let base = u64::from(machine.ram().base().0);
+    let offset = address.checked_sub(base)?;
+    let page = offset / PAGE;
+    if page < u64::from(machine.ram().pages()) {
+        Some(PageNo(page as u32))
+    } else {
+        None
+    }
+}
+
+impl<A: Allocator + Copy> MachineStage<A> {
+    /// The machine of a manifest in its first state.
+    #[inline(never)]
+    pub fn new(alloc: A, manifest: &Manifest) -> Result<MachineStage<A>, NoMemory> {
+        let (base, pages) = (manifest.ram_base, 512 * manifest.ram_blocks);
+        let ram = FlatRam::new_in(alloc, base, pages)?;
+        Ok(MachineStage {
+            machine: Machine::boot_cleared(manifest, ram, NoTlb),
+            entries: Vec::new(alloc),
+            room: 0,
+            counts: Counts::new(),
+        })
+    }
+
+    /// How often what came.
+    pub fn into_counts(self) -> Counts {
+        let MachineStage { counts, .. } = self;
+        counts
+    }
+}
+
+impl<A: Allocator + Copy> Stage for MachineStage<A> {
+    fn begin(&mut self, most: u64) {
+        self.entries.clear();
+        self.room = most;
+    }
+
+    fn entries(&self) -> &[Entry] {
+        &self.entries
+    }
+
+    fn put(&mut self, entry: Entry) -> Result<(), Stop> {
+        if self.entries.len() as u64 >= self.room {
+            return Err(Stop::Full);
+        }
+        match self.entries.push(entry) {
+            Ok(()) => Ok(()),
+            Err(_) => Err(Stop::NoMemory),
+        }
+    }
+
+    fn play(&mut self, op: &Op) -> Result<Outcome, Stop> {
+        let op = fitted(op);
+        self.put(Entry::Operation(op))?;
+        let outcome = operate(&mut self.machine, &op);
+        self.counts.note(&op, &outcome);
+        Ok(outcome)
+    }
+
+    fn wanted(&self, turn: u64) -> EndpointId {
+        wanted(turn, self.machine.endpoints())
+    }
+
+    fn runner(&self) -> EndpointId {
+        self.machine.runner()
+    }
+
+    fn owner_of(&self, address: u64) -> EndpointId {
+        match page_at(&self.machine, address) {
+            Some(page) => self.machine.owner_of(page),
+            None => EndpointId::MANAGER,
+        }
+    }
+
+    fn access(&self, endpoint: EndpointId, address: u64) -> Option<Rights> {
+        let page = page_at(&self.machine, address)?;
+        self.machine.access(endpoint, page)
+    }
+
+    fn word_at(&self, address: u64) -> Option<u64> {
+        let page = page_at(&self.machine, address)?;
+        let index = (address % PAGE / 8) as usize;
+        Some(self.machine.ram().read_word(page, index))
+    }
+
+    fn ram_base(&self) -> u64 {
+        u64::from(self.machine.ram().base().0)
+    }
+
+    fn ram_end(&self) -> u64 {
+        let base = u64::from(self.machine.ram().base().0);
+        base + PAGE * u64::from(self.machine.ram().pages())
+    }
+}

@@ -1,0 +1,13 @@
+//! The turns of a trace that is made: whose turn it is, how the lines that a turn gave are written, and how often what came of
+//! them. What gives the lines is handed over.
+#![tactic(auto)]
+
+mod counts;
+mod entries;
+mod turn;
+mod writing;
+
+pub use counts::{Access, Counts};
+pub use entries::{Entry, fitted};
+pub use turn::wanted;
+pub use writing::{GenerateError, Turns, write_turns};
