@@ -1,6 +1,7 @@
 //! The machine that plays what is generated.
 ghost use Rattle.std.specs.Prelude.{◌<◌, length, IfSome};
 
+use crate::layout::PAGE;
 use crate::stage::{Stage, Stop};
 use ffa_model::{EndpointId, Manifest, Op, Outcome, PageNo, Rights};
 use ffa_physmem::{FlatRam, NoMemory, PhysMem};
@@ -8,9 +9,6 @@ use ffa_spmc::Machine;
 use ffa_tlb::NoTlb;
 use ffa_turns::{Counts, Entry, fitted, wanted};
 use std::alloc::Allocator;
-
-/// How many bytes a page has.
-const PAGE: u64 = 4096;
 
 /// A machine, the lines of a turn, and how often what came.
 #[derive(Drop)]
