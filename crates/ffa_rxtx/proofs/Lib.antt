@@ -1,3 +1,2 @@
 pub mod PagesMet
-pub mod Refusals
 pub mod Runs

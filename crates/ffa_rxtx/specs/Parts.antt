@@ -1,11 +1,11 @@
 -- What the checks of a mapping read, and the bytes of TX and RX, over the parts of the machine.
-use Rattle.std.specs.Prelude.{ℕ, zero, suc, ◌+◌, ◌≤◌, Bool, false, ◌&&◌, ◌||◌, List, [], length, take, drop, is_some, Option, None, Some}
+use Rattle.std.specs.Prelude.{ℕ, zero, suc, ◌+◌, ◌≤◌, Bool, false, ◌||◌, List, [], length, take, drop, is_some, Option, None, Some}
 use Rattle.std.specs.List.{flat_map}
 use Rattle.std.specs.Option.{option_map, option_map_or}
 use Rattle.ffa_model.specs.Lists.{is_in_run, run}
 use Rattle.ffa_model.specs.Ram.{Ram, page_of, with_page, with_bytes}
 use Rattle.ffa_model.specs.State.{Buffers}
-use Rattle.ffa_model.specs.Buffers.{Candidate, Candidates, are_runs_apart, is_run_address, page_number}
+use Rattle.ffa_model.specs.Buffers.{Candidate, Candidates}
 use Rattle.ffa_pages.specs.Entry.{Entry, entry_at}
 
 abbrev pub candidate_in : List (Option Entry) → ℕ → Option Candidate
@@ -14,11 +14,6 @@ candidate_in table p =
 
 abbrev pub candidates_in : List (Option Entry) → ℕ → Candidates
 candidates_in table base = record { base = base; count = length table; page = candidate_in table }
-
--- two addresses are those of two runs of n pages of RAM that have no page in common
-abbrev pub are_two_runs : Candidates → ℕ → ℕ → ℕ → Bool
-are_two_runs ram n tx rx =
-    is_run_address ram n tx && (is_run_address ram n rx && are_runs_apart n (page_number ram.base tx) (page_number ram.base rx))
 
 -- the bytes of n pages in a row, and those of TX
 abbrev pub run_in : Ram → ℕ → ℕ → List ℕ

@@ -1,20 +1,22 @@
 //! Who has mapped buffers, and which.
-ghost use Rattle.std.specs.Prelude.{◌≡◌, ℕ, ◌+◌, ◌*◌, ◌<◌, ◌≤◌, ◌↔◌, IsTrue, length, replicate, is_some, if◌then◌else◌, true, false, OnOk, OnErr, IfOk, IsSomeAnd};
+ghost use Rattle.std.specs.Prelude.{◌≡◌, ℕ, ◌+◌, ◌*◌, ◌<◌, ◌≤◌, ◌↔◌, IsTrue, length, replicate, is_some, true, false, OnOk, OnErr, IfOk, IfSome, IsSomeAnd};
 ghost use Rattle.std.specs.Option.{option_map, option_map_or};
 ghost use Rattle.std.specs.Result.{result_err};
 ghost use Rattle.std.specs.List.{list_all};
 ghost use Rattle.ffa_model.specs.declared.limits.TheConstants.{MOST_BUFFER_PAGES, MOST_ENDPOINTS};
 ghost use Rattle.ffa_model.specs.Lists.{is_in_run, run};
 ghost use Rattle.ffa_model.specs.Buffers.{are_runs_apart, buffers_in, buffers_with, buffers_with_rx, is_full, is_run_address, is_usable, map_guards, new_buffers, page_number, release_guards, unmap_guards};
-ghost use Rattle.ffa_model.specs.Calls.{first_failure};
+ghost use Rattle.ffa_model.specs.Calls.{first_failure, first_refusal};
 ghost use Rattle.ffa_model.specs.Identifiers.{place};
 ghost use Rattle.ffa_model.specs.MemorySend.{is_buffer};
 ghost use Rattle.ffa_model.specs.State.{Buffers as Own, is_known_among};
-ghost use Rattle.ffa_rxtx.specs.Parts.{IsInRam, are_two_runs, candidate_in, candidates_in, have_page, with_rx_bytes};
+ghost use Rattle.ffa_rxtx.specs.Parts.{IsInRam, candidate_in, candidates_in, have_page, with_rx_bytes};
 ghost use Rattle.ffa_rxtx.specs.Stored.{buffers_of};
 
 use arrayvec::ArrayVec;
-use ffa_model::{Address, Data, EndpointId, ErrorCode, MOST_BUFFER_PAGES, MOST_ENDPOINTS, PageNo};
+use ffa_model::{
+    Address, Data, EndpointId, ErrorCode, MOST_BUFFER_PAGES, MOST_ENDPOINTS, PageNo, Refusal,
+};
 use ffa_pages::PageTable;
 use ffa_physmem::{PAGE_SIZE, PhysMem, put_front};
 use std::marker::Model;
@@ -134,7 +136,7 @@ impl Buffers {
         ensures kept { OnErr result (self.new ≡ self.old) }
         ensures mapped { OnOk result (self.new ≡ buffers_with self.old caller.0 (Some (new_buffers ram_base.0 tx rx pages))) }
     {
-        let mapped = self.checked(table, ram_base, caller, tx, rx, pages)?;
+        let mapped = self.check_map(table, ram_base, caller, tx, rx, pages)?;
         self.put(caller, Some(mapped));
         Ok(())
     }
@@ -150,9 +152,7 @@ impl Buffers {
         ensures kept { OnErr result (self.new ≡ self.old) }
         ensures unmapped { OnOk result (self.new ≡ buffers_with self.old caller.0 None) }
     {
-        if endpoint_word != 0 || !self.has(caller) {
-            return Err(ErrorCode::InvalidParameters);
-        }
+        self.check_unmap(caller, endpoint_word)?;
         self.put(caller, None);
         Ok(())
     }
@@ -168,10 +168,81 @@ impl Buffers {
         ensures kept { OnErr result (self.new ≡ self.old) }
         ensures emptied { OnOk result (self.new ≡ buffers_with_rx self.old caller.0 false) }
     {
-        if !self.is_full(caller) {
-            return Err(ErrorCode::Denied);
-        }
+        self.check_release(caller)?;
         self.empty(caller);
+        Ok(())
+    }
+
+    /// The buffers that FFA_RXTX_MAP of an endpoint gives it. Nothing changes.
+    ///
+    /// # Errors
+    ///
+    /// The first check of the call that fails.
+    pub fn check_map(
+        &self,
+        table: &PageTable,
+        ram_base: Address,
+        caller: EndpointId,
+        tx: u64,
+        rx: u64,
+        pages: u32,
+    ) -> Result<Mapped, Refusal>
+        ensures refusal { result_err result ≡ first_refusal (map_guards caller.0 (buffers_in self.now caller.0) (candidates_in table.now ram_base.0) tx rx pages) }
+        ensures buffers { IfOk result (λ mapped. buffers_of mapped ≡ new_buffers ram_base.0 tx rx pages) }
+    {
+        if self.has(caller) {
+            return Err(Refusal::BuffersMapped);
+        }
+        if pages < 1 || pages > MOST_BUFFER_PAGES {
+            return Err(Refusal::BufferPageCount);
+        }
+        let tx_page = run_at(table, ram_base, tx, pages).ok_or(Refusal::TxMisplaced)?;
+        let rx_page = run_at(table, ram_base, rx, pages).ok_or(Refusal::RxMisplaced)?;
+        if !are_apart(tx_page, rx_page, pages) {
+            return Err(Refusal::BuffersOverlap);
+        }
+        if !are_usable(table, caller, tx_page, pages) {
+            return Err(Refusal::TxUnusable);
+        }
+        if !are_usable(table, caller, rx_page, pages) {
+            return Err(Refusal::RxUnusable);
+        }
+        Ok(Mapped {
+            tx: tx_page,
+            rx: rx_page,
+            pages,
+            is_full: false,
+        })
+    }
+
+    /// The checks of FFA_RXTX_UNMAP of an endpoint, with w1. Nothing changes.
+    ///
+    /// # Errors
+    ///
+    /// The first check of the call that fails.
+    pub fn check_unmap(&self, caller: EndpointId, endpoint_word: u32) -> Result<(), Refusal>
+        ensures refusal { result_err result ≡ first_refusal (unmap_guards (buffers_in self.now caller.0) endpoint_word) }
+    {
+        if endpoint_word != 0 {
+            return Err(Refusal::EndpointNotZero);
+        }
+        if !self.has(caller) {
+            return Err(Refusal::BuffersMissing);
+        }
+        Ok(())
+    }
+
+    /// The check of FFA_RX_RELEASE of an endpoint. Nothing changes.
+    ///
+    /// # Errors
+    ///
+    /// The check of the call, where it fails.
+    pub fn check_release(&self, caller: EndpointId) -> Result<(), Refusal>
+        ensures refusal { result_err result ≡ first_refusal (release_guards (buffers_in self.now caller.0)) }
+    {
+        if !self.is_full(caller) {
+            return Err(Refusal::RxEmpty);
+        }
         Ok(())
     }
 
@@ -222,40 +293,6 @@ impl Buffers {
     {
         self.entries[endpoint.place()] = buffers;
     }
-
-    // The buffers of a mapping that passes its checks.
-    #[tactic(auto, using(crate::proofs::Refusals::map_refusal))]
-    fn checked(
-        &self,
-        table: &PageTable,
-        ram_base: Address,
-        caller: EndpointId,
-        tx: u64,
-        rx: u64,
-        pages: u32,
-    ) -> Result<Mapped, ErrorCode>
-        ensures refusal { result_err result ≡ first_failure (map_guards caller.0 (buffers_in self.now caller.0) (candidates_in table.now ram_base.0) tx rx pages) }
-        ensures buffers { IfOk result (λ mapped. buffers_of mapped ≡ new_buffers ram_base.0 tx rx pages) }
-    {
-        if self.has(caller) {
-            return Err(ErrorCode::Denied);
-        }
-        if pages < 1 || pages > MOST_BUFFER_PAGES {
-            return Err(ErrorCode::InvalidParameters);
-        }
-        let (tx_page, rx_page) = two_runs(table, ram_base, tx, rx, pages)?;
-        if !are_usable(table, caller, tx_page, pages)
-            || !are_usable(table, caller, rx_page, pages)
-        {
-            return Err(ErrorCode::Denied);
-        }
-        Ok(Mapped {
-            tx: tx_page,
-            rx: rx_page,
-            pages,
-            is_full: false,
-        })
-    }
 }
 
 // Whether one of these buffers, if there are any, has a page from one up to another.
@@ -277,29 +314,6 @@ fn has_page_in(run: PageNo, pages: u32, first: PageNo, end: u32) -> bool
     pages > 0 && first.0 < end && run.0 < end && u64::from(first.0) < behind
 }
 
-// The first pages of the runs at two addresses, which are `InvalidParameters` where one is none or they have a page in
-// common.
-fn two_runs(
-    table: &PageTable,
-    ram_base: Address,
-    tx: u64,
-    rx: u64,
-    pages: u32,
-) -> Result<(PageNo, PageNo), ErrorCode>
-    requires { pages ≤ MOST_BUFFER_PAGES }
-    ensures refusal { result_err result ≡ (if are_two_runs (candidates_in table.now ram_base.0) pages tx rx then None else Some ErrorCode.InvalidParameters) }
-    ensures tx { IfOk result (λ runs. runs.0.0 ≡ page_number ram_base.0 tx) }
-    ensures rx { IfOk result (λ runs. runs.1.0 ≡ page_number ram_base.0 rx) }
-    ensures within { IfOk result (λ runs. (runs.0.0 + pages ≤ length table.now) × (runs.1.0 + pages ≤ length table.now)) }
-{
-    let tx_page = run_at(table, ram_base, tx, pages)?;
-    let rx_page = run_at(table, ram_base, rx, pages)?;
-    if !are_apart(tx_page, rx_page, pages) {
-        return Err(ErrorCode::InvalidParameters);
-    }
-    Ok((tx_page, rx_page))
-}
-
 // Whether two runs of this many pages have no page in common.
 fn are_apart(first: PageNo, other: PageNo, pages: u32) -> bool
     ensures { result ≡ are_runs_apart pages first.0 other.0 }
@@ -310,27 +324,22 @@ fn are_apart(first: PageNo, other: PageNo, pages: u32) -> bool
     first + pages <= other || other + pages <= first
 }
 
-// The first of this many pages at an address, which is `InvalidParameters` where they aren't there.
-fn run_at(
-    table: &PageTable,
-    ram_base: Address,
-    address: u64,
-    pages: u32,
-) -> Result<PageNo, ErrorCode>
+// The first of this many pages at an address, if they are there.
+fn run_at(table: &PageTable, ram_base: Address, address: u64, pages: u32) -> Option<PageNo>
     requires { pages ≤ MOST_BUFFER_PAGES }
-    ensures refusal { result_err result ≡ (if is_run_address (candidates_in table.now ram_base.0) pages address then None else Some ErrorCode.InvalidParameters) }
-    ensures page { IfOk result (λ page. page.0 ≡ page_number ram_base.0 address) }
-    ensures within { IfOk result (λ page. page.0 + pages ≤ length table.now) }
+    ensures found { is_some result ≡ is_run_address (candidates_in table.now ram_base.0) pages address }
+    ensures page { IfSome result (λ page. page.0 ≡ page_number ram_base.0 address) }
+    ensures within { IfSome result (λ page. page.0 + pages ≤ length table.now) }
 {
     let base = u64::from(ram_base.0);
     if address % 4096 != 0 || address < base {
-        return Err(ErrorCode::InvalidParameters);
+        return None;
     }
     let page = (address - base) / 4096;
     if page + u64::from(pages) > u64::from(table.pages()) {
-        return Err(ErrorCode::InvalidParameters);
+        return None;
     }
-    Ok(PageNo(page as u32))
+    Some(PageNo(page as u32))
 }
 
 // Whether an endpoint owns each of this many pages alone and may write it.
