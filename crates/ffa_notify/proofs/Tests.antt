@@ -1,24 +1,19 @@
 -- What the calls ask of bits, as tests of words.
-use Rattle.std.proofs.Common.{◌≡◌, ◌∙◌, ℕ, ◌%◌, ◌^◌, ◌<◌, Bool, true, false, [], ◌∷◌, None, Some, refl, sym, ap, arith}
-use Rattle.std.specs.Prelude.{◌==◌, ◌||◌, ◌&&◌, not, if◌then◌else◌}
+use Rattle.std.proofs.Common.{◌≡◌, ◌∙◌, ℕ, ◌%◌, ◌^◌, ◌<◌, Bool, true, false, refl, sym, ap, arith}
+use Rattle.std.specs.Prelude.{◌==◌, ◌||◌, ◌&&◌, not}
 use Rattle.std.specs.List.{list_all, list_any}
 use Rattle.std.specs.Int.{bit_not, w64}
 use Rattle.std.specs.Int.RustNames.{bit_or}
 use denote.Enum.Bare.{sameb}
 use lib.Bits.{bit_and}
-use Rattle.ffa_model.proofs.Guards.{invalid, denied}
 use Rattle.ffa_notify.specs.contracts.class.Class.{the_type}
 use Rattle.ffa_notify.specs.declared.class.Class.{Class}
 use Rattle.ffa_notify.specs.declared.class.Class.TheVariants.{Partitions, NormalWorld, Manager}
 use Rattle.ffa_notify.specs.Stored.{class_number}
-use Rattle.ffa_model.specs.Bits.{bits_of, high_half, is_set, low_half}
-use Rattle.ffa_model.specs.Calls.{first_failure}
-use Rattle.ffa_model.specs.declared.operation.ErrorCode.TheVariants.{Denied}
+use Rattle.ffa_model.specs.Bits.{bits_of, is_set}
 use Rattle.ffa_model.specs.Lists.{listed}
-use Rattle.ffa_model.specs.Notifications.{Notifications, class_of, has_pending, is_bindable, is_bound, is_bound_to_another, is_pending, is_unbindable, manager_class, normal_class, partition_class, pending_word, set_guards}
+use Rattle.ffa_model.specs.Notifications.{Notifications, class_of, has_pending, is_bindable, is_bound, is_bound_to_another, is_pending, is_unbindable, manager_class, normal_class, partition_class, pending_word}
 use Rattle.ffa_model.proofs.Bitmaps.{word_where-same, word_where-set}
-use Rattle.std.proofs.lemmas.Bool.{and_parts, ne_eqb}
-use Rattle.ffa_model.specs.State.{is_known_among}
 use Rattle.ffa_notify.proofs.Bits.{all_bits, any-same, set-not, set-or, some-bit}
 
 neither-is : (a b : Bool) → (a || b) ≡ not (not a && not b)
@@ -91,33 +86,3 @@ pub some-of-three : (v : Notifications) (r : ℕ) (a b c : Bool) → a ≡ list_
     → b ≡ list_any (is_pending v r normal_class) (listed 64 (λ k. k)) → c ≡ list_any (is_pending v r manager_class) (listed 64 (λ k. k))
     → ((a || b) || c) ≡ has_pending v r
 some-of-three v r a b c is_a is_b is_c = joined a b c ∙ (λ t. is_a t || (is_b t || (is_c t || false)))
-
--- whether one of two named endpoints is the caller and the other another, whom it knows then
-abbrev is_between : ℕ → ℕ → ℕ → ℕ → Bool
-is_between endpoints caller own other = own == caller && (is_known_among endpoints other && not (other == caller))
-
-pub between-known : (endpoints caller own other : ℕ) → is_between endpoints caller own other ≡ true → is_known_among endpoints other ≡ true
-between-known endpoints caller own other is = (and_parts _ _ (and_parts (own == caller) _ is).1).0
-
--- the checks of FFA_NOTIFICATION_SET up to the last
-module _ (endpoints : ℕ) (v : Notifications) (caller word flags bitmap own other : ℕ) (at_own : own ≡ high_half word) (at_other : other ≡ low_half word)
-    (between : is_between endpoints caller own other ≡ true) (flagged : (flags == 0 || flags == 2) ≡ true) (some : bitmap ≡ 0 → ⊥) where
-  pub set-refusal : (b : Bool) → b ≡ list_all (λ k. is_bound v other (class_of caller) k caller) (bits_of bitmap)
-      → (if b then None else Some Denied) ≡ first_failure (set_guards endpoints v caller word flags bitmap)
-  set-refusal b is =
-      let outer = and_parts (own == caller) (is_known_among endpoints other && not (other == caller)) between in
-      let inner = and_parts (is_known_among endpoints other) (not (other == caller)) outer.1 in
-      (λ t. first_failure ((sym outer.0 t, invalid)
-      ∷ (sym inner.0 t, invalid)
-      ∷ (sym inner.1 t, invalid)
-      ∷ (sym flagged t, invalid)
-      ∷ (sym (ap not (ne_eqb bitmap 0 some)) t, invalid)
-      ∷ (is t, denied)
-      ∷ []))
-      ∙ (λ t. first_failure ((at_own t == caller, invalid)
-      ∷ (is_known_among endpoints (at_other t), invalid)
-      ∷ (not (at_other t == caller), invalid)
-      ∷ (flags == 0 || flags == 2, invalid)
-      ∷ (not (bitmap == 0), invalid)
-      ∷ (list_all (λ k. is_bound v (at_other t) (class_of caller) k caller) (bits_of bitmap), denied)
-      ∷ []))

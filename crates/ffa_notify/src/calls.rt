@@ -1,15 +1,14 @@
 //! The calls of notifications (DEN0077A, 16).
-ghost use Rattle.std.specs.Prelude.{◌≡◌, ◌==◌, ◌||◌, ◌&&◌, not, true, Bool, List, length, Some, OnOk, OnErr, IfOk, IfErr};
+ghost use Rattle.std.specs.Prelude.{◌≡◌, ◌==◌, ◌||◌, true, Bool, List, length, Some, OnOk, OnErr, IfOk, IfErr};
 ghost use Rattle.std.specs.Result.{result_err};
 ghost use Rattle.ffa_model.specs.Bits.{bits_of, high_half, low_half};
-ghost use Rattle.ffa_model.specs.Calls.{first_failure};
+ghost use Rattle.ffa_model.specs.Calls.{first_failure, first_refusal};
 ghost use Rattle.ffa_model.specs.Notifications.{bind_guards, class_of, create_guards, destroy_guards, get_guards, get_reply, sender_guards, set_guards, unbind_guards, with_bitmaps, with_bound, with_framework_bit, with_pending, without_bitmaps, without_bound, without_pending};
 ghost use Rattle.ffa_model.specs.State.{is_known_among};
-ghost use Rattle.ffa_model.specs.declared.refusal.Refusal.{Refusal as Check};
 
 use crate::bitmaps::Bitmaps;
 use crate::class::Class;
-use ffa_model::{EndpointId, ErrorCode, Reply};
+use ffa_model::{EndpointId, ErrorCode, Refusal, Reply};
 
 /// The normal world, for which alone bitmaps are created and destroyed.
 const NORMAL_WORLD: EndpointId = EndpointId(0);
@@ -34,15 +33,7 @@ impl Bitmaps {
         ensures kept { OnErr result (self.new ≡ self.old) }
         ensures created { OnOk result (self.new ≡ with_bitmaps self.old 0) }
     {
-        if !is_normal_world(caller) {
-            return Err(ErrorCode::Denied);
-        }
-        if endpoint != 0 || contexts != 1 {
-            return Err(ErrorCode::InvalidParameters);
-        }
-        if self.has(NORMAL_WORLD) {
-            return Err(ErrorCode::Denied);
-        }
+        self.check_create(caller, endpoint, contexts)?;
         self.give(NORMAL_WORLD);
         Ok(())
     }
@@ -58,15 +49,7 @@ impl Bitmaps {
         ensures kept { OnErr result (self.new ≡ self.old) }
         ensures destroyed { OnOk result (self.new ≡ without_bitmaps self.old 0) }
     {
-        if !is_normal_world(caller) {
-            return Err(ErrorCode::Denied);
-        }
-        if endpoint != 0 {
-            return Err(ErrorCode::InvalidParameters);
-        }
-        if !self.has(NORMAL_WORLD) || self.has_pending(NORMAL_WORLD) {
-            return Err(ErrorCode::Denied);
-        }
+        self.check_destroy(caller, endpoint)?;
         self.take_away();
         Ok(())
     }
@@ -91,11 +74,8 @@ impl Bitmaps {
         ensures kept { OnErr result (self.new ≡ self.old) }
         ensures bound { OnOk result (self.new ≡ with_bound self.old caller.0 (high_half word) (bits_of bitmap)) }
     {
-        let sender = self.named_sender(caller, word, flags, bitmap)?;
-        if !self.is_bindable(caller, sender, bitmap) {
-            return Err(ErrorCode::Denied);
-        }
-        self.bind_bits(caller, sender, bitmap);
+        self.check_bind(caller, word, flags, bitmap)?;
+        self.bind_bits(caller, EndpointId::in_high_half(word), bitmap);
         Ok(())
     }
 
@@ -117,11 +97,8 @@ impl Bitmaps {
         ensures kept { OnErr result (self.new ≡ self.old) }
         ensures unbound { OnOk result (self.new ≡ without_bound self.old caller.0 (high_half word) (bits_of bitmap)) }
     {
-        let sender = self.named_sender(caller, word, flags, bitmap)?;
-        if !self.is_unbindable(caller, sender, bitmap) {
-            return Err(ErrorCode::Denied);
-        }
-        self.unbind_bits(caller, sender, bitmap);
+        self.check_unbind(caller, word, flags, bitmap)?;
+        self.unbind_bits(caller, EndpointId::in_high_half(word), bitmap);
         Ok(())
     }
 
@@ -144,17 +121,8 @@ impl Bitmaps {
         ensures kept { OnErr result (self.new ≡ self.old) }
         ensures pending { OnOk result (self.new ≡ with_pending self.old (low_half word) (class_of caller.0) (bits_of bitmap)) }
     {
-        let receiver = EndpointId::in_low_half(word);
-        if !self.is_between(caller, EndpointId::in_high_half(word), receiver) {
-            return Err(ErrorCode::InvalidParameters);
-        }
-        if !has_set_flags(flags) || bitmap == 0 {
-            return Err(ErrorCode::InvalidParameters);
-        }
-        if !self.is_settable(receiver, caller, bitmap) {
-            return Err(ErrorCode::Denied);
-        }
-        self.set_bits(receiver, Class::of(caller), bitmap);
+        self.check_set(caller, word, flags, bitmap)?;
+        self.set_bits(EndpointId::in_low_half(word), Class::of(caller), bitmap);
         Ok(())
     }
 
@@ -172,15 +140,7 @@ impl Bitmaps {
         ensures kept { OnErr result (self.new ≡ self.old) }
         ensures cleared { OnOk result (self.new ≡ without_pending self.old caller.0 flags) }
     {
-        if EndpointId::in_low_half(word) != caller
-            || EndpointId::in_high_half(word) != EndpointId(0)
-            || flags > 15
-        {
-            return Err(ErrorCode::InvalidParameters);
-        }
-        if !self.has(caller) {
-            return Err(ErrorCode::Denied);
-        }
+        self.check_get(caller, word, flags)?;
         let reply = self.asked(caller, flags);
         self.clear_asked(caller, flags);
         Ok(reply)
@@ -194,6 +154,164 @@ impl Bitmaps {
         self.set_bits(receiver, Class::Manager, 1);
     }
 
+    /// The checks of FFA_NOTIFICATION_BITMAP_CREATE, with w1 and w2. Nothing changes.
+    ///
+    /// # Errors
+    ///
+    /// The first check of the call that fails.
+    pub fn check_create(
+        &self,
+        caller: EndpointId,
+        endpoint: u32,
+        contexts: u32,
+    ) -> Result<(), Refusal>
+        ensures refusal { result_err result ≡ first_refusal (create_guards self.now caller.0 endpoint contexts) }
+    {
+        if !is_normal_world(caller) {
+            return Err(Refusal::NotNormalWorld);
+        }
+        if endpoint != 0 {
+            return Err(Refusal::EndpointNotNormalWorld);
+        }
+        if contexts != 1 {
+            return Err(Refusal::ContextCount);
+        }
+        if self.has(NORMAL_WORLD) {
+            return Err(Refusal::BitmapsExist);
+        }
+        Ok(())
+    }
+
+    /// The checks of FFA_NOTIFICATION_BITMAP_DESTROY, with w1. Nothing changes.
+    ///
+    /// # Errors
+    ///
+    /// The first check of the call that fails.
+    pub fn check_destroy(&self, caller: EndpointId, endpoint: u32) -> Result<(), Refusal>
+        ensures refusal { result_err result ≡ first_refusal (destroy_guards self.now caller.0 endpoint) }
+    {
+        if !is_normal_world(caller) {
+            return Err(Refusal::NotNormalWorld);
+        }
+        if endpoint != 0 {
+            return Err(Refusal::EndpointNotNormalWorld);
+        }
+        if !self.has(NORMAL_WORLD) {
+            return Err(Refusal::BitmapsMissing);
+        }
+        if self.has_pending(NORMAL_WORLD) {
+            return Err(Refusal::BitsPending);
+        }
+        Ok(())
+    }
+
+    /// The checks of FFA_NOTIFICATION_BIND, with w1, w2 and the bitmap. Nothing changes.
+    ///
+    /// # Errors
+    ///
+    /// The first check of the call that fails.
+    pub fn check_bind(
+        &self,
+        caller: EndpointId,
+        word: u32,
+        flags: u32,
+        bitmap: u64,
+    ) -> Result<(), Refusal>
+        requires { is_known_among (length self.now.bitmaps) caller.0 ≡ true }
+        ensures refusal { result_err result ≡ first_refusal (bind_guards (length self.now.bitmaps) self.now caller.0 word flags bitmap) }
+        ensures known { OnOk result (is_known_among (length self.now.bitmaps) (high_half word) ≡ true) }
+    {
+        let sender = self.named_sender(caller, word, flags, bitmap)?;
+        if !self.is_bindable(caller, sender, bitmap) {
+            return Err(Refusal::BitsTaken);
+        }
+        Ok(())
+    }
+
+    /// The checks of FFA_NOTIFICATION_UNBIND, with the same. Nothing changes.
+    ///
+    /// # Errors
+    ///
+    /// The first check of the call that fails.
+    pub fn check_unbind(
+        &self,
+        caller: EndpointId,
+        word: u32,
+        flags: u32,
+        bitmap: u64,
+    ) -> Result<(), Refusal>
+        requires { is_known_among (length self.now.bitmaps) caller.0 ≡ true }
+        ensures refusal { result_err result ≡ first_refusal (unbind_guards (length self.now.bitmaps) self.now caller.0 word flags bitmap) }
+        ensures known { OnOk result (is_known_among (length self.now.bitmaps) (high_half word) ≡ true) }
+    {
+        let sender = self.named_sender(caller, word, flags, bitmap)?;
+        if !self.is_unbindable(caller, sender, bitmap) {
+            return Err(Refusal::BitsNotTheSenders);
+        }
+        Ok(())
+    }
+
+    /// The checks of FFA_NOTIFICATION_SET, with the same. Nothing changes.
+    ///
+    /// # Errors
+    ///
+    /// The first check of the call that fails.
+    pub fn check_set(
+        &self,
+        caller: EndpointId,
+        word: u32,
+        flags: u32,
+        bitmap: u64,
+    ) -> Result<(), Refusal>
+        requires { is_known_among (length self.now.bitmaps) caller.0 ≡ true }
+        ensures refusal { result_err result ≡ first_refusal (set_guards (length self.now.bitmaps) self.now caller.0 word flags bitmap) }
+        ensures known { OnOk result (is_known_among (length self.now.bitmaps) (low_half word) ≡ true) }
+    {
+        let receiver = EndpointId::in_low_half(word);
+        if EndpointId::in_high_half(word) != caller {
+            return Err(Refusal::SenderIsAnother);
+        }
+        if !receiver.is_among(self.endpoints()) {
+            return Err(Refusal::ReceiverUnknown);
+        }
+        if receiver == caller {
+            return Err(Refusal::ReceiverIsCaller);
+        }
+        if !has_set_flags(flags) {
+            return Err(Refusal::FlagsReserved);
+        }
+        if bitmap == 0 {
+            return Err(Refusal::BitsNone);
+        }
+        if !self.is_settable(receiver, caller, bitmap) {
+            return Err(Refusal::BitsNotTheCallers);
+        }
+        Ok(())
+    }
+
+    /// The checks of FFA_NOTIFICATION_GET, with w1 and w2. Nothing changes.
+    ///
+    /// # Errors
+    ///
+    /// The first check of the call that fails.
+    pub fn check_get(&self, caller: EndpointId, word: u32, flags: u32) -> Result<(), Refusal>
+        ensures refusal { result_err result ≡ first_refusal (get_guards self.now caller.0 word flags) }
+    {
+        if EndpointId::in_low_half(word) != caller {
+            return Err(Refusal::ReceiverIsAnother);
+        }
+        if EndpointId::in_high_half(word) != EndpointId(0) {
+            return Err(Refusal::ContextUnknown);
+        }
+        if flags > 15 {
+            return Err(Refusal::ClassesUnknown);
+        }
+        if !self.has(caller) {
+            return Err(Refusal::BitmapsMissing);
+        }
+        Ok(())
+    }
+
     // The sender of FFA_NOTIFICATION_BIND and FFA_NOTIFICATION_UNBIND, where what both ask for first holds: the caller is
     // named, with another endpoint, no flag is set, a bit is, and the caller has bitmaps.
     fn named_sender(
@@ -202,30 +320,32 @@ impl Bitmaps {
         word: u32,
         flags: u32,
         bitmap: u64,
-    ) -> Result<EndpointId, ErrorCode>
-        ensures refused { IfErr result (λ code. (rest : List (Bool × Check)) → first_failure (sender_guards (length self.now.bitmaps) self.now caller.0 word flags bitmap rest) ≡ Some code) }
-        ensures passed { OnOk result ((rest : List (Bool × Check)) → first_failure (sender_guards (length self.now.bitmaps) self.now caller.0 word flags bitmap rest) ≡ first_failure rest) }
+    ) -> Result<EndpointId, Refusal>
+        ensures refused { IfErr result (λ refusal. (rest : List (Bool × Refusal)) → first_refusal (sender_guards (length self.now.bitmaps) self.now caller.0 word flags bitmap rest) ≡ Some refusal) }
+        ensures passed { OnOk result ((rest : List (Bool × Refusal)) → first_refusal (sender_guards (length self.now.bitmaps) self.now caller.0 word flags bitmap rest) ≡ first_refusal rest) }
         ensures sender { IfOk result (λ sender. sender.0 ≡ high_half word) }
         ensures known { IfOk result (λ sender. is_known_among (length self.now.bitmaps) sender.0 ≡ true) }
     {
         let sender = EndpointId::in_high_half(word);
-        if !self.is_between(caller, EndpointId::in_low_half(word), sender) {
-            return Err(ErrorCode::InvalidParameters);
+        if EndpointId::in_low_half(word) != caller {
+            return Err(Refusal::ReceiverIsAnother);
         }
-        if flags != 0 || bitmap == 0 {
-            return Err(ErrorCode::InvalidParameters);
+        if !sender.is_among(self.endpoints()) {
+            return Err(Refusal::SenderUnknown);
+        }
+        if sender == caller {
+            return Err(Refusal::SenderIsCaller);
+        }
+        if flags != 0 {
+            return Err(Refusal::FlagsReserved);
+        }
+        if bitmap == 0 {
+            return Err(Refusal::BitsNone);
         }
         if !self.has(caller) {
-            return Err(ErrorCode::Denied);
+            return Err(Refusal::BitmapsMissing);
         }
         Ok(sender)
-    }
-
-    // Whether one of two named endpoints is the caller and the other another.
-    fn is_between(&self, caller: EndpointId, own: EndpointId, other: EndpointId) -> bool
-        ensures { result ≡ (own.0 == caller.0 && (is_known_among (length self.now.bitmaps) other.0 && not (other.0 == caller.0))) }
-    {
-        own == caller && other.is_among(self.endpoints()) && other != caller
     }
 }
 

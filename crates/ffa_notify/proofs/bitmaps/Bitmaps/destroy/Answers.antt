@@ -1,0 +1,10 @@
+use Rattle.ffa_model.specs.Notifications.{destroy_guards}
+use Rattle.ffa_model.proofs.Guards.{answers-code, answers-pass}
+use Rattle.ffa_notify.proofs.bitmaps.Bitmaps.destroy.Goals as goal
+
+pub returns-in_err-check_destroy-clause-refusal : goal.returns-in_err-check_destroy-clause-refusal
+returns-in_err-check_destroy-clause-refusal c =
+    answers-code (destroy_guards c.args.self.now c.args.caller.0 c.args.endpoint) c.in_err-check_destroy.field-0.0 c.from_residual.result c.in_err-check_destroy.ensures.refusal c.from_residual.ensures.1
+
+pub returns-clause-refusal : goal.returns-clause-refusal
+returns-clause-refusal c = answers-pass (destroy_guards c.args.self.now c.args.caller.0 c.args.endpoint) c.in_ok-check_destroy.ensures.refusal
