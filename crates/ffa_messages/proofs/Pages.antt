@@ -8,11 +8,11 @@ use Rattle.std.proofs.lemmas.Option.{none-some}
 use Rattle.ffa_model.specs.Buffers.{buffers_in, buffers_with, buffers_with_rx}
 use Rattle.ffa_model.specs.Calls.{first_failure}
 use Rattle.ffa_model.specs.Identifiers.{place}
-use Rattle.ffa_model.specs.Messages.{MessageHeader, header_in, send2_guards}
+use Rattle.ffa_model.specs.Messages.{header_in, send2_guards}
 use Rattle.ffa_model.specs.Ram.{Ram, page_of, with_bytes, with_page}
 use Rattle.ffa_model.specs.State.{Party, Buffers}
-use Rattle.ffa_rxtx.specs.Parts.{IsInRam, run_in, tx_in, with_run, with_rx_bytes}
-use Rattle.ffa_messages.specs.Parts.{AreEndsApart, AreInRam, IsBeside, sent_in}
+use Rattle.ffa_rxtx.specs.Parts.{IsInRam, with_run, with_rx_bytes}
+use Rattle.ffa_messages.specs.Parts.{AreEndsApart, AreInRam, IsBeside, receiver_in, sent_in}
 
 -- who has buffers has RX in RAM
 pub rx_in_ram : (pages e : ℕ) (buffers : List (Option Buffers)) → AreInRam pages buffers → is_some (buffers_in buffers e) ≡ true → IsSomeAnd (buffers_in buffers e) (λ (b : Buffers). IsInRam pages b)
@@ -70,17 +70,12 @@ pub length-filled : {T E : Type 0} (result : Result T E) (old new : Ram) (own : 
 length-filled (Ok reply) old new own bytes kept full = ap (λ (r : Ram). length r.pages) full ∙ length-with_rx_bytes old own bytes
 length-filled (Err code) old new own bytes kept full = ap (λ (r : Ram). length r.pages) kept
 
--- the RX of who receives a message that was read and passes its checks is beside the sender's TX
-pub rx_beside : (parties : List Party) (ram : Ram) (buffers : List (Option Buffers)) (e : ℕ) (b : Buffers) (m : MessageHeader) → AreEndsApart parties ram buffers e
-    → Some b ≡ buffers_in buffers e → m ≡ header_in (run_in ram b.tx b.pages) → None ≡ first_failure (send2_guards parties buffers e m)
-    → is_some (buffers_in buffers m.receiver) ≡ true → IsSomeAnd (buffers_in buffers m.receiver) (λ (to : Buffers). IsBeside b to)
-rx_beside parties ram buffers e b m apart own is passes has = of (buffers_in buffers m.receiver) refl has
+-- the RX of who receives a message that passes its checks is beside the sender's TX
+pub rx_beside : (parties : List Party) (ram : Ram) (buffers : List (Option Buffers)) (e receiver : ℕ) (b : Buffers) → AreEndsApart parties ram buffers e
+    → None ≡ first_failure (send2_guards parties buffers e (header_in (sent_in ram buffers e))) → Some b ≡ buffers_in buffers e → receiver ≡ receiver_in ram buffers e
+    → is_some (buffers_in buffers receiver) ≡ true → IsSomeAnd (buffers_in buffers receiver) (λ (to : Buffers). IsBeside b to)
+rx_beside parties ram buffers e receiver b apart passes own is has = of (buffers_in buffers receiver) refl has
   where
-    read : header_in (sent_in ram buffers e) ≡ m
-    read = ap (λ (o : Option Buffers). header_in (tx_in ram o)) (sym own) ∙ sym is
-
-    of : (o : Option Buffers) → buffers_in buffers m.receiver ≡ o → is_some o ≡ true → IsSomeAnd o (λ (to : Buffers). IsBeside b to)
+    of : (o : Option Buffers) → buffers_in buffers receiver ≡ o → is_some o ≡ true → IsSomeAnd o (λ (to : Buffers). IsBeside b to)
     of None at has = absurd (false≢true has)
-    of (Some to) at has =
-        apart (ap (λ (h : MessageHeader). first_failure (send2_guards parties buffers e h)) read ∙ sym passes) b to (sym own)
-        (ap (λ (h : MessageHeader). buffers_in buffers h.receiver) read ∙ at)
+    of (Some to) at has = apart (sym passes) b to (sym own) (ap (buffers_in buffers) (sym is) ∙ at)

@@ -1,74 +1,49 @@
--- The checks of a call in groups, as the code makes them.
-use Rattle.std.proofs.Common.{◌≡◌, ◌∙◌, ◌+◌, ℕ, Bool, true, false, sym, List, [], ◌∷◌, Option, Some, None, length, ap}
-use Rattle.std.specs.Prelude.{◌==◌, not, nat_le, is_some, if◌then◌else◌}
-use Rattle.std.proofs.lemmas.Bool.{false≢true}
-use Rattle.ffa_model.specs.declared.operation.ErrorCode.{ErrorCode}
-use Rattle.ffa_model.specs.declared.operation.ErrorCode.TheVariants.{InvalidParameters, NoMemory, Busy, Denied}
+-- The checks of messages, as the code makes them.
+use Rattle.std.proofs.Common.{◌≡◌, ◌∙◌, ℕ, ◌*◌, ◌^◌, ◌<◌, is_some, Bool, true, false, List, [], ◌∷◌, ◌++◌, Option, Some, None, refl, sym, ap, arith, eq-eqb}
+use Rattle.std.specs.Prelude.{◌==◌, if◌then◌else◌}
+use Rattle.std.specs.Option.{option_or}
 use Rattle.ffa_model.specs.declared.refusal.Refusal.{Refusal}
-use Rattle.ffa_model.specs.Bits.{high_half, low_half}
-use Rattle.ffa_model.specs.Buffers.{buffers_in, is_full, room_of}
-use Rattle.ffa_model.specs.Calls.{first_failure}
-use Rattle.ffa_model.specs.Messages.{MessageHeader, send2_guards}
-use Rattle.ffa_model.specs.RunStates.{Schedule, is_waiting, request_guards, status_in}
-use Rattle.ffa_model.specs.State.{Party, Buffers, has_property, is_known_among}
-use Rattle.ffa_model.proofs.Guards.{one-code, invalid, denied, busy, no_memory}
-use Rattle.ffa_messages.specs.Parts.{is_addressed, has_free_rx, is_header_from, is_whole, may_request, take_part}
+use Rattle.ffa_model.specs.declared.refusal.Refusal.TheVariants.{AnswerMisdirected, BuffersMissing, FlagsReserved, NoRequest}
+use Rattle.ffa_model.specs.Bits.{high_half, low_half, word_of_two}
+use Rattle.ffa_model.specs.Buffers.{buffers_in, room_of}
+use Rattle.ffa_model.specs.Calls.{first_refusal}
+use Rattle.ffa_model.specs.Messages.{MessageHeader, header_in, send2_guards}
+use Rattle.ffa_model.specs.Ram.{Ram}
+use Rattle.ffa_model.specs.RunStates.{Schedule, is_answer, requester, response_guards, work_in}
+use Rattle.ffa_model.specs.State.{Party, Buffers}
+use Rattle.ffa_rxtx.specs.Parts.{run_in, tx_in}
+use Rattle.ffa_messages.specs.Parts.{ends_guards, header_guards, sent_in}
 
-pub request_refusal : (parties : List Party) (c : Schedule) (word flags : ℕ) → first_failure (request_guards parties c word flags)
-    ≡ (if is_addressed parties c.runner word flags
-    then (if may_request parties c.runner (low_half word) then (if is_waiting (status_in c (low_half word)) then None else Some Busy) else Some Denied)
-    else Some InvalidParameters)
-request_refusal parties c word flags =
-    let busies : List (Bool × Refusal) = (is_waiting (status_in c (low_half word)), busy) ∷ [] in
-    let denials : List (Bool × Refusal) =
-    (not (low_half word == 0), denied) ∷ (has_property parties c.runner 1, denied) ∷ (has_property parties (low_half word) 0, denied) ∷ busies in
-    one-code invalid (high_half word == c.runner) ((flags == 0) ∷ is_known_among (length parties) (low_half word) ∷ not (low_half word == c.runner) ∷ []) denials
-    ∙ ap (λ (next : Option ErrorCode). if is_addressed parties c.runner word flags then next else Some InvalidParameters)
-    (one-code denied (not (low_half word == 0)) (has_property parties c.runner 1 ∷ has_property parties (low_half word) 0 ∷ []) busies)
+-- of a response from the runner to the endpoint that asked the flags alone are left
+pub refused-flags : (c : Schedule) (word flags by : ℕ) (unset : Bool) → word < 2 ^ 32 → Some by ≡ requester (work_in c c.runner) → high_half word ≡ c.runner → low_half word ≡ by → unset ≡ (flags == 0)
+    → (if unset then None else Some FlagsReserved) ≡ first_refusal (response_guards c word flags)
+refused-flags c word flags by unset fits asked from to is =
+    let named : word ≡ word_of_two c.runner by = omega (arith, fits, from, to) in
+    (λ i. first_refusal ((sym (eq-eqb word (word_of_two c.runner by) named) i, AnswerMisdirected) ∷ (is i, FlagsReserved) ∷ []))
+    ∙ (λ i. first_refusal ((is_some (asked i), NoRequest) ∷ (is_answer c.runner word (asked i), AnswerMisdirected) ∷ (flags == 0, FlagsReserved) ∷ []))
 
-pub send2_refusal : (parties : List Party) (buffers : List (Option Buffers)) (caller : ℕ) (m : MessageHeader) → first_failure (send2_guards parties buffers caller m)
-    ≡ (if is_some (buffers_in buffers caller)
-    then (if is_header_from parties caller m
-    then (if is_whole (room_of (buffers_in buffers caller)) m
-    then (if take_part parties caller m.receiver
-    then (if has_free_rx buffers m.receiver
-    then (if nat_le (m.offset + m.size) (room_of (buffers_in buffers m.receiver)) then None else Some NoMemory)
-    else Some Busy)
-    else Some Denied)
-    else Some InvalidParameters)
-    else Some InvalidParameters)
-    else Some InvalidParameters)
-send2_refusal parties buffers caller m =
-    let room : List (Bool × Refusal) = (nat_le (m.offset + m.size) (room_of (buffers_in buffers m.receiver)), no_memory) ∷ [] in
-    let busies : List (Bool × Refusal) =
-    (is_some (buffers_in buffers m.receiver), busy) ∷ (not (is_full (buffers_in buffers m.receiver)), busy) ∷ room in
-    let denials : List (Bool × Refusal) = (has_property parties caller 2, denied) ∷ (has_property parties m.receiver 2, denied) ∷ busies in
-    let cut : List (Bool × Refusal) =
-    (nat_le 20 m.offset, invalid) ∷ (not (m.size == 0), invalid) ∷ (nat_le (m.offset + m.size) (room_of (buffers_in buffers caller)), invalid) ∷ denials in
-    ap (λ (next : Option ErrorCode). if is_some (buffers_in buffers caller) then next else Some InvalidParameters)
-    (one-code invalid (m.flags == 0) ((m.reserved == 0) ∷ (m.sender == caller) ∷ is_known_among (length parties) m.receiver ∷ not (m.receiver == caller) ∷ []) cut
-    ∙ ap (λ (next : Option ErrorCode). if is_header_from parties caller m then next else Some InvalidParameters)
-    (one-code invalid (nat_le 20 m.offset) (not (m.size == 0) ∷ nat_le (m.offset + m.size) (room_of (buffers_in buffers caller)) ∷ []) denials
-    ∙ ap (λ (next : Option ErrorCode). if is_whole (room_of (buffers_in buffers caller)) m then next else Some InvalidParameters)
-    (one-code denied (has_property parties caller 2) (has_property parties m.receiver 2 ∷ []) busies
-    ∙ ap (λ (next : Option ErrorCode). if take_part parties caller m.receiver then next else Some Denied)
-    (one-code busy (is_some (buffers_in buffers m.receiver)) (not (is_full (buffers_in buffers m.receiver)) ∷ []) room))))
+-- guards in two parts
+refusal-append : (guards more : List (Bool × Refusal)) → first_refusal (guards ++ more) ≡ option_or (first_refusal guards) (first_refusal more)
+refusal-append [] more = refl
+refusal-append ((true, one) ∷ guards) more = refusal-append guards more
+refusal-append ((false, one) ∷ guards) more = refl
 
--- a message that is whole and from the caller is refused for its ends alone
-pub send2-ends : (parties : List Party) (buffers : List (Option Buffers)) (caller : ℕ) (m : MessageHeader)
-    → is_some (buffers_in buffers caller) ≡ true → is_header_from parties caller m ≡ true → is_whole (room_of (buffers_in buffers caller)) m ≡ true
-    → first_failure (send2_guards parties buffers caller m)
-    ≡ (if take_part parties caller m.receiver
-    then (if has_free_rx buffers m.receiver
-    then (if nat_le (m.offset + m.size) (room_of (buffers_in buffers m.receiver)) then None else Some NoMemory)
-    else Some Busy)
-    else Some Denied)
-send2-ends parties buffers caller m has from whole = send2_refusal parties buffers caller m ∙ rw (has, from, whole)
+-- the message in TX of a caller with these buffers, whose header is read
+module _ (parties : List Party) (ram : Ram) (buffers : List (Option Buffers)) (e : ℕ) (own : Buffers) (room : ℕ) (m : MessageHeader) (has : Some own ≡ buffers_in buffers e)
+    (spans : room ≡ 4096 * own.pages) (read : m ≡ header_in (run_in ram own.tx own.pages)) where
+  in-parts : option_or (first_refusal (header_guards parties e room m)) (first_refusal (ends_guards parties buffers e m))
+      ≡ first_refusal (send2_guards parties buffers e (header_in (sent_in ram buffers e)))
+  in-parts =
+      let sent : m ≡ header_in (sent_in ram buffers e) = read ∙ ap (λ (o : Option Buffers). header_in (tx_in ram o)) has in
+      let rooms : room ≡ room_of (buffers_in buffers e) = spans ∙ ap room_of has in
+      sym (refusal-append (header_guards parties e room m) (ends_guards parties buffers e m))
+      ∙ (λ i. first_refusal ((is_some (has i), BuffersMissing) ∷ header_guards parties e (rooms i) (sent i) ++ ends_guards parties buffers e (sent i)))
 
--- the ends' own refusal is the message's
-pub ends-refused : (part free fits : Bool) (o : Option ErrorCode) → is_some o ≡ true
-    → o ≡ (if part then (if free then None else Some Busy) else Some Denied)
-    → o ≡ (if part then (if free then (if fits then None else Some NoMemory) else Some Busy) else Some Denied)
-ends-refused true true fits o some is = absurd (false≢true (sym (ap is_some is) ∙ some))
-ends-refused true false fits o some is = is
-ends-refused false free fits o some is = is
+  -- is refused for its header, and else for its ends
+  pub refused-header : (refusal : Refusal) → Some refusal ≡ first_refusal (header_guards parties e room m)
+      → Some refusal ≡ first_refusal (send2_guards parties buffers e (header_in (sent_in ram buffers e)))
+  refused-header refusal is = ap (λ (o : Option Refusal). option_or o (first_refusal (ends_guards parties buffers e m))) is ∙ in-parts
+
+  pub refused-ends : (o : Option Refusal) → None ≡ first_refusal (header_guards parties e room m) → o ≡ first_refusal (ends_guards parties buffers e m)
+      → o ≡ first_refusal (send2_guards parties buffers e (header_in (sent_in ram buffers e)))
+  refused-ends o passes is = (λ i. option_or (passes i) (is i)) ∙ in-parts

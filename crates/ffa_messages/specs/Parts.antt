@@ -1,7 +1,8 @@
 -- What a message is read from, over the parts of the machine, and its checks by what they are about.
-use Rattle.std.specs.Prelude.{◌≡◌, ℕ, ◌+◌, ◌==◌, Bool, true, false, not, ◌&&◌, nat_le, List, length, Option, Some, None, slice_index_or, is_some}
-use Rattle.ffa_model.specs.Bits.{high_half, low_half}
-use Rattle.ffa_model.specs.Buffers.{buffers_in, is_full}
+use Rattle.std.specs.Prelude.{◌≡◌, ℕ, ◌+◌, ◌==◌, Bool, true, false, not, nat_le, List, [], ◌∷◌, length, Option, Some, None, slice_index_or, is_some}
+use Rattle.ffa_model.specs.declared.refusal.Refusal.{Refusal}
+use Rattle.ffa_model.specs.declared.refusal.Refusal.TheVariants.{FlagsReserved, HeaderReserved, SenderIsAnother, ReceiverUnknown, ReceiverIsCaller, MessageInHeader, MessageEmpty, MessageTooLong, MessagesUnsent, MessagesUnreceived, ReceiverBuffersMissing, ReceiverRxFull, ReceiverRxSmall}
+use Rattle.ffa_model.specs.Buffers.{buffers_in, is_full, room_of}
 use Rattle.ffa_model.specs.Calls.{first_failure}
 use Rattle.ffa_model.specs.Lists.{is_in_run}
 use Rattle.ffa_model.specs.Messages.{MessageHeader, header_in, send2_guards}
@@ -18,12 +19,15 @@ AreInRam pages buffers = (place : ℕ) (b : Buffers) → slice_index_or buffers 
 abbrev pub IsBeside : Buffers → Buffers → Type 0
 IsBeside from to = (p : ℕ) → is_in_run from.tx from.pages p ≡ true → is_in_run to.rx to.pages p ≡ false
 
--- what e sends, which are the bytes of its TX, and the endpoint that is to receive it
+-- what e sends, which are the bytes of its TX, the endpoint that is to receive it, and how many bytes with the header
 abbrev pub sent_in : Ram → List (Option Buffers) → ℕ → List ℕ
 sent_in ram buffers e = tx_in ram (buffers_in buffers e)
 
 abbrev pub receiver_in : Ram → List (Option Buffers) → ℕ → ℕ
 receiver_in ram buffers e = (header_in (sent_in ram buffers e)).receiver
+
+abbrev pub size_in : Ram → List (Option Buffers) → ℕ → ℕ
+size_in ram buffers e = (header_in (sent_in ram buffers e)).offset + (header_in (sent_in ram buffers e)).size
 
 -- where e's message passes its checks, no page of e's TX is one of the receiver's RX
 abbrev pub AreEndsApart : List Party → Ram → List (Option Buffers) → ℕ → Type 0
@@ -43,31 +47,25 @@ header_of m =
       size = m.size;
     }
 
--- w1 and w2 of a direct request are from the runner to another endpoint, without flags
-abbrev pub is_addressed : List Party → ℕ → ℕ → ℕ → Bool
-is_addressed parties runner word flags =
-    high_half word == runner
-    && (flags == 0 && (is_known_among (length parties) (low_half word) && not (low_half word == runner)))
+-- the checks of a message by itself, in the TX of a caller that has room for so many bytes there
+abbrev pub header_guards : List Party → ℕ → ℕ → MessageHeader → List (Bool × Refusal)
+header_guards parties caller room m =
+    (m.flags == 0, FlagsReserved)
+    ∷ (m.reserved == 0, HeaderReserved)
+    ∷ (m.sender == caller, SenderIsAnother)
+    ∷ (is_known_among (length parties) m.receiver, ReceiverUnknown)
+    ∷ (not (m.receiver == caller), ReceiverIsCaller)
+    ∷ (nat_le 20 m.offset, MessageInHeader)
+    ∷ (not (m.size == 0), MessageEmpty)
+    ∷ (nat_le (m.offset + m.size) room, MessageTooLong)
+    ∷ []
 
--- both ends of a direct request take part in such requests
-abbrev pub may_request : List Party → ℕ → ℕ → Bool
-may_request parties sender receiver =
-    not (receiver == 0) && (has_property parties sender 1 && has_property parties receiver 0)
-
--- a header is from the caller to another endpoint, without flags
-abbrev pub is_header_from : List Party → ℕ → MessageHeader → Bool
-is_header_from parties caller m =
-    m.flags == 0
-    && (m.reserved == 0 && (m.sender == caller && (is_known_among (length parties) m.receiver && not (m.receiver == caller))))
-
--- the payload has bytes, which stand behind the header and end within a TX of so many bytes
-abbrev pub is_whole : ℕ → MessageHeader → Bool
-is_whole room m = nat_le 20 m.offset && (not (m.size == 0) && nat_le (m.offset + m.size) room)
-
--- both ends of a message take part in indirect messages
-abbrev pub take_part : List Party → ℕ → ℕ → Bool
-take_part parties sender receiver = has_property parties sender 2 && has_property parties receiver 2
-
--- an endpoint has an RX that isn't full
-abbrev pub has_free_rx : List (Option Buffers) → ℕ → Bool
-has_free_rx buffers e = is_some (buffers_in buffers e) && not (is_full (buffers_in buffers e))
+-- the checks of its ends, which are the caller and the receiver
+abbrev pub ends_guards : List Party → List (Option Buffers) → ℕ → MessageHeader → List (Bool × Refusal)
+ends_guards parties buffers caller m =
+    (has_property parties caller 2, MessagesUnsent)
+    ∷ (has_property parties m.receiver 2, MessagesUnreceived)
+    ∷ (is_some (buffers_in buffers m.receiver), ReceiverBuffersMissing)
+    ∷ (not (is_full (buffers_in buffers m.receiver)), ReceiverRxFull)
+    ∷ (nat_le (m.offset + m.size) (room_of (buffers_in buffers m.receiver)), ReceiverRxSmall)
+    ∷ []

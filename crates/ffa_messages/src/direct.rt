@@ -1,17 +1,16 @@
 //! Direct messages (DEN0077A, 7.1 and 15).
-ghost use Rattle.std.specs.Prelude.{◌≡◌, length, map, true, OnOk, OnErr, IfOk};
+ghost use Rattle.std.specs.Prelude.{◌≡◌, length, map, true, Some, OnOk, OnErr, IfOk};
 ghost use Rattle.std.specs.Option.{option_map};
 ghost use Rattle.std.specs.Result.{result_err};
 ghost use Rattle.ffa_model.specs.Bits.{high_half, low_half};
-ghost use Rattle.ffa_model.specs.Calls.{first_failure};
+ghost use Rattle.ffa_model.specs.Calls.{first_failure, first_refusal};
 ghost use Rattle.ffa_model.specs.First.{party_of};
 ghost use Rattle.ffa_model.specs.RunStates.{finished, is_waiting, request_guards, requested, requester, response_guards, status_in, work_in};
 ghost use Rattle.ffa_model.specs.Sound.{IsSound};
 ghost use Rattle.ffa_model.specs.State.{is_partition_among};
-ghost use Rattle.ffa_messages.specs.Parts.{is_addressed, may_request};
 
 use crate::parties::{receives_direct_requests, sends_direct_requests};
-use ffa_model::{EndpointId, ErrorCode, Manifest, Reply, Status, Work};
+use ffa_model::{EndpointId, ErrorCode, Manifest, Refusal, Reply, Status, Work};
 use ffa_schedule::Chain;
 
 /// A direct message in registers: the identifier of the call in w0, w1, w2 and the payload in x3 to x7.
@@ -37,16 +36,6 @@ impl DirectMessage {
         ensures { result.0 ≡ low_half self.now.word }
     {
         EndpointId::in_low_half(self.word)
-    }
-
-    // Whether the message is from the runner to another endpoint, without flags.
-    fn is_addressed(&self, manifest: &Manifest, runner: EndpointId) -> bool
-        ensures { result ≡ is_addressed (map party_of manifest.now.endpoints.items) runner.0 self.now.word self.now.flags }
-    {
-        self.sender() == runner
-            && self.flags == 0
-            && self.receiver().is_among(manifest.endpoints.len())
-            && self.receiver() != runner
     }
 
     // What the receiver is passed.
@@ -81,7 +70,7 @@ pub fn direct_req(
     ensures changed { OnOk result (chain.new ≡ requested chain.old (low_half message.now.word)) }
     ensures sound { IsSound chain.new }
 {
-    let receiver = free_receiver(chain, manifest, message)?;
+    let receiver = check_direct_req(chain, manifest, message)?;
     chain.request(receiver);
     Ok(message.passed())
 }
@@ -100,28 +89,18 @@ pub fn direct_resp(chain: &mut Chain, message: &DirectMessage) -> Result<Reply, 
     ensures changed { OnOk result (chain.new ≡ finished chain.old (low_half message.now.word)) }
     ensures sound { IsSound chain.new }
 {
-    let requester = match requester(chain) {
-        Some(requester) => requester,
-        None => return Err(ErrorCode::Denied),
-    };
-    if message.sender() != chain.runner() || message.receiver() != requester {
-        return Err(ErrorCode::InvalidParameters);
-    }
-    if message.flags != 0 {
-        return Err(ErrorCode::InvalidParameters);
-    }
+    check_direct_resp(chain, message)?;
     chain.respond();
     Ok(message.passed())
 }
 
-// The receiver of a request that the runner may make.
-#[tactic(auto, using(crate::proofs::Refusals::request_refusal))]
-fn free_receiver(
+/// The checks of FFA_MSG_SEND_DIRECT_REQ in order: the first that fails, or the receiver, which may be asked.
+pub fn check_direct_req(
     chain: &Chain,
     manifest: &Manifest,
     message: &DirectMessage,
-) -> Result<EndpointId, ErrorCode>
-    ensures refusal { result_err result ≡ first_failure (request_guards (map party_of manifest.now.endpoints.items) chain.now message.now.word message.now.flags) }
+) -> Result<EndpointId, Refusal>
+    ensures refusal { result_err result ≡ first_refusal (request_guards (map party_of manifest.now.endpoints.items) chain.now message.now.word message.now.flags) }
     ensures receiver { IfOk result (λ receiver. receiver.0 ≡ low_half message.now.word) }
     ensures partition { IfOk result (λ receiver. is_partition_among (length manifest.now.endpoints.items) receiver.0 ≡ true) }
     ensures waiting { IfOk result (λ receiver. is_waiting (status_in chain.now receiver.0) ≡ true) }
@@ -129,16 +108,53 @@ fn free_receiver(
 {
     let runner = chain.runner();
     let receiver = message.receiver();
-    if !message.is_addressed(manifest, runner) {
-        return Err(ErrorCode::InvalidParameters);
+    if message.sender() != runner {
+        return Err(Refusal::SenderIsAnother);
     }
-    if !may_request(manifest, runner, receiver) {
-        return Err(ErrorCode::Denied);
+    if message.flags != 0 {
+        return Err(Refusal::FlagsReserved);
+    }
+    if !receiver.is_among(manifest.endpoints.len()) {
+        return Err(Refusal::ReceiverUnknown);
+    }
+    if receiver == runner {
+        return Err(Refusal::ReceiverIsCaller);
+    }
+    if receiver == EndpointId(0) {
+        return Err(Refusal::ReceiverIsNormalWorld);
+    }
+    if !sends_direct_requests(manifest, runner) {
+        return Err(Refusal::RequestsUnsent);
+    }
+    if !receives_direct_requests(manifest, receiver) {
+        return Err(Refusal::RequestsUnreceived);
     }
     if !is_waiting(chain, receiver) {
-        return Err(ErrorCode::Busy);
+        return Err(Refusal::ReceiverNotWaiting);
     }
     Ok(receiver)
+}
+
+/// The checks of FFA_MSG_SEND_DIRECT_RESP in order: the first that fails, or the endpoint whose request is answered.
+pub fn check_direct_resp(chain: &Chain, message: &DirectMessage) -> Result<EndpointId, Refusal>
+    ensures refusal { result_err result ≡ first_refusal (response_guards chain.now message.now.word message.now.flags) }
+    ensures requester { IfOk result (λ by. requester (work_in chain.now chain.now.runner) ≡ Some by.0) }
+    ensures receiver { IfOk result (λ by. by.0 ≡ low_half message.now.word) }
+    ensures sound { IsSound chain.now }
+{
+    let requester = match requester(chain) {
+        Some(requester) => requester,
+        None => return Err(Refusal::NoRequest),
+    };
+    // Proof step: w1 fits a u32.
+    let _word = message.word;
+    if message.sender() != chain.runner() || message.receiver() != requester {
+        return Err(Refusal::AnswerMisdirected);
+    }
+    if message.flags != 0 {
+        return Err(Refusal::FlagsReserved);
+    }
+    Ok(requester)
 }
 
 // Whether an endpoint waits.
@@ -146,15 +162,6 @@ fn is_waiting(chain: &Chain, endpoint: EndpointId) -> bool
     ensures { result ≡ is_waiting (status_in chain.now endpoint.0) }
 {
     matches!(chain.status(endpoint), Status::Waiting)
-}
-
-// Whether both ends of a direct request take part in such requests. The normal world receives none.
-fn may_request(manifest: &Manifest, sender: EndpointId, receiver: EndpointId) -> bool
-    ensures { result ≡ may_request (map party_of manifest.now.endpoints.items) sender.0 receiver.0 }
-{
-    receiver != EndpointId(0)
-        && sends_direct_requests(manifest, sender)
-        && receives_direct_requests(manifest, receiver)
 }
 
 // The endpoint whose request the runner answers, if there is one.

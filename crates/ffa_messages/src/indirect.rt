@@ -1,19 +1,19 @@
 //! Indirect messages (DEN0077A, 7.1 and 15).
-ghost use Rattle.std.specs.Prelude.{◌≡◌, ◌+◌, ◌*◌, ◌≤◌, length, map, take, true, is_some, if◌then◌else◌, None, Some, OnOk, OnErr, IfOk, IsSomeAnd};
+ghost use Rattle.std.specs.Prelude.{◌≡◌, ◌+◌, ◌*◌, ◌≤◌, length, map, take, true, is_some, Some, OnOk, OnErr, IfOk, IsSomeAnd};
 ghost use Rattle.std.specs.Result.{result_err};
 ghost use Rattle.ffa_model.specs.Buffers.{buffers_in, buffers_with_rx, room_of};
-ghost use Rattle.ffa_model.specs.Calls.{first_failure};
+ghost use Rattle.ffa_model.specs.Calls.{first_failure, first_refusal};
 ghost use Rattle.ffa_model.specs.First.{party_of};
 ghost use Rattle.ffa_model.specs.Messages.{header_in, message_in, send2_guards};
 ghost use Rattle.ffa_model.specs.Ram.{number_in, page_of};
 ghost use Rattle.ffa_model.specs.State.{is_known_among};
 ghost use Rattle.ffa_rxtx.specs.Parts.{IsInRam, run_in, with_run, with_rx_bytes};
 ghost use Rattle.ffa_rxtx.specs.Stored.{buffers_of};
-ghost use Rattle.ffa_messages.specs.Parts.{AreEndsApart, AreInRam, IsBeside, has_free_rx, header_of, is_header_from, is_whole, receiver_in, sent_in, take_part};
+ghost use Rattle.ffa_messages.specs.Parts.{AreEndsApart, AreInRam, IsBeside, ends_guards, header_guards, header_of, receiver_in, sent_in, size_in};
 
 use crate::parties::has_indirect_messages;
 use byteorder::{ByteOrder, LittleEndian};
-use ffa_model::{EndpointId, ErrorCode, Manifest, PageNo};
+use ffa_model::{EndpointId, ErrorCode, Manifest, PageNo, Refusal};
 use ffa_physmem::{PAGE_SIZE, PhysMem};
 use ffa_rxtx::{Buffers, Mapped};
 
@@ -48,95 +48,85 @@ impl MessageHeader {
         }
     }
 
-    // Whether a caller that has buffers may send the message, and the length of the message with its header.
-    #[tactic(auto, using(crate::proofs::Refusals::send2_refusal))]
-    fn checked(
+    // How many bytes the message has with its header.
+    fn end(&self) -> usize
+        ensures { result ≡ self.now.offset + self.now.size }
+    {
+        self.offset as usize + self.size as usize
+    }
+
+    // The checks of a message by itself, in the TX of a caller that has room for so many bytes there.
+    fn check(&self, manifest: &Manifest, caller: EndpointId, room: usize) -> Result<(), Refusal>
+        ensures refusal { result_err result ≡ first_refusal (header_guards (map party_of manifest.now.endpoints.items) caller.0 room (header_of self.now)) }
+        ensures fits { OnOk result (self.now.offset + self.now.size ≤ room) }
+        ensures known { OnOk result (is_known_among (length manifest.now.endpoints.items) self.now.receiver.0 ≡ true) }
+    {
+        if self.flags != 0 {
+            return Err(Refusal::FlagsReserved);
+        }
+        if self.reserved != 0 {
+            return Err(Refusal::HeaderReserved);
+        }
+        if self.sender != caller {
+            return Err(Refusal::SenderIsAnother);
+        }
+        if !self.receiver.is_among(manifest.endpoints.len()) {
+            return Err(Refusal::ReceiverUnknown);
+        }
+        if self.receiver == caller {
+            return Err(Refusal::ReceiverIsCaller);
+        }
+        if self.offset < HEADER_SIZE {
+            return Err(Refusal::MessageInHeader);
+        }
+        if self.size == 0 {
+            return Err(Refusal::MessageEmpty);
+        }
+        if self.end() > room {
+            return Err(Refusal::MessageTooLong);
+        }
+        Ok(())
+    }
+
+    // The checks of a message's ends, which are the caller and the receiver.
+    fn check_ends(
         &self,
         buffers: &Buffers,
         manifest: &Manifest,
         caller: EndpointId,
-    ) -> Result<usize, ErrorCode>
-        requires { is_some (buffers_in buffers.now caller.0) ≡ true }
-        ensures refusal { result_err result ≡ first_failure (send2_guards (map party_of manifest.now.endpoints.items) buffers.now caller.0 (header_of self.now)) }
-        ensures end { IfOk result (λ end. end ≡ self.now.offset + self.now.size) }
-        ensures fits { IfOk result (λ end. end ≤ room_of (buffers_in buffers.now caller.0)) }
-        ensures room { IfOk result (λ end. end ≤ room_of (buffers_in buffers.now self.now.receiver.0)) }
-        ensures receiver { OnOk result (is_some (buffers_in buffers.now self.now.receiver.0) ≡ true) }
-        ensures known { OnOk result (is_known_among (length buffers.now) self.now.receiver.0 ≡ true) }
+    ) -> Result<(), Refusal>
+        ensures refusal { result_err result ≡ first_refusal (ends_guards (map party_of manifest.now.endpoints.items) buffers.now caller.0 (header_of self.now)) }
+        ensures buffers { OnOk result (is_some (buffers_in buffers.now self.now.receiver.0) ≡ true) }
+        ensures room { OnOk result (self.now.offset + self.now.size ≤ room_of (buffers_in buffers.now self.now.receiver.0)) }
     {
-        let sent = room(buffers, caller);
-        if !self.is_from(manifest, caller) || !self.is_whole(sent) {
-            return Err(ErrorCode::InvalidParameters);
+        if !has_indirect_messages(manifest, caller) {
+            return Err(Refusal::MessagesUnsent);
         }
-        check_ends(manifest, buffers, caller, self.receiver)?;
-        let end = u64::from(self.offset) + u64::from(self.size);
-        let received = room(buffers, self.receiver);
-        if end > received {
-            return Err(ErrorCode::NoMemory);
+        if !has_indirect_messages(manifest, self.receiver) {
+            return Err(Refusal::MessagesUnreceived);
         }
-        Ok(end as usize)
-    }
-
-    // Whether the message is from the caller to another endpoint, without flags.
-    fn is_from(&self, manifest: &Manifest, caller: EndpointId) -> bool
-        ensures { result ≡ is_header_from (map party_of manifest.now.endpoints.items) caller.0 (header_of self.now) }
-    {
-        self.flags == 0
-            && self.reserved == 0
-            && self.sender == caller
-            && self.receiver.is_among(manifest.endpoints.len())
-            && self.receiver != caller
-    }
-
-    // Whether the payload has bytes, which stand behind the header and end within a TX of so many bytes.
-    fn is_whole(&self, room: u64) -> bool
-        ensures { result ≡ is_whole room (header_of self.now) }
-    {
-        let end = u64::from(self.offset) + u64::from(self.size);
-        self.offset >= HEADER_SIZE && self.size != 0 && end <= room
+        let to = match buffers.of(self.receiver) {
+            Some(to) => to,
+            None => return Err(Refusal::ReceiverBuffersMissing),
+        };
+        if to.is_full {
+            return Err(Refusal::ReceiverRxFull);
+        }
+        if self.end() > to.room() {
+            return Err(Refusal::ReceiverRxSmall);
+        }
+        Ok(())
     }
 }
 
-// Whether a message may go from one endpoint to another, or why not.
-fn check_ends(
-    manifest: &Manifest,
-    buffers: &Buffers,
-    sender: EndpointId,
-    receiver: EndpointId,
-) -> Result<(), ErrorCode>
-    ensures { result_err result ≡ (if take_part (map party_of manifest.now.endpoints.items) sender.0 receiver.0 then (if has_free_rx buffers.now receiver.0 then None else Some ErrorCode.Busy) else Some ErrorCode.Denied) }
-{
-    if !take_part(manifest, sender, receiver) {
-        return Err(ErrorCode::Denied);
-    }
-    if !has_free_rx(buffers, receiver) {
-        return Err(ErrorCode::Busy);
-    }
-    Ok(())
-}
-
-// Whether both ends of a message take part in indirect messages.
-fn take_part(manifest: &Manifest, sender: EndpointId, receiver: EndpointId) -> bool
-    ensures { result ≡ take_part (map party_of manifest.now.endpoints.items) sender.0 receiver.0 }
-{
-    has_indirect_messages(manifest, sender) && has_indirect_messages(manifest, receiver)
-}
-
-// Whether an endpoint has an RX that isn't full.
-fn has_free_rx(buffers: &Buffers, endpoint: EndpointId) -> bool
-    ensures { result ≡ has_free_rx buffers.now endpoint.0 }
-{
-    buffers.has(endpoint) && !buffers.is_full(endpoint)
-}
-
-// How many bytes an endpoint's TX has, and its RX.
-fn room(buffers: &Buffers, endpoint: EndpointId) -> u64
-    ensures { result ≡ room_of (buffers_in buffers.now endpoint.0) }
-{
-    match buffers.of(endpoint) {
-        Some(mapped) => mapped.room() as u64,
-        None => 0,
-    }
+/// An indirect message that passes the checks of FFA_MSG_SEND2: where it stands, for whom it is, and how long.
+#[derive(Clone, Copy, Debug, PartialEq, Eq)]
+pub struct IndirectMessage {
+    /// The sender's buffers. The message begins with the first byte of TX.
+    pub from: Mapped,
+    pub receiver: EndpointId,
+    /// How many bytes it has with its header.
+    pub size: usize,
 }
 
 // The number in the two bytes of a page from this place on.
@@ -181,14 +171,40 @@ pub fn send2<M: PhysMem>(
     ensures ram { OnOk result (M.ram ram.new ≡ with_rx_bytes (M.ram ram.old) (buffers_in buffers.old (receiver_in (M.ram ram.old) buffers.old caller.0)) (message_in (sent_in (M.ram ram.old) buffers.old caller.0))) }
     ensures full { OnOk result (buffers.new ≡ buffers_with_rx buffers.old (receiver_in (M.ram ram.old) buffers.old caller.0) true) }
 {
-    let mapped = match buffers.of(caller) {
-        Some(mapped) => mapped,
-        None => return Err(ErrorCode::InvalidParameters),
+    let message = check_send2(ram, buffers, manifest, caller)?;
+    deliver(ram, buffers, &message.from, message.receiver, message.size);
+    Ok(message.receiver)
+}
+
+/// The checks of FFA_MSG_SEND2 in order: the first that fails, or the message, which may be sent.
+pub fn check_send2<M: PhysMem>(
+    ram: &M,
+    buffers: &Buffers,
+    manifest: &Manifest,
+    caller: EndpointId,
+) -> Result<IndirectMessage, Refusal>
+    requires { AreInRam (length (M.ram ram.now).pages) buffers.now }
+    ensures refusal { result_err result ≡ first_refusal (send2_guards (map party_of manifest.now.endpoints.items) buffers.now caller.0 (header_in (sent_in (M.ram ram.now) buffers.now caller.0))) }
+    ensures from { IfOk result (λ message. Some (buffers_of message.from) ≡ buffers_in buffers.now caller.0) }
+    ensures receiver { IfOk result (λ message. message.receiver.0 ≡ receiver_in (M.ram ram.now) buffers.now caller.0) }
+    ensures size { IfOk result (λ message. message.size ≡ size_in (M.ram ram.now) buffers.now caller.0) }
+    ensures fits { IfOk result (λ message. message.size ≤ 4096 * message.from.pages) }
+    ensures buffers { IfOk result (λ message. is_some (buffers_in buffers.now message.receiver.0) ≡ true) }
+    ensures known { IfOk result (λ message. is_known_among (length buffers.now) message.receiver.0 ≡ true) }
+    ensures room { IfOk result (λ message. message.size ≤ room_of (buffers_in buffers.now message.receiver.0)) }
+{
+    let from = match buffers.of(caller) {
+        Some(from) => from,
+        None => return Err(Refusal::BuffersMissing),
     };
-    let header = read_header(ram, &mapped);
-    let length = header.checked(buffers, manifest, caller)?;
-    deliver(ram, buffers, &mapped, header.receiver, length);
-    Ok(header.receiver)
+    let header = read_header(ram, &from);
+    header.check(manifest, caller, from.room())?;
+    header.check_ends(buffers, manifest, caller)?;
+    Ok(IndirectMessage {
+        from,
+        receiver: header.receiver,
+        size: header.end(),
+    })
 }
 
 // The header in TX of these buffers.

@@ -5,5 +5,5 @@ mod direct;
 mod indirect;
 mod parties;
 
-pub use direct::{DirectMessage, direct_req, direct_resp};
-pub use indirect::send2;
+pub use direct::{DirectMessage, check_direct_req, check_direct_resp, direct_req, direct_resp};
+pub use indirect::{IndirectMessage, check_send2, send2};

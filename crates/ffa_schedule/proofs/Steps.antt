@@ -2,16 +2,14 @@
 use Rattle.std.proofs.Common.{◌≡◌, ◌≢◌, ◌⊎◌, ◌∙◌, ℕ, ◌<◌, ◌≤◌, Bool, true, false, cond, List, [], ◌∷◌, ◌++◌, length, replicate, set, Option, Some, None, IsSomeAnd, is_some, refl, sym, ap, ap₂, subst, subst₂, arith}
 use Rattle.std.specs.Prelude.{◌==◌, ◌||◌}
 use Rattle.std.specs.List.{list_any}
-use Rattle.std.proofs.lemmas.Bool.{eqb-true}
 use Rattle.std.proofs.lemmas.List.{length-map, set-get_or}
 use Rattle.ffa_model.specs.declared.limits.TheConstants.{MOST_ENDPOINTS}
 use Rattle.ffa_model.specs.declared.endpoint.EndpointId.{EndpointId}
 use Rattle.ffa_model.specs.declared.schedule.Status.TheVariants.{Running, Waiting, Yielded, Blocked}
 use Rattle.ffa_model.specs.declared.schedule.Work.{Work}
-use Rattle.ffa_model.specs.declared.schedule.Work.TheVariants.{Run, Request}
 use Rattle.ffa_model.specs.Identifiers.{place}
 use Rattle.ffa_model.specs.State.{is_partition_among}
-use Rattle.ffa_model.specs.RunStates.{Schedule, first_schedule, is_endpoint, is_run, is_waiting, is_yielded, requester, status_in, switched, with_work, work_in}
+use Rattle.ffa_model.specs.RunStates.{Schedule, first_schedule, is_waiting, is_yielded, status_in, switched, with_work, work_in}
 use Rattle.ffa_model.specs.Sound.{IsSound, origin}
 use Rattle.ffa_model.proofs.Listed.{get_or-listed, get_or-listed_past}
 use Rattle.ffa_model.specs.Links.{IsChain, has_link_at, identifiers_of, last_link, schedule_of, status_at, status_outside, work_at}
@@ -114,14 +112,10 @@ module _ (links : List EndpointId) (works : List (Option Work)) (now : Schedule)
         ∙ ap (λ (c : Schedule). with_work (switched c (status_outside w) (last_link (identifiers_of rest))) c.runner w) seen_split)
 
 -- work for the normal world stays with a runner that yields
-for-normal : (w : Work) → (is_run (Some w) || is_endpoint 0 (requester (Some w))) ≡ true → origin (Some w) ≡ Some 0
-for-normal Run is = refl
-for-normal (Request by) is = ap Some (eqb-true by.0 0 is)
-
-pub yields : (old new : Schedule) (w : Work) → work_in old old.runner ≡ Some w → (is_run (Some w) || is_endpoint 0 (requester (Some w))) ≡ true
+pub yields : (old new : Schedule) (w : Work) → work_in old old.runner ≡ Some w → origin (Some w) ≡ Some 0
     → IsSomeAnd (origin (work_in old old.runner)) (λ by. new ≡ with_work (switched old (status_outside (Some w)) by) old.runner (Some w)) → new ≡ switched old Yielded 0
 yields old new w own normal changed =
-    subst (λ (o : Option ℕ). IsSomeAnd o (λ by. new ≡ with_work (switched old Yielded by) old.runner (Some w))) (ap origin own ∙ for-normal w normal) changed
+    subst (λ (o : Option ℕ). IsSomeAnd o (λ by. new ≡ with_work (switched old Yielded by) old.runner (Some w))) (ap origin own ∙ normal) changed
     ∙ λ i. record (switched old Yielded 0) { works = (ap (set old.works (place old.runner)) (sym own) ∙ set-get_or old.works (place old.runner) None) i }
 
 -- at first the normal world alone is in the chain

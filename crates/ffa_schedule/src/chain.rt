@@ -3,9 +3,10 @@ ghost use Rattle.std.specs.Prelude.{◌≡◌, ◌==◌, ◌⊎◌, ◌||◌, �
 ghost use Rattle.std.specs.List.{list_any};
 ghost use Rattle.std.specs.Result.{result_err};
 ghost use Rattle.ffa_model.specs.Bits.{high_half, word_of_two};
-ghost use Rattle.ffa_model.specs.Calls.{first_failure};
+ghost use Rattle.ffa_model.specs.Calls.{first_failure, first_refusal};
 ghost use Rattle.ffa_model.specs.declared.endpoint.EndpointId.{EndpointId};
 ghost use Rattle.ffa_model.specs.declared.schedule.Status.TheVariants.{Yielded, Blocked};
+ghost use Rattle.ffa_model.specs.declared.schedule.Work.TheVariants.{Run};
 ghost use Rattle.ffa_model.specs.Identifiers.{place};
 ghost use Rattle.ffa_model.specs.RunStates.{finished, first_schedule, given_cycles, is_endpoint, is_run, is_waiting, is_yielded, passed, requested, requester, run_guards, run_reply, status_in, switched, wait_guards, wait_reply, with_work, work_in, yield_guards, yield_reply};
 ghost use Rattle.ffa_model.specs.Sound.{IsSound, origin};
@@ -14,7 +15,7 @@ ghost use Rattle.ffa_model.specs.Links.{status_outside};
 
 use arrayvec::ArrayVec;
 use ffa_model::function::{FFA_MSG_WAIT, FFA_RUN, FFA_YIELD};
-use ffa_model::{EndpointId, ErrorCode, MOST_ENDPOINTS, Reply, Status, Work};
+use ffa_model::{EndpointId, ErrorCode, MOST_ENDPOINTS, Refusal, Reply, Status, Work};
 use std::marker::Model;
 
 /// Who runs, and for whom: the endpoints from the normal world to the runner, each of which is blocked for the one
@@ -110,7 +111,7 @@ impl Chain {
         ensures changed { OnOk result (self.new ≡ given_cycles self.old (high_half word) (status_in self.old (high_half word))) }
         ensures sound { IsSound self.new }
     {
-        let target = self.target(word)?;
+        let target = self.check_run(word)?;
         match self.work(target) {
             None => {
                 self.start(target, Work::Run);
@@ -137,13 +138,9 @@ impl Chain {
         ensures sound { IsSound self.new }
     {
         let runner = self.runner();
-        match self.own_work() {
-            Some(Work::Run) => {
-                self.stop(None);
-                Ok(given_back(FFA_MSG_WAIT, runner))
-            }
-            _ => Err(ErrorCode::Denied),
-        }
+        self.check_wait()?;
+        self.stop(None);
+        Ok(given_back(FFA_MSG_WAIT, runner))
     }
 
     /// FFA_YIELD (DEN0077A, 8.2): the runner has yielded and keeps its work, and the normal world, for which it works,
@@ -160,12 +157,54 @@ impl Chain {
         ensures sound { IsSound self.new }
     {
         let runner = self.runner();
+        let work = self.check_yield()?;
+        self.stop(Some(work));
+        Ok(given_back(FFA_YIELD, runner))
+    }
+
+    /// The checks of FFA_RUN in order: the first that fails, or the target, which may be given cycles.
+    pub fn check_run(&self, word: u32) -> Result<EndpointId, Refusal>
+        ensures refusal { result_err result ≡ first_refusal (run_guards (length self.now.works) self.now word) }
+        ensures target { IfOk result (λ target. target.0 ≡ high_half word) }
+        ensures sound { IsSound self.now }
+    {
+        let target = EndpointId::in_high_half(word);
+        if self.runner().0 != 0 {
+            return Err(Refusal::NotNormalWorld);
+        }
+        if !target.is_partition_among(self.works.len()) {
+            return Err(Refusal::TargetUnknown);
+        }
+        if word % 0x1_0000 != 0 {
+            return Err(Refusal::ContextUnknown);
+        }
+        match self.status(target) {
+            Status::Waiting | Status::Yielded => Ok(target),
+            Status::Running | Status::Blocked => Err(Refusal::TargetNotReady),
+        }
+    }
+
+    /// The check of FFA_MSG_WAIT, which fails where the normal world didn't give the runner cycles.
+    pub fn check_wait(&self) -> Result<(), Refusal>
+        ensures refusal { result_err result ≡ first_refusal (wait_guards self.now) }
+        ensures work { OnOk result (work_in self.now self.now.runner ≡ Some Run) }
+    {
         match self.own_work() {
-            Some(work) if works_for_normal_world(work) => {
-                self.stop(Some(work));
-                Ok(given_back(FFA_YIELD, runner))
-            }
-            _ => Err(ErrorCode::Denied),
+            Some(Work::Run) => Ok(()),
+            _ => Err(Refusal::NotRun),
+        }
+    }
+
+    /// The check of FFA_YIELD, which fails where the runner doesn't work for the normal world. Finds the work with which
+    /// the runner yields.
+    pub fn check_yield(&self) -> Result<Work, Refusal>
+        ensures refusal { result_err result ≡ first_refusal (yield_guards self.now) }
+        ensures work { IfOk result (λ work. work_in self.now self.now.runner ≡ Some work) }
+        ensures origin { IfOk result (λ work. origin (Some work) ≡ Some 0) }
+    {
+        match self.own_work() {
+            Some(work) if works_for_normal_world(work) => Ok(work),
+            _ => Err(Refusal::NobodyToYieldTo),
         }
     }
 
@@ -194,25 +233,6 @@ impl Chain {
         ensures { result ≡ work_in self.now self.now.runner }
     {
         self.work(self.runner())
-    }
-
-    // The target of FFA_RUN, where it may be given cycles.
-    fn target(&self, word: u32) -> Result<EndpointId, ErrorCode>
-        ensures refusal { result_err result ≡ first_failure (run_guards (length self.now.works) self.now word) }
-        ensures target { IfOk result (λ target. target.0 ≡ high_half word) }
-        ensures sound { IsSound self.now }
-    {
-        let target = EndpointId::in_high_half(word);
-        if self.runner().0 != 0 {
-            return Err(ErrorCode::Denied);
-        }
-        if !target.is_partition_among(self.works.len()) || word % 0x1_0000 != 0 {
-            return Err(ErrorCode::InvalidParameters);
-        }
-        match self.status(target) {
-            Status::Waiting | Status::Yielded => Ok(target),
-            Status::Running | Status::Blocked => Err(ErrorCode::Busy),
-        }
     }
 
     // The runner is blocked, and a partition that stands outside has this work for it and runs.

@@ -1,12 +1,16 @@
 -- What the machine answers to a call that a part of it has done or refused.
-use Rattle.std.proofs.Common.{◌≡◌, ◌∙◌, None, Result, Ok, Err, refl, ap}
+use Rattle.std.proofs.Common.{◌≡◌, ◌∙◌, None, Option, Some, Result, Ok, Err, refl, sym, ap}
 use Rattle.std.specs.Prelude.{IfOk, OnOk, OnErr}
+use Rattle.std.specs.Option.{option_map}
 use Rattle.std.specs.Result.{result_err}
 use Rattle.ffa_model.specs.declared.call.Reply.{Reply}
 use Rattle.ffa_model.specs.declared.call.Reply.TheVariants.{Error}
 use Rattle.ffa_model.specs.declared.operation.ErrorCode.{ErrorCode}
-use Rattle.ffa_model.specs.Calls.{Service, answered, first_failure, replied, served, success}
+use Rattle.ffa_model.specs.declared.refusal.Refusal.{Refusal}
+use Rattle.ffa_model.specs.Calls.{Service, answered, first_failure, first_refusal, replied, served, success}
+use Rattle.ffa_model.specs.RefusalCodes.{code_of}
 use Rattle.ffa_model.specs.State.{State}
+use Rattle.ffa_model.proofs.Guards.{failure-code}
 use Rattle.ffa_spmc.specs.Replies.{reply_of}
 
 -- facts of a refusal, or of what was done, joined
@@ -46,3 +50,8 @@ module _ {X : Type 0} (s new : State) (c : Service) (r : Result X ErrorCode) (to
 -- a call that nothing refuses leaves its state
 pub passed-state : (s : State) (c : Service) → first_failure c.guards ≡ None → (served s c).state ≡ c.state
 passed-state s c none = ap (λ o. (answered o s c.state c.reply).state) none
+
+-- a call that a check refuses by name
+pub refused-served : (s : State) (c : Service) (refusal : Refusal) → Some refusal ≡ first_refusal c.guards → replied s (Error (code_of refusal)) ≡ served s c
+refused-served s c refusal fails =
+    ap (λ (o : Option Refusal). answered (option_map code_of o) s c.state c.reply) fails ∙ ap (λ o. answered o s c.state c.reply) (sym (failure-code c.guards))

@@ -3,15 +3,16 @@ use Rattle.std.proofs.Common.{◌≡◌, ◌∙◌, ℕ, Bool, true, false, cond
 use Rattle.std.specs.Prelude.{◌||◌, is_some, not}
 use Rattle.std.proofs.lemmas.Option.{none-some}
 use Rattle.ffa_model.specs.declared.endpoint.Version.{Version}
-use Rattle.ffa_model.specs.declared.operation.ErrorCode.{ErrorCode}
-use Rattle.ffa_model.specs.declared.operation.ErrorCode.TheVariants.{InvalidParameters, Busy}
+use Rattle.ffa_model.specs.declared.refusal.Refusal.{Refusal}
+use Rattle.ffa_model.specs.declared.refusal.Refusal.TheVariants.{BuffersMissing, RxFull, UuidUnknown}
 use Rattle.ffa_model.specs.Buffers.{buffers_in, filled, is_full}
-use Rattle.ffa_model.specs.Calls.{first_failure, success}
+use Rattle.ffa_model.specs.Calls.{first_refusal, success}
 use Rattle.ffa_model.specs.First.{first, party_of}
 use Rattle.ffa_model.specs.Manifest.{is_nil}
 use Rattle.ffa_model.specs.Setup.{info_bytes, info_get, info_guards, told_info_size, informed, is_any, is_count_alone, selected, uuid_bytes}
 use Rattle.ffa_model.specs.declared.call.Call.TheVariants.{PartitionInfoGet}
 use Rattle.ffa_model.specs.State.{Party, Buffers, version_among, version_of}
+use Rattle.ffa_model.proofs.Guards.{answers-pass}
 use Rattle.ffa_spmc.specs.Meaning.{IsManager, Parts, state_of}
 use Rattle.ffa_spmc.specs.Managed.{Managed}
 use Rattle.ffa_spmc.proofs.Answered.{passed-state}
@@ -19,9 +20,9 @@ use Rattle.ffa_spmc.proofs.Fills.{after_fill, runner-there, state-filled, tables
 use Rattle.ffa_spmc.proofs.Machines.{machine-called}
 
 -- what the checks give where a UUID is recognized, the count alone is asked, there are buffers, and RX is full
-abbrev pub decided : Bool → Bool → Bool → Bool → Option ErrorCode
+abbrev pub decided : Bool → Bool → Bool → Bool → Option Refusal
 decided recognized alone has full =
-    cond recognized (cond (alone || has) (cond (alone || not full) None (Some Busy)) (Some InvalidParameters)) (Some InvalidParameters)
+    cond recognized (cond (alone || has) (cond (alone || not full) None (Some RxFull)) (Some BuffersMissing)) (Some UuidUnknown)
 
 module _ (x : Parts) (now : Managed) (view : record { state = state_of x; ram = x.ram } ≡ now) (e : ℕ) (at : e ≡ x.kept.chain.runner) where
   abbrev own : Option Buffers
@@ -35,30 +36,30 @@ module _ (x : Parts) (now : Managed) (view : record { state = state_of x; ram = 
   unfolding first
   version-seen = (λ i. version_among (map party_of x.manifest.endpoints.items) (at i)) ∙ ap (λ (seen : Managed). version_of seen.state seen.state.runner) view
 
-  failure-is : (uuid : List ℕ) (flags : ℕ)
+  refusal-is : (uuid : List ℕ) (flags : ℕ)
       → decided (is_nil uuid || is_any (selected (map party_of x.manifest.endpoints.items) uuid)) (is_count_alone flags) (is_some own) (is_full own)
-      ≡ first_failure (info_guards now.state uuid flags)
+      ≡ first_refusal (info_guards now.state uuid flags)
   unfolding first
-  failure-is uuid flags =
+  refusal-is uuid flags =
       (λ i. decided (is_nil uuid || is_any (selected (map party_of x.manifest.endpoints.items) uuid)) (is_count_alone flags) (is_some (buffers_in x.kept.buffers (at i))) (is_full (buffers_in x.kept.buffers (at i))))
-      ∙ ap (λ (seen : Managed). first_failure (info_guards seen.state uuid flags)) view
+      ∙ ap (λ (seen : Managed). first_refusal (info_guards seen.state uuid flags)) view
 
   pub info-unknown : (uuid : List ℕ) (flags : ℕ) → (is_nil uuid || is_any (selected (map party_of x.manifest.endpoints.items) uuid)) ≡ false
-      → Some InvalidParameters ≡ first_failure (info_guards now.state uuid flags)
-  info-unknown uuid flags unknown = sym (λ i. decided (unknown i) (is_count_alone flags) (is_some own) (is_full own)) ∙ failure-is uuid flags
+      → Some UuidUnknown ≡ first_refusal (info_guards now.state uuid flags)
+  info-unknown uuid flags unknown = sym (λ i. decided (unknown i) (is_count_alone flags) (is_some own) (is_full own)) ∙ refusal-is uuid flags
 
   module _ (uuid : List ℕ) (flags : ℕ) (known : (is_nil uuid || is_any (selected (map party_of x.manifest.endpoints.items) uuid)) ≡ true) where
-    pub info-count : is_count_alone flags ≡ true → None ≡ first_failure (info_guards now.state uuid flags)
-    info-count alone = sym (λ i. decided (known i) (alone i) (is_some own) (is_full own)) ∙ failure-is uuid flags
+    pub info-count : is_count_alone flags ≡ true → None ≡ first_refusal (info_guards now.state uuid flags)
+    info-count alone = sym (λ i. decided (known i) (alone i) (is_some own) (is_full own)) ∙ refusal-is uuid flags
 
-    pub info-unmapped : is_count_alone flags ≡ false → is_some own ≡ false → Some InvalidParameters ≡ first_failure (info_guards now.state uuid flags)
-    info-unmapped alone none = sym (λ i. decided (known i) (alone i) (none i) (is_full own)) ∙ failure-is uuid flags
+    pub info-unmapped : is_count_alone flags ≡ false → is_some own ≡ false → Some BuffersMissing ≡ first_refusal (info_guards now.state uuid flags)
+    info-unmapped alone none = sym (λ i. decided (known i) (alone i) (none i) (is_full own)) ∙ refusal-is uuid flags
 
-    pub info-full : is_count_alone flags ≡ false → is_some own ≡ true → is_full own ≡ true → Some Busy ≡ first_failure (info_guards now.state uuid flags)
-    info-full alone some full = sym (λ i. decided (known i) (alone i) (some i) (full i)) ∙ failure-is uuid flags
+    pub info-full : is_count_alone flags ≡ false → is_some own ≡ true → is_full own ≡ true → Some RxFull ≡ first_refusal (info_guards now.state uuid flags)
+    info-full alone some full = sym (λ i. decided (known i) (alone i) (some i) (full i)) ∙ refusal-is uuid flags
 
-    pub info-ready : is_count_alone flags ≡ false → is_some own ≡ true → is_full own ≡ false → None ≡ first_failure (info_guards now.state uuid flags)
-    info-ready alone some empty = sym (λ i. decided (known i) (alone i) (some i) (empty i)) ∙ failure-is uuid flags
+    pub info-ready : is_count_alone flags ≡ false → is_some own ≡ true → is_full own ≡ false → None ≡ first_refusal (info_guards now.state uuid flags)
+    info-ready alone some empty = sym (λ i. decided (known i) (alone i) (some i) (empty i)) ∙ refusal-is uuid flags
 
   -- the reply, by the count and whether it is all that is asked
   pub info-reply : (count : ℕ) (uuid : List ℕ) (flags : ℕ) (alone : Bool) (size : ℕ) → count ≡ length (selected (map party_of x.manifest.endpoints.items) uuid) → is_count_alone flags ≡ alone
@@ -68,15 +69,15 @@ module _ (x : Parts) (now : Managed) (view : record { state = state_of x; ram = 
       λ i. success ((is ∙ ap (λ (parties : List Party). length (selected parties uuid)) parties-seen) i) (cond (sym asked i) 0 (sized i))
 
   -- who is given the descriptors has buffers
-  pub informed-own : (uuid : List ℕ) (flags : ℕ) → first_failure (info_guards now.state uuid flags) ≡ None → is_count_alone flags ≡ false → (b : Buffers) × (own ≡ Some b)
+  pub informed-own : (uuid : List ℕ) (flags : ℕ) → first_refusal (info_guards now.state uuid flags) ≡ None → is_count_alone flags ≡ false → (b : Buffers) × (own ≡ Some b)
   informed-own uuid flags none alone =
       of own refl (is_nil uuid || is_any (selected (map party_of x.manifest.endpoints.items) uuid))
-      (sym (λ i. decided (is_nil uuid || is_any (selected (map party_of x.manifest.endpoints.items) uuid)) (alone i) (is_some own) (is_full own)) ∙ failure-is uuid flags ∙ none)
+      (sym (λ i. decided (is_nil uuid || is_any (selected (map party_of x.manifest.endpoints.items) uuid)) (alone i) (is_some own) (is_full own)) ∙ refusal-is uuid flags ∙ none)
     where
       of : (o : Option Buffers) → own ≡ o → (recognized : Bool) → decided recognized false (is_some o) (is_full o) ≡ None → (b : Buffers) × (own ≡ Some b)
       of (Some b) is recognized none = (b, is)
-      of None is true none = absurd (none-some InvalidParameters (sym none))
-      of None is false none = absurd (none-some InvalidParameters (sym none))
+      of None is true none = absurd (none-some BuffersMissing (sym none))
+      of None is false none = absurd (none-some UuidUnknown (sym none))
 
   -- the descriptors in RX of the runner
   module _ (machine : IsManager x) (words : List ℕ) (flags : ℕ) (bytes : List ℕ) (version : Version) (spoken : version ≡ version_of now.state now.state.runner)
@@ -99,9 +100,10 @@ module _ (x : Parts) (now : Managed) (view : record { state = state_of x; ram = 
     pub state-informed : state_of after_information ≡ informed now.state (uuid_bytes words) flags
     state-informed = informed-is ∙ ap (λ (seen : Managed). informed seen.state (uuid_bytes words) flags) view
 
-    pub machine-informed : first_failure (info_guards now.state (uuid_bytes words) flags) ≡ None → IsManager after_information
+    pub machine-informed : first_refusal (info_guards now.state (uuid_bytes words) flags) ≡ None → IsManager after_information
     machine-informed none =
         machine-called x after_information.ram after_information.kept.buffers x.kept.chain machine
         (tables-filled x machine e (runner-there x machine e at) bytes) (PartitionInfoGet words flags)
         (informed-is
-        ∙ sym (passed-state (state_of x) (info_get (state_of x) words flags) (ap (λ (seen : Managed). first_failure (info_guards seen.state (uuid_bytes words) flags)) view ∙ none)))
+        ∙ sym (passed-state (state_of x) (info_get (state_of x) words flags)
+        (sym (answers-pass (info_guards (state_of x) (uuid_bytes words) flags) (sym (ap (λ (seen : Managed). first_refusal (info_guards seen.state (uuid_bytes words) flags)) view ∙ none))))))

@@ -2,7 +2,7 @@
 ghost use Rattle.std.specs.Prelude.{◌≡◌, length, None, if◌then◌else◌};
 ghost use Rattle.std.specs.Result.{result_err};
 ghost use Rattle.ffa_model.specs.Buffers.{rx_release, rxtx_map, rxtx_unmap};
-ghost use Rattle.ffa_model.specs.Calls.{first_failure, success};
+ghost use Rattle.ffa_model.specs.Calls.{first_refusal, success};
 ghost use Rattle.ffa_model.specs.State.{version_of};
 ghost use Rattle.ffa_model.specs.Setup.{info_get, info_guards, told_info_size, informed, is_count_alone, selected, uuid_bytes};
 ghost use Rattle.ffa_spmc.specs.Served.{IsReplied};
@@ -10,7 +10,7 @@ ghost use Rattle.ffa_spmc.specs.Unowned.{KeepsUnowned};
 
 use super::Manager;
 use crate::replies::done_or_error;
-use ffa_model::{ErrorCode, Reply};
+use ffa_model::{Refusal, Reply};
 use ffa_physmem::PhysMem;
 
 // Whether a request for partition information asks for the count alone.
@@ -54,33 +54,33 @@ impl<M: PhysMem + Drop> Manager<M> {
     {
         match self.check_info(uuid, flags) {
             Ok(()) => self.inform(uuid, flags),
-            Err(code) => Reply::Error(code),
+            Err(refusal) => Reply::Error(refusal.code()),
         }
     }
 
-    // Whether partition information can be given to the runner, or why not.
-    fn check_info(&self, uuid: [u32; 4], flags: u32) -> Result<(), ErrorCode>
-        ensures { result_err result ≡ first_failure (info_guards self.now.state (uuid_bytes uuid) flags) }
+    // The checks of FFA_PARTITION_INFO_GET of the runner in order: the first that fails.
+    pub(super) fn check_info(&self, uuid: [u32; 4], flags: u32) -> Result<(), Refusal>
+        ensures { result_err result ≡ first_refusal (info_guards self.now.state (uuid_bytes uuid) flags) }
     {
         let runner = self.kept.chain.runner();
         if !ffa_setup::is_recognized(&self.manifest, uuid) {
-            return Err(ErrorCode::InvalidParameters);
+            return Err(Refusal::UuidUnknown);
         }
         if is_count_alone(flags) {
             return Ok(());
         }
         if !self.kept.buffers.has(runner) {
-            return Err(ErrorCode::InvalidParameters);
+            return Err(Refusal::BuffersMissing);
         }
         if self.kept.buffers.is_full(runner) {
-            return Err(ErrorCode::Busy);
+            return Err(Refusal::RxFull);
         }
         Ok(())
     }
 
     // Gives the runner partition information: its RX has the descriptors, unless it asked for the count alone.
     fn inform(&mut self, uuid: [u32; 4], flags: u32) -> Reply
-        requires { first_failure (info_guards self.old.state (uuid_bytes uuid) flags) ≡ None }
+        requires { first_refusal (info_guards self.old.state (uuid_bytes uuid) flags) ≡ None }
         ensures state { self.new.state ≡ informed self.old.state (uuid_bytes uuid) flags }
         ensures unowned { KeepsUnowned self.old.state self.old.ram self.new.ram }
         ensures reply { result ≡ success (length (selected self.old.state.parties (uuid_bytes uuid))) (if is_count_alone flags then 0 else told_info_size (version_of self.old.state self.old.state.runner)) }
