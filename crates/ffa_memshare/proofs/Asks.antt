@@ -1,9 +1,13 @@
 -- The transaction in the slot that was found for a handle.
-use Rattle.std.proofs.Common.{◌≡◌, ◌∙◌, ℕ, List, Some, sym, ap, subst}
+use Rattle.std.proofs.Common.{◌≡◌, ◌∙◌, ℕ, List, length, Option, Some, sym, ap, subst}
 use Rattle.std.proofs.lemmas.Option.{same_Some}
 use Rattle.std.specs.FinMap as finite
+use Rattle.ffa_model.specs.Ram.{Ram}
 use Rattle.ffa_model.specs.State.{Transaction}
+use Rattle.ffa_pages.specs.Entry.{Entry}
 use Rattle.ffa_memshare.specs.declared.transaction.OpenTransaction.{OpenTransaction}
+use Rattle.ffa_memshare.specs.Ranges.{ArePlaced}
+use Rattle.ffa_memshare.specs.Shared.{AreInRam, IsShared}
 use Rattle.ffa_memshare.specs.Stored.{Slot, map_in, pool_slot, view_of}
 use Rattle.ffa_memshare.proofs.Reclaims.{one-handle}
 
@@ -23,3 +27,7 @@ module _ (slots : List Slot) (k h : ℕ) (it : OpenTransaction) (found : (t : Tr
 
   pub asked-open : finite.get (map_in slots) it.handle ≡ Some (view_of it) → finite.get (map_in slots) h ≡ Some (view_of it)
   asked-open given = subst (λ (g : ℕ). finite.get (map_in slots) g ≡ Some (view_of it)) same-handle given
+
+-- the pages of what is open are in RAM
+pub shared-placed : {ram : Ram} {base n blocks : ℕ} {pages : List (Option Entry)} {slots : List Slot} → IsShared ram base n blocks pages slots → AreInRam slots base (length pages)
+shared-placed {base = base} shared k h t at = subst (λ (count : ℕ). ArePlaced base count t.ranges) (sym shared.room.size) (shared.each k h t at).placed

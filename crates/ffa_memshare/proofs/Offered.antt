@@ -1,30 +1,33 @@
 -- What an endpoint offers that passed the checks.
 use Rattle.std.proofs.Common.{◌≡◌, ◌∙◌, ℕ, zero, suc, ◌+◌, ◌*◌, ◌%◌, ◌<◌, ◌≤◌, Bool, true, false, cond, List, [], ◌∷◌, length, get_or, Option, Some, None, refl, sym, ap, arith, inl, inr}
-use Rattle.std.specs.Prelude.{◌==◌, not, ◌&&◌, ◌||◌, is_some, filter}
+use Rattle.std.specs.Prelude.{◌==◌, not, ◌&&◌, ◌||◌, is_some, filter, if◌then◌else◌}
 use Rattle.std.specs.List.{list_all}
 use Rattle.std.specs.Option.{option_map, option_map_or}
 use Rattle.std.proofs.Math.Bool.{or-and_distrib_left, or-true}
-use Rattle.std.proofs.lemmas.Bool.{and_parts, eqb-true, leb-true, ltb-true, ne_eqb, or_cases, false≢true}
+use Rattle.std.proofs.lemmas.Bool.{and_parts, eq-eqb, eqb-true, leb-true, ltb-true, ne_eqb, or_cases, false≢true}
 use Rattle.ffa_model.specs.declared.rights.Data.{Data}
 use Rattle.ffa_model.specs.declared.rights.Data.TheVariants.{Ro, Rw}
 use Rattle.ffa_model.specs.declared.rights.Rights.{Rights}
 use Rattle.ffa_model.specs.declared.rights.Kind.{Kind}
 use Rattle.ffa_model.specs.declared.transaction.Range.{Range}
 use Rattle.ffa_model.specs.declared.transaction.Receiver.{Receiver}
-use Rattle.ffa_model.specs.Buffers.{Candidate}
+use Rattle.ffa_model.specs.declared.refusal.Refusal.{Refusal}
+use Rattle.ffa_model.specs.declared.refusal.Refusal.TheVariants.{SenderIsAnother, ReceiverUnknown, RangeOutside, PageUnsendable, GrantTooMuch, ZerosUnwritable}
+use Rattle.ffa_model.specs.Buffers.{Candidate, Candidates}
+use Rattle.ffa_model.specs.Calls.{first_refusal}
 use Rattle.ffa_model.specs.DescriptorPlaces.{Versioned, range_count, receiver_count}
 use Rattle.ffa_model.specs.Lists.{listed}
-use Rattle.ffa_model.specs.MemorySend.{are_grants_within, is_grantable, is_inside, is_own, is_sendable}
+use Rattle.ffa_model.specs.MemorySend.{are_grants_within, are_known, is_grantable, is_inside, is_own, is_sendable}
 use Rattle.ffa_model.specs.Rights.{may_store, may_write}
 use Rattle.ffa_model.specs.SendDescriptor.{Send, SendRecord, is_named, range_in, receiver_in}
 use Rattle.ffa_model.specs.State.{Buffers}
-use Rattle.ffa_model.specs.Transactions.{are_writable, pages_in}
+use Rattle.ffa_model.specs.Transactions.{OwnRights, are_writable, pages_in}
 use Rattle.ffa_model.proofs.NamedPages.{listed-each}
 use Rattle.ffa_model.proofs.Listed.{get_or-listed, length-listed}
 use Rattle.ffa_pages.specs.Entry.{Entry, own_right_at, entry_at}
 use Rattle.ffa_rxtx.specs.Parts.{candidate_in, candidates_in}
 use Rattle.ffa_memshare.specs.Named.{own_rights_in}
-use Rattle.ffa_memshare.specs.Offers.{AreAligned, IsOwnOffer, grants_writes}
+use Rattle.ffa_memshare.specs.Offers.{AreAligned, IsOwnOffer, grants_writes, write_guards}
 use Rattle.ffa_memshare.specs.Ranges.{ArePlaced, IsPlaced, in_range, in_ranges}
 
 -- the ranges of a descriptor begin where pages do
@@ -103,6 +106,35 @@ checked-offered table base e buffers r whole aligned sender inside sendable =
           (named-within base (length table) r.ranges p placed named) named)).0;
     }
 
+-- each of its pages has an entry
+pub own-entries : {table : List (Option Entry)} {base e : ℕ} {r : SendRecord} → IsOwnOffer table base e r
+    → (p : ℕ) → in_ranges base r.ranges p ≡ true → (x : Entry) × (entry_at table p ≡ Some x)
+own-entries its p named = ((its.own p named).0, (its.own p named).1)
+
+-- the checks of an offer before those that pages may be written to
+abbrev pub of_sendable : ℕ → Candidates → OwnRights → List (Option Buffers) → ℕ → SendRecord → List (Bool × Refusal)
+of_sendable endpoints ram own_rights buffers e r =
+    (r.sender == e, SenderIsAnother)
+    ∷ (are_known endpoints r.receivers, ReceiverUnknown)
+    ∷ (list_all (is_inside own_rights) r.ranges, RangeOutside)
+    ∷ (list_all (is_sendable e ram buffers) (pages_in own_rights r.ranges), PageUnsendable)
+    ∷ []
+
+module _ (endpoints : ℕ) (ram : Candidates) (own_rights : OwnRights) (buffers : List (Option Buffers)) (e : ℕ) (r : SendRecord) where
+  pub sendable-pass : r.sender ≡ e → are_known endpoints r.receivers ≡ true → list_all (is_inside own_rights) r.ranges ≡ true
+      → list_all (is_sendable e ram buffers) (pages_in own_rights r.ranges) ≡ true → None ≡ first_refusal (of_sendable endpoints ram own_rights buffers e r)
+  sendable-pass sender known inside sendable =
+      of (r.sender == e) (are_known endpoints r.receivers) (list_all (is_inside own_rights) r.ranges) (list_all (is_sendable e ram buffers) (pages_in own_rights r.ranges))
+      (eq-eqb r.sender e sender) known inside sendable
+    where
+      of : (a b c d : Bool) → a ≡ true → b ≡ true → c ≡ true → d ≡ true
+          → None ≡ first_refusal ((a, SenderIsAnother) ∷ (b, ReceiverUnknown) ∷ (c, RangeOutside) ∷ (d, PageUnsendable) ∷ [])
+      of true true true true _ _ _ _ = refl
+      of false b c d is _ _ _ = absurd (false≢true is)
+      of true false c d _ is _ _ = absurd (false≢true is)
+      of true true false d _ _ is _ = absurd (false≢true is)
+      of true true true false _ _ _ is = absurd (false≢true is)
+
 -- GRANTS
 both : (m w : Bool) → (m && (not w || m)) ≡ (not true || m)
 both true true = refl
@@ -133,20 +165,35 @@ module _ (all one keep : ℕ → Bool) (w : Bool) where
       of false out rest = rest
 
 -- so are those of all pages that an endpoint owns
-pub writes-enough : (table : List (Option Entry)) (base : ℕ) (ranges : List Range) (receivers : List Receiver) (zeros : Bool)
-    → ((p : ℕ) → in_ranges base ranges p ≡ true → (x : Entry) × (entry_at table p ≡ Some x))
-    → (are_writable (own_rights_in table base) ranges || not (zeros || grants_writes receivers))
-    ≡ (list_all (are_grants_within (own_rights_in table base) receivers) (pages_in (own_rights_in table base) ranges) && (not zeros || are_writable (own_rights_in table base) ranges))
-writes-enough table base ranges receivers zeros owned =
-    of (are_writable (own_rights_in table base) ranges) zeros (grants_writes receivers)
-    ∙ ap (λ b. b && (not zeros || are_writable (own_rights_in table base) ranges))
-    (sym (each-grants (are_grants_within (own_rights_in table base) receivers) (λ p. may_store (own_right_at table p)) (in_ranges base ranges) (grants_writes receivers) (listed (length table) (λ p. p))
+pub grants-within : (table : List (Option Entry)) (base : ℕ) (r : SendRecord)
+    → ((p : ℕ) → in_ranges base r.ranges p ≡ true → (x : Entry) × (entry_at table p ≡ Some x))
+    → list_all (are_grants_within (own_rights_in table base) r.receivers) (pages_in (own_rights_in table base) r.ranges)
+    ≡ (not (grants_writes r.receivers) || are_writable (own_rights_in table base) r.ranges)
+grants-within table base r owned =
+    each-grants (are_grants_within (own_rights_in table base) r.receivers) (λ p. may_store (own_right_at table p)) (in_ranges base r.ranges) (grants_writes r.receivers) (listed (length table) (λ p. p))
     (λ p named. let (x, is) = owned p named in
-    ap (λ (o : Option Entry). list_all (λ (r : Receiver). is_grantable r.grant (option_map (λ (e : Entry). e.own_right) o)) receivers) is
-    ∙ page-grants receivers x.own_right
-    ∙ ap (λ (o : Option Entry). not (grants_writes receivers) || may_store (option_map (λ (e : Entry). e.own_right) o)) (sym is))))
+    ap (λ (o : Option Entry). list_all (λ (q : Receiver). is_grantable q.grant (option_map (λ (e : Entry). e.own_right) o)) r.receivers) is
+    ∙ page-grants r.receivers x.own_right
+    ∙ ap (λ (o : Option Entry). not (grants_writes r.receivers) || may_store (option_map (λ (e : Entry). e.own_right) o)) (sym is))
+
+-- why pages may not be sent, of which rw is asked, where they have it or not and somebody is granted it or not
+abbrev pub unwritable : (asks is granted : Bool) → Option Refusal
+unwritable asks is granted = if asks then (if is then None else Some (if granted then GrantTooMuch else ZerosUnwritable)) else None
+
+pub first-unwritable : (table : List (Option Entry)) (base : ℕ) (r : SendRecord)
+    → ((p : ℕ) → in_ranges base r.ranges p ≡ true → (x : Entry) × (entry_at table p ≡ Some x)) → (asks is granted : Bool)
+    → asks ≡ (r.zero || grants_writes r.receivers) → is ≡ are_writable (own_rights_in table base) r.ranges → granted ≡ grants_writes r.receivers
+    → unwritable asks is granted ≡ first_refusal (write_guards (own_rights_in table base) r)
+first-unwritable table base r owned asks is granted asked writes grants =
+    ap (λ b. unwritable b is granted) asked ∙ ap (λ b. unwritable (r.zero || grants_writes r.receivers) b granted) writes
+    ∙ ap (unwritable (r.zero || grants_writes r.receivers) w) grants
+    ∙ of w r.zero (grants_writes r.receivers)
+    ∙ ap (λ b. first_refusal ((b, GrantTooMuch) ∷ (not r.zero || w, ZerosUnwritable) ∷ [])) (sym (grants-within table base r owned))
   where
-    of : (w z g : Bool) → (w || not (z || g)) ≡ ((not g || w) && (not z || w))
+    w : Bool
+    w = are_writable (own_rights_in table base) r.ranges
+
+    of : (w z g : Bool) → unwritable (z || g) w g ≡ first_refusal ((not g || w, GrantTooMuch) ∷ (not z || w, ZerosUnwritable) ∷ [])
     of true true true = refl
     of true true false = refl
     of true false true = refl

@@ -1,21 +1,31 @@
 -- What a send descriptor offers, over the parts of the machine.
-use Rattle.std.specs.Prelude.{◌≡◌, ℕ, ◌<◌, ◌%◌, Bool, true, false, List, length, slice_index_or, Option, Some}
-use Rattle.std.specs.List.{list_any}
+use Rattle.std.specs.Prelude.{◌≡◌, ℕ, ◌<◌, ◌%◌, Bool, true, false, not, ◌||◌, List, [], ◌∷◌, length, slice_index_or, Option, Some}
+use Rattle.std.specs.List.{list_all, list_any}
 use Rattle.std.specs.Option.{option_map_or}
+use Rattle.ffa_model.specs.declared.refusal.Refusal.{Refusal}
+use Rattle.ffa_model.specs.declared.refusal.Refusal.TheVariants.{GrantTooMuch, ZerosUnwritable}
 use Rattle.ffa_model.specs.declared.transaction.Range.{Range}
 use Rattle.ffa_model.specs.declared.transaction.Receiver.{Receiver}
 use Rattle.ffa_model.specs.declared.rights.Kind.{Kind}
 use Rattle.ffa_model.specs.DescriptorPlaces.{Versioned}
-use Rattle.ffa_model.specs.MemorySend.{transaction_from}
+use Rattle.ffa_model.specs.MemorySend.{are_grants_within, transaction_from}
 use Rattle.ffa_model.specs.Rights.{may_write}
 use Rattle.ffa_model.specs.SendDescriptor.{SendRecord, is_named, send_of}
 use Rattle.ffa_model.specs.State.{Transaction}
+use Rattle.ffa_model.specs.Transactions.{OwnRights, are_writable, pages_in}
 use Rattle.ffa_pages.specs.Entry.{Entry, entry_at}
 use Rattle.ffa_memshare.specs.Ranges.{ArePlaced, in_ranges}
 
 -- somebody is granted rw
 abbrev pub grants_writes : List Receiver → Bool
 grants_writes receivers = list_any (λ (r : Receiver). option_map_or may_write r.grant false) receivers
+
+-- the checks of a send that pages have the right to write themselves, in order, where that is asked for
+abbrev pub write_guards : OwnRights → SendRecord → List (Bool × Refusal)
+write_guards own_rights r =
+    (list_all (are_grants_within own_rights r.receivers) (pages_in own_rights r.ranges), GrantTooMuch)
+    ∷ (not r.zero || are_writable own_rights r.ranges, ZerosUnwritable)
+    ∷ []
 
 -- each range begins where a page does
 abbrev pub AreAligned : List Range → Type 0

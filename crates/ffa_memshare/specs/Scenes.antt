@@ -1,10 +1,9 @@
 -- What the checks of a call whose descriptor stands in TX read, over the parts of the machine.
-use Rattle.std.specs.Prelude.{ℕ, Bool, ◌==◌, ◌&&◌, nat_le, List, take, Option}
+use Rattle.std.specs.Prelude.{ℕ, List, take, Option}
 use Rattle.ffa_model.specs.Buffers.{buffers_in}
 use Rattle.ffa_model.specs.DescriptorPlaces.{Versioned, in_version}
 use Rattle.ffa_model.specs.Ram.{Ram}
 use Rattle.ffa_model.specs.State.{Buffers}
-use Rattle.ffa_model.specs.declared.call.Transfer.{Transfer}
 use Rattle.ffa_model.specs.Transactions.{OpenTransactions, Scene}
 use Rattle.ffa_pages.specs.Entry.{Entry}
 use Rattle.ffa_rxtx.specs.Parts.{candidates_in, tx_in}
@@ -25,7 +24,3 @@ scene_in endpoints table base buffers open_transactions =
       buffers = buffers;
       open_transactions = open_transactions;
     }
-
--- the whole descriptor stands in TX of so many bytes, and nothing of it elsewhere
-abbrev pub is_whole : ℕ → Transfer → Bool
-is_whole room x = x.total == x.fragment && (nat_le x.total room && (x.address == 0 && x.pages == 0))

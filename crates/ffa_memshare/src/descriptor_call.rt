@@ -1,15 +1,15 @@
 //! Calls whose descriptor stands in TX.
-ghost use Rattle.std.specs.Prelude.{◌≡◌, length, List, OnOk, IfOk, IfErr, Bool, Some, is_some, true};
+ghost use Rattle.std.specs.Prelude.{◌≡◌, length, [], OnOk, IfOk, Some, is_some, true};
+ghost use Rattle.std.specs.Result.{result_err};
 ghost use Rattle.ffa_model.specs.MemorySend.{after_transfer};
-ghost use Rattle.ffa_model.specs.declared.refusal.Refusal.{Refusal as Check};
 ghost use Rattle.ffa_model.specs.Buffers.{buffers_in};
-ghost use Rattle.ffa_model.specs.Calls.{first_failure};
+ghost use Rattle.ffa_model.specs.Calls.{first_refusal};
 ghost use Rattle.ffa_model.specs.State.{Buffers as Own};
 ghost use Rattle.ffa_rxtx.specs.Parts.{IsInRam};
-ghost use Rattle.ffa_memshare.specs.Scenes.{descriptor_in, is_whole};
+ghost use Rattle.ffa_memshare.specs.Scenes.{descriptor_in};
 
 use crate::page_run::PageRun;
-use ffa_model::{EndpointId, ErrorCode, Transfer, Version};
+use ffa_model::{EndpointId, Refusal, Transfer, Version};
 use ffa_physmem::PhysMem;
 use ffa_rxtx::Buffers;
 
@@ -25,37 +25,34 @@ pub struct DescriptorCall {
 impl DescriptorCall {
     ghost use Rattle.ffa_rxtx.specs.Parts.{IsInRam};
 
-    // The bytes of the caller's descriptor, where they lie in its TX.
+    // The bytes of the caller's descriptor, where they lie in its TX, or why they don't stand whole in it.
     pub(crate) fn descriptor<'m, M: PhysMem>(
         &self,
         ram: &'m M,
         buffers: &Buffers,
         caller: EndpointId,
-    ) -> Result<PageRun<'m, M>, ErrorCode>
+    ) -> Result<PageRun<'m, M>, Refusal>
         requires tx { (b : Own) → buffers_in buffers.now caller.0 ≡ Some b → IsInRam (length (M.ram ram.now).pages) b }
-        ensures refused { IfErr result (λ code. (rest : List (Bool × Check)) → first_failure (after_transfer buffers.now caller.0 self.now.transfer rest) ≡ Some code) }
-        ensures passed { OnOk result ((rest : List (Bool × Check)) → first_failure (after_transfer buffers.now caller.0 self.now.transfer rest) ≡ first_failure rest) }
+        ensures refusal { result_err result ≡ first_refusal (after_transfer buffers.now caller.0 self.now.transfer []) }
         ensures buffers { OnOk result (is_some (buffers_in buffers.now caller.0) ≡ true) }
         ensures bytes { IfOk result (λ bytes. bytes ≡ (descriptor_in (M.ram ram.now) buffers.now caller.0 self.now).bytes) }
     {
-        let mapped = match buffers.of(caller) {
-            Some(mapped) => mapped,
-            None => return Err(ErrorCode::InvalidParameters),
+        let Some(mapped) = buffers.of(caller) else {
+            return Err(Refusal::BuffersMissing);
         };
-        if !self.is_whole(mapped.room()) {
-            return Err(ErrorCode::InvalidParameters);
-        }
-        Ok(PageRun::new(ram, mapped.tx, mapped.pages, self.transfer.total as usize))
-    }
-
-    // Whether the whole descriptor stands in TX, which has room for this many bytes, and nothing of it elsewhere.
-    fn is_whole(&self, room: usize) -> bool
-        ensures { result ≡ is_whole room self.now.transfer }
-    {
         let transfer = &self.transfer;
-        transfer.total == transfer.fragment
-            && transfer.total as usize <= room
-            && transfer.address == 0
-            && transfer.pages == 0
+        if transfer.total != transfer.fragment {
+            return Err(Refusal::Fragmented);
+        }
+        if transfer.total as usize > mapped.room() {
+            return Err(Refusal::DescriptorTooLong);
+        }
+        if transfer.address != 0 {
+            return Err(Refusal::BufferAddressGiven);
+        }
+        if transfer.pages != 0 {
+            return Err(Refusal::BufferPagesGiven);
+        }
+        Ok(PageRun::new(ram, mapped.tx, mapped.pages, transfer.total as usize))
     }
 }

@@ -58,15 +58,11 @@ impl Pool {
         ensures changed { IfOk result (λ changed. IsChanged changed (named_ranges (finite.get (map_in self.old.slots) handle))
             (changed_reclaimer (finite.get (map_in self.old.slots) handle) caller.0)) }
     {
-        let slot = match self.find(handle) {
-            Some(slot) => slot,
-            None => return Err(ErrorCode::InvalidParameters),
-        };
-        let open = self.at(slot);
-        open.check_reclaim(pages, layout.base, caller, flags)?;
-        open.give_back(ram, layout, pages, flags == 1);
+        let found = self.check_reclaim(pages, layout.base, caller, handle, flags)?;
+        let open = self.at(found.slot);
+        open.give_back(ram, layout, pages, found.zero);
         let changed = Changed::of(&open.ranges, changed_sender(open.kind, caller));
-        self.close(slot);
+        self.close(found.slot);
         Ok(changed)
     }
 }

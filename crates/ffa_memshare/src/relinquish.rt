@@ -1,14 +1,12 @@
 //! FFA_MEM_RELINQUISH.
-ghost use Rattle.std.specs.Prelude.{◌≡◌, ◌<◌, length, true, is_some, Some, IfOk, IfErr, OnOk, OnErr};
+ghost use Rattle.std.specs.Prelude.{◌≡◌, length, IfOk, OnErr};
 ghost use Rattle.std.specs.Result.{result_err};
 ghost use Rattle.arrayvec.specs.ArrayVec.{array_vec_len};
 ghost use Rattle.ffa_model.specs.Buffers.{buffers_in};
 ghost use Rattle.ffa_model.specs.Calls.{first_failure};
 ghost use Rattle.ffa_model.specs.MemoryReturn.{relinquish_guards};
 ghost use Rattle.ffa_model.specs.RelinquishDescriptor.{relinquish_of};
-ghost use Rattle.ffa_model.specs.State.{Buffers as Own};
-ghost use Rattle.ffa_model.specs.Transactions.{OpenTransactions};
-ghost use Rattle.ffa_rxtx.specs.Parts.{IsInRam, tx_in};
+ghost use Rattle.ffa_rxtx.specs.Parts.{tx_in};
 ghost use Rattle.ffa_memshare.specs.Callers.{IsCaller};
 ghost use Rattle.ffa_memshare.specs.Relinquished.{IsRelinquished};
 ghost use Rattle.ffa_memshare.specs.Shared.{IsShared};
@@ -17,9 +15,8 @@ ghost use Rattle.ffa_memshare.specs.Stored.{open_in};
 use crate::changed::Changed;
 use crate::grants::NewRight;
 use crate::page_changes::change_pages;
-use crate::page_run::{PageRun, read_relinquish};
 use crate::pool::Pool;
-use ffa_model::{EndpointId, ErrorCode, RelinquishDesc};
+use ffa_model::{EndpointId, ErrorCode};
 use ffa_pages::PageTable;
 use ffa_physmem::PhysMem;
 use ffa_rxtx::Buffers;
@@ -53,38 +50,13 @@ impl Pool {
         ensures done { IfOk result (λ changed. IsRelinquished self.old self.new (M.ram ram.old) (M.ram ram.new) layout.now.base.0
             (array_vec_len layout.now.regions) layout.now.blocks caller.0 (tx_in (M.ram ram.old) (buffers_in buffers.now caller.0)) changed) }
     {
-        let asked = asked_in(ram, buffers, caller)?;
-        let slot = match self.find(asked.handle) {
-            Some(slot) => slot,
-            None => return Err(ErrorCode::InvalidParameters),
-        };
-        let open = self.at(slot);
-        open.check_relinquish(caller, &asked)?;
+        let found = self.check_relinquish(ram, buffers, caller)?;
+        let open = self.at(found.slot);
         let index = caller.place();
         let nothing = NewRight::Same(None);
-        change_pages(ram, layout, pages, &open.ranges, index, nothing, asked.zero);
+        change_pages(ram, layout, pages, &open.ranges, index, nothing, found.zero);
         let changed = Changed::of(&open.ranges, Some(caller));
-        self.set_held(slot, caller, None);
+        self.set_held(found.slot, caller, None);
         Ok(changed)
     }
-}
-
-// What the descriptor in the caller's TX says, read where it lies.
-fn asked_in<M: PhysMem>(
-    ram: &M,
-    buffers: &Buffers,
-    caller: EndpointId,
-) -> Result<RelinquishDesc, ErrorCode>
-    requires { (b : Own) → buffers_in buffers.now caller.0 ≡ Some b → IsInRam (length (M.ram ram.now).pages) b }
-    ensures refused { IfErr result (λ code. (open_transactions : OpenTransactions) → first_failure (relinquish_guards (buffers_in buffers.now caller.0) open_transactions caller.0
-        (relinquish_of (tx_in (M.ram ram.now) (buffers_in buffers.now caller.0)))) ≡ Some code) }
-    ensures buffers { OnOk result (is_some (buffers_in buffers.now caller.0) ≡ true) }
-    ensures asked { IfOk result (λ asked. relinquish_of (tx_in (M.ram ram.now) (buffers_in buffers.now caller.0)) ≡ Some asked) }
-{
-    let mapped = match buffers.of(caller) {
-        Some(mapped) => mapped,
-        None => return Err(ErrorCode::InvalidParameters),
-    };
-    let bytes = PageRun::new(ram, mapped.tx, mapped.pages, mapped.room());
-    read_relinquish(&bytes).or(Err(ErrorCode::InvalidParameters))
 }

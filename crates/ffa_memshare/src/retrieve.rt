@@ -1,21 +1,17 @@
 //! FFA_MEM_RETRIEVE_REQ.
-ghost use Rattle.std.specs.Prelude.{List, ℕ, ◌≡◌, ◌≢◌, ◌<◌, length, true, is_some, Option, Some, IfOk, IfErr, OnOk, OnErr};
-ghost use Rattle.std.specs.FinMap as finite;
+ghost use Rattle.std.specs.Prelude.{ℕ, ◌≡◌, ◌≢◌, ◌<◌, length, true, is_some, Some, IfOk, OnOk, OnErr};
 ghost use Rattle.std.specs.Result.{result_err};
 ghost use Rattle.arrayvec.specs.ArrayVec.{array_vec_len};
 ghost use Rattle.ffa_model.specs.declared.limits.TheConstants.{MOST_ENDPOINTS};
-ghost use Rattle.ffa_model.specs.Buffers.{buffers_in, buffers_with_rx, is_full};
+ghost use Rattle.ffa_model.specs.Buffers.{buffers_in, buffers_with_rx};
 ghost use Rattle.ffa_model.specs.Calls.{first_failure};
 ghost use Rattle.ffa_model.specs.Identifiers.{identifier, manager, place};
-ghost use Rattle.ffa_model.specs.MemoryRetrieve.{holding_guards, response_to, retrieve_guards, taken_in};
+ghost use Rattle.ffa_model.specs.MemoryRetrieve.{response_to, retrieve_guards, taken_in};
 ghost use Rattle.ffa_model.specs.ResponseBytes.{response_record};
 ghost use Rattle.ffa_model.specs.RetrieveDescriptor.{retrieve_of};
-ghost use Rattle.ffa_model.specs.State.{Buffers as Own, Transaction};
-ghost use Rattle.ffa_model.specs.Transactions.{OpenTransactions};
-ghost use Rattle.ffa_pages.specs.Entry.{Entry, owner_at};
-ghost use Rattle.ffa_rxtx.specs.Parts.{IsInRam};
+ghost use Rattle.ffa_model.specs.State.{Transaction};
+ghost use Rattle.ffa_pages.specs.Entry.{owner_at};
 ghost use Rattle.ffa_memshare.specs.Callers.{IsCaller};
-ghost use Rattle.ffa_memshare.specs.Named.{own_rights_in};
 ghost use Rattle.ffa_memshare.specs.Ranges.{ArePlaced, in_ranges};
 ghost use Rattle.ffa_memshare.specs.Retrieved.{IsAnswered, IsPassedOn, IsRetrieved, IsTaken};
 ghost use Rattle.ffa_memshare.specs.Scenes.{descriptor_in, scene_in};
@@ -27,12 +23,11 @@ use crate::descriptor_call::DescriptorCall;
 use crate::grants::NewRight;
 use crate::marks::{Mark, mark_all};
 use crate::page_changes::change_pages;
-use crate::page_run::read_retrieve;
 use crate::pool::Pool;
 use crate::respond::respond;
 use crate::transaction::OpenTransaction;
 use arrayvec::ArrayVec;
-use ffa_model::{Address, EndpointId, ErrorCode, Kind, Response, RetrieveDesc, Rights, Version};
+use ffa_model::{Address, EndpointId, ErrorCode, Kind, Response, Rights, Version};
 use ffa_pages::PageTable;
 use ffa_physmem::PhysMem;
 use ffa_rxtx::Buffers;
@@ -73,17 +68,12 @@ impl Pool {
             (array_vec_len layout.now.regions) layout.now.blocks (buffers_in buffers.old caller.0) caller
             (descriptor_in (M.ram ram.old) buffers.old caller.0 call.now) retrieved.size retrieved.changed) }
     {
-        let asked = asked_in(ram, buffers, caller, call)?;
-        let slot = match self.find(asked.handle) {
-            Some(slot) => slot,
-            None => return Err(ErrorCode::InvalidParameters),
-        };
-        let open = self.at(slot);
-        let is_full = buffers.is_full(caller);
-        let right = open.check_retrieve(pages, layout.base, is_full, caller, &asked)?;
-        let size = open.hand_over(ram, layout, pages, buffers, caller, call.version, right);
+        let found = self.check_retrieve(ram, layout, pages, buffers, caller, call)?;
+        let open = self.at(found.slot);
+        let version = call.version;
+        let size = open.hand_over(ram, layout, pages, buffers, caller, version, found.right);
         let changed = Changed::of(&open.ranges, Some(caller));
-        self.take(pages, layout.base, slot, caller, right);
+        self.take(pages, layout.base, found.slot, caller, found.right);
         Ok(Retrieved { size, changed })
     }
 
@@ -167,26 +157,4 @@ impl OpenTransaction {
         self.ranges.list_in(&mut response.ranges);
         response
     }
-}
-
-// What the descriptor in the caller's TX says, read where it lies.
-fn asked_in<M: PhysMem>(
-    ram: &M,
-    buffers: &Buffers,
-    caller: EndpointId,
-    call: &DescriptorCall,
-) -> Result<RetrieveDesc, ErrorCode>
-    requires { (b : Own) → buffers_in buffers.now caller.0 ≡ Some b → IsInRam (length (M.ram ram.now).pages) b }
-    ensures refused { IfErr result (λ code. (n base : ℕ) (table : List (Option Entry)) (open_transactions : OpenTransactions)
-        → first_failure (retrieve_guards (scene_in n table base buffers.now open_transactions) caller.0 call.now.transfer
-        (retrieve_of caller.0 (descriptor_in (M.ram ram.now) buffers.now caller.0 call.now))) ≡ Some code) }
-    ensures passed { IfOk result (λ asked. (n base : ℕ) (table : List (Option Entry)) (open_transactions : OpenTransactions)
-        → first_failure (retrieve_guards (scene_in n table base buffers.now open_transactions) caller.0 call.now.transfer
-        (retrieve_of caller.0 (descriptor_in (M.ram ram.now) buffers.now caller.0 call.now)))
-        ≡ first_failure (holding_guards (own_rights_in table base) (is_full (buffers_in buffers.now caller.0)) caller.0 asked (finite.get open_transactions.transactions asked.handle))) }
-    ensures buffers { OnOk result (is_some (buffers_in buffers.now caller.0) ≡ true) }
-    ensures asked { IfOk result (λ asked. retrieve_of caller.0 (descriptor_in (M.ram ram.now) buffers.now caller.0 call.now) ≡ Some asked) }
-{
-    let bytes = call.descriptor(ram, buffers, caller)?;
-    read_retrieve(&bytes, call.version, caller).or(Err(ErrorCode::InvalidParameters))
 }

@@ -1,31 +1,23 @@
 //! FFA_MEM_DONATE, FFA_MEM_LEND and FFA_MEM_SHARE.
-ghost use Rattle.std.specs.Prelude.{◌≡◌, ◌<◌, ℕ, length, None, Some, IfOk, IfErr, OnOk, OnErr};
+ghost use Rattle.std.specs.Prelude.{◌≡◌, ◌<◌, ℕ, length, None, IfOk, OnErr};
 ghost use Rattle.std.specs.Result.{result_err};
 ghost use Rattle.arrayvec.specs.ArrayVec.{array_vec_len};
-ghost use Rattle.ffa_model.specs.Buffers.{buffers_in};
 ghost use Rattle.ffa_model.specs.Calls.{first_failure};
-ghost use Rattle.ffa_model.specs.MemorySend.{room_guards, send_guards};
-ghost use Rattle.ffa_model.specs.Identifiers.{place};
+ghost use Rattle.ffa_model.specs.MemorySend.{send_guards};
 ghost use Rattle.ffa_model.specs.SendDescriptor.{send_of};
-ghost use Rattle.ffa_model.specs.State.{Buffers as Own};
 ghost use Rattle.ffa_model.specs.Transactions.{next_handle};
 ghost use Rattle.ffa_pages.specs.Entry.{entry_at};
 ghost use Rattle.ffa_stage2.specs.Tables.{table_page};
-ghost use Rattle.ffa_rxtx.specs.Parts.{IsInRam};
 ghost use Rattle.ffa_memshare.specs.Callers.{IsCaller};
-ghost use Rattle.ffa_memshare.specs.Offers.{IsOffered};
 ghost use Rattle.ffa_memshare.specs.Scenes.{descriptor_in, scene_in};
 ghost use Rattle.ffa_memshare.specs.Sent.{IsSent};
 ghost use Rattle.ffa_memshare.specs.Shared.{IsRoom};
-ghost use Rattle.ffa_memshare.specs.Stored.{open_in, view_of};
+ghost use Rattle.ffa_memshare.specs.Stored.{open_in};
 
 use crate::changed::{Changed, Sent, changed_sender};
-use crate::checks::send::check_offer;
 use crate::descriptor_call::DescriptorCall;
-use crate::holders::Holders;
-use crate::page_run::read_send;
+use crate::found::FoundOffer;
 use crate::pool::Pool;
-use crate::transaction::OpenTransaction;
 use ffa_model::{EndpointId, ErrorCode, Kind};
 use ffa_pages::PageTable;
 use ffa_physmem::PhysMem;
@@ -70,53 +62,12 @@ impl Pool {
         ensures sent { IfOk result (λ sent. IsSent self.old self.new pages.old pages.new (M.ram ram.old) (M.ram ram.new) layout.now.base.0
             (array_vec_len layout.now.regions) layout.now.blocks caller.0 kind (descriptor_in (M.ram ram.old) buffers.now caller.0 call.now) sent.changed) }
     {
-        let open = self.offered(ram, layout, pages, buffers, caller, kind, call)?;
-        let slot = self.room(caller)?;
-        let handle = open.handle;
-        open.take_pages(ram, layout, pages, slot as u8);
-        let changed = Changed::of(&open.ranges, changed_sender(kind, caller));
-        self.open(slot, open);
+        let found = self.check_send(ram, layout, pages, buffers, caller, kind, call)?;
+        let FoundOffer { transaction, slot } = found;
+        let handle = transaction.handle;
+        transaction.take_pages(ram, layout, pages, slot as u8);
+        let changed = Changed::of(&transaction.ranges, changed_sender(kind, caller));
+        self.open(slot, transaction);
         Ok(Sent { handle, changed })
-    }
-
-    // The transaction that the descriptor in the caller's TX opens, where the caller may send it but for room.
-    fn offered<M: PhysMem>(
-        &self,
-        ram: &M,
-        layout: &Layout,
-        pages: &PageTable,
-        buffers: &Buffers,
-        caller: EndpointId,
-        kind: Kind,
-        call: &DescriptorCall,
-    ) -> Result<OpenTransaction, ErrorCode>
-        requires buffers { (b : Own) → buffers_in buffers.now caller.0 ≡ Some b → IsInRam (length (M.ram ram.now).pages) b }
-        requires caller { place caller.0 < length self.now.sent }
-        ensures refused { IfErr result (λ code. first_failure (send_guards
-            (scene_in (array_vec_len layout.now.regions) pages.now layout.now.base.0 buffers.now (open_in self.now))
-            caller.0 call.now.transfer (send_of kind (descriptor_in (M.ram ram.now) buffers.now caller.0 call.now))) ≡ Some code) }
-        ensures passed { OnOk result (first_failure (send_guards
-            (scene_in (array_vec_len layout.now.regions) pages.now layout.now.base.0 buffers.now (open_in self.now))
-            caller.0 call.now.transfer (send_of kind (descriptor_in (M.ram ram.now) buffers.now caller.0 call.now)))
-            ≡ first_failure (room_guards (open_in self.now) caller.0)) }
-        ensures handle { IfOk result (λ t. t.handle ≡ next_handle (open_in self.now) caller.0) }
-        ensures offered { IfOk result (λ t. IsOffered pages.now layout.now.base.0 caller.0 kind
-            (descriptor_in (M.ram ram.now) buffers.now caller.0 call.now) (view_of t)) }
-    {
-        let bytes = call.descriptor(ram, buffers, caller)?;
-        let Ok(offer) = read_send(&bytes, call.version, kind) else {
-            return Err(ErrorCode::InvalidParameters);
-        };
-        let ranges = check_offer(&offer, layout, pages, buffers, caller)?;
-        Ok(OpenTransaction {
-            handle: self.next_handle(caller),
-            kind,
-            sender: offer.sender,
-            tag: offer.tag,
-            zero: offer.zero,
-            ranges,
-            receivers: offer.receivers,
-            held: Holders::none(),
-        })
     }
 }

@@ -1,37 +1,78 @@
 //! The checks of FFA_MEM_RECLAIM: whether a sender may end its transaction.
-ghost use Rattle.std.specs.Prelude.{◌≡◌, length, Some};
+ghost use Rattle.std.specs.Prelude.{◌≡◌, ◌≤◌, ◌==◌, ℕ, length, Some, IfOk};
+ghost use Rattle.std.specs.FinMap as finite;
 ghost use Rattle.std.specs.Result.{result_err};
-ghost use Rattle.ffa_model.specs.Calls.{first_failure};
+ghost use Rattle.ffa_model.specs.Calls.{first_refusal};
 ghost use Rattle.ffa_model.specs.MemoryReturn.{is_unheld, reclaim_guards};
+ghost use Rattle.ffa_model.specs.State.{Transaction};
 ghost use Rattle.ffa_memshare.specs.Named.{own_rights_in};
 ghost use Rattle.ffa_memshare.specs.Ranges.{ArePlaced};
+ghost use Rattle.ffa_memshare.specs.Shared.{AreInRam};
+ghost use Rattle.ffa_memshare.specs.Stored.{map_in, pool_slot};
 
+use crate::found::FoundReturn;
+use crate::pool::Pool;
 use crate::transaction::OpenTransaction;
-use ffa_model::{Address, EndpointId, ErrorCode};
+use ffa_model::{Address, EndpointId, Refusal};
 use ffa_pages::PageTable;
+
+impl Pool {
+    /// Whether an endpoint may reclaim the transaction with this handle, with w3: its slot, and whether zeros are asked.
+    ///
+    /// # Errors
+    ///
+    /// The first check of FFA_MEM_RECLAIM that fails.
+    pub fn check_reclaim(
+        &self,
+        pages: &PageTable,
+        base: Address,
+        caller: EndpointId,
+        handle: u64,
+        flags: u32,
+    ) -> Result<FoundReturn, Refusal>
+        requires { AreInRam self.now.slots base.0 (length pages.now) }
+        ensures refusal { result_err result ≡ first_refusal (reclaim_guards (own_rights_in pages.now base.0) caller.0 flags (finite.get (map_in self.now.slots) handle)) }
+        ensures slot { IfOk result (λ found. (t : Transaction) × (pool_slot self.now.slots found.slot ≡ Some (handle, t))) }
+        ensures zero { IfOk result (λ found. found.zero ≡ (flags == 1)) }
+    {
+        if flags > 1 {
+            return Err(Refusal::FlagsReserved);
+        }
+        let Some(slot) = self.find(handle) else {
+            return Err(Refusal::NotTheSenders);
+        };
+        let open = self.at(slot);
+        open.check_reclaim(pages, base, caller, flags)?;
+        Ok(FoundReturn {
+            slot,
+            zero: flags == 1,
+        })
+    }
+}
 
 impl OpenTransaction {
     ghost use Rattle.ffa_memshare.specs.Stored.{view_of};
 
-    // Whether its sender may end it, or why not.
-    pub(crate) fn check_reclaim(
+    // Whether its sender may end it, with flags that are known, or why not.
+    fn check_reclaim(
         &self,
         pages: &PageTable,
         base: Address,
         caller: EndpointId,
         flags: u32,
-    ) -> Result<(), ErrorCode>
-        requires { ArePlaced base.0 (length pages.now) self.now.ranges }
-        ensures { result_err result ≡ first_failure (reclaim_guards (own_rights_in pages.now base.0) caller.0 flags (Some (view_of self.now))) }
+    ) -> Result<(), Refusal>
+        requires placed { ArePlaced base.0 (length pages.now) self.now.ranges }
+        requires flags { flags ≤ 1 }
+        ensures { result_err result ≡ first_refusal (reclaim_guards (own_rights_in pages.now base.0) caller.0 flags (Some (view_of self.now))) }
     {
-        if flags > 1 || self.sender != caller {
-            return Err(ErrorCode::InvalidParameters);
+        if self.sender != caller {
+            return Err(Refusal::NotTheSenders);
         }
         if !self.is_unheld() {
-            return Err(ErrorCode::Denied);
+            return Err(Refusal::StillHeld);
         }
         if flags == 1 && !self.common(pages, base).is_writable {
-            return Err(ErrorCode::Denied);
+            return Err(Refusal::ZerosUnwritable);
         }
         Ok(())
     }

@@ -1,28 +1,78 @@
 //! The checks of FFA_MEM_RELINQUISH: whether an endpoint may give up what it asks to.
-ghost use Rattle.std.specs.Prelude.{◌≡◌, Some};
+ghost use Rattle.std.specs.Prelude.{◌≡◌, length, Some, IfOk};
 ghost use Rattle.std.specs.Result.{result_err};
-ghost use Rattle.ffa_model.specs.Calls.{first_failure};
-ghost use Rattle.ffa_model.specs.MemoryReturn.{holder_guards, is_zeroable};
+ghost use Rattle.ffa_model.specs.Buffers.{buffers_in};
+ghost use Rattle.ffa_model.specs.Calls.{first_refusal};
+ghost use Rattle.ffa_model.specs.MemoryReturn.{holder_guards, is_zeroable, relinquish_guards};
+ghost use Rattle.ffa_model.specs.RelinquishDescriptor.{relinquish_of};
+ghost use Rattle.ffa_model.specs.State.{Buffers as Own};
+ghost use Rattle.ffa_rxtx.specs.Parts.{IsInRam, tx_in};
+ghost use Rattle.ffa_memshare.specs.Found.{IsGivenUp};
+ghost use Rattle.ffa_memshare.specs.Stored.{open_in};
 
+use crate::found::FoundReturn;
+use crate::page_run::{PageRun, read_relinquish};
+use crate::pool::Pool;
 use crate::transaction::OpenTransaction;
-use ffa_model::{Data, EndpointId, ErrorCode, Kind, RelinquishDesc};
+use ffa_model::{Data, EndpointId, Kind, Refusal, RelinquishDesc};
+use ffa_physmem::PhysMem;
+use ffa_rxtx::Buffers;
+
+impl Pool {
+    /// Whether an endpoint may give up what the descriptor in its TX says: the transaction's slot, and whether zeros are asked.
+    ///
+    /// # Errors
+    ///
+    /// The first check of FFA_MEM_RELINQUISH that fails.
+    pub fn check_relinquish<M: PhysMem>(
+        &self,
+        ram: &M,
+        buffers: &Buffers,
+        caller: EndpointId,
+    ) -> Result<FoundReturn, Refusal>
+        requires { (b : Own) → buffers_in buffers.now caller.0 ≡ Some b → IsInRam (length (M.ram ram.now).pages) b }
+        ensures refusal { result_err result ≡ first_refusal (relinquish_guards (buffers_in buffers.now caller.0) (open_in self.now) caller.0
+            (relinquish_of (tx_in (M.ram ram.now) (buffers_in buffers.now caller.0)))) }
+        ensures found { IfOk result (IsGivenUp self.now.slots (tx_in (M.ram ram.now) (buffers_in buffers.now caller.0))) }
+    {
+        let Some(mapped) = buffers.of(caller) else {
+            return Err(Refusal::BuffersMissing);
+        };
+        let bytes = PageRun::new(ram, mapped.tx, mapped.pages, mapped.room());
+        let Ok(asked) = read_relinquish(&bytes) else {
+            return Err(Refusal::DescriptorMalformed);
+        };
+        if asked.endpoint != caller {
+            return Err(Refusal::EndpointIsAnother);
+        }
+        let Some(slot) = self.find(asked.handle) else {
+            return Err(Refusal::NotOffered);
+        };
+        let open = self.at(slot);
+        open.check_relinquish(caller, &asked)?;
+        Ok(FoundReturn {
+            slot,
+            zero: asked.zero,
+        })
+    }
+}
 
 impl OpenTransaction {
     ghost use Rattle.ffa_memshare.specs.Stored.{view_of};
 
-    // Whether an endpoint may give up what it asks to, or why not.
-    pub(crate) fn check_relinquish(
-        &self,
-        caller: EndpointId,
-        asked: &RelinquishDesc,
-    ) -> Result<(), ErrorCode>
-        ensures { result_err result ≡ first_failure (holder_guards caller.0 asked.now (Some (view_of self.now))) }
+    // Whether an endpoint may give it up as it asks to itself, or why not.
+    fn check_relinquish(&self, caller: EndpointId, asked: &RelinquishDesc) -> Result<(), Refusal>
+        requires { asked.now.endpoint.0 ≡ caller.0 }
+        ensures { result_err result ≡ first_refusal (holder_guards caller.0 asked.now (Some (view_of self.now))) }
     {
-        if asked.endpoint != caller || !self.is_receiver(caller) {
-            return Err(ErrorCode::InvalidParameters);
+        if !self.is_receiver(caller) {
+            return Err(Refusal::NotOffered);
         }
-        if self.held(caller).is_none() || (asked.zero && !self.is_zeroable(caller)) {
-            return Err(ErrorCode::Denied);
+        if self.held(caller).is_none() {
+            return Err(Refusal::NotHeld);
+        }
+        if asked.zero && !self.is_zeroable(caller) {
+            return Err(Refusal::ZerosNotAllowed);
         }
         Ok(())
     }

@@ -1,18 +1,70 @@
 //! The checks of FFA_MEM_RETRIEVE_REQ: what a receiver asks for, and the most that it may hold.
-ghost use Rattle.std.specs.Prelude.{◌≡◌, ℕ, length, is_some, IfOk, IfSome, Some};
+ghost use Rattle.std.specs.Prelude.{◌≡◌, ℕ, length, true, is_some, OnOk, IfOk, IfSome, Some};
 ghost use Rattle.std.specs.Result.{result_err};
+ghost use Rattle.arrayvec.specs.ArrayVec.{array_vec_len};
 ghost use Rattle.ffa_model.specs.Access.{is_receiver};
-ghost use Rattle.ffa_model.specs.Calls.{first_failure};
-ghost use Rattle.ffa_model.specs.MemoryRetrieve.{asked_right, holding_guards, is_kind_right, right_for};
+ghost use Rattle.ffa_model.specs.Buffers.{buffers_in};
+ghost use Rattle.ffa_model.specs.Calls.{first_refusal};
+ghost use Rattle.ffa_model.specs.MemoryRetrieve.{asked_right, holding_guards, is_kind_right, retrieve_guards, right_for};
+ghost use Rattle.ffa_model.specs.RetrieveDescriptor.{retrieve_of};
 ghost use Rattle.ffa_model.specs.Rights.{is_at_most};
 ghost use Rattle.ffa_model.specs.Transactions.{ceiling, grant_to};
-ghost use Rattle.ffa_memshare.specs.Asked.{is_described};
+ghost use Rattle.ffa_memshare.specs.Callers.{IsCaller};
+ghost use Rattle.ffa_memshare.specs.Found.{IsAskedFor};
 ghost use Rattle.ffa_memshare.specs.Named.{own_rights_in};
 ghost use Rattle.ffa_memshare.specs.Ranges.{ArePlaced};
+ghost use Rattle.ffa_memshare.specs.Scenes.{descriptor_in, scene_in};
+ghost use Rattle.ffa_memshare.specs.Shared.{AreInRam};
+ghost use Rattle.ffa_memshare.specs.Stored.{open_in};
 
+use crate::descriptor_call::DescriptorCall;
+use crate::found::FoundRight;
+use crate::page_run::read_retrieve;
+use crate::pool::Pool;
 use crate::transaction::OpenTransaction;
-use ffa_model::{Address, Data, EndpointId, ErrorCode, Kind, RetrieveDesc, Rights};
+use ffa_model::{Address, Data, EndpointId, Kind, Refusal, RetrieveDesc, Rights};
 use ffa_pages::PageTable;
+use ffa_physmem::PhysMem;
+use ffa_rxtx::Buffers;
+use ffa_stage2::Layout;
+
+impl Pool {
+    /// Whether an endpoint may take what the descriptor in its TX asks for: the transaction's slot, and the right that the
+    /// endpoint gets.
+    ///
+    /// # Errors
+    ///
+    /// The first check of FFA_MEM_RETRIEVE_REQ that fails.
+    pub fn check_retrieve<M: PhysMem>(
+        &self,
+        ram: &M,
+        layout: &Layout,
+        pages: &PageTable,
+        buffers: &Buffers,
+        caller: EndpointId,
+        call: &DescriptorCall,
+    ) -> Result<FoundRight, Refusal>
+        requires placed { AreInRam self.now.slots layout.now.base.0 (length pages.now) }
+        requires caller { IsCaller (array_vec_len layout.now.regions) (length (M.ram ram.now).pages) caller.0 buffers.now }
+        ensures refusal { result_err result ≡ first_refusal (retrieve_guards
+            (scene_in (array_vec_len layout.now.regions) pages.now layout.now.base.0 buffers.now (open_in self.now)) caller.0 call.now.transfer
+            (retrieve_of caller.0 (descriptor_in (M.ram ram.now) buffers.now caller.0 call.now))) }
+        ensures buffers { OnOk result (is_some (buffers_in buffers.now caller.0) ≡ true) }
+        ensures found { IfOk result (IsAskedFor self.now.slots (own_rights_in pages.now layout.now.base.0) caller.0 (descriptor_in (M.ram ram.now) buffers.now caller.0 call.now)) }
+    {
+        let bytes = call.descriptor(ram, buffers, caller)?;
+        let Ok(asked) = read_retrieve(&bytes, call.version, caller) else {
+            return Err(Refusal::DescriptorMalformed);
+        };
+        let Some(slot) = self.find(asked.handle) else {
+            return Err(Refusal::HandleUnknown);
+        };
+        let open = self.at(slot);
+        let is_full = buffers.is_full(caller);
+        let right = open.check_retrieve(pages, layout.base, is_full, caller, &asked)?;
+        Ok(FoundRight { slot, right })
+    }
+}
 
 impl OpenTransaction {
     ghost use Rattle.ffa_memshare.specs.Stored.{view_of};
@@ -45,39 +97,41 @@ impl OpenTransaction {
         }
     }
 
-    // Whether it is the transaction that is described.
-    fn is_described(&self, asked: &RetrieveDesc) -> bool
-        ensures { result ≡ is_described asked.now (view_of self.now) }
-    {
-        asked.sender == self.sender && asked.tag == self.tag && is_kind_right(self.kind, asked.kind)
-    }
-
     // The right that an endpoint gets whose RX is full or not, or why it gets none.
-    pub(crate) fn check_retrieve(
+    fn check_retrieve(
         &self,
         pages: &PageTable,
         base: Address,
         is_full: bool,
         caller: EndpointId,
         asked: &RetrieveDesc,
-    ) -> Result<Rights, ErrorCode>
+    ) -> Result<Rights, Refusal>
         requires { ArePlaced base.0 (length pages.now) self.now.ranges }
-        ensures refusal { result_err result ≡ first_failure (holding_guards (own_rights_in pages.now base.0) is_full caller.0 asked.now (Some (view_of self.now))) }
+        ensures refusal { result_err result ≡ first_refusal (holding_guards (own_rights_in pages.now base.0) is_full caller.0 asked.now (Some (view_of self.now))) }
         ensures right { IfOk result (λ right. right ≡ right_for (own_rights_in pages.now base.0) (view_of self.now) caller.0 asked.now) }
     {
         let Some(granted) = self.granted_to(caller) else {
-            return Err(ErrorCode::InvalidParameters);
+            return Err(Refusal::NotReceiver);
         };
-        if !self.is_described(asked) {
-            return Err(ErrorCode::InvalidParameters);
+        if asked.sender != self.sender {
+            return Err(Refusal::TransactionSenderDiffers);
+        }
+        if asked.tag != self.tag {
+            return Err(Refusal::TagDiffers);
+        }
+        if !is_kind_right(self.kind, asked.kind) {
+            return Err(Refusal::KindDiffers);
+        }
+        if self.held(caller).is_some() {
+            return Err(Refusal::AlreadyRetrieved);
         }
         let most = self.ceiling(pages, base, granted);
         let right = asked_right(most, asked);
-        if self.held(caller).is_some() || !is_at_most(right, most) {
-            return Err(ErrorCode::Denied);
+        if !is_at_most(right, most) {
+            return Err(Refusal::RightTooMuch);
         }
         if is_full {
-            return Err(ErrorCode::Busy);
+            return Err(Refusal::RxFull);
         }
         Ok(right)
     }

@@ -1,24 +1,86 @@
 //! The checks of FFA_MEM_DONATE, FFA_MEM_LEND and FFA_MEM_SHARE: whether an endpoint may send what it offers.
-ghost use Rattle.std.specs.Prelude.{◌≡◌, ◌<◌, ℕ, length, List, OnOk, IfOk, IfErr, Bool, Some, true, not, ◌&&◌, ◌||◌};
+ghost use Rattle.std.specs.Prelude.{◌≡◌, ◌<◌, ℕ, length, [], OnOk, IfOk, ◌||◌};
 ghost use Rattle.std.specs.List.{list_all};
+ghost use Rattle.std.specs.Result.{result_err};
 ghost use Rattle.arrayvec.specs.ArrayVec.{array_vec_len};
-ghost use Rattle.ffa_model.specs.declared.refusal.Refusal.{Refusal as Check};
-ghost use Rattle.ffa_model.specs.Calls.{first_failure};
-ghost use Rattle.ffa_model.specs.MemorySend.{after_offer, are_grants_within, are_known, is_inside, is_own, is_sendable};
-ghost use Rattle.ffa_model.specs.SendDescriptor.{send_record};
-ghost use Rattle.ffa_model.specs.Transactions.{are_writable, pages_in};
+ghost use Rattle.ffa_model.specs.declared.limits.TheConstants.{MOST_SENDS};
+ghost use Rattle.ffa_memshare.specs.declared.pool.TheConstants.{MOST_SLOTS};
+ghost use Rattle.ffa_model.specs.Calls.{first_refusal};
+ghost use Rattle.ffa_model.specs.Identifiers.{place};
+ghost use Rattle.ffa_model.specs.MemorySend.{after_offer, are_known, is_inside, is_own, is_sendable, send_guards};
+ghost use Rattle.ffa_model.specs.SendDescriptor.{send_of, send_record};
+ghost use Rattle.ffa_model.specs.Transactions.{next_handle, sends_of};
 ghost use Rattle.ffa_rxtx.specs.Parts.{candidate_in, candidates_in};
+ghost use Rattle.ffa_memshare.specs.Callers.{IsCaller};
 ghost use Rattle.ffa_memshare.specs.Named.{all_named, own_rights_in};
-ghost use Rattle.ffa_memshare.specs.Offers.{AreAligned, IsOwnOffer, grants_writes};
+ghost use Rattle.ffa_memshare.specs.Offers.{AreAligned, IsOffered, IsOwnOffer, grants_writes, write_guards};
 ghost use Rattle.ffa_memshare.specs.Ranges.{ArePlaced, IsPlaced, in_range, in_ranges};
+ghost use Rattle.ffa_memshare.specs.Scenes.{descriptor_in, scene_in};
+ghost use Rattle.ffa_memshare.specs.SlotChanges.{IsFree};
+ghost use Rattle.ffa_memshare.specs.Stored.{open_in, view_of};
 
 use crate::common::common_of;
+use crate::descriptor_call::DescriptorCall;
+use crate::found::FoundOffer;
 use crate::grants::first_page;
+use crate::holders::Holders;
 use crate::page_ranges::PageRanges;
-use ffa_model::{Address, Data, EndpointId, ErrorCode, PageNo, Range, Receiver, SendDesc};
+use crate::page_run::read_send;
+use crate::pool::Pool;
+use crate::transaction::OpenTransaction;
+use ffa_model::{Address, Data, EndpointId, Kind, PageNo, Range, Receiver, Refusal, SendDesc};
 use ffa_pages::PageTable;
+use ffa_physmem::PhysMem;
 use ffa_rxtx::Buffers;
 use ffa_stage2::Layout;
+
+impl Pool {
+    /// Whether an endpoint may send what the descriptor in its TX offers: the transaction that it opens, and the free slot for it.
+    ///
+    /// # Errors
+    ///
+    /// The first check of FFA_MEM_DONATE, FFA_MEM_LEND or FFA_MEM_SHARE that fails.
+    pub fn check_send<M: PhysMem>(
+        &self,
+        ram: &M,
+        layout: &Layout,
+        pages: &PageTable,
+        buffers: &Buffers,
+        caller: EndpointId,
+        kind: Kind,
+        call: &DescriptorCall,
+    ) -> Result<FoundOffer, Refusal>
+        requires caller { IsCaller (array_vec_len layout.now.regions) (length (M.ram ram.now).pages) caller.0 buffers.now }
+        requires endpoints { length self.now.sent ≡ array_vec_len layout.now.regions }
+        ensures refusal { result_err result ≡ first_refusal (send_guards
+            (scene_in (array_vec_len layout.now.regions) pages.now layout.now.base.0 buffers.now (open_in self.now))
+            caller.0 call.now.transfer (send_of kind (descriptor_in (M.ram ram.now) buffers.now caller.0 call.now))) }
+        ensures handle { IfOk result (λ found. found.transaction.handle ≡ next_handle (open_in self.now) caller.0) }
+        ensures offered { IfOk result (λ found. IsOffered pages.now layout.now.base.0 caller.0 kind
+            (descriptor_in (M.ram ram.now) buffers.now caller.0 call.now) (view_of found.transaction)) }
+        ensures free { IfOk result (λ found. IsFree self.now.slots (place caller.0) found.slot) }
+        ensures few { OnOk result (sends_of (open_in self.now) caller.0 < MOST_SENDS) }
+        ensures fits { IfOk result (λ found. found.slot < MOST_SLOTS) }
+    {
+        let bytes = call.descriptor(ram, buffers, caller)?;
+        let Ok(offer) = read_send(&bytes, call.version, kind) else {
+            return Err(Refusal::DescriptorMalformed);
+        };
+        let ranges = check_offer(&offer, layout, pages, buffers, caller)?;
+        let slot = self.room(caller)?;
+        let transaction = OpenTransaction {
+            handle: self.next_handle(caller),
+            kind,
+            sender: offer.sender,
+            tag: offer.tag,
+            zero: offer.zero,
+            ranges,
+            receivers: offer.receivers,
+            held: Holders::none(),
+        };
+        Ok(FoundOffer { transaction, slot })
+    }
+}
 
 // Whether all receivers are endpoints, of this many.
 fn are_known(receivers: &[Receiver], endpoints: usize) -> bool
@@ -113,51 +175,56 @@ fn asks_for_writes(offer: &SendDesc) -> bool
     offer.zero || grants_writes(offer.receivers.as_slice())
 }
 
-// Whether the pages that are offered, which are those of these ranges, have rw themselves, where that is asked for.
-fn are_writable_enough(
+// Whether the pages that are offered, which are those of these ranges, have rw themselves, where that is asked for, or what
+// it is asked for.
+fn check_writes(
     offer: &SendDesc,
     ranges: &PageRanges,
     pages: &PageTable,
     base: Address,
-) -> bool
+) -> Result<(), Refusal>
     requires ranges { ranges.now ≡ offer.now.ranges.items }
     requires own { (e : ℕ) × IsOwnOffer pages.now base.0 e (send_record offer.now) }
-    ensures { result ≡ (list_all (are_grants_within (own_rights_in pages.now base.0) offer.now.receivers.items) (pages_in (own_rights_in pages.now base.0) offer.now.ranges.items)
-        && (not offer.now.zero || are_writable (own_rights_in pages.now base.0) offer.now.ranges.items)) }
+    ensures { result_err result ≡ first_refusal (write_guards (own_rights_in pages.now base.0) (send_record offer.now)) }
 {
     if !asks_for_writes(offer) {
-        return true;
+        return Ok(());
     }
-    common_of(pages, base, ranges).is_writable
+    if common_of(pages, base, ranges).is_writable {
+        return Ok(());
+    }
+    if grants_writes(offer.receivers.as_slice()) {
+        return Err(Refusal::GrantTooMuch);
+    }
+    Err(Refusal::ZerosUnwritable)
 }
 
 // The ranges of what an endpoint offers, where it may send that, or why it may not.
-pub(crate) fn check_offer(
+fn check_offer(
     offer: &SendDesc,
     layout: &Layout,
     pages: &PageTable,
     buffers: &Buffers,
     caller: EndpointId,
-) -> Result<PageRanges, ErrorCode>
+) -> Result<PageRanges, Refusal>
     requires aligned { AreAligned offer.now.ranges.items }
-    ensures refused { IfErr result (λ code. (rest : List (Bool × Check)) → first_failure (after_offer (array_vec_len layout.now.regions) (candidates_in pages.now layout.now.base.0) (own_rights_in pages.now layout.now.base.0) buffers.now caller.0 (send_record offer.now) rest) ≡ Some code) }
-    ensures passed { OnOk result ((rest : List (Bool × Check)) → first_failure (after_offer (array_vec_len layout.now.regions) (candidates_in pages.now layout.now.base.0) (own_rights_in pages.now layout.now.base.0) buffers.now caller.0 (send_record offer.now) rest) ≡ first_failure rest) }
+    ensures refusal { result_err result ≡ first_refusal (after_offer (array_vec_len layout.now.regions) (candidates_in pages.now layout.now.base.0) (own_rights_in pages.now layout.now.base.0) buffers.now caller.0 (send_record offer.now) []) }
     ensures offered { OnOk result (IsOwnOffer pages.now layout.now.base.0 caller.0 (send_record offer.now)) }
     ensures ranges { IfOk result (λ ranges. ranges ≡ offer.now.ranges.items) }
 {
-    let receivers = offer.receivers.as_slice();
-    if offer.sender != caller || !are_known(receivers, layout.regions.len()) {
-        return Err(ErrorCode::InvalidParameters);
+    if offer.sender != caller {
+        return Err(Refusal::SenderIsAnother);
+    }
+    if !are_known(offer.receivers.as_slice(), layout.regions.len()) {
+        return Err(Refusal::ReceiverUnknown);
     }
     if !are_inside(offer.ranges.as_slice(), pages, layout.base) {
-        return Err(ErrorCode::Denied);
+        return Err(Refusal::RangeOutside);
     }
     let ranges = PageRanges::of(pages, layout.base, &offer.ranges);
     if !are_sendable(pages, layout.base, buffers, caller, &ranges) {
-        return Err(ErrorCode::Denied);
+        return Err(Refusal::PageUnsendable);
     }
-    if !are_writable_enough(offer, &ranges, pages, layout.base) {
-        return Err(ErrorCode::Denied);
-    }
+    check_writes(offer, &ranges, pages, layout.base)?;
     Ok(ranges)
 }

@@ -1,46 +1,70 @@
-use Rattle.std.proofs.Common.{ℕ, sym, subst}
+use Rattle.std.proofs.Common.{◌∙◌, ℕ, ap, sym, subst}
 use Rattle.arrayvec.specs.ArrayVec.{array_vec_len}
 use Rattle.ffa_model.specs.Buffers.{buffers_in}
-use Rattle.ffa_memshare.specs.Ranges.{ArePlaced}
+use Rattle.ffa_model.specs.MemoryRetrieve.{retrieve_guards, right_for}
+use Rattle.ffa_model.specs.RetrieveDescriptor.{retrieve_of}
+use Rattle.ffa_model.specs.State.{Transaction}
+use Rattle.ffa_model.proofs.Guards.{answers-code, answers-pass}
+use Rattle.ffa_memshare.specs.Named.{own_rights_in}
 use Rattle.ffa_memshare.specs.Retrieved.{IsAnswered}
-use Rattle.ffa_memshare.specs.Stored.{view_of}
-use Rattle.ffa_memshare.proofs.Asks.{asked-open, asked-slot, same-handle}
+use Rattle.ffa_memshare.specs.Scenes.{descriptor_in, scene_in}
+use Rattle.ffa_memshare.specs.Stored.{open_in, view_of}
+use Rattle.ffa_memshare.proofs.Asks.{asked-open, asked-slot, same-handle, same-open, shared-placed}
 use Rattle.ffa_memshare.proofs.pool.Pool.retrieve.Goals as goal
+
+pub check_retrieve-requires-clause-placed : goal.check_retrieve-requires-clause-placed
+check_retrieve-requires-clause-placed g c = shared-placed c.requires.shared
 
 pub hand_over-size-requires-clause-held : goal.hand_over-size-requires-clause-held
 hand_over-size-requires-clause-held g c =
     let it = c.at-open.result.now in
-    c.requires.shared.each c.in-Some.slot it.handle (view_of it) c.at-open.ensures.value
+    c.requires.shared.each c.in_ok-found.found.slot it.handle (view_of it) c.at-open.ensures.value
 
 pub take-requires-clause-placed : goal.take-requires-clause-placed
-take-requires-clause-placed g c h t at =
-    subst (λ (n : ℕ). ArePlaced c.args.layout.now.base.0 n t.ranges) (sym c.requires.shared.room.size) (c.requires.shared.each c.in-Some.slot h t at).placed
+take-requires-clause-placed g c = shared-placed c.requires.shared c.in_ok-found.found.slot
 
 pub take-requires-clause-owned : goal.take-requires-clause-owned
-take-requires-clause-owned g c h t at = (c.requires.shared.each c.in-Some.slot h t at).owned
+take-requires-clause-owned g c h t at = (c.requires.shared.each c.in_ok-found.found.slot h t at).owned
+
+pub returns-in_err-found-clause-refusal : goal.returns-in_err-found-clause-refusal
+returns-in_err-found-clause-refusal g c =
+    let l = c.args.layout.now in
+    answers-code
+    (retrieve_guards (scene_in (array_vec_len l.regions) c.args.pages.now l.base.0 c.args.buffers.now (open_in c.args.self.now)) c.args.caller.0 c.args.call.now.transfer
+    (retrieve_of c.args.caller.0 (descriptor_in (g.M.PhysMem.ram c.args.ram.now) c.args.buffers.now c.args.caller.0 c.args.call.now)))
+    c.in_err-found.field-0.0 c.from_residual.result c.in_err-found.ensures.refusal c.from_residual.ensures.1
+
+pub returns-clause-refusal : goal.returns-clause-refusal
+returns-clause-refusal g c =
+    let l = c.args.layout.now in
+    answers-pass
+    (retrieve_guards (scene_in (array_vec_len l.regions) c.args.pages.now l.base.0 c.args.buffers.now (open_in c.args.self.now)) c.args.caller.0 c.args.call.now.transfer
+    (retrieve_of c.args.caller.0 (descriptor_in (g.M.PhysMem.ram c.args.ram.now) c.args.buffers.now c.args.caller.0 c.args.call.now)))
+    c.in_ok-found.ensures.refusal
 
 pub returns-clause-done : goal.returns-clause-done
 returns-clause-done g c =
     let l = c.args.layout.now in
     let slots = c.args.self.now.slots in
-    let k = c.in-Some.slot in
-    let asked = c.in_ok-asked.asked in
+    let found = c.in_ok-found.found in
+    let its = c.in_ok-found.ensures.found in
     let it = c.at-open.result.now in
-    let there = asked-slot slots k asked.handle it c.in-Some.ensures.found c.at-open.ensures.value in
+    let same = same-open slots found.slot its.asked.handle its.transaction it its.slot c.at-open.ensures.value in
+    let there = asked-slot slots found.slot its.asked.handle it (its.transaction, its.slot) c.at-open.ensures.value in
     record {
-      asked = asked;
+      asked = its.asked;
       transaction = view_of it;
-      right = c.in_ok-right.right;
-      described = c.in_ok-asked.ensures.asked;
-      was = asked-open slots k asked.handle it c.in-Some.ensures.found c.at-open.ensures.value c.at-open.ensures.open;
-      is = c.in_ok-right.ensures.right;
-      slot = c.take.ensures.slot asked.handle (view_of it) there;
-      open_transactions = c.take.ensures.open_transactions asked.handle (view_of it) there;
-      pages = c.take.ensures.pages asked.handle (view_of it) there;
+      right = found.right;
+      described = its.described;
+      was = asked-open slots found.slot its.asked.handle it (its.transaction, its.slot) c.at-open.ensures.value c.at-open.ensures.open;
+      is = its.right ∙ ap (λ (t : Transaction). right_for (own_rights_in c.args.pages.now l.base.0) t c.args.caller.0 its.asked) (sym same);
+      slot = c.take.ensures.slot its.asked.handle (view_of it) there;
+      open_transactions = c.take.ensures.open_transactions its.asked.handle (view_of it) there;
+      pages = c.take.ensures.pages its.asked.handle (view_of it) there;
       answer =
           subst (λ (h : ℕ). IsAnswered (g.M.PhysMem.ram c.args.ram.now) (g.M.PhysMem.ram c.hand_over-size.new.ram) l.base.0 (array_vec_len l.regions) l.blocks
-          (buffers_in c.args.buffers.now c.args.caller.0) h (view_of it) c.args.caller.0 c.args.call.now.version c.in_ok-right.right c.hand_over-size.result)
-          (same-handle slots k asked.handle it c.in-Some.ensures.found c.at-open.ensures.value)
+          (buffers_in c.args.buffers.now c.args.caller.0) h (view_of it) c.args.caller.0 c.args.call.now.version found.right c.hand_over-size.result)
+          (same-handle slots found.slot its.asked.handle it (its.transaction, its.slot) c.at-open.ensures.value)
           c.hand_over-size.ensures.answered;
       access = c.of-changed.ensures;
     }

@@ -1,6 +1,23 @@
 use Rattle.arrayvec.specs.ArrayVec.{array_vec_len}
-use Rattle.ffa_model.proofs.Places.{known-named}
+use Rattle.ffa_model.specs.MemorySend.{send_guards}
+use Rattle.ffa_model.specs.SendDescriptor.{send_of}
+use Rattle.ffa_model.proofs.Guards.{answers-code, answers-pass}
+use Rattle.ffa_memshare.specs.Scenes.{descriptor_in, scene_in}
+use Rattle.ffa_memshare.specs.Stored.{open_in}
 use Rattle.ffa_memshare.proofs.pool.Pool.send.Goals as goal
 
-pub room-requires-clause-known : goal.room-requires-clause-known
-room-requires-clause-known g c = known-named (array_vec_len c.args.layout.now.regions) c.args.caller.0 c.requires.caller.known
+pub returns-in_err-found-clause-refusal : goal.returns-in_err-found-clause-refusal
+returns-in_err-found-clause-refusal g c =
+    let l = c.args.layout.now in
+    answers-code
+    (send_guards (scene_in (array_vec_len l.regions) c.args.pages.now l.base.0 c.args.buffers.now (open_in c.args.self.now)) c.args.caller.0 c.args.call.now.transfer
+    (send_of c.args.kind (descriptor_in (g.M.PhysMem.ram c.args.ram.now) c.args.buffers.now c.args.caller.0 c.args.call.now)))
+    c.in_err-found.field-0.0 c.from_residual.result c.in_err-found.ensures.refusal c.from_residual.ensures.1
+
+pub returns-clause-refusal : goal.returns-clause-refusal
+returns-clause-refusal g c =
+    let l = c.args.layout.now in
+    answers-pass
+    (send_guards (scene_in (array_vec_len l.regions) c.args.pages.now l.base.0 c.args.buffers.now (open_in c.args.self.now)) c.args.caller.0 c.args.call.now.transfer
+    (send_of c.args.kind (descriptor_in (g.M.PhysMem.ram c.args.ram.now) c.args.buffers.now c.args.caller.0 c.args.call.now)))
+    c.in_ok-found.ensures.refusal

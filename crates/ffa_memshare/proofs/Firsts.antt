@@ -1,0 +1,63 @@
+-- Checks that others follow.
+use Rattle.std.proofs.Common.{◌≡◌, ◌∙◌, ℕ, Bool, true, false, List, [], ◌∷◌, ◌++◌, Option, Some, None, refl, sym, ap}
+use Rattle.std.proofs.lemmas.Option.{none-some}
+use Rattle.ffa_model.specs.declared.call.Transfer.{Transfer}
+use Rattle.ffa_model.specs.declared.descriptor.RetrieveDesc.{RetrieveDesc}
+use Rattle.ffa_model.specs.declared.refusal.Refusal.{Refusal}
+use Rattle.ffa_model.specs.declared.refusal.Refusal.TheVariants.{DescriptorMalformed}
+use Rattle.ffa_model.specs.Calls.{first_refusal}
+use Rattle.ffa_model.specs.MemoryRetrieve.{asking_guards, retrieve_guards}
+use Rattle.ffa_model.specs.MemorySend.{after_offer, after_transfer, offer_guards, room_guards, send_guards}
+use Rattle.ffa_model.specs.SendDescriptor.{SendRecord}
+use Rattle.ffa_model.specs.Transactions.{Scene}
+
+-- where all of them pass, one of the others is the first that fails
+pub first-pass : (checks others : List (Bool × Refusal)) → None ≡ first_refusal checks → first_refusal others ≡ first_refusal (checks ++ others)
+first-pass [] others none = refl
+first-pass ((true, name) ∷ checks) others none = first-pass checks others none
+first-pass ((false, name) ∷ checks) others none = absurd (none-some name none)
+
+-- and else it is one of them
+pub first-fail : (checks others : List (Bool × Refusal)) (refusal : Refusal) → Some refusal ≡ first_refusal checks → Some refusal ≡ first_refusal (checks ++ others)
+first-fail [] others refusal some = absurd (none-some refusal (sym some))
+first-fail ((true, name) ∷ checks) others refusal some = first-fail checks others refusal some
+first-fail ((false, name) ∷ checks) others refusal some = some
+
+module _ (scene : Scene) (e : ℕ) (x : Transfer) where
+  abbrev pub of_transfer : List (Bool × Refusal)
+  of_transfer = after_transfer scene.buffers e x []
+
+  abbrev pub of_offer : SendRecord → List (Bool × Refusal)
+  of_offer r = after_offer scene.endpoints scene.ram scene.own_rights scene.buffers e r []
+
+  -- THE CHECKS OF A SEND
+  pub send-transfer : (read : Option SendRecord) (refusal : Refusal) → Some refusal ≡ first_refusal of_transfer → Some refusal ≡ first_refusal (send_guards scene e x read)
+  send-transfer read refusal is = first-fail of_transfer (offer_guards scene e read) refusal is
+
+  -- where the bytes are none
+  pub send-bytes : (read : Option SendRecord) → None ≡ first_refusal of_transfer → read ≡ None → Some DescriptorMalformed ≡ first_refusal (send_guards scene e x read)
+  send-bytes read whole is = first-pass of_transfer (offer_guards scene e None) whole ∙ ap (λ (o : Option SendRecord). first_refusal (send_guards scene e x o)) (sym is)
+
+  module _ (read : Option SendRecord) (r : SendRecord) (whole : None ≡ first_refusal of_transfer) (is : read ≡ Some r) where
+    behind : {first : Option Refusal} → first ≡ first_refusal (offer_guards scene e (Some r)) → first ≡ first_refusal (send_guards scene e x read)
+    behind first =
+        first ∙ first-pass of_transfer (offer_guards scene e (Some r)) whole
+        ∙ ap (λ (o : Option SendRecord). first_refusal (send_guards scene e x o)) (sym is)
+
+    pub send-offer : (refusal : Refusal) → Some refusal ≡ first_refusal (of_offer r) → Some refusal ≡ first_refusal (send_guards scene e x read)
+    send-offer refusal first = behind (first-fail (of_offer r) (room_guards scene.open_transactions e) refusal first)
+
+    pub send-room : {first : Option Refusal} → None ≡ first_refusal (of_offer r) → first ≡ first_refusal (room_guards scene.open_transactions e)
+        → first ≡ first_refusal (send_guards scene e x read)
+    send-room offered first = behind (first ∙ first-pass (of_offer r) (room_guards scene.open_transactions e) offered)
+
+  -- THE CHECKS OF A RETRIEVE
+  pub retrieve-transfer : (read : Option RetrieveDesc) (refusal : Refusal) → Some refusal ≡ first_refusal of_transfer
+      → Some refusal ≡ first_refusal (retrieve_guards scene e x read)
+  retrieve-transfer read refusal is = first-fail of_transfer (asking_guards scene e read) refusal is
+
+  pub retrieve-asked : (read is : Option RetrieveDesc) {first : Option Refusal} → None ≡ first_refusal of_transfer → read ≡ is
+      → first ≡ first_refusal (asking_guards scene e is) → first ≡ first_refusal (retrieve_guards scene e x read)
+  retrieve-asked read is whole same first =
+      first ∙ first-pass of_transfer (asking_guards scene e is) whole
+      ∙ ap (λ (o : Option RetrieveDesc). first_refusal (retrieve_guards scene e x o)) (sym same)

@@ -1,0 +1,78 @@
+use Rattle.std.proofs.Common.{◌≡◌, ◌∙◌, of_calls, Some, Err, sym, ap}
+use Rattle.arrayvec.specs.ArrayVec.{array_vec_len}
+use Rattle.ffa_model.specs.DescriptorPlaces.{in_version}
+use Rattle.ffa_model.specs.SendDescriptor.{send_of, send_record}
+use Rattle.ffa_memshare.specs.Scenes.{descriptor_in, scene_in}
+use Rattle.ffa_memshare.specs.Stored.{open_in}
+use Rattle.ffa_model.proofs.Places.{known-named}
+use Rattle.ffa_memshare.proofs.Firsts.{send-offer, send-room, send-transfer}
+use Rattle.ffa_memshare.proofs.Offered.{sent-aligned, sent-other}
+use Rattle.ffa_memshare.proofs.pool.Pool.check_send.Goals as goal
+
+pub check_offer-requires : goal.check_offer-requires
+check_offer-requires g c =
+    record { aligned = sent-aligned c.args.kind (in_version c.args.call.now.version c.in_ok-bytes.bytes) (send_record c.in-Ok.offer) c.in-Ok.ensures.found }
+
+pub room-requires-clause-known : goal.room-requires-clause-known
+room-requires-clause-known g c = known-named (array_vec_len c.args.layout.now.regions) c.args.caller.0 c.requires.caller.known
+
+pub returns-in_err-bytes-clause-refusal : goal.returns-in_err-bytes-clause-refusal
+returns-in_err-bytes-clause-refusal g c =
+    let l = c.args.layout.now in
+    let scene = scene_in (array_vec_len l.regions) c.args.pages.now l.base.0 c.args.buffers.now (open_in c.args.self.now) in
+    let read = send_of c.args.kind (descriptor_in (g.M.PhysMem.ram c.args.ram.now) c.args.buffers.now c.args.caller.0 c.args.call.now) in
+    let refused : c.from_residual.result ≡ Err c.in_err-bytes.field-0.0 = search of_calls in
+    rw refused
+    (send-transfer scene c.args.caller.0 c.args.call.now.transfer read c.in_err-bytes.field-0.0 c.in_err-bytes.ensures.refusal)
+
+pub returns-in_err-ranges-clause-refusal : goal.returns-in_err-ranges-clause-refusal
+returns-in_err-ranges-clause-refusal g c =
+    let l = c.args.layout.now in
+    let scene = scene_in (array_vec_len l.regions) c.args.pages.now l.base.0 c.args.buffers.now (open_in c.args.self.now) in
+    let read = send_of c.args.kind (descriptor_in (g.M.PhysMem.ram c.args.ram.now) c.args.buffers.now c.args.caller.0 c.args.call.now) in
+    let is : read ≡ Some (send_record c.in-Ok.offer) =
+    sym (ap (λ b. send_of c.args.kind (in_version c.args.call.now.version b)) c.in_ok-bytes.ensures.bytes) ∙ sym c.in-Ok.ensures.computed in
+    let refused : c.from_residual-in_err-ranges.result ≡ Err c.in_err-ranges.field-0.0 = search of_calls in
+    rw refused
+    (send-offer scene c.args.caller.0 c.args.call.now.transfer read (send_record c.in-Ok.offer) c.in_ok-bytes.ensures.refusal is c.in_err-ranges.field-0.0 c.in_err-ranges.ensures.refusal)
+
+pub returns-in_err-slot-clause-refusal : goal.returns-in_err-slot-clause-refusal
+returns-in_err-slot-clause-refusal g c =
+    let l = c.args.layout.now in
+    let scene = scene_in (array_vec_len l.regions) c.args.pages.now l.base.0 c.args.buffers.now (open_in c.args.self.now) in
+    let read = send_of c.args.kind (descriptor_in (g.M.PhysMem.ram c.args.ram.now) c.args.buffers.now c.args.caller.0 c.args.call.now) in
+    let is : read ≡ Some (send_record c.in-Ok.offer) =
+    sym (ap (λ b. send_of c.args.kind (in_version c.args.call.now.version b)) c.in_ok-bytes.ensures.bytes) ∙ sym c.in-Ok.ensures.computed in
+    let refused : c.from_residual-in_err-slot.result ≡ Err c.in_err-slot.field-0.0 = search of_calls in
+    rw refused
+    (send-room scene c.args.caller.0 c.args.call.now.transfer read (send_record c.in-Ok.offer) c.in_ok-bytes.ensures.refusal is c.in_ok-ranges.ensures.refusal c.in_err-slot.ensures.refusal)
+
+pub returns-clause-refusal : goal.returns-clause-refusal
+returns-clause-refusal g c =
+    let l = c.args.layout.now in
+    let scene = scene_in (array_vec_len l.regions) c.args.pages.now l.base.0 c.args.buffers.now (open_in c.args.self.now) in
+    let read = send_of c.args.kind (descriptor_in (g.M.PhysMem.ram c.args.ram.now) c.args.buffers.now c.args.caller.0 c.args.call.now) in
+    let is : read ≡ Some (send_record c.in-Ok.offer) =
+    sym (ap (λ b. send_of c.args.kind (in_version c.args.call.now.version b)) c.in_ok-bytes.ensures.bytes) ∙ sym c.in-Ok.ensures.computed in
+    send-room scene c.args.caller.0 c.args.call.now.transfer read (send_record c.in-Ok.offer) c.in_ok-bytes.ensures.refusal is c.in_ok-ranges.ensures.refusal c.in_ok-slot.ensures.refusal
+
+pub returns-clause-offered : goal.returns-clause-offered
+returns-clause-offered g c =
+    let version = c.args.call.now.version in
+    let offer = send_record c.in-Ok.offer in
+    record {
+      offer = offer;
+      described =
+          sym (ap (λ b. send_of c.args.kind (in_version version b)) c.in_ok-bytes.ensures.bytes) ∙ sym c.in-Ok.ensures.computed;
+      transaction = λ i. record {
+        kind = c.args.kind;
+        sender = offer.sender;
+        tag = offer.tag;
+        zero = offer.zero;
+        ranges = c.in_ok-ranges.ensures.ranges i;
+        receivers = offer.receivers;
+        held = c.none.ensures i;
+      };
+      own = c.in_ok-ranges.ensures.offered;
+      other = sent-other c.args.kind (in_version version c.in_ok-bytes.bytes) offer c.in-Ok.ensures.found;
+    }

@@ -1,0 +1,31 @@
+//! What the checks of a call on memory find, for its effect.
+
+use crate::transaction::OpenTransaction;
+use ffa_model::Rights;
+
+/// What a send is done with.
+#[derive(Drop)]
+pub struct FoundOffer {
+    /// The transaction that it opens.
+    pub transaction: OpenTransaction,
+    /// The free slot of the sender that the transaction is put into.
+    pub slot: usize,
+}
+
+/// What a retrieve is done with.
+#[derive(Clone, Copy, Debug, PartialEq, Eq)]
+pub struct FoundRight {
+    /// The slot of the transaction that is asked for.
+    pub slot: usize,
+    /// The right that the caller gets.
+    pub right: Rights,
+}
+
+/// What a relinquish or a reclaim is done with.
+#[derive(Clone, Copy, Debug, PartialEq, Eq)]
+pub struct FoundReturn {
+    /// The slot of the transaction that is given up, or that ends.
+    pub slot: usize,
+    /// Whether its pages are to be zeros.
+    pub zero: bool,
+}
