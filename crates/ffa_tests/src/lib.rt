@@ -29,6 +29,8 @@ mod memdesc;
 #[cfg(test)]
 mod pages;
 #[cfg(test)]
+mod perform;
+#[cfg(test)]
 mod physmem;
 #[cfg(test)]
 mod player;

@@ -1,12 +1,8 @@
 //! Plays FF-A calls and memory accesses on a small machine.
 #![tactic(auto)]
 
-mod commands;
-pub mod layout;
-
-pub use commands::{Files, perform, perform_in, show};
-use ffa_command::{ErrorKind, STANDARD_INPUT};
-pub use ffa_command::{Request, request};
+use ffa_command::{ErrorKind, Request, STANDARD_INPUT, request};
+use ffa_perform::{Files, perform, show};
 use std::alloc::AllocError;
 use std::fs::{self, File};
 use std::io::{BufWriter, Read};

@@ -1,0 +1,21 @@
+use Rattle.std.proofs.Common.{false, subst, sym}
+use Rattle.ffa_perform.specs.Performed.{IsPlayed, PlayFails, failure_of}
+use Rattle.ffa_perform.specs.declared.commands.failure.Failure.TheVariants.{Read}
+use Rattle.ffa_perform.specs.declared.commands.playing.Task.TheVariants.{Formed}
+use Rattle.ffa_perform.proofs.Performs.{formed_whole, formed_failed}
+use Rattle.ffa_perform.proofs.commands.playing.play_formed.Goals as goal
+
+pub returns-in-Ok-clause-played : goal.returns-in-Ok-clause-played
+returns-in-Ok-clause-played g c =
+    subst (λ had. IsPlayed false c.args.form c.args.player.now.state had (g.W.Write.contents c.args.out.now) (g.W.Write.contents c.play.new.writer)) c.in_ok-reader.ensures.unread
+    (formed_whole c.in-Ok.field-0 _ _ _ _ _ _ c.in-Ok.ensures)
+
+pub returns-clause-failed : goal.returns-clause-failed
+returns-clause-failed g c =
+    let start = c.args.player.now.state in
+    let held = g.W.Write.contents c.args.out.now in
+    let holds = g.W.Write.contents c.play.new.writer in
+    let unread = Read c.args.trace.path in
+    subst (PlayFails (Formed c.args.form) start (g.R.Read.remaining c.args.trace.reader) held holds) (sym c.of_play.ensures)
+    (subst (λ had. PlayFails (Formed c.args.form) start had held holds (failure_of unread c.line_fault.result c.in-Err.error)) c.in_ok-reader.ensures.unread
+    (formed_failed c.args.form start c.play.new.player.state held holds _ unread tt c.line_fault.result c.in-Err.error c.in-Err.ensures))

@@ -1,0 +1,21 @@
+use Rattle.std.proofs.Common.{subst, sym}
+use Rattle.ffa_perform.specs.Performed.{IsUnmet, PlayFails, failure_of}
+use Rattle.ffa_perform.specs.declared.commands.failure.Failure.TheVariants.{Read}
+use Rattle.ffa_perform.specs.declared.commands.playing.Task.TheVariants.{Guarded}
+use Rattle.ffa_perform.proofs.Performs.{guarded_unmet, guarded_failed}
+use Rattle.ffa_perform.proofs.commands.playing.play_guarded.Goals as goal
+
+pub returns-in-Ok-Some-clause-failed : goal.returns-in-Ok-Some-clause-failed
+returns-in-Ok-Some-clause-failed g c =
+    rw c.in-Ok-Some.field-0-is (subst (λ had. IsUnmet c.args.form c.args.player.now.state had (g.W.Write.contents c.args.out.now) (g.W.Write.contents c.play_guarded.new.writer) c.in-Ok-Some.breach.number) c.in_ok-reader.ensures.unread
+    (guarded_unmet c.args.form c.args.player.now.state _ (g.W.Write.contents c.args.out.now) (g.W.Write.contents c.play_guarded.new.writer) _ _ _ c.in-Ok-Some.breach (rw c.in-Ok-Some.field-0-is at c.in-Ok-Some.ensures)))
+
+pub returns-clause-failed : goal.returns-clause-failed
+returns-clause-failed g c =
+    let start = c.args.player.now.state in
+    let held = g.W.Write.contents c.args.out.now in
+    let holds = g.W.Write.contents c.play_guarded.new.writer in
+    let unread = Read c.args.trace.path in
+    subst (PlayFails (Guarded c.args.form) start (g.R.Read.remaining c.args.trace.reader) held holds) (sym c.of_play.ensures)
+    (subst (λ had. PlayFails (Guarded c.args.form) start had held holds (failure_of unread c.line_fault.result c.in-Err.error)) c.in_ok-reader.ensures.unread
+    (guarded_failed c.args.form start c.play_guarded.new.player.state held holds _ c.play_guarded.new.bytes.items c.play_guarded.new.found.items unread tt c.line_fault.result c.in-Err.error c.in-Err.ensures))

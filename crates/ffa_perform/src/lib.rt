@@ -1,0 +1,8 @@
+//! What the program does with a command whose files were read: it reads the manifest, boots a machine, plays, compares, writes
+//! traces, and says what went wrong. It opens nothing: readers and writers are given.
+#![tactic(auto)]
+
+mod commands;
+pub mod layout;
+
+pub use commands::{Files, perform, perform_in, show};

@@ -1,4 +1,0 @@
-use Rattle.ffaplay.proofs.commands.tell.Goals as goal
-
-pub returns : goal.returns
-returns g c = c.status.ensures
