@@ -3,7 +3,7 @@
 use ffa_command::{MachineOptions, Request, TextOptions};
 use ffa_perform::{Files, perform, show};
 use std::alloc::Global;
-use std::io;
+use std::io::{self, Write};
 use std::process::Abort;
 use std::test::Fail;
 
