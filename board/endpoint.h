@@ -34,7 +34,8 @@ struct context {
 enum phase {
     SETTLED, /* it was printed what came of it, or there is none */
     LOOKING, /* the word that is to be fetched is loaded first */
-    DOING
+    DOING,
+    STEPPING /* the word is executed by a single step */
 };
 
 struct endpoint {

@@ -35,6 +35,7 @@ enum {
     CLASS_PC_ALIGNMENT = 0x22,
     CLASS_DATA_BELOW = 0x24,
     CLASS_DATA_SAME = 0x25,
+    CLASS_STEP_BELOW = 0x32,
     CLASS_BRK = 0x3C
 };
 

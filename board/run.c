@@ -1,49 +1,11 @@
-#include "board.h"
+#include "doing.h"
 #include "layout.h"
 #include "processor.h"
 #include "random.h"
 #include "tables.h"
 #include "text.h"
 
-#define WORD_RET UINT32_C(0xD65F03C0)
-
-static struct endpoint *running(struct board *board) { return &board->endpoints[board->running]; }
-
-/* An exception that fits nothing that was asked for: the comparison is to find it. */
-static _Noreturn void unexpected(struct board *board, const char *what) {
-    struct endpoint *endpoint = running(board);
-    put_text("< unexpected ");
-    put_text(what);
-    put_text(" of ");
-    put_hex(endpoint->identifier, 4);
-    put_text(": syndrome ");
-    put_number(read_esr_el2());
-    put_text(", fault address ");
-    put_number(read_far_el2());
-    put_text(", program counter ");
-    put_number(endpoint->context.pc);
-    put_text("\n");
-    stop("unexpected");
-}
-
-static void go_to(struct endpoint *endpoint, const uint32_t *place) {
-    endpoint->context.pc = endpoint->program + 4 * (uint64_t)(place - program_begin);
-}
-
 static unsigned logarithm_of(unsigned size) { return size == 1 ? 0 : size == 2 ? 1 : size == 4 ? 2 : 3; }
-
-/* Has the program do what its table has at a place. */
-static void dispatch(struct endpoint *endpoint, unsigned place) {
-    endpoint->context.x[16] = place;
-    go_to(endpoint, program_dispatch);
-}
-
-static void dispatch_access(struct endpoint *endpoint, unsigned place, enum phase phase) {
-    endpoint->phase = phase;
-    endpoint->context.x[1] = endpoint->operation.address;
-    endpoint->context.x[2] = endpoint->operation.value;
-    dispatch(endpoint, place);
-}
 
 static void dispatch_call(struct board *board, struct endpoint *endpoint) {
     for (unsigned i = 0; i < 8; i++) endpoint->context.x[i] = endpoint->operation.x[i];
@@ -56,60 +18,23 @@ static void give_next(struct board *board) {
     struct endpoint *endpoint = running(board);
     if (endpoint->phase != SETTLED) unexpected(board, "question");
     endpoint->operation = next_operation(board);
-    const struct operation *operation = &endpoint->operation;
-    put_operation(operation);
-    switch (operation->kind) {
+    put_operation(&endpoint->operation);
+    switch (endpoint->operation.kind) {
     case CALL:
         dispatch_call(board, endpoint);
         break;
     case LOAD:
-        dispatch_access(endpoint, DO_LOAD + logarithm_of(operation->size), DOING);
+        dispatch_access(endpoint, DO_LOAD + logarithm_of(endpoint->operation.size), DOING);
         break;
     case STORE:
-        dispatch_access(endpoint, DO_STORE + logarithm_of(operation->size), DOING);
+        dispatch_access(endpoint, DO_STORE + logarithm_of(endpoint->operation.size), DOING);
         break;
     case FETCH:
-        dispatch_access(endpoint, DO_LOAD + 2, LOOKING);
+        begin_fetch(endpoint);
         break;
     default:
         unexpected(board, "operation");
     }
-}
-
-static void settle(struct endpoint *endpoint) {
-    endpoint->phase = SETTLED;
-    go_to(endpoint, program_next);
-}
-
-static void settle_fault(struct endpoint *endpoint, const char *kind) {
-    put_fault(kind);
-    settle(endpoint);
-}
-
-/* The word that is to be executed is known, or can't be loaded. One that would do anything but come back is taken as it was loaded. */
-static void looked(struct endpoint *endpoint, bool faulted, uint32_t word) {
-    bool hypercall = (word & 0xFFE0001F) == 0xD4000002, smc = (word & 0xFFE0001F) == 0xD4000003;
-    bool svc = (word & 0xFFE0001F) == 0xD4000001, brk = (word & 0xFFE0001F) == 0xD4200000;
-    bool far = (word >> 5 & 0xFFFF) >= FIRST_FETCHED;
-    bool comes_back = word >> 16 == 0 || word == WORD_RET || svc || brk || ((hypercall || smc) && far);
-    endpoint->faulted = faulted;
-    endpoint->word = word;
-    if (faulted || comes_back) {
-        dispatch_access(endpoint, DO_FETCH, DOING);
-    } else {
-        put_text("# not executed\n");
-        put_data(word, 4);
-        settle(endpoint);
-    }
-}
-
-/* A word was executed at the address that was asked for: it is the one that was loaded. */
-static void settle_fetch(struct board *board, uint32_t word, uint64_t address) {
-    struct endpoint *endpoint = running(board);
-    if (endpoint->operation.kind != FETCH || endpoint->phase != DOING) unexpected(board, "word");
-    if (address != endpoint->operation.address || endpoint->faulted || word != endpoint->word) unexpected(board, "word");
-    put_data(word, 4);
-    settle(endpoint);
 }
 
 /* The program tells that an access was done. Where it was skipped there is nothing to tell. */
@@ -121,7 +46,7 @@ static void told(struct board *board) {
     if (endpoint->phase == LOOKING) {
         looked(endpoint, false, (uint32_t)value);
     } else if (operation->kind == FETCH) {
-        settle_fetch(board, endpoint->word == WORD_RET ? WORD_RET : ~endpoint->word, operation->address);
+        fetch_returned(board);
     } else if (operation->kind == LOAD || operation->kind == STORE) {
         endpoint->phase = SETTLED;
         if (operation->kind == LOAD) put_data(value, operation->size);
@@ -140,6 +65,13 @@ static void seen(struct board *board) {
     endpoint->phase = SETTLED;
 }
 
+/* Another endpoint runs than who called. */
+static void switch_to(struct board *board, uint32_t next) {
+    save_system(&running(board)->context);
+    board->running = next;
+    load_system(&running(board)->context);
+}
+
 /* A call: the trap hands x0 to x7 to the core, and puts back what comes, of whoever runs next. */
 static void serve_call(struct board *board) {
     struct endpoint *caller = running(board);
@@ -151,27 +83,9 @@ static void serve_call(struct board *board) {
     after_call(board->running, caller->root, (uint32_t)registers.x[0], (uint32_t)outcome.x[0]);
     uint32_t next = place_of(outcome.runner);
     if (outcome.kind != FFA_REGISTERS || next >= board->count) unexpected(board, "outcome");
-    if (next != board->running) {
-        save_system(&caller->context);
-        load_system(&board->endpoints[next].context);
-        board->running = next;
-    }
+    if (next != board->running) switch_to(board, next);
     for (unsigned i = 0; i < 8; i++) running(board)->context.x[i] = outcome.x[i];
     board->answered = true;
-}
-
-/* The name of a fault that the tables gave, and of an address that is too large even for stage 1. */
-static const char *fault_of(struct board *board, uint64_t syndrome) {
-    switch (status_of(syndrome)) {
-    case STATUS_TRANSLATION:
-        return "translation";
-    case STATUS_PERMISSION:
-        return "permission";
-    case STATUS_ACCESS_FLAG:
-        return "access-flag";
-    default:
-        unexpected(board, "fault");
-    }
 }
 
 /* An abort that EL2 takes: it is what came of the access that was asked for. The instruction is skipped, and of a fetch control goes
@@ -193,31 +107,25 @@ static void serve_abort(struct board *board, uint64_t syndrome) {
     }
 }
 
-/* An access that EL1 itself refuses, before its tables are asked. */
-static void refused(struct board *board, uint64_t syndrome, uint64_t address) {
+/* An access that EL1 itself refused, before stage 2 was asked. */
+static void serve_own_fault(struct board *board, uint64_t syndrome, uint64_t address) {
     struct endpoint *endpoint = running(board);
-    bool alignment = class_of(syndrome) == CLASS_PC_ALIGNMENT || status_of(syndrome) == STATUS_ALIGNMENT;
-    bool too_large = !alignment && status_of(syndrome) == STATUS_ADDRESS_SIZE && address >> 32 != 0;
-    if (address != endpoint->operation.address || endpoint->phase == SETTLED) unexpected(board, "address at EL1");
-    if (!alignment && !too_large) unexpected(board, "fault at EL1");
-    if (endpoint->phase == LOOKING) {
-        looked(endpoint, true, 0);
-    } else {
-        settle_fault(endpoint, alignment ? "alignment" : "translation");
-    }
+    if (endpoint->phase == SETTLED) unexpected(board, "fault at EL1");
+    const char *kind = own_fault_of(board, syndrome, address);
+    if (endpoint->phase == LOOKING) looked(endpoint, true, 0);
+    else settle_fault(endpoint, kind);
 }
 
-/* An exception that the program took at EL1. */
+/* An exception that the program took at EL1, and hands on. */
 static void serve_exception(struct board *board) {
     struct endpoint *endpoint = running(board);
     uint64_t syndrome = endpoint->context.x[9], link = endpoint->context.x[11];
-    uint32_t immediate = immediate_of(syndrome);
     switch (class_of(syndrome)) {
     case CLASS_SVC:
-        settle_fetch(board, 0xD4000001 | immediate << 5, link - 4);
+        settle_fetch(board, WORD_SVC(immediate_of(syndrome)), link - 4);
         break;
     case CLASS_BRK:
-        settle_fetch(board, 0xD4200000 | immediate << 5, link);
+        settle_fetch(board, WORD_BRK(immediate_of(syndrome)), link);
         break;
     case CLASS_UNKNOWN:
         settle_fetch(board, endpoint->word & 0xFFFF, link);
@@ -225,7 +133,7 @@ static void serve_exception(struct board *board) {
     case CLASS_PC_ALIGNMENT:
     case CLASS_FETCH_SAME:
     case CLASS_DATA_SAME:
-        refused(board, syndrome, endpoint->context.x[10]);
+        serve_own_fault(board, syndrome, endpoint->context.x[10]);
         break;
     default:
         unexpected(board, "exception at EL1");
@@ -240,7 +148,7 @@ static bool keeps_registers(const struct endpoint *endpoint) {
 static void serve_hypercall(struct board *board, unsigned immediate) {
     struct endpoint *endpoint = running(board);
     if (immediate >= FIRST_FETCHED) {
-        settle_fetch(board, 0xD4000002 | immediate << 5, endpoint->context.pc - 4);
+        settle_fetch(board, WORD_HVC(immediate), endpoint->context.pc - 4);
     } else if (immediate == HVC_FFA) {
         serve_call(board);
     } else if (immediate == HVC_NEXT) {
@@ -262,7 +170,7 @@ static void serve_hypercall(struct board *board, unsigned immediate) {
 static void serve_smc(struct board *board, unsigned immediate) {
     struct endpoint *endpoint = running(board);
     if (immediate >= FIRST_FETCHED) {
-        settle_fetch(board, 0xD4000003 | immediate << 5, endpoint->context.pc);
+        settle_fetch(board, WORD_SMC(immediate), endpoint->context.pc);
     } else if (immediate == HVC_FFA) {
         endpoint->context.pc += 4;
         serve_call(board);
@@ -271,26 +179,32 @@ static void serve_smc(struct board *board, unsigned immediate) {
     }
 }
 
+static void serve(struct board *board, uint64_t syndrome) {
+    if (running(board)->phase == STEPPING) {
+        serve_step(board, syndrome);
+        return;
+    }
+    switch (class_of(syndrome)) {
+    case CLASS_HVC:
+        serve_hypercall(board, immediate_of(syndrome));
+        break;
+    case CLASS_SMC:
+        serve_smc(board, immediate_of(syndrome));
+        break;
+    case CLASS_FETCH_BELOW:
+    case CLASS_DATA_BELOW:
+        serve_abort(board, syndrome);
+        break;
+    default:
+        unexpected(board, "exception");
+    }
+}
+
 _Noreturn void run_board(struct board *board) {
     load_system(&running(board)->context);
     for (;;) {
-        struct endpoint *endpoint = running(board);
-        walk_tables(board->running, endpoint->root);
-        enter(&endpoint->context);
-        uint64_t syndrome = read_esr_el2();
-        switch (class_of(syndrome)) {
-        case CLASS_HVC:
-            serve_hypercall(board, immediate_of(syndrome));
-            break;
-        case CLASS_SMC:
-            serve_smc(board, immediate_of(syndrome));
-            break;
-        case CLASS_FETCH_BELOW:
-        case CLASS_DATA_BELOW:
-            serve_abort(board, syndrome);
-            break;
-        default:
-            unexpected(board, "exception");
-        }
+        walk_tables(board->running, running(board)->root);
+        enter(&running(board)->context);
+        serve(board, read_esr_el2());
     }
 }

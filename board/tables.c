@@ -4,9 +4,9 @@
 
 SYSTEM_REGISTER(par_el1)
 
-/* HCR_EL2: stage 2 is on, EL1 is AArch64 and its SMC traps, interrupts go to EL2, and memory that EL1 accesses with its own translation
- * off is normal, write-back. */
-#define HCR (UINT64_C(1) << 0 | UINT64_C(7) << 3 | UINT64_C(1) << 12 | UINT64_C(1) << 19 | UINT64_C(1) << 31)
+/* HCR_EL2: stage 2 is on, EL1 is AArch64, its SMC, WFI and WFE trap, interrupts go to EL2, and memory that EL1 accesses with its own
+ * translation off is normal, write-back. */
+#define HCR (UINT64_C(1) << 0 | UINT64_C(7) << 3 | UINT64_C(7) << 12 | UINT64_C(1) << 19 | UINT64_C(1) << 31)
 
 /* VTCR_EL2: T0SZ 32, SL0 1, write-back walks, inner shareable, TG0 0 and 40 bits of physical address. */
 #define VTCR (UINT64_C(32) | UINT64_C(1) << 6 | UINT64_C(5) << 8 | UINT64_C(3) << 12 | UINT64_C(2) << 16 | UINT64_C(1) << 31)
