@@ -1,9 +1,11 @@
 #include "random.h"
+#include "doing.h"
 #include "layout.h"
 #include "text.h"
 
 #define MOST_PAGES 24   /* of an endpoint that its generator works with, TX and RX first */
 #define MOST_QUEUED 40  /* operations of one move */
+#define TX_WORDS 20     /* of TX that descriptors use */
 #define MOST_OFFERS 48
 
 #define FFA_ERROR_ANSWER 0x84000060
@@ -28,12 +30,15 @@ struct offer {
     uint64_t handle, tag;
     uint32_t function, sender, receivers, holders; /* endpoints as bits, by place */
     uint32_t right;                                /* 1 or 2, as a descriptor has it */
+    uint64_t pages[2];
+    uint32_t page_count;
 };
 
 struct generator {
     uint64_t state;
     uint64_t pages[MOST_PAGES];
     uint32_t page_count;
+    uint64_t tx[TX_WORDS]; /* the first words of TX, as they were stored */
     bool mapped;
     uint32_t work; /* the call that gave it cycles, RUN or REQUEST, and 0 for the normal world */
     uint32_t requester;
@@ -76,7 +81,7 @@ static void queue_store(struct generator *generator, uint64_t address, unsigned 
 
 static bool is_program(struct board *board, uint64_t address) {
     for (uint32_t place = 0; place < board->count; place++) {
-        if ((address & ~UINT64_C(0xFFF)) == board->endpoints[place].program) return true;
+        if ((address & 0xFFFFF000) == board->endpoints[place].program) return true;
     }
     return false;
 }
@@ -124,7 +129,8 @@ static uint64_t some_address(struct board *board, struct generator *generator, u
 static void move_access(struct board *board, struct generator *generator) {
     unsigned size = 1u << below(generator, 4);
     uint64_t address = some_address(board, generator, size);
-    if (one_in(generator, 2) && !is_program(board, address & 0xFFFFFFFF)) {
+    bool kept = is_program(board, address) || (address & ~UINT64_C(0xFFF)) == generator->pages[0];
+    if (one_in(generator, 2) && !kept) {
         queue_store(generator, address, size, below(generator, UINT64_C(1) << 48) * 0x10003);
     } else {
         queue(generator, (struct operation){.kind = LOAD, .address = address, .size = size});
@@ -133,12 +139,13 @@ static void move_access(struct board *board, struct generator *generator) {
 
 /* Stores a word that comes back when it is executed, and fetches it; or fetches what is there. */
 static void move_fetch(struct board *board, struct generator *generator) {
-    static const uint32_t words[] = {0xD4000001, 0xD4000002, 0xD4000003, 0xD4200000, 0x00000000};
-    uint64_t address = some_page(board, generator) + 4 * below(generator, 1024);
+    static const uint32_t words[] = {WORD_SVC(0), WORD_HVC(0), WORD_SMC(0), WORD_BRK(0), 0};
+    uint64_t page = one_in(generator, 2) ? own_page(generator) : some_page(board, generator), address = page + 4 * below(generator, 1024);
     uint32_t word = words[below(generator, 5)] | (uint32_t)(FIRST_FETCHED + below(generator, 0x10000 - FIRST_FETCHED)) << 5;
     if (word >> 24 == 0) word &= 0xFFFF;
     if (one_in(generator, 8)) word = 0xD65F03C0;
-    if (!is_program(board, address) && !one_in(generator, 4)) queue_store(generator, address, 4, word);
+    bool kept = is_program(board, address) || page == generator->pages[0];
+    if (!kept && !one_in(generator, 4)) queue_store(generator, address, 4, word);
     queue(generator, (struct operation){.kind = FETCH, .address = address});
 }
 
@@ -146,7 +153,17 @@ static void put_bytes(uint8_t *bytes, uint32_t at, uint64_t value, unsigned size
     for (unsigned i = 0; i < size; i++) bytes[at + i] = (uint8_t)(value >> (8 * i));
 }
 
-/* Stores a descriptor in TX, word by word, and makes its call. In some a byte or the length is turned. */
+/* One or two accesses to the pages of an offer: what an endpoint reaches before and after a call on them. */
+static void queue_accesses(struct generator *generator, const struct offer *offer) {
+    for (uint32_t i = 0; i < offer->page_count; i++) {
+        uint64_t address = offer->pages[i] + 8 * below(generator, 512), choice = below(generator, 5);
+        if (choice < 2) queue(generator, (struct operation){.kind = LOAD, .address = address, .size = 8});
+        else if (choice < 4) queue_store(generator, address, 4, WORD_SVC(below(generator, 0x10000)));
+        else queue(generator, (struct operation){.kind = FETCH, .address = address});
+    }
+}
+
+/* Stores a descriptor in TX, each word that isn't there, and makes its call. In some a bit or the length is turned. */
 static void queue_descriptor(struct generator *generator, uint8_t *bytes, uint32_t size, uint64_t x0, bool sized) {
     uint64_t told = sized ? size : 0;
     if (one_in(generator, 12)) bytes[below(generator, size)] ^= (uint8_t)(1u << below(generator, 8));
@@ -154,7 +171,8 @@ static void queue_descriptor(struct generator *generator, uint8_t *bytes, uint32
     for (uint32_t at = 0; at < size; at += 8) {
         uint64_t word = 0;
         for (unsigned i = 0; i < 8; i++) word |= (uint64_t)bytes[at + i] << (8 * i);
-        queue_store(generator, generator->pages[0] + at, 8, word);
+        if (word != generator->tx[at / 8]) queue_store(generator, generator->pages[0] + at, 8, word);
+        generator->tx[at / 8] = word;
     }
     queue_call(generator, x0, told, told, 0, 0);
 }
@@ -205,10 +223,14 @@ static void move_send(struct board *board, struct generator *generator) {
     put_bytes(bytes, at, ranges, 4);
     put_bytes(bytes, at + 4, ranges, 4);
     for (uint32_t range = 0; range < ranges; range++) {
-        put_bytes(bytes, at + 16 + 16 * range, own_page(generator), 8);
+        offer->pages[range] = own_page(generator);
+        put_bytes(bytes, at + 16 + 16 * range, offer->pages[range], 8);
         put_bytes(bytes, at + 24 + 16 * range, 1, 4);
     }
+    offer->page_count = ranges;
+    queue_accesses(generator, offer);
     queue_descriptor(generator, bytes, at + 16 + 16 * ranges, offer->function | (one_in(generator, 4) ? 0x40000000u : 0), true);
+    queue_accesses(generator, offer);
 }
 
 /* An open offer in which the endpoint has the part that is asked for, or any, or none. */
@@ -235,6 +257,9 @@ static void move_retrieve(struct board *board, struct generator *generator) {
     uint64_t data = one_in(generator, 3) ? below(generator, 3) : offer->right;
     put_bytes(bytes, 50, data | (one_in(generator, 3) ? below(generator, 3) << 2 : 0), 1);
     queue_descriptor(generator, bytes, 64, RETRIEVE, true);
+    queue_accesses(generator, offer);
+    queue_accesses(generator, offer);
+    queue_call(generator, 0x84000065, 0, 0, 0, 0);
 }
 
 static void move_relinquish(struct board *board, struct generator *generator) {
@@ -246,14 +271,18 @@ static void move_relinquish(struct board *board, struct generator *generator) {
     put_bytes(bytes, 8, one_in(generator, 3) ? 1 : 0, 4);
     put_bytes(bytes, 12, 1, 4);
     put_bytes(bytes, 16, identifier_of(board->running), 2);
+    queue_accesses(generator, offer);
     queue_descriptor(generator, bytes, 24, RELINQUISH, false);
+    queue_accesses(generator, offer);
 }
 
 static void move_reclaim(struct board *board, struct generator *generator) {
     struct offer *offer = some_offer(generator, board->running, RECLAIM);
     if (offer == 0) return;
     generator->asked = offer;
+    queue_accesses(generator, offer);
     queue_call(generator, RECLAIM, offer->handle & 0xFFFFFFFF, offer->handle >> 32, one_in(generator, 4) ? 1 : 0, 0);
+    queue_accesses(generator, offer);
 }
 
 static void move_message(struct board *board, struct generator *generator) {
