@@ -1,0 +1,17 @@
+/* Where the firmware stands: see layout.h. */
+ENTRY(_start)
+SECTIONS
+{
+    . = 0x44000000;
+    .text : { *(.text.start) *(.text .text.*) }
+    .rodata : ALIGN(4096) { *(.rodata .rodata.*) }
+    .eh_frame : { *(.eh_frame .eh_frame.*) }
+    .data : ALIGN(4096) { *(.data .data.*) *(.got .got.*) }
+    .bss (NOLOAD) : ALIGN(4096) {
+        zeros_begin = .;
+        *(.bss .bss.*) *(COMMON)
+        . = ALIGN(16);
+        zeros_end = .;
+    }
+    .stack (NOLOAD) : ALIGN(4096) { *(.stack) }
+}

@@ -1,0 +1,79 @@
+#include "board.h"
+#include "layout.h"
+#include "lending.h"
+#include "operation.h"
+#include "tables.h"
+#include "text.h"
+
+#define MOST_BLOCKS 32
+#define PAGES_OF_BLOCK 512
+
+static uint32_t length_of(const char *text) {
+    uint32_t length = 0;
+    while (text[length] != '\0') length++;
+    return length;
+}
+
+/* Boots in the first pages of the board's RAM, as many as the manifest asks for. */
+void boot(struct board *board, const char *manifest) {
+    struct ffa_page *ram = (struct ffa_page *)RAM_BASE;
+    struct ffa_lent list = {0};
+    uint32_t answer = FFA_WRONG_COUNT;
+    for (uint32_t blocks = 1; blocks <= MOST_BLOCKS && answer == FFA_WRONG_COUNT; blocks++) {
+        board->pages = PAGES_OF_BLOCK * blocks;
+        if (lend_all(&list, ram, board->pages) != FFA_OK) stop("no pages were lent");
+        answer = ffa_boot_lent(&board->machine, &list, (const uint8_t *)manifest, length_of(manifest));
+        if (answer == FFA_WRONG_COUNT && !take_all_back(&list, ram, board->pages)) stop("pages stayed lent");
+    }
+    if (answer != FFA_OK) stop("the manifest is refused");
+    board->count = ffa_endpoints(&board->machine);
+}
+
+/* Where an endpoint's program stands: the last page that it may load, store and fetch. */
+static uint64_t page_of_program(struct board *board, uint16_t identifier) {
+    for (uint32_t page = board->pages; page > 0; page--) {
+        if (ffa_access(&board->machine, identifier, page - 1) == (FFA_WRITE | FFA_EXECUTE)) {
+            return RAM_BASE + (uint64_t)FFA_PAGE_BYTES * (page - 1);
+        }
+    }
+    stop("an endpoint has no page for its program");
+}
+
+/* The core does an operation for the endpoint that runs by its account. No program runs yet. */
+static void store(struct board *board, uint64_t address, uint64_t value) {
+    struct operation operation = {.kind = STORE, .address = address, .size = 8, .value = value};
+    put_operation(&operation);
+    if (ffa_store(&board->machine, address, 8, value).kind != FFA_DONE) stop("a program can't be stored");
+    put_done();
+}
+
+static void call(struct board *board, uint64_t function, uint64_t argument) {
+    struct operation operation = {.kind = CALL, .x = {function, argument}};
+    struct ffa_registers registers = {.x = {function, argument}};
+    put_operation(&operation);
+    struct ffa_outcome told = ffa_call(&board->machine, &registers);
+    put_registers(told.runner, told.x);
+}
+
+/* The program's instructions by two, but for what is zero in RAM already, and the endpoint's identifier where the program has room for it. */
+static void place_program(struct board *board, struct endpoint *endpoint) {
+    uint64_t address = endpoint->program;
+    for (const uint32_t *at = program_begin; at < program_end; at += 2, address += 8) {
+        uint64_t word = at == program_identity ? endpoint->identifier : at[0] | (uint64_t)at[1] << 32;
+        if (word != 0) store(board, address, word);
+    }
+}
+
+void place_programs(struct board *board) {
+    for (uint32_t place = 0; place < board->count; place++) {
+        struct endpoint *endpoint = &board->endpoints[place];
+        endpoint->identifier = identifier_of(place);
+        endpoint->root = RAM_BASE + (uint64_t)FFA_PAGE_BYTES * place * (2 + board->pages / PAGES_OF_BLOCK);
+        endpoint->program = page_of_program(board, endpoint->identifier);
+        if (place != 0) call(board, 0x8400006D, (uint64_t)endpoint->identifier << 16);
+        place_program(board, endpoint);
+        if (place != 0) call(board, 0x8400006B, 0);
+        begin_context(&endpoint->context, endpoint->program);
+    }
+    if (WRONG_ROOT) board->endpoints[1].root = board->endpoints[2 % board->count].root;
+}

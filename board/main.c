@@ -1,0 +1,56 @@
+#include "board.h"
+#include "layout.h"
+#include "random.h"
+#include "tables.h"
+#include "text.h"
+
+void firmware(void);
+_Noreturn void firmware_broken(uint64_t syndrome, uint64_t link, uint64_t address);
+
+static struct board board;
+
+/* A scene may begin with a line `random SEED COUNT`, hexadecimal: its lines follow behind so many operations that are made up. */
+static void begin_scene(struct board *of) {
+    uint64_t seed, count;
+    unsigned digits;
+    of->scene = (const char *)SCENE_TEXT;
+    if (!take_word(&of->scene, "random")) return;
+    if (!take_hex(&of->scene, &seed, &digits) || !take_hex(&of->scene, &count, &digits)) stop("no seed and count");
+    begin_random(of, seed, count);
+    of->random = true;
+}
+
+/* The next line of the scene that an endpoint has to do. `show` is the firmware's. */
+struct operation next_operation(struct board *of) {
+    struct operation operation = {0};
+    while (operation.kind == NOTHING || operation.kind == SHOW) {
+        if (*of->scene == '\0') end_well();
+        operation = of->random ? random_operation(of) : read_operation(&of->scene);
+        if (of->random && operation.kind == NOTHING) of->random = false;
+        if (operation.kind == SHOW) {
+            put_operation(&operation);
+            show(of);
+        }
+    }
+    return operation;
+}
+
+void firmware(void) {
+    begin_tables();
+    boot(&board, (const char *)MANIFEST_TEXT);
+    place_programs(&board);
+    after_boot();
+    begin_scene(&board);
+    run_board(&board);
+}
+
+_Noreturn void firmware_broken(uint64_t syndrome, uint64_t link, uint64_t address) {
+    put_text("< unexpected exception of the firmware: syndrome ");
+    put_number(syndrome);
+    put_text(", at ");
+    put_number(link);
+    put_text(", fault address ");
+    put_number(address);
+    put_text("\n");
+    stop("broken");
+}

@@ -1,0 +1,57 @@
+/* What libffa_c.a asks of the firmware. */
+#include <stdbool.h>
+#include <stddef.h>
+#include <stdint.h>
+
+void *memcpy(void *to, const void *from, size_t size);
+void *memmove(void *to, const void *from, size_t size);
+void *memset(void *to, int byte, size_t size);
+
+void *memcpy(void *to, const void *from, size_t size) {
+    unsigned char *t = to;
+    const unsigned char *f = from;
+    while (size--) *t++ = *f++;
+    return to;
+}
+
+void *memmove(void *to, const void *from, size_t size) {
+    unsigned char *t = to;
+    const unsigned char *f = from;
+    if (t < f) return memcpy(to, from, size);
+    while (size--) t[size] = f[size];
+    return to;
+}
+
+void *memset(void *to, int byte, size_t size) {
+    unsigned char *t = to;
+    while (size--) *t++ = (unsigned char)byte;
+    return to;
+}
+
+struct tried {
+    bool ok;
+    void *p;
+};
+
+struct tried rattle_alloc(size_t size, size_t align);
+struct tried rattle_realloc(void *block, size_t kept, size_t size, size_t align);
+void rattle_dealloc(void *block);
+
+/* Memory that is given and never taken back: a boot takes little, and no operation any. */
+static _Alignas(16) unsigned char memory[16 << 20];
+static size_t taken;
+
+struct tried rattle_alloc(size_t size, size_t align) {
+    size_t whole = ((size != 0 ? size : align) + 15) & ~(size_t)15;
+    if (whole > sizeof memory - taken) return (struct tried){false, memory};
+    taken += whole;
+    return (struct tried){true, memory + taken - whole};
+}
+
+struct tried rattle_realloc(void *block, size_t kept, size_t size, size_t align) {
+    struct tried moved = rattle_alloc(size, align);
+    if (moved.ok) memcpy(moved.p, block, kept);
+    return moved;
+}
+
+void rattle_dealloc(void *block) { (void)block; }

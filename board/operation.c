@@ -1,0 +1,109 @@
+#include "operation.h"
+#include "text.h"
+
+static bool read_call(const char **at, struct operation *operation) {
+    unsigned digits;
+    operation->kind = CALL;
+    for (unsigned i = 0; i < 8 && **at != '\n'; i++) {
+        if (!take_hex(at, &operation->x[i], &digits)) return false;
+    }
+    return true;
+}
+
+static bool read_access(const char **at, enum operation_kind kind, struct operation *operation) {
+    unsigned digits;
+    uint64_t size = 4;
+    operation->kind = kind;
+    if (!take_hex(at, &operation->address, &digits)) return false;
+    if (kind == LOAD && !take_hex(at, &size, &digits)) return false;
+    operation->size = (unsigned)size;
+    if (kind == STORE) {
+        if (!take_hex(at, &operation->value, &digits)) return false;
+        operation->size = digits / 2;
+    }
+    return operation->size == 1 || operation->size == 2 || operation->size == 4 || operation->size == 8;
+}
+
+static bool read_line(const char **at, struct operation *operation) {
+    if (take_word(at, "call")) return read_call(at, operation);
+    if (take_word(at, "load")) return read_access(at, LOAD, operation);
+    if (take_word(at, "store")) return read_access(at, STORE, operation);
+    if (take_word(at, "fetch")) return read_access(at, FETCH, operation);
+    operation->kind = SHOW;
+    return take_word(at, "show");
+}
+
+struct operation read_operation(const char **at) {
+    struct operation operation = {0};
+    if (**at == '#') {
+        while (**at != '\n' && **at != '\0') ++*at;
+    } else if (**at != '\n' && **at != '\0') {
+        if (!read_line(at, &operation)) stop("a line that is none of a trace");
+    }
+    if (**at == '\n') ++*at;
+    else if (**at != '\0') stop("a line with too many words");
+    return operation;
+}
+
+static void put_word(uint64_t value) {
+    put_text(" ");
+    put_number(value);
+}
+
+static void put_call(const uint64_t *x) {
+    unsigned last = 8;
+    while (last > 1 && x[last - 1] == 0) last--;
+    put_text("call");
+    for (unsigned i = 0; i < last; i++) put_word(x[i]);
+}
+
+void put_operation(const struct operation *operation) {
+    put_text("> ");
+    switch (operation->kind) {
+    case CALL:
+        put_call(operation->x);
+        break;
+    case LOAD:
+        put_text("load");
+        put_word(operation->address);
+        put_word(operation->size);
+        break;
+    case STORE:
+        put_text("store");
+        put_word(operation->address);
+        put_text(" ");
+        put_hex(operation->value, 2 * operation->size);
+        break;
+    case FETCH:
+        put_text("fetch");
+        put_word(operation->address);
+        break;
+    default:
+        put_text("show");
+    }
+    put_text("\n");
+}
+
+void put_registers(uint32_t runner, const uint64_t *x) {
+    put_text("< regs ");
+    put_hex(runner, 4);
+    for (unsigned i = 0; i < 8; i++) {
+        put_text(" ");
+        put_hex(x[i], 16);
+    }
+    put_text("\n");
+}
+
+void put_data(uint64_t value, unsigned size) {
+    put_text("< data ");
+    put_hex(value, 2 * size);
+    put_text("\n");
+}
+
+void put_done(void) { put_text("< done\n"); }
+
+void put_fault(const char *kind) {
+    put_text("< fault ");
+    put_text(kind);
+    put_text("\n");
+}

@@ -1,0 +1,210 @@
+#include "doing.h"
+#include "layout.h"
+#include "processor.h"
+#include "random.h"
+#include "tables.h"
+#include "text.h"
+
+static unsigned logarithm_of(unsigned size) { return size == 1 ? 0 : size == 2 ? 1 : size == 4 ? 2 : 3; }
+
+static void dispatch_call(struct board *board, struct endpoint *endpoint) {
+    for (unsigned i = 0; i < 8; i++) endpoint->context.x[i] = endpoint->operation.x[i];
+    endpoint->phase = DOING;
+    dispatch(endpoint, board->calls++ % 2 == 0 ? DO_HVC : DO_SMC);
+}
+
+/* The program asks what to do. */
+static void give_next(struct board *board) {
+    struct endpoint *endpoint = running(board);
+    if (endpoint->phase != SETTLED) unexpected(board, "question");
+    endpoint->operation = next_operation(board);
+    put_operation(&endpoint->operation);
+    switch (endpoint->operation.kind) {
+    case CALL:
+        dispatch_call(board, endpoint);
+        break;
+    case LOAD:
+        dispatch_access(endpoint, DO_LOAD + logarithm_of(endpoint->operation.size), DOING);
+        break;
+    case STORE:
+        dispatch_access(endpoint, DO_STORE + logarithm_of(endpoint->operation.size), DOING);
+        break;
+    case FETCH:
+        begin_fetch(endpoint);
+        break;
+    default:
+        unexpected(board, "operation");
+    }
+}
+
+/* The program tells that an access was done. Where it was skipped there is nothing to tell. */
+static void told(struct board *board) {
+    struct endpoint *endpoint = running(board);
+    const struct operation *operation = &endpoint->operation;
+    uint64_t value = endpoint->context.x[0];
+    if (endpoint->phase == SETTLED) return;
+    if (endpoint->phase == LOOKING) {
+        looked(endpoint, false, (uint32_t)value);
+    } else if (operation->kind == FETCH) {
+        fetch_returned(board);
+    } else if (operation->kind == LOAD || operation->kind == STORE) {
+        endpoint->phase = SETTLED;
+        if (operation->kind == LOAD) put_data(value, operation->size);
+        else put_done();
+    } else {
+        unexpected(board, "end of an access");
+    }
+}
+
+/* The program tells what it sees when it runs: what the call before was answered. */
+static void seen(struct board *board) {
+    struct endpoint *endpoint = running(board);
+    if (board->answered) put_registers((uint32_t)endpoint->context.x[8], endpoint->context.x);
+    if (board->random) random_seen(board, endpoint->context.x);
+    board->answered = false;
+    endpoint->phase = SETTLED;
+}
+
+/* Another endpoint runs than who called. */
+static void switch_to(struct board *board, uint32_t next) {
+    save_system(&running(board)->context);
+    board->running = next;
+    load_system(&running(board)->context);
+}
+
+/* A call: the trap hands x0 to x7 to the core, and puts back what comes, of whoever runs next. */
+static void serve_call(struct board *board) {
+    struct endpoint *caller = running(board);
+    struct ffa_registers registers;
+    if (caller->operation.kind != CALL || caller->phase != DOING) unexpected(board, "call");
+    for (unsigned i = 0; i < 8; i++) registers.x[i] = caller->context.x[i];
+    park_tables();
+    struct ffa_outcome outcome = ffa_call(&board->machine, &registers);
+    after_call(board->running, caller->root, (uint32_t)registers.x[0], (uint32_t)outcome.x[0]);
+    uint32_t next = place_of(outcome.runner);
+    if (outcome.kind != FFA_REGISTERS || next >= board->count) unexpected(board, "outcome");
+    if (next != board->running) switch_to(board, next);
+    for (unsigned i = 0; i < 8; i++) running(board)->context.x[i] = outcome.x[i];
+    board->answered = true;
+}
+
+/* An abort that EL2 takes: it is what came of the access that was asked for. The instruction is skipped, and of a fetch control goes
+ * back to the program. */
+static void serve_abort(struct board *board, uint64_t syndrome) {
+    struct endpoint *endpoint = running(board);
+    bool fetch = class_of(syndrome) == CLASS_FETCH_BELOW;
+    bool was_fetch = endpoint->operation.kind == FETCH && endpoint->phase == DOING;
+    if (endpoint->phase == SETTLED || fetch != was_fetch) unexpected(board, "abort");
+    if (read_far_el2() != endpoint->operation.address) unexpected(board, "address of an abort");
+    if (endpoint->phase == LOOKING) {
+        looked(endpoint, true, 0);
+    } else if (fetch) {
+        settle_fault(endpoint, fault_of(board, syndrome));
+    } else {
+        put_fault(fault_of(board, syndrome));
+        endpoint->phase = SETTLED;
+        endpoint->context.pc += 4;
+    }
+}
+
+/* An access that EL1 itself refused, before stage 2 was asked. */
+static void serve_own_fault(struct board *board, uint64_t syndrome, uint64_t address) {
+    struct endpoint *endpoint = running(board);
+    if (endpoint->phase == SETTLED) unexpected(board, "fault at EL1");
+    const char *kind = own_fault_of(board, syndrome, address);
+    if (endpoint->phase == LOOKING) looked(endpoint, true, 0);
+    else settle_fault(endpoint, kind);
+}
+
+/* An exception that the program took at EL1, and hands on. */
+static void serve_exception(struct board *board) {
+    struct endpoint *endpoint = running(board);
+    uint64_t syndrome = endpoint->context.x[9], link = endpoint->context.x[11];
+    switch (class_of(syndrome)) {
+    case CLASS_SVC:
+        settle_fetch(board, WORD_SVC(immediate_of(syndrome)), link - 4);
+        break;
+    case CLASS_BRK:
+        settle_fetch(board, WORD_BRK(immediate_of(syndrome)), link);
+        break;
+    case CLASS_UNKNOWN:
+        settle_fetch(board, endpoint->word & 0xFFFF, link);
+        break;
+    case CLASS_PC_ALIGNMENT:
+    case CLASS_FETCH_SAME:
+    case CLASS_DATA_SAME:
+        serve_own_fault(board, syndrome, endpoint->context.x[10]);
+        break;
+    default:
+        unexpected(board, "exception at EL1");
+    }
+}
+
+static bool keeps_registers(const struct endpoint *endpoint) {
+    const uint64_t *x = endpoint->context.x;
+    return x[8] == endpoint->identifier && x[9] == x[8] && x[27] == x[8];
+}
+
+static void serve_hypercall(struct board *board, unsigned immediate) {
+    struct endpoint *endpoint = running(board);
+    if (immediate >= FIRST_FETCHED) {
+        settle_fetch(board, WORD_HVC(immediate), endpoint->context.pc - 4);
+    } else if (immediate == HVC_FFA) {
+        serve_call(board);
+    } else if (immediate == HVC_NEXT) {
+        give_next(board);
+    } else if (immediate == HVC_EXCEPTION) {
+        serve_exception(board);
+    } else if (!keeps_registers(endpoint)) {
+        unexpected(board, "registers");
+    } else if (immediate == HVC_SEEN) {
+        seen(board);
+    } else if (immediate == HVC_TOLD) {
+        told(board);
+    } else {
+        unexpected(board, "hypercall");
+    }
+}
+
+/* An SMC that is trapped is at the program counter still. */
+static void serve_smc(struct board *board, unsigned immediate) {
+    struct endpoint *endpoint = running(board);
+    if (immediate >= FIRST_FETCHED) {
+        settle_fetch(board, WORD_SMC(immediate), endpoint->context.pc);
+    } else if (immediate == HVC_FFA) {
+        endpoint->context.pc += 4;
+        serve_call(board);
+    } else {
+        unexpected(board, "SMC");
+    }
+}
+
+static void serve(struct board *board, uint64_t syndrome) {
+    if (running(board)->phase == STEPPING) {
+        serve_step(board, syndrome);
+        return;
+    }
+    switch (class_of(syndrome)) {
+    case CLASS_HVC:
+        serve_hypercall(board, immediate_of(syndrome));
+        break;
+    case CLASS_SMC:
+        serve_smc(board, immediate_of(syndrome));
+        break;
+    case CLASS_FETCH_BELOW:
+    case CLASS_DATA_BELOW:
+        serve_abort(board, syndrome);
+        break;
+    default:
+        unexpected(board, "exception");
+    }
+}
+
+_Noreturn void run_board(struct board *board) {
+    load_system(&running(board)->context);
+    for (;;) {
+        walk_tables(board->running, running(board)->root);
+        enter(&running(board)->context);
+        serve(board, read_esr_el2());
+    }
+}

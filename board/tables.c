@@ -1,0 +1,89 @@
+#include "tables.h"
+#include "layout.h"
+#include "processor.h"
+
+SYSTEM_REGISTER(par_el1)
+
+/* HCR_EL2: stage 2 is on, EL1 is AArch64, its SMC, WFI and WFE trap, interrupts go to EL2, and memory that EL1 accesses with its own
+ * translation off is normal, write-back. */
+#define HCR (UINT64_C(1) << 0 | UINT64_C(7) << 3 | UINT64_C(7) << 12 | UINT64_C(1) << 19 | UINT64_C(1) << 31)
+
+/* VTCR_EL2: T0SZ 32, SL0 1, write-back walks, inner shareable, TG0 0 and 40 bits of physical address. */
+#define VTCR (UINT64_C(32) | UINT64_C(1) << 6 | UINT64_C(5) << 8 | UINT64_C(3) << 12 | UINT64_C(2) << 16 | UINT64_C(1) << 31)
+
+#define PARKED_VMID 255
+
+static _Alignas(4096) const uint64_t maps_nothing[512];
+
+static void load_root(uint64_t root, uint64_t vmid) {
+    write_vttbr_el2(root | vmid << 48);
+    DO("isb");
+}
+
+void begin_tables(void) {
+    write_vtcr_el2(VTCR);
+    load_root((uintptr_t)maps_nothing, PARKED_VMID);
+    write_hcr_el2(HCR);
+    DO("isb");
+}
+
+void walk_tables(uint32_t place, uint64_t root) { load_root(root, place + 1); }
+
+void park_tables(void) {
+    if (PARK) load_root((uintptr_t)maps_nothing, PARKED_VMID);
+}
+
+/* What each call that ends well may have changed, beside registers. */
+enum changes { NO_MEMORY_CHANGES, BYTES, ACCESS };
+
+static enum changes changes_of(uint32_t function) {
+    switch (function & ~UINT32_C(0x40000000)) {
+    case 0x84000071: /* FFA_MEM_DONATE, FFA_MEM_LEND, FFA_MEM_SHARE, FFA_MEM_RETRIEVE_REQ */
+    case 0x84000072:
+    case 0x84000073:
+    case 0x84000074:
+    case 0x84000076: /* FFA_MEM_RELINQUISH, FFA_MEM_RECLAIM */
+    case 0x84000077:
+        return ACCESS;
+    case 0x84000068: /* FFA_PARTITION_INFO_GET, FFA_MSG_SEND2 */
+    case 0x84000086:
+        return BYTES;
+    default:
+        return NO_MEMORY_CHANGES;
+    }
+}
+
+void after_call(uint32_t place, uint64_t root, uint32_t function, uint32_t answer) {
+    enum changes changes = answer == 0x84000060 ? NO_MEMORY_CHANGES : changes_of(function);
+    DO("dsb ishst");
+    if (changes == ACCESS) {
+        walk_tables(place, root);
+        if (INVALIDATE) DO("tlbi vmalls12e1is");
+    }
+    if (changes != NO_MEMORY_CHANGES) DO("ic ialluis");
+    DO("dsb ish");
+    DO("isb");
+}
+
+void after_boot(void) {
+    DO("dsb ishst");
+    DO("tlbi alle1is");
+    DO("ic ialluis");
+    DO("dsb ish");
+    DO("isb");
+}
+
+static bool walk_ended_well(void) {
+    DO("isb");
+    return (read_par_el1() & 1) == 0;
+}
+
+bool walk_reads(uint64_t address) {
+    __asm__ volatile("at s12e1r, %0" : : "r"(address) : "memory");
+    return walk_ended_well();
+}
+
+bool walk_writes(uint64_t address) {
+    __asm__ volatile("at s12e1w, %0" : : "r"(address) : "memory");
+    return walk_ended_well();
+}
