@@ -1,31 +1,26 @@
--- From a record that is computed to an answer about a relation.
-use Rattle.std.proofs.Common.{◌≡◌, Option, Some, None, Result, Ok, Err, refl, sym, ◌∙◌}
-use Rattle.std.specs.Prelude.{IfOk, OnErr}
-use Rattle.std.specs.Option.{option_map, ok_or}
+-- From a record that is computed, or a condition that is broken, to an answer about a relation.
+use Rattle.std.proofs.Common.{◌≡◌, Option, Some, None, Result, Ok, Err, refl, sym, IfOk, IfErr, OnErr}
+use Rattle.std.specs.Option.{option_map}
 use Rattle.std.specs.Result.{result_ok}
-use Rattle.std.proofs.lemmas.Option.{none-some}
 
-pub map_id : {D : Type 0} (o : Option D) → option_map (λ (d : D). d) o ≡ o
-map_id (Some d) = refl
-map_id None = refl
+module _ {D R E : Type 0} (view : D → R) (Fits : R → Type 0) (Breaks : E → Type 0) (computed : Option R) where
+  pub found : (r : Result D E) → ((x : R) → computed ≡ Some x → Fits x) → IfOk r (λ d. Some (view d) ≡ computed) → IfOk r (λ d. Fits (view d))
+  found (Ok d) told is = told (view d) (sym is)
+  found (Err e) told is = tt
 
-pub found : {D R E : Type 0} (view : D → R) (Fits : R → Type 0) (computed : Option R) (o : Option D) (e : E) (r : Result D E)
-    → ((x : R) → computed ≡ Some x → Fits x) → r ≡ ok_or o e → option_map view o ≡ computed → IfOk r (λ d. Fits (view d))
-found view Fits computed (Some d) e r told answer same = rw answer (told (view d) (sym same))
-found view Fits computed None e r told answer same = rw answer tt
+  pub none : (r : Result D E) → ((e : E) (x : R) → Breaks e → Fits x → ⊥) → IfErr r Breaks → OnErr r ((x : R) → Fits x → ⊥)
+  none (Ok d) refutes broken = tt
+  none (Err e) refutes broken = λ x fits. refutes e x broken fits
 
-pub none : {D R E : Type 0} (view : D → R) (Fits : R → Type 0) (computed : Option R) (o : Option D) (e : E) (r : Result D E)
-    → ((x : R) → Fits x → computed ≡ Some x) → r ≡ ok_or o e → option_map view o ≡ computed → OnErr r ((x : R) → Fits x → ⊥)
-none view Fits computed (Some d) e r again answer same = rw answer tt
-none view Fits computed None e r again answer same = rw answer (λ x fits. none-some x (same ∙ again x fits))
+  no_record : (e : E) (o : Option R) → ((x : R) → o ≡ Some x → Fits x) → ((e : E) (x : R) → Breaks e → Fits x → ⊥) → Breaks e → None ≡ o
+  no_record e None told refutes broken = refl
+  no_record e (Some x) told refutes broken = absurd (refutes e x broken (told x refl))
 
--- the same of an answer that tells the record itself
-pub found_in : {D R E : Type 0} (view : D → R) (Fits : R → Type 0) (computed : Option R) (r : Result D E)
-    → ((x : R) → computed ≡ Some x → Fits x) → option_map view (result_ok r) ≡ computed → IfOk r (λ d. Fits (view d))
-found_in view Fits computed (Ok d) told same = told (view d) (sym same)
-found_in view Fits computed (Err e) told same = tt
+  pub all : (r : Result D E) → ((x : R) → computed ≡ Some x → Fits x) → ((e : E) (x : R) → Breaks e → Fits x → ⊥)
+      → IfOk r (λ d. Some (view d) ≡ computed) → IfErr r Breaks → option_map view (result_ok r) ≡ computed
+  all (Ok d) told refutes is broken = is
+  all (Err e) told refutes is broken = no_record e computed told refutes broken
 
-pub none_in : {D R E : Type 0} (view : D → R) (Fits : R → Type 0) (computed : Option R) (r : Result D E)
-    → ((x : R) → Fits x → computed ≡ Some x) → option_map view (result_ok r) ≡ computed → OnErr r ((x : R) → Fits x → ⊥)
-none_in view Fits computed (Ok d) again same = tt
-none_in view Fits computed (Err e) again same = λ x fits. none-some x (same ∙ again x fits)
+pub mapped : {D : Type 0} (o p : Option D) → option_map (λ (d : D). d) o ≡ p → o ≡ p
+mapped (Some d) p e = e
+mapped None p e = e

@@ -1,5 +1,5 @@
 -- Lists of entries that are read one after another, each tested beside the ones before it.
-use Rattle.std.proofs.Common.{◌≡◌, ℕ, ◌+◌, ◌*◌, ◌<◌, Bool, true, false, cond, List, [], ◌∷◌, ◌++◌, Some, None, refl, sym, ap, ◌∙◌, subst, add-one}
+use Rattle.std.proofs.Common.{◌≡◌, ℕ, ◌+◌, ◌*◌, Bool, true, cond, List, [], ◌∷◌, ◌++◌, Some, None, refl, sym, ap, ◌∙◌, subst, add-one}
 use Rattle.std.proofs.lemmas.Option.{cond_some}
 use Rattle.ffa_model.specs.declared.rights.Kind.{Kind}
 use Rattle.ffa_model.specs.declared.transaction.Receiver.{Receiver}
@@ -7,8 +7,7 @@ use Rattle.ffa_model.specs.declared.transaction.Range.{Range}
 use Rattle.ffa_model.specs.Lists.{listed}
 use Rattle.ffa_model.specs.SendDescriptor.{holds_at_each}
 use Rattle.ffa_memdesc.specs.Reading.{is_range_after, is_receiver_after, range_after, range_of, ranges_of, receiver_after, receiver_of, receivers_of}
-use Rattle.ffa_memdesc.proofs.Decisions.{cond_none}
-use Rattle.ffa_memdesc.proofs.Listed.{listed-suc, holds_more, fails_at}
+use Rattle.ffa_memdesc.proofs.Listed.{listed-suc, holds_more}
 
 -- the first n entries pass, and are these
 pub record Passed {X : Type 0} (read : ℕ → X) (test : ℕ → Bool) (n : ℕ) (xs : List X) : Type 0 where
@@ -38,15 +37,6 @@ module _ (kind : Kind) (sender composite : ℕ) (b : List ℕ) (array : ℕ) whe
       one_more (receiver_after b array) (is_receiver_after kind sender composite b array) n xs ys x _ before
       (rw (same, before.items) refl) (subst (λ (p : ℕ). Some x ≡ receiver_of kind sender composite b p earlier) place e) grown
 
-  pub receivers_fail : (n at count : ℕ) (xs earlier : List Receiver)
-      → n < count → Passed (receiver_after b array) (is_receiver_after kind sender composite b array) n xs → earlier ≡ xs → at ≡ array + 16 * n
-      → None ≡ receiver_of kind sender composite b at earlier → receivers_of kind sender composite b array count ≡ None
-  unfolding receiver_of receivers_of
-  receivers_fail n at count xs earlier below before same place e =
-      let fails = cond_none _ _ (subst (λ (p : ℕ). None ≡ receiver_of kind sender composite b p earlier) place e) in
-      let here : is_receiver_after kind sender composite b array n ≡ false = sym (rw (same, before.items) refl) ∙ fails in
-      rw (fails_at (is_receiver_after kind sender composite b array) count n below here) refl
-
   pub receivers_end : (n count : ℕ) (xs : List Receiver) → n ≡ count → Passed (receiver_after b array) (is_receiver_after kind sender composite b array) n xs
       → Some xs ≡ receivers_of kind sender composite b array count
   unfolding receivers_of
@@ -62,15 +52,6 @@ module _ (b : List ℕ) (composite : ℕ) where
   ranges_more n at xs ys earlier x before same place e grown =
       one_more (range_after b composite) (is_range_after b composite) n xs ys x _ before
       (rw (same, before.items) refl) (subst (λ (p : ℕ). Some x ≡ range_of b p earlier) place e) grown
-
-  pub ranges_fail : (n at count : ℕ) (xs earlier : List Range)
-      → n < count → Passed (range_after b composite) (is_range_after b composite) n xs → earlier ≡ xs → at ≡ composite + 16 + 16 * n
-      → None ≡ range_of b at earlier → ranges_of b composite count ≡ None
-  unfolding range_of ranges_of
-  ranges_fail n at count xs earlier below before same place e =
-      let fails = cond_none _ _ (subst (λ (p : ℕ). None ≡ range_of b p earlier) place e) in
-      let here : is_range_after b composite n ≡ false = sym (rw (same, before.items) refl) ∙ fails in
-      rw (fails_at (is_range_after b composite) count n below here) refl
 
   pub ranges_end : (n count : ℕ) (xs : List Range) → n ≡ count → Passed (range_after b composite) (is_range_after b composite) n xs
       → Some xs ≡ ranges_of b composite count

@@ -5,6 +5,7 @@ pub mod Decisions
 pub mod HeaderLaw
 pub mod SendLaw
 pub mod SendParts
+pub mod FlawLaw
 pub mod Answered
 pub mod RetrieveParts
 pub mod Writes

@@ -1,5 +1,5 @@
 -- Tests over lists that are given index by index.
-use Rattle.std.proofs.Common.{◌≡◌, ℕ, zero, suc, ◌+◌, ◌<◌, Bool, true, false, ◌||◌, [], ◌∷◌, ◌++◌, length, refl, ap, subst, arith, inl, inr}
+use Rattle.std.proofs.Common.{◌≡◌, ℕ, zero, suc, ◌+◌, ◌<◌, Bool, true, false, ◌&&◌, ◌||◌, [], ◌∷◌, ◌++◌, length, refl, ap, subst, arith, inl, inr}
 use Rattle.std.specs.List.{list_any, list_all}
 use Rattle.std.proofs.lemmas.Bool.{cases_lt, cases_Bool, and_parts, and_from}
 use Rattle.ffa_model.specs.Lists.{listed}
@@ -56,4 +56,33 @@ fails_at test n i lt h =
     elim (cases_Bool (holds_at_each test n)) [
       | inl t ↦ let told = holds_told test n t i lt in absurd cc
       | inr f ↦ f
+    ]
+
+other : (x y : Bool) → x ≡ false → (x || y) ≡ true → y ≡ true
+other true y e h = absurd cc
+other false y e h = h
+
+among : (x y : Bool) → x ≡ true → (x && y) ≡ false → y ≡ false
+among true y e h = h
+among false y e h = absurd cc
+
+-- one of them passes, or doesn't
+pub some_told : {X : Type 0} (p : X → Bool) (f : ℕ → X) (n : ℕ) → list_any p (listed n f) ≡ true → (j : ℕ) × (j < n) × (p (f j) ≡ true)
+some_told p f zero h = absurd cc
+some_told p f (suc n) h =
+    elim (cases_Bool (p (f 0))) [
+      | inl t ↦ (0, omega arith, t)
+      | inr e ↦
+          let (j, before, holds) = some_told p (λ k. f (suc k)) n (other _ _ e h) in
+          (suc j, omega arith, holds)
+    ]
+
+pub some_not : {X : Type 0} (p : X → Bool) (f : ℕ → X) (n : ℕ) → list_all p (listed n f) ≡ false → (j : ℕ) × (j < n) × (p (f j) ≡ false)
+some_not p f zero h = absurd cc
+some_not p f (suc n) h =
+    elim (cases_Bool (p (f 0))) [
+      | inl t ↦
+          let (j, before, fails) = some_not p (λ k. f (suc k)) n (among _ _ t h) in
+          (suc j, omega arith, fails)
+      | inr e ↦ (0, omega arith, e)
     ]

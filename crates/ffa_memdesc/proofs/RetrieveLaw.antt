@@ -26,7 +26,7 @@ kind_of-kind_code (Some Share) = refl
 kind_of-kind_code (Some Lend) = refl
 kind_of-kind_code (Some Donate) = refl
 
-kind_code_few : (k : Option Kind) → kind_code k < 4
+pub kind_code_few : (k : Option Kind) → kind_code k < 4
 kind_code_few None = omega arith
 kind_code_few (Some Share) = omega arith
 kind_code_few (Some Lend) = omega arith
@@ -44,7 +44,7 @@ data_of-data_code None = refl
 data_of-data_code (Some Ro) = refl
 data_of-data_code (Some Rw) = refl
 
-data_code_few : (d : Option Data) → data_code d < 3
+pub data_code_few : (d : Option Data) → data_code d < 3
 data_code_few None = omega arith
 data_code_few (Some Ro) = omega arith
 data_code_few (Some Rw) = omega arith
@@ -83,10 +83,10 @@ facts e b header h access =
 kind_bits : (flags code : ℕ) → code < 4 → flags ≡ 8 * code → bits 4 3 flags ≡ code
 kind_bits flags code few e = omega arith
 
-flags_again : (flags code : ℕ) → code < 4 → flags ≡ 8 * code → flags ≡ 8 * bits 4 3 flags
+pub flags_again : (flags code : ℕ) → code < 4 → flags ≡ 8 * code → flags ≡ 8 * bits 4 3 flags
 flags_again flags code few e = omega arith
 
-not_reserved : (n code : ℕ) → code < 3 → n ≡ code → n ≢ 3
+pub not_reserved : (n code : ℕ) → code < 3 → n ≡ code → n ≢ 3
 not_reserved n code few e three = omega arith
 
 header_test : (e : ℕ) (b : Versioned) (r : RetrieveDesc) → Retrieve e b r → is_retrieve_header b ≡ true

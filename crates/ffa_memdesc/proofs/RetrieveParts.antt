@@ -1,42 +1,26 @@
 -- What each part of a reader tells of the whole retrieve.
-use Rattle.std.proofs.Common.{◌≡◌, ℕ, ◌+◌, ◌*◌, ◌≤◌, true, false, Option, Some, None, sym, ap, ◌∙◌, eqb, arith}
+use Rattle.std.proofs.Common.{◌≡◌, ℕ, ◌+◌, ◌*◌, ◌≤◌, true, Option, Some, sym, ap, ◌∙◌, eqb, arith}
 use Rattle.std.proofs.lemmas.Bool.{and_from, and_parts, eqb-true}
-use Rattle.std.proofs.lemmas.Option.{cond_some}
 use Rattle.ffa_model.specs.Bits.{bits}
 use Rattle.ffa_model.specs.declared.rights.Data.{Data}
 use Rattle.ffa_model.specs.declared.rights.Kind.{Kind}
-use Rattle.ffa_model.specs.DescriptorPlaces.{data_of, kind_of, is_header, receiver_count, Versioned}
+use Rattle.ffa_model.specs.DescriptorPlaces.{IsHeader, data_of, kind_of, receiver_count, Versioned}
 use Rattle.ffa_model.specs.RetrieveDescriptor.{retrieve_in, is_retrieve_header, is_retrieve_access, retrieve_of}
 use Rattle.ffa_memdesc.specs.declared.access.Access.{Access}
 use Rattle.ffa_memdesc.specs.declared.header.Header.{Header}
-use Rattle.ffa_memdesc.specs.Reading.{header_of, header_in, access_in}
-use Rattle.ffa_memdesc.proofs.Decisions.{cond_none, cond_true, cond_false, first_of_three, second_of_three, third_of_three}
-
-pub no_header : (e : ℕ) (b : Versioned) → None ≡ header_of b → None ≡ retrieve_of e b
-unfolding header_of retrieve_of
-no_header e b h =
-    sym (cond_false _ (retrieve_in b) (first_of_three (is_header b) (is_retrieve_header b) (is_retrieve_access e b) (cond_none (is_header b) (header_in b) h)))
-
-pub no_retrieve_header : (e : ℕ) (b : Versioned) → is_retrieve_header b ≡ false → None ≡ retrieve_of e b
-unfolding retrieve_of
-no_retrieve_header e b h =
-    sym (cond_false _ (retrieve_in b) (second_of_three (is_header b) (is_retrieve_header b) (is_retrieve_access e b) h))
-
-pub no_retrieve_access : (e : ℕ) (b : Versioned) → is_retrieve_access e b ≡ false → None ≡ retrieve_of e b
-unfolding retrieve_of
-no_retrieve_access e b h =
-    sym (cond_false _ (retrieve_in b) (third_of_three (is_header b) (is_retrieve_header b) (is_retrieve_access e b) h))
+use Rattle.ffa_memdesc.specs.Reading.{header_in, access_in}
+use Rattle.ffa_memdesc.proofs.Decisions.{cond_true}
+use Rattle.ffa_memdesc.proofs.HeaderLaw.{header_again}
 
 -- what the parts gave is what the bytes say
 pub whole_retrieve : (e : ℕ) (b : Versioned) (h : Header) (a : Access) (kind : Option Kind) (level : Option Data) (asked instructions : ℕ)
-    → Some h ≡ header_of b → is_retrieve_header b ≡ true → is_retrieve_access e b ≡ true → a ≡ access_in b.bytes h.array
+    → IsHeader b → h ≡ header_in b → is_retrieve_header b ≡ true → is_retrieve_access e b ≡ true → a ≡ access_in b.bytes h.array
     → kind ≡ kind_of (bits 4 3 h.flags) → asked ≡ bits 1 0 a.permissions → level ≡ data_of asked → instructions ≡ bits 3 2 a.permissions
     → Some (record { sender = h.sender; handle = h.handle; tag = h.tag; kind = kind; level = level; exec = eqb instructions 2 }) ≡ retrieve_of e b
-unfolding header_of retrieve_of
-whole_retrieve e b h a kind level asked instructions header fits access read kinds asks gives executes =
-    let (holds, is) = cond_some (is_header b) (header_in b) h (sym header) in
-    let same : a ≡ access_in b.bytes (header_in b).array = read ∙ ap (λ (x : Header). access_in b.bytes x.array) (sym is) in
-    rw (kinds, gives, asks, executes, same, ← is) (sym (cond_true _ (retrieve_in b) (and_from _ _ (and_from _ _ holds fits) access)))
+unfolding retrieve_of
+whole_retrieve e b h a kind level asked instructions header is fits access read kinds asks gives executes =
+    let same : a ≡ access_in b.bytes (header_in b).array = read ∙ ap (λ (x : Header). access_in b.bytes x.array) is in
+    rw (kinds, gives, asks, executes, same, is) (sym (cond_true _ (retrieve_in b) (and_from _ _ (and_from _ _ (header_again b header) fits) access)))
 
 -- the one access descriptor is inside
 pub access_inside : (b : Versioned) (h : Header) (n : ℕ) → h ≡ header_in b → h.array + 16 * h.count ≤ n → is_retrieve_header b ≡ true → h.array + 16 ≤ n

@@ -17,7 +17,7 @@ grant_told Share p e = either_told p 1 2 e
 grant_told Lend p e = either_told p 1 2 e
 grant_told Donate p e = eqb-true _ _ e
 
-grant_again : (kind : Kind) (p : ℕ) → IsGrant kind p → is_grant kind p ≡ true
+pub grant_again : (kind : Kind) (p : ℕ) → IsGrant kind p → is_grant kind p ≡ true
 grant_again Share p e = either_again p 1 2 e
 grant_again Lend p e = either_again p 1 2 e
 grant_again Donate p e = eq-eqb _ _ e
@@ -76,7 +76,7 @@ range_again b at h =
 apart_told : (r q : Range) → are_apart r q ≡ true → AreApart r q
 apart_told r q e = elim (or_cases _ _ e) [ inl a ↦ inl (leb-true _ _ a) | inr a ↦ inr (leb-true _ _ a) ]
 
-apart_again : (r q : Range) → AreApart r q → are_apart r q ≡ true
+pub apart_again : (r q : Range) → AreApart r q → are_apart r q ≡ true
 apart_again r q (inl a) = either_true _ _ (inl (le-leb _ _ a))
 apart_again r q (inr a) = either_true _ _ (inr (le-leb _ _ a))
 

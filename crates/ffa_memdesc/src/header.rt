@@ -1,11 +1,12 @@
 //! The transaction header, as it is read.
 
-ghost use Rattle.std.specs.Prelude.{◌≡◌, ◌+◌, ◌*◌, ◌≤◌, length, IfSome};
-ghost use Rattle.ffa_model.specs.DescriptorPlaces.{told_access_size, array_in, header_size, in_version, is_rest_zero};
-ghost use Rattle.ffa_memdesc.specs.Reading.{header_in, header_of};
+ghost use Rattle.std.specs.Prelude.{◌≡◌, ◌+◌, ◌*◌, ◌≤◌, length, IfOk, IfErr, OnOk};
+ghost use Rattle.ffa_model.specs.DescriptorPlaces.{told_access_size, array_in, header_size, in_version, is_rest_zero, IsHeader};
+ghost use Rattle.ffa_model.specs.Flaws.{HeaderBreaks};
+ghost use Rattle.ffa_memdesc.specs.Reading.{header_in};
 
 use crate::bytes::{Bytes, read_u16, read_u32, read_u64};
-use ffa_model::{EndpointId, Version};
+use ffa_model::{EndpointId, HeaderFlaw, Version};
 
 /// How many bytes an access descriptor has, and how many a range.
 pub const ENTRY_SIZE: u32 = 16;
@@ -73,44 +74,51 @@ fn is_rest_zero<B: Bytes>(bytes: &B, version: Version) -> bool
 
 // The header in the form of a version. Its callers know which, so no place is asked for where it is inlined.
 #[inline(always)]
-#[tactic(auto, unfolding(crate::specs::Reading::header_of))]
-fn read_in<B: Bytes>(bytes: &B, version: Version) -> Option<Header>
-    ensures exact { result ≡ header_of (in_version version (B.bytes bytes.now)) }
-    ensures found { IfSome result (λ h. h ≡ header_in (in_version version (B.bytes bytes.now))) }
-    ensures inside { IfSome result (λ h. h.array + 16 * h.count ≤ length (B.bytes bytes.now)) }
+fn read_in<B: Bytes>(bytes: &B, version: Version) -> Result<Header, HeaderFlaw>
+    ensures whole { OnOk result (IsHeader (in_version version (B.bytes bytes.now))) }
+    ensures found { IfOk result (λ h. h ≡ header_in (in_version version (B.bytes bytes.now))) }
+    ensures inside { IfOk result (λ h. h.array + 16 * h.count ≤ length (B.bytes bytes.now)) }
+    ensures broken { IfErr result (HeaderBreaks (in_version version (B.bytes bytes.now))) }
 {
     let len = bytes.len();
     let size = header_size(version);
     if len < size as usize {
-        return None;
+        return Err(HeaderFlaw::Short);
+    }
+    if read_u32(bytes, 24) != told_access_size(version) {
+        return Err(HeaderFlaw::AccessSize);
+    }
+    let array = read_array(bytes, version);
+    if array % 16 != 0 {
+        return Err(HeaderFlaw::ArrayUnaligned);
+    }
+    if array < size {
+        return Err(HeaderFlaw::ArrayInHeader);
     }
     let count = read_u32(bytes, 28);
-    let array = read_array(bytes, version);
-    let fits = read_u32(bytes, 24) == told_access_size(version)
-        && array % 16 == 0
-        && array >= size
-        && array as u64 + ENTRY_SIZE as u64 * count as u64 <= len as u64
-        && is_rest_zero(bytes, version);
-    if fits {
-        Some(Header {
-            sender: EndpointId(read_u16(bytes, 0)),
-            attributes: read_u16(bytes, 2),
-            flags: read_u32(bytes, 4),
-            handle: read_u64(bytes, 8),
-            tag: read_u64(bytes, 16),
-            count,
-            array,
-        })
-    } else {
-        None
+    if array as u64 + ENTRY_SIZE as u64 * count as u64 > len as u64 {
+        return Err(HeaderFlaw::ArrayOutside);
     }
+    if !is_rest_zero(bytes, version) {
+        return Err(HeaderFlaw::Reserved);
+    }
+    Ok(Header {
+        sender: EndpointId(read_u16(bytes, 0)),
+        attributes: read_u16(bytes, 2),
+        flags: read_u32(bytes, 4),
+        handle: read_u64(bytes, 8),
+        tag: read_u64(bytes, 16),
+        count,
+        array,
+    })
 }
 
 /// The header, where the bytes have one of this version: its access descriptors stand behind it and inside the bytes.
-pub fn read_header<B: Bytes>(bytes: &B, version: Version) -> Option<Header>
-    ensures exact { result ≡ header_of (in_version version (B.bytes bytes.now)) }
-    ensures found { IfSome result (λ h. h ≡ header_in (in_version version (B.bytes bytes.now))) }
-    ensures inside { IfSome result (λ h. h.array + 16 * h.count ≤ length (B.bytes bytes.now)) }
+pub fn read_header<B: Bytes>(bytes: &B, version: Version) -> Result<Header, HeaderFlaw>
+    ensures whole { OnOk result (IsHeader (in_version version (B.bytes bytes.now))) }
+    ensures found { IfOk result (λ h. h ≡ header_in (in_version version (B.bytes bytes.now))) }
+    ensures inside { IfOk result (λ h. h.array + 16 * h.count ≤ length (B.bytes bytes.now)) }
+    ensures broken { IfErr result (HeaderBreaks (in_version version (B.bytes bytes.now))) }
 {
     match version {
         Version::Compact => read_in(bytes, Version::Compact),

@@ -15,13 +15,9 @@ mod retrieve;
 mod send;
 
 pub use bytes::Bytes;
-pub use ffa_model::{RelinquishDesc, Response, RetrieveDesc, SendDesc};
+pub use ffa_model::{Flaw, RelinquishDesc, Response, RetrieveDesc, SendDesc};
 pub use laws::one_record;
 pub use relinquish::read_relinquish;
 pub use respond::write_response;
 pub use retrieve::read_retrieve;
 pub use send::read_send;
-
-/// The bytes are no descriptor of the kind that was asked for.
-#[derive(Clone, Copy, Debug, PartialEq, Eq)]
-pub struct Bad;

@@ -1,38 +1,54 @@
 //! The composite of a send: its ranges.
 
-ghost use Rattle.std.specs.Prelude.{◌≡◌, ◌+◌, ◌*◌, ◌≤◌, [], length, IfSome};
+ghost use Rattle.std.specs.Prelude.{◌≡◌, ◌+◌, ◌*◌, ◌≤◌, [], length, Some, IfOk, IfErr, OnOk};
 ghost use Rattle.std.specs.List.{list_all};
-ghost use Rattle.std.specs.Option.{option_map};
 ghost use Rattle.ffa_model.specs.declared.limits.TheConstants.{MOST_RANGES};
 ghost use Rattle.ffa_model.specs.SendDescriptor.{range_end, are_apart, page_total};
-ghost use Rattle.ffa_memdesc.specs.Reading.{range_count_of, range_of, ranges_of};
+ghost use Rattle.ffa_memdesc.specs.Reading.{range_count_of, range_of, ranges_of, CompositeFails, RangeFails, RangesBreak};
 
 use crate::bytes::{Bytes, read_u32, read_u64};
 use crate::header::{ENTRY_SIZE, Header};
 use arrayvec::ArrayVec;
-use ffa_model::{MOST_RANGES, Range};
+use ffa_model::{CompositeFlaw, Flaw, MOST_RANGES, Range, RangeFlaw};
 
 /// How many ranges the composite has, where it stands behind the access descriptors and inside the bytes.
 #[tactic(auto, unfolding(crate::specs::Reading::range_count_of))]
-pub fn read_range_count<B: Bytes>(bytes: &B, header: &Header, composite: u32) -> Option<u32>
-    ensures exact { result ≡ range_count_of (B.bytes bytes.now) (header.now.array + 16 * header.now.count) composite }
-    ensures few { IfSome result (λ n. n ≤ MOST_RANGES) }
-    ensures inside { IfSome result (λ n. composite + 16 + 16 * n ≤ length (B.bytes bytes.now)) }
+pub fn read_range_count<B: Bytes>(
+    bytes: &B,
+    header: &Header,
+    composite: u32,
+) -> Result<u32, CompositeFlaw>
+    ensures found { IfOk result (λ n. Some n ≡ range_count_of (B.bytes bytes.now) (header.now.array + 16 * header.now.count) composite) }
+    ensures few { IfOk result (λ n. n ≤ MOST_RANGES) }
+    ensures inside { IfOk result (λ n. composite + 16 + 16 * n ≤ length (B.bytes bytes.now)) }
+    ensures broken { IfErr result (CompositeFails (B.bytes bytes.now) (header.now.array + 16 * header.now.count) composite) }
 {
     let len = bytes.len() as u64;
     let first = composite as u64 + 16;
     if first > len {
-        return None;
+        return Err(CompositeFlaw::Outside);
+    }
+    if composite % 16 != 0 {
+        return Err(CompositeFlaw::Unaligned);
+    }
+    if header.array as u64 + ENTRY_SIZE as u64 * header.count as u64 > composite as u64 {
+        return Err(CompositeFlaw::InArray);
     }
     let at = composite as usize;
     let count = read_u32(bytes, at + 4);
-    let fits = composite % 16 == 0
-        && header.array as u64 + ENTRY_SIZE as u64 * header.count as u64 <= composite as u64
-        && count >= 1
-        && count as usize <= MOST_RANGES
-        && read_u64(bytes, at + 8) == 0
-        && first + ENTRY_SIZE as u64 * count as u64 <= len;
-    if fits { Some(count) } else { None }
+    if count < 1 {
+        return Err(CompositeFlaw::NoRange);
+    }
+    if count as usize > MOST_RANGES {
+        return Err(CompositeFlaw::ManyRanges);
+    }
+    if read_u64(bytes, at + 8) != 0 {
+        return Err(CompositeFlaw::Reserved);
+    }
+    if first + ENTRY_SIZE as u64 * count as u64 > len {
+        return Err(CompositeFlaw::RangesOutside);
+    }
+    Ok(count)
 }
 
 /// Where a range ends. Nothing wraps.
@@ -57,9 +73,10 @@ pub fn is_apart_from(range: &Range, others: &[Range]) -> bool
 
 /// The range at this place, where it has no page of an earlier one.
 #[tactic(auto, unfolding(crate::specs::Reading::range_of))]
-fn read_range<B: Bytes>(bytes: &B, at: usize, earlier: &[Range]) -> Option<Range>
+fn read_range<B: Bytes>(bytes: &B, at: usize, earlier: &[Range]) -> Result<Range, RangeFlaw>
     requires { at + 16 ≤ length (B.bytes bytes.now) }
-    ensures { result ≡ range_of (B.bytes bytes.now) at earlier.now }
+    ensures found { IfOk result (λ r. Some r ≡ range_of (B.bytes bytes.now) at earlier.now) }
+    ensures broken { IfErr result (RangeFails (B.bytes bytes.now) at earlier.now) }
 {
     // Proof step: the number of bytes fits a usize.
     let _ = bytes.len();
@@ -67,12 +84,22 @@ fn read_range<B: Bytes>(bytes: &B, at: usize, earlier: &[Range]) -> Option<Range
         address: read_u64(bytes, at),
         pages: read_u32(bytes, at + 8),
     };
-    let fits = range.pages >= 1
-        && range.address % 4096 == 0
-        && range_end(&range) <= 1 << 48
-        && read_u32(bytes, at + 12) == 0
-        && is_apart_from(&range, earlier);
-    if fits { Some(range) } else { None }
+    if range.pages < 1 {
+        return Err(RangeFlaw::Empty);
+    }
+    if range.address % 4096 != 0 {
+        return Err(RangeFlaw::Unaligned);
+    }
+    if range_end(&range) > 1 << 48 {
+        return Err(RangeFlaw::TooHigh);
+    }
+    if read_u32(bytes, at + 12) != 0 {
+        return Err(RangeFlaw::Reserved);
+    }
+    if !is_apart_from(&range, earlier) {
+        return Err(RangeFlaw::Overlap);
+    }
+    Ok(range)
 }
 
 /// Puts the ranges of the composite into an empty list, where all fit. The list is the caller's, since it is large to move.
@@ -81,18 +108,21 @@ pub fn read_ranges<B: Bytes>(
     composite: u32,
     count: u32,
     ranges: &mut ArrayVec<Range, MOST_RANGES>,
-) -> Option<()>
+) -> Result<(), Flaw>
     requires few { count ≤ MOST_RANGES }
     requires inside { composite + 16 + 16 * count ≤ length (B.bytes bytes.now) }
     requires empty { ranges.old.items ≡ [] }
-    ensures { option_map (λ _. ranges.new.items) result ≡ ranges_of (B.bytes bytes.now) composite count }
+    ensures found { OnOk result (Some ranges.new.items ≡ ranges_of (B.bytes bytes.now) composite count) }
+    ensures broken { IfErr result (RangesBreak (B.bytes bytes.now) composite count) }
 {
     for i in 0..count {
         let at = composite as usize + 16 + ENTRY_SIZE as usize * i as usize;
-        let range = read_range(bytes, at, ranges)?;
-        ranges.push(range);
+        match read_range(bytes, at, ranges) {
+            Ok(range) => ranges.push(range),
+            Err(flaw) => return Err(Flaw::Range(i, flaw)),
+        }
     }
-    Some(())
+    Ok(())
 }
 
 /// How many pages the ranges of a transaction have together. Nothing wraps.

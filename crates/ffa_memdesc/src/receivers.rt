@@ -1,17 +1,16 @@
 //! The receivers of a send.
 
-ghost use Rattle.std.specs.Prelude.{◌≡◌, ◌+◌, ◌*◌, ◌≤◌, length};
-ghost use Rattle.std.specs.Option.{option_map};
+ghost use Rattle.std.specs.Prelude.{◌≡◌, ◌+◌, ◌*◌, ◌≤◌, length, Some, IfOk, IfErr};
 ghost use Rattle.ffa_model.specs.declared.limits.TheConstants.{MOST_RECEIVERS};
 ghost use Rattle.ffa_model.specs.DescriptorPlaces.{data_of};
 ghost use Rattle.ffa_model.specs.SendDescriptor.{is_grant, is_named};
-ghost use Rattle.ffa_memdesc.specs.Reading.{receiver_of, receivers_of};
+ghost use Rattle.ffa_memdesc.specs.Reading.{receiver_of, receivers_of, AccessFails, ReceiversBreak};
 
 use crate::access::read_access;
 use crate::bytes::Bytes;
 use crate::header::{ENTRY_SIZE, Header};
 use arrayvec::ArrayVec;
-use ffa_model::{Data, EndpointId, Kind, MOST_RECEIVERS, Receiver};
+use ffa_model::{AccessFlaw, Data, EndpointId, Flaw, Kind, MOST_RECEIVERS, Receiver};
 
 /// Whether a send of this kind may grant these permissions.
 fn is_grant(kind: Kind, permissions: u8) -> bool
@@ -50,25 +49,34 @@ fn read_receiver<B: Bytes>(
     composite: u32,
     at: usize,
     earlier: &[Receiver],
-) -> Option<Receiver>
+) -> Result<Receiver, AccessFlaw>
     requires { at + 16 ≤ length (B.bytes bytes.now) }
-    ensures { result ≡ receiver_of kind sender.0 composite (B.bytes bytes.now) at earlier.now }
+    ensures found { IfOk result (λ r. Some r ≡ receiver_of kind sender.0 composite (B.bytes bytes.now) at earlier.now) }
+    ensures broken { IfErr result (AccessFails kind sender.0 composite (B.bytes bytes.now) at earlier.now) }
 {
     let access = read_access(bytes, at);
-    let fits = is_grant(kind, access.permissions)
-        && access.flags == 0
-        && access.composite == composite
-        && access.reserved == 0
-        && access.endpoint.0 != sender.0
-        && !is_named(access.endpoint, earlier);
-    if fits {
-        Some(Receiver {
-            endpoint: access.endpoint,
-            grant: data_of(access.permissions),
-        })
-    } else {
-        None
+    if !is_grant(kind, access.permissions) {
+        return Err(AccessFlaw::Permissions);
     }
+    if access.flags != 0 {
+        return Err(AccessFlaw::Flags);
+    }
+    if access.composite != composite {
+        return Err(AccessFlaw::OtherComposite);
+    }
+    if access.reserved != 0 {
+        return Err(AccessFlaw::Reserved);
+    }
+    if access.endpoint.0 == sender.0 {
+        return Err(AccessFlaw::ReceiverIsSender);
+    }
+    if is_named(access.endpoint, earlier) {
+        return Err(AccessFlaw::ReceiverTwice);
+    }
+    Ok(Receiver {
+        endpoint: access.endpoint,
+        grant: data_of(access.permissions),
+    })
 }
 
 /// The receivers that a send names, where all fit.
@@ -77,16 +85,19 @@ pub fn read_receivers<B: Bytes>(
     kind: Kind,
     header: &Header,
     composite: u32,
-) -> Option<ArrayVec<Receiver, MOST_RECEIVERS>>
+) -> Result<ArrayVec<Receiver, MOST_RECEIVERS>, Flaw>
     requires few { header.now.count ≤ MOST_RECEIVERS }
     requires inside { header.now.array + 16 * header.now.count ≤ length (B.bytes bytes.now) }
-    ensures { option_map (λ v. v.items) result ≡ receivers_of kind header.now.sender.0 composite (B.bytes bytes.now) header.now.array header.now.count }
+    ensures found { IfOk result (λ v. Some v.items ≡ receivers_of kind header.now.sender.0 composite (B.bytes bytes.now) header.now.array header.now.count) }
+    ensures broken { IfErr result (ReceiversBreak kind header.now.sender.0 composite (B.bytes bytes.now) header.now.array header.now.count) }
 {
     let mut receivers = ArrayVec::new();
     for i in 0..header.count {
         let at = header.array as usize + ENTRY_SIZE as usize * i as usize;
-        let receiver = read_receiver(bytes, kind, header.sender, composite, at, &receivers)?;
-        receivers.push(receiver);
+        match read_receiver(bytes, kind, header.sender, composite, at, &receivers) {
+            Ok(receiver) => receivers.push(receiver),
+            Err(flaw) => return Err(Flaw::Access(i, flaw)),
+        }
     }
-    Some(receivers)
+    Ok(receivers)
 }

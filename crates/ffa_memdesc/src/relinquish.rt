@@ -1,30 +1,35 @@
 //! Relinquish descriptors.
 
-ghost use Rattle.std.specs.Prelude.{◌≡◌, IfOk, OnErr};
+ghost use Rattle.std.specs.Prelude.{◌≡◌, IfOk, IfErr, OnErr};
 ghost use Rattle.std.specs.Result.{result_ok};
+ghost use Rattle.ffa_model.specs.Flaws.{RelinquishBreaks};
 ghost use Rattle.ffa_model.specs.RelinquishDescriptor.{Relinquish, relinquish_of};
 ghost use Rattle.ffa_model.specs.declared.descriptor.RelinquishDesc.{RelinquishDesc};
 
-use crate::Bad;
 use crate::bytes::{Bytes, read_u16, read_u32, read_u64};
-use ffa_model::{EndpointId, RelinquishDesc};
+use ffa_model::{EndpointId, Flaw, RelinquishDesc, RelinquishFlaw};
 
 /// How many bytes a relinquish descriptor of one endpoint has.
 const SIZE: usize = 18;
 
-/// What the bytes say, wherever they lie, as a relinquish descriptor of one endpoint. `Bad` means that they are none.
+/// What the bytes say, wherever they lie, as a relinquish descriptor of one endpoint. An error is a
+/// condition of these that they break.
 #[tactic(auto, unfolding(ffa_model::specs::RelinquishDescriptor::relinquish_of))]
-pub fn read_relinquish<B: Bytes>(bytes: &B) -> Result<RelinquishDesc, Bad>
+pub fn read_relinquish<B: Bytes>(bytes: &B) -> Result<RelinquishDesc, Flaw>
     ensures found { IfOk result (λ d. Relinquish (B.bytes bytes.now) d) }
     ensures none { OnErr result ((r : RelinquishDesc) → Relinquish (B.bytes bytes.now) r → ⊥) }
     ensures computed { result_ok result ≡ relinquish_of (B.bytes bytes.now) }
+    ensures broken { IfErr result (RelinquishBreaks (B.bytes bytes.now)) }
 {
     if bytes.len() < SIZE {
-        return Err(Bad);
+        return Err(Flaw::Relinquish(RelinquishFlaw::Short));
     }
     let flags = read_u32(bytes, 8);
-    if flags > 1 || read_u32(bytes, 12) != 1 {
-        return Err(Bad);
+    if flags > 1 {
+        return Err(Flaw::Relinquish(RelinquishFlaw::Flags));
+    }
+    if read_u32(bytes, 12) != 1 {
+        return Err(Flaw::Relinquish(RelinquishFlaw::EndpointCount));
     }
     Ok(RelinquishDesc {
         handle: read_u64(bytes, 0),

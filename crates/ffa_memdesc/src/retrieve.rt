@@ -1,19 +1,19 @@
 //! Retrieve descriptors.
 
-ghost use Rattle.std.specs.Prelude.{◌≡◌, IfOk, OnErr};
+ghost use Rattle.std.specs.Prelude.{◌≡◌, ℕ, true, Some, IfOk, IfErr, OnOk, OnErr};
 ghost use Rattle.std.specs.Result.{result_ok};
 ghost use Rattle.ffa_model.specs.Bits.{bits};
 ghost use Rattle.ffa_model.specs.DescriptorPlaces.{Versioned, array_place, in_version, kind_of};
+ghost use Rattle.ffa_model.specs.Flaws.{AskedBreaks, RetrieveBreaks};
 ghost use Rattle.ffa_model.specs.RetrieveDescriptor.{Retrieve, retrieve_of, is_retrieve_header, is_retrieve_access};
 ghost use Rattle.ffa_model.specs.declared.descriptor.RetrieveDesc.{RetrieveDesc};
 ghost use Rattle.ffa_memdesc.specs.Reading.{header_in, access_in};
 
-use crate::Bad;
 use crate::access::{Access, read_access};
 use crate::bytes::Bytes;
 use crate::header::{Header, NORMAL_MEMORY, read_header};
 use crate::receivers::data_of;
-use ffa_model::{EndpointId, Kind, RetrieveDesc, Version};
+use ffa_model::{EndpointId, Flaw, Kind, RetrieveDesc, RetrieveFlaw, Version};
 
 /// Bits 4:3 of the flags, which tell the kind.
 fn kind_of(flags: u32) -> Option<Kind>
@@ -29,41 +29,72 @@ fn kind_of(flags: u32) -> Option<Kind>
 
 /// Whether the header is that of a retrieve.
 #[tactic(auto, unfolding(ffa_model::specs::RetrieveDescriptor::is_retrieve_header))]
-fn is_retrieve_header(header: &Header) -> bool
-    ensures { (b : Versioned) → header.now ≡ header_in b → result ≡ is_retrieve_header b }
+fn check_header(header: &Header) -> Result<(), RetrieveFlaw>
+    ensures fits { (b : Versioned) → header.now ≡ header_in b → OnOk result (is_retrieve_header b ≡ true) }
+    ensures broken { (endpoint : ℕ) (b : Versioned) → header.now ≡ header_in b → IfErr result (AskedBreaks endpoint b) }
 {
-    (header.attributes == 0 || header.attributes == NORMAL_MEMORY)
-        && header.flags & 7 == 0
-        && header.flags >> 5 == 0
-        && header.count == 1
+    if header.attributes != 0 && header.attributes != NORMAL_MEMORY {
+        return Err(RetrieveFlaw::Attributes);
+    }
+    if header.flags & 7 != 0 || header.flags >> 5 != 0 {
+        return Err(RetrieveFlaw::Flags);
+    }
+    if header.count != 1 {
+        return Err(RetrieveFlaw::AccessCount);
+    }
+    Ok(())
 }
 
 /// Whether the access descriptor is that of a retrieve for this endpoint.
 #[tactic(auto, unfolding(ffa_model::specs::RetrieveDescriptor::is_retrieve_access))]
-fn is_retrieve_access(endpoint: EndpointId, access: &Access) -> bool
-    ensures { (b : Versioned) → access.now ≡ access_in b.bytes (array_place b) → result ≡ is_retrieve_access endpoint.0 b }
+fn check_access(endpoint: EndpointId, access: &Access) -> Result<(), RetrieveFlaw>
+    ensures fits { (b : Versioned) → access.now ≡ access_in b.bytes (array_place b) → OnOk result (is_retrieve_access endpoint.0 b ≡ true) }
+    ensures broken { (b : Versioned) → access.now ≡ access_in b.bytes (array_place b) → IfErr result (AskedBreaks endpoint.0 b) }
 {
-    access.endpoint.0 == endpoint.0
-        && access.data_code() != 3
-        && access.instruction_code() != 3
-        && access.permissions >> 4 == 0
-        && access.flags == 0
-        && access.composite == 0
-        && access.reserved == 0
+    if access.endpoint.0 != endpoint.0 {
+        return Err(RetrieveFlaw::ReceiverIsAnother);
+    }
+    if access.data_code() == 3 {
+        return Err(RetrieveFlaw::DataPermission);
+    }
+    if access.instruction_code() == 3 {
+        return Err(RetrieveFlaw::InstructionPermission);
+    }
+    if access.permissions >> 4 != 0 {
+        return Err(RetrieveFlaw::PermissionsReserved);
+    }
+    if access.flags != 0 {
+        return Err(RetrieveFlaw::AccessFlags);
+    }
+    if access.composite != 0 {
+        return Err(RetrieveFlaw::CompositeTold);
+    }
+    if access.reserved != 0 {
+        return Err(RetrieveFlaw::AccessReserved);
+    }
+    Ok(())
 }
 
-fn retrieve_in<B: Bytes>(bytes: &B, version: Version, endpoint: EndpointId) -> Option<RetrieveDesc>
-    ensures { result ≡ retrieve_of endpoint.0 (in_version version (B.bytes bytes.now)) }
+fn retrieve_in<B: Bytes>(
+    bytes: &B,
+    version: Version,
+    endpoint: EndpointId,
+) -> Result<RetrieveDesc, Flaw>
+    ensures found { IfOk result (λ d. Some d ≡ retrieve_of endpoint.0 (in_version version (B.bytes bytes.now))) }
+    ensures broken { IfErr result (RetrieveBreaks endpoint.0 (in_version version (B.bytes bytes.now))) }
 {
-    let header = read_header(bytes, version)?;
-    if !is_retrieve_header(&header) {
-        return None;
+    let header = match read_header(bytes, version) {
+        Ok(header) => header,
+        Err(flaw) => return Err(Flaw::Header(flaw)),
+    };
+    if let Err(flaw) = check_header(&header) {
+        return Err(Flaw::Retrieve(flaw));
     }
     let access = read_access(bytes, header.array as usize);
-    if !is_retrieve_access(endpoint, &access) {
-        return None;
+    if let Err(flaw) = check_access(endpoint, &access) {
+        return Err(Flaw::Retrieve(flaw));
     }
-    Some(RetrieveDesc {
+    Ok(RetrieveDesc {
         sender: header.sender,
         handle: header.handle,
         tag: header.tag,
@@ -73,16 +104,17 @@ fn retrieve_in<B: Bytes>(bytes: &B, version: Version, endpoint: EndpointId) -> O
     })
 }
 
-/// What the bytes say, wherever they lie, as a retrieve descriptor for this endpoint, which has this version. `Bad`
-/// means that they are none.
+/// What the bytes say, wherever they lie, as a retrieve descriptor for this endpoint, which has this version. An error is
+/// a condition of these that they break.
 pub fn read_retrieve<B: Bytes>(
     bytes: &B,
     version: Version,
     endpoint: EndpointId,
-) -> Result<RetrieveDesc, Bad>
+) -> Result<RetrieveDesc, Flaw>
     ensures found { IfOk result (λ d. Retrieve endpoint.0 (in_version version (B.bytes bytes.now)) d) }
     ensures none { OnErr result ((r : RetrieveDesc) → Retrieve endpoint.0 (in_version version (B.bytes bytes.now)) r → ⊥) }
     ensures computed { result_ok result ≡ retrieve_of endpoint.0 (in_version version (B.bytes bytes.now)) }
+    ensures broken { IfErr result (RetrieveBreaks endpoint.0 (in_version version (B.bytes bytes.now))) }
 {
-    retrieve_in(bytes, version, endpoint).ok_or(Bad)
+    retrieve_in(bytes, version, endpoint)
 }

@@ -1,20 +1,20 @@
 //! Send descriptors.
 
-ghost use Rattle.std.specs.Prelude.{◌≡◌, ◌≤◌, IfOk, OnErr, IsTrue};
+ghost use Rattle.std.specs.Prelude.{◌≡◌, ◌≤◌, true, Some, IfOk, IfErr, OnOk, OnErr};
 ghost use Rattle.std.specs.Option.{option_map};
 ghost use Rattle.std.specs.Result.{result_ok};
 ghost use Rattle.ffa_model.specs.declared.limits.TheConstants.{MOST_RECEIVERS};
 ghost use Rattle.ffa_model.specs.DescriptorPlaces.{Versioned, in_version};
+ghost use Rattle.ffa_model.specs.Flaws.{SendHeaderBreaks, SendBreaks};
 ghost use Rattle.ffa_model.specs.SendDescriptor.{SendRecord, send_record, Send, send_of, most_flags, most_receivers, attributes_of, is_send_header};
 ghost use Rattle.ffa_memdesc.specs.Reading.{header_in};
 
-use crate::Bad;
 use crate::bytes::{Bytes, read_u32};
 use crate::header::{Header, NORMAL_MEMORY, read_header};
 use crate::ranges::{page_total, read_range_count, read_ranges};
 use crate::receivers::read_receivers;
 use arrayvec::ArrayVec;
-use ffa_model::{Kind, MOST_RECEIVERS, SendDesc, Version};
+use ffa_model::{CompositeFlaw, Flaw, Kind, MOST_RECEIVERS, SendDesc, SendFlaw, Version};
 
 /// The greatest flags of a send. Bit 0 asks for zeros, but not in a share.
 fn most_flags(kind: Kind) -> u32
@@ -49,39 +49,50 @@ pub fn attributes_of(kind: Kind, count: u32) -> u16
 
 /// Whether the header is that of a send.
 #[tactic(auto, unfolding(ffa_model::specs::SendDescriptor::is_send_header))]
-fn is_send_header(kind: Kind, header: &Header) -> bool
-    ensures exact { (b : Versioned) → header.now ≡ header_in b → result ≡ is_send_header kind b }
-    ensures few { IsTrue result → header.now.count ≤ MOST_RECEIVERS }
+fn check_header(kind: Kind, header: &Header) -> Result<(), SendFlaw>
+    ensures fits { (b : Versioned) → header.now ≡ header_in b → OnOk result (is_send_header kind b ≡ true) }
+    ensures few { OnOk result (header.now.count ≤ MOST_RECEIVERS) }
+    ensures broken { (b : Versioned) → header.now ≡ header_in b → IfErr result (SendHeaderBreaks kind b) }
 {
-    header.attributes == attributes_of(kind, header.count)
-        && header.flags <= most_flags(kind)
-        && header.handle == 0
-        && header.count >= 1
-        && header.count <= most_receivers(kind)
+    if header.attributes != attributes_of(kind, header.count) {
+        return Err(SendFlaw::Attributes);
+    }
+    if header.flags > most_flags(kind) {
+        return Err(SendFlaw::Flags);
+    }
+    if header.handle != 0 {
+        return Err(SendFlaw::Handle);
+    }
+    if header.count < 1 {
+        return Err(SendFlaw::NoReceiver);
+    }
+    if header.count > most_receivers(kind) {
+        return Err(SendFlaw::ManyReceivers);
+    }
+    Ok(())
 }
 
-fn send_in<B: Bytes>(bytes: &B, version: Version, kind: Kind) -> Result<SendDesc, Bad>
-    ensures { option_map send_record (result_ok result) ≡ send_of kind (in_version version (B.bytes bytes.now)) }
+fn send_in<B: Bytes>(bytes: &B, version: Version, kind: Kind) -> Result<SendDesc, Flaw>
+    ensures found { IfOk result (λ d. Some (send_record d) ≡ send_of kind (in_version version (B.bytes bytes.now))) }
+    ensures broken { IfErr result (SendBreaks kind (in_version version (B.bytes bytes.now))) }
 {
-    let Some(header) = read_header(bytes, version) else {
-        return Err(Bad);
+    let header = match read_header(bytes, version) {
+        Ok(header) => header,
+        Err(flaw) => return Err(Flaw::Header(flaw)),
     };
-    if !is_send_header(kind, &header) {
-        return Err(Bad);
+    if let Err(flaw) = check_header(kind, &header) {
+        return Err(Flaw::Send(flaw));
     }
     let composite = read_u32(bytes, header.array as usize + 4);
-    let Some(receivers) = read_receivers(bytes, kind, &header, composite) else {
-        return Err(Bad);
-    };
-    let Some(count) = read_range_count(bytes, &header, composite) else {
-        return Err(Bad);
+    let receivers = read_receivers(bytes, kind, &header, composite)?;
+    let count = match read_range_count(bytes, &header, composite) {
+        Ok(count) => count,
+        Err(flaw) => return Err(Flaw::Composite(flaw)),
     };
     let mut ranges = ArrayVec::new();
-    let Some(()) = read_ranges(bytes, composite, count, &mut ranges) else {
-        return Err(Bad);
-    };
+    read_ranges(bytes, composite, count, &mut ranges)?;
     if page_total(&ranges) != read_u32(bytes, composite as usize) as u64 {
-        return Err(Bad);
+        return Err(Flaw::Composite(CompositeFlaw::Total));
     }
     Ok(SendDesc {
         sender: header.sender,
@@ -92,12 +103,13 @@ fn send_in<B: Bytes>(bytes: &B, version: Version, kind: Kind) -> Result<SendDesc
     })
 }
 
-/// What the bytes say, wherever they lie, as a send descriptor of this kind, from a caller of this version. `Bad` means
-/// that they are none.
-pub fn read_send<B: Bytes>(bytes: &B, version: Version, kind: Kind) -> Result<SendDesc, Bad>
+/// What the bytes say, wherever they lie, as a send descriptor of this kind, from a caller of this version. An error is a
+/// condition of these that they break.
+pub fn read_send<B: Bytes>(bytes: &B, version: Version, kind: Kind) -> Result<SendDesc, Flaw>
     ensures found { IfOk result (λ d. Send kind (in_version version (B.bytes bytes.now)) (send_record d)) }
     ensures none { OnErr result ((r : SendRecord) → Send kind (in_version version (B.bytes bytes.now)) r → ⊥) }
     ensures computed { option_map send_record (result_ok result) ≡ send_of kind (in_version version (B.bytes bytes.now)) }
+    ensures broken { IfErr result (SendBreaks kind (in_version version (B.bytes bytes.now))) }
 {
     send_in(bytes, version, kind)
 }

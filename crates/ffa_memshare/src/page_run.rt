@@ -1,13 +1,14 @@
 //! Bytes that stand in pages in a row.
-ghost use Rattle.std.specs.Prelude.{◌≡◌, ℕ, ◌+◌, ◌*◌, ◌≤◌, length, IfOk, IfSome};
+ghost use Rattle.std.specs.Prelude.{◌≡◌, ℕ, ◌+◌, ◌*◌, ◌≤◌, length, IfOk, IfErr, IfSome};
 ghost use Rattle.std.specs.Option.{option_map};
 ghost use Rattle.std.specs.Result.{result_ok};
 ghost use Rattle.ffa_model.specs.DescriptorPlaces.{in_version};
 ghost use Rattle.ffa_model.specs.RelinquishDescriptor.{relinquish_of};
 ghost use Rattle.ffa_model.specs.RetrieveDescriptor.{retrieve_of};
+ghost use Rattle.ffa_model.specs.Flaws.{SendBreaks, RetrieveBreaks, RelinquishBreaks};
 ghost use Rattle.ffa_model.specs.SendDescriptor.{Send, send_of, send_record};
 
-use ffa_memdesc::{Bad, Bytes};
+use ffa_memdesc::{Bytes, Flaw};
 use ffa_model::{EndpointId, Kind, PageNo, RelinquishDesc, RetrieveDesc, SendDesc, Version};
 use ffa_physmem::{PAGE_SIZE, PhysMem};
 use std::marker::Model;
@@ -82,14 +83,16 @@ impl<'m, M: PhysMem> Bytes for PageRun<'m, M> {
     }
 }
 
-/// What the bytes say as a send descriptor of this kind, from a caller of this version. In one page they are read as a slice.
+/// What the bytes say as a send descriptor of this kind, from a caller of this version; else a
+/// condition that they break. In one page they are read as a slice.
 pub(crate) fn read_send<M: PhysMem>(
     bytes: &PageRun<M>,
     version: Version,
     kind: Kind,
-) -> Result<SendDesc, Bad>
+) -> Result<SendDesc, Flaw>
     ensures found { IfOk result (λ d. Send kind (in_version version bytes.now) (send_record d)) }
     ensures computed { option_map send_record (result_ok result) ≡ send_of kind (in_version version bytes.now) }
+    ensures broken { IfErr result (SendBreaks kind (in_version version bytes.now)) }
 {
     match bytes.in_one_page() {
         Some(page) => ffa_memdesc::read_send(&page, version, kind),
@@ -97,13 +100,14 @@ pub(crate) fn read_send<M: PhysMem>(
     }
 }
 
-/// What the bytes say as a retrieve descriptor for this endpoint, which has this version.
+/// What the bytes say as a retrieve descriptor for this endpoint, which has this version; else a condition that they break.
 pub(crate) fn read_retrieve<M: PhysMem>(
     bytes: &PageRun<M>,
     version: Version,
     endpoint: EndpointId,
-) -> Result<RetrieveDesc, Bad>
-    ensures { result_ok result ≡ retrieve_of endpoint.0 (in_version version bytes.now) }
+) -> Result<RetrieveDesc, Flaw>
+    ensures computed { result_ok result ≡ retrieve_of endpoint.0 (in_version version bytes.now) }
+    ensures broken { IfErr result (RetrieveBreaks endpoint.0 (in_version version bytes.now)) }
 {
     match bytes.in_one_page() {
         Some(page) => ffa_memdesc::read_retrieve(&page, version, endpoint),
@@ -111,9 +115,10 @@ pub(crate) fn read_retrieve<M: PhysMem>(
     }
 }
 
-/// What the bytes say as a relinquish descriptor of one endpoint.
-pub(crate) fn read_relinquish<M: PhysMem>(bytes: &PageRun<M>) -> Result<RelinquishDesc, Bad>
-    ensures { result_ok result ≡ relinquish_of bytes.now }
+/// What the bytes say as a relinquish descriptor of one endpoint; else a condition that they break.
+pub(crate) fn read_relinquish<M: PhysMem>(bytes: &PageRun<M>) -> Result<RelinquishDesc, Flaw>
+    ensures computed { result_ok result ≡ relinquish_of bytes.now }
+    ensures broken { IfErr result (RelinquishBreaks bytes.now) }
 {
     match bytes.in_one_page() {
         Some(page) => ffa_memdesc::read_relinquish(&page),

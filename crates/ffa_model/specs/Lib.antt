@@ -34,6 +34,8 @@ pub mod DescriptorPlaces
 pub mod SendDescriptor
 pub mod RetrieveDescriptor
 pub mod RelinquishDescriptor
+pub mod Flaws
+pub mod FlawPlaces
 pub mod ResponseBytes
 pub mod Transactions
 pub mod MemorySend

@@ -5,6 +5,7 @@ pub mod call;
 pub mod certificate;
 pub mod descriptor;
 pub mod endpoint;
+pub mod flaw;
 pub mod function;
 pub mod leaf;
 pub mod limits;
@@ -20,6 +21,10 @@ pub use call::{Call, Reply, Transfer};
 pub use certificate::CertRun;
 pub use descriptor::{RelinquishDesc, Response, RetrieveDesc, SendDesc};
 pub use endpoint::{Address, Endpoint, EndpointId, PageNo, Properties, Region, Version, right_in};
+pub use flaw::{
+    AccessFlaw, CompositeFlaw, FieldPlace, Flaw, HeaderFlaw, RangeFlaw, RelinquishFlaw,
+    RetrieveFlaw, SendFlaw,
+};
 pub use leaf::Leaf;
 pub use limits::{
     MOST_BUFFER_PAGES, MOST_ENDPOINTS, MOST_OPEN, MOST_RANGES, MOST_RECEIVERS, MOST_REGIONS,

@@ -6,7 +6,7 @@ ghost use Rattle.ffa_model.specs.SendDescriptor.{page_total};
 use crate::checks::{holds, same, same_at};
 use arrayvec::ArrayVec;
 use byteorder::{ByteOrder, LittleEndian};
-use ffa_memdesc::{Bad, Response, read_relinquish, read_retrieve, read_send, write_response};
+use ffa_memdesc::{Response, read_relinquish, read_retrieve, read_send, write_response};
 use ffa_model::{Data, EndpointId, Kind, Range, Rights, Version};
 use std::alloc::{AllocError, Global};
 use std::process::Abort;
@@ -88,7 +88,7 @@ fn bytes_of(alloc: Global, words: &str, length: usize) -> Result<Vec<u8>, Fail> 
     Ok(bytes)
 }
 
-// What bytes say as a send, or that they are bad.
+// What bytes say as a send, or the condition that they break.
 fn said_of_send(
     alloc: Global,
     bytes: &[u8],
@@ -97,21 +97,21 @@ fn said_of_send(
 ) -> Result<String, AllocError> {
     match read_send(&bytes, version, kind) {
         Ok(desc) => format!(in alloc; "{desc:?}"),
-        Err(Bad) => String::from_str(alloc, "bad"),
+        Err(flaw) => format!(in alloc; "{flaw:?}"),
     }
 }
 
 fn said_of_retrieve(alloc: Global, bytes: &[u8], endpoint: u16) -> Result<String, AllocError> {
     match read_retrieve(&bytes, Version::V1_1, EndpointId(endpoint)) {
         Ok(desc) => format!(in alloc; "{desc:?}"),
-        Err(Bad) => String::from_str(alloc, "bad"),
+        Err(flaw) => format!(in alloc; "{flaw:?}"),
     }
 }
 
 fn said_of_relinquish(alloc: Global, bytes: &[u8]) -> Result<String, AllocError> {
     match read_relinquish(&bytes) {
         Ok(desc) => format!(in alloc; "{desc:?}"),
-        Err(Bad) => String::from_str(alloc, "bad"),
+        Err(flaw) => format!(in alloc; "{flaw:?}"),
     }
 }
 
@@ -152,11 +152,11 @@ fn check(rt: &impl Abort, alloc: Global, rows: &str) -> Result<(), Fail> {
 // to several tells its memory too.
 const SENDS: &str = "\
 lend 60 8001 0 0 100000010 30 0 4000028002 0 100000001 0 40021000 1 => SendDesc { sender: EndpointId(32769), zero: false, tag: 0, receivers: [Receiver { endpoint: EndpointId(32770), grant: Some(Rw) }], ranges: [Range { address: 1073876992, pages: 1 }] }
-lend 5F 8001 0 0 100000010 30 0 4000028002 0 100000001 0 40021000 1 => bad
-share 60 8001 0 0 100000010 30 0 4000028002 0 100000001 0 40021000 1 => bad
-donate 60 8001 0 0 100000010 30 0 4000028002 0 100000001 0 40021000 1 => bad
+lend 5F 8001 0 0 100000010 30 0 4000028002 0 100000001 0 40021000 1 => Composite(RangesOutside)
+share 60 8001 0 0 100000010 30 0 4000028002 0 100000001 0 40021000 1 => Send(Attributes)
+donate 60 8001 0 0 100000010 30 0 4000028002 0 100000001 0 40021000 1 => Access(0, Permissions)
 lend 60 100008001 0 1122334455667788 100000010 30 0 4000028002 0 100000001 0 40021000 1 => SendDesc { sender: EndpointId(32769), zero: true, tag: 1234605616436508552, receivers: [Receiver { endpoint: EndpointId(32770), grant: Some(Rw) }], ranges: [Range { address: 1073876992, pages: 1 }] }
-share 60 100008001 0 1122334455667788 100000010 30 0 4000028002 0 100000001 0 40021000 1 => bad
+share 60 100008001 0 1122334455667788 100000010 30 0 4000028002 0 100000001 0 40021000 1 => Send(Attributes)
 share 70 2F8001 0 0 200000010 30 0 5000010000 0 5000018002 0 100000001 0 40022000 1 => SendDesc { sender: EndpointId(32769), zero: false, tag: 0, receivers: [Receiver { endpoint: EndpointId(0), grant: Some(Ro) }, Receiver { endpoint: EndpointId(32770), grant: Some(Ro) }], ranges: [Range { address: 1073881088, pages: 1 }] }
 lend 70 2F8001 0 0 200000010 30 0 5000010000 0 5000018002 0 100000001 0 40022000 1 => SendDesc { sender: EndpointId(32769), zero: false, tag: 0, receivers: [Receiver { endpoint: EndpointId(0), grant: Some(Ro) }, Receiver { endpoint: EndpointId(32770), grant: Some(Ro) }], ranges: [Range { address: 1073881088, pages: 1 }] }
 donate 60 8002 0 0 100000010 30 0 4000008001 0 100000001 0 40031000 1 => SendDesc { sender: EndpointId(32770), zero: false, tag: 0, receivers: [Receiver { endpoint: EndpointId(32769), grant: None }], ranges: [Range { address: 1073942528, pages: 1 }] }
@@ -164,42 +164,42 @@ donate 60 8002 0 0 100000010 30 0 4000008001 0 100000001 0 40031000 1 => SendDes
 
 // The share with two pages told where one is given, past the last address, and up to 2^48.
 const ENDS: &str = "\
-share 70 2F8001 0 0 200000010 30 0 5000010000 0 5000018002 0 100000002 0 40022000 1 => bad
-share 70 2F8001 0 0 200000010 30 0 5000010000 0 5000018002 0 100000002 0 FFFFFFFFFFFFF000 2 => bad
+share 70 2F8001 0 0 200000010 30 0 5000010000 0 5000018002 0 100000002 0 40022000 1 => Composite(Total)
+share 70 2F8001 0 0 200000010 30 0 5000010000 0 5000018002 0 100000002 0 FFFFFFFFFFFFF000 2 => Range(0, TooHigh)
 share 70 2F8001 0 0 200000010 30 0 5000010000 0 5000018002 0 100000002 0 FFFFFFFFE000 2 => SendDesc { sender: EndpointId(32769), zero: false, tag: 0, receivers: [Receiver { endpoint: EndpointId(0), grant: Some(Ro) }, Receiver { endpoint: EndpointId(32770), grant: Some(Ro) }], ranges: [Range { address: 281474976702464, pages: 2 }] }
 ";
 
 // 8002 retrieves what 8001 lent, with each of some permissions. The last three are reserved.
 const RETRIEVES: &str = "\
 8002 40 8001 800100000001 0 100000010 30 0 28002 0 => RetrieveDesc { sender: EndpointId(32769), handle: 140741783322625, tag: 0, kind: None, level: Some(Rw), exec: false }
-8002 3F 8001 800100000001 0 100000010 30 0 28002 0 => bad
-8001 40 8001 800100000001 0 100000010 30 0 28002 0 => bad
+8002 3F 8001 800100000001 0 100000010 30 0 28002 0 => Header(ArrayOutside)
+8001 40 8001 800100000001 0 100000010 30 0 28002 0 => Retrieve(ReceiverIsAnother)
 8002 40 8001 800100000001 0 100000010 30 0 8002 0 => RetrieveDesc { sender: EndpointId(32769), handle: 140741783322625, tag: 0, kind: None, level: None, exec: false }
 8002 40 8001 800100000001 0 100000010 30 0 88002 0 => RetrieveDesc { sender: EndpointId(32769), handle: 140741783322625, tag: 0, kind: None, level: None, exec: true }
 8002 40 8001 800100000001 0 100000010 30 0 58002 0 => RetrieveDesc { sender: EndpointId(32769), handle: 140741783322625, tag: 0, kind: None, level: Some(Ro), exec: false }
-8002 40 8001 800100000001 0 100000010 30 0 38002 0 => bad
-8002 40 8001 800100000001 0 100000010 30 0 C8002 0 => bad
-8002 40 8001 800100000001 0 100000010 30 0 108002 0 => bad
+8002 40 8001 800100000001 0 100000010 30 0 38002 0 => Retrieve(DataPermission)
+8002 40 8001 800100000001 0 100000010 30 0 C8002 0 => Retrieve(InstructionPermission)
+8002 40 8001 800100000001 0 100000010 30 0 108002 0 => Retrieve(PermissionsReserved)
 ";
 
 const RELINQUISHES: &str = "\
 relinquish 12 800100000001 100000000 8002 => RelinquishDesc { handle: 140741783322625, zero: false, endpoint: EndpointId(32770) }
-relinquish 11 800100000001 100000000 8002 => bad
+relinquish 11 800100000001 100000000 8002 => Relinquish(Short)
 relinquish 12 800100000001 100000001 8002 => RelinquishDesc { handle: 140741783322625, zero: true, endpoint: EndpointId(32770) }
-relinquish 12 800100000001 100000002 8002 => bad
+relinquish 12 800100000001 100000002 8002 => Relinquish(Flags)
 ";
 
 // A compact 8001 lends the page at 40021000 to 8002, which may write it. Bytes 3 and 24 to 27 are reserved, and no form
 // is the other.
 const COMPACT: &str = "\
 compact 50 8001 0 0 100000000 3000028002 0 100000001 0 40021000 1 => SendDesc { sender: EndpointId(32769), zero: false, tag: 0, receivers: [Receiver { endpoint: EndpointId(32770), grant: Some(Rw) }], ranges: [Range { address: 1073876992, pages: 1 }] }
-lend 50 8001 0 0 100000000 3000028002 0 100000001 0 40021000 1 => bad
-compact 60 8001 0 0 100000010 30 0 4000028002 0 100000001 0 40021000 1 => bad
-compact 50 1008001 0 0 100000000 3000028002 0 100000001 0 40021000 1 => bad
-compact 50 8001 0 0 100000001 3000028002 0 100000001 0 40021000 1 => bad
-compact 50 8001 0 0 100000100 3000028002 0 100000001 0 40021000 1 => bad
-compact 50 8001 0 0 100010000 3000028002 0 100000001 0 40021000 1 => bad
-compact 50 8001 0 0 101000000 3000028002 0 100000001 0 40021000 1 => bad
+lend 50 8001 0 0 100000000 3000028002 0 100000001 0 40021000 1 => Header(AccessSize)
+compact 60 8001 0 0 100000010 30 0 4000028002 0 100000001 0 40021000 1 => Header(AccessSize)
+compact 50 1008001 0 0 100000000 3000028002 0 100000001 0 40021000 1 => Send(Attributes)
+compact 50 8001 0 0 100000001 3000028002 0 100000001 0 40021000 1 => Header(AccessSize)
+compact 50 8001 0 0 100000100 3000028002 0 100000001 0 40021000 1 => Header(AccessSize)
+compact 50 8001 0 0 100010000 3000028002 0 100000001 0 40021000 1 => Header(AccessSize)
+compact 50 8001 0 0 101000000 3000028002 0 100000001 0 40021000 1 => Header(AccessSize)
 ";
 
 #[test]

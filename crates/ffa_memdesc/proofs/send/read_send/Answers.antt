@@ -1,15 +1,23 @@
 use Rattle.ffa_model.specs.DescriptorPlaces.{in_version}
+use Rattle.ffa_model.specs.Flaws.{SendBreaks}
 use Rattle.ffa_model.specs.SendDescriptor.{send_record, Send, send_of}
-use Rattle.ffa_memdesc.proofs.SendLaw.{send_told, send_again}
-use Rattle.ffa_memdesc.proofs.Answered.{found_in, none_in}
+use Rattle.ffa_memdesc.proofs.SendLaw.{send_told}
+use Rattle.ffa_memdesc.proofs.FlawLaw.{send_breaks}
+use Rattle.ffa_memdesc.proofs.Answered.{found, none, all}
 use Rattle.ffa_memdesc.proofs.send.read_send.Goals as goal
 
 pub returns-clause-found : goal.returns-clause-found
 returns-clause-found g c =
-    found_in send_record (Send c.args.kind (in_version c.args.version (g.B.Bytes.bytes c.args.bytes.now))) (send_of c.args.kind (in_version c.args.version (g.B.Bytes.bytes c.args.bytes.now))) _
-    (send_told c.args.kind (in_version c.args.version (g.B.Bytes.bytes c.args.bytes.now))) c.send_in.ensures
+    let b = in_version c.args.version (g.B.Bytes.bytes c.args.bytes.now) in
+    found send_record (Send c.args.kind b) (SendBreaks c.args.kind b) (send_of c.args.kind b) _ (send_told c.args.kind b) c.send_in.ensures.found
 
 pub returns-clause-none : goal.returns-clause-none
 returns-clause-none g c =
-    none_in send_record (Send c.args.kind (in_version c.args.version (g.B.Bytes.bytes c.args.bytes.now))) (send_of c.args.kind (in_version c.args.version (g.B.Bytes.bytes c.args.bytes.now))) _
-    (send_again c.args.kind (in_version c.args.version (g.B.Bytes.bytes c.args.bytes.now))) c.send_in.ensures
+    let b = in_version c.args.version (g.B.Bytes.bytes c.args.bytes.now) in
+    none send_record (Send c.args.kind b) (SendBreaks c.args.kind b) (send_of c.args.kind b) _ (send_breaks c.args.kind b) c.send_in.ensures.broken
+
+pub returns-clause-computed : goal.returns-clause-computed
+returns-clause-computed g c =
+    let b = in_version c.args.version (g.B.Bytes.bytes c.args.bytes.now) in
+    all send_record (Send c.args.kind b) (SendBreaks c.args.kind b) (send_of c.args.kind b) _ (send_told c.args.kind b) (send_breaks c.args.kind b)
+    c.send_in.ensures.found c.send_in.ensures.broken

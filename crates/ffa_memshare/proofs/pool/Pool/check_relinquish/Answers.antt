@@ -20,7 +20,7 @@ returns-clause-found g c =
       transaction = view_of it;
       described =
           ap (λ (own : Option Buffers). relinquish_of (tx_in ram own)) (sym c.in-Some.ensures)
-          ∙ ap relinquish_of (sym (c.new-bytes.ensures.bytes ∙ whole)) ∙ sym c.in-Ok.ensures;
+          ∙ ap relinquish_of (sym (c.new-bytes.ensures.bytes ∙ whole)) ∙ sym c.in-Ok.ensures.computed;
       slot = asked-slot slots c.in-Some-find.slot asked.handle it c.in-Some-find.ensures.found c.at-open.ensures.value;
       zero = refl;
     }

@@ -35,7 +35,7 @@ returns-clause-refusal g c =
     let read = retrieve_of e (descriptor_in (g.M.PhysMem.ram c.args.ram.now) c.args.buffers.now e c.args.call.now) in
     let asked = c.in-Ok.asked in
     let it = c.at-open.result.now in
-    let is : read ≡ Some asked = sym (ap (λ b. retrieve_of e (in_version c.args.call.now.version b)) c.in_ok-bytes.ensures.bytes) ∙ sym c.in-Ok.ensures in
+    let is : read ≡ Some asked = sym (ap (λ b. retrieve_of e (in_version c.args.call.now.version b)) c.in_ok-bytes.ensures.bytes) ∙ sym c.in-Ok.ensures.computed in
     let get : finite.get (map_in slots) asked.handle ≡ Some (view_of it) = asked-open slots c.in-Some.slot asked.handle it c.in-Some.ensures.found c.at-open.ensures.value c.at-open.ensures.open in
     retrieve-asked scene e c.args.call.now.transfer read (Some asked) c.in_ok-bytes.ensures.refusal is
     (c.in_ok-right.ensures.refusal
@@ -51,7 +51,7 @@ returns-clause-found g c =
     record {
       asked = asked;
       transaction = view_of it;
-      described = sym (ap (λ b. retrieve_of e (in_version c.args.call.now.version b)) c.in_ok-bytes.ensures.bytes) ∙ sym c.in-Ok.ensures;
+      described = sym (ap (λ b. retrieve_of e (in_version c.args.call.now.version b)) c.in_ok-bytes.ensures.bytes) ∙ sym c.in-Ok.ensures.computed;
       slot = asked-slot slots c.in-Some.slot asked.handle it c.in-Some.ensures.found c.at-open.ensures.value;
       right = c.in_ok-right.ensures.right;
     }

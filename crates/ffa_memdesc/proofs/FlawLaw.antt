@@ -1,0 +1,110 @@
+-- A condition that is broken: no record fits.
+use Rattle.std.proofs.Common.{◌≡◌, ℕ, Bool, true, false, List, inl, inr, arith}
+use Rattle.ffa_model.specs.declared.flaw.Flaw.{Flaw}
+use Rattle.ffa_model.specs.declared.flaw.Flaw.TheVariants.{Header, Send as FlawOfSend, Access, Composite, Range as FlawOfRange, Retrieve as FlawOfRetrieve, Relinquish as FlawOfRelinquish}
+use Rattle.ffa_model.specs.declared.flaw.HeaderFlaw.{HeaderFlaw}
+use Rattle.ffa_model.specs.declared.flaw.HeaderFlaw.TheVariants.{Short, AccessSize, ArrayUnaligned, ArrayInHeader, ArrayOutside, Reserved as HeaderReserved}
+use Rattle.ffa_model.specs.declared.flaw.SendFlaw.{SendFlaw}
+use Rattle.ffa_model.specs.declared.flaw.SendFlaw.TheVariants.{Attributes, Flags, Handle, NoReceiver, ManyReceivers}
+use Rattle.ffa_model.specs.declared.flaw.AccessFlaw.{AccessFlaw}
+use Rattle.ffa_model.specs.declared.flaw.AccessFlaw.TheVariants.{Permissions, Flags as AccessFlags, OtherComposite, Reserved as AccessReserved, ReceiverIsSender, ReceiverTwice}
+use Rattle.ffa_model.specs.declared.flaw.CompositeFlaw.{CompositeFlaw}
+use Rattle.ffa_model.specs.declared.flaw.CompositeFlaw.TheVariants.{Outside, Unaligned, InArray, NoRange, ManyRanges, Reserved as CompositeReserved, RangesOutside, Total}
+use Rattle.ffa_model.specs.declared.flaw.RangeFlaw.{RangeFlaw}
+use Rattle.ffa_model.specs.declared.flaw.RangeFlaw.TheVariants.{Empty, Unaligned as RangeUnaligned, TooHigh, Reserved as RangeReserved, Overlap}
+use Rattle.ffa_model.specs.declared.flaw.RetrieveFlaw.{RetrieveFlaw}
+use Rattle.ffa_model.specs.declared.flaw.RetrieveFlaw.TheVariants.{Attributes as AskedAttributes, Flags as AskedFlags, AccessCount, ReceiverIsAnother, DataPermission, InstructionPermission, PermissionsReserved, AccessFlags as AskedAccessFlags, CompositeTold, AccessReserved as AskedAccessReserved}
+use Rattle.ffa_model.specs.declared.flaw.RelinquishFlaw.TheVariants.{Short as RelinquishShort, Flags as RelinquishFlags, EndpointCount}
+use Rattle.ffa_model.specs.declared.descriptor.RetrieveDesc.{RetrieveDesc}
+use Rattle.ffa_model.specs.declared.descriptor.RelinquishDesc.{RelinquishDesc}
+use Rattle.ffa_model.specs.declared.rights.Kind.{Kind}
+use Rattle.ffa_model.specs.DescriptorPlaces.{Versioned, IsHeader, flags_field, kind_code}
+use Rattle.ffa_model.specs.SendDescriptor.{Send, SendRecord}
+use Rattle.ffa_model.specs.RetrieveDescriptor.{Retrieve}
+use Rattle.ffa_model.specs.RelinquishDescriptor.{Relinquish}
+use Rattle.ffa_model.specs.Flaws.{HeaderBreaks, SendHeaderBreaks, CompositeBreaks, SendBreaks, AskedBreaks, RetrieveBreaks, RelinquishBreaks}
+use Rattle.ffa_memdesc.proofs.RetrieveLaw.{flags_again, kind_code_few, not_reserved, data_code_few}
+
+unlike : (x : Bool) → x ≡ false → x ≡ true → ⊥
+unlike x e f = absurd cc
+
+header_breaks : (b : Versioned) (flaw : HeaderFlaw) → HeaderBreaks b flaw → IsHeader b → ⊥
+header_breaks b Short broken h = let whole = h.whole in omega arith
+header_breaks b AccessSize broken h = broken h.told
+header_breaks b ArrayUnaligned broken h = broken h.aligned
+header_breaks b ArrayInHeader broken h = let behind = h.behind in omega arith
+header_breaks b ArrayOutside broken h = let inside = h.inside in omega arith
+header_breaks b HeaderReserved broken h = unlike _ broken h.reserved
+
+send_header_breaks : (kind : Kind) (b : Versioned) (flaw : SendFlaw) (r : SendRecord) → SendHeaderBreaks kind b flaw → Send kind b r → ⊥
+send_header_breaks kind b Attributes r broken h = broken h.attributes
+send_header_breaks kind b Flags r broken h = let flags = h.flags in omega arith
+send_header_breaks kind b Handle r broken h = broken h.handle
+send_header_breaks kind b NoReceiver r broken h = let least = h.least in omega arith
+send_header_breaks kind b ManyReceivers r broken h = let most = h.most in omega arith
+
+access_breaks : (kind : Kind) (b : Versioned) (i : ℕ) (flaw : AccessFlaw) (r : SendRecord) → SendBreaks kind b (Access i flaw) → Send kind b r → ⊥
+access_breaks kind b i Permissions r (lt, broken) h = broken (h.accesses i lt).permissions
+access_breaks kind b i AccessFlags r (lt, broken) h = broken (h.accesses i lt).flags
+access_breaks kind b i OtherComposite r (lt, broken) h = broken (h.accesses i lt).composite
+access_breaks kind b i AccessReserved r (lt, broken) h = broken (h.accesses i lt).reserved
+access_breaks kind b i ReceiverIsSender r (lt, broken) h = (h.accesses i lt).other broken
+access_breaks kind b i ReceiverTwice r (lt, (j, before, same)) h = h.distinct i j before lt same
+
+composite_breaks : (kind : Kind) (b : Versioned) (flaw : CompositeFlaw) (r : SendRecord) → CompositeBreaks b flaw → Send kind b r → ⊥
+composite_breaks kind b Outside r broken h = let inside = h.composite.inside in omega arith
+composite_breaks kind b Unaligned r broken h = broken h.composite.aligned
+composite_breaks kind b InArray r broken h = let behind = h.composite.behind in omega arith
+composite_breaks kind b NoRange r broken h = let least = h.composite.least in omega arith
+composite_breaks kind b ManyRanges r broken h = let most = h.composite.most in omega arith
+composite_breaks kind b CompositeReserved r broken h = broken h.composite.reserved
+composite_breaks kind b RangesOutside r broken h = let inside = h.composite.inside in omega arith
+composite_breaks kind b Total r broken h = broken h.total
+
+range_breaks : (kind : Kind) (b : Versioned) (i : ℕ) (flaw : RangeFlaw) (r : SendRecord) → SendBreaks kind b (FlawOfRange i flaw) → Send kind b r → ⊥
+range_breaks kind b i Empty r (lt, broken) h = let least = (h.each i lt).least in omega arith
+range_breaks kind b i RangeUnaligned r (lt, broken) h = broken (h.each i lt).aligned
+range_breaks kind b i TooHigh r (lt, broken) h = let below = (h.each i lt).below in omega arith
+range_breaks kind b i RangeReserved r (lt, broken) h = broken (h.each i lt).reserved
+range_breaks kind b i Overlap r (lt, (j, before, overlap)) h = overlap (h.apart i j before lt)
+
+pub send_breaks : (kind : Kind) (b : Versioned) (flaw : Flaw) (r : SendRecord) → SendBreaks kind b flaw → Send kind b r → ⊥
+send_breaks kind b (Header flaw) r broken h = header_breaks b flaw broken h.header
+send_breaks kind b (FlawOfSend flaw) r broken h = send_header_breaks kind b flaw r broken h
+send_breaks kind b (Access i flaw) r broken h = access_breaks kind b i flaw r broken h
+send_breaks kind b (Composite flaw) r broken h = composite_breaks kind b flaw r broken h
+send_breaks kind b (FlawOfRange i flaw) r broken h = range_breaks kind b i flaw r broken h
+send_breaks kind b (FlawOfRetrieve flaw) r broken h = broken
+send_breaks kind b (FlawOfRelinquish flaw) r broken h = broken
+
+asked_breaks : (e : ℕ) (b : Versioned) (flaw : RetrieveFlaw) (r : RetrieveDesc) → AskedBreaks e b flaw → Retrieve e b r → ⊥
+asked_breaks e b AskedAttributes r (none, normal) h = elim h.attributes [ inl a ↦ none a | inr a ↦ normal a ]
+asked_breaks e b AskedFlags r broken h = broken (flags_again (flags_field b) (kind_code r.kind) (kind_code_few r.kind) h.kind)
+asked_breaks e b AccessCount r broken h = broken h.one
+asked_breaks e b ReceiverIsAnother r broken h = broken h.caller
+asked_breaks e b DataPermission r broken h = not_reserved _ _ (data_code_few r.level) h.level broken
+asked_breaks e b InstructionPermission r broken h = h.known_exec broken
+asked_breaks e b PermissionsReserved r broken h = broken h.no_more
+asked_breaks e b AskedAccessFlags r broken h = broken h.access_flags
+asked_breaks e b CompositeTold r broken h = broken h.composite
+asked_breaks e b AskedAccessReserved r broken h = broken h.access_reserved
+
+pub retrieve_breaks : (e : ℕ) (b : Versioned) (flaw : Flaw) (r : RetrieveDesc) → RetrieveBreaks e b flaw → Retrieve e b r → ⊥
+retrieve_breaks e b (Header flaw) r broken h = header_breaks b flaw broken h.header
+retrieve_breaks e b (FlawOfSend flaw) r broken h = broken
+retrieve_breaks e b (Access i flaw) r broken h = broken
+retrieve_breaks e b (Composite flaw) r broken h = broken
+retrieve_breaks e b (FlawOfRange i flaw) r broken h = broken
+retrieve_breaks e b (FlawOfRetrieve flaw) r broken h = asked_breaks e b flaw r broken h
+retrieve_breaks e b (FlawOfRelinquish flaw) r broken h = broken
+
+pub relinquish_breaks : (b : List ℕ) (flaw : Flaw) (r : RelinquishDesc) → RelinquishBreaks b flaw → Relinquish b r → ⊥
+relinquish_breaks b (Header flaw) r broken h = broken
+relinquish_breaks b (FlawOfSend flaw) r broken h = broken
+relinquish_breaks b (Access i flaw) r broken h = broken
+relinquish_breaks b (Composite flaw) r broken h = broken
+relinquish_breaks b (FlawOfRange i flaw) r broken h = broken
+relinquish_breaks b (FlawOfRetrieve flaw) r broken h = broken
+relinquish_breaks b (FlawOfRelinquish RelinquishShort) r broken h = let whole = h.whole in omega arith
+relinquish_breaks b (FlawOfRelinquish RelinquishFlags) r broken h = let flags = h.flags in omega arith
+relinquish_breaks b (FlawOfRelinquish EndpointCount) r broken h = broken h.one

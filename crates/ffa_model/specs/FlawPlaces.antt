@@ -1,0 +1,103 @@
+-- Where the field stands of which a condition speaks: its first byte, and how many bytes it has.
+use Rattle.std.specs.Prelude.{ℕ, ◌+◌}
+use Rattle.ffa_model.specs.declared.endpoint.Version.{Version}
+use Rattle.ffa_model.specs.declared.endpoint.Version.TheVariants.{Compact, V1_1}
+use Rattle.ffa_model.specs.declared.flaw.FieldPlace.{FieldPlace}
+use Rattle.ffa_model.specs.declared.flaw.Flaw.{Flaw}
+use Rattle.ffa_model.specs.declared.flaw.Flaw.TheVariants.{Header, Send, Access, Composite, Range, Retrieve, Relinquish}
+use Rattle.ffa_model.specs.declared.flaw.HeaderFlaw.{HeaderFlaw}
+use Rattle.ffa_model.specs.declared.flaw.HeaderFlaw.TheVariants.{Short, AccessSize, ArrayUnaligned, ArrayInHeader, ArrayOutside, Reserved as HeaderReserved}
+use Rattle.ffa_model.specs.declared.flaw.SendFlaw.{SendFlaw}
+use Rattle.ffa_model.specs.declared.flaw.SendFlaw.TheVariants.{Attributes, Flags, Handle, NoReceiver, ManyReceivers}
+use Rattle.ffa_model.specs.declared.flaw.AccessFlaw.{AccessFlaw}
+use Rattle.ffa_model.specs.declared.flaw.AccessFlaw.TheVariants.{Permissions, Flags as AccessFlags, OtherComposite, Reserved as AccessReserved, ReceiverIsSender, ReceiverTwice}
+use Rattle.ffa_model.specs.declared.flaw.CompositeFlaw.{CompositeFlaw}
+use Rattle.ffa_model.specs.declared.flaw.CompositeFlaw.TheVariants.{Outside, Unaligned, InArray, NoRange, ManyRanges, Reserved as CompositeReserved, RangesOutside, Total}
+use Rattle.ffa_model.specs.declared.flaw.RangeFlaw.{RangeFlaw}
+use Rattle.ffa_model.specs.declared.flaw.RangeFlaw.TheVariants.{Empty, Unaligned as RangeUnaligned, TooHigh, Reserved as RangeReserved, Overlap}
+use Rattle.ffa_model.specs.declared.flaw.RetrieveFlaw.{RetrieveFlaw}
+use Rattle.ffa_model.specs.declared.flaw.RetrieveFlaw.TheVariants.{Attributes as AskedAttributes, Flags as AskedFlags, AccessCount, ReceiverIsAnother, DataPermission, InstructionPermission, PermissionsReserved, AccessFlags as AskedAccessFlags, CompositeTold, AccessReserved as AskedAccessReserved}
+use Rattle.ffa_model.specs.declared.flaw.RelinquishFlaw.{RelinquishFlaw}
+use Rattle.ffa_model.specs.declared.flaw.RelinquishFlaw.TheVariants.{Short as RelinquishShort, Flags as RelinquishFlags, EndpointCount}
+use Rattle.ffa_model.specs.DescriptorPlaces.{Versioned, header_size, array_place, access_place, composite_place, range_place}
+
+abbrev pub field : ℕ → ℕ → FieldPlace
+field first size = record { first = first; size = size }
+
+-- how many access descriptors there are, and in version 1.1, in the next bytes, where they begin
+abbrev pub array_field : Version → FieldPlace
+array_field Compact = field 28 4
+array_field V1_1 = field 28 8
+
+-- a header that is short is a field of its own, of all its bytes
+abbrev pub header_flaw_place : Version → HeaderFlaw → FieldPlace
+header_flaw_place version Short = field 0 (header_size version)
+header_flaw_place version AccessSize = field 24 4
+header_flaw_place version ArrayUnaligned = field 32 4
+header_flaw_place version ArrayInHeader = field 32 4
+header_flaw_place version ArrayOutside = array_field version
+header_flaw_place version HeaderReserved = field 36 12
+
+abbrev pub send_flaw_place : SendFlaw → FieldPlace
+send_flaw_place Attributes = field 2 2
+send_flaw_place Flags = field 4 4
+send_flaw_place Handle = field 8 8
+send_flaw_place NoReceiver = field 28 4
+send_flaw_place ManyReceivers = field 28 4
+
+-- by the access descriptor's place
+abbrev pub access_flaw_place : ℕ → AccessFlaw → FieldPlace
+access_flaw_place at Permissions = field (at + 2) 1
+access_flaw_place at AccessFlags = field (at + 3) 1
+access_flaw_place at OtherComposite = field (at + 4) 4
+access_flaw_place at AccessReserved = field (at + 8) 8
+access_flaw_place at ReceiverIsSender = field at 2
+access_flaw_place at ReceiverTwice = field at 2
+
+-- by the place of the array, whose first access descriptor tells that of the composite, and by the composite's
+abbrev pub composite_flaw_place : ℕ → ℕ → CompositeFlaw → FieldPlace
+composite_flaw_place array composite Outside = field (array + 4) 4
+composite_flaw_place array composite Unaligned = field (array + 4) 4
+composite_flaw_place array composite InArray = field (array + 4) 4
+composite_flaw_place array composite NoRange = field (composite + 4) 4
+composite_flaw_place array composite ManyRanges = field (composite + 4) 4
+composite_flaw_place array composite CompositeReserved = field (composite + 8) 8
+composite_flaw_place array composite RangesOutside = field (composite + 4) 4
+composite_flaw_place array composite Total = field composite 4
+
+-- by the range's place: an address of eight bytes, and a count of pages of four
+abbrev pub range_flaw_place : ℕ → RangeFlaw → FieldPlace
+range_flaw_place at Empty = field (at + 8) 4
+range_flaw_place at RangeUnaligned = field at 8
+range_flaw_place at TooHigh = field at 12
+range_flaw_place at RangeReserved = field (at + 12) 4
+range_flaw_place at Overlap = field at 12
+
+-- by the place of the one access descriptor
+abbrev pub retrieve_flaw_place : ℕ → RetrieveFlaw → FieldPlace
+retrieve_flaw_place array AskedAttributes = field 2 2
+retrieve_flaw_place array AskedFlags = field 4 4
+retrieve_flaw_place array AccessCount = field 28 4
+retrieve_flaw_place array ReceiverIsAnother = field array 2
+retrieve_flaw_place array DataPermission = field (array + 2) 1
+retrieve_flaw_place array InstructionPermission = field (array + 2) 1
+retrieve_flaw_place array PermissionsReserved = field (array + 2) 1
+retrieve_flaw_place array AskedAccessFlags = field (array + 3) 1
+retrieve_flaw_place array CompositeTold = field (array + 4) 4
+retrieve_flaw_place array AskedAccessReserved = field (array + 8) 8
+
+-- a relinquish that is short is a field of its own, of all its bytes
+abbrev pub relinquish_flaw_place : RelinquishFlaw → FieldPlace
+relinquish_flaw_place RelinquishShort = field 0 18
+relinquish_flaw_place RelinquishFlags = field 8 4
+relinquish_flaw_place EndpointCount = field 12 4
+
+-- the field of which the broken condition speaks
+abbrev pub flaw_place : Versioned → Flaw → FieldPlace
+flaw_place b (Header flaw) = header_flaw_place b.version flaw
+flaw_place b (Send flaw) = send_flaw_place flaw
+flaw_place b (Access i flaw) = access_flaw_place (access_place b i) flaw
+flaw_place b (Composite flaw) = composite_flaw_place (array_place b) (composite_place b) flaw
+flaw_place b (Range i flaw) = range_flaw_place (range_place b i) flaw
+flaw_place b (Retrieve flaw) = retrieve_flaw_place (array_place b) flaw
+flaw_place b (Relinquish flaw) = relinquish_flaw_place flaw
