@@ -25,3 +25,4 @@ pub mod Sets
 pub mod FirstChain
 pub mod ResponseSize
 pub mod Runs
+pub mod Reasons

@@ -43,6 +43,7 @@ pub mod MemoryRetrieve
 pub mod MemoryReturn
 pub mod SoundState
 pub mod Step
+pub mod Why
 pub mod TraceLines
 pub mod TraceText
 pub mod Links

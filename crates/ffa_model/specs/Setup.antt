@@ -7,7 +7,7 @@ use Rattle.ffa_model.specs.declared.endpoint.Version as versions
 use Rattle.ffa_model.specs.declared.endpoint.Version.TheVariants.{Compact, V1_1}
 use Rattle.ffa_model.specs.declared.operation.ErrorCode.TheVariants.{NotSupported}
 use Rattle.ffa_model.specs.declared.refusal.Refusal.{Refusal}
-use Rattle.ffa_model.specs.declared.refusal.Refusal.TheVariants.{UuidUnknown, BuffersMissing, RxFull}
+use Rattle.ffa_model.specs.declared.refusal.Refusal.TheVariants.{FunctionUnknown, UuidUnknown, BuffersMissing, RxFull}
 use Rattle.ffa_model.specs.declared.call.Reply.{Reply}
 use Rattle.ffa_model.specs.declared.call.Reply.TheVariants.{Version, Error}
 use Rattle.ffa_model.specs.Bits.{bits, is_set}
@@ -16,13 +16,19 @@ use Rattle.ffa_model.specs.Manifest.{is_nil}
 use Rattle.ffa_model.specs.Registers.{is_function}
 use Rattle.ffa_model.specs.State.{State, Party, buffers_of, version_of}
 use Rattle.ffa_model.specs.Buffers.{filled, is_full}
-use Rattle.ffa_model.specs.Calls.{Service, success}
+use Rattle.ffa_model.specs.Calls.{Service, replying, success}
 
 abbrev pub version_reply : ℕ → Reply
 version_reply version = if not (is_set 31 version) && bits 30 16 version == 1 then Version 0x10001 else Version 0xFFFFFFFF
 
 abbrev pub features_reply : ℕ → Reply
 features_reply function = if is_function function then success 0 0 else Error NotSupported
+
+abbrev pub features_guards : ℕ → List (Bool × Refusal)
+features_guards function = (is_function function, FunctionUnknown) ∷ []
+
+abbrev pub features : State → ℕ → Service
+features s function = record (replying s (features_reply function)) { guards = features_guards function }
 
 abbrev pub id_reply : State → Reply
 id_reply s = success s.runner 0

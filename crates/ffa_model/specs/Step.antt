@@ -1,18 +1,19 @@
 -- The small machine.
-use Rattle.std.specs.Prelude.{List, [], ◌∷◌}
+use Rattle.std.specs.Prelude.{false, List, [], ◌∷◌}
 use Rattle.ffa_model.specs.declared.operation.Op.{Op}
 use Rattle.ffa_model.specs.declared.operation.Op.TheVariants.{Call, Load, Store, Fetch}
 use Rattle.ffa_model.specs.declared.operation.ErrorCode.TheVariants.{NotSupported}
 use Rattle.ffa_model.specs.declared.operation.Outcome.{Outcome}
 use Rattle.ffa_model.specs.declared.rights.Kind.TheVariants.{Share, Lend, Donate}
 use Rattle.ffa_model.specs.declared.call.Reply.TheVariants.{Error}
+use Rattle.ffa_model.specs.declared.refusal.Refusal.TheVariants.{FunctionUnknown}
 use Rattle.ffa_model.specs.declared.call.Call as calls
 use Rattle.ffa_model.specs.declared.call.Call.TheVariants.{Version, Features, RxRelease, RxtxMap, RxtxUnmap, PartitionInfoGet, IdGet, MsgWait, Yield, Run, DirectRequest, DirectResponse, MemDonate, MemLend, MemShare, MemRetrieve, MemRelinquish, MemReclaim, BitmapCreate, BitmapDestroy, NotificationBind, NotificationUnbind, NotificationSet, NotificationGet, SpmIdGet, MsgSend2, Unknown}
 use Rattle.ffa_model.specs.State.{State}
 use Rattle.ffa_model.specs.Registers.{decode}
 use Rattle.ffa_model.specs.Calls.{Service, Stepped, replying, served}
 use Rattle.ffa_model.specs.Memory.{load, store, fetch}
-use Rattle.ffa_model.specs.Setup.{version_reply, features_reply, id_reply, spm_id_reply, info_get}
+use Rattle.ffa_model.specs.Setup.{version_reply, features, id_reply, spm_id_reply, info_get}
 use Rattle.ffa_model.specs.Buffers.{rxtx_map, rxtx_unmap, rx_release}
 use Rattle.ffa_model.specs.RunStates.{direct_request, direct_response, run_partition, msg_wait, yield_now}
 use Rattle.ffa_model.specs.Messages.{msg_send2}
@@ -22,12 +23,12 @@ use Rattle.ffa_model.specs.MemoryReturn.{memory_relinquish, memory_reclaim}
 use Rattle.ffa_model.specs.Notifications.{bitmap_create, bitmap_destroy, notification_bind, notification_unbind, notification_set, notification_get}
 
 abbrev pub not_supported : State → Service
-not_supported s = replying s (Error NotSupported)
+not_supported s = record (replying s (Error NotSupported)) { guards = (false, FunctionUnknown) ∷ [] }
 
 -- each call of the runner; what is no call, or isn't served, is not supported
 abbrev pub service : State → calls.Call → Service
 service s (Version version) = replying s (version_reply version)
-service s (Features function) = replying s (features_reply function)
+service s (Features function) = features s function
 service s RxRelease = rx_release s
 service s (RxtxMap tx rx pages) = rxtx_map s tx rx pages
 service s (RxtxUnmap endpoint) = rxtx_unmap s endpoint

@@ -16,6 +16,7 @@ pub mod refusal;
 pub mod rights;
 pub mod schedule;
 pub mod transaction;
+pub mod why;
 
 pub use call::{Call, Reply, Transfer};
 pub use certificate::CertRun;
@@ -37,3 +38,4 @@ pub use refusal::Refusal;
 pub use rights::{Data, Kind, Rights};
 pub use schedule::{Status, Work};
 pub use transaction::{Range, Receiver};
+pub use why::{Grant, Obstacle, Why};

@@ -5,4 +5,4 @@ mod partitions;
 mod replies;
 
 pub use partitions::{MOST_INFO_BYTES, count, info_bytes, is_recognized, told_info_size};
-pub use replies::{features, id, spm_id, version};
+pub use replies::{check_features, features, id, spm_id, version};

@@ -1,10 +1,11 @@
 //! Calls whose reply is all that they do.
 ghost use Rattle.std.specs.Prelude.{◌≡◌};
-ghost use Rattle.ffa_model.specs.Calls.{success};
-ghost use Rattle.ffa_model.specs.Setup.{version_reply, features_reply, spm_id_reply};
+ghost use Rattle.std.specs.Result.{result_err};
+ghost use Rattle.ffa_model.specs.Calls.{first_refusal, success};
+ghost use Rattle.ffa_model.specs.Setup.{version_reply, features_guards, features_reply, spm_id_reply};
 
 use ffa_abi::is_function;
-use ffa_model::{EndpointId, ErrorCode, Reply};
+use ffa_model::{EndpointId, Refusal, Reply};
 
 /// The version that is implemented: the major number in bits 30:16 and the minor one below.
 const VERSION: u32 = 0x0001_0001;
@@ -29,11 +30,24 @@ pub fn version(version: u32) -> Reply
 pub fn features(function: u32) -> Reply
     ensures { result ≡ features_reply function }
 {
-    if is_function(function) {
-        Reply::Success([0; 6])
-    } else {
-        Reply::Error(ErrorCode::NotSupported)
+    match check_features(function) {
+        Ok(()) => Reply::Success([0; 6]),
+        Err(refusal) => Reply::Error(refusal.code()),
     }
+}
+
+/// The check of FFA_FEATURES: whether the call that is asked for is served.
+///
+/// # Errors
+///
+/// `FunctionUnknown` where it isn't.
+pub fn check_features(function: u32) -> Result<(), Refusal>
+    ensures { result_err result ≡ first_refusal (features_guards function) }
+{
+    if !is_function(function) {
+        return Err(Refusal::FunctionUnknown);
+    }
+    Ok(())
 }
 
 /// FFA_ID_GET (DEN0077A, 13): the caller's own identifier.

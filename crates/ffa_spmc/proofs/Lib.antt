@@ -33,3 +33,4 @@ pub mod Forgotten
 pub mod Unowned
 pub mod Sizes
 pub mod Chains
+pub mod Reasons

@@ -25,6 +25,7 @@ ghost use Rattle.ffa_spmc.specs.Unowned.{KeepsUnowned};
 
 mod accesses;
 mod certificates;
+mod reasons;
 
 use crate::manager::Manager;
 use ffa_model::{EndpointId, Manifest, Op, Outcome, PageNo, Rights};

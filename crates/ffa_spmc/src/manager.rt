@@ -23,6 +23,7 @@ mod forgetting;
 mod memory;
 mod messages;
 mod notifications;
+mod reasons;
 
 use crate::kept::Kept;
 use ffa_model::{

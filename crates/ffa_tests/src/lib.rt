@@ -35,6 +35,8 @@ mod physmem;
 #[cfg(test)]
 mod player;
 #[cfg(test)]
+mod reasons;
+#[cfg(test)]
 mod rows;
 #[cfg(test)]
 mod rxtx;

@@ -1,0 +1,138 @@
+-- Why an operation is refused: for a reason just where it is refused, and what comes of it is the reason's.
+use Rattle.std.proofs.Common.{◌≡◌, ◌∙◌, ℕ, Bool, true, false, cond, List, [], ◌∷◌, Option, Some, None, is_some, refl, sym, ap}
+use Rattle.std.specs.Prelude.{IfSome, not}
+use Rattle.std.specs.Option.{option_map}
+use Rattle.std.proofs.lemmas.Bool.{not-true}
+use Rattle.std.proofs.lemmas.Option.{none-some}
+use Rattle.ffa_model.specs.declared.call.Call as calls
+use Rattle.ffa_model.specs.declared.call.Call.TheVariants.{Version, Features, RxRelease, RxtxMap, RxtxUnmap, PartitionInfoGet, IdGet, MsgWait, Yield, Run, DirectRequest, DirectResponse, MemDonate, MemLend, MemShare, MemRetrieve, MemRelinquish, MemReclaim, BitmapCreate, BitmapDestroy, NotificationBind, NotificationUnbind, NotificationSet, NotificationGet, SpmIdGet, MsgSend2, Unknown}
+use Rattle.ffa_model.specs.declared.call.Reply.{Reply}
+use Rattle.ffa_model.specs.declared.call.Reply.TheVariants as replies
+use Rattle.ffa_model.specs.declared.call.Reply.TheVariants.{Error}
+use Rattle.ffa_model.specs.declared.function.TheConstants.{FFA_ERROR}
+use Rattle.ffa_model.specs.declared.operation.ErrorCode.{ErrorCode}
+use Rattle.ffa_model.specs.declared.operation.ErrorCode.TheVariants.{NotSupported}
+use Rattle.ffa_model.specs.declared.operation.FaultKind.{FaultKind}
+use Rattle.ffa_model.specs.declared.operation.Op.{Op}
+use Rattle.ffa_model.specs.declared.operation.Op.TheVariants.{Call, Load, Store, Fetch}
+use Rattle.ffa_model.specs.declared.operation.Outcome.{Outcome}
+use Rattle.ffa_model.specs.declared.operation.Outcome.TheVariants.{Data, Done}
+use Rattle.ffa_model.specs.declared.refusal.Refusal.{Refusal}
+use Rattle.ffa_model.specs.declared.refusal.Refusal.TheVariants.{FunctionUnknown}
+use Rattle.ffa_model.specs.declared.schedule.Status.{Status}
+use Rattle.ffa_model.specs.declared.schedule.Status.TheVariants.{Waiting, Running, Blocked, Yielded}
+use Rattle.ffa_model.specs.declared.rights.Rights.{Rights}
+use Rattle.ffa_model.specs.declared.why.Grant.{Grant}
+use Rattle.ffa_model.specs.declared.why.Why.{Why}
+use Rattle.ffa_model.specs.declared.why.Why.TheVariants.{Refused, Fault}
+use Rattle.ffa_model.specs.Access.{access, handle_at, transaction_at}
+use Rattle.ffa_model.specs.Bits.{bits, high_half, is_set}
+use Rattle.ffa_model.specs.Calls.{Service, answered, first_failure, first_refusal, served, success}
+use Rattle.ffa_model.specs.Memory.{accessed, fetch_fault, number_at, read_fault, size_of, store_fault, stored}
+use Rattle.ffa_model.specs.RefusalCodes.{code_of}
+use Rattle.ffa_model.specs.Refusals.{is_error, is_refusal, passes_no_error}
+use Rattle.ffa_model.specs.Registers.{decode, is_function}
+use Rattle.ffa_model.specs.RunStates.{run_reply, schedule_of, status_in}
+use Rattle.ffa_model.specs.State.{State}
+use Rattle.ffa_model.specs.Step.{service, step}
+use Rattle.ffa_model.specs.Why.{grant_by, granted, outcome_of, why, why_fault}
+use Rattle.ffa_model.proofs.Guards.{failure-code}
+use Rattle.ffa_model.proofs.Named.{decode-named}
+use Rattle.byteorder.specs.Endian.{little_bytes}
+
+-- what a call replies that no guard refuses isn't seen as FFA_ERROR
+run-no-error : (word : ℕ) (status : Status) → is_error (run_reply word status) ≡ false
+run-no-error word Waiting = refl
+run-no-error word Yielded = refl
+run-no-error word Running = refl
+run-no-error word Blocked = refl
+
+version-no-error : (known : Bool) → is_error (cond known (replies.Version 0x10001) (replies.Version 0xFFFFFFFF)) ≡ false
+version-no-error true = refl
+version-no-error false = refl
+
+feature-no-error : (served : Bool) → first_failure ((served, FunctionUnknown) ∷ []) ≡ None → is_error (cond served (success 0 0) (Error NotSupported)) ≡ false
+feature-no-error true none = refl
+feature-no-error false none = absurd (none-some NotSupported (sym none))
+
+done-no-error : (s : State) (call : calls.Call) → passes_no_error call ≡ true → first_failure (service s call).guards ≡ None → is_error (service s call).reply ≡ false
+done-no-error s (Version version) named none = version-no-error _
+done-no-error s (Features function) named none = feature-no-error (is_function function) none
+done-no-error s RxRelease named none = refl
+done-no-error s (RxtxMap tx rx pages) named none = refl
+done-no-error s (RxtxUnmap endpoint) named none = refl
+done-no-error s (PartitionInfoGet uuid flags) named none = refl
+done-no-error s IdGet named none = refl
+done-no-error s SpmIdGet named none = refl
+done-no-error s MsgWait named none = refl
+done-no-error s Yield named none = refl
+done-no-error s (Run word) named none = run-no-error word (status_in (schedule_of s) (high_half word))
+done-no-error s (DirectRequest function word flags payload) named none = not-true _ named
+done-no-error s (DirectResponse function word flags payload) named none = not-true _ named
+done-no-error s (MemDonate x) named none = refl
+done-no-error s (MemLend x) named none = refl
+done-no-error s (MemShare x) named none = refl
+done-no-error s (MemRetrieve x) named none = refl
+done-no-error s MemRelinquish named none = refl
+done-no-error s (MemReclaim low high flags) named none = refl
+done-no-error s (BitmapCreate endpoint contexts) named none = refl
+done-no-error s (BitmapDestroy endpoint) named none = refl
+done-no-error s (NotificationBind word flags low high) named none = refl
+done-no-error s (NotificationUnbind word flags low high) named none = refl
+done-no-error s (NotificationSet word flags low high) named none = refl
+done-no-error s (NotificationGet word flags) named none = refl
+done-no-error s MsgSend2 named none = refl
+done-no-error s Unknown named none = absurd (none-some NotSupported (sym none))
+
+-- of a call, by its guards
+module _ (s : State) (c : Service) where
+  abbrev reason : Option Refusal → Option Why
+  reason o = option_map (λ (refusal : Refusal). Refused refusal) o
+
+  by-name : (served s c).outcome ≡ (answered (option_map code_of (first_refusal c.guards)) s c.state c.reply).outcome
+  by-name = ap (λ (o : Option ErrorCode). (answered o s c.state c.reply).outcome) (failure-code c.guards)
+
+  refused-call : (first_failure c.guards ≡ None → is_error c.reply ≡ false) → is_some (reason (first_refusal c.guards)) ≡ is_refusal (served s c).outcome
+  refused-call plain = of (first_refusal c.guards) refl ∙ sym (ap is_refusal by-name)
+    where
+      of : (o : Option Refusal) → first_refusal c.guards ≡ o → is_some (reason o) ≡ is_refusal (answered (option_map code_of o) s c.state c.reply).outcome
+      of None is = sym (plain (failure-code c.guards ∙ ap (λ (q : Option Refusal). option_map code_of q) is))
+      of (Some refusal) is = refl
+
+  outcome-call : IfSome (reason (first_refusal c.guards)) (λ w. (served s c).outcome ≡ outcome_of s w)
+  outcome-call = of (first_refusal c.guards) refl
+    where
+      of : (o : Option Refusal) → first_refusal c.guards ≡ o → IfSome (reason o) (λ w. (served s c).outcome ≡ outcome_of s w)
+      of None is = tt
+      of (Some refusal) is = by-name ∙ ap (λ (q : Option Refusal). (answered (option_map code_of q) s c.state c.reply).outcome) is
+
+-- of an access, by its fault
+module _ (s new : State) (outcome : Outcome) (address : ℕ) where
+  refused-access : is_refusal outcome ≡ false → (fault : Option FaultKind) → is_some (why_fault s address fault) ≡ is_refusal (accessed fault s new outcome).outcome
+  refused-access plain None = sym plain
+  refused-access plain (Some fault) = refl
+
+  outcome-access : (fault : Option FaultKind) → IfSome (why_fault s address fault) (λ w. (accessed fault s new outcome).outcome ≡ outcome_of s w)
+  outcome-access None = tt
+  outcome-access (Some fault) = refl
+
+-- there is a reason just where the operation is refused
+pub why-refused : (s : State) (op : Op) → is_some (why s op) ≡ is_refusal (step s op).outcome
+why-refused s (Call x) = refused-call s (service s (decode x)) (done-no-error s (decode x) (decode-named x))
+why-refused s (Load address size) = refused-access s s (Data (number_at s address (size_of size))) address refl (read_fault s address (size_of size))
+why-refused s (Store address size value) =
+    refused-access s (stored s address (little_bytes (size_of size) value)) Done address refl (store_fault s address (size_of size))
+why-refused s (Fetch address) = refused-access s s (Data (number_at s address 4)) address refl (fetch_fault s address)
+
+-- and it says what comes of the operation
+pub why-outcome : (s : State) (op : Op) → IfSome (why s op) (λ w. (step s op).outcome ≡ outcome_of s w)
+why-outcome s (Call x) = outcome-call s (service s (decode x))
+why-outcome s (Load address size) = outcome-access s s (Data (number_at s address (size_of size))) address (read_fault s address (size_of size))
+why-outcome s (Store address size value) =
+    outcome-access s (stored s address (little_bytes (size_of size) value)) Done address (store_fault s address (size_of size))
+why-outcome s (Fetch address) = outcome-access s s (Data (number_at s address 4)) address (fetch_fault s address)
+
+-- an endpoint has access to a page by something just where it has access
+pub granted-access : (s : State) (e p : ℕ) → is_some (granted s e p) ≡ is_some (access s e p)
+granted-access s e p =
+    elim (is_some (access s e p)) as (λ b. is_some (cond b (Some (grant_by e (handle_at s p) (transaction_at s p))) None) ≡ b) [ true ↦ refl | false ↦ refl ]

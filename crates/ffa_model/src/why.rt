@@ -1,0 +1,41 @@
+//! Why an operation is refused, and by what an endpoint has its access to a page.
+
+use crate::endpoint::EndpointId;
+use crate::operation::FaultKind;
+use crate::refusal::Refusal;
+
+/// Why an operation is refused.
+#[derive(Clone, Copy, Debug, PartialEq, Eq)]
+pub enum Why {
+    /// The first check of the call that fails.
+    Refused(Refusal),
+    /// The fault of an access, and for a translation fault below 2^32 what stands in the way.
+    Fault {
+        kind: FaultKind,
+        obstacle: Option<Obstacle>,
+    },
+}
+
+/// What stands in the way of the runner at an address below 2^32 that its tables do not map.
+#[derive(Clone, Copy, Debug, PartialEq, Eq)]
+pub enum Obstacle {
+    /// The address is not one of RAM.
+    OutsideRam,
+    /// The page is the manager's.
+    ManagersPage,
+    /// The page is another endpoint's, which this one is.
+    OwnedBy(EndpointId),
+    /// The page stands in the open transaction with this handle.
+    InTransaction(u64),
+}
+
+/// By what an endpoint has its access to a page.
+#[derive(Clone, Copy, Debug, PartialEq, Eq)]
+pub enum Grant {
+    /// The page is its own, and no open transaction names it.
+    Own,
+    /// The page is its own, and it shares it by the open transaction with this handle.
+    Shared(u64),
+    /// It holds the open transaction with this handle, which names the page.
+    Held(u64),
+}

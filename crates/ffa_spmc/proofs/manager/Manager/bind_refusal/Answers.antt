@@ -1,0 +1,20 @@
+use Rattle.std.proofs.Common.{◌∙◌, ap, sym}
+use Rattle.ffa_model.specs.State.{State, version_of}
+use Rattle.ffa_spmc.specs.Managed.{Managed}
+use Rattle.ffa_spmc.specs.Meaning.{state_of}
+use Rattle.ffa_spmc.proofs.Inside.{parts_of}
+use Rattle.ffa_model.specs.Notifications.{notification_bind}
+use Rattle.ffa_spmc.proofs.Reasons.{seen-refusal, bind-checked}
+use Rattle.ffa_spmc.proofs.Notified.{runner-notified}
+use Rattle.ffa_spmc.proofs.manager.Manager.bind_refusal.Goals as goal
+
+pub returns : goal.returns
+returns g c =
+    let x = parts_of g.M.PhysMem.ram c.self.inside in
+    seen-refusal x c.args.self.now c.self.view_is (λ (s : State). notification_bind s c.args.word c.args.flags c.args.low c.args.high) c.err.result
+    (c.err.ensures.value ∙ c.check_bind.ensures.refusal ∙ bind-checked x c.self.invariant c.runner-runner.result.0 c.runner-runner.ensures.runner c.args.word c.args.flags c.args.low c.args.high c.word_of_halves-bitmap.result c.word_of_halves-bitmap.ensures)
+
+pub check_bind-requires : goal.check_bind-requires
+check_bind-requires g c =
+    let x = parts_of g.M.PhysMem.ram c.self.inside in
+    runner-notified x c.self.invariant c.runner-runner.result.0 c.runner-runner.ensures.runner

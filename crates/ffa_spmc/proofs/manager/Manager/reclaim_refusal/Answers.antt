@@ -1,0 +1,21 @@
+use Rattle.std.proofs.Common.{◌∙◌, ap, sym}
+use Rattle.ffa_model.specs.State.{State, version_of}
+use Rattle.ffa_spmc.specs.Managed.{Managed}
+use Rattle.ffa_spmc.specs.Meaning.{state_of}
+use Rattle.ffa_spmc.proofs.Inside.{parts_of}
+use Rattle.ffa_model.specs.MemoryReturn.{memory_reclaim}
+use Rattle.ffa_spmc.proofs.Reasons.{seen-refusal, reclaim-checked}
+use Rattle.ffa_memshare.proofs.Asks.{shared-placed}
+use Rattle.ffa_spmc.proofs.Pools.{pool-shared}
+use Rattle.ffa_spmc.proofs.manager.Manager.reclaim_refusal.Goals as goal
+
+pub returns : goal.returns
+returns g c =
+    let x = parts_of g.M.PhysMem.ram c.self.inside in
+    seen-refusal x c.args.self.now c.self.view_is (λ (s : State). memory_reclaim s c.args.low c.args.high c.args.flags) c.err.result
+    (c.err.ensures.value ∙ c.check_reclaim-found.ensures.refusal ∙ reclaim-checked x c.self.invariant c.runner-runner.result.0 c.runner-runner.ensures.runner c.args.low c.args.high c.args.flags c.word_of_halves-handle.result c.word_of_halves-handle.ensures)
+
+pub check_reclaim-found-requires : goal.check_reclaim-found-requires
+check_reclaim-found-requires g c =
+    let x = parts_of g.M.PhysMem.ram c.self.inside in
+    shared-placed (pool-shared x c.self.invariant)

@@ -1,0 +1,19 @@
+use Rattle.std.proofs.Common.{◌∙◌, ap, sym}
+use Rattle.ffa_model.specs.State.{State, version_of}
+use Rattle.ffa_spmc.specs.Managed.{Managed}
+use Rattle.ffa_spmc.specs.Meaning.{state_of}
+use Rattle.ffa_spmc.proofs.Inside.{parts_of}
+use Rattle.ffa_model.specs.RunStates.{direct_request}
+use Rattle.ffa_spmc.proofs.Reasons.{seen-refusal}
+use Rattle.std.specs.Prelude.{List}
+use Rattle.ffa_model.specs.Calls.{first_refusal}
+use Rattle.ffa_model.specs.RunStates.{request_guards}
+use Rattle.ffa_model.specs.State.{Party}
+use Rattle.ffa_spmc.proofs.Held.{parties-listed}
+use Rattle.ffa_spmc.proofs.manager.Manager.request_refusal.Goals as goal
+
+pub returns : goal.returns
+returns g c =
+    let x = parts_of g.M.PhysMem.ram c.self.inside in
+    seen-refusal x c.args.self.now c.self.view_is (λ (s : State). direct_request s c.args.function c.args.word c.args.flags c.args.payload) c.err.result
+    (c.err.ensures.value ∙ c.check_direct_req.ensures.refusal ∙ ap (λ (parties : List Party). first_refusal (request_guards parties x.kept.chain c.args.word c.args.flags)) (parties-listed x))

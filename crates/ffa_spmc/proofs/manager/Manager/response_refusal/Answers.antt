@@ -1,0 +1,14 @@
+use Rattle.std.proofs.Common.{◌∙◌, ap, sym}
+use Rattle.ffa_model.specs.State.{State, version_of}
+use Rattle.ffa_spmc.specs.Managed.{Managed}
+use Rattle.ffa_spmc.specs.Meaning.{state_of}
+use Rattle.ffa_spmc.proofs.Inside.{parts_of}
+use Rattle.ffa_model.specs.RunStates.{direct_response}
+use Rattle.ffa_spmc.proofs.Reasons.{seen-refusal}
+use Rattle.ffa_spmc.proofs.manager.Manager.response_refusal.Goals as goal
+
+pub returns : goal.returns
+returns g c =
+    let x = parts_of g.M.PhysMem.ram c.self.inside in
+    seen-refusal x c.args.self.now c.self.view_is (λ (s : State). direct_response s c.args.function c.args.word c.args.flags c.args.payload) c.err.result
+    (c.err.ensures.value ∙ c.check_direct_resp.ensures.refusal)

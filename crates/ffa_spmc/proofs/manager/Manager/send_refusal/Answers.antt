@@ -1,0 +1,20 @@
+use Rattle.std.proofs.Common.{◌∙◌, ap, sym}
+use Rattle.ffa_model.specs.State.{State, version_of}
+use Rattle.ffa_spmc.specs.Managed.{Managed}
+use Rattle.ffa_spmc.specs.Meaning.{state_of}
+use Rattle.ffa_spmc.proofs.Inside.{parts_of}
+use Rattle.ffa_model.specs.Messages.{msg_send2}
+use Rattle.ffa_spmc.proofs.Reasons.{seen-refusal, send-checked}
+use Rattle.ffa_spmc.proofs.Sends.{buffers-in-ram}
+use Rattle.ffa_spmc.proofs.manager.Manager.send_refusal.Goals as goal
+
+pub returns : goal.returns
+returns g c =
+    let x = parts_of g.M.PhysMem.ram c.self.inside in
+    seen-refusal x c.args.self.now c.self.view_is (λ (s : State). msg_send2 s) c.err.result
+    (c.err.ensures.value ∙ c.check_send2.ensures.refusal ∙ send-checked x c.self.invariant c.runner-runner.result.0 c.runner-runner.ensures.runner)
+
+pub check_send2-requires : goal.check_send2-requires
+check_send2-requires g c =
+    let x = parts_of g.M.PhysMem.ram c.self.inside in
+    buffers-in-ram x c.self.invariant

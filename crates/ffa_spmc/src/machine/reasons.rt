@@ -1,0 +1,72 @@
+//! Why an operation of the runner would be refused now, and by what an endpoint has its access to a page.
+ghost use Rattle.std.specs.Prelude.{◌≡◌, IfSome, is_some};
+ghost use Rattle.ffa_model.specs.Access.{access};
+ghost use Rattle.ffa_model.specs.Refusals.{is_refusal};
+ghost use Rattle.ffa_model.specs.Step.{step};
+ghost use Rattle.ffa_model.specs.Why.{granted, outcome_of, why, why_fault};
+
+use super::Machine;
+use ffa_model::{EndpointId, FaultKind, Grant, Op, PageNo, Why};
+use ffa_physmem::PhysMem;
+use ffa_tlb::Translations;
+
+impl<M: PhysMem + Drop, T: Translations + Drop> Machine<M, T> {
+    /// Why an operation of the runner is refused: of a call the first check that fails, and of an access its fault, with what
+    /// stands in the way. `op` does the operation where this answers nothing. It changes nothing, takes no memory, and walks
+    /// the tables: the cache isn't asked.
+    pub fn why(&self, op: &Op) -> Option<Why>
+        ensures why { result ≡ why self.now.state op.now }
+        // There is a reason just where the operation is refused, and it says what the runner sees: FFA_ERROR with the code of
+        // the check, or the fault.
+        ensures refused { is_some result ≡ is_refusal (step self.now.state op.now).outcome }
+        ensures outcome { IfSome result (λ reason. (step self.now.state op.now).outcome ≡ outcome_of self.now.state reason) }
+    {
+        self.reason(op)
+    }
+
+    /// By what an endpoint has its access to a page: its own page, or the open transaction by which it has it. Nothing outside
+    /// the RAM, or for an endpoint that isn't there.
+    pub fn granted(&self, endpoint: EndpointId, page: PageNo) -> Option<Grant>
+        ensures granted { result ≡ granted self.now.state endpoint.0 page.0 }
+        ensures access { is_some result ≡ is_some (access self.now.state endpoint.0 page.0) }
+    {
+        self.manager.granted(endpoint, page)
+    }
+
+    // The reason itself.
+    fn reason(&self, op: &Op) -> Option<Why>
+        ensures { result ≡ why self.now.state op.now }
+    {
+        match *op {
+            Op::Call(x) => self.why_call(x),
+            Op::Load { addr, size } => self.why_fault(addr, self.manager.load_fault(addr, size)),
+            Op::Store {
+                addr,
+                size,
+                value: _,
+            } => self.why_fault(addr, self.manager.store_fault(addr, size)),
+            Op::Fetch { addr } => self.why_fault(addr, self.manager.fetch_fault(addr)),
+        }
+    }
+
+    // Of a call, in its registers.
+    fn why_call(&self, x: [u64; 8]) -> Option<Why>
+        ensures { result ≡ why self.now.state (Op.Call x) }
+    {
+        match self.manager.refusal(ffa_abi::decode(x)) {
+            Some(refusal) => Some(Why::Refused(refusal)),
+            None => None,
+        }
+    }
+
+    // A fault of an access to an address, with what stands in the way.
+    fn why_fault(&self, addr: u64, fault: Option<FaultKind>) -> Option<Why>
+        ensures { result ≡ why_fault self.now.state addr fault }
+    {
+        let kind = fault?;
+        Some(Why::Fault {
+            kind,
+            obstacle: self.manager.obstacle(addr, kind),
+        })
+    }
+}

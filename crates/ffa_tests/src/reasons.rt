@@ -1,0 +1,111 @@
+//! Why operations are refused, and by what endpoints have their access, on the row machine.
+use crate::checks::same_at;
+use crate::machines::{booted, play};
+use ffa_model::{EndpointId, Op, PageNo, Size, row_machine};
+use ffa_trace::Player;
+use std::test::Fail;
+
+// 8001 runs, and has shared its page 28 with 8002.
+const SHARED: &[u8] = b"\
+call 8400006D 80010000
+call 84000066 4002E000 4002F000 1
+store 4002E000 00000000002F8001
+store 4002E018 0000000100000010
+store 4002E020 0000000000000030
+store 4002E030 0000004000018002
+store 4002E040 0000000100000001
+store 4002E050 0000000040028000
+store 4002E058 0000000000000001
+call 84000073 60 60
+";
+
+// Then 8002 runs, and has retrieved the share.
+const RETRIEVED: &[u8] = b"\
+call 8400006B
+call 8400006D 80020000
+call 84000066 40036000 40037000 1
+store 40036000 0000000000008001
+store 40036008 0000800100000001
+store 40036018 0000000100000010
+store 40036020 0000000000000030
+store 40036030 0000000000008002
+call 84000074 40 40
+";
+
+// Identifiers of calls with no argument, and why 8001 is refused them.
+const CALLS: &str = "\
+84000063 None
+84000065 Some(Refused(RxEmpty))
+84000066 Some(Refused(BuffersMapped))
+84000067 None
+84000064 Some(Refused(FunctionUnknown))
+84000083 Some(Refused(FunctionUnknown))
+8400006D Some(Refused(NotNormalWorld))
+8400006F Some(Refused(SenderIsAnother))
+84000072 Some(Refused(DescriptorMalformed))
+84000077 Some(Refused(NotTheSenders))";
+
+// Addresses, and why 8002 is refused a load of 2 bytes, before it has retrieved the share.
+const LOADS: &str = "\
+40030000 None
+40030001 Some(Fault { kind: Alignment, obstacle: None })
+3FFFF000 Some(Fault { kind: Translation, obstacle: Some(OutsideRam) })
+40200000 Some(Fault { kind: Translation, obstacle: Some(OutsideRam) })
+40000000 Some(Fault { kind: Translation, obstacle: Some(ManagersPage) })
+40020000 Some(Fault { kind: Translation, obstacle: Some(OwnedBy(EndpointId(32769))) })
+40028000 Some(Fault { kind: Translation, obstacle: Some(InTransaction(140741783322625)) })
+100000000 Some(Fault { kind: Translation, obstacle: None })";
+
+// Endpoints, and by what they have access to page 28, once 8002 has retrieved it.
+const GRANTS: &str = "\
+0 None
+8001 Some(Shared(140741783322625))
+8002 Some(Held(140741783322625))";
+
+#[test]
+fn checks_that_refuse(rt: HostRuntime) -> Result<(), Fail> {
+    let mut player = Player::new(booted(rt.alloc(), &row_machine())?);
+    play(rt.alloc(), &mut player, SHARED, &mut Vec::new(rt.alloc()))?;
+    for row in CALLS.lines() {
+        let (function, wanted) = row.split_once(' ').ok_or("no reason")?;
+        let mut registers = [0; 8];
+        registers[0] = u64::from_str_radix(function, 16)?;
+        let reason = player.machine().why(&Op::Call(registers));
+        let printed = format!(in rt.alloc(); "{reason:?}")?;
+        same_at(&rt, printed.as_str(), wanted, &row);
+    }
+    Ok(())
+}
+
+#[test]
+fn obstacles_of_loads(rt: HostRuntime) -> Result<(), Fail> {
+    let mut player = Player::new(booted(rt.alloc(), &row_machine())?);
+    let mut out = Vec::new(rt.alloc());
+    play(rt.alloc(), &mut player, SHARED, &mut out)?;
+    play(rt.alloc(), &mut player, b"call 8400006B\ncall 8400006D 80020000\n", &mut out)?;
+    for row in LOADS.lines() {
+        let (address, wanted) = row.split_once(' ').ok_or("no reason")?;
+        let addr = u64::from_str_radix(address, 16)?;
+        let size = Size::B2;
+        let reason = player.machine().why(&Op::Load { addr, size });
+        let printed = format!(in rt.alloc(); "{reason:?}")?;
+        same_at(&rt, printed.as_str(), wanted, &row);
+    }
+    Ok(())
+}
+
+#[test]
+fn by_what_a_share_is_accessed(rt: HostRuntime) -> Result<(), Fail> {
+    let mut player = Player::new(booted(rt.alloc(), &row_machine())?);
+    let mut out = Vec::new(rt.alloc());
+    play(rt.alloc(), &mut player, SHARED, &mut out)?;
+    play(rt.alloc(), &mut player, RETRIEVED, &mut out)?;
+    for row in GRANTS.lines() {
+        let (endpoint, wanted) = row.split_once(' ').ok_or("no grant")?;
+        let endpoint = EndpointId(u16::from_str_radix(endpoint, 16)?);
+        let grant = player.machine().granted(endpoint, PageNo(0x28));
+        let printed = format!(in rt.alloc(); "{grant:?}")?;
+        same_at(&rt, printed.as_str(), wanted, &row);
+    }
+    Ok(())
+}
