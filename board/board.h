@@ -14,13 +14,13 @@ struct board {
     bool answered;    /* a call was answered, and nobody has told yet what it sees */
     uint64_t calls;   /* how many were made by programs */
     const char *scene;
-    bool random; /* the scene's operations are made up */
+    bool generated; /* operations are made up before those of the scene */
 };
 
 /* Makes the machine of a manifest's text in the board's own RAM. */
 void boot(struct board *board, const char *manifest);
 
-/* Stores each endpoint's program into its page, as operations of that endpoint. */
+/* Stores each endpoint's program into its page, and its generator where operations are made up, as operations of that endpoint. */
 void place_programs(struct board *board);
 
 /* The next operation of the endpoint that runs. It doesn't come back where there is none. */

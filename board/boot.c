@@ -1,4 +1,5 @@
 #include "board.h"
+#include "calls.h"
 #include "layout.h"
 #include "lending.h"
 #include "operation.h"
@@ -55,24 +56,24 @@ static void call(struct board *board, uint64_t function, uint64_t argument) {
     put_registers(told.runner, told.x);
 }
 
-/* The program's instructions by two, but for what is zero in RAM already, and the endpoint's identifier where the program has room for it. */
-static void place_program(struct board *board, struct endpoint *endpoint) {
-    uint64_t address = endpoint->program;
-    for (const uint32_t *at = program_begin; at < program_end; at += 2, address += 8) {
+/* Instructions by two, but for what is zero in RAM already, and the endpoint's identifier where the program has room for it. */
+static void place(struct board *board, struct endpoint *endpoint, uint64_t address, const uint32_t *begin, const uint32_t *end) {
+    for (const uint32_t *at = begin; at < end; at += 2, address += 8) {
         uint64_t word = at == program_identity ? endpoint->identifier : at[0] | (uint64_t)at[1] << 32;
         if (word != 0) store(board, address, word);
     }
 }
 
 void place_programs(struct board *board) {
-    for (uint32_t place = 0; place < board->count; place++) {
-        struct endpoint *endpoint = &board->endpoints[place];
-        endpoint->identifier = identifier_of(place);
-        endpoint->root = RAM_BASE + (uint64_t)FFA_PAGE_BYTES * place * (2 + board->pages / PAGES_OF_BLOCK);
+    for (uint32_t i = 0; i < board->count; i++) {
+        struct endpoint *endpoint = &board->endpoints[i];
+        endpoint->identifier = identifier_of(i);
+        endpoint->root = RAM_BASE + (uint64_t)FFA_PAGE_BYTES * i * (2 + board->pages / PAGES_OF_BLOCK);
         endpoint->program = page_of_program(board, endpoint->identifier);
-        if (place != 0) call(board, 0x8400006D, (uint64_t)endpoint->identifier << 16);
-        place_program(board, endpoint);
-        if (place != 0) call(board, 0x8400006B, 0);
+        if (i != 0) call(board, FFA_RUN, (uint64_t)endpoint->identifier << 16);
+        place(board, endpoint, endpoint->program, program_begin, program_end);
+        if (board->generated) place(board, endpoint, endpoint->program - GENERATOR_CODE, generator_begin, generator_end);
+        if (i != 0) call(board, FFA_MSG_WAIT, 0);
         begin_context(&endpoint->context, endpoint->program);
     }
     if (WRONG_ROOT) board->endpoints[1].root = board->endpoints[2 % board->count].root;

@@ -34,10 +34,4 @@ void fetch_returned(struct board *board);
 /* An exception while a single step is on its way. */
 void serve_step(struct board *board, uint64_t syndrome);
 
-/* Words that the syndrome of their exception tells whole. */
-#define WORD_SVC(immediate) (0xD4000001 | (uint32_t)(immediate) << 5)
-#define WORD_HVC(immediate) (0xD4000002 | (uint32_t)(immediate) << 5)
-#define WORD_SMC(immediate) (0xD4000003 | (uint32_t)(immediate) << 5)
-#define WORD_BRK(immediate) (0xD4200000 | (uint32_t)(immediate) << 5)
-
 #endif

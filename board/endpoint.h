@@ -49,8 +49,9 @@ struct endpoint {
     uint32_t word; /* it */
 };
 
-/* The program of endpoints, as instructions, and places in it: see program.S. */
+/* The program of endpoints, as instructions, and places in it: see program.S. The generator's code: see generator/. */
 extern const uint32_t program_begin[], program_dispatch[], program_next[], program_identity[], program_end[];
+extern const uint32_t generator_begin[], generator_end[];
 
 /* The identifier of the endpoint at a place of the manifest, and the other way. */
 static inline uint16_t identifier_of(uint32_t place) { return place == 0 ? 0 : (uint16_t)(0x8000 + place); }

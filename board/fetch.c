@@ -4,12 +4,11 @@
 #include "layout.h"
 #include "processor.h"
 #include "text.h"
+#include "words.h"
 
 SYSTEM_REGISTER(mdcr_el2)
 SYSTEM_REGISTER(mdscr_el1)
 SYSTEM_REGISTER(oslar_el1)
-
-#define WORD_RET UINT32_C(0xD65F03C0)
 
 /* MDCR_EL2 while a step is on its way: debug exceptions, and accesses to the registers of debug and of performance monitors, go to EL2. */
 #define MDCR (UINT64_C(0xF) << 8 | UINT64_C(1) << 6)

@@ -19,6 +19,8 @@
 #define HVC_SEEN 2      /* x0 to x7 are what the program saw when it ran again */
 #define HVC_TOLD 3      /* the access was done, and x0 is what was loaded */
 #define HVC_EXCEPTION 4 /* an exception was taken at EL1: x9 ESR_EL1, x10 FAR_EL1, x11 ELR_EL1 */
+#define HVC_MADE 5      /* the generator made up an operation: x0 to x7 of a call, x8 its kind, x9 address, x10 size, x11 value */
+#define HVC_ASK 6       /* a question of the generator: x0 is one of those below */
 #define FIRST_FETCHED 256
 
 /* Places in the program's table. A load or a store of 2^n bytes is at its place plus n. */
@@ -27,9 +29,30 @@
 #define DO_FETCH 8
 #define DO_SMC 9
 #define DO_HVC 10
+#define DO_GENERATE 11
 
 /* Where the program's table of vectors begins, in its page. */
 #define PROGRAM_VECTORS 0x800
+
+/* Questions of a generator, which x0 is: of the machine and of itself; of the page x2 that the endpoint at place x1 had at first; of the
+ * notice x1, which x2 to x7 are then; and another in its stead. x0 answers with the seed, and with the page or 0. */
+#define ASK_MACHINE 0 /* x1 its place, x2 how many endpoints, x3 RAM's first byte, x4 RAM's pages, x5 the page of its program */
+#define ASK_PAGE 1
+#define ASK_NOTICE 2
+#define TELL_NOTICE 3
+#define MOST_NOTICES 48
+#define NOTICE_WORDS 6
+
+/* Where an endpoint that has a generator has it: its code, and its variables with its stack above them, so many bytes before the program. */
+#define GENERATOR_CODE 0x5000
+#define GENERATOR_VARIABLES 0x3000
+
+/* Places of a struct generator, and of a struct operation. */
+#define GENERATOR_ANSWERED 64
+#define OPERATION_ADDRESS 8
+#define OPERATION_SIZE 16
+#define OPERATION_VALUE 24
+#define OPERATION_X 32
 
 /* Places of a struct context. */
 #define CONTEXT_PC 248

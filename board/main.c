@@ -1,6 +1,6 @@
 #include "board.h"
 #include "layout.h"
-#include "random.h"
+#include "generators.h"
 #include "tables.h"
 #include "text.h"
 
@@ -10,14 +10,12 @@ _Noreturn void firmware_broken(uint64_t syndrome, uint64_t link, uint64_t addres
 static struct board board;
 
 /* A scene may begin with a line `random SEED COUNT`, hexadecimal: its lines follow behind so many operations that are made up. */
-static void begin_scene(struct board *of) {
-    uint64_t seed, count;
+static void begin_scene(struct board *of, uint64_t *seed, uint64_t *count) {
     unsigned digits;
     of->scene = (const char *)SCENE_TEXT;
-    if (!take_word(&of->scene, "random")) return;
-    if (!take_hex(&of->scene, &seed, &digits) || !take_hex(&of->scene, &count, &digits)) stop("no seed and count");
-    begin_random(of, seed, count);
-    of->random = true;
+    of->generated = take_word(&of->scene, "random");
+    if (!of->generated) return;
+    if (!take_hex(&of->scene, seed, &digits) || !take_hex(&of->scene, count, &digits)) stop("no seed and count");
 }
 
 /* The next line of the scene that an endpoint has to do. `show` is the firmware's. */
@@ -25,8 +23,7 @@ struct operation next_operation(struct board *of) {
     struct operation operation = {0};
     while (operation.kind == NOTHING || operation.kind == SHOW) {
         if (*of->scene == '\0') end_well();
-        operation = of->random ? random_operation(of) : read_operation(&of->scene);
-        if (of->random && operation.kind == NOTHING) of->random = false;
+        operation = read_operation(&of->scene);
         if (operation.kind == SHOW) {
             put_operation(&operation);
             show(of);
@@ -36,11 +33,13 @@ struct operation next_operation(struct board *of) {
 }
 
 void firmware(void) {
+    uint64_t seed, count;
     begin_tables();
     boot(&board, (const char *)MANIFEST_TEXT);
+    begin_scene(&board, &seed, &count);
     place_programs(&board);
+    if (board.generated) begin_generators(&board, seed, count);
     after_boot();
-    begin_scene(&board);
     run_board(&board);
 }
 

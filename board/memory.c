@@ -1,32 +1,8 @@
-/* What libffa_c.a asks of the firmware. */
+/* The memory that libffa_c.a asks of the firmware. */
 #include <stdbool.h>
 #include <stddef.h>
 #include <stdint.h>
-
-void *memcpy(void *to, const void *from, size_t size);
-void *memmove(void *to, const void *from, size_t size);
-void *memset(void *to, int byte, size_t size);
-
-void *memcpy(void *to, const void *from, size_t size) {
-    unsigned char *t = to;
-    const unsigned char *f = from;
-    while (size--) *t++ = *f++;
-    return to;
-}
-
-void *memmove(void *to, const void *from, size_t size) {
-    unsigned char *t = to;
-    const unsigned char *f = from;
-    if (t < f) return memcpy(to, from, size);
-    while (size--) t[size] = f[size];
-    return to;
-}
-
-void *memset(void *to, int byte, size_t size) {
-    unsigned char *t = to;
-    while (size--) *t++ = (unsigned char)byte;
-    return to;
-}
+#include "bytes.h"
 
 struct tried {
     bool ok;

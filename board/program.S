@@ -1,18 +1,23 @@
 /* The program of an endpoint, the same for each but for the identity. It does at EL1 what it is told, one operation after another:
- * each load, store, fetch and call is one instruction of its own. It may stand at the start of any page. */
+ * each load, store, fetch and call is one instruction of its own. It may stand at the start of any page. Where the endpoint has a
+ * generator, that makes up the operations. */
 #include "layout.h"
 
         .section .rodata.program, "a"
         .balign 8
         .global program_begin, program_dispatch, program_next, program_identity, program_end
 
-/* x27 and d31 hold the identity from here on: a firmware that mixes up the registers of endpoints is found out. */
+/* x27, d0 and d31 hold the identity from here on: a firmware that mixes up the registers of endpoints, or leaves its own there, is found
+ * out. x26 says whether x0 to x7 are what was seen last. */
 program_begin:
         ldr     x27, program_identity
+        fmov    d0, x27
         fmov    d31, x27
 seen:
+        mov     x26, #1
         ldr     x8, program_identity
         fmov    x9, d31
+        fmov    x10, d0
         hvc     #HVC_SEEN
 program_next:
         hvc     #HVC_NEXT
@@ -44,6 +49,8 @@ operations:
         b       seen
         hvc     #HVC_FFA
         b       seen
+        b       make
+        nop
 
 /* What was stored before may be executed: the cache of instructions is emptied first. */
 fetch:
@@ -54,10 +61,38 @@ fetch:
         adr     x30, told
         br      x1
 told:
+        mov     x26, #0
         ldr     x8, program_identity
         fmov    x9, d31
+        fmov    x10, d0
         hvc     #HVC_TOLD
         b       program_next
+
+/* The generator makes up an operation, with its variables and its stack between itself and the program: it is given what was seen, and
+ * what it answers is told. */
+make:
+        adr     x9, program_begin
+        mov     sp, x9
+        sub     x8, x9, #GENERATOR_VARIABLES
+        stp     x0, x1, [x8]
+        stp     x2, x3, [x8, #16]
+        stp     x4, x5, [x8, #32]
+        stp     x6, x7, [x8, #48]
+        str     x26, [x8, #GENERATOR_ANSWERED]
+        mov     x26, #0
+        mov     x0, x8
+        sub     x9, x9, #GENERATOR_CODE
+        blr     x9
+        mov     x12, x0
+        ldr     w8, [x12]
+        ldr     x9, [x12, #OPERATION_ADDRESS]
+        ldr     w10, [x12, #OPERATION_SIZE]
+        ldr     x11, [x12, #OPERATION_VALUE]
+        ldp     x0, x1, [x12, #OPERATION_X]
+        ldp     x2, x3, [x12, #OPERATION_X + 16]
+        ldp     x4, x5, [x12, #OPERATION_X + 32]
+        ldp     x6, x7, [x12, #OPERATION_X + 48]
+        hvc     #HVC_MADE
 
         .balign 8
 program_identity:

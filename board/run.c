@@ -1,9 +1,10 @@
 #include "doing.h"
 #include "layout.h"
 #include "processor.h"
-#include "random.h"
+#include "generators.h"
 #include "tables.h"
 #include "text.h"
+#include "words.h"
 
 static unsigned logarithm_of(unsigned size) { return size == 1 ? 0 : size == 2 ? 1 : size == 4 ? 2 : 3; }
 
@@ -13,12 +14,11 @@ static void dispatch_call(struct board *board, struct endpoint *endpoint) {
     dispatch(endpoint, board->calls++ % 2 == 0 ? DO_HVC : DO_SMC);
 }
 
-/* The program asks what to do. */
-static void give_next(struct board *board) {
+/* The program does an operation, of which its line is printed first. */
+static void give(struct board *board, struct operation operation) {
     struct endpoint *endpoint = running(board);
-    if (endpoint->phase != SETTLED) unexpected(board, "question");
-    endpoint->operation = next_operation(board);
-    put_operation(&endpoint->operation);
+    endpoint->operation = operation;
+    put_operation(&operation);
     switch (endpoint->operation.kind) {
     case CALL:
         dispatch_call(board, endpoint);
@@ -35,6 +35,13 @@ static void give_next(struct board *board) {
     default:
         unexpected(board, "operation");
     }
+}
+
+/* The program asks what to do. */
+static void give_next(struct board *board) {
+    if (running(board)->phase != SETTLED) unexpected(board, "question");
+    if (generators_go_on()) dispatch(running(board), DO_GENERATE);
+    else give(board, next_operation(board));
 }
 
 /* The program tells that an access was done. Where it was skipped there is nothing to tell. */
@@ -60,7 +67,6 @@ static void told(struct board *board) {
 static void seen(struct board *board) {
     struct endpoint *endpoint = running(board);
     if (board->answered) put_registers((uint32_t)endpoint->context.x[8], endpoint->context.x);
-    if (board->random) random_seen(board, endpoint->context.x);
     board->answered = false;
     endpoint->phase = SETTLED;
 }
@@ -142,7 +148,7 @@ static void serve_exception(struct board *board) {
 
 static bool keeps_registers(const struct endpoint *endpoint) {
     const uint64_t *x = endpoint->context.x;
-    return x[8] == endpoint->identifier && x[9] == x[8] && x[27] == x[8];
+    return x[8] == endpoint->identifier && x[9] == x[8] && x[10] == x[8] && x[27] == x[8];
 }
 
 static void serve_hypercall(struct board *board, unsigned immediate) {
@@ -155,6 +161,10 @@ static void serve_hypercall(struct board *board, unsigned immediate) {
         give_next(board);
     } else if (immediate == HVC_EXCEPTION) {
         serve_exception(board);
+    } else if (immediate == HVC_ASK) {
+        serve_question(board);
+    } else if (immediate == HVC_MADE) {
+        give(board, take_made(board));
     } else if (!keeps_registers(endpoint)) {
         unexpected(board, "registers");
     } else if (immediate == HVC_SEEN) {

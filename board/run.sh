@@ -6,27 +6,31 @@ here=$(cd "$(dirname "${BASH_SOURCE[0]}")" && pwd)
 top=$(dirname "$here")
 scenes=$here/scenes
 player=${FFAPLAY:-$top/ffaplay} # the program, which judges
-packages="qemu-system-arm gcc-aarch64-linux-gnu"
+packages=(qemu-system-arm gcc-aarch64-linux-gnu)
 compiler=aarch64-linux-gnu-gcc
+copier=aarch64-linux-gnu-objcopy
 emulator=qemu-system-aarch64
-flags="-std=c11 -Wall -Wextra -Wpedantic -Wshadow -Werror -O2 -ffreestanding -fno-stack-protector
-    -fno-tree-loop-distribute-patterns -I$top/c -I$here -nostdlib -static -Wl,--gc-sections -Wl,--build-id=none -Wl,--no-warn-rwx-segments"
+flags=(-std=c11 -Wall -Wextra -Wpedantic -Wshadow -Werror -ffreestanding -fno-stack-protector -fno-tree-loop-distribute-patterns
+    "-I$top/c" "-I$here" -nostdlib -static "-Wl,--gc-sections" "-Wl,--build-id=none")
 
 usage() {
     cat <<'HELP'
-board/run.sh [--install] [--keep FOLDER] [--seed N] [--operations N] [--break-root | --break-invalidation]
+board/run.sh [--install] [--keep FOLDER] [--seed N] [--operations N] [--break-root | --break-invalidation | --break-vectors]
 
 Runs all scenes on QEMU's machine `virt`, and compares. It takes some minutes, and longer where the core is proved first.
 
   --install             installs Debian's packages for it first: qemu-system-arm and gcc-aarch64-linux-gnu
-  --keep FOLDER         leaves what each scene printed in this folder: NAME.uart, NAME.trace, NAME.found and NAME.expected
+  --keep FOLDER         leaves what each scene printed in this folder, by firmware and processor: SCENE.uart, SCENE.trace, SCENE.found and SCENE.expected
   --seed N              the seed of operations that are made up; 1 where none is given
   --operations N        how many of them; 10000 where nothing is given
   --break-root          builds a firmware in which one endpoint runs with another's tables, and wants a difference to be found
   --break-invalidation  builds one that forgets no translation after a call, and wants a difference to be found
+  --break-vectors       builds one that doesn't save vector registers, and wants a difference to be found
 
 Without a --break the scenes also run on a firmware that goes on walking an endpoint's tables while a call is on its way: QEMU forgets all
-translations when the VMID changes, so only there they are forgotten by the TLBI alone. Both breaks are tried at the end, too.
+translations when the VMID changes, so only there they are forgotten by the TLBI alone. All breaks are tried at the end, too.
+
+It ends with 0 and `passed`, with 1 and what differs or is missing, or with 64 where the words are none of these.
 HELP
 }
 
@@ -35,123 +39,165 @@ fail() {
     exit 1
 }
 
-keep='' seed=1 operations=10000 break=''
+refuse() {
+    echo "board: $*" >&2
+    usage >&2
+    exit 64
+}
+
+keep='' seed=1 operations=10000 install='' breaks=()
 while (($#)); do
     case $1 in
-        --install) apt-get update >/dev/null && apt-get install -y --no-install-recommends $packages >/dev/null ;;
-        --keep) keep=$2 && shift ;;
-        --seed) seed=$2 && shift ;;
-        --operations) operations=$2 && shift ;;
-        --break-root | --break-invalidation) break=${1#--break-} ;;
+        --install) install=yes ;;
+        --keep | --seed | --operations)
+            [[ ${2:-} ]] || refuse "$1 needs a word behind it"
+            declare "${1#--}=$2"
+            shift
+            ;;
+        --break-root | --break-invalidation | --break-vectors) breaks+=("${1#--break-}") ;;
         --help) usage && exit 0 ;;
-        *) usage >&2 && exit 64 ;;
+        *) refuse "there is no $1" ;;
     esac
     shift
 done
-
-for command in $compiler $emulator; do
-    command -v $command >/dev/null || fail "there is no $command: Debian has it in $packages, which board/run.sh --install installs"
+is_count() { [[ $1 =~ ^(0|[1-9][0-9]{0,8})$ ]]; }
+is_count "$seed" || refuse "the seed is a number below a thousand million, and not $seed"
+is_count "$operations" || refuse "the number of operations is one below a thousand million, and not $operations"
+((${#breaks[@]} < 2)) || refuse "one --break at a time"
+if [[ $install ]]; then
+    command -v apt-get >/dev/null || fail "there is no apt-get, by which --install installs Debian's ${packages[*]}"
+    log=$(apt-get update 2>&1 && apt-get install -y --no-install-recommends "${packages[@]}" 2>&1) || fail "packages aren't installed: $log"
+fi
+for command in $compiler $copier $emulator; do
+    command -v "$command" >/dev/null || fail "there is no $command: Debian has it in ${packages[*]}, which board/run.sh --install installs"
 done
+command -v rt >/dev/null || fail "there is no rt, the toolchain's command: README.md says what is needed"
+if [[ $keep ]]; then mkdir -p "$keep"; fi
 to=$(mktemp -d)
 trap 'rm -rf "$to"' EXIT
-if [[ $keep ]]; then mkdir -p "$keep"; fi
 
 # The archive for a target: archive NAME ARGUMENT..
 archive() {
     local name=$1
     shift
-    (cd "$top/crates/ffa_c" && rt lib "$@") >"$to/log" 2>&1 || { cat "$to/log" >&2; exit 1; }
+    (cd "$top/crates/ffa_c" && rt lib "$@") >"$to/log" 2>&1 || { cat "$to/log" >&2; fail "the archive isn't made"; }
     cp "$top/crates/ffa_c/out/libffa_c.a" "$to/$name.a"
+}
+
+# The code of the endpoints' generators, which stands in pages of their own: no translation of EL1's, no vector registers, no variables.
+build_generator() {
+    $compiler "${flags[@]}" -Os -fpie -mgeneral-regs-only -ffunction-sections -T "$here/generator/generator.ld" \
+        "$here"/generator/*.c "$here/bytes.c" -o "$to/generator.elf"
+    $copier -O binary "$to/generator.elf" "$to/generator.bin"
 }
 
 # A firmware: build NAME DEFINITION..
 build() {
     local name=$1
     shift
-    $compiler $flags "$@" -T "$here/board.ld" "$here"/*.c "$here"/*.S "$to/arm.a" -o "$to/$name.elf"
+    $compiler "${flags[@]}" -O2 "$@" -Wl,--no-warn-rwx-segments -Wa,-I"$to" -T "$here/board.ld" "$here"/*.c "$here"/*.S "$to/arm.a" -o "$to/$name.elf"
 }
 
 # Runs a scene, and has the program play what was done: play FIRMWARE PROCESSOR MANIFEST SCENE, true where both print the same. What was
-# printed is in $to/uart, trace, found and expected.
+# printed is in $to/uart, trace, found and expected. A firmware that hangs, or an emulator that doesn't run it, prints no end.
 play() {
-    timeout 600 $emulator -machine virt,virtualization=on -cpu "$2" -m 256M -nodefaults -display none -serial "file:$to/uart" \
+    rm -f "$to/uart"
+    timeout 300 $emulator -machine virt,virtualization=on -cpu "$2" -m 256M -nodefaults -display none -serial "file:$to/uart" \
         -kernel "$to/$1.elf" -device "loader,file=$3,addr=0x48000000,force-raw=on" \
-        -device "loader,file=$4,addr=0x49000000,force-raw=on" </dev/null >&2 || return 1
+        -device "loader,file=$4,addr=0x49000000,force-raw=on" </dev/null >&2 || echo "! $emulator ended with $?" >>"$to/uart"
     sed -n 's/^> //p' "$to/uart" >"$to/trace"
     sed -n 's/^< //p' "$to/uart" >"$to/found"
-    "$player" run "$3" "$to/trace" >"$to/expected" || return 1
+    "$player" run "$3" "$to/trace" >"$to/expected" || fail "the program doesn't play what $(basename "$4") did"
+    if [[ $keep ]]; then keep_scene "$1-$2-$(basename "$4")"; fi
     [[ $(tail -n 1 "$to/uart") == "= end" ]] && cmp -s "$to/expected" "$to/found"
+}
+
+keep_scene() {
+    for kind in uart trace found expected; do cp "$to/$kind" "$keep/$1.$kind"; done
 }
 
 # The operations of a text, each written in one way: in upper case, and with no zeros that say nothing.
 operations_of() {
-    sed -E -e '/^(#|$|random)/d' "$1" | tr a-z A-Z | sed -E -e '/^CALL/s/( 0+)+$//' -e '/^(CALL|LOAD|FETCH)/s/ 0+([0-9A-F])/ \1/g'
+    sed -E -e '/^(#|$|random)/d' "$1" | tr '[:lower:]' '[:upper:]' |
+        sed -E -e '/^CALL/s/( 0+)+$//' -e '/^(CALL|LOAD|FETCH)/s/ 0+([0-9A-F])/ \1/g' -e 's/^STORE 0+([0-9A-F])/STORE \1/'
 }
 
-# Whether the trace ends with the operations of a scene that isn't made up.
+# Whether the trace ends with the operations of a scene, behind as many as were to be made up.
 whole() {
     operations_of "$1" >"$to/lines"
-    operations_of "$to/trace" | tail -n "$(wc -l <"$to/lines")" | cmp -s "$to/lines" -
+    operations_of "$to/trace" >"$to/done"
+    if grep -q '^random' "$1" && (($(wc -l <"$to/done") < operations)); then return 1; fi
+    tail -n "$(wc -l <"$to/lines")" "$to/done" | cmp -s "$to/lines" -
 }
 
-keep_scene() {
-    if [[ ! $keep ]]; then return; fi
-    for kind in uart trace found expected; do
-        if [[ -e $to/$kind ]]; then cp "$to/$kind" "$keep/$1.$kind"; fi
-    done
-}
+# How many lines of a file begin with a word.
+count() { grep -c "^$1" "$2" || true; }
 
 # One scene on one firmware and one processor, which has to agree: agree FIRMWARE PROCESSOR MANIFEST SCENE
 agree() {
     local name
     name=$(basename "$4")
     if ! play "$@" || ! whole "$4"; then
-        keep_scene "$name"
         echo "$name: $1 on $2 differs from the program (< the program, > the processor):" >&2
         grep '^!' "$to/uart" >&2 || true
         diff "$to/expected" "$to/found" | head -n 6 >&2 || true
-        exit 1
+        fail "$name differs"
     fi
-    keep_scene "$name"
-    echo "$name: $1 on $2: $(wc -l <"$to/trace") operations, $(grep -c '^fault' "$to/found" || true) faults," \
-        "$(grep -c '^fetch' "$to/trace" || true) fetches: as the program prints them"
+    echo "$name: $1 on $2: $(wc -l <"$to/trace") operations, $(count fault "$to/found") faults," \
+        "$(count fetch "$to/trace") fetches: as the program prints them"
+}
+
+# A partition tries all of RAM: the first and the last bytes of each page, behind its table pages each word of these, and what the board has
+# elsewhere, as the serial line and the firmware.
+every_page() {
+    local address
+    echo "call 8400006D 80010000"
+    for ((address = 0x40000000; address < 0x40800000; address += 4096)); do
+        printf 'load %X 8\nload %X 1\n' $((address + 8)) $((address + 4095))
+    done
+    for ((address = 0x40000000; address < 0x40018000; address += 4096)); do printf 'store %X 0000000000000000\nfetch %X\n' $address $address; done
+    for address in 0 8000000 9000000 9000018 3FFFFFF8 40800000 44000000 44000FF8 48000000 49000000 4FFFFFF8 80000000 FFFFFFF8; do
+        printf 'load %s 4\nstore %s 00000000\nfetch %s\n' $address $address $address
+    done
+    echo show
+}
+
+# A trace that the program generates for a manifest. The program is given a machine with no pages for programs, so that it leaves these
+# alone. Left out is what no processor does here: a question to the core's own books is asked as `show`; and QEMU looks for a page before it
+# sees that an instruction isn't aligned, against the architecture, so a fetch that isn't aligned is left out where an aligned one would fault.
+generated() {
+    grep -v '# its program' "$1" >"$to/plain.toml"
+    "$player" generate --seed "$seed" --lines "$operations" "$to/plain.toml" | sed 's/^audit$/show/' >"$to/lines"
+    sed -E -e '/^fetch/{s/[1-3]$/0/;s/[5-7]$/4/;s/[9AB]$/8/;s/[D-F]$/C/}' "$to/lines" >"$to/aligned"
+    "$player" run --number "$1" "$to/aligned" >"$to/outcomes"
+    awk 'NR == FNR { if (/^[0-9]+: fault/) faults[$1 + 0]; next } !(FNR in faults && /^fetch .*[^048C]$/)' "$to/outcomes" "$to/lines"
 }
 
 # The scenes, as pairs of a manifest and a file: those of examples/, those of board/scenes/, one in which a partition tries every page,
-# and operations that are made up by the firmware and by the program.
+# and operations that are made up by the endpoints and by the program.
 make_scenes() {
-    local page
     list=("$scenes/machine.toml $top/examples/first.trace" "$scenes/machine.toml $top/examples/calls.trace")
     for name in accesses messages sharing; do list+=("$scenes/partitions.toml $top/examples/$name.trace"); done
     for scene in "$scenes"/*.trace; do list+=("$scenes/four.toml $scene"); done
-    {
-        echo "call 8400006D 80010000"
-        for ((page = 0x40000000; page < 0x40800000; page += 4096)); do printf 'load %X 8\n' $((page + 8)); done
-        echo show
-    } >"$to/every-page"
+    every_page >"$to/every-page"
     printf 'random %X %X\nshow\n' "$seed" "$operations" >"$to/random"
-    for manifest in machine four; do
-        # The program knows a machine with no pages for programs, so that it leaves these alone. QEMU looks for a page before it sees that
-        # an instruction isn't aligned, against the architecture: no such fetch is made.
-        grep -v '# its program' "$scenes/$manifest.toml" >"$to/plain.toml"
-        "$player" generate --seed "$seed" --lines "$operations" "$to/plain.toml" |
-            grep -v '^fetch .*[^048Cc]$' >"$to/generated-$manifest"
-    done
-    list+=("$scenes/four.toml $to/every-page" "$scenes/four.toml $to/random")
+    for manifest in machine four; do generated "$scenes/$manifest.toml" >"$to/generated-$manifest"; done
+    list+=("$scenes/four.toml $to/every-page" "$scenes/generators.toml $to/random")
     list+=("$scenes/machine.toml $to/generated-machine" "$scenes/four.toml $to/generated-four")
 }
 
 # All scenes on one firmware and one processor.
 all_agree() {
     local pair
-    for pair in "${list[@]}"; do agree "$1" "$2" ${pair}; done
+    for pair in "${list[@]}"; do agree "$1" "$2" "${pair% *}" "${pair#* }"; done
 }
 
 # A firmware that is broken, and the first scene that shows it: found FIRMWARE WHAT
 found() {
     local pair
     for pair in "${list[@]}"; do
-        if ! play "$1" cortex-a57 ${pair}; then
+        if ! play "$1" cortex-a57 "${pair% *}" "${pair#* }"; then
+            [[ -s $to/found ]] || fail "$2: $emulator ran nothing"
             echo "$2: found by $(basename "${pair#* }")"
             diff "$to/expected" "$to/found" | head -n 3 || true
             return
@@ -160,18 +206,27 @@ found() {
     fail "$2: no scene finds it"
 }
 
+find_break() {
+    case $1 in
+        root) build wrong-root -DWRONG_ROOT=1 && found wrong-root "an endpoint with another's tables" ;;
+        invalidation) build no-invalidation -DPARK=0 -DINVALIDATE=0 && found no-invalidation "translations that are kept" ;;
+        vectors) build no-vectors -DSAVE_VECTORS=0 && found no-vectors "vector registers that aren't saved" ;;
+    esac
+}
+
 archive arm --target aarch64-unknown-linux-gnu
 archive native
 make_scenes
+build_generator
 build documented
-build unparked -DPARK=0
-build wrong-root -DWRONG_ROOT=1
-build no-invalidation -DPARK=0 -DINVALIDATE=0
-if [[ ! $break ]]; then
+if ((${#breaks[@]})); then
+    agree documented cortex-a57 "${list[0]% *}" "${list[0]#* }"
+else
+    build unparked -DPARK=0
     all_agree documented cortex-a57
     all_agree documented max
     all_agree unparked cortex-a57
+    breaks=(root invalidation vectors)
 fi
-if [[ $break != invalidation ]]; then found wrong-root "an endpoint with another's tables"; fi
-if [[ $break != root ]]; then found no-invalidation "translations that are kept"; fi
+for name in "${breaks[@]}"; do find_break "$name"; done
 echo passed

@@ -1,4 +1,5 @@
 #include "tables.h"
+#include "calls.h"
 #include "layout.h"
 #include "processor.h"
 
@@ -37,16 +38,16 @@ void park_tables(void) {
 enum changes { NO_MEMORY_CHANGES, BYTES, ACCESS };
 
 static enum changes changes_of(uint32_t function) {
-    switch (function & ~UINT32_C(0x40000000)) {
-    case 0x84000071: /* FFA_MEM_DONATE, FFA_MEM_LEND, FFA_MEM_SHARE, FFA_MEM_RETRIEVE_REQ */
-    case 0x84000072:
-    case 0x84000073:
-    case 0x84000074:
-    case 0x84000076: /* FFA_MEM_RELINQUISH, FFA_MEM_RECLAIM */
-    case 0x84000077:
+    switch (function & ~WITH_64_BITS) {
+    case FFA_MEM_DONATE:
+    case FFA_MEM_LEND:
+    case FFA_MEM_SHARE:
+    case FFA_MEM_RETRIEVE_REQ:
+    case FFA_MEM_RELINQUISH:
+    case FFA_MEM_RECLAIM:
         return ACCESS;
-    case 0x84000068: /* FFA_PARTITION_INFO_GET, FFA_MSG_SEND2 */
-    case 0x84000086:
+    case FFA_PARTITION_INFO_GET:
+    case FFA_MSG_SEND2:
         return BYTES;
     default:
         return NO_MEMORY_CHANGES;
@@ -54,7 +55,7 @@ static enum changes changes_of(uint32_t function) {
 }
 
 void after_call(uint32_t place, uint64_t root, uint32_t function, uint32_t answer) {
-    enum changes changes = answer == 0x84000060 ? NO_MEMORY_CHANGES : changes_of(function);
+    enum changes changes = answer == FFA_ERROR ? NO_MEMORY_CHANGES : changes_of(function);
     DO("dsb ishst");
     if (changes == ACCESS) {
         walk_tables(place, root);

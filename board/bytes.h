@@ -1,0 +1,11 @@
+/* What compiled code asks for by these names, as C has them. */
+#ifndef BOARD_BYTES_H
+#define BOARD_BYTES_H
+
+#include <stddef.h>
+
+void *memcpy(void *to, const void *from, size_t size);
+void *memmove(void *to, const void *from, size_t size);
+void *memset(void *to, int byte, size_t size);
+
+#endif

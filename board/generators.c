@@ -1,0 +1,81 @@
+#include "generators.h"
+#include "doing.h"
+#include "layout.h"
+#include "text.h"
+
+#define MOST_PAGES 24 /* of an endpoint that generators work with */
+
+static uint64_t pages[FFA_MOST_ENDPOINTS][MOST_PAGES];
+static uint64_t notices[MOST_NOTICES][NOTICE_WORDS];
+static uint64_t seed_of_all, left;
+
+static bool is_of_programs(struct board *board, uint64_t address) {
+    for (uint32_t place = 0; place < board->count; place++) {
+        uint64_t program = board->endpoints[place].program;
+        if (address >= program - GENERATOR_CODE && address <= program) return true;
+    }
+    return false;
+}
+
+/* The pages that an endpoint has at first, but for its programs, and of whole blocks of 2 MiB the first and the last. */
+static void find_pages(struct board *board, uint32_t place) {
+    uint32_t count = 0;
+    for (uint32_t page = 0; page < board->pages && count < MOST_PAGES; page++) {
+        uint64_t address = RAM_BASE + (uint64_t)FFA_PAGE_BYTES * page;
+        bool edge = page < 512 || page % 512 < 4 || page % 512 == 511;
+        bool own = ffa_owner(&board->machine, page) == identifier_of(place);
+        if (own && edge && !is_of_programs(board, address)) pages[place][count++] = address;
+    }
+    if (count < 4) stop("an endpoint has too few pages for its generator");
+}
+
+void begin_generators(struct board *board, uint64_t seed, uint64_t count) {
+    seed_of_all = seed;
+    left = count;
+    for (uint32_t place = 0; place < board->count; place++) find_pages(board, place);
+}
+
+bool generators_go_on(void) { return left != 0; }
+
+static void tell_machine(struct board *board, uint64_t *x) {
+    x[0] = seed_of_all;
+    x[1] = board->running;
+    x[2] = board->count;
+    x[3] = RAM_BASE;
+    x[4] = board->pages;
+    x[5] = running(board)->program;
+}
+
+/* Copies the words of a notice. */
+static void copy_notice(uint64_t *to, const uint64_t *from) {
+    for (unsigned i = 0; i < NOTICE_WORDS; i++) to[i] = from[i];
+}
+
+void serve_question(struct board *board) {
+    uint64_t *x = running(board)->context.x, question = x[0], index = x[1];
+    if (running(board)->phase != SETTLED) unexpected(board, "question of a generator");
+    if (question == ASK_MACHINE) {
+        tell_machine(board, x);
+    } else if (question == ASK_PAGE && index < board->count && x[2] < MOST_PAGES) {
+        x[0] = pages[index][x[2]];
+    } else if (question == ASK_NOTICE && index < MOST_NOTICES) {
+        copy_notice(x + 2, notices[index]);
+    } else if (question == TELL_NOTICE && index < MOST_NOTICES) {
+        copy_notice(notices[index], x + 2);
+    } else {
+        unexpected(board, "question of a generator");
+    }
+}
+
+static bool is_size(uint64_t size) { return size == 1 || size == 2 || size == 4 || size == 8; }
+
+struct operation take_made(struct board *board) {
+    struct endpoint *endpoint = running(board);
+    const uint64_t *x = endpoint->context.x;
+    struct operation operation = {.kind = (enum operation_kind)x[8], .address = x[9], .size = (unsigned)x[10], .value = x[11]};
+    bool access = operation.kind == LOAD || operation.kind == STORE, known = access || operation.kind == FETCH || operation.kind == CALL;
+    if (endpoint->phase != SETTLED || left == 0 || !known || (access && !is_size(x[10]))) unexpected(board, "operation of a generator");
+    for (unsigned i = 0; i < 8; i++) operation.x[i] = operation.kind == CALL ? x[i] : 0;
+    left--;
+    return operation;
+}
