@@ -1,15 +1,13 @@
 -- Why an operation is refused: for a reason just where it is refused, and what comes of it is the reason's.
-use Rattle.std.proofs.Common.{◌≡◌, ◌∙◌, ℕ, Bool, true, false, cond, List, [], ◌∷◌, Option, Some, None, is_some, refl, sym, ap}
-use Rattle.std.specs.Prelude.{IfSome, not}
+use Rattle.std.proofs.Common.{◌≡◌, ◌∙◌, ℕ, Bool, true, false, cond, [], ◌∷◌, Option, Some, None, is_some, refl, sym, ap}
+use Rattle.std.specs.Prelude.{IfSome}
 use Rattle.std.specs.Option.{option_map}
 use Rattle.std.proofs.lemmas.Bool.{not-true}
 use Rattle.std.proofs.lemmas.Option.{none-some}
 use Rattle.ffa_model.specs.declared.call.Call as calls
 use Rattle.ffa_model.specs.declared.call.Call.TheVariants.{Version, Features, RxRelease, RxtxMap, RxtxUnmap, PartitionInfoGet, IdGet, MsgWait, Yield, Run, DirectRequest, DirectResponse, MemDonate, MemLend, MemShare, MemRetrieve, MemRelinquish, MemReclaim, BitmapCreate, BitmapDestroy, NotificationBind, NotificationUnbind, NotificationSet, NotificationGet, SpmIdGet, MsgSend2, Unknown}
-use Rattle.ffa_model.specs.declared.call.Reply.{Reply}
 use Rattle.ffa_model.specs.declared.call.Reply.TheVariants as replies
 use Rattle.ffa_model.specs.declared.call.Reply.TheVariants.{Error}
-use Rattle.ffa_model.specs.declared.function.TheConstants.{FFA_ERROR}
 use Rattle.ffa_model.specs.declared.operation.ErrorCode.{ErrorCode}
 use Rattle.ffa_model.specs.declared.operation.ErrorCode.TheVariants.{NotSupported}
 use Rattle.ffa_model.specs.declared.operation.FaultKind.{FaultKind}
@@ -21,12 +19,10 @@ use Rattle.ffa_model.specs.declared.refusal.Refusal.{Refusal}
 use Rattle.ffa_model.specs.declared.refusal.Refusal.TheVariants.{FunctionUnknown}
 use Rattle.ffa_model.specs.declared.schedule.Status.{Status}
 use Rattle.ffa_model.specs.declared.schedule.Status.TheVariants.{Waiting, Running, Blocked, Yielded}
-use Rattle.ffa_model.specs.declared.rights.Rights.{Rights}
-use Rattle.ffa_model.specs.declared.why.Grant.{Grant}
 use Rattle.ffa_model.specs.declared.why.Why.{Why}
-use Rattle.ffa_model.specs.declared.why.Why.TheVariants.{Refused, Fault}
+use Rattle.ffa_model.specs.declared.why.Why.TheVariants.{Refused}
 use Rattle.ffa_model.specs.Access.{access, handle_at, transaction_at}
-use Rattle.ffa_model.specs.Bits.{bits, high_half, is_set}
+use Rattle.ffa_model.specs.Bits.{high_half}
 use Rattle.ffa_model.specs.Calls.{Service, answered, first_failure, first_refusal, served, success}
 use Rattle.ffa_model.specs.Memory.{accessed, fetch_fault, number_at, read_fault, size_of, store_fault, stored}
 use Rattle.ffa_model.specs.RefusalCodes.{code_of}

@@ -1,5 +1,5 @@
 -- Why an operation is refused: the checks see of the machine's parts what the guards of each call see of its state.
-use Rattle.std.proofs.Common.{◌≡◌, ◌∙◌, ℕ, ◌<◌, Bool, true, false, List, length, map, take, Option, Some, None, Result, Ok, Err, refl, sym, ap, subst}
+use Rattle.std.proofs.Common.{◌≡◌, ◌∙◌, ℕ, length, map, take, Option, Some, None, Result, Ok, Err, refl, sym, ap}
 use Rattle.std.specs.FinMap as finite
 use Rattle.std.specs.Prelude.{⊤}
 use Rattle.std.specs.Result.{result_err}
@@ -11,7 +11,6 @@ use Rattle.ffa_memshare.specs.Stored.{map_in, open_in}
 use Rattle.ffa_messages.specs.Parts.{sent_in}
 use Rattle.ffa_model.specs.declared.operation.FaultKind.{FaultKind}
 use Rattle.ffa_model.specs.declared.operation.Outcome.{Outcome}
-use Rattle.ffa_model.specs.declared.operation.Outcome.TheVariants.{Data, Done}
 use Rattle.ffa_model.specs.declared.refusal.Refusal.{Refusal}
 use Rattle.ffa_model.specs.declared.rights.Kind.{Kind}
 use Rattle.ffa_model.specs.Bits.{word_of_halves}
@@ -27,17 +26,15 @@ use Rattle.ffa_model.specs.Messages.{header_in, msg_send2, send2_guards}
 use Rattle.ffa_model.specs.Notifications.{bind_guards, bitmap_create, bitmap_destroy, create_guards, destroy_guards, get_guards, notification_bind, notification_get, notification_set, notification_unbind, set_guards, unbind_guards}
 use Rattle.ffa_model.specs.RelinquishDescriptor.{relinquish_of}
 use Rattle.ffa_model.specs.RetrieveDescriptor.{retrieve_of}
-use Rattle.ffa_model.specs.RunStates.{direct_request, direct_response, msg_wait, request_guards, response_guards, run_guards, run_partition, wait_guards, yield_guards, yield_now}
 use Rattle.ffa_model.specs.SendDescriptor.{send_of}
-use Rattle.ffa_model.specs.State.{Party, State, transaction_of, version_of}
-use Rattle.ffa_model.specs.Transactions.{OwnRights, handle_of, own_rights_of, open_of}
+use Rattle.ffa_model.specs.State.{State, transaction_of, version_of}
+use Rattle.ffa_model.specs.Transactions.{handle_of, open_of}
 use Rattle.ffa_rxtx.specs.Parts.{candidates_in, tx_in}
 use Rattle.ffa_spmc.specs.Managed.{Managed}
 use Rattle.ffa_spmc.specs.Meaning.{IsManager, Parts, state_of}
 use Rattle.ffa_spmc.specs.Replies.{fault_in}
 use Rattle.ffa_spmc.proofs.Accesses.{done_or_fault}
 use Rattle.ffa_spmc.proofs.Candidates.{candidates-are}
-use Rattle.ffa_spmc.proofs.Held.{counted, parties-listed, parties_are}
 use Rattle.ffa_spmc.proofs.Notified.{each-bitmap}
 use Rattle.ffa_spmc.proofs.Pools.{own_rights-are}
 use Rattle.ffa_spmc.proofs.Replied.{managed_of}

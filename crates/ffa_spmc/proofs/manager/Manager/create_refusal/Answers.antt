@@ -1,7 +1,5 @@
-use Rattle.std.proofs.Common.{◌∙◌, ap, sym}
-use Rattle.ffa_model.specs.State.{State, version_of}
-use Rattle.ffa_spmc.specs.Managed.{Managed}
-use Rattle.ffa_spmc.specs.Meaning.{state_of}
+use Rattle.std.proofs.Common.{◌∙◌}
+use Rattle.ffa_model.specs.State.{State}
 use Rattle.ffa_spmc.proofs.Inside.{parts_of}
 use Rattle.ffa_model.specs.Notifications.{bitmap_create}
 use Rattle.ffa_spmc.proofs.Reasons.{seen-refusal, create-checked}

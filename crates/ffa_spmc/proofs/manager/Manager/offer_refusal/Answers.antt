@@ -1,7 +1,6 @@
 use Rattle.std.proofs.Common.{◌∙◌, ap, sym}
 use Rattle.ffa_model.specs.State.{State, version_of}
 use Rattle.ffa_spmc.specs.Managed.{Managed}
-use Rattle.ffa_spmc.specs.Meaning.{state_of}
 use Rattle.ffa_spmc.proofs.Inside.{parts_of}
 use Rattle.ffa_memshare.specs.declared.descriptor_call.DescriptorCall.{DescriptorCall}
 use Rattle.ffa_spmc.proofs.Fills.{caller-is}
