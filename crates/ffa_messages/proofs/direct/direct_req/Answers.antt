@@ -1,4 +1,4 @@
-use Rattle.std.proofs.Common.{map}
+use Rattle.std.proofs.Common.{map, rules}
 use Rattle.ffa_model.specs.First.{party_of}
 use Rattle.ffa_model.specs.RunStates.{request_guards}
 use Rattle.ffa_model.proofs.Guards.{answers-code, answers-pass}
@@ -11,3 +11,6 @@ returns-in_err-receiver-clause-refusal c =
 pub returns-clause-refusal : goal.returns-clause-refusal
 returns-clause-refusal c =
     answers-pass (request_guards (map party_of c.args.manifest.now.endpoints.items) c.args.chain.now c.args.message.now.word c.args.message.now.flags) c.in_ok-receiver.ensures.refusal
+
+pub returns-clause-changed : goal.returns-clause-changed
+returns-clause-changed c = search rules

@@ -1,3 +1,4 @@
+use Rattle.std.proofs.Common.{rules}
 use Rattle.ffa_model.specs.Notifications.{get_guards}
 use Rattle.ffa_model.proofs.Guards.{answers-code, answers-pass}
 use Rattle.ffa_notify.proofs.bitmaps.Bitmaps.get.Goals as goal
@@ -8,3 +9,6 @@ returns-in_err-check_get-clause-refusal c =
 
 pub returns-clause-refusal : goal.returns-clause-refusal
 returns-clause-refusal c = answers-pass (get_guards c.args.self.now c.args.caller.0 c.args.word c.args.flags) c.in_ok-check_get.ensures.refusal
+
+pub returns-clause-cleared : goal.returns-clause-cleared
+returns-clause-cleared c = search rules

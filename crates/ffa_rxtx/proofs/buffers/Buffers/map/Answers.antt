@@ -1,4 +1,4 @@
-use Rattle.std.proofs.Common.{length}
+use Rattle.std.proofs.Common.{length, rules}
 use Rattle.ffa_model.specs.Buffers.{buffers_in, map_guards}
 use Rattle.ffa_model.proofs.Guards.{answers-code, answers-pass}
 use Rattle.ffa_model.proofs.Places.{known-place}
@@ -16,3 +16,6 @@ returns-in_err-mapped-clause-refusal c =
 pub returns-clause-refusal : goal.returns-clause-refusal
 returns-clause-refusal c =
     answers-pass (map_guards c.args.caller.0 (buffers_in c.args.self.now c.args.caller.0) (candidates_in c.args.table.now c.args.ram_base.0) c.args.tx c.args.rx c.args.pages) c.in_ok-mapped.ensures.refusal
+
+pub returns-clause-mapped : goal.returns-clause-mapped
+returns-clause-mapped c = search rules

@@ -1,3 +1,4 @@
+use Rattle.std.proofs.Common.{rules}
 use Rattle.ffa_model.specs.Buffers.{buffers_in, release_guards}
 use Rattle.ffa_model.proofs.Guards.{answers-code, answers-pass}
 use Rattle.ffa_rxtx.proofs.buffers.Buffers.release.Goals as goal
@@ -9,3 +10,6 @@ returns-in_err-check_release-clause-refusal c =
 
 pub returns-clause-refusal : goal.returns-clause-refusal
 returns-clause-refusal c = answers-pass (release_guards (buffers_in c.args.self.now c.args.caller.0)) c.in_ok-check_release.ensures.refusal
+
+pub returns-clause-emptied : goal.returns-clause-emptied
+returns-clause-emptied c = search rules

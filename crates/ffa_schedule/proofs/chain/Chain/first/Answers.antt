@@ -1,3 +1,4 @@
+use Rattle.std.proofs.lemmas.Grind.{common_steps}
 use Rattle.std.proofs.Common.{◌≡◌, ◌∙◌, ◌++◌, ◌∷◌, [], List, ℕ, replicate, None, ap, arith}
 use Rattle.ffa_model.specs.declared.endpoint.EndpointId.{EndpointId}
 use Rattle.ffa_schedule.proofs.Steps.{first-sound, first-view}
@@ -16,3 +17,6 @@ returns-clause-sound c =
     first-sound c.push.new.self.items c.loop-place.works.items c.args.endpoints
     (c.push.ensures.items ∙ ap (λ (xs : List EndpointId). xs ++ record { 0 = 0 } ∷ []) c.new-links.ensures)
     (c.loop-place.invariant.works ∙ ap (λ (n : ℕ). replicate n None) all) c.requires.some c.requires.few
+
+pub loop-place-preserved : goal.loop-place-preserved
+loop-place-preserved c = grind (arith, common_steps)

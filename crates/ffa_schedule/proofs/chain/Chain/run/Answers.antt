@@ -1,4 +1,5 @@
-use Rattle.std.proofs.Common.{length}
+use Rattle.std.proofs.lemmas.Grind.{common_steps}
+use Rattle.std.proofs.Common.{length, arith}
 use Rattle.ffa_model.specs.RunStates.{run_guards}
 use Rattle.ffa_model.proofs.Guards.{answers-code, answers-pass}
 use Rattle.ffa_schedule.proofs.chain.Chain.run.Goals as goal
@@ -12,3 +13,6 @@ returns-in-None-clause-refusal c = answers-pass (run_guards (length c.args.self.
 
 pub returns-in-Some-clause-refusal : goal.returns-in-Some-clause-refusal
 returns-in-Some-clause-refusal c = answers-pass (run_guards (length c.args.self.now.works) c.args.self.now c.args.word) c.in_ok-target.ensures.refusal
+
+pub returns-in-Some-clause-changed : goal.returns-in-Some-clause-changed
+returns-in-Some-clause-changed c = grind (arith, common_steps)

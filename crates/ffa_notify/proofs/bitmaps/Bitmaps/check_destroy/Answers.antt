@@ -1,0 +1,5 @@
+use Rattle.std.proofs.Common.{rules}
+use Rattle.ffa_notify.proofs.bitmaps.Bitmaps.check_destroy.Goals as goal
+
+pub returns : goal.returns
+returns c = search rules

@@ -1,0 +1,5 @@
+use Rattle.std.proofs.Common.{rules}
+use Rattle.ffa_physmem.proofs.memory.PhysMem.clear_page.Goals as goal
+
+pub returns : goal.returns
+returns g c = search rules

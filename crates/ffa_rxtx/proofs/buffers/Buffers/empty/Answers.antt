@@ -1,0 +1,5 @@
+use Rattle.std.proofs.Common.{rules}
+use Rattle.ffa_rxtx.proofs.buffers.Buffers.empty.Goals as goal
+
+pub returns : goal.returns
+returns c = search rules

@@ -1,0 +1,5 @@
+use Rattle.std.proofs.Common.{rules}
+use Rattle.ffa_rxtx.proofs.buffers.Buffers.is_full.Goals as goal
+
+pub returns-in-None : goal.returns-in-None
+returns-in-None c = search rules

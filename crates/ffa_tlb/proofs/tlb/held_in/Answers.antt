@@ -1,0 +1,6 @@
+use Rattle.std.proofs.Common.{arith}
+use Rattle.std.proofs.lemmas.Grind.{common_steps}
+use Rattle.ffa_tlb.proofs.tlb.held_in.Goals as goal
+
+pub returns-in-loop-slot : goal.returns-in-loop-slot
+returns-in-loop-slot c = grind (arith, common_steps)

@@ -1,0 +1,11 @@
+use Rattle.std.proofs.Common.{rules}
+use Rattle.ffa_walker.proofs.access.load_at.Goals as goal
+
+pub returns-in_err-physical : goal.returns-in_err-physical
+returns-in_err-physical g c = search rules
+
+pub read_number-requires-clause-aligned : goal.read_number-requires-clause-aligned
+read_number-requires-clause-aligned g c = search rules
+
+pub returns : goal.returns
+returns g c = search rules

@@ -1,0 +1,14 @@
+use Rattle.std.proofs.Common.{rules}
+use Rattle.ffa_walker.proofs.access.store_at.Goals as goal
+
+pub returns-in_err-physical-clause-answer : goal.returns-in_err-physical-clause-answer
+returns-in_err-physical-clause-answer g c = search rules
+
+pub returns-in_err-physical-clause-stored : goal.returns-in_err-physical-clause-stored
+returns-in_err-physical-clause-stored g c = search rules
+
+pub returns-clause-answer : goal.returns-clause-answer
+returns-clause-answer g c = search rules
+
+pub returns-clause-stored : goal.returns-clause-stored
+returns-clause-stored g c = search rules
