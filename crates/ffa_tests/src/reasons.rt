@@ -82,7 +82,12 @@ fn obstacles_of_loads(rt: HostRuntime) -> Result<(), Fail> {
     let mut player = Player::new(booted(rt.alloc(), &row_machine())?);
     let mut out = Vec::new(rt.alloc());
     play(rt.alloc(), &mut player, SHARED, &mut out)?;
-    play(rt.alloc(), &mut player, b"call 8400006B\ncall 8400006D 80020000\n", &mut out)?;
+    play(
+        rt.alloc(),
+        &mut player,
+        b"call 8400006B\ncall 8400006D 80020000\n",
+        &mut out,
+    )?;
     for row in LOADS.lines() {
         let (address, wanted) = row.split_once(' ').ok_or("no reason")?;
         let addr = u64::from_str_radix(address, 16)?;
