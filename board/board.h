@@ -14,7 +14,8 @@ struct board {
     bool answered;    /* a call was answered, and nobody has told yet what it sees */
     uint64_t calls;   /* how many were made by programs */
     const char *scene;
-    bool generated; /* operations are made up before those of the scene */
+    bool everywhere; /* the walks of all addresses are asked at the scene's end */
+    bool generated;  /* operations are made up before those of the scene */
 };
 
 /* Makes the machine of a manifest's text in the board's own RAM. */
@@ -31,5 +32,8 @@ _Noreturn void run_board(struct board *board);
 
 /* Prints who runs, and who owns and reaches each page, as the processor's walks have it. */
 void show(struct board *board);
+
+/* Sees that the processor's walks give no endpoint a page outside RAM. */
+void look_outside(struct board *board);
 
 #endif

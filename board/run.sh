@@ -76,12 +76,13 @@ if [[ $keep ]]; then mkdir -p "$keep"; fi
 to=$(mktemp -d)
 trap 'rm -rf "$to"' EXIT
 
-# The archive for a target: archive NAME ARGUMENT..
-archive() {
-    local name=$1
-    shift
-    (cd "$top/crates/ffa_c" && rt lib "$@") >"$to/log" 2>&1 || { cat "$to/log" >&2; fail "the archive isn't made"; }
-    cp "$top/crates/ffa_c/out/libffa_c.a" "$to/$name.a"
+# The core's archive for AArch64, as $to/arm.a. An archive that was there, for another target, is there again afterwards.
+make_archive() {
+    local at=$top/crates/ffa_c/out/libffa_c.a
+    if [[ -e $at ]]; then cp -p "$at" "$to/before.a"; fi
+    (cd "$top/crates/ffa_c" && rt lib --target aarch64-unknown-linux-gnu) >"$to/log" 2>&1 || { cat "$to/log" >&2; fail "the archive isn't made"; }
+    mv "$at" "$to/arm.a"
+    if [[ -e $to/before.a ]]; then cp -p "$to/before.a" "$at"; fi
 }
 
 # The code of the endpoints' generators, which stands in pages of their own: no translation of EL1's, no vector registers, no variables.
@@ -101,8 +102,10 @@ build() {
 # Runs a scene, and has the program play what was done: play FIRMWARE PROCESSOR MANIFEST SCENE, true where both print the same. What was
 # printed is in $to/uart, trace, found and expected. A firmware that hangs, or an emulator that doesn't run it, prints no end.
 play() {
+    local memory=256M
+    if [[ $1 == high ]]; then memory=3G; fi
     rm -f "$to/uart"
-    timeout 300 $emulator -machine virt,virtualization=on -cpu "$2" -m 256M -nodefaults -display none -serial "file:$to/uart" \
+    timeout 300 $emulator -machine virt,virtualization=on -cpu "$2" -m $memory -nodefaults -display none -serial "file:$to/uart" \
         -kernel "$to/$1.elf" -device "loader,file=$3,addr=0x48000000,force-raw=on" \
         -device "loader,file=$4,addr=0x49000000,force-raw=on" </dev/null >&2 || echo "! $emulator ended with $?" >>"$to/uart"
     sed -n 's/^> //p' "$to/uart" >"$to/trace"
@@ -118,7 +121,7 @@ keep_scene() {
 
 # The operations of a text, each written in one way: in upper case, and with no zeros that say nothing.
 operations_of() {
-    sed -E -e '/^(#|$|random)/d' "$1" | tr '[:lower:]' '[:upper:]' |
+    sed -E -e '/^(#|$|random|everywhere)/d' "$1" | tr '[:lower:]' '[:upper:]' |
         sed -E -e '/^CALL/s/( 0+)+$//' -e '/^(CALL|LOAD|FETCH)/s/ 0+([0-9A-F])/ \1/g' -e 's/^STORE 0+([0-9A-F])/STORE \1/'
 }
 
@@ -133,24 +136,30 @@ whole() {
 # How many lines of a file begin with a word.
 count() { grep -c "^$1" "$2" || true; }
 
+# The first lines that differ, of the program and of the processor, and why the board stopped where it did.
+difference() {
+    { diff "$to/expected" "$to/found" || true; } | awk '/^</ && !expected++ || /^>/ && !found++'
+    grep '^!' "$to/uart" || true
+}
+
 # One scene on one firmware and one processor, which has to agree: agree FIRMWARE PROCESSOR MANIFEST SCENE
 agree() {
     local name
     name=$(basename "$4")
     if ! play "$@" || ! whole "$4"; then
         echo "$name: $1 on $2 differs from the program (< the program, > the processor):" >&2
-        grep '^!' "$to/uart" >&2 || true
-        diff "$to/expected" "$to/found" | head -n 6 >&2 || true
+        difference >&2
         fail "$name differs"
     fi
     echo "$name: $1 on $2: $(wc -l <"$to/trace") operations, $(count fault "$to/found") faults," \
         "$(count fetch "$to/trace") fetches: as the program prints them"
 }
 
-# A partition tries all of RAM: the first and the last bytes of each page, behind its table pages each word of these, and what the board has
-# elsewhere, as the serial line and the firmware.
+# A partition tries to load from each page of RAM, near its first and its last byte; to store into each table page, and to fetch from it; and
+# all three where the board has other things, as the serial line and the firmware. At the end the processor is asked for every page there is.
 every_page() {
     local address
+    echo everywhere
     echo "call 8400006D 80010000"
     for ((address = 0x40000000; address < 0x40800000; address += 4096)); do
         printf 'load %X 8\nload %X 1\n' $((address + 8)) $((address + 4095))
@@ -182,6 +191,8 @@ make_scenes() {
     every_page >"$to/every-page"
     printf 'random %X %X\nshow\n' "$seed" "$operations" >"$to/random"
     for manifest in machine four; do generated "$scenes/$manifest.toml" >"$to/generated-$manifest"; done
+    sed 's/0x40/0xC0/' "$scenes/four.toml" >"$to/high.toml"
+    generated "$to/high.toml" >"$to/generated-high"
     list+=("$scenes/four.toml $to/every-page" "$scenes/generators.toml $to/random")
     list+=("$scenes/machine.toml $to/generated-machine" "$scenes/four.toml $to/generated-four")
 }
@@ -199,7 +210,7 @@ found() {
         if ! play "$1" cortex-a57 "${pair% *}" "${pair#* }"; then
             [[ -s $to/found ]] || fail "$2: $emulator ran nothing"
             echo "$2: found by $(basename "${pair#* }")"
-            diff "$to/expected" "$to/found" | head -n 3 || true
+            difference
             return
         fi
     done
@@ -214,8 +225,7 @@ find_break() {
     esac
 }
 
-archive arm --target aarch64-unknown-linux-gnu
-archive native
+make_archive
 make_scenes
 build_generator
 build documented
@@ -226,6 +236,8 @@ else
     all_agree documented cortex-a57
     all_agree documented max
     all_agree unparked cortex-a57
+    build high -DRAM_BASE=0xC0000000
+    agree high cortex-a57 "$to/high.toml" "$to/generated-high"
     breaks=(root invalidation vectors)
 fi
 for name in "${breaks[@]}"; do find_break "$name"; done
