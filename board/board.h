@@ -21,6 +21,9 @@ struct board {
 /* Makes the machine of a manifest's text in the board's own RAM. */
 void boot(struct board *board, const char *manifest);
 
+/* From here on the core may ask for no memory: the board stops where it does. */
+void end_memory(void);
+
 /* Stores each endpoint's program into its page, and its generator where operations are made up, as operations of that endpoint. */
 void place_programs(struct board *board);
 

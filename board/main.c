@@ -42,6 +42,7 @@ void firmware(void) {
     uint64_t seed, count;
     begin_tables();
     boot(&board, (const char *)MANIFEST_TEXT);
+    end_memory();
     begin_scene(&board, &seed, &count);
     place_programs(&board);
     if (board.generated) begin_generators(&board, seed, count);
