@@ -80,7 +80,7 @@ trap 'rm -rf "$to"' EXIT
 make_archive() {
     local at=$top/crates/ffa_c/out/libffa_c.a
     if [[ -e $at ]]; then cp -p "$at" "$to/before.a"; fi
-    (cd "$top/crates/ffa_c" && rt lib --target aarch64-unknown-linux-gnu) >"$to/log" 2>&1 || { cat "$to/log" >&2; fail "the archive isn't made"; }
+    (cd "$top/crates/ffa_c" && rt lib --target aarch64-unknown-linux-gnu) >"$to/log" 2>&1 || fail "the archive isn't made, rt lib ended with $?: $(cat "$to/log")"
     mv "$at" "$to/arm.a"
     if [[ -e $to/before.a ]]; then cp -p "$to/before.a" "$at"; fi
 }
