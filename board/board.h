@@ -14,11 +14,15 @@ struct board {
     bool answered;    /* a call was answered, and nobody has told yet what it sees */
     uint64_t calls;   /* how many were made by programs */
     const char *scene;
-    bool generated; /* operations are made up before those of the scene */
+    bool everywhere; /* the walks of all addresses are asked at the scene's end */
+    bool generated;  /* operations are made up before those of the scene */
 };
 
 /* Makes the machine of a manifest's text in the board's own RAM. */
 void boot(struct board *board, const char *manifest);
+
+/* From here on the core may ask for no memory: the board stops where it does. */
+void end_memory(void);
 
 /* Stores each endpoint's program into its page, and its generator where operations are made up, as operations of that endpoint. */
 void place_programs(struct board *board);
@@ -31,5 +35,8 @@ _Noreturn void run_board(struct board *board);
 
 /* Prints who runs, and who owns and reaches each page, as the processor's walks have it. */
 void show(struct board *board);
+
+/* Sees that the processor's walks give no endpoint a page outside RAM. */
+void look_outside(struct board *board);
 
 #endif

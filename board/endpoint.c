@@ -9,16 +9,16 @@ _Static_assert(offsetof(struct context, q) == CONTEXT_Q, "assembly finds the vec
 
 ENDPOINT_REGISTERS(SYSTEM_REGISTER)
 
-/* SCTLR_EL1: no translation of its own, with caches, and an access that isn't aligned faults. */
+/* SCTLR_EL1 (DDI 0487): no translation of its own (M), with caches (C, I), and an access that isn't aligned faults (A). */
 #define SCTLR UINT64_C(0x30D01806)
 
-/* PSTATE: EL1 with its own stack pointer, and exceptions that can be masked are. */
+/* SPSR_EL2 (DDI 0487): EL1 with its own stack pointer (M), and exceptions that can be masked are (D, A, I, F). */
 #define STATE UINT64_C(0x3C5)
 
 void begin_context(struct context *context, uint64_t program) {
     *context = (struct context){.pc = program, .state = STATE};
     context->system[AT_sctlr_el1] = SCTLR;
-    context->system[AT_cpacr_el1] = UINT64_C(3) << 20;
+    context->system[AT_cpacr_el1] = UINT64_C(3) << 20; /* FPEN: vector registers don't trap */
     context->system[AT_vbar_el1] = program + PROGRAM_VECTORS;
 }
 

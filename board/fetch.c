@@ -1,5 +1,5 @@
 /* A fetch: the word is loaded first, which isn't printed, and then executed. A word that comes back to the program, and one that can't be
- * loaded, is branched to; any other is executed by a single step, with registers of zeros, so that what it does concerns nobody. */
+ * loaded, is branched to; any other is executed by a single step, with registers and a stack pointer of zeros, so that no store of it goes anywhere. */
 #include "doing.h"
 #include "layout.h"
 #include "processor.h"
@@ -9,8 +9,10 @@
 SYSTEM_REGISTER(mdcr_el2)
 SYSTEM_REGISTER(mdscr_el1)
 SYSTEM_REGISTER(oslar_el1)
+SYSTEM_REGISTER(sp_el1)
 
-/* MDCR_EL2 while a step is on its way: debug exceptions, and accesses to the registers of debug and of performance monitors, go to EL2. */
+/* MDCR_EL2 (DDI 0487) while a step is on its way: debug exceptions, and accesses to the registers of debug and of performance monitors, go to EL2
+ * (TDE, TDRA, TDOSA, TDA, TPM). SPSR_EL2.SS has the step begin, and MDSCR_EL1.SS turns steps on. */
 #define MDCR (UINT64_C(0xF) << 8 | UINT64_C(1) << 6)
 #define STATE_STEP (UINT64_C(1) << 21)
 
@@ -36,15 +38,16 @@ static void begin_step(struct endpoint *endpoint) {
     endpoint->context.pc = endpoint->operation.address;
     endpoint->context.state |= STATE_STEP;
     endpoint->phase = STEPPING;
+    write_sp_el1(0);
     write_oslar_el1(0);
-    write_mdcr_el2(MDCR);
+    write_mdcr_el2(read_mdcr_el2() | MDCR);
     write_mdscr_el1(1);
     DO("isb");
 }
 
 static void end_step(struct endpoint *endpoint) {
     write_mdscr_el1(0);
-    write_mdcr_el2(0);
+    write_mdcr_el2(read_mdcr_el2() & ~MDCR);
     endpoint->context = before;
     load_system(&before);
 }

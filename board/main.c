@@ -9,10 +9,13 @@ _Noreturn void firmware_broken(uint64_t syndrome, uint64_t link, uint64_t addres
 
 static struct board board;
 
-/* A scene may begin with a line `random SEED COUNT`, hexadecimal: its lines follow behind so many operations that are made up. */
+/* A scene may begin with a line `everywhere`: at its end the walks of all 2^32 addresses are asked. It may have a line `random SEED COUNT`
+ * next, hexadecimal: its lines follow behind so many operations that are made up. */
 static void begin_scene(struct board *of, uint64_t *seed, uint64_t *count) {
     unsigned digits;
     of->scene = (const char *)SCENE_TEXT;
+    of->everywhere = take_word(&of->scene, "everywhere");
+    if (of->everywhere && *of->scene == '\n') of->scene++;
     of->generated = take_word(&of->scene, "random");
     if (!of->generated) return;
     if (!take_hex(&of->scene, seed, &digits) || !take_hex(&of->scene, count, &digits)) stop("no seed and count");
@@ -22,7 +25,10 @@ static void begin_scene(struct board *of, uint64_t *seed, uint64_t *count) {
 struct operation next_operation(struct board *of) {
     struct operation operation = {0};
     while (operation.kind == NOTHING || operation.kind == SHOW) {
-        if (*of->scene == '\0') end_well();
+        if (*of->scene == '\0') {
+            if (of->everywhere) look_outside(of);
+            end_well();
+        }
         operation = read_operation(&of->scene);
         if (operation.kind == SHOW) {
             put_operation(&operation);
@@ -36,6 +42,7 @@ void firmware(void) {
     uint64_t seed, count;
     begin_tables();
     boot(&board, (const char *)MANIFEST_TEXT);
+    end_memory();
     begin_scene(&board, &seed, &count);
     place_programs(&board);
     if (board.generated) begin_generators(&board, seed, count);

@@ -50,11 +50,16 @@ static void put_word(uint64_t value) {
     put_number(value);
 }
 
+/* How many registers of a call a line has to have: zeros at its end say nothing. */
+static unsigned words_of(const uint64_t *x) {
+    unsigned count = 8;
+    while (count > 1 && x[count - 1] == 0) count--;
+    return count;
+}
+
 static void put_call(const uint64_t *x) {
-    unsigned last = 8;
-    while (last > 1 && x[last - 1] == 0) last--;
     put_text("call");
-    for (unsigned i = 0; i < last; i++) put_word(x[i]);
+    for (unsigned i = 0; i < words_of(x); i++) put_word(x[i]);
 }
 
 void put_operation(const struct operation *operation) {

@@ -24,7 +24,7 @@ SYSTEM_REGISTER(vttbr_el2)
 /* An instruction with no operand, as a barrier or an invalidation, between all that stands before and behind it. */
 #define DO(instruction) __asm__ volatile(instruction : : : "memory")
 
-/* Exception classes of a syndrome. */
+/* Exception classes of a syndrome (DDI 0487, ESR_EL2.EC). */
 enum {
     CLASS_UNKNOWN = 0x00,
     CLASS_SVC = 0x15,
@@ -42,7 +42,7 @@ enum {
 static inline unsigned class_of(uint64_t syndrome) { return (unsigned)(syndrome >> 26) & 0x3F; }
 static inline unsigned immediate_of(uint64_t syndrome) { return (unsigned)syndrome & 0xFFFF; }
 
-/* The status of an abort, without its level. */
+/* The status of an abort, without its level (DDI 0487, ESR_EL2.ISS of an abort: DFSC and IFSC). */
 enum {
     STATUS_ADDRESS_SIZE = 0x00,
     STATUS_TRANSLATION = 0x04,

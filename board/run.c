@@ -78,12 +78,17 @@ static void switch_to(struct board *board, uint32_t next) {
     load_system(&running(board)->context);
 }
 
+static struct ffa_registers first_registers(const struct context *context) {
+    struct ffa_registers registers;
+    for (unsigned i = 0; i < 8; i++) registers.x[i] = context->x[i];
+    return registers;
+}
+
 /* A call: the trap hands x0 to x7 to the core, and puts back what comes, of whoever runs next. */
 static void serve_call(struct board *board) {
     struct endpoint *caller = running(board);
-    struct ffa_registers registers;
     if (caller->operation.kind != CALL || caller->phase != DOING) unexpected(board, "call");
-    for (unsigned i = 0; i < 8; i++) registers.x[i] = caller->context.x[i];
+    struct ffa_registers registers = first_registers(&caller->context);
     park_tables();
     struct ffa_outcome outcome = ffa_call(&board->machine, &registers);
     after_call(board->running, caller->root, (uint32_t)registers.x[0], (uint32_t)outcome.x[0]);

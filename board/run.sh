@@ -20,7 +20,7 @@ board/run.sh [--install] [--keep FOLDER] [--seed N] [--operations N] [--break-ro
 Runs all scenes on QEMU's machine `virt`, and compares. It takes some minutes, and longer where the core is proved first.
 
   --install             installs Debian's packages for it first: qemu-system-arm and gcc-aarch64-linux-gnu
-  --keep FOLDER         leaves what each scene printed in this folder, by firmware and processor: SCENE.uart, SCENE.trace, SCENE.found and SCENE.expected
+  --keep FOLDER         leaves what each scene printed in this folder: FIRMWARE-PROCESSOR-SCENE.uart, and its .trace, .found and .expected
   --seed N              the seed of operations that are made up; 1 where none is given
   --operations N        how many of them; 10000 where nothing is given
   --break-root          builds a firmware in which one endpoint runs with another's tables, and wants a difference to be found
@@ -45,7 +45,7 @@ refuse() {
     exit 64
 }
 
-keep='' seed=1 operations=10000 install='' breaks=()
+keep='' seed=1 operations=10000 install='' breaks=() manifests=() traces=()
 while (($#)); do
     case $1 in
         --install) install=yes ;;
@@ -76,12 +76,13 @@ if [[ $keep ]]; then mkdir -p "$keep"; fi
 to=$(mktemp -d)
 trap 'rm -rf "$to"' EXIT
 
-# The archive for a target: archive NAME ARGUMENT..
-archive() {
-    local name=$1
-    shift
-    (cd "$top/crates/ffa_c" && rt lib "$@") >"$to/log" 2>&1 || { cat "$to/log" >&2; fail "the archive isn't made"; }
-    cp "$top/crates/ffa_c/out/libffa_c.a" "$to/$name.a"
+# The core's archive for AArch64, as $to/arm.a. An archive that was there, for another target, is there again afterwards.
+make_archive() {
+    local at=$top/crates/ffa_c/out/libffa_c.a
+    if [[ -e $at ]]; then cp -p "$at" "$to/before.a"; fi
+    (cd "$top/crates/ffa_c" && rt lib --target aarch64-unknown-linux-gnu) >"$to/log" 2>&1 || fail "the archive isn't made, rt lib ended with $?: $(cat "$to/log")"
+    mv "$at" "$to/arm.a"
+    if [[ -e $to/before.a ]]; then cp -p "$to/before.a" "$at"; fi
 }
 
 # The code of the endpoints' generators, which stands in pages of their own: no translation of EL1's, no vector registers, no variables.
@@ -101,16 +102,20 @@ build() {
 # Runs a scene, and has the program play what was done: play FIRMWARE PROCESSOR MANIFEST SCENE, true where both print the same. What was
 # printed is in $to/uart, trace, found and expected. A firmware that hangs, or an emulator that doesn't run it, prints no end.
 play() {
-    rm -f "$to/uart"
-    timeout 300 $emulator -machine virt,virtualization=on -cpu "$2" -m 256M -nodefaults -display none -serial "file:$to/uart" \
+    local memory=256M
+    if [[ $1 == high ]]; then memory=3G; fi
+    : >"$to/uart"
+    timeout 300 $emulator -machine virt,virtualization=on -cpu "$2" -m $memory -nodefaults -display none -serial "file:$to/uart" \
         -kernel "$to/$1.elf" -device "loader,file=$3,addr=0x48000000,force-raw=on" \
         -device "loader,file=$4,addr=0x49000000,force-raw=on" </dev/null >&2 || echo "! $emulator ended with $?" >>"$to/uart"
     sed -n 's/^> //p' "$to/uart" >"$to/trace"
     sed -n 's/^< //p' "$to/uart" >"$to/found"
     "$player" run "$3" "$to/trace" >"$to/expected" || fail "the program doesn't play what $(basename "$4") did"
     if [[ $keep ]]; then keep_scene "$1-$2-$(basename "$4")"; fi
-    [[ $(tail -n 1 "$to/uart") == "= end" ]] && cmp -s "$to/expected" "$to/found"
+    has_end && cmp -s "$to/expected" "$to/found"
 }
+
+has_end() { [[ $(tail -n 1 "$to/uart") == "= end" ]]; }
 
 keep_scene() {
     for kind in uart trace found expected; do cp "$to/$kind" "$keep/$1.$kind"; done
@@ -118,7 +123,7 @@ keep_scene() {
 
 # The operations of a text, each written in one way: in upper case, and with no zeros that say nothing.
 operations_of() {
-    sed -E -e '/^(#|$|random)/d' "$1" | tr '[:lower:]' '[:upper:]' |
+    sed -E -e '/^(#|$|random|everywhere)/d' "$1" | tr '[:lower:]' '[:upper:]' |
         sed -E -e '/^CALL/s/( 0+)+$//' -e '/^(CALL|LOAD|FETCH)/s/ 0+([0-9A-F])/ \1/g' -e 's/^STORE 0+([0-9A-F])/STORE \1/'
 }
 
@@ -133,24 +138,31 @@ whole() {
 # How many lines of a file begin with a word.
 count() { grep -c "^$1" "$2" || true; }
 
+# The first lines that differ, of the program and of the processor, and why the board stopped where it did.
+difference() {
+    { diff "$to/expected" "$to/found" || true; } | awk '/^</ && !expected++ || /^>/ && !found++'
+    grep '^!' "$to/uart" || has_end || echo "! the board didn't come to the scene's end"
+}
+
 # One scene on one firmware and one processor, which has to agree: agree FIRMWARE PROCESSOR MANIFEST SCENE
 agree() {
     local name
     name=$(basename "$4")
-    if ! play "$@" || ! whole "$4"; then
+    if ! play "$@"; then
         echo "$name: $1 on $2 differs from the program (< the program, > the processor):" >&2
-        grep '^!' "$to/uart" >&2 || true
-        diff "$to/expected" "$to/found" | head -n 6 >&2 || true
+        difference >&2
         fail "$name differs"
     fi
+    whole "$4" || fail "$name: $1 on $2 left lines out"
     echo "$name: $1 on $2: $(wc -l <"$to/trace") operations, $(count fault "$to/found") faults," \
         "$(count fetch "$to/trace") fetches: as the program prints them"
 }
 
-# A partition tries all of RAM: the first and the last bytes of each page, behind its table pages each word of these, and what the board has
-# elsewhere, as the serial line and the firmware.
+# A partition tries to load from each page of RAM, near its first and its last byte; to store into each table page, and to fetch from it; and
+# all three where the board has other things, as the serial line and the firmware. At the end the processor is asked for every page there is.
 every_page() {
     local address
+    echo everywhere
     echo "call 8400006D 80010000"
     for ((address = 0x40000000; address < 0x40800000; address += 4096)); do
         printf 'load %X 8\nload %X 1\n' $((address + 8)) $((address + 4095))
@@ -173,33 +185,44 @@ generated() {
     awk 'NR == FNR { if (/^[0-9]+: fault/) faults[$1 + 0]; next } !(FNR in faults && /^fetch .*[^048C]$/)' "$to/outcomes" "$to/lines"
 }
 
-# The scenes, as pairs of a manifest and a file: those of examples/, those of board/scenes/, one in which a partition tries every page,
+# Adds scenes of one manifest: add MANIFEST SCENE..
+add() {
+    local scene
+    for scene in "${@:2}"; do manifests+=("$1") traces+=("$scene"); done
+}
+
+# The scenes, each a manifest and a file: those of examples/, those of board/scenes/, one in which a partition tries every page,
 # and operations that are made up by the endpoints and by the program.
 make_scenes() {
-    list=("$scenes/machine.toml $top/examples/first.trace" "$scenes/machine.toml $top/examples/calls.trace")
-    for name in accesses messages sharing; do list+=("$scenes/partitions.toml $top/examples/$name.trace"); done
-    for scene in "$scenes"/*.trace; do list+=("$scenes/four.toml $scene"); done
+    local manifest
+    add "$scenes/machine.toml" "$top"/examples/{first,calls}.trace
+    add "$scenes/partitions.toml" "$top"/examples/{accesses,messages,sharing}.trace
+    add "$scenes/four.toml" "$scenes"/*.trace
     every_page >"$to/every-page"
     printf 'random %X %X\nshow\n' "$seed" "$operations" >"$to/random"
     for manifest in machine four; do generated "$scenes/$manifest.toml" >"$to/generated-$manifest"; done
-    list+=("$scenes/four.toml $to/every-page" "$scenes/generators.toml $to/random")
-    list+=("$scenes/machine.toml $to/generated-machine" "$scenes/four.toml $to/generated-four")
+    sed 's/0x40/0xC0/' "$scenes/four.toml" >"$to/high.toml"
+    generated "$to/high.toml" >"$to/generated-high"
+    add "$scenes/four.toml" "$to/every-page"
+    add "$scenes/generators.toml" "$to/random"
+    add "$scenes/machine.toml" "$to/generated-machine"
+    add "$scenes/four.toml" "$to/generated-four"
 }
 
 # All scenes on one firmware and one processor.
 all_agree() {
-    local pair
-    for pair in "${list[@]}"; do agree "$1" "$2" "${pair% *}" "${pair#* }"; done
+    local i
+    for i in "${!traces[@]}"; do agree "$1" "$2" "${manifests[i]}" "${traces[i]}"; done
 }
 
 # A firmware that is broken, and the first scene that shows it: found FIRMWARE WHAT
 found() {
-    local pair
-    for pair in "${list[@]}"; do
-        if ! play "$1" cortex-a57 "${pair% *}" "${pair#* }"; then
+    local i
+    for i in "${!traces[@]}"; do
+        if ! play "$1" cortex-a57 "${manifests[i]}" "${traces[i]}"; then
             [[ -s $to/found ]] || fail "$2: $emulator ran nothing"
-            echo "$2: found by $(basename "${pair#* }")"
-            diff "$to/expected" "$to/found" | head -n 3 || true
+            echo "$2: found by $(basename "${traces[i]}")"
+            difference
             return
         fi
     done
@@ -214,18 +237,19 @@ find_break() {
     esac
 }
 
-archive arm --target aarch64-unknown-linux-gnu
-archive native
+make_archive
 make_scenes
 build_generator
 build documented
 if ((${#breaks[@]})); then
-    agree documented cortex-a57 "${list[0]% *}" "${list[0]#* }"
+    agree documented cortex-a57 "${manifests[0]}" "${traces[0]}"
 else
     build unparked -DPARK=0
     all_agree documented cortex-a57
     all_agree documented max
     all_agree unparked cortex-a57
+    build high -DRAM_BASE=0xC0000000
+    agree high cortex-a57 "$to/high.toml" "$to/generated-high"
     breaks=(root invalidation vectors)
 fi
 for name in "${breaks[@]}"; do find_break "$name"; done

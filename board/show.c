@@ -1,9 +1,14 @@
 #include "board.h"
+#include "doing.h"
 #include "layout.h"
+#include "processor.h"
 #include "tables.h"
 #include "text.h"
 
+SYSTEM_REGISTER(par_el1)
+
 #define MOST_PAGES (32 * 512)
+#define ALL_PAGES (1u << 20) /* of the 2^32 addresses that stage 2 takes */
 
 /* What each endpoint may do with each page: bit 0 is to load, bit 1 to store, bit 2 to fetch. */
 static uint8_t reached[FFA_MOST_ENDPOINTS][MOST_PAGES];
@@ -17,6 +22,26 @@ static void ask_walks(struct board *board, uint32_t place) {
         unsigned fetches = ffa_access(&board->machine, endpoint->identifier, page) & FFA_EXECUTE;
         reached[place][page] = (uint8_t)(fetches | (walk_reads(address) ? 1u : 0u) | (walk_writes(address) ? 2u : 0u));
     }
+}
+
+/* The first page outside RAM that the walk of an endpoint's tables gives it, and ALL_PAGES where there is none. */
+static uint32_t reached_outside(struct board *board, uint32_t place) {
+    uint32_t first = RAM_BASE / FFA_PAGE_BYTES, page = 0;
+    walk_tables(place, board->endpoints[place].root);
+    for (; page < ALL_PAGES; page++) {
+        uint64_t address = (uint64_t)FFA_PAGE_BYTES * page;
+        bool outside = page < first || page >= first + board->pages;
+        if (outside && (walk_reads(address) || walk_writes(address))) break;
+    }
+    return page;
+}
+
+void look_outside(struct board *board) {
+    uint64_t kept = read_par_el1();
+    for (uint32_t place = 0; place < board->count; place++) {
+        if (reached_outside(board, place) != ALL_PAGES) unexpected(board, "page outside RAM");
+    }
+    write_par_el1(kept);
 }
 
 static bool is_as_before(struct board *board, uint32_t page) {
@@ -39,14 +64,27 @@ static void put_run(struct board *board, uint32_t first, uint32_t behind) {
     put_text("\n");
 }
 
-void show(struct board *board) {
+/* Asks all walks. PAR_EL1, in which they answer, is the endpoint's that runs, and stays. */
+static void ask_all(struct board *board) {
+    uint64_t kept = read_par_el1();
     for (uint32_t place = 0; place < board->count; place++) ask_walks(board, place);
+    write_par_el1(kept);
+}
+
+/* The page behind the run that begins with a page. */
+static uint32_t behind_run(struct board *board, uint32_t first) {
+    uint32_t behind = first + 1;
+    while (behind < board->pages && is_as_before(board, behind)) behind++;
+    return behind;
+}
+
+void show(struct board *board) {
+    ask_all(board);
     put_text("< runner ");
     put_hex(board->endpoints[board->running].identifier, 4);
     put_text("\n");
     for (uint32_t first = 0, behind; first < board->pages; first = behind) {
-        behind = first + 1;
-        while (behind < board->pages && is_as_before(board, behind)) behind++;
+        behind = behind_run(board, first);
         put_run(board, first, behind);
     }
 }

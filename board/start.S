@@ -49,7 +49,7 @@ _start:
         add     x0, x0, :lo12:stack_top
         msr     spsel, #1
         mov     sp, x0
-        mov     x0, #0x33ff             /* CPTR_EL2: vector registers aren't trapped */
+        mov     x0, #0x33ff             /* CPTR_EL2 (DDI 0487): TFP 0, vector registers don't trap */
         msr     cptr_el2, x0
         adrp    x0, vectors
         add     x0, x0, :lo12:vectors
@@ -73,12 +73,12 @@ clear:
         b       0b
 1:      ret
 
-/* Turns on EL2's own translation, each address to itself: devices below 1 GiB, and normal memory in the next. With it off, an
+/* Turns on EL2's own translation, each address to itself: devices below 1 GiB, and normal memory in the next three. With it off, an
  * access that isn't aligned would fault, and compiled code makes some. */
 translate:
-        ldr     x0, =0x000000000000ff   /* 0: normal, write-back; 1: device */
+        ldr     x0, =0x000000000000ff   /* MAIR_EL2, 0: normal, write-back; 1: device */
         msr     mair_el2, x0
-        ldr     x0, =0x80823520         /* 32 bits, 4 KiB, write-back, inner shareable, 40 bits of physical address */
+        ldr     x0, =0x80823520         /* TCR_EL2: 32 bits, 4 KiB, write-back, inner shareable, 40 bits of physical address */
         msr     tcr_el2, x0
         adrp    x0, own_table
         add     x0, x0, :lo12:own_table
@@ -89,7 +89,7 @@ translate:
         ic      iallu
         dsb     ish
         isb
-        ldr     x0, =0x30c51835         /* with caches */
+        ldr     x0, =0x30c51835         /* SCTLR_EL2: M, C and I */
         msr     sctlr_el2, x0
         isb
         ret
@@ -98,9 +98,9 @@ translate:
         .balign 4096
 own_table:
         .quad   0x0040000000000445      /* a block of device memory, never executed */
-        .quad   0x0000000040000741      /* a block of normal memory, inner shareable */
-        .quad   0
-        .quad   0
+        .quad   0x0000000040000741      /* blocks of normal memory, inner shareable */
+        .quad   0x0000000080000741
+        .quad   0x00000000C0000741
 
         .section .text, "ax"
 

@@ -5,13 +5,16 @@
 
 SYSTEM_REGISTER(par_el1)
 
-/* HCR_EL2: stage 2 is on, EL1 is AArch64, its SMC, WFI and WFE trap, interrupts go to EL2, and memory that EL1 accesses with its own
- * translation off is normal, write-back. */
+/* The fields of registers are those of DDI 0487, under the register's name.
+ *
+ * HCR_EL2: stage 2 is on (VM), EL1 is AArch64 (RW), its SMC, WFI and WFE trap (TSC, TWI, TWE), interrupts go to EL2 (FMO, IMO, AMO), and EL1 has no
+ * translation of its own, with memory that is normal and write-back (DC). */
 #define HCR (UINT64_C(1) << 0 | UINT64_C(7) << 3 | UINT64_C(7) << 12 | UINT64_C(1) << 19 | UINT64_C(1) << 31)
 
-/* VTCR_EL2: T0SZ 32, SL0 1, write-back walks, inner shareable, TG0 0 and 40 bits of physical address. */
+/* VTCR_EL2: T0SZ 32, SL0 1, write-back walks (IRGN0, ORGN0) that are inner shareable (SH0), TG0 0 and 40 bits of physical address (PS). */
 #define VTCR (UINT64_C(32) | UINT64_C(1) << 6 | UINT64_C(5) << 8 | UINT64_C(3) << 12 | UINT64_C(2) << 16 | UINT64_C(1) << 31)
 
+/* VTTBR_EL2.VMID has 8 bits, as VTCR_EL2.VS is 0. Endpoints have 1 and on. */
 #define PARKED_VMID 255
 
 static _Alignas(4096) const uint64_t maps_nothing[512];
