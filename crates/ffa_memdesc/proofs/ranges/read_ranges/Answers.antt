@@ -1,4 +1,4 @@
-use Rattle.std.proofs.Common.{◌≡◌, refl, arith}
+use Rattle.std.proofs.Common.{◌≡◌, refl, arith, rules}
 use Rattle.ffa_memdesc.proofs.Entries.{ranges_more, ranges_end}
 use Rattle.ffa_memdesc.proofs.ranges.read_ranges.Goals as goal
 
@@ -10,3 +10,6 @@ pub returns-clause-found : goal.returns-clause-found
 returns-clause-found g c =
     let ended : c.loop-i.i ≡ c.args.count = (let test = c.loop-i-test.false in let auto = c.loop-i.auto.i-end in omega arith) in
     ranges_end (g.B.Bytes.bytes c.args.bytes.now) c.args.composite c.loop-i.i c.args.count c.loop-i.ranges.items ended c.loop-i.invariant.1
+
+pub returns-in-Err-clause-broken : goal.returns-in-Err-clause-broken
+returns-in-Err-clause-broken g c = search rules
