@@ -6,8 +6,8 @@ ghost use Rattle.ffa_abi.specs.Parts.{called_in, payload_of, transfer_of, widest
 use ffa_model::function::*;
 use ffa_model::{Call, Transfer};
 
-// The low half of a register.
-pub(crate) fn low(register: u64) -> u32
+/// The low half of a register.
+pub fn low(register: u64) -> u32
     ensures { result ≡ low register }
 {
     (register % (1 << 32)) as u32

@@ -14,7 +14,7 @@ use Rattle.ffa_command.specs.declared.command_line.DescriptorWords.{DescriptorWo
 use Rattle.ffa_command.specs.declared.command_line.MachineOptions.{MachineOptions}
 use Rattle.ffa_command.specs.declared.command_line.TextOptions.{TextOptions}
 use Rattle.ffa_command.specs.declared.command_line.Request.{Request}
-use Rattle.ffa_command.specs.declared.command_line.Request.TheVariants.{Run, Demo, Compare, Check, Layout, Descriptor, Generate}
+use Rattle.ffa_command.specs.declared.command_line.Request.TheVariants.{Run, Demo, Compare, Check, Layout, Descriptor, Generate, Picture}
 
 -- a path that has to be given
 abbrev pub path_rule : Text → Rule
@@ -49,10 +49,13 @@ with_expected app = with_rule app (path_rule (codes "expected"))
 abbrev pub with_machine_flags : App → App
 with_machine_flags app = with_rule (with_rule app (flag_rule (codes "frames"))) (flag_rule (codes "tlb"))
 
--- how the text is written: line by line, with numbers of lines, and with names
+abbrev pub with_explain : App → App
+with_explain app = with_rule app (flag_rule (codes "explain"))
+
+-- how the text is written: line by line, with numbers of lines, with names, and with the reasons of refusals
 abbrev pub with_text_flags : App → App
 with_text_flags app =
-    with_rule (with_rule (with_rule app (flag_rule (codes "line-buffered"))) (flag_rule (codes "number"))) (flag_rule (codes "names"))
+    with_explain (with_rule (with_rule (with_rule app (flag_rule (codes "line-buffered"))) (flag_rule (codes "number"))) (flag_rule (codes "names")))
 
 abbrev pub with_strict : App → App
 with_strict app = with_rule app (flag_rule (codes "strict"))
@@ -67,7 +70,7 @@ unfoldable pub demo_app : App
 demo_app = with_verbose (with_strict (with_text_flags (with_machine_flags (with_trace (new_app (codes "demo"))))))
 
 unfoldable pub compare_app : App
-compare_app = with_verbose (with_machine_flags (with_expected (with_trace (with_manifest (new_app (codes "compare"))))))
+compare_app = with_verbose (with_explain (with_machine_flags (with_expected (with_trace (with_manifest (new_app (codes "compare")))))))
 
 unfoldable pub check_app : App
 check_app = with_verbose (with_manifest (new_app (codes "check")))
@@ -99,6 +102,10 @@ with_size app = with_rule (with_rule app (number_rule (codes "seed") (codes "1")
 unfoldable pub generate_app : App
 generate_app = with_verbose (with_rule (with_size (with_manifest (new_app (codes "generate")))) (flag_rule (codes "count")))
 
+-- which lines have a row
+unfoldable pub picture_app : App
+picture_app = with_verbose (with_rule (with_trace (with_manifest (new_app (codes "picture")))) (number_rule (codes "every") (codes "0")))
+
 -- the program, which has a version and has to be given a command
 unfoldable pub bare : App
 bare = record (new_app (codes "ffaplay")) { top = record (new_app (codes "ffaplay")).top { subcommand_required = true; has_version = true } }
@@ -114,7 +121,7 @@ abbrev pub with_writers : App → App
 with_writers app = with_subcommand (with_subcommand app descriptor_app.top) generate_app.top
 
 unfoldable pub program : App
-program = with_writers (with_manifests (with_plays bare))
+program = with_subcommand (with_writers (with_manifests (with_plays bare))) picture_app.top
 
 -- what a descriptor is to hold, in words
 pub record Described : Type 0 where
@@ -147,53 +154,58 @@ words_of w = record {
 pub data Ask : Type 0 where
   run : Text → Text → MachineOptions → TextOptions → (strict verbose : Bool) → Ask
   demo : Text → MachineOptions → TextOptions → (strict verbose : Bool) → Ask
-  compare : Text → Text → Text → MachineOptions → Bool → Ask
+  compare : Text → Text → Text → MachineOptions → (explain verbose : Bool) → Ask
   check : Text → Bool → Ask
   layout : Text → Bool → Ask
   descriptor : Described → Ask
   generate : Text → (seed lines : ℕ) → (count verbose : Bool) → Ask
+  picture : Text → Text → (every : ℕ) → Bool → Ask
 
 abbrev pub ask_of : Request → Ask
 ask_of (Run manifest trace machine text strict verbose) = run manifest.now trace.now machine text strict verbose
 ask_of (Demo trace machine text strict verbose) = demo trace.now machine text strict verbose
-ask_of (Compare manifest trace expected machine verbose) = compare manifest.now trace.now expected.now machine verbose
+ask_of (Compare manifest trace expected machine explain verbose) = compare manifest.now trace.now expected.now machine explain verbose
 ask_of (Check manifest verbose) = check manifest.now verbose
 ask_of (Layout manifest verbose) = layout manifest.now verbose
 ask_of (Descriptor words) = descriptor (words_of words)
 ask_of (Generate manifest seed lines count verbose) = generate manifest.now seed lines count verbose
+ask_of (Picture manifest trace every verbose) = picture manifest.now trace.now every verbose
 
 -- the path of the manifest that is asked for, that of the trace, and that of the expected text
 abbrev pub manifest_of : Ask → Option Text
 manifest_of (run m t o w s v) = Some m
 manifest_of (demo t o w s v) = None
-manifest_of (compare m t e o v) = Some m
+manifest_of (compare m t e o x v) = Some m
 manifest_of (check m v) = Some m
 manifest_of (layout m v) = Some m
 manifest_of (descriptor d) = None
 manifest_of (generate m s l c v) = Some m
+manifest_of (picture m t e v) = Some m
 
 abbrev pub trace_of : Ask → Option Text
 trace_of (run m t o w s v) = Some t
 trace_of (demo t o w s v) = Some t
-trace_of (compare m t e o v) = Some t
+trace_of (compare m t e o x v) = Some t
 trace_of (check m v) = None
 trace_of (layout m v) = None
 trace_of (descriptor d) = None
 trace_of (generate m s l c v) = None
+trace_of (picture m t e v) = Some t
 
 abbrev pub expected_of : Ask → Option Text
-expected_of (compare m t e o v) = Some e
+expected_of (compare m t e o x v) = Some e
 expected_of _ = None
 
 -- whether more is to be said of what is refused
 abbrev pub verbose_of : Ask → Bool
 verbose_of (run m t o w s v) = v
 verbose_of (demo t o w s v) = v
-verbose_of (compare m t e o v) = v
+verbose_of (compare m t e o x v) = v
 verbose_of (check m v) = v
 verbose_of (layout m v) = v
 verbose_of (descriptor d) = false
 verbose_of (generate m s l c v) = v
+verbose_of (picture m t e v) = v
 
 -- whether a path is given and is `-`, which stands for standard input
 unfoldable pub is_input : Option Text → Bool
@@ -203,11 +215,12 @@ is_input path = option_map_or (λ p. bytes_eq p (codes "-")) path false
 abbrev pub answers_at_once : Ask → Bool
 answers_at_once (run m t o w s v) = w.line_buffered || is_input (Some t)
 answers_at_once (demo t o w s v) = w.line_buffered || is_input (Some t)
-answers_at_once (compare m t e o v) = false
+answers_at_once (compare m t e o x v) = false
 answers_at_once (check m v) = false
 answers_at_once (layout m v) = false
 answers_at_once (descriptor d) = false
 answers_at_once (generate m s l c v) = false
+answers_at_once (picture m t e v) = false
 
 -- standard input can be read once: at most one of the paths is `-`
 unfoldable pub reads_once : Ask → Bool
@@ -230,6 +243,7 @@ text_in rows = record {
   line_buffered = is_given (codes "line-buffered") rows;
   number = is_given (codes "number") rows;
   names = is_given (codes "names") rows;
+  explain = is_given (codes "explain") rows;
 }
 
 -- what the matches of a command name
@@ -243,7 +257,7 @@ named_demo rows = option_and_then (λ t. Some (demo t (machine_in rows) (text_in
 
 unfoldable pub named_compare : List Row → Option Ask
 named_compare rows =
-    option_and_then (λ m. option_and_then (λ t. option_and_then (λ e. Some (compare m t e (machine_in rows) (is_given (codes "verbose") rows)))
+    option_and_then (λ m. option_and_then (λ t. option_and_then (λ e. Some (compare m t e (machine_in rows) (is_given (codes "explain") rows) (is_given (codes "verbose") rows)))
     (first_of (codes "expected") rows)) (first_of (codes "trace") rows)) (first_of (codes "manifest") rows)
 
 unfoldable pub named_check : List Row → Option Ask
@@ -276,6 +290,11 @@ named_generate rows =
     option_and_then (λ m. option_and_then (λ seed. option_and_then (λ lines. Some (generate m seed lines (is_given (codes "count") rows) (is_given (codes "verbose") rows)))
     (option_and_then number_of (first_of (codes "lines") rows))) (option_and_then number_of (first_of (codes "seed") rows))) (first_of (codes "manifest") rows)
 
+unfoldable pub named_picture : List Row → Option Ask
+named_picture rows =
+    option_and_then (λ m. option_and_then (λ t. option_and_then (λ every. Some (picture m t every (is_given (codes "verbose") rows)))
+    (option_and_then number_of (first_of (codes "every") rows))) (first_of (codes "trace") rows)) (first_of (codes "manifest") rows)
+
 unfoldable pub named : Text → List Row → Option Ask
 named name rows =
     if bytes_eq name (codes "run") then named_run rows
@@ -285,6 +304,7 @@ named name rows =
     else if bytes_eq name (codes "layout") then named_layout rows
     else if bytes_eq name (codes "descriptor") then named_descriptor rows
     else if bytes_eq name (codes "generate") then named_generate rows
+    else if bytes_eq name (codes "picture") then named_picture rows
     else None
 
 -- what the command that was met names, by its name and its matches

@@ -2,7 +2,7 @@
 ghost use Rattle.std.specs.Prelude.{◌≡◌, option_map};
 ghost use Rattle.std.specs.Option.{option_and_then};
 ghost use Rattle.clap.specs.Words.{found_of, first_of, rows_of, subcommand_rows_of};
-ghost use Rattle.ffa_command.specs.Commands.{ask_of, words_of, manifest_of, trace_of, expected_of, verbose_of, answers_at_once, is_input, reads_once, asked_in, is_given, number_of, machine_in, text_in, words_in, named_in, named, named_run, named_demo, named_compare, named_check, named_layout, named_descriptor, named_generate};
+ghost use Rattle.ffa_command.specs.Commands.{ask_of, words_of, manifest_of, trace_of, expected_of, verbose_of, answers_at_once, is_input, reads_once, asked_in, is_given, number_of, machine_in, text_in, words_in, named_in, named, named_run, named_demo, named_compare, named_check, named_layout, named_descriptor, named_generate, named_picture};
 
 use clap::ArgMatches;
 
@@ -27,6 +27,8 @@ pub struct TextOptions {
     pub number: bool,
     /// The name of a call and of an error stands behind its registers.
     pub names: bool,
+    /// A line under the text of an operation that is refused says why.
+    pub explain: bool,
 }
 
 /// The words that say what a descriptor of a memory transaction is to hold, as they were given.
@@ -54,8 +56,9 @@ pub struct DescriptorWords<'a> {
 
 /// A command with its paths, which are words of the command line, and what its flags say.
 ///
-/// At most one of its paths is `STANDARD_INPUT`. Where `strict` is set, the trace's guards are checked. Where `verbose` is set,
-/// more is said on standard error of what is refused.
+/// At most one of its paths is `STANDARD_INPUT`. Where `strict` is set, the trace's guards are checked. Where `explain` is set, a
+/// difference is told with why the operation is refused at which it is. Where `verbose` is set, more is said on standard error
+/// of what is refused.
 #[derive(Clone, Copy, Debug, PartialEq, Eq)]
 pub enum Request<'a> {
     /// To play a trace on the machine of a manifest.
@@ -81,6 +84,7 @@ pub enum Request<'a> {
         trace: &'a str,
         expected: &'a str,
         machine: MachineOptions,
+        explain: bool,
         verbose: bool,
     },
     /// To say whether a manifest is accepted.
@@ -105,6 +109,14 @@ pub enum Request<'a> {
         count: bool,
         verbose: bool,
     },
+    /// To print a picture of who reaches which page along a trace on the machine of a manifest: with a row for each line whose
+    /// number is a multiple of `every`, or where that is 0 for each line that changes the certificate.
+    Picture {
+        manifest: &'a str,
+        trace: &'a str,
+        every: u64,
+        verbose: bool,
+    },
 }
 
 impl<'a> Request<'a> {
@@ -117,7 +129,8 @@ impl<'a> Request<'a> {
             | Request::Compare { manifest, .. }
             | Request::Check { manifest, .. }
             | Request::Layout { manifest, .. }
-            | Request::Generate { manifest, .. } => Some(manifest),
+            | Request::Generate { manifest, .. }
+            | Request::Picture { manifest, .. } => Some(manifest),
             Request::Demo { .. } | Request::Descriptor { .. } => None,
         }
     }
@@ -129,7 +142,8 @@ impl<'a> Request<'a> {
         match *self {
             Request::Run { trace, .. }
             | Request::Demo { trace, .. }
-            | Request::Compare { trace, .. } => Some(trace),
+            | Request::Compare { trace, .. }
+            | Request::Picture { trace, .. } => Some(trace),
             Request::Check { .. }
             | Request::Layout { .. }
             | Request::Descriptor { .. }
@@ -157,7 +171,8 @@ impl<'a> Request<'a> {
             | Request::Compare { verbose, .. }
             | Request::Check { verbose, .. }
             | Request::Layout { verbose, .. }
-            | Request::Generate { verbose, .. } => verbose,
+            | Request::Generate { verbose, .. }
+            | Request::Picture { verbose, .. } => verbose,
             Request::Descriptor { .. } => false,
         }
     }
@@ -176,7 +191,8 @@ impl<'a> Request<'a> {
             | Request::Check { .. }
             | Request::Layout { .. }
             | Request::Descriptor { .. }
-            | Request::Generate { .. } => false,
+            | Request::Generate { .. }
+            | Request::Picture { .. } => false,
         }
     }
 
@@ -244,6 +260,7 @@ fn text_in(matches: &ArgMatches<'_>) -> TextOptions
         line_buffered: is_given(matches, "line-buffered"),
         number: is_given(matches, "number"),
         names: is_given(matches, "names"),
+        explain: is_given(matches, "explain"),
     }
 }
 
@@ -289,6 +306,7 @@ fn named_compare<'a>(matches: &ArgMatches<'a>) -> Option<Request<'a>>
         trace,
         expected,
         machine: machine_in(matches),
+        explain: is_given(matches, "explain"),
         verbose: is_given(matches, "verbose"),
     })
 }
@@ -355,6 +373,21 @@ fn named_generate<'a>(matches: &ArgMatches<'a>) -> Option<Request<'a>>
     })
 }
 
+#[tactic(auto, unfolding(crate::specs::Commands::named_picture))]
+fn named_picture<'a>(matches: &ArgMatches<'a>) -> Option<Request<'a>>
+    ensures { option_map ask_of result ≡ named_picture (rows_of (found_of matches.now)) }
+{
+    let manifest = text_of(matches, "manifest")?;
+    let trace = text_of(matches, "trace")?;
+    let every = number_of(matches, "every")?;
+    Some(Request::Picture {
+        manifest,
+        trace,
+        every,
+        verbose: is_given(matches, "verbose"),
+    })
+}
+
 #[tactic(auto, unfolding(crate::specs::Commands::named))]
 fn named<'a>(name: &str, matches: &ArgMatches<'a>) -> Option<Request<'a>>
     ensures { option_map ask_of result ≡ named name.now (rows_of (found_of matches.now)) }
@@ -373,6 +406,8 @@ fn named<'a>(name: &str, matches: &ArgMatches<'a>) -> Option<Request<'a>>
         named_descriptor(matches)
     } else if name == "generate" {
         named_generate(matches)
+    } else if name == "picture" {
+        named_picture(matches)
     } else {
         None
     }

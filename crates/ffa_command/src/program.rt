@@ -104,6 +104,11 @@ const NAMES: Word = Word::Flag {
     help: "Writes the name of a call and of an error behind its registers",
 };
 
+const EXPLAIN: Word = Word::Flag {
+    id: "explain",
+    help: "Says under each text why its operation is refused, in a line that begins with `# refused: `",
+};
+
 const STRICT: Word = Word::Flag {
     id: "strict",
     help: "Checks guards: `#= TEXT`, which the line before prints, and `#@ ENDPOINT`, which runs",
@@ -125,6 +130,7 @@ const RUN: Entry = Entry {
         LINE_BUFFERED,
         NUMBER,
         NAMES,
+        EXPLAIN,
         STRICT,
         VERBOSE,
     ],
@@ -140,6 +146,7 @@ const DEMO: Entry = Entry {
         LINE_BUFFERED,
         NUMBER,
         NAMES,
+        EXPLAIN,
         STRICT,
         VERBOSE,
     ],
@@ -148,7 +155,7 @@ const DEMO: Entry = Entry {
 const COMPARE: Entry = Entry {
     name: "compare",
     about: "Compares what a trace prints with what is expected",
-    words: &[MANIFEST, TRACE, EXPECTED, FRAMES, TLB, VERBOSE],
+    words: &[MANIFEST, TRACE, EXPECTED, FRAMES, TLB, EXPLAIN, VERBOSE],
 };
 
 const CHECK: Entry = Entry {
@@ -251,6 +258,18 @@ const GENERATE: Entry = Entry {
     words: &[MANIFEST, SEED, LINES, COUNT, VERBOSE],
 };
 
+const EVERY: Word = Word::Number {
+    id: "every",
+    help: "A row for each line whose number is a multiple of this; with 0 for each that changes a cell",
+    usual: "0",
+};
+
+const PICTURE: Entry = Entry {
+    name: "picture",
+    about: "Prints a picture, as SVG, of who reaches which page along a trace",
+    words: &[MANIFEST, TRACE, EVERY, VERBOSE],
+};
+
 fn arg<'a>(alloc: Global, word: &Word<'a>) -> Arg<'a>
     ensures rule { rule_of result ≡ rule_for word.now }
     ensures local { result.global ≡ false }
@@ -327,12 +346,14 @@ fn with_commands<'a>(alloc: Global, entries: &[Entry<'a>]) -> Result<Command<'a>
 }
 
 /// The program's command line.
-#[tactic(auto, unfolding(crate::specs::Commands::program, crate::specs::Commands::run_app, crate::specs::Commands::demo_app, crate::specs::Commands::compare_app, crate::specs::Commands::check_app, crate::specs::Commands::layout_app, crate::specs::Commands::descriptor_app, crate::specs::Commands::generate_app))]
+#[tactic(auto, unfolding(crate::specs::Commands::program, crate::specs::Commands::run_app, crate::specs::Commands::demo_app, crate::specs::Commands::compare_app, crate::specs::Commands::check_app, crate::specs::Commands::layout_app, crate::specs::Commands::descriptor_app, crate::specs::Commands::generate_app, crate::specs::Commands::picture_app))]
 pub(crate) fn program<'a>(alloc: Global) -> Result<Command<'a>, AllocError>
     ensures { IfOk result (λ c. app_of c ≡ program) }
 {
     with_commands(
         alloc,
-        &[RUN, DEMO, COMPARE, CHECK, LAYOUT, DESCRIPTOR, GENERATE],
+        &[
+            RUN, DEMO, COMPARE, CHECK, LAYOUT, DESCRIPTOR, GENERATE, PICTURE,
+        ],
     )
 }

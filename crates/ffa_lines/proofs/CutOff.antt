@@ -1,4 +1,4 @@
--- In each form the plain text is what is left when numbers and names are cut off.
+-- In each form the plain text is what is left when numbers and names are cut off and reasons left out.
 use Rattle.std.proofs.Common.{◌≡◌, ℕ, suc, zero, ◌+◌, ◌*◌, ◌/◌, ◌%◌, ◌^◌, ◌-◌, Bool, true, false, List, [], ◌∷◌, ◌++◌, length, take, Option, None, Some, inl, inr, sym, ap, ◌∙◌, subst, arith, append-nil, refl}
 use Rattle.std.specs.Prelude.{◌==◌, codes, nat_lt, slice_index, if◌then◌else◌}
 use Rattle.std.specs.List.{list_all, flat_map, range_with_len}
@@ -23,24 +23,16 @@ use Rattle.ffa_model.specs.Identifiers.{identifier}
 use Rattle.ffa_model.specs.Step.{step}
 use Rattle.ffa_model.specs.TraceLines.{Line, operate, show, audit, skip, space, has_no_feed, line_of}
 use Rattle.ffa_model.specs.TraceText.{digit, hex, spaced, ended, fault_name, bytes_moved, outcome_words, outcome_text, rights_text, runs_of, run_text, runner_text, show_text, cert_text, root_text, handle_text, cert_run_text, audit_text, line_text, text_of, text, after}
-use Rattle.ffa_abi.specs.Names.{Row, call_names, error_names, name_in, call_name_of, error_name_of}
+use Rattle.ffa_abi.specs.Names.{Row, error_names, name_in, call_name_of, error_name_of}
 use Rattle.ffa_lines.specs.Cut.{CutsTo, cut_names}
-use Rattle.ffa_lines.specs.Forms.{names_mark, number_in, outcome_in, line_text_in, text_of_in, text_in}
+use Rattle.ffa_lines.specs.Forms.{names_mark, number_in, outcome_in, unnumbered_in, line_text_in, text_of_in, text_in}
+use Rattle.ffa_lines.specs.Reasons.{reason_if}
 use Rattle.ffa_lines.specs.declared.form.Form.{Form}
 use Rattle.ffa_lines.proofs.Cuts.{is_inner, IsInner, is_headed, inner_append, inner_flat_map, inner_above, inner_single, cut_names-inner, cut_names-mark, cuts_none, cuts_append, cuts_flat_map, cuts_line, cuts_words, cuts_first}
+use Rattle.ffa_lines.proofs.PrintedWords.{inner_hex, single_in, single_call}
+use Rattle.ffa_lines.proofs.ReasonLines.{reason_cuts}
 
 -- WORDS
-
-inner_digit : (d : ℕ) → is_inner (digit d) ≡ true
-inner_digit d =
-    elim (cases_Bool (nat_lt d 10)) [
-      | inl few ↦ rw few (inner_above (48 + d) (omega arith))
-      | inr many ↦ rw many (inner_above (55 + d) (omega arith))
-    ]
-
-inner_hex : (n x : ℕ) → IsInner (hex n x)
-inner_hex zero x = refl
-inner_hex (suc n) x = and_from _ _ (inner_digit (x / 16 ^ n % 16)) (inner_hex n x)
 
 inner_fault : (kind : FaultKind) → IsInner (fault_name kind)
 inner_fault Translation = refl
@@ -85,19 +77,6 @@ inner_pages first last owner more p q r s =
     (inner_append (codes "pages" ++ spaced first ++ spaced last) (spaced owner) (inner_append (codes "pages" ++ spaced first) (spaced last) p q) r) s
 
 -- NAMES
-
-single_in : (rows : List Row) (number : ℕ) → list_all (λ (row : Row). has_no_feed row.1) rows ≡ true → option_map_or has_no_feed (name_in rows number) true ≡ true
-single_in [] number h = refl
-single_in (row ∷ rows) number h =
-    let parts = and_parts (has_no_feed row.1) (list_all (λ (row : Row). has_no_feed row.1) rows) h in
-    elim (cases_Bool (row.0 == number)) [
-      | inl here ↦ rw here parts.0
-      | inr other ↦ rw other (single_in rows number parts.1)
-    ]
-
-single_call : (x : List ℕ) → option_map_or has_no_feed (call_name_of x) true ≡ true
-unfolding call_name_of
-single_call x = single_in call_names (low (slice_index x 0)) refl
 
 single_where : (b : Bool) (error : Option (List ℕ)) → option_map_or has_no_feed error true ≡ true → option_map_or has_no_feed (if b then error else None) true ≡ true
 single_where true error h = h
@@ -204,11 +183,19 @@ audit_cuts form n s =
 
 -- TEXTS
 
+-- with a line of a reason behind it, where one is asked for
+spoken_cuts : (form : Form) (n : ℕ) (s : State) (line : Line) → CutsTo (number_in form n ++ unnumbered_in form s line) (line_text s line)
+    → CutsTo (number_in form n ++ unnumbered_in form s line ++ reason_if form.explain s line) (line_text s line)
+spoken_cuts form n s line own =
+    let front = number_in form n ++ unnumbered_in form s line in
+    subst (CutsTo (front ++ reason_if form.explain s line)) (append-nil (line_text s line))
+    (cuts_append front (line_text s line) (reason_if form.explain s line) [] own (reason_cuts form.explain s line))
+
 line_cuts : (form : Form) (n : ℕ) (s : State) (line : Option Line) → CutsTo (option_map_or (line_text_in form n s) line []) (option_map_or (line_text s) line [])
 line_cuts form n s None = cuts_none
-line_cuts form n s (Some (operate op)) = outcome_cuts form n op (step s op).outcome
-line_cuts form n s (Some show) = show_cuts form n s
-line_cuts form n s (Some audit) = audit_cuts form n s
+line_cuts form n s (Some (operate op)) = spoken_cuts form n s (operate op) (outcome_cuts form n op (step s op).outcome)
+line_cuts form n s (Some show) = spoken_cuts form n s show (show_cuts form n s)
+line_cuts form n s (Some audit) = spoken_cuts form n s audit (audit_cuts form n s)
 line_cuts form n s (Some skip) = cuts_none
 
 cuts_of : (form : Form) (n : ℕ) (s : State) (bytes : List ℕ) → CutsTo (text_of_in form n s bytes) (text_of s bytes)

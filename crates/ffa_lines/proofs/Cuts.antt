@@ -1,16 +1,17 @@
--- What is left of a line, and of texts one behind the other, when numbers and names are cut off.
+-- What is left of a line, and of texts one behind the other, when numbers and names are cut off and reasons left out.
 use Rattle.std.proofs.Common.{◌≡◌, ℕ, suc, zero, ◌+◌, ◌/◌, ◌%◌, ◌<◌, ◌≤◌, Bool, true, false, List, [], ◌∷◌, ◌++◌, length, map, drop, inl, inr, sym, ap, ◌∙◌, subst, arith, append_assoc, refl}
-use Rattle.std.specs.Prelude.{◌==◌, ◌&&◌, not, codes, decimal, nat_eq}
+use Rattle.std.specs.Prelude.{◌==◌, ◌&&◌, not, codes, decimal, filter, nat_eq}
 use Rattle.std.specs.Fmt.{digits, digits_onto, digit_glyph}
 use Rattle.std.specs.List.{list_all, flat_map, prefix_len, starts_with}
 use Rattle.std.proofs.lemmas.Bool.{cases_Bool, and_parts, and_from, and_left, and_right, not-true, leb-true, le-leb, lt-ltb, ne_eqb}
 use Rattle.std.proofs.lemmas.List.{map-append}
+use Rattle.std.proofs.lemmas.List.Elements.{filter-append}
 use Rattle.std.proofs.lemmas.List.Folds.{list_all-append}
 use Rattle.std.proofs.Math.Seq.{drop-append_seam, drop-append-add}
 use Rattle.ffa_model.specs.TraceLines.{feed, hash, has_no_feed, joined}
 use Rattle.ffa_model.specs.TraceText.{ended}
 use Rattle.ffa_trace.proofs.Runs.{joined-append}
-use Rattle.ffa_lines.specs.Cut.{CutsTo, is_digit, cut_number, cut_names, cut_line}
+use Rattle.ffa_lines.specs.Cut.{CutsTo, is_digit, is_reason, cut_number, cut_names, cut_line}
 use Rattle.ffa_lines.specs.Forms.{number_in}
 use Rattle.ffa_lines.specs.declared.form.Form.{Form}
 
@@ -21,10 +22,10 @@ is_inner c = not (c == feed) && not (c == hash)
 abbrev pub IsInner : List ℕ → Type 0
 IsInner words = list_all is_inner words ≡ true
 
--- no digit begins the line
+-- neither a digit nor a `#` begins the line
 abbrev pub is_headed : List ℕ → Bool
 is_headed [] = true
-is_headed (c ∷ line) = not (is_digit c)
+is_headed (c ∷ line) = not (is_digit c) && not (c == hash)
 
 pub inner_append : (xs ys : List ℕ) → IsInner xs → IsInner ys → IsInner (xs ++ ys)
 inner_append xs ys p q = list_all-append is_inner xs ys ∙ and_from _ _ p q
@@ -42,7 +43,7 @@ inner_single (c ∷ words) h =
     let parts = and_parts _ _ h in
     and_from _ _ (and_parts _ _ parts.0).0 (inner_single words parts.1)
 
-digits_single : (ds : List ℕ) → list_all is_digit ds ≡ true → has_no_feed ds ≡ true
+pub digits_single : (ds : List ℕ) → list_all is_digit ds ≡ true → has_no_feed ds ≡ true
 digits_single [] h = refl
 digits_single (d ∷ ds) h =
     let parts = and_parts _ _ h in
@@ -80,7 +81,7 @@ onto_first k n =
       | inr goes_on ↦ rw goes_on (onto_some k (n / 10) _ (omega arith))
     ]
 
-decimal_digits : (n : ℕ) → list_all is_digit (decimal n) ≡ true
+pub decimal_digits : (n : ℕ) → list_all is_digit (decimal n) ≡ true
 unfolding digits
 decimal_digits n = onto_digits 64 n [] refl
 
@@ -104,7 +105,7 @@ cut_number-mark ds line h some =
 
 prefix_len-headed : (line : List ℕ) → is_headed line ≡ true → prefix_len is_digit line ≡ 0
 prefix_len-headed [] h = refl
-prefix_len-headed (c ∷ line) h = rw (not-true (is_digit c) h) refl
+prefix_len-headed (c ∷ line) h = rw (not-true (is_digit c) (and_parts (not (is_digit c)) (not (c == hash)) h).0) refl
 
 cut_number-headed : (line : List ℕ) → is_headed line ≡ true → cut_number line ≡ line
 cut_number-headed line h = rw (prefix_len-headed line h) refl
@@ -148,6 +149,38 @@ cut_names-mark (c ∷ d ∷ words) names h =
     let parts = and_parts (is_inner c) (is_inner d && list_all is_inner words) h in
     rw (no_mark c d (words ++ (codes " #" ++ names)) (and_parts (is_inner d) (list_all is_inner words) parts.1).0) (ap (λ l. c ∷ l) (cut_names-mark (d ∷ words) names parts.1))
 
+-- REASONS
+
+-- a line that doesn't begin with `#` says no reason
+unreasoned : (c : ℕ) (line : List ℕ) → (35 ≡ c → ⊥) → is_reason (c ∷ line) ≡ false
+unreasoned c line other = and_left (nat_eq 35 c) _ (ne_eqb 35 c other)
+
+unreasoned_headed : (line : List ℕ) → is_headed line ≡ true → is_reason line ≡ false
+unreasoned_headed [] h = refl
+unreasoned_headed (c ∷ line) h = unreasoned c line other
+  where
+    other : 35 ≡ c → ⊥
+    other same =
+        let hashed : not (c == hash) ≡ false = ap (λ d. not (d == hash)) (sym same) in
+        absurd (cc (and_parts (not (is_digit c)) (not (c == hash)) h).1)
+
+unreasoned_digits : (ds line : List ℕ) → list_all is_digit ds ≡ true → 1 ≤ length ds → is_reason (ds ++ line) ≡ false
+unreasoned_digits [] line h some = absurd (omega arith)
+unreasoned_digits (d ∷ ds) line h some =
+    let high = leb-true 48 d (and_parts _ _ (and_parts (is_digit d) (list_all is_digit ds) h).0).0 in
+    unreasoned d (ds ++ line) (λ same. omega arith)
+
+unreasoned_front : (form : Form) (n : ℕ) (line : List ℕ) → is_headed line ≡ true → is_reason (number_in form n ++ line) ≡ false
+unreasoned_front form n line h =
+    elim (cases_Bool form.number) [
+      | inl asked ↦ rw asked (ap is_reason (append_assoc (decimal n) (codes ": ") line) ∙ unreasoned_digits (decimal n) (codes ": " ++ line) (decimal_digits n) (decimal_some n))
+      | inr plain ↦ rw plain (unreasoned_headed line h)
+    ]
+
+-- the lines that say no reason
+abbrev pub others : List (List ℕ) → List (List ℕ)
+others lines = filter (λ line. not (is_reason line)) lines
+
 -- TEXTS
 
 pub cuts_none : CutsTo [] []
@@ -159,8 +192,9 @@ cuts_append a b c d p q = record {
   each = list_all-append has_no_feed p.lines q.lines ∙ and_from _ _ p.each q.each;
   whole = ap (λ t. t ++ c) p.whole ∙ ap (λ t. joined p.lines ++ t) q.whole ∙ sym (joined-append p.lines q.lines);
   cut =
-      ap (λ t. t ++ d) p.cut ∙ ap (λ t. joined (map cut_line p.lines) ++ t) q.cut ∙ sym (joined-append (map cut_line p.lines) (map cut_line q.lines))
-      ∙ ap joined (sym (map-append cut_line p.lines q.lines));
+      ap (λ t. t ++ d) p.cut ∙ ap (λ t. joined (map cut_line (others p.lines)) ++ t) q.cut
+      ∙ sym (joined-append (map cut_line (others p.lines)) (map cut_line (others q.lines)))
+      ∙ ap joined (sym (map-append cut_line (others p.lines) (others q.lines)) ∙ ap (map cut_line) (sym (filter-append (λ line. not (is_reason line)) p.lines q.lines)));
 }
 
 pub cuts_flat_map : {X : Type 0} (f : X → List ℕ) → ((x : X) → CutsTo (f x) (f x)) → (xs : List X) → CutsTo (flat_map f xs) (flat_map f xs)
@@ -174,12 +208,16 @@ cuts_line form n line words single headed cut = record {
   lines = (number_in form n ++ line) ∷ [];
   each = and_from _ _ (list_all-append _ (number_in form n) line ∙ and_from _ _ (front_single form n) single) refl;
   whole = sym (append_assoc (number_in form n) line (feed ∷ []));
-  cut = ap ended (sym cut ∙ ap cut_names (sym (cut_number-front form n line headed)));
+  cut = rw (unreasoned_front form n line headed) (ap ended (sym cut ∙ ap cut_names (sym (cut_number-front form n line headed))));
 }
+
+-- a line of a reason alone, of which nothing is left
+pub cuts_reason : (line : List ℕ) → has_no_feed line ≡ true → is_reason line ≡ true → CutsTo (ended line) []
+cuts_reason line single reason = record { lines = line ∷ []; each = and_from _ _ single refl; whole = refl; cut = rw reason refl }
 
 -- a line of words alone
 pub cuts_words : (words : List ℕ) → IsInner words → is_headed words ≡ true → CutsTo (ended words) (ended words)
-cuts_words words inner headed = cuts_line (record { number = false; names = false }) 0 words words (inner_single words inner) headed (cut_names-inner words inner)
+cuts_words words inner headed = cuts_line (record { number = false; names = false; explain = false }) 0 words words (inner_single words inner) headed (cut_names-inner words inner)
 
 -- lines of which the first has a number before it
 pub cuts_first : (form : Form) (n : ℕ) (words more : List ℕ) → IsInner words → is_headed words ≡ true → CutsTo more more

@@ -17,7 +17,9 @@ use Rattle.ffa_lines.specs.Forms.{line_text_in, text_of_in, text_in}
 use Rattle.ffa_lines.proofs.Cuts.{cuts_none}
 use Rattle.ffa_lines.proofs.CutOff.{cuts_printed}
 use Rattle.ffa_lines.specs.Reading.{IsAll, ReadsLine}
+use Rattle.ffa_lines.specs.Reasons.{reason_if, told_line}
 use Rattle.ffa_lines.specs.declared.form.Form.{Form}
+use Rattle.ffa_lines.specs.declared.reason.Reason.{Reason}
 
 pub followed_none : (form : Form) (s : State) (had : Option (List ℕ)) → Followed form s s had had [] []
 followed_none form s had = record { each = refl; read = Consumes-nil had; state = refl; said = refl; cut = cuts_none }
@@ -103,19 +105,19 @@ module _ (form : Form) (start mid : State) (had has : Option (List ℕ)) (lines 
       (text, subst (EndsBadly form start had text) (sym is) (ends_unended line all single some), written)
 
   pub unread_compared : (e : PlayError) (then : Option (List ℕ)) (line : List ℕ) → ReadsLine has then line number (Err e)
-      → (expected more : List ℕ) → expected ≡ text ++ more → Compared form start had expected (Err e)
-  unread_compared Read then line r expected more alike = tt
-  unread_compared Write then line r expected more alike = absurd r
-  unread_compared NoMemory then line r expected more alike = tt
-  unread_compared (BadLine n) then line (is, all, single, some) expected more alike =
+      → (explain : Bool) (expected more : List ℕ) → expected ≡ text ++ more → Compared form start had explain expected (Err e)
+  unread_compared Read then line r explain expected more alike = tt
+  unread_compared Write then line r explain expected more alike = absurd r
+  unread_compared NoMemory then line r explain expected more alike = tt
+  unread_compared (BadLine n) then line (is, all, single, some) explain expected more alike =
       (text, more, alike, subst (EndsBadly form start had text) (sym is) (ends_unended line all single some))
 
   -- a text that doesn't go on as is expected
-  pub differs_in_line : (then : Option (List ℕ)) (line : List ℕ) (meant : Line) (said expected more : List ℕ) (place : ℕ) → Consumes has then (line ++ feed ∷ []) → has_no_feed line ≡ true → Some meant ≡ line_of line
+  pub differs_in_line : (then : Option (List ℕ)) (line : List ℕ) (meant : Line) (said expected more : List ℕ) (place : ℕ) (explain : Bool) (reason : Option Reason) → Consumes has then (line ++ feed ∷ []) → has_no_feed line ≡ true → Some meant ≡ line_of line
       → said ≡ line_text_in form number mid meant → expected ≡ text ++ more → place ≡ length text → ((rest : List ℕ) → more ≢ said ++ rest)
-      → DiffersAt form start had expected (record { number = number; place = place })
+      → told_line reason ≡ reason_if explain mid meant → DiffersAt form start had explain expected (record { number = number; place = place; reason = reason })
   unfolding text_of_in
-  differs_in_line then line meant said expected more place read single is makes alike at other = record {
+  differs_in_line then line meant said expected more place explain reason read single is makes alike at other told = record {
     state = mid;
     left = has;
     lines = lines;
@@ -127,13 +129,13 @@ module _ (form : Form) (start mid : State) (had has : Option (List ℕ)) (lines 
     place = at;
     differs =
         let own : said ≡ text_of_in form number mid line = makes ∙ ap (λ l. option_map_or (line_text_in form number mid) l []) is in
-        inl (line, then, read, and_from _ _ single (ap is_some (sym is)), λ rest same. other rest (same ∙ ap (λ t. t ++ rest) (sym own)));
+        inl (line, then, read, and_from _ _ single (ap is_some (sym is)), λ rest same. other rest (same ∙ ap (λ t. t ++ rest) (sym own)), told ∙ ap (λ l. option_map_or (reason_if explain mid) l []) is);
   }
 
   -- no line is left, and the expected text goes on
-  pub differs_at_end : (expected more : List ℕ) (place : ℕ) → IsAtEnd has → expected ≡ text ++ more → place ≡ length text → 1 ≤ length more
-      → DiffersAt form start had expected (record { number = number; place = place })
-  differs_at_end expected more place at_end alike at some = record {
+  pub differs_at_end : (expected more : List ℕ) (place : ℕ) (explain : Bool) → IsAtEnd has → expected ≡ text ++ more → place ≡ length text → 1 ≤ length more
+      → DiffersAt form start had explain expected (record { number = number; place = place; reason = None })
+  differs_at_end expected more place explain at_end alike at some = record {
     state = mid;
     left = has;
     lines = lines;

@@ -4,5 +4,8 @@ pub mod Follows
 pub mod Guarding
 pub mod Names
 pub mod Plain
+pub mod PrintedWords
+pub mod PutWords
 pub mod ReadLines
+pub mod ReasonLines
 pub mod Unequal

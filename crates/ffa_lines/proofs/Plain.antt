@@ -1,4 +1,4 @@
--- With neither numbers nor names a play line by line prints what the player prints.
+-- With neither numbers nor names nor reasons a play line by line prints what the player prints.
 use Rattle.std.proofs.Common.{◌≡◌, ℕ, ◌+◌, List, [], ◌∷◌, ◌++◌, Option, None, Some, ap, ◌∙◌, append-nil, refl}
 use Rattle.std.specs.Option.{option_map_or}
 use Rattle.ffa_model.specs.declared.operation.Op.{Op}
@@ -18,9 +18,9 @@ plain_outcome op (Fault fault) = refl
 
 plain_line : (number : ℕ) (s : State) (line : Option Line) → option_map_or (line_text_in plain number s) line [] ≡ option_map_or (line_text s) line []
 plain_line number s None = refl
-plain_line number s (Some (operate op)) = plain_outcome op (step s op).outcome
-plain_line number s (Some show) = refl
-plain_line number s (Some audit) = refl
+plain_line number s (Some (operate op)) = append-nil (outcome_in plain op (step s op).outcome) ∙ plain_outcome op (step s op).outcome
+plain_line number s (Some show) = append-nil (line_text s show)
+plain_line number s (Some audit) = append-nil (line_text s audit)
 plain_line number s (Some skip) = refl
 
 plain_of : (number : ℕ) (s : State) (bytes : List ℕ) → text_of_in plain number s bytes ≡ text_of s bytes

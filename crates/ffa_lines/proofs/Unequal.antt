@@ -1,5 +1,5 @@
 -- The lines of given bytes are unique, so a text that differs is no text of theirs.
-use Rattle.std.proofs.Common.{◌≡◌, ◌≢◌, ℕ, ◌+◌, ◌≤◌, true, List, [], ◌∷◌, ◌++◌, length, Option, None, Some, inl, inr, sym, ap, ◌∙◌, arith, append_assoc, append-nil, length-append, refl}
+use Rattle.std.proofs.Common.{◌≡◌, ◌≢◌, ℕ, ◌+◌, ◌≤◌, Bool, true, List, [], ◌∷◌, ◌++◌, length, Option, None, Some, inl, inr, sym, ap, ◌∙◌, arith, append_assoc, append-nil, length-append, refl}
 use Rattle.std.specs.Prelude.{◌==◌, not}
 use Rattle.std.specs.Io.KnownBytes.{Consumes}
 use Rattle.std.proofs.lemmas.Bool.{and_parts, and_from, eq-eqb}
@@ -11,6 +11,7 @@ use Rattle.ffa_model.specs.TraceText.{after, after_all}
 use Rattle.ffa_trace.proofs.Runs.{joined-append}
 use Rattle.ffa_lines.proofs.Follows.{text_one}
 use Rattle.ffa_lines.specs.Followed.{DiffersAt, GoesOnOtherwise, NeverPrints}
+use Rattle.ffa_lines.specs.Reasons.{told_line}
 use Rattle.ffa_lines.specs.Forms.{text_in, text_of_in}
 use Rattle.ffa_lines.specs.declared.comparison.Difference.{Difference}
 use Rattle.ffa_lines.specs.declared.form.Form.{Form}
@@ -83,15 +84,15 @@ module _ (form : Form) (start : State) (trace expected text more rest : List ℕ
       other rest_text (append_cancel_left text more (own ++ rest_text) (sym alike ∙ sym same ∙ printed))
 
 -- where a text differs, none of the lines that the bytes can be print what is expected
-pub never_prints : (form : Form) (start : State) (had : Option (List ℕ)) (expected : List ℕ) (difference : Difference) → DiffersAt form start had expected difference → NeverPrints form start had expected
-never_prints form start None expected difference d = tt
-never_prints form start (Some trace) expected difference d = λ others each told same. of d.left d.followed.read d.differs others each told same
+pub never_prints : (form : Form) (start : State) (had : Option (List ℕ)) (explain : Bool) (expected : List ℕ) (difference : Difference) → DiffersAt form start had explain expected difference → NeverPrints form start had expected
+never_prints form start None explain expected difference d = tt
+never_prints form start (Some trace) explain expected difference d = λ others each told same. of d.left d.followed.read d.differs others each told same
   where
-    of : (left : Option (List ℕ)) → Consumes (Some trace) left (joined d.lines) → GoesOnOtherwise form difference.number d.state left d.more
+    of : (left : Option (List ℕ)) → Consumes (Some trace) left (joined d.lines) → GoesOnOtherwise form difference.number explain (told_line difference.reason) d.state left d.more
         → (others : List (List ℕ)) → are_lines others ≡ true → trace ≡ joined others → text_in form 1 start others ≡ expected → ⊥
     of None read differs others each told same = absurd read
     of (Some rest) read (inr (none, some)) others each told same =
         never_longer form start trace expected d.text d.more rest d.lines others d.followed.each read d.followed.said d.alike each told same none some
-    of (Some rest) read (inl (line, None, next, good, other)) others each told same = absurd next
-    of (Some rest) read (inl (line, Some after_line, next, good, other)) others each told same =
+    of (Some rest) read (inl (line, None, next, good, other, told_why)) others each told same = absurd next
+    of (Some rest) read (inl (line, Some after_line, next, good, other, told_why)) others each told same =
         never_other form start trace expected d.text d.more rest d.lines others d.followed.each read d.followed.said d.alike each told same difference.number d.state line after_line d.number d.followed.state next good other

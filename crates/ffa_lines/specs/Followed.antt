@@ -1,5 +1,5 @@
 -- What a play line by line leaves.
-use Rattle.std.specs.Prelude.{◌≡◌, ◌≢◌, ◌≤◌, ◌⊎◌, ℕ, ◌+◌, true, false, List, [], ◌∷◌, ◌++◌, length, Option, None, Some, Result, Ok, Err, ⊤}
+use Rattle.std.specs.Prelude.{◌≡◌, ◌≢◌, ◌≤◌, ◌⊎◌, ℕ, ◌+◌, Bool, true, false, List, [], ◌∷◌, ◌++◌, length, Option, None, Some, Result, Ok, Err, ⊤}
 use Rattle.std.specs.Io.KnownBytes.{Appends, Consumes, IsAtEnd}
 use Rattle.ffa_model.specs.State.{State}
 use Rattle.ffa_model.specs.TraceLines.{feed, has_no_feed, is_good, is_line, are_lines, joined}
@@ -10,6 +10,7 @@ use Rattle.ffa_lines.specs.declared.form.Form.{Form}
 use Rattle.ffa_lines.specs.declared.comparison.Difference.{Difference}
 use Rattle.ffa_lines.specs.Cut.{CutsTo}
 use Rattle.ffa_lines.specs.Forms.{text_in, text_of_in}
+use Rattle.ffa_lines.specs.Reasons.{reason_of_bytes, told_line}
 use Rattle.ffa_lines.specs.Reading.{IsAll}
 
 -- What follows speaks of the machine's state before and now (`start`, `now`), and of what was unread in the reader before and after.
@@ -42,15 +43,16 @@ PlayedIn form start now held holds had (Err Read) = ⊤
 PlayedIn form start now held holds had (Err Write) = ⊤
 PlayedIn form start now held holds had (Err NoMemory) = ⊤
 
--- The rest of what is expected doesn't go on as the play does: it doesn't begin with the next line's text, which has this number, or it is
--- not empty where no line is left.
-abbrev pub GoesOnOtherwise : Form → ℕ → State → Option (List ℕ) → List ℕ → Type 0
-GoesOnOtherwise form number state left more =
-    ((line : List ℕ) × (after_line : Option (List ℕ)) × Consumes left after_line (line ++ feed ∷ []) × (is_line line ≡ true) × ((rest : List ℕ) → more ≢ text_of_in form number state line ++ rest))
+-- The rest of what is expected doesn't go on as the play does: it doesn't begin with the next line's text, which has this number, and why its
+-- operation is refused is told where that is asked for; or it is not empty where no line is left.
+abbrev pub GoesOnOtherwise : Form → ℕ → Bool → List ℕ → State → Option (List ℕ) → List ℕ → Type 0
+GoesOnOtherwise form number explain told state left more =
+    ((line : List ℕ) × (after_line : Option (List ℕ)) × Consumes left after_line (line ++ feed ∷ []) × (is_line line ≡ true) × ((rest : List ℕ) → more ≢ text_of_in form number state line ++ rest)
+    × (told ≡ reason_of_bytes explain state line))
     ⊎ (IsAtEnd left × (1 ≤ length more))
 
 -- the text of these lines begins what is expected, and then it goes on otherwise
-pub record DiffersAt (form : Form) (start : State) (had : Option (List ℕ)) (expected : List ℕ) (difference : Difference) : Type 0 where
+pub record DiffersAt (form : Form) (start : State) (had : Option (List ℕ)) (explain : Bool) (expected : List ℕ) (difference : Difference) : Type 0 where
   pub state : State
   pub left : Option (List ℕ)
   pub lines : List (List ℕ)
@@ -60,17 +62,17 @@ pub record DiffersAt (form : Form) (start : State) (had : Option (List ℕ)) (ex
   pub alike : expected ≡ text ++ more
   pub number : difference.number ≡ 1 + length lines
   pub place : difference.place ≡ length text
-  pub differs : GoesOnOtherwise form difference.number state left more
+  pub differs : GoesOnOtherwise form difference.number explain (told_line difference.reason) state left more
 
 -- a comparison: the whole text is what is expected, or it differs, or a line is none
-abbrev pub Compared : Form → State → Option (List ℕ) → List ℕ → Result (Option Difference) PlayError → Type 0
-Compared form start had expected (Ok None) =
+abbrev pub Compared : Form → State → Option (List ℕ) → Bool → List ℕ → Result (Option Difference) PlayError → Type 0
+Compared form start had explain expected (Ok None) =
     (now : State) × (left : Option (List ℕ)) × (lines : List (List ℕ)) × Followed form start now had left lines expected × IsAtEnd left
-Compared form start had expected (Ok (Some difference)) = DiffersAt form start had expected difference
-Compared form start had expected (Err (BadLine n)) = (text : List ℕ) × (more : List ℕ) × (expected ≡ text ++ more) × EndsBadly form start had text n
-Compared form start had expected (Err Read) = ⊤
-Compared form start had expected (Err Write) = ⊤
-Compared form start had expected (Err NoMemory) = ⊤
+Compared form start had explain expected (Ok (Some difference)) = DiffersAt form start had explain expected difference
+Compared form start had explain expected (Err (BadLine n)) = (text : List ℕ) × (more : List ℕ) × (expected ≡ text ++ more) × EndsBadly form start had text n
+Compared form start had explain expected (Err Read) = ⊤
+Compared form start had explain expected (Err Write) = ⊤
+Compared form start had explain expected (Err NoMemory) = ⊤
 
 -- of all lines that a reader of known bytes can give, none print what is expected
 abbrev pub NeverPrints : Form → State → Option (List ℕ) → List ℕ → Type 0

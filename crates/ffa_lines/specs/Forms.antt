@@ -12,6 +12,7 @@ use Rattle.ffa_abi.specs.Names.{call_name_of, error_name_of}
 use Rattle.ffa_trace.specs.declared.output.PlayError.{PlayError}
 use Rattle.ffa_trace.specs.declared.output.PlayError.TheVariants.{NoMemory}
 use Rattle.ffa_lines.specs.declared.form.Form.{Form}
+use Rattle.ffa_lines.specs.Reasons.{reason_if}
 
 -- the number of a line, as its text begins with it
 abbrev pub number_mark : ℕ → List ℕ
@@ -21,9 +22,9 @@ number_mark number = decimal number ++ codes ": "
 abbrev pub names_mark : List ℕ → List ℕ
 names_mark x = option_map_or (λ name. codes " # " ++ name ++ option_map_or spaced (error_name_of x) []) (call_name_of x) []
 
--- neither numbers nor names
+-- neither numbers nor names nor reasons
 abbrev pub plain : Form
-plain = record { number = false; names = false }
+plain = record { number = false; names = false; explain = false }
 
 abbrev pub number_in : Form → ℕ → List ℕ
 number_in form number = if form.number then number_mark number else []
@@ -40,11 +41,15 @@ unnumbered_in form s show = line_text s show
 unnumbered_in form s audit = line_text s audit
 unnumbered_in form s skip = []
 
+-- why an operation is refused is asked of the state in which it is done
+abbrev pub spoken_in : Form → ℕ → State → Line → List ℕ
+spoken_in form number s line = number_in form number ++ unnumbered_in form s line ++ reason_if form.explain s line
+
 -- what a line of this number prints: what says nothing has no number
 abbrev pub line_text_in : Form → ℕ → State → Line → List ℕ
-line_text_in form number s (operate op) = number_in form number ++ unnumbered_in form s (operate op)
-line_text_in form number s show = number_in form number ++ unnumbered_in form s show
-line_text_in form number s audit = number_in form number ++ unnumbered_in form s audit
+line_text_in form number s (operate op) = spoken_in form number s (operate op)
+line_text_in form number s show = spoken_in form number s show
+line_text_in form number s audit = spoken_in form number s audit
 line_text_in form number s skip = []
 
 -- the same of the bytes of a line

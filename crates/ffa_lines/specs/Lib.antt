@@ -4,4 +4,5 @@ pub mod Followed
 pub mod Forms
 pub mod Guards
 pub mod Reading
+pub mod Reasons
 pub mod Whole

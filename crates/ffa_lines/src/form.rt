@@ -5,6 +5,7 @@ ghost use Rattle.ffa_trace.specs.Lines.{meant};
 ghost use Rattle.ffa_lines.specs.Asking.{unasked_by};
 ghost use Rattle.ffa_lines.specs.Forms.{PutsIn, WritesIn, names_mark, number_mark};
 
+use crate::reason::{put_reason, reason_of};
 use ffa_abi::{call_name, error_name};
 use ffa_model::Outcome;
 use ffa_physmem::PhysMem;
@@ -20,6 +21,8 @@ pub struct Form {
     pub number: bool,
     /// The name of the call that registers are, and of their error, behind the registers.
     pub names: bool,
+    /// A line under the text of an operation that is refused, which says why.
+    pub explain: bool,
 }
 
 /// Does the line of this number, and makes its text in this form. A line that says nothing has no number.
@@ -40,7 +43,9 @@ pub fn make_text<M: PhysMem + Drop, T: Translations + Drop, A: Allocator + Copy>
             if form.number {
                 put_number(text, number)?;
             }
-            put_text(player, alloc, form, line, text)
+            let reason = reason_of(player, form.explain, line);
+            put_text(player, alloc, form, line, text)?;
+            put_reason(text, reason)
         }
     }
 }
@@ -65,7 +70,9 @@ pub(crate) fn make_texts<M: PhysMem + Drop, T: Translations + Drop, A: Allocator
             if form.number {
                 put_number(text, number)?;
             }
-            put_texts(player, alloc, form, line, said, text)
+            let reason = reason_of(player, form.explain, line);
+            put_texts(player, alloc, form, line, said, text)?;
+            put_reason(text, reason)
         }
     }
 }
@@ -136,14 +143,14 @@ fn put_names<A: Allocator>(text: &mut Vec<u8, A>, x: &[u64; 8]) -> Result<(), Pl
     put(text, "\n")
 }
 
-fn put<A: Allocator>(text: &mut Vec<u8, A>, word: &str) -> Result<(), PlayError>
+pub(crate) fn put<A: Allocator>(text: &mut Vec<u8, A>, word: &str) -> Result<(), PlayError>
     ensures written { OnOk result (text.new.items ≡ text.old.items ++ word.now) }
     ensures failed { IfErr result (λ e. e ≡ PlayError.NoMemory) }
 {
     put_bytes(text, word.as_bytes())
 }
 
-fn put_bytes<A: Allocator>(text: &mut Vec<u8, A>, bytes: &[u8]) -> Result<(), PlayError>
+pub(crate) fn put_bytes<A: Allocator>(text: &mut Vec<u8, A>, bytes: &[u8]) -> Result<(), PlayError>
     ensures written { OnOk result (text.new.items ≡ text.old.items ++ bytes.now) }
     ensures failed { IfErr result (λ e. e ≡ PlayError.NoMemory) }
 {

@@ -1,5 +1,5 @@
-//! Plays a trace line by line: with the number of each line, with the names of what registers hold, with guards that are
-//! checked, or against a text that is expected; and says why a line is none of the format.
+//! Plays a trace line by line: with the number of each line, with the names of what registers hold, with the reasons of
+//! refusals, with guards that are checked, or against a text that is expected; and says why a line is none of the format.
 #![tactic(auto)]
 
 mod comparison;
@@ -8,6 +8,7 @@ mod form;
 mod guards;
 mod playing;
 mod read;
+mod reason;
 
 pub use comparison::{Difference, compare};
 pub use fault::{LineFault, WordFault, line_fault};
@@ -15,3 +16,4 @@ pub use form::{Form, make_text};
 pub use guards::{Asks, Breach, guard_text, play_guarded};
 pub use playing::play;
 pub use read::next_line;
+pub use reason::{Reason, put_reason};

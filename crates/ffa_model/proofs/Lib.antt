@@ -26,3 +26,4 @@ pub mod FirstChain
 pub mod ResponseSize
 pub mod Runs
 pub mod Reasons
+pub mod Finds

@@ -1,5 +1,5 @@
 -- Why an operation is refused: for a reason just where it is refused, and what comes of it is the reason's.
-use Rattle.std.proofs.Common.{◌≡◌, ◌∙◌, ℕ, Bool, true, false, cond, [], ◌∷◌, Option, Some, None, is_some, refl, sym, ap}
+use Rattle.std.proofs.Common.{◌≡◌, ◌∙◌, ℕ, Bool, true, false, cond, List, [], ◌∷◌, Option, Some, None, is_some, refl, sym, ap}
 use Rattle.std.specs.Prelude.{IfSome}
 use Rattle.std.specs.Option.{option_map}
 use Rattle.std.proofs.lemmas.Bool.{not-true}
@@ -20,7 +20,6 @@ use Rattle.ffa_model.specs.declared.refusal.Refusal.TheVariants.{FunctionUnknown
 use Rattle.ffa_model.specs.declared.schedule.Status.{Status}
 use Rattle.ffa_model.specs.declared.schedule.Status.TheVariants.{Waiting, Running, Blocked, Yielded}
 use Rattle.ffa_model.specs.declared.why.Why.{Why}
-use Rattle.ffa_model.specs.declared.why.Why.TheVariants.{Refused}
 use Rattle.ffa_model.specs.Access.{access, handle_at, transaction_at}
 use Rattle.ffa_model.specs.Bits.{high_half}
 use Rattle.ffa_model.specs.Calls.{Service, answered, first_failure, first_refusal, served, success}
@@ -31,7 +30,7 @@ use Rattle.ffa_model.specs.Registers.{decode, is_function}
 use Rattle.ffa_model.specs.RunStates.{run_reply, schedule_of, status_in}
 use Rattle.ffa_model.specs.State.{State}
 use Rattle.ffa_model.specs.Step.{service, step}
-use Rattle.ffa_model.specs.Why.{grant_by, granted, outcome_of, why, why_fault}
+use Rattle.ffa_model.specs.Why.{grant_by, granted, outcome_of, refused, why, why_fault}
 use Rattle.ffa_model.proofs.Guards.{failure-code}
 use Rattle.ffa_model.proofs.Named.{decode-named}
 use Rattle.byteorder.specs.Endian.{little_bytes}
@@ -81,9 +80,9 @@ done-no-error s MsgSend2 named none = refl
 done-no-error s Unknown named none = absurd (none-some NotSupported (sym none))
 
 -- of a call, by its guards
-module _ (s : State) (c : Service) where
+module _ (s : State) (x : List ℕ) (c : Service) where
   abbrev reason : Option Refusal → Option Why
-  reason o = option_map (λ (refusal : Refusal). Refused refusal) o
+  reason o = option_map (refused s x) o
 
   by-name : (served s c).outcome ≡ (answered (option_map code_of (first_refusal c.guards)) s c.state c.reply).outcome
   by-name = ap (λ (o : Option ErrorCode). (answered o s c.state c.reply).outcome) (failure-code c.guards)
@@ -114,7 +113,7 @@ module _ (s new : State) (outcome : Outcome) (address : ℕ) where
 
 -- there is a reason just where the operation is refused
 pub why-refused : (s : State) (op : Op) → is_some (why s op) ≡ is_refusal (step s op).outcome
-why-refused s (Call x) = refused-call s (service s (decode x)) (done-no-error s (decode x) (decode-named x))
+why-refused s (Call x) = refused-call s x (service s (decode x)) (done-no-error s (decode x) (decode-named x))
 why-refused s (Load address size) = refused-access s s (Data (number_at s address (size_of size))) address refl (read_fault s address (size_of size))
 why-refused s (Store address size value) =
     refused-access s (stored s address (little_bytes (size_of size) value)) Done address refl (store_fault s address (size_of size))
@@ -122,7 +121,7 @@ why-refused s (Fetch address) = refused-access s s (Data (number_at s address 4)
 
 -- and it says what comes of the operation
 pub why-outcome : (s : State) (op : Op) → IfSome (why s op) (λ w. (step s op).outcome ≡ outcome_of s w)
-why-outcome s (Call x) = outcome-call s (service s (decode x))
+why-outcome s (Call x) = outcome-call s x (service s (decode x))
 why-outcome s (Load address size) = outcome-access s s (Data (number_at s address (size_of size))) address (read_fault s address (size_of size))
 why-outcome s (Store address size value) =
     outcome-access s (stored s address (little_bytes (size_of size) value)) Done address (store_fault s address (size_of size))

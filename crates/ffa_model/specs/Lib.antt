@@ -43,6 +43,9 @@ pub mod MemoryRetrieve
 pub mod MemoryReturn
 pub mod SoundState
 pub mod Step
+pub mod Obstacles
+pub mod AboutRegisters
+pub mod About
 pub mod Why
 pub mod TraceLines
 pub mod TraceText

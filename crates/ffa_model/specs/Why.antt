@@ -1,9 +1,8 @@
 -- Why an operation is refused, and by what an endpoint has its access to a page.
-use Rattle.std.specs.Prelude.{ℕ, ◌^◌, ◌==◌, nat_lt, length, Option, Some, None, is_some, if◌then◌else◌}
-use Rattle.std.specs.Option.{option_map, option_map_or}
+use Rattle.std.specs.Prelude.{ℕ, List, Option, Some, None, is_some, slice_index, if◌then◌else◌}
+use Rattle.std.specs.Option.{option_map}
 use Rattle.ffa_model.specs.declared.call.Reply.TheVariants.{Error}
 use Rattle.ffa_model.specs.declared.operation.FaultKind.{FaultKind}
-use Rattle.ffa_model.specs.declared.operation.FaultKind.TheVariants.{Translation}
 use Rattle.ffa_model.specs.declared.operation.Op.{Op}
 use Rattle.ffa_model.specs.declared.operation.Op.TheVariants.{Call, Load, Store, Fetch}
 use Rattle.ffa_model.specs.declared.operation.Outcome.{Outcome}
@@ -11,46 +10,35 @@ use Rattle.ffa_model.specs.declared.operation.Outcome.TheVariants as outcomes
 use Rattle.ffa_model.specs.declared.refusal.Refusal.{Refusal}
 use Rattle.ffa_model.specs.declared.why.Grant.{Grant}
 use Rattle.ffa_model.specs.declared.why.Grant.TheVariants.{Own, Shared, Held}
-use Rattle.ffa_model.specs.declared.why.Obstacle.{Obstacle}
-use Rattle.ffa_model.specs.declared.why.Obstacle.TheVariants.{OutsideRam, ManagersPage, OwnedBy, InTransaction}
 use Rattle.ffa_model.specs.declared.why.Why.{Why}
 use Rattle.ffa_model.specs.declared.why.Why.TheVariants.{Refused, Fault}
+use Rattle.ffa_model.specs.About.{about}
 use Rattle.ffa_model.specs.Access.{access, handle_at, is_held_by, transaction_at}
 use Rattle.ffa_model.specs.Calls.{first_refusal, replied}
-use Rattle.ffa_model.specs.Identifiers.{manager}
-use Rattle.ffa_model.specs.Memory.{fetch_fault, page_of_address, read_fault, size_of, store_fault}
+use Rattle.ffa_model.specs.Memory.{fetch_fault, read_fault, size_of, store_fault}
+use Rattle.ffa_model.specs.Obstacles.{obstacle_of}
 use Rattle.ffa_model.specs.RefusalCodes.{code_of}
-use Rattle.ffa_model.specs.Registers.{decode}
-use Rattle.ffa_model.specs.State.{State, Transaction, owner_of}
+use Rattle.ffa_model.specs.Registers.{decode, low}
+use Rattle.ffa_model.specs.State.{State, Transaction}
 use Rattle.ffa_model.specs.Step.{service}
-
--- what stands in the way of a page with this owner: the open transaction in which it stands, else the owner
-abbrev pub obstacle_by : ℕ → Option ℕ → Obstacle
-obstacle_by owner (Some handle) = InTransaction handle
-obstacle_by owner None = if owner == manager then ManagersPage else OwnedBy (record { 0 = owner })
-
-abbrev pub obstacle_at : State → ℕ → Obstacle
-obstacle_at s p = if nat_lt p (length s.pages) then obstacle_by (owner_of s p) (handle_at s p) else OutsideRam
-
--- and of an address, for a translation fault below 2 ^ 32
-abbrev pub obstacle_of : State → ℕ → FaultKind → Option Obstacle
-obstacle_of s address Translation =
-    if nat_lt address (2 ^ 32) then Some (option_map_or (obstacle_at s) (page_of_address s address) OutsideRam) else None
-obstacle_of s address kind = None
 
 abbrev pub why_fault : State → ℕ → Option FaultKind → Option Why
 why_fault s address fault = option_map (λ (kind : FaultKind). Fault kind (obstacle_of s address kind)) fault
 
+-- a check that fails, with what it is about
+abbrev pub refused : State → List ℕ → Refusal → Why
+refused s x refusal = Refused refusal (about s (low (slice_index x 0)) (decode x) refusal)
+
 -- why an operation of the runner is refused: of a call the first check that fails, of an access its fault
 abbrev pub why : State → Op → Option Why
-why s (Call x) = option_map (λ (refusal : Refusal). Refused refusal) (first_refusal (service s (decode x)).guards)
+why s (Call x) = option_map (refused s x) (first_refusal (service s (decode x)).guards)
 why s (Load address size) = why_fault s address (read_fault s address (size_of size))
 why s (Store address size value) = why_fault s address (store_fault s address (size_of size))
 why s (Fetch address) = why_fault s address (fetch_fault s address)
 
 -- what comes of it: FFA_ERROR with the check's code, or the fault
 abbrev pub outcome_of : State → Why → Outcome
-outcome_of s (Refused refusal) = (replied s (Error (code_of refusal))).outcome
+outcome_of s (Refused refusal about) = (replied s (Error (code_of refusal))).outcome
 outcome_of s (Fault kind obstacle) = outcomes.Fault kind
 
 -- by what e has its access to a page, if it has one: it holds the open transaction in which the page stands, or shares its

@@ -38,4 +38,4 @@ pub use refusal::Refusal;
 pub use rights::{Data, Kind, Rights};
 pub use schedule::{Status, Work};
 pub use transaction::{Range, Receiver};
-pub use why::{Grant, Obstacle, Why};
+pub use why::{About, Grant, Obstacle, Why};

@@ -1,14 +1,18 @@
 //! Why an operation is refused, and by what an endpoint has its access to a page.
 
-use crate::endpoint::EndpointId;
+use crate::endpoint::{EndpointId, PageNo};
+use crate::flaw::{FieldPlace, Flaw};
 use crate::operation::FaultKind;
 use crate::refusal::Refusal;
 
 /// Why an operation is refused.
 #[derive(Clone, Copy, Debug, PartialEq, Eq)]
 pub enum Why {
-    /// The first check of the call that fails.
-    Refused(Refusal),
+    /// The first check of the call that fails, and what it is about.
+    Refused {
+        refusal: Refusal,
+        about: Option<About>,
+    },
     /// The fault of an access, and for a translation fault below 2^32 what stands in the way.
     Fault {
         kind: FaultKind,
@@ -16,7 +20,33 @@ pub enum Why {
     },
 }
 
-/// What stands in the way of the runner at an address below 2^32 that its tables do not map.
+/// What a check that fails is about.
+#[derive(Clone, Copy, Debug, PartialEq, Eq)]
+pub enum About {
+    /// The first page that fails it, and what stands in the way there.
+    Page {
+        page: PageNo,
+        obstacle: Option<Obstacle>,
+    },
+    /// The endpoint that it names.
+    Endpoint(EndpointId),
+    /// The handle of a transaction.
+    Handle(u64),
+    /// A register by its number, and its value.
+    Register {
+        register: u32,
+        value: u64,
+    },
+    /// The number of a notification's bit.
+    Bit(u32),
+    /// The condition that a descriptor breaks, and the field of which it speaks.
+    Field {
+        flaw: Flaw,
+        place: FieldPlace,
+    },
+}
+
+/// What stands in the way of the runner at an address below 2^32 that its tables do not map, or of the page that a call names.
 #[derive(Clone, Copy, Debug, PartialEq, Eq)]
 pub enum Obstacle {
     /// The address is not one of RAM.

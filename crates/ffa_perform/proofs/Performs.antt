@@ -17,11 +17,14 @@ use Rattle.ffa_lines.specs.Guards.{GuardedIn}
 use Rattle.ffa_lines.specs.declared.guards.Breach.{Breach}
 use Rattle.ffa_lines.specs.Reading.{IsAll}
 use Rattle.ffa_lines.proofs.Plain.{plain_text}
-use Rattle.ffa_perform.specs.Performed.{EndsBadly, IsDoneBy, IsPlayed, IsStopped, IsCutShort, IsUnmet, PrintsExpected, PrintsIn, StopsBy, UnmetBy, FailsFor, PlayFails, FailsToSay, IsRead, SomeBadLine, SomeUnmetGuard, failure_of, status_of}
+use Rattle.ffa_picture.specs.Pictured.{Pictured}
+use Rattle.ffa_picture.specs.declared.picture.Picture.{Picture}
+use Rattle.ffa_picture.specs.declared.row.Keep.{Keep}
+use Rattle.ffa_perform.specs.Performed.{EndsBadly, IsDoneBy, IsDrawn, IsPlayed, IsStopped, IsCutShort, IsUnmet, PrintsExpected, PrintsIn, StopsBy, UnmetBy, FailsFor, PlayFails, FailsToSay, IsRead, SomeBadLine, SomeUnmetGuard, failure_of, status_of}
 use Rattle.ffa_perform.specs.declared.commands.failure.Failure.{Failure}
 use Rattle.ffa_perform.specs.declared.commands.failure.Failure.TheVariants.{Manifest, BadLine, Read, Write, NoMemory, Differs, Unmet, Words, Unfit}
 use Rattle.ffa_perform.specs.declared.commands.playing.Task.{Task}
-use Rattle.ffa_perform.specs.declared.commands.playing.Task.TheVariants.{Plain, Formed, Guarded, Compare}
+use Rattle.ffa_perform.specs.declared.commands.playing.Task.TheVariants.{Plain, Formed, Guarded, Compare, Drawn}
 use Rattle.ffa_command.specs.declared.command_line.DescriptorWords.{DescriptorWords}
 use Rattle.ffa_command.specs.declared.command_line.Request.{Request}
 use Rattle.ffa_command.specs.declared.command_line.Request.TheVariants as request
@@ -148,6 +151,22 @@ formed_failed form start now held holds had unread is fault play_error.NoMemory 
 formed_failed form start now held holds had unread is fault (play_error.BadLine n) (said, e, written) =
     (e.lines, ends_badly form start had said n e, subst (Appends held holds) e.followed.said written, never_strict)
 
+-- PICTURES
+
+pub always_ok : {T E P : Type 0} (r : Result T E) → P → OnOk r P
+always_ok (Ok x) p = p
+always_ok (Err e) p = tt
+
+pub drawn_whole : {A : Type 0} (picture : Picture A) (keep : Keep) (start now : State) (had : Option (List ℕ)) → Pictured keep start now had (Ok picture) → IsDrawn had
+drawn_whole picture keep start now had (left, lines, said, f, ended, is) = record { lines = lines; each = f.each; all = all_consumed had left (joined lines) f.read ended }
+
+pub drawn_failed : (A : Type 0) (keep : Keep) (start now : State) (held had : Option (List ℕ)) (unread : Failure) → PlayFails (Drawn keep) start had held held unread
+    → (fault : Option LineFault) (error : PlayError) → Pictured {A = A} keep start now had (Err error) → PlayFails (Drawn keep) start had held held (failure_of unread fault error)
+drawn_failed A keep start now held had unread is fault play_error.Read p = is
+drawn_failed A keep start now held had unread is fault play_error.Write p = tt
+drawn_failed A keep start now held had unread is fault play_error.NoMemory p = tt
+drawn_failed A keep start now held had unread is fault (play_error.BadLine n) (said, e) = (e.lines, ends_badly plain start had said n e, kept held)
+
 pub guarded_whole : (form : Form) (start now : State) (held holds had : Option (List ℕ)) (line found : List ℕ) → GuardedIn form start now held holds had line found (Ok None)
     → IsPlayed true form start had held holds
 guarded_whole form start now held holds had line found (left, lines, said, f, ended, written, met) = record {
@@ -184,25 +203,25 @@ guarded_failed form start now held holds had line found unread is fault play_err
 guarded_failed form start now held holds had line found unread is fault (play_error.BadLine n) (said, e, written, met) =
     (e.lines, ends_badly form start had said n e, subst (Appends held holds) e.followed.said written, λ strict. met)
 
-pub compared_whole : (start : State) (had : Option (List ℕ)) (expected : List ℕ) → followed.Compared plain start had expected (Ok None) → PrintsExpected start had (Some expected)
-compared_whole start had expected (now, left, lines, f, ended) = record {
+pub compared_whole : (start : State) (had : Option (List ℕ)) (explain : Bool) (expected : List ℕ) → followed.Compared plain start had explain expected (Ok None) → PrintsExpected start had (Some expected)
+compared_whole start had explain expected (now, left, lines, f, ended) = record {
   lines = lines;
   each = f.each;
   all = all_consumed had left (joined lines) f.read ended;
   same = ap Some (f.said ∙ plain_text 1 start lines);
 }
 
-pub cut_short : (start : State) (had : Option (List ℕ)) (expected : List ℕ) (n : ℕ) → followed.Compared plain start had expected (Err (play_error.BadLine n))
+pub cut_short : (start : State) (had : Option (List ℕ)) (explain : Bool) (expected : List ℕ) (n : ℕ) → followed.Compared plain start had explain expected (Err (play_error.BadLine n))
     → IsCutShort start had (Some expected) n
-cut_short start had expected n (said, more, alike, e) =
+cut_short start had explain expected n (said, more, alike, e) =
     (e.lines, ends_badly plain start had said n e, (more, ap Some (alike ∙ ap (λ l. l ++ more) (e.followed.said ∙ plain_text 1 start e.lines))))
 
-pub compared_failed : (start : State) (had held : Option (List ℕ)) (expected : Bor (List ℕ)) (unread : Failure) → PlayFails (Compare expected) start had held held unread
-    → (fault : Option LineFault) (error : PlayError) → followed.Compared plain start had expected.now (Err error) → PlayFails (Compare expected) start had held held (failure_of unread fault error)
-compared_failed start had held expected unread is fault play_error.Read p = is
-compared_failed start had held expected unread is fault play_error.Write p = tt
-compared_failed start had held expected unread is fault play_error.NoMemory p = tt
-compared_failed start had held expected unread is fault (play_error.BadLine n) p = (cut_short start had expected.now n p, kept held)
+pub compared_failed : (start : State) (had held : Option (List ℕ)) (expected : Bor (List ℕ)) (explain : Bool) (unread : Failure) → PlayFails (Compare expected explain) start had held held unread
+    → (fault : Option LineFault) (error : PlayError) → followed.Compared plain start had explain expected.now (Err error) → PlayFails (Compare expected explain) start had held held (failure_of unread fault error)
+compared_failed start had held expected explain unread is fault play_error.Read p = is
+compared_failed start had held expected explain unread is fault play_error.Write p = tt
+compared_failed start had held expected explain unread is fault play_error.NoMemory p = tt
+compared_failed start had held expected explain unread is fault (play_error.BadLine n) p = (cut_short start had explain expected.now n p, kept held)
 
 -- COMMANDS
 
@@ -212,21 +231,24 @@ pub printed : (strict : Bool) (form : Form) (task : Task) → PrintsIn strict fo
 printed strict form Plain (loose, same) start trace held holds done = rw (loose, same) done
 printed strict form (Formed own) (loose, same) start trace held holds done = rw (loose, same) done
 printed strict form (Guarded own) (is_strict, same) start trace held holds done = rw (is_strict, same) done
-printed strict form (Compare expected) never start trace held holds done = absurd never
+printed strict form (Compare expected explain) never start trace held holds done = absurd never
+printed strict form (Drawn keep) never start trace held holds done = absurd never
 
 pub stopped : (strict : Bool) (form : Form) (task : Task) → PrintsIn strict form task → (start : State) (trace held holds : Option (List ℕ)) (n : ℕ) → StopsBy task start trace held holds n
     → IsStopped strict form start trace held holds n
 stopped strict form Plain (loose, same) start trace held holds n stops = rw (loose, same) stops
 stopped strict form (Formed own) (loose, same) start trace held holds n stops = rw (loose, same) stops
 stopped strict form (Guarded own) (is_strict, same) start trace held holds n stops = rw (is_strict, same) stops
-stopped strict form (Compare expected) never start trace held holds n stops = absurd never
+stopped strict form (Compare expected explain) never start trace held holds n stops = absurd never
+stopped strict form (Drawn keep) never start trace held holds n stops = absurd never
 
 pub breached : (strict : Bool) (form : Form) (task : Task) → PrintsIn strict form task → (start : State) (trace held holds : Option (List ℕ)) (n : ℕ) → UnmetBy task start trace held holds n
     → (strict ≡ true) × IsUnmet form start trace held holds n
 breached strict form Plain prints start trace held holds n never = absurd never
 breached strict form (Formed own) prints start trace held holds n never = absurd never
 breached strict form (Guarded own) (is_strict, same) start trace held holds n unmet = (is_strict, rw same unmet)
-breached strict form (Compare expected) prints start trace held holds n never = absurd never
+breached strict form (Compare expected explain) prints start trace held holds n never = absurd never
+breached strict form (Drawn keep) prints start trace held holds n never = absurd never
 
 pub on_ok : {T E P Q : Type 0} (result : Result T E) → (P → Q) → OnOk result P → OnOk result Q
 on_ok (Ok x) f p = f p

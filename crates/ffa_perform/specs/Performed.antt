@@ -28,7 +28,7 @@ use Rattle.ffa_perform.specs.Layouts.{layout_text}
 use Rattle.ffa_perform.specs.declared.commands.failure.Failure.{Failure}
 use Rattle.ffa_perform.specs.declared.commands.failure.Failure.TheVariants as failure
 use Rattle.ffa_perform.specs.declared.commands.playing.Task.{Task}
-use Rattle.ffa_perform.specs.declared.commands.playing.Task.TheVariants.{Plain, Formed, Guarded, Compare}
+use Rattle.ffa_perform.specs.declared.commands.playing.Task.TheVariants.{Plain, Formed, Guarded, Compare, Drawn}
 use Rattle.ffa_command.specs.Commands.{ask_of, manifest_of, trace_of, words_of}
 use Rattle.ffa_command.specs.declared.command_line.DescriptorWords.{DescriptorWords}
 use Rattle.ffa_command.specs.declared.command_line.TextOptions.{TextOptions}
@@ -60,7 +60,7 @@ built_in_parts = record { ram_base = 0x40000000; ram_blocks = 1; endpoints = bui
 
 -- the form that a text is asked for in
 abbrev pub form_of : TextOptions → Form
-form_of options = record { number = options.number; names = options.names }
+form_of options = record { number = options.number; names = options.names; explain = options.explain }
 
 -- PLAYS, from this state, of what the trace's reader had: `held` and `holds` is what the writer held before, and holds
 
@@ -108,6 +108,16 @@ pub record PrintsExpected (start : State) (trace expected : Option (List ℕ)) :
   pub all : IsAll trace (joined lines)
   pub same : expected ≡ Some (text start lines)
 
+-- a trace was played to its end, and its picture was written: what its reader had are lines
+pub record IsDrawn (trace : Option (List ℕ)) : Type 0 where
+  pub lines : List (List ℕ)
+  pub each : are_lines lines ≡ true
+  pub all : IsAll trace (joined lines)
+
+-- a picture's play stopped at line n, and nothing was written
+abbrev pub IsUndrawn : (trace held holds : Option (List ℕ)) → ℕ → Type 0
+IsUndrawn trace held holds n = (lines : List (List ℕ)) × EndsBadly trace lines n × Keeps held holds
+
 -- a comparison stopped at line n: what is expected begins with the text of the lines before it
 abbrev pub IsCutShort : State → (trace expected : Option (List ℕ)) → ℕ → Type 0
 IsCutShort start trace expected n = (lines : List (List ℕ)) × EndsBadly trace lines n × ((more : List ℕ) × (expected ≡ Some (text start lines ++ more)))
@@ -143,13 +153,14 @@ needs_trace request = is_some (trace_of (ask_of request))
 abbrev pub IsDone : Request → (manifest trace expected held holds : Option (List ℕ)) → Type 0
 IsDone (request.Run m t o w s v) manifest trace expected held holds = (parts : Parts) × Describes manifest parts × IsPlayed s (form_of w) (first_of parts) trace held holds
 IsDone (request.Demo t o w s v) manifest trace expected held holds = IsPlayed s (form_of w) (first_of built_in_parts) trace held holds
-IsDone (request.Compare m t e o v) manifest trace expected held holds =
+IsDone (request.Compare m t e o x v) manifest trace expected held holds =
     (parts : Parts) × Describes manifest parts × PrintsExpected (first_of parts) trace expected × Keeps held holds
 IsDone (request.Check m v) manifest trace expected held holds = (parts : Parts) × Describes manifest parts × Appends held holds (ended (codes "accepted"))
 IsDone (request.Layout m v) manifest trace expected held holds = (parts : Parts) × Describes manifest parts × Appends held holds (layout_text parts)
 IsDone (request.Descriptor words) manifest trace expected held holds = IsSaid words held holds
 IsDone (request.Generate m s l c v) manifest trace expected held holds =
     (parts : Parts) × Describes manifest parts × (c ≡ false → Wrote l held holds)
+IsDone (request.Picture m t e v) manifest trace expected held holds = (parts : Parts) × Describes manifest parts × IsDrawn trace
 
 -- the status with which the program ends
 abbrev pub status_of : Failure → ℕ
@@ -168,12 +179,13 @@ abbrev pub StopsAt : Request → (manifest trace expected held holds : Option (L
 StopsAt (request.Run m t o w s v) manifest trace expected held holds n =
     (parts : Parts) × Describes manifest parts × IsStopped s (form_of w) (first_of parts) trace held holds n
 StopsAt (request.Demo t o w s v) manifest trace expected held holds n = IsStopped s (form_of w) (first_of built_in_parts) trace held holds n
-StopsAt (request.Compare m t e o v) manifest trace expected held holds n =
+StopsAt (request.Compare m t e o x v) manifest trace expected held holds n =
     (parts : Parts) × Describes manifest parts × IsCutShort (first_of parts) trace expected n × Keeps held holds
 StopsAt (request.Check m v) manifest trace expected held holds n = ⊥
 StopsAt (request.Layout m v) manifest trace expected held holds n = ⊥
 StopsAt (request.Descriptor words) manifest trace expected held holds n = ⊥
 StopsAt (request.Generate m s l c v) manifest trace expected held holds n = ⊥
+StopsAt (request.Picture m t e v) manifest trace expected held holds n = (parts : Parts) × Describes manifest parts × IsUndrawn trace held holds n
 
 abbrev pub SomeBadLine : Request → (manifest trace expected held holds : Option (List ℕ)) → Type 0
 SomeBadLine request manifest trace expected held holds = (n : ℕ) × StopsAt request manifest trace expected held holds n
@@ -182,23 +194,25 @@ SomeBadLine request manifest trace expected held holds = (n : ℕ) × StopsAt re
 abbrev pub Differs : Request → (manifest trace expected : Option (List ℕ)) → Type 0
 Differs (request.Run m t o w s v) manifest trace expected = ⊥
 Differs (request.Demo t o w s v) manifest trace expected = ⊥
-Differs (request.Compare m t e o v) manifest trace expected =
+Differs (request.Compare m t e o x v) manifest trace expected =
     (parts : Parts) × Describes manifest parts × ((bytes : List ℕ) × (expected ≡ Some bytes) × NeverPrints plain (first_of parts) trace bytes)
 Differs (request.Check m v) manifest trace expected = ⊥
 Differs (request.Layout m v) manifest trace expected = ⊥
 Differs (request.Descriptor words) manifest trace expected = ⊥
 Differs (request.Generate m s l c v) manifest trace expected = ⊥
+Differs (request.Picture m t e v) manifest trace expected = ⊥
 
 -- a play stopped at a guard that isn't met, in line n
 abbrev pub UnmetAt : Request → (manifest trace held holds : Option (List ℕ)) → ℕ → Type 0
 UnmetAt (request.Run m t o w s v) manifest trace held holds n =
     (s ≡ true) × ((parts : Parts) × Describes manifest parts × IsUnmet (form_of w) (first_of parts) trace held holds n)
 UnmetAt (request.Demo t o w s v) manifest trace held holds n = (s ≡ true) × IsUnmet (form_of w) (first_of built_in_parts) trace held holds n
-UnmetAt (request.Compare m t e o v) manifest trace held holds n = ⊥
+UnmetAt (request.Compare m t e o x v) manifest trace held holds n = ⊥
 UnmetAt (request.Check m v) manifest trace held holds n = ⊥
 UnmetAt (request.Layout m v) manifest trace held holds n = ⊥
 UnmetAt (request.Descriptor words) manifest trace held holds n = ⊥
 UnmetAt (request.Generate m s l c v) manifest trace held holds n = ⊥
+UnmetAt (request.Picture m t e v) manifest trace held holds n = ⊥
 
 abbrev pub SomeUnmetGuard : Request → (manifest trace held holds : Option (List ℕ)) → Type 0
 SomeUnmetGuard request manifest trace held holds = (n : ℕ) × UnmetAt request manifest trace held holds n
@@ -208,10 +222,11 @@ abbrev pub IsUnsaid : Request → Type 0
 IsUnsaid (request.Descriptor words) = ((fault : WordsFault) × IsMisread words fault) ⊎ ((cause : Unfit) × IsUnfit words cause)
 IsUnsaid (request.Run m t o w s v) = ⊥
 IsUnsaid (request.Demo t o w s v) = ⊥
-IsUnsaid (request.Compare m t e o v) = ⊥
+IsUnsaid (request.Compare m t e o x v) = ⊥
 IsUnsaid (request.Check m v) = ⊥
 IsUnsaid (request.Layout m v) = ⊥
 IsUnsaid (request.Generate m s l c v) = ⊥
+IsUnsaid (request.Picture m t e v) = ⊥
 
 -- WHAT PRIVATE FUNCTIONS PROMISE ONE ANOTHER: a reader, a writer and memory may always fail
 
@@ -245,35 +260,40 @@ abbrev pub PrintsIn : Bool → Form → Task → Type 0
 PrintsIn strict form Plain = (strict ≡ false) × (form ≡ plain)
 PrintsIn strict form (Formed own) = (strict ≡ false) × (form ≡ own)
 PrintsIn strict form (Guarded own) = (strict ≡ true) × (form ≡ own)
-PrintsIn strict form (Compare expected) = ⊥
+PrintsIn strict form (Compare expected explain) = ⊥
+PrintsIn strict form (Drawn keep) = ⊥
 
 -- a task was done
 abbrev pub IsDoneBy : Task → State → (trace held holds : Option (List ℕ)) → Type 0
 IsDoneBy Plain start trace held holds = IsPlayed false plain start trace held holds
 IsDoneBy (Formed form) start trace held holds = IsPlayed false form start trace held holds
 IsDoneBy (Guarded form) start trace held holds = IsPlayed true form start trace held holds
-IsDoneBy (Compare expected) start trace held holds = PrintsExpected start trace (Some expected.now) × Keeps held holds
+IsDoneBy (Compare expected explain) start trace held holds = PrintsExpected start trace (Some expected.now) × Keeps held holds
+IsDoneBy (Drawn keep) start trace held holds = IsDrawn trace
 
 -- a task stopped at line n
 abbrev pub StopsBy : Task → State → (trace held holds : Option (List ℕ)) → ℕ → Type 0
 StopsBy Plain start trace held holds n = IsStopped false plain start trace held holds n
 StopsBy (Formed form) start trace held holds n = IsStopped false form start trace held holds n
 StopsBy (Guarded form) start trace held holds n = IsStopped true form start trace held holds n
-StopsBy (Compare expected) start trace held holds n = IsCutShort start trace (Some expected.now) n × Keeps held holds
+StopsBy (Compare expected explain) start trace held holds n = IsCutShort start trace (Some expected.now) n × Keeps held holds
+StopsBy (Drawn keep) start trace held holds n = IsUndrawn trace held holds n
 
 -- a task found another text
 abbrev pub DiffersBy : Task → State → Option (List ℕ) → Type 0
 DiffersBy Plain start trace = ⊥
 DiffersBy (Formed form) start trace = ⊥
 DiffersBy (Guarded form) start trace = ⊥
-DiffersBy (Compare expected) start trace = NeverPrints plain start trace expected.now
+DiffersBy (Compare expected explain) start trace = NeverPrints plain start trace expected.now
+DiffersBy (Drawn keep) start trace = ⊥
 
 -- a task met a guard that isn't met, in line n
 abbrev pub UnmetBy : Task → State → (trace held holds : Option (List ℕ)) → ℕ → Type 0
 UnmetBy Plain start trace held holds n = ⊥
 UnmetBy (Formed form) start trace held holds n = ⊥
 UnmetBy (Guarded form) start trace held holds n = IsUnmet form start trace held holds n
-UnmetBy (Compare expected) start trace held holds n = ⊥
+UnmetBy (Compare expected explain) start trace held holds n = ⊥
+UnmetBy (Drawn keep) start trace held holds n = ⊥
 
 -- a task fails; a play refuses no manifest
 abbrev pub PlayFails : Task → State → (trace held holds : Option (List ℕ)) → Failure → Type 0

@@ -15,9 +15,10 @@ mod writing;
 
 use crate::layout;
 use failure::Failure;
-use ffa_command::Request;
+use ffa_command::{MachineOptions, Request};
 use ffa_manifest::ManifestError;
 use ffa_model::{Manifest, built_in};
+use ffa_picture::Keep;
 use ffa_trace::output;
 use ffa_trace::text::Text;
 use playing::{Task, Trace, play};
@@ -25,6 +26,12 @@ use std::alloc::{Allocator, Global};
 use std::fmt::Display;
 use std::io::{ErrorKind, Read, Write};
 use writing::{describe, generate_trace};
+
+// A machine with RAM in one piece, which holds no translation.
+const PLAIN: MachineOptions = MachineOptions {
+    frames: false,
+    tlb: false,
+};
 
 /// What was read of the files that a command names. What it doesn't name is left alone.
 #[derive(Drop)]
@@ -244,6 +251,7 @@ fn do_command<'a, A: Allocator + Copy, R: Read + Drop, W: Write>(
             trace: trace_path,
             expected: expected_path,
             machine,
+            explain,
             verbose: _,
         } => {
             let manifest = read_manifest(manifests, path, manifest)?;
@@ -251,7 +259,7 @@ fn do_command<'a, A: Allocator + Copy, R: Read + Drop, W: Write>(
             let Some(expected) = expected else {
                 return Err(Failure::Read(expected_path));
             };
-            let task = Task::Compare(expected);
+            let task = Task::Compare { expected, explain };
             play(alloc, &manifest, machine, task, trace, out, told)
         }
         Request::Check { manifest: path, .. } => accept(manifests, path, manifest, out),
@@ -266,6 +274,17 @@ fn do_command<'a, A: Allocator + Copy, R: Read + Drop, W: Write>(
         } => {
             let manifest = read_manifest(manifests, path, manifest)?;
             generate_trace(alloc, &manifest, seed, lines, count, out)
+        }
+        Request::Picture {
+            manifest: path,
+            trace: trace_path,
+            every,
+            verbose: _,
+        } => {
+            let manifest = read_manifest(manifests, path, manifest)?;
+            let trace = opened(trace_path, trace)?;
+            let task = Task::Drawn(Keep::every(every));
+            play(alloc, &manifest, PLAIN, task, trace, out, told)
         }
     }
 }

@@ -3,7 +3,7 @@ ghost use Rattle.std.specs.Prelude.{◌≡◌, ℕ, ◌+◌, ◌*◌, ◌<◌, �
 ghost use Rattle.std.specs.Option.{option_map, option_map_or};
 ghost use Rattle.std.specs.Result.{result_err};
 ghost use Rattle.std.specs.List.{list_all};
-ghost use Rattle.ffa_model.specs.declared.limits.TheConstants.{MOST_BUFFER_PAGES, MOST_ENDPOINTS};
+ghost use Rattle.ffa_model.specs.declared.limits.TheConstants.{MOST_ENDPOINTS};
 ghost use Rattle.ffa_model.specs.Lists.{is_in_run, run};
 ghost use Rattle.ffa_model.specs.Buffers.{are_runs_apart, buffers_in, buffers_with, buffers_with_rx, is_full, is_run_address, is_usable, map_guards, new_buffers, page_number, release_guards, unmap_guards};
 ghost use Rattle.ffa_model.specs.Calls.{first_failure, first_refusal};
@@ -325,8 +325,12 @@ fn are_apart(first: PageNo, other: PageNo, pages: u32) -> bool
 }
 
 // The first of this many pages at an address, if they are there.
-fn run_at(table: &PageTable, ram_base: Address, address: u64, pages: u32) -> Option<PageNo>
-    requires { pages ≤ MOST_BUFFER_PAGES }
+pub(crate) fn run_at(
+    table: &PageTable,
+    ram_base: Address,
+    address: u64,
+    pages: u32,
+) -> Option<PageNo>
     ensures found { is_some result ≡ is_run_address (candidates_in table.now ram_base.0) pages address }
     ensures page { IfSome result (λ page. page.0 ≡ page_number ram_base.0 address) }
     ensures within { IfSome result (λ page. page.0 + pages ≤ length table.now) }
@@ -358,7 +362,7 @@ fn are_usable(table: &PageTable, endpoint: EndpointId, first: PageNo, pages: u32
 }
 
 // Whether an endpoint owns a page alone and may write it.
-fn is_usable(table: &PageTable, endpoint: EndpointId, page: PageNo) -> bool
+pub(crate) fn is_usable(table: &PageTable, endpoint: EndpointId, page: PageNo) -> bool
     requires { page.0 < length table.now }
     ensures { result ≡ is_usable endpoint.0 (candidate_in table.now page.0) }
 {

@@ -2,5 +2,7 @@
 #![tactic(auto)]
 
 pub mod buffers;
+mod failing;
 
 pub use buffers::{Buffers, Mapped};
+pub use failing::failing_map;

@@ -34,3 +34,4 @@ pub mod Unowned
 pub mod Sizes
 pub mod Chains
 pub mod Reasons
+pub mod Abouts

@@ -16,6 +16,7 @@ ghost use Rattle.ffa_spmc.specs.Booted.{IsBooted};
 ghost use Rattle.ffa_spmc.specs.Served.{IsAnswered};
 ghost use Rattle.ffa_spmc.specs.Unowned.{KeepsUnowned};
 
+mod abouts;
 mod accesses;
 mod buffers;
 mod certificates;

@@ -1,5 +1,5 @@
 //! The certificates of machines, and tables of which they are none.
-use crate::checks::{holds, same};
+use crate::checks::{holds, same, same_at};
 use crate::machines::{booted, booted_in_frames, booted_with, four_in_turn};
 use ffa_manifest::read;
 use ffa_model::{Address, CertRun, Data, EndpointId, Manifest, PageNo, Rights, row_machine};
@@ -7,7 +7,7 @@ use ffa_physmem::{FlatRam, PhysMem};
 use ffa_spmc::Machine;
 use ffa_tlb::{NoTlb, Translations};
 use ffa_walker::{FaultKind, audit, is_in_ram, translate};
-use std::alloc::Global;
+use std::alloc::{AllocError, Global};
 use std::process::Abort;
 use std::test::Fail;
 
@@ -20,6 +20,18 @@ const LEVEL2: u32 = 1;
 
 const LEVEL3: u32 = 2;
 
+// The run of pages that begins here.
+fn run_at<M: PhysMem + Drop, T: Translations + Drop>(
+    machine: &Machine<M, T>,
+    page: u32,
+) -> Option<CertRun> {
+    if page < machine.ram().pages() {
+        Some(machine.cert_run(PageNo(page)))
+    } else {
+        None
+    }
+}
+
 // The runs of the machine's pages.
 fn certificate<M: PhysMem + Drop, T: Translations + Drop>(
     alloc: Global,
@@ -29,9 +41,9 @@ fn certificate<M: PhysMem + Drop, T: Translations + Drop>(
     let mut next = 0;
     for page in 0..machine.ram().pages() {
         if page == next {
-            let run = machine.cert_run(PageNo(page));
-            runs.push(run)?;
+            let run = run_at(machine, page).ok_or("no run")?;
             next = run.last.0.saturating_add(1);
+            runs.push(run)?;
         }
     }
     Ok(runs)
@@ -41,23 +53,31 @@ fn certificate<M: PhysMem + Drop, T: Translations + Drop>(
 fn manifest_text(alloc: Global, blocks: u32, endpoints: u32) -> Result<String, Fail> {
     let mut text = format!(in alloc; "ram_base = 0x40000000\nram_blocks = {blocks}\n")?;
     for place in 0..endpoints {
-        push_endpoint(&mut text, alloc, place)?;
+        push_endpoint(&mut text, place)?;
     }
     Ok(text)
 }
 
-fn push_endpoint(text: &mut String, alloc: Global, place: u32) -> Result<(), Fail> {
+fn push_endpoint(text: &mut String, place: u32) -> Result<(), AllocError> {
     text.push_str("[[endpoint]]\nversion = \"1.1\"\nproperties = 6\n")?;
     if place > 0 {
-        text.push_str(&format!(in alloc;
-            "uuid = \"{place}0112233-4455-6677-8899-aabbccddeeff\"\n"
-        )?)?;
+        push_uuid(text, place)?;
     }
-    text.push_str(&format!(in alloc;
-        "regions = [{{ base = 0x401{}0000, pages = 16, rights = \"rw\" }}]\n",
-        2u32.saturating_add(place)
-    )?)?;
-    Ok(())
+    push_region(text, place.saturating_add(2))
+}
+
+fn push_uuid(text: &mut String, place: u32) -> Result<(), AllocError> {
+    write!(
+        text,
+        "uuid = \"{place}0112233-4455-6677-8899-aabbccddeeff\"\n"
+    )
+}
+
+fn push_region(text: &mut String, digit: u32) -> Result<(), AllocError> {
+    write!(
+        text,
+        "regions = [{{ base = 0x401{digit}0000, pages = 16, rights = \"rw\" }}]\n"
+    )
 }
 
 // Whether a machine gives its own certificate where the first endpoint has this right to the first run.
@@ -111,24 +131,32 @@ fn check_kinds(rt: &impl Abort, alloc: Global, manifest: &Manifest) -> Result<()
     )
 }
 
+fn check_size(rt: &impl Abort, alloc: Global, blocks: u32, endpoints: u32) -> Result<(), Fail> {
+    let text = manifest_text(alloc, blocks, endpoints)?;
+    check_kinds(rt, alloc, &read(alloc, text.as_str())?)
+}
+
 #[test]
 fn machines_of_every_size_and_kind(rt: HostRuntime) -> Result<(), Fail> {
-    for (blocks, endpoints) in [(1, 1), (1, 8), (32, 1), (32, 8)] {
-        let text = manifest_text(rt.alloc(), blocks, endpoints)?;
-        check_kinds(&rt, rt.alloc(), &read(rt.alloc(), text.as_str())?)?;
-    }
-    Ok(())
+    check_size(&rt, rt.alloc(), 1, 1)?;
+    check_size(&rt, rt.alloc(), 1, 8)?;
+    check_size(&rt, rt.alloc(), 32, 1)?;
+    check_size(&rt, rt.alloc(), 32, 8)
 }
 
 // The machine's RAM once more.
 fn copied(alloc: Global, machine: &Machine<FlatRam>) -> Result<FlatRam, Fail> {
     let mut copy = FlatRam::new(alloc, Address(BASE), 512)?;
     for page in 0..512 {
-        if page < copy.pages() && page < machine.ram().pages() {
-            *copy.page_mut(PageNo(page)) = *machine.ram().page(PageNo(page));
-        }
+        copy_page(&mut copy, machine.ram(), page);
     }
     Ok(copy)
+}
+
+fn copy_page(copy: &mut FlatRam, ram: &FlatRam, page: u32) {
+    if page < copy.pages() && page < ram.pages() {
+        *copy.page_mut(PageNo(page)) = *ram.page(PageNo(page));
+    }
 }
 
 // Flips bits of the word at a place of a page.
@@ -190,6 +218,21 @@ fn walks_give(memory: &FlatRam, machine: &Machine<FlatRam>) -> bool {
     (0..2048u64).all(|block| block == 512 || walk_gives(memory, block << 21, None))
 }
 
+// What the walks and the certificate say of the tables with bits of a word flipped: whether nothing is changed.
+fn flipped(
+    memory: &mut FlatRam,
+    machine: &Machine<FlatRam>,
+    runs: &[CertRun],
+    page: u32,
+    index: usize,
+    bits: u64,
+) -> (bool, bool) {
+    flip(memory, page, index, bits);
+    let answers = (walks_give(memory, machine), gives(memory, runs));
+    flip(memory, page, index, bits);
+    answers
+}
+
 // How many of the 64 bits of a word can be flipped, one by one, with no walk changed. The certificate says it as the
 // walks do.
 fn idle_bits(
@@ -202,13 +245,32 @@ fn idle_bits(
 ) -> u32 {
     let mut idle = 0u32;
     for bit in 0..64u32 {
-        flip(memory, page, index, 1 << bit);
-        let same = walks_give(memory, machine);
-        assert_eq!(rt; gives(memory, runs), same, "{page} {index} {bit}");
-        idle = idle.saturating_add(u32::from(same));
-        flip(memory, page, index, 1 << bit);
+        let (walks, certificate) = flipped(memory, machine, runs, page, index, 1 << bit);
+        same_at(rt, certificate, walks, &bit);
+        idle = idle.saturating_add(u32::from(walks));
     }
     idle
+}
+
+// The words of a page at these steps: how many of their bits make no difference.
+fn idle_bits_of_page(
+    rt: &impl Abort,
+    memory: &mut FlatRam,
+    machine: &Machine<FlatRam>,
+    runs: &[CertRun],
+    page: u32,
+    (words, step): (usize, usize),
+) -> u32 {
+    let mut found = 0u32;
+    let mut next = 0;
+    for index in 0..words {
+        if index == next {
+            let bits = idle_bits(rt, memory, machine, runs, page, index);
+            found = found.saturating_add(bits);
+            next = index.saturating_add(step);
+        }
+    }
+    found
 }
 
 // Each bit of the root and of the level 3 page of the first endpoint, and of some words of its level 2 page: how many make no
@@ -219,17 +281,11 @@ fn single_bits_of_tables(rt: HostRuntime) -> Result<(), Fail> {
     let machine = booted(rt.alloc(), &row_machine())?;
     let runs = certificate(rt.alloc(), &machine)?;
     let mut memory = copied(rt.alloc(), &machine)?;
-    for (page, words, step, idle) in [
-        (ROOT, 4, 1, 215),
-        (LEVEL2, 512, 73, 467),
-        (LEVEL3, 512, 1, 496 * 64 + 16 * 22),
-    ] {
-        let mut found = 0u32;
-        for index in (0..words).step_by(step) {
-            let bits = idle_bits(&rt, &mut memory, &machine, runs.as_slice(), page, index);
-            found = found.saturating_add(bits);
-        }
-        assert_eq!(rt; found, idle, "{page}");
-    }
+    let root = idle_bits_of_page(&rt, &mut memory, &machine, &runs, ROOT, (4, 1));
+    same(&rt, root, 215);
+    let level2 = idle_bits_of_page(&rt, &mut memory, &machine, &runs, LEVEL2, (512, 73));
+    same(&rt, level2, 467);
+    let level3 = idle_bits_of_page(&rt, &mut memory, &machine, &runs, LEVEL3, (512, 1));
+    same(&rt, level3, 496 * 64 + 16 * 22);
     Ok(())
 }

@@ -29,6 +29,7 @@ fn push_text(words: &mut String, text: TextOptions) -> Result<(), AllocError> {
             ("line-buffered", text.line_buffered),
             ("number", text.number),
             ("names", text.names),
+            ("explain", text.explain),
         ],
     )
 }
@@ -84,10 +85,12 @@ fn push_request(words: &mut String, request: &Request<'_>) -> Result<(), AllocEr
             trace,
             expected,
             machine,
+            explain,
             ..
         } => {
             write!(words, "compare {manifest} {trace} {expected}")?;
-            push_machine(words, machine)
+            push_machine(words, machine)?;
+            push_flags(words, &[("explain", explain)])
         }
         Request::Check { manifest, .. } => write!(words, "check {manifest}"),
         Request::Layout { manifest, .. } => write!(words, "layout {manifest}"),
@@ -102,6 +105,12 @@ fn push_request(words: &mut String, request: &Request<'_>) -> Result<(), AllocEr
             write!(words, "generate {manifest} {seed} {lines}")?;
             push_flags(words, &[("count", count)])
         }
+        Request::Picture {
+            manifest,
+            trace,
+            every,
+            ..
+        } => write!(words, "picture {manifest} {trace} {every}"),
     }
 }
 
@@ -170,6 +179,8 @@ ffaplay run row.toml --tlb first.trace => run row.toml first.trace --tlb
 ffaplay run --line-buffered row.toml first.trace => run row.toml first.trace --line-buffered
 ffaplay run row.toml first.trace --number => run row.toml first.trace --number
 ffaplay run row.toml first.trace --names => run row.toml first.trace --names
+ffaplay run --explain row.toml first.trace => run row.toml first.trace --explain
+ffaplay demo first.trace --explain --names => demo first.trace --names --explain
 ffaplay run --verbose row.toml first.trace => run row.toml first.trace --verbose
 ffaplay run --strict row.toml first.trace => run row.toml first.trace --strict
 ffaplay demo first.trace --strict --names => demo first.trace --names --strict
@@ -179,6 +190,7 @@ ffaplay demo --names - --number --line-buffered => demo - --line-buffered --numb
 ffaplay demo --verbose first.trace => demo first.trace --verbose
 ffaplay compare --tlb a --frames b c => compare a b c --frames --tlb
 ffaplay compare a b c --verbose => compare a b c --verbose
+ffaplay compare --explain a b c => compare a b c --explain
 ffaplay check --verbose row.toml => check row.toml --verbose
 ffaplay layout row.toml --verbose => layout row.toml --verbose
 ";
@@ -194,6 +206,10 @@ ffaplay descriptor --compact retrieve --of lend --tag 7 --tx 0 => descriptor ret
 ffaplay generate row.toml => generate row.toml 1 1000
 ffaplay generate --seed 18446744073709551615 --lines 0 row.toml => generate row.toml 18446744073709551615 0
 ffaplay generate - --count --lines 20000 --verbose => generate - 1 20000 --count --verbose
+ffaplay picture row.toml row.trace => picture row.toml row.trace 0
+ffaplay picture - --every 100 row.trace --verbose => picture - row.trace 100 --verbose
+ffaplay picture row.toml => MissingRequiredArgument
+ffaplay picture row.toml row.trace --every some => ValueValidation
 ffaplay descriptor lend --from 8001 => MissingRequiredArgument
 ffaplay descriptor lend --tx => InvalidValue
 ffaplay generate row.toml --lines ten => ValueValidation
@@ -217,6 +233,7 @@ ffaplay layout --tlb a => UnknownArgument
 ffaplay compare --number a b c => UnknownArgument
 ffaplay compare --strict a b c => UnknownArgument
 ffaplay check --names a => UnknownArgument
+ffaplay check --explain a => UnknownArgument
 ffaplay demo --version a => UnknownArgument
 ffaplay demo --frames=4 a => TooManyValues
 ffaplay demo --names --names a => ArgumentConflict
@@ -285,6 +302,7 @@ Usage: ffaplay <COMMAND>
 |  layout      Prints where each endpoint's tables stand
 |  descriptor  Prints the lines of a trace that write a descriptor and make its call
 |  generate    Prints a trace for the machine of a manifest
+|  picture     Prints a picture, as SVG, of who reaches which page along a trace
 |
 Status:
    0  done
@@ -305,7 +323,7 @@ fn help_of_a_command_names_its_words(rt: HostRuntime) -> Result<(), Fail> {
 Usage: ffaplay run [OPTIONS] <manifest> <trace>
 |  <manifest>  The machine's manifest, a TOML file; - is standard input
 |  <trace>     The trace: a line for each operation; - is standard input
-|  --frames |  --tlb |  --line-buffered |  --number |  --names |  --strict |  --verbose ";
+|  --frames |  --tlb |  --line-buffered |  --number |  --names |  --explain |  --strict |  --verbose ";
     has_parts(&rt, help.as_str(), parts);
     Ok(())
 }

@@ -87,6 +87,7 @@ fn plays_as_without_guards_where_all_are_met(rt: HostRuntime) -> Result<(), Fail
         let form = Form {
             number: asked,
             names: asked,
+            explain: asked,
         };
         plays_as_without_guards(&rt, rt.alloc(), form)?;
     }

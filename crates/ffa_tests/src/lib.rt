@@ -13,6 +13,8 @@ mod command;
 #[cfg(test)]
 mod direct_messages;
 #[cfg(test)]
+mod explained;
+#[cfg(test)]
 mod generate;
 #[cfg(test)]
 mod guards;

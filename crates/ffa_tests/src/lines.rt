@@ -60,6 +60,7 @@ fn writes_numbers_and_names_where_they_are_asked_for(rt: HostRuntime) -> Result<
     let both = Form {
         number: true,
         names: true,
+        explain: false,
     };
     prints(&rt, rt.alloc(), Form::default(), TEXT)?;
     prints(&rt, rt.alloc(), both, ANNOTATED)
@@ -149,6 +150,7 @@ fn compared(alloc: Global, expected: &[u8]) -> Result<Result<Option<Difference>,
     Ok(compare(
         &mut player,
         alloc,
+        false,
         &mut left,
         expected,
         &mut bytes,
@@ -179,7 +181,16 @@ fn differs(
     place: usize,
 ) -> Result<(), Fail> {
     let found = compared(alloc, expected)?;
-    same(rt, found, Ok(Some(Difference { number, place })));
+    let reason = None;
+    same(
+        rt,
+        found,
+        Ok(Some(Difference {
+            number,
+            place,
+            reason,
+        })),
+    );
     Ok(())
 }
 

@@ -1,6 +1,6 @@
 //! Worked values: machines as text, and changes of one that have each cause.
 
-use crate::checks::{same, same_at};
+use crate::checks::{holds_at, same, same_at};
 use arrayvec::ArrayVec;
 use ffa_manifest::{ManifestError, explain, of_parts, read};
 use ffa_model::{Endpoint, Manifest, Properties, Region, Rights, Version, row_machine};
@@ -27,17 +27,16 @@ properties = 15
 regions = [{ base = 0x40030000, pages = 16, rights = \"rw\" }]
 ";
 
-// The cause for which ROW is refused once `old`, where it stands first, is `new`.
-fn cause_of(alloc: Global, old: &str, new: &str) -> Result<Option<ManifestError>, AllocError> {
-    let text = ROW.replacen(alloc, old, new, 1)?;
-    Ok(read(alloc, text.as_str()).err())
+// The cause for which a text is refused.
+fn cause_in(alloc: Global, text: &str) -> Option<ManifestError> {
+    read(alloc, text).err()
 }
 
 // The name of the cause for which a text is refused, or that it is accepted.
 fn found_in(alloc: Global, text: &str) -> Result<String, AllocError> {
-    match read(alloc, text) {
-        Ok(_) => String::from_str(alloc, "accepted"),
-        Err(cause) => format!(in alloc; "{cause}"),
+    match cause_in(alloc, text) {
+        None => String::from_str(alloc, "accepted"),
+        Some(cause) => format!(in alloc; "{cause}"),
     }
 }
 
@@ -152,35 +151,32 @@ fn two_causes(rt: HostRuntime) -> Result<(), Fail> {
     let alloc = rt.alloc();
     let text = ROW.replacen(alloc, "properties = 6", "properties = 6\nname = 0", 1)?;
     let text = text.replacen(alloc, base, bad_base, 1)?;
-    let cause = read(alloc, text.as_str()).err();
-    same(&rt, cause, Some(ManifestError::RamBase));
+    same(&rt, found_in(alloc, text.as_str())?.as_str(), "M6 RamBase");
+    let text = ROW.replacen(alloc, base, with_top_key, 1)?;
     same(
         &rt,
-        cause_of(alloc, base, with_top_key)?,
-        Some(ManifestError::UnknownKey),
+        found_in(alloc, text.as_str())?.as_str(),
+        "M3 UnknownKey",
     );
     Ok(())
 }
 
 // As many partitions after the normal world, in 64 MiB from 0xFC000000 on, with a region of one page each.
 fn high_machine(alloc: Global, first: &str, partitions: u32) -> Result<String, AllocError> {
-    let mut text = format!(in alloc; "ram_base = 0xFC000000\nram_blocks = 32\n")?;
-    let normal_world = "[[endpoint]]\nversion = \"1.1\"\nproperties = 6\n";
-    text.push_str(normal_world)?;
-    write!(
-        text,
-        "regions = [{{ base = {first}, pages = 1, rights = \"rw\" }}]\n"
+    let mut text = format!(in alloc;
+        "ram_base = 0xFC000000\nram_blocks = 32\n[[endpoint]]\nversion = \"1.1\"\nproperties = 6\nregions = [{{ base = {first}, pages = 1, rights = \"rw\" }}]\n"
     )?;
     for index in 0..partitions {
-        let uuid = "uuid = \"00112233-4455-6677-8899-aabbccddeeff\"\n";
-        text.push_str("[[endpoint]]\nversion = \"1.1\"\nproperties = 15\n")?;
-        text.push_str(uuid)?;
-        write!(
-            text,
-            "regions = [{{ base = 0xFD00{index}000, pages = 1, rights = \"rw\" }}]\n"
-        )?;
+        push_partition(&mut text, index)?;
     }
     Ok(text)
+}
+
+fn push_partition(text: &mut String, index: u32) -> Result<(), AllocError> {
+    write!(
+        text,
+        "[[endpoint]]\nversion = \"1.1\"\nproperties = 15\nuuid = \"00112233-4455-6677-8899-aabbccddeeff\"\nregions = [{{ base = 0xFD00{index}000, pages = 1, rights = \"rw\" }}]\n"
+    )
 }
 
 // A machine is where the normal world's page is, how many partitions there are, and the cause.
@@ -212,8 +208,8 @@ fn no_endpoint(rt: HostRuntime) -> Result<(), Fail> {
     let text = "ram_base = 0x40000000\nram_blocks = 1\nendpoint = []\n";
     same(
         &rt,
-        read(rt.alloc(), text).err(),
-        Some(ManifestError::EndpointCount),
+        found_in(rt.alloc(), text)?.as_str(),
+        "M8 EndpointCount",
     );
     Ok(())
 }
@@ -304,18 +300,22 @@ fn place_in(alloc: Global, text: &str) -> Result<String, AllocError> {
     }
 }
 
+fn check_place(rt: &impl Abort, alloc: Global, row: &str) -> Result<(), Fail> {
+    let (old, rest) = row.split_once(" => ").ok_or("no change")?;
+    let (new, rest) = rest.split_once(" => ").ok_or("no beginning")?;
+    let (begins, ends) = rest.split_once(" => ").ok_or("no end")?;
+    let text = ROW.replacen(alloc, old, new, 1)?;
+    let told = place_in(alloc, text.as_str())?;
+    holds_at(rt, told.as_str().starts_with(begins), &row);
+    holds_at(rt, told.as_str().ends_with(ends), &row);
+    Ok(())
+}
+
 #[test]
 fn places_where_manifests_are_refused(rt: HostRuntime) -> Result<(), Fail> {
-    let alloc = rt.alloc();
-    assert!(rt; place_in(alloc, ROW)?.is_empty());
+    same(&rt, place_in(rt.alloc(), ROW)?.as_str(), "");
     for row in PLACES.lines() {
-        let (old, rest) = row.split_once(" => ").ok_or("no change")?;
-        let (new, rest) = rest.split_once(" => ").ok_or("no beginning")?;
-        let (begins, ends) = rest.split_once(" => ").ok_or("no end")?;
-        let text = ROW.replacen(alloc, old, new, 1)?;
-        let told = place_in(alloc, text.as_str())?;
-        assert!(rt; told.as_str().starts_with(begins), "{told}");
-        assert!(rt; told.as_str().ends_with(ends), "{told}");
+        check_place(&rt, rt.alloc(), row)?;
     }
     Ok(())
 }
@@ -324,7 +324,7 @@ fn places_where_manifests_are_refused(rt: HostRuntime) -> Result<(), Fail> {
 fn places_of_what_is_no_table(rt: HostRuntime) -> Result<(), Fail> {
     let text = "ram_base = 0x40000000\nram_blocks = 1\nendpoint = [7]\n";
     let told = place_in(rt.alloc(), text)?;
-    assert_eq!(rt; told.as_str(), "endpoint 1: 7: no table");
+    same(&rt, told.as_str(), "endpoint 1: 7: no table");
     Ok(())
 }
 

@@ -64,6 +64,7 @@ const TEXT: TextOptions = TextOptions {
     line_buffered: false,
     number: false,
     names: false,
+    explain: false,
 };
 
 const RUN: Request<'static> = Request::Run {

@@ -5,6 +5,7 @@ use ffa_model::{Address, PageNo};
 use ffa_physmem::frames::zero_frames;
 use ffa_physmem::{FlatRam, FrameRam, NoMemory, PhysMem};
 use linked_list_allocator::LocalHeap;
+use std::alloc::Global;
 use std::process::Abort;
 use std::test::Fail;
 
@@ -53,18 +54,35 @@ fn frame_ram(rt: HostRuntime) -> Result<(), Fail> {
     Ok(())
 }
 
+// Three frames in a heap of so much room: whole, or given back.
+fn frames_in(rt: &impl Abort, alloc: Global, room: usize) -> Result<(), Fail> {
+    let heap = LocalHeap::new(alloc, room)?;
+    let made = zero_frames(&heap, 3);
+    same(rt, made.is_ok(), 3 * 4096 < room);
+    same(rt, heap.used() == 0, made.is_err());
+    drop(made);
+    same(rt, heap.used(), 0);
+    Ok(())
+}
+
 // Each allocation is refused in turn: the list of three frames has room first, and then ever more of the frames.
 #[test]
 fn whole_or_given_back(rt: HostRuntime) -> Result<(), Fail> {
     for room in [16, 64, 4096 + 64, 8192 + 64, 12288 + 64] {
-        let heap = LocalHeap::new(rt.alloc(), room)?;
-        let made = zero_frames(&heap, 3);
-        same(&rt, made.is_ok(), 3 * 4096 < room);
-        same(&rt, heap.used() == 0, made.is_err());
-        drop(made);
-        same(&rt, heap.used(), 0);
+        frames_in(&rt, rt.alloc(), room)?;
     }
     Ok(())
+}
+
+fn is_zero<M: PhysMem>(ram: &M, page: u32) -> bool {
+    page < ram.pages() && ram.page(PageNo(page)).iter().all(|byte| *byte == 0)
+}
+
+fn are_zeros<M: PhysMem>(rt: &impl Abort, ram: &M) {
+    same(rt, (ram.base(), ram.pages()), (Address(0x4000_0000), 3));
+    for page in 0..3 {
+        holds(rt, is_zero(ram, page));
+    }
 }
 
 // RAM of three pages, all zeros, where there is room for it, or no memory; and nothing is kept of RAM that is refused.
@@ -76,10 +94,7 @@ fn zeros_or_no_memory<M: PhysMem + Drop>(
     match made {
         Ok(ram) => {
             holds(rt, 3 * 4096 <= heap.used());
-            same(rt, (ram.base(), ram.pages()), (Address(0x4000_0000), 3));
-            for page in 0..ram.pages() {
-                holds(rt, ram.page(PageNo(page)).iter().all(|byte| *byte == 0));
-            }
+            are_zeros(rt, &ram);
         }
         Err(NoMemory) => {
             holds(rt, heap.size() < 3 * 4096 + 48);
@@ -89,17 +104,25 @@ fn zeros_or_no_memory<M: PhysMem + Drop>(
     same(rt, heap.used(), 0);
 }
 
+fn flat_ram_in(rt: &impl Abort, heap: &LocalHeap, room: usize) {
+    let flat = FlatRam::new_in(heap, Address(0x4000_0000), 3);
+    same(rt, flat.is_ok(), 12288 <= room);
+    zeros_or_no_memory(rt, heap, flat);
+}
+
+fn frame_ram_in(rt: &impl Abort, heap: &LocalHeap, room: usize) {
+    let frames = FrameRam::new_in(heap, Address(0x4000_0000), 3);
+    same(rt, frames.is_ok(), 12288 + 48 <= room);
+    zeros_or_no_memory(rt, heap, frames);
+}
+
 // Each allocation of RAM is refused in turn: its one piece, and its list of frames and each frame.
 #[test]
 fn ram_is_zeros_or_refused(rt: HostRuntime) -> Result<(), Fail> {
     for room in [16, 64, 4096 + 64, 8192 + 64, 12288, 12288 + 48] {
         let heap = LocalHeap::new(rt.alloc(), room)?;
-        let flat = FlatRam::new_in(&heap, Address(0x4000_0000), 3);
-        same(&rt, flat.is_ok(), 12288 <= room);
-        zeros_or_no_memory(&rt, &heap, flat);
-        let frames = FrameRam::new_in(&heap, Address(0x4000_0000), 3);
-        same(&rt, frames.is_ok(), 12288 + 48 <= room);
-        zeros_or_no_memory(&rt, &heap, frames);
+        flat_ram_in(&rt, &heap, room);
+        frame_ram_in(&rt, &heap, room);
     }
     Ok(())
 }

@@ -35,15 +35,15 @@ call 84000074 40 40
 // Identifiers of calls with no argument, and why 8001 is refused them.
 const CALLS: &str = "\
 84000063 None
-84000065 Some(Refused(RxEmpty))
-84000066 Some(Refused(BuffersMapped))
+84000065 Some(Refused { refusal: RxEmpty, about: None })
+84000066 Some(Refused { refusal: BuffersMapped, about: None })
 84000067 None
-84000064 Some(Refused(FunctionUnknown))
-84000083 Some(Refused(FunctionUnknown))
-8400006D Some(Refused(NotNormalWorld))
-8400006F Some(Refused(SenderIsAnother))
-84000072 Some(Refused(DescriptorMalformed))
-84000077 Some(Refused(NotTheSenders))";
+84000064 Some(Refused { refusal: FunctionUnknown, about: Some(Register { register: 1, value: 0 }) })
+84000083 Some(Refused { refusal: FunctionUnknown, about: Some(Register { register: 0, value: 2214592643 }) })
+8400006D Some(Refused { refusal: NotNormalWorld, about: None })
+8400006F Some(Refused { refusal: SenderIsAnother, about: Some(Endpoint(EndpointId(0))) })
+84000072 Some(Refused { refusal: DescriptorMalformed, about: None })
+84000077 Some(Refused { refusal: NotTheSenders, about: Some(Handle(0)) })";
 
 // Addresses, and why 8002 is refused a load of 2 bytes, before it has retrieved the share.
 const LOADS: &str = "\

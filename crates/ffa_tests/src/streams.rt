@@ -1,6 +1,7 @@
 //! The player over readers and writers that stop, at each byte and for each reason.
 ghost use Rattle.std.specs.Prelude.{◌≡◌, IfOk};
 
+use crate::checks::{same, same_at};
 use crate::machines::booted;
 use ffa_model::built_in;
 use ffa_physmem::FlatRam;
@@ -8,6 +9,7 @@ use ffa_trace::{PlayError, Player};
 use std::alloc::{AllocError, Global};
 use std::io;
 use std::io::{ErrorKind, Read, Write};
+use std::process::Abort;
 use std::test::Fail;
 
 const FIRST: &str = "call 84000069\nstore 40010000 2A\nload 40010000 1\nload 40020000 1\nshow\n";
@@ -247,18 +249,41 @@ fn text_of(lines: usize) -> usize {
     TEXTS.get(lines).copied().unwrap_or_default()
 }
 
+// A read fails behind these bytes, of which each gives so many.
+fn fails_to_read(rt: &impl Abort, alloc: Global, left: usize, most: usize) -> Result<(), Fail> {
+    let source = Source::cut(left, most, Some(ErrorKind::Interrupted));
+    let sink = Sink::new(alloc, usize::MAX, usize::MAX, None);
+    let done = count_within(&LINES, left);
+    let want = wanted(alloc, Err(PlayError::Read), text_of(done), done)?;
+    same_at(rt, play_first(alloc, source, sink, done)?, want, &left);
+    Ok(())
+}
+
 // Behind the bytes of whole lines may stand those of a line that hasn't ended, in one read with them or not.
 #[test]
 fn does_the_lines_before_a_failed_read(rt: HostRuntime) -> Result<(), Fail> {
-    for most in [1, usize::MAX] {
-        for left in 0..=FIRST.len() {
-            let source = Source::cut(left, most, Some(ErrorKind::Interrupted));
-            let sink = Sink::new(rt.alloc(), usize::MAX, usize::MAX, None);
-            let done = count_within(&LINES, left);
-            let want = wanted(rt.alloc(), Err(PlayError::Read), text_of(done), done)?;
-            assert_eq!(rt; play_first(rt.alloc(), source, sink, done)?, want, "{left}");
-        }
+    for left in 0..=FIRST.len() {
+        fails_to_read(&rt, rt.alloc(), left, 1)?;
+        fails_to_read(&rt, rt.alloc(), left, usize::MAX)?;
     }
+    Ok(())
+}
+
+// How a trace of these bytes ends, of which these lines are whole.
+fn end_of(left: usize, done: usize) -> Result<(), PlayError> {
+    if LINES.contains(&left) {
+        Ok(())
+    } else {
+        Err(PlayError::BadLine(done.saturating_add(1) as u64))
+    }
+}
+
+fn is_cut(rt: &impl Abort, alloc: Global, left: usize) -> Result<(), Fail> {
+    let source = Source::cut(left, usize::MAX, None);
+    let sink = Sink::new(alloc, usize::MAX, usize::MAX, None);
+    let done = count_within(&LINES, left);
+    let want = wanted(alloc, end_of(left, done), text_of(done), done)?;
+    same_at(rt, play_first(alloc, source, sink, done)?, want, &left);
     Ok(())
 }
 
@@ -266,32 +291,43 @@ fn does_the_lines_before_a_failed_read(rt: HostRuntime) -> Result<(), Fail> {
 #[test]
 fn refuses_the_line_that_is_cut(rt: HostRuntime) -> Result<(), Fail> {
     for left in 0..=FIRST.len() {
-        let source = Source::cut(left, usize::MAX, None);
-        let sink = Sink::new(rt.alloc(), usize::MAX, usize::MAX, None);
-        let done = count_within(&LINES, left);
-        let played = if LINES.contains(&left) {
-            Ok(())
-        } else {
-            Err(PlayError::BadLine(done.saturating_add(1) as u64))
-        };
-        let want = wanted(rt.alloc(), played, text_of(done), done)?;
-        assert_eq!(rt; play_first(rt.alloc(), source, sink, done)?, want, "{left}");
+        is_cut(&rt, rt.alloc(), left)?;
     }
+    Ok(())
+}
+
+// A write stops behind these bytes, of which each takes so many.
+fn fails_to_write(
+    rt: &impl Abort,
+    alloc: Global,
+    room: usize,
+    most: usize,
+    stop: Stop,
+) -> Result<(), Fail> {
+    let source = Source::cut(FIRST.len(), usize::MAX, None);
+    let sink = Sink::new(alloc, room, most, stop);
+    let done = count_within(&TEXTS, room).saturating_add(1);
+    let want = wanted(alloc, Err(PlayError::Write), room, done)?;
+    same_at(rt, play_first(alloc, source, sink, done)?, want, &room);
     Ok(())
 }
 
 // The line whose text isn't written whole is done.
 #[test]
 fn does_the_lines_up_to_a_failed_write(rt: HostRuntime) -> Result<(), Fail> {
-    for (stop, most) in [(Some(ErrorKind::Interrupted), 3), (None, usize::MAX)] {
-        for room in 0..FIRST_TEXT.len() {
-            let source = Source::cut(FIRST.len(), usize::MAX, None);
-            let sink = Sink::new(rt.alloc(), room, most, stop);
-            let done = count_within(&TEXTS, room).saturating_add(1);
-            let want = wanted(rt.alloc(), Err(PlayError::Write), room, done)?;
-            assert_eq!(rt; play_first(rt.alloc(), source, sink, done)?, want, "{room}");
-        }
+    for room in 0..FIRST_TEXT.len() {
+        fails_to_write(&rt, rt.alloc(), room, 3, Some(ErrorKind::Interrupted))?;
+        fails_to_write(&rt, rt.alloc(), room, usize::MAX, None)?;
     }
+    Ok(())
+}
+
+// A reader fails in this way within the second line.
+fn fails_to_read_by(rt: &impl Abort, alloc: Global, kind: ErrorKind) -> Result<(), Fail> {
+    let source = Source::cut(20, usize::MAX, Some(kind));
+    let sink = Sink::new(alloc, usize::MAX, usize::MAX, None);
+    let want = wanted(alloc, Err(PlayError::Read), 146, 1)?;
+    same(rt, play_first(alloc, source, sink, 1)?, want);
     Ok(())
 }
 
@@ -299,15 +335,8 @@ fn does_the_lines_up_to_a_failed_write(rt: HostRuntime) -> Result<(), Fail> {
 #[test]
 fn tells_errors_of_each_kind_by_their_side(rt: HostRuntime) -> Result<(), Fail> {
     for kind in KINDS {
-        let source = Source::cut(20, usize::MAX, Some(kind));
-        let sink = Sink::new(rt.alloc(), usize::MAX, usize::MAX, None);
-        let want = wanted(rt.alloc(), Err(PlayError::Read), 146, 1)?;
-        assert_eq!(rt; play_first(rt.alloc(), source, sink, 1)?, want);
-
-        let source = Source::cut(FIRST.len(), usize::MAX, None);
-        let sink = Sink::new(rt.alloc(), 148, usize::MAX, Some(kind));
-        let want = wanted(rt.alloc(), Err(PlayError::Write), 148, 2)?;
-        assert_eq!(rt; play_first(rt.alloc(), source, sink, 2)?, want);
+        fails_to_read_by(&rt, rt.alloc(), kind)?;
+        fails_to_write(&rt, rt.alloc(), 148, usize::MAX, Some(kind))?;
     }
     Ok(())
 }

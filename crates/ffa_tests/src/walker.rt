@@ -1,89 +1,109 @@
 //! The walk over tables that a test wrote.
-ghost use Rattle.std.specs.Prelude.{◌≡◌, IfOk, true};
-ghost use Rattle.ffa_model.specs.Walk.{is_page_address};
-
 use crate::checks::{same, same_at};
-use ffa_model::{Address, PageNo, Size};
-use ffa_physmem::{FlatRam, FrameRam, NoMemory, PhysMem};
-use ffa_walker::{FaultKind, Leaf, fetch, load, store, translate};
-use std::alloc::Global;
+use crate::words::set_word;
+use ffa_model::{Address, Size};
+use ffa_physmem::{FlatRam, FrameRam, PhysMem};
+use ffa_walker::{fetch, is_in_ram, load, store, translate};
+use std::alloc::{AllocError, Global};
+use std::process::Abort;
 use std::test::Fail;
 
 const BASE: u32 = 0x4000_0000;
 
 const ADDRESS: u64 = 0x4000_1234;
 
-// RAM of 512 pages, with this word at index 1 of the level 1 table at its base, and a byte at the address.
-fn ram_with_word(alloc: Global, word: u64) -> Result<FlatRam, NoMemory>
-    ensures { IfOk result (λ memory. is_page_address (⟦<FlatRam as PhysMem>⟧.ram memory) 0x40000000 ≡ true) }
-{
-    let mut memory = FlatRam::new(alloc, Address(BASE), 512)?;
-    memory.write_word(PageNo(0), 1, word);
-    memory.write_word(PageNo(1), 0x46, 0x0807_065a_0403_0201);
-    Ok(memory)
+// This word stands at index 1 of the level 1 table at the base, and bytes round the address.
+fn put<M: PhysMem>(memory: &mut M, word: u64) {
+    set_word(memory, 0, 1, word);
+    set_word(memory, 1, 0x46, 0x0807_065a_0403_0201);
 }
 
-// The same in RAM of frames.
-fn frames_with_word(alloc: Global, word: u64) -> Result<FrameRam, NoMemory>
-    ensures { IfOk result (λ memory. is_page_address (⟦<FrameRam as PhysMem>⟧.ram memory) 0x40000000 ≡ true) }
-{
-    let mut memory = FrameRam::new(alloc, Address(BASE), 512)?;
-    memory.write_word(PageNo(0), 1, word);
-    memory.write_word(PageNo(1), 0x46, 0x0807_065a_0403_0201);
-    Ok(memory)
+// What the walk of the address answers, and the load of its byte.
+fn walked<M: PhysMem>(alloc: Global, memory: &M) -> Result<String, AllocError> {
+    if !is_in_ram(memory, u64::from(BASE)) {
+        return format!(in alloc; "no table");
+    }
+    let leaf = translate(memory, BASE, ADDRESS);
+    let byte = load(memory, BASE, ADDRESS, Size::B1);
+    format!(in alloc; "{leaf:?} {byte:?}")
 }
+
+fn walks<M: PhysMem>(
+    rt: &impl Abort,
+    alloc: Global,
+    memory: &mut M,
+    word: u64,
+    wanted: &str,
+) -> Result<(), Fail> {
+    put(memory, word);
+    let found = walked(alloc, memory)?;
+    same_at(rt, found.as_str(), wanted, &word);
+    Ok(())
+}
+
+// The same in one piece of RAM, and in RAM of frames.
+fn check_walk(rt: &impl Abort, alloc: Global, row: &str) -> Result<(), Fail> {
+    let (word, wanted) = row.split_once(' ').ok_or("no word")?;
+    let word = u64::from_str_radix(word, 16)?;
+    let mut flat = FlatRam::new(alloc, Address(BASE), 512)?;
+    walks(rt, alloc, &mut flat, word, wanted)?;
+    let mut frames = FrameRam::new(alloc, Address(BASE), 512)?;
+    walks(rt, alloc, &mut frames, word, wanted)
+}
+
+// A word, what the walk answers, and what the load does.
+const WALKS: &str = "\
+00000000400007FD Ok(Leaf { phys: 1073746484, read: true, write: true, exec: true }) Ok(90)
+00000000400003FD Err(AccessFlag) Err(AccessFlag)
+00000000800007FD Ok(Leaf { phys: 2147488308, read: true, write: true, exec: true }) Err(OutsideRam)
+0000000080000003 Err(OutsideRam) Err(OutsideRam)
+FFFFFFFFFFFFFFFE Err(Translation) Err(Translation)";
 
 #[test]
 fn walks_any_word(rt: HostRuntime) -> Result<(), Fail> {
-    let leaf_at = |phys| Leaf {
-        phys,
-        read: true,
-        write: true,
-        exec: true,
-    };
-    let rows = [
-        (0x0000_0000_4000_07FD, Ok(leaf_at(ADDRESS)), Ok(0x5a)),
-        (
-            0x0000_0000_4000_03FD,
-            Err(FaultKind::AccessFlag),
-            Err(FaultKind::AccessFlag),
-        ),
-        (
-            0x0000_0000_8000_07FD,
-            Ok(leaf_at(0x8000_1234)),
-            Err(FaultKind::OutsideRam),
-        ),
-        (
-            0x0000_0000_8000_0003,
-            Err(FaultKind::OutsideRam),
-            Err(FaultKind::OutsideRam),
-        ),
-        (
-            0xFFFF_FFFF_FFFF_FFFE,
-            Err(FaultKind::Translation),
-            Err(FaultKind::Translation),
-        ),
-    ];
-    for (word, leaf, byte) in rows {
-        let memory = ram_with_word(rt.alloc(), word)?;
-        same_at(&rt, translate(&memory, BASE, ADDRESS), leaf, &word);
-        same_at(&rt, load(&memory, BASE, ADDRESS, Size::B1), byte, &word);
-        let frames = frames_with_word(rt.alloc(), word)?;
-        same_at(&rt, translate(&frames, BASE, ADDRESS), leaf, &word);
-        same_at(&rt, load(&frames, BASE, ADDRESS, Size::B1), byte, &word);
+    for row in WALKS.lines() {
+        check_walk(&rt, rt.alloc(), row)?;
     }
     Ok(())
 }
 
+// What a fetch at the address answers.
+fn fetched(alloc: Global, memory: &FlatRam) -> Result<String, AllocError> {
+    if !is_in_ram(memory, u64::from(BASE)) {
+        return format!(in alloc; "no table");
+    }
+    let answer = fetch(memory, BASE, ADDRESS);
+    format!(in alloc; "{answer:?}")
+}
+
+// What a store of two bytes there answers.
+fn stored(alloc: Global, memory: &mut FlatRam, value: u64) -> Result<String, AllocError> {
+    if !is_in_ram(memory, u64::from(BASE)) {
+        return format!(in alloc; "no table");
+    }
+    let answer = store(memory, BASE, ADDRESS, Size::B2, value);
+    format!(in alloc; "{answer:?}")
+}
+
+// What a load of the eight bytes round it answers.
+fn loaded(alloc: Global, memory: &FlatRam) -> Result<String, AllocError> {
+    if !is_in_ram(memory, u64::from(BASE)) {
+        return format!(in alloc; "no table");
+    }
+    let answer = load(memory, BASE, ADDRESS - 4, Size::B8);
+    format!(in alloc; "{answer:?}")
+}
+
 #[test]
 fn stores_and_fetches(rt: HostRuntime) -> Result<(), Fail> {
-    let mut memory = ram_with_word(rt.alloc(), 0x0000_0000_4000_07FD)?;
-    same(&rt, fetch(&memory, BASE, ADDRESS), Ok(0x0807_065a));
-    store(&mut memory, BASE, ADDRESS, Size::B2, 0xFFFF_1234)?;
-    same(
-        &rt,
-        load(&memory, BASE, ADDRESS - 4, Size::B8),
-        Ok(0x0807_1234_0403_0201),
-    );
+    let alloc = rt.alloc();
+    let mut memory = FlatRam::new(alloc, Address(BASE), 512)?;
+    put(&mut memory, 0x0000_0000_4000_07FD);
+    let word = format!(in alloc; "Ok({})", 0x0807_065a_u32)?;
+    same(&rt, fetched(alloc, &memory)?.as_str(), word.as_str());
+    let answer = stored(alloc, &mut memory, 0xFFFF_1234)?;
+    same(&rt, answer.as_str(), "Ok(())");
+    let bytes = format!(in alloc; "Ok({})", 0x0807_1234_0403_0201_u64)?;
+    same(&rt, loaded(alloc, &memory)?.as_str(), bytes.as_str());
     Ok(())
 }

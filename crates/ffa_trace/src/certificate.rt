@@ -19,7 +19,7 @@ use std::io::Write;
 
 /// Writes the machine's certificate with the addresses of its level 1 tables, and whether the tables give it. The runs are
 /// put together first: where there is no memory for them, nothing is written.
-pub fn write_audit<M: PhysMem + Drop, T: Translations + Drop, A: Allocator, W: Write>(
+pub(crate) fn write_audit<M: PhysMem + Drop, T: Translations + Drop, A: Allocator, W: Write>(
     machine: &Machine<M, T>,
     alloc: A,
     writer: &mut W,
@@ -32,8 +32,8 @@ pub fn write_audit<M: PhysMem + Drop, T: Translations + Drop, A: Allocator, W: W
     }
 }
 
-// The runs of the machine's pages, one behind the other.
-fn runs<M: PhysMem + Drop, T: Translations + Drop, A: Allocator>(
+/// The runs of the machine's pages, one behind the other: its certificate.
+pub fn runs<M: PhysMem + Drop, T: Translations + Drop, A: Allocator>(
     machine: &Machine<M, T>,
     alloc: A,
 ) -> Result<Vec<CertRun, A>, AllocError>

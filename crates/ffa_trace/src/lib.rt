@@ -1,7 +1,7 @@
 //! The player of traces: what each line does on the machine, and the text of what comes of it.
 #![tactic(auto)]
 
-mod certificate;
+pub mod certificate;
 mod line;
 mod lines;
 pub mod output;

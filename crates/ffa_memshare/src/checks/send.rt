@@ -109,7 +109,7 @@ fn are_inside(ranges: &[Range], pages: &PageTable, base: Address) -> bool
 }
 
 // Whether a page is an endpoint's, and no open transaction names it.
-fn is_own(pages: &PageTable, sender: EndpointId, page: PageNo) -> bool
+pub(crate) fn is_own(pages: &PageTable, sender: EndpointId, page: PageNo) -> bool
     requires { page.0 < length pages.now }
     ensures { result ≡ is_own sender.0 (candidate_in pages.now page.0) }
 {

@@ -2,6 +2,7 @@
 ghost use Rattle.std.specs.Prelude.{◌≡◌, IfErr};
 
 use super::failure::Failure;
+use ffa_lines::{Reason, put_reason};
 use std::alloc::Allocator;
 use std::io::Write;
 use std::{fmt, io};
@@ -17,6 +18,8 @@ pub(super) struct Difference<'a> {
     pub(super) expected: &'a [u8],
     /// The line's text.
     pub(super) found: &'a [u8],
+    /// Why the line's operation is refused, where that is asked for.
+    pub(super) reason: Option<Reason>,
 }
 
 // The words of a line of registers.
@@ -40,16 +43,15 @@ impl fmt::Display for Printed<'_> {
 
 impl<'a> Difference<'a> {
     /// The trace's line with its number, what is expected and what is found, and for registers which of them differ. Of a
-    /// text of several lines the first is told that differs.
+    /// text of several lines the first is told that differs. Last why the operation is refused, if that is told.
     pub(super) fn told<A: Allocator>(&self, alloc: A) -> Result<Vec<u8, A>, Failure<'static>>
         ensures { IfErr result (λ failure. failure ≡ Failure.NoMemory) }
     {
         let mut text = Vec::new(alloc);
-        match self.put(&mut text) {
-            Ok(()) => Ok(text),
-            // A text in memory takes all that there is memory for.
-            Err(_) => Err(Failure::NoMemory),
-        }
+        // A text in memory takes all that there is memory for.
+        self.put(&mut text).map_err(|_| Failure::NoMemory)?;
+        put_reason(&mut text, self.reason).map_err(|_| Failure::NoMemory)?;
+        Ok(text)
     }
 
     fn put<A: Allocator>(&self, text: &mut Vec<u8, A>) -> io::Result<()> {

@@ -13,6 +13,7 @@ use ffa_command::{MachineOptions, TextOptions};
 use ffa_lines::{Form, line_fault};
 use ffa_model::Manifest;
 use ffa_physmem::{FlatRam, FrameRam, PhysMem};
+use ffa_picture::{Keep, picture_of, write_svg};
 use ffa_spmc::Machine;
 use ffa_tlb::{InTurn, NoTlb, Tlb, Translations};
 use ffa_trace::Player;
@@ -31,8 +32,11 @@ pub enum Task<'a> {
     Formed(Form),
     /// It is printed in a form, and the trace's guards are checked. What is wrong with a bad line is looked for.
     Guarded(Form),
-    /// It is compared with these bytes. What is wrong with a bad line is looked for.
-    Compare(&'a [u8]),
+    /// It is compared with these bytes. Where it differs, why the operation is refused is told if that is asked for. What is
+    /// wrong with a bad line is looked for.
+    Compare { expected: &'a [u8], explain: bool },
+    /// Its picture is printed, with these rows. What is wrong with a bad line is looked for.
+    Drawn(Keep),
 }
 
 impl Task<'_> {
@@ -44,10 +48,11 @@ impl Task<'_> {
         let form = Form {
             number: text.number,
             names: text.names,
+            explain: text.explain,
         };
         if strict {
             Task::Guarded(form)
-        } else if form.number || form.names || verbose {
+        } else if form.number || form.names || form.explain || verbose {
             Task::Formed(form)
         } else {
             Task::Plain
@@ -156,7 +161,10 @@ fn do_task<
         Task::Plain => play_plainly(player, alloc, trace, out),
         Task::Formed(form) => play_formed(player, alloc, form, trace, out),
         Task::Guarded(form) => play_guarded(player, alloc, form, trace, out, told),
-        Task::Compare(expected) => compare(player, alloc, expected, trace, out),
+        Task::Compare { expected, explain } => {
+            compare(player, alloc, expected, explain, trace, out)
+        }
+        Task::Drawn(keep) => draw(player, alloc, keep, trace, out),
     }
 }
 
@@ -262,16 +270,25 @@ fn compare<
     player: &mut Player<M, T>,
     alloc: A,
     expected: &[u8],
+    explain: bool,
     trace: Trace<'a, R>,
     out: &mut W,
 ) -> Result<(), Failure<'a>>
-    ensures played { OnOk result (IsDoneBy (Task.Compare expected.entry) player.old.state (R.remaining trace.entry.reader) (W.contents out.old) (W.contents out.new)) }
-    ensures failed { IfErr result (PlayFails (Task.Compare expected.entry) player.old.state (R.remaining trace.entry.reader) (W.contents out.old) (W.contents out.new)) }
+    ensures played { OnOk result (IsDoneBy (Task.Compare expected.entry explain) player.old.state (R.remaining trace.entry.reader) (W.contents out.old) (W.contents out.new)) }
+    ensures failed { IfErr result (PlayFails (Task.Compare expected.entry explain) player.old.state (R.remaining trace.entry.reader) (W.contents out.old) (W.contents out.new)) }
 {
     let Trace { path, reader } = trace;
     let mut reader = buffered(alloc, reader)?;
     let (mut line, mut text) = (Vec::new(alloc), Vec::new(alloc));
-    match ffa_lines::compare(player, alloc, &mut reader, expected, &mut line, &mut text) {
+    match ffa_lines::compare(
+        player,
+        alloc,
+        explain,
+        &mut reader,
+        expected,
+        &mut line,
+        &mut text,
+    ) {
         Ok(None) => Ok(()),
         Ok(Some(place)) => {
             if line.is_empty() {
@@ -283,11 +300,39 @@ fn compare<
                 line: &line,
                 expected: expected.get(place.place..).unwrap_or(&[]),
                 found: &text,
+                reason: place.reason,
             };
             let told = difference.told(alloc)?;
             write(out, &told)?;
             Err(Failure::Differs)
         }
+        Err(error) => Err(Failure::of_play(path, error, line_fault(&line))),
+    }
+}
+
+// Prints the picture of a trace, once it was played to its end.
+fn draw<
+    'a,
+    A: Allocator + Copy,
+    M: PhysMem + Drop,
+    T: Translations + Drop,
+    R: Read + Drop,
+    W: Write,
+>(
+    player: &mut Player<M, T>,
+    alloc: A,
+    keep: Keep,
+    trace: Trace<'a, R>,
+    out: &mut W,
+) -> Result<(), Failure<'a>>
+    ensures played { OnOk result (IsDoneBy (Task.Drawn keep) player.old.state (R.remaining trace.entry.reader) (W.contents out.old) (W.contents out.new)) }
+    ensures failed { IfErr result (PlayFails (Task.Drawn keep) player.old.state (R.remaining trace.entry.reader) (W.contents out.old) (W.contents out.new)) }
+{
+    let Trace { path, reader } = trace;
+    let mut reader = buffered(alloc, reader)?;
+    let mut line = Vec::new(alloc);
+    match picture_of(player, alloc, keep, &mut reader, &mut line) {
+        Ok(picture) => write_svg(&picture, out).map_err(|_| Failure::Write),
         Err(error) => Err(Failure::of_play(path, error, line_fault(&line))),
     }
 }

@@ -11,9 +11,10 @@ use ffa_physmem::PhysMem;
 use ffa_tlb::Translations;
 
 impl<M: PhysMem + Drop, T: Translations + Drop> Machine<M, T> {
-    /// Why an operation of the runner is refused: of a call the first check that fails, and of an access its fault, with what
-    /// stands in the way. `op` does the operation where this answers nothing. It changes nothing, takes no memory, and walks
-    /// the tables: the cache isn't asked.
+    /// Why an operation of the runner is refused: of a call the first check that fails, with what it is about, where that is a
+    /// register, an endpoint or a handle that registers name, or a page, and of an access its fault, with what stands in the
+    /// way. `op` does the operation where this answers nothing. It changes nothing, takes no memory, and walks the tables: the
+    /// cache isn't asked.
     pub fn why(&self, op: &Op) -> Option<Why>
         ensures why { result ≡ why self.now.state op.now }
         // There is a reason just where the operation is refused, and it says what the runner sees: FFA_ERROR with the code of
@@ -53,8 +54,12 @@ impl<M: PhysMem + Drop, T: Translations + Drop> Machine<M, T> {
     fn why_call(&self, x: [u64; 8]) -> Option<Why>
         ensures { result ≡ why self.now.state (Op.Call x) }
     {
-        match self.manager.refusal(ffa_abi::decode(x)) {
-            Some(refusal) => Some(Why::Refused(refusal)),
+        let call = ffa_abi::decode(x);
+        match self.manager.refusal(call) {
+            Some(refusal) => Some(Why::Refused {
+                refusal,
+                about: self.manager.about(ffa_abi::low(x[0]), call, refusal),
+            }),
             None => None,
         }
     }

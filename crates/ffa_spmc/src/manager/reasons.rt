@@ -10,9 +10,10 @@ ghost use Rattle.ffa_model.specs.MemoryReturn.{memory_reclaim, memory_relinquish
 ghost use Rattle.ffa_model.specs.MemorySend.{memory_send};
 ghost use Rattle.ffa_model.specs.Messages.{msg_send2};
 ghost use Rattle.ffa_model.specs.Notifications.{bitmap_create, bitmap_destroy, notification_bind, notification_get, notification_set, notification_unbind};
+ghost use Rattle.ffa_model.specs.Obstacles.{obstacle_at, obstacle_of};
 ghost use Rattle.ffa_model.specs.RunStates.{direct_request, direct_response, msg_wait, run_partition, yield_now};
 ghost use Rattle.ffa_model.specs.Step.{service};
-ghost use Rattle.ffa_model.specs.Why.{granted, obstacle_at, obstacle_of};
+ghost use Rattle.ffa_model.specs.Why.{granted};
 ghost use Rattle.ffa_spmc.specs.Replies.{fault_in};
 
 use super::{Manager, word_of_halves};
@@ -329,7 +330,7 @@ impl<M: PhysMem + Drop> Manager<M> {
     }
 
     // And of a page.
-    fn obstacle_at(&self, page: PageNo) -> Obstacle
+    pub(crate) fn obstacle_at(&self, page: PageNo) -> Obstacle
         ensures { result ≡ obstacle_at self.now.state page.0 }
     {
         if !self.is_in_ram(page) {

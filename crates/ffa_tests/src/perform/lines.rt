@@ -16,6 +16,7 @@ const SAY_ALL: Request<'static> = Request::Demo {
         line_buffered: false,
         number: true,
         names: true,
+        explain: false,
     },
     strict: false,
     verbose: true,
@@ -34,7 +35,31 @@ const COMPARE: Request<'static> = Request::Compare {
     trace: "row.trace",
     expected: "row.text",
     machine: MACHINE,
+    explain: false,
     verbose: true,
+};
+
+const EXPLAIN: Request<'static> = Request::Run {
+    manifest: "row.toml",
+    trace: "row.trace",
+    machine: MACHINE,
+    text: TextOptions {
+        line_buffered: false,
+        number: false,
+        names: false,
+        explain: true,
+    },
+    strict: false,
+    verbose: false,
+};
+
+const EXPLAINED_COMPARE: Request<'static> = Request::Compare {
+    manifest: "row.toml",
+    trace: "row.trace",
+    expected: "row.text",
+    machine: MACHINE,
+    explain: true,
+    verbose: false,
 };
 
 const VERBOSE_CHECK: Request<'static> = Request::Check {
@@ -192,6 +217,82 @@ fn compares_as_the_manual_shows(rt: HostRuntime) -> Result<(), Fail> {
     };
     ended(&rt, &got, wanted);
     Ok(())
+}
+
+// examples/refused.trace, and what it prints with reasons
+const REFUSED: &str = "# 8001 gets cycles, and tries what it may not.
+call 8400006D 80010000
+load 40200000 1
+store 40020000 2A
+load 40028001 2
+call 84000083
+
+# It maps its buffers, and maps them once more.
+call 84000066 4002E000 4002F000 1
+call 84000066 4002E000 4002F000 1
+
+# In TX it describes a lend of a page to 8002, and makes it. It reaches the page no more, and can't lend it twice.
+store 4002E000 0000000000008001
+store 4002E018 0000000100000010
+store 4002E020 0000000000000030
+store 4002E030 0000004000028002
+store 4002E040 0000000100000001
+store 4002E050 0000000040029000
+store 4002E058 0000000000000001
+call 84000072 60 60
+load 40029000 1
+call 84000072 60 60
+";
+
+const REFUSED_TEXT: &str =
+    "regs 8001 000000008400006D 0000000080010000 0000000000000000 0000000000000000 0000000000000000 0000000000000000 0000000000000000 0000000000000000
+fault translation
+# refused: 40200000 belongs to 8002
+fault permission
+# refused: 40020000 may not be written
+fault alignment
+# refused: 40028001 is no multiple of 2
+regs 8001 0000000084000060 0000000000000000 00000000FFFFFFFF 0000000000000000 0000000000000000 0000000000000000 0000000000000000 0000000000000000
+# refused: check 1: no such function is served: w0 is 84000083
+regs 8001 0000000084000061 0000000000000000 0000000000000000 0000000000000000 0000000000000000 0000000000000000 0000000000000000 0000000000000000
+regs 8001 0000000084000060 0000000000000000 00000000FFFFFFFA 0000000000000000 0000000000000000 0000000000000000 0000000000000000 0000000000000000
+# refused: FFA_RXTX_MAP check 1: the caller has RX and TX already
+done
+done
+done
+done
+done
+done
+done
+regs 8001 0000000084000061 0000000000000000 0000000000000001 0000000000008001 0000000000000000 0000000000000000 0000000000000000 0000000000000000
+fault translation
+# refused: 40029000 is in the open transaction 0000800100000001
+regs 8001 0000000084000060 0000000000000000 00000000FFFFFFFA 0000000000000000 0000000000000000 0000000000000000 0000000000000000 0000000000000000
+# refused: FFA_MEM_LEND check 10: a page is not the caller's own, or is in an open transaction or a buffer: 40029000 is in the open transaction 0000800100000001
+";
+
+#[test]
+fn says_why_operations_are_refused_as_the_manual_shows(rt: HostRuntime) {
+    let got = performed(rt.alloc(), &EXPLAIN, files(PARTITIONS, REFUSED, ""));
+    let (status, out, err) = (0, REFUSED_TEXT, "");
+    ended(&rt, &got, Wanted { status, out, err });
+}
+
+// Of a text that differs at an operation that is refused.
+#[test]
+fn compares_and_says_why(rt: HostRuntime) {
+    let trace = "load 40010000 1\nload 40020000 1\n";
+    let got = performed(
+        rt.alloc(),
+        &EXPLAINED_COMPARE,
+        files(ROW, trace, "data 00\ndone\n"),
+    );
+    let wanted = Wanted {
+        status: 4,
+        out: "line 2: load 40020000 1\nexpected: done\nfound:    fault translation\n# refused: 40020000 belongs to 8001\n",
+        err: "",
+    };
+    ended(&rt, &got, wanted);
 }
 
 // The example of the manual for what more is said of a bad line.

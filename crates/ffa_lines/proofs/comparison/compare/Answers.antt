@@ -1,4 +1,4 @@
-use Rattle.std.proofs.Common.{◌≡◌, ◌≢◌, ◌++◌, ◌∷◌, ℕ, List, [], sym, ap, ◌∙◌, subst, arith, append_assoc, append-nil, length, length-append}
+use Rattle.std.proofs.Common.{◌≡◌, refl, ◌≢◌, ◌++◌, ◌∷◌, ℕ, List, [], sym, ap, ◌∙◌, subst, arith, append_assoc, append-nil, length, length-append}
 use Rattle.std.specs.Option.{MatchOption}
 use Rattle.std.proofs.lemmas.Bool.{eqb-true, eqb-false}
 use Rattle.std.proofs.lemmas.Bool.Decides.{Decides-eqb}
@@ -9,15 +9,18 @@ use Rattle.ffa_model.specs.TraceLines.{line_of}
 use Rattle.ffa_trace.specs.Lines.{meant}
 use Rattle.ffa_lines.specs.Followed.{Followed}
 use Rattle.ffa_lines.specs.Forms.{plain}
-use Rattle.ffa_lines.proofs.Follows.{followed_more, ends_badly, unread_compared, differs_in_line, differs_at_end, no_line, one_line}
+use Rattle.ffa_lines.proofs.Follows.{followed_more, followed_none, ends_badly, unread_compared, differs_in_line, differs_at_end, no_line, one_line}
 use Rattle.ffa_lines.proofs.Unequal.{never_prints}
 use Rattle.ffa_lines.proofs.comparison.compare.Goals as goal
+
+pub loop-number-init : goal.loop-number-init
+loop-number-init g c = ([], [], followed_none _ _ _, refl, refl)
 
 pub returns-in_err-next_line-clause-compared : goal.returns-in_err-next_line-clause-compared
 returns-in_err-next_line-clause-compared g c =
     let i = c.loop-number.invariant in
     let p = err_from_is_err_and c.from_residual.result c.from_residual.ensures.1 in
-    rw (p.1, p.2) (unread_compared _ _ _ _ _ i.0 i.1 i.2 c.loop-number.number i.4 c.in_err-next_line.field-0.0 (g.R.Read.remaining c.next_line.new.reader) c.next_line.new.line.items c.in_err-next_line.ensures _ c.loop-number.rest.now i.3)
+    rw (p.1, p.2) (unread_compared _ _ _ _ _ i.0 i.1 i.2 c.loop-number.number i.4 c.in_err-next_line.field-0.0 (g.R.Read.remaining c.next_line.new.reader) c.next_line.new.line.items c.in_err-next_line.ensures c.args.explain _ c.loop-number.rest.now i.3)
 
 pub returns-then-is_empty-clause-compared : goal.returns-then-is_empty-clause-compared
 returns-then-is_empty-clause-compared g c =
@@ -30,7 +33,7 @@ pub returns-else-is_empty-clause-compared : goal.returns-else-is_empty-clause-co
 returns-else-is_empty-clause-compared g c =
     let i = c.loop-number.invariant in
     let some = eqb-false _ _ (sym c.is_empty.ensures ∙ c.if-is_empty.false) in
-    differs_at_end _ _ _ _ _ i.0 i.1 i.2 c.loop-number.number i.4 _ c.loop-number.rest.now _ (no_line (g.R.Read.remaining c.loop-number.reader) (g.R.Read.remaining c.next_line.new.reader) c.next_line.new.line.items c.loop-number.number _ c.if-not-branch.true c.in_ok-next_line.ensures) i.3
+    differs_at_end _ _ _ _ _ i.0 i.1 i.2 c.loop-number.number i.4 _ c.loop-number.rest.now _ c.args.explain (no_line (g.R.Read.remaining c.loop-number.reader) (g.R.Read.remaining c.next_line.new.reader) c.next_line.new.line.items c.loop-number.number _ c.if-not-branch.true c.in_ok-next_line.ensures) i.3
     (omega (arith, ap length i.3, length-append i.1 c.loop-number.rest.now)) (omega (arith, some))
 
 pub returns-in_default-clause-compared : goal.returns-in_default-clause-compared
@@ -56,14 +59,14 @@ returns-in_default-strip_prefix-clause-compared g c =
     let said = c.make_text.new.text.items in
     let other = subst (λ r. MatchOption r ((words : List ℕ) → rest ≢ c.as_slice.result.now ++ words) (λ x. rest ≡ c.as_slice.result.now ++ x.now)) c.in_default-strip_prefix.is
     (strip_prefix_is Decides-eqb rest c.as_slice.result.now c.strip_prefix.result c.strip_prefix.ensures.cases) in
-    differs_in_line _ _ _ _ _ i.0 i.1 i.2 c.loop-number.number i.4 _ c.next_line.new.line.items (meant c.in-Some.line) said _ rest _ one.0 one.1 (c.in-Some.ensures ∙ ap line_of c.deref.ensures.value)
-    c.in_ok-make_text.ensures.1 i.3 (omega (arith, ap length i.3, length-append i.1 rest)) (λ words same. other words (same ∙ ap (λ t. t ++ words) (sym c.as_slice.ensures.value)))
+    differs_in_line _ _ _ _ _ i.0 i.1 i.2 c.loop-number.number i.4 _ c.next_line.new.line.items (meant c.in-Some.line) said _ rest _ c.args.explain c.reason_of-here.result one.0 one.1 (c.in-Some.ensures ∙ ap line_of c.deref.ensures.value)
+    c.in_ok-make_text.ensures.1 i.3 (omega (arith, ap length i.3, length-append i.1 rest)) (λ words same. other words (same ∙ ap (λ t. t ++ words) (sym c.as_slice.ensures.value))) c.reason_of-here.ensures
 
 pub returns-else-is_empty-clause-unequal : goal.returns-else-is_empty-clause-unequal
-returns-else-is_empty-clause-unequal g c = never_prints _ _ _ _ _ (returns-else-is_empty-clause-compared g c)
+returns-else-is_empty-clause-unequal g c = never_prints _ _ _ _ _ _ (returns-else-is_empty-clause-compared g c)
 
 pub returns-in_default-strip_prefix-clause-unequal : goal.returns-in_default-strip_prefix-clause-unequal
-returns-in_default-strip_prefix-clause-unequal g c = never_prints _ _ _ _ _ (returns-in_default-strip_prefix-clause-compared g c)
+returns-in_default-strip_prefix-clause-unequal g c = never_prints _ _ _ _ _ _ (returns-in_default-strip_prefix-clause-compared g c)
 
 pub loop-number-preserved : goal.loop-number-preserved
 loop-number-preserved g c =

@@ -1,4 +1,4 @@
-use Rattle.std.proofs.Common.{◌≡◌, ◌≢◌, vec_len, sym, ◌∙◌, arith}
+use Rattle.std.proofs.Common.{◌≡◌, ◌≢◌, vec_len, sym, ◌∙◌, arith, rules}
 use Rattle.std.proofs.lemmas.Bool.{eqb-true, eqb-false}
 use Rattle.std.proofs.lemmas.Result.{err_from_is_err_and}
 use Rattle.ffa_trace.proofs.Plays.{playing_none, block_more, block_failed, all_played, cut_short}
@@ -26,3 +26,6 @@ returns-in-Ok-eq0-2 g c =
     let some : vec_len c.loop.begun.bytes ≢ 0 = eqb-false _ _ (sym c.is_empty.ensures ∙ c.if-is_empty.false) in
     cut_short _ _ _ _ _ _ _ _ c.loop.invariant _ c.in-Ok-eq0.field-0 c.read.new.buf c.in-Ok-eq0.field-0-test c.in-Ok-eq0.ensures.bytes.0 c.in-Ok-eq0.ensures.bytes.1
     (omega arith) (omega (arith, some, c.loop.begun.bytes.ok.0))
+
+pub returns-in-Err : goal.returns-in-Err
+returns-in-Err g c = search rules

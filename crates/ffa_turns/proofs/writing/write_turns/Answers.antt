@@ -1,4 +1,4 @@
-use Rattle.std.proofs.Common.{arith}
+use Rattle.std.proofs.Common.{arith, rules}
 use Rattle.ffa_turns.proofs.Growing.{wrote_first, wrote_next}
 use Rattle.ffa_turns.proofs.writing.write_turns.Goals as goal
 
@@ -9,3 +9,6 @@ pub loop-left-preserved : goal.loop-left-preserved
 loop-left-preserved g c =
     let i = c.loop-left.invariant in
     (wrote_next _ _ _ _ _ _ i.1 c.in_ok-left.ensures.few i.0 c.in_ok-left.ensures.lines, omega (arith, i.1))
+
+pub returns : goal.returns
+returns g c = search rules

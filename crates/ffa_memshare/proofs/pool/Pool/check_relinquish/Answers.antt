@@ -1,3 +1,4 @@
+use Rattle.std.proofs.lemmas.Grind.{common_steps}
 use Rattle.std.proofs.Common.{◌≡◌, ◌∙◌, Option, take, refl, sym, ap, arith}
 use Rattle.std.proofs.lemmas.List.{take_all}
 use Rattle.ffa_model.specs.RelinquishDescriptor.{relinquish_of}
@@ -24,3 +25,6 @@ returns-clause-found g c =
       slot = asked-slot slots c.in-Some-find.slot asked.handle it c.in-Some-find.ensures.found c.at-open.ensures.value;
       zero = refl;
     }
+
+pub returns-then-ne-clause-refusal : goal.returns-then-ne-clause-refusal
+returns-then-ne-clause-refusal g c = grind (arith, common_steps)

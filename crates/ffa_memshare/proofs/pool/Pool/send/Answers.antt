@@ -1,3 +1,4 @@
+use Rattle.std.proofs.Common.{rules}
 use Rattle.arrayvec.specs.ArrayVec.{array_vec_len}
 use Rattle.ffa_model.specs.MemorySend.{send_guards}
 use Rattle.ffa_model.specs.SendDescriptor.{send_of}
@@ -21,3 +22,12 @@ returns-clause-refusal g c =
     (send_guards (scene_in (array_vec_len l.regions) c.args.pages.now l.base.0 c.args.buffers.now (open_in c.args.self.now)) c.args.caller.0 c.args.call.now.transfer
     (send_of c.args.kind (descriptor_in (g.M.PhysMem.ram c.args.ram.now) c.args.buffers.now c.args.caller.0 c.args.call.now)))
     c.in_ok-found.ensures.refusal
+
+pub take_pages-requires : goal.take_pages-requires
+take_pages-requires g c = search rules
+
+pub open-requires-clause-sender : goal.open-requires-clause-sender
+open-requires-clause-sender g c = search rules
+
+pub returns-clause-sent : goal.returns-clause-sent
+returns-clause-sent g c = search rules

@@ -9,7 +9,7 @@ use Rattle.ffa_perform.proofs.commands.playing.compare.Goals as goal
 
 pub returns-in-Ok-None-clause-played : goal.returns-in-Ok-None-clause-played
 returns-in-Ok-None-clause-played g c =
-    let whole = compared_whole _ _ _ (rw c.in-Ok-None.field-0-is at c.in-Ok-None.ensures.compared) in
+    let whole = compared_whole _ _ c.args.explain _ (rw c.in-Ok-None.field-0-is at c.in-Ok-None.ensures.compared) in
     (subst (λ had. PrintsExpected c.args.player.now.state had (Some c.args.expected.now)) c.in_ok-reader.ensures.unread whole, kept (g.W.Write.contents c.args.out.now))
 
 pub returns-clause-failed : goal.returns-clause-failed
@@ -17,9 +17,9 @@ returns-clause-failed g c =
     let start = c.args.player.now.state in
     let held = g.W.Write.contents c.args.out.now in
     let unread = Read c.args.trace.path in
-    subst (PlayFails (Compare c.args.expected) start (g.R.Read.remaining c.args.trace.reader) held held) (sym c.of_play.ensures)
-    (subst (λ had. PlayFails (Compare c.args.expected) start had held held (failure_of unread c.line_fault.result c.in-Err.error)) c.in_ok-reader.ensures.unread
-    (compared_failed start _ held c.args.expected unread tt c.line_fault.result c.in-Err.error c.in-Err.ensures.compared))
+    subst (PlayFails (Compare c.args.expected c.args.explain) start (g.R.Read.remaining c.args.trace.reader) held held) (sym c.of_play.ensures)
+    (subst (λ had. PlayFails (Compare c.args.expected c.args.explain) start had held held (failure_of unread c.line_fault.result c.in-Err.error)) c.in_ok-reader.ensures.unread
+    (compared_failed start _ held c.args.expected c.args.explain unread tt c.line_fault.result c.in-Err.error c.in-Err.ensures.compared))
 
 pub returns-in-Ok-Some-clause-failed : goal.returns-in-Ok-Some-clause-failed
 returns-in-Ok-Some-clause-failed g c =

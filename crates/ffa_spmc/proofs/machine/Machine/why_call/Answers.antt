@@ -1,17 +1,20 @@
-use Rattle.std.proofs.Common.{◌∙◌, Option, ap}
+use Rattle.std.proofs.Common.{◌∙◌, Some, ap}
 use Rattle.std.specs.Option.{option_map}
 use Rattle.ffa_model.specs.declared.call.Call as calls
-use Rattle.ffa_model.specs.declared.refusal.Refusal.{Refusal}
 use Rattle.ffa_model.specs.declared.why.Why.TheVariants.{Refused}
+use Rattle.ffa_model.specs.About.{about}
 use Rattle.ffa_model.specs.Calls.{first_refusal}
 use Rattle.ffa_model.specs.Registers.{decode}
 use Rattle.ffa_model.specs.Step.{service}
+use Rattle.ffa_model.specs.Why.{refused}
 use Rattle.ffa_spmc.specs.Snapshot.{Snapshot}
 use Rattle.ffa_spmc.proofs.machine.Machine.why_call.Goals as goal
 
 pub returns-in-Some : goal.returns-in-Some
 returns-in-Some g c =
-    ap (λ (o : Option Refusal). option_map (λ (refusal : Refusal). Refused refusal) o)
+    (λ i. Some (Refused c.in-Some.refusal (c.about.ensures i)))
+    ∙ (λ i. Some (Refused c.in-Some.refusal (about (c.self.view_is i).state (c.low.ensures i) (c.decode-call.ensures i) c.in-Some.refusal)))
+    ∙ ap (option_map (refused c.args.self.now.state c.args.x))
     (c.in-Some.ensures
-    ∙ ap (λ (call : calls.Call). first_refusal (service c.self.inside.manager.state call).guards) c.decode.ensures
+    ∙ ap (λ (call : calls.Call). first_refusal (service c.self.inside.manager.state call).guards) c.decode-call.ensures
     ∙ ap (λ (seen : Snapshot). first_refusal (service seen.state (decode c.args.x)).guards) c.self.view_is)

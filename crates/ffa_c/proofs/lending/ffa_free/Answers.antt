@@ -1,0 +1,5 @@
+use Rattle.std.proofs.Common.{rules}
+use Rattle.ffa_c.proofs.lending.ffa_free.Goals as goal
+
+pub returns-else-is_lent-clause-ended : goal.returns-else-is_lent-clause-ended
+returns-else-is_lent-clause-ended c = search rules

@@ -1,0 +1,5 @@
+use Rattle.std.proofs.Common.{rules}
+use Rattle.ffa_manifest.proofs.endpoints.endpoints_from.Goals as goal
+
+pub loop-value-preserved : goal.loop-value-preserved
+loop-value-preserved c = search rules

@@ -1,0 +1,11 @@
+use Rattle.std.proofs.Common.{rules}
+use Rattle.ffa_manifest.proofs.place.Place.region.Goals as goal
+
+pub overflow_cast-base : goal.overflow_cast-base
+overflow_cast-base c = search rules
+
+pub overflow_cast-pages : goal.overflow_cast-pages
+overflow_cast-pages c = search rules
+
+pub returns-then-region_end-from : goal.returns-then-region_end-from
+returns-then-region_end-from c = search rules

@@ -1,0 +1,14 @@
+use Rattle.std.proofs.Common.{◌≡◌, ℕ, ◌<◌, false}
+use Rattle.std.specs.Prelude.{◌&&◌, not}
+use Rattle.ffa_model.specs.About.{passes}
+use Rattle.ffa_model.specs.SendDescriptor.{send_record}
+use Rattle.ffa_rxtx.specs.Parts.{candidates_in}
+use Rattle.ffa_memshare.specs.Named.{own_rights_in}
+use Rattle.ffa_memshare.specs.Ranges.{in_ranges}
+use Rattle.ffa_memshare.proofs.failing.failing_offer.Given as goal
+
+-- no page so far is one that fails
+abbrev pub invariant-loop-number : goal.invariant-loop-number
+invariant-loop-number l =
+    (k : ℕ) → k < l.number
+    → (in_ranges l.base.0 l.offer.ranges.items k && not (passes l.sender.0 (candidates_in l.pages l.base.0) (own_rights_in l.pages l.base.0) l.buffers (send_record l.offer) l.refusal k)) ≡ false

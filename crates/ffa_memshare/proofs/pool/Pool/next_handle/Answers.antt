@@ -1,0 +1,5 @@
+use Rattle.std.proofs.Common.{rules}
+use Rattle.ffa_memshare.proofs.pool.Pool.next_handle.Goals as goal
+
+pub returns : goal.returns
+returns c = search rules

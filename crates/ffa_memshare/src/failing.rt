@@ -1,0 +1,173 @@
+//! The first page that a send names and that fails one of its checks.
+ghost use Rattle.std.specs.Prelude.{◌≡◌, ◌<◌, ◌&&◌, ℕ, Some, length, not};
+ghost use Rattle.std.specs.List.{list_all};
+ghost use Rattle.ffa_model.specs.declared.transaction.Receiver.{Receiver as Named};
+ghost use Rattle.ffa_model.specs.About.{failing_offer, failing_send, passes};
+ghost use Rattle.ffa_model.specs.Buffers.{buffers_in};
+ghost use Rattle.ffa_model.specs.MemorySend.{is_buffer, is_grantable, is_sendable};
+ghost use Rattle.ffa_model.specs.Rights.{may_store};
+ghost use Rattle.ffa_model.specs.SendDescriptor.{send_of, send_record};
+ghost use Rattle.ffa_model.specs.State.{Buffers as Own};
+ghost use Rattle.ffa_rxtx.specs.Parts.{IsInRam, candidates_in};
+ghost use Rattle.ffa_memshare.specs.Named.{own_rights_in};
+ghost use Rattle.ffa_memshare.specs.Ranges.{in_range, in_ranges};
+ghost use Rattle.ffa_memshare.specs.Scenes.{descriptor_in};
+
+use crate::checks::send::is_own;
+use crate::descriptor_call::DescriptorCall;
+use crate::page_run::read_send;
+use ffa_model::{
+    Address, Data, EndpointId, Kind, PageNo, Range, Receiver, Refusal, Rights, SendDesc,
+};
+use ffa_pages::PageTable;
+use ffa_physmem::PhysMem;
+use ffa_rxtx::Buffers;
+
+/// The page that a check of FFA_MEM_DONATE, FFA_MEM_LEND or FFA_MEM_SHARE of an endpoint is about, where it fails: the first page
+/// of the RAM from `base` on that the descriptor in TX names and that fails it.
+pub fn failing_send<M: PhysMem>(
+    ram: &M,
+    base: Address,
+    pages: &PageTable,
+    buffers: &Buffers,
+    caller: EndpointId,
+    kind: Kind,
+    call: &DescriptorCall,
+    refusal: Refusal,
+) -> Option<PageNo>
+    requires tx { (b : Own) → buffers_in buffers.now caller.0 ≡ Some b → IsInRam (length (M.ram ram.now).pages) b }
+    ensures { result ≡ failing_send caller.0 (candidates_in pages.now base.0) (own_rights_in pages.now base.0) buffers.now call.now.transfer
+        (send_of kind (descriptor_in (M.ram ram.now) buffers.now caller.0 call.now)) refusal }
+{
+    let Ok(bytes) = call.descriptor(ram, buffers, caller) else {
+        return None;
+    };
+    let Ok(offer) = read_send(&bytes, call.version, kind) else {
+        return None;
+    };
+    failing_offer(&offer, pages, base, buffers, caller, refusal)
+}
+
+// The first page that is offered and that fails a check.
+fn failing_offer(
+    offer: &SendDesc,
+    pages: &PageTable,
+    base: Address,
+    buffers: &Buffers,
+    sender: EndpointId,
+    refusal: Refusal,
+) -> Option<PageNo>
+    ensures { result ≡ failing_offer sender.0 (candidates_in pages.now base.0) (own_rights_in pages.now base.0) buffers.now refusal (send_record offer.now) }
+{
+    for number in 0..pages.pages() {
+        let page = PageNo(number);
+        if fails(offer, pages, base, buffers, sender, refusal, page) {
+            return Some(page);
+        }
+    }
+    None
+}
+
+// Whether a page is offered and fails a check.
+fn fails(
+    offer: &SendDesc,
+    pages: &PageTable,
+    base: Address,
+    buffers: &Buffers,
+    sender: EndpointId,
+    refusal: Refusal,
+    page: PageNo,
+) -> bool
+    requires { page.0 < length pages.now }
+    ensures { result ≡ (in_ranges base.0 offer.now.ranges.items page.0
+        && not (passes sender.0 (candidates_in pages.now base.0) (own_rights_in pages.now base.0) buffers.now (send_record offer.now) refusal page.0)) }
+{
+    is_in_any(offer.ranges.as_slice(), base, page)
+        && !passes(offer, pages, buffers, sender, refusal, page)
+}
+
+// Whether a page passes a check.
+fn passes(
+    offer: &SendDesc,
+    pages: &PageTable,
+    buffers: &Buffers,
+    sender: EndpointId,
+    refusal: Refusal,
+    page: PageNo,
+) -> bool
+    requires { page.0 < length pages.now }
+    ensures { (base : ℕ) → result ≡ passes sender.0 (candidates_in pages.now base) (own_rights_in pages.now base) buffers.now (send_record offer.now) refusal page.0 }
+{
+    match refusal {
+        Refusal::PageUnsendable => is_sendable(pages, buffers, sender, page),
+        Refusal::GrantTooMuch => {
+            are_grantable(offer.receivers.as_slice(), pages.own_right_of(page))
+        }
+        Refusal::ZerosUnwritable => may_store(pages.own_right_of(page)),
+        _ => true,
+    }
+}
+
+// Whether one of these ranges has a page.
+fn is_in_any(ranges: &[Range], base: Address, page: PageNo) -> bool
+    ensures { result ≡ in_ranges base.0 ranges.now page.0 }
+{
+    ranges.iter().any(|range| has_page(range, base, page))
+}
+
+// Whether a range has a page.
+fn has_page(range: &Range, base: Address, page: PageNo) -> bool
+    ensures { result ≡ in_range base.0 range.now page.0 }
+{
+    let address = u64::from(base.0) + 4096 * u64::from(page.0);
+    range.address <= address && address - range.address < 4096 * u64::from(range.pages)
+}
+
+// Whether an endpoint may send a page: its own, in no open transaction, and without a buffer.
+fn is_sendable(pages: &PageTable, buffers: &Buffers, sender: EndpointId, page: PageNo) -> bool
+    requires { page.0 < length pages.now }
+    ensures { result ≡ is_sendable sender.0 (candidates_in pages.now 0) buffers.now page.0 }
+{
+    // Proof step: the number of pages is 2^14 at most.
+    let _ = pages.pages();
+    is_own(pages, sender, page) && !is_buffer(buffers, page)
+}
+
+// Whether somebody has a buffer in a page.
+fn is_buffer(buffers: &Buffers, page: PageNo) -> bool
+    requires { page.0 < 16384 }
+    ensures { result ≡ is_buffer buffers.now page.0 }
+{
+    buffers.is_any_buffer(page, page.0 + 1)
+}
+
+// Whether no receiver is granted more than this own right.
+fn are_grantable(receivers: &[Receiver], right: Option<Rights>) -> bool
+    ensures { result ≡ list_all (λ (r : Named). is_grantable r.grant right) receivers.now }
+{
+    receivers
+        .iter()
+        .all(|receiver| is_grantable(receiver.grant, right))
+}
+
+// Whether a grant is no more than this own right.
+fn is_grantable(grant: Option<Data>, right: Option<Rights>) -> bool
+    ensures { result ≡ is_grantable grant right }
+{
+    match (grant, right) {
+        (None, _) => true,
+        (Some(_), None) => false,
+        (Some(Data::Ro), Some(_)) => true,
+        (Some(Data::Rw), Some(right)) => right.level == Data::Rw,
+    }
+}
+
+// Whether this own right lets its owner write.
+fn may_store(right: Option<Rights>) -> bool
+    ensures { result ≡ may_store right }
+{
+    match right {
+        Some(right) => right.level == Data::Rw,
+        None => false,
+    }
+}

@@ -1,0 +1,34 @@
+-- The first element that passes a test.
+use Rattle.std.proofs.Common.{◌≡◌, ◌∙◌, ℕ, zero, suc, ◌<◌, Bool, true, false, cond, List, [], ◌∷◌, filter, Option, Some, None, refl, ap, arith}
+use Rattle.std.specs.Prelude.{◌&&◌, find, if◌then◌else◌}
+use Rattle.ffa_model.specs.Lists.{listed}
+
+-- of those that pass another test
+pub find-filtered : {X : Type 0} (test q : X → Bool) (xs : List X) → find test (filter q xs) ≡ find (λ x. q x && test x) xs
+find-filtered test q [] = refl
+find-filtered {X = X} test q (x ∷ xs) =
+    elim (q x) as (λ b. find test (if b then x ∷ filter q xs else filter q xs) ≡ cond (b && test x) (Some x) (find (λ y. q y && test y) xs)) [
+      | true ↦ ap (λ (o : Option X). cond (test x) (Some x) o) (find-filtered test q xs)
+      | false ↦ find-filtered test q xs
+    ]
+
+module _ {X : Type 0} (test : X → Bool) where
+  -- by its index, where none before it passes
+  pub find-listed : (n i : ℕ) (f : ℕ → X) → i < n → ((k : ℕ) → k < i → test (f k) ≡ false) → test (f i) ≡ true → find test (listed n f) ≡ Some (f i)
+  find-listed zero i f lt before is = absurd (omega arith)
+  find-listed (suc n) zero f lt before is = ap (λ b. cond b (Some (f 0)) (find test (listed n (λ k. f (suc k))))) is
+  find-listed (suc n) (suc i) f lt before is =
+      ap (λ b. cond b (Some (f 0)) (find test (listed n (λ k. f (suc k))))) (before 0 (omega arith))
+      ∙ find-listed n i (λ k. f (suc k)) (omega arith) (λ k lt_k. before (suc k) (omega arith)) is
+
+  pub find-none : (n : ℕ) (f : ℕ → X) → ((k : ℕ) → k < n → test (f k) ≡ false) → find test (listed n f) ≡ None
+  find-none zero f none = refl
+  find-none (suc n) f none =
+      ap (λ b. cond b (Some (f 0)) (find test (listed n (λ k. f (suc k))))) (none 0 (omega arith))
+      ∙ find-none n (λ k. f (suc k)) (λ k lt. none (suc k) (omega arith))
+
+-- tests that agree find the same
+pub find-same : {X : Type 0} (test also : X → Bool) (n : ℕ) (f : ℕ → X) → ((k : ℕ) → k < n → test (f k) ≡ also (f k)) → find test (listed n f) ≡ find also (listed n f)
+find-same test also zero f same = refl
+find-same test also (suc n) f same =
+    λ i. cond (same 0 (omega arith) i) (Some (f 0)) (find-same test also n (λ k. f (suc k)) (λ k lt. same (suc k) (omega arith)) i)

@@ -1,0 +1,76 @@
+-- What a check that fails is about: what the call's registers tell, else the first page that fails it, of the pages that the
+-- call names. Of a notification's bits, a message's header and a descriptor's fields nothing is told.
+use Rattle.std.specs.Prelude.{ℕ, Bool, true, not, is_none, List, [], Option, None, find, if◌then◌else◌}
+use Rattle.std.specs.Option.{option_and_then, option_map, option_or}
+use Rattle.ffa_model.specs.declared.call.Call.{Call}
+use Rattle.ffa_model.specs.declared.call.Call.TheVariants.{RxtxMap, MemDonate, MemLend, MemShare}
+use Rattle.ffa_model.specs.declared.call.Transfer.{Transfer}
+use Rattle.ffa_model.specs.declared.endpoint.PageNo.{PageNo}
+use Rattle.ffa_model.specs.declared.refusal.Refusal.{Refusal}
+use Rattle.ffa_model.specs.declared.refusal.Refusal.TheVariants.{TxUnusable, RxUnusable, PageUnsendable, GrantTooMuch, ZerosUnwritable}
+use Rattle.ffa_model.specs.declared.rights.Kind.{Kind}
+use Rattle.ffa_model.specs.declared.rights.Kind.TheVariants.{Share, Lend, Donate}
+use Rattle.ffa_model.specs.declared.why.About.{About}
+use Rattle.ffa_model.specs.declared.why.About.TheVariants.{Page}
+use Rattle.ffa_model.specs.AboutRegisters.{about_registers}
+use Rattle.ffa_model.specs.Buffers.{Candidates, candidates, is_run_address, is_usable, page_number}
+use Rattle.ffa_model.specs.Calls.{first_refusal}
+use Rattle.ffa_model.specs.Lists.{run}
+use Rattle.ffa_model.specs.MemorySend.{after_transfer, are_grants_within, is_sendable, send_read}
+use Rattle.ffa_model.specs.Obstacles.{obstacle_at, unless_own}
+use Rattle.ffa_model.specs.Rights.{may_store}
+use Rattle.ffa_model.specs.SendDescriptor.{SendRecord}
+use Rattle.ffa_model.specs.State.{State, Buffers}
+use Rattle.ffa_model.specs.Transactions.{OwnRights, own_rights_of, pages_in}
+
+-- the first of some pages that fails a test
+abbrev pub numbered : ℕ → PageNo
+numbered p = record { 0 = p }
+
+abbrev pub first_failing : (ℕ → Bool) → List ℕ → Option PageNo
+first_failing test pages = option_map numbered (find (λ p. not (test p)) pages)
+
+-- FFA_RXTX_MAP by e: of the n pages from an address on, where they are in RAM, the first that can't be a buffer's
+abbrev pub unusable_from : ℕ → Candidates → ℕ → ℕ → Option PageNo
+unusable_from e ram n address =
+    if is_run_address ram n address then first_failing (λ p. is_usable e (ram.page p)) (run (page_number ram.base address) n) else None
+
+abbrev pub failing_map : ℕ → Candidates → ℕ → ℕ → ℕ → Refusal → Option PageNo
+failing_map e ram tx rx pages TxUnusable = unusable_from e ram pages tx
+failing_map e ram tx rx pages RxUnusable = unusable_from e ram pages rx
+failing_map e ram tx rx pages refusal = None
+
+-- FFA_MEM_DONATE, FFA_MEM_LEND and FFA_MEM_SHARE by e: whether a page passes a check of pages, as each does one of something else
+abbrev pub passes : ℕ → Candidates → OwnRights → List (Option Buffers) → SendRecord → Refusal → ℕ → Bool
+passes e ram own_rights buffers r PageUnsendable p = is_sendable e ram buffers p
+passes e ram own_rights buffers r GrantTooMuch p = are_grants_within own_rights r.receivers p
+passes e ram own_rights buffers r ZerosUnwritable p = may_store (own_rights.right p)
+passes e ram own_rights buffers r refusal p = true
+
+-- the least page of RAM that the ranges name and that doesn't
+abbrev pub failing_offer : ℕ → Candidates → OwnRights → List (Option Buffers) → Refusal → SendRecord → Option PageNo
+failing_offer e ram own_rights buffers refusal r = first_failing (passes e ram own_rights buffers r refusal) (pages_in own_rights r.ranges)
+
+-- of a descriptor that stands whole in TX
+abbrev pub failing_send : ℕ → Candidates → OwnRights → List (Option Buffers) → Transfer → Option SendRecord → Refusal → Option PageNo
+failing_send e ram own_rights buffers x r refusal =
+    if is_none (first_refusal (after_transfer buffers e x [])) then option_and_then (failing_offer e ram own_rights buffers refusal) r else None
+
+-- ON A STATE
+abbrev pub failing_sent : State → Kind → Transfer → Refusal → Option PageNo
+failing_sent s kind x refusal = failing_send s.runner (candidates s) (own_rights_of s) s.buffers x (send_read s kind x.total) refusal
+
+abbrev pub failing_page : State → Call → Refusal → Option PageNo
+failing_page s (RxtxMap tx rx pages) refusal = failing_map s.runner (candidates s) tx rx pages refusal
+failing_page s (MemDonate x) refusal = failing_sent s Donate x refusal
+failing_page s (MemLend x) refusal = failing_sent s Lend x refusal
+failing_page s (MemShare x) refusal = failing_sent s Share x refusal
+failing_page s call refusal = None
+
+-- a page, with what stands in the runner's way there
+abbrev pub about_page : State → PageNo → About
+about_page s page = Page page (unless_own s.runner (obstacle_at s page.0))
+
+-- what the check of a call is about, whose function's number is this
+abbrev pub about : State → ℕ → Call → Refusal → Option About
+about s w0 call refusal = option_or (about_registers w0 call refusal) (option_map (about_page s) (failing_page s call refusal))

@@ -1,0 +1,129 @@
+-- What a check that fails is about, where the call's registers tell it: a register and its value, an endpoint that one names,
+-- or a handle (DEN0077A, 11 to 16).
+use Rattle.std.specs.Prelude.{ℕ, Option, Some, None}
+use Rattle.ffa_model.specs.declared.call.Call.{Call}
+use Rattle.ffa_model.specs.declared.call.Call.TheVariants.{Features, RxtxMap, RxtxUnmap, Run, DirectRequest, DirectResponse, MemDonate, MemLend, MemShare, MemRetrieve, MemReclaim, BitmapCreate, BitmapDestroy, NotificationBind, NotificationUnbind, NotificationSet, NotificationGet, Unknown}
+use Rattle.ffa_model.specs.declared.call.Transfer.{Transfer}
+use Rattle.ffa_model.specs.declared.refusal.Refusal.{Refusal}
+use Rattle.ffa_model.specs.declared.refusal.Refusal.TheVariants.{FlagsReserved, SenderIsAnother, ReceiverIsAnother, ReceiverUnknown, ReceiverIsCaller, ContextUnknown, BufferPageCount, TxMisplaced, RxMisplaced, BuffersOverlap, EndpointNotZero, ReceiverIsNormalWorld, RequestsUnreceived, ReceiverNotWaiting, AnswerMisdirected, TargetUnknown, TargetNotReady, EndpointNotNormalWorld, ContextCount, SenderUnknown, SenderIsCaller, ClassesUnknown, Fragmented, DescriptorTooLong, BufferAddressGiven, BufferPagesGiven, NotTheSenders}
+use Rattle.ffa_model.specs.declared.why.About.{About}
+use Rattle.ffa_model.specs.declared.why.About.TheVariants.{Endpoint, Handle, Register}
+use Rattle.ffa_model.specs.Bits.{high_half, low_half, word_of_halves}
+
+-- the register with this number, which has this value; and an endpoint
+abbrev pub in_register : ℕ → ℕ → Option About
+in_register number value = Some (Register number value)
+
+abbrev pub at_endpoint : ℕ → Option About
+at_endpoint e = Some (Endpoint (record { 0 = e }))
+
+-- FFA_RXTX_MAP
+abbrev pub registers_of_map : ℕ → ℕ → ℕ → Refusal → Option About
+registers_of_map tx rx pages BufferPageCount = in_register 3 pages
+registers_of_map tx rx pages TxMisplaced = in_register 1 tx
+registers_of_map tx rx pages RxMisplaced = in_register 2 rx
+registers_of_map tx rx pages BuffersOverlap = in_register 2 rx
+registers_of_map tx rx pages refusal = None
+
+-- FFA_RXTX_UNMAP
+abbrev pub registers_of_unmap : ℕ → Refusal → Option About
+registers_of_unmap endpoint EndpointNotZero = in_register 1 endpoint
+registers_of_unmap endpoint refusal = None
+
+-- FFA_RUN
+abbrev pub registers_of_run : ℕ → Refusal → Option About
+registers_of_run word TargetUnknown = at_endpoint (high_half word)
+registers_of_run word ContextUnknown = in_register 1 word
+registers_of_run word TargetNotReady = at_endpoint (high_half word)
+registers_of_run word refusal = None
+
+-- FFA_MSG_SEND_DIRECT_REQ
+abbrev pub registers_of_request : ℕ → ℕ → Refusal → Option About
+registers_of_request word flags SenderIsAnother = at_endpoint (high_half word)
+registers_of_request word flags FlagsReserved = in_register 2 flags
+registers_of_request word flags ReceiverUnknown = at_endpoint (low_half word)
+registers_of_request word flags ReceiverIsCaller = at_endpoint (low_half word)
+registers_of_request word flags ReceiverIsNormalWorld = at_endpoint (low_half word)
+registers_of_request word flags RequestsUnreceived = at_endpoint (low_half word)
+registers_of_request word flags ReceiverNotWaiting = at_endpoint (low_half word)
+registers_of_request word flags refusal = None
+
+-- FFA_MSG_SEND_DIRECT_RESP
+abbrev pub registers_of_response : ℕ → ℕ → Refusal → Option About
+registers_of_response word flags AnswerMisdirected = in_register 1 word
+registers_of_response word flags FlagsReserved = in_register 2 flags
+registers_of_response word flags refusal = None
+
+-- a call whose descriptor stands in TX
+abbrev pub registers_of_transfer : Transfer → Refusal → Option About
+registers_of_transfer x Fragmented = in_register 2 x.fragment
+registers_of_transfer x DescriptorTooLong = in_register 1 x.total
+registers_of_transfer x BufferAddressGiven = in_register 3 x.address
+registers_of_transfer x BufferPagesGiven = in_register 4 x.pages
+registers_of_transfer x refusal = None
+
+-- FFA_MEM_RECLAIM
+abbrev pub registers_of_reclaim : ℕ → ℕ → ℕ → Refusal → Option About
+registers_of_reclaim low high flags FlagsReserved = in_register 3 flags
+registers_of_reclaim low high flags NotTheSenders = Some (Handle (word_of_halves low high))
+registers_of_reclaim low high flags refusal = None
+
+-- FFA_NOTIFICATION_BITMAP_CREATE
+abbrev pub registers_of_create : ℕ → ℕ → Refusal → Option About
+registers_of_create endpoint contexts EndpointNotNormalWorld = in_register 1 endpoint
+registers_of_create endpoint contexts ContextCount = in_register 2 contexts
+registers_of_create endpoint contexts refusal = None
+
+-- FFA_NOTIFICATION_BITMAP_DESTROY
+abbrev pub registers_of_destroy : ℕ → Refusal → Option About
+registers_of_destroy endpoint EndpointNotNormalWorld = in_register 1 endpoint
+registers_of_destroy endpoint refusal = None
+
+-- FFA_NOTIFICATION_BIND and FFA_NOTIFICATION_UNBIND
+abbrev pub registers_of_bind : ℕ → ℕ → Refusal → Option About
+registers_of_bind word flags ReceiverIsAnother = at_endpoint (low_half word)
+registers_of_bind word flags SenderUnknown = at_endpoint (high_half word)
+registers_of_bind word flags SenderIsCaller = at_endpoint (high_half word)
+registers_of_bind word flags FlagsReserved = in_register 2 flags
+registers_of_bind word flags refusal = None
+
+-- FFA_NOTIFICATION_SET
+abbrev pub registers_of_set : ℕ → ℕ → Refusal → Option About
+registers_of_set word flags SenderIsAnother = at_endpoint (high_half word)
+registers_of_set word flags ReceiverUnknown = at_endpoint (low_half word)
+registers_of_set word flags ReceiverIsCaller = at_endpoint (low_half word)
+registers_of_set word flags FlagsReserved = in_register 2 flags
+registers_of_set word flags refusal = None
+
+-- FFA_NOTIFICATION_GET
+abbrev pub registers_of_get : ℕ → ℕ → Refusal → Option About
+registers_of_get word flags ReceiverIsAnother = at_endpoint (low_half word)
+registers_of_get word flags ContextUnknown = in_register 1 word
+registers_of_get word flags ClassesUnknown = in_register 2 flags
+registers_of_get word flags refusal = None
+
+-- each call of notifications
+abbrev pub registers_of_notification : Call → Refusal → Option About
+registers_of_notification (BitmapCreate endpoint contexts) refusal = registers_of_create endpoint contexts refusal
+registers_of_notification (BitmapDestroy endpoint) refusal = registers_of_destroy endpoint refusal
+registers_of_notification (NotificationBind word flags low high) refusal = registers_of_bind word flags refusal
+registers_of_notification (NotificationUnbind word flags low high) refusal = registers_of_bind word flags refusal
+registers_of_notification (NotificationSet word flags low high) refusal = registers_of_set word flags refusal
+registers_of_notification (NotificationGet word flags) refusal = registers_of_get word flags refusal
+registers_of_notification call refusal = None
+
+-- each call, whose function's number stands in w0: other checks are not about what a register tells by itself
+abbrev pub about_registers : ℕ → Call → Refusal → Option About
+about_registers w0 (Features function) refusal = in_register 1 function
+about_registers w0 (RxtxMap tx rx pages) refusal = registers_of_map tx rx pages refusal
+about_registers w0 (RxtxUnmap endpoint) refusal = registers_of_unmap endpoint refusal
+about_registers w0 (Run target) refusal = registers_of_run target refusal
+about_registers w0 (DirectRequest function word flags payload) refusal = registers_of_request word flags refusal
+about_registers w0 (DirectResponse function word flags payload) refusal = registers_of_response word flags refusal
+about_registers w0 (MemDonate x) refusal = registers_of_transfer x refusal
+about_registers w0 (MemLend x) refusal = registers_of_transfer x refusal
+about_registers w0 (MemShare x) refusal = registers_of_transfer x refusal
+about_registers w0 (MemRetrieve x) refusal = registers_of_transfer x refusal
+about_registers w0 (MemReclaim low high flags) refusal = registers_of_reclaim low high flags refusal
+about_registers w0 Unknown refusal = in_register 0 w0
+about_registers w0 call refusal = registers_of_notification call refusal

@@ -1,0 +1,5 @@
+use Rattle.std.proofs.Common.{rules}
+use Rattle.ffa_pages.proofs.table.PageTable.own_right_of.Goals as goal
+
+pub returns : goal.returns
+returns c = search rules

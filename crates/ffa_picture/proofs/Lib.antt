@@ -1,0 +1,7 @@
+pub mod ColumnSteps
+pub mod Kept
+pub mod RowsAmong
+pub mod RunsAlike
+pub mod RunsFound
+pub mod Told
+pub mod Watches

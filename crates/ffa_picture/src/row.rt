@@ -1,0 +1,52 @@
+//! Rows of a picture: what a machine is behind lines of a trace.
+ghost use Rattle.std.specs.Prelude.{◌≡◌, ◌≢◌, ◌↔◌, IsTrue};
+ghost use Rattle.ffa_picture.specs.Rows.{HasRow};
+
+use ffa_model::{CertRun, EndpointId};
+use std::alloc::{Allocator, Global};
+
+/// Which lines of a trace have a row. The beginning, before the first line, always has one.
+#[derive(Clone, Copy, Debug, PartialEq, Eq)]
+pub enum Keep {
+    /// Those that change the certificate.
+    Changes,
+    /// Those whose number is a multiple of this one.
+    Every(u64),
+}
+
+impl Keep {
+    /// Each line whose number is a multiple of this one; where it is 0, those that change the certificate.
+    pub fn every(count: u64) -> Keep
+        ensures changes { count ≡ 0 → result ≡ Keep.Changes }
+        ensures every { count ≢ 0 → result ≡ Keep.Every count }
+    {
+        if count == 0 {
+            Keep::Changes
+        } else {
+            Keep::Every(count)
+        }
+    }
+
+    /// Whether the line of a number has a row, by the certificates before it and behind it.
+    pub(crate) fn has_row(self, number: u64, before: &[CertRun], behind: &[CertRun]) -> bool
+        ensures { IsTrue result ↔ HasRow self number before.now behind.now }
+    {
+        match self {
+            Keep::Changes => before != behind,
+            Keep::Every(count) => number.is_multiple_of(count),
+        }
+    }
+}
+
+/// A machine behind a line of a trace.
+#[derive(Debug, Drop)]
+pub struct Row<A: Allocator = Global> {
+    /// The number of the line, counted from 1; 0 at the beginning.
+    pub number: u64,
+    /// The bytes of the line, without the LF that ends it; none at the beginning.
+    pub line: Vec<u8, A>,
+    /// The endpoint that runs.
+    pub runner: EndpointId,
+    /// The certificate.
+    pub runs: Vec<CertRun, A>,
+}

@@ -1,0 +1,66 @@
+//! The head of a picture: its size, its colours, and what they say.
+
+use super::sizes::Sizes;
+use ffa_model::EndpointId;
+use std::io::{self, Write};
+
+// The colours of the endpoints, by place: those of Okabe and Ito, which colour-blind people tell apart.
+const STYLE: &str = "\
+<style>
+text{font-family:monospace;font-size:11px;fill:#222}
+.n{text-anchor:end;fill:#666}
+.b{fill:#666}
+.c{fill:#fff;stroke:#ccc}
+.m{fill:#bbb;stroke:#bbb}
+.h{fill:url(#hatched)}
+.t{fill:#555}
+.x{fill:#222;stroke:#fff;stroke-width:.6}
+.e0{fill:#0072b2}
+.e1{fill:#e69f00}
+.e2{fill:#009e73}
+.e3{fill:#cc79a7}
+.e4{fill:#d55e00}
+.e5{fill:#56b4e9}
+.e6{fill:#f0e442}
+.e7{fill:#000}
+</style>
+<defs><pattern id=\"hatched\" width=\"5\" height=\"5\" patternUnits=\"userSpaceOnUse\" patternTransform=\"rotate(45)\"><rect width=\"2\" height=\"5\" fill=\"#fff\"/></pattern></defs>
+<rect width=\"100%\" height=\"100%\" fill=\"#fff\"/>
+";
+
+// What is said of bands and grounds, in the first endpoint's colour.
+const SAMPLES: &str = "\
+<g transform=\"translate(54 34)\">
+<rect class=\"e0\" y=\"4\" width=\"30\" height=\"4\"/><text x=\"36\" y=\"9\">r</text>
+<rect class=\"e0\" x=\"60\" width=\"30\" height=\"8\"/><text x=\"96\" y=\"9\">rw</text>
+<rect class=\"e0\" x=\"126\" width=\"30\" height=\"8\"/><rect class=\"x\" x=\"126\" y=\"3\" width=\"30\" height=\"2\"/><text x=\"162\" y=\"9\">with x</text>
+<rect class=\"e0\" x=\"222\" width=\"30\" height=\"8\"/><rect class=\"h\" x=\"222\" width=\"30\" height=\"8\"/><text x=\"258\" y=\"9\">not its owner</text>
+<rect class=\"c\" x=\"366\" y=\"-3\" width=\"30\" height=\"14\"/><rect class=\"e0\" x=\"366\" y=\"-3\" width=\"3\" height=\"14\"/><text x=\"402\" y=\"9\">its page, out of reach</text>
+<rect class=\"c\" x=\"560\" y=\"-3\" width=\"30\" height=\"14\"/><rect class=\"t\" x=\"560\" y=\"8\" width=\"30\" height=\"2\"/><text x=\"596\" y=\"9\">in a transaction</text>
+<rect class=\"m\" x=\"716\" y=\"-3\" width=\"30\" height=\"14\"/><text x=\"752\" y=\"9\">the manager's</text>
+</g>
+";
+
+/// Writes the size of a picture and its colours.
+pub(super) fn write_head<W: Write>(sizes: &Sizes, writer: &mut W) -> io::Result<()> {
+    let (width, height) = (sizes.width(), sizes.height());
+    writeln!(
+        writer,
+        "<svg xmlns=\"http://www.w3.org/2000/svg\" width=\"{width}\" height=\"{height}\" viewBox=\"0 0 {width} {height}\">"
+    )?;
+    writer.write_all(STYLE.as_bytes())
+}
+
+/// Writes which colour is whose, and what a band says.
+pub(super) fn write_legend<W: Write>(sizes: &Sizes, writer: &mut W) -> io::Result<()> {
+    for place in 0..sizes.endpoints {
+        let left = 54 + 72 * u32::from(place);
+        let text = left + 16;
+        let endpoint = EndpointId::at(usize::from(place)).0;
+        writeln!(
+            writer,
+            "<rect class=\"e{place}\" x=\"{left}\" y=\"12\" width=\"12\" height=\"12\"/><text x=\"{text}\" y=\"22\">{endpoint:04X}</text>"
+        )?;
+    }
+    writer.write_all(SAMPLES.as_bytes())
+}

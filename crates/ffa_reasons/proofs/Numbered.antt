@@ -1,0 +1,56 @@
+-- The first check that fails has a number.
+use Rattle.std.proofs.Common.{◌≡◌, ℕ, ◌<◌, Bool, true, false, List, [], ◌∷◌, length, map, Some, inl, inr, ap, arith, refl}
+use Rattle.std.specs.Prelude.{◌==◌, is_some, not}
+use Rattle.std.specs.List.{prefix_len}
+use Rattle.std.proofs.lemmas.Bool.{cases_Bool, eq-eqb, lt-ltb}
+use Rattle.ffa_model.specs.declared.call.Call.{Call}
+use Rattle.ffa_model.specs.declared.refusal.Refusal.{Refusal}
+use Rattle.ffa_model.specs.Calls.{first_refusal}
+use Rattle.ffa_model.specs.State.{State}
+use Rattle.ffa_model.specs.Step.{service}
+use Rattle.ffa_reasons.specs.Checks.{checks, left, number_of, order_of, place_number}
+use Rattle.ffa_reasons.proofs.Listed.{listed}
+
+-- how many checks of a list stand before one of this name
+abbrev before : Refusal → List Refusal → ℕ
+before refusal all = prefix_len (λ check. not (order_of check == order_of refusal)) all
+
+before_behind : (x : Refusal) (xs : List Refusal) (refusal : Refusal) → before refusal xs < length xs → before refusal (x ∷ xs) < length (x ∷ xs)
+before_behind x xs refusal inside =
+    elim (cases_Bool (not (order_of x == order_of refusal))) [
+      | inl other ↦ rw other (omega arith)
+      | inr same ↦ rw same (omega arith)
+    ]
+
+before_here : (x : Refusal) (xs : List Refusal) (refusal : Refusal) → x ≡ refusal → before refusal (x ∷ xs) < length (x ∷ xs)
+before_here x xs refusal same =
+    let equal : not (order_of x == order_of refusal) ≡ false = ap not (eq-eqb (order_of x) (order_of refusal) (ap order_of same)) in
+    rw equal (omega arith)
+
+before_inside : (keeps : List Bool) (all : List Refusal) (guards : List (Bool × Refusal)) (refusal : Refusal) → map (λ guard. guard.1) guards ≡ left keeps all
+    → first_refusal guards ≡ Some refusal → before refusal all < length all
+before_inside [] all [] refusal same first = absurd cc
+before_inside [] all (guard ∷ guards) refusal same first = absurd cc
+before_inside (keep ∷ keeps) [] [] refusal same first = absurd cc
+before_inside (keep ∷ keeps) [] (guard ∷ guards) refusal same first = absurd cc
+before_inside (false ∷ keeps) (x ∷ xs) guards refusal same first = before_behind x xs refusal (before_inside keeps xs guards refusal same first)
+before_inside (true ∷ keeps) (x ∷ xs) [] refusal same first = absurd cc
+before_inside (true ∷ keeps) (x ∷ xs) (guard ∷ guards) refusal same first =
+    elim (cases_Bool guard.0) [
+      | inl passes ↦ before_behind x xs refusal (before_inside keeps xs guards refusal tail (rw passes at first))
+      | inr fails ↦ before_here x xs refusal (named (rw fails at first))
+    ]
+  where
+    tail : map (λ g. g.1) guards ≡ left keeps xs
+    tail = cc
+
+    named : Some guard.1 ≡ Some refusal → x ≡ refusal
+    named is = cc
+
+number_some : (all : List Refusal) (refusal : Refusal) → before refusal all < length all → is_some (place_number all refusal) ≡ true
+number_some all refusal inside = rw (lt-ltb (before refusal all) (length all) inside) refl
+
+pub numbered : (s : State) (call : Call) (refusal : Refusal) → first_refusal (service s call).guards ≡ Some refusal → is_some (number_of call refusal) ≡ true
+numbered s call refusal first =
+    let are = listed s call in
+    number_some (checks call) refusal (before_inside are.0 (checks call) (service s call).guards refusal are.1 first)

@@ -1,0 +1,5 @@
+use Rattle.ffa_reasons.proofs.Orders.{order_is}
+use Rattle.ffa_reasons.proofs.numbers.order.Goals as goal
+
+pub returns : goal.returns
+returns c = order_is c.args.refusal

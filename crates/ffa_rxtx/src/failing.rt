@@ -1,0 +1,67 @@
+//! The first page that a mapping names and that can't be a buffer's.
+ghost use Rattle.std.specs.Prelude.{◌≡◌, ◌+◌, ◌≤◌, length};
+ghost use Rattle.ffa_model.specs.About.{failing_map, first_failing, unusable_from};
+ghost use Rattle.ffa_model.specs.Buffers.{is_usable};
+ghost use Rattle.ffa_model.specs.Lists.{run};
+ghost use Rattle.ffa_rxtx.specs.Parts.{candidate_in, candidates_in};
+
+use crate::buffers::{is_usable, run_at};
+use ffa_model::{Address, EndpointId, PageNo, Refusal};
+use ffa_pages::PageTable;
+
+/// The page that a check of FFA_RXTX_MAP of an endpoint is about, where it fails: the first page of TX, or of RX, that can't be
+/// one of its buffers.
+pub fn failing_map(
+    table: &PageTable,
+    ram_base: Address,
+    caller: EndpointId,
+    tx: u64,
+    rx: u64,
+    pages: u32,
+    refusal: Refusal,
+) -> Option<PageNo>
+    ensures { result ≡ failing_map caller.0 (candidates_in table.now ram_base.0) tx rx pages refusal }
+{
+    match refusal {
+        Refusal::TxUnusable => unusable_from(table, ram_base, caller, tx, pages),
+        Refusal::RxUnusable => unusable_from(table, ram_base, caller, rx, pages),
+        _ => None,
+    }
+}
+
+// The first of this many pages from an address on that an endpoint can't have a buffer in, where they are in RAM.
+fn unusable_from(
+    table: &PageTable,
+    ram_base: Address,
+    endpoint: EndpointId,
+    address: u64,
+    pages: u32,
+) -> Option<PageNo>
+    ensures { result ≡ unusable_from endpoint.0 (candidates_in table.now ram_base.0) pages address }
+{
+    match run_at(table, ram_base, address, pages) {
+        Some(first) => first_unusable(table, endpoint, first, pages),
+        None => None,
+    }
+}
+
+// The first of this many pages that an endpoint doesn't own alone, or may not write.
+fn first_unusable(
+    table: &PageTable,
+    endpoint: EndpointId,
+    first: PageNo,
+    pages: u32,
+) -> Option<PageNo>
+    requires { first.0 + pages ≤ length table.now }
+    ensures { result ≡ first_failing (λ p. is_usable endpoint.0 (candidate_in table.now p)) (run first.0 pages) }
+{
+    // Proof step: the number of pages fits a u32.
+    let _ = table.pages();
+    for i in 0..pages {
+        let page = PageNo(first.0 + i);
+        if !is_usable(table, endpoint, page) {
+            return Some(page);
+        }
+    }
+    None
+}

@@ -1,0 +1,5 @@
+use Rattle.std.proofs.Common.{rules}
+use Rattle.ffa_setup.proofs.partitions.push_info.Goals as goal
+
+pub returns-in-Compact-clause-bytes : goal.returns-in-Compact-clause-bytes
+returns-in-Compact-clause-bytes c = search rules

@@ -1,0 +1,5 @@
+use Rattle.std.proofs.Common.{rules}
+use Rattle.ffa_setup.proofs.replies.id.Goals as goal
+
+pub returns : goal.returns
+returns c = search rules

@@ -1,0 +1,97 @@
+//! What a check of a call that fails is about. Nothing is changed, and no memory is taken.
+ghost use Rattle.std.specs.Prelude.{◌≡◌};
+ghost use Rattle.std.specs.Option.{option_map};
+ghost use Rattle.ffa_model.specs.About.{about, about_page, failing_map, failing_page, failing_sent};
+ghost use Rattle.ffa_model.specs.Buffers.{candidates};
+ghost use Rattle.ffa_model.specs.Obstacles.{unless_own};
+
+use super::Manager;
+use ffa_memshare::DescriptorCall;
+use ffa_model::{About, Call, Kind, Obstacle, PageNo, Refusal, Transfer};
+use ffa_physmem::PhysMem;
+
+impl<M: PhysMem + Drop> Manager<M> {
+    // What a check of a call that fails is about. The number is that of the function, in w0.
+    pub(crate) fn about(&self, number: u32, call: Call, refusal: Refusal) -> Option<About>
+        ensures { result ≡ about self.now.state number call refusal }
+    {
+        match ffa_abi::about_registers(number, &call, refusal) {
+            Some(about) => Some(about),
+            None => self.about_failing(call, refusal),
+        }
+    }
+
+    // The first page that fails it, if it is one of pages.
+    fn about_failing(&self, call: Call, refusal: Refusal) -> Option<About>
+        ensures { result ≡ option_map (about_page self.now.state) (failing_page self.now.state call refusal) }
+    {
+        match self.failing_page(call, refusal) {
+            Some(page) => Some(self.about_page(page)),
+            None => None,
+        }
+    }
+
+    // The page itself.
+    fn failing_page(&self, call: Call, refusal: Refusal) -> Option<PageNo>
+        ensures { result ≡ failing_page self.now.state call refusal }
+    {
+        match call {
+            Call::RxtxMap { tx, rx, pages } => self.failing_map(tx, rx, pages, refusal),
+            Call::MemDonate(transfer) => self.failing_sent(Kind::Donate, transfer, refusal),
+            Call::MemLend(transfer) => self.failing_sent(Kind::Lend, transfer, refusal),
+            Call::MemShare(transfer) => self.failing_sent(Kind::Share, transfer, refusal),
+            _ => None,
+        }
+    }
+
+    // Of FFA_RXTX_MAP.
+    fn failing_map(&self, tx: u64, rx: u64, pages: u32, refusal: Refusal) -> Option<PageNo>
+        ensures { result ≡ failing_map self.now.state.runner (candidates self.now.state) tx rx pages refusal }
+    {
+        let base = self.manifest.ram_base;
+        let runner = self.kept.chain.runner();
+        ffa_rxtx::failing_map(&self.kept.pages, base, runner, tx, rx, pages, refusal)
+    }
+
+    // Of FFA_MEM_DONATE, FFA_MEM_LEND or FFA_MEM_SHARE.
+    fn failing_sent(&self, kind: Kind, transfer: Transfer, refusal: Refusal) -> Option<PageNo>
+        ensures { result ≡ failing_sent self.now.state kind transfer refusal }
+    {
+        let version = self.version();
+        let call = DescriptorCall { transfer, version };
+        let base = self.manifest.ram_base;
+        let runner = self.kept.chain.runner();
+        let (pages, buffers) = (&self.kept.pages, &self.kept.buffers);
+        ffa_memshare::failing_send(
+            &self.ram, base, pages, buffers, runner, kind, &call, refusal,
+        )
+    }
+
+    // A page, with what stands in the runner's way there.
+    fn about_page(&self, page: PageNo) -> About
+        ensures { result ≡ about_page self.now.state page }
+    {
+        About::Page {
+            page,
+            obstacle: self.unless_own(self.obstacle_at(page)),
+        }
+    }
+
+    // What stands in the runner's way, which its own page doesn't.
+    fn unless_own(&self, obstacle: Obstacle) -> Option<Obstacle>
+        ensures { result ≡ unless_own self.now.state.runner obstacle }
+    {
+        match obstacle {
+            Obstacle::OwnedBy(owner) => {
+                if owner == self.runner() {
+                    None
+                } else {
+                    Some(obstacle)
+                }
+            }
+            Obstacle::OutsideRam => Some(obstacle),
+            Obstacle::ManagersPage => Some(obstacle),
+            Obstacle::InTransaction(_) => Some(obstacle),
+        }
+    }
+}

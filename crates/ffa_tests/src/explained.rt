@@ -1,0 +1,225 @@
+//! Why an operation is refused, as it is printed under its text: for most checks of each call a trace whose last line fails at that
+//! check and at none before it. Those that are missing no trace of this machine reaches, but for the ceilings on open transactions and handles.
+use crate::checks::holds_at;
+use crate::machines::booted;
+use ffa_lines::{Form, play};
+use ffa_model::row_machine;
+use ffa_trace::Player;
+use std::alloc::Global;
+use std::process::Abort;
+use std::test::Fail;
+
+// Each row is a trace with a slash for each line end, a semicolon, and what is said of its last line.
+
+// The normal world runs, and has no buffers.
+const BARE: &str = "\
+call 84000064 83;FFA_FEATURES check 1: no such function is served: w1 is 00000083
+call 84000099;check 1: no such function is served: w0 is 84000099
+call 84000065;FFA_RX_RELEASE check 1: the caller's RX is not full
+call 84000066 40010000 40011000 0;FFA_RXTX_MAP check 2: a buffer has no page, or more than it may have: w3 is 00000000
+call 84000066 40010001 40011000 1;FFA_RXTX_MAP check 3: TX does not begin at a page and lie in RAM: w1 is 40010001
+call 84000066 40010000 40200000 1;FFA_RXTX_MAP check 4: RX does not begin at a page and lie in RAM: w2 is 40200000
+call 84000066 40010000 40010000 1;FFA_RXTX_MAP check 5: RX and TX have a page in common: w2 is 40010000
+call 84000066 40020000 40010000 1;FFA_RXTX_MAP check 6: a page of TX is not the caller's own to read and write, or is in an open transaction: 40020000 belongs to 8001
+call 84000066 40010000 40020000 1;FFA_RXTX_MAP check 7: a page of RX is not the caller's own to read and write, or is in an open transaction: 40020000 belongs to 8001
+call 84000067 1;FFA_RXTX_UNMAP check 1: the endpoint is not 0: w1 is 00000001
+call 84000067;FFA_RXTX_UNMAP check 2: the caller has no RX and TX
+call 84000068 1;FFA_PARTITION_INFO_GET check 1: no partition has the UUID
+call 84000068;FFA_PARTITION_INFO_GET check 2: the caller has no RX and TX
+call 8400006B;FFA_MSG_WAIT check 1: the caller does not run by cycles of the normal world
+call 8400006C;FFA_YIELD check 1: the caller works for nobody to whom it may yield
+call 8400006D 80010000/call 8400006D 80020000;FFA_RUN check 1: the caller is not the normal world
+call 8400006D 90000000;FFA_RUN check 2: no partition has the target's identifier: endpoint 9000
+call 8400006D 80010001;FFA_RUN check 3: the execution context is not 0: w1 is 80010001
+call 8400006F 80018002;FFA_MSG_SEND_DIRECT_REQ check 1: the sender is not the caller: endpoint 8001
+call 8400006F 8001 1;FFA_MSG_SEND_DIRECT_REQ check 2: a flag is set that has to be 0: w2 is 00000001
+call C400006F 9000;FFA_MSG_SEND_DIRECT_REQ check 3: no endpoint has the receiver's identifier: endpoint 9000
+call 8400006F;FFA_MSG_SEND_DIRECT_REQ check 4: the receiver is the caller: endpoint 0000
+call 8400006D 80010000/call 8400006F 80010000;FFA_MSG_SEND_DIRECT_REQ check 5: the receiver is the normal world: endpoint 0000
+call 8400006D 80010000/call 8400006C/call 8400006F 8001;FFA_MSG_SEND_DIRECT_REQ check 8: the receiver does not wait: endpoint 8001
+call 84000070;FFA_MSG_SEND_DIRECT_RESP check 1: the caller works on no direct request
+call 8400006F 8001/call 84000070 80020000;FFA_MSG_SEND_DIRECT_RESP check 2: the response is not from the caller to the endpoint that asked: w1 is 80020000
+call 8400006F 8001/call 84000070 80010000 1;FFA_MSG_SEND_DIRECT_RESP check 3: a flag is set that has to be 0: w2 is 00000001
+call 84000086;FFA_MSG_SEND2 check 1: the caller has no RX and TX
+call 84000071;FFA_MEM_DONATE check 1: the caller has no RX and TX
+call 84000074;FFA_MEM_RETRIEVE_REQ check 1: the caller has no RX and TX
+call 84000076;FFA_MEM_RELINQUISH check 1: the caller has no RX and TX
+call 84000077 1 0 2;FFA_MEM_RECLAIM check 1: a flag is set that has to be 0: w3 is 00000002
+call 84000077 1;FFA_MEM_RECLAIM check 2: no open transaction of the caller has the handle: handle 0000000000000001
+call 8400006D 80010000/call 8400007D 0 1;FFA_NOTIFICATION_BITMAP_CREATE check 1: the caller is not the normal world
+call 8400007D 1 1;FFA_NOTIFICATION_BITMAP_CREATE check 2: the endpoint is not the normal world: w1 is 00000001
+call 8400007D 0 2;FFA_NOTIFICATION_BITMAP_CREATE check 3: the count of execution contexts is not 1: w2 is 00000002
+call 8400007D 0 1/call 8400007D 0 1;FFA_NOTIFICATION_BITMAP_CREATE check 4: the normal world has bitmaps already
+call 8400006D 80010000/call 8400007E;FFA_NOTIFICATION_BITMAP_DESTROY check 1: the caller is not the normal world
+call 8400007E 1;FFA_NOTIFICATION_BITMAP_DESTROY check 2: the endpoint is not the normal world: w1 is 00000001
+call 8400007E;FFA_NOTIFICATION_BITMAP_DESTROY check 3: the endpoint has no bitmaps
+call 8400007D 0 1/call 8400007F 80010000 0 1/call 8400006D 80010000/call 84000081 80010000 0 1/call 8400006B/call 8400007E;FFA_NOTIFICATION_BITMAP_DESTROY check 4: a bit of the normal world is pending
+call 8400007F 80018002 0 1;FFA_NOTIFICATION_BIND check 1: the receiver is not the caller: endpoint 8002
+call 8400007F 90000000 0 1;FFA_NOTIFICATION_BIND check 2: no endpoint has the sender's identifier: endpoint 9000
+call 8400007F 0 0 1;FFA_NOTIFICATION_BIND check 3: the sender is the caller: endpoint 0000
+call 8400007F 80010000 1 1;FFA_NOTIFICATION_BIND check 4: a flag is set that has to be 0: w2 is 00000001
+call 8400007F 80010000;FFA_NOTIFICATION_BIND check 5: no bit is named
+call 8400007F 80010000 0 1;FFA_NOTIFICATION_BIND check 6: the endpoint has no bitmaps
+call 8400007D 0 1/call 8400007F 80010000 0 1/call 8400007F 80020000 0 1;FFA_NOTIFICATION_BIND check 7: another sender has one of the bits, or one is pending
+call 84000080 80018002 0 1;FFA_NOTIFICATION_UNBIND check 1: the receiver is not the caller: endpoint 8002
+call 84000080 90000000 0 1;FFA_NOTIFICATION_UNBIND check 2: no endpoint has the sender's identifier: endpoint 9000
+call 84000080 0 0 1;FFA_NOTIFICATION_UNBIND check 3: the sender is the caller: endpoint 0000
+call 84000080 80010000 1 1;FFA_NOTIFICATION_UNBIND check 4: a flag is set that has to be 0: w2 is 00000001
+call 84000080 80010000;FFA_NOTIFICATION_UNBIND check 5: no bit is named
+call 84000080 80010000 0 1;FFA_NOTIFICATION_UNBIND check 6: the endpoint has no bitmaps
+call 8400007D 0 1/call 84000080 80010000 0 1;FFA_NOTIFICATION_UNBIND check 7: one of the bits is not the sender's, or is pending
+call 84000081 80018002 0 1;FFA_NOTIFICATION_SET check 1: the sender is not the caller: endpoint 8001
+call 84000081 9000 0 1;FFA_NOTIFICATION_SET check 2: no endpoint has the receiver's identifier: endpoint 9000
+call 84000081 0 0 1;FFA_NOTIFICATION_SET check 3: the receiver is the caller: endpoint 0000
+call 84000081 8001 1 1;FFA_NOTIFICATION_SET check 4: a flag is set that has to be 0: w2 is 00000001
+call 84000081 8001;FFA_NOTIFICATION_SET check 5: no bit is named
+call 84000081 8001 0 1;FFA_NOTIFICATION_SET check 6: one of the bits is not the caller's
+call 84000082 8001;FFA_NOTIFICATION_GET check 1: the receiver is not the caller: endpoint 8001
+call 84000082 10000;FFA_NOTIFICATION_GET check 2: the execution context is not 0: w1 is 00010000
+call 84000082 0 10;FFA_NOTIFICATION_GET check 3: the flags ask for a class that is none of the four: w2 is 00000010
+call 84000082 0 1;FFA_NOTIFICATION_GET check 4: the endpoint has no bitmaps
+load 40020001 2;40020001 is no multiple of 2
+store 40010004 0000000000000000;40010004 is no multiple of 8
+fetch 40010002;40010002 is no multiple of 4
+fetch 40010000;40010000 may not be executed
+load 40000000 8;40000000 belongs to the manager
+store 40020000 2A;40020000 belongs to 8001
+load 3FFFFFFC 4;3FFFFFFC is outside RAM
+load 100000000 1;0000000100000000 has more than 32 bits
+";
+
+// The normal world has buffers: TX at 40010000, and RX.
+const MAPPED: &str = "call 84000066 40010000 40011000 1\n";
+
+const WITH_BUFFERS: &str = "\
+call 84000066 40010000 40011000 1;FFA_RXTX_MAP check 1: the caller has RX and TX already
+call 84000068/call 84000068;FFA_PARTITION_INFO_GET check 3: the caller's RX is full
+store 40010000 01/call 84000086;FFA_MSG_SEND2 check 2: a flag is set that has to be 0
+store 40010004 01/call 84000086;FFA_MSG_SEND2 check 3: a reserved field of the header is not 0
+store 4001000E 8001/call 84000086;FFA_MSG_SEND2 check 4: the sender is not the caller
+store 4001000C 9000/call 84000086;FFA_MSG_SEND2 check 5: no endpoint has the receiver's identifier
+call 84000086;FFA_MSG_SEND2 check 6: the receiver is the caller
+store 4001000C 8001/call 84000086;FFA_MSG_SEND2 check 7: the message begins inside its header
+store 4001000C 8001/store 40010008 14/call 84000086;FFA_MSG_SEND2 check 8: the message has no byte
+store 4001000C 8001/store 40010008 14/store 40010010 FFFF/call 84000086;FFA_MSG_SEND2 check 9: the message does not end inside TX
+store 4001000C 8001/store 40010008 14/store 40010010 01/call 84000086;FFA_MSG_SEND2 check 12: the receiver has no RX and TX
+call 8400006D 80010000/call 84000066 40020000 40021000 1/call 8400006B/store 4001000C 8001/store 40010008 14/store 40010010 01/call 84000086/call 84000086;FFA_MSG_SEND2 check 13: the receiver's RX is full
+call 84000067/call 84000066 40010000 40012000 2/call 8400006D 80010000/call 84000066 40020000 40021000 1/call 8400006B/store 4001000C 8001/store 40010008 14/store 40010010 1000/call 84000086;FFA_MSG_SEND2 check 14: the message with its header is longer than the receiver's RX
+call 84000072 60 40;FFA_MEM_LEND check 2: the fragment is not the whole descriptor: w2 is 00000040
+call 84000072 1001 1001;FFA_MEM_LEND check 3: the descriptor is longer than TX: w1 is 00001001
+call 84000072 60 60 1;FFA_MEM_LEND check 4: the address of a buffer is given, and there is TX alone: w3 is 00000001
+call 84000072 60 60 0 1;FFA_MEM_LEND check 5: the pages of a buffer are counted, and there is TX alone: w4 is 00000001
+call C4000073 60 60;FFA_MEM_SHARE check 6: the bytes in TX are no descriptor of this call
+call 84000074 60 40;FFA_MEM_RETRIEVE_REQ check 2: the fragment is not the whole descriptor: w2 is 00000040
+call 84000074 1001 1001;FFA_MEM_RETRIEVE_REQ check 3: the descriptor is longer than TX: w1 is 00001001
+call 84000074 60 60 1;FFA_MEM_RETRIEVE_REQ check 4: the address of a buffer is given, and there is TX alone: w3 is 00000001
+call 84000074 60 60 0 1;FFA_MEM_RETRIEVE_REQ check 5: the pages of a buffer are counted, and there is TX alone: w4 is 00000001
+call 84000074 40 40;FFA_MEM_RETRIEVE_REQ check 6: the bytes in TX are no descriptor of this call
+call 84000076;FFA_MEM_RELINQUISH check 2: the bytes in TX are no descriptor of this call
+store 4001000C 00000001/store 40010010 8001/call 84000076;FFA_MEM_RELINQUISH check 3: the endpoint of the descriptor is not the caller
+store 4001000C 00000001/call 84000076;FFA_MEM_RELINQUISH check 4: no open transaction with the handle has the caller among its receivers
+";
+
+// And a lend of its page 40012000 to 8002, to read and write, is described in TX.
+const DESCRIBED: &str = "\
+call 84000066 40010000 40011000 1
+store 40010018 0000000100000010
+store 40010020 0000000000000030
+store 40010030 0000004000028002
+store 40010040 0000000100000001
+store 40010050 0000000040012000
+store 40010058 0000000000000001
+";
+
+const WITH_DESCRIPTOR: &str = "\
+store 40010000 8001/call 84000072 60 60;FFA_MEM_LEND check 7: the sender is not the caller
+store 40010030 9000/call 84000072 60 60;FFA_MEM_LEND check 8: no endpoint has the receiver's identifier
+store 40010050 0000000040200000/call 84000072 60 60;FFA_MEM_LEND check 9: a range does not lie in RAM
+store 40010050 0000000040020000/call 84000072 60 60;FFA_MEM_LEND check 10: a page is not the caller's own, or is in an open transaction or a buffer: 40020000 belongs to 8001
+store 40010050 0000000040011000/call 84000072 60 60;FFA_MEM_LEND check 10: a page is not the caller's own, or is in an open transaction or a buffer: 40011000
+store 40010050 0000000040013000/call 84000072 60 60/store 40010050 0000000040012000/store 40010058 0000000000000003/store 40010040 0000000100000003/call 84000072 60 60;FFA_MEM_LEND check 10: a page is not the caller's own, or is in an open transaction or a buffer: 40013000 is in the open transaction 0000000000000001
+store 40010058 0000000000000003/store 40010040 0000000100000003/call 84000072 60 60/store 40010058 0000000000000001/store 40010040 0000000100000001/store 40010050 0000000040014000/call 84000072 60 60;FFA_MEM_LEND check 10: a page is not the caller's own, or is in an open transaction or a buffer: 40014000 is in the open transaction 0000000000000001
+call 84000072 60 60/load 40012000 1;40012000 is in the open transaction 0000000000000001
+";
+
+// And the lend was made, and 8002 runs, has buffers, and describes in TX that it retrieves it.
+const LENT: &str = "\
+call 84000066 40010000 40011000 1
+store 40010018 0000000100000010
+store 40010020 0000000000000030
+store 40010030 0000004000028002
+store 40010040 0000000100000001
+store 40010050 0000000040012000
+store 40010058 0000000000000001
+call 84000072 60 60
+call 8400006D 80020000
+call 84000066 40030000 40031000 1
+store 40030008 0000000000000001
+store 40030018 0000000100000010
+store 40030020 0000000000000030
+store 40030030 0000000000008002
+";
+
+const WITH_LEND: &str = "\
+store 40030008 0000000000000002/call 84000074 40 40;FFA_MEM_RETRIEVE_REQ check 7: no open transaction has the handle
+call 8400006B/call 8400006D 80010000/call 84000066 40020000 40021000 1/store 40020008 01/store 40020018 0000000100000010/store 40020020 30/store 40020030 8001/call 84000074 40 40;FFA_MEM_RETRIEVE_REQ check 8: the caller is no receiver of the transaction
+store 40030000 8001/call 84000074 40 40;FFA_MEM_RETRIEVE_REQ check 9: the sender is not that of the transaction
+store 40030010 01/call 84000074 40 40;FFA_MEM_RETRIEVE_REQ check 10: the tag is not that of the transaction
+store 40030004 08/call 84000074 40 40;FFA_MEM_RETRIEVE_REQ check 11: the kind is not that of the transaction
+call 84000074 40 40/call 84000065/call 84000074 40 40;FFA_MEM_RETRIEVE_REQ check 12: the caller holds the transaction already
+store 40030032 08/call 84000074 40 40;FFA_MEM_RETRIEVE_REQ check 13: the right that is asked for is more than the caller may get
+call 84000068/call 84000074 40 40;FFA_MEM_RETRIEVE_REQ check 14: the caller's RX is full
+store 40030000 0000000000000001/store 40030008 0000000100000000/store 40030010 8002/call 84000076;FFA_MEM_RELINQUISH check 5: the caller does not hold the transaction
+call 84000074 40 40/call 8400006B/call 84000077 1;FFA_MEM_RECLAIM check 3: a receiver holds the transaction
+load 40012000 1;40012000 is in the open transaction 0000000000000001
+";
+
+// What is printed of a trace behind a beginning.
+fn printed(alloc: Global, beginning: &str, trace: &str) -> Result<Vec<u8>, Fail> {
+    let whole = format!(in alloc; "{beginning}{trace}\n")?;
+    let form = Form {
+        number: false,
+        names: false,
+        explain: true,
+    };
+    let mut player = Player::new(booted(alloc, &row_machine())?);
+    let (mut out, mut bytes) = (Vec::new(alloc), Vec::new(alloc));
+    let mut left = whole.as_bytes();
+    play(&mut player, alloc, form, &mut left, &mut out, &mut bytes)?;
+    Ok(out)
+}
+
+// That is the one reason among what is printed, and stands last.
+fn says_why(rt: &impl Abort, alloc: Global, beginning: &str, row: &str) -> Result<(), Fail> {
+    let (lines, wanted) = row.split_once(';').ok_or("no reason")?;
+    let trace = lines.replace(alloc, "/", "\n")?;
+    let out = printed(alloc, beginning, trace.as_str())?;
+    let reason = format!(in alloc; "\n# refused: {wanted}\n")?;
+    holds_at(rt, out.ends_with(reason.as_bytes()), &row);
+    let reasons = out.iter().filter(|byte| **byte == b'#').count();
+    holds_at(rt, reasons == 1, &row);
+    Ok(())
+}
+
+fn say_why(rt: &impl Abort, alloc: Global, beginning: &str, rows: &str) -> Result<(), Fail> {
+    for row in rows.lines() {
+        says_why(rt, alloc, beginning, row)?;
+    }
+    Ok(())
+}
+
+#[test]
+fn says_why_the_normal_world_is_refused(rt: HostRuntime) -> Result<(), Fail> {
+    say_why(&rt, rt.alloc(), "", BARE)
+}
+
+#[test]
+fn says_why_a_call_with_buffers_is_refused(rt: HostRuntime) -> Result<(), Fail> {
+    say_why(&rt, rt.alloc(), MAPPED, WITH_BUFFERS)
+}
+
+#[test]
+fn says_why_a_lend_and_a_retrieve_are_refused(rt: HostRuntime) -> Result<(), Fail> {
+    say_why(&rt, rt.alloc(), DESCRIBED, WITH_DESCRIPTOR)?;
+    say_why(&rt, rt.alloc(), LENT, WITH_LEND)
+}
