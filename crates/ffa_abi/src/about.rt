@@ -1,7 +1,7 @@
 //! What a check that fails is about, where the call's registers tell it (DEN0077A, 11 to 16).
 ghost use Rattle.std.specs.Prelude.{◌≡◌};
 ghost use Rattle.ffa_model.specs.AboutRegisters.{about_registers, at_endpoint, in_register, registers_of_bind, registers_of_create, registers_of_destroy, registers_of_get, registers_of_map, registers_of_reclaim, registers_of_request, registers_of_response, registers_of_run, registers_of_set, registers_of_transfer, registers_of_unmap};
-ghost use Rattle.ffa_model.specs.Bits.{high_half, low_half};
+ghost use Rattle.ffa_model.specs.Bits.{high_half, low_half, word_of_halves};
 
 use ffa_model::{About, Call, EndpointId, Refusal, Transfer};
 
@@ -114,9 +114,17 @@ fn of_reclaim(low: u32, high: u32, flags: u32, refusal: Refusal) -> Option<About
 {
     match refusal {
         Refusal::FlagsReserved => register(3, u64::from(flags)),
-        Refusal::NotTheSenders => Some(About::Handle((u64::from(high) << 32) + u64::from(low))),
+        Refusal::NotTheSenders => Some(About::Handle(handle_of(low, high))),
+        Refusal::StillHeld => Some(About::Handle(handle_of(low, high))),
         _ => None,
     }
+}
+
+// The handle whose halves stand in two registers.
+fn handle_of(low: u32, high: u32) -> u64
+    ensures { result ≡ word_of_halves low high }
+{
+    (u64::from(high) << 32) + u64::from(low)
 }
 
 // Of FFA_NOTIFICATION_BITMAP_CREATE.

@@ -1,9 +1,9 @@
--- What a check that fails is about: what the call's registers tell, else the first page that fails it, of the pages that the
--- call names. Of a notification's bits, a message's header and a descriptor's fields nothing is told.
+-- What a check that fails is about: what the call's registers tell, or what its message, its descriptor or its bits do, else
+-- the first page that fails it, of the pages that the call names.
 use Rattle.std.specs.Prelude.{ℕ, Bool, true, not, is_none, List, [], Option, None, find, if◌then◌else◌}
 use Rattle.std.specs.Option.{option_and_then, option_map, option_or}
 use Rattle.ffa_model.specs.declared.call.Call.{Call}
-use Rattle.ffa_model.specs.declared.call.Call.TheVariants.{RxtxMap, MemDonate, MemLend, MemShare}
+use Rattle.ffa_model.specs.declared.call.Call.TheVariants.{RxtxMap, MemDonate, MemLend, MemShare, MemReclaim}
 use Rattle.ffa_model.specs.declared.call.Transfer.{Transfer}
 use Rattle.ffa_model.specs.declared.endpoint.PageNo.{PageNo}
 use Rattle.ffa_model.specs.declared.refusal.Refusal.{Refusal}
@@ -12,16 +12,18 @@ use Rattle.ffa_model.specs.declared.rights.Kind.{Kind}
 use Rattle.ffa_model.specs.declared.rights.Kind.TheVariants.{Share, Lend, Donate}
 use Rattle.ffa_model.specs.declared.why.About.{About}
 use Rattle.ffa_model.specs.declared.why.About.TheVariants.{Page}
+use Rattle.ffa_model.specs.AboutContents.{about_contents}
 use Rattle.ffa_model.specs.AboutRegisters.{about_registers}
 use Rattle.ffa_model.specs.Buffers.{Candidates, candidates, is_run_address, is_usable, page_number}
 use Rattle.ffa_model.specs.Calls.{first_refusal}
 use Rattle.ffa_model.specs.Lists.{run}
+use Rattle.ffa_model.specs.MemoryReturn.{named_ranges}
 use Rattle.ffa_model.specs.MemorySend.{after_transfer, are_grants_within, is_sendable, send_read}
 use Rattle.ffa_model.specs.Obstacles.{obstacle_at, unless_own}
 use Rattle.ffa_model.specs.Rights.{may_store}
 use Rattle.ffa_model.specs.SendDescriptor.{SendRecord}
-use Rattle.ffa_model.specs.State.{State, Buffers}
-use Rattle.ffa_model.specs.Transactions.{OwnRights, own_rights_of, pages_in}
+use Rattle.ffa_model.specs.State.{State, Buffers, Transaction, transaction_of}
+use Rattle.ffa_model.specs.Transactions.{OwnRights, handle_of, own_rights_of, pages_in}
 
 -- the first of some pages that fails a test
 abbrev pub numbered : ℕ → PageNo
@@ -56,6 +58,11 @@ abbrev pub failing_send : ℕ → Candidates → OwnRights → List (Option Buff
 failing_send e ram own_rights buffers x r refusal =
     if is_none (first_refusal (after_transfer buffers e x [])) then option_and_then (failing_offer e ram own_rights buffers refusal) r else None
 
+-- FFA_MEM_RECLAIM: the least page of RAM that the transaction names and that its owner may not write
+abbrev pub failing_reclaim : OwnRights → Option Transaction → Refusal → Option PageNo
+failing_reclaim own_rights t ZerosUnwritable = first_failing (λ p. may_store (own_rights.right p)) (pages_in own_rights (named_ranges t))
+failing_reclaim own_rights t refusal = None
+
 -- ON A STATE
 abbrev pub failing_sent : State → Kind → Transfer → Refusal → Option PageNo
 failing_sent s kind x refusal = failing_send s.runner (candidates s) (own_rights_of s) s.buffers x (send_read s kind x.total) refusal
@@ -65,12 +72,16 @@ failing_page s (RxtxMap tx rx pages) refusal = failing_map s.runner (candidates 
 failing_page s (MemDonate x) refusal = failing_sent s Donate x refusal
 failing_page s (MemLend x) refusal = failing_sent s Lend x refusal
 failing_page s (MemShare x) refusal = failing_sent s Share x refusal
+failing_page s (MemReclaim low high flags) refusal = failing_reclaim (own_rights_of s) (transaction_of s (handle_of high low)) refusal
 failing_page s call refusal = None
 
 -- a page, with what stands in the runner's way there
 abbrev pub about_page : State → PageNo → About
 about_page s page = Page page (unless_own s.runner (obstacle_at s page.0))
 
+abbrev pub about_pages : State → Call → Refusal → Option About
+about_pages s call refusal = option_map (about_page s) (failing_page s call refusal)
+
 -- what the check of a call is about, whose function's number is this
 abbrev pub about : State → ℕ → Call → Refusal → Option About
-about s w0 call refusal = option_or (about_registers w0 call refusal) (option_map (about_page s) (failing_page s call refusal))
+about s w0 call refusal = option_or (about_registers w0 call refusal) (option_or (about_contents s call refusal) (about_pages s call refusal))

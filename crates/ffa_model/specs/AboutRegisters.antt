@@ -5,7 +5,7 @@ use Rattle.ffa_model.specs.declared.call.Call.{Call}
 use Rattle.ffa_model.specs.declared.call.Call.TheVariants.{Features, RxtxMap, RxtxUnmap, Run, DirectRequest, DirectResponse, MemDonate, MemLend, MemShare, MemRetrieve, MemReclaim, BitmapCreate, BitmapDestroy, NotificationBind, NotificationUnbind, NotificationSet, NotificationGet, Unknown}
 use Rattle.ffa_model.specs.declared.call.Transfer.{Transfer}
 use Rattle.ffa_model.specs.declared.refusal.Refusal.{Refusal}
-use Rattle.ffa_model.specs.declared.refusal.Refusal.TheVariants.{FlagsReserved, SenderIsAnother, ReceiverIsAnother, ReceiverUnknown, ReceiverIsCaller, ContextUnknown, BufferPageCount, TxMisplaced, RxMisplaced, BuffersOverlap, EndpointNotZero, ReceiverIsNormalWorld, RequestsUnreceived, ReceiverNotWaiting, AnswerMisdirected, TargetUnknown, TargetNotReady, EndpointNotNormalWorld, ContextCount, SenderUnknown, SenderIsCaller, ClassesUnknown, Fragmented, DescriptorTooLong, BufferAddressGiven, BufferPagesGiven, NotTheSenders}
+use Rattle.ffa_model.specs.declared.refusal.Refusal.TheVariants.{FlagsReserved, SenderIsAnother, ReceiverIsAnother, ReceiverUnknown, ReceiverIsCaller, ContextUnknown, BufferPageCount, TxMisplaced, RxMisplaced, BuffersOverlap, EndpointNotZero, ReceiverIsNormalWorld, RequestsUnreceived, ReceiverNotWaiting, AnswerMisdirected, TargetUnknown, TargetNotReady, EndpointNotNormalWorld, ContextCount, SenderUnknown, SenderIsCaller, ClassesUnknown, Fragmented, DescriptorTooLong, BufferAddressGiven, BufferPagesGiven, NotTheSenders, StillHeld}
 use Rattle.ffa_model.specs.declared.why.About.{About}
 use Rattle.ffa_model.specs.declared.why.About.TheVariants.{Endpoint, Handle, Register}
 use Rattle.ffa_model.specs.Bits.{high_half, low_half, word_of_halves}
@@ -66,6 +66,7 @@ registers_of_transfer x refusal = None
 abbrev pub registers_of_reclaim : ℕ → ℕ → ℕ → Refusal → Option About
 registers_of_reclaim low high flags FlagsReserved = in_register 3 flags
 registers_of_reclaim low high flags NotTheSenders = Some (Handle (word_of_halves low high))
+registers_of_reclaim low high flags StillHeld = Some (Handle (word_of_halves low high))
 registers_of_reclaim low high flags refusal = None
 
 -- FFA_NOTIFICATION_BITMAP_CREATE

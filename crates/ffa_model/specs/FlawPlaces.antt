@@ -1,5 +1,5 @@
--- Where the field stands of which a condition speaks: its first byte, and how many bytes it has.
-use Rattle.std.specs.Prelude.{ℕ, ◌+◌}
+-- Where the field stands of which a condition speaks, its first byte and how many bytes it has, and what stands there.
+use Rattle.std.specs.Prelude.{ℕ, ◌+◌, ◌*◌, ◌==◌, nat_le, List, length, Option, Some, None, if◌then◌else◌}
 use Rattle.ffa_model.specs.declared.endpoint.Version.{Version}
 use Rattle.ffa_model.specs.declared.endpoint.Version.TheVariants.{Compact, V1_1}
 use Rattle.ffa_model.specs.declared.flaw.FieldPlace.{FieldPlace}
@@ -19,10 +19,25 @@ use Rattle.ffa_model.specs.declared.flaw.RetrieveFlaw.{RetrieveFlaw}
 use Rattle.ffa_model.specs.declared.flaw.RetrieveFlaw.TheVariants.{Attributes as AskedAttributes, Flags as AskedFlags, AccessCount, ReceiverIsAnother, DataPermission, InstructionPermission, PermissionsReserved, AccessFlags as AskedAccessFlags, CompositeTold, AccessReserved as AskedAccessReserved}
 use Rattle.ffa_model.specs.declared.flaw.RelinquishFlaw.{RelinquishFlaw}
 use Rattle.ffa_model.specs.declared.flaw.RelinquishFlaw.TheVariants.{Short as RelinquishShort, Flags as RelinquishFlags, EndpointCount}
-use Rattle.ffa_model.specs.DescriptorPlaces.{Versioned, header_size, array_place, access_place, composite_place, range_place}
+use Rattle.ffa_model.specs.DescriptorPlaces.{Versioned, byte, u16_at, u32_at, u64_at, header_size}
 
 abbrev pub field : ℕ → ℕ → FieldPlace
 field first size = record { first = first; size = size }
+
+-- The places that the bytes tell, 0 where they end before: that of the array, and that of the composite. Where the bytes go on,
+-- these are `array_place` and `composite_place`
+abbrev pub told_place : List ℕ → ℕ → ℕ
+told_place bytes at = if nat_le (at + 4) (length bytes) then u32_at bytes at else 0
+
+abbrev pub told_array_in : Version → List ℕ → ℕ
+told_array_in Compact bytes = 32
+told_array_in V1_1 bytes = told_place bytes 32
+
+abbrev pub told_array : Versioned → ℕ
+told_array b = told_array_in b.version b.bytes
+
+abbrev pub told_composite : Versioned → ℕ
+told_composite b = told_place b.bytes (told_array b + 4)
 
 -- how many access descriptors there are, and in version 1.1, in the next bytes, where they begin
 abbrev pub array_field : Version → FieldPlace
@@ -96,8 +111,21 @@ relinquish_flaw_place EndpointCount = field 12 4
 abbrev pub flaw_place : Versioned → Flaw → FieldPlace
 flaw_place b (Header flaw) = header_flaw_place b.version flaw
 flaw_place b (Send flaw) = send_flaw_place flaw
-flaw_place b (Access i flaw) = access_flaw_place (access_place b i) flaw
-flaw_place b (Composite flaw) = composite_flaw_place (array_place b) (composite_place b) flaw
-flaw_place b (Range i flaw) = range_flaw_place (range_place b i) flaw
-flaw_place b (Retrieve flaw) = retrieve_flaw_place (array_place b) flaw
+flaw_place b (Access i flaw) = access_flaw_place (told_array b + 16 * i) flaw
+flaw_place b (Composite flaw) = composite_flaw_place (told_array b) (told_composite b) flaw
+flaw_place b (Range i flaw) = range_flaw_place (told_composite b + 16 + 16 * i) flaw
+flaw_place b (Retrieve flaw) = retrieve_flaw_place (told_array b) flaw
 flaw_place b (Relinquish flaw) = relinquish_flaw_place flaw
+
+-- the number of 1, 2, 4 or 8 bytes at a place
+abbrev pub number_of_size : List ℕ → ℕ → ℕ → Option ℕ
+number_of_size bytes at size =
+    if size == 1 then Some (byte bytes at)
+    else if size == 2 then Some (u16_at bytes at)
+    else if size == 4 then Some (u32_at bytes at)
+    else if size == 8 then Some (u64_at bytes at)
+    else None
+
+-- what stands in a field, where it has so many bytes and all are there
+abbrev pub field_value : List ℕ → FieldPlace → Option ℕ
+field_value bytes place = if nat_le (place.first + place.size) (length bytes) then number_of_size bytes place.first place.size else None

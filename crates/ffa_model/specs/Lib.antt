@@ -35,6 +35,7 @@ pub mod SendDescriptor
 pub mod RetrieveDescriptor
 pub mod RelinquishDescriptor
 pub mod Flaws
+pub mod FirstFlaws
 pub mod FlawPlaces
 pub mod ResponseBytes
 pub mod Transactions
@@ -45,6 +46,7 @@ pub mod SoundState
 pub mod Step
 pub mod Obstacles
 pub mod AboutRegisters
+pub mod AboutContents
 pub mod About
 pub mod Why
 pub mod TraceLines

@@ -39,10 +39,12 @@ pub enum About {
     },
     /// The number of a notification's bit.
     Bit(u32),
-    /// The condition that a descriptor breaks, and the field of which it speaks.
+    /// The first condition that a descriptor breaks, the field of which it speaks, and the number in it, where it has 1, 2, 4 or 8
+    /// bytes and all are there.
     Field {
         flaw: Flaw,
         place: FieldPlace,
+        value: Option<u64>,
     },
 }
 

@@ -1,0 +1,153 @@
+-- What a check that fails is about, where a message's header or a descriptor tells it, and where it is a notification's bit
+-- (DEN0077A, 5.11, 7.1, 10 and 16).
+use Rattle.std.specs.Prelude.{ℕ, Bool, not, is_none, find, List, [], length, Option, Some, None, if◌then◌else◌}
+use Rattle.std.specs.Option.{option_and_then, option_map, option_or}
+use Rattle.ffa_model.specs.declared.call.Call.{Call}
+use Rattle.ffa_model.specs.declared.call.Call.TheVariants.{MsgSend2, MemDonate, MemLend, MemShare, MemRetrieve, MemRelinquish, NotificationBind, NotificationUnbind, NotificationSet}
+use Rattle.ffa_model.specs.declared.call.Transfer.{Transfer}
+use Rattle.ffa_model.specs.declared.descriptor.RelinquishDesc.{RelinquishDesc}
+use Rattle.ffa_model.specs.declared.descriptor.RetrieveDesc.{RetrieveDesc}
+use Rattle.ffa_model.specs.declared.endpoint.Version.TheVariants.{V1_1}
+use Rattle.ffa_model.specs.declared.flaw.Flaw.{Flaw}
+use Rattle.ffa_model.specs.declared.refusal.Refusal.{Refusal}
+use Rattle.ffa_model.specs.declared.refusal.Refusal.TheVariants.{SenderIsAnother, ReceiverUnknown, ReceiverIsCaller, MessagesUnreceived, ReceiverBuffersMissing, ReceiverRxFull, ReceiverRxSmall, DescriptorMalformed, HandleUnknown, NotReceiver, TransactionSenderDiffers, TagDiffers, KindDiffers, AlreadyRetrieved, RightTooMuch, EndpointIsAnother, NotOffered, NotHeld, ZerosNotAllowed, BitsTaken, BitsNotTheSenders, BitsNotTheCallers}
+use Rattle.ffa_model.specs.declared.rights.Kind.{Kind}
+use Rattle.ffa_model.specs.declared.rights.Kind.TheVariants.{Share, Lend, Donate}
+use Rattle.ffa_model.specs.declared.transaction.Receiver.{Receiver}
+use Rattle.ffa_model.specs.declared.why.About.{About}
+use Rattle.ffa_model.specs.declared.why.About.TheVariants.{Endpoint, Handle, Bit, Field}
+use Rattle.ffa_model.specs.AboutRegisters.{at_endpoint}
+use Rattle.ffa_model.specs.Bits.{bits_of, high_half, low_half, word_of_halves}
+use Rattle.ffa_model.specs.Calls.{first_refusal}
+use Rattle.ffa_model.specs.DescriptorPlaces.{Versioned, in_version}
+use Rattle.ffa_model.specs.FirstFlaws.{relinquish_flaw, retrieve_flaw, send_flaw}
+use Rattle.ffa_model.specs.FlawPlaces.{field_value, flaw_place}
+use Rattle.ffa_model.specs.MemorySend.{after_transfer, descriptor_in}
+use Rattle.ffa_model.specs.Messages.{MessageHeader, header_in, tx_bytes}
+use Rattle.ffa_model.specs.Notifications.{Notifications, class_of, is_bindable, is_bound, is_unbindable, notifications_of}
+use Rattle.ffa_model.specs.RelinquishDescriptor.{relinquish_of}
+use Rattle.ffa_model.specs.RetrieveDescriptor.{retrieve_of}
+use Rattle.ffa_model.specs.SendDescriptor.{SendRecord, send_of}
+use Rattle.ffa_model.specs.State.{State, Buffers, buffers_of, is_known_among}
+
+-- FFA_MSG_SEND2: the ends that the message's header names
+abbrev pub about_ends : MessageHeader → Refusal → Option About
+about_ends m SenderIsAnother = at_endpoint m.sender
+about_ends m ReceiverUnknown = at_endpoint m.receiver
+about_ends m ReceiverIsCaller = at_endpoint m.receiver
+about_ends m MessagesUnreceived = at_endpoint m.receiver
+about_ends m ReceiverBuffersMissing = at_endpoint m.receiver
+about_ends m ReceiverRxFull = at_endpoint m.receiver
+about_ends m ReceiverRxSmall = at_endpoint m.receiver
+about_ends m refusal = None
+
+-- where the caller has a TX in which one stands
+abbrev pub about_message : Option Buffers → MessageHeader → Refusal → Option About
+about_message None m refusal = None
+about_message (Some own) m refusal = about_ends m refusal
+
+-- A DESCRIPTOR: where the bytes are none, the first condition that they break, with its field
+abbrev pub about_field : Versioned → Flaw → About
+about_field b flaw = Field flaw (flaw_place b flaw) (field_value b.bytes (flaw_place b flaw))
+
+abbrev pub about_flaw : Versioned → Option Flaw → Refusal → Option About
+about_flaw b flaw DescriptorMalformed = option_map (about_field b) flaw
+about_flaw b flaw refusal = None
+
+-- and where they are one, what it names. Of a send the sender, or the first receiver that isn't among so many endpoints
+abbrev pub is_known_receiver : ℕ → Receiver → Bool
+is_known_receiver endpoints r = is_known_among endpoints r.endpoint.0
+
+abbrev pub unknown_receiver : ℕ → List Receiver → Option About
+unknown_receiver endpoints receivers =
+    option_map (λ (r : Receiver). Endpoint r.endpoint) (find (λ r. not (is_known_receiver endpoints r)) receivers)
+
+abbrev pub named_by_send : ℕ → SendRecord → Refusal → Option About
+named_by_send endpoints r SenderIsAnother = at_endpoint r.sender
+named_by_send endpoints r ReceiverUnknown = unknown_receiver endpoints r.receivers
+named_by_send endpoints r refusal = None
+
+abbrev pub named_by_retrieve : RetrieveDesc → Refusal → Option About
+named_by_retrieve d HandleUnknown = Some (Handle d.handle)
+named_by_retrieve d NotReceiver = Some (Handle d.handle)
+named_by_retrieve d TransactionSenderDiffers = Some (Endpoint d.sender)
+named_by_retrieve d TagDiffers = Some (Handle d.handle)
+named_by_retrieve d KindDiffers = Some (Handle d.handle)
+named_by_retrieve d AlreadyRetrieved = Some (Handle d.handle)
+named_by_retrieve d RightTooMuch = Some (Handle d.handle)
+named_by_retrieve d refusal = None
+
+abbrev pub named_by_relinquish : RelinquishDesc → Refusal → Option About
+named_by_relinquish d EndpointIsAnother = Some (Endpoint d.endpoint)
+named_by_relinquish d NotOffered = Some (Handle d.handle)
+named_by_relinquish d NotHeld = Some (Handle d.handle)
+named_by_relinquish d ZerosNotAllowed = Some (Handle d.handle)
+named_by_relinquish d refusal = None
+
+-- either, by the bytes
+abbrev pub about_send : Kind → ℕ → Versioned → Refusal → Option About
+about_send kind endpoints b refusal =
+    option_or (about_flaw b (send_flaw kind b) refusal) (option_and_then (λ r. named_by_send endpoints r refusal) (send_of kind b))
+
+abbrev pub about_retrieve : ℕ → Versioned → Refusal → Option About
+about_retrieve e b refusal =
+    option_or (about_flaw b (retrieve_flaw e b) refusal) (option_and_then (λ d. named_by_retrieve d refusal) (retrieve_of e b))
+
+-- a relinquish has one form in both versions
+abbrev pub about_relinquish : List ℕ → Refusal → Option About
+about_relinquish b refusal =
+    option_or (about_flaw (in_version V1_1 b) (relinquish_flaw b) refusal) (option_and_then (λ d. named_by_relinquish d refusal) (relinquish_of b))
+
+-- where a descriptor stands whole in the TX of e
+abbrev pub where_whole : List (Option Buffers) → ℕ → Transfer → Option About → Option About
+where_whole buffers e x its = if is_none (first_refusal (after_transfer buffers e x [])) then its else None
+
+-- and a relinquish, where there is a TX
+abbrev pub where_mapped : Option Buffers → Option About → Option About
+where_mapped None its = None
+where_mapped (Some own) its = its
+
+-- NOTIFICATIONS: the least bit of a bitmap that fails a test
+abbrev pub first_bit : (ℕ → Bool) → ℕ → Option About
+first_bit test bitmap = option_map (λ k. Bit k) (find (λ k. not (test k)) (bits_of bitmap))
+
+-- by a caller e among so many endpoints, where the other endpoint is one
+abbrev pub about_bind : ℕ → Notifications → ℕ → ℕ → ℕ → Refusal → Option About
+about_bind endpoints n e sender bitmap BitsTaken =
+    if is_known_among endpoints sender then first_bit (is_bindable endpoints n e sender) bitmap else None
+about_bind endpoints n e sender bitmap refusal = None
+
+abbrev pub about_unbind : ℕ → Notifications → ℕ → ℕ → ℕ → Refusal → Option About
+about_unbind endpoints n e sender bitmap BitsNotTheSenders =
+    if is_known_among endpoints sender then first_bit (is_unbindable n e sender) bitmap else None
+about_unbind endpoints n e sender bitmap refusal = None
+
+abbrev pub about_set : ℕ → Notifications → ℕ → ℕ → ℕ → Refusal → Option About
+about_set endpoints n e receiver bitmap BitsNotTheCallers =
+    if is_known_among endpoints receiver then first_bit (λ k. is_bound n receiver (class_of e) k e) bitmap else None
+about_set endpoints n e receiver bitmap refusal = None
+
+abbrev pub about_bits : ℕ → Notifications → ℕ → Call → Refusal → Option About
+about_bits endpoints n e (NotificationBind word flags low high) refusal = about_bind endpoints n e (high_half word) (word_of_halves low high) refusal
+about_bits endpoints n e (NotificationUnbind word flags low high) refusal = about_unbind endpoints n e (high_half word) (word_of_halves low high) refusal
+about_bits endpoints n e (NotificationSet word flags low high) refusal = about_set endpoints n e (low_half word) (word_of_halves low high) refusal
+about_bits endpoints n e call refusal = None
+
+-- ON A STATE
+abbrev pub about_sent : State → Kind → Transfer → Refusal → Option About
+about_sent s kind x refusal = where_whole s.buffers s.runner x (about_send kind (length s.parties) (descriptor_in s x.total) refusal)
+
+abbrev pub about_retrieved : State → Transfer → Refusal → Option About
+about_retrieved s x refusal = where_whole s.buffers s.runner x (about_retrieve s.runner (descriptor_in s x.total) refusal)
+
+abbrev pub about_relinquished : State → Refusal → Option About
+about_relinquished s refusal = where_mapped (buffers_of s s.runner) (about_relinquish (tx_bytes s s.runner) refusal)
+
+abbrev pub about_contents : State → Call → Refusal → Option About
+about_contents s MsgSend2 refusal = about_message (buffers_of s s.runner) (header_in (tx_bytes s s.runner)) refusal
+about_contents s (MemDonate x) refusal = about_sent s Donate x refusal
+about_contents s (MemLend x) refusal = about_sent s Lend x refusal
+about_contents s (MemShare x) refusal = about_sent s Share x refusal
+about_contents s (MemRetrieve x) refusal = about_retrieved s x refusal
+about_contents s MemRelinquish refusal = about_relinquished s refusal
+about_contents s call refusal = about_bits (length s.parties) (notifications_of s) s.runner call refusal

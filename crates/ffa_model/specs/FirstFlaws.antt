@@ -1,0 +1,125 @@
+-- The conditions of descriptors in an order, and the first that bytes break: where one fails, `Flaws` says what is so.
+use Rattle.std.specs.Prelude.{ℕ, zero, suc, ◌+◌, ◌*◌, ◌%◌, ◌^◌, ◌==◌, Bool, not, ◌||◌, nat_le, List, [], ◌∷◌, length, Option, Some, None, if◌then◌else◌}
+use Rattle.std.specs.List.{list_all}
+use Rattle.std.specs.Option.{option_or}
+use Rattle.ffa_model.specs.declared.flaw.Flaw.{Flaw}
+use Rattle.ffa_model.specs.declared.flaw.Flaw.TheVariants.{Header, Send, Access, Composite, Range, Retrieve, Relinquish}
+use Rattle.ffa_model.specs.declared.flaw.HeaderFlaw.TheVariants.{Short, AccessSize, ArrayUnaligned, ArrayInHeader, ArrayOutside, Reserved as HeaderReserved}
+use Rattle.ffa_model.specs.declared.flaw.SendFlaw.TheVariants.{Attributes, Flags, Handle, NoReceiver, ManyReceivers}
+use Rattle.ffa_model.specs.declared.flaw.AccessFlaw.TheVariants.{Permissions, Flags as AccessFlags, OtherComposite, Reserved as AccessReserved, ReceiverIsSender, ReceiverTwice}
+use Rattle.ffa_model.specs.declared.flaw.CompositeFlaw.TheVariants.{Outside, Unaligned, InArray, NoRange, ManyRanges, Reserved as CompositeReserved, RangesOutside, Total}
+use Rattle.ffa_model.specs.declared.flaw.RangeFlaw.TheVariants.{Empty, Unaligned as RangeUnaligned, TooHigh, Reserved as RangeReserved, Overlap}
+use Rattle.ffa_model.specs.declared.flaw.RetrieveFlaw.TheVariants.{Attributes as AskedAttributes, Flags as AskedFlags, AccessCount, ReceiverIsAnother, DataPermission, InstructionPermission, PermissionsReserved, AccessFlags as AskedAccessFlags, CompositeTold, AccessReserved as AskedAccessReserved}
+use Rattle.ffa_model.specs.declared.flaw.RelinquishFlaw.TheVariants.{Short as RelinquishShort, Flags as RelinquishFlags, EndpointCount}
+use Rattle.ffa_model.specs.declared.limits.TheConstants.{MOST_RANGES}
+use Rattle.ffa_model.specs.declared.rights.Kind.{Kind}
+use Rattle.ffa_model.specs.Bits.{bits}
+use Rattle.ffa_model.specs.DescriptorPlaces.{Versioned, u32_at, u64_at, header_size, told_access_size, is_rest_zero, sender_field, attributes_field, flags_field, handle_field, receiver_count, array_place, array_end, access_place, endpoint_field, permissions_field, access_flags_field, composite_field, access_reserved_field, composite_place, total_field, range_count, range_place, normal_memory}
+use Rattle.ffa_model.specs.SendDescriptor.{attributes_of, most_flags, most_receivers, is_grant, is_named, receivers_in, are_apart, range_in, range_end, ranges_in, page_total}
+use Rattle.ffa_model.specs.RetrieveDescriptor.{asked_permissions}
+
+-- a condition, and the flaw where it fails
+abbrev pub first_broken : List (Bool × Flaw) → Option Flaw
+first_broken [] = None
+first_broken (condition ∷ conditions) = if condition.0 then first_broken conditions else Some condition.1
+
+-- the first of the flaws at the first n indexes
+abbrev pub first_of : ℕ → (ℕ → Option Flaw) → Option Flaw
+first_of zero flaw = None
+first_of (suc n) flaw = option_or (flaw 0) (first_of n (λ i. flaw (suc i)))
+
+-- OF A HEADER
+unfoldable pub header_flaw : Versioned → Option Flaw
+header_flaw b =
+    first_broken ((nat_le (header_size b.version) (length b.bytes), Header Short)
+    ∷ (u32_at b.bytes 24 == told_access_size b.version, Header AccessSize)
+    ∷ (array_place b % 16 == 0, Header ArrayUnaligned)
+    ∷ (nat_le (header_size b.version) (array_place b), Header ArrayInHeader)
+    ∷ (nat_le (array_end b) (length b.bytes), Header ArrayOutside)
+    ∷ (is_rest_zero b.version b.bytes, Header HeaderReserved)
+    ∷ [])
+
+-- OF A SEND of this kind, behind its header: the header's fields, the access descriptors one by one, the composite, its ranges
+-- one by one, and their sum
+unfoldable pub send_header_flaw : Kind → Versioned → Option Flaw
+send_header_flaw kind b =
+    first_broken ((attributes_field b == attributes_of kind (receiver_count b), Send Attributes)
+    ∷ (nat_le (flags_field b) (most_flags kind), Send Flags)
+    ∷ (handle_field b == 0, Send Handle)
+    ∷ (nat_le 1 (receiver_count b), Send NoReceiver)
+    ∷ (nat_le (receiver_count b) (most_receivers kind), Send ManyReceivers)
+    ∷ [])
+
+-- access descriptor i
+unfoldable pub access_flaw : Kind → Versioned → ℕ → Option Flaw
+access_flaw kind b i =
+    first_broken ((is_grant kind (permissions_field b.bytes (access_place b i)), Access i Permissions)
+    ∷ (access_flags_field b.bytes (access_place b i) == 0, Access i AccessFlags)
+    ∷ (composite_field b.bytes (access_place b i) == composite_place b, Access i OtherComposite)
+    ∷ (access_reserved_field b.bytes (access_place b i) == 0, Access i AccessReserved)
+    ∷ (not (endpoint_field b.bytes (access_place b i) == sender_field b), Access i ReceiverIsSender)
+    ∷ (not (is_named (endpoint_field b.bytes (access_place b i)) (receivers_in b i)), Access i ReceiverTwice)
+    ∷ [])
+
+unfoldable pub composite_flaw : Versioned → Option Flaw
+composite_flaw b =
+    first_broken ((nat_le (range_place b 0) (length b.bytes), Composite Outside)
+    ∷ (composite_place b % 16 == 0, Composite Unaligned)
+    ∷ (nat_le (array_end b) (composite_place b), Composite InArray)
+    ∷ (nat_le 1 (range_count b), Composite NoRange)
+    ∷ (nat_le (range_count b) MOST_RANGES, Composite ManyRanges)
+    ∷ (u64_at b.bytes (composite_place b + 8) == 0, Composite CompositeReserved)
+    ∷ (nat_le (range_place b (range_count b)) (length b.bytes), Composite RangesOutside)
+    ∷ [])
+
+-- range i
+unfoldable pub range_flaw : Versioned → ℕ → Option Flaw
+range_flaw b i =
+    first_broken ((nat_le 1 (range_in b i).pages, Range i Empty)
+    ∷ ((range_in b i).address % 4096 == 0, Range i RangeUnaligned)
+    ∷ (nat_le (range_end (range_in b i)) (2 ^ 48), Range i TooHigh)
+    ∷ (u32_at b.bytes (range_place b i + 12) == 0, Range i RangeReserved)
+    ∷ (list_all (are_apart (range_in b i)) (ranges_in b i), Range i Overlap)
+    ∷ [])
+
+unfoldable pub total_flaw : Versioned → Option Flaw
+total_flaw b = first_broken ((page_total (ranges_in b (range_count b)) == total_field b, Composite Total) ∷ [])
+
+-- the first condition of a send descriptor of this kind that the bytes break
+unfoldable pub send_flaw : Kind → Versioned → Option Flaw
+send_flaw kind b =
+    option_or (header_flaw b)
+    (option_or (send_header_flaw kind b)
+    (option_or (first_of (receiver_count b) (access_flaw kind b))
+    (option_or (composite_flaw b)
+    (option_or (first_of (range_count b) (range_flaw b)) (total_flaw b)))))
+
+-- OF A RETRIEVE for this endpoint: the header's fields, and the one access descriptor
+unfoldable pub asked_header_flaw : Versioned → Option Flaw
+asked_header_flaw b =
+    first_broken (((attributes_field b == 0) || (attributes_field b == normal_memory), Retrieve AskedAttributes)
+    ∷ (flags_field b == 8 * bits 4 3 (flags_field b), Retrieve AskedFlags)
+    ∷ (receiver_count b == 1, Retrieve AccessCount)
+    ∷ [])
+
+unfoldable pub asked_access_flaw : ℕ → Versioned → Option Flaw
+asked_access_flaw endpoint b =
+    first_broken ((endpoint_field b.bytes (array_place b) == endpoint, Retrieve ReceiverIsAnother)
+    ∷ (not (bits 1 0 (asked_permissions b) == 3), Retrieve DataPermission)
+    ∷ (not (bits 3 2 (asked_permissions b) == 3), Retrieve InstructionPermission)
+    ∷ (bits 7 4 (asked_permissions b) == 0, Retrieve PermissionsReserved)
+    ∷ (access_flags_field b.bytes (array_place b) == 0, Retrieve AskedAccessFlags)
+    ∷ (composite_field b.bytes (array_place b) == 0, Retrieve CompositeTold)
+    ∷ (access_reserved_field b.bytes (array_place b) == 0, Retrieve AskedAccessReserved)
+    ∷ [])
+
+unfoldable pub retrieve_flaw : ℕ → Versioned → Option Flaw
+retrieve_flaw endpoint b = option_or (header_flaw b) (option_or (asked_header_flaw b) (asked_access_flaw endpoint b))
+
+-- OF A RELINQUISH
+unfoldable pub relinquish_flaw : List ℕ → Option Flaw
+relinquish_flaw b =
+    first_broken ((nat_le 18 (length b), Relinquish RelinquishShort)
+    ∷ (nat_le (u32_at b 8) 1, Relinquish RelinquishFlags)
+    ∷ (u32_at b 12 == 1, Relinquish EndpointCount)
+    ∷ [])
