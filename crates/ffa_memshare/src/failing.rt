@@ -1,9 +1,11 @@
-//! The first page that a send names and that fails one of its checks.
-ghost use Rattle.std.specs.Prelude.{◌≡◌, ◌<◌, ◌&&◌, ℕ, Some, length, not};
+//! The first page that fails a check of a send or a reclaim.
+ghost use Rattle.std.specs.Prelude.{◌≡◌, ◌<◌, ◌&&◌, ℕ, [], Some, length, not};
+ghost use Rattle.std.specs.FinMap as finite;
 ghost use Rattle.std.specs.List.{list_all};
 ghost use Rattle.ffa_model.specs.declared.transaction.Receiver.{Receiver as Named};
-ghost use Rattle.ffa_model.specs.About.{failing_offer, failing_send, passes};
+ghost use Rattle.ffa_model.specs.About.{failing_offer, failing_reclaim, failing_send, first_unwritable, passes};
 ghost use Rattle.ffa_model.specs.Buffers.{buffers_in};
+ghost use Rattle.ffa_model.specs.MemoryReturn.{named_ranges};
 ghost use Rattle.ffa_model.specs.MemorySend.{is_buffer, is_grantable, is_sendable};
 ghost use Rattle.ffa_model.specs.Rights.{may_store};
 ghost use Rattle.ffa_model.specs.SendDescriptor.{send_of, send_record};
@@ -12,12 +14,15 @@ ghost use Rattle.ffa_rxtx.specs.Parts.{IsInRam, candidates_in};
 ghost use Rattle.ffa_memshare.specs.Named.{own_rights_in};
 ghost use Rattle.ffa_memshare.specs.Ranges.{in_range, in_ranges};
 ghost use Rattle.ffa_memshare.specs.Scenes.{descriptor_in};
+ghost use Rattle.ffa_memshare.specs.Stored.{map_in};
 
 use crate::checks::send::is_own;
 use crate::descriptor_call::DescriptorCall;
 use crate::page_run::read_send;
+use crate::pool::Pool;
+use arrayvec::ArrayVec;
 use ffa_model::{
-    Address, Data, EndpointId, Kind, PageNo, Range, Receiver, Refusal, Rights, SendDesc,
+    Address, Data, EndpointId, Kind, MOST_RANGES, PageNo, Range, Receiver, Refusal, Rights, SendDesc,
 };
 use ffa_pages::PageTable;
 use ffa_physmem::PhysMem;
@@ -106,6 +111,50 @@ fn passes(
         Refusal::ZerosUnwritable => may_store(pages.own_right_of(page)),
         _ => true,
     }
+}
+
+/// The page that a check of FFA_MEM_RECLAIM of the transaction with this handle is about, where it fails: the first of its pages
+/// that its owner may not write, in the RAM from `base` on.
+pub fn failing_reclaim(
+    pool: &Pool,
+    pages: &PageTable,
+    base: Address,
+    handle: u64,
+    refusal: Refusal,
+) -> Option<PageNo>
+    ensures { result ≡ failing_reclaim (own_rights_in pages.now base.0) (finite.get (map_in pool.now.slots) handle) refusal }
+{
+    match refusal {
+        Refusal::ZerosUnwritable => {
+            let mut ranges = ArrayVec::new();
+            list_ranges(pool, handle, &mut ranges);
+            first_unwritable(ranges.as_slice(), pages, base)
+        }
+        _ => None,
+    }
+}
+
+// Puts the ranges of the transaction with this handle into an empty list, if it is open.
+fn list_ranges(pool: &Pool, handle: u64, ranges: &mut ArrayVec<Range, MOST_RANGES>)
+    requires { ranges.old.items ≡ [] }
+    ensures { ranges.new.items ≡ named_ranges (finite.get (map_in pool.now.slots) handle) }
+{
+    if let Some(slot) = pool.find(handle) {
+        pool.at(slot).ranges.list_in(ranges);
+    }
+}
+
+// The first page of these ranges that its owner may not write.
+fn first_unwritable(ranges: &[Range], pages: &PageTable, base: Address) -> Option<PageNo>
+    ensures { result ≡ first_unwritable (own_rights_in pages.now base.0) ranges.now }
+{
+    for number in 0..pages.pages() {
+        let page = PageNo(number);
+        if is_in_any(ranges, base, page) && !may_store(pages.own_right_of(page)) {
+            return Some(page);
+        }
+    }
+    None
 }
 
 // Whether one of these ranges has a page.

@@ -1,10 +1,11 @@
 //! Bytes that stand in pages in a row.
 ghost use Rattle.std.specs.Prelude.{◌≡◌, ℕ, ◌+◌, ◌*◌, ◌≤◌, length, IfOk, IfErr, IfSome};
 ghost use Rattle.std.specs.Option.{option_map};
-ghost use Rattle.std.specs.Result.{result_ok};
+ghost use Rattle.std.specs.Result.{result_err, result_ok};
 ghost use Rattle.ffa_model.specs.DescriptorPlaces.{in_version};
 ghost use Rattle.ffa_model.specs.RelinquishDescriptor.{relinquish_of};
 ghost use Rattle.ffa_model.specs.RetrieveDescriptor.{retrieve_of};
+ghost use Rattle.ffa_model.specs.FirstFlaws.{relinquish_flaw, retrieve_flaw, send_flaw};
 ghost use Rattle.ffa_model.specs.Flaws.{SendBreaks, RetrieveBreaks, RelinquishBreaks};
 ghost use Rattle.ffa_model.specs.SendDescriptor.{Send, send_of, send_record};
 
@@ -83,7 +84,7 @@ impl<'m, M: PhysMem> Bytes for PageRun<'m, M> {
     }
 }
 
-/// What the bytes say as a send descriptor of this kind, from a caller of this version; else a
+/// What the bytes say as a send descriptor of this kind, from a caller of this version; else the first
 /// condition that they break. In one page they are read as a slice.
 pub(crate) fn read_send<M: PhysMem>(
     bytes: &PageRun<M>,
@@ -93,6 +94,7 @@ pub(crate) fn read_send<M: PhysMem>(
     ensures found { IfOk result (λ d. Send kind (in_version version bytes.now) (send_record d)) }
     ensures computed { option_map send_record (result_ok result) ≡ send_of kind (in_version version bytes.now) }
     ensures broken { IfErr result (SendBreaks kind (in_version version bytes.now)) }
+    ensures first { result_err result ≡ send_flaw kind (in_version version bytes.now) }
 {
     match bytes.in_one_page() {
         Some(page) => ffa_memdesc::read_send(&page, version, kind),
@@ -108,6 +110,7 @@ pub(crate) fn read_retrieve<M: PhysMem>(
 ) -> Result<RetrieveDesc, Flaw>
     ensures computed { result_ok result ≡ retrieve_of endpoint.0 (in_version version bytes.now) }
     ensures broken { IfErr result (RetrieveBreaks endpoint.0 (in_version version bytes.now)) }
+    ensures first { result_err result ≡ retrieve_flaw endpoint.0 (in_version version bytes.now) }
 {
     match bytes.in_one_page() {
         Some(page) => ffa_memdesc::read_retrieve(&page, version, endpoint),
@@ -119,6 +122,7 @@ pub(crate) fn read_retrieve<M: PhysMem>(
 pub(crate) fn read_relinquish<M: PhysMem>(bytes: &PageRun<M>) -> Result<RelinquishDesc, Flaw>
     ensures computed { result_ok result ≡ relinquish_of bytes.now }
     ensures broken { IfErr result (RelinquishBreaks bytes.now) }
+    ensures first { result_err result ≡ relinquish_flaw bytes.now }
 {
     match bytes.in_one_page() {
         Some(page) => ffa_memdesc::read_relinquish(&page),

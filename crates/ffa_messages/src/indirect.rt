@@ -1,6 +1,7 @@
 //! Indirect messages (DEN0077A, 7.1 and 15).
 ghost use Rattle.std.specs.Prelude.{◌≡◌, ◌+◌, ◌*◌, ◌≤◌, length, map, take, true, is_some, Some, OnOk, OnErr, IfOk, IsSomeAnd};
 ghost use Rattle.std.specs.Result.{result_err};
+ghost use Rattle.ffa_model.specs.AboutContents.{about_ends, about_message};
 ghost use Rattle.ffa_model.specs.Buffers.{buffers_in, buffers_with_rx, room_of};
 ghost use Rattle.ffa_model.specs.Calls.{first_failure, first_refusal};
 ghost use Rattle.ffa_model.specs.First.{party_of};
@@ -13,7 +14,7 @@ ghost use Rattle.ffa_messages.specs.Parts.{AreEndsApart, AreInRam, IsBeside, end
 
 use crate::parties::has_indirect_messages;
 use byteorder::{ByteOrder, LittleEndian};
-use ffa_model::{EndpointId, ErrorCode, Manifest, PageNo, Refusal};
+use ffa_model::{About, EndpointId, ErrorCode, Manifest, PageNo, Refusal};
 use ffa_physmem::{PAGE_SIZE, PhysMem};
 use ffa_rxtx::{Buffers, Mapped};
 
@@ -117,6 +118,22 @@ impl MessageHeader {
         }
         Ok(())
     }
+
+    // Which of its ends a check that fails is about.
+    fn about(&self, refusal: Refusal) -> Option<About>
+        ensures { result ≡ about_ends (header_of self.now) refusal }
+    {
+        match refusal {
+            Refusal::SenderIsAnother => Some(About::Endpoint(self.sender)),
+            Refusal::ReceiverUnknown
+            | Refusal::ReceiverIsCaller
+            | Refusal::MessagesUnreceived
+            | Refusal::ReceiverBuffersMissing
+            | Refusal::ReceiverRxFull
+            | Refusal::ReceiverRxSmall => Some(About::Endpoint(self.receiver)),
+            _ => None,
+        }
+    }
 }
 
 /// An indirect message that passes the checks of FFA_MSG_SEND2: where it stands, for whom it is, and how long.
@@ -205,6 +222,22 @@ pub fn check_send2<M: PhysMem>(
         receiver: header.receiver,
         size: header.end(),
     })
+}
+
+/// Which end that the header in its TX names a check of FFA_MSG_SEND2 of an endpoint is about, where it fails.
+pub fn about_message<M: PhysMem>(
+    ram: &M,
+    buffers: &Buffers,
+    caller: EndpointId,
+    refusal: Refusal,
+) -> Option<About>
+    requires { AreInRam (length (M.ram ram.now).pages) buffers.now }
+    ensures { result ≡ about_message (buffers_in buffers.now caller.0) (header_in (sent_in (M.ram ram.now) buffers.now caller.0)) refusal }
+{
+    match buffers.of(caller) {
+        Some(from) => read_header(ram, &from).about(refusal),
+        None => None,
+    }
 }
 
 // The header in TX of these buffers.

@@ -6,4 +6,4 @@ mod indirect;
 mod parties;
 
 pub use direct::{DirectMessage, check_direct_req, check_direct_resp, direct_req, direct_resp};
-pub use indirect::{IndirectMessage, check_send2, send2};
+pub use indirect::{IndirectMessage, about_message, check_send2, send2};

@@ -10,6 +10,7 @@ use Rattle.ffa_model.specs.declared.refusal.Refusal.{Refusal}
 use Rattle.ffa_model.specs.declared.refusal.Refusal.TheVariants.{TxUnusable, RxUnusable, PageUnsendable, GrantTooMuch, ZerosUnwritable}
 use Rattle.ffa_model.specs.declared.rights.Kind.{Kind}
 use Rattle.ffa_model.specs.declared.rights.Kind.TheVariants.{Share, Lend, Donate}
+use Rattle.ffa_model.specs.declared.transaction.Range.{Range}
 use Rattle.ffa_model.specs.declared.why.About.{About}
 use Rattle.ffa_model.specs.declared.why.About.TheVariants.{Page}
 use Rattle.ffa_model.specs.AboutContents.{about_contents}
@@ -59,8 +60,11 @@ failing_send e ram own_rights buffers x r refusal =
     if is_none (first_refusal (after_transfer buffers e x [])) then option_and_then (failing_offer e ram own_rights buffers refusal) r else None
 
 -- FFA_MEM_RECLAIM: the least page of RAM that the transaction names and that its owner may not write
+abbrev pub first_unwritable : OwnRights → List Range → Option PageNo
+first_unwritable own_rights ranges = first_failing (λ p. may_store (own_rights.right p)) (pages_in own_rights ranges)
+
 abbrev pub failing_reclaim : OwnRights → Option Transaction → Refusal → Option PageNo
-failing_reclaim own_rights t ZerosUnwritable = first_failing (λ p. may_store (own_rights.right p)) (pages_in own_rights (named_ranges t))
+failing_reclaim own_rights t ZerosUnwritable = first_unwritable own_rights (named_ranges t)
 failing_reclaim own_rights t refusal = None
 
 -- ON A STATE

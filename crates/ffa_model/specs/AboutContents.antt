@@ -1,7 +1,7 @@
 -- What a check that fails is about, where a message's header or a descriptor tells it, and where it is a notification's bit
 -- (DEN0077A, 5.11, 7.1, 10 and 16).
 use Rattle.std.specs.Prelude.{ℕ, Bool, not, is_none, find, List, [], length, Option, Some, None, if◌then◌else◌}
-use Rattle.std.specs.Option.{option_and_then, option_map, option_or}
+use Rattle.std.specs.Option.{option_and_then, option_map}
 use Rattle.ffa_model.specs.declared.call.Call.{Call}
 use Rattle.ffa_model.specs.declared.call.Call.TheVariants.{MsgSend2, MemDonate, MemLend, MemShare, MemRetrieve, MemRelinquish, NotificationBind, NotificationUnbind, NotificationSet}
 use Rattle.ffa_model.specs.declared.call.Transfer.{Transfer}
@@ -50,9 +50,9 @@ about_message (Some own) m refusal = about_ends m refusal
 abbrev pub about_field : Versioned → Flaw → About
 about_field b flaw = Field flaw (flaw_place b flaw) (field_value b.bytes (flaw_place b flaw))
 
-abbrev pub about_flaw : Versioned → Option Flaw → Refusal → Option About
-about_flaw b flaw DescriptorMalformed = option_map (about_field b) flaw
-about_flaw b flaw refusal = None
+abbrev pub if_malformed : Refusal → About → Option About
+if_malformed DescriptorMalformed its = Some its
+if_malformed refusal its = None
 
 -- and where they are one, what it names. Of a send the sender, or the first receiver that isn't among so many endpoints
 abbrev pub is_known_receiver : ℕ → Receiver → Bool
@@ -84,19 +84,23 @@ named_by_relinquish d NotHeld = Some (Handle d.handle)
 named_by_relinquish d ZerosNotAllowed = Some (Handle d.handle)
 named_by_relinquish d refusal = None
 
--- either, by the bytes
+-- either, by the first condition that the bytes break, if they do
+abbrev pub about_bytes : Versioned → Option Flaw → Option About → Refusal → Option About
+about_bytes b (Some flaw) named refusal = if_malformed refusal (about_field b flaw)
+about_bytes b None named refusal = named
+
 abbrev pub about_send : Kind → ℕ → Versioned → Refusal → Option About
 about_send kind endpoints b refusal =
-    option_or (about_flaw b (send_flaw kind b) refusal) (option_and_then (λ r. named_by_send endpoints r refusal) (send_of kind b))
+    about_bytes b (send_flaw kind b) (option_and_then (λ r. named_by_send endpoints r refusal) (send_of kind b)) refusal
 
 abbrev pub about_retrieve : ℕ → Versioned → Refusal → Option About
 about_retrieve e b refusal =
-    option_or (about_flaw b (retrieve_flaw e b) refusal) (option_and_then (λ d. named_by_retrieve d refusal) (retrieve_of e b))
+    about_bytes b (retrieve_flaw e b) (option_and_then (λ d. named_by_retrieve d refusal) (retrieve_of e b)) refusal
 
 -- a relinquish has one form in both versions
 abbrev pub about_relinquish : List ℕ → Refusal → Option About
 about_relinquish b refusal =
-    option_or (about_flaw (in_version V1_1 b) (relinquish_flaw b) refusal) (option_and_then (λ d. named_by_relinquish d refusal) (relinquish_of b))
+    about_bytes (in_version V1_1 b) (relinquish_flaw b) (option_and_then (λ d. named_by_relinquish d refusal) (relinquish_of b)) refusal
 
 -- where a descriptor stands whole in the TX of e
 abbrev pub where_whole : List (Option Buffers) → ℕ → Transfer → Option About → Option About
