@@ -10,6 +10,7 @@ ghost use Rattle.ffa_model.specs.MemorySend.{is_buffer, is_grantable, is_sendabl
 ghost use Rattle.ffa_model.specs.Rights.{may_store};
 ghost use Rattle.ffa_model.specs.SendDescriptor.{send_of, send_record};
 ghost use Rattle.ffa_model.specs.State.{Buffers as Own};
+ghost use Rattle.ffa_pages.specs.Entry.{own_right_at};
 ghost use Rattle.ffa_rxtx.specs.Parts.{IsInRam, candidates_in};
 ghost use Rattle.ffa_memshare.specs.Named.{own_rights_in};
 ghost use Rattle.ffa_memshare.specs.Ranges.{in_range, in_ranges};
@@ -22,7 +23,8 @@ use crate::page_run::read_send;
 use crate::pool::Pool;
 use arrayvec::ArrayVec;
 use ffa_model::{
-    Address, Data, EndpointId, Kind, MOST_RANGES, PageNo, Range, Receiver, Refusal, Rights, SendDesc,
+    Address, Data, EndpointId, Kind, MOST_RANGES, PageNo, Range, Receiver, Refusal, Rights,
+    SendDesc,
 };
 use ffa_pages::PageTable;
 use ffa_physmem::PhysMem;
@@ -150,11 +152,19 @@ fn first_unwritable(ranges: &[Range], pages: &PageTable, base: Address) -> Optio
 {
     for number in 0..pages.pages() {
         let page = PageNo(number);
-        if is_in_any(ranges, base, page) && !may_store(pages.own_right_of(page)) {
+        if is_unwritable(ranges, pages, base, page) {
             return Some(page);
         }
     }
     None
+}
+
+// Whether a page stands in one of these ranges and its owner may not write it.
+fn is_unwritable(ranges: &[Range], pages: &PageTable, base: Address, page: PageNo) -> bool
+    requires { page.0 < length pages.now }
+    ensures { result ≡ (in_ranges base.0 ranges.now page.0 && not (may_store (own_right_at pages.now page.0))) }
+{
+    is_in_any(ranges, base, page) && !may_store(pages.own_right_of(page))
 }
 
 // Whether one of these ranges has a page.

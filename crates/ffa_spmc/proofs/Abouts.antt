@@ -1,28 +1,41 @@
 -- What a check that fails is about: the code sees of the machine's parts what the definition sees of its state.
-use Rattle.std.proofs.Common.{◌≡◌, ◌∙◌, ℕ, take, Option, sym, ap}
+use Rattle.std.proofs.Common.{◌≡◌, ◌∙◌, ℕ, length, take, Option, sym, ap}
+use Rattle.std.specs.FinMap as finite
 use Rattle.ffa_memshare.specs.declared.descriptor_call.DescriptorCall.{DescriptorCall}
 use Rattle.ffa_memshare.specs.Named.{own_rights_in}
 use Rattle.ffa_memshare.specs.Scenes.{descriptor_in}
-use Rattle.ffa_model.specs.declared.endpoint.PageNo.{PageNo}
+use Rattle.ffa_memshare.specs.Stored.{map_in}
+use Rattle.ffa_messages.specs.Parts.{sent_in}
+use Rattle.ffa_model.specs.declared.call.Call.{Call}
 use Rattle.ffa_model.specs.declared.refusal.Refusal.{Refusal}
 use Rattle.ffa_model.specs.declared.rights.Kind.{Kind}
-use Rattle.ffa_model.specs.About.{failing_map, failing_send, failing_sent}
-use Rattle.ffa_model.specs.Buffers.{candidates}
+use Rattle.ffa_model.specs.About.{failing_map, failing_reclaim, failing_send, failing_sent}
+use Rattle.ffa_model.specs.AboutContents.{about_bits, about_message, about_relinquish, about_relinquished, about_retrieve, about_retrieved, about_send, about_sent, where_mapped, where_whole}
+use Rattle.ffa_model.specs.Buffers.{buffers_in, candidates}
 use Rattle.ffa_model.specs.DescriptorPlaces.{in_version}
 use Rattle.ffa_model.specs.First.{first}
+use Rattle.ffa_model.specs.Messages.{header_in, tx_bytes}
+use Rattle.ffa_model.specs.Notifications.{notifications_of}
 use Rattle.ffa_model.specs.SendDescriptor.{send_of}
-use Rattle.ffa_model.specs.State.{State, version_of}
-use Rattle.ffa_rxtx.specs.Parts.{candidates_in}
+use Rattle.ffa_model.specs.State.{State, buffers_of, transaction_of, version_of}
+use Rattle.ffa_model.specs.Transactions.{handle_of, own_rights_of}
+use Rattle.ffa_rxtx.specs.Parts.{candidates_in, tx_in}
 use Rattle.ffa_spmc.specs.Managed.{Managed}
 use Rattle.ffa_spmc.specs.Meaning.{IsManager, Parts, state_of}
 use Rattle.ffa_spmc.proofs.Candidates.{candidates-are}
+use Rattle.ffa_spmc.proofs.Notified.{each-bitmap}
 use Rattle.ffa_spmc.proofs.Pools.{own_rights-are}
 use Rattle.ffa_spmc.proofs.Replied.{managed_of}
 use Rattle.ffa_spmc.proofs.Sends.{sent-is}
 
 -- what is so of the parts is so of what contracts see
-pub seen-failing : (x : Parts) (now : Managed) → managed_of x ≡ now → (c : State → Option PageNo) (o : Option PageNo) → o ≡ c (state_of x) → o ≡ c now.state
-seen-failing x now view c o is = is ∙ ap (λ (m : Managed). c m.state) view
+pub seen-in : {X : Type 0} (x : Parts) (now : Managed) → managed_of x ≡ now → (c : State → X) (o : X) → o ≡ c (state_of x) → o ≡ c now.state
+seen-in x now view c o is = is ∙ ap (λ (m : Managed). c m.state) view
+
+module _ (x : Parts) (machine : IsManager x) (refusal : Refusal) where
+  pub reclaim-failing : (low high h : ℕ) → h ≡ handle_of high low
+      → failing_reclaim (own_rights_in x.kept.pages x.manifest.ram_base.0) (finite.get (map_in x.kept.pool.slots) h) refusal ≡ failing_reclaim (own_rights_of (state_of x)) (transaction_of (state_of x) (handle_of high low)) refusal
+  reclaim-failing low high h handle = λ i. failing_reclaim (own_rights-are x machine i) (transaction_of (state_of x) (handle i)) refusal
 
 -- the code's runner is that of the run states
 module _ (x : Parts) (machine : IsManager x) (e : ℕ) (at : e ≡ x.kept.chain.runner) (refusal : Refusal) where
@@ -41,3 +54,27 @@ module _ (x : Parts) (machine : IsManager x) (e : ℕ) (at : e ≡ x.kept.chain.
   sent-failing call spoken kind =
       λ i. failing_send (at i) (sym (candidates-are x machine) i) (own_rights-are x machine i) x.kept.buffers call.transfer
       (send_of kind (in_version (spoken i) (take call.transfer.total (sent-is x machine e at i)))) refusal
+
+  pub message-told : about_message (buffers_in x.kept.buffers e) (header_in (sent_in x.ram x.kept.buffers e)) refusal ≡ about_message (buffers_of s s.runner) (header_in (tx_bytes s s.runner)) refusal
+  unfolding first
+  message-told = λ i. about_message (buffers_in x.kept.buffers (at i)) (header_in (sent-is x machine e at i)) refusal
+
+  pub relinquish-told : where_mapped (buffers_in x.kept.buffers e) (about_relinquish (tx_in x.ram (buffers_in x.kept.buffers e)) refusal) ≡ about_relinquished s refusal
+  unfolding first
+  relinquish-told = λ i. where_mapped (buffers_in x.kept.buffers (at i)) (about_relinquish (sent-is x machine e at i) refusal)
+
+  pub bits-told : (call : Call) → about_bits (length x.kept.bitmaps.bitmaps) x.kept.bitmaps e call refusal ≡ about_bits (length s.parties) (notifications_of s) s.runner call refusal
+  unfolding first
+  bits-told call = λ i. about_bits (each-bitmap x machine i) x.kept.bitmaps (at i) call refusal
+
+  module _ (call : DescriptorCall) (spoken : call.version ≡ version_of (state_of x) (state_of x).runner) where
+    pub sent-told : (kind : Kind) (endpoints : ℕ) → endpoints ≡ length (state_of x).parties
+        → where_whole x.kept.buffers e call.transfer (about_send kind endpoints (descriptor_in x.ram x.kept.buffers e call) refusal) ≡ about_sent s kind call.transfer refusal
+    unfolding first
+    sent-told kind endpoints number =
+        λ i. where_whole x.kept.buffers (at i) call.transfer (about_send kind (number i) (in_version (spoken i) (take call.transfer.total (sent-is x machine e at i))) refusal)
+
+    pub retrieve-told : where_whole x.kept.buffers e call.transfer (about_retrieve e (descriptor_in x.ram x.kept.buffers e call) refusal) ≡ about_retrieved s call.transfer refusal
+    unfolding first
+    retrieve-told =
+        λ i. where_whole x.kept.buffers (at i) call.transfer (about_retrieve (at i) (in_version (spoken i) (take call.transfer.total (sent-is x machine e at i))) refusal)

@@ -20,6 +20,7 @@ mod abouts;
 mod accesses;
 mod buffers;
 mod certificates;
+mod contents;
 mod forgetting;
 mod memory;
 mod messages;

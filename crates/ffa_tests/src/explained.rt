@@ -1,9 +1,12 @@
-//! Why an operation is refused, as it is printed under its text: for most checks of each call a trace whose last line fails at that
-//! check and at none before it. Those that are missing no trace of this machine reaches, but for the ceilings on open transactions and handles.
+//! Why an operation is refused, as it is printed under its text: for each check of each call a trace whose last line fails at that
+//! check and at none before it. Missing are the checks that no trace here reaches: the fourth of FFA_RUN, since nobody is blocked
+//! while the normal world runs, and that the handles of a sender are used up, which takes as many sends.
 use crate::checks::holds_at;
 use crate::machines::booted;
+use crate::manifest::ROW;
 use ffa_lines::{Form, play};
-use ffa_model::row_machine;
+use ffa_manifest::read;
+use ffa_model::{Manifest, row_machine};
 use ffa_trace::Player;
 use std::alloc::Global;
 use std::process::Abort;
@@ -60,20 +63,20 @@ call 8400007F 0 0 1;FFA_NOTIFICATION_BIND check 3: the sender is the caller: end
 call 8400007F 80010000 1 1;FFA_NOTIFICATION_BIND check 4: a flag is set that has to be 0: w2 is 00000001
 call 8400007F 80010000;FFA_NOTIFICATION_BIND check 5: no bit is named
 call 8400007F 80010000 0 1;FFA_NOTIFICATION_BIND check 6: the endpoint has no bitmaps
-call 8400007D 0 1/call 8400007F 80010000 0 1/call 8400007F 80020000 0 1;FFA_NOTIFICATION_BIND check 7: another sender has one of the bits, or one is pending
+call 8400007D 0 1/call 8400007F 80010000 0 14/call 8400007F 80020000 0 1E;FFA_NOTIFICATION_BIND check 7: another sender has one of the bits, or one is pending: bit 2
 call 84000080 80018002 0 1;FFA_NOTIFICATION_UNBIND check 1: the receiver is not the caller: endpoint 8002
 call 84000080 90000000 0 1;FFA_NOTIFICATION_UNBIND check 2: no endpoint has the sender's identifier: endpoint 9000
 call 84000080 0 0 1;FFA_NOTIFICATION_UNBIND check 3: the sender is the caller: endpoint 0000
 call 84000080 80010000 1 1;FFA_NOTIFICATION_UNBIND check 4: a flag is set that has to be 0: w2 is 00000001
 call 84000080 80010000;FFA_NOTIFICATION_UNBIND check 5: no bit is named
 call 84000080 80010000 0 1;FFA_NOTIFICATION_UNBIND check 6: the endpoint has no bitmaps
-call 8400007D 0 1/call 84000080 80010000 0 1;FFA_NOTIFICATION_UNBIND check 7: one of the bits is not the sender's, or is pending
+call 8400007D 0 1/call 8400007F 80010000 0 3/call 84000080 80010000 0 1 80000000;FFA_NOTIFICATION_UNBIND check 7: one of the bits is not the sender's, or is pending: bit 63
 call 84000081 80018002 0 1;FFA_NOTIFICATION_SET check 1: the sender is not the caller: endpoint 8001
 call 84000081 9000 0 1;FFA_NOTIFICATION_SET check 2: no endpoint has the receiver's identifier: endpoint 9000
 call 84000081 0 0 1;FFA_NOTIFICATION_SET check 3: the receiver is the caller: endpoint 0000
 call 84000081 8001 1 1;FFA_NOTIFICATION_SET check 4: a flag is set that has to be 0: w2 is 00000001
 call 84000081 8001;FFA_NOTIFICATION_SET check 5: no bit is named
-call 84000081 8001 0 1;FFA_NOTIFICATION_SET check 6: one of the bits is not the caller's
+call 84000081 8001 0 0 3;FFA_NOTIFICATION_SET check 6: one of the bits is not the caller's: bit 32
 call 84000082 8001;FFA_NOTIFICATION_GET check 1: the receiver is not the caller: endpoint 8001
 call 84000082 10000;FFA_NOTIFICATION_GET check 2: the execution context is not 0: w1 is 00010000
 call 84000082 0 10;FFA_NOTIFICATION_GET check 3: the flags ask for a class that is none of the four: w2 is 00000010
@@ -96,15 +99,15 @@ call 84000066 40010000 40011000 1;FFA_RXTX_MAP check 1: the caller has RX and TX
 call 84000068/call 84000068;FFA_PARTITION_INFO_GET check 3: the caller's RX is full
 store 40010000 01/call 84000086;FFA_MSG_SEND2 check 2: a flag is set that has to be 0
 store 40010004 01/call 84000086;FFA_MSG_SEND2 check 3: a reserved field of the header is not 0
-store 4001000E 8001/call 84000086;FFA_MSG_SEND2 check 4: the sender is not the caller
-store 4001000C 9000/call 84000086;FFA_MSG_SEND2 check 5: no endpoint has the receiver's identifier
-call 84000086;FFA_MSG_SEND2 check 6: the receiver is the caller
+store 4001000E 8001/call 84000086;FFA_MSG_SEND2 check 4: the sender is not the caller: endpoint 8001
+store 4001000C 9000/call 84000086;FFA_MSG_SEND2 check 5: no endpoint has the receiver's identifier: endpoint 9000
+call 84000086;FFA_MSG_SEND2 check 6: the receiver is the caller: endpoint 0000
 store 4001000C 8001/call 84000086;FFA_MSG_SEND2 check 7: the message begins inside its header
 store 4001000C 8001/store 40010008 14/call 84000086;FFA_MSG_SEND2 check 8: the message has no byte
 store 4001000C 8001/store 40010008 14/store 40010010 FFFF/call 84000086;FFA_MSG_SEND2 check 9: the message does not end inside TX
-store 4001000C 8001/store 40010008 14/store 40010010 01/call 84000086;FFA_MSG_SEND2 check 12: the receiver has no RX and TX
-call 8400006D 80010000/call 84000066 40020000 40021000 1/call 8400006B/store 4001000C 8001/store 40010008 14/store 40010010 01/call 84000086/call 84000086;FFA_MSG_SEND2 check 13: the receiver's RX is full
-call 84000067/call 84000066 40010000 40012000 2/call 8400006D 80010000/call 84000066 40020000 40021000 1/call 8400006B/store 4001000C 8001/store 40010008 14/store 40010010 1000/call 84000086;FFA_MSG_SEND2 check 14: the message with its header is longer than the receiver's RX
+store 4001000C 8001/store 40010008 14/store 40010010 01/call 84000086;FFA_MSG_SEND2 check 12: the receiver has no RX and TX: endpoint 8001
+call 8400006D 80010000/call 84000066 40020000 40021000 1/call 8400006B/store 4001000C 8001/store 40010008 14/store 40010010 01/call 84000086/call 84000086;FFA_MSG_SEND2 check 13: the receiver's RX is full: endpoint 8001
+call 84000067/call 84000066 40010000 40012000 2/call 8400006D 80010000/call 84000066 40020000 40021000 1/call 8400006B/store 4001000C 8001/store 40010008 14/store 40010010 1000/call 84000086;FFA_MSG_SEND2 check 14: the message with its header is longer than the receiver's RX: endpoint 8001
 call 84000072 60 40;FFA_MEM_LEND check 2: the fragment is not the whole descriptor: w2 is 00000040
 call 84000072 1001 1001;FFA_MEM_LEND check 3: the descriptor is longer than TX: w1 is 00001001
 call 84000072 60 60 1;FFA_MEM_LEND check 4: the address of a buffer is given, and there is TX alone: w3 is 00000001
@@ -116,8 +119,8 @@ call 84000074 60 60 1;FFA_MEM_RETRIEVE_REQ check 4: the address of a buffer is g
 call 84000074 60 60 0 1;FFA_MEM_RETRIEVE_REQ check 5: the pages of a buffer are counted, and there is TX alone: w4 is 00000001
 call 84000074 40 40;FFA_MEM_RETRIEVE_REQ check 6: the bytes in TX are no descriptor of this call
 call 84000076;FFA_MEM_RELINQUISH check 2: the bytes in TX are no descriptor of this call
-store 4001000C 00000001/store 40010010 8001/call 84000076;FFA_MEM_RELINQUISH check 3: the endpoint of the descriptor is not the caller
-store 4001000C 00000001/call 84000076;FFA_MEM_RELINQUISH check 4: no open transaction with the handle has the caller among its receivers
+store 4001000C 00000001/store 40010010 8001/call 84000076;FFA_MEM_RELINQUISH check 3: the endpoint of the descriptor is not the caller: endpoint 8001
+store 4001000C 00000001/call 84000076;FFA_MEM_RELINQUISH check 4: no open transaction with the handle has the caller among its receivers: handle 0000000000000000
 ";
 
 // And a lend of its page 40012000 to 8002, to read and write, is described in TX.
@@ -132,14 +135,15 @@ store 40010058 0000000000000001
 ";
 
 const WITH_DESCRIPTOR: &str = "\
-store 40010000 8001/call 84000072 60 60;FFA_MEM_LEND check 7: the sender is not the caller
-store 40010030 9000/call 84000072 60 60;FFA_MEM_LEND check 8: no endpoint has the receiver's identifier
+store 40010000 8001/call 84000072 60 60;FFA_MEM_LEND check 7: the sender is not the caller: endpoint 8001
+store 40010030 9000/call 84000072 60 60;FFA_MEM_LEND check 8: no endpoint has the receiver's identifier: endpoint 9000
 store 40010050 0000000040200000/call 84000072 60 60;FFA_MEM_LEND check 9: a range does not lie in RAM
 store 40010050 0000000040020000/call 84000072 60 60;FFA_MEM_LEND check 10: a page is not the caller's own, or is in an open transaction or a buffer: 40020000 belongs to 8001
 store 40010050 0000000040011000/call 84000072 60 60;FFA_MEM_LEND check 10: a page is not the caller's own, or is in an open transaction or a buffer: 40011000
 store 40010050 0000000040013000/call 84000072 60 60/store 40010050 0000000040012000/store 40010058 0000000000000003/store 40010040 0000000100000003/call 84000072 60 60;FFA_MEM_LEND check 10: a page is not the caller's own, or is in an open transaction or a buffer: 40013000 is in the open transaction 0000000000000001
 store 40010058 0000000000000003/store 40010040 0000000100000003/call 84000072 60 60/store 40010058 0000000000000001/store 40010040 0000000100000001/store 40010050 0000000040014000/call 84000072 60 60;FFA_MEM_LEND check 10: a page is not the caller's own, or is in an open transaction or a buffer: 40014000 is in the open transaction 0000000000000001
 call 84000072 60 60/load 40012000 1;40012000 is in the open transaction 0000000000000001
+store 40010030 0000004000018002/call 84000072 60 60/call 8400006D 80020000/call 84000066 40030000 40031000 1/store 40030008 0000000000000001/store 40030018 0000000100000010/store 40030020 0000000000000030/store 40030030 0000000000008002/call 84000074 40 40/call 84000065/store 40030000 0000000000000001/store 40030008 0000000100000001/store 40030010 8002/call 84000076;FFA_MEM_RELINQUISH check 6: zeros are asked of memory that is not lent to the caller to write to: handle 0000000000000001
 ";
 
 // And the lend was made, and 8002 runs, has buffers, and describes in TX that it retrieves it.
@@ -161,28 +165,74 @@ store 40030030 0000000000008002
 ";
 
 const WITH_LEND: &str = "\
-store 40030008 0000000000000002/call 84000074 40 40;FFA_MEM_RETRIEVE_REQ check 7: no open transaction has the handle
-call 8400006B/call 8400006D 80010000/call 84000066 40020000 40021000 1/store 40020008 01/store 40020018 0000000100000010/store 40020020 30/store 40020030 8001/call 84000074 40 40;FFA_MEM_RETRIEVE_REQ check 8: the caller is no receiver of the transaction
-store 40030000 8001/call 84000074 40 40;FFA_MEM_RETRIEVE_REQ check 9: the sender is not that of the transaction
-store 40030010 01/call 84000074 40 40;FFA_MEM_RETRIEVE_REQ check 10: the tag is not that of the transaction
-store 40030004 08/call 84000074 40 40;FFA_MEM_RETRIEVE_REQ check 11: the kind is not that of the transaction
-call 84000074 40 40/call 84000065/call 84000074 40 40;FFA_MEM_RETRIEVE_REQ check 12: the caller holds the transaction already
-store 40030032 08/call 84000074 40 40;FFA_MEM_RETRIEVE_REQ check 13: the right that is asked for is more than the caller may get
+store 40030008 0000000000000002/call 84000074 40 40;FFA_MEM_RETRIEVE_REQ check 7: no open transaction has the handle: handle 0000000000000002
+call 8400006B/call 8400006D 80010000/call 84000066 40020000 40021000 1/store 40020008 01/store 40020018 0000000100000010/store 40020020 30/store 40020030 8001/call 84000074 40 40;FFA_MEM_RETRIEVE_REQ check 8: the caller is no receiver of the transaction: handle 0000000000000001
+store 40030000 8001/call 84000074 40 40;FFA_MEM_RETRIEVE_REQ check 9: the sender is not that of the transaction: endpoint 8001
+store 40030010 01/call 84000074 40 40;FFA_MEM_RETRIEVE_REQ check 10: the tag is not that of the transaction: handle 0000000000000001
+store 40030004 08/call 84000074 40 40;FFA_MEM_RETRIEVE_REQ check 11: the kind is not that of the transaction: handle 0000000000000001
+call 84000074 40 40/call 84000065/call 84000074 40 40;FFA_MEM_RETRIEVE_REQ check 12: the caller holds the transaction already: handle 0000000000000001
+store 40030032 08/call 84000074 40 40;FFA_MEM_RETRIEVE_REQ check 13: the right that is asked for is more than the caller may get: handle 0000000000000001
 call 84000068/call 84000074 40 40;FFA_MEM_RETRIEVE_REQ check 14: the caller's RX is full
-store 40030000 0000000000000001/store 40030008 0000000100000000/store 40030010 8002/call 84000076;FFA_MEM_RELINQUISH check 5: the caller does not hold the transaction
-call 84000074 40 40/call 8400006B/call 84000077 1;FFA_MEM_RECLAIM check 3: a receiver holds the transaction
+store 40030000 0000000000000001/store 40030008 0000000100000000/store 40030010 8002/call 84000076;FFA_MEM_RELINQUISH check 5: the caller does not hold the transaction: handle 0000000000000001
+call 84000074 40 40/call 8400006B/call 84000077 1;FFA_MEM_RECLAIM check 3: a receiver holds the transaction: handle 0000000000000001
 load 40012000 1;40012000 is in the open transaction 0000000000000001
 ";
 
+// And 8002 owns the page 40012000, which it may not write, and describes in TX that it lends it to 8001, to read.
+const DONATED: &str = "\
+call 84000066 40010000 40011000 1
+store 40010018 0000000100000010
+store 40010020 0000000000000030
+store 40010030 0000004000008002
+store 40010040 0000000100000001
+store 40010050 0000000040012000
+store 40010058 0000000000000001
+call 84000071 60 60
+call 8400006D 80020000
+call 84000066 40030000 40031000 1
+store 40030008 0000000000000001
+store 40030018 0000000100000010
+store 40030020 0000000000000030
+store 40030030 0000000000018002
+call 84000074 40 40
+call 84000065
+store 40030000 0000000000008002
+store 40030008 0000000000000000
+store 40030030 0000004000018001
+store 40030040 0000000100000001
+store 40030050 0000000040012000
+store 40030058 0000000000000001
+";
+
+const WITH_PAGE_TO_READ: &str = "\
+store 40030030 0000004000028001/call 84000072 60 60;FFA_MEM_LEND check 11: a grant is more than the owner's right to a page: 40012000
+store 40030000 0000000100008002/call 84000072 60 60;FFA_MEM_LEND check 12: zeros are asked of a page that its owner may not write to: 40012000
+call 84000072 60 60/call 84000077 1 8002 1;FFA_MEM_RECLAIM check 4: zeros are asked of a page that its owner may not write to: 40012000 is in the open transaction 0000800200000001
+";
+
+// Each row is a change of the row machine's manifest, a semicolon, and a row as above.
+const OTHER_MACHINES: &str = "\
+properties = 6 => properties = 4;call 8400006F 8001;FFA_MSG_SEND_DIRECT_REQ check 6: the caller does not send direct requests
+properties = 15 => properties = 14;call 8400006F 8001;FFA_MSG_SEND_DIRECT_REQ check 7: the receiver does not receive direct requests: endpoint 8001
+properties = 6 => properties = 2;call 84000066 40010000 40011000 1/store 4001000C 8001/store 40010008 14/store 40010010 01/call 84000086;FFA_MSG_SEND2 check 10: the caller does not send indirect messages
+properties = 15 => properties = 11;call 84000066 40010000 40011000 1/store 4001000C 8001/store 40010008 14/store 40010010 01/call 84000086;FFA_MSG_SEND2 check 11: the receiver does not receive indirect messages: endpoint 8001
+base = 0x40030000, pages = 16 => base = 0x40030000, pages = 32;call 8400006D 80020000/call 84000066 40030000 40031000 1/store 40030000 8002/store 40030018 0000000100000010/store 40030020 0000000000000030/store 40030030 0000004000028001/store 40030040 0000000100000001/store 40030058 0000000000000001/store 40030050 0000000040032000/call 84000072 60 60/store 40030050 0000000040033000/call 84000072 60 60/store 40030050 0000000040034000/call 84000072 60 60/store 40030050 0000000040035000/call 84000072 60 60/store 40030050 0000000040036000/call 84000072 60 60/store 40030050 0000000040037000/call 84000072 60 60/store 40030050 0000000040038000/call 84000072 60 60/store 40030050 0000000040039000/call 84000072 60 60/store 40030050 000000004003A000/call 84000072 60 60/store 40030050 000000004003B000/call 84000072 60 60/store 40030050 000000004003C000/call 84000072 60 60/store 40030050 000000004003D000/call 84000072 60 60/store 40030050 000000004003E000/call 84000072 60 60/store 40030050 000000004003F000/call 84000072 60 60/store 40030050 0000000040040000/call 84000072 60 60/store 40030050 0000000040041000/call 84000072 60 60/store 40030050 0000000040042000/call 84000072 60 60;FFA_MEM_LEND check 13: the caller has as many open transactions as it may have
+";
+
 // What is printed of a trace behind a beginning.
-fn printed(alloc: Global, beginning: &str, trace: &str) -> Result<Vec<u8>, Fail> {
+fn printed(
+    alloc: Global,
+    machine: &Manifest,
+    beginning: &str,
+    trace: &str,
+) -> Result<Vec<u8>, Fail> {
     let whole = format!(in alloc; "{beginning}{trace}\n")?;
     let form = Form {
         number: false,
         names: false,
         explain: true,
     };
-    let mut player = Player::new(booted(alloc, &row_machine())?);
+    let mut player = Player::new(booted(alloc, machine)?);
     let (mut out, mut bytes) = (Vec::new(alloc), Vec::new(alloc));
     let mut left = whole.as_bytes();
     play(&mut player, alloc, form, &mut left, &mut out, &mut bytes)?;
@@ -190,10 +240,16 @@ fn printed(alloc: Global, beginning: &str, trace: &str) -> Result<Vec<u8>, Fail>
 }
 
 // That is the one reason among what is printed, and stands last.
-fn says_why(rt: &impl Abort, alloc: Global, beginning: &str, row: &str) -> Result<(), Fail> {
+fn says_why(
+    rt: &impl Abort,
+    alloc: Global,
+    machine: &Manifest,
+    beginning: &str,
+    row: &str,
+) -> Result<(), Fail> {
     let (lines, wanted) = row.split_once(';').ok_or("no reason")?;
     let trace = lines.replace(alloc, "/", "\n")?;
-    let out = printed(alloc, beginning, trace.as_str())?;
+    let out = printed(alloc, machine, beginning, trace.as_str())?;
     let reason = format!(in alloc; "\n# refused: {wanted}\n")?;
     holds_at(rt, out.ends_with(reason.as_bytes()), &row);
     let reasons = out.iter().filter(|byte| **byte == b'#').count();
@@ -202,10 +258,19 @@ fn says_why(rt: &impl Abort, alloc: Global, beginning: &str, row: &str) -> Resul
 }
 
 fn say_why(rt: &impl Abort, alloc: Global, beginning: &str, rows: &str) -> Result<(), Fail> {
+    let machine = row_machine();
     for row in rows.lines() {
-        says_why(rt, alloc, beginning, row)?;
+        says_why(rt, alloc, &machine, beginning, row)?;
     }
     Ok(())
+}
+
+// Of the row machine with one change.
+fn says_why_elsewhere(rt: &impl Abort, alloc: Global, row: &str) -> Result<(), Fail> {
+    let (change, row) = row.split_once(';').ok_or("no change")?;
+    let (old, new) = change.split_once(" => ").ok_or("no change")?;
+    let text = ROW.replacen(alloc, old, new, 1)?;
+    says_why(rt, alloc, &read(alloc, text.as_str())?, "", row)
 }
 
 #[test]
@@ -221,5 +286,14 @@ fn says_why_a_call_with_buffers_is_refused(rt: HostRuntime) -> Result<(), Fail> 
 #[test]
 fn says_why_a_lend_and_a_retrieve_are_refused(rt: HostRuntime) -> Result<(), Fail> {
     say_why(&rt, rt.alloc(), DESCRIBED, WITH_DESCRIPTOR)?;
-    say_why(&rt, rt.alloc(), LENT, WITH_LEND)
+    say_why(&rt, rt.alloc(), LENT, WITH_LEND)?;
+    say_why(&rt, rt.alloc(), DONATED, WITH_PAGE_TO_READ)
+}
+
+#[test]
+fn says_why_on_other_machines(rt: HostRuntime) -> Result<(), Fail> {
+    for row in OTHER_MACHINES.lines() {
+        says_why_elsewhere(&rt, rt.alloc(), row)?;
+    }
+    Ok(())
 }

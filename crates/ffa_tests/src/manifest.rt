@@ -9,7 +9,7 @@ use std::process::Abort;
 use std::test::Fail;
 
 // The text of `row_machine`.
-const ROW: &str = "ram_base = 0x40000000
+pub(crate) const ROW: &str = "ram_base = 0x40000000
 ram_blocks = 1
 [[endpoint]]
 version = \"1.1\"

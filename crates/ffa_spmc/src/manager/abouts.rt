@@ -1,11 +1,12 @@
 //! What a check of a call that fails is about. Nothing is changed, and no memory is taken.
 ghost use Rattle.std.specs.Prelude.{◌≡◌};
-ghost use Rattle.std.specs.Option.{option_map};
-ghost use Rattle.ffa_model.specs.About.{about, about_page, failing_map, failing_page, failing_sent};
+ghost use Rattle.ffa_model.specs.About.{about, about_page, about_pages, failing_map, failing_page, failing_reclaim, failing_sent};
 ghost use Rattle.ffa_model.specs.Buffers.{candidates};
 ghost use Rattle.ffa_model.specs.Obstacles.{unless_own};
+ghost use Rattle.ffa_model.specs.State.{transaction_of};
+ghost use Rattle.ffa_model.specs.Transactions.{handle_of, own_rights_of};
 
-use super::Manager;
+use super::{Manager, word_of_halves};
 use ffa_memshare::DescriptorCall;
 use ffa_model::{About, Call, Kind, Obstacle, PageNo, Refusal, Transfer};
 use ffa_physmem::PhysMem;
@@ -15,15 +16,18 @@ impl<M: PhysMem + Drop> Manager<M> {
     pub(crate) fn about(&self, number: u32, call: Call, refusal: Refusal) -> Option<About>
         ensures { result ≡ about self.now.state number call refusal }
     {
-        match ffa_abi::about_registers(number, &call, refusal) {
-            Some(about) => Some(about),
-            None => self.about_failing(call, refusal),
+        if let Some(about) = ffa_abi::about_registers(number, &call, refusal) {
+            return Some(about);
         }
+        if let Some(about) = self.about_contents(call, refusal) {
+            return Some(about);
+        }
+        self.about_pages(call, refusal)
     }
 
     // The first page that fails it, if it is one of pages.
-    fn about_failing(&self, call: Call, refusal: Refusal) -> Option<About>
-        ensures { result ≡ option_map (about_page self.now.state) (failing_page self.now.state call refusal) }
+    fn about_pages(&self, call: Call, refusal: Refusal) -> Option<About>
+        ensures { result ≡ about_pages self.now.state call refusal }
     {
         match self.failing_page(call, refusal) {
             Some(page) => Some(self.about_page(page)),
@@ -40,6 +44,7 @@ impl<M: PhysMem + Drop> Manager<M> {
             Call::MemDonate(transfer) => self.failing_sent(Kind::Donate, transfer, refusal),
             Call::MemLend(transfer) => self.failing_sent(Kind::Lend, transfer, refusal),
             Call::MemShare(transfer) => self.failing_sent(Kind::Share, transfer, refusal),
+            Call::MemReclaim { low, high, .. } => self.failing_reclaim(low, high, refusal),
             _ => None,
         }
     }
@@ -65,6 +70,15 @@ impl<M: PhysMem + Drop> Manager<M> {
         ffa_memshare::failing_send(
             &self.ram, base, pages, buffers, runner, kind, &call, refusal,
         )
+    }
+
+    // Of FFA_MEM_RECLAIM.
+    fn failing_reclaim(&self, low: u32, high: u32, refusal: Refusal) -> Option<PageNo>
+        ensures { result ≡ failing_reclaim (own_rights_of self.now.state) (transaction_of self.now.state (handle_of high low)) refusal }
+    {
+        let handle = word_of_halves(low, high);
+        let base = self.manifest.ram_base;
+        ffa_memshare::failing_reclaim(&self.kept.pool, &self.kept.pages, base, handle, refusal)
     }
 
     // A page, with what stands in the runner's way there.

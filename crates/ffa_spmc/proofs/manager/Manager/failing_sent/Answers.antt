@@ -4,7 +4,7 @@ use Rattle.ffa_model.specs.About.{failing_sent}
 use Rattle.ffa_memshare.specs.declared.descriptor_call.DescriptorCall.{DescriptorCall}
 use Rattle.ffa_spmc.specs.Managed.{Managed}
 use Rattle.ffa_spmc.proofs.Inside.{parts_of}
-use Rattle.ffa_spmc.proofs.Abouts.{seen-failing, sent-failing}
+use Rattle.ffa_spmc.proofs.Abouts.{seen-in, sent-failing}
 use Rattle.ffa_spmc.proofs.Fills.{caller-is}
 use Rattle.ffa_spmc.proofs.manager.Manager.failing_sent.Goals as goal
 
@@ -12,7 +12,7 @@ pub returns : goal.returns
 returns g c =
     let x = parts_of g.M.PhysMem.ram c.self.inside in
     let its : DescriptorCall = record { transfer = c.args.transfer; version = c.version-version.result } in
-    seen-failing x c.args.self.now c.self.view_is (λ (s : State). failing_sent s c.args.kind c.args.transfer c.args.refusal) c.failing_send.result
+    seen-in x c.args.self.now c.self.view_is (λ (s : State). failing_sent s c.args.kind c.args.transfer c.args.refusal) c.failing_send.result
     (c.failing_send.ensures ∙ sent-failing x c.self.invariant c.runner-runner.result.0 c.runner-runner.ensures.runner c.args.refusal its
     (c.version-version.ensures ∙ sym (ap (λ (seen : Managed). version_of seen.state seen.state.runner) c.self.view_is)) c.args.kind)
 
