@@ -1,8 +1,8 @@
 -- A line that says why an operation is refused has no LF, and nothing is left of it.
-use Rattle.std.proofs.Common.{◌≡◌, ℕ, Bool, true, false, List, [], ◌++◌, Option, None, Some, ◌∙◌, refl}
-use Rattle.std.specs.Prelude.{codes, decimal}
+use Rattle.std.proofs.Common.{◌≡◌, ℕ, ◌+◌, ◌-◌, Bool, true, false, List, [], ◌++◌, Option, None, Some, inl, inr, ◌∙◌, refl}
+use Rattle.std.specs.Prelude.{codes, decimal, nat_le}
 use Rattle.std.specs.Option.{option_map_or}
-use Rattle.std.proofs.lemmas.Bool.{and_from}
+use Rattle.std.proofs.lemmas.Bool.{cases_Bool, and_from}
 use Rattle.std.proofs.lemmas.List.Folds.{list_all-append}
 use Rattle.ffa_model.specs.declared.operation.FaultKind.{FaultKind}
 use Rattle.ffa_model.specs.declared.operation.FaultKind.TheVariants.{Translation, Permission, Alignment, AccessFlag, OutsideRam}
@@ -11,6 +11,22 @@ use Rattle.ffa_model.specs.declared.operation.Op.TheVariants.{Call, Load, Store,
 use Rattle.ffa_model.specs.declared.refusal.Refusal.{Refusal}
 use Rattle.ffa_model.specs.declared.refusal.Refusal.TheVariants.{FunctionUnknown, BuffersMissing, FlagsReserved, SenderIsAnother, ReceiverIsAnother, ReceiverUnknown, ReceiverIsCaller, NotNormalWorld, ContextUnknown, RxFull, UuidUnknown, BuffersMapped, BufferPageCount, TxMisplaced, RxMisplaced, BuffersOverlap, TxUnusable, RxUnusable, EndpointNotZero, RxEmpty, ReceiverIsNormalWorld, RequestsUnsent, RequestsUnreceived, ReceiverNotWaiting, NoRequest, AnswerMisdirected, TargetUnknown, TargetNotReady, NotRun, NobodyToYieldTo, HeaderReserved, MessageInHeader, MessageEmpty, MessageTooLong, MessagesUnsent, MessagesUnreceived, ReceiverBuffersMissing, ReceiverRxFull, ReceiverRxSmall, EndpointNotNormalWorld, ContextCount, BitmapsExist, BitmapsMissing, BitsPending, SenderUnknown, SenderIsCaller, BitsNone, BitsTaken, BitsNotTheSenders, BitsNotTheCallers, ClassesUnknown, Fragmented, DescriptorTooLong, BufferAddressGiven, BufferPagesGiven, DescriptorMalformed, RangeOutside, PageUnsendable, GrantTooMuch, ZerosUnwritable, TransactionsFull, HandlesUsedUp, HandleUnknown, NotReceiver, TransactionSenderDiffers, TagDiffers, KindDiffers, AlreadyRetrieved, RightTooMuch, EndpointIsAnother, NotOffered, NotHeld, ZerosNotAllowed, NotTheSenders, StillHeld}
 use Rattle.ffa_model.specs.declared.flaw.FieldPlace.{FieldPlace}
+use Rattle.ffa_model.specs.declared.flaw.Flaw.{Flaw}
+use Rattle.ffa_model.specs.declared.flaw.Flaw.TheVariants.{Header, Send, Access, Composite, Range, Retrieve, Relinquish}
+use Rattle.ffa_model.specs.declared.flaw.HeaderFlaw.{HeaderFlaw}
+use Rattle.ffa_model.specs.declared.flaw.HeaderFlaw.TheVariants.{Short, AccessSize, ArrayUnaligned, ArrayInHeader, ArrayOutside, Reserved as RestReserved}
+use Rattle.ffa_model.specs.declared.flaw.SendFlaw.{SendFlaw}
+use Rattle.ffa_model.specs.declared.flaw.SendFlaw.TheVariants.{Attributes, Flags, Handle as HandleGiven, NoReceiver, ManyReceivers}
+use Rattle.ffa_model.specs.declared.flaw.AccessFlaw.{AccessFlaw}
+use Rattle.ffa_model.specs.declared.flaw.AccessFlaw.TheVariants.{Permissions, Flags as AccessFlags, OtherComposite, Reserved as AccessReserved, ReceiverIsSender, ReceiverTwice}
+use Rattle.ffa_model.specs.declared.flaw.CompositeFlaw.{CompositeFlaw}
+use Rattle.ffa_model.specs.declared.flaw.CompositeFlaw.TheVariants.{Outside, Unaligned, InArray, NoRange, ManyRanges, Reserved as CompositeReserved, RangesOutside, Total}
+use Rattle.ffa_model.specs.declared.flaw.RangeFlaw.{RangeFlaw}
+use Rattle.ffa_model.specs.declared.flaw.RangeFlaw.TheVariants.{Empty, Unaligned as RangeUnaligned, TooHigh, Reserved as RangeReserved, Overlap}
+use Rattle.ffa_model.specs.declared.flaw.RetrieveFlaw.{RetrieveFlaw}
+use Rattle.ffa_model.specs.declared.flaw.RetrieveFlaw.TheVariants as asked
+use Rattle.ffa_model.specs.declared.flaw.RelinquishFlaw.{RelinquishFlaw}
+use Rattle.ffa_model.specs.declared.flaw.RelinquishFlaw.TheVariants as returned
 use Rattle.ffa_model.specs.declared.why.About.{About}
 use Rattle.ffa_model.specs.declared.why.About.TheVariants.{Page, Endpoint, Handle, Register, Bit, Field}
 use Rattle.ffa_model.specs.declared.why.Obstacle.{Obstacle}
@@ -24,9 +40,10 @@ use Rattle.ffa_model.specs.TraceText.{bytes_moved, hex}
 use Rattle.ffa_model.specs.Why.{why}
 use Rattle.ffa_abi.specs.Names.{call_name_of}
 use Rattle.ffa_reasons.specs.Checks.{number_of}
+use Rattle.ffa_reasons.specs.FlawWords.{access_words, composite_words, flaw_words_of, header_words, range_words, relinquish_words, retrieve_words, send_words}
 use Rattle.ffa_reasons.specs.Words.{words_of}
 use Rattle.ffa_lines.specs.Cut.{CutsTo}
-use Rattle.ffa_lines.specs.Reasons.{about_text, address_digits, address_of, address_text, call_text, check_text, fault_text, field_text, handle_text, name_text, named_text, number_text, obstacle_text, page_address, page_text, reason_if, reason_line, reason_mark, reason_text, register_text, right_text, subject_text, transaction_text, why_text}
+use Rattle.ffa_lines.specs.Reasons.{about_text, address_digits, address_of, address_text, call_text, check_text, fault_text, field_digits, field_text, handle_text, index_text, name_text, named_text, number_text, obstacle_text, page_address, page_text, place_text, reason_if, reason_line, reason_mark, reason_text, register_text, right_text, subject_text, transaction_text, value_text, verb_text, why_text}
 use Rattle.ffa_lines.proofs.Cuts.{cuts_none, cuts_reason, decimal_digits, digits_single, inner_single}
 use Rattle.ffa_lines.proofs.PrintedWords.{inner_hex, single_call}
 
@@ -160,10 +177,121 @@ single_fault op Alignment obstacle = single_hex 1 (bytes_moved op)
 single_fault op AccessFlag obstacle = refl
 single_fault op OutsideRam obstacle = refl
 
--- WHAT A CHECK IS ABOUT
+-- FIELDS OF A DESCRIPTOR
+
+single_header : (flaw : HeaderFlaw) → IsSingle (header_words flaw)
+single_header Short = refl
+single_header AccessSize = refl
+single_header ArrayUnaligned = refl
+single_header ArrayInHeader = refl
+single_header ArrayOutside = refl
+single_header RestReserved = refl
+
+single_send : (flaw : SendFlaw) → IsSingle (send_words flaw)
+single_send Attributes = refl
+single_send Flags = refl
+single_send HandleGiven = refl
+single_send NoReceiver = refl
+single_send ManyReceivers = refl
+
+single_access : (flaw : AccessFlaw) → IsSingle (access_words flaw)
+single_access Permissions = refl
+single_access AccessFlags = refl
+single_access OtherComposite = refl
+single_access AccessReserved = refl
+single_access ReceiverIsSender = refl
+single_access ReceiverTwice = refl
+
+single_composite : (flaw : CompositeFlaw) → IsSingle (composite_words flaw)
+single_composite Outside = refl
+single_composite Unaligned = refl
+single_composite InArray = refl
+single_composite NoRange = refl
+single_composite ManyRanges = refl
+single_composite CompositeReserved = refl
+single_composite RangesOutside = refl
+single_composite Total = refl
+
+single_range : (flaw : RangeFlaw) → IsSingle (range_words flaw)
+single_range Empty = refl
+single_range RangeUnaligned = refl
+single_range TooHigh = refl
+single_range RangeReserved = refl
+single_range Overlap = refl
+
+single_retrieve : (flaw : RetrieveFlaw) → IsSingle (retrieve_words flaw)
+single_retrieve asked.Attributes = refl
+single_retrieve asked.Flags = refl
+single_retrieve asked.AccessCount = refl
+single_retrieve asked.ReceiverIsAnother = refl
+single_retrieve asked.DataPermission = refl
+single_retrieve asked.InstructionPermission = refl
+single_retrieve asked.PermissionsReserved = refl
+single_retrieve asked.AccessFlags = refl
+single_retrieve asked.CompositeTold = refl
+single_retrieve asked.AccessReserved = refl
+
+single_relinquish : (flaw : RelinquishFlaw) → IsSingle (relinquish_words flaw)
+single_relinquish returned.Short = refl
+single_relinquish returned.Flags = refl
+single_relinquish returned.EndpointCount = refl
+
+single_flaw : (flaw : Flaw) → IsSingle (flaw_words_of flaw)
+single_flaw (Header flaw) = single_header flaw
+single_flaw (Send flaw) = single_send flaw
+single_flaw (Access index flaw) = single_access flaw
+single_flaw (Composite flaw) = single_composite flaw
+single_flaw (Range index flaw) = single_range flaw
+single_flaw (Retrieve flaw) = single_retrieve flaw
+single_flaw (Relinquish flaw) = single_relinquish flaw
 
 single_decimal : (n : ℕ) → IsSingle (decimal n)
 single_decimal n = digits_single (decimal n) (decimal_digits n)
+
+single_indexed : (word : List ℕ) (n : ℕ) → IsSingle word → IsSingle (word ++ decimal n ++ codes ": ")
+single_indexed word n h = single_append (word ++ decimal n) (codes ": ") (single_append word (decimal n) h (single_decimal n)) refl
+
+single_index : (flaw : Flaw) → IsSingle (index_text flaw)
+single_index (Header flaw) = refl
+single_index (Send flaw) = refl
+single_index (Access index flaw) = single_indexed (codes "access descriptor ") index refl
+single_index (Composite flaw) = refl
+single_index (Range index flaw) = single_indexed (codes "range ") index refl
+single_index (Retrieve flaw) = refl
+single_index (Relinquish flaw) = refl
+
+single_place : (first size : ℕ) → IsSingle (place_text first size)
+single_place first size =
+    elim (cases_Bool (nat_le size 1)) [
+      | inl one ↦ rw one (single_decimal first)
+      | inr more ↦ rw more
+          (single_append (codes "bytes " ++ decimal first ++ codes " to ") (decimal (first + (size - 1)))
+          (single_append (codes "bytes " ++ decimal first) (codes " to ") (single_decimal first) refl) (single_decimal (first + (size - 1))))
+    ]
+
+single_verb : (size : ℕ) → IsSingle (verb_text size)
+single_verb size =
+    elim (cases_Bool (nat_le size 1)) [
+      | inl one ↦ rw one refl
+      | inr more ↦ rw more refl
+    ]
+
+single_value : (size : ℕ) (value : Option ℕ) → IsSingle (value_text size value)
+single_value size None = refl
+single_value size (Some value) =
+    single_append (verb_text size) (hex (field_digits size) value) (single_verb size) (single_hex (field_digits size) value)
+
+single_field : (flaw : Flaw) (place : FieldPlace) (value : Option ℕ) → IsSingle (field_text flaw place value)
+unfolding field_text
+single_field flaw place value =
+    let at = place_text place.first place.size in
+    single_append (index_text flaw ++ flaw_words_of flaw ++ codes ": " ++ at) (value_text place.size value)
+    (single_append (index_text flaw ++ flaw_words_of flaw ++ codes ": ") at
+    (single_append (index_text flaw ++ flaw_words_of flaw) (codes ": ")
+    (single_append (index_text flaw) (flaw_words_of flaw) (single_index flaw) (single_flaw flaw)) refl)
+    (single_place place.first place.size)) (single_value place.size value)
+
+-- WHAT A CHECK IS ABOUT
 
 single_page : (base page : ℕ) (obstacle : Option Obstacle) → IsSingle (page_text base page obstacle)
 single_page base page None = single_address (page_address base page)
@@ -185,20 +313,13 @@ single_register register value =
     (single_append (codes "w" ++ decimal register) (codes " is ") (single_append (codes "w") (decimal register) refl (single_decimal register)) refl)
     (single_address value)
 
-single_field : (place : FieldPlace) → IsSingle (field_text place)
-single_field place =
-    single_append (decimal place.size ++ codes " bytes of the descriptor from byte " ++ decimal place.first) (codes " on")
-    (single_append (decimal place.size ++ codes " bytes of the descriptor from byte ") (decimal place.first)
-    (single_append (decimal place.size) (codes " bytes of the descriptor from byte ") (single_decimal place.size) refl) (single_decimal place.first))
-    refl
-
 single_subject : (base : ℕ) (about : About) → IsSingle (subject_text base about)
 single_subject base (Page page obstacle) = single_page base page.0 obstacle
 single_subject base (Endpoint endpoint) = single_named endpoint.0
 single_subject base (Handle handle) = single_handle handle
 single_subject base (Register register value) = single_register register value
 single_subject base (Bit number) = single_decimal number
-single_subject base (Field flaw place) = single_field place
+single_subject base (Field flaw place value) = single_field flaw place value
 
 single_about : (base : ℕ) (about : Option About) → IsSingle (about_text base about)
 single_about base None = refl

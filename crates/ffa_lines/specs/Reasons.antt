@@ -1,7 +1,9 @@
 -- The line that says why an operation is refused.
-use Rattle.std.specs.Prelude.{ℕ, ◌+◌, ◌*◌, ◌^◌, nat_lt, Bool, List, [], ◌++◌, codes, decimal, Option, None, Some, if◌then◌else◌}
+use Rattle.std.specs.Prelude.{ℕ, ◌+◌, ◌-◌, ◌*◌, ◌^◌, nat_le, nat_lt, Bool, List, [], ◌++◌, codes, decimal, Option, None, Some, if◌then◌else◌}
 use Rattle.std.specs.Option.{option_map_or}
 use Rattle.ffa_model.specs.declared.flaw.FieldPlace.{FieldPlace}
+use Rattle.ffa_model.specs.declared.flaw.Flaw.{Flaw}
+use Rattle.ffa_model.specs.declared.flaw.Flaw.TheVariants.{Access, Range}
 use Rattle.ffa_model.specs.declared.operation.FaultKind.{FaultKind}
 use Rattle.ffa_model.specs.declared.operation.FaultKind.TheVariants.{Translation, Permission, Alignment, AccessFlag, OutsideRam}
 use Rattle.ffa_model.specs.declared.operation.Op.{Op}
@@ -20,6 +22,7 @@ use Rattle.ffa_model.specs.TraceText.{bytes_moved, ended, hex}
 use Rattle.ffa_model.specs.Why.{why}
 use Rattle.ffa_abi.specs.Names.{call_name_of}
 use Rattle.ffa_reasons.specs.Checks.{number_of}
+use Rattle.ffa_reasons.specs.FlawWords.{flaw_words_of}
 use Rattle.ffa_reasons.specs.Words.{words_of}
 use Rattle.ffa_lines.specs.declared.reason.Reason.{Reason}
 
@@ -104,8 +107,32 @@ register_text register value = codes "w" ++ decimal register ++ codes " is " ++ 
 abbrev pub bit_text : ℕ → List ℕ
 bit_text number = codes "bit " ++ decimal number
 
-abbrev pub field_text : FieldPlace → List ℕ
-field_text place = decimal place.size ++ codes " bytes of the descriptor from byte " ++ decimal place.first ++ codes " on"
+-- which access descriptor, or which range
+abbrev pub index_text : Flaw → List ℕ
+index_text (Access index flaw) = codes "access descriptor " ++ decimal index ++ codes ": "
+index_text (Range index flaw) = codes "range " ++ decimal index ++ codes ": "
+index_text flaw = []
+
+-- its first byte and its last
+abbrev pub place_text : ℕ → ℕ → List ℕ
+place_text first size =
+    if nat_le size 1 then codes "byte " ++ decimal first
+    else codes "bytes " ++ decimal first ++ codes " to " ++ decimal (first + (size - 1))
+
+abbrev pub verb_text : ℕ → List ℕ
+verb_text size = if nat_le size 1 then codes " is " else codes " are "
+
+-- two for each byte, of eight at most
+abbrev pub field_digits : ℕ → ℕ
+field_digits size = if nat_le size 8 then 2 * size else 16
+
+abbrev pub value_text : ℕ → Option ℕ → List ℕ
+value_text size value = option_map_or (λ v. verb_text size ++ hex (field_digits size) v) value []
+
+-- the condition that the descriptor breaks, the field of which it speaks, and the number in that
+unfoldable pub field_text : Flaw → FieldPlace → Option ℕ → List ℕ
+field_text flaw place value =
+    index_text flaw ++ flaw_words_of flaw ++ codes ": " ++ place_text place.first place.size ++ value_text place.size value
 
 abbrev pub subject_text : ℕ → About → List ℕ
 subject_text base (Page page obstacle) = page_text base page.0 obstacle
@@ -113,7 +140,7 @@ subject_text base (Endpoint endpoint) = named_text endpoint.0
 subject_text base (Handle handle) = handle_text handle
 subject_text base (Register register value) = register_text register value
 subject_text base (Bit number) = bit_text number
-subject_text base (Field flaw place) = field_text place
+subject_text base (Field flaw place value) = field_text flaw place value
 
 abbrev pub about_text : ℕ → Option About → List ℕ
 about_text base about = option_map_or (λ its. codes ": " ++ subject_text base its) about []

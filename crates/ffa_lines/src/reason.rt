@@ -3,13 +3,15 @@ ghost use Rattle.std.specs.Prelude.{◌≡◌, ◌++◌, ◌≤◌, IfErr, OnOk,
 ghost use Rattle.ffa_model.specs.Memory.{size_of};
 ghost use Rattle.ffa_model.specs.TraceText.{bytes_moved, hex};
 ghost use Rattle.ffa_trace.specs.Lines.{meant};
-ghost use Rattle.ffa_lines.specs.Reasons.{about_text, address_digits, address_of, address_text, bit_text, call_text, check_text, fault_text, field_text, handle_text, name_text, named_text, number_text, obstacle_text, page_address, page_text, reason_if, reason_line, register_text, right_text, subject_text, told_line, transaction_text, why_text};
+ghost use Rattle.ffa_lines.specs.Reasons.{about_text, address_digits, address_of, address_text, bit_text, call_text, check_text, fault_text, field_digits, field_text, handle_text, index_text, name_text, named_text, number_text, obstacle_text, page_address, page_text, place_text, reason_if, reason_line, register_text, right_text, subject_text, told_line, transaction_text, value_text, verb_text, why_text};
 
 use crate::form::{put, put_bytes};
 use ffa_abi::{call_name, decode};
-use ffa_model::{About, Address, FaultKind, FieldPlace, Obstacle, Op, PageNo, Refusal, Size, Why};
+use ffa_model::{
+    About, Address, FaultKind, FieldPlace, Flaw, Obstacle, Op, PageNo, Refusal, Size, Why,
+};
 use ffa_physmem::PhysMem;
-use ffa_reasons::{check_number, words};
+use ffa_reasons::{check_number, flaw_words, words};
 use ffa_tlb::Translations;
 use ffa_trace::text::{self, Text};
 use ffa_trace::{Line, PlayError, Player};
@@ -175,7 +177,7 @@ fn put_subject<A: Allocator>(
         About::Handle(handle) => put_handle(text, handle),
         About::Register { register, value } => put_register(text, register, value),
         About::Bit(number) => put_bit(text, number),
-        About::Field { flaw: _, place } => put_field(text, place),
+        About::Field { flaw, place, value } => put_field(text, flaw, place, value),
     }
 }
 
@@ -234,14 +236,81 @@ fn put_bit<A: Allocator>(text: &mut Vec<u8, A>, number: u32) -> Result<(), PlayE
     write!(text, "bit {number}").map_err(|_| PlayError::NoMemory)
 }
 
-fn put_field<A: Allocator>(text: &mut Vec<u8, A>, place: FieldPlace) -> Result<(), PlayError>
-    ensures written { OnOk result (text.new.items ≡ text.old.items ++ field_text place) }
+// Puts the condition that a descriptor breaks, the field of which it speaks, and the number in that.
+#[tactic(auto, unfolding(crate::specs::Reasons::field_text))]
+fn put_field<A: Allocator>(
+    text: &mut Vec<u8, A>,
+    flaw: Flaw,
+    place: FieldPlace,
+    value: Option<u64>,
+) -> Result<(), PlayError>
+    ensures written { OnOk result (text.new.items ≡ text.old.items ++ field_text flaw place value) }
+    ensures failed { IfErr result (λ e. e ≡ PlayError.NoMemory) }
+{
+    put_index(text, flaw)?;
+    put(text, flaw_words(flaw))?;
+    put(text, ": ")?;
+    put_place(text, place)?;
+    put_value(text, place.size, value)
+}
+
+// Which access descriptor it is, or which range.
+fn put_index<A: Allocator>(text: &mut Vec<u8, A>, flaw: Flaw) -> Result<(), PlayError>
+    ensures written { OnOk result (text.new.items ≡ text.old.items ++ index_text flaw) }
+    ensures failed { IfErr result (λ e. e ≡ PlayError.NoMemory) }
+{
+    match flaw {
+        Flaw::Access(index, _) => {
+            write!(text, "access descriptor {index}: ").map_err(|_| PlayError::NoMemory)
+        }
+        Flaw::Range(index, _) => write!(text, "range {index}: ").map_err(|_| PlayError::NoMemory),
+        Flaw::Header(_)
+        | Flaw::Send(_)
+        | Flaw::Composite(_)
+        | Flaw::Retrieve(_)
+        | Flaw::Relinquish(_) => Ok(()),
+    }
+}
+
+fn put_place<A: Allocator>(text: &mut Vec<u8, A>, place: FieldPlace) -> Result<(), PlayError>
+    ensures written { OnOk result (text.new.items ≡ text.old.items ++ place_text place.first place.size) }
     ensures failed { IfErr result (λ e. e ≡ PlayError.NoMemory) }
 {
     let FieldPlace { first, size } = place;
-    write!(text, "{size} bytes of the descriptor from byte {first} on").map_err(
-        |_| PlayError::NoMemory,
-    )
+    if size <= 1 {
+        return write!(text, "byte {first}").map_err(|_| PlayError::NoMemory);
+    }
+    let last = u128::from(first) + u128::from(size - 1);
+    write!(text, "bytes {first} to {last}").map_err(|_| PlayError::NoMemory)
+}
+
+fn put_value<A: Allocator>(
+    text: &mut Vec<u8, A>,
+    size: u64,
+    value: Option<u64>,
+) -> Result<(), PlayError>
+    ensures written { OnOk result (text.new.items ≡ text.old.items ++ value_text size value) }
+    ensures failed { IfErr result (λ e. e ≡ PlayError.NoMemory) }
+{
+    let Some(value) = value else {
+        return Ok(());
+    };
+    put(text, verb(size))?;
+    put_digits(text, field_digits(size), value)
+}
+
+fn verb(size: u64) -> &'static str
+    ensures { result.now ≡ verb_text size }
+{
+    if size <= 1 { " is " } else { " are " }
+}
+
+// How many digits a field's number is written in.
+fn field_digits(size: u64) -> u32
+    ensures digits { result ≡ field_digits size }
+    ensures few { result ≤ 16 }
+{
+    if size <= 8 { 2 * size as u32 } else { 16 }
 }
 
 // What is so of the address of an access that faults.
