@@ -6,3 +6,4 @@ pub mod Stores
 pub mod Tests
 pub mod Views
 pub mod Boots
+pub mod Least

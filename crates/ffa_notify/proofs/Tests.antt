@@ -1,20 +1,19 @@
 -- What the calls ask of bits, as tests of words.
 use Rattle.std.proofs.Common.{◌≡◌, ◌∙◌, ℕ, ◌%◌, ◌^◌, ◌<◌, Bool, true, false, refl, sym, ap, arith}
 use Rattle.std.specs.Prelude.{◌==◌, ◌||◌, ◌&&◌, not}
-use Rattle.std.specs.List.{list_all, list_any}
+use Rattle.std.specs.List.{list_any}
 use Rattle.std.specs.Int.{bit_not, w64}
 use Rattle.std.specs.Int.RustNames.{bit_or}
 use denote.Enum.Bare.{sameb}
-use lib.Bits.{bit_and}
 use Rattle.ffa_notify.specs.contracts.class.Class.{the_type}
 use Rattle.ffa_notify.specs.declared.class.Class.{Class}
 use Rattle.ffa_notify.specs.declared.class.Class.TheVariants.{Partitions, NormalWorld, Manager}
 use Rattle.ffa_notify.specs.Stored.{class_number}
-use Rattle.ffa_model.specs.Bits.{bits_of, is_set}
+use Rattle.ffa_model.specs.Bits.{is_set}
 use Rattle.ffa_model.specs.Lists.{listed}
 use Rattle.ffa_model.specs.Notifications.{Notifications, class_of, has_pending, is_bindable, is_bound, is_bound_to_another, is_pending, is_unbindable, manager_class, normal_class, partition_class, pending_word}
 use Rattle.ffa_model.proofs.Bitmaps.{word_where-same, word_where-set}
-use Rattle.ffa_notify.proofs.Bits.{all_bits, any-same, set-not, set-or, some-bit}
+use Rattle.ffa_notify.proofs.Bits.{any-same, set-not, set-or, some-bit}
 
 neither-is : (a b : Bool) → (a || b) ≡ not (not a && not b)
 neither-is true b = refl
@@ -36,26 +35,26 @@ twice-not : (b : Bool) → not (not b) ≡ b
 twice-not true = refl
 twice-not false = refl
 
-module _ (v : Notifications) (r s bitmap : ℕ) (fits : bitmap < 2 ^ 64) where
-  pub bindable : (n others pending : ℕ) → ((k : ℕ) → k < 64 → is_set k others ≡ is_bound_to_another n v r (class_of s) k s)
+-- the bits that a sender may not get, lose or set
+module _ (v : Notifications) (r s : ℕ) where
+  pub not-bindable : (n others pending : ℕ) → ((k : ℕ) → k < 64 → is_set k others ≡ is_bound_to_another n v r (class_of s) k s)
       → ((k : ℕ) → k < 64 → is_set k pending ≡ is_pending v r (class_of s) k)
-      → (bit_and bitmap (bit_or others pending) == 0) ≡ list_all (is_bindable n v r s) (bits_of bitmap)
-  bindable n others pending are_others are_pending =
-      all_bits (is_bindable n v r s) bitmap (bit_or others pending) fits (λ k lt.
-      set-or k others pending ∙ (λ t. are_others k lt t || are_pending k lt t)
-      ∙ neither-is (is_bound_to_another n v r (class_of s) k s) (is_pending v r (class_of s) k))
+      → (k : ℕ) → k < 64 → is_set k (bit_or others pending) ≡ not (is_bindable n v r s k)
+  not-bindable n others pending are_others are_pending k lt =
+      set-or k others pending
+      ∙ (λ t. are_others k lt t || are_pending k lt t)
+      ∙ neither-is (is_bound_to_another n v r (class_of s) k s) (is_pending v r (class_of s) k)
 
   module _ (bound : ℕ) (fits_bound : bound < 2 ^ 64) (are_bound : (k : ℕ) → k < 64 → is_set k bound ≡ is_bound v r (class_of s) k s) where
-    pub unbindable : (pending : ℕ) → ((k : ℕ) → k < 64 → is_set k pending ≡ is_pending v r (class_of s) k)
-        → (bit_and bitmap (bit_or (bit_not w64 bound) pending) == 0) ≡ list_all (is_unbindable v r s) (bits_of bitmap)
-    unbindable pending are_pending =
-        all_bits (is_unbindable v r s) bitmap (bit_or (bit_not w64 bound) pending) fits (λ k lt.
-        set-or k (bit_not w64 bound) pending
-        ∙ (λ t. (set-not k bound fits_bound lt ∙ ap not (are_bound k lt)) t || are_pending k lt t)
-        ∙ only-first (is_bound v r (class_of s) k s) (is_pending v r (class_of s) k))
+    pub not-settable : (k : ℕ) → k < 64 → is_set k (bit_not w64 bound) ≡ not (is_bound v r (class_of s) k s)
+    not-settable k lt = set-not k bound fits_bound lt ∙ ap not (are_bound k lt)
 
-    pub settable : (bit_and bitmap (bit_not w64 bound) == 0) ≡ list_all (λ k. is_bound v r (class_of s) k s) (bits_of bitmap)
-    settable = all_bits (λ k. is_bound v r (class_of s) k s) bitmap (bit_not w64 bound) fits (λ k lt. set-not k bound fits_bound lt ∙ ap not (are_bound k lt))
+    pub not-unbindable : (pending : ℕ) → ((k : ℕ) → k < 64 → is_set k pending ≡ is_pending v r (class_of s) k)
+        → (k : ℕ) → k < 64 → is_set k (bit_or (bit_not w64 bound) pending) ≡ not (is_unbindable v r s k)
+    not-unbindable pending are_pending k lt =
+        set-or k (bit_not w64 bound) pending
+        ∙ (λ t. not-settable k lt t || are_pending k lt t)
+        ∙ only-first (is_bound v r (class_of s) k s) (is_pending v r (class_of s) k)
 
 -- the word of a receiver's class
 module _ (v : Notifications) (r class word : ℕ) (fits : word < 2 ^ 64) (are : (k : ℕ) → k < 64 → is_set k word ≡ is_pending v r class k) where

@@ -19,9 +19,18 @@ impl Bitmaps {
         requires sender { is_known_among (length self.now.bitmaps) sender.0 ≡ true }
         ensures { result ≡ list_all (is_bindable (length self.now.bitmaps) self.now receiver.0 sender.0) (bits_of bitmap) }
     {
+        bitmap & self.not_bindable(receiver, sender) == 0
+    }
+
+    // The bits of a receiver that a sender may not get: others of the class may set them, or they are pending.
+    pub(crate) fn not_bindable(&self, receiver: EndpointId, sender: EndpointId) -> u64
+        requires receiver { is_known_among (length self.now.bitmaps) receiver.0 ≡ true }
+        requires sender { is_known_among (length self.now.bitmaps) sender.0 ≡ true }
+        ensures { (k : ℕ) → k < 64 → is_set k result ≡ not (is_bindable (length self.now.bitmaps) self.now receiver.0 sender.0 k) }
+    {
         let taken = self.bound_to_others(receiver, sender);
         let pending = self.pending(receiver, Class::of(sender));
-        bitmap & (taken | pending) == 0
+        taken | pending
     }
 
     // Whether a sender may lose all these bits of a receiver.
@@ -35,9 +44,18 @@ impl Bitmaps {
         requires sender { is_known_among (length self.now.bitmaps) sender.0 ≡ true }
         ensures { result ≡ list_all (is_unbindable self.now receiver.0 sender.0) (bits_of bitmap) }
     {
+        bitmap & self.not_unbindable(receiver, sender) == 0
+    }
+
+    // The bits of a receiver that a sender may not lose: it may not set them, or they are pending.
+    pub(crate) fn not_unbindable(&self, receiver: EndpointId, sender: EndpointId) -> u64
+        requires receiver { is_known_among (length self.now.bitmaps) receiver.0 ≡ true }
+        requires sender { is_known_among (length self.now.bitmaps) sender.0 ≡ true }
+        ensures { (k : ℕ) → k < 64 → is_set k result ≡ not (is_unbindable self.now receiver.0 sender.0 k) }
+    {
         let bound = self.bound_to(receiver, sender);
         let pending = self.pending(receiver, Class::of(sender));
-        bitmap & (!bound | pending) == 0
+        !bound | pending
     }
 
     // Whether a sender may set all these bits of a receiver.
@@ -46,8 +64,16 @@ impl Bitmaps {
         requires sender { is_known_among (length self.now.bitmaps) sender.0 ≡ true }
         ensures { result ≡ list_all (λ k. is_bound self.now receiver.0 (class_of sender.0) k sender.0) (bits_of bitmap) }
     {
-        let bound = self.bound_to(receiver, sender);
-        bitmap & !bound == 0
+        bitmap & self.not_settable(receiver, sender) == 0
+    }
+
+    // The bits of a receiver that a sender may not set.
+    pub(crate) fn not_settable(&self, receiver: EndpointId, sender: EndpointId) -> u64
+        requires receiver { is_known_among (length self.now.bitmaps) receiver.0 ≡ true }
+        requires sender { is_known_among (length self.now.bitmaps) sender.0 ≡ true }
+        ensures { (k : ℕ) → k < 64 → is_set k result ≡ not (is_bound self.now receiver.0 (class_of sender.0) k sender.0) }
+    {
+        !self.bound_to(receiver, sender)
     }
 
     // Whether any bit of a receiver is pending.

@@ -5,6 +5,7 @@ mod bitmaps;
 mod calls;
 mod checks;
 mod class;
+mod failing;
 mod first;
 mod words;
 

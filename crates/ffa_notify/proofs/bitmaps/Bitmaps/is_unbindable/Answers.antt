@@ -1,10 +1,6 @@
-use Rattle.std.proofs.Common.{◌∙◌, ap}
-use Rattle.ffa_model.specs.Notifications.{is_pending}
-use Rattle.ffa_notify.proofs.Tests.{unbindable}
+use Rattle.ffa_model.specs.Notifications.{is_unbindable}
+use Rattle.ffa_notify.proofs.Bits.{all_bits}
 use Rattle.ffa_notify.proofs.bitmaps.Bitmaps.is_unbindable.Goals as goal
 
 pub returns : goal.returns
-returns c =
-    unbindable c.args.self.now c.args.receiver.0 c.args.sender.0 c.args.bitmap c.ranges.bitmap.fits
-    c.bound_to-bound.result c.bound_to-bound.type_inv c.bound_to-bound.ensures c.pending-pending.result
-    (λ k lt. c.pending-pending.ensures k lt ∙ ap (λ class. is_pending c.args.self.now c.args.receiver.0 class k) c.of.ensures)
+returns c = all_bits (is_unbindable c.args.self.now c.args.receiver.0 c.args.sender.0) c.args.bitmap c.not_unbindable.result c.ranges.bitmap.fits c.not_unbindable.ensures
