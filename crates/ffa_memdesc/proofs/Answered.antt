@@ -1,7 +1,7 @@
 -- From a record that is computed, or a condition that is broken, to an answer about a relation.
 use Rattle.std.proofs.Common.{◌≡◌, Option, Some, None, Result, Ok, Err, refl, sym, IfOk, IfErr, OnErr}
 use Rattle.std.specs.Option.{option_map}
-use Rattle.std.specs.Result.{result_ok}
+use Rattle.std.specs.Result.{result_ok, result_err}
 
 module _ {D R E : Type 0} (view : D → R) (Fits : R → Type 0) (Breaks : E → Type 0) (computed : Option R) where
   pub found : (r : Result D E) → ((x : R) → computed ≡ Some x → Fits x) → IfOk r (λ d. Some (view d) ≡ computed) → IfOk r (λ d. Fits (view d))
@@ -20,6 +20,11 @@ module _ {D R E : Type 0} (view : D → R) (Fits : R → Type 0) (Breaks : E →
       → IfOk r (λ d. Some (view d) ≡ computed) → IfErr r Breaks → option_map view (result_ok r) ≡ computed
   all (Ok d) told refutes is broken = is
   all (Err e) told refutes is broken = no_record e computed told refutes broken
+
+-- what holds of the first holds of an error that tells it
+pub told_breaks : {D E : Type 0} (r : Result D E) (first : Option E) (Breaks : E → Type 0) → ((e : E) → Some e ≡ first → Breaks e) → result_err r ≡ first → IfErr r Breaks
+told_breaks (Ok d) first Breaks broken is = tt
+told_breaks (Err e) first Breaks broken is = broken e is
 
 pub mapped : {D : Type 0} (o p : Option D) → option_map (λ (d : D). d) o ≡ p → o ≡ p
 mapped (Some d) p e = e

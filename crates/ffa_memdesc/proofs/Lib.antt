@@ -1,12 +1,15 @@
 pub mod Numbers
 pub mod Listed
+pub mod Firsts
 pub mod Entries
 pub mod Decisions
 pub mod HeaderLaw
 pub mod SendLaw
 pub mod SendParts
+pub mod FirstLaw
 pub mod FlawLaw
 pub mod Answered
+pub mod PlaceLaw
 pub mod RetrieveParts
 pub mod Writes
 pub mod Runs

@@ -1,15 +1,18 @@
 -- What each part of a reader tells of the whole retrieve.
-use Rattle.std.proofs.Common.{◌≡◌, ℕ, ◌+◌, ◌*◌, ◌≤◌, true, Option, Some, sym, ap, ◌∙◌, eqb, arith}
+use Rattle.std.proofs.Common.{◌≡◌, ℕ, ◌+◌, ◌*◌, ◌≤◌, true, Option, Some, None, sym, ap, ◌∙◌, eqb, arith}
 use Rattle.std.proofs.lemmas.Bool.{and_from, and_parts, eqb-true}
 use Rattle.ffa_model.specs.Bits.{bits}
 use Rattle.ffa_model.specs.declared.rights.Data.{Data}
 use Rattle.ffa_model.specs.declared.rights.Kind.{Kind}
 use Rattle.ffa_model.specs.DescriptorPlaces.{IsHeader, data_of, kind_of, receiver_count, Versioned}
 use Rattle.ffa_model.specs.RetrieveDescriptor.{retrieve_in, is_retrieve_header, is_retrieve_access, retrieve_of}
+use Rattle.ffa_model.specs.declared.flaw.Flaw.{Flaw}
+use Rattle.ffa_model.specs.FirstFlaws.{header_flaw, asked_header_flaw, asked_access_flaw, retrieve_flaw}
 use Rattle.ffa_memdesc.specs.declared.access.Access.{Access}
 use Rattle.ffa_memdesc.specs.declared.header.Header.{Header}
 use Rattle.ffa_memdesc.specs.Reading.{header_in, access_in}
 use Rattle.ffa_memdesc.proofs.Decisions.{cond_true}
+use Rattle.ffa_memdesc.proofs.Firsts.{or_first, or_second}
 use Rattle.ffa_memdesc.proofs.HeaderLaw.{header_again}
 
 -- what the parts gave is what the bytes say
@@ -29,3 +32,17 @@ access_inside b h n same inside e =
     let one : receiver_count b ≡ 1 = eqb-true (receiver_count b) 1 (and_parts _ _ e).1 in
     let count : h.count ≡ receiver_count b = ap (λ (x : Header). x.count) same in
     omega arith
+
+-- what the bytes break first, where the parts before break nothing
+module _ (e : ℕ) (b : Versioned) where
+  pub first_in_header : (flaw : Flaw) → Some flaw ≡ header_flaw b → Some flaw ≡ retrieve_flaw e b
+  unfolding retrieve_flaw
+  first_in_header flaw is = or_first _ _ flaw is
+
+  pub first_in_fields : (flaw : Flaw) → None ≡ header_flaw b → Some flaw ≡ asked_header_flaw b → Some flaw ≡ retrieve_flaw e b
+  unfolding retrieve_flaw
+  first_in_fields flaw header is = or_second _ _ _ header (or_first _ _ flaw is)
+
+  pub first_in_access : (told : Option Flaw) → None ≡ header_flaw b → None ≡ asked_header_flaw b → told ≡ asked_access_flaw e b → told ≡ retrieve_flaw e b
+  unfolding retrieve_flaw
+  first_in_access told header fields is = or_second _ _ _ header (or_second _ _ _ fields is)

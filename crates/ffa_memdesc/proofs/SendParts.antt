@@ -1,26 +1,20 @@
 -- What each part of a reader tells of the whole send.
-use Rattle.std.proofs.Common.{◌≡◌, ◌≢◌, ℕ, ◌+◌, ◌*◌, ◌≤◌, Bool, Option, true, false, List, Some, refl, sym, ap, ◌∙◌, subst, eqb, arith}
-use Rattle.std.proofs.lemmas.Bool.{and_from, and_parts, leb-true, eqb-true, eq-eqb}
+use Rattle.std.proofs.Common.{◌≡◌, ◌≢◌, ℕ, ◌+◌, ◌*◌, ◌≤◌, Bool, Option, true, false, List, Some, None, refl, sym, ap, ◌∙◌, subst, eqb, arith}
+use Rattle.std.proofs.lemmas.Bool.{and_from, and_parts, leb-true, eq-eqb, ne_eqb}
 use Rattle.std.proofs.lemmas.Option.{cond_some}
 use Rattle.ffa_model.specs.declared.flaw.Flaw.{Flaw}
-use Rattle.ffa_model.specs.declared.flaw.Flaw.TheVariants.{Header as FlawOfHeader, Send as FlawOfSend, Access as FlawOfAccess, Composite as FlawOfComposite, Range as FlawOfRange, Retrieve as FlawOfRetrieve, Relinquish as FlawOfRelinquish}
-use Rattle.ffa_model.specs.declared.flaw.AccessFlaw.{AccessFlaw}
-use Rattle.ffa_model.specs.declared.flaw.AccessFlaw.TheVariants.{Permissions, Flags, OtherComposite, Reserved as AccessReserved, ReceiverIsSender, ReceiverTwice}
-use Rattle.ffa_model.specs.declared.flaw.CompositeFlaw.{CompositeFlaw}
-use Rattle.ffa_model.specs.declared.flaw.CompositeFlaw.TheVariants.{Outside, Unaligned, InArray, NoRange, ManyRanges, Reserved as CompositeReserved, RangesOutside, Total}
-use Rattle.ffa_model.specs.declared.flaw.RangeFlaw.{RangeFlaw}
-use Rattle.ffa_model.specs.declared.flaw.RangeFlaw.TheVariants.{Empty, Unaligned as RangeUnaligned, TooHigh, Reserved as RangeReserved, Overlap}
-use Rattle.ffa_model.specs.Flaws.{AccessBreaks, CompositeBreaks, RangeBreaks, SendBreaks}
+use Rattle.ffa_model.specs.declared.flaw.Flaw.TheVariants.{Composite}
+use Rattle.ffa_model.specs.declared.flaw.CompositeFlaw.TheVariants.{Total}
+use Rattle.ffa_model.specs.FirstFlaws.{header_flaw, send_header_flaw, access_flaw, composite_flaw, range_flaw, total_flaw, send_flaw, first_of}
 use Rattle.ffa_model.specs.declared.rights.Kind.{Kind}
 use Rattle.ffa_model.specs.declared.transaction.Range.{Range}
 use Rattle.ffa_model.specs.declared.transaction.Receiver.{Receiver}
-use Rattle.ffa_model.specs.DescriptorPlaces.{IsHeader, u32_at, composite_place, array_end, access_place, endpoint_field, range_place, receiver_count, range_count, total_field, Versioned, sender_field, array_place}
-use Rattle.ffa_model.specs.SendDescriptor.{is_access_beside, is_composite, is_range_beside, is_send_header, is_send_body, holds_at_each, send_in, send_counted, send_of, receivers_in, ranges_in, receiver_in, range_in, are_apart, page_total}
+use Rattle.ffa_model.specs.DescriptorPlaces.{IsHeader, u32_at, composite_place, array_end, receiver_count, range_count, total_field, Versioned, sender_field, array_place}
+use Rattle.ffa_model.specs.SendDescriptor.{is_access_beside, is_composite, is_range_beside, is_send_header, is_send_body, holds_at_each, send_in, send_counted, send_of, receivers_in, ranges_in, page_total}
 use Rattle.ffa_memdesc.specs.declared.header.Header.{Header}
-use Rattle.ffa_memdesc.specs.Reading.{header_in, receivers_of, range_count_of, ranges_of, AccessFails, ReceiversBreak, CompositeFails, RangeFails, RangesBreak}
+use Rattle.ffa_memdesc.specs.Reading.{header_in, receivers_of, range_count_of, ranges_of, access_flaw_at, access_flaw_after, composite_flaw_at, range_flaw_at, range_flaw_after}
 use Rattle.ffa_memdesc.proofs.HeaderLaw.{header_again}
-use Rattle.ffa_memdesc.proofs.SendLaw.{grant_again, apart_again}
-use Rattle.ffa_memdesc.proofs.Listed.{some_told, some_not}
+use Rattle.ffa_memdesc.proofs.Firsts.{or_first, or_second}
 
 -- what stands behind the header, by the places that the bytes themselves tell
 abbrev pub receivers_told : Kind → Versioned → Option (List Receiver)
@@ -84,78 +78,62 @@ entry_inside kind b h n same inside e =
     let count : h.count ≡ receiver_count b = ap (λ (x : Header). x.count) same in
     omega arith
 
--- a flaw of a part is one of the send
-lost : (x : Bool) → x ≡ false → x ≡ true → ⊥
-lost x e f = absurd cc
+-- what a part finds broken first is what the bytes break first there
+pub receivers_first : (kind : Kind) (b : Versioned) (h : Header) (composite : ℕ) (told : Option Flaw) → h ≡ header_in b → composite ≡ composite_place b
+    → told ≡ first_of h.count (access_flaw_after kind h.sender.0 composite b.bytes h.array) → told ≡ first_of (receiver_count b) (access_flaw kind b)
+unfolding access_flaw access_flaw_at
+receivers_first kind b h composite told header place e = rw e (rw (header, place) refl)
 
-access_lifts : (kind : Kind) (b : Versioned) (i : ℕ) (flaw : AccessFlaw)
-    → AccessFails kind (sender_field b) (composite_place b) b.bytes (access_place b i) (receivers_in b i) flaw → AccessBreaks kind b i flaw
-access_lifts kind b i Permissions broken = λ h. lost _ broken (grant_again kind _ h)
-access_lifts kind b i Flags broken = broken
-access_lifts kind b i OtherComposite broken = broken
-access_lifts kind b i AccessReserved broken = broken
-access_lifts kind b i ReceiverIsSender broken = broken
-access_lifts kind b i ReceiverTwice broken =
-    let (j, before, same) = some_told (λ (r : Receiver). eqb r.endpoint.0 (endpoint_field b.bytes (access_place b i))) (receiver_in b) i broken in
-    (j, before, eqb-true _ _ same)
+pub composite_first : (b : Versioned) (h : Header) (composite : ℕ) (told : Option Flaw) → h ≡ header_in b → composite ≡ composite_place b
+    → told ≡ composite_flaw_at b.bytes (h.array + 16 * h.count) composite → told ≡ composite_flaw b
+unfolding composite_flaw composite_flaw_at
+composite_first b h composite told header place e = rw e (rw (header, place) refl)
 
-receivers_lift : (kind : Kind) (b : Versioned) (flaw : Flaw)
-    → ReceiversBreak kind (sender_field b) (composite_place b) b.bytes (array_place b) (receiver_count b) flaw → SendBreaks kind b flaw
-receivers_lift kind b (FlawOfHeader flaw) broken = absurd broken
-receivers_lift kind b (FlawOfSend flaw) broken = absurd broken
-receivers_lift kind b (FlawOfAccess i flaw) (lt, broken) = (lt, access_lifts kind b i flaw broken)
-receivers_lift kind b (FlawOfComposite flaw) broken = absurd broken
-receivers_lift kind b (FlawOfRange i flaw) broken = absurd broken
-receivers_lift kind b (FlawOfRetrieve flaw) broken = absurd broken
-receivers_lift kind b (FlawOfRelinquish flaw) broken = absurd broken
+pub ranges_first : (b : Versioned) (composite n : ℕ) (told : Option Flaw) → composite ≡ composite_place b → n ≡ range_count b
+    → told ≡ first_of n (range_flaw_after b.bytes composite) → told ≡ first_of (range_count b) (range_flaw b)
+unfolding range_flaw range_flaw_at
+ranges_first b composite n told place count e = rw e (rw (place, count) refl)
 
-pub receivers_break : (kind : Kind) (b : Versioned) (h : Header) (composite : ℕ) (flaw : Flaw) → h ≡ header_in b → composite ≡ composite_place b
-    → ReceiversBreak kind h.sender.0 composite b.bytes h.array h.count flaw → SendBreaks kind b flaw
-receivers_break kind b h composite flaw header place broken =
-    receivers_lift kind b flaw
-    (subst (λ (p : ℕ). ReceiversBreak kind (sender_field b) p b.bytes (array_place b) (receiver_count b) flaw) place
-    (subst (λ (x : Header). ReceiversBreak kind x.sender.0 composite b.bytes x.array x.count flaw) header broken))
+pub total_first : (b : Versioned) (sum told : ℕ) → Totals b sum told → sum ≢ told → Some (Composite Total) ≡ total_flaw b
+unfolding total_flaw
+total_first b sum told t differ =
+    let fails : eqb (page_total (ranges_in b (range_count b))) (total_field b) ≡ false = ne_eqb _ _ (λ e. differ (t.sum_is ∙ e ∙ sym t.told_is)) in
+    rw fails refl
 
-composite_lifts : (b : Versioned) (flaw : CompositeFlaw) → CompositeFails b.bytes (array_end b) (composite_place b) flaw → CompositeBreaks b flaw
-composite_lifts b Outside broken = omega arith
-composite_lifts b Unaligned broken = broken
-composite_lifts b InArray broken = broken
-composite_lifts b NoRange broken = broken
-composite_lifts b ManyRanges broken = broken
-composite_lifts b CompositeReserved broken = broken
-composite_lifts b RangesOutside broken = broken
-composite_lifts b Total broken = absurd broken
+pub total_none : (b : Versioned) (sum told : ℕ) → Totals b sum told → sum ≡ told → None ≡ total_flaw b
+unfolding total_flaw
+total_none b sum told t equal =
+    let holds : eqb (page_total (ranges_in b (range_count b))) (total_field b) ≡ true = eq-eqb _ _ (sym t.sum_is ∙ equal ∙ t.told_is) in
+    rw holds refl
 
-pub composite_breaks : (b : Versioned) (h : Header) (composite : ℕ) (flaw : CompositeFlaw) → h ≡ header_in b → composite ≡ composite_place b
-    → CompositeFails b.bytes (h.array + 16 * h.count) composite flaw → CompositeBreaks b flaw
-composite_breaks b h composite flaw header place broken =
-    composite_lifts b flaw
-    (subst (λ (p : ℕ). CompositeFails b.bytes (array_end b) p flaw) place
-    (subst (λ (x : Header). CompositeFails b.bytes (x.array + 16 * x.count) composite flaw) header broken))
+-- and the first of the whole, where the parts before break nothing
+module _ (kind : Kind) (b : Versioned) where
+  pub first_in_header : (flaw : Flaw) → Some flaw ≡ header_flaw b → Some flaw ≡ send_flaw kind b
+  unfolding send_flaw
+  first_in_header flaw e = or_first _ _ flaw e
 
-range_lifts : (b : Versioned) (i : ℕ) (flaw : RangeFlaw) → RangeFails b.bytes (range_place b i) (ranges_in b i) flaw → RangeBreaks b i flaw
-range_lifts b i Empty broken = broken
-range_lifts b i RangeUnaligned broken = broken
-range_lifts b i TooHigh broken = broken
-range_lifts b i RangeReserved broken = broken
-range_lifts b i Overlap broken =
-    let (j, before, meets) = some_not (are_apart (range_in b i)) (range_in b) i broken in
-    (j, before, λ h. lost _ meets (apart_again (range_in b i) (range_in b j) h))
+  pub first_in_fields : (flaw : Flaw) → None ≡ header_flaw b → Some flaw ≡ send_header_flaw kind b → Some flaw ≡ send_flaw kind b
+  unfolding send_flaw
+  first_in_fields flaw header e = or_second _ _ _ header (or_first _ _ flaw e)
 
-ranges_lift : (kind : Kind) (b : Versioned) (flaw : Flaw) → RangesBreak b.bytes (composite_place b) (range_count b) flaw → SendBreaks kind b flaw
-ranges_lift kind b (FlawOfHeader flaw) broken = absurd broken
-ranges_lift kind b (FlawOfSend flaw) broken = absurd broken
-ranges_lift kind b (FlawOfAccess i flaw) broken = absurd broken
-ranges_lift kind b (FlawOfComposite flaw) broken = absurd broken
-ranges_lift kind b (FlawOfRange i flaw) (lt, broken) = (lt, range_lifts b i flaw broken)
-ranges_lift kind b (FlawOfRetrieve flaw) broken = absurd broken
-ranges_lift kind b (FlawOfRelinquish flaw) broken = absurd broken
+  pub first_in_receivers : (flaw : Flaw) → None ≡ header_flaw b → None ≡ send_header_flaw kind b
+      → Some flaw ≡ first_of (receiver_count b) (access_flaw kind b) → Some flaw ≡ send_flaw kind b
+  unfolding send_flaw
+  first_in_receivers flaw header fields e = or_second _ _ _ header (or_second _ _ _ fields (or_first _ _ flaw e))
 
-pub ranges_break : (kind : Kind) (b : Versioned) (composite n : ℕ) (flaw : Flaw) → composite ≡ composite_place b → n ≡ range_count b
-    → RangesBreak b.bytes composite n flaw → SendBreaks kind b flaw
-ranges_break kind b composite n flaw place count broken =
-    ranges_lift kind b flaw
-    (subst (λ (k : ℕ). RangesBreak b.bytes (composite_place b) k flaw) count (subst (λ (p : ℕ). RangesBreak b.bytes p n flaw) place broken))
+  pub first_in_composite : (flaw : Flaw) → None ≡ header_flaw b → None ≡ send_header_flaw kind b → None ≡ first_of (receiver_count b) (access_flaw kind b)
+      → Some flaw ≡ composite_flaw b → Some flaw ≡ send_flaw kind b
+  unfolding send_flaw
+  first_in_composite flaw header fields receivers e = or_second _ _ _ header (or_second _ _ _ fields (or_second _ _ _ receivers (or_first _ _ flaw e)))
 
-pub total_breaks : (b : Versioned) (sum told : ℕ) → Totals b sum told → sum ≢ told → page_total (ranges_in b (range_count b)) ≢ total_field b
-total_breaks b sum told t differ e = differ (t.sum_is ∙ e ∙ sym t.told_is)
+  pub first_in_ranges : (flaw : Flaw) → None ≡ header_flaw b → None ≡ send_header_flaw kind b → None ≡ first_of (receiver_count b) (access_flaw kind b)
+      → None ≡ composite_flaw b → Some flaw ≡ first_of (range_count b) (range_flaw b) → Some flaw ≡ send_flaw kind b
+  unfolding send_flaw
+  first_in_ranges flaw header fields receivers composite e =
+      or_second _ _ _ header (or_second _ _ _ fields (or_second _ _ _ receivers (or_second _ _ _ composite (or_first _ _ flaw e))))
+
+  pub first_in_total : (told : Option Flaw) → None ≡ header_flaw b → None ≡ send_header_flaw kind b → None ≡ first_of (receiver_count b) (access_flaw kind b)
+      → None ≡ composite_flaw b → None ≡ first_of (range_count b) (range_flaw b) → told ≡ total_flaw b → told ≡ send_flaw kind b
+  unfolding send_flaw
+  first_in_total told header fields receivers composite ranges e =
+      or_second _ _ _ header (or_second _ _ _ fields (or_second _ _ _ receivers (or_second _ _ _ composite (or_second _ _ _ ranges e))))

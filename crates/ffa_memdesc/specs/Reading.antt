@@ -1,12 +1,9 @@
 -- What the parts of a reader answer.
-use Rattle.std.specs.Prelude.{◌≡◌, ◌≢◌, ◌<◌, ℕ, ◌+◌, ◌*◌, ◌%◌, ◌^◌, ◌==◌, Bool, true, false, not, ◌&&◌, nat_le, if◌then◌else◌, List, length, Option, Some, None}
+use Rattle.std.specs.Prelude.{ℕ, ◌+◌, ◌*◌, ◌%◌, ◌^◌, ◌==◌, Bool, not, ◌&&◌, nat_le, if◌then◌else◌, List, [], ◌∷◌, length, Option, Some, None}
 use Rattle.ffa_model.specs.declared.flaw.Flaw.{Flaw}
-use Rattle.ffa_model.specs.declared.flaw.Flaw.TheVariants.{Access as FlawOfAccess, Range as FlawOfRange}
-use Rattle.ffa_model.specs.declared.flaw.AccessFlaw.{AccessFlaw}
+use Rattle.ffa_model.specs.declared.flaw.Flaw.TheVariants.{Access as FlawOfAccess, Composite as FlawOfComposite, Range as FlawOfRange}
 use Rattle.ffa_model.specs.declared.flaw.AccessFlaw.TheVariants.{Permissions, Flags, OtherComposite, Reserved as AccessReserved, ReceiverIsSender, ReceiverTwice}
-use Rattle.ffa_model.specs.declared.flaw.CompositeFlaw.{CompositeFlaw}
-use Rattle.ffa_model.specs.declared.flaw.CompositeFlaw.TheVariants.{Outside, Unaligned, InArray, NoRange, ManyRanges, Reserved as CompositeReserved, RangesOutside, Total}
-use Rattle.ffa_model.specs.declared.flaw.RangeFlaw.{RangeFlaw}
+use Rattle.ffa_model.specs.declared.flaw.CompositeFlaw.TheVariants.{Outside, Unaligned, InArray, NoRange, ManyRanges, Reserved as CompositeReserved, RangesOutside}
 use Rattle.ffa_model.specs.declared.flaw.RangeFlaw.TheVariants.{Empty, Unaligned as RangeUnaligned, TooHigh, Reserved as RangeReserved, Overlap}
 use Rattle.ffa_model.specs.declared.limits.TheConstants.{MOST_RANGES}
 use Rattle.ffa_model.specs.declared.rights.Kind.{Kind}
@@ -15,6 +12,7 @@ use Rattle.ffa_model.specs.declared.transaction.Range.{Range}
 use Rattle.std.specs.List.{list_all}
 use Rattle.ffa_model.specs.Lists.{listed}
 use Rattle.ffa_model.specs.DescriptorPlaces.{Versioned, sender_field, attributes_field, flags_field, handle_field, tag_field, receiver_count, array_place, endpoint_field, permissions_field, access_flags_field, composite_field, access_reserved_field, u32_at, u64_at}
+use Rattle.ffa_model.specs.FirstFlaws.{first_broken}
 use Rattle.ffa_model.specs.SendDescriptor.{is_grant, is_named, receiver_at, is_range, are_apart, range_at, range_end, holds_at_each}
 use Rattle.ffa_memdesc.specs.declared.header.Header.{Header}
 use Rattle.ffa_memdesc.specs.declared.access.Access.{Access}
@@ -98,40 +96,46 @@ unfoldable pub ranges_of : List ℕ → ℕ → ℕ → Option (List Range)
 ranges_of b composite n =
     if holds_at_each (is_range_after b composite) n then Some (listed n (range_after b composite)) else None
 
--- WHAT IS BROKEN, by the same places
-abbrev pub AccessFails : Kind → ℕ → ℕ → List ℕ → ℕ → List Receiver → AccessFlaw → Type 0
-AccessFails kind sender composite b at earlier Permissions = is_grant kind (permissions_field b at) ≡ false
-AccessFails kind sender composite b at earlier Flags = access_flags_field b at ≢ 0
-AccessFails kind sender composite b at earlier OtherComposite = composite_field b at ≢ composite
-AccessFails kind sender composite b at earlier AccessReserved = access_reserved_field b at ≢ 0
-AccessFails kind sender composite b at earlier ReceiverIsSender = endpoint_field b at ≡ sender
-AccessFails kind sender composite b at earlier ReceiverTwice = is_named (endpoint_field b at) earlier ≡ true
+-- WHICH CONDITION IS BROKEN FIRST, by the same places
 
--- the flaw is of one of the first n access descriptors of an array
-abbrev pub ReceiversBreak : Kind → ℕ → ℕ → List ℕ → ℕ → ℕ → Flaw → Type 0
-ReceiversBreak kind sender composite b array n (FlawOfAccess i flaw) =
-    (i < n) × AccessFails kind sender composite b (array + 16 * i) (listed i (receiver_after b array)) flaw
-ReceiversBreak kind sender composite b array n flaw = ⊥
+-- of the access descriptor at a place, which is number i
+unfoldable pub access_flaw_at : Kind → ℕ → ℕ → List ℕ → ℕ → List Receiver → ℕ → Option Flaw
+access_flaw_at kind sender composite b at earlier i =
+    first_broken ((is_grant kind (permissions_field b at), FlawOfAccess i Permissions)
+    ∷ (access_flags_field b at == 0, FlawOfAccess i Flags)
+    ∷ (composite_field b at == composite, FlawOfAccess i OtherComposite)
+    ∷ (access_reserved_field b at == 0, FlawOfAccess i AccessReserved)
+    ∷ (not (endpoint_field b at == sender), FlawOfAccess i ReceiverIsSender)
+    ∷ (not (is_named (endpoint_field b at) earlier), FlawOfAccess i ReceiverTwice)
+    ∷ [])
 
-abbrev pub CompositeFails : List ℕ → ℕ → ℕ → CompositeFlaw → Type 0
-CompositeFails b end composite Outside = length b < composite + 16
-CompositeFails b end composite Unaligned = composite % 16 ≢ 0
-CompositeFails b end composite InArray = composite < end
-CompositeFails b end composite NoRange = u32_at b (composite + 4) < 1
-CompositeFails b end composite ManyRanges = MOST_RANGES < u32_at b (composite + 4)
-CompositeFails b end composite CompositeReserved = u64_at b (composite + 8) ≢ 0
-CompositeFails b end composite RangesOutside = length b < composite + 16 + 16 * u32_at b (composite + 4)
-CompositeFails b end composite Total = ⊥
+-- of access descriptor i of an array
+abbrev pub access_flaw_after : Kind → ℕ → ℕ → List ℕ → ℕ → ℕ → Option Flaw
+access_flaw_after kind sender composite b array i =
+    access_flaw_at kind sender composite b (array + 16 * i) (listed i (receiver_after b array)) i
 
-abbrev pub RangeFails : List ℕ → ℕ → List Range → RangeFlaw → Type 0
-RangeFails b at earlier Empty = (range_at b at).pages < 1
-RangeFails b at earlier RangeUnaligned = (range_at b at).address % 4096 ≢ 0
-RangeFails b at earlier TooHigh = 2 ^ 48 < range_end (range_at b at)
-RangeFails b at earlier RangeReserved = u32_at b (at + 12) ≢ 0
-RangeFails b at earlier Overlap = list_all (are_apart (range_at b at)) earlier ≡ false
+-- of a composite, without its ranges and the sum of these
+unfoldable pub composite_flaw_at : List ℕ → ℕ → ℕ → Option Flaw
+composite_flaw_at b end composite =
+    first_broken ((nat_le (composite + 16 + 16 * 0) (length b), FlawOfComposite Outside)
+    ∷ (composite % 16 == 0, FlawOfComposite Unaligned)
+    ∷ (nat_le end composite, FlawOfComposite InArray)
+    ∷ (nat_le 1 (u32_at b (composite + 4)), FlawOfComposite NoRange)
+    ∷ (nat_le (u32_at b (composite + 4)) MOST_RANGES, FlawOfComposite ManyRanges)
+    ∷ (u64_at b (composite + 8) == 0, FlawOfComposite CompositeReserved)
+    ∷ (nat_le (composite + 16 + 16 * u32_at b (composite + 4)) (length b), FlawOfComposite RangesOutside)
+    ∷ [])
 
--- the flaw is of one of the first n ranges of a composite
-abbrev pub RangesBreak : List ℕ → ℕ → ℕ → Flaw → Type 0
-RangesBreak b composite n (FlawOfRange i flaw) =
-    (i < n) × RangeFails b (composite + 16 + 16 * i) (listed i (range_after b composite)) flaw
-RangesBreak b composite n flaw = ⊥
+-- of the range at a place, which is number i
+unfoldable pub range_flaw_at : List ℕ → ℕ → List Range → ℕ → Option Flaw
+range_flaw_at b at earlier i =
+    first_broken ((nat_le 1 (range_at b at).pages, FlawOfRange i Empty)
+    ∷ ((range_at b at).address % 4096 == 0, FlawOfRange i RangeUnaligned)
+    ∷ (nat_le (range_end (range_at b at)) (2 ^ 48), FlawOfRange i TooHigh)
+    ∷ (u32_at b (at + 12) == 0, FlawOfRange i RangeReserved)
+    ∷ (list_all (are_apart (range_at b at)) earlier, FlawOfRange i Overlap)
+    ∷ [])
+
+-- of range i of a composite
+abbrev pub range_flaw_after : List ℕ → ℕ → ℕ → Option Flaw
+range_flaw_after b composite i = range_flaw_at b (composite + 16 + 16 * i) (listed i (range_after b composite)) i

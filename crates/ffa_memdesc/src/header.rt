@@ -1,8 +1,11 @@
 //! The transaction header, as it is read.
 
-ghost use Rattle.std.specs.Prelude.{◌≡◌, ◌+◌, ◌*◌, ◌≤◌, length, IfOk, IfErr, OnOk};
+ghost use Rattle.std.specs.Prelude.{◌≡◌, ◌+◌, ◌*◌, ◌≤◌, length, IfOk, OnOk};
+ghost use Rattle.std.specs.Option.{option_map};
+ghost use Rattle.std.specs.Result.{result_err};
 ghost use Rattle.ffa_model.specs.DescriptorPlaces.{told_access_size, array_in, header_size, in_version, is_rest_zero, IsHeader};
-ghost use Rattle.ffa_model.specs.Flaws.{HeaderBreaks};
+ghost use Rattle.ffa_model.specs.FirstFlaws.{header_flaw};
+ghost use Rattle.ffa_model.specs.declared.flaw.Flaw.TheVariants.{Header as FlawOfHeader};
 ghost use Rattle.ffa_memdesc.specs.Reading.{header_in};
 
 use crate::bytes::{Bytes, read_u16, read_u32, read_u64};
@@ -74,11 +77,12 @@ fn is_rest_zero<B: Bytes>(bytes: &B, version: Version) -> bool
 
 // The header in the form of a version. Its callers know which, so no place is asked for where it is inlined.
 #[inline(always)]
+#[tactic(auto, unfolding(ffa_model::specs::FirstFlaws::header_flaw))]
 fn read_in<B: Bytes>(bytes: &B, version: Version) -> Result<Header, HeaderFlaw>
     ensures whole { OnOk result (IsHeader (in_version version (B.bytes bytes.now))) }
     ensures found { IfOk result (λ h. h ≡ header_in (in_version version (B.bytes bytes.now))) }
     ensures inside { IfOk result (λ h. h.array + 16 * h.count ≤ length (B.bytes bytes.now)) }
-    ensures broken { IfErr result (HeaderBreaks (in_version version (B.bytes bytes.now))) }
+    ensures first { option_map (λ flaw. FlawOfHeader flaw) (result_err result) ≡ header_flaw (in_version version (B.bytes bytes.now)) }
 {
     let len = bytes.len();
     let size = header_size(version);
@@ -118,7 +122,7 @@ pub fn read_header<B: Bytes>(bytes: &B, version: Version) -> Result<Header, Head
     ensures whole { OnOk result (IsHeader (in_version version (B.bytes bytes.now))) }
     ensures found { IfOk result (λ h. h ≡ header_in (in_version version (B.bytes bytes.now))) }
     ensures inside { IfOk result (λ h. h.array + 16 * h.count ≤ length (B.bytes bytes.now)) }
-    ensures broken { IfErr result (HeaderBreaks (in_version version (B.bytes bytes.now))) }
+    ensures first { option_map (λ flaw. FlawOfHeader flaw) (result_err result) ≡ header_flaw (in_version version (B.bytes bytes.now)) }
 {
     match version {
         Version::Compact => read_in(bytes, Version::Compact),

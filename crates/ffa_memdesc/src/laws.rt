@@ -1,7 +1,8 @@
 //! Laws of the definitions.
 
-ghost use Rattle.std.specs.Prelude.{◌≡◌, ◌↔◌, ℕ, List, Some};
-ghost use Rattle.ffa_model.specs.DescriptorPlaces.{Versioned};
+ghost use Rattle.std.specs.Prelude.{◌≡◌, ◌↔◌, ◌+◌, ◌≤◌, ℕ, List, Some, length};
+ghost use Rattle.ffa_model.specs.DescriptorPlaces.{Versioned, IsHeader, array_place, composite_place};
+ghost use Rattle.ffa_model.specs.FlawPlaces.{told_array, told_composite};
 ghost use Rattle.ffa_model.specs.declared.flaw.Flaw.{Flaw};
 ghost use Rattle.ffa_model.specs.Flaws.{SendBreaks, RetrieveBreaks, RelinquishBreaks};
 ghost use Rattle.ffa_model.specs.SendDescriptor.{SendRecord, Send, send_of};
@@ -25,4 +26,11 @@ pub fn one_record()
     ensures send { (kind : Kind) (b : Versioned) (r : SendRecord) → Send kind b r ↔ (send_of kind b ≡ Some r) }
     ensures retrieve { (e : ℕ) (b : Versioned) (r : RetrieveDesc) → Retrieve e b r ↔ (retrieve_of e b ≡ Some r) }
     ensures relinquish { (b : List ℕ) (r : RelinquishDesc) → Relinquish b r ↔ (relinquish_of b ≡ Some r) }
+{}
+
+/// Where bytes have a header, the places that they tell are those of the access descriptors and, if the bytes go on so far, of
+/// the composite.
+pub fn told_places()
+    ensures array { (b : Versioned) → IsHeader b → told_array b ≡ array_place b }
+    ensures composite { (b : Versioned) → IsHeader b → array_place b + 8 ≤ length b.bytes → told_composite b ≡ composite_place b }
 {}

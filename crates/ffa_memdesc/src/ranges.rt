@@ -1,10 +1,14 @@
 //! The composite of a send: its ranges.
 
-ghost use Rattle.std.specs.Prelude.{◌≡◌, ◌+◌, ◌*◌, ◌≤◌, [], length, Some, IfOk, IfErr, OnOk};
+ghost use Rattle.std.specs.Prelude.{◌≡◌, ℕ, ◌+◌, ◌*◌, ◌≤◌, [], length, Some, IfOk, OnOk};
 ghost use Rattle.std.specs.List.{list_all};
+ghost use Rattle.std.specs.Option.{option_map};
+ghost use Rattle.std.specs.Result.{result_err};
 ghost use Rattle.ffa_model.specs.declared.limits.TheConstants.{MOST_RANGES};
+ghost use Rattle.ffa_model.specs.FirstFlaws.{first_of};
+ghost use Rattle.ffa_model.specs.declared.flaw.Flaw.TheVariants.{Composite as FlawOfComposite, Range as FlawOfRange};
 ghost use Rattle.ffa_model.specs.SendDescriptor.{range_end, are_apart, page_total};
-ghost use Rattle.ffa_memdesc.specs.Reading.{range_count_of, range_of, ranges_of, CompositeFails, RangeFails, RangesBreak};
+ghost use Rattle.ffa_memdesc.specs.Reading.{range_count_of, range_of, ranges_of, composite_flaw_at, range_flaw_at, range_flaw_after};
 
 use crate::bytes::{Bytes, read_u32, read_u64};
 use crate::header::{ENTRY_SIZE, Header};
@@ -12,7 +16,7 @@ use arrayvec::ArrayVec;
 use ffa_model::{CompositeFlaw, Flaw, MOST_RANGES, Range, RangeFlaw};
 
 /// How many ranges the composite has, where it stands behind the access descriptors and inside the bytes.
-#[tactic(auto, unfolding(crate::specs::Reading::range_count_of))]
+#[tactic(auto, unfolding(crate::specs::Reading::range_count_of, crate::specs::Reading::composite_flaw_at))]
 pub fn read_range_count<B: Bytes>(
     bytes: &B,
     header: &Header,
@@ -21,7 +25,8 @@ pub fn read_range_count<B: Bytes>(
     ensures found { IfOk result (λ n. Some n ≡ range_count_of (B.bytes bytes.now) (header.now.array + 16 * header.now.count) composite) }
     ensures few { IfOk result (λ n. n ≤ MOST_RANGES) }
     ensures inside { IfOk result (λ n. composite + 16 + 16 * n ≤ length (B.bytes bytes.now)) }
-    ensures broken { IfErr result (CompositeFails (B.bytes bytes.now) (header.now.array + 16 * header.now.count) composite) }
+    ensures first { option_map (λ flaw. FlawOfComposite flaw) (result_err result)
+        ≡ composite_flaw_at (B.bytes bytes.now) (header.now.array + 16 * header.now.count) composite }
 {
     let len = bytes.len() as u64;
     let first = composite as u64 + 16;
@@ -72,11 +77,11 @@ pub fn is_apart_from(range: &Range, others: &[Range]) -> bool
 }
 
 /// The range at this place, where it has no page of an earlier one.
-#[tactic(auto, unfolding(crate::specs::Reading::range_of))]
+#[tactic(auto, unfolding(crate::specs::Reading::range_of, crate::specs::Reading::range_flaw_at))]
 fn read_range<B: Bytes>(bytes: &B, at: usize, earlier: &[Range]) -> Result<Range, RangeFlaw>
     requires { at + 16 ≤ length (B.bytes bytes.now) }
     ensures found { IfOk result (λ r. Some r ≡ range_of (B.bytes bytes.now) at earlier.now) }
-    ensures broken { IfErr result (RangeFails (B.bytes bytes.now) at earlier.now) }
+    ensures first { (i : ℕ) → option_map (λ flaw. FlawOfRange i flaw) (result_err result) ≡ range_flaw_at (B.bytes bytes.now) at earlier.now i }
 {
     // Proof step: the number of bytes fits a usize.
     let _ = bytes.len();
@@ -113,7 +118,7 @@ pub fn read_ranges<B: Bytes>(
     requires inside { composite + 16 + 16 * count ≤ length (B.bytes bytes.now) }
     requires empty { ranges.old.items ≡ [] }
     ensures found { OnOk result (Some ranges.new.items ≡ ranges_of (B.bytes bytes.now) composite count) }
-    ensures broken { IfErr result (RangesBreak (B.bytes bytes.now) composite count) }
+    ensures first { result_err result ≡ first_of count (range_flaw_after (B.bytes bytes.now) composite) }
 {
     for i in 0..count {
         let at = composite as usize + 16 + ENTRY_SIZE as usize * i as usize;

@@ -1,10 +1,14 @@
 //! The receivers of a send.
 
-ghost use Rattle.std.specs.Prelude.{◌≡◌, ◌+◌, ◌*◌, ◌≤◌, length, Some, IfOk, IfErr};
+ghost use Rattle.std.specs.Prelude.{◌≡◌, ℕ, ◌+◌, ◌*◌, ◌≤◌, length, Some, IfOk};
+ghost use Rattle.std.specs.Option.{option_map};
+ghost use Rattle.std.specs.Result.{result_err};
 ghost use Rattle.ffa_model.specs.declared.limits.TheConstants.{MOST_RECEIVERS};
 ghost use Rattle.ffa_model.specs.DescriptorPlaces.{data_of};
+ghost use Rattle.ffa_model.specs.FirstFlaws.{first_of};
 ghost use Rattle.ffa_model.specs.SendDescriptor.{is_grant, is_named};
-ghost use Rattle.ffa_memdesc.specs.Reading.{receiver_of, receivers_of, AccessFails, ReceiversBreak};
+ghost use Rattle.ffa_model.specs.declared.flaw.Flaw.TheVariants.{Access as FlawOfAccess};
+ghost use Rattle.ffa_memdesc.specs.Reading.{receiver_of, receivers_of, access_flaw_at, access_flaw_after};
 
 use crate::access::read_access;
 use crate::bytes::Bytes;
@@ -41,7 +45,7 @@ pub fn is_named(endpoint: EndpointId, receivers: &[Receiver]) -> bool
 }
 
 /// The receiver of the access descriptor at this place, where no earlier one names it.
-#[tactic(auto, unfolding(crate::specs::Reading::receiver_of))]
+#[tactic(auto, unfolding(crate::specs::Reading::receiver_of, crate::specs::Reading::access_flaw_at))]
 fn read_receiver<B: Bytes>(
     bytes: &B,
     kind: Kind,
@@ -52,7 +56,8 @@ fn read_receiver<B: Bytes>(
 ) -> Result<Receiver, AccessFlaw>
     requires { at + 16 ≤ length (B.bytes bytes.now) }
     ensures found { IfOk result (λ r. Some r ≡ receiver_of kind sender.0 composite (B.bytes bytes.now) at earlier.now) }
-    ensures broken { IfErr result (AccessFails kind sender.0 composite (B.bytes bytes.now) at earlier.now) }
+    ensures first { (i : ℕ) → option_map (λ flaw. FlawOfAccess i flaw) (result_err result)
+        ≡ access_flaw_at kind sender.0 composite (B.bytes bytes.now) at earlier.now i }
 {
     let access = read_access(bytes, at);
     if !is_grant(kind, access.permissions) {
@@ -89,7 +94,8 @@ pub fn read_receivers<B: Bytes>(
     requires few { header.now.count ≤ MOST_RECEIVERS }
     requires inside { header.now.array + 16 * header.now.count ≤ length (B.bytes bytes.now) }
     ensures found { IfOk result (λ v. Some v.items ≡ receivers_of kind header.now.sender.0 composite (B.bytes bytes.now) header.now.array header.now.count) }
-    ensures broken { IfErr result (ReceiversBreak kind header.now.sender.0 composite (B.bytes bytes.now) header.now.array header.now.count) }
+    ensures first { result_err result
+        ≡ first_of header.now.count (access_flaw_after kind header.now.sender.0 composite (B.bytes bytes.now) header.now.array) }
 {
     let mut receivers = ArrayVec::new();
     for i in 0..header.count {

@@ -1,7 +1,8 @@
 //! Relinquish descriptors.
 
 ghost use Rattle.std.specs.Prelude.{◌≡◌, IfOk, IfErr, OnErr};
-ghost use Rattle.std.specs.Result.{result_ok};
+ghost use Rattle.std.specs.Result.{result_ok, result_err};
+ghost use Rattle.ffa_model.specs.FirstFlaws.{relinquish_flaw};
 ghost use Rattle.ffa_model.specs.Flaws.{RelinquishBreaks};
 ghost use Rattle.ffa_model.specs.RelinquishDescriptor.{Relinquish, relinquish_of};
 ghost use Rattle.ffa_model.specs.declared.descriptor.RelinquishDesc.{RelinquishDesc};
@@ -12,14 +13,15 @@ use ffa_model::{EndpointId, Flaw, RelinquishDesc, RelinquishFlaw};
 /// How many bytes a relinquish descriptor of one endpoint has.
 const SIZE: usize = 18;
 
-/// What the bytes say, wherever they lie, as a relinquish descriptor of one endpoint. An error is a
+/// What the bytes say, wherever they lie, as a relinquish descriptor of one endpoint. An error is the first
 /// condition of these that they break.
-#[tactic(auto, unfolding(ffa_model::specs::RelinquishDescriptor::relinquish_of))]
+#[tactic(auto, unfolding(ffa_model::specs::RelinquishDescriptor::relinquish_of, ffa_model::specs::FirstFlaws::relinquish_flaw))]
 pub fn read_relinquish<B: Bytes>(bytes: &B) -> Result<RelinquishDesc, Flaw>
     ensures found { IfOk result (λ d. Relinquish (B.bytes bytes.now) d) }
     ensures none { OnErr result ((r : RelinquishDesc) → Relinquish (B.bytes bytes.now) r → ⊥) }
     ensures computed { result_ok result ≡ relinquish_of (B.bytes bytes.now) }
     ensures broken { IfErr result (RelinquishBreaks (B.bytes bytes.now)) }
+    ensures first { result_err result ≡ relinquish_flaw (B.bytes bytes.now) }
 {
     if bytes.len() < SIZE {
         return Err(Flaw::Relinquish(RelinquishFlaw::Short));

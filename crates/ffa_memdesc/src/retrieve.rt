@@ -1,12 +1,15 @@
 //! Retrieve descriptors.
 
 ghost use Rattle.std.specs.Prelude.{◌≡◌, ℕ, true, Some, IfOk, IfErr, OnOk, OnErr};
-ghost use Rattle.std.specs.Result.{result_ok};
+ghost use Rattle.std.specs.Option.{option_map};
+ghost use Rattle.std.specs.Result.{result_ok, result_err};
 ghost use Rattle.ffa_model.specs.Bits.{bits};
 ghost use Rattle.ffa_model.specs.DescriptorPlaces.{Versioned, array_place, in_version, kind_of};
-ghost use Rattle.ffa_model.specs.Flaws.{AskedBreaks, RetrieveBreaks};
+ghost use Rattle.ffa_model.specs.FirstFlaws.{asked_header_flaw, asked_access_flaw, retrieve_flaw};
+ghost use Rattle.ffa_model.specs.Flaws.{RetrieveBreaks};
 ghost use Rattle.ffa_model.specs.RetrieveDescriptor.{Retrieve, retrieve_of, is_retrieve_header, is_retrieve_access};
 ghost use Rattle.ffa_model.specs.declared.descriptor.RetrieveDesc.{RetrieveDesc};
+ghost use Rattle.ffa_model.specs.declared.flaw.Flaw.TheVariants.{Retrieve as FlawOfRetrieve};
 ghost use Rattle.ffa_memdesc.specs.Reading.{header_in, access_in};
 
 use crate::access::{Access, read_access};
@@ -28,10 +31,10 @@ fn kind_of(flags: u32) -> Option<Kind>
 }
 
 /// Whether the header is that of a retrieve.
-#[tactic(auto, unfolding(ffa_model::specs::RetrieveDescriptor::is_retrieve_header))]
+#[tactic(auto, unfolding(ffa_model::specs::RetrieveDescriptor::is_retrieve_header, ffa_model::specs::FirstFlaws::asked_header_flaw))]
 fn check_header(header: &Header) -> Result<(), RetrieveFlaw>
     ensures fits { (b : Versioned) → header.now ≡ header_in b → OnOk result (is_retrieve_header b ≡ true) }
-    ensures broken { (endpoint : ℕ) (b : Versioned) → header.now ≡ header_in b → IfErr result (AskedBreaks endpoint b) }
+    ensures first { (b : Versioned) → header.now ≡ header_in b → option_map (λ flaw. FlawOfRetrieve flaw) (result_err result) ≡ asked_header_flaw b }
 {
     if header.attributes != 0 && header.attributes != NORMAL_MEMORY {
         return Err(RetrieveFlaw::Attributes);
@@ -46,10 +49,11 @@ fn check_header(header: &Header) -> Result<(), RetrieveFlaw>
 }
 
 /// Whether the access descriptor is that of a retrieve for this endpoint.
-#[tactic(auto, unfolding(ffa_model::specs::RetrieveDescriptor::is_retrieve_access))]
+#[tactic(auto, unfolding(ffa_model::specs::RetrieveDescriptor::is_retrieve_access, ffa_model::specs::FirstFlaws::asked_access_flaw))]
 fn check_access(endpoint: EndpointId, access: &Access) -> Result<(), RetrieveFlaw>
     ensures fits { (b : Versioned) → access.now ≡ access_in b.bytes (array_place b) → OnOk result (is_retrieve_access endpoint.0 b ≡ true) }
-    ensures broken { (b : Versioned) → access.now ≡ access_in b.bytes (array_place b) → IfErr result (AskedBreaks endpoint.0 b) }
+    ensures first { (b : Versioned) → access.now ≡ access_in b.bytes (array_place b)
+        → option_map (λ flaw. FlawOfRetrieve flaw) (result_err result) ≡ asked_access_flaw endpoint.0 b }
 {
     if access.endpoint.0 != endpoint.0 {
         return Err(RetrieveFlaw::ReceiverIsAnother);
@@ -81,7 +85,7 @@ fn retrieve_in<B: Bytes>(
     endpoint: EndpointId,
 ) -> Result<RetrieveDesc, Flaw>
     ensures found { IfOk result (λ d. Some d ≡ retrieve_of endpoint.0 (in_version version (B.bytes bytes.now))) }
-    ensures broken { IfErr result (RetrieveBreaks endpoint.0 (in_version version (B.bytes bytes.now))) }
+    ensures first { result_err result ≡ retrieve_flaw endpoint.0 (in_version version (B.bytes bytes.now)) }
 {
     let header = match read_header(bytes, version) {
         Ok(header) => header,
@@ -105,7 +109,7 @@ fn retrieve_in<B: Bytes>(
 }
 
 /// What the bytes say, wherever they lie, as a retrieve descriptor for this endpoint, which has this version. An error is
-/// a condition of these that they break.
+/// the first condition of these that they break.
 pub fn read_retrieve<B: Bytes>(
     bytes: &B,
     version: Version,
@@ -115,6 +119,7 @@ pub fn read_retrieve<B: Bytes>(
     ensures none { OnErr result ((r : RetrieveDesc) → Retrieve endpoint.0 (in_version version (B.bytes bytes.now)) r → ⊥) }
     ensures computed { result_ok result ≡ retrieve_of endpoint.0 (in_version version (B.bytes bytes.now)) }
     ensures broken { IfErr result (RetrieveBreaks endpoint.0 (in_version version (B.bytes bytes.now))) }
+    ensures first { result_err result ≡ retrieve_flaw endpoint.0 (in_version version (B.bytes bytes.now)) }
 {
     retrieve_in(bytes, version, endpoint)
 }

@@ -2,10 +2,12 @@
 
 ghost use Rattle.std.specs.Prelude.{◌≡◌, ◌≤◌, true, Some, IfOk, IfErr, OnOk, OnErr};
 ghost use Rattle.std.specs.Option.{option_map};
-ghost use Rattle.std.specs.Result.{result_ok};
+ghost use Rattle.std.specs.Result.{result_ok, result_err};
 ghost use Rattle.ffa_model.specs.declared.limits.TheConstants.{MOST_RECEIVERS};
 ghost use Rattle.ffa_model.specs.DescriptorPlaces.{Versioned, in_version};
-ghost use Rattle.ffa_model.specs.Flaws.{SendHeaderBreaks, SendBreaks};
+ghost use Rattle.ffa_model.specs.FirstFlaws.{send_header_flaw, send_flaw};
+ghost use Rattle.ffa_model.specs.Flaws.{SendBreaks};
+ghost use Rattle.ffa_model.specs.declared.flaw.Flaw.TheVariants.{Send as FlawOfSend};
 ghost use Rattle.ffa_model.specs.SendDescriptor.{SendRecord, send_record, Send, send_of, most_flags, most_receivers, attributes_of, is_send_header};
 ghost use Rattle.ffa_memdesc.specs.Reading.{header_in};
 
@@ -48,11 +50,11 @@ pub fn attributes_of(kind: Kind, count: u32) -> u16
 }
 
 /// Whether the header is that of a send.
-#[tactic(auto, unfolding(ffa_model::specs::SendDescriptor::is_send_header))]
+#[tactic(auto, unfolding(ffa_model::specs::SendDescriptor::is_send_header, ffa_model::specs::FirstFlaws::send_header_flaw))]
 fn check_header(kind: Kind, header: &Header) -> Result<(), SendFlaw>
     ensures fits { (b : Versioned) → header.now ≡ header_in b → OnOk result (is_send_header kind b ≡ true) }
     ensures few { OnOk result (header.now.count ≤ MOST_RECEIVERS) }
-    ensures broken { (b : Versioned) → header.now ≡ header_in b → IfErr result (SendHeaderBreaks kind b) }
+    ensures first { (b : Versioned) → header.now ≡ header_in b → option_map (λ flaw. FlawOfSend flaw) (result_err result) ≡ send_header_flaw kind b }
 {
     if header.attributes != attributes_of(kind, header.count) {
         return Err(SendFlaw::Attributes);
@@ -74,7 +76,7 @@ fn check_header(kind: Kind, header: &Header) -> Result<(), SendFlaw>
 
 fn send_in<B: Bytes>(bytes: &B, version: Version, kind: Kind) -> Result<SendDesc, Flaw>
     ensures found { IfOk result (λ d. Some (send_record d) ≡ send_of kind (in_version version (B.bytes bytes.now))) }
-    ensures broken { IfErr result (SendBreaks kind (in_version version (B.bytes bytes.now))) }
+    ensures first { result_err result ≡ send_flaw kind (in_version version (B.bytes bytes.now)) }
 {
     let header = match read_header(bytes, version) {
         Ok(header) => header,
@@ -103,13 +105,14 @@ fn send_in<B: Bytes>(bytes: &B, version: Version, kind: Kind) -> Result<SendDesc
     })
 }
 
-/// What the bytes say, wherever they lie, as a send descriptor of this kind, from a caller of this version. An error is a
-/// condition of these that they break.
+/// What the bytes say, wherever they lie, as a send descriptor of this kind, from a caller of this version. An error is
+/// the first condition of these that they break.
 pub fn read_send<B: Bytes>(bytes: &B, version: Version, kind: Kind) -> Result<SendDesc, Flaw>
     ensures found { IfOk result (λ d. Send kind (in_version version (B.bytes bytes.now)) (send_record d)) }
     ensures none { OnErr result ((r : SendRecord) → Send kind (in_version version (B.bytes bytes.now)) r → ⊥) }
     ensures computed { option_map send_record (result_ok result) ≡ send_of kind (in_version version (B.bytes bytes.now)) }
     ensures broken { IfErr result (SendBreaks kind (in_version version (B.bytes bytes.now))) }
+    ensures first { result_err result ≡ send_flaw kind (in_version version (B.bytes bytes.now)) }
 {
     send_in(bytes, version, kind)
 }

@@ -1,5 +1,5 @@
-use Rattle.std.proofs.Common.{◌≡◌, refl, arith, rules}
-use Rattle.ffa_memdesc.proofs.Entries.{ranges_more, ranges_end}
+use Rattle.std.proofs.Common.{◌≡◌, refl, arith}
+use Rattle.ffa_memdesc.proofs.Entries.{ranges_more, ranges_end, ranges_flaw, ranges_none}
 use Rattle.ffa_memdesc.proofs.ranges.read_ranges.Goals as goal
 
 pub loop-i-preserved : goal.loop-i-preserved
@@ -11,5 +11,11 @@ returns-clause-found g c =
     let ended : c.loop-i.i ≡ c.args.count = (let test = c.loop-i-test.false in let auto = c.loop-i.auto.i-end in omega arith) in
     ranges_end (g.B.Bytes.bytes c.args.bytes.now) c.args.composite c.loop-i.i c.args.count c.loop-i.ranges.items ended c.loop-i.invariant.1
 
-pub returns-in-Err-clause-broken : goal.returns-in-Err-clause-broken
-returns-in-Err-clause-broken g c = search rules
+pub returns-in-Err-clause-first : goal.returns-in-Err-clause-first
+returns-in-Err-clause-first g c =
+    ranges_flaw (g.B.Bytes.bytes c.args.bytes.now) c.args.composite c.loop-i.i c.args.count _ c.loop-i.ranges.items c.deref.result.now _ c.loop-i-test.true c.loop-i.invariant.1 c.deref.ensures.0 refl (c.in-Err.ensures.first c.loop-i.i)
+
+pub returns-clause-first : goal.returns-clause-first
+returns-clause-first g c =
+    let ended : c.loop-i.i ≡ c.args.count = (let test = c.loop-i-test.false in let auto = c.loop-i.auto.i-end in omega arith) in
+    ranges_none (g.B.Bytes.bytes c.args.bytes.now) c.args.composite c.loop-i.i c.args.count c.loop-i.ranges.items ended c.loop-i.invariant.1

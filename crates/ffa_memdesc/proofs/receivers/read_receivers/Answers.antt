@@ -1,5 +1,5 @@
-use Rattle.std.proofs.Common.{◌≡◌, refl, arith, rules}
-use Rattle.ffa_memdesc.proofs.Entries.{receivers_more, receivers_end}
+use Rattle.std.proofs.Common.{◌≡◌, refl, arith}
+use Rattle.ffa_memdesc.proofs.Entries.{receivers_more, receivers_end, receivers_flaw, receivers_none}
 use Rattle.ffa_memdesc.proofs.receivers.read_receivers.Goals as goal
 
 pub loop-i-preserved : goal.loop-i-preserved
@@ -11,5 +11,11 @@ returns-clause-found g c =
     let ended : c.loop-i.i ≡ c.args.header.now.count = (let test = c.loop-i-test.false in let auto = c.loop-i.auto.i-end in omega arith) in
     receivers_end c.args.kind c.args.header.now.sender.0 c.args.composite (g.B.Bytes.bytes c.args.bytes.now) c.args.header.now.array c.loop-i.i c.args.header.now.count c.loop-i.receivers.items ended c.loop-i.invariant.1
 
-pub returns-in-Err-clause-broken : goal.returns-in-Err-clause-broken
-returns-in-Err-clause-broken g c = search rules
+pub returns-in-Err-clause-first : goal.returns-in-Err-clause-first
+returns-in-Err-clause-first g c =
+    receivers_flaw c.args.kind c.args.header.now.sender.0 c.args.composite (g.B.Bytes.bytes c.args.bytes.now) c.args.header.now.array c.loop-i.i c.args.header.now.count _ c.loop-i.receivers.items c.deref.result.now _ c.loop-i-test.true c.loop-i.invariant.1 c.deref.ensures.0 refl (c.in-Err.ensures.first c.loop-i.i)
+
+pub returns-clause-first : goal.returns-clause-first
+returns-clause-first g c =
+    let ended : c.loop-i.i ≡ c.args.header.now.count = (let test = c.loop-i-test.false in let auto = c.loop-i.auto.i-end in omega arith) in
+    receivers_none c.args.kind c.args.header.now.sender.0 c.args.composite (g.B.Bytes.bytes c.args.bytes.now) c.args.header.now.array c.loop-i.i c.args.header.now.count c.loop-i.receivers.items ended c.loop-i.invariant.1

@@ -1,0 +1,207 @@
+//! Where the field stands of which a broken condition speaks, and what stands there.
+
+ghost use Rattle.std.specs.Prelude.{◌≡◌, ◌+◌, ◌*◌, ◌^◌, ◌≤◌, length};
+ghost use Rattle.ffa_model.specs.DescriptorPlaces.{in_version};
+ghost use Rattle.ffa_model.specs.FlawPlaces.{told_place, told_array, told_composite, field, array_field, header_flaw_place, send_flaw_place, access_flaw_place, composite_flaw_place, range_flaw_place, retrieve_flaw_place, relinquish_flaw_place, flaw_place, number_of_size, field_value};
+
+use crate::bytes::{Bytes, read_u16, read_u32, read_u64};
+use crate::header::{ENTRY_SIZE, header_size};
+use ffa_model::{
+    AccessFlaw, CompositeFlaw, FieldPlace, Flaw, HeaderFlaw, RangeFlaw, RelinquishFlaw,
+    RetrieveFlaw, SendFlaw, Version,
+};
+
+fn field(first: u64, size: u64) -> FieldPlace
+    ensures { result ≡ field first size }
+{
+    FieldPlace { first, size }
+}
+
+/// The place that the four bytes at a place tell, 0 where the bytes end before.
+fn told_place<B: Bytes>(bytes: &B, at: u64) -> u32
+    requires { at ≤ 2 ^ 32 + 4 }
+    ensures { result ≡ told_place (B.bytes bytes.now) at }
+{
+    if at + 4 <= bytes.len() as u64 {
+        read_u32(bytes, at as usize)
+    } else {
+        0
+    }
+}
+
+/// Where the access descriptors begin, as far as the bytes tell it.
+fn told_array<B: Bytes>(bytes: &B, version: Version) -> u32
+    ensures { result ≡ told_array (in_version version (B.bytes bytes.now)) }
+{
+    match version {
+        Version::Compact => 32,
+        Version::V1_1 => told_place(bytes, 32),
+    }
+}
+
+/// Where the composite stands, as far as the bytes tell it.
+fn told_composite<B: Bytes>(bytes: &B, version: Version) -> u32
+    ensures { result ≡ told_composite (in_version version (B.bytes bytes.now)) }
+{
+    told_place(bytes, told_array(bytes, version) as u64 + 4)
+}
+
+/// How many access descriptors there are, and where they begin if that is told.
+fn array_field(version: Version) -> FieldPlace
+    ensures { result ≡ array_field version }
+{
+    match version {
+        Version::Compact => field(28, 4),
+        Version::V1_1 => field(28, 8),
+    }
+}
+
+fn header_flaw_place(version: Version, flaw: HeaderFlaw) -> FieldPlace
+    ensures { result ≡ header_flaw_place version flaw }
+{
+    match flaw {
+        HeaderFlaw::Short => field(0, header_size(version) as u64),
+        HeaderFlaw::AccessSize => field(24, 4),
+        HeaderFlaw::ArrayUnaligned => field(32, 4),
+        HeaderFlaw::ArrayInHeader => field(32, 4),
+        HeaderFlaw::ArrayOutside => array_field(version),
+        HeaderFlaw::Reserved => field(36, 12),
+    }
+}
+
+fn send_flaw_place(flaw: SendFlaw) -> FieldPlace
+    ensures { result ≡ send_flaw_place flaw }
+{
+    match flaw {
+        SendFlaw::Attributes => field(2, 2),
+        SendFlaw::Flags => field(4, 4),
+        SendFlaw::Handle => field(8, 8),
+        SendFlaw::NoReceiver | SendFlaw::ManyReceivers => field(28, 4),
+    }
+}
+
+/// By the access descriptor's place.
+fn access_flaw_place(at: u64, flaw: AccessFlaw) -> FieldPlace
+    requires { at ≤ 2 ^ 40 }
+    ensures { result ≡ access_flaw_place at flaw }
+{
+    match flaw {
+        AccessFlaw::Permissions => field(at + 2, 1),
+        AccessFlaw::Flags => field(at + 3, 1),
+        AccessFlaw::OtherComposite => field(at + 4, 4),
+        AccessFlaw::Reserved => field(at + 8, 8),
+        AccessFlaw::ReceiverIsSender | AccessFlaw::ReceiverTwice => field(at, 2),
+    }
+}
+
+/// By the place of the array, whose first access descriptor tells that of the composite, and by the composite's.
+fn composite_flaw_place(array: u64, composite: u64, flaw: CompositeFlaw) -> FieldPlace
+    requires array { array ≤ 2 ^ 40 }
+    requires composite { composite ≤ 2 ^ 40 }
+    ensures { result ≡ composite_flaw_place array composite flaw }
+{
+    match flaw {
+        CompositeFlaw::Outside | CompositeFlaw::Unaligned | CompositeFlaw::InArray => {
+            field(array + 4, 4)
+        }
+        CompositeFlaw::NoRange | CompositeFlaw::ManyRanges | CompositeFlaw::RangesOutside => {
+            field(composite + 4, 4)
+        }
+        CompositeFlaw::Reserved => field(composite + 8, 8),
+        CompositeFlaw::Total => field(composite, 4),
+    }
+}
+
+/// By the range's place.
+fn range_flaw_place(at: u64, flaw: RangeFlaw) -> FieldPlace
+    requires { at ≤ 2 ^ 40 }
+    ensures { result ≡ range_flaw_place at flaw }
+{
+    match flaw {
+        RangeFlaw::Empty => field(at + 8, 4),
+        RangeFlaw::Unaligned => field(at, 8),
+        RangeFlaw::TooHigh | RangeFlaw::Overlap => field(at, 12),
+        RangeFlaw::Reserved => field(at + 12, 4),
+    }
+}
+
+/// By the place of the one access descriptor.
+fn retrieve_flaw_place(array: u64, flaw: RetrieveFlaw) -> FieldPlace
+    requires { array ≤ 2 ^ 40 }
+    ensures { result ≡ retrieve_flaw_place array flaw }
+{
+    match flaw {
+        RetrieveFlaw::Attributes => field(2, 2),
+        RetrieveFlaw::Flags => field(4, 4),
+        RetrieveFlaw::AccessCount => field(28, 4),
+        RetrieveFlaw::ReceiverIsAnother => field(array, 2),
+        RetrieveFlaw::DataPermission
+        | RetrieveFlaw::InstructionPermission
+        | RetrieveFlaw::PermissionsReserved => field(array + 2, 1),
+        RetrieveFlaw::AccessFlags => field(array + 3, 1),
+        RetrieveFlaw::CompositeTold => field(array + 4, 4),
+        RetrieveFlaw::AccessReserved => field(array + 8, 8),
+    }
+}
+
+fn relinquish_flaw_place(flaw: RelinquishFlaw) -> FieldPlace
+    ensures { result ≡ relinquish_flaw_place flaw }
+{
+    match flaw {
+        RelinquishFlaw::Short => field(0, 18),
+        RelinquishFlaw::Flags => field(8, 4),
+        RelinquishFlaw::EndpointCount => field(12, 4),
+    }
+}
+
+/// The place of an entry with this index, of those that begin at a place.
+fn entry_place(first: u64, index: u32) -> u64
+    requires { first ≤ 2 ^ 33 }
+    ensures value { result ≡ first + 16 * index }
+    ensures few { result ≤ 2 ^ 40 }
+{
+    first + ENTRY_SIZE as u64 * index as u64
+}
+
+/// The field of which a condition speaks that these bytes break, in a descriptor of an endpoint of this version. What the
+/// bytes don't tell, since they end before, counts as 0.
+pub fn flaw_place<B: Bytes>(bytes: &B, version: Version, flaw: Flaw) -> FieldPlace
+    ensures { result ≡ flaw_place (in_version version (B.bytes bytes.now)) flaw }
+{
+    let array = told_array(bytes, version) as u64;
+    let composite = told_composite(bytes, version) as u64;
+    match flaw {
+        Flaw::Header(flaw) => header_flaw_place(version, flaw),
+        Flaw::Send(flaw) => send_flaw_place(flaw),
+        Flaw::Access(i, flaw) => access_flaw_place(entry_place(array, i), flaw),
+        Flaw::Composite(flaw) => composite_flaw_place(array, composite, flaw),
+        Flaw::Range(i, flaw) => range_flaw_place(entry_place(composite + 16, i), flaw),
+        Flaw::Retrieve(flaw) => retrieve_flaw_place(array, flaw),
+        Flaw::Relinquish(flaw) => relinquish_flaw_place(flaw),
+    }
+}
+
+/// The number of 1, 2, 4 or 8 bytes at a place.
+fn number_of_size<B: Bytes>(bytes: &B, at: usize, size: u64) -> Option<u64>
+    requires { at + size ≤ length (B.bytes bytes.now) }
+    ensures { result ≡ number_of_size (B.bytes bytes.now) at size }
+{
+    match size {
+        1 => Some(bytes.at(at) as u64),
+        2 => Some(read_u16(bytes, at) as u64),
+        4 => Some(read_u32(bytes, at) as u64),
+        8 => Some(read_u64(bytes, at)),
+        _ => None,
+    }
+}
+
+/// What stands in a field, where it has 1, 2, 4 or 8 bytes and all are there.
+pub fn field_value<B: Bytes>(bytes: &B, place: &FieldPlace) -> Option<u64>
+    ensures { result ≡ field_value (B.bytes bytes.now) place.now }
+{
+    let len = bytes.len() as u64;
+    match place.first.checked_add(place.size) {
+        Some(end) if end <= len => number_of_size(bytes, place.first as usize, place.size),
+        _ => None,
+    }
+}
