@@ -1,0 +1,5 @@
+use Rattle.std.proofs.Common.{rules}
+use Rattle.ffa_memdesc.proofs.place.access_flaw_place.Goals as goal
+
+pub returns-in-Permissions : goal.returns-in-Permissions
+returns-in-Permissions c = search rules
