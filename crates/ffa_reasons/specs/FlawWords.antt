@@ -19,7 +19,7 @@ use Rattle.ffa_model.specs.declared.flaw.RelinquishFlaw.TheVariants.{Short as Re
 
 abbrev pub header_words : HeaderFlaw → List ℕ
 header_words Short = codes "the descriptor is shorter than its header"
-header_words AccessSize = codes "the size of an access descriptor is not told as 16, or as 0 in version 1.0"
+header_words AccessSize = codes "the size of an access descriptor is not told as 16, or as 0 in the compact form"
 header_words ArrayUnaligned = codes "the access descriptors do not begin at a multiple of 16"
 header_words ArrayInHeader = codes "the access descriptors begin inside the header"
 header_words ArrayOutside = codes "the access descriptors do not end inside the descriptor"

@@ -28,7 +28,7 @@ fn header_words(flaw: HeaderFlaw) -> &'static str
     match flaw {
         HeaderFlaw::Short => "the descriptor is shorter than its header",
         HeaderFlaw::AccessSize => {
-            "the size of an access descriptor is not told as 16, or as 0 in version 1.0"
+            "the size of an access descriptor is not told as 16, or as 0 in the compact form"
         }
         HeaderFlaw::ArrayUnaligned => "the access descriptors do not begin at a multiple of 16",
         HeaderFlaw::ArrayInHeader => "the access descriptors begin inside the header",

@@ -112,13 +112,13 @@ call 84000072 60 40;FFA_MEM_LEND check 2: the fragment is not the whole descript
 call 84000072 1001 1001;FFA_MEM_LEND check 3: the descriptor is longer than TX: w1 is 00001001
 call 84000072 60 60 1;FFA_MEM_LEND check 4: the address of a buffer is given, and there is TX alone: w3 is 00000001
 call 84000072 60 60 0 1;FFA_MEM_LEND check 5: the pages of a buffer are counted, and there is TX alone: w4 is 00000001
-call C4000073 60 60;FFA_MEM_SHARE check 6: the bytes in TX are no descriptor of this call
+call C4000073 60 60;FFA_MEM_SHARE check 6: the bytes in TX are no descriptor of this call: the size of an access descriptor is not told as 16, or as 0 in the compact form: bytes 24 to 27 are 00000000
 call 84000074 60 40;FFA_MEM_RETRIEVE_REQ check 2: the fragment is not the whole descriptor: w2 is 00000040
 call 84000074 1001 1001;FFA_MEM_RETRIEVE_REQ check 3: the descriptor is longer than TX: w1 is 00001001
 call 84000074 60 60 1;FFA_MEM_RETRIEVE_REQ check 4: the address of a buffer is given, and there is TX alone: w3 is 00000001
 call 84000074 60 60 0 1;FFA_MEM_RETRIEVE_REQ check 5: the pages of a buffer are counted, and there is TX alone: w4 is 00000001
-call 84000074 40 40;FFA_MEM_RETRIEVE_REQ check 6: the bytes in TX are no descriptor of this call
-call 84000076;FFA_MEM_RELINQUISH check 2: the bytes in TX are no descriptor of this call
+call 84000074 40 40;FFA_MEM_RETRIEVE_REQ check 6: the bytes in TX are no descriptor of this call: the size of an access descriptor is not told as 16, or as 0 in the compact form: bytes 24 to 27 are 00000000
+call 84000076;FFA_MEM_RELINQUISH check 2: the bytes in TX are no descriptor of this call: the count of endpoints is not 1: bytes 12 to 15 are 00000000
 store 4001000C 00000001/store 40010010 8001/call 84000076;FFA_MEM_RELINQUISH check 3: the endpoint of the descriptor is not the caller: endpoint 8001
 store 4001000C 00000001/call 84000076;FFA_MEM_RELINQUISH check 4: no open transaction with the handle has the caller among its receivers: handle 0000000000000000
 ";
@@ -135,6 +135,23 @@ store 40010058 0000000000000001
 ";
 
 const WITH_DESCRIPTOR: &str = "\
+call 84000072 20 20;FFA_MEM_LEND check 6: the bytes in TX are no descriptor of this call: the descriptor is shorter than its header: bytes 0 to 47
+store 40010020 38/call 84000072 60 60;FFA_MEM_LEND check 6: the bytes in TX are no descriptor of this call: the access descriptors do not begin at a multiple of 16: bytes 32 to 35 are 00000038
+store 40010020 20/call 84000072 60 60;FFA_MEM_LEND check 6: the bytes in TX are no descriptor of this call: the access descriptors begin inside the header: bytes 32 to 35 are 00000020
+store 4001001C 04/call 84000072 60 60;FFA_MEM_LEND check 6: the bytes in TX are no descriptor of this call: the access descriptors do not end inside the descriptor: bytes 28 to 35 are 0000003000000004
+store 40010024 01/call 84000072 60 60;FFA_MEM_LEND check 6: the bytes in TX are no descriptor of this call: reserved bytes at the header's end are not 0: bytes 36 to 47
+store 40010002 002F/call 84000072 60 60;FFA_MEM_LEND check 6: the bytes in TX are no descriptor of this call: the memory attributes are not those of this call to so many receivers: bytes 2 to 3 are 002F
+store 40010004 02/store 40010008 01/call 84000072 60 60;FFA_MEM_LEND check 6: the bytes in TX are no descriptor of this call: a flag is set that this call does not have: bytes 4 to 7 are 00000002
+store 40010008 01/store 40010032 00/call 84000072 60 60;FFA_MEM_LEND check 6: the bytes in TX are no descriptor of this call: the handle is not 0: bytes 8 to 15 are 0000000000000001
+store 40010032 0F/call 84000072 60 60;FFA_MEM_LEND check 6: the bytes in TX are no descriptor of this call: access descriptor 0: the permissions are none that this call may grant: byte 50 is 0F
+store 40010000 8002/call 84000072 60 60;FFA_MEM_LEND check 6: the bytes in TX are no descriptor of this call: access descriptor 0: it names the sender: bytes 48 to 49 are 8002
+store 40010034 60/call 84000072 60 60;FFA_MEM_LEND check 6: the bytes in TX are no descriptor of this call: the composite without its ranges does not end inside the descriptor: bytes 52 to 55 are 00000060
+store 40010044 00/call 84000072 60 60;FFA_MEM_LEND check 6: the bytes in TX are no descriptor of this call: the composite has no range: bytes 68 to 71 are 00000000
+store 40010044 02/call 84000072 60 60;FFA_MEM_LEND check 6: the bytes in TX are no descriptor of this call: the ranges do not end inside the descriptor: bytes 68 to 71 are 00000002
+store 40010058 00/call 84000072 60 60;FFA_MEM_LEND check 6: the bytes in TX are no descriptor of this call: range 0: it has no page: bytes 88 to 91 are 00000000
+store 40010050 0000000040012800/call 84000072 60 60;FFA_MEM_LEND check 6: the bytes in TX are no descriptor of this call: range 0: it begins inside a page: bytes 80 to 87 are 0000000040012800
+store 40010050 0000FFFFFFFFF000/store 40010058 02/call 84000072 60 60;FFA_MEM_LEND check 6: the bytes in TX are no descriptor of this call: range 0: it ends above 2^48: bytes 80 to 91
+store 40010040 02/call 84000072 60 60;FFA_MEM_LEND check 6: the bytes in TX are no descriptor of this call: the composite's count of pages is not the sum of its ranges': bytes 64 to 67 are 00000002
 store 40010000 8001/call 84000072 60 60;FFA_MEM_LEND check 7: the sender is not the caller: endpoint 8001
 store 40010030 9000/call 84000072 60 60;FFA_MEM_LEND check 8: no endpoint has the receiver's identifier: endpoint 9000
 store 40010050 0000000040200000/call 84000072 60 60;FFA_MEM_LEND check 9: a range does not lie in RAM
@@ -165,6 +182,9 @@ store 40030030 0000000000008002
 ";
 
 const WITH_LEND: &str = "\
+store 40030002 01/call 84000074 40 40;FFA_MEM_RETRIEVE_REQ check 6: the bytes in TX are no descriptor of this call: the memory attributes are neither 0 nor those of normal memory: bytes 2 to 3 are 0001
+store 40030030 8001/call 84000074 40 40;FFA_MEM_RETRIEVE_REQ check 6: the bytes in TX are no descriptor of this call: the access descriptor does not name the caller: bytes 48 to 49 are 8001
+store 40030032 13/call 84000074 40 40;FFA_MEM_RETRIEVE_REQ check 6: the bytes in TX are no descriptor of this call: the data permission is reserved: byte 50 is 13
 store 40030008 0000000000000002/call 84000074 40 40;FFA_MEM_RETRIEVE_REQ check 7: no open transaction has the handle: handle 0000000000000002
 call 8400006B/call 8400006D 80010000/call 84000066 40020000 40021000 1/store 40020008 01/store 40020018 0000000100000010/store 40020020 30/store 40020030 8001/call 84000074 40 40;FFA_MEM_RETRIEVE_REQ check 8: the caller is no receiver of the transaction: handle 0000000000000001
 store 40030000 8001/call 84000074 40 40;FFA_MEM_RETRIEVE_REQ check 9: the sender is not that of the transaction: endpoint 8001

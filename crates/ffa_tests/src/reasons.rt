@@ -42,7 +42,7 @@ const CALLS: &str = "\
 84000083 Some(Refused { refusal: FunctionUnknown, about: Some(Register { register: 0, value: 2214592643 }) })
 8400006D Some(Refused { refusal: NotNormalWorld, about: None })
 8400006F Some(Refused { refusal: SenderIsAnother, about: Some(Endpoint(EndpointId(0))) })
-84000072 Some(Refused { refusal: DescriptorMalformed, about: None })
+84000072 Some(Refused { refusal: DescriptorMalformed, about: Some(Field { flaw: Header(Short), place: FieldPlace { first: 0, size: 48 }, value: None }) })
 84000077 Some(Refused { refusal: NotTheSenders, about: Some(Handle(0)) })";
 
 // Addresses, and why 8002 is refused a load of 2 bytes, before it has retrieved the share.
