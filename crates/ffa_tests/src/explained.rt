@@ -1,6 +1,6 @@
 //! Why an operation is refused, as it is printed under its text: for each check of each call a trace whose last line fails at that
-//! check and at none before it. Missing are the checks that no trace here reaches: the fourth of FFA_RUN, since nobody is blocked
-//! while the normal world runs, and that the handles of a sender are used up, which takes as many sends.
+//! check and at none before it. That the handles of a sender are used up is tried in `reasons`, and of the fourth check of FFA_RUN there
+//! is no row: it fails where the target is blocked while the normal world runs.
 use crate::checks::holds_at;
 use crate::machines::booted;
 use crate::manifest::ROW;
@@ -124,7 +124,7 @@ store 4001000C 00000001/call 84000076;FFA_MEM_RELINQUISH check 4: no open transa
 ";
 
 // And a lend of its page 40012000 to 8002, to read and write, is described in TX.
-const DESCRIBED: &str = "\
+pub(crate) const DESCRIBED: &str = "\
 call 84000066 40010000 40011000 1
 store 40010018 0000000100000010
 store 40010020 0000000000000030

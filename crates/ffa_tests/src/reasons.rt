@@ -1,8 +1,11 @@
 //! Why operations are refused, and by what endpoints have their access, on the row machine.
 use crate::checks::same_at;
+use crate::explained::DESCRIBED;
 use crate::machines::{booted, play};
-use ffa_model::{EndpointId, Op, PageNo, Size, row_machine};
+use ffa_model::{EndpointId, MOST_SENDS, Op, PageNo, Size, row_machine};
+use ffa_physmem::FlatRam;
 use ffa_trace::Player;
+use std::alloc::Global;
 use std::test::Fail;
 
 // 8001 runs, and has shared its page 28 with 8002.
@@ -74,6 +77,35 @@ fn checks_that_refuse(rt: HostRuntime) -> Result<(), Fail> {
         let printed = format!(in rt.alloc(); "{reason:?}")?;
         same_at(&rt, printed.as_str(), wanted, &row);
     }
+    Ok(())
+}
+
+// The normal world makes the lend that it describes, and ends it.
+fn lend_and_reclaim(alloc: Global, player: &mut Player<FlatRam>, number: u32) -> Result<(), Fail> {
+    let lines = format!(in alloc; "call 84000072 60 60\ncall 84000077 {number:X}\n")?;
+    play(alloc, player, lines.as_bytes(), &mut Vec::new(alloc))?;
+    Ok(())
+}
+
+// The last check of a send, behind as many sends as there are handles for.
+#[test]
+fn handles_that_are_used_up(rt: HostRuntime) -> Result<(), Fail> {
+    let mut player = Player::new(booted(rt.alloc(), &row_machine())?);
+    let described = DESCRIBED.as_bytes();
+    play(
+        rt.alloc(),
+        &mut player,
+        described,
+        &mut Vec::new(rt.alloc()),
+    )?;
+    for number in 1..=MOST_SENDS {
+        lend_and_reclaim(rt.alloc(), &mut player, number)?;
+    }
+    let lend = Op::Call([0x8400_0072, 0x60, 0x60, 0, 0, 0, 0, 0]);
+    let reason = player.machine().why(&lend);
+    let printed = format!(in rt.alloc(); "{reason:?}")?;
+    let wanted = "Some(Refused { refusal: HandlesUsedUp, about: None })";
+    same_at(&rt, printed.as_str(), wanted, &"a lend");
     Ok(())
 }
 
