@@ -1,3 +1,4 @@
+/* SPDX-License-Identifier: MIT OR Apache-2.0 */
 /* The board: a machine of the core, and its endpoints as programs that the processor runs. */
 #ifndef BOARD_BOARD_H
 #define BOARD_BOARD_H

@@ -1,3 +1,4 @@
+/* SPDX-License-Identifier: MIT OR Apache-2.0 */
 /* Where the firmware stands: see layout.h. */
 ENTRY(_start)
 SECTIONS

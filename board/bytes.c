@@ -1,3 +1,4 @@
+/* SPDX-License-Identifier: MIT OR Apache-2.0 */
 #include "bytes.h"
 
 void *memcpy(void *to, const void *from, size_t size) {

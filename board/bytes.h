@@ -1,3 +1,4 @@
+/* SPDX-License-Identifier: MIT OR Apache-2.0 */
 /* What compiled code asks for by these names, as C has them. */
 #ifndef BOARD_BYTES_H
 #define BOARD_BYTES_H

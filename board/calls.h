@@ -1,3 +1,4 @@
+/* SPDX-License-Identifier: MIT OR Apache-2.0 */
 /* Identifiers of FF-A's calls and answers, of 32 bits (DEN0077A, 11 to 16). */
 #ifndef BOARD_CALLS_H
 #define BOARD_CALLS_H

@@ -1,3 +1,4 @@
+/* SPDX-License-Identifier: MIT OR Apache-2.0 */
 /* What an endpoint is doing, and how it ends: for run.c and fetch.c. */
 #ifndef BOARD_DOING_H
 #define BOARD_DOING_H

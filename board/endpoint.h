@@ -1,3 +1,4 @@
+/* SPDX-License-Identifier: MIT OR Apache-2.0 */
 /* The endpoints of the board, as processes of the processor. */
 #ifndef BOARD_ENDPOINT_H
 #define BOARD_ENDPOINT_H

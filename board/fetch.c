@@ -1,3 +1,4 @@
+/* SPDX-License-Identifier: MIT OR Apache-2.0 */
 /* A fetch: the word is loaded first, which isn't printed, and then executed. A word that comes back to the program, and one that can't be
  * loaded, is branched to; any other is executed by a single step, with registers and a stack pointer of zeros, so that no store of it goes anywhere. */
 #include "doing.h"

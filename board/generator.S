@@ -1,3 +1,4 @@
+/* SPDX-License-Identifier: MIT OR Apache-2.0 */
 /* The code of the generator, which is linked by itself: see generator/. */
         .section .rodata.generator, "a"
         .balign 8

@@ -1,3 +1,4 @@
+/* SPDX-License-Identifier: MIT OR Apache-2.0 */
 #include "generators.h"
 #include "doing.h"
 #include "layout.h"

@@ -1,3 +1,4 @@
+/* SPDX-License-Identifier: MIT OR Apache-2.0 */
 /* The firmware's side of generators, which make up operations at EL1: what it tells them, and takes from them. */
 #ifndef BOARD_GENERATORS_H
 #define BOARD_GENERATORS_H

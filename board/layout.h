@@ -1,3 +1,4 @@
+/* SPDX-License-Identifier: MIT OR Apache-2.0 */
 /* Numbers that the firmware's C, its assembly and the program of the endpoints agree on. */
 #ifndef BOARD_LAYOUT_H
 #define BOARD_LAYOUT_H

@@ -1,3 +1,4 @@
+/* SPDX-License-Identifier: MIT OR Apache-2.0 */
 /* The memory that libffa_c.a asks of the firmware. */
 #include <stdbool.h>
 #include <stddef.h>

@@ -1,3 +1,4 @@
+/* SPDX-License-Identifier: MIT OR Apache-2.0 */
 /* Operations, as lines of a trace have them, and what comes of them, as the program ffaplay prints it. */
 #ifndef BOARD_OPERATION_H
 #define BOARD_OPERATION_H

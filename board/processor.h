@@ -1,3 +1,4 @@
+/* SPDX-License-Identifier: MIT OR Apache-2.0 */
 /* System registers and barriers of the processor, and what is read in a syndrome. */
 #ifndef BOARD_PROCESSOR_H
 #define BOARD_PROCESSOR_H

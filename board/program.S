@@ -1,3 +1,4 @@
+/* SPDX-License-Identifier: MIT OR Apache-2.0 */
 /* The program of an endpoint, the same for each but for the identity. It does at EL1 what it is told, one operation after another:
  * each load, store, fetch and call is one instruction of its own. It may stand at the start of any page. Where the endpoint has a
  * generator, that makes up the operations. */

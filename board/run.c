@@ -1,3 +1,4 @@
+/* SPDX-License-Identifier: MIT OR Apache-2.0 */
 #include "doing.h"
 #include "layout.h"
 #include "processor.h"

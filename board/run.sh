@@ -1,4 +1,5 @@
 #!/usr/bin/env bash
+# SPDX-License-Identifier: MIT OR Apache-2.0
 # Builds the board's firmware over the core's library for AArch64, has QEMU run each scene on it, and compares what the processor did with what the
 # program ffaplay prints of the same operations. With --help it says more.
 set -euo pipefail

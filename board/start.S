@@ -1,3 +1,4 @@
+/* SPDX-License-Identifier: MIT OR Apache-2.0 */
 /* The firmware's entry, its own translation, its vectors, and the way into an endpoint and back. */
 #include "layout.h"
 

@@ -1,3 +1,4 @@
+/* SPDX-License-Identifier: MIT OR Apache-2.0 */
 /* The processor's side of the machine's stage 2 tables: which are walked, and when what they said is forgotten. */
 #ifndef BOARD_TABLES_H
 #define BOARD_TABLES_H

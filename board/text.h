@@ -1,3 +1,4 @@
+/* SPDX-License-Identifier: MIT OR Apache-2.0 */
 /* Text over the board's serial line, and words that are read. */
 #ifndef BOARD_TEXT_H
 #define BOARD_TEXT_H

@@ -1,3 +1,4 @@
+/* SPDX-License-Identifier: MIT OR Apache-2.0 */
 /* Instructions that come back, by themselves or by an exception, and of which an exception's syndrome tells the whole word. */
 #ifndef BOARD_WORDS_H
 #define BOARD_WORDS_H

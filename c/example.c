@@ -1,3 +1,4 @@
+/* SPDX-License-Identifier: MIT OR Apache-2.0 */
 /* Boots a machine, lets the normal world store and load a byte, and runs the partition. */
 #include <inttypes.h>
 #include <stdio.h>

@@ -1,3 +1,4 @@
+/* SPDX-License-Identifier: MIT OR Apache-2.0 */
 /* Links libffa_c.a with no C library: what firmware has to give, one boot in pages of its own, and their return. The few lines
  * of assembler tell Linux the result; firmware has none of them. */
 #include "gorseplumb.h"

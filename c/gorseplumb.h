@@ -1,3 +1,4 @@
+/* SPDX-License-Identifier: MIT OR Apache-2.0 */
 /* Gorseplumb from C: a partition manager core of FF-A 1.1, as a machine that does one operation at a time.
  *
  * Link libffa_c.a with it, and the three functions of heap.c, which give the archive its memory (or three of your own). Each

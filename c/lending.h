@@ -1,3 +1,4 @@
+/* SPDX-License-Identifier: MIT OR Apache-2.0 */
 /* Lends pages that stand side by side, an address and a count, and takes them back. It is C, and not proved; each step is a
  * call of the library that is. */
 #ifndef GORSEPLUMB_LENDING_H

@@ -1,3 +1,4 @@
+/* SPDX-License-Identifier: MIT OR Apache-2.0 */
 /* The manifest of the tests: the normal world and two partitions. */
 static const char manifest[] =
     "ram_base = 0x40000000\n"

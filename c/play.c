@@ -1,3 +1,4 @@
+/* SPDX-License-Identifier: MIT OR Apache-2.0 */
 /* Plays a trace through the border, and prints what the program prints: play heap|lent MANIFEST TRACE. With `lent` the machine
  * stands in pages of this program. RAM is taken to begin at 40000000, as in each manifest of examples/. */
 #include <inttypes.h>

@@ -1,3 +1,4 @@
+/* SPDX-License-Identifier: MIT OR Apache-2.0 */
 /* The first row of the manual, a lend that is retrieved, given up and reclaimed, what the border answers out of order, pages
  * that are lent and given back, and each piece of memory refused in turn. It brings the library's memory itself. */
 #include <stdio.h>

@@ -1,4 +1,5 @@
 #!/usr/bin/env bash
+# SPDX-License-Identifier: MIT OR Apache-2.0
 # Builds the C library and what stands in this folder over it, with every warning an error, and runs it: the test under
 # sanitizers and valgrind, the example, the traces of examples/ through the border beside the program, and a link with no C library; for
 # AArch64 too, where there are a compiler and an emulator for it. With --install it first installs Debian's packages for that.

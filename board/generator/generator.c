@@ -1,3 +1,4 @@
+/* SPDX-License-Identifier: MIT OR Apache-2.0 */
 /* The generator of an endpoint: it runs at EL1 in pages of its endpoint, and makes up what its endpoint does next. It knows what its
  * endpoint was answered. What others offer it reads where they tell it, on a board of notices that the firmware keeps for all. */
 #include <stddef.h>

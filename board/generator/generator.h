@@ -1,3 +1,4 @@
+/* SPDX-License-Identifier: MIT OR Apache-2.0 */
 /* What an endpoint's generator knows: for generator.c and moves.c, which run at EL1. */
 #ifndef BOARD_GENERATOR_H
 #define BOARD_GENERATOR_H

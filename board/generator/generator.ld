@@ -1,3 +1,4 @@
+/* SPDX-License-Identifier: MIT OR Apache-2.0 */
 /* The code of the generator, which may stand at the start of any page, and begins with `generate`. It has no variables of its own. */
 ENTRY(generate)
 SECTIONS

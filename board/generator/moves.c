@@ -1,3 +1,4 @@
+/* SPDX-License-Identifier: MIT OR Apache-2.0 */
 /* What an endpoint may do next: a move is some operations that belong together, as an access, or a descriptor and its call. */
 #include "generator.h"
 #include "words.h"

@@ -1,3 +1,4 @@
+-- SPDX-License-Identifier: MIT OR Apache-2.0
 -- A call is found where the first part that has it is.
 use Rattle.std.proofs.Common.{◌≡◌, ◌∙◌, ap, refl, ℕ, List, ◌++◌, Option, None, Some, find, slice_index}
 use Rattle.std.specs.Option.{MatchOption, option_map, option_or, unwrap_or}

@@ -1,3 +1,4 @@
+-- SPDX-License-Identifier: MIT OR Apache-2.0
 -- What the standard calls the functions and the error codes that registers hold (DEN0077A, 11 to 16).
 use Rattle.std.specs.Prelude.{ℕ, ◌==◌, List, [], ◌∷◌, ◌++◌, map, Option, None, codes, find, slice_index, if◌then◌else◌}
 use Rattle.std.specs.Option.{option_map}

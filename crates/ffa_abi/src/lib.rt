@@ -1,3 +1,4 @@
+// SPDX-License-Identifier: MIT OR Apache-2.0
 //! Calls and replies in the eight registers (DEN0028, 2; DEN0077A, 11).
 #![tactic(auto)]
 

@@ -1,3 +1,4 @@
+-- SPDX-License-Identifier: MIT OR Apache-2.0
 -- The heap as the allocator of a call, and the drop of a value as a call asks for it. Assumes `Logic`.
 use Rattle.ffa_lent.proofs.Steps.{[], ◌∷◌, refl, raw, ◌$◌, ◌∵◌, !, qed, drop, join, RattleType, Is, Al, bare, sem, vunit, vstruct, ftrue, plain, nothing, unit}
 use base.Fml.{fsep}

@@ -1,3 +1,4 @@
+-- SPDX-License-Identifier: MIT OR Apache-2.0
 -- How the machine stores a `Held`, and what one is put together from. Assumes `Logic`.
 use Rattle.ffa_lent.proofs.Owners.{owner_in}
 use Rattle.ffa_lent.proofs.Steps.{List, [], ◌∷◌, Option, refl, Val, ‵, RattleType, Ptr, ptr_val, bare}

@@ -1,3 +1,4 @@
+-- SPDX-License-Identifier: MIT OR Apache-2.0
 -- How many pages the RAM of a machine in its first state has, and what tells why a manifest isn't booted.
 use Rattle.std.proofs.Common.{◌≡◌, ◌≢◌, ◌⊎◌, ℕ, List, Option, None, Some, ◌*◌, ◌∙◌, ap, refl, inl, inr, length, IsUtf8, IfSome}
 use Rattle.ffa_model.proofs.Listed.{length-listed}

@@ -1,3 +1,4 @@
+-- SPDX-License-Identifier: MIT OR Apache-2.0
 -- What a contract sees of a machine that C holds: its own snapshot, and whether its RAM is lent.
 use Rattle.std.specs.Prelude.{Bool, true, false, refl}
 use Rattle.std.specs.Coded.{Coded, code_by, coded_bool, coded×}

@@ -1,3 +1,4 @@
+-- SPDX-License-Identifier: MIT OR Apache-2.0
 -- What a boot tells C, and what C holds after it.
 use Rattle.std.specs.Prelude.{◌≡◌, ◌≢◌, ◌⊎◌, ℕ, ◌*◌, ◌<◌, ◌≤◌, Bool, List, length, replicate, Option, None, Some, Ok, Err, IsUtf8}
 use Rattle.ffa_model.specs.Agreement.{Agrees}

@@ -1,3 +1,4 @@
+-- SPDX-License-Identifier: MIT OR Apache-2.0
 -- A manifest as C gives it: numbers, and so many of the places of an array.
 use Rattle.std.specs.Prelude.{ℕ, List, [], ◌∷◌, ◌++◌, take, Option, Some, None, Result, Ok, Err, ◌==◌, ◌≡◌, ◌≢◌, true, false, nat_le, if◌then◌else◌}
 use Rattle.std.specs.Option.{option_map}

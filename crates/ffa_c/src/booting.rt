@@ -1,3 +1,4 @@
+// SPDX-License-Identifier: MIT OR Apache-2.0
 //! Boots machines for C: over RAM of the heap, and over RAM that is lent.
 ghost use Rattle.std.specs.Prelude.{◌≡◌, ◌≢◌, ◌*◌, ◌⊎◌, [], length, true, false, Ok, Some, None, IfOk, IfErr, IfSome, IsUtf8};
 ghost use Rattle.ffa_manifest.specs.Document.{parts_of};

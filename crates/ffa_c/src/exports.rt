@@ -1,3 +1,4 @@
+// SPDX-License-Identifier: MIT OR Apache-2.0
 //! The functions that C calls. `c/gorseplumb.h` declares them.
 ghost use Rattle.std.specs.Prelude.{◌≡◌, Some, None, IfSome, length, true, false};
 ghost use Rattle.ffa_model.specs.Access.{access};

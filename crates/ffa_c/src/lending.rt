@@ -1,3 +1,4 @@
+// SPDX-License-Identifier: MIT OR Apache-2.0
 //! Pages that C lends, and gets back.
 ghost use Rattle.std.specs.Prelude.{◌≡◌, ◌≢◌, ℕ, [], length, true, false, Option, Some, None, IfSome, is_some};
 ghost use Rattle.std.specs.Option.{option_map};

@@ -1,3 +1,4 @@
+// SPDX-License-Identifier: MIT OR Apache-2.0
 //! The machine for C: a static library whose exports say again what the machine's own calls promise.
 #![tactic(auto)]
 

@@ -1,3 +1,4 @@
+// SPDX-License-Identifier: MIT OR Apache-2.0
 //! The machine that C holds.
 ghost use Rattle.std.specs.Prelude.{◌≡◌, Option, Some, None, is_some};
 ghost use Rattle.std.specs.Option.{option_map};

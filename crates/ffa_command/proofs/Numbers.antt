@@ -1,3 +1,4 @@
+-- SPDX-License-Identifier: MIT OR Apache-2.0
 -- Decimal numbers, as the library reads them and as clap tests them.
 use Rattle.std.proofs.Common.{◌≡◌, ℕ, Bool, true, false, List, Result, Ok, Err, Some, refl, ap, ◌⊎◌, inl, inr, arith}
 use Rattle.std.specs.Result.{result_ok}

@@ -1,3 +1,4 @@
+-- SPDX-License-Identifier: MIT OR Apache-2.0
 -- From a parse to what its words ask for.
 use Rattle.std.proofs.Common.{◌≡◌, List, Result, true, refl, ap, subst, ◌∙◌}
 use Rattle.clap.proofs.OnLiterals.{clap_on_literals}

@@ -1,3 +1,4 @@
+-- SPDX-License-Identifier: MIT OR Apache-2.0
 -- Commands that are added by a table.
 use Rattle.std.proofs.Common.{◌≡◌, ◌+◌, ◌<◌, ℕ, List, drop, length, get_or, false, ap, sym, ◌∙◌}
 use Rattle.std.proofs.lemmas.List.{drop_more}

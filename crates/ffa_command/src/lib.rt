@@ -1,3 +1,4 @@
+// SPDX-License-Identifier: MIT OR Apache-2.0
 //! The program's command line: which command its words ask for, with which paths and flags.
 #![tactic(auto)]
 

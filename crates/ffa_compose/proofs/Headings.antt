@@ -1,3 +1,4 @@
+-- SPDX-License-Identifier: MIT OR Apache-2.0
 -- A header that was written, as it is read.
 use Rattle.std.proofs.Common.{◌≡◌, ℕ, ◌*◌, ◌%◌, ◌^◌, ◌<◌, ◌≤◌, true, List, [], ◌++◌, length, refl, ap, arith, length-append, ◌∙◌}
 use Rattle.byteorder.specs.Numbers.{little_number-reads_back}

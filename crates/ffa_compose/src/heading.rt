@@ -1,3 +1,4 @@
+// SPDX-License-Identifier: MIT OR Apache-2.0
 //! The transaction header, as it is written.
 
 ghost use Rattle.std.specs.Prelude.{◌≤◌, length};

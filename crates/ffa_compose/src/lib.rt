@@ -1,3 +1,4 @@
+// SPDX-License-Identifier: MIT OR Apache-2.0
 //! Descriptors of memory transactions (DEN0077A, 5.11 and 16), written as `ffa_memdesc` reads them.
 #![tactic(auto)]
 

@@ -1,3 +1,4 @@
+// SPDX-License-Identifier: MIT OR Apache-2.0
 //! Relinquish descriptors.
 
 ghost use Rattle.std.specs.Prelude.{◌≡◌, take, drop};

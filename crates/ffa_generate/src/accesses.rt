@@ -1,3 +1,4 @@
+// SPDX-License-Identifier: MIT OR Apache-2.0
 //! Loads, stores and fetches at the edges of what an endpoint reaches.
 use crate::generator::Generator;
 use crate::layout::PAGE;

@@ -1,3 +1,4 @@
+// SPDX-License-Identifier: MIT OR Apache-2.0
 //! Buffers that are mapped, unmapped and released.
 use crate::generator::{Generator, call};
 use crate::layout::PAGE;

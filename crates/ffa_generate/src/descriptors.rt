@@ -1,3 +1,4 @@
+// SPDX-License-Identifier: MIT OR Apache-2.0
 //! Descriptors that an endpoint stores into its TX, and the calls that read them there.
 ghost use Rattle.std.specs.Prelude.{◌<◌};
 ghost use Rattle.ffa_generate.specs.declared.descriptors.TheConstants.{WORDS};

@@ -1,3 +1,4 @@
+// SPDX-License-Identifier: MIT OR Apache-2.0
 //! Choices at random.
 ghost use Rattle.std.specs.Prelude.{◌<◌, ◌≤◌, length};
 

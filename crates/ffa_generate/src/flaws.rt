@@ -1,3 +1,4 @@
+// SPDX-License-Identifier: MIT OR Apache-2.0
 //! What is turned in a descriptor, so that it is none, or says what its sender mustn't.
 use crate::dice::Dice;
 use ffa_model::Version;

@@ -1,3 +1,4 @@
+// SPDX-License-Identifier: MIT OR Apache-2.0
 //! The generator: what it plays on, and what it knows of the endpoints.
 use crate::dice::Dice;
 use crate::learning::Known;

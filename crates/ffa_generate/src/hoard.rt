@@ -1,3 +1,4 @@
+// SPDX-License-Identifier: MIT OR Apache-2.0
 //! An endpoint that gathers pages until it can have as many open transactions as there may be, and asks for one more.
 use crate::generator::Generator;
 use crate::offers::Wish;

@@ -1,3 +1,4 @@
+// SPDX-License-Identifier: MIT OR Apache-2.0
 //! What a manifest gives its endpoints.
 use bitflags::Flags;
 use ffa_model::{EndpointId, Manifest, Properties, Region, Version};

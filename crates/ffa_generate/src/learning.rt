@@ -1,3 +1,4 @@
+// SPDX-License-Identifier: MIT OR Apache-2.0
 //! What is learned of the endpoints from the answers to their calls.
 use crate::generator::{Generator, NORMAL_WORLD};
 use crate::stage::Stage;

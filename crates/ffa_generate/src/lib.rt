@@ -1,3 +1,4 @@
+// SPDX-License-Identifier: MIT OR Apache-2.0
 //! Traces for a machine, made at random: each call in its right form and with something turned, as what came before allows,
 //! and accesses at the edges of what an endpoint reaches. The same seed gives the same trace.
 #![tactic(auto)]

@@ -1,3 +1,4 @@
+// SPDX-License-Identifier: MIT OR Apache-2.0
 //! The machine that plays what is generated.
 ghost use Rattle.std.specs.Prelude.{◌<◌, length, IfSome};
 

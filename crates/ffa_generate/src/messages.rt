@@ -1,3 +1,4 @@
+// SPDX-License-Identifier: MIT OR Apache-2.0
 //! Direct messages, run states and indirect messages.
 use crate::flaws::PAGE_SIZE;
 use crate::generator::{Generator, NORMAL_WORLD, call, is_done};

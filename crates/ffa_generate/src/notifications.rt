@@ -1,3 +1,4 @@
+// SPDX-License-Identifier: MIT OR Apache-2.0
 //! Notifications.
 use crate::generator::{Generator, NORMAL_WORLD, call};
 use crate::messages::pair;

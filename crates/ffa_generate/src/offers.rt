@@ -1,3 +1,4 @@
+// SPDX-License-Identifier: MIT OR Apache-2.0
 //! The transactions that are open.
 use ffa_model::{Data, EndpointId, Kind, MOST_RECEIVERS, Range};
 

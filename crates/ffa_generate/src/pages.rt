@@ -1,3 +1,4 @@
+// SPDX-License-Identifier: MIT OR Apache-2.0
 //! Which pages there are, and whose they are.
 use crate::generator::Generator;
 use crate::layout::{PAGE, count_regions, first_place, region_of, region_page, region_pages};

@@ -1,3 +1,4 @@
+// SPDX-License-Identifier: MIT OR Apache-2.0
 //! Retrieves.
 use crate::flaws::PAGE_SIZE;
 use crate::generator::{Generator, call, is_done};

@@ -1,3 +1,4 @@
+// SPDX-License-Identifier: MIT OR Apache-2.0
 //! Relinquishes and reclaims.
 use crate::flaws::PAGE_SIZE;
 use crate::generator::{Generator, call, is_done};

@@ -1,3 +1,4 @@
+// SPDX-License-Identifier: MIT OR Apache-2.0
 //! What an endpoint does in its turn.
 use crate::generator::Generator;
 use crate::stage::{Stage, Stop};

@@ -1,3 +1,4 @@
+// SPDX-License-Identifier: MIT OR Apache-2.0
 //! Sends: shares, lends and donates, as they should be and with something turned.
 use crate::flaws::PAGE_SIZE;
 use crate::generator::{Generator, call, is_done};

@@ -1,3 +1,4 @@
+// SPDX-License-Identifier: MIT OR Apache-2.0
 //! Setup calls, and identifiers of no call.
 use crate::generator::{Generator, call};
 use crate::layout::uuid_of;

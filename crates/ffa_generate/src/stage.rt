@@ -1,3 +1,4 @@
+// SPDX-License-Identifier: MIT OR Apache-2.0
 //! What a generator plays on, as it sees it: with no clauses, since nothing is proved of what comes of an operation.
 use ffa_model::{EndpointId, Op, Outcome, Rights};
 use ffa_turns::Entry;

@@ -1,3 +1,4 @@
+// SPDX-License-Identifier: MIT OR Apache-2.0
 //! How an endpoint comes to run.
 use crate::generator::{Generator, NORMAL_WORLD};
 use crate::layout::has_properties;

@@ -1,3 +1,4 @@
+-- SPDX-License-Identifier: MIT OR Apache-2.0
 -- The state in which the machine of an accepted manifest starts is sound.
 use Rattle.std.proofs.Common.{◌≡◌, ℕ, zero, suc, ◌<◌, Bool, true, List, [], ◌∷◌, length, map, Some, refl, subst, arith}
 use Rattle.std.specs.Prelude.{◌&&◌, nat_lt, slice_get}

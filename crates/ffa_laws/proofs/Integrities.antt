@@ -1,3 +1,4 @@
+-- SPDX-License-Identifier: MIT OR Apache-2.0
 -- A page that its owner has alone stays as it is, whatever another endpoint does, but for a message into RX.
 use Rattle.std.proofs.Common.{◌≡◌, ◌≢◌, ◌∙◌, ℕ, ◌-◌, ◌/◌, ◌%◌, true, false, cond, List, [], get_or, Option, Some, None, is_some, refl, sym, ap, inl, inr}
 use Rattle.std.specs.Prelude.{Bool, is_none, ◌==◌, ◌&&◌, nat_le, nat_lt, ◌^◌}

@@ -1,3 +1,4 @@
+-- SPDX-License-Identifier: MIT OR Apache-2.0
 -- The laws of a step, call by call.
 use Rattle.std.proofs.Common.{◌≡◌, ◌≢◌, ◌∙◌, ℕ, true, false, Some, None, refl, sym, ap, subst}
 use Rattle.ffa_model.specs.declared.operation.Op.{Op}

@@ -1,3 +1,4 @@
+-- SPDX-License-Identifier: MIT OR Apache-2.0
 -- Another's operation leaves an endpoint's buffers in their pages.
 use Rattle.std.proofs.Common.{◌≡◌, ◌≢◌, ◌∙◌, ℕ, Bool, true, false, cond, List, length, get_or, Option, Some, None, refl, sym, ap, get_or-set_other}
 use Rattle.std.specs.Option.{option_map_or}

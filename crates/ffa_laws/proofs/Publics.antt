@@ -1,3 +1,4 @@
+-- SPDX-License-Identifier: MIT OR Apache-2.0
 -- The public part: two are told apart by their numbers.
 use Rattle.std.proofs.Common.{◌≡◌, ◌∙◌, ℕ, zero, suc, Bool, true, false, List, [], ◌∷◌, map, Option, Some, None, refl, sym, ap, bytes_eq, ◌+◌, ◌*◌, ◌/◌, ◌%◌, arith}
 use Rattle.std.specs.Prelude.{◌==◌}

@@ -1,3 +1,4 @@
+-- SPDX-License-Identifier: MIT OR Apache-2.0
 -- Bits that become pending: what becomes of views.
 use Rattle.std.proofs.Common.{◌≡◌, ◌≢◌, ◌∙◌, ℕ, Bool, true, false, cond, List, [], ◌∷◌, length, map, refl, sym, ap}
 use Rattle.std.specs.Prelude.{◌==◌, ◌&&◌}

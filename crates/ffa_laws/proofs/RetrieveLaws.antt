@@ -1,3 +1,4 @@
+-- SPDX-License-Identifier: MIT OR Apache-2.0
 -- FFA_MEM_RETRIEVE_REQ, in the runner's view, and to others.
 use Rattle.std.proofs.Common.{◌≡◌, ◌≢◌, ◌∙◌, ℕ, Bool, true, false, cond, List, [], ◌∷◌, ◌++◌, length, take, Option, Some, None, refl, sym, ap, inl, inr, arith, length-set}
 use Rattle.std.specs.Prelude.{◌==◌, ◌||◌, not, is_none, nat_le}

@@ -1,3 +1,4 @@
+-- SPDX-License-Identifier: MIT OR Apache-2.0
 -- Run states: run, wait, yield and direct messages, in the runner's view, and to others.
 use Rattle.std.proofs.Common.{◌≡◌, ◌∙◌, ℕ, suc, zero, ◌<◌, true, false, List, [], ◌∷◌, length, get_or, set, Option, Some, None, refl, sym, ap, arith, length-set}
 use Rattle.std.specs.Prelude.{◌++◌}

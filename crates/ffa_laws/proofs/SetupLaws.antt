@@ -1,3 +1,4 @@
+-- SPDX-License-Identifier: MIT OR Apache-2.0
 -- Partition information: in the runner's view, and to others.
 use Rattle.std.proofs.Common.{◌≡◌, ◌≢◌, ℕ, Bool, true, false, cond, List, [], ◌∷◌, length, is_some, refl, sym, ap, length-set}
 use Rattle.std.specs.Prelude.{◌||◌, not}

@@ -1,3 +1,4 @@
+-- SPDX-License-Identifier: MIT OR Apache-2.0
 -- What keeps a state sound: its parts, one by one.
 use Rattle.std.proofs.Common.{◌≡◌, ◌∙◌, ℕ, ◌<◌, true, List, length, get_or, Option, Some, None, refl, subst, arith}
 use Rattle.std.specs.FinSet as finite_set

@@ -1,3 +1,4 @@
+-- SPDX-License-Identifier: MIT OR Apache-2.0
 -- Each operation keeps a state sound.
 use Rattle.std.proofs.Common.{◌≡◌, ℕ, true, false, cond, length, None, sym}
 use Rattle.byteorder.specs.Endian.{little_bytes}

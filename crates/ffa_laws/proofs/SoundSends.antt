@@ -1,3 +1,4 @@
+-- SPDX-License-Identifier: MIT OR Apache-2.0
 -- A send of memory keeps a state sound.
 use Rattle.std.proofs.Common.{◌≡◌, ◌<◌, true, Option, Some, None, refl, sym, subst}
 use Rattle.std.specs.Prelude.{nat_lt}

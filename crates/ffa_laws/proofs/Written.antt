@@ -1,3 +1,4 @@
+-- SPDX-License-Identifier: MIT OR Apache-2.0
 -- Bytes that are written into a page, into pages in a row, and into RX.
 use Rattle.std.proofs.Common.{◌≡◌, ◌≢◌, ◌∙◌, ℕ, suc, zero, Bool, true, false, cond, List, [], ◌∷◌, length, get_or, set, Option, Some, None, refl, sym, ap, arith, length-set, get_or-set_other, ◌+◌, take, drop}
 use Rattle.std.specs.Option.{option_map}

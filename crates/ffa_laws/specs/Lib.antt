@@ -1,3 +1,4 @@
+-- SPDX-License-Identifier: MIT OR Apache-2.0
 pub mod View
 pub mod Events
 pub mod Steady

@@ -1,3 +1,4 @@
+-- SPDX-License-Identifier: MIT OR Apache-2.0
 -- What stays of a loan, and what an offer says. A borrower that stores into a loan, and by its next call zeroes it and gives
 -- it up, leaves no trace of what it stored; and the bytes in the pages of an offer make no difference to a receiver before
 -- it retrieves them.

@@ -1,3 +1,4 @@
+-- SPDX-License-Identifier: MIT OR Apache-2.0
 -- What an endpoint may do with a page changes by its own calls alone.
 use Rattle.std.specs.Prelude.{◌≡◌, ◌≢◌, ℕ, Bool, true, false, Some}
 use Rattle.ffa_model.specs.declared.operation.Op.{Op}

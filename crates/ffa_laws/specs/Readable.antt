@@ -1,3 +1,4 @@
+-- SPDX-License-Identifier: MIT OR Apache-2.0
 -- What an endpoint can read: its view, in which no page has bytes to which it has no access now. What is lent away, and what
 -- is offered and not yet retrieved, is blank.
 use Rattle.std.specs.Prelude.{◌≡◌, ◌≢◌, ◌==◌, ℕ, ◌/◌, ◌-◌, Bool, true, false, not, ◌&&◌, List, [], ◌∷◌, ◌++◌, Option, is_none, map as each, if◌then◌else◌}

@@ -1,3 +1,4 @@
+-- SPDX-License-Identifier: MIT OR Apache-2.0
 -- A run as one endpoint lives it: its own operations and the events towards it, done on its view alone.
 use Rattle.std.specs.Prelude.{◌≡◌, ℕ, true, List, [], ◌∷◌, ◌++◌}
 use Rattle.ffa_model.specs.declared.operation.Op.{Op}

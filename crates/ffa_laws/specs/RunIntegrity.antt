@@ -1,3 +1,4 @@
+-- SPDX-License-Identifier: MIT OR Apache-2.0
 -- Integrity of a whole run: what an endpoint has alone stays as it is while it doesn't run.
 use Rattle.std.specs.Prelude.{◌≡◌, ℕ, Bool, true, false, not, List, None}
 use Rattle.std.specs.List.{list_all}

@@ -1,3 +1,4 @@
+-- SPDX-License-Identifier: MIT OR Apache-2.0
 -- What nobody is told: the calls that may give each event, which events change the view, and that the others are about
 -- something that stands in the view.
 use Rattle.std.specs.Prelude.{◌≡◌, ◌≢◌, ◌-◌, ◌/◌, ℕ, Bool, true, false, is_some, List, [], ◌∷◌}

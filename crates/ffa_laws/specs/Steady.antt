@@ -1,3 +1,4 @@
+-- SPDX-License-Identifier: MIT OR Apache-2.0
 -- What isolation asks of a state: less than that it is sound.
 use Rattle.std.specs.Prelude.{◌≡◌, ◌≢◌, ℕ, ◌≤◌, ◌<◌, Bool, true, ◌&&◌, ◌||◌, nat_le, List, length, Some, None, slice_index_or}
 use Rattle.std.specs.FinSet as finite_set

@@ -1,3 +1,4 @@
+-- SPDX-License-Identifier: MIT OR Apache-2.0
 -- What an endpoint can know of a state: the state itself, with all else left out or blank.
 use Rattle.std.specs.Prelude.{ℕ, ◌==◌, Bool, ◌&&◌, ◌||◌, length, map as each, Option, None, if◌then◌else◌}
 use Rattle.std.specs.Ordering.{nat_cmp}

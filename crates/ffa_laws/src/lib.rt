@@ -1,3 +1,4 @@
+// SPDX-License-Identifier: MIT OR Apache-2.0
 //! Laws of the small machine, proved over its definitions alone.
 #![tactic(auto)]
 

@@ -1,3 +1,4 @@
+-- SPDX-License-Identifier: MIT OR Apache-2.0
 -- The calls that take a box apart and put one together, as steps of a walk. Assumes `Logic`.
 use Rattle.ffa_lent.proofs.Steps.{◌≡◌, List, [], ◌∷◌, id⊢, ftrue, flft, full_share, Val, fact, ‵, raw, ◌⊛◌, some, later, ◌$◌, move, drop, use0, use1, split, join, pick, await, feq_i, feq_l, refl, ap, ◌∙◌, ◌++◌, only, fpick, fsplit, rewrite, ptr_val, block_ptr, ℕ, RattleType, Ptr, nothing, heard, triple_of, ◌⊑◌, vptr, vstruct, of_list, Al, handle_tells}
 use base.Logic.{SProp, emp}

@@ -1,3 +1,4 @@
+-- SPDX-License-Identifier: MIT OR Apache-2.0
 -- The box of one frame, as it is lent.
 use Rattle.std.proofs.Common.{◌≡◌, ◌∙◌, ℕ, ◌+◌, ◌*◌, ◌%◌, ◌^◌, ◌<◌, ◌≤◌, List, [], Some, Box, length, slice_get, slice_index_or, vec_len, refl, ap, sym}
 use Rattle.std.proofs.lemmas.List.{length-map, get_or-map}

@@ -1,3 +1,4 @@
+-- SPDX-License-Identifier: MIT OR Apache-2.0
 -- A struct that owns what lies behind a pointer, put together and taken apart. Assumes `Logic`.
 use Rattle.ffa_lent.proofs.Steps.{◌≡◌, ℕ, List, [], ◌∷◌, Option, None, Some, refl, IsSome, Val, ‵, ◌$◌, fjoin, RattleType, Ptr, block_ptr, null_ptr, in_a_block, owned, bare, lone, never, fst∗, sem, Al, ftrue, Is}
 use Rattle.std.proofs.lemmas.Bool.{false≢true}

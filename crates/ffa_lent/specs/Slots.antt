@@ -1,3 +1,4 @@
+-- SPDX-License-Identifier: MIT OR Apache-2.0
 -- What a slot owns.
 use Rattle.std.specs.Prelude.{Option, Some, None}
 use mir.Syntax.{Ty}

@@ -1,3 +1,4 @@
+// SPDX-License-Identifier: MIT OR Apache-2.0
 //! Pages that are lent, and RAM over them.
 ghost use Rattle.std.specs.Prelude.{◌≡◌, ℕ, ◌+◌, ◌*◌, ◌%◌, ◌^◌, ◌<◌, ◌≤◌, ◌++◌, [], ◌∷◌, None, IfOk, IfErr, is_ok, if◌then◌else◌, length, map, vec_len};
 ghost use Rattle.std.specs.Option.{option_map, option_to_list};

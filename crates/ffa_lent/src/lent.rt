@@ -1,3 +1,4 @@
+// SPDX-License-Identifier: MIT OR Apache-2.0
 //! The allocator of memory that isn't ours.
 ghost use Rattle.std.specs.Borrow.{ftrue};
 

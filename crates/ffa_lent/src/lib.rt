@@ -1,3 +1,4 @@
+// SPDX-License-Identifier: MIT OR Apache-2.0
 //! RAM that its caller lends, page by page.
 #![tactic(auto)]
 

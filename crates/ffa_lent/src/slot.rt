@@ -1,3 +1,4 @@
+// SPDX-License-Identifier: MIT OR Apache-2.0
 //! A page's memory as its pointer, or none.
 ghost use Rattle.std.specs.Prelude.{◌≡◌, ℕ, List, Option, Some, None, IsSome};
 ghost use Rattle.std.specs.Coded.{coded_list, coded_ℕ, coded_option};

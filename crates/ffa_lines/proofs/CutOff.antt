@@ -1,3 +1,4 @@
+-- SPDX-License-Identifier: MIT OR Apache-2.0
 -- In each form the plain text is what is left when numbers and names are cut off and reasons left out.
 use Rattle.std.proofs.Common.{◌≡◌, ℕ, suc, zero, ◌+◌, ◌*◌, ◌/◌, ◌%◌, ◌^◌, ◌-◌, Bool, true, false, List, [], ◌∷◌, ◌++◌, length, take, Option, None, Some, inl, inr, sym, ap, ◌∙◌, subst, arith, append-nil, refl}
 use Rattle.std.specs.Prelude.{◌==◌, codes, nat_lt, slice_index, if◌then◌else◌}

@@ -1,3 +1,4 @@
+-- SPDX-License-Identifier: MIT OR Apache-2.0
 -- What is left of a line, and of texts one behind the other, when numbers and names are cut off and reasons left out.
 use Rattle.std.proofs.Common.{◌≡◌, ℕ, suc, zero, ◌+◌, ◌/◌, ◌%◌, ◌<◌, ◌≤◌, Bool, true, false, List, [], ◌∷◌, ◌++◌, length, map, drop, inl, inr, sym, ap, ◌∙◌, subst, arith, append_assoc, refl}
 use Rattle.std.specs.Prelude.{◌==◌, ◌&&◌, not, codes, decimal, filter, nat_eq}

@@ -1,3 +1,4 @@
+-- SPDX-License-Identifier: MIT OR Apache-2.0
 -- With neither numbers nor names nor reasons a play line by line prints what the player prints.
 use Rattle.std.proofs.Common.{◌≡◌, ℕ, ◌+◌, List, [], ◌∷◌, ◌++◌, Option, None, Some, ap, ◌∙◌, append-nil, refl}
 use Rattle.std.specs.Option.{option_map_or}

@@ -1,3 +1,4 @@
+-- SPDX-License-Identifier: MIT OR Apache-2.0
 -- A line that says why an operation is refused has no LF, and nothing is left of it.
 use Rattle.std.proofs.Common.{◌≡◌, ℕ, ◌+◌, ◌-◌, Bool, true, false, List, [], ◌++◌, Option, None, Some, inl, inr, ◌∙◌, refl}
 use Rattle.std.specs.Prelude.{codes, decimal, nat_le}

@@ -1,3 +1,4 @@
+-- SPDX-License-Identifier: MIT OR Apache-2.0
 -- The lines of given bytes are unique, so a text that differs is no text of theirs.
 use Rattle.std.proofs.Common.{◌≡◌, ◌≢◌, ℕ, ◌+◌, ◌≤◌, Bool, true, List, [], ◌∷◌, ◌++◌, length, Option, None, Some, inl, inr, sym, ap, ◌∙◌, arith, append_assoc, append-nil, length-append, refl}
 use Rattle.std.specs.Prelude.{◌==◌, not}

@@ -1,3 +1,4 @@
+-- SPDX-License-Identifier: MIT OR Apache-2.0
 -- A text without the numbers, the names and the reasons that a form writes into it.
 use Rattle.std.specs.Prelude.{◌≡◌, ℕ, ◌+◌, Bool, true, ◌&&◌, List, [], ◌∷◌, codes, filter, map, not, drop, nat_eq, nat_le, if◌then◌else◌}
 use Rattle.std.specs.List.{list_all, prefix_len, starts_with}

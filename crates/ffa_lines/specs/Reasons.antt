@@ -1,3 +1,4 @@
+-- SPDX-License-Identifier: MIT OR Apache-2.0
 -- The line that says why an operation is refused.
 use Rattle.std.specs.Prelude.{ℕ, ◌+◌, ◌-◌, ◌*◌, ◌^◌, nat_le, nat_lt, Bool, List, [], ◌++◌, codes, decimal, Option, None, Some, if◌then◌else◌}
 use Rattle.std.specs.Option.{option_map_or}

@@ -1,3 +1,4 @@
+// SPDX-License-Identifier: MIT OR Apache-2.0
 //! Why the bytes of a line are none of the format.
 ghost use Rattle.std.specs.Prelude.{IsNone, ◌↔◌};
 ghost use Rattle.ffa_lines.specs.Whole.{IsWhole};

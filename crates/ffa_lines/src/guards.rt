@@ -1,3 +1,4 @@
+// SPDX-License-Identifier: MIT OR Apache-2.0
 //! A play that checks guards: comments that ask what the line before them printed, or which endpoint runs.
 ghost use Rattle.std.specs.Prelude.{◌≡◌, ◌≢◌, ℕ, List, ◌∷◌, ◌++◌, IfErr, OnOk, drop, length, ◌≤◌, ◌==◌, position, option_map};
 ghost use Rattle.std.specs.Option.{MatchOption};

@@ -1,3 +1,4 @@
+// SPDX-License-Identifier: MIT OR Apache-2.0
 //! Plays a trace line by line: with the number of each line, with the names of what registers hold, with the reasons of
 //! refusals, with guards that are checked, or against a text that is expected; and says why a line is none of the format.
 #![tactic(auto)]

@@ -1,3 +1,4 @@
+// SPDX-License-Identifier: MIT OR Apache-2.0
 //! A play that writes each text in a form.
 ghost use Rattle.ffa_lines.specs.Followed.{PlayedIn};
 

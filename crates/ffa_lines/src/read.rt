@@ -1,3 +1,4 @@
+// SPDX-License-Identifier: MIT OR Apache-2.0
 //! Reading the lines of a trace.
 ghost use Rattle.ffa_lines.specs.Reading.{ReadsLine, TakesFeed};
 

@@ -1,3 +1,4 @@
+-- SPDX-License-Identifier: MIT OR Apache-2.0
 -- What was read meets the conditions of a manifest.
 use Rattle.std.proofs.Common.{◌≡◌, ℕ, suc, Bool, true, false, ◌&&◌, ◌||◌, not, ◌==◌, List, [], ◌∷◌, ◌++◌, length, append-nil, Ok, refl, sym, ap, ◌∙◌, subst, append_assoc, replicate, codes, arith}
 use Rattle.std.specs.Prelude.{nat_lt}

@@ -1,3 +1,4 @@
+-- SPDX-License-Identifier: MIT OR Apache-2.0
 -- Regions that were read lie in their place, apart from one another and from those taken before.
 use Rattle.std.proofs.Common.{◌≡◌, ◌+◌, ◌*◌, Bool, true, false, ◌||◌, List, [], ◌∷◌, ◌++◌, length, append_assoc, append-nil, Ok, refl, sym, ap, ◌∙◌, codes}
 use Rattle.std.specs.Prelude.{nat_le}

@@ -1,3 +1,4 @@
+-- SPDX-License-Identifier: MIT OR Apache-2.0
 -- Tables and arrays of the code beside the data that they stand for.
 use Rattle.std.proofs.Common.{◌≡◌, ℕ, List, [], ◌∷◌, ◌||◌, map, length, Bor, String, Global, string_bytes, refl, ap}
 use Rattle.std.specs.Prelude.{suc}

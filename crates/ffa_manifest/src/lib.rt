@@ -1,3 +1,4 @@
+// SPDX-License-Identifier: MIT OR Apache-2.0
 //! Reads manifests: the description of a machine in TOML, accepted whole or refused by its first cause.
 #![tactic(auto)]
 

@@ -1,3 +1,4 @@
+// SPDX-License-Identifier: MIT OR Apache-2.0
 //! Where a document is refused.
 //!
 //! This is a second walk over its tables, by the functions that read them and in their order, up to the first that

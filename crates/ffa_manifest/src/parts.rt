@@ -1,3 +1,4 @@
+// SPDX-License-Identifier: MIT OR Apache-2.0
 //! The machine of parts, without a text.
 ghost use Rattle.std.specs.Prelude.{true, ◌≡◌, ◌↔◌, ◌++◌, [], Some, None, IfOk, IfErr, IsOk};
 ghost use Rattle.std.specs.Result.{result_err};

@@ -1,3 +1,4 @@
+// SPDX-License-Identifier: MIT OR Apache-2.0
 //! What is told of a manifest that is refused.
 
 use crate::error::ManifestError;

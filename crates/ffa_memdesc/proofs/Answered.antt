@@ -1,3 +1,4 @@
+-- SPDX-License-Identifier: MIT OR Apache-2.0
 -- From a record that is computed, or a condition that is broken, to an answer about a relation.
 use Rattle.std.proofs.Common.{◌≡◌, Option, Some, None, Result, Ok, Err, refl, sym, IfOk, IfErr, OnErr}
 use Rattle.std.specs.Option.{option_map}

@@ -1,3 +1,4 @@
+-- SPDX-License-Identifier: MIT OR Apache-2.0
 -- The first condition that bytes break is one that they break.
 use Rattle.std.proofs.Common.{◌≡◌, ℕ, ◌<◌, Bool, true, false, not, Option, Some, eqb, inl, inr}
 use Rattle.std.proofs.lemmas.Bool.{not-false, or_parts, leb-false, eqb-true, eqb-false}

@@ -1,3 +1,4 @@
+-- SPDX-License-Identifier: MIT OR Apache-2.0
 -- A condition that is broken: no record fits.
 use Rattle.std.proofs.Common.{◌≡◌, ℕ, Bool, true, false, List, inl, inr, arith}
 use Rattle.ffa_model.specs.declared.flaw.Flaw.{Flaw}

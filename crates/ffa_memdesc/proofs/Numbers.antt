@@ -1,3 +1,4 @@
+-- SPDX-License-Identifier: MIT OR Apache-2.0
 -- Numbers by their bytes.
 use Rattle.std.proofs.Common.{◌≡◌, ℕ, suc, ◌+◌, ◌*◌, List, arith}
 use Rattle.ffa_model.specs.DescriptorPlaces.{byte, u16_at, u32_at, u64_at}

@@ -1,3 +1,4 @@
+-- SPDX-License-Identifier: MIT OR Apache-2.0
 -- The places that bytes tell are those of the definitions, where the bytes go on so far.
 use Rattle.std.proofs.Common.{◌≡◌, ℕ, ◌+◌, ◌≤◌, cond, List, length, ap, ◌∙◌, arith, le-leb, refl}
 use Rattle.ffa_model.specs.declared.endpoint.Version.{Version}

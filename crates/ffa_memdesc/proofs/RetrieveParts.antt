@@ -1,3 +1,4 @@
+-- SPDX-License-Identifier: MIT OR Apache-2.0
 -- What each part of a reader tells of the whole retrieve.
 use Rattle.std.proofs.Common.{◌≡◌, ℕ, ◌+◌, ◌*◌, ◌≤◌, true, Option, Some, None, sym, ap, ◌∙◌, eqb, arith}
 use Rattle.std.proofs.lemmas.Bool.{and_from, and_parts, eqb-true}

@@ -1,3 +1,4 @@
+-- SPDX-License-Identifier: MIT OR Apache-2.0
 -- A transaction that stays in its slot, and is held otherwise.
 use Rattle.std.proofs.Common.{◌≡◌, ◌∙◌, ℕ, ◌<◌, Bool, true, false, cond, List, length, set, set-set, Option, Some, None, refl, sym, ap, subst, inl, inr}
 use Rattle.std.specs.List.{refill}

@@ -1,3 +1,4 @@
+-- SPDX-License-Identifier: MIT OR Apache-2.0
 -- Whose access to which pages a call on memory changes.
 use Rattle.std.specs.Prelude.{◌≡◌, ℕ, List, Option, Some, None}
 use Rattle.ffa_model.specs.declared.endpoint.EndpointId.{EndpointId}

@@ -1,3 +1,4 @@
+-- SPDX-License-Identifier: MIT OR Apache-2.0
 -- What a retrieve leaves.
 use Rattle.std.specs.Prelude.{◌≡◌, ℕ, Bool, false, List, Option, Some}
 use Rattle.std.specs.FinMap as finite

@@ -1,3 +1,4 @@
+-- SPDX-License-Identifier: MIT OR Apache-2.0
 -- What the checks of a call whose descriptor stands in TX read, over the parts of the machine.
 use Rattle.std.specs.Prelude.{ℕ, List, take, Option}
 use Rattle.ffa_model.specs.Buffers.{buffers_in}

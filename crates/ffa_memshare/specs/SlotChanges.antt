@@ -1,3 +1,4 @@
+-- SPDX-License-Identifier: MIT OR Apache-2.0
 -- What becomes of one slot, while all others stay.
 use Rattle.std.specs.Prelude.{◌≡◌, ◌<◌, ◌/◌, ℕ, List, length, slice_set, Option, Some, None}
 use Rattle.ffa_model.specs.declared.limits.TheConstants.{MOST_OPEN}

@@ -1,3 +1,4 @@
+// SPDX-License-Identifier: MIT OR Apache-2.0
 //! What a check is about that fails, where the descriptor in TX tells it.
 ghost use Rattle.std.specs.Prelude.{◌≡◌, Some, find, length, not};
 ghost use Rattle.ffa_model.specs.declared.transaction.Receiver.{Receiver as Named};

@@ -1,3 +1,4 @@
+// SPDX-License-Identifier: MIT OR Apache-2.0
 //! Calls whose descriptor stands in TX.
 ghost use Rattle.std.specs.Prelude.{◌≡◌, length, [], OnOk, IfOk, Some, is_some, true};
 ghost use Rattle.std.specs.Result.{result_err};

@@ -1,3 +1,4 @@
+// SPDX-License-Identifier: MIT OR Apache-2.0
 //! What the checks of a call on memory find, for its effect.
 
 use crate::transaction::OpenTransaction;

@@ -1,3 +1,4 @@
+// SPDX-License-Identifier: MIT OR Apache-2.0
 //! Ranges of whole pages of RAM, as an open transaction keeps them.
 ghost use Rattle.std.specs.Prelude.{◌≡◌, ◌<◌, ◌≤◌, [], length, slice_index_or};
 ghost use Rattle.ffa_model.specs.declared.limits.TheConstants.{MOST_RANGES};

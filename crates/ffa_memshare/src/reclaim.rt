@@ -1,3 +1,4 @@
+// SPDX-License-Identifier: MIT OR Apache-2.0
 //! FFA_MEM_RECLAIM.
 ghost use Rattle.std.specs.Prelude.{◌≡◌, ◌==◌, None, IfOk, OnOk, OnErr};
 ghost use Rattle.std.specs.FinMap as finite;

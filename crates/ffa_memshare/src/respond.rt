@@ -1,3 +1,4 @@
+// SPDX-License-Identifier: MIT OR Apache-2.0
 //! The response to a retrieve, where its caller reads it.
 ghost use Rattle.std.specs.Prelude.{◌≡◌, ◌<◌, ◌^◌, length, true, IsSomeAnd};
 ghost use Rattle.ffa_model.specs.Buffers.{buffers_in, buffers_with_rx};

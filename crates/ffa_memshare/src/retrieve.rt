@@ -1,3 +1,4 @@
+// SPDX-License-Identifier: MIT OR Apache-2.0
 //! FFA_MEM_RETRIEVE_REQ.
 ghost use Rattle.std.specs.Prelude.{ℕ, ◌≡◌, ◌≢◌, ◌<◌, length, true, is_some, Some, IfOk, OnOk, OnErr};
 ghost use Rattle.std.specs.Result.{result_err};

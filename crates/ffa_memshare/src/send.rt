@@ -1,3 +1,4 @@
+// SPDX-License-Identifier: MIT OR Apache-2.0
 //! FFA_MEM_DONATE, FFA_MEM_LEND and FFA_MEM_SHARE.
 ghost use Rattle.std.specs.Prelude.{◌≡◌, ◌<◌, ℕ, length, None, IfOk, OnErr};
 ghost use Rattle.std.specs.Result.{result_err};

@@ -1,3 +1,4 @@
+// SPDX-License-Identifier: MIT OR Apache-2.0
 //! One open transaction.
 ghost use Rattle.std.specs.Prelude.{◌≡◌, ◌==◌, length, find, Some, None};
 ghost use Rattle.arrayvec.specs.ArrayVec.{array_vec_len};

@@ -1,3 +1,4 @@
+-- SPDX-License-Identifier: MIT OR Apache-2.0
 -- Single bits of a word.
 use Rattle.std.proofs.Common.{◌≡◌, ℕ, ◌==◌, arith, bit_and}
 use Rattle.std.proofs.lemmas.Bool.Decides.{nat_tests}

@@ -1,3 +1,4 @@
+-- SPDX-License-Identifier: MIT OR Apache-2.0
 -- Headers by their fields, and where they stand.
 use Rattle.std.proofs.Common.{◌≡◌, ◌∙◌, ℕ, zero, suc, ◌+◌, ◌≤◌, List, ◌++◌, length, drop, sym, ap, subst, arith}
 use Rattle.std.specs.List.{flat_map}

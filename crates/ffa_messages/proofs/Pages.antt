@@ -1,3 +1,4 @@
+-- SPDX-License-Identifier: MIT OR Apache-2.0
 -- The pages of buffers.
 use Rattle.std.proofs.Common.{◌≡◌, ◌∙◌, ℕ, zero, suc, ◌+◌, take, drop, subst, Bool, true, List, [], ◌∷◌, length, Option, None, Some, Result, Ok, Err, is_some, get_or, set, refl, sym, ap}
 use Rattle.std.specs.Option.{IsSomeAnd, option_map}

@@ -1,3 +1,4 @@
+-- SPDX-License-Identifier: MIT OR Apache-2.0
 -- What a message is read from, over the parts of the machine, and its checks by what they are about.
 use Rattle.std.specs.Prelude.{◌≡◌, ℕ, ◌+◌, ◌==◌, Bool, true, false, not, nat_le, List, [], ◌∷◌, length, Option, Some, None, slice_index_or, is_some}
 use Rattle.ffa_model.specs.declared.refusal.Refusal.{Refusal}

@@ -1,3 +1,4 @@
+// SPDX-License-Identifier: MIT OR Apache-2.0
 //! Direct messages (DEN0077A, 7.1 and 15).
 ghost use Rattle.std.specs.Prelude.{◌≡◌, length, map, true, Some, OnOk, OnErr, IfOk};
 ghost use Rattle.std.specs.Option.{option_map};

@@ -1,3 +1,4 @@
+// SPDX-License-Identifier: MIT OR Apache-2.0
 //! Indirect messages (DEN0077A, 7.1 and 15).
 ghost use Rattle.std.specs.Prelude.{◌≡◌, ◌+◌, ◌*◌, ◌≤◌, length, map, take, true, is_some, Some, OnOk, OnErr, IfOk, IsSomeAnd};
 ghost use Rattle.std.specs.Result.{result_err};

@@ -1,3 +1,4 @@
+// SPDX-License-Identifier: MIT OR Apache-2.0
 //! What each endpoint takes part in.
 ghost use Rattle.std.specs.Prelude.{◌≡◌, map};
 ghost use Rattle.ffa_model.specs.First.{party_of};

@@ -1,3 +1,4 @@
+-- SPDX-License-Identifier: MIT OR Apache-2.0
 -- At first the normal world alone is in the chain, and no endpoint has work.
 use Rattle.std.proofs.Common.{◌≡◌, ◌∙◌, ℕ, zero, suc, ◌≤◌, cond, [], ◌∷◌, false, replicate, Option, None, refl, ap, ap₂, subst, inl, arith}
 use Rattle.std.specs.Prelude.{◌||◌}

@@ -1,3 +1,4 @@
+-- SPDX-License-Identifier: MIT OR Apache-2.0
 -- Guards in order.
 use Rattle.std.proofs.Common.{◌≡◌, ℕ, zero, suc, Bool, true, false, List, [], ◌∷◌, ◌++◌, get_or, map, Some, None, refl, ap, sym, ◌∙◌, Option}
 use Rattle.std.specs.Prelude.{◌&&◌, if◌then◌else◌}

@@ -1,3 +1,4 @@
+-- SPDX-License-Identifier: MIT OR Apache-2.0
 -- The state stays sound through the changes of each call on memory, but for the bytes that a retrieve leaves in RX.
 use Rattle.std.proofs.Common.{◌≡◌, ◌∙◌, ℕ, Bool, true, false, not, List, Option, Some, None, refl, sym, ap, subst}
 use Rattle.std.specs.Prelude.{is_some}

@@ -1,3 +1,4 @@
+-- SPDX-License-Identifier: MIT OR Apache-2.0
 -- What the registers' table says of every call.
 use Rattle.std.proofs.Common.{◌≡◌, ℕ, true, false, cond, List, [], ◌∷◌, Some, refl, arith}
 use Rattle.std.specs.Prelude.{find, slice_index, ◌==◌, if◌then◌else◌}

@@ -1,3 +1,4 @@
+-- SPDX-License-Identifier: MIT OR Apache-2.0
 -- What a test of all pages that ranges name says of each page.
 use Rattle.std.proofs.Common.{◌≡◌, ℕ, zero, suc, ◌<◌, Bool, true, false, cond, refl, subst, arith, ◌∷◌}
 use Rattle.std.specs.Prelude.{filter}

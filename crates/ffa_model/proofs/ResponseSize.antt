@@ -1,3 +1,4 @@
+-- SPDX-License-Identifier: MIT OR Apache-2.0
 -- How many bytes a response has.
 use Rattle.std.proofs.Common.{◌≡◌, ◌∙◌, ◌*◌, ◌++◌, List, [], ◌∷◌, length, refl, arith, length-append}
 use Rattle.std.specs.List.{flat_map}

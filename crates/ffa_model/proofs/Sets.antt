@@ -1,3 +1,4 @@
+-- SPDX-License-Identifier: MIT OR Apache-2.0
 -- Sets of lists of numbers: what is in them after a change, and that two with the same elements are one.
 use Rattle.std.proofs.Common.{◌≡◌, ◌∙◌, ℕ, zero, suc, ◌<◌, arith, Bool, true, List, [], ◌∷◌, map, sym, ap, inl, inr}
 use Rattle.std.specs.Prelude.{◌||◌, ◌&&◌, not}

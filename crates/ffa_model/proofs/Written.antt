@@ -1,3 +1,4 @@
+-- SPDX-License-Identifier: MIT OR Apache-2.0
 -- Lists of which one element was written.
 use Rattle.std.proofs.Common.{◌≡◌, ◌∙◌, ℕ, List, [], ◌∷◌, length, map, set, refl, ap, arith}
 use Rattle.std.proofs.lemmas.List.{length-set, map-set}

@@ -1,3 +1,4 @@
+-- SPDX-License-Identifier: MIT OR Apache-2.0
 -- What a check that fails is about: what the call's registers tell, or what its message, its descriptor or its bits do, else
 -- the first page that fails it, of the pages that the call names.
 use Rattle.std.specs.Prelude.{ℕ, Bool, true, not, is_none, List, [], Option, None, find, if◌then◌else◌}

@@ -1,3 +1,4 @@
+-- SPDX-License-Identifier: MIT OR Apache-2.0
 -- What a check that fails is about, where a message's header or a descriptor tells it, and where it is a notification's bit
 -- (DEN0077A, 5.11, 7.1, 10 and 16).
 use Rattle.std.specs.Prelude.{ℕ, Bool, not, is_none, find, List, [], length, Option, Some, None, if◌then◌else◌}

@@ -1,3 +1,4 @@
+-- SPDX-License-Identifier: MIT OR Apache-2.0
 -- What a check that fails is about, where the call's registers tell it: a register and its value, an endpoint that one names,
 -- or a handle (DEN0077A, 11 to 16).
 use Rattle.std.specs.Prelude.{ℕ, Option, Some, None}

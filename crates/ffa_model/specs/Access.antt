@@ -1,3 +1,4 @@
+-- SPDX-License-Identifier: MIT OR Apache-2.0
 -- Access, computed from the open transactions whenever it is asked.
 use Rattle.std.specs.Prelude.{ℕ, ◌+◌, ◌*◌, ◌==◌, Bool, false, ◌&&◌, nat_lt, nat_le, List, Option, Some, None, is_some, find, if◌then◌else◌}
 use Rattle.std.specs.Ordering.{nat_cmp}

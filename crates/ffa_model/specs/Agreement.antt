@@ -1,3 +1,4 @@
+-- SPDX-License-Identifier: MIT OR Apache-2.0
 -- When RAM agrees with a state: the Armv8-A walk of every endpoint's table in the RAM's own bytes gives, for every
 -- input address below 2 ^ 32, exactly the endpoint's access, and the endpoints' pages hold the state's bytes.
 use Rattle.std.specs.Prelude.{◌≡◌, ℕ, ◌<◌, ◌/◌, ◌^◌, List, length, Some}

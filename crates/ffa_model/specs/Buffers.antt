@@ -1,3 +1,4 @@
+-- SPDX-License-Identifier: MIT OR Apache-2.0
 -- The RX and TX buffers (DEN0077A, 7.2).
 use Rattle.std.specs.Prelude.{ℕ, ◌+◌, ◌*◌, ◌-◌, ◌/◌, ◌%◌, ◌==◌, Bool, true, false, not, ◌&&◌, ◌||◌, nat_le, is_none, is_some, List, [], ◌∷◌, length, Option, Some, None, slice_index_or, slice_set}
 use Rattle.std.specs.List.{list_all}

@@ -1,3 +1,4 @@
+-- SPDX-License-Identifier: MIT OR Apache-2.0
 -- The form of each call: guards in order, and what changes where none fails.
 use Rattle.std.specs.Prelude.{ℕ, Bool, List, [], ◌∷◌, Option, Some, None, if◌then◌else◌, replicate}
 use Rattle.ffa_model.specs.declared.operation.ErrorCode.{ErrorCode}

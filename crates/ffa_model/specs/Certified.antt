@@ -1,3 +1,4 @@
+-- SPDX-License-Identifier: MIT OR Apache-2.0
 -- When tables give what runs of pages say: the walk of each table, in the RAM's own bytes, gives exactly the access of
 -- the runs, and nothing outside RAM. It says nothing of owners and handles.
 use Rattle.std.specs.Prelude.{◌≡◌, ℕ, ◌+◌, ◌-◌, ◌/◌, ◌^◌, ◌==◌, ◌<◌, Bool, true, ◌&&◌, nat_le, List, [], ◌∷◌, length, slice_index, slice_index_or, Option, None, if◌then◌else◌}

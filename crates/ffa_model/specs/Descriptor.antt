@@ -1,3 +1,4 @@
+-- SPDX-License-Identifier: MIT OR Apache-2.0
 -- The stage 2 descriptors that the manager writes (DDI 0487, D8.3).
 use Rattle.std.specs.Prelude.{ℕ, ◌+◌, ◌*◌, ◌^◌, if◌then◌else◌, Option, None, Some}
 use Rattle.ffa_model.specs.Bits.{bits}

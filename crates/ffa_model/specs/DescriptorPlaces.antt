@@ -1,3 +1,4 @@
+-- SPDX-License-Identifier: MIT OR Apache-2.0
 -- Where the fields of memory transaction descriptors stand (DEN0077A, 5.11 and 16), and the codes in them.
 use Rattle.byteorder.specs.Endian.{little_from}
 use Rattle.std.specs.Prelude.{◌≡◌, ◌≤◌, ℕ, ◌+◌, ◌*◌, ◌%◌, ◌==◌, Bool, true, ◌&&◌, nat_le, List, length, slice_index, Option, Some, None, if◌then◌else◌}

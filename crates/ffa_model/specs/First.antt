@@ -1,3 +1,4 @@
+-- SPDX-License-Identifier: MIT OR Apache-2.0
 -- The state in which the machine of an accepted manifest starts.
 use Rattle.std.specs.Prelude.{ℕ, zero, suc, ◌*◌, Bool, ◌&&◌, not, ◌==◌, List, length, map, replicate, find, Option, None}
 use Rattle.std.specs.Option.{option_map}

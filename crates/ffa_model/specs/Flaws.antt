@@ -1,3 +1,4 @@
+-- SPDX-License-Identifier: MIT OR Apache-2.0
 -- Which condition of a descriptor bytes break: each line is the negation of one condition of the relations.
 use Rattle.std.specs.Prelude.{◌≡◌, ◌≢◌, ◌<◌, ℕ, ◌+◌, ◌*◌, ◌%◌, ◌^◌, false, List, length}
 use Rattle.ffa_model.specs.declared.flaw.Flaw.{Flaw}

@@ -1,3 +1,4 @@
+-- SPDX-License-Identifier: MIT OR Apache-2.0
 -- Identifiers of endpoints (DEN0077A, 6.1), and places in the manifest.
 use Rattle.std.specs.Prelude.{ℕ, zero, suc, ◌+◌, ◌-◌}
 

@@ -1,3 +1,4 @@
+-- SPDX-License-Identifier: MIT OR Apache-2.0
 -- The endpoints of the machines that are at hand.
 use Rattle.std.specs.Prelude.{ℕ, Bool, true, false, List, [], ◌∷◌, ◌++◌, replicate}
 use Rattle.ffa_model.specs.declared.rights.Data.TheVariants.{Rw}

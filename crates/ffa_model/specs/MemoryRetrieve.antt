@@ -1,3 +1,4 @@
+-- SPDX-License-Identifier: MIT OR Apache-2.0
 -- FFA_MEM_RETRIEVE_REQ (DEN0077A, 5 and 16).
 use Rattle.std.specs.Prelude.{ℕ, ◌==◌, Bool, true, false, not, is_none, List, [], ◌∷◌, Option, Some, None, unwrap_or, if◌then◌else◌}
 use Rattle.std.specs.Option.{option_map, option_map_or}

@@ -1,3 +1,4 @@
+-- SPDX-License-Identifier: MIT OR Apache-2.0
 -- FFA_MEM_RELINQUISH, by which a receiver gives up what it holds, and FFA_MEM_RECLAIM, by which the sender ends the
 -- transaction (DEN0077A, 5 and 16).
 use Rattle.std.specs.Prelude.{ℕ, ◌==◌, Bool, false, not, ◌&&◌, ◌||◌, nat_le, is_some, is_none, List, [], ◌∷◌, Option, Some, None}

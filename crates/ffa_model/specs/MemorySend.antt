@@ -1,3 +1,4 @@
+-- SPDX-License-Identifier: MIT OR Apache-2.0
 -- FFA_MEM_DONATE, FFA_MEM_LEND and FFA_MEM_SHARE (DEN0077A, 5 and 16).
 use Rattle.std.specs.Prelude.{ℕ, ◌+◌, ◌*◌, ◌==◌, Bool, true, false, not, ◌&&◌, ◌||◌, nat_lt, nat_le, is_some, List, [], ◌∷◌, take, Option, Some, None}
 use Rattle.std.specs.List.{list_any, list_all}

@@ -1,3 +1,4 @@
+-- SPDX-License-Identifier: MIT OR Apache-2.0
 -- Indirect messages (DEN0077A, 7.1 and 15): what stands in TX is copied to the receiver's RX, of which the manager
 -- notifies it.
 use Rattle.std.specs.Prelude.{ℕ, ◌+◌, ◌==◌, Bool, not, nat_le, List, [], ◌∷◌, length, take, is_some, Option}

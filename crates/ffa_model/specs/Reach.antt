@@ -1,3 +1,4 @@
+-- SPDX-License-Identifier: MIT OR Apache-2.0
 -- Loads, stores and fetches over the walk, of any bytes in RAM. What an access comes to is said of what a walk answered,
 -- so that it can be said of an answer that was kept, too.
 use Rattle.std.specs.Prelude.{ℕ, ◌-◌, ◌/◌, ◌%◌, Bool, ◌==◌, if◌then◌else◌, List, Result, Ok, Err, ⊤}

@@ -1,3 +1,4 @@
+-- SPDX-License-Identifier: MIT OR Apache-2.0
 -- Outcomes that refuse: FFA_ERROR, and faults.
 use Rattle.std.specs.Prelude.{◌==◌, Bool, true, false, not, slice_index}
 use Rattle.ffa_model.specs.declared.call.Call.{Call}

@@ -1,3 +1,4 @@
+-- SPDX-License-Identifier: MIT OR Apache-2.0
 -- Which calls there are, and their arguments in the registers (DEN0028, 2; DEN0077A, 11 to 16).
 -- One table says it all: for reading a call, for FFA_FEATURES and for the step.
 use Rattle.std.specs.Prelude.{ℕ, ◌+◌, ◌%◌, ◌^◌, ◌==◌, Bool, true, false, ◌&&◌, ◌||◌, List, [], ◌∷◌, ◌++◌, Option, Some, None, find, is_some, slice_index, if◌then◌else◌}

@@ -1,3 +1,4 @@
+-- SPDX-License-Identifier: MIT OR Apache-2.0
 -- Retrieve descriptors: which bytes ask for memory that was offered, and what they say.
 use Rattle.std.specs.Prelude.{◌≡◌, ◌≢◌, ◌⊎◌, ℕ, ◌*◌, ◌==◌, Bool, not, ◌&&◌, ◌||◌, Option, Some, None, if◌then◌else◌}
 use Rattle.ffa_model.specs.declared.descriptor.RetrieveDesc.{RetrieveDesc}

@@ -1,3 +1,4 @@
+-- SPDX-License-Identifier: MIT OR Apache-2.0
 -- Who runs, who waits, and for whom a partition works (DEN0077A, 8.2 and 15).
 use Rattle.std.specs.Prelude.{ℕ, ◌==◌, Bool, true, false, not, ◌||◌, List, [], ◌∷◌, length, replicate, Option, Some, None, slice_index_or, slice_set, is_some}
 use Rattle.ffa_model.specs.declared.refusal.Refusal.{Refusal}

@@ -1,3 +1,4 @@
+-- SPDX-License-Identifier: MIT OR Apache-2.0
 -- What sound run states are: the first ones are, and each operation keeps them so.
 use Rattle.std.specs.Prelude.{◌≡◌, ◌⊎◌, ◌↔◌, ℕ, nat_eq, true, List, [], ◌∷◌, length, Option, Some, None}
 use Rattle.std.specs.List.{list_any, IsDistinct}

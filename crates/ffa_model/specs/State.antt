@@ -1,3 +1,4 @@
+-- SPDX-License-Identifier: MIT OR Apache-2.0
 -- The state of the small machine: maps, sets and lists by page or endpoint, and no table, slot or stack.
 use Rattle.std.specs.Prelude.{ℕ, ◌+◌, ◌*◌, ◌==◌, Bool, ◌&&◌, ◌||◌, nat_lt, List, length, Option, None, slice_index, slice_index_or, slice_get}
 use Rattle.std.specs.Ordering.{nat_cmp}

@@ -1,3 +1,4 @@
+-- SPDX-License-Identifier: MIT OR Apache-2.0
 -- The small machine.
 use Rattle.std.specs.Prelude.{false, List, [], ◌∷◌}
 use Rattle.ffa_model.specs.declared.operation.Op.{Op}

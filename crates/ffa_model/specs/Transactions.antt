@@ -1,3 +1,4 @@
+-- SPDX-License-Identifier: MIT OR Apache-2.0
 -- Memory management transactions that are open (DEN0077A, 5): their handles, who holds them, and the most that a
 -- receiver may hold.
 use Rattle.std.specs.Prelude.{ℕ, ◌+◌, ◌*◌, ◌==◌, Bool, false, ◌&&◌, List, length, filter, find, Option, slice_index, slice_set, unwrap_or, if◌then◌else◌}

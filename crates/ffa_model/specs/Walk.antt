@@ -1,3 +1,4 @@
+-- SPDX-License-Identifier: MIT OR Apache-2.0
 -- The stage 2 walk of Armv8-A with the 4 KiB granule (DDI 0487, D8.2 and D8.3): 32 bits of input, the first look-up
 -- at level 1. It is asked of any bytes in RAM.
 use Rattle.std.specs.Prelude.{ℕ, ◌+◌, ◌-◌, ◌*◌, ◌/◌, ◌%◌, ◌^◌, Bool, true, ◌==◌, ◌&&◌, nat_lt, nat_le, if◌then◌else◌, length, Option, None, Some, Result, Ok, Err}

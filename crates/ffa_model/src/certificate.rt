@@ -1,3 +1,4 @@
+// SPDX-License-Identifier: MIT OR Apache-2.0
 //! Certificates: what a machine says of its pages, and what its tables have to give.
 
 use crate::endpoint::{EndpointId, PageNo};

@@ -1,3 +1,4 @@
+// SPDX-License-Identifier: MIT OR Apache-2.0
 //! What the descriptors of memory transactions say (DEN0077A, 5.11 and 16).
 
 use crate::endpoint::EndpointId;

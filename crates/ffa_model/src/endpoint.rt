@@ -1,3 +1,4 @@
+// SPDX-License-Identifier: MIT OR Apache-2.0
 //! Endpoints, pages and regions.
 ghost use Rattle.std.specs.Prelude.{⊤, true, ◌≡◌, ◌<◌, ◌^◌, [], ◌∷◌, codes};
 ghost use Rattle.ffa_model.specs.Bits.{high_half, low_half};

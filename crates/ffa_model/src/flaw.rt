@@ -1,3 +1,4 @@
+// SPDX-License-Identifier: MIT OR Apache-2.0
 //! What is wrong with bytes that are no descriptor of a memory transaction: the condition that they break, by the part
 //! of the descriptor in which it stands (DEN0077A, 5.11 and 16).
 

@@ -1,3 +1,4 @@
+// SPDX-License-Identifier: MIT OR Apache-2.0
 //! Function identifiers (DEN0077A, 11 to 16). Each number stands here once, and every definition, contract and function
 //! names it. Each is of the 32-bit form where its name does not end in 64.
 

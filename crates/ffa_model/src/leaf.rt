@@ -1,3 +1,4 @@
+// SPDX-License-Identifier: MIT OR Apache-2.0
 //! Where a walk of stage 2 tables ends.
 
 /// What a leaf descriptor says of an address (DDI 0487, D8.3).

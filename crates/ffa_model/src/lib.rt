@@ -1,3 +1,4 @@
+// SPDX-License-Identifier: MIT OR Apache-2.0
 //! The plain types of the partition manager. Its `specs/` hold the small machine that every contract cites.
 #![tactic(auto)]
 

@@ -1,3 +1,4 @@
+// SPDX-License-Identifier: MIT OR Apache-2.0
 //! How much a machine has room for. Each limit stands here once, and every definition, contract and array names it.
 
 /// The most endpoints of a machine: the normal world and the partitions.

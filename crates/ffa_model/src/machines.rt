@@ -1,3 +1,4 @@
+// SPDX-License-Identifier: MIT OR Apache-2.0
 //! Two machines that are at hand without a manifest's text.
 ghost use Rattle.std.specs.Prelude.{◌≡◌};
 ghost use Rattle.ffa_model.specs.Machines.{sixteen_writable, endpoint_with, built_in_endpoints, row_endpoints};

@@ -1,3 +1,4 @@
+// SPDX-License-Identifier: MIT OR Apache-2.0
 //! What an endpoint does, and what it gets for it.
 
 use crate::endpoint::EndpointId;

@@ -1,3 +1,4 @@
+// SPDX-License-Identifier: MIT OR Apache-2.0
 //! Rights to pages, and the kinds of memory transactions.
 
 /// What may be done with the data of a page, in rising order.

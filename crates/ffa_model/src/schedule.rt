@@ -1,3 +1,4 @@
+// SPDX-License-Identifier: MIT OR Apache-2.0
 //! Run states of endpoints.
 
 use crate::endpoint::EndpointId;

@@ -1,3 +1,4 @@
+// SPDX-License-Identifier: MIT OR Apache-2.0
 //! The parts of a memory transaction (DEN0077A, 5).
 
 use crate::endpoint::EndpointId;

@@ -1,3 +1,4 @@
+// SPDX-License-Identifier: MIT OR Apache-2.0
 //! Why an operation is refused, and by what an endpoint has its access to a page.
 
 use crate::endpoint::{EndpointId, PageNo};

@@ -1,3 +1,4 @@
+-- SPDX-License-Identifier: MIT OR Apache-2.0
 -- The bitmaps at boot.
 use Rattle.std.proofs.Common.{◌≡◌, ◌∙◌, ℕ, zero, suc, ◌+◌, ◌*◌, ◌<◌, ◌≤◌, ◌==◌, ◌++◌, Bool, false, List, [], ◌∷◌, length, get_or, map, replicate, take, refl, sym, ap, arith, bit_and}
 use Rattle.std.proofs.lemmas.Bool.{false≢true}

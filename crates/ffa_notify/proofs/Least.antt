@@ -1,3 +1,4 @@
+-- SPDX-License-Identifier: MIT OR Apache-2.0
 -- The least bit of a word, and the least that fails a test.
 use Rattle.std.proofs.Common.{◌≡◌, ◌∙◌, ℕ, ◌^◌, ◌<◌, Bool, true, Some, None, sym, ap}
 use Rattle.std.specs.Prelude.{◌==◌, ◌&&◌, find, not, if◌then◌else◌}

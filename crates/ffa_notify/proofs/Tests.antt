@@ -1,3 +1,4 @@
+-- SPDX-License-Identifier: MIT OR Apache-2.0
 -- What the calls ask of bits, as tests of words.
 use Rattle.std.proofs.Common.{◌≡◌, ◌∙◌, ℕ, ◌%◌, ◌^◌, ◌<◌, Bool, true, false, refl, sym, ap, arith}
 use Rattle.std.specs.Prelude.{◌==◌, ◌||◌, ◌&&◌, not}

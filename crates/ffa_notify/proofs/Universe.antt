@@ -1,3 +1,4 @@
+-- SPDX-License-Identifier: MIT OR Apache-2.0
 -- All bindings and all bits that there may be, and the sets that words mean among them.
 use Rattle.std.proofs.Common.{◌≡◌, ◌∙◌, ℕ, ◌<◌, Bool, true, false, List, map, sym, ap, subst, refl}
 use Rattle.std.specs.Prelude.{◌&&◌}

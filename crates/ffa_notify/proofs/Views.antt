@@ -1,3 +1,4 @@
+-- SPDX-License-Identifier: MIT OR Apache-2.0
 -- The value of the stored words, as the methods read and change it through a slice of one of the lists.
 use Rattle.std.specs.FinSet as finite_set
 use Rattle.std.specs.Prelude.{nat_lt, if◌then◌else◌}

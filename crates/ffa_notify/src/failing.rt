@@ -1,3 +1,4 @@
+// SPDX-License-Identifier: MIT OR Apache-2.0
 //! Which bit fails a check of the bits that a call names.
 ghost use Rattle.std.specs.Prelude.{◌≡◌, ℕ, true, find, length};
 ghost use Rattle.std.specs.Option.{option_map};

@@ -1,3 +1,4 @@
+// SPDX-License-Identifier: MIT OR Apache-2.0
 //! Notifications (DEN0077A, 10): bits that an endpoint sets for another, and that the other gets when it runs.
 #![tactic(auto)]
 

@@ -1,3 +1,4 @@
+-- SPDX-License-Identifier: MIT OR Apache-2.0
 -- The owners of pages as clauses see them: a list by page, where `None` is a page of the manager.
 use Rattle.std.specs.Prelude.{ℕ, List, find, slice_index_or, slice_set, Option, Some, None}
 use Rattle.std.specs.Option.{option_map, option_map_or, option_and_then}

@@ -1,3 +1,4 @@
+-- SPDX-License-Identifier: MIT OR Apache-2.0
 -- What a play leaves, for the one who asked for it.
 use Rattle.std.proofs.Common.{◌≡◌, ◌≤◌, ◌⊎◌, Bor, Bool, true, false, length, List, [], ◌∷◌, ◌++◌, ℕ, Option, None, Some, Ok, Err, Result, inl, inr, refl, ap, sym, ◌∙◌, subst, append_assoc, append-nil, arith}
 use Rattle.std.specs.Prelude.{IfErr, OnOk, unwrap_or}

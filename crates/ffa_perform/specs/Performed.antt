@@ -1,3 +1,4 @@
+-- SPDX-License-Identifier: MIT OR Apache-2.0
 -- What a command of the program leaves.
 use Rattle.std.specs.Prelude.{◌≡◌, ◌≤◌, ◌⊎◌, ℕ, ◌+◌, Bool, true, false, List, [], ◌∷◌, ◌++◌, length, codes, IsUtf8, Option, None, Some, Ok, Err, is_some, ⊤}
 use Rattle.std.specs.Io.KnownBytes.{Appends, Keeps}

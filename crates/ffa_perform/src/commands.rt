@@ -1,3 +1,4 @@
+// SPDX-License-Identifier: MIT OR Apache-2.0
 //! The commands of the program.
 ghost use Rattle.std.specs.Prelude.{◌≡◌, ◌≤◌, ◌⊎◌, true, codes, None, Err, OnOk, IfErr, IfOk, IfSome, Some, is_some, option_map};
 ghost use Rattle.std.specs.Option.{option_and_then};

@@ -1,3 +1,4 @@
+// SPDX-License-Identifier: MIT OR Apache-2.0
 //! RAM, behind a trait whose clauses see a base address and pages of 4096 bytes.
 #![tactic(auto)]
 

@@ -1,3 +1,4 @@
+-- SPDX-License-Identifier: MIT OR Apache-2.0
 -- One row more, and what its run parts.
 use Rattle.std.proofs.Common.{◌≡◌, ◌≤◌, ◌∙◌, ℕ, List, [], ◌∷◌, ◌++◌, min, Some, inl, inr, refl, sym, subst, arith}
 use Rattle.std.specs.Prelude.{nat_le}

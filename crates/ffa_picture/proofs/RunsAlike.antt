@@ -1,3 +1,4 @@
+-- SPDX-License-Identifier: MIT OR Apache-2.0
 -- What `==` says of runs: that they are the same.
 use Rattle.std.proofs.Common.{◌≡◌, Bool, true, false, Option, None, Some, Decides, refl, ap, sym}
 use Rattle.std.specs.Option.{option_eq}

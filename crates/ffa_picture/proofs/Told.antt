@@ -1,3 +1,4 @@
+-- SPDX-License-Identifier: MIT OR Apache-2.0
 -- A cell tells of each of its pages what the state has of it whose certificate its row has.
 use Rattle.std.proofs.Common.{◌≡◌, ◌∙◌, ℕ, ◌+◌, List, [], ◌∷◌, get_or, Option, None, Some, refl, sym, ap, subst, arith}
 use Rattle.std.specs.List.{All, cons_option, filter_map, flat_map}

@@ -1,3 +1,4 @@
+-- SPDX-License-Identifier: MIT OR Apache-2.0
 -- A line more that is watched.
 use Rattle.std.proofs.Common.{◌≡◌, ◌+◌, ℕ, List, [], ◌∷◌, ◌++◌, length, Option, Err, inl, inr, sym, ap, ◌∙◌, subst}
 use Rattle.ffa_model.specs.declared.certificate.CertRun.{CertRun}

@@ -1,3 +1,4 @@
+-- SPDX-License-Identifier: MIT OR Apache-2.0
 -- Cells: what holds of a column's pages in a row, and when that is so.
 use Rattle.std.specs.Prelude.{◌≡◌, ◌<◌, ℕ, Option, None, slice_index_or}
 use Rattle.std.specs.Option.{option_map}

@@ -1,3 +1,4 @@
+-- SPDX-License-Identifier: MIT OR Apache-2.0
 -- Columns: pages in a row that lie in one run of each row.
 use Rattle.std.specs.Prelude.{◌≡◌, ◌≤◌, ◌<◌, ◌⊎◌, ℕ, ◌+◌, nat_le, List, [], ◌∷◌, Option, None, Some, find}
 use Rattle.std.specs.List.{All, Any}

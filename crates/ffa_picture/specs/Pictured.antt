@@ -1,3 +1,4 @@
+-- SPDX-License-Identifier: MIT OR Apache-2.0
 -- The picture of a trace, and that what it says is so.
 use Rattle.std.specs.Prelude.{◌≡◌, ◌≤◌, ℕ, List, length, Option, Result, Ok, Err, ⊤}
 use Rattle.std.specs.List.{All, filter_map, flat_map}

@@ -1,3 +1,4 @@
+// SPDX-License-Identifier: MIT OR Apache-2.0
 //! Cells of a picture: what holds of a column's pages in a row.
 ghost use Rattle.std.specs.Prelude.{◌≡◌, ◌<◌, ◌++◌, ◌==◌, IfOk, OnOk, None, slice_index_or};
 ghost use Rattle.std.specs.List.{filter_map, flat_map};

@@ -1,3 +1,4 @@
+// SPDX-License-Identifier: MIT OR Apache-2.0
 //! Pictures of who reaches which page of RAM, along a trace.
 #![tactic(auto)]
 

@@ -1,3 +1,4 @@
+// SPDX-License-Identifier: MIT OR Apache-2.0
 //! The picture of a trace: rows, columns and cells.
 ghost use Rattle.ffa_picture.specs.Pictured.{Pictured};
 

@@ -1,3 +1,4 @@
+// SPDX-License-Identifier: MIT OR Apache-2.0
 //! A picture as the text of an SVG, which is complete in itself: no script, no font and no link.
 ghost use Rattle.std.specs.Prelude.{◌<◌};
 ghost use Rattle.ffa_model.specs.declared.limits.TheConstants.{MOST_ENDPOINTS};

@@ -1,3 +1,4 @@
+// SPDX-License-Identifier: MIT OR Apache-2.0
 //! A trace that is watched: played line by line, with what becomes of the machine's pages.
 ghost use Rattle.std.specs.Prelude.{◌≡◌, [], ◌∷◌, ◌++◌, IfErr, IfOk, OnOk};
 ghost use Rattle.ffa_model.specs.Certificate.{certificate};

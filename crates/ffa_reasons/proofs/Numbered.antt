@@ -1,3 +1,4 @@
+-- SPDX-License-Identifier: MIT OR Apache-2.0
 -- The first check that fails has a number.
 use Rattle.std.proofs.Common.{◌≡◌, ℕ, ◌<◌, Bool, true, false, List, [], ◌∷◌, length, map, Some, inl, inr, ap, arith, refl}
 use Rattle.std.specs.Prelude.{◌==◌, is_some, not}

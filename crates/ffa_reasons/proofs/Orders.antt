@@ -1,3 +1,4 @@
+-- SPDX-License-Identifier: MIT OR Apache-2.0
 -- Where each name stands among all, by cases.
 use Rattle.std.proofs.Common.{◌≡◌, refl}
 use Rattle.ffa_model.specs.declared.refusal.Refusal.{Refusal}

@@ -1,3 +1,4 @@
+-- SPDX-License-Identifier: MIT OR Apache-2.0
 -- The checks of each call in their order, and the number of a check, as the manual lists them.
 use Rattle.std.specs.Prelude.{◌≡◌, ℕ, ◌+◌, ◌==◌, Bool, List, [], ◌∷◌, map, position, Option, if◌then◌else◌}
 use Rattle.std.specs.Option.{option_map}

@@ -1,3 +1,4 @@
+-- SPDX-License-Identifier: MIT OR Apache-2.0
 -- What is wrong with the bytes that break a condition of a descriptor, in words.
 use Rattle.std.specs.Prelude.{ℕ, List, codes}
 use Rattle.ffa_model.specs.declared.flaw.Flaw.{Flaw}

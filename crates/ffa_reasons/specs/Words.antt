@@ -1,3 +1,4 @@
+-- SPDX-License-Identifier: MIT OR Apache-2.0
 -- What each check of a call finds where it fails, in words.
 use Rattle.std.specs.Prelude.{ℕ, List, codes}
 use Rattle.ffa_model.specs.declared.refusal.Refusal.{Refusal}

@@ -1,3 +1,4 @@
+// SPDX-License-Identifier: MIT OR Apache-2.0
 //! The words of each condition of a descriptor.
 ghost use Rattle.std.specs.Prelude.{◌≡◌};
 ghost use Rattle.ffa_reasons.specs.FlawWords.{access_words, composite_words, flaw_words_of, header_words, range_words, relinquish_words, retrieve_words, send_words};

@@ -1,3 +1,4 @@
+// SPDX-License-Identifier: MIT OR Apache-2.0
 //! Why a call is refused, for a reader: what each check finds and what is wrong with a descriptor, in words, and the numbers
 //! of a call's checks.
 #![tactic(auto)]

@@ -1,3 +1,4 @@
+// SPDX-License-Identifier: MIT OR Apache-2.0
 //! The checks of each call, and their numbers.
 ghost use Rattle.std.specs.Prelude.{◌≡◌, ◌==◌, Some, is_some, position, true};
 ghost use Rattle.ffa_model.specs.Calls.{first_refusal};

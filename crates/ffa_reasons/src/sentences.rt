@@ -1,3 +1,4 @@
+// SPDX-License-Identifier: MIT OR Apache-2.0
 //! The words of each check.
 ghost use Rattle.std.specs.Prelude.{◌≡◌};
 ghost use Rattle.ffa_reasons.specs.Words.{words_of};

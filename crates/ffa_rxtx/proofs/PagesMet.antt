@@ -1,3 +1,4 @@
+-- SPDX-License-Identifier: MIT OR Apache-2.0
 -- Pages in which somebody has a buffer, of some that lie in a row.
 use Rattle.std.proofs.Common.{◌≡◌, ◌∙◌, ℕ, suc, ◌<◌, ◌≤◌, Bool, true, false, List, [], ◌∷◌, length, Option, None, refl, ap, arith, inl, inr, ◌↔◌, IsTrue}
 use Rattle.std.specs.Prelude.{MatchBool}

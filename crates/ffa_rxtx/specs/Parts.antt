@@ -1,3 +1,4 @@
+-- SPDX-License-Identifier: MIT OR Apache-2.0
 -- What the checks of a mapping read, and the bytes of TX and RX, over the parts of the machine.
 use Rattle.std.specs.Prelude.{ℕ, zero, suc, ◌+◌, ◌≤◌, Bool, false, ◌||◌, List, [], length, take, drop, is_some, Option, None, Some}
 use Rattle.std.specs.List.{flat_map}

@@ -1,3 +1,4 @@
+// SPDX-License-Identifier: MIT OR Apache-2.0
 //! Who has mapped buffers, and which.
 ghost use Rattle.std.specs.Prelude.{◌≡◌, ℕ, ◌+◌, ◌*◌, ◌<◌, ◌≤◌, ◌↔◌, IsTrue, length, replicate, is_some, true, false, OnOk, OnErr, IfOk, IfSome, IsSomeAnd};
 ghost use Rattle.std.specs.Option.{option_map, option_map_or};

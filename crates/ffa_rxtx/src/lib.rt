@@ -1,3 +1,4 @@
+// SPDX-License-Identifier: MIT OR Apache-2.0
 //! The RX and TX buffers of endpoints.
 #![tactic(auto)]
 

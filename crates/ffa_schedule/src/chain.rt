@@ -1,3 +1,4 @@
+// SPDX-License-Identifier: MIT OR Apache-2.0
 //! The chain of endpoints that work for one another.
 ghost use Rattle.std.specs.Prelude.{◌≡◌, ◌==◌, ◌⊎◌, ◌||◌, ◌≤◌, length, is_some, true, Some, None, OnOk, OnErr, IfOk, IsSomeAnd};
 ghost use Rattle.std.specs.List.{list_any};

@@ -1,3 +1,4 @@
+-- SPDX-License-Identifier: MIT OR Apache-2.0
 -- Hexadecimal digits are read as the number that was written.
 use Rattle.std.proofs.Common.{◌≡◌, ℕ, zero, suc, ◌+◌, ◌*◌, ◌/◌, ◌%◌, ◌^◌, ◌<◌, ◌≤◌, ◌-◌, true, length, fold, Some, option_map, sym, ap, ◌∙◌, arith, refl, pow-add}
 use Rattle.std.specs.Prelude.{if◌then◌else◌, None}

@@ -1,3 +1,4 @@
+-- SPDX-License-Identifier: MIT OR Apache-2.0
 -- Lines are read as the operations for which they were put together.
 use Rattle.std.proofs.Common.{◌≡◌, ℕ, ◌*◌, ◌^◌, ◌<◌, ◌≤◌, true, List, [], ◌∷◌, ◌++◌, length, codes, Option, Some, None, option_map, option_and_then, sym, ap, ◌∙◌, arith, refl, append-nil, length-append}
 use Rattle.std.specs.List.{list_all}

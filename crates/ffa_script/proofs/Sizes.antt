@@ -1,3 +1,4 @@
+-- SPDX-License-Identifier: MIT OR Apache-2.0
 -- A send descriptor that is written fits a page.
 use Rattle.std.proofs.Common.{◌≡◌, ℕ, ◌≤◌, List, length, take, Result, Ok, Err, ap, ◌∙◌, arith}
 use Rattle.std.specs.Result.{IfOk}

@@ -1,3 +1,4 @@
+-- SPDX-License-Identifier: MIT OR Apache-2.0
 -- The words of a line that is put together of a name and words behind it.
 use Rattle.std.proofs.Common.{◌≡◌, ℕ, Bool, true, false, List, [], ◌∷◌, ◌++◌, not, ap, ◌∙◌, arith, refl, append-nil}
 use Rattle.std.specs.Prelude.{◌==◌, ◌&&◌}

@@ -1,3 +1,4 @@
+-- SPDX-License-Identifier: MIT OR Apache-2.0
 -- What is written: lines of a trace that are read as what was meant.
 use Rattle.std.specs.Prelude.{◌≡◌, ◌<◌, ℕ, ◌+◌, ◌%◌, ◌^◌, nat_le, if◌then◌else◌, true, List, [], ◌∷◌, ◌++◌, length, Some, ⊤}
 use Rattle.ffa_model.specs.declared.operation.Op.{Op}

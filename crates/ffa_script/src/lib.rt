@@ -1,3 +1,4 @@
+// SPDX-License-Identifier: MIT OR Apache-2.0
 //! Lines of traces that are written so that they are read as what was meant.
 #![tactic(auto)]
 

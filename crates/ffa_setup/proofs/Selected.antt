@@ -1,3 +1,4 @@
+-- SPDX-License-Identifier: MIT OR Apache-2.0
 -- What a UUID selects, endpoint by endpoint.
 use Rattle.std.proofs.Common.{ℕ, List, map}
 use Rattle.std.specs.List.{filter, enumerate_from}

@@ -1,3 +1,4 @@
+// SPDX-License-Identifier: MIT OR Apache-2.0
 //! Setup: the version, features, identifiers and partition information (DEN0077A, 13).
 #![tactic(auto)]
 

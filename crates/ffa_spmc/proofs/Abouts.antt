@@ -1,3 +1,4 @@
+-- SPDX-License-Identifier: MIT OR Apache-2.0
 -- What a check that fails is about: the code sees of the machine's parts what the definition sees of its state.
 use Rattle.std.proofs.Common.{◌≡◌, ◌∙◌, ℕ, length, take, Option, sym, ap}
 use Rattle.std.specs.FinMap as finite

@@ -1,3 +1,4 @@
+-- SPDX-License-Identifier: MIT OR Apache-2.0
 -- What the machine answers to a call that a part of it has done or refused.
 use Rattle.std.proofs.Common.{◌≡◌, ◌∙◌, None, Option, Some, Result, Ok, Err, refl, sym, ap}
 use Rattle.std.specs.Prelude.{IfOk, OnOk, OnErr}

@@ -1,3 +1,4 @@
+-- SPDX-License-Identifier: MIT OR Apache-2.0
 -- A machine in its first state.
 use Rattle.std.specs.Prelude.{◌==◌, find, nat_lt, slice_get, true}
 use Rattle.std.specs.Option.{option_and_then, option_map}

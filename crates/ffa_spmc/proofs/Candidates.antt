@@ -1,3 +1,4 @@
+-- SPDX-License-Identifier: MIT OR Apache-2.0
 -- What decides whether a page may be a buffer is the same for the state and for the owners that are kept.
 use Rattle.std.proofs.Common.{◌≡◌, ◌∙◌, ℕ, ◌<◌, length, Option, Some, None, refl, sym, ap, inl, inr}
 use Rattle.std.specs.Prelude.{is_some}

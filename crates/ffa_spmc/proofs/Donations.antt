@@ -1,3 +1,4 @@
+-- SPDX-License-Identifier: MIT OR Apache-2.0
 -- What a retrieve leaves of owners and pages, before its answer: those of a donate are the endpoint's own.
 use Rattle.std.proofs.Common.{◌≡◌, ℕ, false, List, length, Option, Some, sym, subst}
 use Rattle.std.specs.Prelude.{if◌then◌else◌}

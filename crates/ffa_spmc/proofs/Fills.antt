@@ -1,3 +1,4 @@
+-- SPDX-License-Identifier: MIT OR Apache-2.0
 -- Bytes in an endpoint's RX: they stand in a page of its own, and the state has them as RAM does.
 use Rattle.std.proofs.Common.{◌≡◌, ◌∙◌, ℕ, ◌<◌, true, List, length, Option, Some, None, refl, sym, subst, zero, suc, ◌+◌, ◌-◌, ◌≤◌, [], take, drop, ap, arith, length-set, get_or-set_other}
 use Rattle.std.specs.Prelude.{IsSomeAnd, is_some, nat_le, ◌==◌}

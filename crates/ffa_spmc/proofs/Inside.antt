@@ -1,3 +1,4 @@
+-- SPDX-License-Identifier: MIT OR Apache-2.0
 -- The parts of a machine, of the fields that the code has.
 use Rattle.ffa_model.specs.Ram.{Ram}
 use Rattle.ffa_spmc.specs.declared.manager.Manager.TheInside.{Inside}

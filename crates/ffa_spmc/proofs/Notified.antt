@@ -1,3 +1,4 @@
+-- SPDX-License-Identifier: MIT OR Apache-2.0
 -- Calls of notifications change the state as the small machine's.
 use Rattle.std.proofs.Common.{◌≡◌, ◌∙◌, ℕ, Bool, true, List, length, Result, refl, sym, ap, subst}
 use Rattle.std.specs.Prelude.{⊤, IfOk, OnOk, OnErr}

@@ -1,3 +1,4 @@
+-- SPDX-License-Identifier: MIT OR Apache-2.0
 -- Why an operation is refused: the checks see of the machine's parts what the guards of each call see of its state.
 use Rattle.std.proofs.Common.{◌≡◌, ◌∙◌, ℕ, length, map, take, Option, Some, None, Result, Ok, Err, refl, sym, ap}
 use Rattle.std.specs.FinMap as finite

@@ -1,3 +1,4 @@
+-- SPDX-License-Identifier: MIT OR Apache-2.0
 -- What each call's part of the manager promises follows from what it keeps where it refuses.
 use Rattle.std.proofs.Common.{◌≡◌, ◌∙◌, None, true, false, List, Option, Result, Ok, Err, refl, sym, ap, subst}
 use Rattle.std.specs.Prelude.{IfOk, OnErr}

@@ -1,3 +1,4 @@
+-- SPDX-License-Identifier: MIT OR Apache-2.0
 -- Calls on run states change the state as the small machine's.
 use Rattle.std.proofs.Common.{◌≡◌, ◌∙◌, ℕ, true, false, List, Option, Result, Ok, Err, is_ok, refl, sym, ap}
 use Rattle.std.proofs.lemmas.Bool.{false≢true}

@@ -1,3 +1,4 @@
+-- SPDX-License-Identifier: MIT OR Apache-2.0
 -- An indirect message of the runner: what stands in its TX, and what the call leaves.
 use Rattle.std.proofs.Common.{◌≡◌, ◌∙◌, ℕ, zero, suc, ◌<◌, true, List, [], length, map, get_or, Option, Some, None, Result, Ok, Err, refl, sym, ap, subst, arith, inl, inr}
 use Rattle.std.specs.Prelude.{◌==◌, false, IfOk, OnOk, OnErr}

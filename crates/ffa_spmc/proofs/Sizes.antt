@@ -1,3 +1,4 @@
+-- SPDX-License-Identifier: MIT OR Apache-2.0
 -- An operation changes neither how many endpoints there are nor how many pages.
 use Rattle.std.proofs.Common.{◌≡◌, ◌∙◌, ℕ, zero, suc, ◌+◌, ◌*◌, ◌/◌, ◌-◌, Bool, true, false, cond, List, length, take, drop, Option, Some, None, refl, ap, length-set}
 use Rattle.std.specs.Prelude.{if◌then◌else◌, slice_index_or}

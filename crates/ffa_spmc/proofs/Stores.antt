@@ -1,3 +1,4 @@
+-- SPDX-License-Identifier: MIT OR Apache-2.0
 -- A write to one page of RAM, in the state that RAM means.
 use Rattle.std.proofs.Common.{◌≡◌, ◌≢◌, ◌∙◌, ℕ, ◌<◌, List, [], length, set, Option, Some, None, refl, sym, ap, length-set}
 use Rattle.std.specs.Option.{option_map}

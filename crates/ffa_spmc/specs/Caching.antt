@@ -1,3 +1,4 @@
+-- SPDX-License-Identifier: MIT OR Apache-2.0
 -- What the machine's private steps do to its cache.
 use Rattle.std.specs.Prelude.{◌≡◌, ℕ, ◌+◌, ◌-◌, ◌%◌, ◌==◌, Bool, ◌&&◌, List, None, if◌then◌else◌}
 use Rattle.ffa_model.specs.declared.leaf.Leaf.{Leaf}

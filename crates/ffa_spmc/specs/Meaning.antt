@@ -1,3 +1,4 @@
+-- SPDX-License-Identifier: MIT OR Apache-2.0
 -- What the parts of a machine mean together.
 use Rattle.std.specs.Prelude.{◌≡◌, ◌<◌, ◌↔◌, ℕ, ◌*◌, Bool, true, false, List, length, Option, Some, None}
 use Rattle.std.specs.Option.{option_map}

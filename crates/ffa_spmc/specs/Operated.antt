@@ -1,3 +1,4 @@
+-- SPDX-License-Identifier: MIT OR Apache-2.0
 -- What one operation leaves of a machine, as its clauses say it, and what a list of operations leaves.
 use Rattle.std.specs.Prelude.{◌≡◌, true, false, List, [], ◌∷◌}
 use Rattle.ffa_model.specs.declared.operation.Op.{Op}

@@ -1,3 +1,4 @@
+-- SPDX-License-Identifier: MIT OR Apache-2.0
 -- The owners of pages, as a manifest says them.
 use Rattle.std.specs.Prelude.{◌*◌, List, Option}
 use Rattle.ffa_model.specs.declared.manifest.Manifest.{Manifest}

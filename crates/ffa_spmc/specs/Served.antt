@@ -1,3 +1,4 @@
+-- SPDX-License-Identifier: MIT OR Apache-2.0
 -- What each call's part of the manager promises.
 use Rattle.std.specs.Prelude.{◌≡◌, true, List, None}
 use Rattle.ffa_model.specs.declared.call.Reply.{Reply}

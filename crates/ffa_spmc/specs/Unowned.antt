@@ -1,3 +1,4 @@
+-- SPDX-License-Identifier: MIT OR Apache-2.0
 -- The pages of RAM that are neither the tables' nor an endpoint's: those that the manager keeps for itself.
 use Rattle.std.specs.Prelude.{◌≡◌, ℕ, ◌*◌, ◌≤◌, length, None}
 use Rattle.ffa_model.specs.Agreement.{blocks_of}

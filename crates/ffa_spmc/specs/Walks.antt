@@ -1,3 +1,4 @@
+-- SPDX-License-Identifier: MIT OR Apache-2.0
 -- What the tables of an endpoint answer.
 use Rattle.std.specs.Prelude.{ℕ}
 use Rattle.ffa_model.specs.Agreement.{root}

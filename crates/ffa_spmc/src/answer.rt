@@ -1,3 +1,4 @@
+// SPDX-License-Identifier: MIT OR Apache-2.0
 //! Answers to calls on memory: what the caller sees, and whose access to which pages changed.
 ghost use Rattle.std.specs.Prelude.{true, ◌≡◌, None};
 ghost use Rattle.std.specs.Option.{option_map};

@@ -1,3 +1,4 @@
+// SPDX-License-Identifier: MIT OR Apache-2.0
 //! What a machine keeps beside its RAM.
 ghost use Rattle.std.specs.Prelude.{◌≡◌, [], None, length, map, replicate};
 ghost use Rattle.std.specs.FinSet as finite_set;

@@ -1,3 +1,4 @@
+// SPDX-License-Identifier: MIT OR Apache-2.0
 //! The machine of the partition manager: RAM with the tables of all endpoints, and what each operation does.
 #![tactic(auto)]
 

@@ -1,3 +1,4 @@
+// SPDX-License-Identifier: MIT OR Apache-2.0
 //! The machine.
 ghost use Rattle.std.specs.Prelude.{true, false, [], ◌≡◌, ℕ, ◌*◌, ◌<◌, ◌≤◌, length};
 ghost use Rattle.ffa_model.specs.declared.limits.TheConstants.{MOST_ENDPOINTS};

@@ -1,3 +1,4 @@
+// SPDX-License-Identifier: MIT OR Apache-2.0
 //! The partition manager: what it keeps, and what its calls and accesses do.
 ghost use Rattle.std.specs.Prelude.{true, ◌≡◌, None, ◌*◌, ◌<◌, ◌≤◌, length};
 ghost use Rattle.ffa_model.specs.declared.limits.TheConstants.{MOST_ENDPOINTS};

@@ -1,3 +1,4 @@
+// SPDX-License-Identifier: MIT OR Apache-2.0
 //! Replies to calls that a part of the machine has done or refused.
 ghost use Rattle.std.specs.Prelude.{◌≡◌};
 ghost use Rattle.ffa_model.specs.MemorySend.{handle_reply};

@@ -1,3 +1,4 @@
+-- SPDX-License-Identifier: MIT OR Apache-2.0
 -- What the walk makes of one descriptor.
 use Rattle.std.proofs.Common.{◌≡◌, ℕ, ◌+◌, ◌-◌, ◌*◌, ◌/◌, ◌%◌, ◌^◌, ◌<◌, ◌∙◌, Bool, true, false, refl, ap, sym, arith, Option, None, Some, Ok, Err}
 use Rattle.std.specs.Prelude.{◌==◌, if◌then◌else◌}

@@ -1,3 +1,4 @@
+-- SPDX-License-Identifier: MIT OR Apache-2.0
 -- What is left of the tables and of the other pages after writes elsewhere.
 use Rattle.std.proofs.Common.{◌≡◌, ◌∙◌, ℕ, ◌+◌, ◌*◌, ◌<◌, refl, ap, arith, List, length, Option, inr}
 use Rattle.std.proofs.lemmas.Nat.{mul-add-lt}

@@ -1,3 +1,4 @@
+-- SPDX-License-Identifier: MIT OR Apache-2.0
 -- One block of RAM: its level 2 word, its level 3 page and 512 rights.
 use Rattle.std.proofs.Common.{◌≡◌, ◌≢◌, ◌∙◌, ℕ, ◌+◌, ◌-◌, ◌*◌, ◌/◌, ◌%◌, ◌^◌, ◌<◌, ◌≤◌, true, refl, ap, sym, arith, List, [], length, Option, Some, None, inl, inr}
 use Rattle.std.specs.Prelude.{is_some}

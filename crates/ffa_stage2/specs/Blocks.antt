@@ -1,3 +1,4 @@
+-- SPDX-License-Identifier: MIT OR Apache-2.0
 -- One block of RAM in an endpoint's tables: a level 2 word, a level 3 page, and the rights to 512 pages.
 use Rattle.std.specs.Prelude.{◌≡◌, ℕ, ◌+◌, ◌*◌, ◌^◌, ◌<◌, ◌⊎◌, ◌↔◌, if◌then◌else◌, List, Option, Some}
 use Rattle.ffa_model.specs.Bits.{bits}

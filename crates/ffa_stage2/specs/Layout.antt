@@ -1,3 +1,4 @@
+-- SPDX-License-Identifier: MIT OR Apache-2.0
 -- What a layout gives each endpoint.
 use Rattle.std.specs.Prelude.{ℕ, List, [], map, slice_index_or, Option}
 use Rattle.arrayvec.specs.ArrayVec.{array_vec_len}

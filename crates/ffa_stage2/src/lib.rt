@@ -1,3 +1,4 @@
+// SPDX-License-Identifier: MIT OR Apache-2.0
 //! Stage 2 tables of all endpoints, in the RAM's first pages.
 #![tactic(auto)]
 

@@ -1,3 +1,4 @@
+// SPDX-License-Identifier: MIT OR Apache-2.0
 //! The tables in RAM's first pages: for each endpoint in order a page of level 1, one of level 2, and one of level 3 for
 //! each block of 2 MiB.
 ghost use Rattle.std.specs.Prelude.{◌≡◌, ℕ, ◌+◌, ◌*◌, ◌<◌, ◌≤◌, length, Option};

@@ -1,3 +1,4 @@
+// SPDX-License-Identifier: MIT OR Apache-2.0
 //! The identifiers and values of the standard.
 use crate::checks::{holds, holds_at, same, same_at};
 use ffa_abi::{call_name, decode, encode, error_name, is_function};

@@ -1,3 +1,4 @@
+// SPDX-License-Identifier: MIT OR Apache-2.0
 //! The certificates of machines, and tables of which they are none.
 use crate::checks::{holds, same, same_at};
 use crate::machines::{booted, booted_in_frames, booted_with, four_in_turn};

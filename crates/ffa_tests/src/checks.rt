@@ -1,3 +1,4 @@
+// SPDX-License-Identifier: MIT OR Apache-2.0
 //! Comparisons. Each is a call, since the proof of a test that compares in its own body takes some seconds longer for each.
 use std::fmt::{Debug, Display};
 use std::process::Abort;

@@ -1,3 +1,4 @@
+// SPDX-License-Identifier: MIT OR Apache-2.0
 //! Worked command lines.
 use crate::checks::{holds_at, same, same_at};
 use ffa_command::{

@@ -1,3 +1,4 @@
+// SPDX-License-Identifier: MIT OR Apache-2.0
 //! Direct messages on the machine with two partitions.
 ghost use Rattle.std.specs.Prelude.{◌≡◌, length};
 

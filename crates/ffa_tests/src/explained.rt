@@ -1,3 +1,4 @@
+// SPDX-License-Identifier: MIT OR Apache-2.0
 //! Why an operation is refused, as it is printed under its text: for each check of each call a trace whose last line fails at that
 //! check and at none before it. That the handles of a sender are used up is tried in `reasons`, and of the fourth check of FFA_RUN there
 //! is no row: it fails where the target is blocked while the normal world runs.

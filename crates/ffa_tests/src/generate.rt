@@ -1,3 +1,4 @@
+// SPDX-License-Identifier: MIT OR Apache-2.0
 //! Generated traces: what 20,000 lines reach, that a seed gives them again, and that they are played to their end.
 use crate::machines::{booted, play};
 use ffa_generate::{Access, Counts, generate};

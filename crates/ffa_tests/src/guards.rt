@@ -1,3 +1,4 @@
+// SPDX-License-Identifier: MIT OR Apache-2.0
 //! Plays that check guards.
 use crate::checks::{holds, same, same_at};
 use crate::machines::booted;

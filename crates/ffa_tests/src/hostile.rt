@@ -1,3 +1,4 @@
+// SPDX-License-Identifier: MIT OR Apache-2.0
 //! Hostile registers, buffers and descriptors: every answer of the machine is compared with one that is read off the bytes
 //! slowly, one condition after another.
 

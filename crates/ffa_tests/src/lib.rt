@@ -1,3 +1,4 @@
+// SPDX-License-Identifier: MIT OR Apache-2.0
 //! Tests of the crates below the program, each through what its crate makes public. They stand here and not in their
 //! crates, since a crate with tests is proved twice at each landing.
 #![tactic(auto)]

@@ -1,3 +1,4 @@
+// SPDX-License-Identifier: MIT OR Apache-2.0
 //! Plays line by line: with numbers, with names, and against a text that is expected.
 use crate::checks::{same, same_at};
 use crate::machines::booted;

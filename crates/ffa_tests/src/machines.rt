@@ -1,3 +1,4 @@
+// SPDX-License-Identifier: MIT OR Apache-2.0
 //! Machines in fresh RAM, and players on them. No contract says what they are, so no test that has one has to read it.
 use ffa_model::Manifest;
 use ffa_physmem::{FlatRam, FrameRam, PhysMem};

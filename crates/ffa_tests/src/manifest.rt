@@ -1,3 +1,4 @@
+// SPDX-License-Identifier: MIT OR Apache-2.0
 //! Worked values: machines as text, and changes of one that have each cause.
 
 use crate::checks::{holds_at, same, same_at};

@@ -1,3 +1,4 @@
+// SPDX-License-Identifier: MIT OR Apache-2.0
 //! Worked descriptors: what they say, and which bytes are none. What bytes say is compared as it prints.
 
 ghost use Rattle.std.specs.Prelude.{◌^◌, ◌<◌};

@@ -1,3 +1,4 @@
+// SPDX-License-Identifier: MIT OR Apache-2.0
 //! The pages of the built-in machine.
 use crate::checks::{same, same_at};
 use ffa_model::{Data, EndpointId, PageNo, Rights, built_in};

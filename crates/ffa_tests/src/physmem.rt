@@ -1,3 +1,4 @@
+// SPDX-License-Identifier: MIT OR Apache-2.0
 //! RAM through its trait's bound, and frames over a small heap.
 use crate::checks::{holds, same};
 use crate::words::{clear, copy, set_word, word};

@@ -1,3 +1,4 @@
+// SPDX-License-Identifier: MIT OR Apache-2.0
 //! The player's machine as it boots, and lines that it takes and refuses.
 use crate::checks::{holds, same, same_at};
 use crate::machines::{booted, play};

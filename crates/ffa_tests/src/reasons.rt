@@ -1,3 +1,4 @@
+// SPDX-License-Identifier: MIT OR Apache-2.0
 //! Why operations are refused, and by what endpoints have their access, on the row machine.
 use crate::checks::same_at;
 use crate::explained::DESCRIBED;

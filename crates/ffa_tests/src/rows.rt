@@ -1,3 +1,4 @@
+// SPDX-License-Identifier: MIT OR Apache-2.0
 //! Calls worked out by hand, played on the machine with two partitions.
 //!
 //! A row is a text of steps: a line of the trace, an arrow, and what it prints. Registers are written as

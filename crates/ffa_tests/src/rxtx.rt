@@ -1,3 +1,4 @@
+// SPDX-License-Identifier: MIT OR Apache-2.0
 //! Buffers on the pages of the row machine.
 use crate::words::word;
 use ffa_model::{Address, Data, EndpointId, ErrorCode, PageNo, Rights, row_machine};

@@ -1,3 +1,4 @@
+// SPDX-License-Identifier: MIT OR Apache-2.0
 //! Run states of the normal world and two partitions.
 use crate::checks::same;
 use ffa_model::{EndpointId, ErrorCode, Reply, Status, Work};

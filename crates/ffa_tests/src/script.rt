@@ -1,3 +1,4 @@
+// SPDX-License-Identifier: MIT OR Apache-2.0
 //! Lines of traces that are written, as they stand in a trace.
 ghost use Rattle.std.specs.Prelude.{◌≡◌, ◌%◌};
 

@@ -1,3 +1,4 @@
+// SPDX-License-Identifier: MIT OR Apache-2.0
 //! Worked values, on the machine with two partitions.
 use crate::checks::{holds, same};
 use byteorder::{ByteOrder, LittleEndian};

@@ -1,3 +1,4 @@
+// SPDX-License-Identifier: MIT OR Apache-2.0
 //! Descriptors, tables and blocks of 2 MiB, in words of RAM.
 ghost use Rattle.std.specs.Prelude.{◌≡◌, ℕ, length, Option};
 ghost use Rattle.arrayvec.specs.ArrayVec.{array_vec_len};

@@ -1,3 +1,4 @@
+// SPDX-License-Identifier: MIT OR Apache-2.0
 //! The player over readers and writers that stop, at each byte and for each reason.
 ghost use Rattle.std.specs.Prelude.{◌≡◌, IfOk};
 

@@ -1,3 +1,4 @@
+// SPDX-License-Identifier: MIT OR Apache-2.0
 //! Worked words of a descriptor, and what is wrong with others.
 use crate::checks::same_at;
 use ffa_command::{Request, request};

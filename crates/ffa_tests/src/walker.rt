@@ -1,3 +1,4 @@
+// SPDX-License-Identifier: MIT OR Apache-2.0
 //! The walk over tables that a test wrote.
 use crate::checks::{same, same_at};
 use crate::words::set_word;

@@ -1,3 +1,4 @@
+// SPDX-License-Identifier: MIT OR Apache-2.0
 //! Words of RAM, read and written where they stand in it: so no test has to show that they do.
 use ffa_model::PageNo;
 use ffa_physmem::PhysMem;

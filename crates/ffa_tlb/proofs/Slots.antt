@@ -1,3 +1,4 @@
+-- SPDX-License-Identifier: MIT OR Apache-2.0
 -- What slots hold when they are empty, when an endpoint's page is taken out of them, and when one is written.
 use Rattle.std.proofs.Common.{◌≡◌, ◌∙◌, ◌⊎◌, inl, inr, ℕ, zero, suc, ◌<◌, Bool, true, false, List, [], ◌∷◌, Option, None, Some, length, get_or, take, drop, ◌++◌, ◌+◌, refl, arith}
 use Rattle.std.specs.Prelude.{slice_set, replicate, if◌then◌else◌}

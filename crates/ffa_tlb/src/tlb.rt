@@ -1,3 +1,4 @@
+// SPDX-License-Identifier: MIT OR Apache-2.0
 //! A cache of a few leaves.
 ghost use Rattle.std.specs.Prelude.{◌≡◌, ◌<◌, ◌%◌, None, Some, [], replicate, slice_set};
 ghost use Rattle.ffa_tlb.specs.Lookups.{lookup, IsFilled, IsForgotten};

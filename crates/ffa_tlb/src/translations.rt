@@ -1,3 +1,4 @@
+// SPDX-License-Identifier: MIT OR Apache-2.0
 //! What the manager needs of a cache of leaves, and the cache that holds none.
 ghost use Rattle.std.specs.Prelude.{◌≡◌, List, []};
 ghost use Rattle.ffa_tlb.specs.Lookups.{is_pair, lookup, IsFilled, IsForgotten};

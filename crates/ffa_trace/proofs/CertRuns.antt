@@ -1,3 +1,4 @@
+-- SPDX-License-Identifier: MIT OR Apache-2.0
 -- The certificate: its runs, one behind the other, and what is known once its text was written, or could not be.
 use Rattle.std.proofs.Common.{◌≡◌, ◌∙◌, ℕ, zero, suc, ◌+◌, ◌-◌, ◌<◌, ◌≤◌, List, [], ◌∷◌, ◌++◌, length, take, drop, get_or, codes, Option, Result, Ok, Err, refl, sym, ap, subst, arith, append_assoc, append-nil, take-append-drop}
 use Rattle.std.specs.Prelude.{if◌then◌else◌}

@@ -1,3 +1,4 @@
+-- SPDX-License-Identifier: MIT OR Apache-2.0
 -- The table of digits says of each byte what the definition says.
 use Rattle.std.proofs.Common.{◌≡◌, ℕ, ◌^◌, ◌<◌, ◌≤◌, true, Option, Some, None, get_or, refl, ap, arith}
 use Rattle.std.specs.Prelude.{◌==◌, nat_le, unwrap_or}

@@ -1,3 +1,4 @@
+-- SPDX-License-Identifier: MIT OR Apache-2.0
 -- The first byte that a search finds.
 use Rattle.std.proofs.Common.{◌≡◌, ℕ, Bool, true, false, List, length, position, Option, Some, None, arith, refl}
 use Rattle.std.specs.Prelude.{◌==◌}

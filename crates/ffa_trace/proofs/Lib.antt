@@ -1,3 +1,4 @@
+-- SPDX-License-Identifier: MIT OR Apache-2.0
 mod DigitTable
 pub mod Feeds
 pub mod Firsts

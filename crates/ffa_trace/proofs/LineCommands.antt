@@ -1,3 +1,4 @@
+-- SPDX-License-Identifier: MIT OR Apache-2.0
 -- The commands, by the words behind their names.
 use Rattle.std.proofs.Common.{◌≡◌, ◌≢◌, ℕ, ◌<◌, ◌≤◌, ◌⊎◌, Bool, true, false, List, [], ◌∷◌, ◌++◌, length, take, get_or, codes, Option, Some, None, option_map, option_and_then, inl, inr, sym, ap, ◌∙◌, arith, refl}
 use Rattle.std.specs.Prelude.{◌==◌, if◌then◌else◌}

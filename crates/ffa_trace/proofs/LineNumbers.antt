@@ -1,3 +1,4 @@
+-- SPDX-License-Identifier: MIT OR Apache-2.0
 -- The number that digits write, digit by digit.
 use Rattle.std.proofs.Common.{◌≡◌, ℕ, ◌+◌, ◌*◌, ◌^◌, ◌<◌, List, [], ◌∷◌, length, drop, get_or, fold, option_map, Some, None, sym, ap, ◌∙◌, arith, refl}
 use Rattle.std.proofs.Math.Nat.{pow-suc}

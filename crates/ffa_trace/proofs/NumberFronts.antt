@@ -1,3 +1,4 @@
+-- SPDX-License-Identifier: MIT OR Apache-2.0
 -- A number at the front of bytes, digit by digit.
 use Rattle.std.proofs.Common.{◌≡◌, ℕ, ◌+◌, ◌-◌, ◌*◌, ◌^◌, ◌<◌, ◌≤◌, Bool, true, false, List, [], ◌∷◌, length, take, get_or, fold, Option, Some, None, option_map, not, drop, inl, inr, sym, ap, ◌∙◌, subst, arith, refl, length-take-le, take_all, take-append-drop}
 use Rattle.std.specs.Prelude.{◌==◌, unwrap_or}

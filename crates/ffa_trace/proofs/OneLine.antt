@@ -1,3 +1,4 @@
+-- SPDX-License-Identifier: MIT OR Apache-2.0
 -- One line: what is known once its text was written, or could not be.
 use Rattle.std.proofs.Common.{◌≡◌, ◌∷◌, ℕ, true, List, [], Option, Some, None, Result, Ok, Err, sym, ap, ◌∙◌, subst, arith, refl}
 use Rattle.std.specs.Prelude.{is_some, MatchResult}

@@ -1,3 +1,4 @@
+-- SPDX-License-Identifier: MIT OR Apache-2.0
 -- A play, block by block.
 use Rattle.std.proofs.Common.{◌≡◌, inl, inr, ℕ, List, [], ◌∷◌, ◌++◌, ◌<◌, ◌≤◌, length, take, Option, Ok, Err, sym, ap, ◌∙◌, subst, arith, append_assoc, append-nil, length-append, refl}
 use Rattle.std.specs.Io.KnownBytes.{Consumes, IsAtEnd}

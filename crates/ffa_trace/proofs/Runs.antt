@@ -1,3 +1,4 @@
+-- SPDX-License-Identifier: MIT OR Apache-2.0
 -- Runs of lines, one after another.
 use Rattle.std.proofs.Common.{◌≡◌, ℕ, List, [], ◌∷◌, ◌++◌, Option, true, sym, ap, ◌∙◌, subst, append_assoc, append-nil, refl}
 use Rattle.std.specs.Io.KnownBytes.{Appends, Keeps}

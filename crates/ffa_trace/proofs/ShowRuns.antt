@@ -1,3 +1,4 @@
+-- SPDX-License-Identifier: MIT OR Apache-2.0
 -- The runs of pages, one after another.
 use Rattle.std.proofs.Common.{◌≡◌, ℕ, zero, suc, ◌+◌, ◌-◌, ◌<◌, ◌≤◌, true, false, cond, not, List, [], ◌∷◌, ◌++◌, length, Option, sym, ap, ap₂, ◌∙◌, subst, arith, refl, append_assoc, append-nil, eq-eqb}
 use Rattle.std.specs.Prelude.{◌==◌, ◌||◌, filter, zip}

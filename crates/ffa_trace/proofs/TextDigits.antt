@@ -1,3 +1,4 @@
+-- SPDX-License-Identifier: MIT OR Apache-2.0
 -- The digits of a number, two of each byte.
 use Rattle.std.proofs.Common.{◌≡◌, ℕ, zero, suc, ◌+◌, ◌-◌, ◌*◌, ◌/◌, ◌%◌, ◌^◌, ◌<◌, ◌≤◌, true, List, take, take_all, drop, length, get_or, sym, ap, ◌∙◌, arith, refl, pow-add}
 use Rattle.std.specs.Prelude.{◌==◌}

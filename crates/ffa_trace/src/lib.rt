@@ -1,3 +1,4 @@
+// SPDX-License-Identifier: MIT OR Apache-2.0
 //! The player of traces: what each line does on the machine, and the text of what comes of it.
 #![tactic(auto)]
 

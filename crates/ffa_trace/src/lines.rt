@@ -1,3 +1,4 @@
+// SPDX-License-Identifier: MIT OR Apache-2.0
 //! The lines of a trace, each by itself.
 ghost use Rattle.std.specs.Prelude.{◌≡◌, ◌++◌, codes, option_map};
 ghost use Rattle.ffa_model.specs.TraceLines.{line_of};

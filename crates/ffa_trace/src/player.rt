@@ -1,3 +1,4 @@
+// SPDX-License-Identifier: MIT OR Apache-2.0
 //! The player of traces.
 ghost use Rattle.std.specs.Prelude.{◌≡◌, ◌*◌, codes, ◌==◌, true, [], ◌++◌, position, IfErr, IfOk, OnOk};
 ghost use Rattle.std.specs.List.{flat_map};

@@ -1,3 +1,4 @@
+-- SPDX-License-Identifier: MIT OR Apache-2.0
 -- Where what came of an operation is counted: a row for each call, one for all that is no call, and one for each kind of
 -- access; in a row a column for what was done, and one for each error or fault.
 use Rattle.std.specs.Prelude.{◌≡◌, ℕ, suc, ◌+◌, ◌-◌, ◌*◌, ◌^◌, ◌==◌, List, [], ◌∷◌, length, map, min, position, slice_index, slice_set, if◌then◌else◌}

@@ -1,3 +1,4 @@
+-- SPDX-License-Identifier: MIT OR Apache-2.0
 -- What is written: so many lines of a trace.
 use Rattle.std.specs.Prelude.{◌≡◌, ℕ, true, List, ◌++◌, length, Option}
 use Rattle.std.specs.Io.KnownBytes.{Appends}

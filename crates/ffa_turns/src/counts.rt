@@ -1,3 +1,4 @@
+// SPDX-License-Identifier: MIT OR Apache-2.0
 //! How often what came.
 ghost use Rattle.std.specs.Prelude.{◌≡◌, ◌<◌, ◌==◌, suc, position, replicate, slice_index};
 ghost use Rattle.std.specs.Option.{option_map_or};

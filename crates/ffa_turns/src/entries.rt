@@ -1,3 +1,4 @@
+// SPDX-License-Identifier: MIT OR Apache-2.0
 //! The lines that a turn gave, and their text.
 ghost use Rattle.std.specs.Prelude.{◌≡◌, ◌≤◌, ◌<◌, ◌%◌, ◌^◌, length, IfOk, OnOk};
 ghost use Rattle.ffa_model.specs.Memory.{size_of};

@@ -1,3 +1,4 @@
+// SPDX-License-Identifier: MIT OR Apache-2.0
 //! The turns of a trace that is made: whose turn it is, how the lines that a turn gave are written, and how often what came of
 //! them. What gives the lines is handed over.
 #![tactic(auto)]

@@ -1,3 +1,4 @@
+-- SPDX-License-Identifier: MIT OR Apache-2.0
 -- Spans of addresses that runs of pages certify: how they are joined, and what descriptors say of theirs.
 use Rattle.std.proofs.Common.{◌≡◌, ◌∙◌, ℕ, suc, ◌+◌, ◌-◌, ◌*◌, ◌/◌, ◌%◌, ◌^◌, ◌<◌, ◌≤◌, Bool, true, false, List, length, drop, get_or, Option, Some, None, Result, Ok, Err, refl, sym, ap, ap₂, arith, inl, inr}
 use Rattle.std.specs.Prelude.{◌==◌, ◌↔◌, ◌≢◌, ◌&&◌, if◌then◌else◌, max, min, is_some, not, nat_lt, slice_index_or}

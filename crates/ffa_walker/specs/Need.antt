@@ -1,3 +1,4 @@
+-- SPDX-License-Identifier: MIT OR Apache-2.0
 -- What each kind of access needs of a leaf.
 use Rattle.std.specs.Prelude.{Bool}
 use Rattle.ffa_model.specs.Reach.{may_load, may_store_to, may_execute}

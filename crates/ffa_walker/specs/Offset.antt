@@ -1,3 +1,4 @@
+-- SPDX-License-Identifier: MIT OR Apache-2.0
 -- The place of an address in its page, which a walk keeps.
 use Rattle.std.specs.Prelude.{◌≡◌, ℕ, ◌%◌, IfOk}
 use Rattle.ffa_model.specs.Walk.{Answer}

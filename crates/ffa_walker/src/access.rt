@@ -1,3 +1,4 @@
+// SPDX-License-Identifier: MIT OR Apache-2.0
 //! Loads, stores and fetches through the walk.
 ghost use Rattle.std.specs.Prelude.{◌≡◌, ℕ, ◌%◌, ◌^◌, ◌<◌, ◌==◌, IsTrue, IfOk, true};
 ghost use Rattle.byteorder.specs.Endian.{little_bytes};

@@ -1,3 +1,4 @@
+// SPDX-License-Identifier: MIT OR Apache-2.0
 //! The stage 2 walk over any bytes in RAM, and loads, stores and fetches through it (DDI 0487, D8.2 and D8.3).
 #![tactic(auto)]
 

@@ -1,3 +1,4 @@
+// SPDX-License-Identifier: MIT OR Apache-2.0
 //! The walk: one small function for each level.
 ghost use Rattle.std.specs.Prelude.{◌≡◌, ℕ, ◌*◌, ◌^◌, ◌<◌, if◌then◌else◌, IsTrue, IfOk, Ok, Err, true};
 ghost use Rattle.ffa_model.specs.Walk as walk;

@@ -1,3 +1,4 @@
+-- SPDX-License-Identifier: MIT OR Apache-2.0
 -- What the words of a descriptor say, and what is wrong first with them.
 use Rattle.std.specs.Prelude.{◌≡◌, ℕ, Bool, true, false, is_some, nat_le, length, List, codes, Option, Some, None, Result, Ok, Err, option_map, if◌then◌else◌}
 use Rattle.std.specs.Option.{ok_or}

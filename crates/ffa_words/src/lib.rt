@@ -1,3 +1,4 @@
+// SPDX-License-Identifier: MIT OR Apache-2.0
 //! The words of the command that writes a descriptor of a memory transaction, read into what it is to hold.
 #![tactic(auto)]
 

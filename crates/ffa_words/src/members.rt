@@ -1,3 +1,4 @@
+// SPDX-License-Identifier: MIT OR Apache-2.0
 //! Words that are read by themselves.
 ghost use Rattle.std.specs.Prelude.{◌≡◌, ◌%◌, ◌≤◌, length, option_map, IfSome};
 ghost use Rattle.ffa_words.specs.Members.{asker_of, each, grant_of, identifier_of, kind_of, members_of, page_count_of, range_of, receiver_of, right_of, tx_of};

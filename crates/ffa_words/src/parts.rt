@@ -1,3 +1,4 @@
+// SPDX-License-Identifier: MIT OR Apache-2.0
 //! The parts of a word: those between its commas, those round a colon or a plus, and numbers.
 ghost use Rattle.std.specs.Prelude.{◌≡◌, ◌+◌, ◌<◌, ◌≤◌, ◌==◌, ◌∷◌, length, fold, IfSome, Some, option_map};
 ghost use Rattle.std.specs.List.{slice_split};

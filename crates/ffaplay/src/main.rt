@@ -1,3 +1,4 @@
+// SPDX-License-Identifier: MIT OR Apache-2.0
 //! Plays FF-A calls and memory accesses on a small machine.
 #![tactic(auto)]
 

@@ -1,3 +1,4 @@
+-- SPDX-License-Identifier: MIT OR Apache-2.0
 use Rattle.std.proofs.Common.{map, option_map, Ok, Err, ap, sym, ◌∙◌, inl, inr}
 use Rattle.clap.specs.declared.parser.matches.ArgMatches.{ArgMatches}
 use Rattle.ffa_command.specs.Commands.{ask_of, asked_by, asked_in}

@@ -1,3 +1,4 @@
+// SPDX-License-Identifier: MIT OR Apache-2.0
 //! The checks of FFA_MEM_RECLAIM: whether a sender may end its transaction.
 ghost use Rattle.std.specs.Prelude.{◌≡◌, ◌≤◌, ◌==◌, ℕ, length, Some, IfOk};
 ghost use Rattle.std.specs.FinMap as finite;

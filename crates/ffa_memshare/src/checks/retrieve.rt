@@ -1,3 +1,4 @@
+// SPDX-License-Identifier: MIT OR Apache-2.0
 //! The checks of FFA_MEM_RETRIEVE_REQ: what a receiver asks for, and the most that it may hold.
 ghost use Rattle.std.specs.Prelude.{◌≡◌, ℕ, length, true, is_some, OnOk, IfOk, IfSome, Some};
 ghost use Rattle.std.specs.Result.{result_err};

@@ -1,3 +1,4 @@
+// SPDX-License-Identifier: MIT OR Apache-2.0
 //! What is told where a trace prints another text than is expected.
 ghost use Rattle.std.specs.Prelude.{◌≡◌, IfErr};
 

@@ -1,3 +1,4 @@
+// SPDX-License-Identifier: MIT OR Apache-2.0
 //! Why a command isn't done.
 ghost use Rattle.std.specs.Prelude.{◌≡◌};
 ghost use Rattle.ffa_perform.specs.Performed.{failure_of, status_of};

@@ -1,3 +1,4 @@
+// SPDX-License-Identifier: MIT OR Apache-2.0
 //! Plays of a trace: its text printed as the player prints it or in a form, or compared with a text that is expected.
 ghost use Rattle.std.specs.Prelude.{◌≡◌, ◌*◌, OnOk, IfErr, IfOk};
 ghost use Rattle.std.specs.Io.Buffered.{reader_remaining};

@@ -1,3 +1,4 @@
+// SPDX-License-Identifier: MIT OR Apache-2.0
 //! What is told of a guard that isn't met.
 ghost use Rattle.std.specs.Prelude.{◌≡◌, IfErr};
 

@@ -1,3 +1,4 @@
+// SPDX-License-Identifier: MIT OR Apache-2.0
 //! The head of a picture: its size, its colours, and what they say.
 
 use super::sizes::Sizes;

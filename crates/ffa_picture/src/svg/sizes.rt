@@ -1,3 +1,4 @@
+// SPDX-License-Identifier: MIT OR Apache-2.0
 //! The sizes of a picture, in pixels, and where its parts stand.
 
 use crate::picture::Picture;

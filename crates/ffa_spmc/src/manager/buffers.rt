@@ -1,3 +1,4 @@
+// SPDX-License-Identifier: MIT OR Apache-2.0
 //! The calls on buffers, and partition information.
 ghost use Rattle.std.specs.Prelude.{◌≡◌, length, None, if◌then◌else◌};
 ghost use Rattle.std.specs.Result.{result_err};

@@ -1,3 +1,4 @@
+// SPDX-License-Identifier: MIT OR Apache-2.0
 //! What a certificate says of the manager's pages and tables.
 ghost use Rattle.std.specs.Prelude.{true, ◌≡◌, ◌<◌, ◌↔◌, All, IsTrue, length};
 ghost use Rattle.ffa_model.specs.Access.{handle_at};

@@ -1,3 +1,4 @@
+// SPDX-License-Identifier: MIT OR Apache-2.0
 //! What a check of a call that fails is about, where a message, a descriptor or bits tell it. Nothing is changed, and no memory
 //! is taken.
 ghost use Rattle.std.specs.Prelude.{◌≡◌, length};

@@ -1,3 +1,4 @@
+// SPDX-License-Identifier: MIT OR Apache-2.0
 //! What the cache forgets after a call.
 ghost use Rattle.std.specs.Prelude.{◌≡◌, ℕ, None, IfSome, if◌then◌else◌};
 ghost use Rattle.ffa_memshare.specs.Ranges.{ArePlaced, IsPlaced, in_range, in_ranges};

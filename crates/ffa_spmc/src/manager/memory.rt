@@ -1,3 +1,4 @@
+// SPDX-License-Identifier: MIT OR Apache-2.0
 //! The calls on memory. Each stands alone, so that other calls have no room for it, and has the cache forget whose access to
 //! which pages it changed. What the pool does for it is inlined here, since its answer is large to hand on.
 ghost use Rattle.ffa_model.specs.MemoryRetrieve.{memory_retrieve};

@@ -1,3 +1,4 @@
+// SPDX-License-Identifier: MIT OR Apache-2.0
 //! The calls on run states, and messages.
 ghost use Rattle.std.specs.Prelude.{false, ◌≡◌, ◌==◌};
 ghost use Rattle.ffa_model.specs.declared.function.TheConstants.{FFA_ERROR};

@@ -1,3 +1,4 @@
+// SPDX-License-Identifier: MIT OR Apache-2.0
 //! What the machine of the rows has to answer to a call with a descriptor or a message in TX, read off the registers, the
 //! bytes of TX and what is open. Every endpoint has buffers, and RX of each is empty.
 use super::descriptors::{access, ends, is_retrieve, is_send, number, range_count};

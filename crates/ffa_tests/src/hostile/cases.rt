@@ -1,3 +1,4 @@
+// SPDX-License-Identifier: MIT OR Apache-2.0
 //! Hostile cases whose answers are worked out by hand.
 use super::answers::{DENIED, INVALID, NO_MEMORY, refusal, success};
 use super::stage::{LEND, RECLAIM, RELINQUISH, SEND2, SHARE, Stage, call};

@@ -1,3 +1,4 @@
+// SPDX-License-Identifier: MIT OR Apache-2.0
 //! Which bytes are a descriptor: each condition by itself, over whole numbers that are too wide to wrap. Nothing here is
 //! taken from the crates that read descriptors.
 ghost use Rattle.std.specs.Prelude.{◌^◌, ◌<◌};

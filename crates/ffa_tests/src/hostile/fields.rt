@@ -1,3 +1,4 @@
+// SPDX-License-Identifier: MIT OR Apache-2.0
 //! Each field of each descriptor and each register, one at a time, at numbers of every length in bits, at its limit and
 //! above it.
 use super::answers::Open;

@@ -1,3 +1,4 @@
+// SPDX-License-Identifier: MIT OR Apache-2.0
 //! Each length that a descriptor may be said to have, up to one above the page.
 use super::stage::{DONATE, LEND, RETRIEVE, SHARE, Stage, call};
 use crate::memdesc;

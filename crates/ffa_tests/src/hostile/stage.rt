@@ -1,3 +1,4 @@
+// SPDX-License-Identifier: MIT OR Apache-2.0
 //! The machine of the rows, with the bytes that were written into one TX.
 use super::answers::{Open, SUCCESS, Scene, answer, success};
 use super::descriptors::number;

@@ -1,3 +1,4 @@
+// SPDX-License-Identifier: MIT OR Apache-2.0
 //! A block of 2 MiB of which one page is lent, and which is a block again once the page is back: the words of the tables in
 //! RAM.
 

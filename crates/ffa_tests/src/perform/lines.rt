@@ -1,3 +1,4 @@
+// SPDX-License-Identifier: MIT OR Apache-2.0
 //! Numbers, names, comparisons, and what more is said of what is refused.
 
 use super::manual::{ACCESSES, ACCESSES_TEXT, PARTITIONS};

@@ -1,3 +1,4 @@
+// SPDX-License-Identifier: MIT OR Apache-2.0
 //! Commands where memory is short: each allocation of RAM and of the player is refused in turn, over a heap of a fixed
 //! size. What a manifest is read with is refused by the script tests/refused-memory.
 

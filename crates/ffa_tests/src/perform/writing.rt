@@ -1,3 +1,4 @@
+// SPDX-License-Identifier: MIT OR Apache-2.0
 //! Guards, descriptors from words, and traces that are generated: the examples of the manual.
 
 use super::{Ended, MACHINE, ROW, TEXT, Wanted, done, ends, failed, performed_once};

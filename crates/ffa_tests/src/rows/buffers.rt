@@ -1,3 +1,4 @@
+// SPDX-License-Identifier: MIT OR Apache-2.0
 //! Buffers of one to four pages: how they are mapped, messages between them, and pages that are theirs no more.
 ghost use Rattle.std.specs.Prelude.{◌^◌, ◌<◌};
 

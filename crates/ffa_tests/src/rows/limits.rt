@@ -1,3 +1,4 @@
+// SPDX-License-Identifier: MIT OR Apache-2.0
 //! Transactions over buffers of several pages, with up to 64 ranges, and sixteen of them open for a sender.
 use super::buffers::{FIRST_RUNS, INVALID, add_share};
 use super::compact::MACHINE;

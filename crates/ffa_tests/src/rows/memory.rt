@@ -1,3 +1,4 @@
+// SPDX-License-Identifier: MIT OR Apache-2.0
 //! Memory transactions worked out by hand: descriptors stored word by word, the calls, and what RX, loads and the access
 //! table say then.
 use super::*;

@@ -1,3 +1,4 @@
+// SPDX-License-Identifier: MIT OR Apache-2.0
 //! Indirect messages of the first partition to the second that are shorter than a page.
 use super::memory::{MAPPED, TO_FIRST, TO_SECOND};
 use super::*;

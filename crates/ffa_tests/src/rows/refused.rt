@@ -1,3 +1,4 @@
+// SPDX-License-Identifier: MIT OR Apache-2.0
 //! Rows where memory is short: none is left after boot, or each growth of the room for a line that comes in pieces is
 //! refused in turn.
 use super::memory::{LEND, MAPPED, RETRIEVE, RETRIEVED, TO_SECOND};

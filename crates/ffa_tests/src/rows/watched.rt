@@ -1,3 +1,4 @@
+// SPDX-License-Identifier: MIT OR Apache-2.0
 //! Calls on memory in RAM that is looked at after each write, as a second processor could look: what the walk of a page
 //! answers changes once at most in a call, so it is at any time what it was before the call or what it is behind it; and
 //! no page is filled with zeros that a walk leads to.

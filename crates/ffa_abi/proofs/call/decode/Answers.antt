@@ -1,3 +1,4 @@
+-- SPDX-License-Identifier: MIT OR Apache-2.0
 use Rattle.std.proofs.Common.{of_calls}
 use Rattle.ffa_model.specs.Registers.{messages, memory, notifications, additions}
 use Rattle.ffa_abi.specs.Parts.{called_in}

@@ -1,3 +1,4 @@
+-- SPDX-License-Identifier: MIT OR Apache-2.0
 use Rattle.ffa_c.proofs.booting.boxed.Goals as goal
 
 pub returns-in-Ok : goal.returns-in-Ok

@@ -1,3 +1,4 @@
+-- SPDX-License-Identifier: MIT OR Apache-2.0
 use Rattle.std.proofs.Common.{ap, sym, ◌∙◌, length}
 use Rattle.ffa_c.specs.Boarded.{Boarded}
 use Rattle.ffa_c.proofs.Reasons.{first-pages}

@@ -1,3 +1,4 @@
+-- SPDX-License-Identifier: MIT OR Apache-2.0
 use Rattle.ffa_manifest.specs.Document.{parts_of}
 use Rattle.ffa_c.specs.Booting.{Describes, IsRefusedFor}
 use Rattle.ffa_c.proofs.Reasons.{pages-why, text-wants-memory}

@@ -1,3 +1,4 @@
+-- SPDX-License-Identifier: MIT OR Apache-2.0
 use Rattle.ffa_manifest.specs.declared.error.ManifestError.TheVariants.{NoMemory}
 use Rattle.ffa_c.proofs.Reasons.{numbers-want-memory}
 use Rattle.ffa_c.proofs.booting.ffa_boot_parts.Goals as goal

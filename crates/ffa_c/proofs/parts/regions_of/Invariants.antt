@@ -1,3 +1,4 @@
+-- SPDX-License-Identifier: MIT OR Apache-2.0
 use Rattle.std.proofs.Common.{◌≡◌, [], length, drop}
 use Rattle.ffa_c.specs.Given.{each_given, region_given}
 use Rattle.ffa_c.proofs.parts.regions_of.Given as goal

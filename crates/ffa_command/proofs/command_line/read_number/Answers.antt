@@ -1,3 +1,4 @@
+-- SPDX-License-Identifier: MIT OR Apache-2.0
 use Rattle.std.proofs.Common.{◌∙◌}
 use Rattle.ffa_command.proofs.Numbers.{parsed_number}
 use Rattle.ffa_command.proofs.command_line.read_number.Goals as goal

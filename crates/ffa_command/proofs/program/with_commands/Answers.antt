@@ -1,3 +1,4 @@
+-- SPDX-License-Identifier: MIT OR Apache-2.0
 use Rattle.std.proofs.Common.{◌∙◌}
 use Rattle.ffa_command.proofs.Tables.{one_more}
 use Rattle.ffa_command.proofs.program.with_commands.Goals as goal

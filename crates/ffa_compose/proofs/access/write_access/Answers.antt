@@ -1,3 +1,4 @@
+-- SPDX-License-Identifier: MIT OR Apache-2.0
 use Rattle.std.proofs.Common.{◌+◌, refl, arith}
 use Rattle.ffa_model.specs.ResponseBytes.{le}
 use Rattle.ffa_memdesc.proofs.Writes.{one, two, four, eight, wrote_as, five_parts}

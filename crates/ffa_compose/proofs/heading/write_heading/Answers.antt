@@ -1,3 +1,4 @@
+-- SPDX-License-Identifier: MIT OR Apache-2.0
 use Rattle.std.proofs.Common.{refl}
 use Rattle.ffa_memdesc.proofs.Writes.{wrote_start, two, four, eight}
 use Rattle.ffa_compose.proofs.heading.write_heading.Goals as goal

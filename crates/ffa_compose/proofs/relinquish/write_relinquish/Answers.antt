@@ -1,3 +1,4 @@
+-- SPDX-License-Identifier: MIT OR Apache-2.0
 use Rattle.std.proofs.Common.{ℕ, List, ◌++◌, refl, subst, sym, arith}
 use Rattle.ffa_model.specs.RelinquishDescriptor.{Relinquish}
 use Rattle.ffa_model.specs.ResponseBytes.{le}

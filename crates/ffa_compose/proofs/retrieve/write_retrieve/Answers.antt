@@ -1,3 +1,4 @@
+-- SPDX-License-Identifier: MIT OR Apache-2.0
 use Rattle.std.proofs.Common.{ℕ, ◌+◌, ◌++◌, List, sym, subst, arith}
 use Rattle.ffa_model.specs.DescriptorPlaces.{in_version, header_size}
 use Rattle.ffa_model.specs.RetrieveDescriptor.{Retrieve}

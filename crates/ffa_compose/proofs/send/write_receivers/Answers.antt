@@ -1,3 +1,4 @@
+-- SPDX-License-Identifier: MIT OR Apache-2.0
 use borrow.Author.Count.{below_more}
 use Rattle.std.proofs.Common.{◌≡◌, ◌+◌, ◌*◌, ◌++◌, ◌^◌, ◌<◌, ℕ, List, [], ◌∷◌, zero, suc, length, get_or, take, None, refl, subst, arith}
 use Rattle.std.specs.List.{flat_map}

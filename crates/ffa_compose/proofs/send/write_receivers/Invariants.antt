@@ -1,3 +1,4 @@
+-- SPDX-License-Identifier: MIT OR Apache-2.0
 use Rattle.std.proofs.Common.{◌≡◌, ℕ, ◌+◌, ◌*◌, ◌++◌, ◌^◌, ◌<◌, List, take, length, get_or}
 use Rattle.ffa_model.specs.declared.transaction.Receiver.{Receiver}
 use Rattle.std.specs.List.{flat_map}

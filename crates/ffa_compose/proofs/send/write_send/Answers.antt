@@ -1,3 +1,4 @@
+-- SPDX-License-Identifier: MIT OR Apache-2.0
 use Rattle.ffa_model.specs.SendDescriptor.{send_record}
 use Rattle.ffa_compose.proofs.Needs.{needs}
 use Rattle.ffa_compose.proofs.send.write_send.Goals as goal

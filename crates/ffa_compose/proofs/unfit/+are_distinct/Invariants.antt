@@ -1,3 +1,4 @@
+-- SPDX-License-Identifier: MIT OR Apache-2.0
 use Rattle.std.proofs.Common.{length}
 use Rattle.ffa_compose.proofs.unfit.+are_distinct.Given as goal
 

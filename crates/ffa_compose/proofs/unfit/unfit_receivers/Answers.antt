@@ -1,3 +1,4 @@
+-- SPDX-License-Identifier: MIT OR Apache-2.0
 use Rattle.ffa_compose.proofs.unfit.unfit_receivers.Goals as goal
 
 pub returns : goal.returns

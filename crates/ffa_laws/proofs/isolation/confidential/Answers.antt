@@ -1,3 +1,4 @@
+-- SPDX-License-Identifier: MIT OR Apache-2.0
 use Rattle.ffa_laws.proofs.ReadRuns.{run_confidential}
 use Rattle.ffa_laws.proofs.Readings.{confidential}
 use Rattle.ffa_laws.proofs.isolation.confidential.Goals as goal

@@ -1,3 +1,4 @@
+-- SPDX-License-Identifier: MIT OR Apache-2.0
 use Rattle.ffa_laws.proofs.Firsts.{first-state-sound}
 use Rattle.ffa_laws.proofs.isolation.first_is_sound.Goals as goal
 

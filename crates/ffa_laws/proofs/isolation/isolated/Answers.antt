@@ -1,3 +1,4 @@
+-- SPDX-License-Identifier: MIT OR Apache-2.0
 use Rattle.ffa_laws.proofs.Replays.{isolated, replays}
 use Rattle.ffa_laws.proofs.Shows.{shown}
 use Rattle.ffa_laws.proofs.isolation.isolated.Goals as goal

@@ -1,3 +1,4 @@
+-- SPDX-License-Identifier: MIT OR Apache-2.0
 use Rattle.ffa_laws.proofs.Forgotten.{zeroed_is_forgotten}
 use Rattle.ffa_laws.proofs.Waiting.{offer_says_nothing}
 use Rattle.ffa_laws.proofs.isolation.loans.Goals as goal

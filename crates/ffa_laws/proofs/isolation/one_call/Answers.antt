@@ -1,3 +1,4 @@
+-- SPDX-License-Identifier: MIT OR Apache-2.0
 use Rattle.ffa_laws.proofs.Laws.{one_call, steady-call}
 use Rattle.ffa_laws.proofs.Growth.{call_never_grows}
 use Rattle.ffa_laws.proofs.Integrities.{call_integrity}

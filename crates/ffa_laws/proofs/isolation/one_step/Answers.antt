@@ -1,3 +1,4 @@
+-- SPDX-License-Identifier: MIT OR Apache-2.0
 use Rattle.ffa_laws.proofs.Laws.{one_step, steady-step}
 use Rattle.ffa_laws.proofs.Growth.{step_never_grows}
 use Rattle.ffa_laws.proofs.SoundOperations.{step-sound}

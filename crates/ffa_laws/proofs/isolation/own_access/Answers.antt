@@ -1,3 +1,4 @@
+-- SPDX-License-Identifier: MIT OR Apache-2.0
 use Rattle.ffa_laws.proofs.Apart.{first_apart, stays_apart}
 use Rattle.ffa_laws.proofs.OwnAccesses.{own_access}
 use Rattle.ffa_laws.proofs.isolation.own_access.Goals as goal

@@ -1,3 +1,4 @@
+-- SPDX-License-Identifier: MIT OR Apache-2.0
 use Rattle.ffa_laws.proofs.Growth.{never_grow}
 use Rattle.ffa_laws.proofs.isolation.rights_never_grow.Goals as goal
 

@@ -1,3 +1,4 @@
+-- SPDX-License-Identifier: MIT OR Apache-2.0
 use Rattle.std.proofs.Common.{◌≡◌, refl, ◌≢◌, ◌++◌, ◌∷◌, ℕ, List, [], sym, ap, ◌∙◌, subst, arith, append_assoc, append-nil, length, length-append}
 use Rattle.std.specs.Option.{MatchOption}
 use Rattle.std.proofs.lemmas.Bool.{eqb-true, eqb-false}

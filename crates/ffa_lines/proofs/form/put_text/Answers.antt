@@ -1,3 +1,4 @@
+-- SPDX-License-Identifier: MIT OR Apache-2.0
 use Rattle.std.proofs.Common.{Some, sym, ap, ◌∙◌}
 use Rattle.ffa_trace.specs.Lines.{meant}
 use Rattle.ffa_lines.proofs.Names.{puts_named}

@@ -1,3 +1,4 @@
+-- SPDX-License-Identifier: MIT OR Apache-2.0
 use Rattle.std.specs.Prelude.{codes}
 use Rattle.ffa_model.specs.TraceText.{hex}
 use Rattle.ffa_lines.specs.Reasons.{named_text}

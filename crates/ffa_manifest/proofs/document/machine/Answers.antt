@@ -1,3 +1,4 @@
+-- SPDX-License-Identifier: MIT OR Apache-2.0
 use Rattle.toml.specs.View.{table_view, items_view}
 use Rattle.ffa_manifest.proofs.Views.{item_count_view}
 use Rattle.ffa_manifest.proofs.Accepted.{accepted_parts}

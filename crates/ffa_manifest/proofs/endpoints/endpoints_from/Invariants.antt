@@ -1,3 +1,4 @@
+-- SPDX-License-Identifier: MIT OR Apache-2.0
 use Rattle.std.proofs.Common.{◌≡◌, [], length, drop}
 use Rattle.toml.specs.View.{items_view}
 use Rattle.ffa_manifest.specs.Place.{is_in}

@@ -1,3 +1,4 @@
+-- SPDX-License-Identifier: MIT OR Apache-2.0
 use Rattle.std.proofs.Common.{◌≡◌, ◌∙◌, sym, true, false, length, rules}
 use Rattle.uuid.specs.Text.{parsed}
 use Rattle.ffa_model.specs.Manifest.{is_nil}

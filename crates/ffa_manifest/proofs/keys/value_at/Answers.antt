@@ -1,3 +1,4 @@
+-- SPDX-License-Identifier: MIT OR Apache-2.0
 use Rattle.std.proofs.Common.{refl}
 use Rattle.toml.proofs.Views.{table_get}
 use Rattle.ffa_manifest.specs.Keys.{value_at}

@@ -1,3 +1,4 @@
+-- SPDX-License-Identifier: MIT OR Apache-2.0
 use Rattle.std.proofs.Common.{◌≡◌, true, length, rules}
 use Rattle.ffa_model.specs.declared.limits.TheConstants.{MOST_REGIONS}
 use Rattle.ffa_model.specs.Manifest.{is_from_to}

@@ -1,3 +1,4 @@
+-- SPDX-License-Identifier: MIT OR Apache-2.0
 use Rattle.std.proofs.Common.{◌∙◌, rules}
 use Rattle.ffa_manifest.specs.Place.{is_in}
 use Rattle.ffa_manifest.specs.Parts.{endpoint_tests}

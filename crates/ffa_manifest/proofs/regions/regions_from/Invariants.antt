@@ -1,3 +1,4 @@
+-- SPDX-License-Identifier: MIT OR Apache-2.0
 use Rattle.std.proofs.Common.{◌≡◌, List, [], ◌++◌, length, drop, Result}
 use Rattle.toml.specs.Data.{Data}
 use Rattle.ffa_model.specs.declared.endpoint.Region.{Region}

@@ -1,3 +1,4 @@
+-- SPDX-License-Identifier: MIT OR Apache-2.0
 use Rattle.ffa_memdesc.proofs.SendLaw.{one_send, send_told, send_again}
 use Rattle.ffa_memdesc.proofs.RetrieveLaw.{one_retrieve, retrieve_told, retrieve_again}
 use Rattle.ffa_memdesc.proofs.RelinquishLaw.{one_relinquish, relinquish_told, relinquish_again}

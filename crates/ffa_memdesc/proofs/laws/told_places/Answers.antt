@@ -1,3 +1,4 @@
+-- SPDX-License-Identifier: MIT OR Apache-2.0
 use Rattle.ffa_memdesc.proofs.PlaceLaw.{told_array_is, told_composite_is}
 use Rattle.ffa_memdesc.proofs.laws.told_places.Goals as goal
 

@@ -1,3 +1,4 @@
+-- SPDX-License-Identifier: MIT OR Apache-2.0
 use Rattle.std.proofs.Common.{◌+◌, refl, arith}
 use Rattle.ffa_memdesc.proofs.Writes.{four, eight, wrote_as, three_parts}
 use Rattle.ffa_memdesc.proofs.parts.write_range.Goals as goal

@@ -1,3 +1,4 @@
+-- SPDX-License-Identifier: MIT OR Apache-2.0
 use Rattle.std.proofs.Common.{arith}
 use Rattle.ffa_model.specs.ResponseBytes.{range_bytes}
 use Rattle.ffa_memdesc.proofs.Runs.{goes_on, ends}

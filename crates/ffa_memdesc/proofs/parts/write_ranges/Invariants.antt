@@ -1,3 +1,4 @@
+-- SPDX-License-Identifier: MIT OR Apache-2.0
 use Rattle.std.proofs.Common.{◌≡◌, ℕ, ◌+◌, ◌*◌, ◌++◌, List, take, length}
 use Rattle.std.specs.List.{flat_map}
 use Rattle.ffa_model.specs.ResponseBytes.{range_bytes}

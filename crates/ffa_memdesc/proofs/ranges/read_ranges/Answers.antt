@@ -1,3 +1,4 @@
+-- SPDX-License-Identifier: MIT OR Apache-2.0
 use Rattle.std.proofs.Common.{◌≡◌, refl, arith}
 use Rattle.ffa_memdesc.proofs.Entries.{ranges_more, ranges_end, ranges_flaw, ranges_none}
 use Rattle.ffa_memdesc.proofs.ranges.read_ranges.Goals as goal

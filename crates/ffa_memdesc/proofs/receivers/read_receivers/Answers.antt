@@ -1,3 +1,4 @@
+-- SPDX-License-Identifier: MIT OR Apache-2.0
 use Rattle.std.proofs.Common.{◌≡◌, refl, arith}
 use Rattle.ffa_memdesc.proofs.Entries.{receivers_more, receivers_end, receivers_flaw, receivers_none}
 use Rattle.ffa_memdesc.proofs.receivers.read_receivers.Goals as goal

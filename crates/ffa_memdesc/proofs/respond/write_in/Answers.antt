@@ -1,3 +1,4 @@
+-- SPDX-License-Identifier: MIT OR Apache-2.0
 use Rattle.std.proofs.Common.{◌+◌, ◌*◌, length, sym, ap, arith}
 use Rattle.ffa_memdesc.proofs.Whole.{responds}
 use Rattle.ffa_memdesc.proofs.Writes.{wrote_to}

@@ -1,3 +1,4 @@
+-- SPDX-License-Identifier: MIT OR Apache-2.0
 use Rattle.std.proofs.Common.{◌≡◌, ◌∙◌, ap, length}
 use Rattle.ffa_model.specs.DescriptorPlaces.{array_place, in_version}
 use Rattle.ffa_memdesc.specs.declared.header.Header.{Header}

@@ -1,3 +1,4 @@
+-- SPDX-License-Identifier: MIT OR Apache-2.0
 use Rattle.std.proofs.Common.{rules}
 use Rattle.ffa_model.specs.FirstFlaws.{send_header_flaw}
 use Rattle.ffa_memdesc.proofs.send.check_header.Goals as goal

@@ -1,3 +1,4 @@
+-- SPDX-License-Identifier: MIT OR Apache-2.0
 use Rattle.ffa_model.specs.DescriptorPlaces.{in_version}
 use Rattle.ffa_model.specs.Flaws.{SendBreaks}
 use Rattle.ffa_model.specs.SendDescriptor.{send_record, Send, send_of}

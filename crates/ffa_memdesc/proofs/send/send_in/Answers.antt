@@ -1,3 +1,4 @@
+-- SPDX-License-Identifier: MIT OR Apache-2.0
 use Rattle.std.proofs.Common.{◌≡◌, ◌+◌, ◌∙◌, ap, length, ℕ, None, Err, of_calls}
 use Rattle.ffa_model.specs.DescriptorPlaces.{composite_place, u32_at, in_version}
 use Rattle.ffa_memdesc.specs.declared.header.Header.{Header}

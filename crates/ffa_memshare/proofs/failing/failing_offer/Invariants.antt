@@ -1,3 +1,4 @@
+-- SPDX-License-Identifier: MIT OR Apache-2.0
 use Rattle.std.proofs.Common.{◌≡◌, ℕ, ◌<◌, false}
 use Rattle.std.specs.Prelude.{◌&&◌, not}
 use Rattle.ffa_model.specs.About.{passes}

@@ -1,3 +1,4 @@
+-- SPDX-License-Identifier: MIT OR Apache-2.0
 use Rattle.std.proofs.Common.{refl, arith}
 use Rattle.ffa_memshare.proofs.PagesCleared.{cleared-next}
 use Rattle.ffa_memshare.proofs.zeros.clear.Goals as goal

@@ -1,3 +1,4 @@
+-- SPDX-License-Identifier: MIT OR Apache-2.0
 use Rattle.std.proofs.Common.{map, rules}
 use Rattle.ffa_model.specs.First.{party_of}
 use Rattle.ffa_model.specs.RunStates.{request_guards}

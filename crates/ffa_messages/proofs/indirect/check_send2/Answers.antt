@@ -1,3 +1,4 @@
+-- SPDX-License-Identifier: MIT OR Apache-2.0
 use Rattle.std.proofs.Common.{◌≡◌, ◌∙◌, sym, map, None, Some, rules}
 use Rattle.std.specs.Result.{result_err}
 use Rattle.ffa_model.specs.First.{party_of}

@@ -1,3 +1,4 @@
+-- SPDX-License-Identifier: MIT OR Apache-2.0
 use Rattle.std.proofs.Common.{◌∙◌, ℕ, List, sym, ap}
 use Rattle.ffa_model.specs.Messages.{header_in}
 use Rattle.ffa_model.specs.Ram.{page_of}

@@ -1,3 +1,4 @@
+-- SPDX-License-Identifier: MIT OR Apache-2.0
 use Rattle.std.proofs.Common.{◌≡◌, ◌∙◌, ℕ, ap, arith}
 use Rattle.ffa_model.specs.First.{has_first_bitmaps}
 use Rattle.ffa_notify.proofs.Boots.{bitmaps-more}

@@ -1,3 +1,4 @@
+-- SPDX-License-Identifier: MIT OR Apache-2.0
 use Rattle.std.proofs.Common.{◌≡◌, map, take}
 use Rattle.std.specs.List.{enumerate_from}
 use Rattle.arrayvec.specs.ArrayVec.{array_vec_len}

@@ -1,3 +1,4 @@
+-- SPDX-License-Identifier: MIT OR Apache-2.0
 use Rattle.std.proofs.Common.{◌∙◌, ◌+◌, ◌<◌, List, ℕ, length, get_or, ap, arith}
 use Rattle.ffa_notify.proofs.Asked.{asked-cleared, asked-kept, flag-set, flag-unset}
 use Rattle.ffa_notify.proofs.words.clear_asked.Goals as goal

@@ -1,3 +1,4 @@
+-- SPDX-License-Identifier: MIT OR Apache-2.0
 use Rattle.std.proofs.Common.{◌≡◌, ℕ, get_or}
 use Rattle.std.specs.Prelude.{if◌then◌else◌}
 use Rattle.ffa_notify.specs.Stored.{is_asked}

@@ -1,3 +1,4 @@
+-- SPDX-License-Identifier: MIT OR Apache-2.0
 use Rattle.std.proofs.Common.{◌∙◌, Some, None, sym}
 use Rattle.ffa_model.proofs.Accepted.{accepted}
 use Rattle.ffa_pages.proofs.First.{first-managers, first-owned}

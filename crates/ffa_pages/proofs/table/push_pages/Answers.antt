@@ -1,3 +1,4 @@
+-- SPDX-License-Identifier: MIT OR Apache-2.0
 use Rattle.std.proofs.Common.{◌∙◌, ℕ, ◌++◌, [], ◌∷◌, List, Option, sym, ap, arith}
 use Rattle.std.proofs.lemmas.List.{map_push}
 use Rattle.ffa_model.proofs.Accepted.{accepted}

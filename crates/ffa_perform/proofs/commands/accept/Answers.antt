@@ -1,3 +1,4 @@
+-- SPDX-License-Identifier: MIT OR Apache-2.0
 use Rattle.ffa_perform.proofs.Performs.{on_ok}
 use Rattle.ffa_perform.proofs.commands.accept.Goals as goal
 

@@ -1,3 +1,4 @@
+-- SPDX-License-Identifier: MIT OR Apache-2.0
 use Rattle.std.proofs.Common.{option_map}
 use Rattle.std.specs.Option.{option_and_then}
 use Rattle.ffa_perform.proofs.Performs.{on_err, unsaid}

@@ -1,3 +1,4 @@
+-- SPDX-License-Identifier: MIT OR Apache-2.0
 use Rattle.ffa_perform.proofs.Performs.{kept, told_bad, told_unmet}
 use Rattle.ffa_perform.proofs.commands.perform_in.Goals as goal
 use Rattle.ffa_perform.proofs.commands.perform_in.Goals.{then-is_verbose, else-is_verbose}

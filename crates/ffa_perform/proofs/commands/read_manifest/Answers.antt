@@ -1,3 +1,4 @@
+-- SPDX-License-Identifier: MIT OR Apache-2.0
 use Rattle.std.proofs.Common.{inl, refl}
 use Rattle.ffa_perform.proofs.commands.read_manifest.Goals as goal
 

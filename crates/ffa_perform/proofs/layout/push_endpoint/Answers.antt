@@ -1,3 +1,4 @@
+-- SPDX-License-Identifier: MIT OR Apache-2.0
 use Rattle.std.proofs.Common.{[], ◌∷◌, ◌++◌, ◌+◌, ap, ◌∙◌}
 use Rattle.ffa_model.specs.TraceText.{hex, spaced}
 use Rattle.ffa_perform.specs.Layouts.{endpoint_line}

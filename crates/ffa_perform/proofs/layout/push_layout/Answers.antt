@@ -1,3 +1,4 @@
+-- SPDX-License-Identifier: MIT OR Apache-2.0
 use Rattle.std.proofs.Common.{[], ◌++◌, ap, ◌∙◌, arith}
 use Rattle.ffa_manifest.specs.Document.{parts_of}
 use Rattle.ffa_perform.specs.Layouts.{endpoint_line, layout_line}

@@ -1,3 +1,4 @@
+-- SPDX-License-Identifier: MIT OR Apache-2.0
 use Rattle.std.proofs.Common.{◌≡◌, replicate}
 use Rattle.ffa_physmem.proofs.flat.zero_pages.Given as goal
 

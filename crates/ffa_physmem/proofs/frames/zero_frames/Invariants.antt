@@ -1,3 +1,4 @@
+-- SPDX-License-Identifier: MIT OR Apache-2.0
 use Rattle.std.proofs.Common.{◌≡◌, map, replicate}
 use Rattle.ffa_physmem.proofs.frames.zero_frames.Given as goal
 

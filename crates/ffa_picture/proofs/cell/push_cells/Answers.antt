@@ -1,3 +1,4 @@
+-- SPDX-License-Identifier: MIT OR Apache-2.0
 use Rattle.std.proofs.Common.{◌∙◌, None, Some, ap, sym, append-nil}
 use Rattle.ffa_picture.specs.Cells.{cell_of}
 use Rattle.ffa_picture.proofs.Kept.{kept_more}

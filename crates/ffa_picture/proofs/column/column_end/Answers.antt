@@ -1,3 +1,4 @@
+-- SPDX-License-Identifier: MIT OR Apache-2.0
 use Rattle.std.proofs.Common.{◌∙◌, ◌++◌, ◌∷◌, [], take, sym, ap}
 use Rattle.std.proofs.lemmas.List.{take_more}
 use Rattle.ffa_picture.specs.Columns.{run_in}

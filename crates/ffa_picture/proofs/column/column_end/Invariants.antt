@@ -1,3 +1,4 @@
+-- SPDX-License-Identifier: MIT OR Apache-2.0
 use Rattle.std.proofs.Common.{take}
 use Rattle.ffa_picture.specs.Columns.{IsColumn}
 use Rattle.ffa_picture.proofs.column.column_end.Given as goal

@@ -1,3 +1,4 @@
+-- SPDX-License-Identifier: MIT OR Apache-2.0
 use Rattle.std.proofs.Common.{◌-◌, ◌++◌, List}
 use Rattle.ffa_picture.specs.Columns.{AreColumns}
 use Rattle.ffa_picture.specs.declared.column.Column.{Column}

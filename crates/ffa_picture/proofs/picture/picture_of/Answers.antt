@@ -1,3 +1,4 @@
+-- SPDX-License-Identifier: MIT OR Apache-2.0
 use Rattle.std.proofs.Common.{◌≡◌, ◌∙◌, length, List, sym, subst, ap}
 use Rattle.std.specs.List.{All, filter_map, flat_map}
 use Rattle.ffa_spmc.specs.Snapshot.{Snapshot}

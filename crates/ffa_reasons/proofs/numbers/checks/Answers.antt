@@ -1,3 +1,4 @@
+-- SPDX-License-Identifier: MIT OR Apache-2.0
 use Rattle.ffa_reasons.proofs.Listed.{listed}
 use Rattle.ffa_reasons.proofs.numbers.checks.Goals as goal
 

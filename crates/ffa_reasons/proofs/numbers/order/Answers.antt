@@ -1,3 +1,4 @@
+-- SPDX-License-Identifier: MIT OR Apache-2.0
 use Rattle.ffa_reasons.proofs.Orders.{order_is}
 use Rattle.ffa_reasons.proofs.numbers.order.Goals as goal
 

@@ -1,3 +1,4 @@
+-- SPDX-License-Identifier: MIT OR Apache-2.0
 use Rattle.std.proofs.Common.{◌≡◌, ℕ, ◌+◌, ◌<◌, true}
 use Rattle.ffa_model.specs.Buffers.{is_usable}
 use Rattle.ffa_rxtx.specs.Parts.{candidate_in}

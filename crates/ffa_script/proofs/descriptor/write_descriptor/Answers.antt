@@ -1,3 +1,4 @@
+-- SPDX-License-Identifier: MIT OR Apache-2.0
 use Rattle.ffa_model.specs.SendDescriptor.{send_record}
 use Rattle.ffa_script.proofs.Sizes.{fits_page}
 use Rattle.ffa_script.proofs.descriptor.write_descriptor.Goals as goal

@@ -1,3 +1,4 @@
+-- SPDX-License-Identifier: MIT OR Apache-2.0
 use Rattle.ffa_script.proofs.Digits.{none_above}
 use Rattle.ffa_script.proofs.line.digits_of.Goals as goal
 

@@ -1,3 +1,4 @@
+-- SPDX-License-Identifier: MIT OR Apache-2.0
 use Rattle.std.proofs.Common.{◌≡◌, ◌<◌, [], ◌∷◌, ◌++◌, length, take, get_or, sym, subst, arith, length-take-le, take_all}
 use Rattle.std.proofs.lemmas.List.{take_more}
 use Rattle.ffa_script.proofs.Operations.{Told, one_told, call_read}

@@ -1,3 +1,4 @@
+-- SPDX-License-Identifier: MIT OR Apache-2.0
 use Rattle.std.proofs.Common.{◌≡◌, ◌-◌, ◌≤◌, drop, replicate}
 use Rattle.ffa_script.proofs.operation.registers_told.Given as goal
 

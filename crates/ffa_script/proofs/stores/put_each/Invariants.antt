@@ -1,3 +1,4 @@
+-- SPDX-License-Identifier: MIT OR Apache-2.0
 use Rattle.std.proofs.Common.{ℕ, ◌+◌, ◌^◌, ◌<◌, ◌≤◌, length, get_or}
 use Rattle.ffa_script.proofs.Storing.{IsReady, Storing}
 use Rattle.ffa_script.proofs.stores.put_each.Given as goal

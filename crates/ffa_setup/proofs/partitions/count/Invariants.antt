@@ -1,3 +1,4 @@
+-- SPDX-License-Identifier: MIT OR Apache-2.0
 use Rattle.std.proofs.Common.{◌≡◌, ◌+◌, ◌≤◌, length, drop}
 use Rattle.ffa_setup.proofs.Selected.{selected_from}
 use Rattle.ffa_setup.proofs.partitions.count.Given as goal

@@ -1,3 +1,4 @@
+-- SPDX-License-Identifier: MIT OR Apache-2.0
 use Rattle.std.proofs.Common.{◌≡◌, ◌+◌, sym, arith}
 use Rattle.ffa_stage2.specs.Places.{with_run}
 use Rattle.ffa_stage2.proofs.OneBlock.{IsMapped-rights, table-here, typed-other}

@@ -1,3 +1,4 @@
+-- SPDX-License-Identifier: MIT OR Apache-2.0
 use Rattle.std.proofs.Common.{◌∙◌, ℕ, ◌-◌, ap, sym, arith, inr, Option}
 use Rattle.std.proofs.lemmas.Bool.{both_ways}
 use Rattle.ffa_model.specs.Descriptor.{page_word}

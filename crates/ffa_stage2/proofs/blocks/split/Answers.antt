@@ -1,3 +1,4 @@
+-- SPDX-License-Identifier: MIT OR Apache-2.0
 use Rattle.std.proofs.Common.{arith}
 use Rattle.ffa_stage2.proofs.OneBlock.{block-here, block-fits, typed, written-middle, KeepsBeside-of_middle, KeepsBeside-then, IsPlace-kept}
 use Rattle.ffa_stage2.proofs.PageRuns.{split-kept, split-maps, three-filled}

@@ -1,3 +1,4 @@
+-- SPDX-License-Identifier: MIT OR Apache-2.0
 use Rattle.std.proofs.Common.{◌+◌, ◌*◌, ◌<◌, arith}
 use Rattle.ffa_stage2.proofs.OneBlock.{written}
 use Rattle.ffa_stage2.proofs.PageRuns.{IsFilled-next, run-fits}

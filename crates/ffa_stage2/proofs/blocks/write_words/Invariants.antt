@@ -1,3 +1,4 @@
+-- SPDX-License-Identifier: MIT OR Apache-2.0
 use Rattle.std.proofs.Common.{◌+◌, ◌*◌, ◌≤◌}
 use Rattle.ffa_stage2.specs.Places.{IsFilled}
 use Rattle.ffa_stage2.proofs.blocks.write_words.Given as goal

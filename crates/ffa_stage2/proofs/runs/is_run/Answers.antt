@@ -1,3 +1,4 @@
+-- SPDX-License-Identifier: MIT OR Apache-2.0
 use Rattle.ffa_stage2.proofs.Lanes.{lanes_run}
 use Rattle.ffa_stage2.proofs.runs.is_run.Goals as goal
 

@@ -1,3 +1,4 @@
+-- SPDX-License-Identifier: MIT OR Apache-2.0
 use Rattle.std.proofs.Common.{◌≡◌, ℕ, ◌+◌, ◌*◌, ◌<◌}
 use Rattle.ffa_model.specs.Ram.{word_of}
 use Rattle.ffa_stage2.proofs.runs.uniform.Given as goal

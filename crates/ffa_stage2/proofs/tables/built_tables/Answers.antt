@@ -1,3 +1,4 @@
+-- SPDX-License-Identifier: MIT OR Apache-2.0
 use Rattle.ffa_stage2.proofs.Kept.{built-kept}
 use Rattle.ffa_stage2.proofs.Places.{root-address}
 use Rattle.ffa_stage2.proofs.Walks.{walk-built}

@@ -1,3 +1,4 @@
+-- SPDX-License-Identifier: MIT OR Apache-2.0
 use Rattle.std.proofs.Common.{◌∙◌, ℕ, ◌+◌, ◌*◌, ap, arith}
 use Rattle.ffa_stage2.specs.Tables.{HasRoom}
 use Rattle.arrayvec.specs.ArrayVec.{array_vec_len}

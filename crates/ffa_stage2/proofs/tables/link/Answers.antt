@@ -1,3 +1,4 @@
+-- SPDX-License-Identifier: MIT OR Apache-2.0
 use Rattle.std.proofs.Common.{◌≡◌, ◌∙◌, arith}
 use Rattle.ffa_stage2.proofs.Links.{linking-first, linking-next, linked-full}
 use Rattle.ffa_stage2.proofs.tables.link.Goals as goal

@@ -1,3 +1,4 @@
+-- SPDX-License-Identifier: MIT OR Apache-2.0
 use Rattle.arrayvec.specs.ArrayVec.{array_vec_len}
 use Rattle.ffa_stage2.specs.Tables.{KeepsRest}
 use Rattle.ffa_stage2.specs.Words.{TablesAre, linked}

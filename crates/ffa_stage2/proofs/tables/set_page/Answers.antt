@@ -1,3 +1,4 @@
+-- SPDX-License-Identifier: MIT OR Apache-2.0
 use Rattle.arrayvec.specs.ArrayVec.{array_vec_len}
 use Rattle.ffa_stage2.proofs.Rights.{built-same, with_pages-one}
 use Rattle.ffa_stage2.proofs.Changes.{blocks-built}

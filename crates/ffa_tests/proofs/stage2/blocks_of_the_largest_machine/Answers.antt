@@ -1,3 +1,4 @@
+-- SPDX-License-Identifier: MIT OR Apache-2.0
 use Rattle.std.proofs.Common.{◌≡◌, ◌∙◌, ℕ, ◌*◌, replicate, length, ap, sym}
 use Rattle.std.proofs.lemmas.List.{length-replicate}
 use Rattle.ffa_model.specs.Ram.{Ram, zero_ram}

@@ -1,3 +1,4 @@
+-- SPDX-License-Identifier: MIT OR Apache-2.0
 use Rattle.ffa_tests.proofs.stage2.reclaim.Goals as goal
 
 pub set_page-requires-2-clause-built : goal.set_page-requires-2-clause-built

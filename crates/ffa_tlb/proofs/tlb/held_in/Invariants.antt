@@ -1,3 +1,4 @@
+-- SPDX-License-Identifier: MIT OR Apache-2.0
 use Rattle.std.proofs.Common.{◌≡◌, drop}
 use Rattle.ffa_tlb.specs.Lookups.{lookup}
 use Rattle.ffa_tlb.specs.Slots.{entries_of}

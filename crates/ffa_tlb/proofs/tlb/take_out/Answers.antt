@@ -1,3 +1,4 @@
+-- SPDX-License-Identifier: MIT OR Apache-2.0
 use Rattle.std.proofs.Common.{◌∙◌, sym}
 use Rattle.ffa_tlb.proofs.Slots.{without_more}
 use Rattle.ffa_tlb.proofs.tlb.take_out.Goals as goal

@@ -1,3 +1,4 @@
+-- SPDX-License-Identifier: MIT OR Apache-2.0
 use Rattle.std.proofs.Common.{◌≡◌, ◌++◌, take, drop}
 use Rattle.ffa_tlb.specs.Slots.{without}
 use Rattle.ffa_tlb.proofs.tlb.take_out.Given as goal

@@ -1,3 +1,4 @@
+-- SPDX-License-Identifier: MIT OR Apache-2.0
 use Rattle.std.proofs.Common.{◌∙◌, ℕ, [], ◌∷◌, ◌++◌, codes, ap, ap₂}
 use Rattle.ffa_model.specs.TraceText.{ended, hex, root_text, spaced}
 use Rattle.ffa_trace.proofs.Listed.{four_pieces}

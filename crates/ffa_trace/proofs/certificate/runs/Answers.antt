@@ -1,3 +1,4 @@
+-- SPDX-License-Identifier: MIT OR Apache-2.0
 use Rattle.std.proofs.Common.{◌≡◌, ◌∙◌, ℕ, ◌+◌, ◌-◌, ◌<◌, List, [], ◌∷◌, ◌++◌, length, sym, ap, arith, append_assoc, append-nil, length-append}
 use Rattle.ffa_model.specs.declared.certificate.CertRun.{CertRun}
 use Rattle.ffa_model.specs.Certificate.{run_from, runs_from}

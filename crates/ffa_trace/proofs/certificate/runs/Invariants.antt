@@ -1,3 +1,4 @@
+-- SPDX-License-Identifier: MIT OR Apache-2.0
 use Rattle.std.proofs.Common.{◌≡◌, ◌-◌, ◌≤◌, ◌++◌, length}
 use Rattle.ffa_model.specs.Certificate.{certificate, runs_from}
 use Rattle.ffa_trace.proofs.certificate.runs.Given as goal

@@ -1,3 +1,4 @@
+-- SPDX-License-Identifier: MIT OR Apache-2.0
 use Rattle.ffa_trace.proofs.LineCommands.{fetch_is, no_fetch}
 use Rattle.ffa_trace.proofs.line.fetch.Goals as goal
 

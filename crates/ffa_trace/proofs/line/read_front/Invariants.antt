@@ -1,3 +1,4 @@
+-- SPDX-License-Identifier: MIT OR Apache-2.0
 use Rattle.std.proofs.Common.{◌≤◌, ◌-◌}
 use Rattle.ffa_trace.specs.Parsed.{AreDigits, GoesOn}
 use Rattle.ffa_trace.proofs.line.read_front.Given as goal

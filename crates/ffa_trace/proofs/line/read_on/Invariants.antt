@@ -1,3 +1,4 @@
+-- SPDX-License-Identifier: MIT OR Apache-2.0
 use Rattle.std.proofs.Common.{◌<◌, ◌≤◌, ◌-◌, length}
 use Rattle.ffa_trace.specs.Parsed.{AreDigits, GoesOn}
 use Rattle.ffa_trace.proofs.line.read_on.Given as goal

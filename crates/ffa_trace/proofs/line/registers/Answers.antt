@@ -1,3 +1,4 @@
+-- SPDX-License-Identifier: MIT OR Apache-2.0
 use Rattle.std.proofs.Common.{◌≡◌, sym, subst, arith}
 use Rattle.ffa_model.specs.TraceLines.{words_of}
 use Rattle.ffa_trace.proofs.LineRegisters.{Reading, start, more, bad_word, ninth_word, all_words}

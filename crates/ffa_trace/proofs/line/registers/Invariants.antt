@@ -1,3 +1,4 @@
+-- SPDX-License-Identifier: MIT OR Apache-2.0
 use Rattle.ffa_model.specs.TraceLines.{words_of}
 use Rattle.ffa_trace.proofs.LineRegisters.{Reading}
 use Rattle.ffa_trace.proofs.line.registers.Given as goal

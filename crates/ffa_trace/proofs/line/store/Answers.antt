@@ -1,3 +1,4 @@
+-- SPDX-License-Identifier: MIT OR Apache-2.0
 use Rattle.ffa_trace.proofs.LineCommands.{store_is, no_store}
 use Rattle.ffa_trace.proofs.line.store.Goals as goal
 

@@ -1,3 +1,4 @@
+-- SPDX-License-Identifier: MIT OR Apache-2.0
 use Rattle.std.proofs.Common.{sym, subst}
 use Rattle.ffa_trace.specs.Parsed.{IsStored}
 use Rattle.ffa_trace.proofs.LineCommands.{no_size_stored, none_stored}

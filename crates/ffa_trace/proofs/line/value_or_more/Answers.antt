@@ -1,3 +1,4 @@
+-- SPDX-License-Identifier: MIT OR Apache-2.0
 use Rattle.std.proofs.Common.{sym}
 use Rattle.ffa_trace.proofs.DigitTable.{tells_value, entry_few}
 use Rattle.ffa_trace.proofs.line.value_or_more.Goals as goal

@@ -1,3 +1,4 @@
+-- SPDX-License-Identifier: MIT OR Apache-2.0
 use Rattle.std.proofs.Common.{◌∙◌, sym}
 use Rattle.ffa_trace.proofs.LineCommands.{load_line}
 use Rattle.ffa_trace.proofs.lines.read_load.Goals as goal

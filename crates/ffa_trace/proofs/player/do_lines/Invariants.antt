@@ -1,3 +1,4 @@
+-- SPDX-License-Identifier: MIT OR Apache-2.0
 use Rattle.std.proofs.Common.{length}
 use Rattle.ffa_trace.proofs.Feeds.{Taking}
 use Rattle.ffa_trace.proofs.player.do_lines.Given as goal

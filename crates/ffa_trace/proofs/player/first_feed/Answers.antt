@@ -1,3 +1,4 @@
+-- SPDX-License-Identifier: MIT OR Apache-2.0
 use Rattle.ffa_trace.proofs.Firsts.{first_place}
 use Rattle.ffa_trace.proofs.player.first_feed.Goals as goal
 

@@ -1,3 +1,4 @@
+-- SPDX-License-Identifier: MIT OR Apache-2.0
 use Rattle.ffa_trace.proofs.Plays.{Playing}
 use Rattle.ffa_trace.proofs.player.play_lines.Given as goal
 

@@ -1,3 +1,4 @@
+-- SPDX-License-Identifier: MIT OR Apache-2.0
 use Rattle.std.proofs.Common.{◌∙◌, ℕ, ◌*◌, List, ◌++◌, ap, sym, subst}
 use Rattle.std.specs.Prelude.{codes}
 use Rattle.ffa_model.specs.Memory.{size_of}

@@ -1,3 +1,4 @@
+-- SPDX-License-Identifier: MIT OR Apache-2.0
 use Rattle.std.proofs.Common.{ℕ, List, ap, sym, subst}
 use Rattle.ffa_model.specs.TraceText.{outcome_words, outcome_text}
 use Rattle.ffa_model.specs.declared.operation.Op.{Op}

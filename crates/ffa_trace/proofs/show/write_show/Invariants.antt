@@ -1,3 +1,4 @@
+-- SPDX-License-Identifier: MIT OR Apache-2.0
 use Rattle.std.proofs.Common.{◌≤◌}
 use Rattle.ffa_trace.proofs.ShowRuns.{Showing}
 use Rattle.ffa_trace.proofs.show.write_show.Given as goal

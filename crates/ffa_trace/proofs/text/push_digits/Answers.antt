@@ -1,3 +1,4 @@
+-- SPDX-License-Identifier: MIT OR Apache-2.0
 use Rattle.std.proofs.Common.{◌∙◌, ◌++◌, ap}
 use Rattle.ffa_trace.proofs.TextDigits.{rest_of_all}
 use Rattle.ffa_trace.proofs.text.push_digits.Goals as goal

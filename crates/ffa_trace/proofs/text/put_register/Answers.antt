@@ -1,3 +1,4 @@
+-- SPDX-License-Identifier: MIT OR Apache-2.0
 use Rattle.std.proofs.Common.{◌+◌, ◌++◌, ◌∙◌, take, drop, ap}
 use Rattle.ffa_trace.proofs.text.put_register.Goals as goal
 

@@ -1,3 +1,4 @@
+-- SPDX-License-Identifier: MIT OR Apache-2.0
 use Rattle.std.proofs.Common.{◌∙◌, ap, arith}
 use Rattle.ffa_model.specs.TraceText.{digit}
 use Rattle.ffa_trace.proofs.TextDigits.{pair_high, pair_low, digit_high, digit_low}

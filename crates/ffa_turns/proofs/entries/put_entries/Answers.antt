@@ -1,3 +1,4 @@
+-- SPDX-License-Identifier: MIT OR Apache-2.0
 use Rattle.std.proofs.Common.{arith}
 use Rattle.ffa_turns.proofs.Growing.{grows_none, grows_more}
 use Rattle.ffa_turns.proofs.entries.put_entries.Goals as goal

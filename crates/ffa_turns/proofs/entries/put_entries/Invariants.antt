@@ -1,3 +1,4 @@
+-- SPDX-License-Identifier: MIT OR Apache-2.0
 use Rattle.std.proofs.Common.{◌-◌, ◌≤◌}
 use Rattle.ffa_turns.specs.Traces.{GrowsByLines}
 use Rattle.ffa_turns.proofs.entries.put_entries.Given as goal

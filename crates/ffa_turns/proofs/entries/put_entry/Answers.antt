@@ -1,3 +1,4 @@
+-- SPDX-License-Identifier: MIT OR Apache-2.0
 use Rattle.std.proofs.Common.{codes}
 use Rattle.ffa_turns.proofs.Growing.{grown_line, show_good, audit_good}
 use Rattle.ffa_turns.proofs.entries.put_entry.Goals as goal

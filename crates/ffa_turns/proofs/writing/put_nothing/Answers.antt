@@ -1,3 +1,4 @@
+-- SPDX-License-Identifier: MIT OR Apache-2.0
 use Rattle.std.proofs.Common.{codes}
 use Rattle.ffa_turns.proofs.Growing.{one_line, nothing_good}
 use Rattle.ffa_turns.proofs.writing.put_nothing.Goals as goal

@@ -1,3 +1,4 @@
+-- SPDX-License-Identifier: MIT OR Apache-2.0
 use Rattle.std.proofs.Common.{arith, rules}
 use Rattle.ffa_turns.proofs.Growing.{wrote_first, wrote_next}
 use Rattle.ffa_turns.proofs.writing.write_turns.Goals as goal

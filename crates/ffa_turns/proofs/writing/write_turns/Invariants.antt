@@ -1,3 +1,4 @@
+-- SPDX-License-Identifier: MIT OR Apache-2.0
 use Rattle.std.proofs.Common.{◌-◌, ◌≤◌}
 use Rattle.ffa_turns.specs.Traces.{Wrote}
 use Rattle.ffa_turns.proofs.writing.write_turns.Given as goal

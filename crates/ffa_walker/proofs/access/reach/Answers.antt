@@ -1,3 +1,4 @@
+-- SPDX-License-Identifier: MIT OR Apache-2.0
 use Rattle.std.proofs.Common.{arith}
 use Rattle.ffa_walker.proofs.Offsets.{same_alignment}
 use Rattle.ffa_walker.proofs.access.reach.Goals as goal

@@ -1,3 +1,4 @@
+-- SPDX-License-Identifier: MIT OR Apache-2.0
 use Rattle.std.proofs.Common.{◌≡◌, drop}
 use Rattle.ffa_model.specs.Certified.{are_in_order}
 use Rattle.ffa_walker.proofs.certification.are_in_order.Given as goal

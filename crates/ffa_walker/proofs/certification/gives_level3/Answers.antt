@@ -1,3 +1,4 @@
+-- SPDX-License-Identifier: MIT OR Apache-2.0
 use Rattle.std.proofs.Common.{sym, arith}
 use Rattle.ffa_walker.proofs.Levels.{level3-none, level3-page}
 use Rattle.ffa_walker.proofs.Spans.{like, nothing, through}

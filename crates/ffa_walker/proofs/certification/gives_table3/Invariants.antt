@@ -1,3 +1,4 @@
+-- SPDX-License-Identifier: MIT OR Apache-2.0
 use Rattle.std.proofs.Common.{◌≡◌, ℕ, ◌+◌, ◌-◌, ◌*◌, ◌/◌, ◌^◌, ◌≤◌}
 use Rattle.ffa_walker.specs.Spans.{AreCertified, from_table3}
 use Rattle.ffa_model.specs.Certified.{access_in}

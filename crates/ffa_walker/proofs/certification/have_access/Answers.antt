@@ -1,3 +1,4 @@
+-- SPDX-License-Identifier: MIT OR Apache-2.0
 use Rattle.std.proofs.Common.{◌≡◌, ◌∙◌, ℕ, ◌+◌, ◌-◌, ◌*◌, ◌/◌, ◌≤◌, true, sym, ap, subst, arith}
 use Rattle.std.specs.Prelude.{◌↔◌, is_some, max, min}
 use Rattle.std.proofs.lemmas.Bool.{false≢true}

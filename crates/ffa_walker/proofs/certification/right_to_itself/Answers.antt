@@ -1,3 +1,4 @@
+-- SPDX-License-Identifier: MIT OR Apache-2.0
 use Rattle.std.proofs.Common.{◌∙◌, sym}
 use Rattle.ffa_walker.proofs.Spans.{no-leaf}
 use Rattle.ffa_walker.proofs.certification.right_to_itself.Goals as goal

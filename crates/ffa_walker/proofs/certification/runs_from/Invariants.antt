@@ -1,3 +1,4 @@
+-- SPDX-License-Identifier: MIT OR Apache-2.0
 use Rattle.std.proofs.Common.{◌≡◌, ℕ, ◌-◌, ◌≤◌, drop, length}
 use Rattle.ffa_model.specs.Certified.{access_in}
 use Rattle.ffa_walker.proofs.certification.runs_from.Given as goal

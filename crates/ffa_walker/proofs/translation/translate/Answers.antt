@@ -1,3 +1,4 @@
+-- SPDX-License-Identifier: MIT OR Apache-2.0
 use Rattle.std.proofs.Common.{subst, sym}
 use Rattle.ffa_walker.specs.Offset.{KeepsOffset}
 use Rattle.ffa_walker.proofs.Offsets.{KeepsOffset-from_level1}

@@ -1,3 +1,4 @@
+-- SPDX-License-Identifier: MIT OR Apache-2.0
 use Rattle.std.proofs.Common.{arith, ◌∙◌, sym}
 use Rattle.ffa_words.proofs.Digits.{digit_below, fits_more, no_digit, one_more}
 use Rattle.ffa_words.proofs.parts.digits.Goals as goal

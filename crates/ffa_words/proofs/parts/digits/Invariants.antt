@@ -1,3 +1,4 @@
+-- SPDX-License-Identifier: MIT OR Apache-2.0
 use Rattle.ffa_words.proofs.Digits.{Written}
 use Rattle.ffa_words.proofs.parts.digits.Given as goal
 

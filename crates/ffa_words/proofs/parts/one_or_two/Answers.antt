@@ -1,3 +1,4 @@
+-- SPDX-License-Identifier: MIT OR Apache-2.0
 use Rattle.ffa_words.proofs.Marks.{too_many_parts}
 use Rattle.ffa_words.proofs.parts.one_or_two.Goals as goal
 

@@ -1,3 +1,4 @@
+-- SPDX-License-Identifier: MIT OR Apache-2.0
 use Rattle.std.proofs.Common.{ap, sym, ◌∙◌}
 use Rattle.ffa_model.specs.Access.{access}
 use Rattle.ffa_c.specs.Boarded.{Boarded, boarded}

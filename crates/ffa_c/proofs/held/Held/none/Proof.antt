@@ -1,3 +1,4 @@
+-- SPDX-License-Identifier: MIT OR Apache-2.0
 -- `none` owns nothing.
 use Rattle.ffa_lent.proofs.Steps.{[], ◌∷◌, None, refl, lit<, ftrue, proved, ‵, ◌⊛◌, ◌$◌, ◌∵◌, !, qed, done, drop, join, suffices, group, enter, lit, no_more, and_then, returns, alloc_all, pass_all, free_all, look_at, get, sets, agg, yes, null_ptr, owns, plain, nothing, Stays, walk_of, says, stay_dropped, Goes-blank, ends_at}
 use Rattle.std.proofs.Handle.{heap_val, heap_Tells}

@@ -1,3 +1,4 @@
+-- SPDX-License-Identifier: MIT OR Apache-2.0
 -- `close` hands on what the box owns.
 use Rattle.ffa_lent.proofs.Steps.{[], ◌∷◌, ◌++◌, List, Some, ap, ◌∙◌, refl, ftrue, proved_at, tables, WpFn, ‵, ◌⊛◌, prop, ◌$◌, ◌∵◌, !, qed, done, move, keep, drop, split, fsplit, join, regoal, suffices, group, enter, of_opd, stop, fld, no_more, and_then, returns, alloc_all, pass_all, free_all, look_at, get, get_in, sets, lands_as, agg, sub, whole, yes, block_ptr, Val, vptr, vstruct, of_list, owns, plain, nothing, peeks, Is, shows, glues, ⊑_refl, calls_at, triple_of, framed, handle_tells, Stays, walk_of, says, stay_dropped, Goes-blank, ends_at}
 use Rattle.ffa_lent.proofs.BoxCalls.{Parts, at_parts, parts_in, parts_out}

@@ -1,3 +1,4 @@
+-- SPDX-License-Identifier: MIT OR Apache-2.0
 -- `open` hands on what the pointer owns.
 use Rattle.ffa_lent.proofs.Steps.{[], ◌∷◌, Some, IsSome, ap, sym, ◌∙◌, refl, ftrue, proved, fact, tables, WpFn, ‵, raw, ◌⊛◌, prop, at_ret, ◌$◌, ◌∵◌, !, qed, done, move, keep, drop, split, fsplit, join, regoal, suffices, group, enter, of_opd, stop, fld, no_more, and_then, first, blocks, exec, returns, alloc_all, pass_all, free_all, look_at, get, get_in, sets, lands_last, env, sub, whole, yes, ptr_val, block_ptr, vstruct, of_list, owns, plain, nothing, owned, peeks, heard, Is, shows, makes, glues, ⊑_refl, calls_at_last, framed, Stays, walk_of, says, stay_dropped, Goes-dropped, ends_at}
 use Rattle.ffa_lent.proofs.BoxCalls.{Joins, at_joins, joins_in, joins_out}

@@ -1,3 +1,4 @@
+-- SPDX-License-Identifier: MIT OR Apache-2.0
 -- `close` hands on what the box owns.
 use Rattle.ffa_lent.proofs.Steps.{[], ◌∷◌, ◌++◌, List, Some, refl, proved_at, ftrue, Val, tables, WpFn, ‵, ◌⊛◌, prop, ◌$◌, ◌∵◌, !, qed, done, move, keep, drop, split, fsplit, join, regoal, suffices, group, enter, of_opd, stop, fld, no_more, and_then, returns, alloc_all, pass_all, free_all, look_at, get, get_in, sets, agg, sub, whole, yes, block_ptr, owns, plain, nothing, calls_at, framed, Stays, walk_of, says, stay_dropped, Goes-blank, ends_at, handle_tells, glues, ⊑_refl, vptr, vstruct, of_list, Is, shows, peeks, lands_as, ap, ◌∙◌}
 use Rattle.std.proofs.boxed.Box.into_raw_with_allocator.Met.{met}

@@ -1,3 +1,4 @@
+-- SPDX-License-Identifier: MIT OR Apache-2.0
 -- `open` hands on what the slot owns.
 use Rattle.ffa_lent.proofs.Steps.{[], ◌∷◌, Some, IsSome, ap, sym, ◌∙◌, refl, proved, ftrue, fact, tables, WpFn, ‵, raw, ◌⊛◌, prop, ◌$◌, ◌∵◌, !, qed, done, move, keep, drop, split, fsplit, join, regoal, suffices, group, enter, of_opd, stop, fld, no_more, and_then, returns, first, blocks, alloc_all, pass_all, free_all, look_at, get, get_in, sets, sub, whole, yes, ptr_val, owns, plain, nothing, heard, framed, Stays, walk_of, says, stay_dropped, Goes-dropped, ends_at, vstruct, of_list, glues, lands_last, env, at_ret, exec, Is, shows, makes, calls_at_last, ⊑_refl, block_ptr, owned, peeks}
 use Rattle.std.proofs.boxed.Box.from_raw.Met.{met}

@@ -1,3 +1,4 @@
+-- SPDX-License-Identifier: MIT OR Apache-2.0
 use Rattle.std.proofs.Common.{◌∙◌, ap}
 use Rattle.ffa_memshare.specs.Held.{held_in}
 use Rattle.ffa_memshare.proofs.HeldByPlace.{held-nobody}

@@ -1,3 +1,4 @@
+-- SPDX-License-Identifier: MIT OR Apache-2.0
 use Rattle.std.proofs.Common.{◌∙◌, sym, ap, arith}
 use Rattle.ffa_memshare.specs.Held.{held_in, held_with}
 use Rattle.ffa_model.proofs.Written.{refill-set}

@@ -1,3 +1,4 @@
+-- SPDX-License-Identifier: MIT OR Apache-2.0
 use Rattle.std.proofs.Common.{◌∙◌, ◌≤◌, take, sym, ap, arith}
 use Rattle.ffa_model.specs.Ram.{page_of}
 use Rattle.ffa_rxtx.proofs.Runs.{front-run}

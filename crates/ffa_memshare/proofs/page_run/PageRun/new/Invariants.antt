@@ -1,3 +1,4 @@
+-- SPDX-License-Identifier: MIT OR Apache-2.0
 use Rattle.std.proofs.Common.{◌≡◌, ◌+◌, ◌<◌, ℕ, length}
 use Rattle.ffa_model.specs.Ram.{page_of}
 use Rattle.ffa_memshare.proofs.page_run.PageRun.new.Given as goal

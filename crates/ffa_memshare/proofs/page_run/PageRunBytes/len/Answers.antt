@@ -1,3 +1,4 @@
+-- SPDX-License-Identifier: MIT OR Apache-2.0
 use Rattle.std.proofs.Common.{◌∙◌, length, sym, ap}
 use Rattle.ffa_model.specs.Ram.{page_of}
 use Rattle.ffa_rxtx.proofs.Runs.{length-front}

@@ -1,3 +1,4 @@
+-- SPDX-License-Identifier: MIT OR Apache-2.0
 use Rattle.std.proofs.Common.{◌≡◌, ◌∙◌, of_calls, Bool, Option, Some, Err, sym, ap}
 use Rattle.std.specs.FinMap as finite
 use Rattle.arrayvec.specs.ArrayVec.{array_vec_len}

@@ -1,3 +1,4 @@
+-- SPDX-License-Identifier: MIT OR Apache-2.0
 use Rattle.std.proofs.Common.{ℕ, None, subst}
 use Rattle.std.specs.Prelude.{Bool}
 use Rattle.arrayvec.specs.ArrayVec.{array_vec_len}

@@ -1,3 +1,4 @@
+-- SPDX-License-Identifier: MIT OR Apache-2.0
 use Rattle.std.proofs.Common.{◌≡◌, rules, sym}
 use Rattle.ffa_model.specs.Transactions.{ceiling}
 use Rattle.ffa_memshare.specs.Named.{own_rights_in}

@@ -1,3 +1,4 @@
+-- SPDX-License-Identifier: MIT OR Apache-2.0
 use Rattle.ffa_messages.proofs.Headers.{header_of_numbers}
 use Rattle.ffa_messages.proofs.indirect.MessageHeader.read.Goals as goal
 

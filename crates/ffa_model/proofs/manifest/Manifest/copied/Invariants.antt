@@ -1,3 +1,4 @@
+-- SPDX-License-Identifier: MIT OR Apache-2.0
 use Rattle.std.proofs.Common.{◌≡◌, true, take}
 use Rattle.ffa_model.specs.Endpoints.{have_uuids}
 use Rattle.ffa_model.proofs.manifest.Manifest.copied.Given as goal

@@ -1,3 +1,4 @@
+-- SPDX-License-Identifier: MIT OR Apache-2.0
 use Rattle.std.proofs.Common.{◌≡◌, ◌∙◌, ℕ, ◌+◌, List, ◌∷◌, drop, is_some, sym, ap}
 use Rattle.std.proofs.lemmas.List.{drop_more}
 use Rattle.ffa_model.specs.declared.endpoint.Endpoint.{Endpoint}

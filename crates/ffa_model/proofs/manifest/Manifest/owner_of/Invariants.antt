@@ -1,3 +1,4 @@
+-- SPDX-License-Identifier: MIT OR Apache-2.0
 use Rattle.std.proofs.Common.{◌≡◌, drop}
 use Rattle.ffa_model.proofs.Owners.{owner_from}
 use Rattle.ffa_model.proofs.manifest.Manifest.owner_of.Given as goal

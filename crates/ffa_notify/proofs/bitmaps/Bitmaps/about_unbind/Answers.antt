@@ -1,3 +1,4 @@
+-- SPDX-License-Identifier: MIT OR Apache-2.0
 use Rattle.std.proofs.Common.{◌∙◌, ap, length, sym}
 use Rattle.ffa_model.specs.AboutContents.{about_unbind}
 use Rattle.ffa_model.specs.Notifications.{is_unbindable}

@@ -1,3 +1,4 @@
+-- SPDX-License-Identifier: MIT OR Apache-2.0
 use Rattle.ffa_notify.proofs.Views.{bound-changed, bound-within}
 use Rattle.ffa_notify.proofs.bitmaps.Bitmaps.bind_bits.Goals as goal
 

@@ -1,3 +1,4 @@
+-- SPDX-License-Identifier: MIT OR Apache-2.0
 use Rattle.ffa_notify.proofs.Views.{bound-read, bound-within}
 use Rattle.ffa_notify.proofs.bitmaps.Bitmaps.bound_to.Goals as goal
 

@@ -1,3 +1,4 @@
+-- SPDX-License-Identifier: MIT OR Apache-2.0
 use Rattle.ffa_notify.proofs.Views.{asked-taken}
 use Rattle.ffa_notify.proofs.bitmaps.Bitmaps.clear_asked.Goals as goal
 

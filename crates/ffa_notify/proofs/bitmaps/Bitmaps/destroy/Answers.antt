@@ -1,3 +1,4 @@
+-- SPDX-License-Identifier: MIT OR Apache-2.0
 use Rattle.ffa_model.specs.Notifications.{destroy_guards}
 use Rattle.ffa_model.proofs.Guards.{answers-code, answers-pass}
 use Rattle.ffa_notify.proofs.bitmaps.Bitmaps.destroy.Goals as goal

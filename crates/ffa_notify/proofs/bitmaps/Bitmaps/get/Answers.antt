@@ -1,3 +1,4 @@
+-- SPDX-License-Identifier: MIT OR Apache-2.0
 use Rattle.std.proofs.Common.{rules}
 use Rattle.ffa_model.specs.Notifications.{get_guards}
 use Rattle.ffa_model.proofs.Guards.{answers-code, answers-pass}

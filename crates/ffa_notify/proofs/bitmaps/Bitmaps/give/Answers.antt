@@ -1,3 +1,4 @@
+-- SPDX-License-Identifier: MIT OR Apache-2.0
 use Rattle.std.proofs.Common.{true}
 use Rattle.ffa_notify.proofs.Views.{has-changed, has-within}
 use Rattle.ffa_notify.proofs.bitmaps.Bitmaps.give.Goals as goal

@@ -1,3 +1,4 @@
+-- SPDX-License-Identifier: MIT OR Apache-2.0
 use Rattle.ffa_model.specs.Notifications.{manager_class, normal_class, partition_class}
 use Rattle.ffa_notify.proofs.Tests.{some-of-three, some-pending}
 use Rattle.ffa_notify.proofs.bitmaps.Bitmaps.has_pending.Goals as goal

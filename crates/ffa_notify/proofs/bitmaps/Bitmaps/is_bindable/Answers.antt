@@ -1,3 +1,4 @@
+-- SPDX-License-Identifier: MIT OR Apache-2.0
 use Rattle.std.proofs.Common.{length}
 use Rattle.ffa_model.specs.Notifications.{is_bindable}
 use Rattle.ffa_notify.proofs.Bits.{all_bits}

@@ -1,3 +1,4 @@
+-- SPDX-License-Identifier: MIT OR Apache-2.0
 use Rattle.ffa_model.specs.Notifications.{is_unbindable}
 use Rattle.ffa_notify.proofs.Bits.{all_bits}
 use Rattle.ffa_notify.proofs.bitmaps.Bitmaps.is_unbindable.Goals as goal

@@ -1,3 +1,4 @@
+-- SPDX-License-Identifier: MIT OR Apache-2.0
 use Rattle.std.proofs.Common.{◌∙◌, ap, length}
 use Rattle.ffa_model.specs.Notifications.{is_pending}
 use Rattle.ffa_notify.proofs.Tests.{not-bindable}

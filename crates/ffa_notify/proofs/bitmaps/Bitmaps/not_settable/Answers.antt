@@ -1,3 +1,4 @@
+-- SPDX-License-Identifier: MIT OR Apache-2.0
 use Rattle.ffa_notify.proofs.Tests.{not-settable}
 use Rattle.ffa_notify.proofs.bitmaps.Bitmaps.not_settable.Goals as goal
 

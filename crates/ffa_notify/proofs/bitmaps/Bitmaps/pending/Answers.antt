@@ -1,3 +1,4 @@
+-- SPDX-License-Identifier: MIT OR Apache-2.0
 use Rattle.std.proofs.Common.{◌<◌, subst}
 use Rattle.ffa_notify.specs.Stored.{class_number}
 use Rattle.ffa_notify.proofs.Views.{pending-read, pending-within}

@@ -1,3 +1,4 @@
+-- SPDX-License-Identifier: MIT OR Apache-2.0
 use Rattle.std.proofs.Common.{length}
 use Rattle.ffa_model.specs.Notifications.{set_guards}
 use Rattle.ffa_model.proofs.Guards.{answers-code, answers-pass}

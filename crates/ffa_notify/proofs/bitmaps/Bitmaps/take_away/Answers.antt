@@ -1,3 +1,4 @@
+-- SPDX-License-Identifier: MIT OR Apache-2.0
 use Rattle.ffa_notify.proofs.Views.{taken-away}
 use Rattle.ffa_notify.proofs.bitmaps.Bitmaps.take_away.Goals as goal
 

@@ -1,3 +1,4 @@
+-- SPDX-License-Identifier: MIT OR Apache-2.0
 use Rattle.std.proofs.Common.{◌∙◌}
 use Rattle.ffa_pages.proofs.Kept.{entries_of-none}
 use Rattle.ffa_pages.proofs.table.PageTable.fill.Goals as goal

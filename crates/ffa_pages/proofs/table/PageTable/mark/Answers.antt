@@ -1,3 +1,4 @@
+-- SPDX-License-Identifier: MIT OR Apache-2.0
 use Rattle.std.proofs.Common.{◌∙◌, Option, ap, slice_set}
 use Rattle.std.specs.Option.{option_map}
 use Rattle.ffa_pages.specs.Entry.{Entry}

@@ -1,3 +1,4 @@
+-- SPDX-License-Identifier: MIT OR Apache-2.0
 use Rattle.std.proofs.Common.{rules}
 use Rattle.ffa_pages.proofs.table.PageTable.own_right_of.Goals as goal
 

@@ -1,3 +1,4 @@
+-- SPDX-License-Identifier: MIT OR Apache-2.0
 use Rattle.std.proofs.Common.{◌∙◌, List, Option, ap, slice_set}
 use Rattle.ffa_model.proofs.Written.{map-refill-set}
 use Rattle.ffa_pages.specs.Entry.{Entry}

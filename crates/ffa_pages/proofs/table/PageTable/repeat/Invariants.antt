@@ -1,3 +1,4 @@
+-- SPDX-License-Identifier: MIT OR Apache-2.0
 use Rattle.std.proofs.Common.{◌≡◌, ℕ, ◌<◌, ◌≤◌, ◌⊎◌, length}
 use Rattle.ffa_pages.specs.Entry.{entry_at}
 use Rattle.ffa_pages.specs.Stored.{entry_of}

@@ -1,3 +1,4 @@
+-- SPDX-License-Identifier: MIT OR Apache-2.0
 use Rattle.std.proofs.Common.{ap, ◌∙◌}
 use Rattle.ffa_perform.proofs.Performs.{unread_yet}
 use Rattle.ffa_perform.proofs.commands.playing.buffered.Goals as goal

@@ -1,3 +1,4 @@
+-- SPDX-License-Identifier: MIT OR Apache-2.0
 use Rattle.std.proofs.Common.{subst, sym, Some}
 use Rattle.ffa_lines.specs.Followed.{NeverPrints}
 use Rattle.ffa_lines.specs.Forms.{plain}

@@ -1,3 +1,4 @@
+-- SPDX-License-Identifier: MIT OR Apache-2.0
 use Rattle.std.proofs.Common.{subst, sym}
 use Rattle.ffa_perform.specs.Performed.{IsUnmet, PlayFails, failure_of}
 use Rattle.ffa_perform.specs.declared.commands.failure.Failure.TheVariants.{Read}

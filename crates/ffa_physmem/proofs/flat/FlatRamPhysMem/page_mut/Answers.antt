@@ -1,3 +1,4 @@
+-- SPDX-License-Identifier: MIT OR Apache-2.0
 use Rattle.std.proofs.Common.{◌∙◌, [], refl}
 use Rattle.std.proofs.lemmas.List.{get_or_default}
 use Rattle.ffa_physmem.proofs.Pieces.{with_page-there}

@@ -1,3 +1,4 @@
+-- SPDX-License-Identifier: MIT OR Apache-2.0
 use Rattle.std.proofs.Common.{◌∙◌, refl, sym}
 use Rattle.ffa_physmem.proofs.Boxes.{page_of-there, with_frame-there}
 use Rattle.ffa_physmem.proofs.frames.FrameRamPhysMem.page_mut.Goals as goal

@@ -1,3 +1,4 @@
+-- SPDX-License-Identifier: MIT OR Apache-2.0
 use Rattle.std.proofs.Common.{refl}
 use Rattle.std.proofs.lemmas.Bool.Decides.{Decides-at, Decides-not}
 use Rattle.std.proofs.lemmas.Slice.Eq.{slice_eq-Decides}

@@ -1,3 +1,4 @@
+-- SPDX-License-Identifier: MIT OR Apache-2.0
 use Rattle.std.proofs.Common.{rules}
 use Rattle.ffa_rxtx.proofs.buffers.Buffers.check_release.Goals as goal
 

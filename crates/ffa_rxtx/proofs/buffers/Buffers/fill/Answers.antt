@@ -1,3 +1,4 @@
+-- SPDX-License-Identifier: MIT OR Apache-2.0
 use Rattle.std.proofs.Common.{◌∙◌, ◌++◌, ℕ, List, Option, drop, length, ap, subst, sym}
 use Rattle.std.specs.Prelude.{IsSomeAnd}
 use Rattle.ffa_model.specs.Ram.{with_page}

@@ -1,3 +1,4 @@
+-- SPDX-License-Identifier: MIT OR Apache-2.0
 use Rattle.ffa_model.specs.Buffers.{buffers_in, unmap_guards}
 use Rattle.ffa_model.proofs.Guards.{answers-code, answers-pass}
 use Rattle.ffa_rxtx.proofs.buffers.Buffers.unmap.Goals as goal

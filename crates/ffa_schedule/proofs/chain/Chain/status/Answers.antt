@@ -1,3 +1,4 @@
+-- SPDX-License-Identifier: MIT OR Apache-2.0
 use Rattle.std.proofs.Common.{◌∙◌, true, false, refl, sym, arith}
 use Rattle.ffa_schedule.proofs.Steps.{status-other, status-past, status-runner}
 use Rattle.ffa_schedule.proofs.chain.Chain.status.Goals as goal

@@ -1,3 +1,4 @@
+-- SPDX-License-Identifier: MIT OR Apache-2.0
 use Rattle.ffa_schedule.proofs.Steps.{yields}
 use Rattle.ffa_schedule.proofs.chain.Chain.yield_now.Goals as goal
 

@@ -1,3 +1,4 @@
+-- SPDX-License-Identifier: MIT OR Apache-2.0
 use Rattle.ffa_spmc.proofs.Boots.{zeros-of}
 use Rattle.ffa_spmc.proofs.machine.Machine.boot_with.Goals as goal
 

@@ -1,3 +1,4 @@
+-- SPDX-License-Identifier: MIT OR Apache-2.0
 use Rattle.std.proofs.Common.{◌≡◌, ◌∙◌, false, true, sym, ap, subst}
 use Rattle.ffa_model.specs.declared.operation.Op.TheVariants.{Call}
 use Rattle.ffa_model.specs.State.{State, is_known}

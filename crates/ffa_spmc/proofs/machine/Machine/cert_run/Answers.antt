@@ -1,3 +1,4 @@
+-- SPDX-License-Identifier: MIT OR Apache-2.0
 use Rattle.std.proofs.Common.{sym, subst}
 use Rattle.ffa_model.specs.Certificate.{IsRun, run_from}
 use Rattle.ffa_model.proofs.Certificates.{run-is}

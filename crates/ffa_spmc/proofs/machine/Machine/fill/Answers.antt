@@ -1,3 +1,4 @@
+-- SPDX-License-Identifier: MIT OR Apache-2.0
 use Rattle.std.proofs.Common.{◌∙◌, ℕ, sym, ap, subst}
 use Rattle.std.specs.Option.{option_map}
 use Rattle.ffa_model.specs.declared.endpoint.PageNo.{PageNo}

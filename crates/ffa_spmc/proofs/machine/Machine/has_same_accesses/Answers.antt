@@ -1,3 +1,4 @@
+-- SPDX-License-Identifier: MIT OR Apache-2.0
 use Rattle.std.proofs.Common.{◌∙◌, ℕ, sym, ap, ap₂, arith}
 use Rattle.ffa_model.specs.Identifiers.{identifier}
 use Rattle.ffa_model.specs.Access.{access}

@@ -1,3 +1,4 @@
+-- SPDX-License-Identifier: MIT OR Apache-2.0
 use Rattle.std.proofs.Common.{◌∙◌, refl, sym, arith}
 use Rattle.ffa_spmc.proofs.Certificates.{run_ends, run_goes_on, run_stops}
 use Rattle.ffa_spmc.proofs.machine.Machine.last_from.Goals as goal

@@ -1,3 +1,4 @@
+-- SPDX-License-Identifier: MIT OR Apache-2.0
 use Rattle.std.proofs.Common.{◌≡◌, ◌+◌, ◌-◌, ◌<◌, length}
 use Rattle.ffa_model.specs.Certificate.{last_from}
 use Rattle.ffa_spmc.proofs.machine.Machine.last_from.Given as goal

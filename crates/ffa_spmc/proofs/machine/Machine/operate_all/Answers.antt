@@ -1,3 +1,4 @@
+-- SPDX-License-Identifier: MIT OR Apache-2.0
 use Rattle.std.proofs.Common.{◌∙◌, ◌<◌, length, ap, arith}
 use Rattle.ffa_model.specs.Refusals.{is_refusal}
 use Rattle.ffa_spmc.proofs.Chains.{one-more, outcomes-more, state-more}

@@ -1,3 +1,4 @@
+-- SPDX-License-Identifier: MIT OR Apache-2.0
 use Rattle.std.proofs.Common.{◌≡◌, ◌++◌, take, drop}
 use Rattle.ffa_model.specs.Step.{outcomes, state_after}
 use Rattle.ffa_spmc.specs.Operated.{AreOperated}

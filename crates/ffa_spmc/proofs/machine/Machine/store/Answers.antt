@@ -1,3 +1,4 @@
+-- SPDX-License-Identifier: MIT OR Apache-2.0
 use Rattle.std.proofs.Common.{◌∙◌, ℕ, refl, sym, ap, subst}
 use Rattle.ffa_spmc.specs.Cached.{missed_page}
 use Rattle.ffa_spmc.specs.Caching.{IsCached}

@@ -1,3 +1,4 @@
+-- SPDX-License-Identifier: MIT OR Apache-2.0
 use Rattle.std.proofs.Common.{◌≡◌, ◌∙◌, Option, is_some, ap, sym, subst}
 use Rattle.std.specs.Prelude.{IfSome}
 use Rattle.ffa_model.specs.declared.why.Why.{Why}

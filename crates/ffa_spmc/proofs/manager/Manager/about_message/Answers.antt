@@ -1,3 +1,4 @@
+-- SPDX-License-Identifier: MIT OR Apache-2.0
 use Rattle.std.proofs.Common.{◌∙◌}
 use Rattle.ffa_model.specs.AboutContents.{about_message}
 use Rattle.ffa_model.specs.Messages.{header_in, tx_bytes}

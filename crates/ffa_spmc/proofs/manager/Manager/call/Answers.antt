@@ -1,3 +1,4 @@
+-- SPDX-License-Identifier: MIT OR Apache-2.0
 use Rattle.std.proofs.Common.{◌∙◌, ap}
 use Rattle.ffa_model.specs.Refusals.{passes_no_error}
 use Rattle.ffa_model.proofs.Named.{decode-named}

@@ -1,3 +1,4 @@
+-- SPDX-License-Identifier: MIT OR Apache-2.0
 use Rattle.std.proofs.Common.{◌∙◌, sym}
 use Rattle.ffa_model.specs.Setup.{uuid_bytes}
 use Rattle.ffa_spmc.proofs.Information.{info-unknown, info-count, info-unmapped, info-full, info-ready}

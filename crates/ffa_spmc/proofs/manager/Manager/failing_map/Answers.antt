@@ -1,3 +1,4 @@
+-- SPDX-License-Identifier: MIT OR Apache-2.0
 use Rattle.std.proofs.Common.{◌∙◌}
 use Rattle.ffa_model.specs.State.{State}
 use Rattle.ffa_model.specs.About.{failing_map}

@@ -1,3 +1,4 @@
+-- SPDX-License-Identifier: MIT OR Apache-2.0
 use Rattle.std.proofs.Common.{◌∙◌, sym, ap, refl, Ok, Err}
 use Rattle.ffa_model.specs.declared.operation.Outcome.TheVariants.{Data}
 use Rattle.ffa_model.specs.Reach.{may_execute}

@@ -1,3 +1,4 @@
+-- SPDX-License-Identifier: MIT OR Apache-2.0
 use Rattle.std.proofs.Common.{◌∙◌, List, true, false, refl, sym, ap, subst}
 use Rattle.std.specs.Prelude.{Option}
 use Rattle.ffa_model.specs.Buffers.{buffers_with_rx}

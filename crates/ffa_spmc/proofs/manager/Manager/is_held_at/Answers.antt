@@ -1,3 +1,4 @@
+-- SPDX-License-Identifier: MIT OR Apache-2.0
 use Rattle.std.proofs.Common.{◌∙◌, ◌<◌, ℕ, length, Option, sym, ap, subst}
 use Rattle.ffa_model.specs.Access.{is_held_by, transaction_at}
 use Rattle.ffa_model.specs.State.{Transaction}

@@ -1,3 +1,4 @@
+-- SPDX-License-Identifier: MIT OR Apache-2.0
 use Rattle.std.proofs.Common.{◌∙◌, ℕ, length, ap, sym}
 use Rattle.std.specs.Prelude.{nat_lt}
 use Rattle.ffa_spmc.specs.Managed.{Managed}

@@ -1,3 +1,4 @@
+-- SPDX-License-Identifier: MIT OR Apache-2.0
 use Rattle.std.proofs.Common.{◌∙◌, true, sym, refl, Ok, Err}
 use Rattle.ffa_model.specs.Memory.{size_of}
 use Rattle.ffa_model.specs.Reach.{may_load}

@@ -1,3 +1,4 @@
+-- SPDX-License-Identifier: MIT OR Apache-2.0
 use Rattle.std.proofs.Common.{◌∙◌, ◌<◌, ℕ, length, sym, ap, subst}
 use Rattle.ffa_model.specs.State.{owner_of}
 use Rattle.ffa_spmc.specs.Managed.{Managed}

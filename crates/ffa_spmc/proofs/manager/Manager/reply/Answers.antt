@@ -1,3 +1,4 @@
+-- SPDX-License-Identifier: MIT OR Apache-2.0
 use Rattle.std.proofs.Common.{refl}
 use Rattle.ffa_spmc.proofs.Replied.{answered-beside}
 use Rattle.ffa_spmc.proofs.manager.Manager.reply.Goals as goal

@@ -1,3 +1,4 @@
+-- SPDX-License-Identifier: MIT OR Apache-2.0
 use Rattle.std.proofs.Common.{◌∙◌, ap, sym}
 use Rattle.ffa_model.specs.State.{State, version_of}
 use Rattle.ffa_spmc.specs.Managed.{Managed}

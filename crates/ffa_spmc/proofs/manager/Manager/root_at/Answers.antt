@@ -1,3 +1,4 @@
+-- SPDX-License-Identifier: MIT OR Apache-2.0
 use Rattle.std.proofs.Common.{◌≡◌, ◌∙◌, ℕ, ◌<◌, true, length, sym, ap, subst}
 use Rattle.ffa_model.specs.Agreement.{root}
 use Rattle.ffa_model.specs.Manifest.{root_of}

@@ -1,3 +1,4 @@
+-- SPDX-License-Identifier: MIT OR Apache-2.0
 use Rattle.std.proofs.Common.{◌∙◌, sym, Ok, Err}
 use Rattle.ffa_spmc.proofs.Accesses.{answer-stored, machine-stored, offset-kept, state-stored, unowned-stored}
 use Rattle.ffa_spmc.proofs.Inside.{parts_of}

@@ -1,3 +1,4 @@
+-- SPDX-License-Identifier: MIT OR Apache-2.0
 use Rattle.std.proofs.Common.{◌∙◌, ℕ, ap}
 use Rattle.ffa_model.specs.Agreement.{root}
 use Rattle.ffa_model.specs.Identifiers.{place}

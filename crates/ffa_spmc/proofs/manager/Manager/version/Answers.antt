@@ -1,3 +1,4 @@
+-- SPDX-License-Identifier: MIT OR Apache-2.0
 use Rattle.std.proofs.Common.{◌≡◌, ◌∙◌, ℕ, true, subst}
 use Rattle.ffa_model.specs.State.{is_known_among}
 use Rattle.ffa_spmc.proofs.Fills.{runner-there}

@@ -1,3 +1,4 @@
+-- SPDX-License-Identifier: MIT OR Apache-2.0
 use Rattle.std.proofs.Common.{◌∙◌, sym}
 use Rattle.ffa_model.specs.declared.call.Call.TheVariants.{MsgWait}
 use Rattle.ffa_spmc.proofs.Fills.{known-buffered, runner-there}

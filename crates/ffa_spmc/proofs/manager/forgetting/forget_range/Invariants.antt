@@ -1,3 +1,4 @@
+-- SPDX-License-Identifier: MIT OR Apache-2.0
 use Rattle.std.proofs.Common.{◌≤◌}
 use Rattle.ffa_memshare.specs.Ranges.{first_page}
 use Rattle.ffa_memshare.proofs.Places.{between}

@@ -1,3 +1,4 @@
+-- SPDX-License-Identifier: MIT OR Apache-2.0
 use Rattle.std.proofs.Common.{take}
 use Rattle.ffa_memshare.specs.Ranges.{in_ranges}
 use Rattle.ffa_spmc.specs.Caching.{AreOut}

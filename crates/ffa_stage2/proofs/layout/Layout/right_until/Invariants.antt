@@ -1,3 +1,4 @@
+-- SPDX-License-Identifier: MIT OR Apache-2.0
 use Rattle.std.proofs.Common.{◌≡◌, ℕ, ◌<◌, ◌≤◌}
 use Rattle.ffa_stage2.specs.Layout.{layout_right}
 use Rattle.ffa_stage2.proofs.layout.Layout.right_until.Given as goal

@@ -1,3 +1,4 @@
+-- SPDX-License-Identifier: MIT OR Apache-2.0
 use Rattle.std.proofs.Common.{arith, ◌<◌, ◌%◌, length, sym, subst}
 use Rattle.ffa_tlb.specs.Lookups.{IsForgotten}
 use Rattle.ffa_tlb.specs.Slots.{Slotted, entries_of}
