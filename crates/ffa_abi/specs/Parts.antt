@@ -1,4 +1,5 @@
 -- SPDX-License-Identifier: MIT OR Apache-2.0
+-- FOR PROOFS ALONE
 -- The call that registers hold, where a part of the table of functions has it.
 use Rattle.std.specs.Prelude.{ℕ, List, Option, Some, find, slice_index, if◌then◌else◌}
 use Rattle.std.specs.Option.{option_map}

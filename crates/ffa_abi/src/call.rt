@@ -15,7 +15,7 @@ pub fn low(register: u64) -> u32
 }
 
 /// The registers x0 to x7 of a call, of which the low half of x0 names the function.
-#[derive(Clone, Copy, Debug)]
+#[derive(Clone, Copy)]
 struct Registers([u64; 8]);
 
 impl Registers {

@@ -12,11 +12,18 @@ pub record IsLent (old new : Option (List (List ℕ))) (slot slot_after : Option
   pub added : new ≡ Some (pages ++ page ∷ [])
   pub emptied : slot_after ≡ None
 
--- whether there is an empty list for pages that are given back, as C is told
+-- whether there is an empty list, as C is told
 abbrev pub list_answer : Option (List (List ℕ)) → ℕ
 list_answer None = 16
 list_answer (Some []) = 0
 list_answer (Some (page ∷ pages)) = 18
+
+-- whether a page can go from a list to a slot, as C is told: the slot has to be empty, and the list to have a page
+abbrev pub taken_answer : Option (List (List ℕ)) → Option (List ℕ) → ℕ
+taken_answer None slot = 16
+taken_answer (Some pages) (Some page) = 15
+taken_answer (Some []) None = 17
+taken_answer (Some (page ∷ pages)) None = 0
 
 -- what C is told where it ends what it holds: RAM that was lent needs an empty list
 abbrev pub freed_answer : Option Boarded → Option (List (List ℕ)) → ℕ

@@ -1,8 +1,8 @@
 // SPDX-License-Identifier: MIT OR Apache-2.0
 //! Pages that C lends, and gets back.
-ghost use Rattle.std.specs.Prelude.{◌≡◌, ◌≢◌, ℕ, [], length, true, false, Option, Some, None, IfSome, is_some};
+ghost use Rattle.std.specs.Prelude.{◌≡◌, ◌≢◌, ◌⊎◌, ℕ, [], length, true, false, Option, Some, None, IfSome, is_some};
 ghost use Rattle.std.specs.Option.{option_map};
-ghost use Rattle.ffa_c.specs.Lending.{IsLent, freed_answer, given_back, list_answer, page_count};
+ghost use Rattle.ffa_c.specs.Lending.{IsLent, freed_answer, given_back, list_answer, page_count, taken_answer};
 
 use crate::board::Board;
 use crate::held_frames::HeldFrames;
@@ -107,6 +107,7 @@ fn put_page(slot: &mut FfaSlot, page: Box<[u8; 4096], Lent>)
 #[unsafe(no_mangle)]
 pub extern "C" fn ffa_begin_lending(alloc: Global, lent: &mut FfaLent, pages: u32) -> u32
     ensures occupied { lent.old.live ≡ true → result ≡ OCCUPIED }
+    ensures answer { lent.old.live ≡ false → (result ≡ 0) ⊎ (result ≡ NO_MEMORY) }
     ensures made { result ≡ 0 → (lent.old.held.value ≡ None) × (lent.new.held.value ≡ Some []) }
     ensures refused { result ≢ 0 → lent.new ≡ lent.old }
 {
@@ -148,6 +149,7 @@ pub extern "C" fn ffa_lend(alloc: Global, lent: &mut FfaLent, slot: &mut FfaSlot
     ensures page { result ≢ 0 → slot.new.page.bytes ≡ slot.old.page.bytes }
     ensures no_list { lent.old.live ≡ false → result ≡ NO_LIST }
     ensures no_page { lent.old.live ≡ true → slot.old.live ≡ false → result ≡ NO_PAGE }
+    ensures answer { lent.old.live ≡ true → slot.old.live ≡ true → (result ≡ 0) ⊎ (result ≡ NO_MEMORY) }
 {
     let Some(mut frames) = take_list(lent, alloc) else {
         return NO_LIST;
@@ -163,6 +165,7 @@ fn lend_to(frames: &mut Frames, slot: &mut FfaSlot) -> u32
     ensures list { result ≢ 0 → frames.new ≡ frames.old }
     ensures page { result ≢ 0 → slot.new.page.bytes ≡ slot.old.page.bytes }
     ensures no_page { slot.old.live ≡ false → result ≡ NO_PAGE }
+    ensures answer { slot.old.live ≡ true → (result ≡ 0) ⊎ (result ≡ NO_MEMORY) }
 {
     let Some(page) = take_page(slot) else {
         return NO_PAGE;
@@ -180,12 +183,10 @@ fn lend_to(frames: &mut Frames, slot: &mut FfaSlot) -> u32
 /// `OCCUPIED`, where there is a page in the slot, or `NO_PAGE`, where the list has none.
 #[unsafe(no_mangle)]
 pub extern "C" fn ffa_take_back(alloc: Global, lent: &mut FfaLent, slot: &mut FfaSlot) -> u32
+    ensures answer { result ≡ taken_answer lent.old.held.value slot.old.page.bytes }
     ensures taken { result ≡ 0 → IsLent lent.new.held.value lent.old.held.value slot.new.page.bytes slot.old.page.bytes }
     ensures list { result ≢ 0 → lent.new.held.value ≡ lent.old.held.value }
     ensures page { result ≢ 0 → slot.new.page.bytes ≡ slot.old.page.bytes }
-    ensures no_list { lent.old.live ≡ false → result ≡ NO_LIST }
-    ensures occupied { lent.old.live ≡ true → slot.old.live ≡ true → result ≡ OCCUPIED }
-    ensures no_page { lent.old.live ≡ true → slot.old.live ≡ false → result ≢ 0 → lent.old.held.value ≡ Some [] }
 {
     let Some(mut frames) = take_list(lent, alloc) else {
         return NO_LIST;
@@ -197,11 +198,10 @@ pub extern "C" fn ffa_take_back(alloc: Global, lent: &mut FfaLent, slot: &mut Ff
 
 // Moves the last page of a list to a slot.
 fn take_from(frames: &mut Frames, slot: &mut FfaSlot) -> u32
+    ensures answer { result ≡ taken_answer (Some frames.old) slot.old.page.bytes }
     ensures taken { result ≡ 0 → IsLent (Some frames.new) (Some frames.old) slot.new.page.bytes slot.old.page.bytes }
     ensures list { result ≢ 0 → frames.new ≡ frames.old }
     ensures page { result ≢ 0 → slot.new.page.bytes ≡ slot.old.page.bytes }
-    ensures occupied { slot.old.live ≡ true → result ≡ OCCUPIED }
-    ensures no_page { slot.old.live ≡ false → result ≢ 0 → frames.old ≡ [] }
 {
     if slot.live {
         return OCCUPIED;
@@ -234,10 +234,9 @@ pub extern "C" fn ffa_lent_pages(alloc: Global, lent: &mut FfaLent) -> u64
 /// Ends an empty list. 0 is that it is none now. Else nothing has changed: `NO_LIST`, or `HAS_PAGES`.
 #[unsafe(no_mangle)]
 pub extern "C" fn ffa_end_lending(alloc: Global, lent: &mut FfaLent) -> u32
-    ensures ended { result ≡ 0 → (lent.old.held.value ≡ Some []) × (lent.new.held.value ≡ None) }
+    ensures answer { result ≡ list_answer lent.old.held.value }
+    ensures ended { result ≡ 0 → lent.new.held.value ≡ None }
     ensures refused { result ≢ 0 → lent.new.held.value ≡ lent.old.held.value }
-    ensures may { lent.old.held.value ≡ Some [] → result ≡ 0 }
-    ensures no_list { lent.old.live ≡ false → result ≡ NO_LIST }
 {
     let Some(frames) = take_list(lent, alloc) else {
         return NO_LIST;

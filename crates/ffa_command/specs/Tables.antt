@@ -1,4 +1,5 @@
 -- SPDX-License-Identifier: MIT OR Apache-2.0
+-- FOR PROOFS ALONE
 -- What commands come to that are given as tables of their words. The code says so of its own functions; what the words ask
 -- for stands in Commands.
 use Rattle.std.specs.Prelude.{List, [], ◌∷◌}

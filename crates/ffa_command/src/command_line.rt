@@ -11,7 +11,7 @@ use clap::ArgMatches;
 pub const STANDARD_INPUT: &str = "-";
 
 /// How the machine of a play is built.
-#[derive(Clone, Copy, Debug, PartialEq, Eq)]
+#[derive(Clone, Copy, PartialEq, Eq)]
 pub struct MachineOptions {
     /// RAM lies in frames, a piece of memory for each page, and not in one piece.
     pub frames: bool,
@@ -20,7 +20,7 @@ pub struct MachineOptions {
 }
 
 /// How the text of a play is written.
-#[derive(Clone, Copy, Debug, PartialEq, Eq)]
+#[derive(Clone, Copy, PartialEq, Eq)]
 pub struct TextOptions {
     /// The text of each line is written before more of the trace is read.
     pub line_buffered: bool,
@@ -33,7 +33,7 @@ pub struct TextOptions {
 }
 
 /// The words that say what a descriptor of a memory transaction is to hold, as they were given.
-#[derive(Clone, Copy, Debug, PartialEq, Eq)]
+#[derive(Clone, Copy)]
 pub struct DescriptorWords<'a> {
     /// What the descriptor is for: a call on memory, by the last word of its name.
     pub kind: &'a str,
@@ -60,7 +60,7 @@ pub struct DescriptorWords<'a> {
 /// At most one of its paths is `STANDARD_INPUT`. Where `strict` is set, the trace's guards are checked. Where `explain` is set, a
 /// difference is told with why the operation is refused at which it is. Where `verbose` is set, more is said on standard error
 /// of what is refused.
-#[derive(Clone, Copy, Debug, PartialEq, Eq)]
+#[derive(Clone, Copy)]
 pub enum Request<'a> {
     /// To play a trace on the machine of a manifest.
     Run {

@@ -2,8 +2,9 @@
 //! The program's command line: which command its words ask for, with which paths and flags.
 #![tactic(auto)]
 
-ghost use Rattle.std.specs.Prelude.{◌≡◌, IfOk, IfErr, Some, map};
-ghost use Rattle.ffa_command.specs.Commands.{ask_of, asked_by, IsRefusedFor};
+ghost use Rattle.std.specs.Prelude.{◌≡◌, IfOk, IfErr, OnErr, Some, None, map};
+ghost use Rattle.clap.specs.Words.{app_of, subcommand_rows_of};
+ghost use Rattle.ffa_command.specs.Commands.{ask_of, asked_by, asked_in, program, IsRefusedFor};
 
 mod command_line;
 mod program;
@@ -25,12 +26,28 @@ pub fn request<'a>(alloc: Global, words: &'a [&'a str]) -> Result<Request<'a>, E
     ensures refused { IfErr result (IsRefusedFor (map (λ w. w.now) words.entry.now)) }
 {
     let mut command = program::program(alloc)?;
+    found(&mut command, words)
+}
+
+// What the words of the program's command ask for.
+fn found<'a>(command: &mut Command<'a>, words: &'a [&'a str]) -> Result<Request<'a>, Error>
+    ensures asked { app_of command.old ≡ program → IfOk result (λ r. asked_by (map (λ w. w.now) words.entry.now) ≡ Some (ask_of r)) }
+    ensures refused { app_of command.old ≡ program → IfErr result (IsRefusedFor (map (λ w. w.now) words.entry.now)) }
+{
     match command.try_get_matches_from_mut(words) {
         Err(error) => Err(error),
-        Ok(matches) => match command_line::asked_by(&matches) {
-            Some(request) => Ok(request),
-            None => Err(refusal(&mut command, &matches)?),
-        },
+        Ok(matches) => asked(command, &matches),
+    }
+}
+
+// What the matches ask for. Where they ask for nothing, an error says so, or want of memory.
+fn asked<'a>(command: &mut Command<'_>, matches: &ArgMatches<'a>) -> Result<Request<'a>, Error>
+    ensures asked { IfOk result (λ r. asked_in (subcommand_rows_of matches.now) ≡ Some (ask_of r)) }
+    ensures nothing { OnErr result (asked_in (subcommand_rows_of matches.now) ≡ None) }
+{
+    match command_line::asked_by(matches) {
+        Some(request) => Ok(request),
+        None => Err(refusal(command, matches)?),
     }
 }
 

@@ -11,7 +11,7 @@ use ffa_memdesc::put::{put_u16, put_u32, put_u64};
 use ffa_model::{EndpointId, Version};
 
 /// What a header says.
-#[derive(Clone, Copy, Debug)]
+#[derive(Clone, Copy)]
 pub struct Heading {
     pub sender: EndpointId,
     pub attributes: u16,

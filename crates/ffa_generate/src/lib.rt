@@ -1,37 +1,17 @@
 // SPDX-License-Identifier: MIT OR Apache-2.0
-//! Traces for a machine, made at random: each call in its right form and with something turned, as what came before allows,
-//! and accesses at the edges of what an endpoint reaches. The same seed gives the same trace.
+//! Traces for a machine, made at random: the scenes of `ffa_scenes`, played on the machine of a manifest. The same seed gives
+//! the same trace.
 #![tactic(auto)]
 
 ghost use Rattle.std.specs.Prelude.{OnOk};
 ghost use Rattle.ffa_turns.specs.Traces.{Wrote};
 
-mod accesses;
-mod buffers;
-mod descriptors;
-mod dice;
-mod flaws;
-mod generator;
-mod hoard;
-mod layout;
-mod learning;
 mod machine_stage;
-mod messages;
-mod notifications;
-mod offers;
-mod pages;
-mod retrieves;
-mod returns;
-mod scenes;
-mod sends;
-mod setup;
-mod stage;
-mod steering;
 
 use ffa_model::Manifest;
+use ffa_scenes::Generator;
 use ffa_turns::write_turns;
 pub use ffa_turns::{Access, Counts, GenerateError};
-use generator::Generator;
 use machine_stage::MachineStage;
 use std::alloc::Allocator;
 use std::io::Write;

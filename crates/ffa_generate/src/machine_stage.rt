@@ -2,13 +2,12 @@
 //! The machine that plays what is generated.
 ghost use Rattle.std.specs.Prelude.{◌<◌, length, IfSome};
 
-use crate::layout::PAGE;
-use crate::stage::{Stage, Stop};
 use ffa_model::{EndpointId, Manifest, Op, Outcome, PageNo, Rights};
 use ffa_physmem::{FlatRam, NoMemory, PhysMem};
+use ffa_scenes::{PAGE, Stage};
 use ffa_spmc::Machine;
 use ffa_tlb::NoTlb;
-use ffa_turns::{Counts, Entry, fitted, wanted};
+use ffa_turns::{Counts, Entry, GenerateError, fitted, wanted};
 use std::alloc::Allocator;
 
 /// A machine, the lines of a turn, and how often what came.
@@ -17,6 +16,8 @@ pub struct MachineStage<A: Allocator + Copy> {
     machine: Machine<FlatRam<A>, NoTlb>,
     entries: Vec<Entry, A>,
     room: u64,
+    /// There was memory for each line of this turn.
+    is_whole: bool,
     counts: Counts,
 }
 
@@ -53,8 +54,18 @@ impl<A: Allocator + Copy> MachineStage<A> {
             machine: Machine::boot_cleared(manifest, ram, NoTlb),
             entries: Vec::new(alloc),
             room: 0,
+            is_whole: true,
             counts: Counts::new(),
         })
+    }
+
+    // Adds a line, and answers whether it could. Where there is no memory for one, none is added in the rest of the turn.
+    fn add(&mut self, entry: Entry) -> bool {
+        if !self.is_whole || self.entries.len() as u64 >= self.room {
+            return false;
+        }
+        self.is_whole = self.entries.push(entry).is_ok();
+        self.is_whole
     }
 
     /// How often what came.
@@ -68,28 +79,29 @@ impl<A: Allocator + Copy> Stage for MachineStage<A> {
     fn begin(&mut self, most: u64) {
         self.entries.clear();
         self.room = most;
+        self.is_whole = true;
     }
 
-    fn entries(&self) -> &[Entry] {
-        &self.entries
-    }
-
-    fn put(&mut self, entry: Entry) -> Result<(), Stop> {
-        if self.entries.len() as u64 >= self.room {
-            return Err(Stop::Full);
-        }
-        match self.entries.push(entry) {
-            Ok(()) => Ok(()),
-            Err(_) => Err(Stop::NoMemory),
+    fn entries(&self) -> Result<&[Entry], GenerateError> {
+        if self.is_whole {
+            Ok(&self.entries)
+        } else {
+            Err(GenerateError::NoMemory)
         }
     }
 
-    fn play(&mut self, op: &Op) -> Result<Outcome, Stop> {
+    fn put(&mut self, entry: Entry) {
+        self.add(entry);
+    }
+
+    fn play(&mut self, op: &Op) -> Option<Outcome> {
         let op = fitted(op);
-        self.put(Entry::Operation(op))?;
+        if !self.add(Entry::Operation(op)) {
+            return None;
+        }
         let outcome = operate(&mut self.machine, &op);
         self.counts.note(&op, &outcome);
-        Ok(outcome)
+        Some(outcome)
     }
 
     fn wanted(&self, turn: u64) -> EndpointId {

@@ -22,12 +22,13 @@ use Rattle.ffa_model.specs.Agreement.{root}
 use Rattle.ffa_model.specs.Certificate.{certificate}
 use Rattle.ffa_model.specs.Identifiers.{identifier}
 use Rattle.ffa_model.specs.Step.{step}
-use Rattle.ffa_model.specs.TraceLines.{Line, operate, show, audit, skip, space, has_no_feed, line_of}
-use Rattle.ffa_model.specs.TraceText.{digit, hex, spaced, ended, fault_name, bytes_moved, outcome_words, outcome_text, rights_text, runs_of, run_text, runner_text, show_text, cert_text, root_text, handle_text, cert_run_text, audit_text, line_text, text_of, text, after}
+use Rattle.ffa_syntax.specs.TraceLines.{Line, operate, show, audit, skip, space, has_no_feed, line_of}
+use Rattle.ffa_syntax.specs.TraceText.{digit, hex, spaced, ended, fault_name, bytes_moved, outcome_words, outcome_text, rights_text, runs_of, run_text, runner_text, show_text, cert_text, root_text, handle_text, cert_run_text, audit_text, line_text, text_of, text, after}
 use Rattle.ffa_abi.specs.Names.{Row, error_names, name_in, call_name_of, error_name_of}
+use Rattle.ffa_explain.specs.Marks.{names_mark}
 use Rattle.ffa_lines.specs.Cut.{CutsTo, cut_names}
-use Rattle.ffa_lines.specs.Forms.{names_mark, number_in, outcome_in, unnumbered_in, line_text_in, text_of_in, text_in}
-use Rattle.ffa_lines.specs.Reasons.{reason_if}
+use Rattle.ffa_lines.specs.Forms.{number_in, outcome_in, unnumbered_in, line_text_in, text_of_in, text_in}
+use Rattle.ffa_explain.specs.Reasons.{reason_if}
 use Rattle.ffa_lines.specs.declared.form.Form.{Form}
 use Rattle.ffa_lines.proofs.Cuts.{is_inner, IsInner, is_headed, inner_append, inner_flat_map, inner_above, inner_single, cut_names-inner, cut_names-mark, cuts_none, cuts_append, cuts_flat_map, cuts_line, cuts_words, cuts_first}
 use Rattle.ffa_lines.proofs.PrintedWords.{inner_hex, single_in, single_call}

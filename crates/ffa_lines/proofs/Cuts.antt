@@ -9,8 +9,8 @@ use Rattle.std.proofs.lemmas.List.{map-append}
 use Rattle.std.proofs.lemmas.List.Elements.{filter-append}
 use Rattle.std.proofs.lemmas.List.Folds.{list_all-append}
 use Rattle.std.proofs.Math.Seq.{drop-append_seam, drop-append-add}
-use Rattle.ffa_model.specs.TraceLines.{feed, hash, has_no_feed, joined}
-use Rattle.ffa_model.specs.TraceText.{ended}
+use Rattle.ffa_syntax.specs.TraceLines.{feed, hash, has_no_feed, joined}
+use Rattle.ffa_syntax.specs.TraceText.{ended}
 use Rattle.ffa_trace.proofs.Runs.{joined-append}
 use Rattle.ffa_lines.specs.Cut.{CutsTo, is_digit, is_reason, cut_number, cut_names, cut_line}
 use Rattle.ffa_lines.specs.Forms.{number_in}

@@ -1,6 +1,6 @@
 -- SPDX-License-Identifier: MIT OR Apache-2.0
 -- A play line by line.
-use Rattle.std.proofs.Common.{◌≡◌, ◌≢◌, ◌+◌, ◌≤◌, ℕ, Bool, true, false, List, [], ◌∷◌, ◌++◌, length, Option, None, Some, Ok, Err, inl, inr, sym, ap, ◌∙◌, subst, arith, append_assoc, append-nil, refl}
+use Rattle.std.proofs.Common.{◌≡◌, ◌≢◌, ◌+◌, ◌≤◌, ℕ, Bool, true, false, List, [], ◌∷◌, ◌++◌, length, Option, None, Some, Result, Ok, Err, inl, inr, sym, ap, ◌∙◌, subst, arith, append_assoc, append-nil, refl}
 use Rattle.std.specs.Prelude.{is_some}
 use Rattle.std.specs.Option.{option_map_or}
 use Rattle.std.specs.Io.KnownBytes.{Appends, Consumes, IsAtEnd}
@@ -8,28 +8,28 @@ use Rattle.std.proofs.KnownBytes.{Consumes-nil, Consumes-trans}
 use Rattle.std.proofs.lemmas.Bool.{and_from}
 use Rattle.std.proofs.lemmas.List.Folds.{list_all-append}
 use Rattle.ffa_model.specs.State.{State}
-use Rattle.ffa_model.specs.TraceLines.{Line, feed, line_of, is_good, is_line, has_no_feed, joined}
-use Rattle.ffa_model.specs.TraceText.{line_after, after, after_all}
+use Rattle.ffa_syntax.specs.TraceLines.{Line, feed, line_of, is_good, is_line, has_no_feed, joined}
+use Rattle.ffa_syntax.specs.TraceText.{line_after, after, after_all}
 use Rattle.ffa_trace.proofs.Runs.{joined-append}
-use Rattle.ffa_trace.specs.declared.output.PlayError.{PlayError}
-use Rattle.ffa_trace.specs.declared.output.PlayError.TheVariants.{Read, Write, NoMemory, BadLine}
+use Rattle.ffa_syntax.specs.Output.{Writes}
+use Rattle.ffa_syntax.specs.declared.output.PlayError.{PlayError}
+use Rattle.ffa_syntax.specs.declared.output.PlayError.TheVariants.{Read, Write, NoMemory, BadLine}
 use Rattle.ffa_lines.specs.Followed.{Followed, EndsBadly, DiffersAt, PlayedIn, Compared}
 use Rattle.ffa_lines.specs.Forms.{line_text_in, text_of_in, text_in}
 use Rattle.ffa_lines.proofs.Cuts.{cuts_none}
 use Rattle.ffa_lines.proofs.CutOff.{cuts_printed}
 use Rattle.ffa_lines.specs.Reading.{IsAll, ReadsLine}
-use Rattle.ffa_lines.specs.Reasons.{reason_if, told_line}
+use Rattle.ffa_lines.specs.Steps.{BeginsBadly, LeavesOver, PrintsLine, TakesLine}
+use Rattle.ffa_lines.specs.Whole.{LeavesBad}
+use Rattle.ffa_explain.specs.Reasons.{reason_if, told_line}
+use Rattle.ffa_lines.specs.declared.comparison.Difference.{Difference}
 use Rattle.ffa_lines.specs.declared.form.Form.{Form}
-use Rattle.ffa_lines.specs.declared.reason.Reason.{Reason}
+use Rattle.ffa_explain.specs.declared.reason.Reason.{Reason}
 
 pub followed_none : (form : Form) (s : State) (had : Option (List ℕ)) → Followed form s s had had [] []
 followed_none form s had = record { each = refl; read = Consumes-nil had; state = refl; said = refl; cut = cuts_none }
 
--- there is no line, or one
-pub no_line : (had has : Option (List ℕ)) (line : List ℕ) (number : ℕ) (b : Bool) → b ≡ false → ReadsLine had has line number (Ok b) → IsAtEnd had
-no_line had has line number true h r = absurd cc
-no_line had has line number false h r = r
-
+-- there is a line
 pub one_line : (had has : Option (List ℕ)) (line : List ℕ) (number : ℕ) (b : Bool) → b ≡ true → ReadsLine had has line number (Ok b)
     → Consumes had has (line ++ feed ∷ []) × (has_no_feed line ≡ true)
 one_line had has line number true h r = r
@@ -96,22 +96,35 @@ module _ (form : Form) (start mid : State) (had has : Option (List ℕ)) (lines 
     none = inr (some, all);
   }
 
-  -- what was read is no line
-  pub unread_played : (e : PlayError) (then : Option (List ℕ)) (line : List ℕ) → ReadsLine has then line number (Err e)
-      → (now : State) (held holds : Option (List ℕ)) → Appends held holds text → PlayedIn {X = Unit {0}} form start now held holds had (Err e)
-  unread_played Read then line r now held holds written = tt
-  unread_played Write then line r now held holds written = absurd r
-  unread_played NoMemory then line r now held holds written = tt
-  unread_played (BadLine n) then line (is, all, single, some) now held holds written =
-      (text, subst (EndsBadly form start had text) (sym is) (ends_unended line all single some), written)
+  -- either
+  abbrev pub ends_at : (bad : List ℕ) → BeginsBadly has bad → EndsBadly form start had text number
+  ends_at bad (single, none) = record {
+    state = mid;
+    left = has;
+    lines = lines;
+    bad = bad;
+    followed = f;
+    is_next = count;
+    single = single;
+    none = none;
+  }
 
-  pub unread_compared : (e : PlayError) (then : Option (List ℕ)) (line : List ℕ) → ReadsLine has then line number (Err e)
+  -- what was read is no line
+  pub untaken_played : (e : PlayError) (then : Option (List ℕ)) (bytes : List ℕ) → TakesLine has then bytes number (Err e)
+      → (now : State) (held holds : Option (List ℕ)) → Appends held holds text → PlayedIn {X = Unit {0}} form start now held holds had (Err e)
+  untaken_played Read then bytes r now held holds written = tt
+  untaken_played Write then bytes r now held holds written = absurd r
+  untaken_played NoMemory then bytes r now held holds written = tt
+  untaken_played (BadLine n) then bytes (is, (bad, begins), none) now held holds written =
+      (text, subst (EndsBadly form start had text) (sym is) (ends_at bad begins), written)
+
+  pub untaken_compared : (e : PlayError) (then : Option (List ℕ)) (bytes : List ℕ) → TakesLine has then bytes number (Err e)
       → (explain : Bool) (expected more : List ℕ) → expected ≡ text ++ more → Compared form start had explain expected (Err e)
-  unread_compared Read then line r explain expected more alike = tt
-  unread_compared Write then line r explain expected more alike = absurd r
-  unread_compared NoMemory then line r explain expected more alike = tt
-  unread_compared (BadLine n) then line (is, all, single, some) explain expected more alike =
-      (text, more, alike, subst (EndsBadly form start had text) (sym is) (ends_unended line all single some))
+  untaken_compared Read then bytes r explain expected more alike = tt
+  untaken_compared Write then bytes r explain expected more alike = absurd r
+  untaken_compared NoMemory then bytes r explain expected more alike = tt
+  untaken_compared (BadLine n) then bytes (is, (bad, begins), none) explain expected more alike =
+      (text, more, alike, subst (EndsBadly form start had text) (sym is) (ends_at bad begins))
 
   -- a text that doesn't go on as is expected
   pub differs_in_line : (then : Option (List ℕ)) (line : List ℕ) (meant : Line) (said expected more : List ℕ) (place : ℕ) (explain : Bool) (reason : Option Reason) → Consumes has then (line ++ feed ∷ []) → has_no_feed line ≡ true → Some meant ≡ line_of line
@@ -148,3 +161,27 @@ module _ (form : Form) (start mid : State) (had has : Option (List ℕ)) (lines 
     place = at;
     differs = inr (at_end, some);
   }
+
+  -- whether it does or not
+  pub left_over_compared : (expected more : List ℕ) (place : ℕ) (explain : Bool) → IsAtEnd has → expected ≡ text ++ more → place ≡ length text
+      → (difference : Option Difference) → LeavesOver more number place difference → Compared form start had explain expected (Ok difference)
+  left_over_compared expected more place explain at_end alike at None none =
+      (mid, has, lines, subst (Followed form start mid had has lines) (sym (alike ∙ ap (λ r. text ++ r) none ∙ append-nil text)) f, at_end)
+  left_over_compared expected more place explain at_end alike at (Some difference) (some, is) =
+      subst (DiffersAt form start had explain expected) (sym is) (differs_at_end expected more place explain at_end alike at some)
+
+-- no line is taken, of which these are no bytes
+pub untaken_bad : (X : Type 0) (had has : Option (List ℕ)) (bytes : List ℕ) (number : ℕ) (e : PlayError) → TakesLine had has bytes number (Err e) → LeavesBad {X = X} (Err e) bytes
+untaken_bad X had has bytes number Read r = tt
+untaken_bad X had has bytes number Write r = absurd r
+untaken_bad X had has bytes number NoMemory r = tt
+untaken_bad X had has bytes number (BadLine n) r = r.2
+
+-- a line's text, written
+pub prints_line : (form : Form) (start now : State) (number : ℕ) (line : Line) (text : List ℕ) (held holds : Option (List ℕ)) → now ≡ line_after start line → text ≡ line_text_in form number start line
+    → (r : Result (Unit {0}) PlayError) → Writes held holds text r → PrintsLine form start now number line held holds r
+prints_line form start now number line text held holds next makes (Ok _) wrote = (next, subst (Appends held holds) makes wrote)
+prints_line form start now number line text held holds next makes (Err Read) wrote = absurd wrote
+prints_line form start now number line text held holds next makes (Err Write) wrote = tt
+prints_line form start now number line text held holds next makes (Err NoMemory) wrote = tt
+prints_line form start now number line text held holds next makes (Err (BadLine n)) wrote = absurd wrote

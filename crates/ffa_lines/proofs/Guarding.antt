@@ -10,19 +10,19 @@ use Rattle.std.proofs.lemmas.Grind.{flat_map-append}
 use Rattle.std.proofs.lemmas.List.{append_cancel_left}
 use Rattle.std.proofs.lemmas.List.Folds.{list_all-append}
 use Rattle.ffa_model.specs.State.{State}
-use Rattle.ffa_model.specs.TraceLines.{Line, operate, show, audit, skip, feed, line_of, has_no_feed, joined}
-use Rattle.ffa_model.specs.TraceText.{hex, line_text, text_of, after_all}
+use Rattle.ffa_syntax.specs.TraceLines.{Line, operate, show, audit, skip, feed, line_of, has_no_feed, joined}
+use Rattle.ffa_syntax.specs.TraceText.{hex, line_text, text_of, after_all}
 use Rattle.ffa_trace.proofs.Runs.{joined-append}
-use Rattle.ffa_trace.specs.declared.output.PlayError.{PlayError}
-use Rattle.ffa_trace.specs.declared.output.PlayError.TheVariants.{Read, Write, NoMemory, BadLine}
+use Rattle.ffa_syntax.specs.declared.output.PlayError.{PlayError}
+use Rattle.ffa_syntax.specs.declared.output.PlayError.TheVariants.{Read, Write, NoMemory, BadLine}
 use Rattle.ffa_lines.specs.Asking.{Asked, unasked_by}
 use Rattle.ffa_lines.specs.Followed.{Followed}
 use Rattle.ffa_lines.specs.Guards.{AreMet, Breaks, GuardedIn, IsFound, IsMet, IsUnasked, Leaves, are_silent, asked, asked_by, guard_of, prints, speaks}
-use Rattle.ffa_lines.specs.Reading.{ReadsLine}
+use Rattle.ffa_lines.specs.Steps.{TakesLine}
 use Rattle.ffa_lines.specs.declared.form.Form.{Form}
 use Rattle.ffa_lines.specs.declared.guards.Asks.{Asks}
 use Rattle.ffa_lines.specs.declared.guards.Asks.TheVariants.{Printed, Runner}
-use Rattle.ffa_lines.proofs.Follows.{ends_unended}
+use Rattle.ffa_lines.proofs.Follows.{ends_at}
 
 -- an LF behind a line that begins a text
 pub behind_text : (text line more : List ℕ) (r : Option (Bor (List ℕ))) → text ≡ line ++ more → MatchOption r ((rest : List ℕ) → more ≢ feed ∷ rest) (λ rest. more ≡ feed ∷ rest.now)
@@ -212,10 +212,10 @@ module _ (form : Form) (start mid : State) (had has : Option (List ℕ)) (lines 
           (at Runner wants same (λ is. both.0 (is ∙ sym runs)) (both.1 ∙ runs))
 
   -- at what is no line
-  pub unread_guarded : (e : PlayError) (then : Option (List ℕ)) (line : List ℕ) → ReadsLine has then line number (Err e)
-      → (now : State) (held holds : Option (List ℕ)) (bytes found : List ℕ) → Appends held holds text → GuardedIn form start now held holds had bytes found (Err e)
-  unread_guarded Read then line r now held holds bytes found written = tt
-  unread_guarded Write then line r now held holds bytes found written = absurd r
-  unread_guarded NoMemory then line r now held holds bytes found written = tt
-  unread_guarded (BadLine n) then line (is, all, single, some) now held holds bytes found written =
-      (text, ends_unended form start mid had has lines text f n (is ∙ count) line all single some, written, met)
+  pub untaken_guarded : (e : PlayError) (then : Option (List ℕ)) (bytes : List ℕ) → TakesLine has then bytes number (Err e)
+      → (now : State) (held holds : Option (List ℕ)) (shown found : List ℕ) → Appends held holds text → GuardedIn form start now held holds had shown found (Err e)
+  untaken_guarded Read then bytes r now held holds shown found written = tt
+  untaken_guarded Write then bytes r now held holds shown found written = absurd r
+  untaken_guarded NoMemory then bytes r now held holds shown found written = tt
+  untaken_guarded (BadLine n) then bytes (is, (bad, begins), none) now held holds shown found written =
+      (text, ends_at form start mid had has lines text f n (is ∙ count) bad begins, written, met)

@@ -6,7 +6,6 @@ pub mod Guarding
 pub mod Names
 pub mod Plain
 pub mod PrintedWords
-pub mod PutWords
 pub mod ReadLines
 pub mod ReasonLines
 pub mod Unequal

@@ -1,18 +1,20 @@
 -- SPDX-License-Identifier: MIT OR Apache-2.0
 -- Registers with names behind them.
-use Rattle.std.proofs.Common.{◌≡◌, ℕ, true, List, [], ◌∷◌, ◌++◌, Some, Result, Ok, Err, sym, ap, ◌∙◌, append_assoc, refl}
+use Rattle.std.proofs.Common.{◌≡◌, ℕ, true, List, [], ◌∷◌, ◌++◌, Option, Some, Result, Ok, Err, sym, ap, ◌∙◌, append_assoc, refl}
 use Rattle.std.specs.Prelude.{IfErr, OnOk}
 use Rattle.ffa_model.specs.declared.endpoint.EndpointId.{EndpointId}
 use Rattle.ffa_model.specs.declared.operation.Outcome.{Outcome}
 use Rattle.ffa_model.specs.declared.operation.Outcome.TheVariants.{Regs}
 use Rattle.ffa_model.specs.State.{State}
 use Rattle.ffa_model.specs.Step.{step}
-use Rattle.ffa_model.specs.TraceLines.{Line, operate, show, audit, skip, feed}
-use Rattle.ffa_model.specs.TraceText.{ended, line_text, line_after, outcome_words}
-use Rattle.ffa_trace.specs.Lines.{outcome_of}
-use Rattle.ffa_trace.specs.declared.output.PlayError.{PlayError}
-use Rattle.ffa_trace.specs.declared.output.PlayError.TheVariants.{NoMemory}
-use Rattle.ffa_lines.specs.Forms.{PutsIn, names_mark, outcome_in, unnumbered_in}
+use Rattle.ffa_syntax.specs.TraceLines.{Line, operate, show, audit, skip, feed}
+use Rattle.ffa_syntax.specs.TraceText.{ended, line_text, line_after, outcome_words}
+use Rattle.ffa_syntax.specs.Lines.{outcome_of}
+use Rattle.ffa_syntax.specs.declared.output.PlayError.{PlayError}
+use Rattle.ffa_syntax.specs.declared.output.PlayError.TheVariants.{NoMemory}
+use Rattle.ffa_explain.specs.Marks.{names_mark}
+use Rattle.ffa_lines.specs.Forms.{PutsIn, outcome_in, unnumbered_in}
+use Rattle.ffa_lines.specs.Steps.{TakesNames}
 use Rattle.ffa_lines.specs.declared.form.Form.{Form}
 
 registers_named : (form : Form) → form.names ≡ true → (s : State) (line : Line) (runner : EndpointId) (x old mid new : List ℕ) → Some (Regs runner x) ≡ outcome_of s line
@@ -31,8 +33,13 @@ registers_named form asked s show runner x old mid new came written put = absurd
 registers_named form asked s audit runner x old mid new came written put = absurd cc
 registers_named form asked s skip runner x old mid new came written put = absurd cc
 
-pub puts_named : (form : Form) → form.names ≡ true → (s now : State) (line : Line) (runner : EndpointId) (x old mid new : List ℕ) → now ≡ line_after s line
-    → Some (Regs runner x) ≡ outcome_of s line → mid ≡ old ++ line_text s line
-    → (r : Result (Unit {0}) PlayError) → IfErr r (λ e. e ≡ NoMemory) → OnOk r ((front : List ℕ) → mid ≡ ended front → new ≡ ended (front ++ names_mark x)) → PutsIn form s now line old new r
-puts_named form asked s now line runner x old mid new next came written (Ok _) failed put = (next, registers_named form asked s line runner x old mid new came written put)
-puts_named form asked s now line runner x old mid new next came written (Err e) failed put = failed
+-- behind registers
+pub takes_registers : (form : Form) → form.names ≡ true → (runner : EndpointId) (x old new : List ℕ)
+    → (r : Result (Unit {0}) PlayError) → OnOk r ((front : List ℕ) → old ≡ ended front → new ≡ ended (front ++ names_mark x)) → OnOk r (TakesNames form (Some (Regs runner x)) old new)
+takes_registers form asked runner x old new (Ok _) put = λ s line front came written. registers_named form asked s line runner x front old new came written put
+takes_registers form asked runner x old new (Err e) put = tt
+
+pub puts_in : (form : Form) (s now : State) (line : Line) (outcome : Option Outcome) (old mid new : List ℕ) → now ≡ line_after s line → outcome ≡ outcome_of s line → mid ≡ old ++ line_text s line
+    → (r : Result (Unit {0}) PlayError) → IfErr r (λ e. e ≡ NoMemory) → OnOk r (TakesNames form outcome mid new) → PutsIn form s now line old new r
+puts_in form s now line outcome old mid new next came written (Ok _) failed takes = (next, takes s line old came written)
+puts_in form s now line outcome old mid new next came written (Err e) failed takes = failed

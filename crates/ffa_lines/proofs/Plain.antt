@@ -7,8 +7,8 @@ use Rattle.ffa_model.specs.declared.operation.Outcome.{Outcome}
 use Rattle.ffa_model.specs.declared.operation.Outcome.TheVariants.{Regs, Data, Done, Fault}
 use Rattle.ffa_model.specs.State.{State}
 use Rattle.ffa_model.specs.Step.{step}
-use Rattle.ffa_model.specs.TraceLines.{Line, operate, show, audit, skip, line_of}
-use Rattle.ffa_model.specs.TraceText.{ended, outcome_words, outcome_text, line_text, text_of, text, after}
+use Rattle.ffa_syntax.specs.TraceLines.{Line, operate, show, audit, skip, line_of}
+use Rattle.ffa_syntax.specs.TraceText.{ended, outcome_words, outcome_text, line_text, text_of, text, after}
 use Rattle.ffa_lines.specs.Forms.{plain, outcome_in, line_text_in, text_of_in, text_in}
 
 plain_outcome : (op : Op) (outcome : Outcome) → outcome_in plain op outcome ≡ outcome_text op outcome

@@ -6,8 +6,8 @@ use Rattle.std.specs.List.{list_all}
 use Rattle.std.specs.Option.{option_map_or}
 use Rattle.std.proofs.lemmas.Bool.{cases_Bool, and_parts, and_from}
 use Rattle.ffa_model.specs.Registers.{low}
-use Rattle.ffa_model.specs.TraceLines.{has_no_feed}
-use Rattle.ffa_model.specs.TraceText.{digit, hex}
+use Rattle.ffa_syntax.specs.TraceLines.{has_no_feed}
+use Rattle.ffa_syntax.specs.TraceText.{digit, hex}
 use Rattle.ffa_abi.specs.Names.{Row, call_names, call_name_of, name_in}
 use Rattle.ffa_lines.proofs.Cuts.{is_inner, IsInner, inner_above}
 

@@ -8,9 +8,9 @@ use Rattle.std.specs.Io.BufRead.{take_through}
 use Rattle.std.proofs.lemmas.Bool.{cases_Bool, eqb-true}
 use Rattle.std.proofs.lemmas.List.Folds.{list_all-append}
 use Rattle.std.proofs.Math.Seq.{take-append_seam}
-use Rattle.ffa_model.specs.TraceLines.{feed, has_no_feed}
-use Rattle.ffa_trace.specs.declared.output.PlayError.{PlayError}
-use Rattle.ffa_trace.specs.declared.output.PlayError.TheVariants.{Read, Write, NoMemory, BadLine}
+use Rattle.ffa_syntax.specs.TraceLines.{feed, has_no_feed}
+use Rattle.ffa_syntax.specs.declared.output.PlayError.{PlayError}
+use Rattle.ffa_syntax.specs.declared.output.PlayError.TheVariants.{Read, Write, NoMemory, BadLine}
 use Rattle.ffa_lines.specs.Reading.{IsAll, ReadsLine, TakesFeed}
 
 one_free : (x : ℕ) (xs : List ℕ) → x ≢ feed → has_no_feed xs ≡ true → has_no_feed (x ∷ xs) ≡ true

@@ -36,15 +36,15 @@ use Rattle.ffa_model.specs.declared.why.Why.{Why}
 use Rattle.ffa_model.specs.declared.why.Why.TheVariants.{Refused, Fault}
 use Rattle.ffa_model.specs.Registers.{decode}
 use Rattle.ffa_model.specs.State.{State}
-use Rattle.ffa_model.specs.TraceLines.{Line, operate, show, audit, skip, has_no_feed}
-use Rattle.ffa_model.specs.TraceText.{bytes_moved, hex}
+use Rattle.ffa_syntax.specs.TraceLines.{Line, operate, show, audit, skip, has_no_feed}
+use Rattle.ffa_syntax.specs.TraceText.{bytes_moved, hex}
 use Rattle.ffa_model.specs.Why.{why}
 use Rattle.ffa_abi.specs.Names.{call_name_of}
 use Rattle.ffa_reasons.specs.Checks.{number_of}
 use Rattle.ffa_reasons.specs.FlawWords.{access_words, composite_words, flaw_words_of, header_words, range_words, relinquish_words, retrieve_words, send_words}
 use Rattle.ffa_reasons.specs.Words.{words_of}
 use Rattle.ffa_lines.specs.Cut.{CutsTo}
-use Rattle.ffa_lines.specs.Reasons.{about_text, address_digits, address_of, address_text, call_text, check_text, fault_text, field_digits, field_text, handle_text, index_text, name_text, named_text, number_text, obstacle_text, page_address, page_text, place_text, reason_if, reason_line, reason_mark, reason_text, register_text, right_text, subject_text, transaction_text, value_text, verb_text, why_text}
+use Rattle.ffa_explain.specs.Reasons.{about_text, address_digits, address_of, address_text, call_text, check_text, fault_text, field_digits, field_text, handle_text, index_text, name_text, named_text, number_text, obstacle_text, page_address, page_text, place_text, reason_if, reason_line, reason_mark, reason_text, register_text, right_text, subject_text, transaction_text, value_text, verb_text, why_text}
 use Rattle.ffa_lines.proofs.Cuts.{cuts_none, cuts_reason, decimal_digits, digits_single, inner_single}
 use Rattle.ffa_lines.proofs.PrintedWords.{inner_hex, single_call}
 

@@ -1,18 +1,18 @@
 -- SPDX-License-Identifier: MIT OR Apache-2.0
 -- The lines of given bytes are unique, so a text that differs is no text of theirs.
-use Rattle.std.proofs.Common.{◌≡◌, ◌≢◌, ℕ, ◌+◌, ◌≤◌, Bool, true, List, [], ◌∷◌, ◌++◌, length, Option, None, Some, inl, inr, sym, ap, ◌∙◌, arith, append_assoc, append-nil, length-append, refl}
-use Rattle.std.specs.Prelude.{◌==◌, not}
+use Rattle.std.proofs.Common.{◌≡◌, ◌≢◌, ℕ, ◌+◌, ◌≤◌, Bool, true, List, [], ◌∷◌, ◌++◌, length, Option, None, Some, Ok, inl, inr, sym, ap, ◌∙◌, arith, append_assoc, append-nil, length-append, refl}
+use Rattle.std.specs.Prelude.{◌==◌, not, IfSome}
 use Rattle.std.specs.Io.KnownBytes.{Consumes}
 use Rattle.std.proofs.lemmas.Bool.{and_parts, and_from, eq-eqb}
 use Rattle.std.proofs.lemmas.List.{append_cancel_left}
 use Rattle.std.proofs.lemmas.List.Folds.{list_all-append}
 use Rattle.ffa_model.specs.State.{State}
-use Rattle.ffa_model.specs.TraceLines.{feed, has_no_feed, is_good, is_line, are_lines, joined}
-use Rattle.ffa_model.specs.TraceText.{after, after_all}
+use Rattle.ffa_syntax.specs.TraceLines.{feed, has_no_feed, is_good, is_line, are_lines, joined}
+use Rattle.ffa_syntax.specs.TraceText.{after, after_all}
 use Rattle.ffa_trace.proofs.Runs.{joined-append}
 use Rattle.ffa_lines.proofs.Follows.{text_one}
-use Rattle.ffa_lines.specs.Followed.{DiffersAt, GoesOnOtherwise, NeverPrints}
-use Rattle.ffa_lines.specs.Reasons.{told_line}
+use Rattle.ffa_lines.specs.Followed.{Compared, DiffersAt, GoesOnOtherwise, NeverPrints}
+use Rattle.ffa_explain.specs.Reasons.{told_line}
 use Rattle.ffa_lines.specs.Forms.{text_in, text_of_in}
 use Rattle.ffa_lines.specs.declared.comparison.Difference.{Difference}
 use Rattle.ffa_lines.specs.declared.form.Form.{Form}
@@ -97,3 +97,8 @@ never_prints form start (Some trace) explain expected difference d = λ others e
     of (Some rest) read (inl (line, None, next, good, other, told_why)) others each told same = absurd next
     of (Some rest) read (inl (line, Some after_line, next, good, other, told_why)) others each told same =
         never_other form start trace expected d.text d.more rest d.lines others d.followed.each read d.followed.said d.alike each told same difference.number d.state line after_line d.number d.followed.state next good other
+
+pub compared_unequal : (form : Form) (start : State) (had : Option (List ℕ)) (explain : Bool) (expected : List ℕ) (difference : Option Difference) → Compared form start had explain expected (Ok difference)
+    → IfSome difference (λ _. NeverPrints form start had expected)
+compared_unequal form start had explain expected None d = tt
+compared_unequal form start had explain expected (Some difference) d = never_prints form start had explain expected difference d

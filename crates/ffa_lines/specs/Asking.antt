@@ -1,11 +1,12 @@
 -- SPDX-License-Identifier: MIT OR Apache-2.0
+-- FOR PROOFS ALONE
 -- The steps of a play that checks guards, which private functions promise one another.
 use Rattle.std.specs.Prelude.{◌≡◌, ◌≢◌, ℕ, Bool, true, false, List, ◌∷◌, ◌++◌, Option, None, Some, Result, Ok, Err}
 use Rattle.ffa_model.specs.State.{State}
-use Rattle.ffa_model.specs.TraceLines.{Line, operate, show, audit, skip, feed}
-use Rattle.ffa_model.specs.TraceText.{hex, line_text}
-use Rattle.ffa_trace.specs.declared.output.PlayError.{PlayError}
-use Rattle.ffa_trace.specs.declared.output.PlayError.TheVariants.{NoMemory}
+use Rattle.ffa_syntax.specs.TraceLines.{Line, operate, show, audit, skip, feed}
+use Rattle.ffa_syntax.specs.TraceText.{hex, line_text}
+use Rattle.ffa_syntax.specs.declared.output.PlayError.{PlayError}
+use Rattle.ffa_syntax.specs.declared.output.PlayError.TheVariants.{NoMemory}
 use Rattle.ffa_lines.specs.declared.guards.Asks.{Asks}
 use Rattle.ffa_lines.specs.declared.guards.Asks.TheVariants.{Printed, Runner}
 use Rattle.ffa_lines.specs.Guards.{first_line}

@@ -3,8 +3,8 @@
 use Rattle.std.specs.Prelude.{◌≡◌, ℕ, ◌+◌, Bool, true, ◌&&◌, List, [], ◌∷◌, codes, filter, map, not, drop, nat_eq, nat_le, if◌then◌else◌}
 use Rattle.std.specs.List.{list_all, prefix_len, starts_with}
 use Rattle.ffa_model.specs.Manifest.{is_from_to}
-use Rattle.ffa_model.specs.TraceLines.{has_no_feed, joined}
-use Rattle.ffa_lines.specs.Reasons.{reason_mark}
+use Rattle.ffa_syntax.specs.TraceLines.{has_no_feed, joined}
+use Rattle.ffa_explain.specs.Reasons.{reason_mark}
 
 -- a decimal digit
 abbrev pub is_digit : ℕ → Bool

@@ -3,15 +3,15 @@
 use Rattle.std.specs.Prelude.{◌≡◌, ◌≢◌, ◌≤◌, ◌⊎◌, ℕ, ◌+◌, Bool, true, false, List, [], ◌∷◌, ◌++◌, length, Option, None, Some, Result, Ok, Err, ⊤}
 use Rattle.std.specs.Io.KnownBytes.{Appends, Consumes, IsAtEnd}
 use Rattle.ffa_model.specs.State.{State}
-use Rattle.ffa_model.specs.TraceLines.{feed, has_no_feed, is_good, is_line, are_lines, joined}
-use Rattle.ffa_model.specs.TraceText.{after_all, text}
-use Rattle.ffa_trace.specs.declared.output.PlayError.{PlayError}
-use Rattle.ffa_trace.specs.declared.output.PlayError.TheVariants.{Read, Write, NoMemory, BadLine}
+use Rattle.ffa_syntax.specs.TraceLines.{feed, has_no_feed, is_good, is_line, are_lines, joined}
+use Rattle.ffa_syntax.specs.TraceText.{after_all, text}
+use Rattle.ffa_syntax.specs.declared.output.PlayError.{PlayError}
+use Rattle.ffa_syntax.specs.declared.output.PlayError.TheVariants.{Read, Write, NoMemory, BadLine}
 use Rattle.ffa_lines.specs.declared.form.Form.{Form}
 use Rattle.ffa_lines.specs.declared.comparison.Difference.{Difference}
 use Rattle.ffa_lines.specs.Cut.{CutsTo}
 use Rattle.ffa_lines.specs.Forms.{text_in, text_of_in}
-use Rattle.ffa_lines.specs.Reasons.{reason_of_bytes, told_line}
+use Rattle.ffa_explain.specs.Reasons.{reason_of_bytes, told_line}
 use Rattle.ffa_lines.specs.Reading.{IsAll}
 
 -- What follows speaks of the machine's state before and now (`start`, `now`), and of what was unread in the reader before and after.

@@ -1,27 +1,19 @@
 -- SPDX-License-Identifier: MIT OR Apache-2.0
 -- The forms in which a line's text is written.
-use Rattle.std.specs.Prelude.{◌≡◌, ℕ, ◌+◌, false, List, [], ◌∷◌, ◌++◌, codes, decimal, Result, Ok, Err, if◌then◌else◌}
+use Rattle.std.specs.Prelude.{◌≡◌, ℕ, ◌+◌, false, List, [], ◌∷◌, ◌++◌, Result, Ok, Err, if◌then◌else◌}
 use Rattle.std.specs.Option.{option_map_or}
 use Rattle.ffa_model.specs.declared.operation.Op.{Op}
 use Rattle.ffa_model.specs.declared.operation.Outcome.{Outcome}
 use Rattle.ffa_model.specs.declared.operation.Outcome.TheVariants.{Regs, Data, Done, Fault}
 use Rattle.ffa_model.specs.State.{State}
 use Rattle.ffa_model.specs.Step.{step}
-use Rattle.ffa_model.specs.TraceLines.{Line, operate, show, audit, skip, line_of}
-use Rattle.ffa_model.specs.TraceText.{outcome_words, line_text, line_after, after, spaced, ended}
-use Rattle.ffa_abi.specs.Names.{call_name_of, error_name_of}
-use Rattle.ffa_trace.specs.declared.output.PlayError.{PlayError}
-use Rattle.ffa_trace.specs.declared.output.PlayError.TheVariants.{NoMemory}
+use Rattle.ffa_syntax.specs.TraceLines.{Line, operate, show, audit, skip, line_of}
+use Rattle.ffa_syntax.specs.TraceText.{outcome_words, line_text, line_after, after, ended}
+use Rattle.ffa_syntax.specs.declared.output.PlayError.{PlayError}
+use Rattle.ffa_syntax.specs.declared.output.PlayError.TheVariants.{NoMemory}
 use Rattle.ffa_lines.specs.declared.form.Form.{Form}
-use Rattle.ffa_lines.specs.Reasons.{reason_if}
-
--- the number of a line, as its text begins with it
-abbrev pub number_mark : ℕ → List ℕ
-number_mark number = decimal number ++ codes ": "
-
--- what stands behind registers: the name of the call that they are, and of the error
-abbrev pub names_mark : List ℕ → List ℕ
-names_mark x = option_map_or (λ name. codes " # " ++ name ++ option_map_or spaced (error_name_of x) []) (call_name_of x) []
+use Rattle.ffa_explain.specs.Marks.{names_mark, number_mark}
+use Rattle.ffa_explain.specs.Reasons.{reason_if}
 
 -- neither numbers nor names nor reasons
 abbrev pub plain : Form

@@ -5,10 +5,10 @@ use Rattle.std.specs.Io.KnownBytes.{Appends, Consumes, IsAtEnd}
 use Rattle.std.specs.List.{before_first, flat_map, list_all, starts_with}
 use Rattle.std.specs.Option.{option_map_or}
 use Rattle.ffa_model.specs.State.{State}
-use Rattle.ffa_model.specs.TraceLines.{Line, operate, show, audit, skip, feed, has_no_feed, line_of, joined}
-use Rattle.ffa_model.specs.TraceText.{hex, text_of, after_all}
-use Rattle.ffa_trace.specs.declared.output.PlayError.{PlayError}
-use Rattle.ffa_trace.specs.declared.output.PlayError.TheVariants.{Read, Write, NoMemory, BadLine}
+use Rattle.ffa_syntax.specs.TraceLines.{Line, operate, show, audit, skip, feed, has_no_feed, line_of, joined}
+use Rattle.ffa_syntax.specs.TraceText.{hex, text_of, after_all}
+use Rattle.ffa_syntax.specs.declared.output.PlayError.{PlayError}
+use Rattle.ffa_syntax.specs.declared.output.PlayError.TheVariants.{Read, Write, NoMemory, BadLine}
 use Rattle.ffa_lines.specs.declared.form.Form.{Form}
 use Rattle.ffa_lines.specs.declared.guards.Asks.{Asks}
 use Rattle.ffa_lines.specs.declared.guards.Asks.TheVariants.{Printed, Runner}

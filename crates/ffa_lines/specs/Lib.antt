@@ -5,5 +5,5 @@ pub mod Followed
 pub mod Forms
 pub mod Guards
 pub mod Reading
-pub mod Reasons
+pub mod Steps
 pub mod Whole

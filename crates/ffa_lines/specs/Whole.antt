@@ -1,13 +1,9 @@
 -- SPDX-License-Identifier: MIT OR Apache-2.0
--- A line as it stands in a trace.
-use Rattle.std.specs.Prelude.{◌≡◌, ℕ, true, List, [], ◌∷◌, ◌++◌, Result, Ok, Err, ⊤}
-use Rattle.ffa_model.specs.TraceLines.{feed, is_good}
-use Rattle.ffa_trace.specs.declared.output.PlayError.{PlayError}
-use Rattle.ffa_trace.specs.declared.output.PlayError.TheVariants.{Read, Write, NoMemory, BadLine}
-
--- these bytes are a line that is taken, and the LF that ends it
-abbrev pub IsWhole : List ℕ → Type 0
-IsWhole bytes = (line : List ℕ) × (bytes ≡ line ++ feed ∷ []) × (is_good line ≡ true)
+-- What a play that ends at a bad line leaves of it.
+use Rattle.std.specs.Prelude.{ℕ, List, Result, Ok, Err, ⊤}
+use Rattle.ffa_syntax.specs.declared.output.PlayError.{PlayError}
+use Rattle.ffa_syntax.specs.declared.output.PlayError.TheVariants.{Read, Write, NoMemory, BadLine}
+use Rattle.ffa_explain.specs.Whole.{IsWhole}
 
 -- where a play ends at a bad line, these bytes are none that is taken
 abbrev pub LeavesBad : {X : Type 0} → Result X PlayError → List ℕ → Type 0

@@ -1,21 +1,25 @@
 // SPDX-License-Identifier: MIT OR Apache-2.0
 //! A play against a text that is expected.
-ghost use Rattle.std.specs.Prelude.{IfOk, IfSome};
+ghost use Rattle.std.specs.Prelude.{◌≡◌, IfOk, IfSome};
+ghost use Rattle.ffa_syntax.specs.Lines.{meant};
+ghost use Rattle.ffa_explain.specs.Reasons.{reason_if, told_line};
 ghost use Rattle.ffa_lines.specs.Followed.{Compared, NeverPrints};
-ghost use Rattle.ffa_lines.specs.Forms.{plain};
+ghost use Rattle.ffa_lines.specs.Forms.{WritesIn, plain};
+ghost use Rattle.ffa_lines.specs.Steps.{LeavesOver};
 ghost use Rattle.ffa_lines.specs.Whole.{LeavesBad};
 
 use crate::form::{Form, make_text};
-use crate::read::next_line;
-use crate::reason::{Reason, reason_of};
-use ffa_physmem::PhysMem;
-use ffa_tlb::Translations;
-use ffa_trace::{Line, PlayError, Player};
+use crate::read::take_line;
+use crate::reason::reason_of;
+use ffa_explain::Reason;
+use ffa_playable::Playable;
+use ffa_syntax::{Line, PlayError};
+use ffa_trace::Player;
 use std::alloc::Allocator;
 use std::io::BufRead;
 
 /// Where a text first differs from what is expected.
-#[derive(Clone, Copy, Debug, PartialEq, Eq)]
+#[derive(Clone, Copy)]
 pub struct Difference {
     /// The number of the line whose text differs, counted from 1, or of the line behind the last, where the expected text
     /// goes on.
@@ -30,8 +34,8 @@ pub struct Difference {
 /// and answers where that is. The bytes of the line at which it stopped stand in `bytes`, without the LF that ends them, and
 /// its plain text in `text`. The bytes of a bad line stand there as they stand in the trace, with the LF that ends them, where
 /// one does.
-pub fn compare<M: PhysMem + Drop, T: Translations + Drop, A: Allocator + Copy, R: BufRead>(
-    player: &mut Player<M, T>,
+pub fn compare<P: Playable, A: Allocator + Copy, R: BufRead>(
+    player: &mut Player<P>,
     alloc: A,
     explain: bool,
     reader: &mut R,
@@ -43,33 +47,59 @@ pub fn compare<M: PhysMem + Drop, T: Translations + Drop, A: Allocator + Copy, R
     ensures bad_line { LeavesBad result bytes.new.items }
     ensures unequal { IfOk result (λ d. IfSome d (λ _. NeverPrints plain player.old.state (R.remaining reader.old) expected.now)) }
 {
-    let plain = Form {
-        number: false,
-        names: false,
-        explain: false,
-    };
     let mut rest = expected;
     let mut number = 1;
     while number < u64::MAX {
-        let mut here = Difference {
-            number,
-            place: expected.len() - rest.len(),
-            reason: None,
+        let place = expected.len() - rest.len();
+        let Some(line) = take_line(reader, bytes, number)? else {
+            return Ok(left_over(rest, number, place));
         };
-        if !next_line(reader, bytes, number)? {
-            return Ok(if rest.is_empty() { None } else { Some(here) });
-        }
-        let Some(line) = Line::read(bytes) else {
-            bytes.push(b'\n').map_err(|_| PlayError::NoMemory)?;
-            return Err(PlayError::BadLine(number));
-        };
-        here.reason = reason_of(player, explain, &line);
-        make_text(player, alloc, plain, number, &line, text)?;
+        let reason = tell_text(player, alloc, explain, number, &line, text)?;
         let Some(more) = rest.strip_prefix(text.as_slice()) else {
-            return Ok(Some(here));
+            return Ok(Some(Difference {
+                number,
+                place,
+                reason,
+            }));
         };
         rest = more;
         number += 1;
     }
     Err(PlayError::Read)
+}
+
+// Does a line and makes its plain text, and answers why its operation is refused, where that is asked for.
+fn tell_text<P: Playable, A: Allocator + Copy>(
+    player: &mut Player<P>,
+    alloc: A,
+    explain: bool,
+    number: u64,
+    line: &Line,
+    text: &mut Vec<u8, A>,
+) -> Result<Option<Reason>, PlayError>
+    ensures made { WritesIn plain player.old.state player.new.state number (meant line.now) text.new.items result }
+    ensures told { IfOk result (λ reason. told_line reason ≡ reason_if explain player.old.state (meant line.now)) }
+{
+    let plain = Form {
+        number: false,
+        names: false,
+        explain: false,
+    };
+    let reason = reason_of(player, explain, line);
+    make_text(player, alloc, plain, number, line, text)?;
+    Ok(reason)
+}
+
+// The difference where no line is left: there is one if the expected text goes on.
+fn left_over(rest: &[u8], number: u64, place: usize) -> Option<Difference>
+    ensures { LeavesOver rest.now number place result }
+{
+    if rest.is_empty() {
+        return None;
+    }
+    Some(Difference {
+        number,
+        place,
+        reason: None,
+    })
 }

@@ -1,22 +1,23 @@
 // SPDX-License-Identifier: MIT OR Apache-2.0
 //! The forms in which a line's text is written.
-ghost use Rattle.std.specs.Prelude.{◌≡◌, ◌++◌, ℕ, List, IfErr, OnOk};
-ghost use Rattle.ffa_model.specs.TraceText.{ended, line_text};
-ghost use Rattle.ffa_trace.specs.Lines.{meant};
+ghost use Rattle.std.specs.Prelude.{◌≡◌, ◌++◌, IfErr, OnOk};
+ghost use Rattle.ffa_syntax.specs.TraceText.{line_text};
+ghost use Rattle.ffa_syntax.specs.Lines.{meant};
 ghost use Rattle.ffa_lines.specs.Asking.{unasked_by};
-ghost use Rattle.ffa_lines.specs.Forms.{PutsIn, WritesIn, names_mark, number_mark};
+ghost use Rattle.ffa_lines.specs.Forms.{PutsIn, WritesIn, number_in};
+ghost use Rattle.ffa_lines.specs.Steps.{Explains, Speaks, TakesNames};
 
-use crate::reason::{put_reason, reason_of};
-use ffa_abi::{call_name, error_name};
+use crate::reason::reason_of;
+use ffa_explain::mark::{put_bytes, put_names, put_number};
+use ffa_explain::put_reason;
 use ffa_model::Outcome;
-use ffa_physmem::PhysMem;
-use ffa_tlb::Translations;
-use ffa_trace::{Line, PlayError, Player};
+use ffa_playable::Playable;
+use ffa_syntax::{Line, PlayError};
+use ffa_trace::Player;
 use std::alloc::Allocator;
-use std::io::Write;
 
 /// What a line's text is written with.
-#[derive(Clone, Copy, Debug, Default, PartialEq, Eq)]
+#[derive(Clone, Copy, Default, PartialEq, Eq)]
 pub struct Form {
     /// The number of the line, at the beginning of its text.
     pub number: bool,
@@ -27,8 +28,8 @@ pub struct Form {
 }
 
 /// Does the line of this number, and makes its text in this form. A line that says nothing has no number.
-pub fn make_text<M: PhysMem + Drop, T: Translations + Drop, A: Allocator + Copy>(
-    player: &mut Player<M, T>,
+pub fn make_text<P: Playable, A: Allocator + Copy>(
+    player: &mut Player<P>,
     alloc: A,
     form: Form,
     number: u64,
@@ -41,19 +42,59 @@ pub fn make_text<M: PhysMem + Drop, T: Translations + Drop, A: Allocator + Copy>
     match line {
         Line::Nothing => Ok(()),
         Line::Operation(_) | Line::Show | Line::Audit => {
-            if form.number {
-                put_number(text, number)?;
-            }
-            let reason = reason_of(player, form.explain, line);
-            put_text(player, alloc, form, line, text)?;
-            put_reason(text, reason)
+            put_spoken(player, alloc, form, number, line, text)
         }
     }
 }
 
-/// The same, and puts the plain text into `said`, which a line that says nothing leaves as it is.
-pub(crate) fn make_texts<M: PhysMem + Drop, T: Translations + Drop, A: Allocator + Copy>(
-    player: &mut Player<M, T>,
+// Does a line that says something, and puts its text behind what stands there, from its number on.
+fn put_spoken<P: Playable, A: Allocator + Copy>(
+    player: &mut Player<P>,
+    alloc: A,
+    form: Form,
+    number: u64,
+    line: &Line,
+    text: &mut Vec<u8, A>,
+) -> Result<(), PlayError>
+    ensures { Speaks form player.old.state player.new.state number (meant line.now) text.old.items text.new.items result }
+{
+    put_number_in(form, number, text)?;
+    put_explained(player, alloc, form, line, text)
+}
+
+fn put_number_in<A: Allocator>(
+    form: Form,
+    number: u64,
+    text: &mut Vec<u8, A>,
+) -> Result<(), PlayError>
+    ensures written { OnOk result (text.new.items ≡ text.old.items ++ number_in form number) }
+    ensures failed { IfErr result (λ e. e ≡ PlayError.NoMemory) }
+{
+    if form.number {
+        put_number(text, number)
+    } else {
+        Ok(())
+    }
+}
+
+// Without its number. Why an operation is refused is asked before it is done.
+fn put_explained<P: Playable, A: Allocator + Copy>(
+    player: &mut Player<P>,
+    alloc: A,
+    form: Form,
+    line: &Line,
+    text: &mut Vec<u8, A>,
+) -> Result<(), PlayError>
+    ensures { Explains form player.old.state player.new.state (meant line.now) text.old.items text.new.items result }
+{
+    let reason = reason_of(player, form.explain, line);
+    put_text(player, alloc, form, line, text)?;
+    put_reason(text, reason)
+}
+
+/// As `make_text`, and puts the plain text into `said`, which a line that says nothing leaves as it is.
+pub(crate) fn make_texts<P: Playable, A: Allocator + Copy>(
+    player: &mut Player<P>,
     alloc: A,
     form: Form,
     number: u64,
@@ -68,26 +109,33 @@ pub(crate) fn make_texts<M: PhysMem + Drop, T: Translations + Drop, A: Allocator
     match line {
         Line::Nothing => Ok(()),
         Line::Operation(_) | Line::Show | Line::Audit => {
-            if form.number {
-                put_number(text, number)?;
-            }
-            let reason = reason_of(player, form.explain, line);
-            put_texts(player, alloc, form, line, said, text)?;
-            put_reason(text, reason)
+            put_both(player, alloc, form, number, line, said, text)
         }
     }
 }
 
-fn put_number<A: Allocator>(text: &mut Vec<u8, A>, number: u64) -> Result<(), PlayError>
-    ensures written { OnOk result (text.new.items ≡ text.old.items ++ number_mark number) }
-    ensures failed { IfErr result (λ e. e ≡ PlayError.NoMemory) }
+// As `put_spoken`, with the plain text in `said`.
+fn put_both<P: Playable, A: Allocator + Copy>(
+    player: &mut Player<P>,
+    alloc: A,
+    form: Form,
+    number: u64,
+    line: &Line,
+    said: &mut Vec<u8, A>,
+    text: &mut Vec<u8, A>,
+) -> Result<(), PlayError>
+    ensures spoken { Speaks form player.old.state player.new.state number (meant line.now) text.old.items text.new.items result }
+    ensures said { OnOk result (said.new.items ≡ line_text player.old.state (meant line.now)) }
 {
-    write!(text, "{number}: ").map_err(|_| PlayError::NoMemory)
+    put_number_in(form, number, text)?;
+    let reason = reason_of(player, form.explain, line);
+    put_texts(player, alloc, form, line, said, text)?;
+    put_reason(text, reason)
 }
 
 // Does a line, and puts its text behind what stands there.
-fn put_text<M: PhysMem + Drop, T: Translations + Drop, A: Allocator + Copy>(
-    player: &mut Player<M, T>,
+fn put_text<P: Playable, A: Allocator + Copy>(
+    player: &mut Player<P>,
     alloc: A,
     form: Form,
     line: &Line,
@@ -96,16 +144,15 @@ fn put_text<M: PhysMem + Drop, T: Translations + Drop, A: Allocator + Copy>(
     ensures { PutsIn form player.old.state player.new.state (meant line.now) text.old.items text.new.items result }
 {
     match player.line(alloc, line, text) {
-        Ok(Some(Outcome::Regs { x, .. })) if form.names => put_names(text, &x),
-        Ok(_) => Ok(()),
+        Ok(outcome) => put_names_in(form, outcome, text),
         // A text in memory takes all that there is memory for.
         Err(_) => Err(PlayError::NoMemory),
     }
 }
 
 // The same, with the plain text in `said`.
-fn put_texts<M: PhysMem + Drop, T: Translations + Drop, A: Allocator + Copy>(
-    player: &mut Player<M, T>,
+fn put_texts<P: Playable, A: Allocator + Copy>(
+    player: &mut Player<P>,
     alloc: A,
     form: Form,
     line: &Line,
@@ -116,45 +163,37 @@ fn put_texts<M: PhysMem + Drop, T: Translations + Drop, A: Allocator + Copy>(
     ensures said { OnOk result (said.new.items ≡ line_text player.old.state (meant line.now)) }
 {
     said.clear();
-    let Ok(outcome) = player.line(alloc, line, said) else {
-        return Err(PlayError::NoMemory);
-    };
+    match player.line(alloc, line, said) {
+        Ok(outcome) => put_said(form, outcome, said, text),
+        Err(_) => Err(PlayError::NoMemory),
+    }
+}
+
+// Puts the plain text of a line behind what stands there, with names where they are asked for.
+fn put_said<A: Allocator>(
+    form: Form,
+    outcome: Option<Outcome>,
+    said: &[u8],
+    text: &mut Vec<u8, A>,
+) -> Result<(), PlayError>
+    ensures written { OnOk result (TakesNames form outcome (text.old.items ++ said.now) text.new.items) }
+    ensures failed { IfErr result (λ e. e ≡ PlayError.NoMemory) }
+{
     put_bytes(text, said)?;
+    put_names_in(form, outcome, text)
+}
+
+// Puts names behind registers that a text ends with, where they are asked for.
+fn put_names_in<A: Allocator>(
+    form: Form,
+    outcome: Option<Outcome>,
+    text: &mut Vec<u8, A>,
+) -> Result<(), PlayError>
+    ensures written { OnOk result (TakesNames form outcome text.old.items text.new.items) }
+    ensures failed { IfErr result (λ e. e ≡ PlayError.NoMemory) }
+{
     match outcome {
         Some(Outcome::Regs { x, .. }) if form.names => put_names(text, &x),
         _ => Ok(()),
     }
-}
-
-// Puts names before the LF that ends a text.
-fn put_names<A: Allocator>(text: &mut Vec<u8, A>, x: &[u64; 8]) -> Result<(), PlayError>
-    ensures written { OnOk result ((front : List ℕ) → text.old.items ≡ ended front → text.new.items ≡ ended (front ++ names_mark x.now)) }
-    ensures failed { IfErr result (λ e. e ≡ PlayError.NoMemory) }
-{
-    let Some(name) = call_name(x) else {
-        return Ok(());
-    };
-    text.pop();
-    put(text, " # ")?;
-    put(text, name)?;
-    if let Some(error) = error_name(x) {
-        put(text, " ")?;
-        put(text, error)?;
-    }
-    put(text, "\n")
-}
-
-pub(crate) fn put<A: Allocator>(text: &mut Vec<u8, A>, word: &str) -> Result<(), PlayError>
-    ensures written { OnOk result (text.new.items ≡ text.old.items ++ word.now) }
-    ensures failed { IfErr result (λ e. e ≡ PlayError.NoMemory) }
-{
-    put_bytes(text, word.as_bytes())
-}
-
-pub(crate) fn put_bytes<A: Allocator>(text: &mut Vec<u8, A>, bytes: &[u8]) -> Result<(), PlayError>
-    ensures written { OnOk result (text.new.items ≡ text.old.items ++ bytes.now) }
-    ensures failed { IfErr result (λ e. e ≡ PlayError.NoMemory) }
-{
-    text.extend_from_slice(bytes)
-        .map_err(|_| PlayError::NoMemory)
 }

@@ -2,22 +2,24 @@
 //! A play that checks guards: comments that ask what the line before them printed, or which endpoint runs.
 ghost use Rattle.std.specs.Prelude.{◌≡◌, ◌≢◌, ℕ, List, ◌∷◌, ◌++◌, IfErr, OnOk, drop, length, ◌≤◌, ◌==◌, position, option_map};
 ghost use Rattle.std.specs.Option.{MatchOption};
-ghost use Rattle.ffa_model.specs.TraceLines.{feed};
-ghost use Rattle.ffa_model.specs.TraceText.{hex};
-ghost use Rattle.ffa_lines.specs.Asking.{Asked, AsksPrinted, AsksRunner};
+ghost use Rattle.ffa_syntax.specs.TraceLines.{feed};
+ghost use Rattle.ffa_syntax.specs.Lines.{meant};
+ghost use Rattle.ffa_syntax.specs.TraceText.{hex};
+ghost use Rattle.ffa_lines.specs.Asking.{Asked, AsksPrinted, AsksRunner, unasked_by};
 ghost use Rattle.ffa_lines.specs.Guards.{GuardedIn, first_line, guard_of, unspaced};
+ghost use Rattle.ffa_lines.specs.Steps.{PrintsLine};
 
 use crate::form::{Form, make_texts};
-use crate::read::next_line;
-use ffa_physmem::PhysMem;
-use ffa_tlb::Translations;
-use ffa_trace::text::{self, Text};
-use ffa_trace::{Line, PlayError, Player, output};
+use crate::read::take_line;
+use ffa_playable::Playable;
+use ffa_syntax::text::{self, Text};
+use ffa_syntax::{Line, PlayError, output};
+use ffa_trace::Player;
 use std::alloc::Allocator;
 use std::io::{BufRead, Write};
 
 /// What a guard asks about.
-#[derive(Clone, Copy, Debug, PartialEq, Eq)]
+#[derive(Clone, Copy, PartialEq, Eq)]
 pub enum Asks {
     /// A line that was printed: `#= TEXT`.
     Printed,
@@ -26,7 +28,7 @@ pub enum Asks {
 }
 
 /// A guard that isn't met.
-#[derive(Clone, Copy, Debug, PartialEq, Eq)]
+#[derive(Clone, Copy, PartialEq, Eq)]
 pub struct Breach {
     /// The number of its line, counted from 1.
     pub number: u64,
@@ -60,14 +62,8 @@ fn without_space(text: &[u8]) -> &[u8]
 /// order, and guards of the runner for the endpoint that runs. The bytes of a guard that isn't met stand in `bytes`, without
 /// the LF that ends them, and what there is in place of what it wants in `found`: the next line that no guard has asked for,
 /// without its LF, which is empty where there is none; or the identifier of the endpoint that runs.
-pub fn play_guarded<
-    M: PhysMem + Drop,
-    T: Translations + Drop,
-    A: Allocator + Copy,
-    R: BufRead,
-    W: Write,
->(
-    player: &mut Player<M, T>,
+pub fn play_guarded<P: Playable, A: Allocator + Copy, R: BufRead, W: Write>(
+    player: &mut Player<P>,
     alloc: A,
     form: Form,
     reader: &mut R,
@@ -81,27 +77,49 @@ pub fn play_guarded<
     let mut text = Vec::new(alloc);
     let mut number = 1;
     while number < u64::MAX {
-        if !next_line(reader, bytes, number)? {
+        let Some(line) = take_line(reader, bytes, number)? else {
             return Ok(None);
-        }
-        let Some(line) = Line::read(bytes) else {
-            bytes.push(b'\n').map_err(|_| PlayError::NoMemory)?;
-            return Err(PlayError::BadLine(number));
         };
         if let Some(asks) = unmet(player, bytes, &mut unasked, found)? {
             return Ok(Some(Breach { number, asks }));
         }
-        make_texts(player, alloc, form, number, &line, &mut unasked, &mut text)?;
-        output::write_text(writer, &text)?;
+        print_asked(
+            player,
+            alloc,
+            form,
+            number,
+            &line,
+            writer,
+            &mut unasked,
+            &mut text,
+        )?;
         number += 1;
     }
     Err(PlayError::Read)
 }
 
+// Does a line and writes its text, which it makes in `text`, and puts the plain text into `said`, where there is one.
+fn print_asked<P: Playable, A: Allocator + Copy, W: Write>(
+    player: &mut Player<P>,
+    alloc: A,
+    form: Form,
+    number: u64,
+    line: &Line,
+    writer: &mut W,
+    said: &mut Vec<u8, A>,
+    text: &mut Vec<u8, A>,
+) -> Result<(), PlayError>
+    ensures printed { PrintsLine form player.old.state player.new.state number (meant line.now) (W.contents writer.old) (W.contents writer.new) result }
+    ensures said { OnOk result (said.new.items ≡ unasked_by player.old.state (meant line.now) said.old.items) }
+{
+    make_texts(player, alloc, form, number, line, said, text)?;
+    output::write_text(writer, text)
+}
+
 // Asks the guard that a line is, if it is one, and answers what it asks about if it isn't met. What it wants of a printed
 // text is taken off what is unasked.
-fn unmet<M: PhysMem + Drop, T: Translations + Drop, A: Allocator>(
-    player: &Player<M, T>,
+fn unmet<P: Playable, A: Allocator>(
+    player: &Player<P>,
     line: &[u8],
     unasked: &mut Vec<u8, A>,
     found: &mut Vec<u8, A>,
@@ -134,8 +152,8 @@ fn ask_printed<A: Allocator>(
     Ok(false)
 }
 
-fn ask_runner<M: PhysMem + Drop, T: Translations + Drop, A: Allocator>(
-    player: &Player<M, T>,
+fn ask_runner<P: Playable, A: Allocator>(
+    player: &Player<P>,
     wants: &[u8],
     found: &mut Vec<u8, A>,
 ) -> Result<bool, PlayError>

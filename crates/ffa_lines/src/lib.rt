@@ -1,10 +1,9 @@
 // SPDX-License-Identifier: MIT OR Apache-2.0
 //! Plays a trace line by line: with the number of each line, with the names of what registers hold, with the reasons of
-//! refusals, with guards that are checked, or against a text that is expected; and says why a line is none of the format.
+//! refusals, with guards that are checked, or against a text that is expected.
 #![tactic(auto)]
 
 mod comparison;
-mod fault;
 mod form;
 mod guards;
 mod playing;
@@ -12,9 +11,7 @@ mod read;
 mod reason;
 
 pub use comparison::{Difference, compare};
-pub use fault::{LineFault, WordFault, line_fault};
 pub use form::{Form, make_text};
 pub use guards::{Asks, Breach, guard_text, play_guarded};
 pub use playing::play;
 pub use read::next_line;
-pub use reason::{Reason, put_reason};

@@ -1,20 +1,22 @@
 // SPDX-License-Identifier: MIT OR Apache-2.0
 //! A play that writes each text in a form.
+ghost use Rattle.ffa_syntax.specs.Lines.{meant};
 ghost use Rattle.ffa_lines.specs.Followed.{PlayedIn};
+ghost use Rattle.ffa_lines.specs.Steps.{PrintsLine};
 
 use crate::form::{Form, make_text};
-use crate::read::next_line;
-use ffa_physmem::PhysMem;
-use ffa_tlb::Translations;
-use ffa_trace::{Line, PlayError, Player, output};
+use crate::read::take_line;
+use ffa_playable::Playable;
+use ffa_syntax::{Line, PlayError, output};
+use ffa_trace::Player;
 use std::alloc::Allocator;
 use std::io::{BufRead, Write};
 
 /// Does the lines that the reader gives, one after another, and writes the text of each in this form before the next is
 /// read. Lines count from 1. The bytes of a bad line stand in `bytes` as they stand in the trace, with the LF that ends
 /// them, where one does.
-pub fn play<M: PhysMem + Drop, T: Translations + Drop, A: Allocator + Copy, R: BufRead, W: Write>(
-    player: &mut Player<M, T>,
+pub fn play<P: Playable, A: Allocator + Copy, R: BufRead, W: Write>(
+    player: &mut Player<P>,
     alloc: A,
     form: Form,
     reader: &mut R,
@@ -26,16 +28,27 @@ pub fn play<M: PhysMem + Drop, T: Translations + Drop, A: Allocator + Copy, R: B
     let mut text = Vec::new(alloc);
     let mut number = 1;
     while number < u64::MAX {
-        if !next_line(reader, bytes, number)? {
-            return Ok(());
+        match take_line(reader, bytes, number)? {
+            Some(line) => print_line(player, alloc, form, number, &line, writer, &mut text)?,
+            None => return Ok(()),
         }
-        let Some(line) = Line::read(bytes) else {
-            bytes.push(b'\n').map_err(|_| PlayError::NoMemory)?;
-            return Err(PlayError::BadLine(number));
-        };
-        make_text(player, alloc, form, number, &line, &mut text)?;
-        output::write_text(writer, &text)?;
         number += 1;
     }
     Err(PlayError::Read)
+}
+
+// Does a line and writes its text, which it makes in `text`.
+fn print_line<P: Playable, A: Allocator + Copy, W: Write>(
+    player: &mut Player<P>,
+    alloc: A,
+    form: Form,
+    number: u64,
+    line: &Line,
+    writer: &mut W,
+    text: &mut Vec<u8, A>,
+) -> Result<(), PlayError>
+    ensures { PrintsLine form player.old.state player.new.state number (meant line.now) (W.contents writer.old) (W.contents writer.new) result }
+{
+    make_text(player, alloc, form, number, line, text)?;
+    output::write_text(writer, text)
 }

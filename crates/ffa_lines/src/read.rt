@@ -1,8 +1,9 @@
 // SPDX-License-Identifier: MIT OR Apache-2.0
 //! Reading the lines of a trace.
 ghost use Rattle.ffa_lines.specs.Reading.{ReadsLine, TakesFeed};
+ghost use Rattle.ffa_lines.specs.Steps.{Refuses, TakesLine};
 
-use ffa_trace::PlayError;
+use ffa_syntax::{Line, PlayError};
 use std::alloc::Allocator;
 use std::io::{BufRead, ErrorKind};
 
@@ -38,5 +39,32 @@ fn take_feed<A: Allocator>(line: &mut Vec<u8, A>, number: u64) -> Result<bool, P
             Err(_) => Err(PlayError::NoMemory),
         },
         None => Err(PlayError::Read),
+    }
+}
+
+// Reads the next line, and what it is. The bytes of a bad line stand in `bytes` with the LF that ends them, where one does.
+pub(crate) fn take_line<A: Allocator, R: BufRead>(
+    reader: &mut R,
+    bytes: &mut Vec<u8, A>,
+    number: u64,
+) -> Result<Option<Line>, PlayError>
+    ensures { TakesLine (R.remaining reader.old) (R.remaining reader.new) bytes.new.items number result }
+{
+    if !next_line(reader, bytes, number)? {
+        return Ok(None);
+    }
+    match Line::read(bytes) {
+        Some(line) => Ok(Some(line)),
+        None => refuse(bytes, number),
+    }
+}
+
+// Answers that a line is bad, and puts its LF back.
+fn refuse<A: Allocator>(bytes: &mut Vec<u8, A>, number: u64) -> Result<Option<Line>, PlayError>
+    ensures { Refuses bytes.old.items bytes.new.items number result }
+{
+    match bytes.push(b'\n') {
+        Ok(()) => Err(PlayError::BadLine(number)),
+        Err(_) => Err(PlayError::NoMemory),
     }
 }

@@ -14,7 +14,7 @@ pub(crate) fn is_ram_base(base: u64) -> bool
 }
 
 /// A machine's RAM, of which the front holds the tables of its endpoints.
-#[derive(Clone, Copy, Debug)]
+#[derive(Clone, Copy)]
 pub(crate) struct Place {
     /// The address of RAM's first byte.
     pub base: u32,

@@ -1,4 +1,5 @@
 -- SPDX-License-Identifier: MIT OR Apache-2.0
+-- FOR PROOFS ALONE
 -- Bytes that are written from the front on.
 use Rattle.std.specs.Prelude.{◌≡◌, ℕ, List, ◌++◌, length, drop}
 

@@ -9,7 +9,7 @@ use crate::bytes::{Bytes, read_u16, read_u32, read_u64};
 use ffa_model::EndpointId;
 
 /// An access descriptor as it stands in the bytes.
-#[derive(Clone, Copy, Debug, PartialEq, Eq)]
+#[derive(Clone, Copy, PartialEq, Eq)]
 pub struct Access {
     pub endpoint: EndpointId,
     pub permissions: u8,

@@ -33,7 +33,6 @@ impl<'a> Bytes for &'a [u8] {
 }
 
 /// The number in the two bytes from this place on, the low one first.
-#[tactic(auto, using(crate::proofs::Numbers::u16_bytes))]
 pub fn read_u16<B: Bytes>(bytes: &B, place: usize) -> u16
     requires { place + 2 ≤ length (B.bytes bytes.now) }
     ensures { result ≡ u16_at (B.bytes bytes.now) place }
@@ -44,7 +43,6 @@ pub fn read_u16<B: Bytes>(bytes: &B, place: usize) -> u16
 }
 
 /// The number in the four bytes from this place on, the lowest first.
-#[tactic(auto, using(crate::proofs::Numbers::u32_bytes))]
 pub fn read_u32<B: Bytes>(bytes: &B, place: usize) -> u32
     requires { place + 4 ≤ length (B.bytes bytes.now) }
     ensures { result ≡ u32_at (B.bytes bytes.now) place }
@@ -60,7 +58,6 @@ pub fn read_u32<B: Bytes>(bytes: &B, place: usize) -> u32
 }
 
 /// The number in the eight bytes from this place on, the lowest first.
-#[tactic(auto, using(crate::proofs::Numbers::u64_bytes))]
 pub fn read_u64<B: Bytes>(bytes: &B, place: usize) -> u64
     requires { place + 8 ≤ length (B.bytes bytes.now) }
     ensures { result ≡ u64_at (B.bytes bytes.now) place }

@@ -19,7 +19,7 @@ pub const ENTRY_SIZE: u32 = 16;
 pub const NORMAL_MEMORY: u16 = 0x2f;
 
 /// What a header says, and where the access descriptors stand.
-#[derive(Clone, Copy, Debug, PartialEq, Eq)]
+#[derive(Clone, Copy, PartialEq, Eq)]
 pub struct Header {
     pub sender: EndpointId,
     pub attributes: u16,

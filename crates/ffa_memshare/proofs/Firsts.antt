@@ -2,15 +2,19 @@
 -- Checks that others follow.
 use Rattle.std.proofs.Common.{◌≡◌, ◌∙◌, ℕ, Bool, true, false, List, [], ◌∷◌, ◌++◌, Option, Some, None, refl, sym, ap}
 use Rattle.std.proofs.lemmas.Option.{none-some}
+use Rattle.std.specs.FinMap as finite
 use Rattle.ffa_model.specs.declared.call.Transfer.{Transfer}
+use Rattle.ffa_model.specs.declared.descriptor.RelinquishDesc.{RelinquishDesc}
 use Rattle.ffa_model.specs.declared.descriptor.RetrieveDesc.{RetrieveDesc}
 use Rattle.ffa_model.specs.declared.refusal.Refusal.{Refusal}
 use Rattle.ffa_model.specs.declared.refusal.Refusal.TheVariants.{DescriptorMalformed}
 use Rattle.ffa_model.specs.Calls.{first_refusal}
 use Rattle.ffa_model.specs.MemoryRetrieve.{asking_guards, retrieve_guards}
+use Rattle.ffa_model.specs.MemoryReturn.{holder_guards, relinquish_guards, returned_guards}
 use Rattle.ffa_model.specs.MemorySend.{after_offer, after_transfer, offer_guards, room_guards, send_guards}
 use Rattle.ffa_model.specs.SendDescriptor.{SendRecord}
-use Rattle.ffa_model.specs.Transactions.{Scene}
+use Rattle.ffa_model.specs.State.{Buffers}
+use Rattle.ffa_model.specs.Transactions.{OpenTransactions, Scene}
 
 -- where all of them pass, one of the others is the first that fails
 pub first-pass : (checks others : List (Bool × Refusal)) → None ≡ first_refusal checks → first_refusal others ≡ first_refusal (checks ++ others)
@@ -62,3 +66,13 @@ module _ (scene : Scene) (e : ℕ) (x : Transfer) where
   retrieve-asked read is whole same first =
       first ∙ first-pass of_transfer (asking_guards scene e is) whole
       ∙ ap (λ (o : Option RetrieveDesc). first_refusal (retrieve_guards scene e x o)) (sym same)
+
+-- THE CHECKS OF A RELINQUISH
+-- of an endpoint with buffers, where the bytes ask for this
+pub relinquish-asked : (b : Buffers) (own : Option Buffers) (open_transactions : OpenTransactions) (e : ℕ) (read : Option RelinquishDesc) (asked : RelinquishDesc) {first : Option Refusal}
+    → Some b ≡ own → read ≡ Some asked → first ≡ first_refusal (holder_guards e asked (finite.get open_transactions.transactions asked.handle))
+    → first ≡ first_refusal (relinquish_guards own open_transactions e read)
+relinquish-asked b own open_transactions e read asked has same first =
+    first
+    ∙ ap (λ (o : Option RelinquishDesc). first_refusal (returned_guards open_transactions e o)) (sym same)
+    ∙ ap (λ (o : Option Buffers). first_refusal (relinquish_guards o open_transactions e read)) has

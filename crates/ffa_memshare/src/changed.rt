@@ -7,7 +7,7 @@ use crate::page_ranges::PageRanges;
 use ffa_model::{EndpointId, Kind};
 
 /// Whose access to which pages a call on memory changed.
-#[derive(Debug, Drop)]
+#[derive(Drop)]
 pub struct Changed {
     /// The ranges of the transaction.
     pub ranges: PageRanges,
@@ -16,7 +16,7 @@ pub struct Changed {
 }
 
 /// What a send answers.
-#[derive(Debug, Drop)]
+#[derive(Drop)]
 pub struct Sent {
     /// The handle of the transaction that is open now.
     pub handle: u64,
@@ -24,7 +24,7 @@ pub struct Sent {
 }
 
 /// What a retrieve answers.
-#[derive(Debug, Drop)]
+#[derive(Drop)]
 pub struct Retrieved {
     /// How many bytes the answer in the caller's RX has.
     pub size: u32,

@@ -13,7 +13,7 @@ use ffa_model::{Address, Data, PageNo, Range, Rights};
 use ffa_pages::PageTable;
 
 /// What all of some pages have.
-#[derive(Clone, Copy, Debug, PartialEq, Eq)]
+#[derive(Clone, Copy, PartialEq, Eq)]
 pub struct Common {
     pub is_writable: bool,
     pub is_executable: bool,

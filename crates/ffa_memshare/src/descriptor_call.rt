@@ -15,7 +15,7 @@ use ffa_physmem::PhysMem;
 use ffa_rxtx::Buffers;
 
 /// A call whose descriptor stands in TX.
-#[derive(Clone, Copy, Debug, PartialEq, Eq)]
+#[derive(Clone, Copy)]
 pub struct DescriptorCall {
     /// Its registers.
     pub transfer: Transfer,

@@ -14,7 +14,7 @@ pub struct FoundOffer {
 }
 
 /// What a retrieve is done with.
-#[derive(Clone, Copy, Debug, PartialEq, Eq)]
+#[derive(Clone, Copy, PartialEq, Eq)]
 pub struct FoundRight {
     /// The slot of the transaction that is asked for.
     pub slot: usize,
@@ -23,7 +23,7 @@ pub struct FoundRight {
 }
 
 /// What a relinquish or a reclaim is done with.
-#[derive(Clone, Copy, Debug, PartialEq, Eq)]
+#[derive(Clone, Copy, PartialEq, Eq)]
 pub struct FoundReturn {
     /// The slot of the transaction that is given up, or that ends.
     pub slot: usize,

@@ -12,7 +12,7 @@ use ffa_pages::PageTable;
 use std::marker::Model;
 
 // A range by the number of its first page in RAM, of which a table of pages has fewer than 2^16.
-#[derive(Clone, Copy, Debug, Default)]
+#[derive(Clone, Copy, Default)]
 pub(crate) struct PageRange {
     first: u16,
     pages: u16,
@@ -43,7 +43,7 @@ impl PageRange {
 }
 
 /// Ranges of pages of one RAM, four bytes for each: a transaction is small to keep and to move. Contracts see the ranges.
-#[derive(Debug, Drop)]
+#[derive(Drop)]
 pub struct PageRanges {
     base: Address,
     list: ArrayVec<PageRange, MOST_RANGES>,

@@ -4,3 +4,5 @@ pub mod Copies
 pub mod Headers
 pub mod Pages
 pub mod Refusals
+pub mod Known
+pub mod RequestGuards

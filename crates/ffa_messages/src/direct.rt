@@ -15,7 +15,7 @@ use ffa_model::{EndpointId, ErrorCode, Manifest, Refusal, Reply, Status, Work};
 use ffa_schedule::Chain;
 
 /// A direct message in registers: the identifier of the call in w0, w1, w2 and the payload in x3 to x7.
-#[derive(Clone, Copy, Debug, PartialEq, Eq)]
+#[derive(Clone, Copy, PartialEq, Eq)]
 pub struct DirectMessage {
     pub function: u32,
     /// The sender in the high half and the receiver in the low half.

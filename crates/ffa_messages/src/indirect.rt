@@ -23,7 +23,7 @@ use ffa_rxtx::{Buffers, Mapped};
 const HEADER_SIZE: u32 = 20;
 
 /// The header with which a message in TX begins (DEN0077A, 7.1).
-#[derive(Clone, Copy, Debug, PartialEq, Eq)]
+#[derive(Clone, Copy, PartialEq, Eq)]
 pub struct MessageHeader {
     flags: u32,
     reserved: u32,
@@ -138,7 +138,7 @@ impl MessageHeader {
 }
 
 /// An indirect message that passes the checks of FFA_MSG_SEND2: where it stands, for whom it is, and how long.
-#[derive(Clone, Copy, Debug, PartialEq, Eq)]
+#[derive(Clone, Copy, PartialEq, Eq)]
 pub struct IndirectMessage {
     /// The sender's buffers. The message begins with the first byte of TX.
     pub from: Mapped,

@@ -21,7 +21,6 @@ fn properties_of(manifest: &Manifest, endpoint: EndpointId) -> Properties
 }
 
 /// Whether an endpoint sends and receives indirect messages.
-#[tactic(auto, using(crate::proofs::Bits::contains_third))]
 pub fn has_indirect_messages(manifest: &Manifest, endpoint: EndpointId) -> bool
     ensures { result ≡ has_property (map party_of manifest.now.endpoints.items) endpoint.0 2 }
 {
@@ -29,7 +28,6 @@ pub fn has_indirect_messages(manifest: &Manifest, endpoint: EndpointId) -> bool
 }
 
 /// Whether an endpoint sends direct requests.
-#[tactic(auto, using(crate::proofs::Bits::contains_second))]
 pub fn sends_direct_requests(manifest: &Manifest, endpoint: EndpointId) -> bool
     ensures { result ≡ has_property (map party_of manifest.now.endpoints.items) endpoint.0 1 }
 {
@@ -37,7 +35,6 @@ pub fn sends_direct_requests(manifest: &Manifest, endpoint: EndpointId) -> bool
 }
 
 /// Whether an endpoint receives direct requests.
-#[tactic(auto, using(crate::proofs::Bits::contains_first))]
 pub fn receives_direct_requests(manifest: &Manifest, endpoint: EndpointId) -> bool
     ensures { result ≡ has_property (map party_of manifest.now.endpoints.items) endpoint.0 0 }
 {

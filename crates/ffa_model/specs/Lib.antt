@@ -50,6 +50,4 @@ pub mod AboutRegisters
 pub mod AboutContents
 pub mod About
 pub mod Why
-pub mod TraceLines
-pub mod TraceText
 pub mod Links

@@ -4,7 +4,7 @@
 use crate::operation::ErrorCode;
 
 /// The registers of a call whose descriptor stands in TX (DEN0077A, 16.1).
-#[derive(Clone, Copy, Debug, PartialEq, Eq)]
+#[derive(Clone, Copy)]
 pub struct Transfer {
     /// How many bytes the descriptor has.
     pub total: u32,
@@ -18,7 +18,7 @@ pub struct Transfer {
 
 /// A call with its arguments (DEN0077A, 11 to 16). An argument that the calling convention gives in 32 bits is a
 /// `u32`, and one that the 64-bit form widens is a `u64`.
-#[derive(Clone, Copy, Debug, PartialEq, Eq)]
+#[derive(Clone, Copy)]
 pub enum Call {
     /// FFA_VERSION.
     Version {
@@ -129,7 +129,7 @@ pub enum Call {
 }
 
 /// What a call answers.
-#[derive(Clone, Copy, Debug, PartialEq, Eq)]
+#[derive(Clone, Copy, PartialEq, Eq)]
 pub enum Reply {
     /// FFA_VERSION's own answer, in w0 alone.
     Version(u32),

@@ -6,7 +6,7 @@ use crate::limits::MOST_ENDPOINTS;
 use crate::rights::Rights;
 
 /// Pages in a row that have one owner, one open transaction or none, and one access of each endpoint.
-#[derive(Clone, Copy, Debug, PartialEq, Eq)]
+#[derive(Clone, Copy, PartialEq, Eq)]
 pub struct CertRun {
     pub first: PageNo,
     pub last: PageNo,

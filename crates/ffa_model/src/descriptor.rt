@@ -8,7 +8,7 @@ use crate::transaction::{Range, Receiver};
 use arrayvec::ArrayVec;
 
 /// What a send descriptor says: that of FFA_MEM_DONATE, FFA_MEM_LEND or FFA_MEM_SHARE.
-#[derive(Debug, Drop)]
+#[derive(Drop)]
 pub struct SendDesc {
     pub sender: EndpointId,
     /// Whether the pages are to be zeroed before they are offered.
@@ -19,7 +19,7 @@ pub struct SendDesc {
 }
 
 /// What a retrieve descriptor says: that of FFA_MEM_RETRIEVE_REQ. `None` is a field that is not specified.
-#[derive(Clone, Copy, Debug, PartialEq, Eq)]
+#[derive(Clone, Copy)]
 pub struct RetrieveDesc {
     pub sender: EndpointId,
     pub handle: u64,
@@ -30,7 +30,7 @@ pub struct RetrieveDesc {
 }
 
 /// What a relinquish descriptor says: that of FFA_MEM_RELINQUISH.
-#[derive(Clone, Copy, Debug, PartialEq, Eq)]
+#[derive(Clone, Copy)]
 pub struct RelinquishDesc {
     pub handle: u64,
     /// Whether the pages are to be zeroed.
@@ -39,7 +39,7 @@ pub struct RelinquishDesc {
 }
 
 /// What the answer to a retrieve tells its caller: that of FFA_MEM_RETRIEVE_RESP.
-#[derive(Debug, Drop)]
+#[derive(Drop)]
 pub struct Response {
     pub sender: EndpointId,
     pub kind: Kind,

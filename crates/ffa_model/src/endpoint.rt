@@ -145,7 +145,7 @@ impl Region {
 }
 
 /// An endpoint as the manifest gives it. The UUID of the normal world is zeros.
-#[derive(Debug, Default, Drop)]
+#[derive(Default, Drop)]
 pub struct Endpoint {
     pub version: Version,
     pub uuid: [u8; 16],

@@ -3,7 +3,7 @@
 //! of the descriptor in which it stands (DEN0077A, 5.11 and 16).
 
 /// A condition that the bytes break.
-#[derive(Clone, Copy, Debug, PartialEq, Eq)]
+#[derive(Clone, Copy)]
 pub enum Flaw {
     /// A condition of a header, which a send and a retrieve have in common.
     Header(HeaderFlaw),
@@ -22,7 +22,7 @@ pub enum Flaw {
 }
 
 /// What is wrong with a header.
-#[derive(Clone, Copy, Debug, PartialEq, Eq)]
+#[derive(Clone, Copy)]
 pub enum HeaderFlaw {
     /// The descriptor is shorter than its header.
     Short,
@@ -39,7 +39,7 @@ pub enum HeaderFlaw {
 }
 
 /// What is wrong with the header of a send.
-#[derive(Clone, Copy, Debug, PartialEq, Eq)]
+#[derive(Clone, Copy)]
 pub enum SendFlaw {
     /// The memory attributes are not those of a send of this kind to so many receivers.
     Attributes,
@@ -54,7 +54,7 @@ pub enum SendFlaw {
 }
 
 /// What is wrong with an access descriptor of a send.
-#[derive(Clone, Copy, Debug, PartialEq, Eq)]
+#[derive(Clone, Copy)]
 pub enum AccessFlaw {
     /// The permissions are none that this kind grants.
     Permissions,
@@ -71,7 +71,7 @@ pub enum AccessFlaw {
 }
 
 /// What is wrong with the composite of a send.
-#[derive(Clone, Copy, Debug, PartialEq, Eq)]
+#[derive(Clone, Copy)]
 pub enum CompositeFlaw {
     /// It doesn't end, without its ranges, inside the descriptor.
     Outside,
@@ -92,7 +92,7 @@ pub enum CompositeFlaw {
 }
 
 /// What is wrong with a range of a send.
-#[derive(Clone, Copy, Debug, PartialEq, Eq)]
+#[derive(Clone, Copy)]
 pub enum RangeFlaw {
     /// It has no page.
     Empty,
@@ -107,7 +107,7 @@ pub enum RangeFlaw {
 }
 
 /// What is wrong with a retrieve, behind the conditions of a header.
-#[derive(Clone, Copy, Debug, PartialEq, Eq)]
+#[derive(Clone, Copy)]
 pub enum RetrieveFlaw {
     /// The memory attributes are neither 0 nor those of normal memory.
     Attributes,
@@ -132,7 +132,7 @@ pub enum RetrieveFlaw {
 }
 
 /// What is wrong with a relinquish.
-#[derive(Clone, Copy, Debug, PartialEq, Eq)]
+#[derive(Clone, Copy)]
 pub enum RelinquishFlaw {
     /// The descriptor is shorter than 18 bytes.
     Short,
@@ -143,7 +143,7 @@ pub enum RelinquishFlaw {
 }
 
 /// Where a field stands in a descriptor.
-#[derive(Clone, Copy, Debug, PartialEq, Eq)]
+#[derive(Clone, Copy)]
 pub struct FieldPlace {
     /// The place of its first byte, counted from 0.
     pub first: u64,

@@ -15,7 +15,7 @@ use arrayvec::ArrayVec;
 /// A machine's RAM and endpoints, which meet the conditions of an accepted manifest: the RAM's place and size, the
 /// count of endpoints, and of each endpoint its UUID, its properties and its regions, which lie behind the table pages
 /// in RAM and apart from one another.
-#[derive(Debug, Drop)]
+#[derive(Drop)]
 pub struct Manifest {
     /// The address of RAM's first byte.
     pub ram_base: Address,

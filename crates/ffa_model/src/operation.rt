@@ -4,7 +4,7 @@
 use crate::endpoint::EndpointId;
 
 /// How many bytes a load or a store moves.
-#[derive(Clone, Copy, Debug, PartialEq, Eq)]
+#[derive(Clone, Copy, PartialEq, Eq)]
 pub enum Size {
     B1,
     B2,
@@ -38,7 +38,7 @@ pub enum FaultKind {
 }
 
 /// An operation of the endpoint that runs.
-#[derive(Clone, Copy, Debug, PartialEq, Eq)]
+#[derive(Clone, Copy)]
 pub enum Op {
     /// A call, with the registers x0 to x7.
     Call([u64; 8]),
@@ -50,7 +50,7 @@ pub enum Op {
 }
 
 /// What an operation gives.
-#[derive(Clone, Copy, Debug, PartialEq, Eq)]
+#[derive(Clone, Copy)]
 pub enum Outcome {
     /// The endpoint that runs next, and the registers x0 to x7 that it sees.
     Regs { runner: EndpointId, x: [u64; 8] },

@@ -6,7 +6,7 @@ ghost use Rattle.ffa_model.specs.RefusalCodes.{code_of};
 use crate::operation::ErrorCode;
 
 /// The check of a call that fails: one for each check of each call, where calls that check the same share it.
-#[derive(Clone, Copy, Debug, PartialEq, Eq)]
+#[derive(Clone, Copy, PartialEq, Eq)]
 pub enum Refusal {
     // Any call.
     /// The function, or the feature asked for, is not served.

@@ -7,7 +7,7 @@ use crate::operation::FaultKind;
 use crate::refusal::Refusal;
 
 /// Why an operation is refused.
-#[derive(Clone, Copy, Debug, PartialEq, Eq)]
+#[derive(Clone, Copy)]
 pub enum Why {
     /// The first check of the call that fails, and what it is about.
     Refused {
@@ -22,7 +22,7 @@ pub enum Why {
 }
 
 /// What a check that fails is about.
-#[derive(Clone, Copy, Debug, PartialEq, Eq)]
+#[derive(Clone, Copy)]
 pub enum About {
     /// The first page that fails it, and what stands in the way there.
     Page {
@@ -50,7 +50,7 @@ pub enum About {
 }
 
 /// What stands in the way of the runner at an address below 2^32 that its tables do not map, or of the page that a call names.
-#[derive(Clone, Copy, Debug, PartialEq, Eq)]
+#[derive(Clone, Copy)]
 pub enum Obstacle {
     /// The address is not one of RAM.
     OutsideRam,
@@ -63,7 +63,7 @@ pub enum Obstacle {
 }
 
 /// By what an endpoint has its access to a page.
-#[derive(Clone, Copy, Debug, PartialEq, Eq)]
+#[derive(Clone, Copy)]
 pub enum Grant {
     /// The page is its own, and no open transaction names it.
     Own,

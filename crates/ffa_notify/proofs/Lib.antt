@@ -8,3 +8,4 @@ pub mod Tests
 pub mod Views
 pub mod Boots
 pub mod Least
+pub mod SetGuards

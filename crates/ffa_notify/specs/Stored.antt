@@ -1,4 +1,5 @@
 -- SPDX-License-Identifier: MIT OR Apache-2.0
+-- FOR PROOFS ALONE
 -- What the code stores, as clauses see it: words of bits, and the sets that they mean.
 use Rattle.std.specs.Prelude.{◌≡◌, ℕ, ◌+◌, ◌*◌, ◌≤◌, ◌-◌, nat_le, nat_lt, Bool, ◌&&◌, List, length, map, slice_index}
 use Rattle.std.specs.Ordering.{nat_cmp}

@@ -7,7 +7,7 @@ ghost use Rattle.ffa_notify.specs.Stored.{class_number};
 use ffa_model::EndpointId;
 
 /// Who sets the bits of a class.
-#[derive(Clone, Copy, Debug, PartialEq, Eq)]
+#[derive(Clone, Copy, PartialEq, Eq)]
 pub enum Class {
     /// Partitions do.
     Partitions,

@@ -1,263 +1,143 @@
 -- SPDX-License-Identifier: MIT OR Apache-2.0
--- What a play leaves, for the one who asked for it.
-use Rattle.std.proofs.Common.{◌≡◌, ◌≤◌, ◌⊎◌, Bor, Bool, true, false, length, List, [], ◌∷◌, ◌++◌, ℕ, Option, None, Some, Ok, Err, Result, inl, inr, refl, ap, sym, ◌∙◌, subst, append_assoc, append-nil, arith}
-use Rattle.std.specs.Prelude.{IfErr, OnOk, unwrap_or}
-use Rattle.std.specs.Io.KnownBytes.{Appends, Consumes, IsAtEnd, Keeps, prepend_known}
-use Rattle.std.proofs.KnownBytes.{Consumes-trans}
-use Rattle.ffa_model.specs.State.{State}
-use Rattle.ffa_model.specs.TraceLines.{feed, is_good, joined}
-use Rattle.ffa_model.specs.TraceText.{text}
-use Rattle.ffa_trace.specs.Played.{Played}
-use Rattle.ffa_trace.specs.declared.output.PlayError.{PlayError}
-use Rattle.ffa_trace.specs.declared.output.PlayError.TheVariants as play_error
-use Rattle.ffa_lines.specs.declared.form.Form.{Form}
-use Rattle.ffa_lines.specs.declared.fault.LineFault.{LineFault}
-use Rattle.ffa_lines.specs.Followed as followed
-use Rattle.ffa_lines.specs.Forms.{plain, text_in}
-use Rattle.ffa_lines.specs.Guards.{GuardedIn}
-use Rattle.ffa_lines.specs.declared.guards.Breach.{Breach}
-use Rattle.ffa_lines.specs.Reading.{IsAll}
-use Rattle.ffa_lines.proofs.Plain.{plain_text}
-use Rattle.ffa_picture.specs.Pictured.{Pictured}
-use Rattle.ffa_picture.specs.declared.picture.Picture.{Picture}
-use Rattle.ffa_picture.specs.declared.row.Keep.{Keep}
-use Rattle.ffa_perform.specs.Performed.{EndsBadly, IsDoneBy, IsDrawn, IsPlayed, IsStopped, IsCutShort, IsUnmet, PrintsExpected, PrintsIn, StopsBy, UnmetBy, FailsFor, PlayFails, FailsToSay, IsRead, SomeBadLine, SomeUnmetGuard, failure_of, status_of}
-use Rattle.ffa_perform.specs.declared.commands.failure.Failure.{Failure}
-use Rattle.ffa_perform.specs.declared.commands.failure.Failure.TheVariants.{Manifest, BadLine, Read, Write, NoMemory, Differs, Unmet, Words, Unfit}
-use Rattle.ffa_perform.specs.declared.commands.playing.Task.{Task}
-use Rattle.ffa_perform.specs.declared.commands.playing.Task.TheVariants.{Plain, Formed, Guarded, Compare, Drawn}
+-- What a command leaves, from what its parts do.
+use Rattle.std.proofs.Common.{◌≡◌, Bor, Bool, true, List, ℕ, Option, None, Some, inl, inr, refl, arith}
+use Rattle.ffa_manifest.specs.Document.{Parts}
+use Rattle.ffa_drawing.specs.declared.row.Keep.{Keep}
+use Rattle.ffa_report.specs.Descriptors.{FailsToSay}
+use Rattle.ffa_report.specs.Failures.{IsShort, status_of}
+use Rattle.ffa_report.specs.Manifests.{Describes, FailsUnplayed, IsAccepted}
+use Rattle.ffa_report.specs.declared.failure.Failure.{Failure}
+use Rattle.ffa_report.specs.declared.failure.Failure.TheVariants.{Manifest, BadLine, Read, Write, NoMemory, Differs, Unmet, Words, Unfit}
 use Rattle.ffa_command.specs.declared.command_line.DescriptorWords.{DescriptorWords}
+use Rattle.ffa_command.specs.declared.command_line.MachineOptions.{MachineOptions}
+use Rattle.ffa_command.specs.declared.command_line.TextOptions.{TextOptions}
 use Rattle.ffa_command.specs.declared.command_line.Request.{Request}
 use Rattle.ffa_command.specs.declared.command_line.Request.TheVariants as request
+use Rattle.ffa_tasks.specs.Plays.{PlayFails, PrintsIn, form_of}
+use Rattle.ffa_tasks.specs.declared.task.Task.{Task}
+use Rattle.ffa_tasks.specs.declared.task.Task.TheVariants.{Compare, Drawn}
+use Rattle.ffa_tasks.proofs.Plays.{breached, kept, never_differs, printed, stopped}
+use Rattle.ffa_perform.specs.Performed.{FailsFor, IsRead, SomeBadLine, SomeUnmetGuard, built_in_parts, first_of, needs_manifest}
 
--- BYTES THAT A READER HAD, AND THAT A WRITER HOLDS
+-- COMMANDS THAT FAIL
 
-pub kept : (held : Option (List ℕ)) → Keeps held held
-kept None = tt
-kept (Some bytes) = refl
+-- before anything is written
+pub unread : (request : Request) → needs_manifest request ≡ true → (manifest trace expected held : Option (List ℕ)) (failure : Failure) → FailsUnplayed manifest None None failure
+    → FailsFor request manifest trace expected held held failure
+unread request needs manifest trace expected held (Manifest cause) (refused, same) = (needs, refused, kept held)
+unread request needs manifest trace expected held (BadLine n fault) never = absurd never
+unread request needs manifest trace expected held (Read path) any = tt
+unread request needs manifest trace expected held Write accepted = λ needed. accepted
+unread request needs manifest trace expected held NoMemory any = tt
+unread request needs manifest trace expected held Differs never = absurd never
+unread request needs manifest trace expected held (Unmet n) never = absurd never
+unread request needs manifest trace expected held (Words fault) never = absurd never
+unread request needs manifest trace expected held (Unfit cause) never = absurd never
 
-pub unread_yet : (had : Option (List ℕ)) → prepend_known [] had ≡ had
-unread_yet None = refl
-unread_yet (Some bytes) = refl
+-- without a play
+pub unplayed : (request : Request) → needs_manifest request ≡ true → (manifest trace expected held holds : Option (List ℕ)) (failure : Failure) → FailsUnplayed manifest held holds failure
+    → FailsFor request manifest trace expected held holds failure
+unplayed request needs manifest trace expected held holds (Manifest cause) (refused, same) = (needs, refused, same)
+unplayed request needs manifest trace expected held holds (BadLine n fault) never = absurd never
+unplayed request needs manifest trace expected held holds (Read path) any = tt
+unplayed request needs manifest trace expected held holds Write accepted = λ needed. accepted
+unplayed request needs manifest trace expected held holds NoMemory any = tt
+unplayed request needs manifest trace expected held holds Differs never = absurd never
+unplayed request needs manifest trace expected held holds (Unmet n) never = absurd never
+unplayed request needs manifest trace expected held holds (Words fault) never = absurd never
+unplayed request needs manifest trace expected held holds (Unfit cause) never = absurd never
 
-all_consumed : (had has : Option (List ℕ)) (bytes : List ℕ) → Consumes had has bytes → IsAtEnd has → IsAll had bytes
-all_consumed None has bytes c e = tt
-all_consumed (Some xs) None bytes c e = absurd c
-all_consumed (Some xs) (Some ys) bytes c e = c ∙ ap (λ l. bytes ++ l) e ∙ append-nil bytes
+pub unplayed_read : (could : Bool) (manifest held holds : Option (List ℕ)) (failure : Failure) → FailsUnplayed manifest held holds failure → IsRead could failure
+unplayed_read could manifest held holds (Manifest cause) fails = tt
+unplayed_read could manifest held holds (BadLine n fault) never = absurd never
+unplayed_read could manifest held holds (Read path) fails = tt
+unplayed_read could manifest held holds Write fails = tt
+unplayed_read could manifest held holds NoMemory fails = tt
+unplayed_read could manifest held holds Differs fails = tt
+unplayed_read could manifest held holds (Unmet n) never = absurd never
+unplayed_read could manifest held holds (Words fault) fails = tt
+unplayed_read could manifest held holds (Unfit cause) fails = tt
 
--- what is unread stands behind what was read
-all_read : (had has : Option (List ℕ)) (bytes : List ℕ) → Consumes had has bytes → IsAll had (bytes ++ unwrap_or has [])
-all_read None has bytes c = tt
-all_read (Some xs) None bytes c = absurd c
-all_read (Some xs) (Some ys) bytes c = c
+-- for want of memory, or since the output can't be written
+pub short : (manifest held holds : Option (List ℕ)) → IsAccepted manifest → (failure : Failure) → IsShort failure → FailsUnplayed manifest held holds failure
+short manifest held holds accepted Write any = accepted
+short manifest held holds accepted NoMemory any = tt
+short manifest held holds accepted (Manifest cause) never = absurd never
+short manifest held holds accepted (BadLine n fault) never = absurd never
+short manifest held holds accepted (Read path) never = absurd never
+short manifest held holds accepted Differs never = absurd never
+short manifest held holds accepted (Unmet n) never = absurd never
+short manifest held holds accepted (Words fault) never = absurd never
+short manifest held holds accepted (Unfit cause) never = absurd never
 
-all_behind : (had has : Option (List ℕ)) (bytes rest : List ℕ) → Consumes had has bytes → IsAll has rest → IsAll had (bytes ++ rest)
-all_behind None has bytes rest c all = tt
-all_behind (Some xs) None bytes rest c all = absurd c
-all_behind (Some xs) (Some ys) bytes rest c all = c ∙ ap (λ l. bytes ++ l) all
+-- a failure of a trace that could be read
+pub could_read : (failure : Failure) → IsRead true failure
+could_read (Manifest cause) = tt
+could_read (BadLine n fault) = refl
+could_read (Read path) = tt
+could_read Write = tt
+could_read NoMemory = tt
+could_read Differs = tt
+could_read (Unmet n) = refl
+could_read (Words fault) = tt
+could_read (Unfit cause) = tt
 
--- a line and its LF were read behind others
-line_behind : (had has : Option (List ℕ)) (before line : List ℕ) → Consumes had has (before ++ (line ++ feed ∷ [])) → IsAll had (before ++ (line ++ feed ∷ unwrap_or has []))
-line_behind had has before line c =
-    subst (IsAll had) (append_assoc before (line ++ feed ∷ []) (unwrap_or has []) ∙ ap (λ l. before ++ l) (append_assoc line (feed ∷ []) (unwrap_or has [])))
-    (all_read had has _ c)
+-- in a play whose text is printed
+module _ (path : Bor (List ℕ)) (machine : MachineOptions) (text : TextOptions) (strict verbose : Bool) (task : Task) (prints : PrintsIn strict (form_of text) task)
+    (trace expected held holds : Option (List ℕ)) where
+  pub run_fails : (manifest_path : Bor (List ℕ)) (manifest : Option (List ℕ)) (parts : Parts) → Describes manifest parts → (failure : Failure) → PlayFails task (first_of parts) trace held holds failure
+      → FailsFor (request.Run manifest_path path machine text strict verbose) manifest trace expected held holds failure
+  run_fails manifest_path manifest parts is (Manifest cause) never = absurd never
+  run_fails manifest_path manifest parts is (BadLine n fault) stops = (parts, is, stopped strict (form_of text) task prints (first_of parts) trace held holds n stops)
+  run_fails manifest_path manifest parts is (Read unread) any = tt
+  run_fails manifest_path manifest parts is Write any = λ needed. (parts, is)
+  run_fails manifest_path manifest parts is NoMemory any = tt
+  run_fails manifest_path manifest parts is Differs differs = never_differs strict (form_of text) task prints (first_of parts) trace differs
+  run_fails manifest_path manifest parts is (Unmet n) unmet =
+      let found = breached strict (form_of text) task prints (first_of parts) trace held holds n unmet in
+      (found.0, (parts, is, found.1))
+  run_fails manifest_path manifest parts is (Words fault) never = absurd never
+  run_fails manifest_path manifest parts is (Unfit cause) never = absurd never
 
-never_strict : {P : Type 0} → false ≡ true → P
-never_strict strict = absurd cc
+  pub demo_fails : (manifest : Option (List ℕ)) (failure : Failure) → PlayFails task (first_of built_in_parts) trace held holds failure
+      → FailsFor (request.Demo path machine text strict verbose) manifest trace expected held holds failure
+  demo_fails manifest (Manifest cause) never = absurd never
+  demo_fails manifest (BadLine n fault) stops = stopped strict (form_of text) task prints (first_of built_in_parts) trace held holds n stops
+  demo_fails manifest (Read unread) any = tt
+  demo_fails manifest Write any = λ never. absurd cc
+  demo_fails manifest NoMemory any = tt
+  demo_fails manifest Differs differs = never_differs strict (form_of text) task prints (first_of built_in_parts) trace differs
+  demo_fails manifest (Unmet n) unmet = breached strict (form_of text) task prints (first_of built_in_parts) trace held holds n unmet
+  demo_fails manifest (Words fault) never = absurd never
+  demo_fails manifest (Unfit cause) never = absurd never
 
--- THE PLAYER'S OWN PLAY
+module _ (manifest_path path : Bor (List ℕ)) (manifest trace held holds : Option (List ℕ)) (parts : Parts) (is : Describes manifest parts) where
+  -- in a comparison
+  pub comparison_fails : (expected_path : Bor (List ℕ)) (machine : MachineOptions) (explain verbose : Bool) (expected : Bor (List ℕ)) (failure : Failure)
+      → PlayFails (Compare expected explain) (first_of parts) trace held holds failure
+      → FailsFor (request.Compare manifest_path path expected_path machine explain verbose) manifest trace (Some expected.now) held holds failure
+  comparison_fails expected_path machine explain verbose expected (Manifest cause) never = absurd never
+  comparison_fails expected_path machine explain verbose expected (BadLine n fault) (short, same) = (parts, is, short, same)
+  comparison_fails expected_path machine explain verbose expected (Read unread) any = tt
+  comparison_fails expected_path machine explain verbose expected Write any = λ needed. (parts, is)
+  comparison_fails expected_path machine explain verbose expected NoMemory any = tt
+  comparison_fails expected_path machine explain verbose expected Differs differs = (parts, is, (expected.now, refl, differs))
+  comparison_fails expected_path machine explain verbose expected (Unmet n) never = absurd never
+  comparison_fails expected_path machine explain verbose expected (Words fault) never = absurd never
+  comparison_fails expected_path machine explain verbose expected (Unfit cause) never = absurd never
 
-written_plainly : (start : State) (held holds : Option (List ℕ)) (lines : List (List ℕ)) → Appends held holds (text start lines)
-    → Appends held holds (text_in plain 1 start lines)
-written_plainly start held holds lines written = subst (Appends held holds) (sym (plain_text 1 start lines)) written
-
-pub played_whole : {X : Type 0} (x : X) (start now : State) (held holds had has : Option (List ℕ)) → Played start now held holds had has (Ok x) → IsPlayed false plain start had held holds
-played_whole x start now held holds had has (lines, did, consumed, ended, counted) = record {
-  lines = lines;
-  each = did.each;
-  all = all_consumed had has (joined lines) consumed ended;
-  written = written_plainly start held holds lines did.written;
-  guards = never_strict;
-}
-
-played_to : (start now : State) (held holds had has : Option (List ℕ)) (n : ℕ) → Played {X = Unit {0}} start now held holds had has (Err (play_error.BadLine n)) → IsStopped false plain start had held holds n
-played_to start now held holds had has n (lines, bad, more, did, consumed, number, counted, single, inl ((next, more_is), wrong)) = (
-  lines,
-  record {
-    bad = bad;
-    each = did.each;
-    number = number;
-    single = single;
-    none =
-        let left = unwrap_or has [] in
-        let read = ap (λ m. (joined lines ++ (bad ++ m)) ++ left) more_is ∙ append_assoc (joined lines) (bad ++ feed ∷ next) left ∙ ap (λ l. joined lines ++ l) (append_assoc bad (feed ∷ next) left) in
-        inl (wrong, (next ++ left, subst (IsAll had) read (all_read had has _ consumed)));
-  },
-  written_plainly start held holds lines did.written,
-  never_strict,
-)
-played_to start now held holds had has n (lines, bad, more, did, consumed, number, counted, single, inr (more_is, some, ended)) = (
-  lines,
-  record {
-    bad = bad;
-    each = did.each;
-    number = number;
-    single = single;
-    none =
-        let read = ap (λ m. joined lines ++ (bad ++ m)) more_is ∙ ap (λ l. joined lines ++ l) (append-nil bad) in
-        inr (some, subst (IsAll had) read (all_consumed had has _ consumed ended));
-  },
-  written_plainly start held holds lines did.written,
-  never_strict,
-)
-
-pub play_failed : (start now : State) (held holds had has : Option (List ℕ)) (unread : Failure) → PlayFails Plain start had held holds unread
-    → (fault : Option LineFault) (error : PlayError) → Played {X = Unit {0}} start now held holds had has (Err error) → PlayFails Plain start had held holds (failure_of unread fault error)
-play_failed start now held holds had has unread is fault play_error.Read p = is
-play_failed start now held holds had has unread is fault play_error.Write p = tt
-play_failed start now held holds had has unread is fault play_error.NoMemory p = tt
-play_failed start now held holds had has unread is fault (play_error.BadLine n) p = played_to start now held holds had has n p
-
--- PLAYS IN A FORM, AND COMPARISONS
-
-ends_badly : (form : Form) (start : State) (had : Option (List ℕ)) (said : List ℕ) (n : ℕ) → (e : followed.EndsBadly form start had said n) → EndsBadly had e.lines n
-ends_badly form start had said n e = record {
-  bad = e.bad;
-  each = e.followed.each;
-  number = e.is_next;
-  single = e.single;
-  none =
-      elim e.none as (λ w. ((is_good e.bad ≡ false) × ((rest : List ℕ) × IsAll had (joined e.lines ++ (e.bad ++ feed ∷ rest)))) ⊎ ((1 ≤ length e.bad) × IsAll had (joined e.lines ++ e.bad))) [
-        | inl (wrong, (after, read)) ↦
-            inl (wrong, (unwrap_or after [], line_behind had after (joined e.lines) e.bad (Consumes-trans had e.left after (joined e.lines) (e.bad ++ feed ∷ []) e.followed.read read)))
-        | inr (some, all) ↦ inr (some, all_behind had e.left (joined e.lines) e.bad e.followed.read all)
-      ];
-}
-
-pub formed_whole : {X : Type 0} (x : X) (form : Form) (start now : State) (held holds had : Option (List ℕ)) → followed.PlayedIn form start now held holds had (Ok x) → IsPlayed false form start had held holds
-formed_whole x form start now held holds had (left, lines, said, f, ended, written) = record {
-  lines = lines;
-  each = f.each;
-  all = all_consumed had left (joined lines) f.read ended;
-  written = subst (Appends held holds) f.said written;
-  guards = never_strict;
-}
-
-pub formed_failed : (form : Form) (start now : State) (held holds had : Option (List ℕ)) (unread : Failure) → PlayFails (Formed form) start had held holds unread
-    → (fault : Option LineFault) (error : PlayError) → followed.PlayedIn {X = Unit {0}} form start now held holds had (Err error)
-    → PlayFails (Formed form) start had held holds (failure_of unread fault error)
-formed_failed form start now held holds had unread is fault play_error.Read p = is
-formed_failed form start now held holds had unread is fault play_error.Write p = tt
-formed_failed form start now held holds had unread is fault play_error.NoMemory p = tt
-formed_failed form start now held holds had unread is fault (play_error.BadLine n) (said, e, written) =
-    (e.lines, ends_badly form start had said n e, subst (Appends held holds) e.followed.said written, never_strict)
-
--- PICTURES
-
-pub always_ok : {T E P : Type 0} (r : Result T E) → P → OnOk r P
-always_ok (Ok x) p = p
-always_ok (Err e) p = tt
-
-pub drawn_whole : {A : Type 0} (picture : Picture A) (keep : Keep) (start now : State) (had : Option (List ℕ)) → Pictured keep start now had (Ok picture) → IsDrawn had
-drawn_whole picture keep start now had (left, lines, said, f, ended, is) = record { lines = lines; each = f.each; all = all_consumed had left (joined lines) f.read ended }
-
-pub drawn_failed : (A : Type 0) (keep : Keep) (start now : State) (held had : Option (List ℕ)) (unread : Failure) → PlayFails (Drawn keep) start had held held unread
-    → (fault : Option LineFault) (error : PlayError) → Pictured {A = A} keep start now had (Err error) → PlayFails (Drawn keep) start had held held (failure_of unread fault error)
-drawn_failed A keep start now held had unread is fault play_error.Read p = is
-drawn_failed A keep start now held had unread is fault play_error.Write p = tt
-drawn_failed A keep start now held had unread is fault play_error.NoMemory p = tt
-drawn_failed A keep start now held had unread is fault (play_error.BadLine n) (said, e) = (e.lines, ends_badly plain start had said n e, kept held)
-
-pub guarded_whole : (form : Form) (start now : State) (held holds had : Option (List ℕ)) (line found : List ℕ) → GuardedIn form start now held holds had line found (Ok None)
-    → IsPlayed true form start had held holds
-guarded_whole form start now held holds had line found (left, lines, said, f, ended, written, met) = record {
-  lines = lines;
-  each = f.each;
-  all = all_consumed had left (joined lines) f.read ended;
-  written = subst (Appends held holds) f.said written;
-  guards = λ strict. met;
-}
-
-pub guarded_unmet : (form : Form) (start now : State) (held holds had : Option (List ℕ)) (line found : List ℕ) (breach : Breach)
-    → GuardedIn form start now held holds had line found (Ok (Some breach)) → IsUnmet form start had held holds breach.number
-guarded_unmet form start now held holds had line found breach (said, b, written) = record {
-  lines = b.lines;
-  line = line;
-  rest = unwrap_or b.after_guard [];
-  guard = (breach.asks, b.wants);
-  each = b.followed.each;
-  all = line_behind had b.after_guard (joined b.lines) line (Consumes-trans had b.left b.after_guard (joined b.lines) (line ++ feed ∷ []) b.followed.read b.read);
-  single = b.single;
-  number = b.is_next;
-  guards = b.met;
-  is_guard = b.guard;
-  unmet = b.unmet;
-  written = subst (Appends held holds) b.followed.said written;
-}
-
-pub guarded_failed : (form : Form) (start now : State) (held holds had : Option (List ℕ)) (line found : List ℕ) (unread : Failure) → PlayFails (Guarded form) start had held holds unread
-    → (fault : Option LineFault) (error : PlayError) → GuardedIn form start now held holds had line found (Err error)
-    → PlayFails (Guarded form) start had held holds (failure_of unread fault error)
-guarded_failed form start now held holds had line found unread is fault play_error.Read p = is
-guarded_failed form start now held holds had line found unread is fault play_error.Write p = tt
-guarded_failed form start now held holds had line found unread is fault play_error.NoMemory p = tt
-guarded_failed form start now held holds had line found unread is fault (play_error.BadLine n) (said, e, written, met) =
-    (e.lines, ends_badly form start had said n e, subst (Appends held holds) e.followed.said written, λ strict. met)
-
-pub compared_whole : (start : State) (had : Option (List ℕ)) (explain : Bool) (expected : List ℕ) → followed.Compared plain start had explain expected (Ok None) → PrintsExpected start had (Some expected)
-compared_whole start had explain expected (now, left, lines, f, ended) = record {
-  lines = lines;
-  each = f.each;
-  all = all_consumed had left (joined lines) f.read ended;
-  same = ap Some (f.said ∙ plain_text 1 start lines);
-}
-
-pub cut_short : (start : State) (had : Option (List ℕ)) (explain : Bool) (expected : List ℕ) (n : ℕ) → followed.Compared plain start had explain expected (Err (play_error.BadLine n))
-    → IsCutShort start had (Some expected) n
-cut_short start had explain expected n (said, more, alike, e) =
-    (e.lines, ends_badly plain start had said n e, (more, ap Some (alike ∙ ap (λ l. l ++ more) (e.followed.said ∙ plain_text 1 start e.lines))))
-
-pub compared_failed : (start : State) (had held : Option (List ℕ)) (expected : Bor (List ℕ)) (explain : Bool) (unread : Failure) → PlayFails (Compare expected explain) start had held held unread
-    → (fault : Option LineFault) (error : PlayError) → followed.Compared plain start had explain expected.now (Err error) → PlayFails (Compare expected explain) start had held held (failure_of unread fault error)
-compared_failed start had held expected explain unread is fault play_error.Read p = is
-compared_failed start had held expected explain unread is fault play_error.Write p = tt
-compared_failed start had held expected explain unread is fault play_error.NoMemory p = tt
-compared_failed start had held expected explain unread is fault (play_error.BadLine n) p = (cut_short start had explain expected.now n p, kept held)
-
--- COMMANDS
-
--- what was printed by a task that prints in this form
-pub printed : (strict : Bool) (form : Form) (task : Task) → PrintsIn strict form task → (start : State) (trace held holds : Option (List ℕ)) → IsDoneBy task start trace held holds
-    → IsPlayed strict form start trace held holds
-printed strict form Plain (loose, same) start trace held holds done = rw (loose, same) done
-printed strict form (Formed own) (loose, same) start trace held holds done = rw (loose, same) done
-printed strict form (Guarded own) (is_strict, same) start trace held holds done = rw (is_strict, same) done
-printed strict form (Compare expected explain) never start trace held holds done = absurd never
-printed strict form (Drawn keep) never start trace held holds done = absurd never
-
-pub stopped : (strict : Bool) (form : Form) (task : Task) → PrintsIn strict form task → (start : State) (trace held holds : Option (List ℕ)) (n : ℕ) → StopsBy task start trace held holds n
-    → IsStopped strict form start trace held holds n
-stopped strict form Plain (loose, same) start trace held holds n stops = rw (loose, same) stops
-stopped strict form (Formed own) (loose, same) start trace held holds n stops = rw (loose, same) stops
-stopped strict form (Guarded own) (is_strict, same) start trace held holds n stops = rw (is_strict, same) stops
-stopped strict form (Compare expected explain) never start trace held holds n stops = absurd never
-stopped strict form (Drawn keep) never start trace held holds n stops = absurd never
-
-pub breached : (strict : Bool) (form : Form) (task : Task) → PrintsIn strict form task → (start : State) (trace held holds : Option (List ℕ)) (n : ℕ) → UnmetBy task start trace held holds n
-    → (strict ≡ true) × IsUnmet form start trace held holds n
-breached strict form Plain prints start trace held holds n never = absurd never
-breached strict form (Formed own) prints start trace held holds n never = absurd never
-breached strict form (Guarded own) (is_strict, same) start trace held holds n unmet = (is_strict, rw same unmet)
-breached strict form (Compare expected explain) prints start trace held holds n never = absurd never
-breached strict form (Drawn keep) prints start trace held holds n never = absurd never
-
-pub on_ok : {T E P Q : Type 0} (result : Result T E) → (P → Q) → OnOk result P → OnOk result Q
-on_ok (Ok x) f p = f p
-on_ok (Err e) f p = tt
-
-pub on_err : {T E : Type 0} {P Q : E → Type 0} (result : Result T E) → ((e : E) → P e → Q e) → IfErr result P → IfErr result Q
-on_err (Ok x) f p = tt
-on_err (Err e) f p = f e p
+  -- in a play whose picture is printed
+  pub drawing_fails : (every : ℕ) (verbose : Bool) (keep : Keep) (expected : Option (List ℕ)) (failure : Failure) → PlayFails (Drawn keep) (first_of parts) trace held holds failure
+      → FailsFor (request.Picture manifest_path path every verbose) manifest trace expected held holds failure
+  drawing_fails every verbose keep expected (Manifest cause) never = absurd never
+  drawing_fails every verbose keep expected (BadLine n fault) undrawn = (parts, is, undrawn)
+  drawing_fails every verbose keep expected (Read unread) any = tt
+  drawing_fails every verbose keep expected Write any = λ needed. (parts, is)
+  drawing_fails every verbose keep expected NoMemory any = tt
+  drawing_fails every verbose keep expected Differs never = absurd never
+  drawing_fails every verbose keep expected (Unmet n) never = absurd never
+  drawing_fails every verbose keep expected (Words fault) never = absurd never
+  drawing_fails every verbose keep expected (Unfit cause) never = absurd never
 
 -- a descriptor that isn't printed is a command that fails
 pub unsaid : (words : DescriptorWords) (manifest trace expected held holds : Option (List ℕ)) (failure : Failure) → FailsToSay words held holds failure

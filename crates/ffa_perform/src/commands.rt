@@ -1,38 +1,22 @@
 // SPDX-License-Identifier: MIT OR Apache-2.0
 //! The commands of the program.
-ghost use Rattle.std.specs.Prelude.{◌≡◌, ◌≤◌, ◌⊎◌, true, codes, None, Err, OnOk, IfErr, IfOk, IfSome, Some, is_some, option_map};
+ghost use Rattle.std.specs.Prelude.{◌≡◌, ◌≤◌, ◌⊎◌, true, OnOk, IfErr, is_some, option_map};
 ghost use Rattle.std.specs.Option.{option_and_then};
-ghost use Rattle.std.specs.Io.KnownBytes.{Appends, Keeps};
-ghost use Rattle.ffa_model.specs.TraceText.{ended};
-ghost use Rattle.ffa_manifest.specs.Document.{Parts, parts_of};
-ghost use Rattle.ffa_perform.specs.Layouts.{layout_text};
-ghost use Rattle.ffa_perform.specs.Performed.{Describes, SomeCause, SomeBadLine, Differs, IsDone, FailsFor, FailsUnplayed, IsRead, IsUnsaid, SomeUnmetGuard, needs_manifest, needs_trace, status_of};
+ghost use Rattle.std.specs.Io.KnownBytes.{Keeps};
+ghost use Rattle.ffa_report.specs.Manifests.{SomeCause};
+ghost use Rattle.ffa_perform.specs.Performed.{SomeBadLine, Differs, IsDone, FailsFor, IsRead, IsUnsaid, SomeUnmetGuard, needs_manifest, needs_trace};
 
-mod difference;
-pub mod failure;
-pub mod playing;
-mod unmet;
-mod writing;
+mod generating;
+mod playing;
+mod running;
 
-use crate::layout;
-use failure::Failure;
-use ffa_command::{MachineOptions, Request};
-use ffa_manifest::ManifestError;
-use ffa_model::{Manifest, built_in};
-use ffa_picture::Keep;
-use ffa_trace::output;
-use ffa_trace::text::Text;
-use playing::{Task, Trace, play};
+use ffa_command::Request;
+use ffa_report::{Failure, accept, describe, lay_out, tell, tell_more};
+use ffa_tasks::Trace;
+use generating::generate_trace;
+use running::{Comparison, Printing, compare, demo, draw, run};
 use std::alloc::{Allocator, Global};
-use std::fmt::Display;
 use std::io::{ErrorKind, Read, Write};
-use writing::{describe, generate_trace};
-
-// A machine with RAM in one piece, which holds no translation.
-const PLAIN: MachineOptions = MachineOptions {
-    frames: false,
-    tlb: false,
-};
 
 /// What was read of the files that a command names. What it doesn't name is left alone.
 #[derive(Drop)]
@@ -120,65 +104,6 @@ pub fn perform_in<A: Allocator + Copy, R: Read + Drop, W: Write, E: Write>(
     }
 }
 
-/// Writes the help or the version that was asked for, and answers the status with which the program ends: 0, or 3 where
-/// `out` can't be written, which `err` is told.
-pub fn show<T: Display, W: Write, E: Write>(help: &T, out: &mut W, err: &mut E) -> u8
-    ensures written { result ≡ 0 → IfSome (T.output help.now) (Appends (W.contents out.old) (W.contents out.new)) }
-    ensures quiet { result ≡ 0 → Keeps (E.contents err.old) (E.contents err.new) }
-    ensures status { (result ≡ 0) ⊎ (result ≡ 3) }
-{
-    let written = write!(out, "{help}");
-    if written.is_ok() && out.flush().is_ok() {
-        0
-    } else {
-        tell(err, &Failure::Write, &[])
-    }
-}
-
-// Says why a command isn't done, and answers the status. A difference has been told on the output, and of a guard `told` says
-// what it wants.
-fn tell<E: Write>(err: &mut E, failure: &Failure<'_>, told: &[u8]) -> u8
-    ensures { result ≡ status_of failure.now }
-{
-    match failure {
-        Failure::Differs => {}
-        Failure::Unmet(_) => {
-            let _ = err.write_all(told);
-        }
-        _ => {
-            let _ = writeln!(err, "ffaplay: {failure}");
-        }
-    }
-    failure.status()
-}
-
-// Says more of why a command isn't done: where a manifest or a line is refused, and why a file can't be read.
-fn tell_more<E: Write>(
-    alloc: Global,
-    err: &mut E,
-    failure: &Failure<'_>,
-    manifest: Option<&[u8]>,
-    reason: Option<ErrorKind>,
-) {
-    let _ = match (failure, manifest, reason) {
-        (Failure::Manifest(_), Some(bytes), _) => tell_refusal(alloc, err, bytes),
-        (Failure::BadLine(_, Some(fault)), ..) => writeln!(err, "ffaplay: {fault}"),
-        (Failure::Read(_), _, Some(reason)) => writeln!(err, "ffaplay: {reason}"),
-        _ => Ok(()),
-    };
-}
-
-// Says where a manifest is refused. Where there is no memory to look for it, nothing is said.
-fn tell_refusal<E: Write>(alloc: Global, err: &mut E, bytes: &[u8]) -> std::io::Result<()> {
-    match str::from_utf8(bytes) {
-        Ok(text) => match ffa_manifest::explain(alloc, text) {
-            Ok(Some(refusal)) => writeln!(err, "ffaplay: {refusal}"),
-            _ => Ok(()),
-        },
-        Err(error) => writeln!(err, "ffaplay: {error}"),
-    }
-}
-
 // Does what was asked for, and flushes what it wrote. Where that fails, a command isn't done, and no bad line, difference or
 // guard is told of, since the text is lost. Another failure was found before, and stays.
 fn do_request<'a, A: Allocator + Copy, R: Read + Drop, W: Write>(
@@ -231,10 +156,17 @@ fn do_command<'a, A: Allocator + Copy, R: Read + Drop, W: Write>(
             strict,
             verbose,
         } => {
-            let manifest = read_manifest(manifests, path, manifest)?;
-            let trace = opened(trace_path, trace)?;
-            let task = Task::to_print(text, strict, verbose);
-            play(alloc, &manifest, machine, task, trace, out, told)
+            let trace = Trace {
+                path: trace_path,
+                reader: trace,
+            };
+            let how = Printing {
+                machine,
+                text,
+                strict,
+                verbose,
+            };
+            run(manifests, alloc, path, manifest, trace, how, out, told)
         }
         Request::Demo {
             trace: path,
@@ -243,9 +175,17 @@ fn do_command<'a, A: Allocator + Copy, R: Read + Drop, W: Write>(
             strict,
             verbose,
         } => {
-            let trace = opened(path, trace)?;
-            let task = Task::to_print(text, strict, verbose);
-            play(alloc, &built_in(), machine, task, trace, out, told)
+            let trace = Trace {
+                path,
+                reader: trace,
+            };
+            let how = Printing {
+                machine,
+                text,
+                strict,
+                verbose,
+            };
+            demo(alloc, trace, how, out, told)
         }
         Request::Compare {
             manifest: path,
@@ -255,13 +195,17 @@ fn do_command<'a, A: Allocator + Copy, R: Read + Drop, W: Write>(
             explain,
             verbose: _,
         } => {
-            let manifest = read_manifest(manifests, path, manifest)?;
-            let trace = opened(trace_path, trace)?;
-            let Some(expected) = expected else {
-                return Err(Failure::Read(expected_path));
+            let trace = Trace {
+                path: trace_path,
+                reader: trace,
             };
-            let task = Task::Compare { expected, explain };
-            play(alloc, &manifest, machine, task, trace, out, told)
+            let how = Comparison {
+                machine,
+                path: expected_path,
+                expected,
+                explain,
+            };
+            compare(manifests, alloc, path, manifest, trace, how, out, told)
         }
         Request::Check { manifest: path, .. } => accept(manifests, path, manifest, out),
         Request::Layout { manifest: path, .. } => lay_out(manifests, path, manifest, out),
@@ -272,88 +216,18 @@ fn do_command<'a, A: Allocator + Copy, R: Read + Drop, W: Write>(
             lines,
             count,
             verbose: _,
-        } => {
-            let manifest = read_manifest(manifests, path, manifest)?;
-            generate_trace(alloc, &manifest, seed, lines, count, out)
-        }
+        } => generate_trace(manifests, alloc, path, manifest, seed, lines, count, out),
         Request::Picture {
             manifest: path,
             trace: trace_path,
             every,
             verbose: _,
         } => {
-            let manifest = read_manifest(manifests, path, manifest)?;
-            let trace = opened(trace_path, trace)?;
-            let task = Task::Drawn(Keep::every(every));
-            play(alloc, &manifest, PLAIN, task, trace, out, told)
+            let trace = Trace {
+                path: trace_path,
+                reader: trace,
+            };
+            draw(manifests, alloc, path, manifest, trace, every, out, told)
         }
     }
-}
-
-// The trace at this path, if it could be opened.
-fn opened<'a, R: Read + Drop>(path: &'a str, reader: Option<R>) -> Result<Trace<'a, R>, Failure<'a>>
-    ensures opened { IfOk result (λ trace. reader ≡ Some trace.reader) }
-    ensures unread { IfErr result (λ failure. failure ≡ Failure.Read path.entry) }
-{
-    match reader {
-        Some(reader) => Ok(Trace { path, reader }),
-        None => Err(Failure::Read(path)),
-    }
-}
-
-// Says that a manifest is accepted.
-fn accept<'a, W: Write>(
-    alloc: Global,
-    path: &'a str,
-    manifest: Option<&[u8]>,
-    out: &mut W,
-) -> Result<(), Failure<'a>>
-    ensures done { OnOk result ((parts : Parts) × Describes (option_map (λ bytes. bytes.now) manifest.entry) parts × Appends (W.contents out.old) (W.contents out.new) (ended (codes "accepted"))) }
-    ensures failed { IfErr result (FailsUnplayed (option_map (λ bytes. bytes.now) manifest.entry) (W.contents out.old) (W.contents out.new)) }
-{
-    read_manifest(alloc, path, manifest)?;
-    write(out, b"accepted\n")
-}
-
-// Prints where the tables of a manifest's machine stand.
-fn lay_out<'a, W: Write>(
-    alloc: Global,
-    path: &'a str,
-    manifest: Option<&[u8]>,
-    out: &mut W,
-) -> Result<(), Failure<'a>>
-    ensures done { OnOk result ((parts : Parts) × Describes (option_map (λ bytes. bytes.now) manifest.entry) parts × Appends (W.contents out.old) (W.contents out.new) (layout_text parts)) }
-    ensures failed { IfErr result (FailsUnplayed (option_map (λ bytes. bytes.now) manifest.entry) (W.contents out.old) (W.contents out.new)) }
-{
-    let manifest = read_manifest(alloc, path, manifest)?;
-    let mut text = Text::new();
-    layout::push_layout(&mut text, &manifest);
-    write(out, text.as_slice())
-}
-
-fn read_manifest<'a>(
-    alloc: Global,
-    path: &'a str,
-    bytes: Option<&[u8]>,
-) -> Result<Manifest, Failure<'a>>
-    ensures described { IfOk result (λ m. Describes (option_map (λ b. b.now) bytes.entry) (parts_of m)) }
-    ensures failed { IfErr result (FailsUnplayed (option_map (λ b. b.now) bytes.entry) None None) }
-{
-    let Some(bytes) = bytes else {
-        return Err(Failure::Read(path));
-    };
-    let Ok(text) = str::from_utf8(bytes) else {
-        return Err(Failure::Manifest(ManifestError::Toml));
-    };
-    ffa_manifest::read(alloc, text).map_err(|error| match error {
-        ManifestError::NoMemory => Failure::NoMemory,
-        cause => Failure::Manifest(cause),
-    })
-}
-
-fn write<'a, W: Write>(out: &mut W, text: &[u8]) -> Result<(), Failure<'a>>
-    ensures written { OnOk result (Appends (W.contents out.old) (W.contents out.new) text.now) }
-    ensures failed { IfErr result (λ failure. failure ≡ Failure.Write) }
-{
-    output::write_text(out, text).map_err(|_| Failure::Write)
 }

@@ -4,6 +4,6 @@
 #![tactic(auto)]
 
 mod commands;
-pub mod layout;
 
-pub use commands::{Files, perform, perform_in, show};
+pub use commands::{Files, perform, perform_in};
+pub use ffa_report::show;

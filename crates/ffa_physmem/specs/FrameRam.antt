@@ -1,4 +1,5 @@
 -- SPDX-License-Identifier: MIT OR Apache-2.0
+-- FOR PROOFS ALONE
 -- RAM in frames, as its clauses see it.
 use Rattle.std.proofs.Common.{◌≡◌, ℕ, ◌≤◌, List, length, None, Some, map, slice_get, ap, sym, inl, inr}
 use Rattle.std.proofs.lemmas.List.{length-map, map-set, set_past}

@@ -1,8 +1,4 @@
 -- SPDX-License-Identifier: MIT OR Apache-2.0
-pub mod ColumnSteps
-pub mod Kept
-pub mod RowsAmong
-pub mod RunsAlike
-pub mod RunsFound
-pub mod Told
+pub mod Drawn
+pub mod Seen
 pub mod Watches

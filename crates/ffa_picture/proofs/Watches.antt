@@ -1,45 +1,33 @@
 -- SPDX-License-Identifier: MIT OR Apache-2.0
--- A line more that is watched.
-use Rattle.std.proofs.Common.{◌≡◌, ◌+◌, ℕ, List, [], ◌∷◌, ◌++◌, length, Option, Err, inl, inr, sym, ap, ◌∙◌, subst}
-use Rattle.ffa_model.specs.declared.certificate.CertRun.{CertRun}
-use Rattle.ffa_model.specs.Certificate.{certificate}
+-- A line that can't be watched.
+use Rattle.std.proofs.Common.{◌≡◌, ◌+◌, ℕ, true, List, [], ◌∷◌, ◌++◌, length, Option, Err, sym, subst}
+use Rattle.std.specs.Io.KnownBytes.{Consumes}
 use Rattle.ffa_model.specs.State.{State}
-use Rattle.ffa_model.specs.TraceText.{after_all}
-use Rattle.ffa_trace.specs.declared.output.PlayError.{PlayError}
-use Rattle.ffa_trace.specs.declared.output.PlayError.TheVariants.{Read, Write, NoMemory, BadLine}
+use Rattle.ffa_syntax.specs.TraceLines.{feed, has_no_feed}
+use Rattle.ffa_syntax.specs.declared.output.PlayError.{PlayError}
+use Rattle.ffa_syntax.specs.declared.output.PlayError.TheVariants.{Read, Write, NoMemory, BadLine}
 use Rattle.ffa_lines.specs.Followed.{EndsBadly, Followed}
 use Rattle.ffa_lines.specs.Forms.{plain}
 use Rattle.ffa_lines.specs.Reading.{ReadsLine}
-use Rattle.ffa_lines.proofs.Follows.{ends_unended}
-use Rattle.ffa_picture.specs.declared.row.Keep.{Keep}
-use Rattle.ffa_picture.specs.declared.row.Row.{Row}
-use Rattle.ffa_picture.specs.Rows.{AreRows, HasRow, IsRow, with_row, without}
-use Rattle.ffa_picture.specs.Watching.{PutsRow, Watched}
+use Rattle.ffa_lines.proofs.Follows.{ends_badly, ends_unended}
+use Rattle.ffa_drawing.specs.declared.row.Keep.{Keep}
+use Rattle.ffa_picture.specs.Watching.{IsNoLine, Watched}
 
-module _ {A : Type 0} (keep : Keep) (start : State) where
-  -- the rows once a line more was done
-  pub rows_more : (lines : List (List ℕ)) (line : List ℕ) (mid now : State) (n : ℕ) (before runs : List CertRun) (old new : List (Row A)) → AreRows keep start lines old
-      → mid ≡ after_all start lines → now ≡ after_all start (lines ++ line ∷ []) → n ≡ 1 + length lines → before ≡ certificate mid → runs ≡ certificate now
-      → PutsRow keep n line before runs now old new → AreRows keep start (lines ++ line ∷ []) new
-  rows_more lines line mid now n before runs old new are at_mid at_now count first last (inl (has, (row, is, put))) =
-      subst (AreRows keep start (lines ++ line ∷ [])) (sym put)
-      (with_row lines old line row are
-      (subst (λ k. HasRow keep k (certificate (after_all start lines)) (certificate (after_all start (lines ++ line ∷ [])))) count
-      (subst (λ rs. HasRow keep n rs (certificate (after_all start (lines ++ line ∷ [])))) (first ∙ ap certificate at_mid)
-      (subst (λ rs. HasRow keep n before rs) (last ∙ ap certificate at_now) has)))
-      (subst (λ k. IsRow k line (after_all start (lines ++ line ∷ [])) row) count (subst (λ s. IsRow n line s row) at_now is)))
-  rows_more lines line mid now n before runs old new are at_mid at_now count first last (inr (none, put)) =
-      subst (AreRows keep start (lines ++ line ∷ [])) (sym put)
-      (without lines old line are
-      (λ has. none (subst (λ rs. HasRow keep n before rs) (sym (last ∙ ap certificate at_now))
-      (subst (λ rs. HasRow keep n rs (certificate (after_all start (lines ++ line ∷ [])))) (sym (first ∙ ap certificate at_mid))
-      (subst (λ k. HasRow keep k (certificate (after_all start lines)) (certificate (after_all start (lines ++ line ∷ [])))) (sym count) has)))))
+module _ (A : Type 0) (keep : Keep) (start mid now : State) (had has : Option (List ℕ)) (lines : List (List ℕ)) (text : List ℕ) (f : Followed plain start mid had has lines text)
+    (number : ℕ) (count : number ≡ 1 + length lines) where
+  -- what was read is no line
+  pub unread_watched : (e : PlayError) (then : Option (List ℕ)) (line : List ℕ) → ReadsLine has then line number (Err e) → Watched {A = A} keep start now had (Err e)
+  unread_watched Read then line r = tt
+  unread_watched Write then line r = absurd r
+  unread_watched NoMemory then line r = tt
+  unread_watched (BadLine n) then line (is, all, single, some) =
+      (text, subst (EndsBadly plain start had text) (sym is) (ends_unended plain start mid had has lines text f number count line all single some))
 
--- what was read is no line
-pub unread_watched : (A : Type 0) (keep : Keep) (start mid now : State) (had has : Option (List ℕ)) (lines : List (List ℕ)) (text : List ℕ) → Followed plain start mid had has lines text
-    → (number : ℕ) → number ≡ 1 + length lines → (e : PlayError) (then : Option (List ℕ)) (line : List ℕ) → ReadsLine has then line number (Err e) → Watched {A = A} keep start now had (Err e)
-unread_watched A keep start mid now had has lines text f number count Read then line r = tt
-unread_watched A keep start mid now had has lines text f number count Write then line r = absurd r
-unread_watched A keep start mid now had has lines text f number count NoMemory then line r = tt
-unread_watched A keep start mid now had has lines text f number count (BadLine n) then line (is, all, single, some) =
-    (text, subst (EndsBadly plain start had text) (sym is) (ends_unended plain start mid had has lines text f number count line all single some))
+  -- what was read up to its LF is none
+  pub undone_watched : (e : PlayError) (then : Option (List ℕ)) (line : List ℕ) → Consumes has then (line ++ feed ∷ []) → has_no_feed line ≡ true → IsNoLine number line e
+      → Watched {A = A} keep start now had (Err e)
+  undone_watched Read then line read single none = absurd none
+  undone_watched Write then line read single none = absurd none
+  undone_watched NoMemory then line read single none = tt
+  undone_watched (BadLine n) then line read single (is, none) =
+      (text, subst (EndsBadly plain start had text) (sym is) (ends_badly plain start mid had has lines text f number count then line read single (sym none)))

@@ -1,6 +1,3 @@
 -- SPDX-License-Identifier: MIT OR Apache-2.0
-pub mod Cells
-pub mod Columns
 pub mod Pictured
-pub mod Rows
 pub mod Watching

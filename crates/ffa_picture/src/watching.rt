@@ -1,26 +1,33 @@
 // SPDX-License-Identifier: MIT OR Apache-2.0
 //! A trace that is watched: played line by line, with what becomes of the machine's pages.
-ghost use Rattle.std.specs.Prelude.{◌≡◌, [], ◌∷◌, ◌++◌, IfErr, IfOk, OnOk};
+ghost use Rattle.std.specs.Prelude.{◌≡◌, [], ◌∷◌, None, Some, IfErr, IfOk, OnOk};
 ghost use Rattle.ffa_model.specs.Certificate.{certificate};
-ghost use Rattle.ffa_model.specs.TraceText.{line_after};
-ghost use Rattle.ffa_trace.specs.Lines.{meant};
-ghost use Rattle.ffa_picture.specs.Rows.{IsRow};
-ghost use Rattle.ffa_picture.specs.Watching.{PutsRow, Watched};
+ghost use Rattle.ffa_syntax.specs.TraceText.{line_after};
+ghost use Rattle.ffa_syntax.specs.TraceLines.{line_of};
+ghost use Rattle.ffa_syntax.specs.Lines.{meant};
+ghost use Rattle.ffa_picture.specs.Watching.{AreFirst, IsNoLine, SeesLine, Watched};
 
-use crate::row::{Keep, Row};
+use ffa_drawing::{Keep, Row, put_row};
 use ffa_lines::next_line;
 use ffa_model::CertRun;
-use ffa_physmem::PhysMem;
-use ffa_tlb::Translations;
-use ffa_trace::{Line, PlayError, Player, certificate};
+use ffa_playable::Playable;
+use ffa_syntax::{Line, PlayError};
+use ffa_trace::{Player, certificate};
 use std::alloc::Allocator;
 use std::io::{self, BufRead};
+
+// What was seen of a trace so far: the rows, and the certificate behind the last line.
+#[derive(Drop)]
+struct Seen<A: Allocator> {
+    rows: Vec<Row<A>, A>,
+    latest: Vec<CertRun, A>,
+}
 
 /// Does the lines that the reader gives, one after another, and answers the rows of those that have one, each with what the
 /// machine is behind it. The first row is that of the beginning. The bytes of a bad line stand in `bytes` as they stand in
 /// the trace, with the LF that ends them, where one does.
-pub fn watch<M: PhysMem + Drop, T: Translations + Drop, A: Allocator + Copy, R: BufRead>(
-    player: &mut Player<M, T>,
+pub fn watch<P: Playable, A: Allocator + Copy, R: BufRead>(
+    player: &mut Player<P>,
     alloc: A,
     keep: Keep,
     reader: &mut R,
@@ -28,32 +35,112 @@ pub fn watch<M: PhysMem + Drop, T: Translations + Drop, A: Allocator + Copy, R: 
 ) -> Result<Vec<Row<A>, A>, PlayError>
     ensures { Watched keep player.old.state player.new.state (R.remaining reader.old) result }
 {
-    let mut latest = certificate_of(player, alloc)?;
-    let mut rows = Vec::new(alloc);
-    let first = row_of(player, alloc, 0, &[], &latest)?;
-    add(&mut rows, first)?;
+    let mut seen = begin(player, alloc)?;
     let mut number = 1;
     while number < u64::MAX {
         if !next_line(reader, bytes, number)? {
-            return Ok(rows);
+            return Ok(seen.rows);
         }
-        let Some(line) = Line::read(bytes) else {
-            bytes.push(b'\n').map_err(|_| PlayError::NoMemory)?;
-            return Err(PlayError::BadLine(number));
-        };
-        let runs = follow(player, alloc, &line)?;
-        put_row(
-            &mut rows, player, alloc, keep, number, bytes, &latest, &runs,
-        )?;
-        latest = runs;
+        watch_line(player, alloc, keep, number, bytes, &mut seen)?;
         number += 1;
     }
     Err(PlayError::Read)
 }
 
+// The row of the beginning.
+fn begin<P: Playable, A: Allocator + Copy>(
+    player: &Player<P>,
+    alloc: A,
+) -> Result<Seen<A>, PlayError>
+    ensures rows { IfOk result (λ seen. AreFirst player.now.state seen.rows.items) }
+    ensures latest { IfOk result (λ seen. seen.latest.items ≡ certificate player.now.state) }
+    ensures failed { IfErr result (λ e. e ≡ PlayError.NoMemory) }
+{
+    let latest = certificate_of(player, alloc)?;
+    let rows = first_row(player, alloc, &latest)?;
+    Ok(Seen { rows, latest })
+}
+
+// The row of the beginning, where this is the certificate.
+fn first_row<P: Playable, A: Allocator + Copy>(
+    player: &Player<P>,
+    alloc: A,
+    runs: &[CertRun],
+) -> Result<Vec<Row<A>, A>, PlayError>
+    requires { runs.now ≡ certificate player.now.state }
+    ensures rows { IfOk result (λ rows. AreFirst player.now.state rows.items) }
+    ensures failed { IfErr result (λ e. e ≡ PlayError.NoMemory) }
+{
+    let runner = player.machine().runner();
+    match Row::of_line(alloc, 0, &[], runner, runs) {
+        Ok(row) => alone(alloc, row),
+        Err(_) => Err(PlayError::NoMemory),
+    }
+}
+
+// A row that no other stands beside.
+fn alone<A: Allocator + Copy>(alloc: A, row: Row<A>) -> Result<Vec<Row<A>, A>, PlayError>
+    ensures rows { IfOk result (λ rows. rows.items ≡ row ∷ []) }
+    ensures failed { IfErr result (λ e. e ≡ PlayError.NoMemory) }
+{
+    let mut rows = Vec::new(alloc);
+    match rows.push(row) {
+        Ok(()) => Ok(rows),
+        Err(_) => Err(PlayError::NoMemory),
+    }
+}
+
+// Does the line of this number, of which these are the bytes, and puts its row behind the others, where it is to have one.
+fn watch_line<P: Playable, A: Allocator + Copy>(
+    player: &mut Player<P>,
+    alloc: A,
+    keep: Keep,
+    number: u64,
+    bytes: &mut Vec<u8, A>,
+    seen: &mut Seen<A>,
+) -> Result<(), PlayError>
+    requires { seen.old.latest.items ≡ certificate player.old.state }
+    ensures seen { OnOk result (SeesLine keep number bytes.old.items player.old.state player.new.state seen.old.rows.items seen.new.rows.items) }
+    ensures latest { OnOk result (seen.new.latest.items ≡ certificate player.new.state) }
+    ensures failed { IfErr result (IsNoLine number bytes.old.items) }
+{
+    let line = read_line(bytes, number)?;
+    let runs = follow(player, alloc, &line)?;
+    let runner = player.machine().runner();
+    match put_row(
+        &mut seen.rows,
+        alloc,
+        keep,
+        number,
+        bytes,
+        runner,
+        &seen.latest,
+        &runs,
+    ) {
+        Ok(()) => {
+            seen.latest = runs;
+            Ok(())
+        }
+        Err(_) => Err(PlayError::NoMemory),
+    }
+}
+
+// The line of this number, of which these are the bytes. Where they are none, the LF that ends them is put behind them.
+fn read_line<A: Allocator>(bytes: &mut Vec<u8, A>, number: u64) -> Result<Line, PlayError>
+    ensures line { IfOk result (λ line. line_of bytes.old.items ≡ Some (meant line)) }
+    ensures same { OnOk result (bytes.new.items ≡ bytes.old.items) }
+    ensures failed { IfErr result (IsNoLine number bytes.old.items) }
+{
+    if let Some(line) = Line::read(bytes) {
+        return Ok(line);
+    }
+    bytes.push(b'\n').map_err(|_| PlayError::NoMemory)?;
+    Err(PlayError::BadLine(number))
+}
+
 // Does a line, and answers the certificate behind it.
-fn follow<M: PhysMem + Drop, T: Translations + Drop, A: Allocator + Copy>(
-    player: &mut Player<M, T>,
+fn follow<P: Playable, A: Allocator + Copy>(
+    player: &mut Player<P>,
     alloc: A,
     line: &Line,
 ) -> Result<Vec<CertRun, A>, PlayError>
@@ -68,66 +155,12 @@ fn follow<M: PhysMem + Drop, T: Translations + Drop, A: Allocator + Copy>(
     certificate_of(player, alloc)
 }
 
-fn certificate_of<M: PhysMem + Drop, T: Translations + Drop, A: Allocator>(
-    player: &Player<M, T>,
+fn certificate_of<P: Playable, A: Allocator>(
+    player: &Player<P>,
     alloc: A,
 ) -> Result<Vec<CertRun, A>, PlayError>
     ensures runs { IfOk result (λ runs. runs.items ≡ certificate player.now.state) }
     ensures failed { IfErr result (λ e. e ≡ PlayError.NoMemory) }
 {
     certificate::runs(player.machine(), alloc).map_err(|_| PlayError::NoMemory)
-}
-
-// Puts the row of a line behind others, where it is to have one.
-fn put_row<M: PhysMem + Drop, T: Translations + Drop, A: Allocator + Copy>(
-    rows: &mut Vec<Row<A>, A>,
-    player: &Player<M, T>,
-    alloc: A,
-    keep: Keep,
-    number: u64,
-    bytes: &[u8],
-    before: &[CertRun],
-    runs: &[CertRun],
-) -> Result<(), PlayError>
-    requires { runs.now ≡ certificate player.now.state }
-    ensures put { OnOk result (PutsRow keep number bytes.now before.now runs.now player.now.state rows.old.items rows.new.items) }
-    ensures failed { IfErr result (λ e. e ≡ PlayError.NoMemory) }
-{
-    if keep.has_row(number, before, runs) {
-        let row = row_of(player, alloc, number, bytes, runs)?;
-        add(rows, row)?;
-    }
-    Ok(())
-}
-
-fn add<A: Allocator>(rows: &mut Vec<Row<A>, A>, row: Row<A>) -> Result<(), PlayError>
-    ensures added { OnOk result (rows.new.items ≡ rows.old.items ++ row ∷ []) }
-    ensures failed { IfErr result (λ e. e ≡ PlayError.NoMemory) }
-{
-    rows.push(row).map_err(|_| PlayError::NoMemory)
-}
-
-// The row of a line, behind which this is the certificate.
-fn row_of<M: PhysMem + Drop, T: Translations + Drop, A: Allocator + Copy>(
-    player: &Player<M, T>,
-    alloc: A,
-    number: u64,
-    bytes: &[u8],
-    runs: &[CertRun],
-) -> Result<Row<A>, PlayError>
-    requires { runs.now ≡ certificate player.now.state }
-    ensures row { IfOk result (IsRow number bytes.now player.now.state) }
-    ensures failed { IfErr result (λ e. e ≡ PlayError.NoMemory) }
-{
-    let line = bytes.iter().copied().collect(alloc);
-    let runs = runs.iter().copied().collect(alloc);
-    match (line, runs) {
-        (Ok(line), Ok(runs)) => Ok(Row {
-            number,
-            line,
-            runner: player.machine().runner(),
-            runs,
-        }),
-        _ => Err(PlayError::NoMemory),
-    }
 }

@@ -1,4 +1,5 @@
 -- SPDX-License-Identifier: MIT OR Apache-2.0
+-- FOR PROOFS ALONE
 -- What the code stores, as clauses see it.
 use Rattle.std.specs.Prelude.{List, map, Option}
 use Rattle.std.specs.Option.{option_map}

@@ -23,7 +23,7 @@ use ffa_physmem::{PAGE_SIZE, PhysMem, put_front};
 use std::marker::Model;
 
 /// The buffers of one endpoint: pages in a row each, as many for both.
-#[derive(Clone, Copy, Debug, PartialEq, Eq)]
+#[derive(Clone, Copy, PartialEq, Eq)]
 pub struct Mapped {
     /// The first page that the endpoint writes for the manager to read.
     pub tx: PageNo,

@@ -7,8 +7,8 @@ use Rattle.std.proofs.Math.Nat.{lt-mul-div-succ, mod-eq_of_lt, mod-lt, one-le-po
 use Rattle.std.proofs.Math.Arith.{mod-mul}
 use Rattle.std.proofs.lemmas.Bool.{agree_below_at}
 use Rattle.ffa_model.specs.Manifest.{is_from_to}
-use Rattle.ffa_model.specs.TraceLines.{digit_value, with_digit, number_of}
-use Rattle.ffa_model.specs.TraceText.{digit, hex}
+use Rattle.ffa_syntax.specs.TraceLines.{digit_value, with_digit, number_of}
+use Rattle.ffa_syntax.specs.TraceText.{digit, hex}
 use Rattle.ffa_script.proofs.Words.{is_plain}
 
 digit_read : (d : ℕ) → d < 16 → digit_value (digit d) ≡ Some d

@@ -10,8 +10,8 @@ use Rattle.ffa_model.specs.declared.operation.Size.{Size}
 use Rattle.ffa_model.specs.declared.operation.Size.TheVariants.{B1, B2, B4, B8}
 use Rattle.ffa_model.specs.Manifest.{is_from_to}
 use Rattle.ffa_model.specs.Memory.{size_of}
-use Rattle.ffa_model.specs.TraceLines.{operate, number_of, numbers_of, registers_of, size_named, size_written, call_of, load_of, store_of, fetch_of, command_of, line_of, words_of}
-use Rattle.ffa_model.specs.TraceText.{hex, spaced}
+use Rattle.ffa_syntax.specs.TraceLines.{operate, number_of, numbers_of, registers_of, size_named, size_written, call_of, load_of, store_of, fetch_of, command_of, line_of, words_of}
+use Rattle.ffa_syntax.specs.TraceText.{hex, spaced}
 use Rattle.ffa_script.specs.Script.{IsLineOf}
 use Rattle.ffa_script.proofs.Digits.{hex_read, hex_plain}
 use Rattle.ffa_script.proofs.Words.{is_plain, are_plain, line, words-line, single-line}

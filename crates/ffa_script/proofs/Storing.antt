@@ -11,8 +11,8 @@ use Rattle.ffa_model.specs.declared.operation.Op.{Op}
 use Rattle.ffa_model.specs.declared.operation.Op.TheVariants.{Store}
 use Rattle.ffa_model.specs.Memory.{size_of}
 use Rattle.ffa_model.specs.ResponseBytes.{le}
-use Rattle.ffa_model.specs.TraceLines.{feed, joined}
-use Rattle.ffa_model.specs.TraceText.{ended}
+use Rattle.ffa_syntax.specs.TraceLines.{feed, joined}
+use Rattle.ffa_syntax.specs.TraceText.{ended}
 use Rattle.ffa_script.specs.Script.{IsLineOf, GrowsBy, Stored, Stores, GrowsByStores, largest}
 use Rattle.ffa_script.proofs.Bytes.{bytes_read}
 

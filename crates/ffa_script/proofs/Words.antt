@@ -5,8 +5,8 @@ use Rattle.std.specs.Prelude.{◌==◌, ◌&&◌}
 use Rattle.std.specs.List.{list_all, flat_map, onto_first}
 use Rattle.std.proofs.lemmas.List.Folds.{list_all-append}
 use Rattle.std.proofs.lemmas.List.Splits.{slice_split-cons_no}
-use Rattle.ffa_model.specs.TraceLines.{feed, space, has_no_feed, words_of}
-use Rattle.ffa_model.specs.TraceText.{spaced}
+use Rattle.ffa_syntax.specs.TraceLines.{feed, space, has_no_feed, words_of}
+use Rattle.ffa_syntax.specs.TraceText.{spaced}
 
 -- neither ends a word nor a line
 abbrev pub is_plain : ℕ → Bool

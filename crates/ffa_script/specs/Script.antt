@@ -7,8 +7,8 @@ use Rattle.ffa_model.specs.declared.operation.Size.{Size}
 use Rattle.ffa_model.specs.declared.operation.Size.TheVariants.{B1, B2, B4, B8}
 use Rattle.ffa_model.specs.Memory.{size_of}
 use Rattle.ffa_model.specs.ResponseBytes.{le}
-use Rattle.ffa_model.specs.TraceLines.{operate, has_no_feed, line_of, joined}
-use Rattle.ffa_model.specs.TraceText.{ended}
+use Rattle.ffa_syntax.specs.TraceLines.{operate, has_no_feed, line_of, joined}
+use Rattle.ffa_syntax.specs.TraceText.{ended}
 
 -- ONE OPERATION
 

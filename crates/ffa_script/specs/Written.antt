@@ -10,7 +10,7 @@ use Rattle.ffa_model.specs.DescriptorPlaces.{in_version}
 use Rattle.ffa_model.specs.RelinquishDescriptor.{Relinquish as IsRelinquish}
 use Rattle.ffa_model.specs.RetrieveDescriptor.{Retrieve as IsRetrieve}
 use Rattle.ffa_model.specs.SendDescriptor.{Send as IsSend, send_record}
-use Rattle.ffa_model.specs.TraceLines.{joined}
+use Rattle.ffa_syntax.specs.TraceLines.{joined}
 use Rattle.ffa_compose.specs.declared.unfit.Unfit.{Unfit}
 use Rattle.ffa_compose.specs.Conditions.{conditions, first_broken}
 use Rattle.ffa_script.specs.declared.descriptor.Descriptor.{Descriptor}

@@ -4,7 +4,7 @@
 ghost use Rattle.std.specs.Prelude.{◌≡◌, ◌+◌, ◌%◌, ◌^◌, ◌≤◌, List, ℕ, [], ◌∷◌, ◌++◌, length, take, IfOk, OnOk, OnErr};
 ghost use Rattle.std.specs.Result.{result_err};
 ghost use Rattle.ffa_model.specs.declared.operation.Op.TheVariants.{Call};
-ghost use Rattle.ffa_model.specs.TraceLines.{joined};
+ghost use Rattle.ffa_syntax.specs.TraceLines.{joined};
 ghost use Rattle.ffa_script.specs.Script.{IsLineOf, Stores};
 ghost use Rattle.ffa_script.specs.Written.{GrowsByDescriptor, IsDescriptor, call_with, sends, unfit_of, unfit_told};
 
@@ -21,7 +21,7 @@ use std::alloc::{AllocError, Allocator};
 use thiserror::Error;
 
 /// A descriptor of a memory transaction, and what it is for (DEN0077A, 5.11 and 16).
-#[derive(Debug, Drop)]
+#[derive(Drop)]
 pub enum Descriptor {
     /// For FFA_MEM_SHARE, FFA_MEM_LEND or FFA_MEM_DONATE, as the kind says.
     Send {

@@ -3,7 +3,7 @@
 
 ghost use Rattle.std.specs.Prelude.{◌≡◌, ◌+◌, ◌/◌, ◌%◌, ◌^◌, ◌<◌, ◌≤◌, ◌++◌, length};
 ghost use Rattle.arrayvec.specs.ArrayVec.{array_vec_len};
-ghost use Rattle.ffa_model.specs.TraceText.{digit, hex, spaced};
+ghost use Rattle.ffa_syntax.specs.TraceText.{digit, hex, spaced};
 
 use arrayvec::ArrayVec;
 

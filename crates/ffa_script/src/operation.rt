@@ -5,7 +5,7 @@ ghost use Rattle.std.specs.Prelude.{◌≡◌, ◌≤◌, ◌<◌, ◌^◌, [], 
 ghost use Rattle.arrayvec.specs.ArrayVec.{array_vec_len};
 ghost use Rattle.ffa_model.specs.declared.operation.Op.TheVariants.{Call, Load, Store, Fetch};
 ghost use Rattle.ffa_model.specs.Memory.{size_of};
-ghost use Rattle.ffa_model.specs.TraceLines.{registers_of};
+ghost use Rattle.ffa_syntax.specs.TraceLines.{registers_of};
 ghost use Rattle.ffa_script.specs.Script.{IsProper, IsLineOf, GrowsBy};
 
 use crate::line::{Line, digits_of, push_hex, push_word};

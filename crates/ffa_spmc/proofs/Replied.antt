@@ -102,3 +102,8 @@ answered-beside old new held call same reply is beside its =
       };
       unchanged = λ error. refl;
     })
+
+-- a call on memory is answered by its part
+pub answered-as : (old new : Managed) (held kept : List Held) (call same : calls.Call) (reply : Reply) → call ≡ same
+    → IsAnswered old new held kept (service old.state same) reply → IsAnswered old new held kept (service old.state call) reply
+answered-as old new held kept call same reply is its = subst (λ (a : calls.Call). IsAnswered old new held kept (service old.state a) reply) (sym is) its

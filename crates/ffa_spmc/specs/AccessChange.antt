@@ -1,4 +1,5 @@
 -- SPDX-License-Identifier: MIT OR Apache-2.0
+-- FOR PROOFS ALONE
 -- What a call changes of access.
 use Rattle.std.specs.Prelude.{◌≡◌, ◌⊎◌, ℕ, ◌==◌, Bool, true, false, ◌&&◌, List, length, Option, Some, None, IfSome, if◌then◌else◌}
 use Rattle.std.specs.Option.{option_map_or}

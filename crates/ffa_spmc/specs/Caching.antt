@@ -1,4 +1,5 @@
 -- SPDX-License-Identifier: MIT OR Apache-2.0
+-- FOR PROOFS ALONE
 -- What the machine's private steps do to its cache.
 use Rattle.std.specs.Prelude.{◌≡◌, ℕ, ◌+◌, ◌-◌, ◌%◌, ◌==◌, Bool, ◌&&◌, List, None, if◌then◌else◌}
 use Rattle.ffa_model.specs.declared.leaf.Leaf.{Leaf}

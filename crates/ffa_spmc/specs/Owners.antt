@@ -1,4 +1,5 @@
 -- SPDX-License-Identifier: MIT OR Apache-2.0
+-- FOR PROOFS ALONE
 -- The owners of pages, as a manifest says them.
 use Rattle.std.specs.Prelude.{◌*◌, List, Option}
 use Rattle.ffa_model.specs.declared.manifest.Manifest.{Manifest}

@@ -1,4 +1,5 @@
 -- SPDX-License-Identifier: MIT OR Apache-2.0
+-- FOR PROOFS ALONE
 -- What the runner sees of a call that a part of the machine has done or refused.
 use Rattle.std.specs.Prelude.{Option, Some, None, Result, Ok, Err}
 use Rattle.ffa_model.specs.declared.call.Reply.{Reply}

@@ -1,4 +1,5 @@
 -- SPDX-License-Identifier: MIT OR Apache-2.0
+-- FOR PROOFS ALONE
 -- What each call's part of the manager promises.
 use Rattle.std.specs.Prelude.{◌≡◌, true, List, None}
 use Rattle.ffa_model.specs.declared.call.Reply.{Reply}

@@ -6,6 +6,7 @@ mod answer;
 mod kept;
 pub mod machine;
 mod manager;
+mod playable;
 mod replies;
 
 pub use machine::Machine;

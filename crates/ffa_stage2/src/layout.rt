@@ -10,7 +10,7 @@ use ffa_model::{
 };
 
 /// The regions of one endpoint.
-#[derive(Debug, Default, Drop)]
+#[derive(Default, Drop)]
 pub struct Regions {
     pub list: ArrayVec<Region, MOST_REGIONS>,
 }
@@ -30,7 +30,7 @@ impl Regions {
 
 /// What the tables are built from: the RAM's place and size, and each endpoint's regions with its rights to them. The
 /// RAM has room for the tables.
-#[derive(Debug, Drop)]
+#[derive(Drop)]
 pub struct Layout {
     /// The address of RAM's first byte.
     pub base: Address,

@@ -2,7 +2,9 @@
 //! The identifiers and values of the standard.
 use crate::checks::{holds, holds_at, same, same_at};
 use ffa_abi::{call_name, decode, encode, error_name, is_function};
-use ffa_model::{Call, ErrorCode, Reply};
+use ffa_model::{Call, ErrorCode, Reply, Transfer};
+use std::alloc::Global;
+use std::process::Abort;
 use std::test::Fail;
 
 // Something in each upper half, and each register's number in its low half.
@@ -24,48 +26,171 @@ fn registers(function: u32) -> [u64; 8] {
     registers
 }
 
-// Identifiers, and the calls that registers with them are, as `{:?}` prints them: register n, where it is passed whole,
-// is 160 + n times 2^32, plus n.
+// Identifiers, and the calls that registers with them are, with their numbers and 0 behind these: register n, where it is
+// passed whole, is 160 + n times 2^32, plus n.
 const SETUP: &str = "\
-84000063 Version { version: 1 }
-84000064 Features { function: 1 }
-84000065 RxRelease
-84000066 RxtxMap { tx: 1, rx: 2, pages: 3 }
-C4000066 RxtxMap { tx: 691489734657, rx: 695784701954, pages: 3 }
-84000067 RxtxUnmap { endpoint: 1 }
-84000068 PartitionInfoGet { uuid: [1, 2, 3, 4], flags: 5 }
-84000069 IdGet
-8400006B MsgWait
-8400006C Yield
-8400006D Run { target: 1 }
-84000085 SpmIdGet
-84000086 MsgSend2";
+84000063 Version [1, 0, 0, 0, 0, 0, 0, 0]
+84000064 Features [1, 0, 0, 0, 0, 0, 0, 0]
+84000065 RxRelease [0, 0, 0, 0, 0, 0, 0, 0]
+84000066 RxtxMap [1, 2, 3, 0, 0, 0, 0, 0]
+C4000066 RxtxMap [691489734657, 695784701954, 3, 0, 0, 0, 0, 0]
+84000067 RxtxUnmap [1, 0, 0, 0, 0, 0, 0, 0]
+84000068 PartitionInfoGet [1, 2, 3, 4, 5, 0, 0, 0]
+84000069 IdGet [0, 0, 0, 0, 0, 0, 0, 0]
+8400006B MsgWait [0, 0, 0, 0, 0, 0, 0, 0]
+8400006C Yield [0, 0, 0, 0, 0, 0, 0, 0]
+8400006D Run [1, 0, 0, 0, 0, 0, 0, 0]
+84000085 SpmIdGet [0, 0, 0, 0, 0, 0, 0, 0]
+84000086 MsgSend2 [0, 0, 0, 0, 0, 0, 0, 0]";
 
 const DIRECT: &str = "\
-8400006F DirectRequest { function: 2214592623, word: 1, flags: 2, payload: [3, 4, 5, 6, 7] }
-C400006F DirectRequest { function: 3288334447, word: 1, flags: 2, payload: [700079669251, 704374636548, 708669603845, 712964571142, 717259538439] }
-84000070 DirectResponse { function: 2214592624, word: 1, flags: 2, payload: [3, 4, 5, 6, 7] }
-C4000070 DirectResponse { function: 3288334448, word: 1, flags: 2, payload: [700079669251, 704374636548, 708669603845, 712964571142, 717259538439] }";
+8400006F DirectRequest [2214592623, 1, 2, 3, 4, 5, 6, 7]
+C400006F DirectRequest [3288334447, 1, 2, 700079669251, 704374636548, 708669603845, 712964571142, 717259538439]
+84000070 DirectResponse [2214592624, 1, 2, 3, 4, 5, 6, 7]
+C4000070 DirectResponse [3288334448, 1, 2, 700079669251, 704374636548, 708669603845, 712964571142, 717259538439]";
 
 const MEMORY: &str = "\
-84000071 MemDonate(Transfer { total: 1, fragment: 2, address: 3, pages: 4 })
-84000072 MemLend(Transfer { total: 1, fragment: 2, address: 3, pages: 4 })
-84000073 MemShare(Transfer { total: 1, fragment: 2, address: 3, pages: 4 })
-84000074 MemRetrieve(Transfer { total: 1, fragment: 2, address: 3, pages: 4 })
-C4000071 MemDonate(Transfer { total: 1, fragment: 2, address: 700079669251, pages: 4 })
-C4000072 MemLend(Transfer { total: 1, fragment: 2, address: 700079669251, pages: 4 })
-C4000073 MemShare(Transfer { total: 1, fragment: 2, address: 700079669251, pages: 4 })
-C4000074 MemRetrieve(Transfer { total: 1, fragment: 2, address: 700079669251, pages: 4 })
-84000076 MemRelinquish
-84000077 MemReclaim { low: 1, high: 2, flags: 3 }";
+84000071 MemDonate [1, 2, 3, 4, 0, 0, 0, 0]
+84000072 MemLend [1, 2, 3, 4, 0, 0, 0, 0]
+84000073 MemShare [1, 2, 3, 4, 0, 0, 0, 0]
+84000074 MemRetrieve [1, 2, 3, 4, 0, 0, 0, 0]
+C4000071 MemDonate [1, 2, 700079669251, 4, 0, 0, 0, 0]
+C4000072 MemLend [1, 2, 700079669251, 4, 0, 0, 0, 0]
+C4000073 MemShare [1, 2, 700079669251, 4, 0, 0, 0, 0]
+C4000074 MemRetrieve [1, 2, 700079669251, 4, 0, 0, 0, 0]
+84000076 MemRelinquish [0, 0, 0, 0, 0, 0, 0, 0]
+84000077 MemReclaim [1, 2, 3, 0, 0, 0, 0, 0]";
 
 const NOTIFICATIONS: &str = "\
-8400007D BitmapCreate { endpoint: 1, contexts: 2 }
-8400007E BitmapDestroy { endpoint: 1 }
-8400007F NotificationBind { word: 1, flags: 2, low: 3, high: 4 }
-84000080 NotificationUnbind { word: 1, flags: 2, low: 3, high: 4 }
-84000081 NotificationSet { word: 1, flags: 2, low: 3, high: 4 }
-84000082 NotificationGet { receiver: 1, flags: 2 }";
+8400007D BitmapCreate [1, 2, 0, 0, 0, 0, 0, 0]
+8400007E BitmapDestroy [1, 0, 0, 0, 0, 0, 0, 0]
+8400007F NotificationBind [1, 2, 3, 4, 0, 0, 0, 0]
+84000080 NotificationUnbind [1, 2, 3, 4, 0, 0, 0, 0]
+84000081 NotificationSet [1, 2, 3, 4, 0, 0, 0, 0]
+84000082 NotificationGet [1, 2, 0, 0, 0, 0, 0, 0]";
+
+fn numbers(a: u64, b: u64, c: u64, d: u64) -> [u64; 8] {
+    [a, b, c, d, 0, 0, 0, 0]
+}
+
+fn of_transfer(transfer: Transfer) -> [u64; 8] {
+    numbers(
+        transfer.total.into(),
+        transfer.fragment.into(),
+        transfer.address,
+        transfer.pages.into(),
+    )
+}
+
+fn of_message(function: u32, word: u32, flags: u32, payload: [u64; 5]) -> [u64; 8] {
+    let [a, b, c, d, e] = payload;
+    [function.into(), word.into(), flags.into(), a, b, c, d, e]
+}
+
+// A call's name and its numbers. Calls stand in four functions, since one for all takes the proof longer than these.
+fn said(call: Call) -> (&'static str, [u64; 8]) {
+    match call {
+        Call::Version { version } => ("Version", numbers(version.into(), 0, 0, 0)),
+        Call::Features { function } => ("Features", numbers(function.into(), 0, 0, 0)),
+        Call::RxRelease => ("RxRelease", [0; 8]),
+        Call::RxtxMap { tx, rx, pages } => ("RxtxMap", numbers(tx, rx, pages.into(), 0)),
+        Call::RxtxUnmap { endpoint } => ("RxtxUnmap", numbers(endpoint.into(), 0, 0, 0)),
+        Call::PartitionInfoGet { uuid, flags } => {
+            let [a, b, c, d] = uuid;
+            let mut found = numbers(a.into(), b.into(), c.into(), d.into());
+            found[4] = flags.into();
+            ("PartitionInfoGet", found)
+        }
+        Call::IdGet => ("IdGet", [0; 8]),
+        Call::SpmIdGet => ("SpmIdGet", [0; 8]),
+        _ => said_of_messages(call),
+    }
+}
+
+fn said_of_messages(call: Call) -> (&'static str, [u64; 8]) {
+    match call {
+        Call::MsgWait => ("MsgWait", [0; 8]),
+        Call::Yield => ("Yield", [0; 8]),
+        Call::Run { target } => ("Run", numbers(target.into(), 0, 0, 0)),
+        Call::MsgSend2 => ("MsgSend2", [0; 8]),
+        Call::DirectRequest {
+            function,
+            word,
+            flags,
+            payload,
+        } => ("DirectRequest", of_message(function, word, flags, payload)),
+        Call::DirectResponse {
+            function,
+            word,
+            flags,
+            payload,
+        } => ("DirectResponse", of_message(function, word, flags, payload)),
+        _ => said_of_memory(call),
+    }
+}
+
+fn said_of_memory(call: Call) -> (&'static str, [u64; 8]) {
+    match call {
+        Call::MemDonate(transfer) => ("MemDonate", of_transfer(transfer)),
+        Call::MemLend(transfer) => ("MemLend", of_transfer(transfer)),
+        Call::MemShare(transfer) => ("MemShare", of_transfer(transfer)),
+        Call::MemRetrieve(transfer) => ("MemRetrieve", of_transfer(transfer)),
+        Call::MemRelinquish => ("MemRelinquish", [0; 8]),
+        Call::MemReclaim { low, high, flags } => {
+            let found = numbers(low.into(), high.into(), flags.into(), 0);
+            ("MemReclaim", found)
+        }
+        _ => said_of_notifications(call),
+    }
+}
+
+fn of_bits(word: u32, flags: u32, low: u32, high: u32) -> [u64; 8] {
+    numbers(word.into(), flags.into(), low.into(), high.into())
+}
+
+fn said_of_notifications(call: Call) -> (&'static str, [u64; 8]) {
+    match call {
+        Call::BitmapCreate { endpoint, contexts } => {
+            ("BitmapCreate", of_bits(endpoint, contexts, 0, 0))
+        }
+        Call::BitmapDestroy { endpoint } => ("BitmapDestroy", of_bits(endpoint, 0, 0, 0)),
+        Call::NotificationBind {
+            word,
+            flags,
+            low,
+            high,
+        } => ("NotificationBind", of_bits(word, flags, low, high)),
+        Call::NotificationUnbind {
+            word,
+            flags,
+            low,
+            high,
+        } => ("NotificationUnbind", of_bits(word, flags, low, high)),
+        Call::NotificationSet {
+            word,
+            flags,
+            low,
+            high,
+        } => ("NotificationSet", of_bits(word, flags, low, high)),
+        Call::NotificationGet { receiver, flags } => {
+            ("NotificationGet", of_bits(receiver, flags, 0, 0))
+        }
+        _ => ("no call", [0; 8]),
+    }
+}
+
+fn check_call(
+    rt: &impl Abort,
+    alloc: Global,
+    call: Call,
+    row: &str,
+    wanted: &str,
+) -> Result<(), Fail> {
+    let (name, numbers) = said(call);
+    let printed = format!(in alloc; "{name} {numbers:?}")?;
+    same_at(rt, printed.as_str(), wanted, &row);
+    Ok(())
+}
 
 #[test]
 fn calls_by_their_identifiers(rt: HostRuntime) -> Result<(), Fail> {
@@ -73,8 +198,7 @@ fn calls_by_their_identifiers(rt: HostRuntime) -> Result<(), Fail> {
         for row in rows.lines() {
             let (function, wanted) = row.split_once(' ').ok_or("no call")?;
             let call = decode(registers(u32::from_str_radix(function, 16)?));
-            let printed = format!(in rt.alloc(); "{call:?}")?;
-            same_at(&rt, printed.as_str(), wanted, &row);
+            check_call(&rt, rt.alloc(), call, row, wanted)?;
         }
     }
     Ok(())
@@ -94,7 +218,11 @@ fn no_calls(rt: HostRuntime) {
         0xC400_0076,
         0x0400_0063,
     ] {
-        same_at(&rt, decode(registers(function)), Call::Unknown, &function);
+        holds_at(
+            &rt,
+            matches!(decode(registers(function)), Call::Unknown),
+            &function,
+        );
         holds_at(&rt, !is_function(function), &function);
     }
     holds(&rt, is_function(0x8400_0069));

@@ -2,7 +2,7 @@
 //! Direct messages on the machine with two partitions.
 ghost use Rattle.std.specs.Prelude.{◌≡◌, length};
 
-use crate::checks::same;
+use crate::checks::{alike, same};
 use ffa_messages::{DirectMessage, direct_req, direct_resp};
 use ffa_model::{EndpointId, ErrorCode, Reply, Status, Work, row_machine};
 use ffa_schedule::Chain;
@@ -58,11 +58,11 @@ fn passed(w0: u32, w1: u32) -> Result<Reply, ErrorCode> {
 #[test]
 fn request_and_response(rt: HostRuntime) -> Result<(), Fail> {
     let mut chain = Chain::first(3);
-    same(&rt, ask(&mut chain, 0x8001, 0), passed(REQUEST, 0x8001));
+    alike(&rt, ask(&mut chain, 0x8001, 0), passed(REQUEST, 0x8001));
     same(&rt, chain.runner(), FIRST);
     same(&rt, chain.status(NORMAL), Status::Blocked);
     same(&rt, chain.work(FIRST), Some(Work::Request(NORMAL)));
-    same(
+    alike(
         &rt,
         answer(&mut chain, 0x8001_0000, 0),
         passed(RESPONSE, 0x8001_0000),
@@ -77,26 +77,26 @@ fn request_and_response(rt: HostRuntime) -> Result<(), Fail> {
 fn refused_requests(rt: HostRuntime) -> Result<(), Fail> {
     for word in [0x8003, 0x8000, 0, 0x8002_8001] {
         let mut chain = Chain::first(3);
-        same(
+        alike(
             &rt,
             ask(&mut chain, word, 0),
             Err(ErrorCode::InvalidParameters),
         );
     }
     let mut chain = Chain::first(3);
-    same(
+    alike(
         &rt,
         ask(&mut chain, 0x8001, 1),
         Err(ErrorCode::InvalidParameters),
     );
-    same(&rt, ask(&mut chain, 0x8001, 0), passed(REQUEST, 0x8001));
-    same(&rt, ask(&mut chain, 0x8001_0000, 0), Err(ErrorCode::Denied));
-    same(
+    alike(&rt, ask(&mut chain, 0x8001, 0), passed(REQUEST, 0x8001));
+    alike(&rt, ask(&mut chain, 0x8001_0000, 0), Err(ErrorCode::Denied));
+    alike(
         &rt,
         ask(&mut chain, 0x8001_8002, 0),
         passed(REQUEST, 0x8001_8002),
     );
-    same(&rt, ask(&mut chain, 0x8002_8001, 0), Err(ErrorCode::Busy));
+    alike(&rt, ask(&mut chain, 0x8002_8001, 0), Err(ErrorCode::Busy));
     same(&rt, chain.runner(), SECOND);
     Ok(())
 }
@@ -104,17 +104,17 @@ fn refused_requests(rt: HostRuntime) -> Result<(), Fail> {
 #[test]
 fn refused_responses(rt: HostRuntime) -> Result<(), Fail> {
     let mut chain = Chain::first(3);
-    same(&rt, answer(&mut chain, 0, 0), Err(ErrorCode::Denied));
+    alike(&rt, answer(&mut chain, 0, 0), Err(ErrorCode::Denied));
     let mut chain = Chain::first(3);
-    same(&rt, ask(&mut chain, 0x8001, 0), passed(REQUEST, 0x8001));
+    alike(&rt, ask(&mut chain, 0x8001, 0), passed(REQUEST, 0x8001));
     for word in [0x8001_8002, 0x8002_0000, 0x8001] {
-        same(
+        alike(
             &rt,
             answer(&mut chain, word, 0),
             Err(ErrorCode::InvalidParameters),
         );
     }
-    same(
+    alike(
         &rt,
         answer(&mut chain, 0x8001_0000, 1),
         Err(ErrorCode::InvalidParameters),

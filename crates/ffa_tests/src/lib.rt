@@ -1,12 +1,10 @@
 // SPDX-License-Identifier: MIT OR Apache-2.0
-//! Tests of the crates below the program, each through what its crate makes public. They stand here and not in their
-//! crates, since a crate with tests is proved twice at each landing.
+//! Tests of the crates below the machine, and of the command line, each through what its crate makes public. They stand here
+//! and not in their crates, since a crate with tests is proved twice at each landing.
 #![tactic(auto)]
 
 #[cfg(test)]
 mod abi;
-#[cfg(test)]
-mod certificate;
 #[cfg(test)]
 mod checks;
 #[cfg(test)]
@@ -14,33 +12,15 @@ mod command;
 #[cfg(test)]
 mod direct_messages;
 #[cfg(test)]
-mod explained;
-#[cfg(test)]
-mod generate;
-#[cfg(test)]
-mod guards;
-#[cfg(test)]
-mod hostile;
-#[cfg(test)]
-mod lines;
-#[cfg(test)]
-mod machines;
-#[cfg(test)]
 mod manifest;
 #[cfg(test)]
 mod memdesc;
 #[cfg(test)]
 mod pages;
 #[cfg(test)]
-mod perform;
-#[cfg(test)]
 mod physmem;
 #[cfg(test)]
-mod player;
-#[cfg(test)]
-mod reasons;
-#[cfg(test)]
-mod rows;
+mod printed;
 #[cfg(test)]
 mod rxtx;
 #[cfg(test)]
@@ -51,8 +31,6 @@ mod script;
 mod setup;
 #[cfg(test)]
 mod stage2;
-#[cfg(test)]
-mod streams;
 #[cfg(test)]
 mod tlb;
 #[cfg(test)]

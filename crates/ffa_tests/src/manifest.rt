@@ -10,7 +10,7 @@ use std::process::Abort;
 use std::test::Fail;
 
 // The text of `row_machine`.
-pub(crate) const ROW: &str = "ram_base = 0x40000000
+const ROW: &str = "ram_base = 0x40000000
 ram_blocks = 1
 [[endpoint]]
 version = \"1.1\"

@@ -5,6 +5,7 @@ ghost use Rattle.std.specs.Prelude.{◌^◌, ◌<◌};
 ghost use Rattle.ffa_model.specs.SendDescriptor.{page_total};
 
 use crate::checks::{holds, same, same_at};
+use crate::printed;
 use arrayvec::ArrayVec;
 use byteorder::{ByteOrder, LittleEndian};
 use ffa_memdesc::{Response, read_relinquish, read_retrieve, read_send, write_response};
@@ -12,56 +13,6 @@ use ffa_model::{Data, EndpointId, Kind, Range, Rights, Version};
 use std::alloc::{AllocError, Global};
 use std::process::Abort;
 use std::test::Fail;
-
-/// 8001 lends the page at 40021000 to 8002, which may write it.
-pub(crate) const LEND: [u64; 12] = [
-    0x8001,
-    0,
-    0,
-    0x1_0000_0010,
-    0x30,
-    0,
-    0x40_0002_8002,
-    0,
-    0x1_0000_0001,
-    0,
-    0x4002_1000,
-    1,
-];
-
-/// 8001 shares the page at 40022000 with 0 and 8002, which may read it.
-pub(crate) const SHARE: [u64; 14] = [
-    0x2f_8001,
-    0,
-    0,
-    0x2_0000_0010,
-    0x30,
-    0,
-    0x50_0001_0000,
-    0,
-    0x50_0001_8002,
-    0,
-    0x1_0000_0001,
-    0,
-    0x4002_2000,
-    1,
-];
-
-/// 8002 donates the page at 40031000 to 8001.
-pub(crate) const DONATE: [u64; 12] = [
-    0x8002,
-    0,
-    0,
-    0x1_0000_0010,
-    0x30,
-    0,
-    0x40_0000_8001,
-    0,
-    0x1_0000_0001,
-    0,
-    0x4003_1000,
-    1,
-];
 
 /// What 8002 gets for a retrieve of the lend.
 const LENT: [u64; 12] = [
@@ -97,22 +48,22 @@ fn said_of_send(
     kind: Kind,
 ) -> Result<String, AllocError> {
     match read_send(&bytes, version, kind) {
-        Ok(desc) => format!(in alloc; "{desc:?}"),
-        Err(flaw) => format!(in alloc; "{flaw:?}"),
+        Ok(desc) => printed::send(alloc, &desc),
+        Err(flaw) => printed::flaw(alloc, flaw),
     }
 }
 
 fn said_of_retrieve(alloc: Global, bytes: &[u8], endpoint: u16) -> Result<String, AllocError> {
     match read_retrieve(&bytes, Version::V1_1, EndpointId(endpoint)) {
-        Ok(desc) => format!(in alloc; "{desc:?}"),
-        Err(flaw) => format!(in alloc; "{flaw:?}"),
+        Ok(desc) => printed::retrieve(alloc, &desc),
+        Err(flaw) => printed::flaw(alloc, flaw),
     }
 }
 
 fn said_of_relinquish(alloc: Global, bytes: &[u8]) -> Result<String, AllocError> {
     match read_relinquish(&bytes) {
-        Ok(desc) => format!(in alloc; "{desc:?}"),
-        Err(flaw) => format!(in alloc; "{flaw:?}"),
+        Ok(desc) => printed::relinquish(alloc, &desc),
+        Err(flaw) => printed::flaw(alloc, flaw),
     }
 }
 

@@ -1,6 +1,6 @@
 // SPDX-License-Identifier: MIT OR Apache-2.0
 //! Run states of the normal world and two partitions.
-use crate::checks::same;
+use crate::checks::{alike, same};
 use ffa_model::{EndpointId, ErrorCode, Reply, Status, Work};
 use ffa_schedule::Chain;
 use std::test::Fail;
@@ -24,9 +24,9 @@ fn passed(w0: u32, w1: u32) -> Reply {
 fn run_and_wait(rt: HostRuntime) -> Result<(), Fail> {
     let mut chain = Chain::first(3);
     same(&rt, chain.runner(), NORMAL);
-    same(&rt, chain.wait(), Err(ErrorCode::Denied));
-    same(&rt, chain.yield_now(), Err(ErrorCode::Denied));
-    same(
+    alike(&rt, chain.wait(), Err(ErrorCode::Denied));
+    alike(&rt, chain.yield_now(), Err(ErrorCode::Denied));
+    alike(
         &rt,
         chain.run(0x8001_0000),
         Ok(passed(0x8400_006D, 0x8001_0000)),
@@ -36,8 +36,8 @@ fn run_and_wait(rt: HostRuntime) -> Result<(), Fail> {
     same(&rt, chain.status(NORMAL), Status::Blocked);
     same(&rt, chain.status(SECOND), Status::Waiting);
     same(&rt, chain.work(FIRST), Some(Work::Run));
-    same(&rt, chain.run(0x8002_0000), Err(ErrorCode::Denied));
-    same(&rt, chain.wait(), Ok(passed(0x8400_006B, 0x8001_0000)));
+    alike(&rt, chain.run(0x8002_0000), Err(ErrorCode::Denied));
+    alike(&rt, chain.wait(), Ok(passed(0x8400_006B, 0x8001_0000)));
     same(&rt, chain.runner(), NORMAL);
     same(&rt, chain.status(FIRST), Status::Waiting);
     same(&rt, chain.work(FIRST), None);
@@ -48,7 +48,7 @@ fn run_and_wait(rt: HostRuntime) -> Result<(), Fail> {
 fn refused_targets(rt: HostRuntime) -> Result<(), Fail> {
     let mut chain = Chain::first(3);
     for word in [0, 0x8000_0000, 0x8003_0000, 0x7FFF_0000, 0x8001_0001] {
-        same(&rt, chain.run(word), Err(ErrorCode::InvalidParameters));
+        alike(&rt, chain.run(word), Err(ErrorCode::InvalidParameters));
     }
     same(&rt, chain.runner(), NORMAL);
     same(&rt, chain.status(FIRST), Status::Waiting);
@@ -58,17 +58,17 @@ fn refused_targets(rt: HostRuntime) -> Result<(), Fail> {
 #[test]
 fn yield_and_run_again(rt: HostRuntime) -> Result<(), Fail> {
     let mut chain = Chain::first(3);
-    same(
+    alike(
         &rt,
         chain.run(0x8001_0000),
         Ok(passed(0x8400_006D, 0x8001_0000)),
     );
-    same(&rt, chain.yield_now(), Ok(passed(0x8400_006C, 0x8001_0000)));
+    alike(&rt, chain.yield_now(), Ok(passed(0x8400_006C, 0x8001_0000)));
     same(&rt, chain.runner(), NORMAL);
     same(&rt, chain.status(NORMAL), Status::Running);
     same(&rt, chain.status(FIRST), Status::Yielded);
     same(&rt, chain.work(FIRST), Some(Work::Run));
-    same(&rt, chain.run(0x8001_0000), Ok(Reply::Success([0; 6])));
+    alike(&rt, chain.run(0x8001_0000), Ok(Reply::Success([0; 6])));
     same(&rt, chain.runner(), FIRST);
     same(&rt, chain.work(FIRST), Some(Work::Run));
     Ok(())
@@ -77,7 +77,7 @@ fn yield_and_run_again(rt: HostRuntime) -> Result<(), Fail> {
 #[test]
 fn requests(rt: HostRuntime) -> Result<(), Fail> {
     let mut chain = Chain::first(3);
-    same(
+    alike(
         &rt,
         chain.run(0x8001_0000),
         Ok(passed(0x8400_006D, 0x8001_0000)),
@@ -86,8 +86,8 @@ fn requests(rt: HostRuntime) -> Result<(), Fail> {
     same(&rt, chain.runner(), SECOND);
     same(&rt, chain.status(FIRST), Status::Blocked);
     same(&rt, chain.work(SECOND), Some(Work::Request(FIRST)));
-    same(&rt, chain.wait(), Err(ErrorCode::Denied));
-    same(&rt, chain.yield_now(), Err(ErrorCode::Denied));
+    alike(&rt, chain.wait(), Err(ErrorCode::Denied));
+    alike(&rt, chain.yield_now(), Err(ErrorCode::Denied));
     chain.respond();
     same(&rt, chain.runner(), FIRST);
     same(&rt, chain.status(FIRST), Status::Running);
@@ -100,9 +100,9 @@ fn requests(rt: HostRuntime) -> Result<(), Fail> {
 fn request_of_the_normal_world(rt: HostRuntime) -> Result<(), Fail> {
     let mut chain = Chain::first(3);
     chain.request(SECOND);
-    same(&rt, chain.yield_now(), Ok(passed(0x8400_006C, 0x8002_0000)));
+    alike(&rt, chain.yield_now(), Ok(passed(0x8400_006C, 0x8002_0000)));
     same(&rt, chain.status(SECOND), Status::Yielded);
-    same(&rt, chain.run(0x8002_0000), Ok(Reply::Success([0; 6])));
+    alike(&rt, chain.run(0x8002_0000), Ok(Reply::Success([0; 6])));
     same(&rt, chain.work(SECOND), Some(Work::Request(NORMAL)));
     chain.respond();
     same(&rt, chain.runner(), NORMAL);

@@ -1,21 +1,21 @@
 // SPDX-License-Identifier: MIT OR Apache-2.0
 //! Worked values, on the machine with two partitions.
-use crate::checks::{holds, same};
+use crate::checks::{alike, holds, same};
 use byteorder::{ByteOrder, LittleEndian};
 use ffa_model::{EndpointId, ErrorCode, Reply, Version, row_machine};
 use ffa_setup::{count, features, id, info_bytes, is_recognized, spm_id, version};
 
 #[test]
 fn versions(rt: HostRuntime) {
-    same(&rt, version(0x10001), Reply::Version(0x10001));
-    same(&rt, version(0x8001_0001), Reply::Version(0xFFFF_FFFF));
-    same(&rt, version(0x20000), Reply::Version(0xFFFF_FFFF));
+    alike(&rt, version(0x10001), Reply::Version(0x10001));
+    alike(&rt, version(0x8001_0001), Reply::Version(0xFFFF_FFFF));
+    alike(&rt, version(0x20000), Reply::Version(0xFFFF_FFFF));
 }
 
 #[test]
 fn feature_by_identifier(rt: HostRuntime) {
-    same(&rt, features(0x8400_0066), Reply::Success([0; 6]));
-    same(
+    alike(&rt, features(0x8400_0066), Reply::Success([0; 6]));
+    alike(
         &rt,
         features(0x8400_0075),
         Reply::Error(ErrorCode::NotSupported),
@@ -24,8 +24,8 @@ fn feature_by_identifier(rt: HostRuntime) {
 
 #[test]
 fn identifiers(rt: HostRuntime) {
-    same(&rt, id(EndpointId(0)), Reply::Success([0; 6]));
-    same(&rt, spm_id(), Reply::Success([0x8000, 0, 0, 0, 0, 0]));
+    alike(&rt, id(EndpointId(0)), Reply::Success([0; 6]));
+    alike(&rt, spm_id(), Reply::Success([0x8000, 0, 0, 0, 0, 0]));
 }
 
 // The words of at most 48 bytes, with zeros behind them.

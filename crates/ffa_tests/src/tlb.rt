@@ -11,7 +11,7 @@ const ENDPOINT: EndpointId = EndpointId(0x8001);
 
 // Picks one slot each time.
 #[derive(Drop)]
-pub(crate) struct Always(pub(crate) usize);
+struct Always(usize);
 
 impl Replacement for Always {
     ghost picked = { λ policy e p. policy.0 };

@@ -1,17 +1,43 @@
 // SPDX-License-Identifier: MIT OR Apache-2.0
 //! Worked words of a descriptor, and what is wrong with others.
 use crate::checks::same_at;
+use crate::printed;
 use ffa_command::{Request, request};
-use ffa_words::read_words;
+use ffa_script::Descriptor;
+use ffa_words::{Told, read_words};
 use std::alloc::{AllocError, Global};
 use std::process::Abort;
 use std::test::Fail;
+
+// What a descriptor is for, and what it says.
+fn said(alloc: Global, descriptor: &Descriptor) -> Result<String, AllocError> {
+    match descriptor {
+        Descriptor::Send { kind, desc } => {
+            let desc = printed::send(alloc, desc)?;
+            format!(in alloc; "Send {{ kind: {kind:?}, desc: {desc} }}")
+        }
+        Descriptor::Retrieve { desc, receiver } => {
+            let desc = printed::retrieve(alloc, desc)?;
+            format!(in alloc; "Retrieve {{ desc: {desc}, receiver: {receiver:?} }}")
+        }
+        Descriptor::Relinquish(desc) => {
+            let desc = printed::relinquish(alloc, desc)?;
+            format!(in alloc; "Relinquish({desc})")
+        }
+    }
+}
+
+fn of_descriptor(alloc: Global, told: &Told) -> Result<String, AllocError> {
+    let descriptor = said(alloc, &told.descriptor)?;
+    let (version, tx) = (told.version, told.tx);
+    format!(in alloc; "Told {{ version: {version:?}, descriptor: {descriptor}, tx: {tx:?} }}")
+}
 
 // What a command line says of a descriptor, or what is wrong with it.
 fn told<'a>(alloc: Global, words: &'a [&'a str]) -> Result<String, AllocError> {
     match request(alloc, words) {
         Ok(Request::Descriptor { words }) => match read_words(&words) {
-            Ok(told) => format!(in alloc; "{told:?}"),
+            Ok(told) => of_descriptor(alloc, &told),
             Err(fault) => format!(in alloc; "{fault}"),
         },
         _ => format!(in alloc; "no descriptor"),

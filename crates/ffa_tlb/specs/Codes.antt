@@ -1,4 +1,5 @@
 -- SPDX-License-Identifier: MIT OR Apache-2.0
+-- FOR PROOFS ALONE
 -- Nothing here is to be believed: a type that clauses see has to have a code, and each code brings the proof that it can be
 -- undone.
 use Rattle.std.specs.Prelude.{ℕ, Bool, List, Option, refl}

@@ -20,7 +20,7 @@ pub trait Replacement {
 }
 
 /// Picks the slots in turn: 0, 1, 2 and so on.
-#[derive(Clone, Copy, Debug)]
+#[derive(Clone, Copy)]
 pub struct InTurn {
     next: usize,
 }

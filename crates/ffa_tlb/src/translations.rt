@@ -7,7 +7,7 @@ ghost use Rattle.ffa_tlb.specs.declared.translations.Entry.{Entry};
 use ffa_model::{EndpointId, Leaf, PageNo};
 
 /// A leaf that is held for a page of an endpoint: that of the page's first address.
-#[derive(Clone, Copy, Debug, PartialEq, Eq)]
+#[derive(Clone, Copy, PartialEq, Eq)]
 pub struct Entry {
     pub endpoint: EndpointId,
     pub page: PageNo,
@@ -47,7 +47,7 @@ pub trait Translations {
 }
 
 /// Holds nothing: each access walks.
-#[derive(Clone, Copy, Debug, Default)]
+#[derive(Clone, Copy, Default)]
 pub struct NoTlb;
 
 impl Translations for NoTlb {

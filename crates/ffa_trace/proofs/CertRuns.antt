@@ -11,11 +11,11 @@ use Rattle.std.proofs.lemmas.Grind.{flat_map-append}
 use Rattle.ffa_model.specs.declared.certificate.CertRun.{CertRun}
 use Rattle.ffa_model.specs.Certificate.{certificate, run_from, runs_from}
 use Rattle.ffa_model.specs.State.{State}
-use Rattle.ffa_model.specs.TraceText.{audit_text, cert_run_text, cert_text, ended, root_text}
-use Rattle.ffa_trace.specs.Output.{TookFront, Writes}
-use Rattle.ffa_trace.specs.declared.output.PlayError.{PlayError}
-use Rattle.ffa_trace.specs.declared.output.PlayError.TheVariants.{Read, Write, NoMemory, BadLine}
-use Rattle.ffa_trace.proofs.Fronts.{front_after, front_before}
+use Rattle.ffa_syntax.specs.TraceText.{audit_text, cert_run_text, cert_text, ended, root_text}
+use Rattle.ffa_syntax.specs.Output.{TookFront, Writes}
+use Rattle.ffa_syntax.specs.declared.output.PlayError.{PlayError}
+use Rattle.ffa_syntax.specs.declared.output.PlayError.TheVariants.{Read, Write, NoMemory, BadLine}
+use Rattle.ffa_syntax.proofs.Fronts.{front_after, front_before}
 
 -- LISTS
 

@@ -7,11 +7,11 @@ use Rattle.std.proofs.lemmas.List.Folds.{list_all-append}
 use Rattle.std.proofs.lemmas.List.Quantifiers.{position-Some}
 use Rattle.std.proofs.lemmas.Bool.{eqb-true}
 use Rattle.ffa_model.specs.State.{State}
-use Rattle.ffa_model.specs.TraceLines.{feed, joined, has_no_feed}
+use Rattle.ffa_syntax.specs.TraceLines.{feed, joined, has_no_feed}
 use Rattle.ffa_trace.specs.Played.{most_lines}
 use Rattle.ffa_trace.specs.Feeding.{LineDone, LineEnded, Kept, IsNumbered, Feeding, Fed}
-use Rattle.ffa_trace.specs.declared.output.PlayError.{PlayError}
-use Rattle.ffa_trace.specs.declared.output.PlayError.TheVariants.{Read, Write, NoMemory, BadLine}
+use Rattle.ffa_syntax.specs.declared.output.PlayError.{PlayError}
+use Rattle.ffa_syntax.specs.declared.output.PlayError.TheVariants.{Read, Write, NoMemory, BadLine}
 use Rattle.ffa_trace.proofs.Positions.{none_pass, none_before}
 use Rattle.ffa_trace.proofs.Runs.{joined-append, did_none, did_more, did_one, did_kept}
 

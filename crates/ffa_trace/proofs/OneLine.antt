@@ -6,14 +6,14 @@ use Rattle.std.specs.Option.{option_map_or}
 use Rattle.std.specs.Io.KnownBytes.{Appends, Keeps}
 use Rattle.std.proofs.KnownBytes.{Appends-nil}
 use Rattle.ffa_model.specs.State.{State}
-use Rattle.ffa_model.specs.TraceLines.{Line, skip, line_of, is_good}
-use Rattle.ffa_model.specs.TraceText.{line_text, line_after, text_of, after}
+use Rattle.ffa_syntax.specs.TraceLines.{Line, skip, line_of, is_good}
+use Rattle.ffa_syntax.specs.TraceText.{line_text, line_after, text_of, after}
 use Rattle.ffa_model.specs.declared.operation.Outcome.{Outcome}
-use Rattle.ffa_trace.specs.Output.{TookFront, Writes}
+use Rattle.ffa_syntax.specs.Output.{TookFront, Writes}
 use Rattle.ffa_trace.specs.Feeding.{LineDone, LineEnded}
-use Rattle.ffa_trace.specs.Lines.{Answered}
-use Rattle.ffa_trace.specs.declared.output.PlayError.{PlayError}
-use Rattle.ffa_trace.specs.declared.output.PlayError.TheVariants.{Read, Write, NoMemory, BadLine}
+use Rattle.ffa_syntax.specs.Lines.{Answered}
+use Rattle.ffa_syntax.specs.declared.output.PlayError.{PlayError}
+use Rattle.ffa_syntax.specs.declared.output.PlayError.TheVariants.{Read, Write, NoMemory, BadLine}
 
 module _ (start now : State) (held holds : Option (List ℕ)) (number : ℕ) (bytes : List ℕ) (line : Line) (is : Some line ≡ line_of bytes) (next : now ≡ line_after start line) where
   means : is_good bytes ≡ true

@@ -5,8 +5,8 @@ use Rattle.std.specs.Io.KnownBytes.{Appends, Keeps}
 use Rattle.std.proofs.KnownBytes.{Appends-nil, Appends-trans, Appends-kept}
 use Rattle.std.proofs.lemmas.List.Folds.{list_all-append}
 use Rattle.ffa_model.specs.State.{State}
-use Rattle.ffa_model.specs.TraceLines.{feed, joined, is_line, are_lines, has_no_feed, is_good}
-use Rattle.ffa_model.specs.TraceText.{text, text_of, after, after_all}
+use Rattle.ffa_syntax.specs.TraceLines.{feed, joined, is_line, are_lines, has_no_feed, is_good}
+use Rattle.ffa_syntax.specs.TraceText.{text, text_of, after, after_all}
 use Rattle.ffa_trace.specs.Played.{Did, DidAndBegan}
 
 pub joined-append : (ls ms : List (List ℕ)) → joined (ls ++ ms) ≡ joined ls ++ joined ms

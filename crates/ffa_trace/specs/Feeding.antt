@@ -1,13 +1,14 @@
 -- SPDX-License-Identifier: MIT OR Apache-2.0
+-- FOR PROOFS ALONE
 -- The steps of a play, which private functions promise one another: a line, bytes that are kept, a block of lines.
 use Rattle.std.specs.Prelude.{◌≡◌, ◌≤◌, ℕ, ◌+◌, true, false, List, ◌∷◌, ◌++◌, length, Option, Some, Result, Ok, Err}
 use Rattle.std.specs.Io.KnownBytes.{Appends, Keeps}
 use Rattle.ffa_model.specs.State.{State}
-use Rattle.ffa_model.specs.TraceLines.{audit, feed, has_no_feed, is_good, joined, line_of}
-use Rattle.ffa_model.specs.TraceText.{text_of, after}
+use Rattle.ffa_syntax.specs.TraceLines.{audit, feed, has_no_feed, is_good, joined, line_of}
+use Rattle.ffa_syntax.specs.TraceText.{text_of, after}
 use Rattle.ffa_trace.specs.Played.{Did, Began, DidAndBegan, most_lines}
-use Rattle.ffa_trace.specs.declared.output.PlayError.{PlayError}
-use Rattle.ffa_trace.specs.declared.output.PlayError.TheVariants.{Read, Write, NoMemory, BadLine}
+use Rattle.ffa_syntax.specs.declared.output.PlayError.{PlayError}
+use Rattle.ffa_syntax.specs.declared.output.PlayError.TheVariants.{Read, Write, NoMemory, BadLine}
 
 -- What follows speaks of the machine's state before and now (`start`, `now`), and of what the writer held and holds.
 

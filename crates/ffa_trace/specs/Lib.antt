@@ -1,6 +1,4 @@
 -- SPDX-License-Identifier: MIT OR Apache-2.0
 pub mod Feeding
-pub mod Lines
-pub mod Output
-pub mod Parsed
 pub mod Played
+pub mod Standing

@@ -3,11 +3,11 @@
 use Rattle.std.specs.Prelude.{◌≡◌, ◌≤◌, ◌<◌, ◌⊎◌, ℕ, ◌+◌, ◌-◌, ◌^◌, true, false, List, [], ◌∷◌, ◌++◌, length, Option, Result, Ok, Err}
 use Rattle.std.specs.Io.KnownBytes.{Appends, Consumes, IsAtEnd}
 use Rattle.ffa_model.specs.State.{State}
-use Rattle.ffa_model.specs.TraceLines.{feed, has_no_feed, is_good, are_lines, joined}
-use Rattle.ffa_model.specs.TraceText.{text, text_of, after, after_all}
-use Rattle.ffa_trace.specs.Output.{TookFront}
-use Rattle.ffa_trace.specs.declared.output.PlayError.{PlayError}
-use Rattle.ffa_trace.specs.declared.output.PlayError.TheVariants.{Read, Write, NoMemory, BadLine}
+use Rattle.ffa_syntax.specs.TraceLines.{feed, has_no_feed, is_good, are_lines, joined}
+use Rattle.ffa_syntax.specs.TraceText.{text, text_of, after, after_all}
+use Rattle.ffa_syntax.specs.Output.{TookFront}
+use Rattle.ffa_syntax.specs.declared.output.PlayError.{PlayError}
+use Rattle.ffa_syntax.specs.declared.output.PlayError.TheVariants.{Read, Write, NoMemory, BadLine}
 
 -- What follows speaks of the machine's state before and after, of what was written to the writer before and after,
 -- and of what was unread in the reader before and after.

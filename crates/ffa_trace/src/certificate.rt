@@ -6,26 +6,24 @@ ghost use Rattle.arrayvec.specs.ArrayVec.{array_vec_len};
 ghost use Rattle.ffa_model.specs.declared.limits.TheConstants.{MOST_ENDPOINTS};
 ghost use Rattle.ffa_model.specs.Agreement.{root};
 ghost use Rattle.ffa_model.specs.Certificate.{certificate};
-ghost use Rattle.ffa_model.specs.TraceText.{audit_text, cert_run_text, cert_text, ended, handle_text, rights_text, root_text, spaced};
-ghost use Rattle.ffa_trace.specs.Output.{Writes, WritesIfRoom};
+ghost use Rattle.ffa_syntax.specs.TraceText.{audit_text, cert_run_text, cert_text, ended, handle_text, rights_text, root_text, spaced};
+ghost use Rattle.ffa_syntax.specs.Output.{Writes, WritesIfRoom};
 
-use crate::output::{self, PlayError};
-use crate::text::{self, CAPACITY, Text};
 use ffa_model::{CertRun, EndpointId, PageNo};
-use ffa_physmem::PhysMem;
-use ffa_spmc::Machine;
-use ffa_tlb::Translations;
+use ffa_playable::Playable;
+use ffa_syntax::output::{self, PlayError};
+use ffa_syntax::text::{self, CAPACITY, Text};
 use std::alloc::{AllocError, Allocator};
 use std::io::Write;
 
 /// Writes the machine's certificate with the addresses of its level 1 tables, and whether the tables give it. The runs are
 /// put together first: where there is no memory for them, nothing is written.
-pub(crate) fn write_audit<M: PhysMem + Drop, T: Translations + Drop, A: Allocator, W: Write>(
-    machine: &Machine<M, T>,
+pub(crate) fn write_audit<P: Playable, A: Allocator, W: Write>(
+    machine: &P,
     alloc: A,
     writer: &mut W,
 ) -> Result<(), PlayError>
-    ensures { WritesIfRoom (W.contents writer.old) (W.contents writer.new) (audit_text machine.now.state) result }
+    ensures { WritesIfRoom (W.contents writer.old) (W.contents writer.new) (audit_text (P.state machine.now)) result }
 {
     match runs(machine, alloc) {
         Ok(runs) => write_certificate(machine, runs.as_slice(), writer),
@@ -34,14 +32,11 @@ pub(crate) fn write_audit<M: PhysMem + Drop, T: Translations + Drop, A: Allocato
 }
 
 /// The runs of the machine's pages, one behind the other: its certificate.
-pub fn runs<M: PhysMem + Drop, T: Translations + Drop, A: Allocator>(
-    machine: &Machine<M, T>,
-    alloc: A,
-) -> Result<Vec<CertRun, A>, AllocError>
-    ensures { IfOk result (λ runs. runs.items ≡ certificate machine.now.state) }
+pub fn runs<P: Playable, A: Allocator>(machine: &P, alloc: A) -> Result<Vec<CertRun, A>, AllocError>
+    ensures { IfOk result (λ runs. runs.items ≡ certificate (P.state machine.now)) }
 {
     let mut runs = Vec::new(alloc);
-    let pages = machine.ram().pages();
+    let pages = machine.ram_pages();
     let mut from = 0;
     while from < pages {
         let run = machine.cert_run(PageNo(from));
@@ -52,13 +47,13 @@ pub fn runs<M: PhysMem + Drop, T: Translations + Drop, A: Allocator>(
 }
 
 // Writes the machine's certificate, whose runs these are.
-fn write_certificate<M: PhysMem + Drop, T: Translations + Drop, W: Write>(
-    machine: &Machine<M, T>,
+fn write_certificate<P: Playable, W: Write>(
+    machine: &P,
     runs: &[CertRun],
     writer: &mut W,
 ) -> Result<(), PlayError>
-    requires { runs.now ≡ certificate machine.now.state }
-    ensures { Writes (W.contents writer.old) (W.contents writer.new) (audit_text machine.now.state) result }
+    requires { runs.now ≡ certificate (P.state machine.now) }
+    ensures { Writes (W.contents writer.old) (W.contents writer.new) (audit_text (P.state machine.now)) result }
 {
     let mut text = Text::new();
     push_cert(&mut text, machine);
@@ -69,12 +64,12 @@ fn write_certificate<M: PhysMem + Drop, T: Translations + Drop, W: Write>(
 }
 
 // Writes runs of pages.
-fn write_runs<M: PhysMem + Drop, T: Translations + Drop, W: Write>(
-    machine: &Machine<M, T>,
+fn write_runs<P: Playable, W: Write>(
+    machine: &P,
     runs: &[CertRun],
     writer: &mut W,
 ) -> Result<(), PlayError>
-    ensures { Writes (W.contents writer.old) (W.contents writer.new) (flat_map (cert_run_text machine.now.state) runs.now) result }
+    ensures { Writes (W.contents writer.old) (W.contents writer.new) (flat_map (cert_run_text (P.state machine.now)) runs.now) result }
 {
     let mut text = Text::new();
     for run in runs {
@@ -86,11 +81,8 @@ fn write_runs<M: PhysMem + Drop, T: Translations + Drop, W: Write>(
 }
 
 // The last line of the machine's certificate.
-fn verdict<M: PhysMem + Drop, T: Translations + Drop>(
-    machine: &Machine<M, T>,
-    runs: &[CertRun],
-) -> &'static [u8]
-    requires { runs.now ≡ certificate machine.now.state }
+fn verdict<P: Playable>(machine: &P, runs: &[CertRun]) -> &'static [u8]
+    requires { runs.now ≡ certificate (P.state machine.now) }
     ensures { result.now ≡ ended (codes "agrees") }
 {
     if machine.audit(runs) {
@@ -101,14 +93,14 @@ fn verdict<M: PhysMem + Drop, T: Translations + Drop>(
 }
 
 // Appends the first line to no text yet.
-#[tactic(auto, unfolding(ffa_model::specs::TraceText::cert_text))]
-fn push_cert<M: PhysMem + Drop, T: Translations + Drop>(text: &mut Text, machine: &Machine<M, T>)
+#[tactic(auto, unfolding(ffa_syntax::specs::TraceText::cert_text))]
+fn push_cert<P: Playable>(text: &mut Text, machine: &P)
     requires { text.old.items ≡ [] }
-    ensures items { text.new.items ≡ cert_text machine.now.state }
+    ensures items { text.new.items ≡ cert_text (P.state machine.now) }
     ensures len { array_vec_len text.new ≡ 25 }
 {
-    let base = u64::from(machine.ram().base().0);
-    let last = u64::from(machine.ram().pages().saturating_sub(1));
+    let base = u64::from(machine.ram_base().0);
+    let last = u64::from(machine.ram_pages().saturating_sub(1));
     text::push_word(text, b"cert");
     text::push_hex(text, 8, base);
     text::push_hex(text, 8, base + 4096 * last + 4095);
@@ -117,9 +109,9 @@ fn push_cert<M: PhysMem + Drop, T: Translations + Drop>(text: &mut Text, machine
 }
 
 // Appends the line of each endpoint's level 1 table.
-fn push_roots<M: PhysMem + Drop, T: Translations + Drop>(text: &mut Text, machine: &Machine<M, T>)
+fn push_roots<P: Playable>(text: &mut Text, machine: &P)
     requires { array_vec_len text.old ≤ 64 }
-    ensures { text.new.items ≡ text.old.items ++ flat_map (root_text machine.now.state) (range_with_len 0 (length machine.now.state.parties)) }
+    ensures { text.new.items ≡ text.old.items ++ flat_map (root_text (P.state machine.now)) (range_with_len 0 (length (P.state machine.now).parties)) }
 {
     for place in 0..machine.endpoints() {
         push_root(text, machine, place);
@@ -127,15 +119,11 @@ fn push_roots<M: PhysMem + Drop, T: Translations + Drop>(text: &mut Text, machin
 }
 
 // Appends one of them.
-#[tactic(auto, unfolding(ffa_model::specs::TraceText::root_text))]
-fn push_root<M: PhysMem + Drop, T: Translations + Drop>(
-    text: &mut Text,
-    machine: &Machine<M, T>,
-    place: usize,
-)
+#[tactic(auto, unfolding(ffa_syntax::specs::TraceText::root_text))]
+fn push_root<P: Playable>(text: &mut Text, machine: &P, place: usize)
     requires room { array_vec_len text.old + 19 ≤ CAPACITY }
     requires place { place < MOST_ENDPOINTS }
-    ensures items { text.new.items ≡ text.old.items ++ root_text machine.now.state place }
+    ensures items { text.new.items ≡ text.old.items ++ root_text (P.state machine.now) place }
     ensures len { array_vec_len text.new ≡ array_vec_len text.old + 19 }
 {
     text::push_word(text, b"root");
@@ -145,26 +133,21 @@ fn push_root<M: PhysMem + Drop, T: Translations + Drop>(
 }
 
 // The address of the level 1 table of the endpoint at a place: its table pages stand behind those of the endpoints before.
-fn root_at<M: PhysMem + Drop, T: Translations + Drop>(machine: &Machine<M, T>, place: usize) -> u64
+fn root_at<P: Playable>(machine: &P, place: usize) -> u64
     requires { place < MOST_ENDPOINTS }
-    ensures { result ≡ root machine.now.state place }
+    ensures { result ≡ root (P.state machine.now) place }
 {
-    let ram = machine.ram();
-    let blocks = u64::from(ram.pages() / 512);
-    u64::from(ram.base().0) + 4096 * (place as u64 * (2 + blocks))
+    let blocks = u64::from(machine.ram_pages() / 512);
+    u64::from(machine.ram_base().0) + 4096 * (place as u64 * (2 + blocks))
 }
 
 // Appends a run to no text yet.
-#[tactic(auto, unfolding(ffa_model::specs::TraceText::cert_run_text))]
-fn push_run<M: PhysMem + Drop, T: Translations + Drop>(
-    text: &mut Text,
-    machine: &Machine<M, T>,
-    run: &CertRun,
-)
+#[tactic(auto, unfolding(ffa_syntax::specs::TraceText::cert_run_text))]
+fn push_run<P: Playable>(text: &mut Text, machine: &P, run: &CertRun)
     requires { text.old.items ≡ [] }
-    ensures { text.new.items ≡ cert_run_text machine.now.state run.now }
+    ensures { text.new.items ≡ cert_run_text (P.state machine.now) run.now }
 {
-    let base = u64::from(machine.ram().base().0);
+    let base = u64::from(machine.ram_base().0);
     text::push_word(text, b"pages");
     text::push_hex(text, 8, base + 4096 * u64::from(run.first.0));
     text::push_hex(text, 8, base + 4096 * u64::from(run.last.0) + 4095);

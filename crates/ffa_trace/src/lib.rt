@@ -3,13 +3,7 @@
 #![tactic(auto)]
 
 pub mod certificate;
-mod line;
-mod lines;
-pub mod output;
 mod player;
 mod show;
-pub mod text;
 
-pub use lines::Line;
-pub use output::PlayError;
 pub use player::{Begun, Player};

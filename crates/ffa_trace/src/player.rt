@@ -2,22 +2,19 @@
 //! The player of traces.
 ghost use Rattle.std.specs.Prelude.{◌≡◌, ◌*◌, codes, ◌==◌, true, [], ◌++◌, position, IfErr, IfOk, OnOk};
 ghost use Rattle.std.specs.List.{flat_map};
-ghost use Rattle.ffa_model.specs.TraceLines.{feed, has_no_feed};
+ghost use Rattle.ffa_syntax.specs.TraceLines.{feed, has_no_feed};
 ghost use Rattle.ffa_model.specs.Memory.{size_of};
 ghost use Rattle.ffa_model.specs.Step.{step};
-ghost use Rattle.ffa_model.specs.TraceText.{hex, spaced, ended, outcome_text};
+ghost use Rattle.ffa_syntax.specs.TraceText.{hex, spaced, ended, outcome_text};
 ghost use Rattle.ffa_trace.specs.Feeding.{LineDone, LineEnded, Kept, IsNumbered, Fed, Feeding, StopsIn};
-ghost use Rattle.ffa_trace.specs.Lines.{Answered, meant};
-ghost use Rattle.ffa_trace.specs.Output.{Writes};
+ghost use Rattle.ffa_syntax.specs.Lines.{Answered, meant};
+ghost use Rattle.ffa_syntax.specs.Output.{Writes};
 ghost use Rattle.ffa_trace.specs.Played.{Played};
 
-use crate::lines::Line;
-use crate::output::{self, PlayError};
-use crate::{certificate, line, show, text};
+use crate::{certificate, show};
 use ffa_model::{Op, Outcome, Size};
-use ffa_physmem::PhysMem;
-use ffa_spmc::Machine;
-use ffa_tlb::{NoTlb, Translations};
+use ffa_playable::Playable;
+use ffa_syntax::{Line, PlayError, line, output, text};
 use memchr::memchr;
 use std::alloc::{Allocator, Global};
 use std::io::{Read, Write};
@@ -26,24 +23,24 @@ use std::marker::Model;
 /// How many bytes a play asks of its reader at a time.
 const BLOCK: usize = 65536;
 
-/// Plays traces on a machine, as which contracts see it.
+/// Plays traces on a machine. Contracts see the state in which that stands.
 #[derive(Drop)]
-pub struct Player<M: PhysMem + Drop, T: Translations + Drop = NoTlb> {
-    machine: Machine<M, T>,
+pub struct Player<P: Playable> {
+    machine: P,
 }
 
-impl<M: PhysMem + Drop, T: Translations + Drop> Model for Player<M, T> {
-    ghost use Rattle.ffa_spmc.specs.Snapshot.{Snapshot, coded_snapshot};
+impl<P: Playable> Model for Player<P> {
+    ghost use Rattle.ffa_trace.specs.Standing.{Standing, coded_standing};
 
-    ghost Value = { Snapshot };
+    ghost Value = { Standing };
 
-    ghost coded = { coded_snapshot };
+    ghost coded = { coded_standing };
 
-    ghost view = { λ player. player.machine };
+    ghost view = { λ player. record { state = P.state player.machine } };
 }
 
 /// The bytes of a line whose LF hasn't come yet, and the line's number.
-#[derive(Debug, Drop)]
+#[derive(Drop)]
 pub struct Begun<A: Allocator = Global> {
     /// The bytes, none of which is an LF.
     pub bytes: Vec<u8, A>,
@@ -66,17 +63,17 @@ impl<A: Allocator> Begun<A> {
     }
 }
 
-impl<M: PhysMem + Drop, T: Translations + Drop> Player<M, T> {
+impl<P: Playable> Player<P> {
     /// A player on this machine, as it is.
-    pub fn new(machine: Machine<M, T>) -> Player<M, T>
-        ensures { result ≡ machine }
+    pub fn new(machine: P) -> Player<P>
+        ensures { result.state ≡ P.state machine }
     {
         Player { machine }
     }
 
     /// The machine, as the lines so far left it.
-    pub fn machine(&self) -> &Machine<M, T>
-        ensures { result.now ≡ self.now }
+    pub fn machine(&self) -> &P
+        ensures { P.state result.now ≡ self.now.state }
     {
         &self.machine
     }
@@ -142,13 +139,13 @@ impl<M: PhysMem + Drop, T: Translations + Drop> Player<M, T> {
 
 // Not inlined: the block would lie on the stack while the caller boots the machine.
 #[inline(never)]
-fn play_lines<M: PhysMem + Drop, T: Translations + Drop, A: Allocator + Copy, R: Read, W: Write>(
-    machine: &mut Machine<M, T>,
+fn play_lines<P: Playable, A: Allocator + Copy, R: Read, W: Write>(
+    machine: &mut P,
     alloc: A,
     reader: &mut R,
     writer: &mut W,
 ) -> Result<(), PlayError>
-    ensures { Played machine.old.state machine.new.state (W.contents writer.old) (W.contents writer.new) (R.remaining reader.old) (R.remaining reader.new) result }
+    ensures { Played (P.state machine.old) (P.state machine.new) (W.contents writer.old) (W.contents writer.new) (R.remaining reader.old) (R.remaining reader.new) result }
 {
     let mut begun = Begun::new(alloc);
     let mut block = [0; BLOCK];
@@ -163,15 +160,15 @@ fn play_lines<M: PhysMem + Drop, T: Translations + Drop, A: Allocator + Copy, R:
     Err(PlayError::Read)
 }
 
-fn feed<M: PhysMem + Drop, T: Translations + Drop, A: Allocator + Copy, W: Write>(
-    machine: &mut Machine<M, T>,
+fn feed<P: Playable, A: Allocator + Copy, W: Write>(
+    machine: &mut P,
     alloc: A,
     writer: &mut W,
     begun: Begun<A>,
     bytes: &[u8],
 ) -> Result<Begun<A>, PlayError>
-    ensures fed { IfOk result (λ next. Feeding machine.old.state machine.new.state (W.contents writer.old) (W.contents writer.new) begun.number next.number (begun.bytes.items ++ bytes.now) next.bytes.items) }
-    ensures failed { IfErr result (StopsIn machine.old.state machine.new.state (W.contents writer.old) (W.contents writer.new) begun.number (begun.bytes.items ++ bytes.now)) }
+    ensures fed { IfOk result (λ next. Feeding (P.state machine.old) (P.state machine.new) (W.contents writer.old) (W.contents writer.new) begun.number next.number (begun.bytes.items ++ bytes.now) next.bytes.items) }
+    ensures failed { IfErr result (StopsIn (P.state machine.old) (P.state machine.new) (W.contents writer.old) (W.contents writer.new) begun.number (begun.bytes.items ++ bytes.now)) }
 {
     let Begun {
         bytes: mut line,
@@ -186,8 +183,8 @@ fn feed<M: PhysMem + Drop, T: Translations + Drop, A: Allocator + Copy, W: Write
 
 // Takes bytes that were read: `begun` are those of the line that hasn't ended, and `number` is its number. The last number
 // is that of no line, so bytes behind the lines that can be counted are those of an input that is too long.
-fn do_lines<M: PhysMem + Drop, T: Translations + Drop, A: Allocator + Copy, W: Write>(
-    machine: &mut Machine<M, T>,
+fn do_lines<P: Playable, A: Allocator + Copy, W: Write>(
+    machine: &mut P,
     alloc: A,
     writer: &mut W,
     begun: &mut Vec<u8, A>,
@@ -196,7 +193,7 @@ fn do_lines<M: PhysMem + Drop, T: Translations + Drop, A: Allocator + Copy, W: W
 ) -> Result<(), PlayError>
     requires unended { has_no_feed begun.old.items ≡ true }
     requires numbered { IsNumbered number.old begun.old.items }
-    ensures { Fed machine.old.state machine.new.state (W.contents writer.old) (W.contents writer.new) number.old number.new (begun.old.items ++ bytes.now) begun.new.items result }
+    ensures { Fed (P.state machine.old) (P.state machine.new) (W.contents writer.old) (W.contents writer.new) number.old number.new (begun.old.items ++ bytes.now) begun.new.items result }
 {
     let mut rest = bytes;
     while *number < u64::MAX {
@@ -230,15 +227,15 @@ fn keep<A: Allocator>(begun: &mut Vec<u8, A>, bytes: &[u8]) -> Result<(), PlayEr
 }
 
 // Does the line that begins with `begun` and ends with `piece`. A line that lies in one block isn't copied.
-fn end_line<M: PhysMem + Drop, T: Translations + Drop, A: Allocator + Copy, W: Write>(
-    machine: &mut Machine<M, T>,
+fn end_line<P: Playable, A: Allocator + Copy, W: Write>(
+    machine: &mut P,
     alloc: A,
     writer: &mut W,
     begun: &mut Vec<u8, A>,
     number: u64,
     piece: &[u8],
 ) -> Result<(), PlayError>
-    ensures line { LineEnded machine.old.state machine.new.state (W.contents writer.old) (W.contents writer.new) number (begun.old.items ++ piece.now) result }
+    ensures line { LineEnded (P.state machine.old) (P.state machine.new) (W.contents writer.old) (W.contents writer.new) number (begun.old.items ++ piece.now) result }
     ensures none_begun { OnOk result (begun.new.items ≡ []) }
 {
     if begun.is_empty() {
@@ -252,14 +249,14 @@ fn end_line<M: PhysMem + Drop, T: Translations + Drop, A: Allocator + Copy, W: W
 
 // Does a line, and writes its text. The commands that most lines have are told by their bytes, and each is done where it
 // was read.
-fn do_line<M: PhysMem + Drop, T: Translations + Drop, A: Allocator + Copy, W: Write>(
-    machine: &mut Machine<M, T>,
+fn do_line<P: Playable, A: Allocator + Copy, W: Write>(
+    machine: &mut P,
     alloc: A,
     writer: &mut W,
     number: u64,
     bytes: &[u8],
 ) -> Result<(), PlayError>
-    ensures { LineDone machine.old.state machine.new.state (W.contents writer.old) (W.contents writer.new) number bytes.now result }
+    ensures { LineDone (P.state machine.old) (P.state machine.new) (W.contents writer.old) (W.contents writer.new) number bytes.now result }
 {
     match bytes {
         [] | [b'#', ..] => Ok(()),
@@ -274,13 +271,13 @@ fn do_line<M: PhysMem + Drop, T: Translations + Drop, A: Allocator + Copy, W: Wr
 
 // Does a call, by the words behind its name.
 #[inline(always)]
-fn do_call<M: PhysMem + Drop, T: Translations + Drop, W: Write>(
-    machine: &mut Machine<M, T>,
+fn do_call<P: Playable, W: Write>(
+    machine: &mut P,
     writer: &mut W,
     number: u64,
     words: &[u8],
 ) -> Result<(), PlayError>
-    ensures { LineDone machine.old.state machine.new.state (W.contents writer.old) (W.contents writer.new) number (codes "call " ++ words.now) result }
+    ensures { LineDone (P.state machine.old) (P.state machine.new) (W.contents writer.old) (W.contents writer.new) number (codes "call " ++ words.now) result }
 {
     let mut x = [0; 8];
     if line::registers(words, &mut x) {
@@ -292,13 +289,13 @@ fn do_call<M: PhysMem + Drop, T: Translations + Drop, W: Write>(
 
 // Does a load, alike.
 #[inline(always)]
-fn do_load<M: PhysMem + Drop, T: Translations + Drop, W: Write>(
-    machine: &mut Machine<M, T>,
+fn do_load<P: Playable, W: Write>(
+    machine: &mut P,
     writer: &mut W,
     number: u64,
     words: &[u8],
 ) -> Result<(), PlayError>
-    ensures { LineDone machine.old.state machine.new.state (W.contents writer.old) (W.contents writer.new) number (codes "load " ++ words.now) result }
+    ensures { LineDone (P.state machine.old) (P.state machine.new) (W.contents writer.old) (W.contents writer.new) number (codes "load " ++ words.now) result }
 {
     match line::load(words) {
         Some((addr, size)) => operate(machine, writer, &Op::Load { addr, size }),
@@ -308,13 +305,13 @@ fn do_load<M: PhysMem + Drop, T: Translations + Drop, W: Write>(
 
 // Does a store, alike.
 #[inline(always)]
-fn do_store<M: PhysMem + Drop, T: Translations + Drop, W: Write>(
-    machine: &mut Machine<M, T>,
+fn do_store<P: Playable, W: Write>(
+    machine: &mut P,
     writer: &mut W,
     number: u64,
     words: &[u8],
 ) -> Result<(), PlayError>
-    ensures { LineDone machine.old.state machine.new.state (W.contents writer.old) (W.contents writer.new) number (codes "store " ++ words.now) result }
+    ensures { LineDone (P.state machine.old) (P.state machine.new) (W.contents writer.old) (W.contents writer.new) number (codes "store " ++ words.now) result }
 {
     match line::store(words) {
         Some((addr, size, value)) => operate(machine, writer, &Op::Store { addr, size, value }),
@@ -324,14 +321,14 @@ fn do_store<M: PhysMem + Drop, T: Translations + Drop, W: Write>(
 
 // Does a line of another command, of which a trace has few.
 #[inline(never)]
-fn do_other<M: PhysMem + Drop, T: Translations + Drop, A: Allocator + Copy, W: Write>(
-    machine: &mut Machine<M, T>,
+fn do_other<P: Playable, A: Allocator + Copy, W: Write>(
+    machine: &mut P,
     alloc: A,
     writer: &mut W,
     number: u64,
     bytes: &[u8],
 ) -> Result<(), PlayError>
-    ensures { LineDone machine.old.state machine.new.state (W.contents writer.old) (W.contents writer.new) number bytes.now result }
+    ensures { LineDone (P.state machine.old) (P.state machine.new) (W.contents writer.old) (W.contents writer.new) number bytes.now result }
 {
     match Line::read(bytes) {
         Some(line) => {
@@ -343,13 +340,13 @@ fn do_other<M: PhysMem + Drop, T: Translations + Drop, A: Allocator + Copy, W: W
 }
 
 // Does a line that was read, and writes its text. It answers what came of the operation that the line is.
-fn answer<M: PhysMem + Drop, T: Translations + Drop, A: Allocator + Copy, W: Write>(
-    machine: &mut Machine<M, T>,
+fn answer<P: Playable, A: Allocator + Copy, W: Write>(
+    machine: &mut P,
     alloc: A,
     writer: &mut W,
     line: &Line,
 ) -> Result<Option<Outcome>, PlayError>
-    ensures { Answered machine.old.state machine.new.state (W.contents writer.old) (W.contents writer.new) (meant line.now) result }
+    ensures { Answered (P.state machine.old) (P.state machine.new) (W.contents writer.old) (W.contents writer.new) (meant line.now) result }
 {
     match *line {
         Line::Operation(op) => {
@@ -365,13 +362,9 @@ fn answer<M: PhysMem + Drop, T: Translations + Drop, A: Allocator + Copy, W: Wri
 
 // Does an operation, and writes what comes of it.
 #[inline(always)]
-fn operate<M: PhysMem + Drop, T: Translations + Drop, W: Write>(
-    machine: &mut Machine<M, T>,
-    writer: &mut W,
-    op: &Op,
-) -> Result<(), PlayError>
-    ensures state { machine.new.state ≡ (step machine.old.state op.now).state }
-    ensures text { Writes (W.contents writer.old) (W.contents writer.new) (outcome_text op.now (step machine.old.state op.now).outcome) result }
+fn operate<P: Playable, W: Write>(machine: &mut P, writer: &mut W, op: &Op) -> Result<(), PlayError>
+    ensures state { P.state machine.new ≡ (step (P.state machine.old) op.now).state }
+    ensures text { Writes (W.contents writer.old) (W.contents writer.new) (outcome_text op.now (step (P.state machine.old) op.now).outcome) result }
 {
     let outcome = machine.op(op);
     write_outcome(writer, op, &outcome)
@@ -379,7 +372,7 @@ fn operate<M: PhysMem + Drop, T: Translations + Drop, W: Write>(
 
 // Writes what an operation with this outcome prints. It is inlined, though plays on machines of four kinds call it.
 #[inline(always)]
-#[tactic(auto, unfolding(ffa_model::specs::TraceText::outcome_words))]
+#[tactic(auto, unfolding(ffa_syntax::specs::TraceText::outcome_words))]
 fn write_outcome<W: Write>(writer: &mut W, op: &Op, outcome: &Outcome) -> Result<(), PlayError>
     ensures { Writes (W.contents writer.old) (W.contents writer.new) (outcome_text op.now outcome.now) result }
 {
@@ -393,7 +386,7 @@ fn write_outcome<W: Write>(writer: &mut W, op: &Op, outcome: &Outcome) -> Result
 
 // Writes data that an operation read, alike.
 #[inline(always)]
-#[tactic(auto, unfolding(ffa_model::specs::TraceText::outcome_words))]
+#[tactic(auto, unfolding(ffa_syntax::specs::TraceText::outcome_words))]
 fn write_data<W: Write>(writer: &mut W, op: &Op, value: u64) -> Result<(), PlayError>
     ensures { Writes (W.contents writer.old) (W.contents writer.new) (outcome_text op.now (Outcome.Data value)) result }
 {

@@ -7,8 +7,8 @@ use Rattle.std.proofs.lemmas.List.{take_rest}
 use Rattle.std.specs.Io.KnownBytes.{Appends}
 use Rattle.std.proofs.KnownBytes.{Appends-nil, Appends-trans}
 use Rattle.std.proofs.lemmas.List.Folds.{list_all-append}
-use Rattle.ffa_model.specs.TraceLines.{feed, is_line, joined, line_of, command_of, words_of, show_of, audit_of}
-use Rattle.ffa_model.specs.TraceText.{ended}
+use Rattle.ffa_syntax.specs.TraceLines.{feed, is_line, joined, line_of, command_of, words_of, show_of, audit_of}
+use Rattle.ffa_syntax.specs.TraceText.{ended}
 use Rattle.ffa_turns.specs.Traces.{GrowsByLine, GrowsByLines, Wrote}
 
 joined-append : (lines more : List (List ℕ)) → joined (lines ++ more) ≡ joined lines ++ joined more

@@ -2,8 +2,8 @@
 -- What is written: so many lines of a trace.
 use Rattle.std.specs.Prelude.{◌≡◌, ℕ, true, List, ◌++◌, length, Option}
 use Rattle.std.specs.Io.KnownBytes.{Appends}
-use Rattle.ffa_model.specs.TraceLines.{is_line, are_lines, joined}
-use Rattle.ffa_model.specs.TraceText.{ended}
+use Rattle.ffa_syntax.specs.TraceLines.{is_line, are_lines, joined}
+use Rattle.ffa_syntax.specs.TraceText.{ended}
 
 -- a text grew by a line of a trace, with its LF
 pub record GrowsByLine (old new : List ℕ) : Type 0 where

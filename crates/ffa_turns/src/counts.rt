@@ -70,7 +70,7 @@ const CELLS: usize = 180;
 const NO_VERSION: u64 = 0xFFFF_FFFF;
 
 /// A kind of access to memory.
-#[derive(Clone, Copy, Debug, PartialEq, Eq)]
+#[derive(Clone, Copy, PartialEq, Eq)]
 pub enum Access {
     Load,
     Store,
@@ -79,7 +79,7 @@ pub enum Access {
 
 /// How often each call succeeded, how often each error came, and of accesses how often each was done and each fault came.
 /// The two forms of a call count as one, and so do all identifiers that are of no call. A count stops at its highest.
-#[derive(Debug, Drop)]
+#[derive(Drop)]
 pub struct Counts {
     /// A count for each row and column, row by row.
     pub cells: [u64; CELLS],

@@ -1,4 +1,5 @@
 -- SPDX-License-Identifier: MIT OR Apache-2.0
+-- FOR PROOFS ALONE
 -- What each kind of access needs of a leaf.
 use Rattle.std.specs.Prelude.{Bool}
 use Rattle.ffa_model.specs.Reach.{may_load, may_store_to, may_execute}

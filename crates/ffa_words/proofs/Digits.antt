@@ -5,7 +5,7 @@ use Rattle.std.proofs.Math.Nat.{pow-le-pow_right, pow-suc}
 use Rattle.std.proofs.Math.Numerals.{add-one}
 use Rattle.std.proofs.lemmas.List.Sums.{fold_more}
 use Rattle.std.proofs.lemmas.List.Folds.{fold_stuck}
-use Rattle.ffa_model.specs.TraceLines.{digit_value, with_digit}
+use Rattle.ffa_syntax.specs.TraceLines.{digit_value, with_digit}
 
 -- so many bytes at the front are digits, and write this number
 pub record Written (word : List ℕ) (number count : ℕ) : Type 0 where

@@ -3,7 +3,7 @@
 use Rattle.std.specs.Prelude.{ℕ, ◌^◌, ◌%◌, ◌==◌, ◌&&◌, Bool, true, false, nat_lt, List, [], ◌∷◌, codes, Option, Some, None, if◌then◌else◌, option_map, option_and_then}
 use Rattle.std.specs.Str.{bytes_eq}
 use Rattle.std.specs.List.{slice_split}
-use Rattle.ffa_model.specs.TraceLines.{number_of}
+use Rattle.ffa_syntax.specs.TraceLines.{number_of}
 use Rattle.ffa_model.specs.declared.endpoint.Address.{Address}
 use Rattle.ffa_model.specs.declared.endpoint.EndpointId.{EndpointId}
 use Rattle.ffa_model.specs.declared.rights.Data.{Data}

@@ -4,7 +4,7 @@ use Rattle.std.specs.Prelude.{◌≡◌, ℕ, Bool, true, false, is_some, nat_le
 use Rattle.std.specs.Option.{ok_or}
 use Rattle.std.specs.Str.{bytes_eq}
 use Rattle.ffa_command.specs.Commands.{Described}
-use Rattle.ffa_model.specs.TraceLines.{number_of}
+use Rattle.ffa_syntax.specs.TraceLines.{number_of}
 use Rattle.ffa_model.specs.declared.endpoint.EndpointId.{EndpointId}
 use Rattle.ffa_model.specs.declared.endpoint.Address.{Address}
 use Rattle.ffa_model.specs.declared.endpoint.Version.{Version}

@@ -8,7 +8,7 @@ use arrayvec::ArrayVec;
 use ffa_model::{Address, Data, EndpointId, Kind, MOST_RANGES, MOST_RECEIVERS, Range, Receiver};
 
 /// The endpoint that retrieves, and the right that it asks for. A right to data that is `None` isn't specified.
-#[derive(Clone, Copy, Debug, PartialEq, Eq)]
+#[derive(Clone, Copy, PartialEq, Eq)]
 pub struct Asker {
     pub endpoint: EndpointId,
     pub level: Option<Data>,

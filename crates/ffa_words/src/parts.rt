@@ -2,7 +2,7 @@
 //! The parts of a word: those between its commas, those round a colon or a plus, and numbers.
 ghost use Rattle.std.specs.Prelude.{◌≡◌, ◌+◌, ◌<◌, ◌≤◌, ◌==◌, ◌∷◌, length, fold, IfSome, Some, option_map};
 ghost use Rattle.std.specs.List.{slice_split};
-ghost use Rattle.ffa_model.specs.TraceLines.{digit_value, number_of, with_digit};
+ghost use Rattle.ffa_syntax.specs.TraceLines.{digit_value, number_of, with_digit};
 ghost use Rattle.ffa_words.specs.Members.{comma, one_or_two};
 ghost use Rattle.ffa_words.specs.Cuts.{parts_left};
 
@@ -46,7 +46,7 @@ pub(crate) fn commas(text: &str) -> usize
     count
 }
 
-#[tactic(auto, unfolding(ffa_model::specs::TraceLines::digit_value))]
+#[tactic(auto, unfolding(ffa_syntax::specs::TraceLines::digit_value))]
 fn digit(byte: u8) -> Option<u64>
     ensures { result ≡ digit_value byte }
 {
@@ -59,7 +59,7 @@ fn digit(byte: u8) -> Option<u64>
 }
 
 /// The number that 1 to 16 hexadecimal digits write.
-#[tactic(auto, unfolding(ffa_model::specs::TraceLines::number_of))]
+#[tactic(auto, unfolding(ffa_syntax::specs::TraceLines::number_of))]
 pub(crate) fn number(word: &str) -> Option<u64>
     ensures { result ≡ number_of word.now }
 {

@@ -18,7 +18,7 @@ use ffa_model::{
 use ffa_script::Descriptor;
 
 /// What words say: a descriptor, its form, and where TX stands.
-#[derive(Debug, Drop)]
+#[derive(Drop)]
 pub struct Told {
     pub version: Version,
     pub descriptor: Descriptor,

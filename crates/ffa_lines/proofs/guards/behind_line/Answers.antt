@@ -3,7 +3,7 @@ use Rattle.std.proofs.Common.{◌≡◌, ◌≢◌, ◌++◌, ◌∷◌, ℕ, Li
 use Rattle.std.specs.Option.{MatchOption}
 use Rattle.std.proofs.lemmas.Bool.Decides.{Decides-eqb}
 use Rattle.std.proofs.lemmas.Slice.Eq.{strip_prefix_is}
-use Rattle.ffa_model.specs.TraceLines.{feed}
+use Rattle.ffa_syntax.specs.TraceLines.{feed}
 use Rattle.ffa_lines.proofs.Guarding.{behind_text}
 use Rattle.ffa_lines.proofs.guards.behind_line.Goals as goal
 

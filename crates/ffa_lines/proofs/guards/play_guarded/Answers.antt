@@ -1,55 +1,47 @@
 -- SPDX-License-Identifier: MIT OR Apache-2.0
-use Rattle.std.proofs.Common.{◌++◌, ◌∷◌, [], Ok, sym, ap, ◌∙◌, subst, arith, length-append}
-use Rattle.std.specs.Io.KnownBytes.{Appends}
+use Rattle.std.proofs.Common.{◌++◌, ◌∷◌, [], Ok, sym, subst, arith, length-append, refl}
 use Rattle.std.proofs.KnownBytes.{Appends-nil, Appends-trans}
 use Rattle.std.proofs.lemmas.Result.{err_from_is_err_and}
-use Rattle.ffa_model.specs.TraceLines.{line_of}
-use Rattle.ffa_trace.specs.Lines.{meant}
+use Rattle.ffa_syntax.specs.Lines.{meant}
 use Rattle.ffa_lines.specs.Asking.{Asked}
+use Rattle.ffa_lines.specs.Forms.{line_text_in}
 use Rattle.ffa_lines.specs.Guards.{IsUnasked, guard_of}
-use Rattle.ffa_lines.proofs.Follows.{followed_none, followed_more, ends_badly, one_line}
-use Rattle.ffa_lines.proofs.Guarding.{breaks, guards_more, met_none, unasked_more, unasked_none, unread_guarded}
+use Rattle.ffa_lines.specs.Steps.{TakesLine}
+use Rattle.ffa_lines.proofs.Follows.{followed_none, followed_more}
+use Rattle.ffa_lines.proofs.Guarding.{breaks, guards_more, met_none, unasked_more, unasked_none, untaken_guarded}
 use Rattle.ffa_lines.proofs.guards.play_guarded.Goals as goal
 
 pub loop-number-init : goal.loop-number-init
 loop-number-init g c = ([], [], followed_none _ _ _, Appends-nil _, omega arith, met_none _, subst (IsUnasked c.args.player.now.state []) (sym c.new-unasked.ensures.items) (unasked_none _))
 
-pub returns-in_err-next_line : goal.returns-in_err-next_line
-returns-in_err-next_line g c =
+pub returns-in_err-line : goal.returns-in_err-line
+returns-in_err-line g c =
     let i = c.loop-number.invariant in
     let p = err_from_is_err_and c.from_residual.result c.from_residual.ensures.1 in
-    rw (p.1, p.2) (unread_guarded _ _ _ _ _ i.0 i.1 i.2 c.loop-number.number i.4 i.5 c.in_err-next_line.field-0.0 (g.R.Read.remaining c.next_line.new.reader) c.next_line.new.line.items c.in_err-next_line.ensures c.loop-number.player.state (g.W.Write.contents c.args.writer.now) (g.W.Write.contents c.loop-number.writer) c.next_line.new.line.items c.loop-number.found.items i.3)
-
-pub returns-in_default : goal.returns-in_default
-returns-in_default g c =
-    let i = c.loop-number.invariant in
-    let one = one_line (g.R.Read.remaining c.loop-number.reader) (g.R.Read.remaining c.next_line.new.reader) c.next_line.new.line.items c.loop-number.number _ c.if-not-branch.false c.in_ok-next_line.ensures in
-    (i.1, ends_badly _ _ _ _ _ i.0 i.1 i.2 c.loop-number.number i.4 _ c.next_line.new.line.items one.0 one.1 (c.in_default.ensures ∙ ap line_of c.deref.ensures.value), i.3, i.5)
+    rw (p.1, p.2) (untaken_guarded _ _ _ _ _ i.0 i.1 i.2 c.loop-number.number i.4 i.5 c.in_err-line.field-0.0 (g.R.Read.remaining c.take_line.new.reader) c.take_line.new.bytes.items c.in_err-line.ensures c.loop-number.player.state (g.W.Write.contents c.args.writer.now) (g.W.Write.contents c.loop-number.writer) c.take_line.new.bytes.items c.loop-number.found.items i.3)
 
 pub returns-in-Some-2 : goal.returns-in-Some-2
 returns-in-Some-2 g c =
     let i = c.loop-number.invariant in
-    let one = one_line (g.R.Read.remaining c.loop-number.reader) (g.R.Read.remaining c.next_line.new.reader) c.next_line.new.line.items c.loop-number.number _ c.if-not-branch.false c.in_ok-next_line.ensures in
-    let line = c.next_line.new.line.items in
-    let answer = subst (λ l. Asked c.loop-number.player.state (guard_of l) c.loop-number.unasked.items c.unmet.new.unasked.items c.unmet.new.found.items (Ok c.in_ok-asks.field-0)) c.deref-in-loop-number.ensures.value c.in_ok-asks.ensures in
+    let one = subst (λ o. TakesLine (g.R.Read.remaining c.loop-number.reader) (g.R.Read.remaining c.take_line.new.reader) c.take_line.new.bytes.items c.loop-number.number (Ok o)) c.in-Some.is c.in_ok-line.ensures in
+    let line = c.take_line.new.bytes.items in
+    let answer = subst (λ l. Asked c.loop-number.player.state (guard_of l) c.loop-number.unasked.items c.unmet.new.unasked.items c.unmet.new.found.items (Ok c.in_ok-asks.field-0)) c.deref.ensures.value c.in_ok-asks.ensures in
     let unmet = subst (λ o. Asked c.loop-number.player.state (guard_of line) c.loop-number.unasked.items c.unmet.new.unasked.items c.unmet.new.found.items (Ok o)) c.in-Some-2.is answer in
     (i.1, breaks _ _ _ _ _ i.0 i.1 i.2 c.loop-number.number i.4 i.5 _ line _ _ _ c.in-Some-2.asks one.0 one.1 i.6 unmet, i.3)
 
 pub loop-number-preserved : goal.loop-number-preserved
 loop-number-preserved g c =
     let i = c.loop-number.invariant in
-    let one = one_line (g.R.Read.remaining c.loop-number.reader) (g.R.Read.remaining c.next_line.new.reader) c.next_line.new.line.items c.loop-number.number _ c.if-not-branch.false c.in_ok-next_line.ensures in
-    let line = c.next_line.new.line.items in
-    let is = c.in-Some.ensures ∙ ap line_of c.deref.ensures.value in
-    let answer = subst (λ l. Asked c.loop-number.player.state (guard_of l) c.loop-number.unasked.items c.unmet.new.unasked.items c.unmet.new.found.items (Ok c.in_ok-asks.field-0)) c.deref-in-loop-number.ensures.value c.in_ok-asks.ensures in
+    let one = subst (λ o. TakesLine (g.R.Read.remaining c.loop-number.reader) (g.R.Read.remaining c.take_line.new.reader) c.take_line.new.bytes.items c.loop-number.number (Ok o)) c.in-Some.is c.in_ok-line.ensures in
+    let line = c.take_line.new.bytes.items in
+    let answer = subst (λ l. Asked c.loop-number.player.state (guard_of l) c.loop-number.unasked.items c.unmet.new.unasked.items c.unmet.new.found.items (Ok c.in_ok-asks.field-0)) c.deref.ensures.value c.in_ok-asks.ensures in
     let met = subst (λ o. Asked c.loop-number.player.state (guard_of line) c.loop-number.unasked.items c.unmet.new.unasked.items c.unmet.new.found.items (Ok o)) c.in_default-2.is answer in
-    let made = c.in_ok-make_texts.ensures.made in
-    let wrote = subst (Appends (g.W.Write.contents c.loop-number.writer) (g.W.Write.contents c.write_text.new.writer)) c.deref-in-loop-number-2.ensures.value c.in_ok-write_text.ensures in (
+    let made = c.in_ok-print_asked.ensures in (
       i.0 ++ line ∷ [],
-      i.1 ++ c.make_texts.new.text.items,
-      followed_more _ _ _ _ _ i.0 i.1 i.2 c.loop-number.number i.4 _ _ line (meant c.in-Some.line) _ one.0 one.1 is made.0 made.1,
-      Appends-trans _ _ _ _ _ i.3 wrote,
+      i.1 ++ line_text_in c.args.form c.loop-number.number c.loop-number.player.state (meant c.in-Some.line),
+      followed_more _ _ _ _ _ i.0 i.1 i.2 c.loop-number.number i.4 _ _ line (meant c.in-Some.line) _ one.0 one.1 one.2 made.printed.0 refl,
+      Appends-trans _ _ _ _ _ i.3 made.printed.1,
       omega (arith, i.4, length-append i.0 (line ∷ [])),
       guards_more c.args.player.now.state c.loop-number.player.state i.0 i.2.state c.loop-number.unasked.items i.6 i.5 line c.unmet.new.unasked.items c.unmet.new.found.items met,
-      unasked_more c.args.player.now.state c.loop-number.player.state i.0 i.2.state line (meant c.in-Some.line) c.loop-number.unasked.items c.unmet.new.unasked.items c.make_texts.new.said.items c.unmet.new.found.items is i.6 met c.in_ok-make_texts.ensures.said,
+      unasked_more c.args.player.now.state c.loop-number.player.state i.0 i.2.state line (meant c.in-Some.line) c.loop-number.unasked.items c.unmet.new.unasked.items c.print_asked.new.said.items c.unmet.new.found.items one.2 i.6 met made.said,
     )

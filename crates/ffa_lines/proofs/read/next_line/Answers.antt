@@ -4,7 +4,7 @@ use Rattle.std.specs.Prelude.{IfSome}
 use Rattle.std.specs.Io.{StopsAt, appended_bytes}
 use Rattle.std.specs.Io.BufRead.{take_through}
 use Rattle.std.specs.Io.KnownBytes.{Consumes}
-use Rattle.ffa_model.specs.TraceLines.{feed}
+use Rattle.ffa_syntax.specs.TraceLines.{feed}
 use Rattle.ffa_lines.proofs.ReadLines.{line_read}
 use Rattle.ffa_lines.proofs.read.next_line.Goals as goal
 

@@ -1,5 +1,6 @@
 -- SPDX-License-Identifier: MIT OR Apache-2.0
-use Rattle.ffa_perform.proofs.Performs.{kept, told_bad, told_unmet}
+use Rattle.ffa_tasks.proofs.Plays.{kept}
+use Rattle.ffa_perform.proofs.Performs.{told_bad, told_unmet}
 use Rattle.ffa_perform.proofs.commands.perform_in.Goals as goal
 use Rattle.ffa_perform.proofs.commands.perform_in.Goals.{then-is_verbose, else-is_verbose}
 

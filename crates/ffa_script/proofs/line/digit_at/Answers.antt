@@ -1,6 +1,6 @@
 -- SPDX-License-Identifier: MIT OR Apache-2.0
 use Rattle.std.proofs.Common.{◌*◌, ◌/◌, ◌%◌, ◌^◌, ap, ◌∙◌}
-use Rattle.ffa_model.specs.TraceText.{digit}
+use Rattle.ffa_syntax.specs.TraceText.{digit}
 use Rattle.ffa_script.proofs.Digits.{digit_low, digit_high, places_up}
 use Rattle.ffa_script.proofs.line.digit_at.Goals as goal
 

@@ -1,7 +1,7 @@
 -- SPDX-License-Identifier: MIT OR Apache-2.0
 use Rattle.std.proofs.Common.{◌≡◌, ◌+◌, ◌≤◌, ◌++◌}
 use Rattle.arrayvec.specs.ArrayVec.{array_vec_len}
-use Rattle.ffa_model.specs.TraceText.{hex, spaced}
+use Rattle.ffa_syntax.specs.TraceText.{hex, spaced}
 use Rattle.ffa_script.proofs.line.push_hex.Given as goal
 
 abbrev pub invariant-loop-left : goal.invariant-loop-left

@@ -1,7 +1,7 @@
 -- SPDX-License-Identifier: MIT OR Apache-2.0
 use Rattle.std.proofs.Common.{◌++◌, codes, sym, ap, ◌∙◌, subst, arith}
 use Rattle.ffa_model.specs.declared.operation.Op.TheVariants.{Fetch}
-use Rattle.ffa_model.specs.TraceText.{hex, spaced}
+use Rattle.ffa_syntax.specs.TraceText.{hex, spaced}
 use Rattle.ffa_script.specs.Script.{IsLineOf}
 use Rattle.ffa_script.proofs.Operations.{one_put, fetch_read}
 use Rattle.ffa_script.proofs.operation.push_fetch.Goals as goal

@@ -2,7 +2,7 @@
 use Rattle.std.proofs.Common.{◌++◌, codes, sym, ap, ◌∙◌, subst, arith}
 use Rattle.ffa_model.specs.declared.operation.Op.TheVariants.{Load}
 use Rattle.ffa_model.specs.Memory.{size_of}
-use Rattle.ffa_model.specs.TraceText.{hex, spaced}
+use Rattle.ffa_syntax.specs.TraceText.{hex, spaced}
 use Rattle.ffa_script.specs.Script.{IsLineOf}
 use Rattle.ffa_script.proofs.Operations.{two_put, load_read}
 use Rattle.ffa_script.proofs.operation.push_load.Goals as goal

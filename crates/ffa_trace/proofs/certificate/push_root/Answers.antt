@@ -1,7 +1,7 @@
 -- SPDX-License-Identifier: MIT OR Apache-2.0
 use Rattle.std.proofs.Common.{◌∙◌, ℕ, [], ◌∷◌, ◌++◌, codes, ap, ap₂}
-use Rattle.ffa_model.specs.TraceText.{ended, hex, root_text, spaced}
-use Rattle.ffa_trace.proofs.Listed.{four_pieces}
+use Rattle.ffa_syntax.specs.TraceText.{ended, hex, root_text, spaced}
+use Rattle.ffa_syntax.proofs.Listed.{four_pieces}
 use Rattle.ffa_trace.proofs.certificate.push_root.Goals as goal
 
 pub returns-clause-items : goal.returns-clause-items

@@ -2,14 +2,14 @@
 use Rattle.std.proofs.Common.{◌≡◌, ◌∙◌, ◌++◌, length, ap}
 use Rattle.std.specs.List.{flat_map, range_with_len}
 use Rattle.std.proofs.lemmas.Result.{err_from_is_err_and}
-use Rattle.ffa_model.specs.TraceText.{root_text}
+use Rattle.ffa_syntax.specs.TraceText.{root_text}
 use Rattle.ffa_trace.proofs.CertRuns.{head, head_failed, runs_failed, verdict_left}
-use Rattle.ffa_trace.proofs.Fronts.{writes_failed}
+use Rattle.ffa_syntax.proofs.Fronts.{writes_failed}
 use Rattle.ffa_trace.proofs.certificate.write_certificate.Goals as goal
 
 pub returns-in_err-write_text : goal.returns-in_err-write_text
 returns-in_err-write_text g c =
-    let s = c.args.machine.now.state in
+    let s = g.P.Playable.state c.args.machine.now in
     let text : c.as_slice.result.now ≡ head s =
     c.as_slice.ensures.value ∙ c.push_roots.ensures ∙ ap (λ l. l ++ flat_map (root_text s) (range_with_len 0 (length s.parties))) c.push_cert.ensures.items
     in
@@ -18,7 +18,7 @@ returns-in_err-write_text g c =
 
 pub returns-in_err-write_runs : goal.returns-in_err-write_runs
 returns-in_err-write_runs g c =
-    let s = c.args.machine.now.state in
+    let s = g.P.Playable.state c.args.machine.now in
     let text : c.as_slice.result.now ≡ head s =
     c.as_slice.ensures.value ∙ c.push_roots.ensures ∙ ap (λ l. l ++ flat_map (root_text s) (range_with_len 0 (length s.parties))) c.push_cert.ensures.items
     in
@@ -28,7 +28,7 @@ returns-in_err-write_runs g c =
 
 pub returns : goal.returns
 returns g c =
-    let s = c.args.machine.now.state in
+    let s = g.P.Playable.state c.args.machine.now in
     let text : c.as_slice.result.now ≡ head s =
     c.as_slice.ensures.value ∙ c.push_roots.ensures ∙ ap (λ l. l ++ flat_map (root_text s) (range_with_len 0 (length s.parties))) c.push_cert.ensures.items
     in

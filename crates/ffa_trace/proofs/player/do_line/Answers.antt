@@ -1,6 +1,6 @@
 -- SPDX-License-Identifier: MIT OR Apache-2.0
 use Rattle.std.proofs.Common.{◌≡◌, get_or, arith}
-use Rattle.ffa_trace.proofs.LineCommands.{empty_line, comment_line}
+use Rattle.ffa_syntax.proofs.LineCommands.{empty_line, comment_line}
 use Rattle.ffa_trace.proofs.OneLine.{line_skipped}
 use Rattle.ffa_trace.proofs.player.do_line.Goals as goal
 

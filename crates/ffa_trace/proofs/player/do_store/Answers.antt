@@ -1,8 +1,8 @@
 -- SPDX-License-Identifier: MIT OR Apache-2.0
 use Rattle.std.proofs.Common.{◌∙◌, sym}
 use Rattle.ffa_model.specs.declared.operation.Op.TheVariants.{Store}
-use Rattle.ffa_model.specs.TraceLines.{operate}
-use Rattle.ffa_trace.proofs.LineCommands.{store_line}
+use Rattle.ffa_syntax.specs.TraceLines.{operate}
+use Rattle.ffa_syntax.proofs.LineCommands.{store_line}
 use Rattle.ffa_trace.proofs.OneLine.{line_written, line_bad}
 use Rattle.ffa_trace.proofs.player.do_store.Goals as goal
 

@@ -5,12 +5,12 @@ use Rattle.arrayvec.specs.ArrayVec.{array_vec_len}
 use Rattle.ffa_model.specs.Lists.{listed}
 use Rattle.ffa_model.specs.Identifiers.{identifier}
 use Rattle.ffa_model.specs.Access.{access}
-use Rattle.ffa_model.specs.TraceText.{spaced, rights_text}
+use Rattle.ffa_syntax.specs.TraceText.{spaced, rights_text}
 use Rattle.ffa_trace.proofs.show.push_accesses.Given as goal
 
 -- the endpoints so far
 abbrev pub invariant-loop-place : goal.invariant-loop-place
 invariant-loop-place g l = record {
-  so_far : l.text.items ≡ l.initial.text.items ++ flat_map (λ e. spaced (rights_text (access l.fn.machine.state e l.page.0))) (listed l.place identifier);
+  so_far : l.text.items ≡ l.initial.text.items ++ flat_map (λ e. spaced (rights_text (access (g.P.Playable.state l.fn.machine) e l.page.0))) (listed l.place identifier);
   room : array_vec_len l.text ≡ array_vec_len l.initial.text + 4 * l.place;
 }

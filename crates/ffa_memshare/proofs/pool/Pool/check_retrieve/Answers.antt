@@ -1,6 +1,7 @@
 -- SPDX-License-Identifier: MIT OR Apache-2.0
 use Rattle.std.proofs.Common.{◌≡◌, ◌∙◌, of_calls, Bool, Option, Some, Err, sym, ap}
 use Rattle.std.specs.FinMap as finite
+use Rattle.std.specs.Result.{result_err}
 use Rattle.arrayvec.specs.ArrayVec.{array_vec_len}
 use Rattle.ffa_model.specs.Buffers.{buffers_in, is_full}
 use Rattle.ffa_model.specs.Calls.{first_refusal}
@@ -40,6 +41,24 @@ returns-clause-refusal g c =
     let get : finite.get (map_in slots) asked.handle ≡ Some (view_of it) = asked-open slots c.in-Some.slot asked.handle it c.in-Some.ensures.found c.at-open.ensures.value c.at-open.ensures.open in
     retrieve-asked scene e c.args.call.now.transfer read (Some asked) c.in_ok-bytes.ensures.refusal is
     (c.in_ok-right.ensures.refusal
+    ∙ ap (λ (full : Bool). first_refusal (holding_guards (own_rights_in c.args.pages.now l.base.0) full e asked (Some (view_of it)))) c.is_full-is_full.ensures
+    ∙ ap (λ (o : Option Transaction). first_refusal (holding_guards (own_rights_in c.args.pages.now l.base.0) (is_full (buffers_in c.args.buffers.now e)) e asked o)) (sym get))
+
+pub returns-in_err-right-clause-refusal : goal.returns-in_err-right-clause-refusal
+returns-in_err-right-clause-refusal g c =
+    let l = c.args.layout.now in
+    let e = c.args.caller.0 in
+    let slots = c.args.self.now.slots in
+    let scene = scene_in (array_vec_len l.regions) c.args.pages.now l.base.0 c.args.buffers.now (open_in c.args.self.now) in
+    let read = retrieve_of e (descriptor_in (g.M.PhysMem.ram c.args.ram.now) c.args.buffers.now e c.args.call.now) in
+    let asked = c.in-Ok.asked in
+    let it = c.at-open.result.now in
+    let is : read ≡ Some asked = sym (ap (λ b. retrieve_of e (in_version c.args.call.now.version b)) c.in_ok-bytes.ensures.bytes) ∙ sym c.in-Ok.ensures.computed in
+    let get : finite.get (map_in slots) asked.handle ≡ Some (view_of it) = asked-open slots c.in-Some.slot asked.handle it c.in-Some.ensures.found c.at-open.ensures.value c.at-open.ensures.open in
+    let failed : result_err c.from_residual-in_err-right.result ≡ Some c.in_err-right.field-0.0 = search of_calls in
+    failed
+    ∙ retrieve-asked scene e c.args.call.now.transfer read (Some asked) c.in_ok-bytes.ensures.refusal is
+    (c.in_err-right.ensures.refusal
     ∙ ap (λ (full : Bool). first_refusal (holding_guards (own_rights_in c.args.pages.now l.base.0) full e asked (Some (view_of it)))) c.is_full-is_full.ensures
     ∙ ap (λ (o : Option Transaction). first_refusal (holding_guards (own_rights_in c.args.pages.now l.base.0) (is_full (buffers_in c.args.buffers.now e)) e asked o)) (sym get))
 

@@ -77,3 +77,15 @@ returns-clause-offered g c =
       own = c.in_ok-ranges.ensures.offered;
       other = sent-other c.args.kind (in_version version c.in_ok-bytes.bytes) offer c.in-Ok.ensures.found;
     }
+
+pub returns-clause-handle : goal.returns-clause-handle
+returns-clause-handle g c = c.next_handle.ensures
+
+pub returns-clause-free : goal.returns-clause-free
+returns-clause-free g c = c.in_ok-slot.ensures.free
+
+pub returns-clause-few : goal.returns-clause-few
+returns-clause-few g c = c.in_ok-slot.ensures.few
+
+pub returns-clause-fits : goal.returns-clause-fits
+returns-clause-fits g c = c.in_ok-slot.ensures.fits

@@ -1,6 +1,7 @@
 -- SPDX-License-Identifier: MIT OR Apache-2.0
-use Rattle.std.proofs.Common.{length}
-use Rattle.ffa_model.specs.Notifications.{set_guards}
+use Rattle.std.proofs.Common.{◌∙◌, length}
+use Rattle.ffa_model.specs.Bits.{bits_of}
+use Rattle.ffa_model.specs.Notifications.{set_guards, with_pending}
 use Rattle.ffa_model.proofs.Guards.{answers-code, answers-pass}
 use Rattle.ffa_notify.proofs.bitmaps.Bitmaps.set.Goals as goal
 
@@ -10,3 +11,7 @@ returns-in_err-check_set-clause-refusal c =
 
 pub returns-clause-refusal : goal.returns-clause-refusal
 returns-clause-refusal c = answers-pass (set_guards (length c.args.self.now.bitmaps) c.args.self.now c.args.caller.0 c.args.word c.args.flags c.args.bitmap) c.in_ok-check_set.ensures.refusal
+
+pub returns-clause-pending : goal.returns-clause-pending
+returns-clause-pending c =
+    c.set_bits.ensures ∙ (λ t. with_pending c.args.self.now (c.in_low_half.ensures t) (c.of.ensures t) (bits_of c.args.bitmap))

@@ -1,8 +1,12 @@
 -- SPDX-License-Identifier: MIT OR Apache-2.0
 use Rattle.std.proofs.Common.{◌∙◌, ℕ, refl, sym, ap, subst}
+use Rattle.ffa_model.specs.Memory as memory
+use Rattle.ffa_model.specs.Ram.{Ram}
 use Rattle.ffa_spmc.specs.Cached.{missed_page}
 use Rattle.ffa_spmc.specs.Caching.{IsCached}
+use Rattle.ffa_spmc.specs.Managed.{Managed}
 use Rattle.ffa_spmc.specs.Snapshot.{Snapshot}
+use Rattle.ffa_spmc.specs.Unowned.{KeepsUnowned}
 use Rattle.ffa_spmc.specs.Walks.{walk_of}
 use Rattle.ffa_spmc.proofs.CachedAccesses.{cached-from, missed-same, store-access, store-base, store-known, store-runner}
 use Rattle.ffa_spmc.proofs.HeldWalks.{answer-after, walks-after}
@@ -52,3 +56,23 @@ returns-clause-held g c =
     subst (λ (seen : Snapshot). IsCached seen c.fill.new.self c.args.addr) c.self.view_is
     (cached-from (record { state = t; ram = c.store-outcome.new.self.ram; held = held }) (record { state = s; ram = c.self.inside.manager.ram; held = held })
     refl (store-runner s t c.args.addr c.args.size c.args.value is) (store-base s t c.args.addr c.args.size c.args.value is) c.args.addr c.fill.new.self c.fill.ensures.held)
+
+pub returns-clause-outcome : goal.returns-clause-outcome
+returns-clause-outcome g c =
+    c.store-outcome.ensures.outcome ∙ ap (λ (seen : Snapshot). (memory.store seen.state c.args.addr c.args.size c.args.value).outcome) c.self.view_is
+
+pub returns-clause-state : goal.returns-clause-state
+returns-clause-state g c =
+    c.fill.ensures.state ∙ c.store-outcome.ensures.state ∙ ap (λ (seen : Snapshot). (memory.store seen.state c.args.addr c.args.size c.args.value).state) c.self.view_is
+
+pub returns-clause-refused : goal.returns-clause-refused
+returns-clause-refused g c =
+    λ refused.
+    c.fill.ensures.refused refused
+    ∙ ap (λ (m : Managed). record { state = m.state; ram = m.ram; held = g.T.Translations.entries c.self.inside.cache }) (c.store-outcome.ensures.refused refused)
+    ∙ c.self.view_is
+
+pub returns-clause-unowned : goal.returns-clause-unowned
+returns-clause-unowned g c =
+    subst (λ (seen : Snapshot). KeepsUnowned seen.state seen.ram c.fill.new.self.ram) c.self.view_is
+    (subst (λ (ram : Ram). KeepsUnowned c.self.inside.manager.state c.self.inside.manager.ram ram) (sym c.fill.ensures.ram) c.store-outcome.ensures.unowned)

@@ -1,6 +1,6 @@
 -- SPDX-License-Identifier: MIT OR Apache-2.0
 use Rattle.std.proofs.Common.{refl}
-use Rattle.ffa_spmc.proofs.Replied.{answered-beside}
+use Rattle.ffa_spmc.proofs.Replied.{answered-as, answered-beside}
 use Rattle.ffa_spmc.proofs.manager.Manager.reply.Goals as goal
 
 pub returns-in-RxRelease : goal.returns-in-RxRelease
@@ -50,3 +50,21 @@ returns-in-NotificationSet g c = answered-beside c.args.self.now _ _ _ _ c.set.r
 
 pub returns-in-NotificationGet : goal.returns-in-NotificationGet
 returns-in-NotificationGet g c = answered-beside c.args.self.now _ _ _ _ c.get.result c.in-NotificationGet.is refl c.get.ensures
+
+pub returns-in-MemDonate : goal.returns-in-MemDonate
+returns-in-MemDonate g c = answered-as c.args.self.now _ _ _ _ _ c.offer.result c.in-MemDonate.is c.offer.ensures
+
+pub returns-in-MemLend : goal.returns-in-MemLend
+returns-in-MemLend g c = answered-as c.args.self.now _ _ _ _ _ c.offer-in-MemLend.result c.in-MemLend.is c.offer-in-MemLend.ensures
+
+pub returns-in-MemShare : goal.returns-in-MemShare
+returns-in-MemShare g c = answered-as c.args.self.now _ _ _ _ _ c.offer-in-MemShare.result c.in-MemShare.is c.offer-in-MemShare.ensures
+
+pub returns-in-MemRetrieve : goal.returns-in-MemRetrieve
+returns-in-MemRetrieve g c = answered-as c.args.self.now _ _ _ _ _ c.retrieve.result c.in-MemRetrieve.is c.retrieve.ensures
+
+pub returns-in-MemRelinquish : goal.returns-in-MemRelinquish
+returns-in-MemRelinquish g c = answered-as c.args.self.now _ _ _ _ _ c.relinquish.result c.in-MemRelinquish.is c.relinquish.ensures
+
+pub returns-in-MemReclaim : goal.returns-in-MemReclaim
+returns-in-MemReclaim g c = answered-as c.args.self.now _ _ _ _ _ c.reclaim.result c.in-MemReclaim.is c.reclaim.ensures

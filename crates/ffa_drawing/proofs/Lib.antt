@@ -1,0 +1,8 @@
+-- SPDX-License-Identifier: MIT OR Apache-2.0
+pub mod ColumnSteps
+pub mod Kept
+pub mod RowsAmong
+pub mod RowsMore
+pub mod RunsAlike
+pub mod RunsFound
+pub mod Told

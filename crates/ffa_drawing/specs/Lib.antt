@@ -1,0 +1,5 @@
+-- SPDX-License-Identifier: MIT OR Apache-2.0
+pub mod Cells
+pub mod Columns
+pub mod Pictures
+pub mod Rows

@@ -1,0 +1,198 @@
+// SPDX-License-Identifier: MIT OR Apache-2.0
+//! The player's machine as it boots, and lines that it takes and refuses.
+use crate::checks::{holds, same, same_at};
+use crate::machines::{FlatPlayer, booted, play};
+use ffa_model::{PageNo, built_in, row_machine};
+use ffa_physmem::PhysMem;
+use ffa_syntax::PlayError;
+use ffa_trace::{Begun, Player};
+use std::alloc::Global;
+use std::process::Abort;
+use std::test::Fail;
+
+fn demonstration(alloc: Global) -> Result<FlatPlayer, Fail> {
+    Ok(Player::new(booted(alloc, &built_in())?))
+}
+
+fn rows(alloc: Global) -> Result<FlatPlayer, Fail> {
+    Ok(Player::new(booted(alloc, &row_machine())?))
+}
+
+// The word at an address of RAM.
+fn word(player: &FlatPlayer, address: u32) -> Option<u64> {
+    let ram = player.machine().ram();
+    let offset = address.checked_sub(ram.base().0)?;
+    if offset / 4096 < ram.pages() {
+        let index = offset % 4096 / 8;
+        Some(ram.read_word(PageNo(offset / 4096), index as usize))
+    } else {
+        None
+    }
+}
+
+#[test]
+fn boots_with_tables(rt: HostRuntime) -> Result<(), Fail> {
+    let player = rows(rt.alloc())?;
+    for (address, want) in [
+        (0x4000_0008, 0x0000_0000_4000_1003),
+        (0x4000_1000, 0x0000_0000_4000_2003),
+        (0x4000_2080, 0x0040_0000_4001_07FF),
+    ] {
+        same(&rt, word(&player, address), Some(want));
+    }
+    let player = demonstration(rt.alloc())?;
+    same(&rt, word(&player, 0x4000_5100), Some(0x0000_0000_4002_07FF));
+    Ok(())
+}
+
+// Plays a trace, and what comes of it.
+fn played(
+    player: &mut FlatPlayer,
+    alloc: Global,
+    trace: &[u8],
+) -> (Vec<u8>, Result<(), PlayError>) {
+    let mut out = Vec::new(alloc);
+    let played = play(alloc, player, trace, &mut out);
+    (out, played)
+}
+
+// A comment's bytes need be no UTF-8.
+#[test]
+fn passes_over_comments_of_any_bytes(rt: HostRuntime) -> Result<(), Fail> {
+    let mut player = rows(rt.alloc())?;
+    let comment = [0x23, 0xFF, 0x80, 0x20, 0xC3, 0x0A];
+    let (out, ended) = played(&mut player, rt.alloc(), &comment);
+    same(&rt, ended, Ok(()));
+    holds(&rt, out.is_empty());
+    Ok(())
+}
+
+// What is no line, each up to a bar.
+const BAD: &str = "\
+load 4001|
+load 40010000 1 |
+ load 40010000 1|
+load  40010000 1|
+load 40010000 3|
+load 40010000 01|
+load 0x40010000 1|
+load 00000000040010000 1|
+load  1|
+LOAD 40010000 1|
+store 40010000 1|
+store 40010000 123|
+store 40010000|
+store 40010000 00 00|
+fetch|
+fetch 40010000 4|
+call|
+call |
+call 1 2 3 4 5 6 7 8 9|
+call 1 2 G|
+show |
+shows|
+ |
+ # a comment|
+load 40010000 1\r";
+
+// A line between two loads is refused, and the first of them was done.
+fn is_refused(rt: &impl Abort, alloc: Global, bad: &str) -> Result<(), Fail> {
+    let mut player = rows(alloc)?;
+    let trace = format!(in alloc; "load 40010000 1\n{bad}\nload 40010000 1\n")?;
+    let (out, ended) = played(&mut player, alloc, trace.as_bytes());
+    same_at(rt, out.as_slice(), b"data 00\n".as_slice(), &bad);
+    same_at(rt, ended, Err(PlayError::BadLine(2)), &bad);
+    Ok(())
+}
+
+#[test]
+fn refuses_what_is_no_line(rt: HostRuntime) -> Result<(), Fail> {
+    for bad in BAD.split("|\n") {
+        is_refused(&rt, rt.alloc(), bad)?;
+    }
+    Ok(())
+}
+
+#[test]
+fn refuses_a_line_that_does_not_end(rt: HostRuntime) -> Result<(), Fail> {
+    let alloc = rt.alloc();
+    let mut player = rows(alloc)?;
+    let mut out = Vec::new(alloc);
+    let ended = play(alloc, &mut player, b"load 40010000 1", &mut out);
+    same(&rt, ended, Err(PlayError::BadLine(1)));
+    holds(&rt, out.is_empty());
+    // Lines count from 1 again, and the machine goes on.
+    let trace = "store 40010000 2A\nload 40010000 2\nload 4001\n";
+    let ended = play(alloc, &mut player, trace.as_bytes(), &mut out);
+    same(&rt, ended, Err(PlayError::BadLine(3)));
+    let ended = play(alloc, &mut player, b"load 40010000 1\n", &mut out);
+    same(&rt, ended, Ok(()));
+    same(
+        &rt,
+        out.as_slice(),
+        b"done\ndata 002A\ndata 2A\n".as_slice(),
+    );
+    same(&rt, player.machine().endpoints(), 3);
+    Ok(())
+}
+
+#[test]
+fn takes_lines_longer_than_a_block(rt: HostRuntime) -> Result<(), Fail> {
+    let mut trace = Vec::from_slice(rt.alloc(), b"load 40010000 1\n#")?;
+    for _ in 0..100_000 {
+        trace.push(b'x')?;
+    }
+    trace.extend_from_slice(b"\nload 40010000 2\nload\n")?;
+    let mut player = rows(rt.alloc())?;
+    let (out, ended) = played(&mut player, rt.alloc(), trace.as_slice());
+    same(&rt, ended, Err(PlayError::BadLine(4)));
+    same(&rt, out.as_slice(), b"data 00\ndata 0000\n".as_slice());
+    Ok(())
+}
+
+const CERTIFICATE: &str =
+    "cert 40000000 401FFFFF 2\nroot 0000 40000000\nroot 8001 40003000\npages 40000000 4000FFFF 8000 - --- ---\npages 40010000 4001FFFF 0000 - rw- ---\npages 40020000 4002FFFF 8001 - --- rwx\npages 40030000 401FFFFF 8000 - --- ---\nagrees\n";
+
+#[test]
+fn prints_the_certificate(rt: HostRuntime) -> Result<(), Fail> {
+    let mut player = demonstration(rt.alloc())?;
+    let (text, ended) = played(&mut player, rt.alloc(), b"audit\n");
+    same(&rt, ended, Ok(()));
+    same(&rt, text.as_slice(), CERTIFICATE.as_bytes());
+    let (text, ended) = played(&mut player, rt.alloc(), b"audit \n");
+    same(&rt, ended, Err(PlayError::BadLine(1)));
+    holds(&rt, text.is_empty());
+    Ok(())
+}
+
+// Pieces of a trace, and what is printed when each has come.
+const PIECES: &str =
+    "store 4001;|0000 2A\n;done\n|\n;done\n|load 40010000 1\nfet;done\ndata 2A\n|ch 0;done\ndata 2A\n|\n;done\ndata 2A\nfault translation\n";
+
+// A piece more has come.
+fn fed(
+    alloc: Global,
+    player: &mut FlatPlayer,
+    begun: Begun,
+    piece: &str,
+    out: &mut Vec<u8>,
+) -> Result<Begun, Fail> {
+    Ok(player.feed(alloc, begun, piece.as_bytes(), out)?)
+}
+
+// Bytes of a trace in pieces: each text is there as soon as the LF of its line has come.
+#[test]
+fn answers_each_line_when_its_end_has_come(rt: HostRuntime) -> Result<(), Fail> {
+    let alloc = rt.alloc();
+    let mut player = demonstration(alloc)?;
+    let mut out = Vec::new(alloc);
+    let mut begun = Begun::new(alloc);
+    for row in PIECES.split('|') {
+        let (piece, so_far) = row.split_once(';').ok_or("no text")?;
+        begun = fed(alloc, &mut player, begun, piece, &mut out)?;
+        same_at(&rt, out.as_slice(), so_far.as_bytes(), &row);
+    }
+    holds(&rt, begun.bytes.is_empty());
+    same(&rt, begun.number, 5);
+    Ok(())
+}

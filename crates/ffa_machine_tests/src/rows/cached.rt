@@ -1,0 +1,217 @@
+// SPDX-License-Identifier: MIT OR Apache-2.0
+//! Rows on machines with a cache of translations, and what the cache holds then.
+ghost use Rattle.std.specs.Prelude.{◌≡◌, IfOk};
+ghost use Rattle.ffa_model.specs.Ram.{zero_ram};
+
+use super::memory::{LEND, MAPPED, RELINQUISH, RETRIEVE, RETRIEVED, TO_FIRST, TO_SECOND};
+use super::*;
+use crate::checks::{holds, holds_at};
+use ffa_model::{Address, EndpointId, PageNo};
+use ffa_physmem::{FlatRam, PhysMem};
+use ffa_spmc::Machine;
+use ffa_tlb::{InTurn, Replacement, Tlb};
+use std::cell::Cell;
+
+// Picks one slot each time.
+#[derive(Drop)]
+struct Always(usize);
+
+impl Replacement for Always {
+    ghost picked = { λ policy e p. policy.0 };
+
+    ghost moved = { λ policy e p. policy };
+
+    fn pick(&mut self, _endpoint: EndpointId, _page: PageNo) -> usize {
+        self.0
+    }
+}
+
+const FIRST: EndpointId = EndpointId(0x8001);
+
+const SECOND: EndpointId = EndpointId(0x8002);
+
+// The page that is lent.
+const LENT: PageNo = PageNo(0x21);
+
+const RECLAIM: &str = "\
+call 84000077 1 8001 -> 8001: 84000061
+load 40021000 1 -> data 5A
+";
+
+const LOAD: &str = "load 40021000 1 -> data 00\n";
+
+// The page of RAM that a step has read, if it has read any.
+fn page_read(step: &str) -> Option<PageNo> {
+    let (line, _data) = step.split_once(" -> data ")?;
+    page_of(line.strip_prefix("load ")?)
+}
+
+// The page of an address and what stands behind it.
+fn page_of(place: &str) -> Option<PageNo> {
+    let (address, _size) = place.split_once(' ')?;
+    let number = u32::from_str_radix(address, 16).ok()?;
+    Some(PageNo(number.checked_sub(0x4000_0000)? / 4096))
+}
+
+fn is_held<M: PhysMem + Drop, T: Translations + Drop>(
+    player: &Player<Machine<M, T>>,
+    endpoint: EndpointId,
+    page: PageNo,
+) -> bool {
+    player.machine().cache().lookup(endpoint, page).is_some()
+}
+
+// Whether what a step has read has a leaf in the cache.
+fn holds_what_was_read<M: PhysMem + Drop, T: Translations + Drop>(
+    player: &Player<Machine<M, T>>,
+    step: &str,
+) -> bool {
+    match page_read(step) {
+        Some(page) => is_held(player, player.machine().runner(), page),
+        None => true,
+    }
+}
+
+// Plays steps one by one. Each prints what is wanted, and what was loaded has a leaf in the cache.
+fn holds_what_is_read<T: Translations + Drop>(
+    rt: &impl Abort,
+    alloc: Global,
+    player: &mut Player<Machine<FlatRam, T>>,
+    parts: &[&str],
+) -> Result<(), Fail> {
+    for part in parts {
+        for step in part.lines() {
+            goes_on(rt, alloc, player, step)?;
+            holds_at(rt, holds_what_was_read(player, step), &step);
+        }
+    }
+    Ok(())
+}
+
+// A page is read before it is lent, before it is relinquished, and when it is back.
+fn reads_around_a_lend<T: Translations + Drop>(
+    rt: &impl Abort,
+    alloc: Global,
+    cache: T,
+) -> Result<(), Fail> {
+    let mut player = Player::new(booted_with(alloc, &row_machine(), cache)?);
+    holds_what_is_read(rt, alloc, &mut player, &[MAPPED, LOAD, LEND])?;
+    holds(rt, !is_held(&player, FIRST, LENT));
+    let taken = [TO_SECOND, RETRIEVE, RETRIEVED, LOAD, RELINQUISH];
+    holds_what_is_read(rt, alloc, &mut player, &taken)?;
+    holds(rt, !is_held(&player, SECOND, LENT));
+    holds_what_is_read(rt, alloc, &mut player, &[TO_FIRST, RECLAIM])
+}
+
+#[test]
+fn a_lend_with_one_entry(rt: HostRuntime) -> Result<(), Fail> {
+    reads_around_a_lend(&rt, rt.alloc(), Tlb::<Always, 1>::new(Always(0)))
+}
+
+#[test]
+fn a_lend_with_the_greatest_pick(rt: HostRuntime) -> Result<(), Fail> {
+    reads_around_a_lend(&rt, rt.alloc(), Tlb::<Always, 2>::new(Always(usize::MAX)))
+}
+
+#[test]
+fn a_lend_with_four_in_turn(rt: HostRuntime) -> Result<(), Fail> {
+    reads_around_a_lend(&rt, rt.alloc(), four_in_turn())
+}
+
+#[test]
+fn a_lend_prints_the_same(rt: HostRuntime) -> Result<(), Fail> {
+    let parts = [
+        MAPPED, LOAD, LEND, TO_SECOND, RETRIEVE, RETRIEVED, LOAD, RELINQUISH, TO_FIRST, RECLAIM,
+    ];
+    plays(&rt, rt.alloc(), &parts)
+}
+
+// The pages of the machine's tables.
+const TABLES: u32 = 9;
+
+// RAM that counts the reads of tables.
+#[derive(Drop)]
+struct Counting {
+    ram: FlatRam,
+    reads: Cell<u32>,
+}
+
+impl Counting {
+    fn count(&self, page: PageNo) {
+        if page.0 < TABLES {
+            self.reads.set(self.reads.get().wrapping_add(1));
+        }
+    }
+}
+
+impl PhysMem for Counting {
+    ghost use Rattle.std.specs.Prelude.{refl};
+
+    ghost ram = { λ m. ⟦<FlatRam as PhysMem>⟧.ram m.ram };
+
+    ghost with_bytes = { λ m page bytes. record m { ram = ⟦<FlatRam as PhysMem>⟧.with_bytes m.ram page bytes } };
+
+    ghost one_page = { λ m page bytes. refl };
+
+    fn base(&self) -> Address {
+        self.ram.base()
+    }
+
+    fn pages(&self) -> u32 {
+        self.ram.pages()
+    }
+
+    fn page(&self, page: PageNo) -> &[u8; 4096] {
+        self.count(page);
+        self.ram.page(page)
+    }
+
+    fn page_mut(&mut self, page: PageNo) -> &mut [u8; 4096] {
+        self.ram.page_mut(page)
+    }
+
+    fn read_word(&self, page: PageNo, index: usize) -> u64 {
+        self.count(page);
+        self.ram.read_word(page, index)
+    }
+}
+
+fn counting_ram(alloc: Global) -> Result<Counting, Fail>
+    ensures { IfOk result (λ ram. ⟦<Counting as PhysMem>⟧.ram ram ≡ zero_ram 0x40000000 512) }
+{
+    Ok(Counting {
+        ram: FlatRam::new(alloc, Address(0x4000_0000), 512)?,
+        reads: Cell::new(0),
+    })
+}
+
+// A player whose reads of tables are counted, with a cache of two entries.
+fn counting_player(alloc: Global) -> Result<Player<Machine<Counting, Tlb<InTurn, 2>>>, Fail> {
+    let cache = Tlb::new(InTurn::default());
+    let machine = Machine::boot_with(&row_machine(), counting_ram(alloc)?, cache);
+    Ok(Player::new(machine))
+}
+
+// How often a trace reads tables.
+fn reads_of<T: Translations + Drop>(
+    alloc: Global,
+    player: &mut Player<Machine<Counting, T>>,
+    trace: &str,
+) -> Result<u32, Fail> {
+    player.machine().ram().reads.set(0);
+    played(alloc, player, trace)?;
+    Ok(player.machine().ram().reads.get())
+}
+
+#[test]
+fn a_page_that_is_held_is_not_walked(rt: HostRuntime) -> Result<(), Fail> {
+    let alloc = rt.alloc();
+    let mut player = counting_player(alloc)?;
+    played(alloc, &mut player, "call 8400006D 80010000\n")?;
+    holds(&rt, reads_of(alloc, &mut player, "load 40020000 1\n")? > 0);
+    reads_of(alloc, &mut player, "load 40021000 1\n")?;
+    same(&rt, reads_of(alloc, &mut player, "load 40021000 1\n")?, 0);
+    holds(&rt, is_held(&player, FIRST, PageNo(0x20)));
+    holds(&rt, is_held(&player, FIRST, LENT));
+    Ok(())
+}

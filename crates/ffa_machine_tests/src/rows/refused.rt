@@ -1,0 +1,250 @@
+// SPDX-License-Identifier: MIT OR Apache-2.0
+//! Rows where memory is short: none is left after boot, or each growth of the room for a line that comes in pieces is
+//! refused in turn.
+use super::memory::{LEND, MAPPED, RETRIEVE, RETRIEVED, TO_SECOND};
+use super::*;
+use crate::checks::{holds, holds_at};
+use crate::machines::{FlatPlayer, booted};
+use ffa_physmem::{FlatRam, FrameRam};
+use ffa_spmc::Machine;
+use ffa_syntax::PlayError;
+use ffa_tlb::{InTurn, Tlb};
+use linked_list_allocator::LocalHeap;
+use std::io;
+use std::io::Read;
+
+// What the RAM of the rows takes: its pages, and where it is in frames the list of their boxes, each of which names its
+// place and its heap.
+const PAGES: usize = 512 * 4096;
+
+const LIST: usize = 512 * 16;
+
+// Plays a row where every allocation after boot is refused: RAM fills the heap that it lies in, and the player has no
+// other.
+pub(super) fn check_after_boot(rt: &impl Abort, alloc: Global, row: &Row) -> Result<(), Fail> {
+    let heap = LocalHeap::new(alloc, PAGES)?;
+    let mut player = flat_player(rt, &heap)?;
+    check_over(rt, alloc, row, &heap, &mut player)?;
+    let heap = LocalHeap::new(alloc, PAGES + LIST)?;
+    let mut player = player_in_frames(rt, &heap)?;
+    check_over(rt, alloc, row, &heap, &mut player)
+}
+
+// A player whose RAM fills a heap.
+fn flat_player<'a>(
+    rt: &impl Abort,
+    heap: &'a LocalHeap,
+) -> Result<Player<Machine<FlatRam<&'a LocalHeap>>>, Fail> {
+    let manifest = row_machine();
+    let ram = FlatRam::new_in(heap, manifest.ram_base, 512 * manifest.ram_blocks)?;
+    holds(rt, is_full(heap));
+    Ok(Player::new(Machine::boot_cleared(&manifest, ram, NoTlb)))
+}
+
+fn player_in_frames<'a>(
+    rt: &impl Abort,
+    heap: &'a LocalHeap,
+) -> Result<Player<Machine<FrameRam<&'a LocalHeap>, Tlb<InTurn, 4>>>, Fail> {
+    let manifest = row_machine();
+    let ram = FrameRam::new_in(heap, manifest.ram_base, 512 * manifest.ram_blocks)?;
+    holds(rt, is_full(heap));
+    Ok(Player::new(Machine::boot_cleared(&manifest, ram, four_in_turn())))
+}
+
+// Whether not one byte is left.
+fn is_full(heap: &LocalHeap) -> bool {
+    Box::new(heap, 0u8).is_err()
+}
+
+fn check_over<P: Playable>(
+    rt: &impl Abort,
+    alloc: Global,
+    row: &Row,
+    heap: &LocalHeap,
+    player: &mut Player<P>,
+) -> Result<(), Fail> {
+    let mut printed = Vec::with_capacity(alloc, row.text.len())?;
+    play_over(heap, player, &mut row.trace.as_bytes(), &mut printed)?;
+    same(rt, printed.as_slice(), row.text.as_bytes());
+    Ok(())
+}
+
+// Plays with the memory of a heap.
+fn play_over<P: Playable, R: Read>(
+    heap: &LocalHeap,
+    player: &mut Player<P>,
+    reader: &mut R,
+    printed: &mut Vec<u8>,
+) -> Result<(), PlayError> {
+    player.play_in(heap, reader, printed)
+}
+
+// Gives up to five bytes a call, so that lines come in pieces.
+#[derive(Drop)]
+struct InPieces<'a> {
+    bytes: &'a [u8],
+}
+
+impl Read for InPieces<'_> {
+    fn read(&mut self, buf: &mut [u8]) -> io::Result<usize> {
+        let count = self.bytes.len().min(buf.len()).min(5);
+        buf[..count].copy_from_slice(&self.bytes[..count]);
+        self.bytes = &self.bytes[count..];
+        Ok(count)
+    }
+}
+
+// The lines of a row behind those that print this many bytes.
+fn lines_behind(alloc: Global, row: &Row, printed: usize) -> Result<&[u8], Fail> {
+    let mut player = Player::new(booted(alloc, &row_machine())?);
+    let mut written = 0;
+    let mut done = 0;
+    for line in row.trace.split_inclusive('\n') {
+        if written < printed {
+            let text = played(alloc, &mut player, line)?;
+            written = usize::saturating_add(written, text.len());
+            done = usize::saturating_add(done, line.len());
+        }
+    }
+    Ok(row.trace.as_bytes().get(done..).unwrap_or(&[]))
+}
+
+// Plays a row with the memory of a heap. It prints the whole text, or is refused memory in a line and has printed the text
+// of the lines before; then a play of the lines from there on prints the rest. Answers how many bytes stood then.
+fn refused_at(
+    rt: &impl Abort,
+    alloc: Global,
+    row: &Row,
+    room: usize,
+) -> Result<Option<usize>, Fail> {
+    let mut player = Player::new(booted(alloc, &row_machine())?);
+    let mut printed = Vec::with_capacity(alloc, row.text.len())?;
+    let played = play_with(rt, alloc, room, &mut player, row, &mut printed)?;
+    let mut stopped = None;
+    if let Err(error) = played {
+        same(rt, error, PlayError::NoMemory);
+        stopped = Some(printed.len());
+        go_on_behind(rt, alloc, &mut player, row, &mut printed)?;
+    }
+    same(rt, printed.as_slice(), row.text.as_bytes());
+    Ok(stopped)
+}
+
+// Plays a row that comes in pieces with so much memory, none of which is kept.
+fn play_with(
+    rt: &impl Abort,
+    alloc: Global,
+    room: usize,
+    player: &mut FlatPlayer,
+    row: &Row,
+    printed: &mut Vec<u8>,
+) -> Result<Result<(), PlayError>, Fail> {
+    let heap = LocalHeap::new(alloc, room)?;
+    let mut reader = InPieces {
+        bytes: row.trace.as_bytes(),
+    };
+    let played = play_over(&heap, player, &mut reader, printed);
+    same(rt, heap.used(), 0);
+    Ok(played)
+}
+
+// Whole lines were printed. Plays the lines of a row behind them.
+fn go_on_behind(
+    rt: &impl Abort,
+    alloc: Global,
+    player: &mut FlatPlayer,
+    row: &Row,
+    printed: &mut Vec<u8>,
+) -> Result<(), Fail> {
+    holds(rt, ends_a_line(printed.as_slice()));
+    let rest = lines_behind(alloc, row, printed.len())?;
+    play(alloc, player, rest, printed)?;
+    Ok(())
+}
+
+// Whether nothing stands behind the last line.
+fn ends_a_line(text: &[u8]) -> bool {
+    match text.last() {
+        Some(byte) => *byte == b'\n',
+        None => true,
+    }
+}
+
+// In how many places a row is refused memory, over heaps of every size up to one in which it isn't. A larger heap never
+// gets less far.
+fn places_of_refusal(
+    rt: &impl Abort,
+    alloc: Global,
+    row: &Row,
+    enough: usize,
+) -> Result<u32, Fail> {
+    let mut places = 0u32;
+    let mut last = None;
+    for room in (16..enough).step_by(16) {
+        let stopped = refused_at(rt, alloc, row, room)?;
+        if stopped.is_some() && stopped != last {
+            holds_at(rt, last < stopped, &room);
+            places = u32::saturating_add(places, 1);
+            last = stopped;
+        }
+    }
+    same(rt, refused_at(rt, alloc, row, enough)?, None);
+    Ok(places)
+}
+
+// The room for a line grows to 8, 16, 32 and 64 bytes in the first line, which is as long as any.
+#[test]
+fn a_lend_or_no_memory(rt: HostRuntime) -> Result<(), Fail> {
+    let parts = [MAPPED, LEND, TO_SECOND, RETRIEVE, RETRIEVED];
+    let row = Row::of(rt.alloc(), &parts)?;
+    let places = places_of_refusal(&rt, rt.alloc(), &row, 256)?;
+    same(&rt, places, 1);
+    Ok(())
+}
+
+// Adds a comment of this many bytes, and a line.
+fn add_comment(row: &mut Row, length: usize) -> Result<(), Fail> {
+    row.trace.push_str("#")?;
+    for _ in 1..length {
+        row.trace.push_str("x")?;
+    }
+    row.trace.push_str("\n")?;
+    row.add("load 40010000 1 -> data 00")
+}
+
+// Comments of 10 to 320 bytes, each of which grows the room for a line once more.
+#[test]
+fn long_lines_or_no_memory(rt: HostRuntime) -> Result<(), Fail> {
+    let mut row = Row::new(rt.alloc());
+    for length in [10, 20, 40, 80, 160, 320] {
+        add_comment(&mut row, length)?;
+    }
+    let places = places_of_refusal(&rt, rt.alloc(), &row, 2048)?;
+    same(&rt, places, 6);
+    Ok(())
+}
+
+// The room for the runs of a certificate grows as they come. Where it can't, nothing of the line is written.
+#[test]
+fn a_certificate_or_no_memory(rt: HostRuntime) -> Result<(), Fail> {
+    let mut row = Row::new(rt.alloc());
+    row.add(
+        "\
+load 40010000 1 -> data 00
+audit -> cert 40000000 401FFFFF 3
+root 0000 40000000
+root 8001 40003000
+root 8002 40006000
+pages 40000000 4000FFFF 8000 - --- --- ---
+pages 40010000 4001FFFF 0000 - rw- --- ---
+pages 40020000 4002FFFF 8001 - --- rwx ---
+pages 40030000 4003FFFF 8002 - --- --- rw-
+pages 40040000 401FFFFF 8000 - --- --- ---
+agrees
+load 40010000 2 -> data 0000
+",
+    )?;
+    let places = places_of_refusal(&rt, rt.alloc(), &row, 2048)?;
+    same(&rt, places, 2);
+    Ok(())
+}

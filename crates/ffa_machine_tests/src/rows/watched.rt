@@ -1,0 +1,401 @@
+// SPDX-License-Identifier: MIT OR Apache-2.0
+//! Calls on memory in RAM that is looked at after each write, as a second processor could look: what the walk of a page
+//! answers changes once at most in a call, so it is at any time what it was before the call or what it is behind it; and
+//! no page is filled with zeros that a walk leads to.
+//!
+//! Each word of a table is a write of its own here, and no page of tables is lent by `page_mut`: of a loan a look would see
+//! all words at once. One page is lent in a retrieve, its caller's RX.
+ghost use Rattle.std.specs.Prelude.{◌≡◌, ◌*◌, IfOk};
+ghost use Rattle.ffa_model.specs.Ram.{zero_ram};
+
+use super::memory::{MAPPED, RETRIEVE, TO_FIRST, TO_SECOND};
+use super::*;
+use crate::checks::same_at;
+use ffa_manifest::read;
+use ffa_model::{Address, FaultKind, Leaf, PageNo};
+use ffa_physmem::{FlatRam, PhysMem};
+use ffa_spmc::Machine;
+use ffa_walker::{is_in_ram, translate};
+use std::cell::Cell;
+
+// The machine of the rows with a block more: the first partition has it whole, and the two pages before it.
+const MACHINE: &str = "ram_base = 0x40000000
+ram_blocks = 2
+[[endpoint]]
+version = \"1.1\"
+properties = 6
+regions = [{ base = 0x40010000, pages = 16, rights = \"rw\" }]
+[[endpoint]]
+version = \"1.1\"
+uuid = \"00112233-4455-6677-8899-aabbccddeeff\"
+properties = 15
+regions = [{ base = 0x40020000, pages = 16, rights = \"rw\" }, { base = 0x401FE000, pages = 514, rights = \"rw\" }]
+[[endpoint]]
+version = \"1.1\"
+uuid = \"10112233-4455-6677-8899-aabbccddeeff\"
+properties = 15
+regions = [{ base = 0x40030000, pages = 16, rights = \"rw\" }]
+";
+
+// The walk of a page by one endpoint's tables: what it answered last, and how often that has changed.
+#[derive(Drop)]
+struct Walk {
+    root: u32,
+    address: u64,
+    answer: Cell<Result<Leaf, FaultKind>>,
+    changes: Cell<u32>,
+}
+
+impl Walk {
+    // What it answers now.
+    fn answer_in(&self, ram: &FlatRam) -> Result<Leaf, FaultKind> {
+        if self.root % 4096 != 0 || !is_in_ram(ram, u64::from(self.root)) {
+            return Err(FaultKind::OutsideRam);
+        }
+        translate(ram, self.root, self.address)
+    }
+
+    // Notes what it answers now.
+    fn look(&self, ram: &FlatRam) {
+        let answer = self.answer_in(ram);
+        if answer != self.answer.get() {
+            self.answer.set(answer);
+            self.changes.set(self.changes.get().wrapping_add(1));
+        }
+    }
+}
+
+// What the writes of a call did: how many walks answer otherwise since one of the writes, and how many changed more than
+// once; how many pages became zeros, and how many of them while a walk led to them; how many pages were lent to be
+// written, of which a look sees all writes together.
+#[derive(Clone, Copy, Debug, PartialEq, Eq)]
+struct Writes {
+    changed: u32,
+    wavering: u32,
+    cleared: u32,
+    reached: u32,
+    lent: u32,
+}
+
+// RAM that is looked at after each write of a call: the walk of some pages, by the tables of every endpoint.
+#[derive(Drop)]
+struct Watched {
+    ram: FlatRam,
+    walks: Vec<Walk>,
+    writes: Cell<Writes>,
+    is_call: Cell<bool>,
+}
+
+impl Watched {
+    // Looks at each walk, during a call.
+    fn look(&self) {
+        if self.is_call.get() {
+            for walk in self.walks.iter() {
+                walk.look(&self.ram);
+            }
+        }
+    }
+
+    // Whether some walk leads to a page.
+    fn is_reached(&self, page: PageNo) -> bool {
+        let base = u64::from(self.ram.base().0);
+        let address = u64::wrapping_add(base, 4096 * u64::from(page.0));
+        self.walks.iter().any(|walk| match walk.answer.get() {
+            Ok(leaf) => leaf.phys == address,
+            Err(_) => false,
+        })
+    }
+
+    // Forgets what was counted: a call begins.
+    fn begin(&self) {
+        self.is_call.set(true);
+        self.look();
+        for walk in self.walks.iter() {
+            walk.changes.set(0);
+        }
+        self.writes.set(NOTHING);
+    }
+
+    // What was counted since then: the call is over.
+    fn counted(&self) -> Writes {
+        self.look();
+        self.is_call.set(false);
+        let mut writes = self.writes.get();
+        for walk in self.walks.iter() {
+            match walk.changes.get() {
+                0 => {}
+                1 => writes.changed = writes.changed.wrapping_add(1),
+                _ => writes.wavering = writes.wavering.wrapping_add(1),
+            }
+        }
+        writes
+    }
+}
+
+// No writes.
+const NOTHING: Writes = Writes {
+    changed: 0,
+    wavering: 0,
+    cleared: 0,
+    reached: 0,
+    lent: 0,
+};
+
+impl PhysMem for Watched {
+    ghost use Rattle.std.specs.Prelude.{refl};
+
+    ghost ram = { λ m. ⟦<FlatRam as PhysMem>⟧.ram m.ram };
+
+    ghost with_bytes = { λ m page bytes. record m { ram = ⟦<FlatRam as PhysMem>⟧.with_bytes m.ram page bytes } };
+
+    ghost one_page = { λ m page bytes. refl };
+
+    fn base(&self) -> Address {
+        self.ram.base()
+    }
+
+    fn pages(&self) -> u32 {
+        self.ram.pages()
+    }
+
+    fn page(&self, page: PageNo) -> &[u8; 4096] {
+        self.ram.page(page)
+    }
+
+    fn page_mut(&mut self, page: PageNo) -> &mut [u8; 4096] {
+        self.look();
+        let writes = self.writes.get();
+        self.writes.set(Writes {
+            lent: writes.lent.wrapping_add(1),
+            ..writes
+        });
+        self.ram.page_mut(page)
+    }
+
+    fn write_word(&mut self, page: PageNo, index: usize, value: u64) {
+        self.ram.write_word(page, index, value);
+        self.look();
+    }
+
+    fn clear_page(&mut self, page: PageNo) {
+        let writes = self.writes.get();
+        let reached = u32::from(self.is_reached(page));
+        self.writes.set(Writes {
+            cleared: writes.cleared.wrapping_add(1),
+            reached: writes.reached.wrapping_add(reached),
+            ..writes
+        });
+        self.ram.clear_page(page);
+        self.look();
+    }
+}
+
+impl Watched {
+    // RAM of zeros for a machine.
+    fn new(alloc: Global, manifest: &Manifest) -> Result<Watched, Fail>
+        ensures { IfOk result (λ ram. ⟦<Watched as PhysMem>⟧.ram ram ≡ zero_ram manifest.now.ram_base.0 (512 * manifest.now.ram_blocks)) }
+    {
+        let walks = walks_of(alloc, manifest)?;
+        let ram = FlatRam::new(alloc, manifest.ram_base, 512 * manifest.ram_blocks)?;
+        Ok(Watched {
+            ram,
+            walks,
+            writes: Cell::new(NOTHING),
+            is_call: Cell::new(false),
+        })
+    }
+}
+
+// The walks from the roots of all endpoints.
+fn walks_of(alloc: Global, manifest: &Manifest) -> Result<Vec<Walk>, Fail> {
+    let mut walks = Vec::new(alloc);
+    for index in 0..manifest.endpoints.len() {
+        push_walks(&mut walks, manifest, manifest.root(index))?;
+    }
+    Ok(walks)
+}
+
+// Adds the walks from a root of the first three pages of each block, and of its last three.
+fn push_walks(walks: &mut Vec<Walk>, manifest: &Manifest, root: u32) -> Result<(), Fail> {
+    for page in 0..512 * manifest.ram_blocks {
+        if (page + 3) % 512 < 6 {
+            walks.push(Walk {
+                root,
+                address: u64::from(manifest.ram_base.0) + 4096 * u64::from(page),
+                answer: Cell::new(Err(FaultKind::Translation)),
+                changes: Cell::new(0),
+            })?;
+        }
+    }
+    Ok(())
+}
+
+// A machine whose first partition runs, where all have buffers.
+fn watched_machine(rt: &impl Abort, alloc: Global) -> Result<Player<Machine<Watched>>, Fail> {
+    let manifest = read(alloc, MACHINE)?;
+    let ram = Watched::new(alloc, &manifest)?;
+    let mut player = Player::new(Machine::boot_with(&manifest, ram, NoTlb));
+    goes_on(rt, alloc, &mut player, MAPPED)?;
+    Ok(player)
+}
+
+// What the writes of a call do, which prints what is wanted.
+fn writes_of(
+    rt: &impl Abort,
+    alloc: Global,
+    player: &mut Player<Machine<Watched>>,
+    call: &str,
+) -> Result<Writes, Fail> {
+    player.machine().ram().begin();
+    goes_on(rt, alloc, player, call)?;
+    Ok(player.machine().ram().counted())
+}
+
+// Pages that are sent: how many they are, and how many of them are looked at.
+struct Sending {
+    steps: &'static str,
+    pages: u32,
+    looked_at: u32,
+}
+
+// The page before the block, and the whole block.
+const AROUND: Sending = Sending {
+    steps: "\
+store 4002E040 0000000100000201 -> done
+store 4002E050 00000000401FF000 -> done
+store 4002E058 0000000000000201 -> done
+",
+    pages: 513,
+    looked_at: 7,
+};
+
+// One page inside the block.
+const INSIDE: Sending = Sending {
+    steps: "\
+store 4002E040 0000000100000001 -> done
+store 4002E050 0000000040201000 -> done
+store 4002E058 0000000000000001 -> done
+",
+    pages: 1,
+    looked_at: 1,
+};
+
+impl Sending {
+    // Changes of the access to these pages, which become zeros.
+    fn with_zeros(&self) -> Writes {
+        Writes {
+            changed: self.looked_at,
+            cleared: self.pages,
+            ..NOTHING
+        }
+    }
+
+    // Changes of the access to these pages, and a response in RX.
+    fn with_response(&self) -> Writes {
+        Writes {
+            changed: self.looked_at,
+            lent: 1,
+            ..NOTHING
+        }
+    }
+}
+
+// A send of the first partition to the second, with zeros.
+const ZEROED: &str = "\
+store 4002E000 0000000100008001 -> done
+store 4002E018 0000000100000010 -> done
+store 4002E020 0000000000000030 -> done
+";
+
+const LENT: &str = "store 4002E030 0000004000028002 -> done\n";
+
+const DONATED: &str = "store 4002E030 0000004000008002 -> done\n";
+
+// The second gives up what it holds, with zeros.
+const GIVEN_UP: &str = "\
+store 4003E000 0000800100000001 -> done
+store 4003E008 0000000100000001 -> done
+store 4003E010 8002 -> done
+";
+
+const RETRIEVED: &str = "response: call 84000074 40 40 -> 8002: 84000075 60 60";
+
+const RECLAIM: &str = "zeros: call 84000077 1 8001 1 -> 8001: 84000061";
+
+// Plays steps one by one on a machine whose first partition runs. What a step does that is a call with zeros or with a
+// response is counted.
+fn counts(rt: &impl Abort, alloc: Global, sending: &Sending, parts: &[&str]) -> Result<(), Fail> {
+    let mut player = watched_machine(rt, alloc)?;
+    for part in parts {
+        for step in part.lines() {
+            counts_step(rt, alloc, &mut player, sending, step)?;
+        }
+    }
+    Ok(())
+}
+
+fn counts_step(
+    rt: &impl Abort,
+    alloc: Global,
+    player: &mut Player<Machine<Watched>>,
+    sending: &Sending,
+    step: &str,
+) -> Result<(), Fail> {
+    if let Some(call) = step.strip_prefix("zeros: ") {
+        let writes = writes_of(rt, alloc, player, call)?;
+        same_at(rt, writes, sending.with_zeros(), &step);
+    } else if let Some(call) = step.strip_prefix("response: ") {
+        let writes = writes_of(rt, alloc, player, call)?;
+        same_at(rt, writes, sending.with_response(), &step);
+    } else {
+        goes_on(rt, alloc, player, step)?;
+    }
+    Ok(())
+}
+
+// A lend and its way back, with zeros at each step that may have them.
+fn lends(rt: &impl Abort, alloc: Global, sending: &Sending) -> Result<(), Fail> {
+    let parts = [
+        ZEROED,
+        LENT,
+        sending.steps,
+        "zeros: call 84000072 60 60 -> 8001: 84000061 0 1 8001",
+        TO_SECOND,
+        RETRIEVE,
+        RETRIEVED,
+        GIVEN_UP,
+        "zeros: call 84000076 -> 8002: 84000061",
+        TO_FIRST,
+        RECLAIM,
+    ];
+    counts(rt, alloc, sending, &parts)
+}
+
+#[test]
+fn each_write_of_a_lend(rt: HostRuntime) -> Result<(), Fail> {
+    lends(&rt, rt.alloc(), &AROUND)?;
+    lends(&rt, rt.alloc(), &INSIDE)
+}
+
+// A donate that is reclaimed, with zeros at each step, and another that is retrieved.
+fn donates(rt: &impl Abort, alloc: Global, sending: &Sending) -> Result<(), Fail> {
+    let parts = [
+        ZEROED,
+        DONATED,
+        sending.steps,
+        "zeros: call 84000071 60 60 -> 8001: 84000061 0 1 8001",
+        RECLAIM,
+        "zeros: call 84000071 60 60 -> 8001: 84000061 0 2 8001",
+        TO_SECOND,
+        RETRIEVE,
+        "store 4003E008 0000800100000002 -> done",
+        RETRIEVED,
+    ];
+    counts(rt, alloc, sending, &parts)
+}
+
+#[test]
+fn each_write_of_a_donate(rt: HostRuntime) -> Result<(), Fail> {
+    donates(&rt, rt.alloc(), &AROUND)?;
+    donates(&rt, rt.alloc(), &INSIDE)
+}

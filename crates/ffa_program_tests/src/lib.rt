@@ -1,0 +1,22 @@
+// SPDX-License-Identifier: MIT OR Apache-2.0
+//! Tests of what stands on the player: plays line by line, reasons, generated traces, and the program's commands.
+#![tactic(auto)]
+
+#[cfg(test)]
+mod checks;
+#[cfg(test)]
+mod explained;
+#[cfg(test)]
+mod generate;
+#[cfg(test)]
+mod guards;
+#[cfg(test)]
+mod lines;
+#[cfg(test)]
+mod machines;
+#[cfg(test)]
+mod perform;
+#[cfg(test)]
+mod printed;
+#[cfg(test)]
+mod reasons;

@@ -1,0 +1,5 @@
+-- SPDX-License-Identifier: MIT OR Apache-2.0
+pub mod Descriptors
+pub mod Failures
+pub mod Layouts
+pub mod Manifests

@@ -1,0 +1,24 @@
+// SPDX-License-Identifier: MIT OR Apache-2.0
+//! What the program says without a machine: why a command isn't done, where a trace prints another text than is expected, and
+//! what those commands print that play and make no trace.
+#![tactic(auto)]
+
+mod counts;
+mod descriptor;
+mod difference;
+mod failure;
+pub mod layout;
+mod manifest;
+mod output;
+mod picture;
+mod telling;
+mod unmet;
+
+pub use counts::print_counts;
+pub use descriptor::describe;
+pub use difference::Difference;
+pub use failure::Failure;
+pub use manifest::{accept, lay_out, read_manifest};
+pub use picture::print_picture;
+pub use telling::{show, tell, tell_more};
+pub use unmet::tell_unmet;

@@ -1,0 +1,69 @@
+// SPDX-License-Identifier: MIT OR Apache-2.0
+//! What is told of a command that isn't done, and help.
+ghost use Rattle.std.specs.Prelude.{◌≡◌, ◌⊎◌, IfSome};
+ghost use Rattle.std.specs.Io.KnownBytes.{Appends, Keeps};
+ghost use Rattle.ffa_report.specs.Failures.{status_of};
+
+use crate::failure::Failure;
+use std::alloc::Global;
+use std::fmt::Display;
+use std::io::{ErrorKind, Write};
+
+/// Writes the help or the version that was asked for, and answers the status with which the program ends: 0, or 3 where
+/// `out` can't be written, which `err` is told.
+pub fn show<T: Display, W: Write, E: Write>(help: &T, out: &mut W, err: &mut E) -> u8
+    ensures written { result ≡ 0 → IfSome (T.output help.now) (Appends (W.contents out.old) (W.contents out.new)) }
+    ensures quiet { result ≡ 0 → Keeps (E.contents err.old) (E.contents err.new) }
+    ensures status { (result ≡ 0) ⊎ (result ≡ 3) }
+{
+    let written = write!(out, "{help}");
+    if written.is_ok() && out.flush().is_ok() {
+        0
+    } else {
+        tell(err, &Failure::Write, &[])
+    }
+}
+
+/// Says why a command isn't done, and answers the status. A difference has been told on the output, and of a guard `told`
+/// says what it wants.
+pub fn tell<E: Write>(err: &mut E, failure: &Failure<'_>, told: &[u8]) -> u8
+    ensures { result ≡ status_of failure.now }
+{
+    match failure {
+        Failure::Differs => {}
+        Failure::Unmet(_) => {
+            let _ = err.write_all(told);
+        }
+        _ => {
+            let _ = writeln!(err, "ffaplay: {failure}");
+        }
+    }
+    failure.status()
+}
+
+/// Says more of why a command isn't done: where a manifest or a line is refused, and why a file can't be read.
+pub fn tell_more<E: Write>(
+    alloc: Global,
+    err: &mut E,
+    failure: &Failure<'_>,
+    manifest: Option<&[u8]>,
+    reason: Option<ErrorKind>,
+) {
+    let _ = match (failure, manifest, reason) {
+        (Failure::Manifest(_), Some(bytes), _) => tell_refusal(alloc, err, bytes),
+        (Failure::BadLine(_, Some(fault)), ..) => writeln!(err, "ffaplay: {fault}"),
+        (Failure::Read(_), _, Some(reason)) => writeln!(err, "ffaplay: {reason}"),
+        _ => Ok(()),
+    };
+}
+
+// Says where a manifest is refused. Where there is no memory to look for it, nothing is said.
+fn tell_refusal<E: Write>(alloc: Global, err: &mut E, bytes: &[u8]) -> std::io::Result<()> {
+    match str::from_utf8(bytes) {
+        Ok(text) => match ffa_manifest::explain(alloc, text) {
+            Ok(Some(refusal)) => writeln!(err, "ffaplay: {refusal}"),
+            _ => Ok(()),
+        },
+        Err(error) => writeln!(err, "ffaplay: {error}"),
+    }
+}

@@ -1,0 +1,101 @@
+// SPDX-License-Identifier: MIT OR Apache-2.0
+//! What is learned of the endpoints from the answers to their calls.
+use crate::generator::{Generator, NORMAL_WORLD};
+use crate::stage::Stage;
+use ffa_model::function::FFA_RUN;
+use ffa_model::{Call, EndpointId, Work};
+
+/// An endpoint's buffers: the addresses of TX and RX, how many pages each has, and whether RX is full.
+#[derive(Clone, Copy)]
+pub struct Buffers {
+    pub tx: u64,
+    pub rx: u64,
+    pub pages: u32,
+    pub full: bool,
+}
+
+impl Buffers {
+    /// Whether the page at an address is one of them.
+    pub fn have_page(&self, address: u64) -> bool {
+        let size = 4096 * u64::from(self.pages);
+        address.wrapping_sub(self.tx) < size || address.wrapping_sub(self.rx) < size
+    }
+}
+
+/// What is known of an endpoint.
+#[derive(Clone, Copy, Default)]
+pub struct Known {
+    pub buffers: Option<Buffers>,
+    /// Its work, where it doesn't wait.
+    pub work: Option<Work>,
+    /// The bits of its own that it bound to another endpoint: the last ones, as a word, and to whom.
+    pub bound: Option<(u64, EndpointId)>,
+}
+
+impl Known {
+    /// RX is full, or empty.
+    pub fn set_full(&mut self, full: bool) {
+        if let Some(buffers) = &mut self.buffers {
+            buffers.full = full;
+        }
+    }
+
+    // Learns from a call of its own that was done.
+    fn learn(&mut self, call: Call) {
+        match call {
+            Call::RxtxMap { tx, rx, pages } => {
+                let full = false;
+                self.buffers = Some(Buffers {
+                    tx,
+                    rx,
+                    pages,
+                    full,
+                });
+            }
+            Call::RxtxUnmap { .. } => self.buffers = None,
+            Call::RxRelease => self.set_full(false),
+            Call::PartitionInfoGet { flags, .. } if flags % 2 == 0 => self.set_full(true),
+            Call::NotificationBind {
+                word,
+                low,
+                high,
+                ..
+            } => {
+                let bits = u64::from(high) << 32 | u64::from(low);
+                self.bound = Some((bits, EndpointId::in_high_half(word)));
+            }
+            Call::NotificationUnbind { .. } => self.bound = None,
+            Call::MsgWait => {
+                self.work = None;
+                self.set_full(false);
+            }
+            Call::DirectResponse { .. } => self.work = None,
+            _ => {}
+        }
+    }
+}
+
+// The work that a call gives to the next runner, which sees this answer.
+fn work_of(caller: EndpointId, call: Call, answer: &[u64; 8]) -> Option<Work> {
+    match call {
+        Call::Run { .. } if answer[0] == u64::from(FFA_RUN) => Some(Work::Run),
+        Call::DirectRequest { .. } => Some(Work::Request(caller)),
+        _ => None,
+    }
+}
+
+impl<'m, S: Stage + Drop> Generator<'m, S> {
+    /// Learns from a call that was done, by what the next runner sees.
+    pub fn learn(&mut self, caller: EndpointId, call: Call, answer: &[u64; 8]) {
+        let runner = self.runner();
+        self.known_mut(caller).learn(call);
+        if let Some(work) = work_of(caller, call, answer) {
+            self.known_mut(runner).work = Some(work);
+        }
+    }
+
+    /// Whether an endpoint could be sent a direct request now.
+    pub fn is_waiting(&self, endpoint: EndpointId) -> bool {
+        endpoint != NORMAL_WORLD && self.known_of(endpoint).work.is_none()
+    }
+}

@@ -1,0 +1,11 @@
+-- SPDX-License-Identifier: MIT OR Apache-2.0
+mod DigitTable
+pub mod Fronts
+pub mod LineCommands
+pub mod LineNumbers
+pub mod LineRegisters
+pub mod LineWords
+pub mod Listed
+pub mod NumberFronts
+pub mod TextDigits
+pub mod WordsPut
