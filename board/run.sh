@@ -239,6 +239,7 @@ find_break() {
 }
 
 make_archive
+[[ -n ${FFAPLAY:-} ]] || "$top/ffaplay" prove
 make_scenes
 build_generator
 build documented

@@ -119,7 +119,7 @@ enum ffa_answer {
     FFA_OK = 0,
     FFA_NO_ROOM = 1, /* an allocation was refused */
 
-    /* The manifest is refused: the first cause that applies, as docs/USING.md numbers them (M2 to M14). */
+    /* The manifest is refused: the first cause that applies, as docs/FORMATS.md numbers them (M2 to M14). */
     FFA_MANIFEST_TOML = 2,            /* the text is no TOML, or no UTF-8 */
     FFA_MANIFEST_UNKNOWN_KEY = 3,     /* a key that is none of its table's */
     FFA_MANIFEST_MISSING_KEY = 4,     /* a table lacks one of its keys */

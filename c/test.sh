@@ -9,7 +9,7 @@ top=$(dirname "$here")
 player=${FFAPLAY:-$top/ffaplay} # the program, whose answers to traces are compared
 packages="gcc g++ clang valgrind libc6-dev gcc-aarch64-linux-gnu libc6-dev-arm64-cross qemu-user-static"
 if [[ ${1:-} == --install ]]; then
-    apt-get update >/dev/null && apt-get install -y $packages >/dev/null
+    { apt-get update && apt-get install -y $packages; } >/dev/null || echo "not all packages were installed"
 fi
 to=$(mktemp -d)
 trap 'rm -rf "$to"' EXIT
@@ -17,10 +17,14 @@ strict="-std=c11 -Wall -Wextra -Wpedantic -Wshadow -Werror -I$here"
 sanitized="-O1 -g -fsanitize=address,undefined -fno-sanitize-recover=all"
 missing=0
 
-# The archive for a target: archive NAME ARGUMENT..
+# The archive for a target, which may stand ready in the folder ARCHIVES: archive NAME ARGUMENT..
 archive() {
     local name=$1
     shift
+    if [[ -e ${ARCHIVES:-}/$name.a ]]; then
+        cp "$ARCHIVES/$name.a" "$to/$name.a"
+        return
+    fi
     (cd "$top/crates/ffa_c" && rt lib "$@") >"$to/log" 2>&1 || { cat "$to/log" >&2; exit 1; }
     cp "$top/crates/ffa_c/out/libffa_c.a" "$to/$name.a"
 }
@@ -57,6 +61,7 @@ plays() {
 }
 
 archive native
+[ -n "${FFAPLAY:-}" ] || "$top/ffaplay" prove
 "$player" check "$top/examples/machine.toml" >/dev/null
 for compiler in gcc clang; do
     has $compiler || continue

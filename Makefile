@@ -1,0 +1,41 @@
+# SPDX-License-Identifier: MIT OR Apache-2.0
+# What is run here, each by one line. Every target needs the toolchain's rt on the path; what else it needs it says itself.
+
+# Before each commit: the crates that differ from where the branch left origin/main, their wrong bodies that turn what differs, and the
+# tests that name these crates, without proofs. AGAINST=COMMIT takes another commit.
+AGAINST =
+# How many processes prove, and try wrong bodies, at a time: some 4 GB of memory each.
+JOBS = 4
+
+.PHONY: quick gate prove wrong c board docs bench
+
+quick:
+	bench/changed --tests $(AGAINST)
+
+# The merge gate, as CI runs it: every proof from nothing, the wrong bodies, the tests, the programs.
+gate:
+	.ci/run
+
+# Proves and builds the program, and tells of each crate as it is proved.
+prove:
+	./ffaplay prove --jobs $(JOBS)
+
+# Tries all wrong bodies of the second rank, of which a landing tries a tenth, over what is kept.
+wrong:
+	ls -d crates/*/wrong | cut -d / -f 2 | xargs -n 1 -P $(JOBS) bench/wrong-bodies --rank wrong
+
+# Builds and runs the core as a C library.
+c:
+	c/test.sh
+
+# Runs the core as a board's firmware under QEMU.
+board:
+	board/run.sh
+
+# Compares the pages with the code, the manual with the definitions, and its pictures with what the program draws.
+docs:
+	tests/docs && tests/licence-lines && tests/manual-checks && tests/pictures
+
+# Measures the program: accesses, transactions, memory and stack.
+bench:
+	bench/accesses && bench/transactions && bench/memory

@@ -1,0 +1,17 @@
+# SPDX-License-Identifier: MIT OR Apache-2.0
+"""The commands of `rt` as a module, for scripts that ask more of them than `rt` does."""
+import importlib.machinery
+import importlib.util
+import os
+import shutil
+import sys
+
+
+def commands():
+    """The module, whose own `rtlib` holds what a crate is, how it is checked and where its library lies."""
+    path = os.path.realpath(shutil.which("rt") or sys.exit(f"{os.path.basename(sys.argv[0])}: there is no rt on the path; README.md says what is needed"))
+    loader = importlib.machinery.SourceFileLoader("rt_main", path)
+    made = importlib.util.module_from_spec(importlib.util.spec_from_loader("rt_main", loader))
+    sys.modules["rt_main"] = made
+    loader.exec_module(made)
+    return made
