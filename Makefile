@@ -2,10 +2,12 @@
 # What is run here, each by one line. Every target needs the toolchain's rt on the path; what else it needs it says itself.
 
 # Before each commit: the crates that differ from where the branch left origin/main, their wrong bodies that turn what differs, and the
-# tests that name these crates, without proofs. AGAINST=COMMIT takes another commit.
+# tests that name these crates, without proofs, for five minutes at most: what these didn't reach is said, and is no failure.
+# AGAINST=COMMIT takes another commit.
 AGAINST =
-# How many processes prove, and try wrong bodies, at a time: some 4 GB of memory each.
-JOBS = 4
+# How many processes prove, or try wrong bodies, at a time, each of which takes some 4 GB of memory. Where it isn't given, ./prove takes
+# one for each processor that has 4 GB of free memory, and wrong bodies are tried by four.
+JOBS =
 
 .PHONY: quick gate prove wrong c board docs bench
 
@@ -18,11 +20,11 @@ gate:
 
 # Proves and builds the program, and tells of each crate as it is proved.
 prove:
-	./ffaplay prove --jobs $(JOBS)
+	./ffaplay prove $(if $(JOBS),--jobs $(JOBS))
 
 # Tries all wrong bodies of the second rank, of which a landing tries a tenth, over what is kept.
 wrong:
-	ls -d crates/*/wrong | cut -d / -f 2 | xargs -n 1 -P $(JOBS) bench/wrong-bodies --rank wrong
+	ls -d crates/*/wrong | cut -d / -f 2 | xargs -n 1 -P $(or $(JOBS),4) bench/wrong-bodies --rank wrong
 
 # Builds and runs the core as a C library.
 c:
@@ -32,10 +34,11 @@ c:
 board:
 	board/run.sh
 
-# Compares the pages with the code, the manual with the definitions, and its pictures with what the program draws.
+# Compares the pages and licence lines with the code, the manual's lists of checks with the definitions, and its pictures with what the
+# program draws.
 docs:
 	tests/docs && tests/licence-lines && tests/manual-checks && tests/pictures
 
-# Measures the program: accesses, transactions, memory and stack.
+# Measures the program: accesses, transactions, memory and stack, and instructions, which need valgrind.
 bench:
-	bench/accesses && bench/transactions && bench/memory
+	bench/accesses && bench/transactions && bench/memory && bench/instructions

@@ -45,6 +45,9 @@ stores() {
     echo "$1: each store of the functions that write tables is of 64 bits"
 }
 
+# The bytes of code and data of a program, as `size` adds them up.
+bytes() { size "$1" | awk 'NR == 2 { print $4 }'; }
+
 # Plays each trace that there is, on RAM of the heap and on lent pages: plays NAME COMMAND..
 plays() {
     local name=$1 machine trace kind
@@ -73,9 +76,11 @@ for compiler in gcc clang; do
     "$to/example"
     $compiler $strict $sanitized "$here/play.c" "$here/heap.c" "$to/native.a" -o "$to/play"
     plays "$compiler, sanitized" "$to/play"
-    $compiler $strict -O2 -ffreestanding -fno-stack-protector -nostdlib -static -Wl,--gc-sections "$here/freestanding.c" "$to/native.a" -o "$to/free"
+    bare="$strict -O2 -ffreestanding -fno-stack-protector -nostdlib -static"
+    $compiler $bare "$here/freestanding.c" "$to/native.a" -o "$to/whole"
+    $compiler $bare -Wl,--gc-sections "$here/freestanding.c" "$to/native.a" -o "$to/free"
     "$to/free"
-    echo "$compiler: linked with no C library, and run"
+    echo "$compiler: linked with no C library, and run: $(bytes "$to/free") bytes, and $(bytes "$to/whole") with what nobody calls"
 done
 if has g++; then
     printf '#include "gorseplumb.h"\n#include "lending.h"\n' >"$to/header.cpp"
