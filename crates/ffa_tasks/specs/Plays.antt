@@ -1,9 +1,9 @@
 -- SPDX-License-Identifier: MIT OR Apache-2.0
 -- What a task leaves that was done with a trace.
-use Rattle.std.specs.Prelude.{◌≡◌, ◌≤◌, ◌⊎◌, ℕ, ◌+◌, Bool, true, false, List, ◌∷◌, ◌++◌, length, Option, Some, ⊤}
-use Rattle.std.specs.Io.KnownBytes.{Appends, Keeps}
+use Rattle.std.specs.Prelude.{◌≡◌, ℕ, ◌+◌, Bool, true, false, List, ◌∷◌, ◌++◌, length, Option, Some, ⊤}
+use Rattle.std.specs.Io.KnownBytes.{Appends, Consumes, Keeps}
 use Rattle.ffa_model.specs.State.{State}
-use Rattle.ffa_syntax.specs.TraceLines.{feed, has_no_feed, is_good, are_lines, joined}
+use Rattle.ffa_syntax.specs.TraceLines.{feed, has_no_feed, are_lines, joined}
 use Rattle.ffa_syntax.specs.TraceText.{text}
 use Rattle.ffa_command.specs.declared.command_line.TextOptions.{TextOptions}
 use Rattle.ffa_lines.specs.declared.form.Form.{Form}
@@ -11,7 +11,7 @@ use Rattle.ffa_lines.specs.declared.guards.Asks.{Asks}
 use Rattle.ffa_lines.specs.Followed.{NeverPrints}
 use Rattle.ffa_lines.specs.Forms.{plain, text_in}
 use Rattle.ffa_lines.specs.Guards.{AreMet, IsMet, guard_of}
-use Rattle.ffa_lines.specs.Reading.{IsAll}
+use Rattle.ffa_lines.specs.Reading.{IsAll, IsBadLine}
 use Rattle.ffa_report.specs.declared.failure.Failure.{Failure}
 use Rattle.ffa_report.specs.declared.failure.Failure.TheVariants as failure
 use Rattle.ffa_tasks.specs.declared.task.Task.{Task}
@@ -32,13 +32,14 @@ pub record IsPlayed (strict : Bool) (form : Form) (start : State) (trace held ho
   pub written : Appends held holds (text_in form 1 start lines)
   pub guards : strict ≡ true → AreMet start lines
 
--- the line behind these lines is none of the format, or a rest that no LF ends, and this is its number
+-- the line behind these lines is bad, and this is its number
 pub record EndsBadly (trace : Option (List ℕ)) (lines : List (List ℕ)) (n : ℕ) : Type 0 where
-  pub bad : List ℕ
+  pub left : Option (List ℕ)
+  pub bytes : List ℕ
   pub each : are_lines lines ≡ true
+  pub read : Consumes trace left (joined lines)
   pub number : n ≡ 1 + length lines
-  pub single : has_no_feed bad ≡ true
-  pub none : ((is_good bad ≡ false) × ((rest : List ℕ) × IsAll trace (joined lines ++ (bad ++ feed ∷ rest)))) ⊎ ((1 ≤ length bad) × IsAll trace (joined lines ++ bad))
+  pub bad : IsBadLine left bytes
 
 -- a play stopped at line n: the lines before it were done, and their text was written
 abbrev pub IsStopped : Bool → Form → State → (trace held holds : Option (List ℕ)) → ℕ → Type 0
