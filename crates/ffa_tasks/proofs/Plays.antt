@@ -116,12 +116,13 @@ played_to start now held holds had has n (lines, bad, more, did, consumed, numbe
       never_strict,
     )
 
-pub play_failed : (start now : State) (held holds had has : Option (List ℕ)) (unread : Failure) → PlayFails Plain start had held holds unread
-    → (fault : Option LineFault) (error : PlayError) → Played {X = Unit {0}} start now held holds had has (Err error) → PlayFails Plain start had held holds (failure_of unread fault error)
-play_failed start now held holds had has unread is fault play_error.Read p = is
-play_failed start now held holds had has unread is fault play_error.Write p = tt
-play_failed start now held holds had has unread is fault play_error.NoMemory p = tt
-play_failed start now held holds had has unread is fault (play_error.BadLine n) p = played_to start now held holds had has n p
+pub play_failed : (start now : State) (held holds had has : Option (List ℕ)) (path : Bor (List ℕ)) (fault : Option LineFault) (error : PlayError)
+    → Played {X = Unit {0}} start now held holds had has (Err error) → PlayFails Plain start had held holds (failure_of (Read path) fault error)
+play_failed start now held holds had has path fault play_error.Read (lines, more, did, consumed, counted, ended) =
+    (lines, (did.each, (prepend_known more has, before_read had has (joined lines) more consumed)), written_plainly start held holds lines did.written, never_strict)
+play_failed start now held holds had has path fault play_error.Write p = tt
+play_failed start now held holds had has path fault play_error.NoMemory p = tt
+play_failed start now held holds had has path fault (play_error.BadLine n) p = played_to start now held holds had has n p
 
 -- PLAYS IN A FORM, AND COMPARISONS
 
@@ -144,13 +145,14 @@ formed_whole x form start now held holds had bytes (left, lines, said, f, ended,
   guards = never_strict;
 }
 
-pub formed_failed : (form : Form) (start now : State) (held holds had : Option (List ℕ)) (bytes : List ℕ) (unread : Failure) → PlayFails (Formed form) start had held holds unread
-    → (fault : Option LineFault) (error : PlayError) → followed.PlayedIn {X = Unit {0}} form start now held holds had bytes (Err error)
-    → PlayFails (Formed form) start had held holds (failure_of unread fault error)
-formed_failed form start now held holds had bytes unread is fault play_error.Read p = is
-formed_failed form start now held holds had bytes unread is fault play_error.Write p = tt
-formed_failed form start now held holds had bytes unread is fault play_error.NoMemory p = tt
-formed_failed form start now held holds had bytes unread is fault (play_error.BadLine n) (said, e, written) =
+pub formed_failed : (form : Form) (start now : State) (held holds had : Option (List ℕ)) (bytes : List ℕ) (path : Bor (List ℕ)) (fault : Option LineFault) (error : PlayError)
+    → followed.PlayedIn {X = Unit {0}} form start now held holds had bytes (Err error)
+    → PlayFails (Formed form) start had held holds (failure_of (Read path) fault error)
+formed_failed form start now held holds had bytes path fault play_error.Read (left, lines, said, f, written) =
+    (lines, (f.each, (left, f.read)), subst (Appends held holds) f.said written, never_strict)
+formed_failed form start now held holds had bytes path fault play_error.Write p = tt
+formed_failed form start now held holds had bytes path fault play_error.NoMemory p = tt
+formed_failed form start now held holds had bytes path fault (play_error.BadLine n) (said, e, written) =
     (e.lines, ends_badly form start now had said bytes n e, subst (Appends held holds) e.followed.said written, never_strict)
 
 -- PICTURES
@@ -162,12 +164,12 @@ always_ok (Err e) p = tt
 pub drawn_whole : {A : Type 0} (picture : Picture A) (keep : Keep) (start now : State) (had : Option (List ℕ)) (bytes : List ℕ) → Pictured keep start now had bytes (Ok picture) → IsDrawn had
 drawn_whole picture keep start now had bytes (left, lines, said, f, ended, is) = record { lines = lines; each = f.each; all = all_consumed had left (joined lines) f.read ended }
 
-pub drawn_failed : (A : Type 0) (keep : Keep) (start now : State) (held had : Option (List ℕ)) (bytes : List ℕ) (unread : Failure) → PlayFails (Drawn keep) start had held held unread
-    → (fault : Option LineFault) (error : PlayError) → Pictured {A = A} keep start now had bytes (Err error) → PlayFails (Drawn keep) start had held held (failure_of unread fault error)
-drawn_failed A keep start now held had bytes unread is fault play_error.Read p = is
-drawn_failed A keep start now held had bytes unread is fault play_error.Write p = absurd p
-drawn_failed A keep start now held had bytes unread is fault play_error.NoMemory p = tt
-drawn_failed A keep start now held had bytes unread is fault (play_error.BadLine n) (said, e) = (e.lines, ends_badly plain start now had said bytes n e, kept held)
+pub drawn_failed : (A : Type 0) (keep : Keep) (start now : State) (held had : Option (List ℕ)) (bytes : List ℕ) (path : Bor (List ℕ)) (fault : Option LineFault) (error : PlayError)
+    → Pictured {A = A} keep start now had bytes (Err error) → PlayFails (Drawn keep) start had held held (failure_of (Read path) fault error)
+drawn_failed A keep start now held had bytes path fault play_error.Read p = kept held
+drawn_failed A keep start now held had bytes path fault play_error.Write p = absurd p
+drawn_failed A keep start now held had bytes path fault play_error.NoMemory p = tt
+drawn_failed A keep start now held had bytes path fault (play_error.BadLine n) (said, e) = (e.lines, ends_badly plain start now had said bytes n e, kept held)
 
 pub guarded_whole : (form : Form) (start now : State) (held holds had : Option (List ℕ)) (line found : List ℕ) → GuardedIn form start now held holds had line found (Ok None)
     → IsPlayed true form start had held holds
@@ -201,13 +203,14 @@ pub breach_told : (form : Form) (start : State) (trace held holds : Option (List
 breach_told form start trace held holds n unmet failure (inl is) = subst (PlayFails (Guarded form) start trace held holds) (sym is) unmet
 breach_told form start trace held holds n unmet failure (inr is) = subst (PlayFails (Guarded form) start trace held holds) (sym is) tt
 
-pub guarded_failed : (form : Form) (start now : State) (held holds had : Option (List ℕ)) (line found : List ℕ) (unread : Failure) → PlayFails (Guarded form) start had held holds unread
-    → (fault : Option LineFault) (error : PlayError) → GuardedIn form start now held holds had line found (Err error)
-    → PlayFails (Guarded form) start had held holds (failure_of unread fault error)
-guarded_failed form start now held holds had line found unread is fault play_error.Read p = is
-guarded_failed form start now held holds had line found unread is fault play_error.Write p = tt
-guarded_failed form start now held holds had line found unread is fault play_error.NoMemory p = tt
-guarded_failed form start now held holds had line found unread is fault (play_error.BadLine n) (said, e, written, met) =
+pub guarded_failed : (form : Form) (start now : State) (held holds had : Option (List ℕ)) (line found : List ℕ) (path : Bor (List ℕ)) (fault : Option LineFault) (error : PlayError)
+    → GuardedIn form start now held holds had line found (Err error)
+    → PlayFails (Guarded form) start had held holds (failure_of (Read path) fault error)
+guarded_failed form start now held holds had line found path fault play_error.Read (left, lines, said, f, written, met) =
+    (lines, (f.each, (left, f.read)), subst (Appends held holds) f.said written, λ strict. met)
+guarded_failed form start now held holds had line found path fault play_error.Write p = tt
+guarded_failed form start now held holds had line found path fault play_error.NoMemory p = tt
+guarded_failed form start now held holds had line found path fault (play_error.BadLine n) (said, e, written, met) =
     (e.lines, ends_badly form start now had said line n e, subst (Appends held holds) e.followed.said written, λ strict. met)
 
 pub compared_whole : (start now : State) (had : Option (List ℕ)) (explain : Bool) (expected bytes : List ℕ) → followed.Compared plain start now had explain expected bytes (Ok None) → PrintsExpected start had (Some expected)
@@ -223,12 +226,13 @@ pub cut_short : (start now : State) (had : Option (List ℕ)) (explain : Bool) (
 cut_short start now had explain expected bytes n (said, more, alike, e) =
     (e.lines, ends_badly plain start now had said bytes n e, (more, ap Some (alike ∙ ap (λ l. l ++ more) (e.followed.said ∙ plain_text 1 start e.lines))))
 
-pub compared_failed : (start now : State) (had held : Option (List ℕ)) (expected : Bor (List ℕ)) (explain : Bool) (bytes : List ℕ) (unread : Failure) → PlayFails (Compare expected explain) start had held held unread
-    → (fault : Option LineFault) (error : PlayError) → followed.Compared plain start now had explain expected.now bytes (Err error) → PlayFails (Compare expected explain) start had held held (failure_of unread fault error)
-compared_failed start now had held expected explain bytes unread is fault play_error.Read p = is
-compared_failed start now had held expected explain bytes unread is fault play_error.Write p = absurd p
-compared_failed start now had held expected explain bytes unread is fault play_error.NoMemory p = tt
-compared_failed start now had held expected explain bytes unread is fault (play_error.BadLine n) p = (cut_short start now had explain expected.now bytes n p, kept held)
+pub compared_failed : (start now : State) (had held : Option (List ℕ)) (expected : Bor (List ℕ)) (explain : Bool) (bytes : List ℕ) (path : Bor (List ℕ)) (fault : Option LineFault) (error : PlayError)
+    → followed.Compared plain start now had explain expected.now bytes (Err error) → PlayFails (Compare expected explain) start had held held (failure_of (Read path) fault error)
+compared_failed start now had held expected explain bytes path fault play_error.Read (left, lines, said, more, alike, f) =
+    ((lines, (f.each, (left, f.read)), (more, ap Some (alike ∙ ap (λ l. l ++ more) (f.said ∙ plain_text 1 start lines)))), kept held)
+compared_failed start now had held expected explain bytes path fault play_error.Write p = absurd p
+compared_failed start now had held expected explain bytes path fault play_error.NoMemory p = tt
+compared_failed start now had held expected explain bytes path fault (play_error.BadLine n) p = (cut_short start now had explain expected.now bytes n p, kept held)
 
 -- where a difference was found
 pub differing : (start : State) (had held holds : Option (List ℕ)) (expected : Bor (List ℕ)) (explain : Bool) → followed.NeverPrints plain start had expected.now → (failure : Failure) → IsDifference failure

@@ -46,6 +46,15 @@ abbrev pub IsStopped : Bool → Form → State → (trace held holds : Option (L
 IsStopped strict form start trace held holds n =
     (lines : List (List ℕ)) × EndsBadly trace lines n × Appends held holds (text_in form 1 start lines) × (strict ≡ true → AreMet start lines)
 
+-- a trace began with these lines
+abbrev pub BeganWith : (trace : Option (List ℕ)) (lines : List (List ℕ)) → Type 0
+BeganWith trace lines = (are_lines lines ≡ true) × ((left : Option (List ℕ)) × Consumes trace left (joined lines))
+
+-- a play could read no further: these lines were done, and their text was written
+abbrev pub IsUnread : Bool → Form → State → (trace held holds : Option (List ℕ)) → Type 0
+IsUnread strict form start trace held holds =
+    (lines : List (List ℕ)) × BeganWith trace lines × Appends held holds (text_in form 1 start lines) × (strict ≡ true → AreMet start lines)
+
 -- a strict play stopped at line n: it is a guard that isn't met, those of the lines before it are, and the text of these was written
 pub record IsUnmet (form : Form) (start : State) (trace held holds : Option (List ℕ)) (n : ℕ) : Type 0 where
   pub lines : List (List ℕ)
@@ -82,6 +91,10 @@ IsUndrawn trace held holds n = (lines : List (List ℕ)) × EndsBadly trace line
 abbrev pub IsCutShort : State → (trace expected : Option (List ℕ)) → ℕ → Type 0
 IsCutShort start trace expected n = (lines : List (List ℕ)) × EndsBadly trace lines n × ((more : List ℕ) × (expected ≡ Some (text start lines ++ more)))
 
+-- a comparison could read no further: what is expected begins with the text of the lines before
+abbrev pub IsCutOff : State → (trace expected : Option (List ℕ)) → Type 0
+IsCutOff start trace expected = (lines : List (List ℕ)) × BeganWith trace lines × ((more : List ℕ) × (expected ≡ Some (text start lines ++ more)))
+
 -- TASKS: a reader, a writer and memory may always fail
 
 -- a task that prints in this form
@@ -108,6 +121,14 @@ StopsBy (Guarded form) start trace held holds n = IsStopped true form start trac
 StopsBy (Compare expected explain) start trace held holds n = IsCutShort start trace (Some expected.now) n × Keeps held holds
 StopsBy (Drawn keep) start trace held holds n = IsUndrawn trace held holds n
 
+-- a task could read no further
+abbrev pub UnreadBy : Task → State → (trace held holds : Option (List ℕ)) → Type 0
+UnreadBy Plain start trace held holds = IsUnread false plain start trace held holds
+UnreadBy (Formed form) start trace held holds = IsUnread false form start trace held holds
+UnreadBy (Guarded form) start trace held holds = IsUnread true form start trace held holds
+UnreadBy (Compare expected explain) start trace held holds = IsCutOff start trace (Some expected.now) × Keeps held holds
+UnreadBy (Drawn keep) start trace held holds = Keeps held holds
+
 -- a task found another text
 abbrev pub DiffersBy : Task → State → Option (List ℕ) → Type 0
 DiffersBy Plain start trace = ⊥
@@ -128,7 +149,7 @@ UnmetBy (Drawn keep) start trace held holds n = ⊥
 abbrev pub PlayFails : Task → State → (trace held holds : Option (List ℕ)) → Failure → Type 0
 PlayFails task start trace held holds (failure.Manifest cause) = ⊥
 PlayFails task start trace held holds (failure.BadLine n fault) = StopsBy task start trace held holds n
-PlayFails task start trace held holds (failure.Read path) = ⊤
+PlayFails task start trace held holds (failure.Read path) = UnreadBy task start trace held holds
 PlayFails task start trace held holds failure.Write = ⊤
 PlayFails task start trace held holds failure.NoMemory = ⊤
 PlayFails task start trace held holds failure.Differs = DiffersBy task start trace

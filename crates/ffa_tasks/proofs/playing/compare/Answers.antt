@@ -21,7 +21,7 @@ returns-clause-failed g c =
     let unread = Read c.args.trace.path in
     subst (PlayFails (Compare c.args.expected c.args.explain) start (g.R.Read.remaining c.args.trace.reader) held held) (sym c.of_line.ensures.1)
     (subst (λ had. PlayFails (Compare c.args.expected c.args.explain) start had held held (failure_of unread c.of_line.ensures.0 c.in-Err.error)) c.in_ok-reader.ensures.unread
-    (compared_failed start c.compare.new.player.state _ held c.args.expected c.args.explain c.compare.new.bytes.items unread tt c.of_line.ensures.0 c.in-Err.error c.in-Err.ensures.compared))
+    (compared_failed start c.compare.new.player.state _ held c.args.expected c.args.explain c.compare.new.bytes.items c.args.trace.path c.of_line.ensures.0 c.in-Err.error c.in-Err.ensures.compared))
 
 pub returns-in-Ok-Some-clause-failed : goal.returns-in-Ok-Some-clause-failed
 returns-in-Ok-Some-clause-failed g c =

@@ -17,4 +17,4 @@ returns-clause-failed g c =
     let unread = Read c.args.trace.path in
     subst (PlayFails (Drawn c.args.keep) start (g.R.Read.remaining c.args.trace.reader) held held) (sym c.of_line.ensures.1)
     (subst (λ had. PlayFails (Drawn c.args.keep) start had held held (failure_of unread c.of_line.ensures.0 c.in-Err.error)) c.in_ok-reader.ensures.unread
-    (drawn_failed ℕ c.args.keep start c.picture_of.new.player.state held _ c.picture_of.new.bytes.items unread tt c.of_line.ensures.0 c.in-Err.error c.in-Err.ensures))
+    (drawn_failed ℕ c.args.keep start c.picture_of.new.player.state held _ c.picture_of.new.bytes.items c.args.trace.path c.of_line.ensures.0 c.in-Err.error c.in-Err.ensures))

@@ -20,4 +20,4 @@ returns-clause-failed g c =
     let unread = Read c.args.trace.path in
     subst (PlayFails (Formed c.args.form) start (g.R.Read.remaining c.args.trace.reader) held holds) (sym c.of_line.ensures.1)
     (subst (λ had. PlayFails (Formed c.args.form) start had held holds (failure_of unread c.of_line.ensures.0 c.in-Err.error)) c.in_ok-reader.ensures.unread
-    (formed_failed c.args.form start c.play.new.player.state held holds _ c.play.new.bytes.items unread tt c.of_line.ensures.0 c.in-Err.error c.in-Err.ensures))
+    (formed_failed c.args.form start c.play.new.player.state held holds _ c.play.new.bytes.items c.args.trace.path c.of_line.ensures.0 c.in-Err.error c.in-Err.ensures))
