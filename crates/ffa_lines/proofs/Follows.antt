@@ -43,7 +43,7 @@ text_one form n s (l ∷ ls) line =
 
 module _ (form : Form) (start mid : State) (had has : Option (List ℕ)) (lines : List (List ℕ)) (text : List ℕ) (f : Followed form start mid had has lines text) (number : ℕ) (count : number ≡ 1 + length lines) where
   -- what a line more prints
-  own_text : (line : List ℕ) (meant : Line) → Some meant ≡ line_of line → line_text_in form number mid meant ≡ text_of_in form (1 + length lines) (after_all start lines) line
+  pub own_text : (line : List ℕ) (meant : Line) → Some meant ≡ line_of line → line_text_in form number mid meant ≡ text_of_in form (1 + length lines) (after_all start lines) line
   unfolding text_of_in
   own_text line meant is =
       let own : line_text_in form number mid meant ≡ text_of_in form number mid line = ap (λ l. option_map_or (line_text_in form number mid) l []) is in

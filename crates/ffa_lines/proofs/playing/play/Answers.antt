@@ -23,8 +23,8 @@ returns-in_err-print_line-in-Some g c =
     let i = c.loop-number.invariant in
     let one = subst (λ o. TakesLine (g.R.Read.remaining c.loop-number.reader) (g.R.Read.remaining c.take_line.new.reader) c.take_line.new.bytes.items c.loop-number.number (Ok o)) c.in-Some.is c.in_ok-line.ensures in
     let p = err_from_is_err_and c.from_residual-in_err-print_line-in-Some.result c.from_residual-in_err-print_line-in-Some.ensures.1 in
-    rw (p.1, p.2) (unwritten_played _ _ _ _ _ i.0 i.1 i.2 c.loop-number.number i.4 c.in_err-print_line-in-Some.field-0.0 c.print_line-in-Some.new.player.state (g.R.Read.remaining c.take_line.new.reader)
-    c.take_line.new.bytes.items (meant c.in-Some.line) one.0 one.1 one.2 (g.W.Write.contents c.args.writer.now) (g.W.Write.contents c.loop-number.writer) (g.W.Write.contents c.print_line-in-Some.new.writer) i.3
+    rw (p.1, p.2) (unwritten_played _ _ _ _ _ i.0 i.1 i.2 c.loop-number.number i.4 c.in_err-print_line-in-Some.field-0.0 c.print_line.new.player.state (g.R.Read.remaining c.take_line.new.reader)
+    c.take_line.new.bytes.items (meant c.in-Some.line) one.0 one.1 one.2 (g.W.Write.contents c.args.writer.now) (g.W.Write.contents c.loop-number.writer) (g.W.Write.contents c.print_line.new.writer) i.3
     c.in_err-print_line-in-Some.ensures)
 
 pub returns : goal.returns

@@ -8,7 +8,7 @@ use Rattle.ffa_lines.proofs.read.take_line.Goals as goal
 pub returns-in_err-next_line : goal.returns-in_err-next_line
 returns-in_err-next_line g c =
     let p = err_from_is_err_and c.from_residual.result c.from_residual.ensures.1 in
-    rw (p.1, p.2) (unread_untaken _ _ _ c.args.number c.in_err-next_line.field-0.0 c.in_err-next_line.ensures)
+    rw (p.1, p.2) (unread_untaken (g.R.Read.remaining c.args.reader.now) (g.R.Read.remaining c.next_line.new.reader) c.next_line.new.line.items c.args.number c.in_err-next_line.field-0.0 c.in_err-next_line.ensures)
 
 pub returns-in-None : goal.returns-in-None
 returns-in-None g c =
