@@ -11,7 +11,7 @@ use Rattle.ffa_tasks.proofs.playing.compare.Goals as goal
 
 pub returns-in-Ok-None-clause-played : goal.returns-in-Ok-None-clause-played
 returns-in-Ok-None-clause-played g c =
-    let whole = compared_whole _ _ _ c.args.explain _ _ (rw c.in-Ok-None.field-0-is at c.in-Ok-None.ensures.compared) in
+    let whole = compared_whole _ _ _ c.args.explain _ c.compare.new.bytes.items (rw c.in-Ok-None.field-0-is at c.in-Ok-None.ensures.compared) in
     (subst (λ had. PrintsExpected c.args.player.now.state had (Some c.args.expected.now)) c.in_ok-reader.ensures.unread whole, kept (g.W.Write.contents c.args.out.now))
 
 pub returns-clause-failed : goal.returns-clause-failed

@@ -8,7 +8,7 @@ use Rattle.ffa_tasks.proofs.Plays.{always_ok, drawn_whole, drawn_failed}
 use Rattle.ffa_tasks.proofs.playing.draw.Goals as goal
 
 pub returns-in-Ok-clause-played : goal.returns-in-Ok-clause-played
-returns-in-Ok-clause-played g c = always_ok c.print_picture.result (subst IsDrawn c.in_ok-reader.ensures.unread (drawn_whole c.in-Ok.picture _ _ _ _ _ c.in-Ok.ensures))
+returns-in-Ok-clause-played g c = always_ok c.print_picture.result (subst IsDrawn c.in_ok-reader.ensures.unread (drawn_whole c.in-Ok.picture _ _ _ _ c.picture_of.new.bytes.items c.in-Ok.ensures))
 
 pub returns-clause-failed : goal.returns-clause-failed
 returns-clause-failed g c =

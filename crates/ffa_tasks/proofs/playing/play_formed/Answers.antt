@@ -10,7 +10,7 @@ use Rattle.ffa_tasks.proofs.playing.play_formed.Goals as goal
 pub returns-in-Ok-clause-played : goal.returns-in-Ok-clause-played
 returns-in-Ok-clause-played g c =
     subst (λ had. IsPlayed false c.args.form c.args.player.now.state had (g.W.Write.contents c.args.out.now) (g.W.Write.contents c.play.new.writer)) c.in_ok-reader.ensures.unread
-    (formed_whole c.in-Ok.field-0 _ _ _ _ _ _ _ c.in-Ok.ensures)
+    (formed_whole c.in-Ok.field-0 _ _ _ _ _ _ c.play.new.bytes.items c.in-Ok.ensures)
 
 pub returns-clause-failed : goal.returns-clause-failed
 returns-clause-failed g c =
