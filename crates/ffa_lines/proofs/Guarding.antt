@@ -18,11 +18,12 @@ use Rattle.ffa_syntax.specs.declared.output.PlayError.TheVariants.{Read, Write, 
 use Rattle.ffa_lines.specs.Asking.{Asked, unasked_by}
 use Rattle.ffa_lines.specs.Followed.{Followed}
 use Rattle.ffa_lines.specs.Guards.{AreMet, Breaks, GuardedIn, IsFound, IsMet, IsUnasked, Leaves, are_silent, asked, asked_by, guard_of, prints, speaks}
-use Rattle.ffa_lines.specs.Steps.{TakesLine}
+use Rattle.ffa_lines.specs.Reading.{TakesLine}
+use Rattle.ffa_lines.specs.Steps.{PrintsLine}
 use Rattle.ffa_lines.specs.declared.form.Form.{Form}
 use Rattle.ffa_lines.specs.declared.guards.Asks.{Asks}
 use Rattle.ffa_lines.specs.declared.guards.Asks.TheVariants.{Printed, Runner}
-use Rattle.ffa_lines.proofs.Follows.{ends_at}
+use Rattle.ffa_lines.proofs.Follows.{ends_at, fails_to_write}
 
 -- an LF behind a line that begins a text
 pub behind_text : (text line more : List ℕ) (r : Option (Bor (List ℕ))) → text ≡ line ++ more → MatchOption r ((rest : List ℕ) → more ≢ feed ∷ rest) (λ rest. more ≡ feed ∷ rest.now)
@@ -211,11 +212,21 @@ module _ (form : Form) (start mid : State) (had has : Option (List ℕ)) (lines 
           subst (λ a. Breaks form start mid had text line found (record { number = number; asks = a })) (sym its_kind)
           (at Runner wants same (λ is. both.0 (is ∙ sym runs)) (both.1 ∙ runs))
 
-  -- at what is no line
+  -- at what isn't taken
   pub untaken_guarded : (e : PlayError) (then : Option (List ℕ)) (bytes : List ℕ) → TakesLine has then bytes number (Err e)
-      → (now : State) (held holds : Option (List ℕ)) (shown found : List ℕ) → Appends held holds text → GuardedIn form start now held holds had shown found (Err e)
-  untaken_guarded Read then bytes r now held holds shown found written = tt
-  untaken_guarded Write then bytes r now held holds shown found written = absurd r
-  untaken_guarded NoMemory then bytes r now held holds shown found written = tt
-  untaken_guarded (BadLine n) then bytes (is, (bad, begins), none) now held holds shown found written =
-      (text, ends_at form start mid had has lines text f n (is ∙ count) bad begins, written, met)
+      → (held holds : Option (List ℕ)) (found : List ℕ) → Appends held holds text → GuardedIn form start mid held holds had bytes found (Err e)
+  untaken_guarded Read then bytes r held holds found written = (has, lines, text, f, written, met)
+  untaken_guarded Write then bytes r held holds found written = absurd r
+  untaken_guarded NoMemory then bytes r held holds found written = tt
+  untaken_guarded (BadLine n) then bytes (is, bad) held holds found written =
+      (text, ends_at form start mid had has lines text f n (is ∙ count) bytes bad, written, met)
+
+  -- at what isn't written whole
+  pub unwritten_guarded : (e : PlayError) (now : State) (then : Option (List ℕ)) (line : List ℕ) (meant : Line) → Consumes has then (line ++ feed ∷ []) → has_no_feed line ≡ true → Some meant ≡ line_of line
+      → (held between holds : Option (List ℕ)) (found : List ℕ) → Appends held between text → AreMet start (lines ++ line ∷ []) → PrintsLine {X = Unit {0}} form mid now number meant between holds (Err e)
+      → GuardedIn form start now held holds had line found (Err e)
+  unwritten_guarded Read now then line meant read single is held between holds found written more r = absurd r
+  unwritten_guarded Write now then line meant read single is held between holds found written more (next, began) =
+      (fails_to_write form start mid had has lines text f number count now then line meant read single is next held between holds written began, more)
+  unwritten_guarded NoMemory now then line meant read single is held between holds found written more r = tt
+  unwritten_guarded (BadLine n) now then line meant read single is held between holds found written more r = absurd r

@@ -1,17 +1,19 @@
 -- SPDX-License-Identifier: MIT OR Apache-2.0
--- What reading up to an LF gives.
+-- What reading a line gives.
 use Rattle.std.proofs.Common.{◌≡◌, ◌≢◌, ◌-◌, ℕ, suc, Bool, true, false, List, [], ◌∷◌, ◌++◌, length, take, Option, None, Some, Result, Ok, Err, inl, inr, sym, ap, ◌∙◌, subst, arith, length-append, refl}
-use Rattle.std.specs.Prelude.{◌==◌, All, IfSome}
+use Rattle.std.specs.Prelude.{◌==◌, All, IfSome, is_some}
 use Rattle.std.specs.Io.KnownBytes.{Consumes}
 use Rattle.std.specs.Io.{StopsAt}
 use Rattle.std.specs.Io.BufRead.{take_through}
 use Rattle.std.proofs.lemmas.Bool.{cases_Bool, eqb-true}
 use Rattle.std.proofs.lemmas.List.Folds.{list_all-append}
 use Rattle.std.proofs.Math.Seq.{take-append_seam}
-use Rattle.ffa_syntax.specs.TraceLines.{feed, has_no_feed}
+use Rattle.ffa_syntax.specs.TraceLines.{feed, has_no_feed, line_of}
+use Rattle.ffa_syntax.specs.declared.lines.Line.{Line}
 use Rattle.ffa_syntax.specs.declared.output.PlayError.{PlayError}
 use Rattle.ffa_syntax.specs.declared.output.PlayError.TheVariants.{Read, Write, NoMemory, BadLine}
-use Rattle.ffa_lines.specs.Reading.{IsAll, ReadsLine, TakesFeed}
+use Rattle.ffa_lines.specs.Reading.{IsAll, ReadsLine, TakesFeed, TakesLine}
+use Rattle.ffa_lines.specs.Steps.{Refuses}
 
 one_free : (x : ℕ) (xs : List ℕ) → x ≢ feed → has_no_feed xs ≡ true → has_no_feed (x ∷ xs) ≡ true
 one_free x xs other rest =
@@ -64,3 +66,26 @@ line_read had has all line number (Err (BadLine n)) read stops through (number_i
     whole : (had : Option (List ℕ)) → IfSome had (λ xs. all ≡ take_through feed xs) → IsAll had line
     whole None through = tt
     whole (Some xs) through = sym (all_through xs (ap has_no_feed (sym through) ∙ single)) ∙ sym through ∙ sym same
+
+-- there is a line
+pub one_line : (had has : Option (List ℕ)) (line : List ℕ) (number : ℕ) (b : Bool) → b ≡ true → ReadsLine had has line number (Ok b)
+    → Consumes had has (line ++ feed ∷ []) × (has_no_feed line ≡ true)
+one_line had has line number true h r = r
+one_line had has line number false h r = absurd cc
+
+-- none was read
+pub unread_untaken : (had has : Option (List ℕ)) (line : List ℕ) (number : ℕ) (e : PlayError) → ReadsLine had has line number (Err e) → TakesLine had has line number (Err e)
+unread_untaken had has line number Read r = tt
+unread_untaken had has line number Write r = absurd r
+unread_untaken had has line number NoMemory r = tt
+unread_untaken had has line number (BadLine n) (is, all, single, some) = (is, inr (single, some, all))
+
+-- what was read up to its LF is none of the format
+pub refused_untaken : (had has : Option (List ℕ)) (line bytes : List ℕ) (number : ℕ) (r : Result (Option Line) PlayError) → Consumes had has (line ++ feed ∷ []) → has_no_feed line ≡ true
+    → None ≡ line_of line → Refuses line bytes number r → TakesLine had has bytes number r
+refused_untaken had has line bytes number (Ok taken) read single none r = absurd r
+refused_untaken had has line bytes number (Err Read) read single none r = absurd r
+refused_untaken had has line bytes number (Err Write) read single none r = absurd r
+refused_untaken had has line bytes number (Err NoMemory) read single none r = tt
+refused_untaken had has line bytes number (Err (BadLine n)) read single none (is, back) =
+    (is, inl (line, has, back, single, ap is_some (sym none), subst (Consumes had has) (sym back) read))

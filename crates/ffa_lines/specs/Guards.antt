@@ -13,7 +13,7 @@ use Rattle.ffa_lines.specs.declared.form.Form.{Form}
 use Rattle.ffa_lines.specs.declared.guards.Asks.{Asks}
 use Rattle.ffa_lines.specs.declared.guards.Asks.TheVariants.{Printed, Runner}
 use Rattle.ffa_lines.specs.declared.guards.Breach.{Breach}
-use Rattle.ffa_lines.specs.Followed.{Followed, EndsBadly}
+use Rattle.ffa_lines.specs.Followed.{Followed, EndsBadly, FailsToWrite}
 
 -- A GUARD
 
@@ -105,12 +105,15 @@ pub record Breaks (form : Form) (start now : State) (had : Option (List ℕ)) (t
   pub is_next : breach.number ≡ 1 + length lines
   pub finds : IsFound start lines breach.asks found
 
--- a play that writes each text and checks guards: whole, or up to a guard that isn't met, or up to a bad line
+-- A play that writes each text and checks guards: whole, or up to a guard that isn't met, or up to a bad line, or as far as could be read, or as
+-- far as could be written. Of what it leaves where there is no memory nothing is said.
 abbrev pub GuardedIn : Form → State → State → Option (List ℕ) → Option (List ℕ) → Option (List ℕ) → List ℕ → List ℕ → Result (Option Breach) PlayError → Type 0
 GuardedIn form start now held holds had bytes found (Ok None) =
     (left : Option (List ℕ)) × (lines : List (List ℕ)) × (text : List ℕ) × Followed form start now had left lines text × IsAtEnd left × Appends held holds text × AreMet start lines
 GuardedIn form start now held holds had bytes found (Ok (Some breach)) = (text : List ℕ) × Breaks form start now had text bytes found breach × Appends held holds text
-GuardedIn form start now held holds had bytes found (Err (BadLine n)) = (text : List ℕ) × (ends : EndsBadly form start had text n) × Appends held holds text × AreMet start ends.lines
-GuardedIn form start now held holds had bytes found (Err Read) = ⊤
-GuardedIn form start now held holds had bytes found (Err Write) = ⊤
+GuardedIn form start now held holds had bytes found (Err (BadLine n)) =
+    (text : List ℕ) × (ends : EndsBadly form start now had text bytes n) × Appends held holds text × AreMet start ends.lines
+GuardedIn form start now held holds had bytes found (Err Read) =
+    (left : Option (List ℕ)) × (lines : List (List ℕ)) × (text : List ℕ) × Followed form start now had left lines text × Appends held holds text × AreMet start lines
+GuardedIn form start now held holds had bytes found (Err Write) = (fails : FailsToWrite form start now held holds had) × AreMet start (fails.lines ++ fails.last ∷ [])
 GuardedIn form start now held holds had bytes found (Err NoMemory) = ⊤

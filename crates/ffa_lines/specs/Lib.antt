@@ -6,4 +6,3 @@ pub mod Forms
 pub mod Guards
 pub mod Reading
 pub mod Steps
-pub mod Whole

@@ -1,8 +1,10 @@
 -- SPDX-License-Identifier: MIT OR Apache-2.0
 -- What reading a line leaves.
-use Rattle.std.specs.Prelude.{◌≡◌, ◌≢◌, ◌≤◌, ℕ, Bool, true, false, List, [], ◌∷◌, ◌++◌, length, Option, None, Some, Result, Ok, Err, ⊤}
+use Rattle.std.specs.Prelude.{◌≡◌, ◌≢◌, ◌≤◌, ◌⊎◌, ℕ, Bool, true, false, List, [], ◌∷◌, ◌++◌, length, Option, None, Some, Result, Ok, Err, ⊤}
 use Rattle.std.specs.Io.KnownBytes.{Consumes, IsAtEnd}
-use Rattle.ffa_syntax.specs.TraceLines.{feed, has_no_feed}
+use Rattle.ffa_syntax.specs.TraceLines.{feed, has_no_feed, is_good, line_of}
+use Rattle.ffa_syntax.specs.Lines.{meant}
+use Rattle.ffa_syntax.specs.declared.lines.Line.{Line}
 use Rattle.ffa_syntax.specs.declared.output.PlayError.{PlayError}
 use Rattle.ffa_syntax.specs.declared.output.PlayError.TheVariants.{Read, Write, NoMemory, BadLine}
 
@@ -29,3 +31,19 @@ TakesFeed old new number (Err (BadLine n)) = (n ≡ number) × (new ≡ old) × 
 TakesFeed old new number (Err Read) = ⊤
 TakesFeed old new number (Err NoMemory) = ⊤
 TakesFeed old new number (Err Write) = ⊥
+
+-- what is unread begins with these bytes, which are a line that is none of the format, and its LF; or they are all of it, and no LF ends them
+abbrev pub IsBadLine : Option (List ℕ) → List ℕ → Type 0
+IsBadLine left bytes =
+    ((bad : List ℕ) × (rest : Option (List ℕ)) × (bytes ≡ bad ++ feed ∷ []) × (has_no_feed bad ≡ true) × (is_good bad ≡ false) × Consumes left rest bytes)
+    ⊎ ((has_no_feed bytes ≡ true) × (1 ≤ length bytes) × IsAll left bytes)
+
+-- A line was read and is taken, and these are its bytes without its LF; or the reader was at its end; or a bad line was read, which has this
+-- number, and these are its bytes.
+abbrev pub TakesLine : Option (List ℕ) → Option (List ℕ) → List ℕ → ℕ → Result (Option Line) PlayError → Type 0
+TakesLine had has bytes number (Ok None) = IsAtEnd had
+TakesLine had has bytes number (Ok (Some line)) = Consumes had has (bytes ++ feed ∷ []) × (has_no_feed bytes ≡ true) × (Some (meant line) ≡ line_of bytes)
+TakesLine had has bytes number (Err (BadLine n)) = (n ≡ number) × IsBadLine had bytes
+TakesLine had has bytes number (Err Read) = ⊤
+TakesLine had has bytes number (Err NoMemory) = ⊤
+TakesLine had has bytes number (Err Write) = ⊥

@@ -6,7 +6,6 @@ ghost use Rattle.ffa_explain.specs.Reasons.{reason_if, told_line};
 ghost use Rattle.ffa_lines.specs.Followed.{Compared, NeverPrints};
 ghost use Rattle.ffa_lines.specs.Forms.{WritesIn, plain};
 ghost use Rattle.ffa_lines.specs.Steps.{LeavesOver};
-ghost use Rattle.ffa_lines.specs.Whole.{LeavesBad};
 
 use crate::form::{Form, make_text};
 use crate::read::take_line;
@@ -31,9 +30,12 @@ pub struct Difference {
 }
 
 /// Does the lines that the reader gives, one after another, up to the first whose text isn't how the expected text goes on,
-/// and answers where that is. The bytes of the line at which it stopped stand in `bytes`, without the LF that ends them, and
-/// its plain text in `text`. The bytes of a bad line stand there as they stand in the trace, with the LF that ends them, where
-/// one does.
+/// and answers where that is. That line is done too. Its bytes stand in `bytes`, without the LF that ends them, and its plain
+/// text in `text`, of which no clause speaks.
+///
+/// At a bad line, and where the reader fails, the lines before it were done, and nothing more, and their text begins the
+/// expected one. The bytes of a bad line stand in `bytes` as they stand in the trace, with the LF that ends them, where one
+/// does. What is left where there is no memory is in no clause.
 pub fn compare<P: Playable, A: Allocator + Copy, R: BufRead>(
     player: &mut Player<P>,
     alloc: A,
@@ -43,8 +45,7 @@ pub fn compare<P: Playable, A: Allocator + Copy, R: BufRead>(
     bytes: &mut Vec<u8, A>,
     text: &mut Vec<u8, A>,
 ) -> Result<Option<Difference>, PlayError>
-    ensures compared { Compared plain player.old.state (R.remaining reader.old) explain expected.now result }
-    ensures bad_line { LeavesBad result bytes.new.items }
+    ensures compared { Compared plain player.old.state player.new.state (R.remaining reader.old) explain expected.now bytes.new.items result }
     ensures unequal { IfOk result (λ d. IfSome d (λ _. NeverPrints plain player.old.state (R.remaining reader.old) expected.now)) }
 {
     let mut rest = expected;

@@ -61,7 +61,8 @@ fn without_space(text: &[u8]) -> &[u8]
 /// Guards of a printed text ask for the lines of the plain text that the last line before them printed, one each and in
 /// order, and guards of the runner for the endpoint that runs. The bytes of a guard that isn't met stand in `bytes`, without
 /// the LF that ends them, and what there is in place of what it wants in `found`: the next line that no guard has asked for,
-/// without its LF, which is empty where there is none; or the identifier of the endpoint that runs.
+/// without its LF, which is empty where there is none; or the identifier of the endpoint that runs. The guards of the lines
+/// that were done are met, also where the play stops for another reason.
 pub fn play_guarded<P: Playable, A: Allocator + Copy, R: BufRead, W: Write>(
     player: &mut Player<P>,
     alloc: A,

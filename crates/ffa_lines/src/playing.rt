@@ -13,8 +13,12 @@ use std::alloc::Allocator;
 use std::io::{BufRead, Write};
 
 /// Does the lines that the reader gives, one after another, and writes the text of each in this form before the next is
-/// read. Lines count from 1. The bytes of a bad line stand in `bytes` as they stand in the trace, with the LF that ends
-/// them, where one does.
+/// done. Lines count from 1.
+///
+/// At a bad line, and where the reader fails, the lines before it were done, and nothing more, and their whole text was
+/// written; where the writer fails, it took a beginning of the text of the line that was done last. The bytes of a bad line
+/// stand in `bytes` as they stand in the trace, with the LF that ends them, where one does. What is left where there is no
+/// memory is in no clause.
 pub fn play<P: Playable, A: Allocator + Copy, R: BufRead, W: Write>(
     player: &mut Player<P>,
     alloc: A,
@@ -23,7 +27,7 @@ pub fn play<P: Playable, A: Allocator + Copy, R: BufRead, W: Write>(
     writer: &mut W,
     bytes: &mut Vec<u8, A>,
 ) -> Result<(), PlayError>
-    ensures { PlayedIn form player.old.state player.new.state (W.contents writer.old) (W.contents writer.new) (R.remaining reader.old) result }
+    ensures { PlayedIn form player.old.state player.new.state (W.contents writer.old) (W.contents writer.new) (R.remaining reader.old) bytes.new.items result }
 {
     let mut text = Vec::new(alloc);
     let mut number = 1;

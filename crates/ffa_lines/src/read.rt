@@ -1,7 +1,7 @@
 // SPDX-License-Identifier: MIT OR Apache-2.0
 //! Reading the lines of a trace.
-ghost use Rattle.ffa_lines.specs.Reading.{ReadsLine, TakesFeed};
-ghost use Rattle.ffa_lines.specs.Steps.{Refuses, TakesLine};
+ghost use Rattle.ffa_lines.specs.Reading.{ReadsLine, TakesFeed, TakesLine};
+ghost use Rattle.ffa_lines.specs.Steps.{Refuses};
 
 use ffa_syntax::{Line, PlayError};
 use std::alloc::Allocator;
@@ -42,8 +42,11 @@ fn take_feed<A: Allocator>(line: &mut Vec<u8, A>, number: u64) -> Result<bool, P
     }
 }
 
-// Reads the next line, and what it is. The bytes of a bad line stand in `bytes` with the LF that ends them, where one does.
-pub(crate) fn take_line<A: Allocator, R: BufRead>(
+/// Reads the next line, which has this number, and answers what it is, or nothing where the reader is at its end.
+///
+/// The bytes of a line that is taken stand in `bytes` without the LF that ends them. Those of a bad line stand there as they
+/// stand in the trace, with the LF that ends them, where one does.
+pub fn take_line<A: Allocator, R: BufRead>(
     reader: &mut R,
     bytes: &mut Vec<u8, A>,
     number: u64,

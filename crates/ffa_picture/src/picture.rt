@@ -11,7 +11,7 @@ use std::alloc::Allocator;
 use std::io::BufRead;
 
 /// Plays a trace as `watch` does, and answers the picture of what was seen: what each cell says is so of each of its pages
-/// behind the line of its row.
+/// behind the line of its row. What `watch` leaves of a bad line, and of a trace that can't be read, this leaves too.
 pub fn picture_of<P: Playable, A: Allocator + Copy, R: BufRead>(
     player: &mut Player<P>,
     alloc: A,
@@ -19,7 +19,7 @@ pub fn picture_of<P: Playable, A: Allocator + Copy, R: BufRead>(
     reader: &mut R,
     bytes: &mut Vec<u8, A>,
 ) -> Result<Picture<A>, PlayError>
-    ensures { Pictured keep player.old.state player.new.state (R.remaining reader.old) result }
+    ensures { Pictured keep player.old.state player.new.state (R.remaining reader.old) bytes.new.items result }
 {
     let rows = watch(player, alloc, keep, reader, bytes)?;
     let machine = player.machine();

@@ -1,14 +1,13 @@
 // SPDX-License-Identifier: MIT OR Apache-2.0
 //! A trace that is watched: played line by line, with what becomes of the machine's pages.
-ghost use Rattle.std.specs.Prelude.{◌≡◌, [], ◌∷◌, None, Some, IfErr, IfOk, OnOk};
+ghost use Rattle.std.specs.Prelude.{◌≡◌, [], ◌∷◌, IfErr, IfOk, OnOk};
 ghost use Rattle.ffa_model.specs.Certificate.{certificate};
 ghost use Rattle.ffa_syntax.specs.TraceText.{line_after};
-ghost use Rattle.ffa_syntax.specs.TraceLines.{line_of};
 ghost use Rattle.ffa_syntax.specs.Lines.{meant};
-ghost use Rattle.ffa_picture.specs.Watching.{AreFirst, IsNoLine, SeesLine, Watched};
+ghost use Rattle.ffa_picture.specs.Watching.{AreFirst, SeesLine, Watched};
 
 use ffa_drawing::{Keep, Row, put_row};
-use ffa_lines::next_line;
+use ffa_lines::take_line;
 use ffa_model::CertRun;
 use ffa_playable::Playable;
 use ffa_syntax::{Line, PlayError};
@@ -24,8 +23,11 @@ struct Seen<A: Allocator> {
 }
 
 /// Does the lines that the reader gives, one after another, and answers the rows of those that have one, each with what the
-/// machine is behind it. The first row is that of the beginning. The bytes of a bad line stand in `bytes` as they stand in
-/// the trace, with the LF that ends them, where one does.
+/// machine is behind it. The first row is that of the beginning.
+///
+/// At a bad line, and where the reader fails, the lines before it were done, and nothing more. The bytes of a bad line stand
+/// in `bytes` as they stand in the trace, with the LF that ends them, where one does. What is left where there is no memory
+/// is in no clause.
 pub fn watch<P: Playable, A: Allocator + Copy, R: BufRead>(
     player: &mut Player<P>,
     alloc: A,
@@ -33,15 +35,15 @@ pub fn watch<P: Playable, A: Allocator + Copy, R: BufRead>(
     reader: &mut R,
     bytes: &mut Vec<u8, A>,
 ) -> Result<Vec<Row<A>, A>, PlayError>
-    ensures { Watched keep player.old.state player.new.state (R.remaining reader.old) result }
+    ensures { Watched keep player.old.state player.new.state (R.remaining reader.old) bytes.new.items result }
 {
     let mut seen = begin(player, alloc)?;
     let mut number = 1;
     while number < u64::MAX {
-        if !next_line(reader, bytes, number)? {
+        let Some(line) = take_line(reader, bytes, number)? else {
             return Ok(seen.rows);
-        }
-        watch_line(player, alloc, keep, number, bytes, &mut seen)?;
+        };
+        watch_line(player, alloc, keep, number, &line, bytes, &mut seen)?;
         number += 1;
     }
     Err(PlayError::Read)
@@ -96,16 +98,16 @@ fn watch_line<P: Playable, A: Allocator + Copy>(
     alloc: A,
     keep: Keep,
     number: u64,
-    bytes: &mut Vec<u8, A>,
+    line: &Line,
+    bytes: &[u8],
     seen: &mut Seen<A>,
 ) -> Result<(), PlayError>
     requires { seen.old.latest.items ≡ certificate player.old.state }
-    ensures seen { OnOk result (SeesLine keep number bytes.old.items player.old.state player.new.state seen.old.rows.items seen.new.rows.items) }
+    ensures seen { OnOk result (SeesLine keep number (meant line.now) bytes.now player.old.state player.new.state seen.old.rows.items seen.new.rows.items) }
     ensures latest { OnOk result (seen.new.latest.items ≡ certificate player.new.state) }
-    ensures failed { IfErr result (IsNoLine number bytes.old.items) }
+    ensures failed { IfErr result (λ e. e ≡ PlayError.NoMemory) }
 {
-    let line = read_line(bytes, number)?;
-    let runs = follow(player, alloc, &line)?;
+    let runs = follow(player, alloc, line)?;
     let runner = player.machine().runner();
     match put_row(
         &mut seen.rows,
@@ -123,19 +125,6 @@ fn watch_line<P: Playable, A: Allocator + Copy>(
         }
         Err(_) => Err(PlayError::NoMemory),
     }
-}
-
-// The line of this number, of which these are the bytes. Where they are none, the LF that ends them is put behind them.
-fn read_line<A: Allocator>(bytes: &mut Vec<u8, A>, number: u64) -> Result<Line, PlayError>
-    ensures line { IfOk result (λ line. line_of bytes.old.items ≡ Some (meant line)) }
-    ensures same { OnOk result (bytes.new.items ≡ bytes.old.items) }
-    ensures failed { IfErr result (IsNoLine number bytes.old.items) }
-{
-    if let Some(line) = Line::read(bytes) {
-        return Ok(line);
-    }
-    bytes.push(b'\n').map_err(|_| PlayError::NoMemory)?;
-    Err(PlayError::BadLine(number))
 }
 
 // Does a line, and answers the certificate behind it.

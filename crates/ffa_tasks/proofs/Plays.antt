@@ -1,11 +1,11 @@
 -- SPDX-License-Identifier: MIT OR Apache-2.0
 -- What a play leaves, for the one who asked for it.
-use Rattle.std.proofs.Common.{◌≡◌, ◌≤◌, ◌⊎◌, Bor, Bool, true, false, length, List, [], ◌∷◌, ◌++◌, ℕ, Option, None, Some, Ok, Err, Result, inl, inr, refl, ap, sym, ◌∙◌, subst, append_assoc, append-nil}
+use Rattle.std.proofs.Common.{◌≡◌, ◌⊎◌, Bor, Bool, true, false, List, [], ◌∷◌, ◌++◌, ℕ, Option, None, Some, Ok, Err, Result, inl, inr, refl, ap, sym, ◌∙◌, subst, append_assoc, append-nil}
 use Rattle.std.specs.Prelude.{OnOk, unwrap_or}
 use Rattle.std.specs.Io.KnownBytes.{Appends, Consumes, IsAtEnd, Keeps, prepend_known}
 use Rattle.std.proofs.KnownBytes.{Consumes-trans}
 use Rattle.ffa_model.specs.State.{State}
-use Rattle.ffa_syntax.specs.TraceLines.{feed, is_good, joined}
+use Rattle.ffa_syntax.specs.TraceLines.{feed, joined}
 use Rattle.ffa_syntax.specs.TraceText.{text}
 use Rattle.ffa_trace.specs.Played.{Played}
 use Rattle.ffa_syntax.specs.declared.output.PlayError.{PlayError}
@@ -49,11 +49,6 @@ all_read None has bytes c = tt
 all_read (Some xs) None bytes c = absurd c
 all_read (Some xs) (Some ys) bytes c = c
 
-all_behind : (had has : Option (List ℕ)) (bytes rest : List ℕ) → Consumes had has bytes → IsAll has rest → IsAll had (bytes ++ rest)
-all_behind None has bytes rest c all = tt
-all_behind (Some xs) None bytes rest c all = absurd c
-all_behind (Some xs) (Some ys) bytes rest c all = c ∙ ap (λ l. bytes ++ l) all
-
 -- a line and its LF were read behind others
 line_behind : (had has : Option (List ℕ)) (before line : List ℕ) → Consumes had has (before ++ (line ++ feed ∷ [])) → IsAll had (before ++ (line ++ feed ∷ unwrap_or has []))
 line_behind had has before line c =
@@ -78,62 +73,71 @@ played_whole x start now held holds had has (lines, did, consumed, ended, counte
   guards = never_strict;
 }
 
+-- what is unread before bytes that were read, and before others
+before_read : (had has : Option (List ℕ)) (lines bytes : List ℕ) → Consumes had has (lines ++ bytes) → Consumes had (prepend_known bytes has) lines
+before_read None has lines bytes c = tt
+before_read (Some xs) None lines bytes c = absurd c
+before_read (Some xs) (Some ys) lines bytes c = c ∙ append_assoc lines bytes ys
+
+begins_with : (has : Option (List ℕ)) (bad bytes next : List ℕ) → bytes ≡ bad ++ feed ∷ next → Consumes (prepend_known bytes has) (prepend_known next has) (bad ++ feed ∷ [])
+begins_with None bad bytes next is = tt
+begins_with (Some ys) bad bytes next is = ap (λ l. l ++ ys) is ∙ append_assoc bad (feed ∷ next) ys ∙ sym (append_assoc bad (feed ∷ []) (next ++ ys))
+
+ends_with : (has : Option (List ℕ)) (bytes : List ℕ) → IsAtEnd has → IsAll (prepend_known bytes has) bytes
+ends_with None bytes ended = tt
+ends_with (Some ys) bytes ended = ap (λ l. bytes ++ l) ended ∙ append-nil bytes
+
 played_to : (start now : State) (held holds had has : Option (List ℕ)) (n : ℕ) → Played {X = Unit {0}} start now held holds had has (Err (play_error.BadLine n)) → IsStopped false plain start had held holds n
 played_to start now held holds had has n (lines, bad, more, did, consumed, number, counted, single, inl ((next, more_is), wrong)) = (
   lines,
   record {
-    bad = bad;
+    left = prepend_known (bad ++ more) has;
+    bytes = bad ++ feed ∷ [];
     each = did.each;
+    read = before_read had has (joined lines) (bad ++ more) consumed;
     number = number;
-    single = single;
-    none =
-        let left = unwrap_or has [] in
-        let read = ap (λ m. (joined lines ++ (bad ++ m)) ++ left) more_is ∙ append_assoc (joined lines) (bad ++ feed ∷ next) left ∙ ap (λ l. joined lines ++ l) (append_assoc bad (feed ∷ next) left) in
-        inl (wrong, (next ++ left, subst (IsAll had) read (all_read had has _ consumed)));
+    bad = inl (bad, prepend_known next has, refl, single, wrong, begins_with has bad (bad ++ more) next (ap (λ m. bad ++ m) more_is));
   },
   written_plainly start held holds lines did.written,
   never_strict,
 )
-played_to start now held holds had has n (lines, bad, more, did, consumed, number, counted, single, inr (more_is, some, ended)) = (
-  lines,
-  record {
-    bad = bad;
-    each = did.each;
-    number = number;
-    single = single;
-    none =
-        let read = ap (λ m. joined lines ++ (bad ++ m)) more_is ∙ ap (λ l. joined lines ++ l) (append-nil bad) in
-        inr (some, subst (IsAll had) read (all_consumed had has _ consumed ended));
-  },
-  written_plainly start held holds lines did.written,
-  never_strict,
-)
+played_to start now held holds had has n (lines, bad, more, did, consumed, number, counted, single, inr (more_is, some, ended)) =
+    let none : bad ++ more ≡ bad = ap (λ m. bad ++ m) more_is ∙ append-nil bad in (
+      lines,
+      record {
+        left = prepend_known bad has;
+        bytes = bad;
+        each = did.each;
+        read = before_read had has (joined lines) bad (subst (λ l. Consumes had has (joined lines ++ l)) none consumed);
+        number = number;
+        bad = inr (single, some, ends_with has bad ended);
+      },
+      written_plainly start held holds lines did.written,
+      never_strict,
+    )
 
-pub play_failed : (start now : State) (held holds had has : Option (List ℕ)) (unread : Failure) → PlayFails Plain start had held holds unread
-    → (fault : Option LineFault) (error : PlayError) → Played {X = Unit {0}} start now held holds had has (Err error) → PlayFails Plain start had held holds (failure_of unread fault error)
-play_failed start now held holds had has unread is fault play_error.Read p = is
-play_failed start now held holds had has unread is fault play_error.Write p = tt
-play_failed start now held holds had has unread is fault play_error.NoMemory p = tt
-play_failed start now held holds had has unread is fault (play_error.BadLine n) p = played_to start now held holds had has n p
+pub play_failed : (start now : State) (held holds had has : Option (List ℕ)) (path : Bor (List ℕ)) (fault : Option LineFault) (error : PlayError)
+    → Played {X = Unit {0}} start now held holds had has (Err error) → PlayFails Plain start had held holds (failure_of (Read path) fault error)
+play_failed start now held holds had has path fault play_error.Read (lines, more, did, consumed, counted, ended) =
+    (lines, (did.each, (prepend_known more has, before_read had has (joined lines) more consumed)), written_plainly start held holds lines did.written, never_strict)
+play_failed start now held holds had has path fault play_error.Write p = tt
+play_failed start now held holds had has path fault play_error.NoMemory p = tt
+play_failed start now held holds had has path fault (play_error.BadLine n) p = played_to start now held holds had has n p
 
 -- PLAYS IN A FORM, AND COMPARISONS
 
-ends_badly : (form : Form) (start : State) (had : Option (List ℕ)) (said : List ℕ) (n : ℕ) → (e : followed.EndsBadly form start had said n) → EndsBadly had e.lines n
-ends_badly form start had said n e = record {
-  bad = e.bad;
+ends_badly : (form : Form) (start now : State) (had : Option (List ℕ)) (said bytes : List ℕ) (n : ℕ) → (e : followed.EndsBadly form start now had said bytes n) → EndsBadly had e.lines n
+ends_badly form start now had said bytes n e = record {
+  left = e.left;
+  bytes = bytes;
   each = e.followed.each;
+  read = e.followed.read;
   number = e.is_next;
-  single = e.single;
-  none =
-      elim e.none as (λ w. ((is_good e.bad ≡ false) × ((rest : List ℕ) × IsAll had (joined e.lines ++ (e.bad ++ feed ∷ rest)))) ⊎ ((1 ≤ length e.bad) × IsAll had (joined e.lines ++ e.bad))) [
-        | inl (wrong, (after, read)) ↦
-            inl (wrong, (unwrap_or after [], line_behind had after (joined e.lines) e.bad (Consumes-trans had e.left after (joined e.lines) (e.bad ++ feed ∷ []) e.followed.read read)))
-        | inr (some, all) ↦ inr (some, all_behind had e.left (joined e.lines) e.bad e.followed.read all)
-      ];
+  bad = e.bad;
 }
 
-pub formed_whole : {X : Type 0} (x : X) (form : Form) (start now : State) (held holds had : Option (List ℕ)) → followed.PlayedIn form start now held holds had (Ok x) → IsPlayed false form start had held holds
-formed_whole x form start now held holds had (left, lines, said, f, ended, written) = record {
+pub formed_whole : {X : Type 0} (x : X) (form : Form) (start now : State) (held holds had : Option (List ℕ)) (bytes : List ℕ) → followed.PlayedIn form start now held holds had bytes (Ok x) → IsPlayed false form start had held holds
+formed_whole x form start now held holds had bytes (left, lines, said, f, ended, written) = record {
   lines = lines;
   each = f.each;
   all = all_consumed had left (joined lines) f.read ended;
@@ -141,14 +145,15 @@ formed_whole x form start now held holds had (left, lines, said, f, ended, writt
   guards = never_strict;
 }
 
-pub formed_failed : (form : Form) (start now : State) (held holds had : Option (List ℕ)) (unread : Failure) → PlayFails (Formed form) start had held holds unread
-    → (fault : Option LineFault) (error : PlayError) → followed.PlayedIn {X = Unit {0}} form start now held holds had (Err error)
-    → PlayFails (Formed form) start had held holds (failure_of unread fault error)
-formed_failed form start now held holds had unread is fault play_error.Read p = is
-formed_failed form start now held holds had unread is fault play_error.Write p = tt
-formed_failed form start now held holds had unread is fault play_error.NoMemory p = tt
-formed_failed form start now held holds had unread is fault (play_error.BadLine n) (said, e, written) =
-    (e.lines, ends_badly form start had said n e, subst (Appends held holds) e.followed.said written, never_strict)
+pub formed_failed : (form : Form) (start now : State) (held holds had : Option (List ℕ)) (bytes : List ℕ) (path : Bor (List ℕ)) (fault : Option LineFault) (error : PlayError)
+    → followed.PlayedIn {X = Unit {0}} form start now held holds had bytes (Err error)
+    → PlayFails (Formed form) start had held holds (failure_of (Read path) fault error)
+formed_failed form start now held holds had bytes path fault play_error.Read (left, lines, said, f, written) =
+    (lines, (f.each, (left, f.read)), subst (Appends held holds) f.said written, never_strict)
+formed_failed form start now held holds had bytes path fault play_error.Write p = tt
+formed_failed form start now held holds had bytes path fault play_error.NoMemory p = tt
+formed_failed form start now held holds had bytes path fault (play_error.BadLine n) (said, e, written) =
+    (e.lines, ends_badly form start now had said bytes n e, subst (Appends held holds) e.followed.said written, never_strict)
 
 -- PICTURES
 
@@ -156,15 +161,15 @@ pub always_ok : {T E P : Type 0} (r : Result T E) → P → OnOk r P
 always_ok (Ok x) p = p
 always_ok (Err e) p = tt
 
-pub drawn_whole : {A : Type 0} (picture : Picture A) (keep : Keep) (start now : State) (had : Option (List ℕ)) → Pictured keep start now had (Ok picture) → IsDrawn had
-drawn_whole picture keep start now had (left, lines, said, f, ended, is) = record { lines = lines; each = f.each; all = all_consumed had left (joined lines) f.read ended }
+pub drawn_whole : {A : Type 0} (picture : Picture A) (keep : Keep) (start now : State) (had : Option (List ℕ)) (bytes : List ℕ) → Pictured keep start now had bytes (Ok picture) → IsDrawn had
+drawn_whole picture keep start now had bytes (left, lines, said, f, ended, is) = record { lines = lines; each = f.each; all = all_consumed had left (joined lines) f.read ended }
 
-pub drawn_failed : (A : Type 0) (keep : Keep) (start now : State) (held had : Option (List ℕ)) (unread : Failure) → PlayFails (Drawn keep) start had held held unread
-    → (fault : Option LineFault) (error : PlayError) → Pictured {A = A} keep start now had (Err error) → PlayFails (Drawn keep) start had held held (failure_of unread fault error)
-drawn_failed A keep start now held had unread is fault play_error.Read p = is
-drawn_failed A keep start now held had unread is fault play_error.Write p = tt
-drawn_failed A keep start now held had unread is fault play_error.NoMemory p = tt
-drawn_failed A keep start now held had unread is fault (play_error.BadLine n) (said, e) = (e.lines, ends_badly plain start had said n e, kept held)
+pub drawn_failed : (A : Type 0) (keep : Keep) (start now : State) (held had : Option (List ℕ)) (bytes : List ℕ) (path : Bor (List ℕ)) (fault : Option LineFault) (error : PlayError)
+    → Pictured {A = A} keep start now had bytes (Err error) → PlayFails (Drawn keep) start had held held (failure_of (Read path) fault error)
+drawn_failed A keep start now held had bytes path fault play_error.Read p = kept held
+drawn_failed A keep start now held had bytes path fault play_error.Write p = absurd p
+drawn_failed A keep start now held had bytes path fault play_error.NoMemory p = tt
+drawn_failed A keep start now held had bytes path fault (play_error.BadLine n) (said, e) = (e.lines, ends_badly plain start now had said bytes n e, kept held)
 
 pub guarded_whole : (form : Form) (start now : State) (held holds had : Option (List ℕ)) (line found : List ℕ) → GuardedIn form start now held holds had line found (Ok None)
     → IsPlayed true form start had held holds
@@ -198,34 +203,36 @@ pub breach_told : (form : Form) (start : State) (trace held holds : Option (List
 breach_told form start trace held holds n unmet failure (inl is) = subst (PlayFails (Guarded form) start trace held holds) (sym is) unmet
 breach_told form start trace held holds n unmet failure (inr is) = subst (PlayFails (Guarded form) start trace held holds) (sym is) tt
 
-pub guarded_failed : (form : Form) (start now : State) (held holds had : Option (List ℕ)) (line found : List ℕ) (unread : Failure) → PlayFails (Guarded form) start had held holds unread
-    → (fault : Option LineFault) (error : PlayError) → GuardedIn form start now held holds had line found (Err error)
-    → PlayFails (Guarded form) start had held holds (failure_of unread fault error)
-guarded_failed form start now held holds had line found unread is fault play_error.Read p = is
-guarded_failed form start now held holds had line found unread is fault play_error.Write p = tt
-guarded_failed form start now held holds had line found unread is fault play_error.NoMemory p = tt
-guarded_failed form start now held holds had line found unread is fault (play_error.BadLine n) (said, e, written, met) =
-    (e.lines, ends_badly form start had said n e, subst (Appends held holds) e.followed.said written, λ strict. met)
+pub guarded_failed : (form : Form) (start now : State) (held holds had : Option (List ℕ)) (line found : List ℕ) (path : Bor (List ℕ)) (fault : Option LineFault) (error : PlayError)
+    → GuardedIn form start now held holds had line found (Err error)
+    → PlayFails (Guarded form) start had held holds (failure_of (Read path) fault error)
+guarded_failed form start now held holds had line found path fault play_error.Read (left, lines, said, f, written, met) =
+    (lines, (f.each, (left, f.read)), subst (Appends held holds) f.said written, λ strict. met)
+guarded_failed form start now held holds had line found path fault play_error.Write p = tt
+guarded_failed form start now held holds had line found path fault play_error.NoMemory p = tt
+guarded_failed form start now held holds had line found path fault (play_error.BadLine n) (said, e, written, met) =
+    (e.lines, ends_badly form start now had said line n e, subst (Appends held holds) e.followed.said written, λ strict. met)
 
-pub compared_whole : (start : State) (had : Option (List ℕ)) (explain : Bool) (expected : List ℕ) → followed.Compared plain start had explain expected (Ok None) → PrintsExpected start had (Some expected)
-compared_whole start had explain expected (now, left, lines, f, ended) = record {
+pub compared_whole : (start now : State) (had : Option (List ℕ)) (explain : Bool) (expected bytes : List ℕ) → followed.Compared plain start now had explain expected bytes (Ok None) → PrintsExpected start had (Some expected)
+compared_whole start now had explain expected bytes (left, lines, f, ended) = record {
   lines = lines;
   each = f.each;
   all = all_consumed had left (joined lines) f.read ended;
   same = ap Some (f.said ∙ plain_text 1 start lines);
 }
 
-pub cut_short : (start : State) (had : Option (List ℕ)) (explain : Bool) (expected : List ℕ) (n : ℕ) → followed.Compared plain start had explain expected (Err (play_error.BadLine n))
+pub cut_short : (start now : State) (had : Option (List ℕ)) (explain : Bool) (expected bytes : List ℕ) (n : ℕ) → followed.Compared plain start now had explain expected bytes (Err (play_error.BadLine n))
     → IsCutShort start had (Some expected) n
-cut_short start had explain expected n (said, more, alike, e) =
-    (e.lines, ends_badly plain start had said n e, (more, ap Some (alike ∙ ap (λ l. l ++ more) (e.followed.said ∙ plain_text 1 start e.lines))))
+cut_short start now had explain expected bytes n (said, more, alike, e) =
+    (e.lines, ends_badly plain start now had said bytes n e, (more, ap Some (alike ∙ ap (λ l. l ++ more) (e.followed.said ∙ plain_text 1 start e.lines))))
 
-pub compared_failed : (start : State) (had held : Option (List ℕ)) (expected : Bor (List ℕ)) (explain : Bool) (unread : Failure) → PlayFails (Compare expected explain) start had held held unread
-    → (fault : Option LineFault) (error : PlayError) → followed.Compared plain start had explain expected.now (Err error) → PlayFails (Compare expected explain) start had held held (failure_of unread fault error)
-compared_failed start had held expected explain unread is fault play_error.Read p = is
-compared_failed start had held expected explain unread is fault play_error.Write p = tt
-compared_failed start had held expected explain unread is fault play_error.NoMemory p = tt
-compared_failed start had held expected explain unread is fault (play_error.BadLine n) p = (cut_short start had explain expected.now n p, kept held)
+pub compared_failed : (start now : State) (had held : Option (List ℕ)) (expected : Bor (List ℕ)) (explain : Bool) (bytes : List ℕ) (path : Bor (List ℕ)) (fault : Option LineFault) (error : PlayError)
+    → followed.Compared plain start now had explain expected.now bytes (Err error) → PlayFails (Compare expected explain) start had held held (failure_of (Read path) fault error)
+compared_failed start now had held expected explain bytes path fault play_error.Read (left, lines, said, more, alike, f) =
+    ((lines, (f.each, (left, f.read)), (more, ap Some (alike ∙ ap (λ l. l ++ more) (f.said ∙ plain_text 1 start lines)))), kept held)
+compared_failed start now had held expected explain bytes path fault play_error.Write p = absurd p
+compared_failed start now had held expected explain bytes path fault play_error.NoMemory p = tt
+compared_failed start now had held expected explain bytes path fault (play_error.BadLine n) p = (cut_short start now had explain expected.now bytes n p, kept held)
 
 -- where a difference was found
 pub differing : (start : State) (had held holds : Option (List ℕ)) (expected : Bor (List ℕ)) (explain : Bool) → followed.NeverPrints plain start had expected.now → (failure : Failure) → IsDifference failure

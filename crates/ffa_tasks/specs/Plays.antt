@@ -1,9 +1,9 @@
 -- SPDX-License-Identifier: MIT OR Apache-2.0
 -- What a task leaves that was done with a trace.
-use Rattle.std.specs.Prelude.{◌≡◌, ◌≤◌, ◌⊎◌, ℕ, ◌+◌, Bool, true, false, List, ◌∷◌, ◌++◌, length, Option, Some, ⊤}
-use Rattle.std.specs.Io.KnownBytes.{Appends, Keeps}
+use Rattle.std.specs.Prelude.{◌≡◌, ℕ, ◌+◌, Bool, true, false, List, ◌∷◌, ◌++◌, length, Option, Some, ⊤}
+use Rattle.std.specs.Io.KnownBytes.{Appends, Consumes, Keeps}
 use Rattle.ffa_model.specs.State.{State}
-use Rattle.ffa_syntax.specs.TraceLines.{feed, has_no_feed, is_good, are_lines, joined}
+use Rattle.ffa_syntax.specs.TraceLines.{feed, has_no_feed, are_lines, joined}
 use Rattle.ffa_syntax.specs.TraceText.{text}
 use Rattle.ffa_command.specs.declared.command_line.TextOptions.{TextOptions}
 use Rattle.ffa_lines.specs.declared.form.Form.{Form}
@@ -11,7 +11,7 @@ use Rattle.ffa_lines.specs.declared.guards.Asks.{Asks}
 use Rattle.ffa_lines.specs.Followed.{NeverPrints}
 use Rattle.ffa_lines.specs.Forms.{plain, text_in}
 use Rattle.ffa_lines.specs.Guards.{AreMet, IsMet, guard_of}
-use Rattle.ffa_lines.specs.Reading.{IsAll}
+use Rattle.ffa_lines.specs.Reading.{IsAll, IsBadLine}
 use Rattle.ffa_report.specs.declared.failure.Failure.{Failure}
 use Rattle.ffa_report.specs.declared.failure.Failure.TheVariants as failure
 use Rattle.ffa_tasks.specs.declared.task.Task.{Task}
@@ -32,18 +32,28 @@ pub record IsPlayed (strict : Bool) (form : Form) (start : State) (trace held ho
   pub written : Appends held holds (text_in form 1 start lines)
   pub guards : strict ≡ true → AreMet start lines
 
--- the line behind these lines is none of the format, or a rest that no LF ends, and this is its number
+-- the line behind these lines is bad, and this is its number
 pub record EndsBadly (trace : Option (List ℕ)) (lines : List (List ℕ)) (n : ℕ) : Type 0 where
-  pub bad : List ℕ
+  pub left : Option (List ℕ)
+  pub bytes : List ℕ
   pub each : are_lines lines ≡ true
+  pub read : Consumes trace left (joined lines)
   pub number : n ≡ 1 + length lines
-  pub single : has_no_feed bad ≡ true
-  pub none : ((is_good bad ≡ false) × ((rest : List ℕ) × IsAll trace (joined lines ++ (bad ++ feed ∷ rest)))) ⊎ ((1 ≤ length bad) × IsAll trace (joined lines ++ bad))
+  pub bad : IsBadLine left bytes
 
 -- a play stopped at line n: the lines before it were done, and their text was written
 abbrev pub IsStopped : Bool → Form → State → (trace held holds : Option (List ℕ)) → ℕ → Type 0
 IsStopped strict form start trace held holds n =
     (lines : List (List ℕ)) × EndsBadly trace lines n × Appends held holds (text_in form 1 start lines) × (strict ≡ true → AreMet start lines)
+
+-- a trace began with these lines
+abbrev pub BeganWith : (trace : Option (List ℕ)) (lines : List (List ℕ)) → Type 0
+BeganWith trace lines = (are_lines lines ≡ true) × ((left : Option (List ℕ)) × Consumes trace left (joined lines))
+
+-- a play could read no further: these lines were done, and their text was written
+abbrev pub IsUnread : Bool → Form → State → (trace held holds : Option (List ℕ)) → Type 0
+IsUnread strict form start trace held holds =
+    (lines : List (List ℕ)) × BeganWith trace lines × Appends held holds (text_in form 1 start lines) × (strict ≡ true → AreMet start lines)
 
 -- a strict play stopped at line n: it is a guard that isn't met, those of the lines before it are, and the text of these was written
 pub record IsUnmet (form : Form) (start : State) (trace held holds : Option (List ℕ)) (n : ℕ) : Type 0 where
@@ -81,6 +91,10 @@ IsUndrawn trace held holds n = (lines : List (List ℕ)) × EndsBadly trace line
 abbrev pub IsCutShort : State → (trace expected : Option (List ℕ)) → ℕ → Type 0
 IsCutShort start trace expected n = (lines : List (List ℕ)) × EndsBadly trace lines n × ((more : List ℕ) × (expected ≡ Some (text start lines ++ more)))
 
+-- a comparison could read no further: what is expected begins with the text of the lines before
+abbrev pub IsCutOff : State → (trace expected : Option (List ℕ)) → Type 0
+IsCutOff start trace expected = (lines : List (List ℕ)) × BeganWith trace lines × ((more : List ℕ) × (expected ≡ Some (text start lines ++ more)))
+
 -- TASKS: a reader, a writer and memory may always fail
 
 -- a task that prints in this form
@@ -107,6 +121,14 @@ StopsBy (Guarded form) start trace held holds n = IsStopped true form start trac
 StopsBy (Compare expected explain) start trace held holds n = IsCutShort start trace (Some expected.now) n × Keeps held holds
 StopsBy (Drawn keep) start trace held holds n = IsUndrawn trace held holds n
 
+-- a task could read no further
+abbrev pub UnreadBy : Task → State → (trace held holds : Option (List ℕ)) → Type 0
+UnreadBy Plain start trace held holds = IsUnread false plain start trace held holds
+UnreadBy (Formed form) start trace held holds = IsUnread false form start trace held holds
+UnreadBy (Guarded form) start trace held holds = IsUnread true form start trace held holds
+UnreadBy (Compare expected explain) start trace held holds = IsCutOff start trace (Some expected.now) × Keeps held holds
+UnreadBy (Drawn keep) start trace held holds = Keeps held holds
+
 -- a task found another text
 abbrev pub DiffersBy : Task → State → Option (List ℕ) → Type 0
 DiffersBy Plain start trace = ⊥
@@ -127,7 +149,7 @@ UnmetBy (Drawn keep) start trace held holds n = ⊥
 abbrev pub PlayFails : Task → State → (trace held holds : Option (List ℕ)) → Failure → Type 0
 PlayFails task start trace held holds (failure.Manifest cause) = ⊥
 PlayFails task start trace held holds (failure.BadLine n fault) = StopsBy task start trace held holds n
-PlayFails task start trace held holds (failure.Read path) = ⊤
+PlayFails task start trace held holds (failure.Read path) = UnreadBy task start trace held holds
 PlayFails task start trace held holds failure.Write = ⊤
 PlayFails task start trace held holds failure.NoMemory = ⊤
 PlayFails task start trace held holds failure.Differs = DiffersBy task start trace

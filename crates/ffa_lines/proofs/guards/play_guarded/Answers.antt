@@ -6,9 +6,9 @@ use Rattle.ffa_syntax.specs.Lines.{meant}
 use Rattle.ffa_lines.specs.Asking.{Asked}
 use Rattle.ffa_lines.specs.Forms.{line_text_in}
 use Rattle.ffa_lines.specs.Guards.{IsUnasked, guard_of}
-use Rattle.ffa_lines.specs.Steps.{TakesLine}
+use Rattle.ffa_lines.specs.Reading.{TakesLine}
 use Rattle.ffa_lines.proofs.Follows.{followed_none, followed_more}
-use Rattle.ffa_lines.proofs.Guarding.{breaks, guards_more, met_none, unasked_more, unasked_none, untaken_guarded}
+use Rattle.ffa_lines.proofs.Guarding.{breaks, guards_more, met_none, unasked_more, unasked_none, untaken_guarded, unwritten_guarded}
 use Rattle.ffa_lines.proofs.guards.play_guarded.Goals as goal
 
 pub loop-number-init : goal.loop-number-init
@@ -18,7 +18,25 @@ pub returns-in_err-line : goal.returns-in_err-line
 returns-in_err-line g c =
     let i = c.loop-number.invariant in
     let p = err_from_is_err_and c.from_residual.result c.from_residual.ensures.1 in
-    rw (p.1, p.2) (untaken_guarded _ _ _ _ _ i.0 i.1 i.2 c.loop-number.number i.4 i.5 c.in_err-line.field-0.0 (g.R.Read.remaining c.take_line.new.reader) c.take_line.new.bytes.items c.in_err-line.ensures c.loop-number.player.state (g.W.Write.contents c.args.writer.now) (g.W.Write.contents c.loop-number.writer) c.take_line.new.bytes.items c.loop-number.found.items i.3)
+    rw (p.1, p.2) (untaken_guarded _ _ _ _ _ i.0 i.1 i.2 c.loop-number.number i.4 i.5 c.in_err-line.field-0.0 (g.R.Read.remaining c.take_line.new.reader) c.take_line.new.bytes.items c.in_err-line.ensures
+    (g.W.Write.contents c.args.writer.now) (g.W.Write.contents c.loop-number.writer) c.loop-number.found.items i.3)
+
+pub returns-in_err-print_asked : goal.returns-in_err-print_asked
+returns-in_err-print_asked g c =
+    let i = c.loop-number.invariant in
+    let one = subst (λ o. TakesLine (g.R.Read.remaining c.loop-number.reader) (g.R.Read.remaining c.take_line.new.reader) c.take_line.new.bytes.items c.loop-number.number (Ok o)) c.in-Some.is c.in_ok-line.ensures in
+    let line = c.take_line.new.bytes.items in
+    let answer = subst (λ l. Asked c.loop-number.player.state (guard_of l) c.loop-number.unasked.items c.unmet.new.unasked.items c.unmet.new.found.items (Ok c.in_ok-asks.field-0)) c.deref.ensures.value c.in_ok-asks.ensures in
+    let met = subst (λ o. Asked c.loop-number.player.state (guard_of line) c.loop-number.unasked.items c.unmet.new.unasked.items c.unmet.new.found.items (Ok o)) c.in_default-2.is answer in
+    let p = err_from_is_err_and c.from_residual-in_err-print_asked.result c.from_residual-in_err-print_asked.ensures.1 in
+    rw (p.1, p.2) (unwritten_guarded _ _ _ _ _ i.0 i.1 i.2 c.loop-number.number i.4 i.5 c.in_err-print_asked.field-0.0 c.print_asked.new.player.state (g.R.Read.remaining c.take_line.new.reader)
+    line (meant c.in-Some.line) one.0 one.1 one.2 (g.W.Write.contents c.args.writer.now) (g.W.Write.contents c.loop-number.writer) (g.W.Write.contents c.print_asked.new.writer) c.unmet.new.found.items i.3
+    (guards_more c.args.player.now.state c.loop-number.player.state i.0 i.2.state c.loop-number.unasked.items i.6 i.5 line c.unmet.new.unasked.items c.unmet.new.found.items met) c.in_err-print_asked.ensures.printed)
+
+pub returns : goal.returns
+returns g c =
+    let i = c.loop-number.invariant in
+    (g.R.Read.remaining c.loop-number.reader, i.0, i.1, i.2, i.3, i.5)
 
 pub returns-in-Some-2 : goal.returns-in-Some-2
 returns-in-Some-2 g c =

@@ -4,8 +4,8 @@ use Rattle.std.proofs.KnownBytes.{Appends-nil, Appends-trans}
 use Rattle.std.proofs.lemmas.Result.{err_from_is_err_and}
 use Rattle.ffa_syntax.specs.Lines.{meant}
 use Rattle.ffa_lines.specs.Forms.{line_text_in}
-use Rattle.ffa_lines.specs.Steps.{TakesLine}
-use Rattle.ffa_lines.proofs.Follows.{followed_none, followed_more, untaken_played}
+use Rattle.ffa_lines.specs.Reading.{TakesLine}
+use Rattle.ffa_lines.proofs.Follows.{followed_none, followed_more, untaken_played, unwritten_played}
 use Rattle.ffa_lines.proofs.playing.play.Goals as goal
 
 pub loop-number-init : goal.loop-number-init
@@ -15,7 +15,22 @@ pub returns-in_err-line : goal.returns-in_err-line
 returns-in_err-line g c =
     let i = c.loop-number.invariant in
     let p = err_from_is_err_and c.from_residual.result c.from_residual.ensures.1 in
-    rw (p.1, p.2) (untaken_played _ _ _ _ _ i.0 i.1 i.2 c.loop-number.number i.4 c.in_err-line.field-0.0 (g.R.Read.remaining c.take_line.new.reader) c.take_line.new.bytes.items c.in_err-line.ensures c.loop-number.player.state (g.W.Write.contents c.args.writer.now) (g.W.Write.contents c.loop-number.writer) i.3)
+    rw (p.1, p.2) (untaken_played _ _ _ _ _ i.0 i.1 i.2 c.loop-number.number i.4 c.in_err-line.field-0.0 (g.R.Read.remaining c.take_line.new.reader) c.take_line.new.bytes.items c.in_err-line.ensures
+    (g.W.Write.contents c.args.writer.now) (g.W.Write.contents c.loop-number.writer) i.3)
+
+pub returns-in_err-print_line-in-Some : goal.returns-in_err-print_line-in-Some
+returns-in_err-print_line-in-Some g c =
+    let i = c.loop-number.invariant in
+    let one = subst (λ o. TakesLine (g.R.Read.remaining c.loop-number.reader) (g.R.Read.remaining c.take_line.new.reader) c.take_line.new.bytes.items c.loop-number.number (Ok o)) c.in-Some.is c.in_ok-line.ensures in
+    let p = err_from_is_err_and c.from_residual-in_err-print_line-in-Some.result c.from_residual-in_err-print_line-in-Some.ensures.1 in
+    rw (p.1, p.2) (unwritten_played _ _ _ _ _ i.0 i.1 i.2 c.loop-number.number i.4 c.in_err-print_line-in-Some.field-0.0 c.print_line.new.player.state (g.R.Read.remaining c.take_line.new.reader)
+    c.take_line.new.bytes.items (meant c.in-Some.line) one.0 one.1 one.2 (g.W.Write.contents c.args.writer.now) (g.W.Write.contents c.loop-number.writer) (g.W.Write.contents c.print_line.new.writer) i.3
+    c.in_err-print_line-in-Some.ensures)
+
+pub returns : goal.returns
+returns g c =
+    let i = c.loop-number.invariant in
+    (g.R.Read.remaining c.loop-number.reader, i.0, i.1, i.2, i.3)
 
 pub loop-number-preserved : goal.loop-number-preserved
 loop-number-preserved g c =

@@ -11,7 +11,7 @@ use Rattle.ffa_tasks.proofs.playing.compare.Goals as goal
 
 pub returns-in-Ok-None-clause-played : goal.returns-in-Ok-None-clause-played
 returns-in-Ok-None-clause-played g c =
-    let whole = compared_whole _ _ c.args.explain _ (rw c.in-Ok-None.field-0-is at c.in-Ok-None.ensures.compared) in
+    let whole = compared_whole _ _ _ c.args.explain _ c.compare.new.bytes.items (rw c.in-Ok-None.field-0-is at c.in-Ok-None.ensures.compared) in
     (subst (λ had. PrintsExpected c.args.player.now.state had (Some c.args.expected.now)) c.in_ok-reader.ensures.unread whole, kept (g.W.Write.contents c.args.out.now))
 
 pub returns-clause-failed : goal.returns-clause-failed
@@ -21,7 +21,7 @@ returns-clause-failed g c =
     let unread = Read c.args.trace.path in
     subst (PlayFails (Compare c.args.expected c.args.explain) start (g.R.Read.remaining c.args.trace.reader) held held) (sym c.of_line.ensures.1)
     (subst (λ had. PlayFails (Compare c.args.expected c.args.explain) start had held held (failure_of unread c.of_line.ensures.0 c.in-Err.error)) c.in_ok-reader.ensures.unread
-    (compared_failed start _ held c.args.expected c.args.explain unread tt c.of_line.ensures.0 c.in-Err.error c.in-Err.ensures.compared))
+    (compared_failed start c.compare.new.player.state _ held c.args.expected c.args.explain c.compare.new.bytes.items c.args.trace.path c.of_line.ensures.0 c.in-Err.error c.in-Err.ensures.compared))
 
 pub returns-in-Ok-Some-clause-failed : goal.returns-in-Ok-Some-clause-failed
 returns-in-Ok-Some-clause-failed g c =

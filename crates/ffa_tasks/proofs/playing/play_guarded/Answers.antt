@@ -26,4 +26,4 @@ returns-clause-failed g c =
     let unread = Read c.args.trace.path in
     subst (PlayFails (Guarded c.args.form) start (g.R.Read.remaining c.args.trace.reader) held holds) (sym c.of_line.ensures.1)
     (subst (λ had. PlayFails (Guarded c.args.form) start had held holds (failure_of unread c.of_line.ensures.0 c.in-Err.error)) c.in_ok-reader.ensures.unread
-    (guarded_failed c.args.form start c.play_guarded.new.player.state held holds _ c.play_guarded.new.bytes.items c.play_guarded.new.found.items unread tt c.of_line.ensures.0 c.in-Err.error c.in-Err.ensures))
+    (guarded_failed c.args.form start c.play_guarded.new.player.state held holds _ c.play_guarded.new.bytes.items c.play_guarded.new.found.items c.args.trace.path c.of_line.ensures.0 c.in-Err.error c.in-Err.ensures))

@@ -1,7 +1,6 @@
 -- SPDX-License-Identifier: MIT OR Apache-2.0
 use Rattle.std.proofs.Common.{None, subst, sym}
 use Rattle.ffa_tasks.specs.Plays.{PlayFails}
-use Rattle.ffa_report.specs.declared.failure.Failure.TheVariants.{Read}
 use Rattle.ffa_tasks.specs.declared.task.Task.TheVariants.{Plain}
 use Rattle.ffa_tasks.proofs.Plays.{played_whole, play_failed}
 use Rattle.ffa_tasks.proofs.playing.play_plainly.Goals as goal
@@ -11,4 +10,4 @@ returns-in-Ok-clause-played g c = played_whole c.in-Ok.field-0 _ _ _ _ _ _ c.in-
 
 pub returns-clause-failed : goal.returns-clause-failed
 returns-clause-failed g c =
-    subst (PlayFails Plain _ _ _ _) (sym c.of_play.ensures) (play_failed _ _ _ _ _ _ (Read c.args.trace.path) tt None c.in-Err.error c.in-Err.ensures)
+    subst (PlayFails Plain _ _ _ _) (sym c.of_play.ensures) (play_failed _ _ _ _ _ _ c.args.trace.path None c.in-Err.error c.in-Err.ensures)
