@@ -35,6 +35,7 @@ pub mod Growth
 pub mod Integrities
 pub mod Rows
 pub mod Meets
+pub mod Bare
 pub mod News
 pub mod Shows
 pub mod OwnBuffers

@@ -70,7 +70,7 @@ all-free e [] v free = tt
 all-free e (x ∷ es) v free = let (here, rest) = and_parts (is_free x) (list_all is_free es) free in (free-met e v x here, all-free e es (apply e v x) rest)
 
 -- ---- the word of FFA_NOTIFICATION_SET has 64 bits
-abbrev IsHalved : calls.Call → Type 0
+abbrev pub IsHalved : calls.Call → Type 0
 IsHalved (NotificationSet word flags low high) = (low < 2 ^ 32) × (high < 2 ^ 32)
 IsHalved call = Unit {0}
 
@@ -95,7 +95,7 @@ found-narrow x (f ∷ fs) narrow =
       | false ↦ found-narrow x fs narrow.1
     ]
 
-decode-halved : (x : List ℕ) → IsHalved (decode x)
+pub decode-halved : (x : List ℕ) → IsHalved (decode x)
 unfolding decode
 decode-halved x = found-narrow x functions functions-narrow
 
@@ -119,7 +119,7 @@ unset test (suc m) g none k lt =
     of zero lt is later = is
     of (suc k) lt is later = later k (omega arith)
 
-zero-word : (word : ℕ) → word < 2 ^ 64 → bits_of word ≡ [] → word ≡ 0
+pub zero-word : (word : ℕ) → word < 2 ^ 64 → bits_of word ≡ [] → word ≡ 0
 zero-word word lt none =
     let same : word_where 64 (λ k. is_set k word) ≡ word_where 64 (λ k. false) = word_where-same 64 (λ k. is_set k word) (λ k. false) (λ k less. unset (λ j. is_set j word) 64 (λ j. j) none k less) in
     let whole : word % 2 ^ 64 ≡ 0 = sym (word_where-set 64 word) ∙ same ∙ no-bits 64 in

@@ -2,7 +2,7 @@
 -- Each event that is told changes the view, but for messages, and for bytes and pending bits that are told again.
 use Rattle.std.proofs.Common.{◌≡◌, ◌≢◌, ◌∙◌, ℕ, zero, suc, ◌+◌, ◌≤◌, ◌<◌, inl, inr, Bool, true, false, cond, List, [], ◌∷◌, ◌++◌, map, Option, Some, None, is_some, refl, sym, ap, subst, arith}
 use Rattle.byteorder.specs.Endian.{little_bytes}
-use Rattle.std.specs.Prelude.{◌==◌, ◌&&◌, ◌||◌, filter, is_none, length, not, slice_index}
+use Rattle.std.specs.Prelude.{◌==◌, ◌&&◌, ◌||◌, filter, is_none, not, slice_index}
 use Rattle.std.specs.List.{list_all}
 use Rattle.std.specs.Option.{option_map}
 use Rattle.std.specs.Ordering.{eq_by_cmp, nat_cmp}
@@ -21,12 +21,11 @@ use Rattle.ffa_model.specs.declared.rights.Kind.TheVariants.{Share, Lend, Donate
 use Rattle.ffa_model.specs.declared.call.Call as calls
 use Rattle.ffa_model.specs.declared.call.Call.TheVariants.{MsgWait, Yield, Run, DirectRequest, DirectResponse, MemDonate, MemLend, MemShare, MemRetrieve, MemRelinquish, MemReclaim, BitmapDestroy, NotificationBind, NotificationUnbind, NotificationSet, MsgSend2}
 use Rattle.ffa_model.specs.SendDescriptor.{SendRecord}
-use Rattle.ffa_model.specs.State.{State, Transaction, Buffers, buffers_of, is_known, transaction_of}
+use Rattle.ffa_model.specs.State.{State, Transaction, buffers_of, is_known, transaction_of}
 use Rattle.ffa_model.specs.Access.{held_by, is_from, is_held_by, is_offered, is_receiver}
 use Rattle.ffa_model.specs.Bits.{bits_of, high_half, is_set, word_of_halves}
 use Rattle.ffa_model.specs.Calls.{first_failure}
-use Rattle.ffa_model.specs.Identifiers.{identifier}
-use Rattle.ffa_model.specs.Lists.{listed, map_at}
+use Rattle.ffa_model.specs.Lists.{listed}
 use Rattle.ffa_model.specs.Memory.{size_of, store_fault}
 use Rattle.ffa_model.specs.MemoryRetrieve.{retrieve_read}
 use Rattle.ffa_model.specs.MemoryReturn.{memory_relinquish, relinquish_guards, relinquish_read}
@@ -41,9 +40,10 @@ use Rattle.ffa_model.proofs.Accesses.{held-itself, released-itself}
 use Rattle.ffa_model.proofs.Guards.{guard-passes}
 use Rattle.ffa_model.proofs.Sets.{Bits, contains-retained, same-itself, same_elements}
 use Rattle.ffa_laws.specs.Steady.{IsSteady}
-use Rattle.ffa_laws.specs.View.{buffers_seen, hidden, involves, kept, seen_by, view}
-use Rattle.ffa_laws.specs.Events.{Event, Wrote, Filled, Pending, Bound, Unbound, Opened, Held, Zeroed, Closed, Public, apply, apply_all, binds, call_events, events, public_buffers, is_same_public, opens, public_change, public_part, releases, takes, takes_from, taking, told_by, where_passed, where_true, with_held, with_holder, writes}
+use Rattle.ffa_laws.specs.View.{involves, kept, seen_by, view}
+use Rattle.ffa_laws.specs.Events.{Event, Wrote, Filled, Pending, Bound, Unbound, Opened, Held, Zeroed, Closed, Public, apply, apply_all, binds, call_events, events, is_same_public, opens, public_change, public_part, releases, takes, takes_from, taking, told_by, where_passed, where_true, with_held, with_holder, writes}
 use Rattle.ffa_laws.specs.Silence.{AreNews, Silence, may_repeat}
+use Rattle.ffa_laws.proofs.Bare.{are-bare, public-seen}
 use Rattle.ffa_laws.proofs.Changes.{apply_all-append}
 use Rattle.ffa_laws.proofs.Closed.{get-remove}
 use Rattle.ffa_laws.proofs.Laws.{other-call}
@@ -166,16 +166,6 @@ module _ (e receiver class : ℕ) where
   )
 
 -- ---- the public part
-public-seen : (e : ℕ) (s : State) → public_part (view e s) ≡ public_part s
-public-seen e s = λ i. record { runner = s.runner; statuses = s.statuses; works = s.works; buffers = go s.buffers (buffers_seen e (length s.pages)) (λ j b. at j b) i }
-  where
-    at : (j : ℕ) (b : Option Buffers) → public_buffers (buffers_seen e (length s.pages) j b) ≡ public_buffers b
-    at j b = elim (identifier j == e) as (λ c. public_buffers (cond c b (hidden (length s.pages) b)) ≡ public_buffers b) [ true ↦ refl | false ↦ (elim b as (λ o. public_buffers (hidden (length s.pages) o) ≡ public_buffers o) [ None ↦ refl | Some x ↦ refl ]) ]
-
-    go : (bs : List (Option Buffers)) (f : ℕ → Option Buffers → Option Buffers) → ((j : ℕ) (b : Option Buffers) → public_buffers (f j b) ≡ public_buffers b) → map public_buffers (map_at f bs) ≡ map public_buffers bs
-    go [] f same = refl
-    go (b ∷ bs) f same = λ i. same 0 b i ∷ go bs (λ j. f (suc j)) (λ j. same (suc j)) i
-
 public-applied : (e : ℕ) (v : State) (event : Event) → is_public event ≡ false → public_part (apply e v event) ≡ public_part v
 public-applied e v (Held h f right) not = elim (transaction_of v h) as (λ o. public_part (with_holder v h f right o) ≡ public_part v) [ None ↦ refl | Some t ↦ refl ]
 public-applied e v (Public values) not = absurd (true≢false not)
@@ -376,4 +366,5 @@ silence s op steady =
       public = public-step s op;
       news = λ e known other. news-op e s steady known other op;
       meets = λ sound e known other. are-met e s sound known op;
+      bare = λ e known other. are-bare e s steady known other op;
     }

@@ -1,19 +1,21 @@
 -- SPDX-License-Identifier: MIT OR Apache-2.0
--- What nobody is told: the calls that may give each event, which events change the view, and that the others are about
--- something that stands in the view.
-use Rattle.std.specs.Prelude.{◌≡◌, ◌≢◌, ◌-◌, ◌/◌, ℕ, Bool, true, false, is_some, List, [], ◌∷◌}
+-- What nobody is told: the calls that may give each event, which events change the view, that the others are about something
+-- that stands in the view, and that all that an event says goes into it.
+use Rattle.std.specs.Prelude.{◌≡◌, ◌≢◌, ◌≤◌, ◌-◌, ◌/◌, ℕ, Bool, true, false, is_some, List, [], ◌∷◌, length}
 use Rattle.std.specs.List.{list_all}
 use Rattle.ffa_model.specs.declared.operation.Op.{Op}
 use Rattle.ffa_model.specs.declared.operation.Op.TheVariants.{Call, Store}
 use Rattle.ffa_model.specs.declared.call.Call as calls
 use Rattle.ffa_model.specs.declared.call.Call.TheVariants.{RxRelease, RxtxMap, RxtxUnmap, PartitionInfoGet, MsgWait, Yield, Run, DirectRequest, DirectResponse, MemDonate, MemLend, MemShare, MemRetrieve, MemRelinquish, MemReclaim, BitmapDestroy, NotificationBind, NotificationUnbind, NotificationSet, MsgSend2}
+use Rattle.ffa_model.specs.Bits.{bits_of}
 use Rattle.ffa_model.specs.State.{State, buffers_of, is_known, page_at, transaction_of}
+use Rattle.ffa_model.specs.Buffers.{room_of}
 use Rattle.ffa_model.specs.Notifications.{has_bitmaps_in, notifications_of}
 use Rattle.ffa_model.specs.SoundState.{IsSoundState}
 use Rattle.ffa_model.specs.Registers.{decode}
 use Rattle.ffa_model.specs.Step.{step}
 use Rattle.ffa_laws.specs.View.{view}
-use Rattle.ffa_laws.specs.Events.{Event, Wrote, Message, Filled, Pending, Bound, Unbound, Opened, Held, Zeroed, Closed, Public, apply, events, public_part}
+use Rattle.ffa_laws.specs.Events.{Event, Wrote, Message, Filled, Pending, Bound, Unbound, Opened, Held, Zeroed, Closed, Public, apply, events, named_pages, public_part}
 use Rattle.ffa_laws.specs.OwnAccess.{is_call}
 
 -- the calls that may change the public part
@@ -90,6 +92,25 @@ abbrev pub AreMet : ℕ → State → List Event → Type 0
 AreMet e v [] = Unit {0}
 AreMet e v (event ∷ later) = (is_met e v event ≡ true) × AreMet e (apply e v event) later
 
+-- That all that an event says goes into the view of e, which is v after it: `apply` leaves nothing out. A write has bytes and
+-- isn't below RAM; bytes past a page's end would make the page longer. What fills RX has room in it. Pending bits are those of a
+-- word, each once and in order, and there are some. With a transaction that is opened come the pages of the view that its ranges
+-- name, and the public part is the view's. Of a bit that is bound or unbound, a holder, and a transaction that is closed nothing
+-- is left out where they change the view (`AreNews`), and the one whose pages are zeroed stands in the view (`AreMet`). A message
+-- changes nothing: its registers are the operation's outcome (`Shown`, of a run of this operation alone).
+abbrev pub IsBare : ℕ → State → Event → Type 0
+IsBare e v (Wrote address bytes) = (v.ram_base ≤ address) × (bytes ≢ [])
+IsBare e v (Filled bytes) = length bytes ≤ room_of (buffers_of v e)
+IsBare e v (Pending class bits) = (bits ≢ []) × ((word : ℕ) × (bits ≡ bits_of word))
+IsBare e v (Opened h t pages) = pages ≡ named_pages v t.ranges
+IsBare e v (Public values) = values ≡ public_part v
+IsBare e v event = Unit {0}
+
+-- events that are told to e one after another, from a view on: all that each says goes into the view
+abbrev pub AreBare : ℕ → State → List Event → Type 0
+AreBare e v [] = Unit {0}
+AreBare e v (event ∷ later) = IsBare e (apply e v event) event × AreBare e (apply e v event) later
+
 pub record Silence (s : State) (op : Op) : Type 0 where
   -- an operation gives only the events of its row
   pub rows : (e : ℕ) → list_all (may_be_told op) (events e s op) ≡ true
@@ -100,3 +121,5 @@ pub record Silence (s : State) (op : Op) : Type 0 where
   -- and what may repeat, but for a message, is about something in its view; in a sound state, where a bit is bound only
   -- to whose receiver has bitmaps
   pub meets : IsSoundState s → (e : ℕ) → is_known s e ≡ true → s.runner ≢ e → AreMet e (view e s) (events e s op)
+  -- and all that an event says, but for a message, goes into the view
+  pub bare : (e : ℕ) → is_known s e ≡ true → s.runner ≢ e → AreBare e (view e s) (events e s op)

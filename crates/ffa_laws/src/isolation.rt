@@ -99,7 +99,8 @@ pub fn loans()
 /// Each operation gives only the events of its row, and only some calls change the public part. What another endpoint
 /// is told changes its view, but for messages, and for writes, filled RX, pending bits and zeros, which may be told
 /// again. These are, in a sound state, about something in its view: the page that is written to, its own buffers and
-/// its own bitmaps, and the transaction whose pages are zeroed.
+/// its own bitmaps, and the transaction whose pages are zeroed. And all that an event says, but for a message, goes into
+/// the view: no page is told that the ranges of a transaction don't name, no byte that has no room in RX, no bit twice.
 pub fn silence()
     ensures { (s : State) (op : Op) → IsSteady s → Silence s op }
 {}

@@ -190,7 +190,8 @@ impl<M: PhysMem + Drop, T: Translations + Drop> Machine<M, T> {
 
         // An operation gives only the events of its row, and only some calls change the public part. What is told to
         // another endpoint changes its view, but for messages, and for bytes, zeros and pending bits, which may be told
-        // again: these are about a page, a transaction, or buffers or bitmaps of its own that stand in its view.
+        // again: these are about a page, a transaction, or buffers or bitmaps of its own that stand in its view. All that
+        // an event says, but for a message, goes into the view.
         ensures silence { Silence self.old.state op.now }
 
         // From another state in which the runner can read the same, the operation has the same outcome, and the runner
