@@ -50,7 +50,8 @@ pub fn put_entries<A: Allocator>(
     most: u64,
 ) -> Result<u64, AllocError>
     ensures count { IfOk result (λ count. count ≡ min most (length entries.now)) }
-    ensures lines { IfOk result (λ count. GrowsByLines (map meant (take count entries.now)) text.old.items text.new.items) }
+    ensures lines { IfOk result (λ count.
+        GrowsByLines (map meant (take count entries.now)) text.old.items text.new.items) }
 {
     let most = most.min(entries.len() as u64);
     let mut count = 0;
