@@ -1,9 +1,14 @@
 // SPDX-License-Identifier: MIT OR Apache-2.0
-//! Generated traces: what 20,000 lines reach, that a seed gives them again, and that they are played to their end.
+//! Generated traces: what 20,000 lines reach, that a seed gives them again, that they are played to their end, and that what was
+//! counted comes again.
+use crate::checks::same;
 use crate::machines::{booted, play};
 use ffa_generate::{Access, Counts, generate};
 use ffa_model::function::*;
-use ffa_model::{ErrorCode, FaultKind, Manifest, built_in, row_machine};
+use ffa_model::{ErrorCode, FaultKind, Manifest, Op, Outcome, built_in, row_machine};
+use ffa_physmem::FlatRam;
+use ffa_spmc::Machine;
+use ffa_syntax::Line;
 use ffa_trace::Player;
 use std::alloc::Global;
 use std::process::Abort;
@@ -158,4 +163,29 @@ fn plays(rt: &impl Abort, alloc: Global, manifest: &Manifest) -> Result<(), Fail
 fn a_trace_is_played_to_its_end(rt: HostRuntime) -> Result<(), Fail> {
     plays(&rt, rt.alloc(), &row_machine())?;
     plays(&rt, rt.alloc(), &built_in())
+}
+
+fn operate(machine: &mut Machine<FlatRam>, op: &Op) -> Outcome {
+    machine.op(op)
+}
+
+// Does the operations of a trace on a machine in its first state, and counts what comes of them.
+fn counted(alloc: Global, manifest: &Manifest, trace: &[u8]) -> Result<Counts, Fail> {
+    let mut machine = booted(alloc, manifest)?;
+    let mut counts = Counts::new();
+    for line in trace.split(|byte| *byte == b'\n') {
+        if let Some(Line::Operation(op)) = Line::read(line) {
+            counts.note(&op, &operate(&mut machine, &op));
+        }
+    }
+    Ok(counts)
+}
+
+#[test]
+fn counts_are_those_of_the_trace(rt: HostRuntime) -> Result<(), Fail> {
+    let mut trace = Vec::new(rt.alloc());
+    let counts = generated(rt.alloc(), &row_machine(), 1, LINES, &mut trace)?;
+    let again = counted(rt.alloc(), &row_machine(), &trace)?;
+    same(&rt, counts.cells.as_slice(), again.cells.as_slice());
+    Ok(())
 }

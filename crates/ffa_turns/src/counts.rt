@@ -262,7 +262,10 @@ impl Counts {
 }
 
 impl Default for Counts {
-    fn default() -> Counts {
+    /// Nothing has come.
+    fn default() -> Counts
+        ensures { result.cells ≡ replicate CELLS 0 }
+    {
         Counts::new()
     }
 }

@@ -1,9 +1,9 @@
 // SPDX-License-Identifier: MIT OR Apache-2.0
 //! The lines that a turn gave, and their text.
-ghost use Rattle.std.specs.Prelude.{◌≡◌, ◌≤◌, ◌<◌, ◌%◌, ◌^◌, length, IfOk, OnOk};
+ghost use Rattle.std.specs.Prelude.{◌≡◌, ◌%◌, ◌^◌, [], ◌∷◌, length, map, min, take, IfOk, OnOk};
 ghost use Rattle.ffa_model.specs.Memory.{size_of};
-ghost use Rattle.ffa_script.specs.Script.{IsProper};
-ghost use Rattle.ffa_turns.specs.Traces.{GrowsByLine, GrowsByLines};
+ghost use Rattle.ffa_turns.specs.Traces.{fitted};
+ghost use Rattle.ffa_turns.specs.Turned.{GrowsByLines, meant};
 
 use ffa_model::{Op, Size};
 use ffa_script::put_operation;
@@ -17,9 +17,9 @@ pub enum Entry {
     Audit,
 }
 
-/// The same operation, where a store's value fits its size.
+/// The same operation, where a store has the lowest bytes of its value, as many as it moves.
 pub fn fitted(op: &Op) -> Op
-    ensures { IsProper result }
+    ensures { result ≡ fitted op.now }
 {
     match *op {
         Op::Store { addr, size, value } => Op::Store {
@@ -33,7 +33,7 @@ pub fn fitted(op: &Op) -> Op
 
 // The lowest bytes of a value.
 fn lowest(value: u64, size: Size) -> u64
-    ensures { result < 256 ^ size_of size }
+    ensures { result ≡ value % 256 ^ size_of size }
 {
     match size {
         Size::B1 => value % (1 << 8),
@@ -49,8 +49,9 @@ pub fn put_entries<A: Allocator>(
     entries: &[Entry],
     most: u64,
 ) -> Result<u64, AllocError>
-    ensures lines { IfOk result (λ count. GrowsByLines count text.old.items text.new.items) }
-    ensures few { IfOk result (λ count. count ≤ most) }
+    ensures count { IfOk result (λ count. count ≡ min most (length entries.now)) }
+    ensures lines { IfOk result (λ count.
+        GrowsByLines (map meant (take count entries.now)) text.old.items text.new.items) }
 {
     let most = most.min(entries.len() as u64);
     let mut count = 0;
@@ -63,7 +64,7 @@ pub fn put_entries<A: Allocator>(
 
 // Puts a line behind a text.
 fn put_entry<A: Allocator>(text: &mut Vec<u8, A>, entry: &Entry) -> Result<(), AllocError>
-    ensures { OnOk result (GrowsByLine text.old.items text.new.items) }
+    ensures { OnOk result (GrowsByLines (meant entry.now ∷ []) text.old.items text.new.items) }
 {
     match entry {
         Entry::Operation(op) => put_operation(text, &fitted(op)),

@@ -1,8 +1,10 @@
 // SPDX-License-Identifier: MIT OR Apache-2.0
 //! Writing a trace turn by turn.
-ghost use Rattle.std.specs.Prelude.{◌≡◌, ◌≤◌, [], IfOk, OnOk};
+ghost use Rattle.std.specs.Prelude.{◌≡◌, ◌≤◌, [], ◌∷◌, length, take, IfOk, OnOk};
 ghost use Rattle.std.specs.Io.KnownBytes.{Appends};
-ghost use Rattle.ffa_turns.specs.Traces.{GrowsByLines, Wrote};
+ghost use Rattle.ffa_syntax.specs.TraceLines.{skip};
+ghost use Rattle.ffa_turns.specs.Traces.{Wrote};
+ghost use Rattle.ffa_turns.specs.Turned.{GrowsByLines, turn_lines};
 
 use crate::entries::{Entry, put_entries};
 use std::alloc::Allocator;
@@ -60,14 +62,15 @@ fn write_turn<P: Turns, A: Allocator, W: Write>(
     Ok(count)
 }
 
-// Makes the text of a turn, of at most so many lines, and answers how many it has. A turn without lines says so.
+// Makes the text of a turn, of the first so many lines at most, and answers how many it has. A turn without lines says so.
 fn put_turn<A: Allocator>(
     text: &mut Vec<u8, A>,
     entries: &[Entry],
     most: u64,
 ) -> Result<u64, GenerateError>
     requires { 1 ≤ most }
-    ensures lines { IfOk result (λ count. GrowsByLines count [] text.new.items) }
+    ensures lines { OnOk result (GrowsByLines (turn_lines (take most entries.now)) [] text.new.items) }
+    ensures count { IfOk result (λ count. count ≡ length (turn_lines (take most entries.now))) }
     ensures some { IfOk result (λ count. 1 ≤ count) }
     ensures few { IfOk result (λ count. count ≤ most) }
 {
@@ -81,7 +84,7 @@ fn put_turn<A: Allocator>(
 
 // Puts a line that does nothing behind a text.
 fn put_nothing<A: Allocator>(text: &mut Vec<u8, A>) -> Result<u64, GenerateError>
-    ensures lines { IfOk result (λ count. GrowsByLines count text.old.items text.new.items) }
+    ensures line { OnOk result (GrowsByLines (skip ∷ []) text.old.items text.new.items) }
     ensures one { IfOk result (λ count. count ≡ 1) }
 {
     match text.extend_from_slice(b"# nothing\n") {

@@ -1,11 +1,11 @@
 -- SPDX-License-Identifier: MIT OR Apache-2.0
-use Rattle.std.proofs.Common.{◌-◌, ◌≤◌}
-use Rattle.ffa_turns.specs.Traces.{GrowsByLines}
+use Rattle.std.proofs.Common.{◌-◌, ◌≤◌, map, take}
+use Rattle.ffa_turns.specs.Turned.{GrowsByLines, meant}
 use Rattle.ffa_turns.proofs.entries.put_entries.Given as goal
 
--- so many lines were put
+-- the lines of the first entries were put
 abbrev pub invariant-loop-count : goal.invariant-loop-count
-invariant-loop-count g l = GrowsByLines l.count l.fn.text.items l.text.items × (l.count ≤ l.most)
+invariant-loop-count g l = GrowsByLines (map meant (take l.count l.fn.entries)) l.fn.text.items l.text.items × (l.count ≤ l.most)
 
 abbrev pub decreases-loop-count : goal.decreases-loop-count
 decreases-loop-count g l = l.most - l.count

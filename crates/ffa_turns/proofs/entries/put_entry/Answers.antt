@@ -1,10 +1,17 @@
 -- SPDX-License-Identifier: MIT OR Apache-2.0
-use Rattle.std.proofs.Common.{codes}
-use Rattle.ffa_turns.proofs.Growing.{grown_line, show_good, audit_good}
+use Rattle.std.proofs.Common.{subst}
+use Rattle.std.specs.Prelude.{OnOk}
+use Rattle.ffa_script.specs.Script.{GrowsBy}
+use Rattle.ffa_turns.proofs.Growing.{grown_operation, grown_show, grown_audit}
 use Rattle.ffa_turns.proofs.entries.put_entry.Goals as goal
 
+pub returns-in-Operation : goal.returns-in-Operation
+returns-in-Operation g c =
+    let grown = subst (λ op. OnOk c.put_operation.result (GrowsBy op c.args.text.now.items c.put_operation.new.text.items)) c.fitted.ensures c.put_operation.ensures.written in
+    rw c.in-Operation.is (grown_operation _ _ _ _ grown)
+
 pub returns-in-Show : goal.returns-in-Show
-returns-in-Show g c = grown_line c.extend_from_slice.result _ _ (codes "show") show_good c.extend_from_slice.ensures.items
+returns-in-Show g c = rw c.in-Show.is (grown_show c.extend_from_slice.result _ _ c.extend_from_slice.ensures.items)
 
 pub returns-in-Audit : goal.returns-in-Audit
-returns-in-Audit g c = grown_line c.extend_from_slice-in-Audit.result _ _ (codes "audit") audit_good c.extend_from_slice-in-Audit.ensures.items
+returns-in-Audit g c = rw c.in-Audit.is (grown_audit c.extend_from_slice-in-Audit.result _ _ c.extend_from_slice-in-Audit.ensures.items)
