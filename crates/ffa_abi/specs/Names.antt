@@ -15,6 +15,7 @@ Row = ℕ × List ℕ
 abbrev pub narrow_names : List Row
 narrow_names =
     (FFA_ERROR, codes "FFA_ERROR")
+    ∷ (FFA_SUCCESS, codes "FFA_SUCCESS")
     ∷ (FFA_VERSION, codes "FFA_VERSION")
     ∷ (FFA_FEATURES, codes "FFA_FEATURES")
     ∷ (FFA_RX_RELEASE, codes "FFA_RX_RELEASE")
@@ -40,8 +41,7 @@ narrow_names =
 -- those that have one too, of the same name, by their 32-bit identifiers
 abbrev pub wide_names : List Row
 wide_names =
-    (FFA_SUCCESS, codes "FFA_SUCCESS")
-    ∷ (FFA_RXTX_MAP, codes "FFA_RXTX_MAP")
+    (FFA_RXTX_MAP, codes "FFA_RXTX_MAP")
     ∷ (FFA_MSG_SEND_DIRECT_REQ, codes "FFA_MSG_SEND_DIRECT_REQ")
     ∷ (FFA_MSG_SEND_DIRECT_RESP, codes "FFA_MSG_SEND_DIRECT_RESP")
     ∷ (FFA_MEM_DONATE, codes "FFA_MEM_DONATE")

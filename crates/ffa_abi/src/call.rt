@@ -1,8 +1,10 @@
 // SPDX-License-Identifier: MIT OR Apache-2.0
 //! Calls in registers.
 ghost use Rattle.std.specs.Prelude.{◌≡◌, ◌<◌, slice_index};
+ghost use Rattle.ffa_model.specs.Bits.{is_set};
 ghost use Rattle.ffa_model.specs.Registers.{additions, decode, is_function, low, memory, messages, notifications, setup};
 ghost use Rattle.ffa_abi.specs.Parts.{called_in, payload_of, transfer_of, widest};
+ghost use Rattle.ffa_abi.specs.Widths.{is_read_whole, is_widened};
 
 use ffa_model::function::*;
 use ffa_model::{Call, Transfer};
@@ -27,12 +29,19 @@ impl Registers {
         low(self.0[index])
     }
 
-    // A whole register in the 64-bit form of a call, whose identifier has bit 30 set, and else its low half.
+    // Whether this is the 64-bit form of a call, whose identifier has bit 30 set.
+    fn is_wide(&self) -> bool
+        ensures { result ≡ is_set 30 (low (slice_index self.now.0 0)) }
+    {
+        (self.w(0) >> 30) % 2 == 1
+    }
+
+    // A whole register in the 64-bit form of a call, and else its low half.
     fn x(&self, index: usize) -> u64
         requires { index < 8 }
         ensures { result ≡ widest self.now.0 index }
     {
-        if (self.w(0) >> 30) % 2 == 1 {
+        if self.is_wide() {
             self.0[index]
         } else {
             u64::from(self.w(index))
@@ -196,6 +205,28 @@ pub fn decode(x: [u64; 8]) -> Call
         .or_else(|| registers.notification())
         .or_else(|| registers.addition())
         .unwrap_or(Call::Unknown)
+}
+
+/// Whether the call that the registers hold reads this one whole, as its 64-bit form does some, or the low half alone.
+#[tactic(auto, unfolding(crate::specs::Widths::is_read_whole))]
+pub fn is_read_whole(x: &[u64; 8], register: u32) -> bool
+    ensures { result ≡ is_read_whole x.now register }
+{
+    Registers(*x).is_wide() && is_widened(&decode(*x), register)
+}
+
+// Whether the 64-bit form of a call reads a register whole.
+fn is_widened(call: &Call, register: u32) -> bool
+    ensures { result ≡ is_widened call.now register }
+{
+    match call {
+        Call::RxtxMap { .. } => register == 1 || register == 2,
+        Call::DirectRequest { .. } | Call::DirectResponse { .. } => 3 <= register && register <= 7,
+        Call::MemDonate(_) | Call::MemLend(_) | Call::MemShare(_) | Call::MemRetrieve(_) => {
+            register == 3
+        }
+        _ => false,
+    }
 }
 
 /// Whether a number is the identifier of a call, in either form that the call has (DEN0077A, 13).

@@ -8,7 +8,7 @@ mod names;
 mod reply;
 
 pub use about::about_registers;
-pub use call::{decode, is_function, low};
+pub use call::{decode, is_function, is_read_whole, low};
 pub use ffa_model::{Call, Reply};
 pub use names::{call_name, error_name};
 pub use reply::encode;

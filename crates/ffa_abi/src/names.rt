@@ -7,9 +7,6 @@ ghost use Rattle.ffa_abi.specs.Names.{call_name_of, error_name_of, error_names, 
 use crate::call::low;
 use ffa_model::function::*;
 
-// FFA_SUCCESS with whole registers, which the manager never answers.
-const FFA_SUCCESS_64: u32 = FFA_SUCCESS + WIDE;
-
 /// The name of the call that these registers are, in either form that the call has (DEN0077A, 11 to 16). The low half of
 /// x0 identifies it: None where that is no function identifier that the manager knows, as where it is a version.
 #[tactic(auto, unfolding(crate::specs::Names::call_name_of))]
@@ -18,7 +15,7 @@ pub fn call_name(x: &[u64; 8]) -> Option<&'static str>
 {
     let name = match low(x[0]) {
         FFA_ERROR => "FFA_ERROR",
-        FFA_SUCCESS | FFA_SUCCESS_64 => "FFA_SUCCESS",
+        FFA_SUCCESS => "FFA_SUCCESS",
         FFA_VERSION => "FFA_VERSION",
         FFA_FEATURES => "FFA_FEATURES",
         FFA_RX_RELEASE => "FFA_RX_RELEASE",

@@ -22,6 +22,7 @@ use Rattle.ffa_syntax.specs.TraceLines.{Line, operate, show, audit, skip, line_o
 use Rattle.ffa_syntax.specs.TraceText.{bytes_moved, ended, hex}
 use Rattle.ffa_model.specs.Why.{why}
 use Rattle.ffa_abi.specs.Names.{call_name_of}
+use Rattle.ffa_abi.specs.Widths.{is_read_whole}
 use Rattle.ffa_reasons.specs.Checks.{number_of}
 use Rattle.ffa_reasons.specs.FlawWords.{flaw_words_of}
 use Rattle.ffa_reasons.specs.Words.{words_of}
@@ -102,8 +103,15 @@ named_text endpoint = codes "endpoint " ++ hex 4 endpoint
 unfoldable pub handle_text : ℕ → List ℕ
 handle_text handle = codes "handle " ++ hex 16 handle
 
-unfoldable pub register_text : ℕ → ℕ → List ℕ
-register_text register value = codes "w" ++ decimal register ++ codes " is " ++ address_text value
+-- x before a register that the call reads whole, and else w
+abbrev pub letter_text : Op → ℕ → List ℕ
+letter_text (Call x) register = if is_read_whole x register then codes "x" else codes "w"
+letter_text (Load address size) register = codes "w"
+letter_text (Store address size value) register = codes "w"
+letter_text (Fetch address) register = codes "w"
+
+unfoldable pub register_text : Op → ℕ → ℕ → List ℕ
+register_text op register value = letter_text op register ++ decimal register ++ codes " is " ++ address_text value
 
 abbrev pub bit_text : ℕ → List ℕ
 bit_text number = codes "bit " ++ decimal number
@@ -135,21 +143,21 @@ unfoldable pub field_text : Flaw → FieldPlace → Option ℕ → List ℕ
 field_text flaw place value =
     index_text flaw ++ flaw_words_of flaw ++ codes ": " ++ place_text place.first place.size ++ value_text place.size value
 
-abbrev pub subject_text : ℕ → About → List ℕ
-subject_text base (Page page obstacle) = page_text base page.0 obstacle
-subject_text base (Endpoint endpoint) = named_text endpoint.0
-subject_text base (Handle handle) = handle_text handle
-subject_text base (Register register value) = register_text register value
-subject_text base (Bit number) = bit_text number
-subject_text base (Field flaw place value) = field_text flaw place value
+abbrev pub subject_text : ℕ → Op → About → List ℕ
+subject_text base op (Page page obstacle) = page_text base page.0 obstacle
+subject_text base op (Endpoint endpoint) = named_text endpoint.0
+subject_text base op (Handle handle) = handle_text handle
+subject_text base op (Register register value) = register_text op register value
+subject_text base op (Bit number) = bit_text number
+subject_text base op (Field flaw place value) = field_text flaw place value
 
-abbrev pub about_text : ℕ → Option About → List ℕ
-about_text base about = option_map_or (λ its. codes ": " ++ subject_text base its) about []
+abbrev pub about_text : ℕ → Op → Option About → List ℕ
+about_text base op about = option_map_or (λ its. codes ": " ++ subject_text base op its) about []
 
 -- OF ANY OPERATION
 
 abbrev pub why_text : ℕ → Op → Why → List ℕ
-why_text base op (Refused refusal about) = call_text op refusal ++ words_of refusal ++ about_text base about
+why_text base op (Refused refusal about) = call_text op refusal ++ words_of refusal ++ about_text base op about
 why_text base op (Fault kind obstacle) = address_text (address_of op) ++ fault_text op kind obstacle
 
 unfoldable pub reason_line : ℕ → Op → Why → List ℕ

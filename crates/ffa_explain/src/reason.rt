@@ -4,10 +4,10 @@ ghost use Rattle.std.specs.Prelude.{◌≡◌, ◌++◌, ◌≤◌, IfErr, OnOk,
 ghost use Rattle.ffa_model.specs.Memory.{size_of};
 ghost use Rattle.ffa_syntax.specs.TraceText.{bytes_moved, hex};
 ghost use Rattle.ffa_reasons.specs.Words.{words_of};
-ghost use Rattle.ffa_explain.specs.Reasons.{about_text, address_digits, address_of, address_text, bit_text, call_text, check_text, fault_text, field_digits, field_text, handle_text, index_text, name_text, named_text, number_text, obstacle_text, page_address, page_text, place_text, reason_line, register_text, right_text, subject_text, told_line, transaction_text, value_text, verb_text, why_text};
+ghost use Rattle.ffa_explain.specs.Reasons.{about_text, address_digits, address_of, address_text, bit_text, call_text, check_text, fault_text, field_digits, field_text, handle_text, index_text, letter_text, name_text, named_text, number_text, obstacle_text, page_address, page_text, place_text, reason_line, register_text, right_text, subject_text, told_line, transaction_text, value_text, verb_text, why_text};
 
 use crate::mark::{put, put_bytes};
-use ffa_abi::{call_name, decode};
+use ffa_abi::{call_name, decode, is_read_whole};
 use ffa_model::{
     About, Address, EndpointId, FaultKind, FieldPlace, Flaw, Obstacle, Op, PageNo, Refusal, Size,
     Why,
@@ -78,12 +78,12 @@ fn put_refused<A: Allocator>(
     refusal: Refusal,
     about: Option<About>,
 ) -> Result<(), PlayError>
-    ensures written { OnOk result (text.new.items ≡ text.old.items ++ (call_text op refusal ++ words_of refusal ++ about_text base.0 about)) }
+    ensures written { OnOk result (text.new.items ≡ text.old.items ++ (call_text op refusal ++ words_of refusal ++ about_text base.0 op about)) }
     ensures failed { IfErr result (λ e. e ≡ PlayError.NoMemory) }
 {
     put_call(text, op, refusal)?;
     put(text, words(refusal))?;
-    put_about(text, base, about)
+    put_about(text, base, op, about)
 }
 
 fn put_faulted<A: Allocator>(
@@ -151,31 +151,33 @@ fn put_number<A: Allocator>(text: &mut Vec<u8, A>, number: Option<usize>) -> Res
 fn put_about<A: Allocator>(
     text: &mut Vec<u8, A>,
     base: Address,
+    op: Op,
     about: Option<About>,
 ) -> Result<(), PlayError>
-    ensures written { OnOk result (text.new.items ≡ text.old.items ++ about_text base.0 about) }
+    ensures written { OnOk result (text.new.items ≡ text.old.items ++ about_text base.0 op about) }
     ensures failed { IfErr result (λ e. e ≡ PlayError.NoMemory) }
 {
     let Some(about) = about else {
         return Ok(());
     };
     put(text, ": ")?;
-    put_subject(text, base, about)
+    put_subject(text, base, op, about)
 }
 
 fn put_subject<A: Allocator>(
     text: &mut Vec<u8, A>,
     base: Address,
+    op: Op,
     about: About,
 ) -> Result<(), PlayError>
-    ensures written { OnOk result (text.new.items ≡ text.old.items ++ subject_text base.0 about) }
+    ensures written { OnOk result (text.new.items ≡ text.old.items ++ subject_text base.0 op about) }
     ensures failed { IfErr result (λ e. e ≡ PlayError.NoMemory) }
 {
     match about {
         About::Page { page, obstacle } => put_page(text, base, page, obstacle),
         About::Endpoint(endpoint) => put_named(text, u64::from(endpoint.0)),
         About::Handle(handle) => put_handle(text, handle),
-        About::Register { register, value } => put_register(text, register, value),
+        About::Register { register, value } => put_register(text, op, register, value),
         About::Bit(number) => put_bit(text, number),
         About::Field { flaw, place, value } => put_field(text, flaw, place, value),
     }
@@ -219,14 +221,26 @@ fn put_handle<A: Allocator>(text: &mut Vec<u8, A>, handle: u64) -> Result<(), Pl
 #[tactic(auto, unfolding(crate::specs::Reasons::register_text))]
 fn put_register<A: Allocator>(
     text: &mut Vec<u8, A>,
+    op: Op,
     register: u32,
     value: u64,
 ) -> Result<(), PlayError>
-    ensures written { OnOk result (text.new.items ≡ text.old.items ++ register_text register value) }
+    ensures written { OnOk result (text.new.items ≡ text.old.items ++ register_text op register value) }
     ensures failed { IfErr result (λ e. e ≡ PlayError.NoMemory) }
 {
-    write!(text, "w{register} is ").map_err(|_| PlayError::NoMemory)?;
+    put(text, letter(op, register))?;
+    write!(text, "{register} is ").map_err(|_| PlayError::NoMemory)?;
     put_digits(text, address_digits(value), value)
+}
+
+// What stands before the number of a register: x where the call reads it whole, and else w.
+fn letter(op: Op, register: u32) -> &'static str
+    ensures { result.now ≡ letter_text op register }
+{
+    match op {
+        Op::Call(x) if is_read_whole(&x, register) => "x",
+        _ => "w",
+    }
 }
 
 fn put_bit<A: Allocator>(text: &mut Vec<u8, A>, number: u32) -> Result<(), PlayError>

@@ -40,11 +40,12 @@ use Rattle.ffa_syntax.specs.TraceLines.{Line, operate, show, audit, skip, has_no
 use Rattle.ffa_syntax.specs.TraceText.{bytes_moved, hex}
 use Rattle.ffa_model.specs.Why.{why}
 use Rattle.ffa_abi.specs.Names.{call_name_of}
+use Rattle.ffa_abi.specs.Widths.{is_read_whole}
 use Rattle.ffa_reasons.specs.Checks.{number_of}
 use Rattle.ffa_reasons.specs.FlawWords.{access_words, composite_words, flaw_words_of, header_words, range_words, relinquish_words, retrieve_words, send_words}
 use Rattle.ffa_reasons.specs.Words.{words_of}
 use Rattle.ffa_lines.specs.Cut.{CutsTo}
-use Rattle.ffa_explain.specs.Reasons.{about_text, address_digits, address_of, address_text, call_text, check_text, fault_text, field_digits, field_text, handle_text, index_text, name_text, named_text, number_text, obstacle_text, page_address, page_text, place_text, reason_if, reason_line, reason_mark, reason_text, register_text, right_text, subject_text, transaction_text, value_text, verb_text, why_text}
+use Rattle.ffa_explain.specs.Reasons.{about_text, address_digits, address_of, address_text, call_text, check_text, fault_text, field_digits, field_text, handle_text, index_text, letter_text, name_text, named_text, number_text, obstacle_text, page_address, page_text, place_text, reason_if, reason_line, reason_mark, reason_text, register_text, right_text, subject_text, transaction_text, value_text, verb_text, why_text}
 use Rattle.ffa_lines.proofs.Cuts.{cuts_none, cuts_reason, decimal_digits, digits_single, inner_single}
 use Rattle.ffa_lines.proofs.PrintedWords.{inner_hex, single_call}
 
@@ -307,31 +308,42 @@ single_handle : (handle : ℕ) → IsSingle (handle_text handle)
 unfolding handle_text
 single_handle handle = single_hex 16 handle
 
-single_register : (register value : ℕ) → IsSingle (register_text register value)
+single_letter : (op : Op) (register : ℕ) → IsSingle (letter_text op register)
+single_letter (Call x) register =
+    elim (cases_Bool (is_read_whole x register)) [
+      | inl whole ↦ rw whole refl
+      | inr half ↦ rw half refl
+    ]
+single_letter (Load address size) register = refl
+single_letter (Store address size value) register = refl
+single_letter (Fetch address) register = refl
+
+single_register : (op : Op) (register value : ℕ) → IsSingle (register_text op register value)
 unfolding register_text
-single_register register value =
-    single_append (codes "w" ++ decimal register ++ codes " is ") (address_text value)
-    (single_append (codes "w" ++ decimal register) (codes " is ") (single_append (codes "w") (decimal register) refl (single_decimal register)) refl)
+single_register op register value =
+    let letter = letter_text op register in
+    single_append (letter ++ decimal register ++ codes " is ") (address_text value)
+    (single_append (letter ++ decimal register) (codes " is ") (single_append letter (decimal register) (single_letter op register) (single_decimal register)) refl)
     (single_address value)
 
-single_subject : (base : ℕ) (about : About) → IsSingle (subject_text base about)
-single_subject base (Page page obstacle) = single_page base page.0 obstacle
-single_subject base (Endpoint endpoint) = single_named endpoint.0
-single_subject base (Handle handle) = single_handle handle
-single_subject base (Register register value) = single_register register value
-single_subject base (Bit number) = single_decimal number
-single_subject base (Field flaw place value) = single_field flaw place value
+single_subject : (base : ℕ) (op : Op) (about : About) → IsSingle (subject_text base op about)
+single_subject base op (Page page obstacle) = single_page base page.0 obstacle
+single_subject base op (Endpoint endpoint) = single_named endpoint.0
+single_subject base op (Handle handle) = single_handle handle
+single_subject base op (Register register value) = single_register op register value
+single_subject base op (Bit number) = single_decimal number
+single_subject base op (Field flaw place value) = single_field flaw place value
 
-single_about : (base : ℕ) (about : Option About) → IsSingle (about_text base about)
-single_about base None = refl
-single_about base (Some about) = single_subject base about
+single_about : (base : ℕ) (op : Op) (about : Option About) → IsSingle (about_text base op about)
+single_about base op None = refl
+single_about base op (Some about) = single_subject base op about
 
 -- LINES
 
 single_why : (base : ℕ) (op : Op) (reason : Why) → IsSingle (why_text base op reason)
 single_why base op (Refused refusal about) =
-    single_append (call_text op refusal ++ words_of refusal) (about_text base about)
-    (single_append (call_text op refusal) (words_of refusal) (single_check op refusal) (single_words refusal)) (single_about base about)
+    single_append (call_text op refusal ++ words_of refusal) (about_text base op about)
+    (single_append (call_text op refusal) (words_of refusal) (single_check op refusal) (single_words refusal)) (single_about base op about)
 single_why base op (Fault kind obstacle) =
     single_append (address_text (address_of op)) (fault_text op kind obstacle) (single_address (address_of op)) (single_fault op kind obstacle)
 

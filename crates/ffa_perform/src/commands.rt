@@ -11,7 +11,7 @@ mod playing;
 mod running;
 
 use ffa_command::Request;
-use ffa_report::{Failure, accept, describe, lay_out, tell, tell_more};
+use ffa_report::{Failure, accept, describe, lay_out, more_of, tell, tell_more};
 use ffa_tasks::Trace;
 use generating::generate_trace;
 use running::{Comparison, Printing, compare, demo, draw, run};
@@ -34,7 +34,7 @@ pub struct Files<'a, R> {
 /// Does what was asked for, and answers the status with which the program ends.
 ///
 /// All output goes to `out`, which is flushed, and to `err` a line that says why a command isn't done, with a second line
-/// that says more where that is asked for. The status is 0 for a command that was done, 1 for a manifest that is refused, 2
+/// that says more where that is asked for; where there is no memory to find that, it is told alone. The status is 0 for a command that was done, 1 for a manifest that is refused, 2
 /// for a line that is none of a trace, 3 where a file can't be read, `out` can't be written or memory is short, 4 where a
 /// trace prints another text than is expected, 5 where a guard of the trace isn't met, and 64 where the words of a descriptor
 /// make no sense. Faults are found in this order: the words of a descriptor, the manifest's file, the manifest, the trace's
@@ -95,10 +95,12 @@ pub fn perform_in<A: Allocator + Copy, R: Read + Drop, W: Write, E: Write>(
     ) {
         Ok(()) => 0,
         Err(failure) => {
+            let verbose = request.is_verbose();
+            let Ok(more) = more_of(manifests, verbose, &failure, manifest, reason) else {
+                return tell(err, &Failure::NoMemory, &[]);
+            };
             let status = tell(err, &failure, &told);
-            if request.is_verbose() {
-                tell_more(manifests, err, &failure, manifest, reason);
-            }
+            tell_more(err, &more);
             status
         }
     }

@@ -37,8 +37,10 @@ regions = [{ base = 0x40030000, pages = 16, rights = \"rw\" }]
 const BARE: &str = "\
 call 84000064 83;FFA_FEATURES check 1: no such function is served: w1 is 00000083
 call 84000099;check 1: no such function is served: w0 is 84000099
-call 84000065;FFA_RX_RELEASE check 1: the caller's RX is not full
+call C4000061;check 1: no such function is served: w0 is C4000061
+call 84000065;FFA_RX_RELEASE check 1: the caller has no RX and TX, or its RX is not full
 call 84000066 40010000 40011000 0;FFA_RXTX_MAP check 2: a buffer has no page, or more than it may have: w3 is 00000000
+call C4000066 14001E000 4001F000 1;FFA_RXTX_MAP check 3: TX does not begin at a page and lie in RAM: x1 is 000000014001E000
 call 84000066 40010001 40011000 1;FFA_RXTX_MAP check 3: TX does not begin at a page and lie in RAM: w1 is 40010001
 call 84000066 40010000 40200000 1;FFA_RXTX_MAP check 4: RX does not begin at a page and lie in RAM: w2 is 40200000
 call 84000066 40010000 40010000 1;FFA_RXTX_MAP check 5: RX and TX have a page in common: w2 is 40010000
@@ -115,6 +117,7 @@ const MAPPED: &str = "call 84000066 40010000 40011000 1\n";
 
 const WITH_BUFFERS: &str = "\
 call 84000066 40010000 40011000 1;FFA_RXTX_MAP check 1: the caller has RX and TX already
+call 84000065;FFA_RX_RELEASE check 1: the caller has no RX and TX, or its RX is not full
 call 84000068/call 84000068;FFA_PARTITION_INFO_GET check 3: the caller's RX is full
 store 40010000 01/call 84000086;FFA_MSG_SEND2 check 2: a flag is set that has to be 0
 store 40010004 01/call 84000086;FFA_MSG_SEND2 check 3: a reserved field of the header is not 0
@@ -131,6 +134,7 @@ call 84000072 60 40;FFA_MEM_LEND check 2: the fragment is not the whole descript
 call 84000072 1001 1001;FFA_MEM_LEND check 3: the descriptor is longer than TX: w1 is 00001001
 call 84000072 60 60 1;FFA_MEM_LEND check 4: the address of a buffer is given, and there is TX alone: w3 is 00000001
 call 84000072 60 60 0 1;FFA_MEM_LEND check 5: the pages of a buffer are counted, and there is TX alone: w4 is 00000001
+call C4000073 60 60 100000000;FFA_MEM_SHARE check 4: the address of a buffer is given, and there is TX alone: x3 is 0000000100000000
 call C4000073 60 60;FFA_MEM_SHARE check 6: the bytes in TX are no descriptor of this call: the size of an access descriptor is not told as 16, or as 0 in the compact form: bytes 24 to 27 are 00000000
 call 84000074 60 40;FFA_MEM_RETRIEVE_REQ check 2: the fragment is not the whole descriptor: w2 is 00000040
 call 84000074 1001 1001;FFA_MEM_RETRIEVE_REQ check 3: the descriptor is longer than TX: w1 is 00001001

@@ -39,7 +39,7 @@ call 84000074 40 40
 // Identifiers of calls with no argument, and why 8001 is refused them.
 const CALLS: &str = "\
 84000063 done
-84000065 the caller's RX is not full: nothing
+84000065 the caller has no RX and TX, or its RX is not full: nothing
 84000066 the caller has RX and TX already: nothing
 84000067 done
 84000064 no such function is served: register 1 0

@@ -1,6 +1,6 @@
 -- SPDX-License-Identifier: MIT OR Apache-2.0
 -- The checks of each call in their order, and the number of a check, as the manual lists them.
-use Rattle.std.specs.Prelude.{◌≡◌, ℕ, ◌+◌, ◌==◌, Bool, List, [], ◌∷◌, map, position, Option, if◌then◌else◌}
+use Rattle.std.specs.Prelude.{◌≡◌, ℕ, ◌+◌, ◌-◌, ◌==◌, Bool, true, false, List, [], ◌∷◌, map, position, Option, if◌then◌else◌}
 use Rattle.std.specs.Option.{option_map}
 use Rattle.ffa_model.specs.declared.call.Call.{Call}
 use Rattle.ffa_model.specs.declared.call.Call.TheVariants.{Version, Features, RxRelease, RxtxMap, RxtxUnmap, PartitionInfoGet, IdGet, SpmIdGet, MsgWait, Yield, Run, DirectRequest, DirectResponse, MsgSend2, MemDonate, MemLend, MemShare, MemRetrieve, MemRelinquish, MemReclaim, BitmapCreate, BitmapDestroy, NotificationBind, NotificationUnbind, NotificationSet, NotificationGet, Unknown}
@@ -202,13 +202,20 @@ place_number list refusal = option_map (λ n. n + 1) (position (λ check. order_
 abbrev pub number_of : Call → Refusal → Option ℕ
 number_of call refusal = place_number (checks call) refusal
 
--- what is left of a list where some are left out, and no more are left where nothing is said of them
-abbrev pub left : {X : Type 0} → List Bool → List X → List X
-left [] xs = []
-left (keep ∷ keeps) [] = []
-left (keep ∷ keeps) (x ∷ xs) = if keep then x ∷ left keeps xs else left keeps xs
+-- the checks that there is what the next ones ask about: a descriptor, and the transaction of a retrieve
+abbrev pub is_of_reading : Refusal → Bool
+is_of_reading DescriptorMalformed = true
+is_of_reading HandleUnknown = true
+is_of_reading refusal = false
 
--- The names of a call's guards in this state are, in order, checks of the call. All of them, but in the calls that read a descriptor: where the bytes
--- are none, or no transaction has the handle, the guards end, and where they are one, and there is one, that guard isn't among them.
+-- The checks of a list that are made, in order, where the first `read` of these find it: they aren't among them, and the next
+-- of these, which doesn't, is the last.
+abbrev pub made : ℕ → List Refusal → List Refusal
+made read [] = []
+made read (check ∷ list) =
+    if is_of_reading check then (if read == 0 then check ∷ [] else made (read - 1) list)
+    else check ∷ made read list
+
+-- the names of a call's guards in this state are those of its checks that are made
 abbrev pub AreListed : State → Call → Type 0
-AreListed s call = (keeps : List Bool) × (map (λ guard. guard.1) (service s call).guards ≡ left keeps (checks call))
+AreListed s call = (read : ℕ) × (map (λ guard. guard.1) (service s call).guards ≡ made read (checks call))

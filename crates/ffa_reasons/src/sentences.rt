@@ -33,7 +33,7 @@ pub fn words(refusal: Refusal) -> &'static str
             "a page of RX is not the caller's own to read and write, or is in an open transaction"
         }
         Refusal::EndpointNotZero => "the endpoint is not 0",
-        Refusal::RxEmpty => "the caller's RX is not full",
+        Refusal::RxEmpty => "the caller has no RX and TX, or its RX is not full",
         Refusal::ReceiverIsNormalWorld => "the receiver is the normal world",
         Refusal::RequestsUnsent => "the caller does not send direct requests",
         Refusal::RequestsUnreceived => "the receiver does not receive direct requests",

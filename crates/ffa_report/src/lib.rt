@@ -20,5 +20,5 @@ pub use difference::Difference;
 pub use failure::Failure;
 pub use manifest::{accept, lay_out, read_manifest};
 pub use picture::print_picture;
-pub use telling::{show, tell, tell_more};
+pub use telling::{More, more_of, show, tell, tell_more};
 pub use unmet::tell_unmet;

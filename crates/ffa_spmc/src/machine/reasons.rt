@@ -13,9 +13,10 @@ use ffa_tlb::Translations;
 
 impl<M: PhysMem + Drop, T: Translations + Drop> Machine<M, T> {
     /// Why an operation of the runner is refused: of a call the first check that fails, with what it is about, where that is a
-    /// register, an endpoint or a handle that registers name, or a page, and of an access its fault, with what stands in the
-    /// way. `op` does the operation where this answers nothing. It changes nothing, takes no memory, and walks the tables: the
-    /// cache isn't asked.
+    /// register, an endpoint or a handle that registers, a message's header or a descriptor name, the first condition that a
+    /// descriptor breaks, a bit or a page, and nothing for other checks; and of an access its fault, with what stands in the way.
+    /// `op` does the operation where this answers nothing. It changes nothing, takes no memory, and walks the tables: the cache
+    /// isn't asked.
     pub fn why(&self, op: &Op) -> Option<Why>
         ensures why { result ≡ why self.now.state op.now }
         // There is a reason just where the operation is refused, and it says what the runner sees: FFA_ERROR with the code of
