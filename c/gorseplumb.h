@@ -58,7 +58,7 @@ enum ffa_kind {
     FFA_DONE = 2,       /* a store was done */
     FFA_FAULT = 3,      /* `value` is an enum ffa_fault */
     FFA_NO_MACHINE = 4, /* there is no machine, and nothing was done */
-    FFA_BAD_SIZE = 5    /* the size is none of 1, 2, 4 and 8, and nothing was done */
+    FFA_BAD_SIZE = 5    /* the size is none of 1, 2, 4 and 8, with a machine or without one, and nothing was done */
 };
 
 enum ffa_fault {
@@ -142,7 +142,8 @@ enum ffa_answer {
     FFA_WRONG_COUNT = 20   /* the list has more pages than the manifest's RAM, or fewer */
 };
 
-/* What a question answers where there is no machine. */
+/* What ffa_runner, ffa_endpoints, ffa_owner and ffa_access answer where there is no machine, and ffa_owner also where there is
+ * no such page. */
 #define FFA_NOTHING UINT32_C(0xFFFFFFFF)
 
 /* Makes the machine of a manifest's text of `size` bytes, in its first state, with RAM from the heap. FFA_OK: there was none,
@@ -165,28 +166,30 @@ uint32_t ffa_boot_lent_parts(struct ffa_machine *machine, struct ffa_lent *lent,
 
 /* One operation of the endpoint that runs: a call with eight registers, a load of 1, 2, 4 or 8 bytes, a store of the value's
  * lowest bytes, as many as `size` says, and a fetch of one instruction. The outcome and the machine's next state are those
- * of the definition of the machine, and with them goes every promise that the machine's own operations make (docs/THEOREMS.md).
- * FFA_NO_MACHINE and FFA_BAD_SIZE: nothing was done. */
+ * of the definition of the machine, and with them goes every promise that the machine's own operations make, but what these
+ * say of a cache (docs/THEOREMS.md). A load and a store of another size answer FFA_BAD_SIZE, with a machine or without one;
+ * every other operation answers FFA_NO_MACHINE where there is none. With either nothing was done. */
 struct ffa_outcome ffa_call(struct ffa_machine *machine, const struct ffa_registers *registers);
 struct ffa_outcome ffa_load(struct ffa_machine *machine, uint64_t address, uint32_t size);
 struct ffa_outcome ffa_store(struct ffa_machine *machine, uint64_t address, uint32_t size, uint64_t value);
 struct ffa_outcome ffa_fetch(struct ffa_machine *machine, uint64_t address);
 
-/* Questions, which change nothing. FFA_NOTHING: there is no machine.
+/* Questions, which change nothing. The first four answer FFA_NOTHING where there is no machine.
  *
  * The endpoint that runs, and how many there are. */
 uint32_t ffa_runner(struct ffa_machine *machine);
 uint32_t ffa_endpoints(struct ffa_machine *machine);
 
-/* Who owns a page, which counts from RAM's first: an endpoint, or 0x8000, which is the manager. FFA_NOTHING: there is no such
- * page either. */
+/* Who owns a page, which counts from RAM's first: an endpoint, or 0x8000, which is the manager. FFA_NOTHING: there is no
+ * machine, or a machine without such a page; the answer doesn't tell which. */
 uint32_t ffa_owner(struct ffa_machine *machine, uint32_t page);
 
-/* What an endpoint may do with a page: 0 is nothing, 1 to read, 3 to write too, and 4 more to execute. It is 0 where there is
- * no such endpoint or page. */
+/* What an endpoint may do with a page: 0 is nothing, 1 to read, 3 to write too, and 4 more to execute. It is 0 where a machine
+ * has no such endpoint or page. */
 uint32_t ffa_access(struct ffa_machine *machine, uint16_t endpoint, uint32_t page);
 
-/* Copies the bytes of a page of RAM, and says whether there is such a page. Where there is none, `bytes` stays. */
+/* Copies the bytes of a page of RAM: true. False: there is no machine, or a machine without such a page, which the answer doesn't
+ * tell apart, and `bytes` stays. */
 bool ffa_read_page(struct ffa_machine *machine, uint32_t page, struct ffa_page *bytes);
 
 /* Ends the machine. RAM of the heap goes back to the heap, and `lent` stays as it is (it may be { 0 }). RAM that was lent goes whole to
@@ -194,22 +197,25 @@ bool ffa_read_page(struct ffa_machine *machine, uint32_t page, struct ffa_page *
  * changed: FFA_NOTHING_RUNS, and where RAM was lent FFA_NO_LIST or FFA_HAS_PAGES. */
 uint32_t ffa_free(struct ffa_machine *machine, struct ffa_lent *lent);
 
-/* Makes an empty list with room for so many pages: one piece of memory for the list and one for its pages' addresses. FFA_OK,
- * FFA_OCCUPIED, or FFA_NO_ROOM; where it isn't FFA_OK nothing has changed. */
+/* Makes an empty list with room for so many pages: one piece of memory for the list and one for its pages' addresses. FFA_OCCUPIED
+ * where there is a list; else FFA_OK or FFA_NO_ROOM. Where it isn't FFA_OK nothing has changed. */
 uint32_t ffa_begin_lending(struct ffa_lent *lent, uint32_t pages);
 
-/* Moves a page from its slot to the end of the list, and leaves the slot empty. FFA_OK, FFA_NO_LIST, FFA_NO_PAGE, or
- * FFA_NO_ROOM, for which the list has to have no room; where it isn't FFA_OK nothing has changed. */
+/* Moves a page from its slot to the end of the list, and leaves the slot empty. FFA_NO_LIST where there is no list; else
+ * FFA_NO_PAGE where there is no page in the slot; else FFA_OK or FFA_NO_ROOM. As many pages as ffa_begin_lending was told are
+ * lent without FFA_NO_ROOM, until a boot takes the list's pages, which is tested, and not proved. Where it isn't FFA_OK nothing
+ * has changed. */
 uint32_t ffa_lend(struct ffa_lent *lent, struct ffa_slot *slot);
 
-/* Moves the list's last page to an empty slot. FFA_OK, FFA_NO_LIST, FFA_OCCUPIED, where there is a page in the slot, or
- * FFA_NO_PAGE, where the list has none; where it isn't FFA_OK nothing has changed. */
+/* Moves the list's last page to an empty slot. FFA_NO_LIST where there is no list; else FFA_OCCUPIED where there is a page in the
+ * slot; else FFA_NO_PAGE where the list has none; else FFA_OK. Where it isn't FFA_OK nothing has changed. */
 uint32_t ffa_take_back(struct ffa_lent *lent, struct ffa_slot *slot);
 
 /* The number of pages in the list; 0 where there is no list. */
 uint64_t ffa_lent_pages(struct ffa_lent *lent);
 
-/* Ends an empty list; there is none then. FFA_OK, FFA_NO_LIST or FFA_HAS_PAGES; where it isn't FFA_OK nothing has changed. */
+/* Ends an empty list; there is none then. FFA_NO_LIST where there is no list; else FFA_HAS_PAGES where it has pages; else FFA_OK.
+ * Where it isn't FFA_OK nothing has changed. */
 uint32_t ffa_end_lending(struct ffa_lent *lent);
 
 #ifdef __cplusplus

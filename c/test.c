@@ -159,6 +159,7 @@ static void out_of_order(void) {
     CHECK(!machine.live && machine.at == NULL && !untouched.live);
     CHECK(ffa_call(&machine, &none).kind == FFA_NO_MACHINE && ffa_fetch(&machine, 0).kind == FFA_NO_MACHINE);
     CHECK(ffa_load(&machine, 0, 1).kind == FFA_NO_MACHINE && ffa_store(&machine, 0, 1, 0).kind == FFA_NO_MACHINE);
+    CHECK(ffa_load(&machine, 0, 3).kind == FFA_BAD_SIZE && ffa_store(&machine, 0, 0, 0).kind == FFA_BAD_SIZE && !machine.live);
     CHECK(ffa_runner(&machine) == FFA_NOTHING && ffa_endpoints(&machine) == FFA_NOTHING);
     CHECK(ffa_owner(&machine, 0) == FFA_NOTHING);
     CHECK(ffa_access(&machine, 0, 0) == FFA_NOTHING && !ffa_read_page(&machine, 0, &bytes));
@@ -339,6 +340,16 @@ static void refusals(void) {
     refused = 2;
     CHECK(ffa_begin_lending(&list, 4) == FFA_NO_ROOM && !list.live && pieces == 0);
     refused = 0;
+    /* A lend asks for memory only where the list has no room left. */
+    struct ffa_slot slot = {true, &pages[0]};
+    CHECK(ffa_begin_lending(&list, 1) == FFA_OK);
+    asked = 0;
+    refused = 1;
+    CHECK(ffa_lend(&list, &slot) == FFA_OK && asked == 0);
+    slot = (struct ffa_slot){true, &pages[1]};
+    CHECK(ffa_lend(&list, &slot) == FFA_NO_ROOM && asked == 1 && slot.at == &pages[1] && ffa_lent_pages(&list) == 1);
+    refused = 0;
+    CHECK(ffa_lend(&list, &slot) == FFA_OK && take_all_back(&list, pages, 2) && pieces == 0);
 }
 
 int main(void) {
