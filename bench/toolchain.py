@@ -10,8 +10,13 @@ import sys
 def commands():
     """The module, whose own `rtlib` holds what a crate is, how it is checked and where its library lies."""
     path = os.path.realpath(shutil.which("rt") or sys.exit(f"{os.path.basename(sys.argv[0])}: there is no rt on the path; README.md says what is needed"))
-    loader = importlib.machinery.SourceFileLoader("rt_main", path)
-    made = importlib.util.module_from_spec(importlib.util.spec_from_loader("rt_main", loader))
-    sys.modules["rt_main"] = made
+    return loaded("rt_main", path)
+
+
+def loaded(name, path):
+    """A script as a module of this name."""
+    loader = importlib.machinery.SourceFileLoader(name, path)
+    made = importlib.util.module_from_spec(importlib.util.spec_from_loader(name, loader))
+    sys.modules[name] = made
     loader.exec_module(made)
     return made
