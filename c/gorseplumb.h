@@ -1,9 +1,10 @@
 /* SPDX-License-Identifier: MIT OR Apache-2.0 */
 /* Gorseplumb from C: a partition manager core of FF-A 1.1, as a machine that does one operation at a time.
  *
- * Link libffa_c.a with it, and the three functions of heap.c, which give the archive its memory (or three of your own). Each
- * function here keeps the contract that stands beside its namesake in crates/ffa_c/src, and the proof reaches to there: that
- * the declarations below are those of the crate is tested, and not proved, and so is what is said of pieces of memory.
+ * Link libffa_c.a with it, the three functions of heap.c, which give the archive its memory (rattle_alloc, rattle_realloc and
+ * rattle_dealloc, or three of your own by these names), and memcpy, memmove and memset. Each function here keeps the contract
+ * that stands beside its namesake in crates/ffa_c/src, and the proof reaches to there: that the declarations below are those of
+ * the crate is tested, and not proved, and so is what is said of pieces of memory.
  *
  * What C owes, and nothing checks:
  *
@@ -121,9 +122,9 @@ enum ffa_answer {
 
     /* The manifest is refused: the first cause that applies, as docs/FORMATS.md numbers them (M2 to M14). */
     FFA_MANIFEST_TOML = 2,            /* the text is no TOML, or no UTF-8 */
-    FFA_MANIFEST_UNKNOWN_KEY = 3,     /* a key that is none of its table's */
+    FFA_MANIFEST_UNKNOWN_KEY = 3,     /* a key that its table doesn't have */
     FFA_MANIFEST_MISSING_KEY = 4,     /* a table lacks one of its keys */
-    FFA_MANIFEST_WRONG_KIND = 5,      /* a value of another kind, or rights that are none */
+    FFA_MANIFEST_WRONG_KIND = 5,      /* a value of another kind, or unknown rights */
     FFA_MANIFEST_RAM_BASE = 6,        /* no multiple of 64 MiB from 04000000 to FC000000 */
     FFA_MANIFEST_RAM_BLOCKS = 7,      /* not from 1 to 32 */
     FFA_MANIFEST_ENDPOINT_COUNT = 8,  /* not from 1 to 8 */
@@ -132,7 +133,7 @@ enum ffa_answer {
     FFA_MANIFEST_REGION_COUNT = 11,   /* not from 1 to 16 */
     FFA_MANIFEST_REGION_OUTSIDE = 12, /* not whole pages in RAM behind the tables, or none */
     FFA_MANIFEST_REGION_OVERLAP = 13, /* has a page of a region before it */
-    FFA_MANIFEST_VERSION = 14,        /* no version */
+    FFA_MANIFEST_VERSION = 14,        /* an unknown version */
 
     FFA_OCCUPIED = 15,     /* what is to be made, or to be filled, is there already */
     FFA_NO_LIST = 16,      /* there is no list */
@@ -151,10 +152,9 @@ enum ffa_answer {
  * cause for which the text is refused, which is the first in the order of reading. */
 uint32_t ffa_boot(struct ffa_machine *machine, const uint8_t *text, size_t size);
 
-/* The same of a manifest as numbers, for which no memory is needed but the machine's own and its RAM. Refused are first, in this
- * order, what tells of no machine at all: more endpoints than there are places; and of each endpoint a version that is none, more
- * regions than there are places, and rights that are none; and then, in the order in which a text would be read, what makes no
- * machine. */
+/* The same of a manifest as numbers, for which no memory is needed but the machine's own and its RAM. Refused first, in this
+ * order: more endpoints than places; then for each endpoint an unknown version, more regions than places, unknown rights. After
+ * that come the causes of a text, in the order in which it would be read. */
 uint32_t ffa_boot_parts(struct ffa_machine *machine, const struct ffa_parts *parts);
 
 /* The same in RAM that is lent: the pages of the list, in order. FFA_OK: the list is empty then, and all pages behind the

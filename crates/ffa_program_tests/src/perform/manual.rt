@@ -1,5 +1,5 @@
 // SPDX-License-Identifier: MIT OR Apache-2.0
-//! The worked example of docs/USING.md: the texts are those of the files in examples/, and the manual shows the same.
+//! The worked example of docs/EXAMPLE.md: the texts are those of the files in examples/, and the manual shows the same.
 
 use super::{CHECK, LAYOUT, RUN, done, ends};
 
