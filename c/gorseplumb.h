@@ -202,9 +202,9 @@ uint32_t ffa_free(struct ffa_machine *machine, struct ffa_lent *lent);
 uint32_t ffa_begin_lending(struct ffa_lent *lent, uint32_t pages);
 
 /* Moves a page from its slot to the end of the list, and leaves the slot empty. FFA_NO_LIST where there is no list; else
- * FFA_NO_PAGE where there is no page in the slot; else FFA_OK or FFA_NO_ROOM. As many pages as ffa_begin_lending was told are
- * lent without FFA_NO_ROOM, until a boot takes the list's pages, which is tested, and not proved. Where it isn't FFA_OK nothing
- * has changed. */
+ * FFA_NO_PAGE where there is no page in the slot; else FFA_OK or FFA_NO_ROOM, which comes only where the list has as many pages
+ * as it has room for: so many as ffa_begin_lending was told have room, until a boot takes the list's pages. Where it isn't FFA_OK
+ * list and slot have the pages that they had. */
 uint32_t ffa_lend(struct ffa_lent *lent, struct ffa_slot *slot);
 
 /* Moves the list's last page to an empty slot. FFA_NO_LIST where there is no list; else FFA_OCCUPIED where there is a page in the

@@ -1,7 +1,18 @@
 -- SPDX-License-Identifier: MIT OR Apache-2.0
 -- What lending pages does to what C holds.
-use Rattle.std.specs.Prelude.{◌≡◌, ℕ, List, [], ◌∷◌, ◌++◌, length, Option, None, Some, if◌then◌else◌}
+use Rattle.std.specs.Prelude.{◌≡◌, ℕ, ◌≤◌, List, [], ◌∷◌, ◌++◌, length, Option, None, Some, if◌then◌else◌}
+use Rattle.std.specs.Option.{option_map}
+use Rattle.ffa_lent.specs.Listed.{Listed}
 use Rattle.ffa_c.specs.Boarded.{Boarded}
+
+-- the pages of a list, where there is a list
+abbrev pub pages_of : Option Listed → Option (List (List ℕ))
+pages_of list = option_map (λ l. l.pages) list
+
+-- for how many pages a list has room
+abbrev pub room_of : Option Listed → ℕ
+room_of None = 0
+room_of (Some l) = l.room
 
 -- a page goes from a slot to the end of a list: it is there once, and the slot is empty
 pub record IsLent (old new : Option (List (List ℕ))) (slot slot_after : Option (List ℕ)) : Type 0 where
@@ -11,6 +22,22 @@ pub record IsLent (old new : Option (List (List ℕ))) (slot slot_after : Option
   pub given : slot ≡ Some page
   pub added : new ≡ Some (pages ++ page ∷ [])
   pub emptied : slot_after ≡ None
+
+-- whether a list can begin, as C is told: there is none
+abbrev pub begun_answer : Option (List (List ℕ)) → ℕ
+begun_answer None = 0
+begun_answer (Some pages) = 15
+
+-- whether a page can go from a slot to a list, as C is told: there has to be a list, and a page in the slot
+abbrev pub lent_answer : Option (List (List ℕ)) → Option (List ℕ) → ℕ
+lent_answer None slot = 16
+lent_answer (Some pages) None = 17
+lent_answer (Some pages) (Some page) = 0
+
+-- there is a list, and it has no room for one page more
+abbrev pub IsFull : Option Listed → Type 0
+IsFull None = ⊥
+IsFull (Some l) = l.room ≤ length l.pages
 
 -- whether there is an empty list, as C is told
 abbrev pub list_answer : Option (List (List ℕ)) → ℕ

@@ -64,7 +64,7 @@ impl Board {
     /// Ends the machine: the pages that were lent, with the bytes that they had in the end.
     pub fn into_frames(self) -> Frames
         requires { self.is_lent ≡ true }
-        ensures { result ≡ self.machine.ram.pages }
+        ensures { result.pages ≡ self.machine.ram.pages }
     {
         match self.kind {
             Kind::Lent(machine) => machine.into_ram().into_frames(),

@@ -4,7 +4,7 @@ ghost use Rattle.std.specs.Prelude.{◌≡◌, ◌≢◌, ◌*◌, ◌⊎◌, []
 ghost use Rattle.ffa_manifest.specs.Document.{parts_of};
 ghost use Rattle.ffa_c.specs.Booting.{Describes, HasBooted, IsFirst, IsRefusedFor, TellsCause, TellsWhy, cause_number};
 ghost use Rattle.ffa_c.specs.Given.{Gives, IsGivenFor};
-ghost use Rattle.ffa_c.specs.Lending.{page_count};
+ghost use Rattle.ffa_c.specs.Lending.{page_count, pages_of};
 
 use crate::board::Board;
 use crate::lending::{FfaLent, NO_LIST, NO_MEMORY, OCCUPIED, WRONG_COUNT, put_list, take_list};
@@ -67,11 +67,11 @@ pub extern "C" fn ffa_boot_lent(
     ensures occupied { machine.old.live ≡ true → result ≡ OCCUPIED }
     ensures no_list { machine.old.live ≡ false → lent.old.live ≡ false → result ≡ NO_LIST }
     ensures booted { result ≡ 0 → (machine.old.held.value ≡ None) × HasBooted (Describes text.now) true machine.new.held.value }
-    ensures emptied { result ≡ 0 → lent.new.held.value ≡ Some [] }
+    ensures emptied { result ≡ 0 → pages_of lent.new.held.value ≡ Some [] }
     ensures machine { result ≢ 0 → machine.new ≡ machine.old }
     ensures list { result ≢ 0 → result ≢ NO_MEMORY → lent.new.held.value ≡ lent.old.held.value }
-    ensures pages { result ≢ 0 → page_count lent.new.held.value ≡ page_count lent.old.held.value }
-    ensures cause { result ≢ 0 → machine.old.live ≡ false → IfSome lent.old.held.value (λ pages. TellsWhy (Describes text.now) (IsRefusedFor text.now) (length pages) result) }
+    ensures pages { result ≢ 0 → page_count (pages_of lent.new.held.value) ≡ page_count (pages_of lent.old.held.value) }
+    ensures cause { result ≢ 0 → machine.old.live ≡ false → IfSome (pages_of lent.old.held.value) (λ pages. TellsWhy (Describes text.now) (IsRefusedFor text.now) (length pages) result) }
 {
     if machine.live {
         OCCUPIED
@@ -96,11 +96,11 @@ pub extern "C" fn ffa_boot_lent_parts(
     ensures occupied { machine.old.live ≡ true → result ≡ OCCUPIED }
     ensures no_list { machine.old.live ≡ false → lent.old.live ≡ false → result ≡ NO_LIST }
     ensures booted { result ≡ 0 → (machine.old.held.value ≡ None) × HasBooted (Gives parts.now) true machine.new.held.value }
-    ensures emptied { result ≡ 0 → lent.new.held.value ≡ Some [] }
+    ensures emptied { result ≡ 0 → pages_of lent.new.held.value ≡ Some [] }
     ensures machine { result ≢ 0 → machine.new ≡ machine.old }
     ensures list { result ≢ 0 → result ≢ NO_MEMORY → lent.new.held.value ≡ lent.old.held.value }
-    ensures pages { result ≢ 0 → page_count lent.new.held.value ≡ page_count lent.old.held.value }
-    ensures cause { result ≢ 0 → machine.old.live ≡ false → IfSome lent.old.held.value (λ pages. TellsWhy (Gives parts.now) (IsGivenFor parts.now) (length pages) result) }
+    ensures pages { result ≢ 0 → page_count (pages_of lent.new.held.value) ≡ page_count (pages_of lent.old.held.value) }
+    ensures cause { result ≢ 0 → machine.old.live ≡ false → IfSome (pages_of lent.old.held.value) (λ pages. TellsWhy (Gives parts.now) (IsGivenFor parts.now) (length pages) result) }
 {
     if machine.live {
         OCCUPIED
@@ -184,11 +184,11 @@ fn boot_lent(
 ) -> u32
     requires { machine.old.held.value ≡ None }
     ensures booted { result ≡ 0 → HasBooted (λ p. p ≡ parts_of manifest.now) true machine.new.held.value }
-    ensures emptied { result ≡ 0 → lent.new.held.value ≡ Some [] }
+    ensures emptied { result ≡ 0 → pages_of lent.new.held.value ≡ Some [] }
     ensures machine { result ≢ 0 → machine.new ≡ machine.old }
     ensures list { result ≢ 0 → result ≢ NO_MEMORY → lent.new.held.value ≡ lent.old.held.value }
-    ensures pages { result ≢ 0 → page_count lent.new.held.value ≡ page_count lent.old.held.value }
-    ensures why { result ≢ 0 → IfSome lent.old.held.value (λ pages. (result ≡ NO_MEMORY) ⊎ ((result ≡ WRONG_COUNT) × (length pages ≢ 512 * manifest.now.ram_blocks))) }
+    ensures pages { result ≢ 0 → page_count (pages_of lent.new.held.value) ≡ page_count (pages_of lent.old.held.value) }
+    ensures why { result ≢ 0 → IfSome (pages_of lent.old.held.value) (λ pages. (result ≡ NO_MEMORY) ⊎ ((result ≡ WRONG_COUNT) × (length pages ≢ 512 * manifest.now.ram_blocks))) }
 {
     let Some(mut frames) = take_list(lent, alloc) else {
         return NO_LIST;
@@ -207,11 +207,11 @@ fn boot_over(
 ) -> u32
     requires { machine.old.held.value ≡ None }
     ensures booted { result ≡ 0 → HasBooted (λ p. p ≡ parts_of manifest.now) true machine.new.held.value }
-    ensures emptied { result ≡ 0 → frames.new ≡ [] }
+    ensures emptied { result ≡ 0 → frames.new.pages ≡ [] }
     ensures machine { result ≢ 0 → machine.new ≡ machine.old }
     ensures list { result ≢ 0 → result ≢ NO_MEMORY → frames.new ≡ frames.old }
-    ensures pages { result ≢ 0 → length frames.new ≡ length frames.old }
-    ensures why { result ≢ 0 → (result ≡ NO_MEMORY) ⊎ ((result ≡ WRONG_COUNT) × (length frames.old ≢ 512 * manifest.now.ram_blocks)) }
+    ensures pages { result ≢ 0 → length frames.new.pages ≡ length frames.old.pages }
+    ensures why { result ≢ 0 → (result ≡ NO_MEMORY) ⊎ ((result ≡ WRONG_COUNT) × (length frames.old.pages ≢ 512 * manifest.now.ram_blocks)) }
 {
     if frames.pages() != 512 * manifest.ram_blocks as usize {
         return WRONG_COUNT;
@@ -232,10 +232,10 @@ fn boxed_over(
     manifest: &Manifest,
     frames: &mut Frames,
 ) -> Result<Box<Board>, NoMemory>
-    requires { length frames.old ≡ 512 * manifest.now.ram_blocks }
+    requires { length frames.old.pages ≡ 512 * manifest.now.ram_blocks }
     ensures booted { IfOk result (λ b. IsFirst (parts_of manifest.now) b.value.machine × (b.value.is_lent ≡ true)) }
-    ensures emptied { IfOk result (λ _. frames.new ≡ []) }
-    ensures pages { IfErr result (λ _. length frames.new ≡ length frames.old) }
+    ensures emptied { IfOk result (λ _. frames.new.pages ≡ []) }
+    ensures pages { IfErr result (λ _. length frames.new.pages ≡ length frames.old.pages) }
 {
     let pages = mem::replace(frames, Frames::none(alloc));
     let ram = LentRam::new(manifest.ram_base, pages);

@@ -1,7 +1,8 @@
 // SPDX-License-Identifier: MIT OR Apache-2.0
 //! Lent pages as C holds them, or none.
-ghost use Rattle.std.specs.Prelude.{◌≡◌, ℕ, List, Option, Some, None, IsSome};
-ghost use Rattle.std.specs.Coded.{coded_list, coded_option, coded_ℕ};
+ghost use Rattle.std.specs.Prelude.{◌≡◌, Option, Some, None, IsSome};
+ghost use Rattle.std.specs.Coded.{coded_option};
+ghost use Rattle.ffa_lent.specs.Listed.{Listed, coded_listed};
 
 use ffa_lent::Frames;
 use std::alloc::{Allocator, Global};
@@ -14,7 +15,7 @@ pub struct HeldFrames {
     at: *mut u8,
     // It takes no bytes.
     alloc: Global,
-    pub ghost value: { Option (List (List ℕ)) } by { coded_option (coded_list (coded_list coded_ℕ)) },
+    pub ghost value: { Option Listed } by { coded_option coded_listed },
 }
 
 impl Model for HeldFrames {

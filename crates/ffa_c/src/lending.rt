@@ -1,8 +1,9 @@
 // SPDX-License-Identifier: MIT OR Apache-2.0
 //! Pages that C lends, and gets back.
-ghost use Rattle.std.specs.Prelude.{◌≡◌, ◌≢◌, ◌⊎◌, ℕ, [], length, true, false, Option, Some, None, IfSome, is_some};
+ghost use Rattle.std.specs.Prelude.{◌≡◌, ◌≢◌, ◌≤◌, true, false, Option, Some, None, IfSome, is_some};
 ghost use Rattle.std.specs.Option.{option_map};
-ghost use Rattle.ffa_c.specs.Lending.{IsLent, freed_answer, given_back, list_answer, page_count, taken_answer};
+ghost use Rattle.ffa_lent.specs.Listed.{empty};
+ghost use Rattle.ffa_c.specs.Lending.{IsFull, IsLent, begun_answer, freed_answer, given_back, lent_answer, list_answer, page_count, pages_of, room_of, taken_answer};
 
 use crate::board::Board;
 use crate::held_frames::HeldFrames;
@@ -102,13 +103,13 @@ fn put_page(slot: &mut FfaSlot, page: Box<[u8; 4096], Lent>)
     slot.live = true;
 }
 
-/// Makes an empty list with room for so many pages. 0 is that it was made. Else nothing has changed: `OCCUPIED` or
-/// `NO_MEMORY`.
+/// Makes an empty list with room for so many pages. 0 is that it was made. Else nothing has changed: `OCCUPIED`, where there
+/// is a list, or `NO_MEMORY`.
 #[unsafe(no_mangle)]
 pub extern "C" fn ffa_begin_lending(alloc: Global, lent: &mut FfaLent, pages: u32) -> u32
-    ensures occupied { lent.old.live ≡ true → result ≡ OCCUPIED }
-    ensures answer { lent.old.live ≡ false → (result ≡ 0) ⊎ (result ≡ NO_MEMORY) }
-    ensures made { result ≡ 0 → (lent.old.held.value ≡ None) × (lent.new.held.value ≡ Some []) }
+    ensures answer { result ≢ NO_MEMORY → result ≡ begun_answer (pages_of lent.old.held.value) }
+    ensures wanting { result ≡ NO_MEMORY → lent.old.held.value ≡ None }
+    ensures made { result ≡ 0 → lent.new.held.value ≡ Some (empty pages) }
     ensures refused { result ≢ 0 → lent.new ≡ lent.old }
 {
     if lent.live {
@@ -123,9 +124,9 @@ pub extern "C" fn ffa_begin_lending(alloc: Global, lent: &mut FfaLent, pages: u3
     }
 }
 
-// A list without pages.
+// A list without pages, with room for so many.
 fn empty_list(alloc: Global, pages: usize) -> Option<Box<Frames>>
-    ensures { option_map (λ b. b.value) result ≡ option_map (λ _. []) result }
+    ensures { IfSome result (λ b. b.value ≡ empty pages) }
 {
     let Ok(frames) = Frames::with_room(alloc, pages) else {
         return None;
@@ -135,21 +136,22 @@ fn empty_list(alloc: Global, pages: usize) -> Option<Box<Frames>>
 
 // A list in a box, if there is memory for that.
 fn boxed_list(alloc: Global, frames: Frames) -> Option<Box<Frames>>
-    ensures { option_map (λ b. b.value) result ≡ option_map (λ _. frames) result }
+    ensures { IfSome result (λ b. b.value ≡ frames) }
 {
     Box::new(alloc, frames).ok()
 }
 
-/// Moves a page from its slot to the end of the list. 0 is that it was moved. Else nothing has changed: `NO_LIST`, `NO_PAGE`,
-/// or `NO_MEMORY`, where the list has no room.
+/// Moves a page from its slot to the end of the list. 0 is that it was moved. Else no page was: `NO_LIST`, `NO_PAGE`, where
+/// there is none in the slot, or `NO_MEMORY`, where the list has no room for it.
 #[unsafe(no_mangle)]
 pub extern "C" fn ffa_lend(alloc: Global, lent: &mut FfaLent, slot: &mut FfaSlot) -> u32
-    ensures lent { result ≡ 0 → IsLent lent.old.held.value lent.new.held.value slot.old.page.bytes slot.new.page.bytes }
-    ensures list { result ≢ 0 → lent.new.held.value ≡ lent.old.held.value }
+    ensures answer { result ≢ NO_MEMORY → result ≡ lent_answer (pages_of lent.old.held.value) slot.old.page.bytes }
+    ensures wanting { result ≡ NO_MEMORY → lent_answer (pages_of lent.old.held.value) slot.old.page.bytes ≡ 0 }
+    ensures full { result ≡ NO_MEMORY → IsFull lent.old.held.value }
+    ensures lent { result ≡ 0 → IsLent (pages_of lent.old.held.value) (pages_of lent.new.held.value) slot.old.page.bytes slot.new.page.bytes }
+    ensures list { result ≢ 0 → pages_of lent.new.held.value ≡ pages_of lent.old.held.value }
     ensures page { result ≢ 0 → slot.new.page.bytes ≡ slot.old.page.bytes }
-    ensures no_list { lent.old.live ≡ false → result ≡ NO_LIST }
-    ensures no_page { lent.old.live ≡ true → slot.old.live ≡ false → result ≡ NO_PAGE }
-    ensures answer { lent.old.live ≡ true → slot.old.live ≡ true → (result ≡ 0) ⊎ (result ≡ NO_MEMORY) }
+    ensures room { room_of lent.old.held.value ≤ room_of lent.new.held.value }
 {
     let Some(mut frames) = take_list(lent, alloc) else {
         return NO_LIST;
@@ -161,11 +163,13 @@ pub extern "C" fn ffa_lend(alloc: Global, lent: &mut FfaLent, slot: &mut FfaSlot
 
 // Moves a page to the end of a list.
 fn lend_to(frames: &mut Frames, slot: &mut FfaSlot) -> u32
-    ensures lent { result ≡ 0 → IsLent (Some frames.old) (Some frames.new) slot.old.page.bytes slot.new.page.bytes }
-    ensures list { result ≢ 0 → frames.new ≡ frames.old }
+    ensures answer { result ≢ NO_MEMORY → result ≡ lent_answer (Some frames.old.pages) slot.old.page.bytes }
+    ensures wanting { result ≡ NO_MEMORY → lent_answer (Some frames.old.pages) slot.old.page.bytes ≡ 0 }
+    ensures full { result ≡ NO_MEMORY → IsFull (Some frames.old) }
+    ensures lent { result ≡ 0 → IsLent (Some frames.old.pages) (Some frames.new.pages) slot.old.page.bytes slot.new.page.bytes }
+    ensures list { result ≢ 0 → frames.new.pages ≡ frames.old.pages }
     ensures page { result ≢ 0 → slot.new.page.bytes ≡ slot.old.page.bytes }
-    ensures no_page { slot.old.live ≡ false → result ≡ NO_PAGE }
-    ensures answer { slot.old.live ≡ true → (result ≡ 0) ⊎ (result ≡ NO_MEMORY) }
+    ensures room { frames.old.room ≤ frames.new.room }
 {
     let Some(page) = take_page(slot) else {
         return NO_PAGE;
@@ -180,13 +184,14 @@ fn lend_to(frames: &mut Frames, slot: &mut FfaSlot) -> u32
 }
 
 /// Moves the last page of the list to the slot, which is empty. 0 is that it was moved. Else nothing has changed: `NO_LIST`,
-/// `OCCUPIED`, where there is a page in the slot, or `NO_PAGE`, where the list has none.
+/// `OCCUPIED`, where there is a page in the slot, or `NO_PAGE`, where the list has none. The list's room stays.
 #[unsafe(no_mangle)]
 pub extern "C" fn ffa_take_back(alloc: Global, lent: &mut FfaLent, slot: &mut FfaSlot) -> u32
-    ensures answer { result ≡ taken_answer lent.old.held.value slot.old.page.bytes }
-    ensures taken { result ≡ 0 → IsLent lent.new.held.value lent.old.held.value slot.new.page.bytes slot.old.page.bytes }
-    ensures list { result ≢ 0 → lent.new.held.value ≡ lent.old.held.value }
+    ensures answer { result ≡ taken_answer (pages_of lent.old.held.value) slot.old.page.bytes }
+    ensures taken { result ≡ 0 → IsLent (pages_of lent.new.held.value) (pages_of lent.old.held.value) slot.new.page.bytes slot.old.page.bytes }
+    ensures list { result ≢ 0 → pages_of lent.new.held.value ≡ pages_of lent.old.held.value }
     ensures page { result ≢ 0 → slot.new.page.bytes ≡ slot.old.page.bytes }
+    ensures room { room_of lent.new.held.value ≡ room_of lent.old.held.value }
 {
     let Some(mut frames) = take_list(lent, alloc) else {
         return NO_LIST;
@@ -198,10 +203,11 @@ pub extern "C" fn ffa_take_back(alloc: Global, lent: &mut FfaLent, slot: &mut Ff
 
 // Moves the last page of a list to a slot.
 fn take_from(frames: &mut Frames, slot: &mut FfaSlot) -> u32
-    ensures answer { result ≡ taken_answer (Some frames.old) slot.old.page.bytes }
-    ensures taken { result ≡ 0 → IsLent (Some frames.new) (Some frames.old) slot.new.page.bytes slot.old.page.bytes }
-    ensures list { result ≢ 0 → frames.new ≡ frames.old }
+    ensures answer { result ≡ taken_answer (Some frames.old.pages) slot.old.page.bytes }
+    ensures taken { result ≡ 0 → IsLent (Some frames.new.pages) (Some frames.old.pages) slot.new.page.bytes slot.old.page.bytes }
+    ensures list { result ≢ 0 → frames.new.pages ≡ frames.old.pages }
     ensures page { result ≢ 0 → slot.new.page.bytes ≡ slot.old.page.bytes }
+    ensures room { frames.new.room ≡ frames.old.room }
 {
     if slot.live {
         return OCCUPIED;
@@ -219,7 +225,7 @@ fn take_from(frames: &mut Frames, slot: &mut FfaSlot) -> u32
 #[unsafe(no_mangle)]
 pub extern "C" fn ffa_lent_pages(alloc: Global, lent: &mut FfaLent) -> u64
     ensures same { lent.new.held.value ≡ lent.old.held.value }
-    ensures count { result ≡ page_count lent.old.held.value }
+    ensures count { result ≡ page_count (pages_of lent.old.held.value) }
 {
     match take_list(lent, alloc) {
         None => 0,
@@ -234,7 +240,7 @@ pub extern "C" fn ffa_lent_pages(alloc: Global, lent: &mut FfaLent) -> u64
 /// Ends an empty list. 0 is that it is none now. Else nothing has changed: `NO_LIST`, or `HAS_PAGES`.
 #[unsafe(no_mangle)]
 pub extern "C" fn ffa_end_lending(alloc: Global, lent: &mut FfaLent) -> u32
-    ensures answer { result ≡ list_answer lent.old.held.value }
+    ensures answer { result ≡ list_answer (pages_of lent.old.held.value) }
     ensures ended { result ≡ 0 → lent.new.held.value ≡ None }
     ensures refused { result ≢ 0 → lent.new.held.value ≡ lent.old.held.value }
 {
@@ -254,9 +260,10 @@ pub extern "C" fn ffa_end_lending(alloc: Global, lent: &mut FfaLent) -> u32
 /// `NO_MACHINE`, and for RAM that was lent `NO_LIST` or `HAS_PAGES`.
 #[unsafe(no_mangle)]
 pub extern "C" fn ffa_free(alloc: Global, machine: &mut FfaMachine, lent: &mut FfaLent) -> u32
-    ensures answer { result ≡ freed_answer machine.old.held.value lent.old.held.value }
+    ensures answer { result ≡ freed_answer machine.old.held.value (pages_of lent.old.held.value) }
     ensures ended { result ≡ 0 → machine.new.held.value ≡ None }
-    ensures given_back { result ≡ 0 → lent.new.held.value ≡ given_back machine.old.held.value lent.old.held.value }
+    ensures given_back { result ≡ 0 → pages_of lent.new.held.value ≡ given_back machine.old.held.value (pages_of lent.old.held.value) }
+    ensures heap { IfSome machine.old.held.value (λ b. b.is_lent ≡ false → lent.new.held.value ≡ lent.old.held.value) }
     ensures machine { result ≢ 0 → machine.new.held.value ≡ machine.old.held.value }
     ensures list { result ≢ 0 → lent.new.held.value ≡ lent.old.held.value }
 {
@@ -275,9 +282,9 @@ pub extern "C" fn ffa_free(alloc: Global, machine: &mut FfaMachine, lent: &mut F
 fn free_lent(alloc: Global, machine: &mut FfaMachine, lent: &mut FfaLent, board: Box<Board>) -> u32
     requires taken { machine.old.held.value ≡ None }
     requires lent { board.value.is_lent ≡ true }
-    ensures answer { result ≡ list_answer lent.old.held.value }
+    ensures answer { result ≡ list_answer (pages_of lent.old.held.value) }
     ensures ended { result ≡ 0 → machine.new.held.value ≡ None }
-    ensures given_back { result ≡ 0 → lent.new.held.value ≡ Some board.value.machine.ram.pages }
+    ensures given_back { result ≡ 0 → pages_of lent.new.held.value ≡ Some board.value.machine.ram.pages }
     ensures machine { result ≢ 0 → machine.new.held.value ≡ Some board.value }
     ensures list { result ≢ 0 → lent.new.held.value ≡ lent.old.held.value }
 {

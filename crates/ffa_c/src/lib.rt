@@ -1,5 +1,6 @@
 // SPDX-License-Identifier: MIT OR Apache-2.0
-//! The machine for C: a static library whose exports say again what the machine's own calls promise.
+//! The machine for C: a static library. Its four operations say again what `Machine::op` promises, but for what that says of a
+//! cache, since there is none. Boots say that the machine is in its first state; questions and lists have promises of their own.
 #![tactic(auto)]
 
 pub mod board;

@@ -2,6 +2,7 @@
 //! Pages that are lent, and RAM over them.
 ghost use Rattle.std.specs.Prelude.{◌≡◌, ℕ, ◌+◌, ◌*◌, ◌%◌, ◌^◌, ◌<◌, ◌≤◌, ◌++◌, [], ◌∷◌, None, IfOk, IfErr, is_ok, if◌then◌else◌, length, map, vec_len};
 ghost use Rattle.std.specs.Option.{option_map, option_to_list};
+ghost use Rattle.ffa_lent.specs.Listed.{empty};
 
 use crate::lent::Lent;
 use ffa_model::{Address, PageNo};
@@ -9,27 +10,27 @@ use ffa_physmem::PhysMem;
 use std::alloc::{AllocError, Global};
 use std::marker::Model;
 
-/// Pages that are lent, in the order in which they came. Contracts see the bytes of each.
+/// Pages that are lent, in the order in which they came. Contracts see the bytes of each, and for how many there is room.
 #[derive(Drop)]
 pub struct Frames {
     list: Vec<Box<[u8; 4096], Lent>>,
 }
 
 impl Model for Frames {
-    ghost use Rattle.std.specs.Prelude.{ℕ, List, map};
-    ghost use Rattle.std.specs.Coded.{coded_list, coded_ℕ};
+    ghost use Rattle.std.specs.Prelude.{map, vec_capacity};
+    ghost use Rattle.ffa_lent.specs.Listed.{Listed, coded_listed};
 
-    ghost Value = { List (List ℕ) };
+    ghost Value = { Listed };
 
-    ghost coded = { coded_list (coded_list coded_ℕ) };
+    ghost coded = { coded_listed };
 
-    ghost view = { λ f. map (λ b. b.value) f.list.items };
+    ghost view = { λ f. record { pages = map (λ b. b.value) f.list.items; room = vec_capacity f.list } };
 }
 
 impl Frames {
     /// No pages, for which the list takes no memory.
     pub fn none(alloc: Global) -> Frames
-        ensures { result ≡ [] }
+        ensures { result ≡ empty 0 }
     {
         let list = Vec::new(alloc);
         Frames { list }
@@ -37,7 +38,7 @@ impl Frames {
 
     /// No pages, and room for so many, for which the list takes no more memory.
     pub fn with_room(alloc: Global, pages: usize) -> Result<Frames, AllocError>
-        ensures { IfOk result (λ f. f ≡ []) }
+        ensures { IfOk result (λ f. f ≡ empty pages) }
     {
         let list = Vec::with_capacity(alloc, pages)?;
         Ok(Frames { list })
@@ -45,15 +46,17 @@ impl Frames {
 
     /// The number of pages.
     pub fn pages(&self) -> usize
-        ensures { result ≡ length self.now }
+        ensures { result ≡ length self.now.pages }
     {
         self.list.len()
     }
 
-    /// Adds a page behind the others. Where there is no memory for that, the page comes back.
+    /// Adds a page behind the others. Where there is no room and no memory for that, the page comes back.
     pub fn lend(&mut self, page: Box<[u8; 4096], Lent>) -> Result<(), Box<[u8; 4096], Lent>>
-        ensures pages { self.new ≡ (if is_ok result then self.old ++ page.value ∷ [] else self.old) }
+        ensures pages { self.new.pages ≡ (if is_ok result then self.old.pages ++ page.value ∷ [] else self.old.pages) }
         ensures returned { IfErr result (λ b. b.value ≡ page.value) }
+        ensures full { IfErr result (λ _. self.old.room ≤ length self.old.pages) }
+        ensures room { self.old.room ≤ self.new.room }
     {
         match self.list.push(page) {
             Ok(()) => Ok(()),
@@ -63,8 +66,9 @@ impl Frames {
 
     /// Takes the last page out, if there is one.
     pub fn take_back(&mut self) -> Option<Box<[u8; 4096], Lent>>
-        ensures last { self.old ≡ self.new ++ option_to_list (option_map (λ b. b.value) result) }
-        ensures none { result ≡ None → self.old ≡ [] }
+        ensures last { self.old.pages ≡ self.new.pages ++ option_to_list (option_map (λ b. b.value) result) }
+        ensures none { result ≡ None → self.old.pages ≡ [] }
+        ensures room { self.new.room ≡ self.old.room }
     {
         self.list.pop()
     }
@@ -85,8 +89,8 @@ impl LentRam {
     /// RAM at this address, whose pages are those that are lent, with the bytes that are in them.
     pub fn new(base: Address, frames: Frames) -> LentRam
         requires aligned { base.0 % 4096 ≡ 0 }
-        requires fits { base.0 + 4096 * length frames ≤ 2 ^ 32 }
-        ensures { ram_of result ≡ record { base = base.0; pages = frames } }
+        requires fits { base.0 + 4096 * length frames.pages ≤ 2 ^ 32 }
+        ensures { ram_of result ≡ record { base = base.0; pages = frames.pages } }
     {
         LentRam {
             base,
@@ -96,7 +100,7 @@ impl LentRam {
 
     /// The pages once more, with the bytes that RAM had in the end.
     pub fn into_frames(self) -> Frames
-        ensures { result ≡ (ram_of self).pages }
+        ensures { result.pages ≡ (ram_of self).pages }
     {
         Frames { list: self.frames }
     }
