@@ -49,7 +49,7 @@ pub enum Refusal {
     RxUnusable,
     /// The endpoint that is named is not 0.
     EndpointNotZero,
-    /// The caller's RX is not full.
+    /// The caller has no RX and TX, or its RX is not full.
     RxEmpty,
     // FFA_RUN, FFA_MSG_WAIT, FFA_YIELD and direct messages.
     /// The receiver of the request is the normal world.
