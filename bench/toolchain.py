@@ -20,3 +20,9 @@ def loaded(name, path):
     sys.modules[name] = made
     loader.exec_module(made)
     return made
+
+
+def share_work(rt, is_alone):
+    """Has what other clones on this machine proved taken up, in the releases of the toolchain that keep it: rattle-kit-13b doesn't."""
+    if hasattr(rt, "share_work"):
+        rt.share_work(is_alone=is_alone)
