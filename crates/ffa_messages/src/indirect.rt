@@ -9,7 +9,9 @@ ghost use Rattle.ffa_model.specs.First.{party_of};
 ghost use Rattle.ffa_model.specs.Messages.{header_in, message_in, send2_guards};
 ghost use Rattle.ffa_model.specs.Ram.{number_in, page_of};
 ghost use Rattle.ffa_model.specs.State.{is_known_among};
-ghost use Rattle.ffa_rxtx.specs.Parts.{IsInRam, run_in, with_run, with_rx_bytes};
+ghost use Rattle.ffa_model.specs.Lists.{is_in_run};
+ghost use Rattle.ffa_physmem.specs.Moments.{IsWriting, Only};
+ghost use Rattle.ffa_rxtx.specs.Parts.{IsInRam, IsRxWriting, run_in, with_run, with_rx_bytes};
 ghost use Rattle.ffa_rxtx.specs.Stored.{buffers_of};
 ghost use Rattle.ffa_messages.specs.Parts.{AreEndsApart, AreInRam, IsBeside, ends_guards, header_guards, header_of, receiver_in, sent_in, size_in};
 
@@ -185,9 +187,11 @@ pub fn send2<M: PhysMem>(
     ensures refusal { result_err result ≡ first_failure (send2_guards (map party_of manifest.now.endpoints.items) buffers.old caller.0 (header_in (sent_in (M.ram ram.old) buffers.old caller.0))) }
     ensures receiver { IfOk result (λ receiver. receiver.0 ≡ receiver_in (M.ram ram.old) buffers.old caller.0) }
     ensures kept_ram { OnErr result (M.ram ram.new ≡ M.ram ram.old) }
+    ensures kept_past { OnErr result (M.past ram.new ≡ M.past ram.old) }
     ensures kept { OnErr result (buffers.new ≡ buffers.old) }
     ensures ram { OnOk result (M.ram ram.new ≡ with_rx_bytes (M.ram ram.old) (buffers_in buffers.old (receiver_in (M.ram ram.old) buffers.old caller.0)) (message_in (sent_in (M.ram ram.old) buffers.old caller.0))) }
     ensures full { OnOk result (buffers.new ≡ buffers_with_rx buffers.old (receiver_in (M.ram ram.old) buffers.old caller.0) true) }
+    ensures steps { Only (M.past ram.old) (M.past ram.new) (λ _ s. IsRxWriting (M.ram ram.old) (buffers_in buffers.old (receiver_in (M.ram ram.old) buffers.old caller.0)) s) }
 {
     let message = check_send2(ram, buffers, manifest, caller)?;
     deliver(ram, buffers, &message.from, message.receiver, message.size);
@@ -265,6 +269,7 @@ fn deliver<M: PhysMem>(
     requires apart { IsSomeAnd (buffers_in buffers.old receiver.0) (λ b. IsBeside (buffers_of from.now) b) }
     ensures ram { M.ram ram.new ≡ with_rx_bytes (M.ram ram.old) (buffers_in buffers.old receiver.0) (take size (run_in (M.ram ram.old) from.now.tx.0 from.now.pages)) }
     ensures full { buffers.new ≡ buffers_with_rx buffers.old receiver.0 true }
+    ensures steps { Only (M.past ram.old) (M.past ram.new) (λ _ s. IsRxWriting (M.ram ram.old) (buffers_in buffers.old receiver.0) s) }
 {
     match buffers.of(receiver) {
         Some(to) => {
@@ -282,7 +287,8 @@ fn copy_run<M: PhysMem>(ram: &mut M, from: &Mapped, to: &Mapped, size: usize)
     requires fits { size ≤ 4096 * from.now.pages }
     requires room { size ≤ 4096 * to.now.pages }
     requires apart { IsBeside (buffers_of from.now) (buffers_of to.now) }
-    ensures { M.ram ram.new ≡ with_run to.now.pages (M.ram ram.old) to.now.rx.0 (take size (run_in (M.ram ram.old) from.now.tx.0 from.now.pages)) }
+    ensures ram { M.ram ram.new ≡ with_run to.now.pages (M.ram ram.old) to.now.rx.0 (take size (run_in (M.ram ram.old) from.now.tx.0 from.now.pages)) }
+    ensures steps { Only (M.past ram.old) (M.past ram.new) (λ _ s. IsWriting (M.ram ram.old) (is_in_run to.now.rx.0 to.now.pages) s) }
 {
     // Proof step: the number of pages fits a u32.
     let _ = ram.pages();

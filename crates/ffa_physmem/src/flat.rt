@@ -2,7 +2,7 @@
 //! RAM in one piece of memory.
 ghost use Rattle.std.specs.Prelude.{◌≡◌, ℕ, ◌+◌, ◌*◌, ◌%◌, ◌^◌, ◌<◌, ◌≤◌, length, replicate, IfOk, vec_len};
 
-use crate::memory::PhysMem;
+use crate::memory::{PhysMem, put_word};
 use ffa_model::{Address, PageNo};
 use std::alloc::{AllocError, Allocator, Global};
 use std::fmt;
@@ -79,6 +79,8 @@ fn zero_pages<A: Allocator>(alloc: A, count: u32) -> Result<Vec<[u8; 4096], A>, 
 }
 
 impl<A: Allocator> PhysMem for FlatRam<A> {
+    ghost use Rattle.std.specs.Prelude.{None};
+    ghost use Rattle.ffa_physmem.specs.Unrecorded.{unrecorded};
     ghost use Rattle.std.specs.Prelude.{refl};
     ghost use Rattle.std.specs.Vec.{with_item};
 
@@ -86,7 +88,12 @@ impl<A: Allocator> PhysMem for FlatRam<A> {
 
     ghost with_bytes = { λ m page bytes. record m { pages = with_item m.pages page bytes } };
 
+    // No record is kept.
+    ghost past = { λ _. None };
+
     ghost one_page = { λ m page bytes. refl };
+
+    ghost in_loan = { λ _ _ _. unrecorded };
 
     fn base(&self) -> Address {
         self.base
@@ -106,4 +113,14 @@ impl<A: Allocator> PhysMem for FlatRam<A> {
     fn page_mut(&mut self, page: PageNo) -> &mut [u8; 4096] {
         &mut self.pages[page.0 as usize]
     }
+
+    fn write_word(&mut self, page: PageNo, index: usize, value: u64) {
+        put_word(self.page_mut(page), index, value);
+    }
+
+    fn settle(&mut self, _endpoint: usize, _first: PageNo, _count: u32) {}
+
+    fn observe(&mut self, _first: PageNo, _count: u32) {}
+
+    fn release(&mut self, _first: PageNo, _count: u32) {}
 }

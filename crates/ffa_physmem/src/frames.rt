@@ -3,7 +3,7 @@
 ghost use Rattle.std.specs.Prelude.{◌≡◌, ℕ, ◌+◌, ◌*◌, ◌%◌, ◌^◌, ◌<◌, ◌≤◌, length, map, replicate, IfOk, vec_len};
 
 use crate::flat::NoMemory;
-use crate::memory::PhysMem;
+use crate::memory::{PhysMem, put_word};
 use ffa_model::{Address, PageNo};
 use std::alloc::{AllocError, Allocator, Global};
 
@@ -62,13 +62,20 @@ pub fn zero_frames<A: Allocator + Copy>(
 }
 
 impl<A: Allocator> PhysMem for FrameRam<A> {
+    ghost use Rattle.std.specs.Prelude.{None};
+    ghost use Rattle.ffa_physmem.specs.Unrecorded.{unrecorded};
     ghost use Rattle.ffa_physmem.specs.FrameRam.{ram_of, with_frame, ram_of-with_frame};
 
     ghost ram = { ram_of };
 
     ghost with_bytes = { with_frame };
 
+    // No record is kept.
+    ghost past = { λ _. None };
+
     ghost one_page = { ram_of-with_frame };
+
+    ghost in_loan = { λ _ _ _. unrecorded };
 
     fn base(&self) -> Address {
         self.base
@@ -88,4 +95,14 @@ impl<A: Allocator> PhysMem for FrameRam<A> {
     fn page_mut(&mut self, page: PageNo) -> &mut [u8; 4096] {
         self.frames[page.0 as usize].as_mut()
     }
+
+    fn write_word(&mut self, page: PageNo, index: usize, value: u64) {
+        put_word(self.page_mut(page), index, value);
+    }
+
+    fn settle(&mut self, _endpoint: usize, _first: PageNo, _count: u32) {}
+
+    fn observe(&mut self, _first: PageNo, _count: u32) {}
+
+    fn release(&mut self, _first: PageNo, _count: u32) {}
 }

@@ -8,4 +8,4 @@ pub mod memory;
 
 pub use flat::{FlatRam, NoMemory};
 pub use frames::FrameRam;
-pub use memory::{PAGE_SIZE, PhysMem, put_front};
+pub use memory::{PAGE_SIZE, PhysMem, put_front, put_word};

@@ -1,8 +1,10 @@
 // SPDX-License-Identifier: MIT OR Apache-2.0
 //! What the manager needs of RAM.
-ghost use Rattle.std.specs.Prelude.{◌≡◌, ℕ, ◌+◌, ◌*◌, ◌%◌, ◌^◌, ◌<◌, ◌≤◌, List, ◌++◌, length, take, drop, replicate};
+ghost use Rattle.std.specs.Prelude.{◌≡◌, ℕ, ◌+◌, ◌*◌, ◌%◌, ◌^◌, ◌<◌, ◌≤◌, true, false, List, ◌++◌, length, take, drop, replicate, Option};
 ghost use Rattle.std.specs.Borrow.{sem, Lends, Array, u8 as byte};
 ghost use Rattle.ffa_model.specs.Ram.{Ram, page_of, with_page, word_of, with_word};
+ghost use Rattle.ffa_model.specs.Lists.{is_in_run};
+ghost use Rattle.ffa_physmem.specs.Moments.{Step, IsBeside, IsReading, IsStore, IsSettling, IsInLoan, One, Only};
 
 use byteorder::{ByteOrder, LittleEndian};
 use ffa_model::{Address, PageNo};
@@ -17,6 +19,10 @@ pub trait PhysMem {
 
     /// The same RAM with other bytes in one page.
     ghost with_bytes: { Self → ℕ → List ℕ → Self };
+
+    /// What was written to it so far: the steps, the last first; or nothing, where it keeps no record of them. What is
+    /// promised of steps is promised for every kind, so also for one that does.
+    ghost past: { Self → Option (List Step) };
 
     /// The address of the first byte.
     fn base(&self) -> Address
@@ -49,19 +55,40 @@ pub trait PhysMem {
         LittleEndian::read_u64(&self.page(page)[8 * index..])
     }
 
-    /// Writes the word at a place of a page.
+    /// Writes the word at a place of a page, in one step.
     fn write_word(&mut self, page: PageNo, index: usize, value: u64)
         requires page { page.0 < length (ram self.old).pages }
         requires index { index < 512 }
-        ensures { ram self.new ≡ with_page (ram self.old) page.0 (with_word (page_of (ram self.old) page.0) index value) }
-    {
-        LittleEndian::write_u64(&mut self.page_mut(page)[8 * index..], value);
-    }
+        ensures ram { ram self.new ≡ with_page (ram self.old) page.0 (with_word (page_of (ram self.old) page.0) index value) }
+        ensures steps { One (past self.old) (past self.new) (λ s. IsStore (ram self.old) page.0 index value s) };
+
+    /// Waits until all that was written is seen by every translation unit, and none holds anything that it read before of
+    /// these pages, from one on, in the tables of the endpoint at a place. RAM stays.
+    fn settle(&mut self, endpoint: usize, first: PageNo, count: u32)
+        ensures ram { ram self.new ≡ ram self.old }
+        ensures steps { One (past self.old) (past self.new) (λ s. IsSettling (ram self.old) endpoint first.0 count s) };
+
+    /// Reads pages, from one on, to which others may write at the same time: until `release` each of them is what this one
+    /// reading gave. It tells nothing of their bytes, since others may have written to them since they were read last. A kind
+    /// to which nobody else writes keeps them as they are.
+    fn observe(&mut self, first: PageNo, count: u32)
+        requires { first.0 + count ≤ length (ram self.old).pages }
+        ensures beside { IsBeside (ram self.old) (ram self.new) (is_in_run first.0 count) }
+        ensures whole { (p : ℕ) → length (page_of (ram self.new) p) ≡ length (page_of (ram self.old) p) }
+        ensures steps { One (past self.old) (past self.new) (λ s. IsReading (ram self.old) (ram self.new) first.0 count true s) };
+
+    /// Ends what `observe` of the same pages began: from now on they are again whatever others write to them.
+    fn release(&mut self, first: PageNo, count: u32)
+        requires { first.0 + count ≤ length (ram self.old).pages }
+        ensures beside { IsBeside (ram self.old) (ram self.new) (is_in_run first.0 count) }
+        ensures whole { (p : ℕ) → length (page_of (ram self.new) p) ≡ length (page_of (ram self.old) p) }
+        ensures steps { One (past self.old) (past self.new) (λ s. IsReading (ram self.old) (ram self.new) first.0 count false s) };
 
     /// Fills a page with zeros.
     fn clear_page(&mut self, page: PageNo)
         requires { page.0 < length (ram self.old).pages }
-        ensures { ram self.new ≡ with_page (ram self.old) page.0 (replicate 4096 0) }
+        ensures ram { ram self.new ≡ with_page (ram self.old) page.0 (replicate 4096 0) }
+        ensures steps { Only (past self.old) (past self.new) (λ _ s. IsInLoan (ram self.old) page.0 s) }
     {
         *self.page_mut(page) = [0; 4096];
     }
@@ -71,7 +98,8 @@ pub trait PhysMem {
         requires from { from.0 < length (ram self.old).pages }
         requires to { to.0 < length (ram self.old).pages }
         requires count { count ≤ 4096 }
-        ensures { ram self.new ≡ with_page (ram self.old) to.0 (take count (page_of (ram self.old) from.0) ++ drop count (page_of (ram self.old) to.0)) }
+        ensures ram { ram self.new ≡ with_page (ram self.old) to.0 (take count (page_of (ram self.old) from.0) ++ drop count (page_of (ram self.old) to.0)) }
+        ensures steps { Only (past self.old) (past self.new) (λ _ s. IsInLoan (ram self.old) to.0 s) }
     {
         let mut buffer = [0; PAGE_SIZE];
         buffer.copy_from_slice(self.page(from));
@@ -80,6 +108,17 @@ pub trait PhysMem {
 
     /// Only that page changes.
     ghost one_page: { (m : Self) (page : ℕ) (bytes : List ℕ) → ram (with_bytes m page bytes) ≡ with_page (ram m) page bytes };
+
+    /// While a page is lent it may change in any number of steps, and nothing else does.
+    ghost in_loan: { (m : Self) (page : ℕ) (bytes : List ℕ) → Only (past m) (past (with_bytes m page bytes)) (λ _ s. IsInLoan (ram m) page s) };
+}
+
+/// Writes the word at a place of a page's bytes.
+pub fn put_word(page: &mut [u8; 4096], index: usize, value: u64)
+    requires { index < 512 }
+    ensures { page.new ≡ with_word page.old index value }
+{
+    LittleEndian::write_u64(&mut page[8 * index..], value);
 }
 
 /// Writes `source` over the first bytes of `target`, whose other bytes stay.

@@ -1,12 +1,13 @@
 -- SPDX-License-Identifier: MIT OR Apache-2.0
 -- What the checks of a mapping read, and the bytes of TX and RX, over the parts of the machine.
-use Rattle.std.specs.Prelude.{ℕ, zero, suc, ◌+◌, ◌≤◌, Bool, false, ◌||◌, List, [], length, take, drop, is_some, Option, None, Some}
+use Rattle.std.specs.Prelude.{◌≡◌, ℕ, zero, suc, ◌+◌, ◌≤◌, Bool, false, ◌||◌, List, [], length, take, drop, is_some, Option, None, Some}
 use Rattle.std.specs.List.{flat_map}
 use Rattle.std.specs.Option.{option_map, option_map_or}
 use Rattle.ffa_model.specs.Lists.{is_in_run, run}
 use Rattle.ffa_model.specs.Ram.{Ram, page_of, with_page, with_bytes}
 use Rattle.ffa_model.specs.State.{Buffers}
 use Rattle.ffa_model.specs.Buffers.{Candidate, Candidates}
+use Rattle.ffa_physmem.specs.Moments.{IsBeside, IsWriting, Step}
 use Rattle.ffa_pages.specs.Entry.{Entry, entry_at}
 
 abbrev pub candidate_in : List (Option Entry) → ℕ → Option Candidate
@@ -43,3 +44,15 @@ pub record IsInRam (pages : ℕ) (b : Buffers) : Type 0 where
 -- whether TX or RX has a page
 abbrev pub have_page : Option Buffers → ℕ → Bool
 have_page own p = option_map_or (λ (b : Buffers). is_in_run b.tx b.pages p || is_in_run b.rx b.pages p) own false
+
+-- no page but those of RX differs
+pub record IsBesideRx (old ram : Ram) (own : Option Buffers) : Type 0 where
+  pub buffers : Buffers
+  pub are : own ≡ Some buffers
+  pub beside : IsBeside old ram (is_in_run buffers.rx buffers.pages)
+
+-- a step while no page but those of RX differs
+pub record IsRxWriting (old : Ram) (own : Option Buffers) (s : Step) : Type 0 where
+  pub buffers : Buffers
+  pub are : own ≡ Some buffers
+  pub writing : IsWriting old (is_in_run buffers.rx buffers.pages) s

@@ -11,7 +11,8 @@ ghost use Rattle.ffa_model.specs.Calls.{first_failure, first_refusal};
 ghost use Rattle.ffa_model.specs.Identifiers.{place};
 ghost use Rattle.ffa_model.specs.MemorySend.{is_buffer};
 ghost use Rattle.ffa_model.specs.State.{Buffers as Own, is_known_among};
-ghost use Rattle.ffa_rxtx.specs.Parts.{IsInRam, candidate_in, candidates_in, have_page, with_rx_bytes};
+ghost use Rattle.ffa_physmem.specs.Moments.{Only};
+ghost use Rattle.ffa_rxtx.specs.Parts.{IsInRam, IsRxWriting, candidate_in, candidates_in, have_page, with_rx_bytes};
 ghost use Rattle.ffa_rxtx.specs.Stored.{buffers_of};
 
 use arrayvec::ArrayVec;
@@ -255,6 +256,7 @@ impl Buffers {
         requires bytes { length bytes.now ≤ 4096 }
         ensures ram { M.ram ram.new ≡ with_rx_bytes (M.ram ram.old) (buffers_in self.old endpoint.0) bytes.now }
         ensures full { self.new ≡ buffers_with_rx self.old endpoint.0 true }
+        ensures steps { Only (M.past ram.old) (M.past ram.new) (λ _ s. IsRxWriting (M.ram ram.old) (buffers_in self.old endpoint.0) s) }
     {
         if let Some(mapped) = self.of(endpoint) {
             put_front(ram.page_mut(mapped.rx), bytes);

@@ -1,10 +1,11 @@
 // SPDX-License-Identifier: MIT OR Apache-2.0
 //! Loads, stores and fetches through the walk.
-ghost use Rattle.std.specs.Prelude.{◌≡◌, ℕ, ◌%◌, ◌^◌, ◌<◌, ◌==◌, IsTrue, IfOk, true};
+ghost use Rattle.std.specs.Prelude.{◌≡◌, ℕ, ◌%◌, ◌^◌, ◌<◌, ◌==◌, IsTrue, IfOk, OnErr, Ok, true};
 ghost use Rattle.byteorder.specs.Endian.{little_bytes};
 ghost use Rattle.ffa_model.specs.Memory.{size_of};
 ghost use Rattle.ffa_model.specs.Walk as walk;
 ghost use Rattle.ffa_model.specs.Reach as spec;
+ghost use Rattle.ffa_physmem.specs.Moments.{IsWriting, Only};
 ghost use Rattle.ffa_walker.specs.Need.{needs};
 ghost use Rattle.ffa_walker.specs.Offset.{KeepsOffset};
 
@@ -96,7 +97,8 @@ fn read_number<M: PhysMem>(memory: &M, physical: u64, size: Size) -> u64
 fn write_number<M: PhysMem>(memory: &mut M, physical: u64, size: Size, value: u64)
     requires inside { IsTrue (walk.is_in_ram (M.ram memory.old) physical) }
     requires aligned { physical % size_of size ≡ 0 }
-    ensures { M.ram memory.new ≡ spec.with_bytes_at (M.ram memory.old) physical (little_bytes (size_of size) value) }
+    ensures written { M.ram memory.new ≡ spec.with_bytes_at (M.ram memory.old) physical (little_bytes (size_of size) value) }
+    ensures steps { Only (M.past memory.old) (M.past memory.new) (λ _ s. IsWriting (M.ram memory.old) (λ p. p == spec.page_index (M.ram memory.old) physical) s) }
 {
     let place = physical - u64::from(memory.base().0);
     let page = memory.page_mut(PageNo((place / 4096) as u32));
@@ -200,7 +202,11 @@ pub fn store_at<M: PhysMem>(
     requires offset { KeepsOffset address walked }
     ensures answer { result ≡ spec.store_answer_by (M.ram memory.old) walked address (size_of size) }
     ensures stored { M.ram memory.new ≡ spec.ram_after_store_by (M.ram memory.old) walked address (size_of size) value }
+    ensures kept_past { OnErr result (M.past memory.new ≡ M.past memory.old) }
     ensures roots { (root : ℕ) → walk.is_page_address (M.ram memory.new) root ≡ walk.is_page_address (M.ram memory.old) root }
+    ensures steps { Only (M.past memory.old) (M.past memory.new) (λ _ s. (physical : ℕ)
+        × (spec.reach_by (M.ram memory.old) walked address (size_of size) spec.may_store_to ≡ Ok physical)
+        × IsWriting (M.ram memory.old) (λ p. p == spec.page_index (M.ram memory.old) physical) s) }
 {
     let physical = reach(memory, walked, address, size, Need::Write)?;
     write_number(memory, physical, size, value);

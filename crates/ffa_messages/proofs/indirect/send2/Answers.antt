@@ -7,6 +7,10 @@ use Rattle.ffa_model.proofs.Guards.{answers-code, answers-pass}
 use Rattle.ffa_rxtx.specs.Stored.{buffers_of}
 use Rattle.ffa_messages.specs.Parts.{sent_in}
 use Rattle.ffa_messages.proofs.Pages.{rx_beside, rx_in_ram}
+use Rattle.std.proofs.Common.{subst}
+use Rattle.ffa_model.specs.Buffers.{buffers_in}
+use Rattle.ffa_physmem.proofs.Moments.{Only-map, Only-none}
+use Rattle.ffa_rxtx.specs.Parts.{IsRxWriting}
 use Rattle.ffa_messages.proofs.indirect.send2.Goals as goal
 
 pub deliver-requires-clause-from : goal.deliver-requires-clause-from
@@ -29,3 +33,11 @@ deliver-requires-clause-apart g c =
     rx_beside _ (g.M.PhysMem.ram c.args.ram.now) c.args.buffers.now c.args.caller.0 c.in_ok-message.message.receiver.0 (buffers_of c.in_ok-message.message.from) c.requires.apart
     (answers-pass (send2_guards (map party_of c.args.manifest.now.endpoints.items) c.args.buffers.now c.args.caller.0 (header_in (sent_in (g.M.PhysMem.ram c.args.ram.now) c.args.buffers.now c.args.caller.0))) c.in_ok-message.ensures.refusal)
     c.in_ok-message.ensures.from c.in_ok-message.ensures.receiver c.in_ok-message.ensures.buffers
+
+pub returns-in_err-message-clause-steps : goal.returns-in_err-message-clause-steps
+returns-in_err-message-clause-steps g c = Only-none
+
+pub returns-clause-steps : goal.returns-clause-steps
+returns-clause-steps g c =
+    Only-map c.deliver.ensures.steps
+    (λ _ s its. subst (λ e. IsRxWriting (g.M.PhysMem.ram c.args.ram.now) (buffers_in c.args.buffers.now e) s) c.in_ok-message.ensures.receiver its)

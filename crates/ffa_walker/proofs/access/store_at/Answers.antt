@@ -1,5 +1,6 @@
 -- SPDX-License-Identifier: MIT OR Apache-2.0
-use Rattle.std.proofs.Common.{rules}
+use Rattle.std.proofs.Common.{rules, sym}
+use Rattle.ffa_physmem.proofs.Moments.{Only-map, Only-none}
 use Rattle.ffa_walker.proofs.access.store_at.Goals as goal
 
 pub returns-in_err-physical-clause-answer : goal.returns-in_err-physical-clause-answer
@@ -13,3 +14,9 @@ returns-clause-answer g c = search rules
 
 pub returns-clause-stored : goal.returns-clause-stored
 returns-clause-stored g c = search rules
+
+pub returns-in_err-physical-clause-steps : goal.returns-in_err-physical-clause-steps
+returns-in_err-physical-clause-steps g c = Only-none
+
+pub returns-clause-steps : goal.returns-clause-steps
+returns-clause-steps g c = Only-map c.write_number.ensures.steps (λ _ s its. (c.in_ok-physical.physical, sym c.in_ok-physical.ensures.value, its))

@@ -2,5 +2,8 @@
 use Rattle.std.proofs.Common.{rules}
 use Rattle.ffa_physmem.proofs.memory.PhysMem.clear_page.Goals as goal
 
-pub returns : goal.returns
-returns g c = search rules
+pub returns-clause-ram : goal.returns-clause-ram
+returns-clause-ram g c = search rules
+
+pub returns-clause-steps : goal.returns-clause-steps
+returns-clause-steps g c = g.met.Self.PhysMem.in_loan c.args.self.now c.args.page.0 _

@@ -5,6 +5,8 @@ use Rattle.ffa_model.specs.Ram.{with_page}
 use Rattle.ffa_model.specs.State.{Buffers}
 use Rattle.ffa_rxtx.specs.Parts.{IsInRam, with_rx_bytes}
 use Rattle.ffa_rxtx.specs.Stored.{buffers_of}
+use Rattle.ffa_physmem.proofs.Moments.{Only-map}
+use Rattle.ffa_rxtx.proofs.Moments.{rx-loan}
 use Rattle.ffa_rxtx.proofs.Runs.{short-run}
 use Rattle.ffa_rxtx.proofs.buffers.Buffers.fill.Goals as goal
 
@@ -18,3 +20,8 @@ returns-in-Some-clause-ram g c =
     (c.put_front.ensures ∙ ap (λ (page : List ℕ). c.args.bytes.now ++ drop (length c.args.bytes.now) page) c.page_mut.ensures.value)
     ∙ sym (short-run c.in-Some.mapped.pages (g.M.PhysMem.ram c.args.ram.now) rx c.args.bytes.now inside.some c.requires.bytes)
     ∙ ap (λ (o : Option Buffers). with_rx_bytes (g.M.PhysMem.ram c.args.ram.now) o c.args.bytes.now) c.in-Some.ensures
+
+pub returns-in-Some-clause-steps : goal.returns-in-Some-clause-steps
+returns-in-Some-clause-steps g c =
+    Only-map (g.met.M.PhysMem.in_loan c.args.ram.now c.in-Some.mapped.rx.0 c.put_front.new.target)
+    (λ _ s loan. rx-loan (g.M.PhysMem.ram c.args.ram.now) _ (buffers_of c.in-Some.mapped) c.in-Some.ensures c.requires.rx s loan)

@@ -1,7 +1,7 @@
 -- SPDX-License-Identifier: MIT OR Apache-2.0
 use Rattle.std.proofs.Common.{arith}
 use Rattle.std.proofs.lemmas.Grind.{common_steps}
-use Rattle.ffa_physmem.proofs.memory.PhysMem.write_word.Goals as goal
+use Rattle.ffa_physmem.proofs.memory.put_word.Goals as goal
 
 pub returns : goal.returns
-returns g c = grind (arith, common_steps)
+returns c = grind (arith, common_steps)

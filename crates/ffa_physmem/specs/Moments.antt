@@ -1,0 +1,94 @@
+-- SPDX-License-Identifier: MIT OR Apache-2.0
+-- What was written to RAM, step by step.
+use Rattle.std.specs.Prelude.{◌≡◌, ◌⊎◌, ◌<◌, ℕ, Bool, true, false, List, [], ◌∷◌, length, Option, Some, None}
+use Rattle.ffa_model.specs.Lists.{is_in_run}
+use Rattle.ffa_model.specs.Ram.{Ram, page_of, with_page, with_word}
+
+-- what no translation unit may hold any more: pages from one on, of this number, in the tables of the endpoint at a place
+pub record Settled : Type 0 where
+  pub endpoint : ℕ
+  pub first : ℕ
+  pub count : ℕ
+
+-- what is read at once: pages from one on, of this number; and whether from here on they are as that reading gave them, or
+-- are so no longer
+pub record Reading : Type 0 where
+  pub first : ℕ
+  pub count : ℕ
+  pub begins : Bool
+
+-- one step: RAM as it was before, and as it is behind it; and what was settled, or read at once, where the step is that
+pub record Step : Type 0 where
+  pub before : Ram
+  pub after : Ram
+  pub settled : Option Settled
+  pub reading : Option Reading
+
+-- one store of a word: its 8 bytes change at once
+pub record IsStore (old : Ram) (page index value : ℕ) (s : Step) : Type 0 where
+  pub before : s.before ≡ old
+  pub after : s.after ≡ with_page old page (with_word (page_of old page) index value)
+  pub none : s.settled ≡ None
+  pub unread : s.reading ≡ None
+
+-- no translation unit holds anything that it read before, of these pages of an endpoint
+pub record IsSettling (old : Ram) (endpoint first count : ℕ) (s : Step) : Type 0 where
+  pub before : s.before ≡ old
+  pub after : s.after ≡ old
+  pub settled : s.settled ≡ Some (record { endpoint = endpoint; first = first; count = count })
+  pub unread : s.reading ≡ None
+
+-- a step while the bytes of a page are lent to be written: before it and behind it any bytes may stand in that page
+pub record IsInLoan (old : Ram) (page : ℕ) (s : Step) : Type 0 where
+  pub from : List ℕ
+  pub to : List ℕ
+  pub before : s.before ≡ with_page old page from
+  pub after : s.after ≡ with_page old page to
+  pub none : s.settled ≡ None
+  pub unread : s.reading ≡ None
+
+-- pages that are named may differ, and no others do
+pub record IsBeside (old ram : Ram) (named : ℕ → Bool) : Type 0 where
+  pub base : ram.base ≡ old.base
+  pub size : length ram.pages ≡ length old.pages
+  pub pages : (p : ℕ) → named p ≡ false → page_of ram p ≡ page_of old p
+
+-- a step while none but the pages that are named differ from those of a RAM
+pub record IsWriting (old : Ram) (named : ℕ → Bool) (s : Step) : Type 0 where
+  pub before : IsBeside old s.before named
+  pub after : IsBeside old s.after named
+
+-- a step that leaves the pages below one as they are
+abbrev pub KeepsBelow : ℕ → Step → Type 0
+KeepsBelow end s = (p : ℕ) → p < end → page_of s.after p ≡ page_of s.before p
+
+-- a step that settles a page in the tables of an endpoint
+abbrev pub Settles : ℕ → ℕ → Step → Type 0
+Settles e p s = (x : Settled) × (s.settled ≡ Some x) × (x.endpoint ≡ e) × (is_in_run x.first x.count p ≡ true)
+
+-- of these steps, the last first, one settled a page of an endpoint, and none since then changed a page below this one
+abbrev pub IsSettledBy : ℕ → ℕ → ℕ → List Step → Type 0
+IsSettledBy end e p [] = ⊥
+IsSettledBy end e p (s ∷ earlier) = Settles e p s ⊎ (KeepsBelow end s × IsSettledBy end e p earlier)
+
+-- pages are read at once, and are from here on what this one reading gave; or from here on they are again whatever others
+-- write to them. Others may have written to them before.
+pub record IsReading (old new : Ram) (first count : ℕ) (begins : Bool) (s : Step) : Type 0 where
+  pub before : s.before ≡ old
+  pub after : s.after ≡ new
+  pub none : s.settled ≡ None
+  pub reading : s.reading ≡ Some (record { first = first; count = count; begins = begins })
+
+-- A history is the steps so far, the last first, where a record of them is kept. This one was there already, or such a one
+-- with one more step, which has P behind what is before it.
+abbrev pub Adds : Option (List Step) → (List Step → Step → Type 0) → List Step → Type 0
+Adds old P [] = old ≡ Some []
+Adds old P (s ∷ earlier) = (old ≡ Some (s ∷ earlier)) ⊎ (P earlier s × Adds old P earlier)
+
+-- from one history to a later one each step has P
+pub record Only (old new : Option (List Step)) (P : List Step → Step → Type 0) : Type 0 where
+  pub each : (h : List Step) → new ≡ Some h → Adds old P h
+
+-- from one history to the next there is exactly one step, which has P
+pub record One (old new : Option (List Step)) (P : Step → Type 0) : Type 0 where
+  pub each : (h : List Step) → new ≡ Some h → (s : Step) × (earlier : List Step) × (h ≡ s ∷ earlier) × (old ≡ Some earlier) × P s
