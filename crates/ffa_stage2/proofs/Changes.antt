@@ -7,10 +7,11 @@ use Rattle.ffa_model.specs.Ram.{Ram, page_of, word_of}
 use Rattle.ffa_model.specs.Manifest.{table_pages}
 use Rattle.ffa_model.specs.declared.rights.Rights.{Rights}
 use Rattle.ffa_stage2.specs.declared.blocks.Place.{Place}
-use Rattle.ffa_stage2.specs.Tables.{IsBuilt, InBlock, HasRoom, table_page, table_link, level2_place, level2_word, block_address, rights_of_block, KeepsOthers, BlocksWhereOne}
-use Rattle.ffa_stage2.specs.Places.{IsPlace, Maps, KeepsBeside, word_at, IsPlaceOf}
+use Rattle.ffa_stage2.specs.Blocks.{IsMapped, IsEither}
+use Rattle.ffa_stage2.specs.Tables.{IsBuilt, IsBuiltBy, IsStanding, InBlock, InBlockBy, HasRoom, table_page, table_link, level2_place, level2_word, block_address, rights_of_block, KeepsOthers, BlocksWhereOne}
+use Rattle.ffa_stage2.specs.Places.{IsPlace, Maps, Stands, KeepsBeside, word_at, IsPlaceOf}
 use Rattle.ffa_stage2.proofs.Kept.{HasRoom-kept}
-use Rattle.ffa_stage2.proofs.OneBlock.{IsMapped-rights, IsMapped-same, IsBlockWhereOne-of}
+use Rattle.ffa_stage2.proofs.OneBlock.{IsMapped-rights, IsEither-rights, law-same, IsBlockWhereOne-of}
 use Rattle.ffa_stage2.proofs.Places.{table_page-below}
 
 -- two table pages
@@ -46,8 +47,10 @@ pub maps-of : (ram : Ram) (b e k : ℕ) (x : Place) (rights : ℕ → Option Rig
     → Maps ram x (rights_of_block rights k)
 maps-of ram b e k x rights at mapped = rw (at.middle, at.entry, at.table, at.link, at.address) mapped
 
-module _ (old new : Ram) (n b e k : ℕ) (f g : ℕ → ℕ → Option Rights) (x : Place) (built : IsBuilt old n b f) (he : e < n) (hk : k < b)
-    (at : IsPlaceOf old b e k x) (beside : KeepsBeside old new x) (mapped : Maps new x (rights_of_block (g e) k))
+module _ (law : ℕ → ℕ → List ℕ → ℕ → (ℕ → Option Rights) → Type 0)
+    (law-rights : (word link : ℕ) (page : List ℕ) (address : ℕ) (f g : ℕ → Option Rights) → ((j : ℕ) → j < 512 → f j ≡ g j) → law word link page address f → law word link page address g)
+    (old new : Ram) (n b e k : ℕ) (f g : ℕ → ℕ → Option Rights) (x : Place) (built : IsBuiltBy law old n b f) (he : e < n) (hk : k < b)
+    (at : IsPlaceOf old b e k x) (beside : KeepsBeside old new x) (mapped : law (word_at new x) x.link (page_of new x.table.0) x.address (rights_of_block (g e) k))
     (same : (e' k' j : ℕ) → e' < n → k' < b → j < 512 → ((e' ≢ e) ⊎ (k' ≢ k)) → f e' (512 * k' + j) ≡ g e' (512 * k' + j)) where
   page-other : (e' s : ℕ) → s < table_pages b → ((e' ≢ e) ⊎ ((s ≢ 1) × (s ≢ 2 + k))) → page_of new (table_page b e' s) ≡ page_of old (table_page b e' s)
   page-other e' s hs (inl far) =
@@ -87,23 +90,23 @@ module _ (old new : Ram) (n b e k : ℕ) (f g : ℕ → ℕ → Option Rights) (
         ∙ rw same_e at (built.outside e' j he' hj off)
   ]
 
-  here-after : InBlock new b e (g e) k
+  here-after : InBlockBy law new b e (g e) k
   here-after =
-      IsMapped-same (word_at new x) (level2_word new b e k) x.link (table_link new.base b e (2 + k)) (page_of new x.table.0) (page_of new (table_page b e (2 + k)))
+      law-same law (word_at new x) (level2_word new b e k) x.link (table_link new.base b e (2 + k)) (page_of new x.table.0) (page_of new (table_page b e (2 + k)))
       x.address (block_address new k) (rights_of_block (g e) k)
       (rw (at.middle, at.entry, beside.base) refl) (rw (at.link, beside.base) refl) (rw at.table refl) (rw (at.address, beside.base) refl) mapped
 
   other-after : (e' k' : ℕ) → e' < n → k' < b → ((e' ≢ e) ⊎ (k' ≢ k))
       → word_of (page_of new (table_page b e' 1)) (level2_place old.base + k') ≡ level2_word old b e' k'
-      → page_of new (table_page b e' (2 + k')) ≡ page_of old (table_page b e' (2 + k')) → InBlock new b e' (g e') k'
+      → page_of new (table_page b e' (2 + k')) ≡ page_of old (table_page b e' (2 + k')) → InBlockBy law new b e' (g e') k'
   other-after e' k' he' hk' far word page =
-      IsMapped-same (level2_word old b e' k') (level2_word new b e' k') (table_link old.base b e' (2 + k')) (table_link new.base b e' (2 + k'))
+      law-same law (level2_word old b e' k') (level2_word new b e' k') (table_link old.base b e' (2 + k')) (table_link new.base b e' (2 + k'))
       (page_of old (table_page b e' (2 + k'))) (page_of new (table_page b e' (2 + k'))) (block_address old k') (block_address new k') (rights_of_block (g e') k')
       (rw beside.base word) (ap (λ (a : ℕ). table_link a b e' (2 + k')) beside.base) page (ap (λ (a : ℕ). a + 0x200000 * k') beside.base)
-      (IsMapped-rights (level2_word old b e' k') (table_link old.base b e' (2 + k')) (page_of old (table_page b e' (2 + k'))) (block_address old k')
+      (law-rights (level2_word old b e' k') (table_link old.base b e' (2 + k')) (page_of old (table_page b e' (2 + k'))) (block_address old k')
       (rights_of_block (f e') k') (rights_of_block (g e') k') (λ j hj. same e' k' j he' hk' hj far) (built.each e' k' he' hk'))
 
-  each-after : (e' k' : ℕ) → e' < n → k' < b → InBlock new b e' (g e') k'
+  each-after : (e' k' : ℕ) → e' < n → k' < b → InBlockBy law new b e' (g e') k'
   each-after e' k' he' hk' =
       let place : old.base % 0x4000000 ≡ 0 = built.fits.place in
       let within : old.base + 0x200000 * b ≤ 2 ^ 32 = built.fits.within in
@@ -120,14 +123,24 @@ module _ (old new : Ram) (n b e k : ℕ) (f g : ℕ → ℕ → Option Rights) (
       ]
 
   -- tables are built after a change in one block
-  pub built-beside : IsBuilt new n b g
-  built-beside = record {
+  pub built_by-beside : IsBuiltBy law new n b g
+  built_by-beside = record {
     fits = HasRoom-kept old new n b built.fits beside.base beside.size;
     whole = whole-after;
     level1 = λ e' j he' hj. rw beside.base (word-other e' 0 j (omega arith) (inr ((λ h. absurd (omega arith)), (λ h. absurd (omega arith)))) ∙ built.level1 e' j he' hj);
     outside = λ e' j he' hj off. outside-after e' j he' hj (rw beside.base at off);
     each = each-after;
   }
+
+module _ (old new : Ram) (n b e k : ℕ) (f g : ℕ → ℕ → Option Rights) (x : Place) where
+  pub built-beside : IsBuilt old n b f → e < n → k < b → IsPlaceOf old b e k x → KeepsBeside old new x → Maps new x (rights_of_block (g e) k)
+      → ((e' k' j : ℕ) → e' < n → k' < b → j < 512 → ((e' ≢ e) ⊎ (k' ≢ k)) → f e' (512 * k' + j) ≡ g e' (512 * k' + j)) → IsBuilt new n b g
+  built-beside built he hk at beside mapped same = built_by-beside IsMapped IsMapped-rights old new n b e k f g x built he hk at beside mapped same
+
+  -- and so they stand between two writes
+  pub standing-beside : IsStanding old n b f → e < n → k < b → IsPlaceOf old b e k x → KeepsBeside old new x → Stands new x (rights_of_block (g e) k)
+      → ((e' k' j : ℕ) → e' < n → k' < b → j < 512 → ((e' ≢ e) ⊎ (k' ≢ k)) → f e' (512 * k' + j) ≡ g e' (512 * k' + j)) → IsStanding new n b g
+  standing-beside standing he hk at beside stands same = built_by-beside IsEither IsEither-rights old new n b e k f g x standing he hk at beside stands same
 
 -- and no page but the endpoint's table pages changed
 pub others-beside : (old new : Ram) (b e k : ℕ) (x : Place) → k < b → IsPlaceOf old b e k x → KeepsBeside old new x → KeepsOthers old new b e

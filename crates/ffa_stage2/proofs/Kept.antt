@@ -5,9 +5,10 @@ use Rattle.std.proofs.lemmas.Nat.{mul-add-lt}
 use Rattle.ffa_model.specs.Ram.{Ram, page_of, word_of}
 use Rattle.ffa_model.specs.Manifest.{table_pages}
 use Rattle.ffa_model.specs.declared.rights.Rights.{Rights}
-use Rattle.ffa_stage2.specs.Tables.{IsBuilt, HasRoom, table_page, table_link, level2_place, level2_word, block_address, rights_of_block, KeepsOthers, KeepsRest}
+use Rattle.ffa_stage2.specs.Blocks.{IsMapped}
+use Rattle.ffa_stage2.specs.Tables.{IsBuilt, IsBuiltBy, HasRoom, table_page, table_link, level2_place, level2_word, block_address, rights_of_block, KeepsOthers, KeepsRest}
 use Rattle.ffa_stage2.proofs.Places.{table_page-below_end}
-use Rattle.ffa_stage2.proofs.OneBlock.{IsMapped-same}
+use Rattle.ffa_stage2.proofs.OneBlock.{law-same}
 
 -- a RAM that stands alike has room alike
 pub HasRoom-kept : (old new : Ram) (n b : ℕ) → HasRoom old n b → new.base ≡ old.base → length new.pages ≡ length old.pages → HasRoom new n b
@@ -20,9 +21,10 @@ HasRoom-kept old new n b fits base size = record {
 }
 
 -- tables in the same bytes are built for the same access
-pub built-kept : (old new : Ram) (n b : ℕ) (access : ℕ → ℕ → Option Rights) → IsBuilt old n b access → new.base ≡ old.base → length new.pages ≡ length old.pages
-    → ((p : ℕ) → p < table_page b n 0 → page_of new p ≡ page_of old p) → IsBuilt new n b access
-built-kept old new n b access built base size same =
+pub built_by-kept : (law : ℕ → ℕ → List ℕ → ℕ → (ℕ → Option Rights) → Type 0) (old new : Ram) (n b : ℕ) (access : ℕ → ℕ → Option Rights)
+    → IsBuiltBy law old n b access → new.base ≡ old.base → length new.pages ≡ length old.pages
+    → ((p : ℕ) → p < table_page b n 0 → page_of new p ≡ page_of old p) → IsBuiltBy law new n b access
+built_by-kept law old new n b access built base size same =
     let page : (e s : ℕ) → e < n → s < table_pages b → page_of new (table_page b e s) ≡ page_of old (table_page b e s) =
     λ e s he hs. same (table_page b e s) (omega (arith, table_page-below_end n b e s he hs))
     in
@@ -35,11 +37,15 @@ built-kept old new n b access built base size same =
       level1 = λ e j he hj. rw base (word e 0 j he (omega arith) ∙ built.level1 e j he hj);
       outside = λ e j he hj off. word e 1 j he (omega arith) ∙ built.outside e j he hj (rw base at off);
       each = λ e k he hk.
-          IsMapped-same (level2_word old b e k) (level2_word new b e k) (table_link old.base b e (2 + k)) (table_link new.base b e (2 + k))
+          law-same law (level2_word old b e k) (level2_word new b e k) (table_link old.base b e (2 + k)) (table_link new.base b e (2 + k))
           (page_of old (table_page b e (2 + k))) (page_of new (table_page b e (2 + k))) (block_address old k) (block_address new k) (rights_of_block (access e) k)
           (rw base (word e 1 (level2_place old.base + k) he (omega arith))) (ap (λ (a : ℕ). table_link a b e (2 + k)) base)
           (page e (2 + k) he (omega arith)) (ap (λ (a : ℕ). a + 0x200000 * k) base) (built.each e k he hk);
     }
+
+pub built-kept : (old new : Ram) (n b : ℕ) (access : ℕ → ℕ → Option Rights) → IsBuilt old n b access → new.base ≡ old.base → length new.pages ≡ length old.pages
+    → ((p : ℕ) → p < table_page b n 0 → page_of new p ≡ page_of old p) → IsBuilt new n b access
+built-kept old new n b access built base size same = built_by-kept IsMapped old new n b access built base size same
 
 pub KeepsRest-same : (ram : Ram) (n b : ℕ) → KeepsRest ram ram n b
 KeepsRest-same ram n b = record { base = refl; size = refl; pages = λ p h. refl }

@@ -13,3 +13,4 @@ pub mod Lanes
 pub mod OneBlock
 pub mod PageRuns
 pub mod RunChanges
+pub mod Moments

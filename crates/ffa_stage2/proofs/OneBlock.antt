@@ -9,8 +9,9 @@ use Rattle.ffa_model.specs.Descriptor.{page_word}
 use Rattle.ffa_model.specs.declared.rights.Rights.{Rights}
 use Rattle.ffa_physmem.proofs.Words.{word_of-with_word_same, word_of-with_word_other, length-with_word}
 use Rattle.ffa_stage2.specs.declared.blocks.Place.{Place}
-use Rattle.ffa_stage2.specs.Blocks.{block_word, IsOne, IsBlock, IsMapped, IsBlockWhereOne, IsUniform}
-use Rattle.ffa_stage2.specs.Places.{word_at, IsPlace, Maps, Names, KeepsBeside}
+use Rattle.ffa_stage2.specs.Blocks.{block_word, IsOne, IsBlock, IsMapped, IsEither, IsBlockWhereOne, IsUniform}
+use Rattle.ffa_stage2.specs.Orders.{IsWritten}
+use Rattle.ffa_stage2.specs.Places.{word_at, IsPlace, Maps, Names, Stands, KeepsBeside}
 use Rattle.ffa_stage2.proofs.Descriptors.{page_word-of_block, block_word-type, block_word-fits, same_right}
 
 -- ---- the law
@@ -26,10 +27,28 @@ IsMapped-rights word link page address f g same (inr (table, mixed)) =
       λ r one. mixed r (λ j hj. same j hj ∙ one j hj),
     )
 
-pub IsMapped-same : (word word' link link' : ℕ) (page page' : List ℕ) (address address' : ℕ) (rights : ℕ → Option Rights)
+-- and so does what holds between two writes
+pub IsEither-rights : (word link : ℕ) (page : List ℕ) (address : ℕ) (f g : ℕ → Option Rights) → ((j : ℕ) → j < 512 → f j ≡ g j)
+    → IsEither word link page address f → IsEither word link page address g
+IsEither-rights word link page address f g same (inl block) =
+    inl (record { right = block.right; one = λ j hj. sym (same j hj) ∙ block.one j hj; is = block.is })
+IsEither-rights word link page address f g same (inr (inl table)) =
+    inr (inl (record { is = table.is; pages = λ j hj. table.pages j hj ∙ ap (λ (x : Option Rights). page_word (address + 4096 * j) x) (same j hj) }))
+IsEither-rights word link page address f g same (inr (inr gap)) = inr (inr (record { is = gap.is; none = λ j hj. sym (same j hj) ∙ gap.none j hj }))
+
+-- which is all of the law but that it tells when a block stands
+pub IsEither-of_mapped : (word link : ℕ) (page : List ℕ) (address : ℕ) (rights : ℕ → Option Rights) → IsMapped word link page address rights → IsEither word link page address rights
+IsEither-of_mapped word link page address rights (inl block) = inl block
+IsEither-of_mapped word link page address rights (inr (table, mixed)) = inr (inl table)
+
+pub stands-of_maps : (ram : Ram) (x : Place) (rights : ℕ → Option Rights) → Maps ram x rights → Stands ram x rights
+stands-of_maps ram x rights maps = IsEither-of_mapped (word_at ram x) x.link (page_of ram x.table.0) x.address rights maps
+
+-- any law, of the same numbers
+pub law-same : (law : ℕ → ℕ → List ℕ → ℕ → (ℕ → Option Rights) → Type 0) (word word' link link' : ℕ) (page page' : List ℕ) (address address' : ℕ) (rights : ℕ → Option Rights)
     → word' ≡ word → link' ≡ link → page' ≡ page → address' ≡ address
-    → IsMapped word link page address rights → IsMapped word' link' page' address' rights
-IsMapped-same word word' link link' page page' address address' rights w l p a mapped = rw (w, l, p, a) mapped
+    → law word link page address rights → law word' link' page' address' rights
+law-same law word word' link link' page page' address address' rights w l p a holds = rw (w, l, p, a) holds
 
 -- ---- a block's word
 
@@ -88,14 +107,16 @@ IsBlockWhereOne-of word link page address rights typed aligned within (inr (tabl
 
 -- ---- one write
 
--- a word was written, and nothing else changed
-pub record IsWritten (old new : Ram) (page place value : ℕ) : Type 0 where
-  pub base : new.base ≡ old.base
-  pub size : length new.pages ≡ length old.pages
-  pub pages : (p : ℕ) → p ≢ page → page_of new p ≡ page_of old p
-  pub whole : length (page_of new page) ≡ 4096
-  pub here : word_of (page_of new page) place ≡ value
-  pub words : (j : ℕ) → j ≢ place → word_of (page_of new page) j ≡ word_of (page_of old page) j
+-- two writes of one word
+pub written-again : (old middle new : Ram) (page place first value : ℕ) → IsWritten old middle page place first → IsWritten middle new page place value → IsWritten old new page place value
+written-again old middle new page place first value one two = record {
+  base = two.base ∙ one.base;
+  size = two.size ∙ one.size;
+  pages = λ p other. two.pages p other ∙ one.pages p other;
+  whole = two.whole;
+  here = two.here;
+  words = λ j other. two.words j other ∙ one.words j other;
+}
 
 module _ (old : Ram) (page place value : ℕ) (below : page < length old.pages) (whole : length (page_of old page) ≡ 4096) (hp : place < 512) (hv : value < 2 ^ 64) where
   abbrev new_page : List ℕ

@@ -1,17 +1,18 @@
 -- SPDX-License-Identifier: MIT OR Apache-2.0
 -- Runs of pages of one block: the words that are written for them, and the rights that they get.
-use Rattle.std.proofs.Common.{◌≡◌, ◌∙◌, ℕ, ◌+◌, ◌*◌, ◌%◌, ◌^◌, ◌<◌, ◌≤◌, true, false, refl, ap, sym, arith, List, Option, Some, None, inl, inr, ◌⊎◌, ◌↔◌, mul-le-mul_right}
+use Rattle.std.proofs.Common.{◌≡◌, ◌∙◌, ℕ, ◌+◌, ◌*◌, ◌%◌, ◌^◌, ◌<◌, ◌≤◌, true, false, refl, ap, sym, arith, List, length, Option, Some, None, inl, inr, ◌⊎◌, ◌↔◌, mul-le-mul_right}
 use Rattle.std.specs.Prelude.{◌&&◌, nat_le, nat_lt, is_some, if◌then◌else◌}
 use Rattle.std.proofs.lemmas.Bool.{cases_eq, cases_lt, false≢true}
 use Rattle.std.proofs.lemmas.Bool.Decides.{nat_tests}
-use Rattle.ffa_model.specs.Ram.{Ram, page_of, word_of}
+use Rattle.ffa_model.specs.Ram.{Ram, page_of, with_page, word_of, with_word}
 use Rattle.ffa_model.specs.Descriptor.{page_word}
 use Rattle.ffa_model.specs.declared.rights.Rights.{Rights}
 use Rattle.ffa_stage2.specs.declared.blocks.Place.{Place}
 use Rattle.ffa_stage2.specs.Blocks.{IsOne, IsBlock, IsMixed}
-use Rattle.ffa_stage2.specs.Places.{IsFilled, IsPlace, KeepsBeside, Maps, Names, with_run, word_at}
+use Rattle.ffa_stage2.specs.Orders.{IsWritten}
+use Rattle.ffa_stage2.specs.Places.{IsFilled, IsFilling, IsPlace, KeepsBeside, Maps, Names, with_run, word_at}
 use Rattle.ffa_stage2.proofs.Descriptors.{block_word-fits, same_right}
-use Rattle.ffa_stage2.proofs.OneBlock.{IsWritten, IsPlace-kept, KeepsBeside-of_table, KeepsBeside-then, IsMapped-rights, block-first, block-page, block-word}
+use Rattle.ffa_stage2.proofs.OneBlock.{written, IsPlace-kept, KeepsBeside-of_table, KeepsBeside-then, IsMapped-rights, block-first, block-page, block-word}
 
 -- ---- words of one page of RAM
 
@@ -47,6 +48,24 @@ IsFilled-same old new page from to word other few f words = record {
   here = λ j low high. f.here j low high ∙ words j (omega (arith, high, few));
   beside = f.beside;
 }
+
+-- some of these words
+pub IsFilling-more : (old ram : Ram) (page from to : ℕ) (word : ℕ → ℕ) → IsFilling old ram page from to word → IsFilling old ram page from (to + 1) word
+IsFilling-more old ram page from to word (next, low, high, filled) = (next, low, omega (arith, high), filled)
+
+pub IsFilling-upto : (old ram : Ram) (page from to end : ℕ) (word : ℕ → ℕ) → to ≤ end → IsFilling old ram page from to word → IsFilling old ram page from end word
+IsFilling-upto old ram page from to end word le (next, low, high, filled) = (next, low, omega (arith, high, le), filled)
+
+-- one more, as the code writes it
+pub filled-by : (old middle new : Ram) (page from to : ℕ) (word : ℕ → ℕ) → from ≤ to → IsFilled old middle page from to word → page < length middle.pages → to < 512 → word to < 2 ^ 64
+    → new ≡ with_page middle page (with_word (page_of middle page) to (word to)) → IsFilled old new page from (to + 1) word
+filled-by old middle new page from to word le before below few fits is =
+    IsFilled-next old middle new page from to word le before (written middle page to (word to) below before.whole few fits new is)
+
+pub IsFilling-same : (old ram : Ram) (page from to : ℕ) (word other : ℕ → ℕ) → to ≤ 512 → IsFilling old ram page from to word
+    → ((j : ℕ) → j < 512 → word j ≡ other j) → IsFilling old ram page from to other
+IsFilling-same old ram page from to word other few (next, low, high, filled) words =
+    (next, low, high, IsFilled-same old ram page from next word other (omega (arith, high, few)) filled words)
 
 -- a word of a run fits
 pub run-fits : (first step to : ℕ) → step ≤ 4096 → to < 512 → first + 0x200000 ≤ 2 ^ 64 → first + step * to < 2 ^ 64

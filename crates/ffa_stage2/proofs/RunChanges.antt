@@ -16,7 +16,7 @@ use Rattle.ffa_stage2.proofs.Rights.{built-same, with_pages-other, with_pages-mo
 use Rattle.ffa_stage2.proofs.Walks.{walk-built}
 
 -- the rights to a run of a block
-with_pages-block : (access : ℕ → ℕ → Option Rights) (e k from to : ℕ) (right : Option Rights) (j : ℕ)
+pub with_pages-block : (access : ℕ → ℕ → Option Rights) (e k from to : ℕ) (right : Option Rights) (j : ℕ)
     → with_run (rights_of_block (access e) k) from to right j ≡ rights_of_block (with_pages access e (512 * k + from) (512 * k + to) right e) k j
 with_pages-block access e k from to right j =
     let same : (e == e && (nat_le (512 * k + from) (512 * k + j) && nat_lt (512 * k + j) (512 * k + to))) ≡ (nat_le from j && nat_lt j to) = grind (arith, nat_tests) in

@@ -11,9 +11,10 @@ use Rattle.ffa_model.specs.Descriptor.{page_word}
 use Rattle.ffa_model.specs.Walk.{is_in_ram, entry, from_level3, from_level2, from_level1, walk, mapped_answer}
 use Rattle.ffa_model.specs.declared.operation.FaultKind.TheVariants.{Translation}
 use Rattle.ffa_model.specs.declared.rights.Rights.{Rights}
-use Rattle.ffa_stage2.specs.Blocks.{block_word, IsBlock, IsTable}
-use Rattle.ffa_stage2.specs.Tables.{IsBuilt, InBlock, table_page, table_link, level1_place, level2_place, level2_word, block_address, rights_of_block, answer}
+use Rattle.ffa_stage2.specs.Blocks.{block_word, IsBlock, IsTable, IsGap, IsEither}
+use Rattle.ffa_stage2.specs.Tables.{IsBuilt, IsStanding, InBlockBy, table_page, table_link, level1_place, level2_place, level2_word, block_address, rights_of_block, answer}
 use Rattle.ffa_stage2.proofs.Descriptors.{from_level3-page_word, from_level2-block_word, from_level2-zero, from_level1-zero, from_level2-table, from_level1-table, entry-page}
+use Rattle.ffa_stage2.proofs.OneBlock.{IsEither-of_mapped}
 use Rattle.ffa_stage2.proofs.Places.{is_in_ram-inside, is_in_ram-outside, table_page-below, table_page-address}
 
 answer-inside : (ram : Ram) (access : ℕ → ℕ → Option Rights) (e p a : ℕ) → a ≡ ram.base + 4096 * p + a % 4096 → p < length ram.pages
@@ -28,7 +29,7 @@ answer-outside : (ram : Ram) (access : ℕ → ℕ → Option Rights) (e a : ℕ
 unfolding mapped_answer
 answer-outside ram access e a h = let out : is_in_ram ram a ≡ false = is_in_ram-outside ram a h in rw out
 
-module _ (ram : Ram) (n b : ℕ) (access : ℕ → ℕ → Option Rights) (e a : ℕ) (built : IsBuilt ram n b access) (he : e < n) (ha : a < 2 ^ 32) where
+module _ (ram : Ram) (n b : ℕ) (access : ℕ → ℕ → Option Rights) (e a : ℕ) (built : IsStanding ram n b access) (he : e < n) (ha : a < 2 ^ 32) where
   -- the answer in block k, where a block stands
   in_block : (k : ℕ) → k < b → (word : ℕ) → IsBlock word (block_address ram k) (rights_of_block (access e) k)
       → from_level2 ram word a ≡ mapped_answer (access e (512 * k + bits 20 12 a)) (ram.base + 4096 * (512 * k + bits 20 12 a) + a % 4096)
@@ -67,11 +68,20 @@ module _ (ram : Ram) (n b : ℕ) (access : ℕ → ℕ → Option Rights) (e a :
       ∙ from_level3-page_word (access e (512 * k + j)) f a small
       ∙ ap (λ (x : ℕ). mapped_answer (access e (512 * k + j)) x) target
 
-  in_pages : (k : ℕ) → k < b → InBlock ram b e (access e) k
+  -- and where nothing stands
+  in_gap : (k : ℕ) → k < b → (word : ℕ) → IsGap word (rights_of_block (access e) k)
+      → from_level2 ram word a ≡ mapped_answer (access e (512 * k + bits 20 12 a)) (ram.base + 4096 * (512 * k + bits 20 12 a) + a % 4096)
+  unfolding mapped_answer
+  in_gap k hk word gap =
+      ap (λ (w : ℕ). from_level2 ram w a) gap.is ∙ from_level2-zero ram a
+      ∙ ap (λ (r : Option Rights). mapped_answer r (ram.base + 4096 * (512 * k + bits 20 12 a) + a % 4096)) (sym (gap.none (bits 20 12 a) (omega arith)))
+
+  in_pages : (k : ℕ) → k < b → InBlockBy IsEither ram b e (access e) k
       → from_level2 ram (level2_word ram b e k) a
       ≡ mapped_answer (access e (512 * k + bits 20 12 a)) (ram.base + 4096 * (512 * k + bits 20 12 a) + a % 4096)
   in_pages k hk (inl block) = in_block k hk (level2_word ram b e k) block
-  in_pages k hk (inr (table, mixed)) = in_table k hk (level2_word ram b e k) table
+  in_pages k hk (inr (inl table)) = in_table k hk (level2_word ram b e k) table
+  in_pages k hk (inr (inr gap)) = in_gap k hk (level2_word ram b e k) gap
 
   -- from the level 2 page on
   in_level2 : bits 31 30 a ≡ level1_place ram.base
@@ -106,9 +116,9 @@ module _ (ram : Ram) (n b : ℕ) (access : ℕ → ℕ → Option Rights) (e a :
       ]
 
   -- the walk of an endpoint's table gives its access, and Translation outside the RAM
-  pub walk-built : walk ram (root_of ram.base b e) a ≡ answer ram access e a
+  pub walk-standing : walk ram (root_of ram.base b e) a ≡ answer ram access e a
   unfolding walk
-  walk-built =
+  walk-standing =
       let base : ℕ = ram.base in
       let j : ℕ = bits 31 30 a in
       let hj : j < 512 = omega arith in
@@ -132,3 +142,17 @@ module _ (ram : Ram) (n b : ℕ) (access : ℕ → ℕ → Option Rights) (e a :
             ap (λ (w : ℕ). from_level1 ram w a) (word ∙ rw off) ∙ from_level1-zero ram a
             ∙ answer-outside ram access e a (λ low high. other (omega arith))
       ])
+
+-- built tables stand
+pub standing-of_built : (ram : Ram) (n b : ℕ) (access : ℕ → ℕ → Option Rights) → IsBuilt ram n b access → IsStanding ram n b access
+standing-of_built ram n b access built = record {
+  fits = built.fits;
+  whole = built.whole;
+  level1 = built.level1;
+  outside = built.outside;
+  each = λ e k he hk. IsEither-of_mapped _ _ _ _ _ (built.each e k he hk);
+}
+
+pub walk-built : (ram : Ram) (n b : ℕ) (access : ℕ → ℕ → Option Rights) (e a : ℕ) → IsBuilt ram n b access → e < n → a < 2 ^ 32
+    → walk ram (root_of ram.base b e) a ≡ answer ram access e a
+walk-built ram n b access e a built he ha = walk-standing ram n b access e a (standing-of_built ram n b access built) he ha

@@ -1,6 +1,6 @@
 -- SPDX-License-Identifier: MIT OR Apache-2.0
 -- One block of RAM in an endpoint's tables: a level 2 word, a level 3 page, and the rights to 512 pages.
-use Rattle.std.specs.Prelude.{◌≡◌, ℕ, ◌+◌, ◌*◌, ◌^◌, ◌<◌, ◌⊎◌, ◌↔◌, if◌then◌else◌, List, Option, Some}
+use Rattle.std.specs.Prelude.{◌≡◌, ℕ, ◌+◌, ◌*◌, ◌^◌, ◌<◌, ◌⊎◌, ◌↔◌, if◌then◌else◌, List, Option, Some, None}
 use Rattle.ffa_model.specs.Bits.{bits}
 use Rattle.ffa_model.specs.Ram.{word_of}
 use Rattle.ffa_model.specs.Rights.{may_write}
@@ -40,6 +40,16 @@ IsMixed rights = (r : Rights) → IsOne rights r → ⊥
 -- words give the rights. Of that page nothing is said where a block stands
 abbrev pub IsMapped : ℕ → ℕ → List ℕ → ℕ → (ℕ → Option Rights) → Type 0
 IsMapped word link page address rights = (IsBlock word address rights) ⊎ (IsTable word link page address rights × IsMixed rights)
+
+-- nothing stands, and no page has a right
+pub record IsGap (word : ℕ) (rights : ℕ → Option Rights) : Type 0 where
+  pub is : word ≡ 0
+  pub none : (j : ℕ) → j < 512 → rights j ≡ None
+
+-- between two writes: a block, the table or nothing, whichever of them it is
+abbrev pub IsEither : ℕ → ℕ → List ℕ → ℕ → (ℕ → Option Rights) → Type 0
+IsEither word link page address rights =
+    (IsBlock word address rights) ⊎ ((IsTable word link page address rights) ⊎ (IsGap word rights))
 
 -- what the law says of the level 2 word alone: it is the block of a right exactly where all pages have that right, and
 -- the table exactly where no right is that of all

@@ -1,14 +1,14 @@
 -- SPDX-License-Identifier: MIT OR Apache-2.0
 -- The tables of all endpoints in the RAM's first pages: for each endpoint in order one page of level 1, one of level 2,
 -- and one of level 3 for each block of 2 MiB.
-use Rattle.std.specs.Prelude.{◌≡◌, true, ℕ, ◌+◌, ◌-◌, ◌*◌, ◌/◌, ◌%◌, ◌^◌, ◌<◌, ◌≤◌, ◌⊎◌, ◌==◌, ◌&&◌, nat_le, nat_lt, Bool, if◌then◌else◌, length, Option, None}
+use Rattle.std.specs.Prelude.{◌≡◌, true, ℕ, List, ◌+◌, ◌-◌, ◌*◌, ◌/◌, ◌%◌, ◌^◌, ◌<◌, ◌≤◌, ◌⊎◌, ◌==◌, ◌&&◌, nat_le, nat_lt, Bool, if◌then◌else◌, length, Option, None}
 use Rattle.ffa_model.specs.Bits.{bits}
 use Rattle.ffa_model.specs.Ram.{Ram, page_of, word_of}
 use Rattle.ffa_model.specs.Manifest.{table_pages, root_of}
 use Rattle.ffa_model.specs.Descriptor.{table_word}
 use Rattle.ffa_model.specs.Walk.{Answer, walk, is_in_ram, is_page_address, mapped_answer}
 use Rattle.ffa_model.specs.declared.rights.Rights.{Rights}
-use Rattle.ffa_stage2.specs.Blocks.{IsMapped, IsBlockWhereOne}
+use Rattle.ffa_stage2.specs.Blocks.{IsMapped, IsEither, IsBlockWhereOne}
 
 -- the number of endpoint e's table page s: 0 is level 1, 1 is level 2, 2 + k is level 3 of block k
 abbrev pub table_page : ℕ → ℕ → ℕ → ℕ
@@ -43,14 +43,18 @@ block_address ram k = ram.base + 0x200000 * k
 abbrev pub rights_of_block : (ℕ → Option Rights) → ℕ → ℕ → Option Rights
 rights_of_block rights k j = rights (512 * k + j)
 
--- block k of endpoint e gives these rights to its 512 pages
-abbrev pub InBlock : Ram → ℕ → ℕ → (ℕ → Option Rights) → ℕ → Type 0
-InBlock ram blocks e rights k =
-    IsMapped (level2_word ram blocks e k) (table_link ram.base blocks e (2 + k)) (page_of ram (table_page blocks e (2 + k)))
+-- block k of endpoint e gives these rights to its 512 pages, by a law of a level 2 word, the descriptor of the level 3
+-- page, that page, an address and rights
+abbrev pub InBlockBy : (ℕ → ℕ → List ℕ → ℕ → (ℕ → Option Rights) → Type 0) → Ram → ℕ → ℕ → (ℕ → Option Rights) → ℕ → Type 0
+InBlockBy law ram blocks e rights k =
+    law (level2_word ram blocks e k) (table_link ram.base blocks e (2 + k)) (page_of ram (table_page blocks e (2 + k)))
     (block_address ram k) (rights_of_block rights k)
 
--- the tables of this many endpoints stand in the RAM, and endpoint e has `access e p` to page p
-pub record IsBuilt (ram : Ram) (endpoints blocks : ℕ) (access : ℕ → ℕ → Option Rights) : Type 0 where
+abbrev pub InBlock : Ram → ℕ → ℕ → (ℕ → Option Rights) → ℕ → Type 0
+InBlock ram blocks e rights k = InBlockBy IsMapped ram blocks e rights k
+
+-- the tables of this many endpoints stand in the RAM, each block by a law, and endpoint e has `access e p` to page p
+pub record IsBuiltBy (law : ℕ → ℕ → List ℕ → ℕ → (ℕ → Option Rights) → Type 0) (ram : Ram) (endpoints blocks : ℕ) (access : ℕ → ℕ → Option Rights) : Type 0 where
   pub fits : HasRoom ram endpoints blocks
   pub whole : (e s : ℕ) → e < endpoints → s < table_pages blocks → length (page_of ram (table_page blocks e s)) ≡ 4096
   pub level1 :
@@ -59,7 +63,15 @@ pub record IsBuilt (ram : Ram) (endpoints blocks : ℕ) (access : ℕ → ℕ �
   pub outside :
       (e j : ℕ) → e < endpoints → j < 512 → ((j < level2_place ram.base) ⊎ (level2_place ram.base + blocks ≤ j))
       → word_of (page_of ram (table_page blocks e 1)) j ≡ 0
-  pub each : (e k : ℕ) → e < endpoints → k < blocks → InBlock ram blocks e (access e) k
+  pub each : (e k : ℕ) → e < endpoints → k < blocks → InBlockBy law ram blocks e (access e) k
+
+-- as they are behind each change of rights
+abbrev pub IsBuilt : Ram → ℕ → ℕ → (ℕ → ℕ → Option Rights) → Type 0
+IsBuilt ram endpoints blocks access = IsBuiltBy IsMapped ram endpoints blocks access
+
+-- and between two writes
+abbrev pub IsStanding : Ram → ℕ → ℕ → (ℕ → ℕ → Option Rights) → Type 0
+IsStanding ram endpoints blocks access = IsBuiltBy IsEither ram endpoints blocks access
 
 -- the access with one right changed
 abbrev pub with_right : (ℕ → ℕ → Option Rights) → ℕ → ℕ → Option Rights → ℕ → ℕ → Option Rights

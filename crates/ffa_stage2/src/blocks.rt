@@ -8,7 +8,9 @@ ghost use Rattle.ffa_model.specs.Descriptor.{page_word};
 ghost use Rattle.ffa_model.specs.declared.rights.Rights.{Rights};
 ghost use Rattle.ffa_stage2.specs.Blocks.{IsOne};
 ghost use Rattle.ffa_stage2.specs.Tables.{HasRoom};
-ghost use Rattle.ffa_stage2.specs.Places.{IsPlace, IsFilled, Maps, Names, KeepsBeside, with_run, word_at, IsPlaceOf};
+ghost use Rattle.ffa_physmem.specs.Moments.{Only};
+ghost use Rattle.ffa_stage2.specs.Orders.{IsWritten};
+ghost use Rattle.ffa_stage2.specs.Places.{IsPlace, IsCut, IsFilled, IsFilling, IsOnTheWay, IsOrderly, IsReplacing, IsOneOf, Maps, Names, KeepsBeside, with_run, word_at, IsPlaceOf};
 
 use crate::layout::Layout;
 use crate::runs::uniform;
@@ -31,8 +33,10 @@ pub(crate) struct Place {
     // The level 3 page, and the descriptor that names it.
     table: PageNo,
     link: u64,
-    // The address of the block's first page.
+    // The address of the block's first page, that page, and the endpoint's place in the manifest.
     address: u64,
+    first: PageNo,
+    endpoint: usize,
 }
 
 impl Place {
@@ -51,6 +55,8 @@ impl Place {
             table,
             link: u64::from(base) + 4096 * u64::from(table.0) + 3,
             address: u64::from(base) + 0x20_0000 * u64::from(block),
+            first: PageNo(512 * block),
+            endpoint: index,
         }
     }
 
@@ -99,6 +105,19 @@ fn is_one<M: PhysMem>(memory: &M, place: &Place, within: u32, right: Option<Righ
     uniform(memory.page(place.table))
 }
 
+// Puts a word at level 2 in place of a valid one that has another size, by way of nothing, which every translation unit
+// sees (DDI 0487, "Using break-before-make when updating translation table entries").
+fn replace<M: PhysMem>(memory: &mut M, place: &Place, word: u64)
+    requires place { IsPlace (M.ram memory.old) place.now }
+    ensures written { IsWritten (M.ram memory.old) (M.ram memory.new) place.now.middle.0 place.now.entry word }
+    ensures steps { Only (M.past memory.old) (M.past memory.new) (λ h s. IsReplacing (M.ram memory.old) (M.ram memory.new) place.now h s) }
+    ensures orders { Only (M.past memory.old) (M.past memory.new) (λ h s. IsOrderly place.now h s) }
+{
+    memory.write_word(place.middle, place.entry, 0);
+    memory.settle(place.endpoint, place.first, 512);
+    memory.write_word(place.middle, place.entry, word);
+}
+
 // Puts a block where a table stands, if its pages have one right other than nothing.
 fn join<M: PhysMem>(memory: &mut M, place: &Place, within: u32, right: Option<Rights>)
     requires place { IsPlace (M.ram memory.old) place.now }
@@ -108,10 +127,12 @@ fn join<M: PhysMem>(memory: &mut M, place: &Place, within: u32, right: Option<Ri
         → rights within ≡ right
         → Maps (M.ram memory.new) place.now rights }
     ensures beside { KeepsBeside (M.ram memory.old) (M.ram memory.new) place.now }
+    ensures steps { Only (M.past memory.old) (M.past memory.new) (λ _ s. IsCut (M.ram memory.old) s.after place.now ⊎ (s.after ≡ M.ram memory.new)) }
+    ensures orders { Only (M.past memory.old) (M.past memory.new) (λ h s. IsOrderly place.now h s) }
 {
     if is_one(memory, place, within, right) {
         let word = leaf(place.address, right) - PAGE;
-        memory.write_word(place.middle, place.entry, word);
+        replace(memory, place, word);
     }
 }
 
@@ -123,7 +144,9 @@ fn write_words<M: PhysMem>(memory: &mut M, table: PageNo, from: u32, to: u32, fi
     requires to { to ≤ 512 }
     requires step { step ≤ 4096 }
     requires fits { first + 0x200000 ≤ 2 ^ 64 }
-    ensures { IsFilled (M.ram memory.old) (M.ram memory.new) table.0 from to (λ j. first + step * j) }
+    ensures filled { IsFilled (M.ram memory.old) (M.ram memory.new) table.0 from to (λ j. first + step * j) }
+    ensures steps { Only (M.past memory.old) (M.past memory.new) (λ _ s. IsFilling (M.ram memory.old) s.after table.0 from to (λ j. first + step * j)) }
+    ensures orders { Only (M.past memory.old) (M.past memory.new) (λ _ s. IsOneOf (M.ram memory.old) table.0 from to (λ j. first + step * j) s) }
 {
     for place in from..to {
         memory.write_word(table, place as usize, first + step * u64::from(place));
@@ -136,7 +159,9 @@ fn keep<M: PhysMem>(memory: &mut M, place: &Place, from: u32, to: u32, word: u64
     requires from { from ≤ to }
     requires to { to ≤ 512 }
     requires word { word + 0x200002 ≤ 2 ^ 64 }
-    ensures { IsFilled (M.ram memory.old) (M.ram memory.new) place.now.table.0 from to (λ j. word + 2 + 4096 * j) }
+    ensures filled { IsFilled (M.ram memory.old) (M.ram memory.new) place.now.table.0 from to (λ j. word + 2 + 4096 * j) }
+    ensures steps { Only (M.past memory.old) (M.past memory.new) (λ _ s. IsFilling (M.ram memory.old) s.after place.now.table.0 from to (λ j. word + 2 + 4096 * j)) }
+    ensures orders { Only (M.past memory.old) (M.past memory.new) (λ _ s. IsOneOf (M.ram memory.old) place.now.table.0 from to (λ j. word + 2 + 4096 * j) s) }
 {
     write_words(memory, place.table, from, to, word + PAGE, 4096);
 }
@@ -146,7 +171,9 @@ fn fill<M: PhysMem>(memory: &mut M, place: &Place, from: u32, to: u32, right: Op
     requires place { IsPlace (M.ram memory.old) place.now }
     requires from { from ≤ to }
     requires to { to ≤ 512 }
-    ensures { IsFilled (M.ram memory.old) (M.ram memory.new) place.now.table.0 from to (λ j. page_word (place.now.address + 4096 * j) right) }
+    ensures filled { IsFilled (M.ram memory.old) (M.ram memory.new) place.now.table.0 from to (λ j. page_word (place.now.address + 4096 * j) right) }
+    ensures steps { Only (M.past memory.old) (M.past memory.new) (λ _ s. IsFilling (M.ram memory.old) s.after place.now.table.0 from to (λ j. page_word (place.now.address + 4096 * j) right)) }
+    ensures orders { Only (M.past memory.old) (M.past memory.new) (λ _ s. IsOneOf (M.ram memory.old) place.now.table.0 from to (λ j. page_word (place.now.address + 4096 * j) right) s) }
 {
     let step = if right.is_some() { 4096 } else { 0 };
     write_words(
@@ -162,13 +189,22 @@ fn fill<M: PhysMem>(memory: &mut M, place: &Place, from: u32, to: u32, right: Op
 // Gives a right to all pages of a block by its one word.
 fn put_block<M: PhysMem>(memory: &mut M, place: &Place, right: Option<Rights>)
     requires place { IsPlace (M.ram memory.old) place.now }
+    requires stands { (rights : ℕ → Option Rights) × Maps (M.ram memory.old) place.now rights }
     requires some { is_some right ≡ true }
     ensures mapped { Maps (M.ram memory.new) place.now (λ j. right) }
     ensures beside { KeepsBeside (M.ram memory.old) (M.ram memory.new) place.now }
+    ensures steps { Only (M.past memory.old) (M.past memory.new) (λ _ s. IsCut (M.ram memory.old) s.after place.now ⊎ (s.after ≡ M.ram memory.new)) }
+    ensures orders { Only (M.past memory.old) (M.past memory.new) (λ h s. IsOrderly place.now h s) }
 {
     let word = leaf(place.address, right) - PAGE;
-    if place.word(memory) != word {
+    let now = place.word(memory);
+    if now == word {
+        return;
+    }
+    if now % 4 == BLOCK {
         memory.write_word(place.middle, place.entry, word);
+    } else {
+        replace(memory, place, word);
     }
 }
 
@@ -192,6 +228,10 @@ fn split<M: PhysMem>(
         → Maps (M.ram memory.old) place.now rights
         → Maps (M.ram memory.new) place.now (with_run rights from to right) }
     ensures beside { KeepsBeside (M.ram memory.old) (M.ram memory.new) place.now }
+    ensures steps { (rights : ℕ → Option Rights)
+        → Maps (M.ram memory.old) place.now rights
+        → Only (M.past memory.old) (M.past memory.new) (λ _ s. IsOnTheWay (M.ram memory.old) s.after place.now rights from to right) }
+    ensures orders { Only (M.past memory.old) (M.past memory.new) (λ h s. IsOrderly place.now h s) }
 {
     if leaf(place.address, right) == word + PAGE {
         return;
@@ -199,7 +239,7 @@ fn split<M: PhysMem>(
     keep(memory, place, 0, from, word);
     keep(memory, place, to, 512, word);
     fill(memory, place, from, to, right);
-    memory.write_word(place.middle, place.entry, place.link);
+    replace(memory, place, place.link);
 }
 
 // Gives a right to pages of a table that stands.
@@ -217,6 +257,12 @@ fn change_table<M: PhysMem>(
         → Names (M.ram memory.old) place.now rights
         → Maps (M.ram memory.new) place.now (with_run rights from to right) }
     ensures beside { KeepsBeside (M.ram memory.old) (M.ram memory.new) place.now }
+    ensures steps { (rights : ℕ → Option Rights)
+        → Names (M.ram memory.old) place.now rights
+        → Only (M.past memory.old) (M.past memory.new) (λ _ s. IsOnTheWay (M.ram memory.old) s.after place.now rights from to right) }
+    ensures orders { (rights : ℕ → Option Rights)
+        → Names (M.ram memory.old) place.now rights
+        → Only (M.past memory.old) (M.past memory.new) (λ h s. IsOrderly place.now h s) }
 {
     fill(memory, place, from, to, right);
     join(memory, place, to - 1, right);
@@ -247,6 +293,10 @@ pub(crate) fn change<M: PhysMem>(
         → Maps (M.ram memory.old) place.now rights
         → Maps (M.ram memory.new) place.now (with_run rights from to right) }
     ensures beside { KeepsBeside (M.ram memory.old) (M.ram memory.new) place.now }
+    ensures steps { (rights : ℕ → Option Rights)
+        → Maps (M.ram memory.old) place.now rights
+        → Only (M.past memory.old) (M.past memory.new) (λ _ s. IsOnTheWay (M.ram memory.old) s.after place.now rights from to right) }
+    ensures orders { Only (M.past memory.old) (M.past memory.new) (λ h s. IsOrderly place.now h s) }
 {
     if is_whole(from, to) && right.is_some() {
         put_block(memory, place, right);

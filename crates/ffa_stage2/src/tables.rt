@@ -5,8 +5,11 @@ ghost use Rattle.std.specs.Prelude.{◌≡◌, ℕ, ◌+◌, ◌*◌, ◌<◌, �
 ghost use Rattle.arrayvec.specs.ArrayVec.{array_vec_len};
 ghost use Rattle.ffa_model.specs.Descriptor.{page_word};
 ghost use Rattle.ffa_model.specs.declared.rights.Rights.{Rights};
+ghost use Rattle.ffa_physmem.specs.Moments.{Only};
+ghost use Rattle.ffa_stage2.specs.Moments.{IsBetweenFor, WalksBetween};
 ghost use Rattle.ffa_stage2.specs.Layout.{layout_right, IsBuiltFor, BlocksWhereOneFor, WalksToFor, TablesAreFor, KeepsRestFor};
 ghost use Rattle.ffa_stage2.specs.Tables.{with_pages, with_right, WalkChanges, WalksChange, KeepsOthers, TableLaws};
+ghost use Rattle.ffa_stage2.specs.Orders.{IsOrdered};
 ghost use Rattle.ffa_stage2.specs.Words.{linked, rights_until};
 
 use crate::blocks::{Place, change};
@@ -59,6 +62,9 @@ pub fn set_page<M: PhysMem>(
     ensures built { (access : ℕ → ℕ → Option Rights)
         → IsBuiltFor layout.now (M.ram memory.old) access
         → IsBuiltFor layout.now (M.ram memory.new) (with_right access index page.0 right) }
+    ensures steps { (access : ℕ → ℕ → Option Rights)
+        → IsBuiltFor layout.now (M.ram memory.old) access
+        → Only (M.past memory.old) (M.past memory.new) (λ _ s. IsBetweenFor layout.now s.after access (with_right access index page.0 right)) }
     ensures walks { WalkChanges (M.ram memory.old) (M.ram memory.new)
         (array_vec_len layout.now.regions) layout.now.blocks index page.0 right }
     ensures others { KeepsOthers (M.ram memory.old) (M.ram memory.new) layout.now.blocks index }
@@ -88,6 +94,19 @@ pub fn set_pages<M: PhysMem>(
     ensures walks { WalksChange (M.ram memory.old) (M.ram memory.new)
         (array_vec_len layout.now.regions) layout.now.blocks index first.0 (first.0 + count) right }
     ensures others { KeepsOthers (M.ram memory.old) (M.ram memory.new) layout.now.blocks index }
+
+    // At each moment an endpoint has to a page the right that it had or the one that it is to have: so each walk is the one
+    // from before or the one behind. No page but the endpoint's table pages differs at any moment.
+    ensures steps { (access : ℕ → ℕ → Option Rights)
+        → IsBuiltFor layout.now (M.ram memory.old) access
+        → Only (M.past memory.old) (M.past memory.new) (λ _ s. IsBetweenFor layout.now s.after access (with_pages access index first.0 (first.0 + count) right)) }
+    ensures each_walk { Only (M.past memory.old) (M.past memory.new) (λ _ s. WalksBetween (M.ram memory.old) (M.ram memory.new)
+        (array_vec_len layout.now.regions) layout.now.blocks s.after) }
+    // Break before make: each step is one at the place of a block in the endpoint's tables, and there a level 2 word that is
+    // valid gives way to one of another size only by way of an invalid one, behind which every translation unit has
+    // forgotten the block.
+    ensures orders { Only (M.past memory.old) (M.past memory.new) (λ h s. IsOrdered (M.ram memory.old) layout.now.blocks index h s) }
+    ensures others_stay { Only (M.past memory.old) (M.past memory.new) (λ _ s. KeepsOthers (M.ram memory.old) s.after layout.now.blocks index) }
     ensures blocks { (access : ℕ → ℕ → Option Rights)
         → IsBuiltFor layout.now (M.ram memory.old) access
         → BlocksWhereOneFor layout.now (M.ram memory.new) (with_pages access index first.0 (first.0 + count) right) }

@@ -1,6 +1,8 @@
 -- SPDX-License-Identifier: MIT OR Apache-2.0
 use Rattle.std.proofs.Common.{◌≡◌, ◌+◌, sym, arith}
 use Rattle.ffa_stage2.specs.Places.{with_run}
+use Rattle.ffa_physmem.proofs.Moments.{Only-map}
+use Rattle.ffa_stage2.proofs.Moments.{way-replaced}
 use Rattle.ffa_stage2.proofs.OneBlock.{IsMapped-rights, table-here, typed-other}
 use Rattle.ffa_stage2.proofs.PageRuns.{with_run-here}
 use Rattle.ffa_stage2.proofs.blocks.change.Goals as goal
@@ -20,3 +22,23 @@ returns-else-word-eq-BLOCK-clause-mapped g c rights maps =
     let ram = g.M.PhysMem.ram c.args.memory.now in
     let x = c.args.place.now in
     c.change_table.ensures.mapped rights (table-here ram x rights c.requires.place maps (typed-other ram x _ c.word-word.ensures c.if-word-eq-BLOCK.false))
+
+pub returns-then-is_some-clause-steps : goal.returns-then-is_some-clause-steps
+returns-then-is_some-clause-steps g c rights maps =
+    let old = g.M.PhysMem.ram c.args.memory.now in
+    Only-map c.put_block.ensures.steps
+    (λ h s is. way-replaced old (g.M.PhysMem.ram c.put_block.new.memory) s.after c.args.place.now rights c.args.from c.args.to c.args.right
+    (returns-then-is_some-clause-mapped g c rights maps) c.put_block.ensures.beside is)
+
+pub returns-else-word-eq-BLOCK-clause-steps : goal.returns-else-word-eq-BLOCK-clause-steps
+returns-else-word-eq-BLOCK-clause-steps g c rights maps =
+    let ram = g.M.PhysMem.ram c.args.memory.now in
+    let x = c.args.place.now in
+    c.change_table.ensures.steps rights (table-here ram x rights c.requires.place maps (typed-other ram x _ c.word-word.ensures c.if-word-eq-BLOCK.false))
+
+pub returns-else-word-eq-BLOCK-clause-orders : goal.returns-else-word-eq-BLOCK-clause-orders
+returns-else-word-eq-BLOCK-clause-orders g c =
+    let ram = g.M.PhysMem.ram c.args.memory.now in
+    let x = c.args.place.now in
+    let (rights, maps) = c.requires.mapped in
+    c.change_table.ensures.orders rights (table-here ram x rights c.requires.place maps (typed-other ram x _ c.word-word.ensures c.if-word-eq-BLOCK.false))

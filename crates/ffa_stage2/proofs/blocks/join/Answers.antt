@@ -1,9 +1,10 @@
 -- SPDX-License-Identifier: MIT OR Apache-2.0
-use Rattle.std.proofs.Common.{◌∙◌, ℕ, ◌-◌, ap, sym, arith, inr, Option}
+use Rattle.std.proofs.Common.{◌∙◌, ℕ, ◌-◌, ap, sym, arith, inl, inr, Option}
 use Rattle.std.proofs.lemmas.Bool.{both_ways}
 use Rattle.ffa_model.specs.Descriptor.{page_word}
 use Rattle.ffa_model.specs.declared.rights.Rights.{Rights}
-use Rattle.ffa_stage2.proofs.OneBlock.{block-first, join-maps, written-middle, KeepsBeside-of_middle}
+use Rattle.ffa_physmem.proofs.Moments.{Only-map, Only-none}
+use Rattle.ffa_stage2.proofs.OneBlock.{block-first, join-maps, KeepsBeside-of_middle}
 use Rattle.ffa_stage2.proofs.blocks.join.Goals as goal
 
 pub overflow_sub-word : goal.overflow_sub-word
@@ -16,20 +17,32 @@ overflow_sub-word g c =
 pub returns-then-is_one-clause-mapped : goal.returns-then-is_one-clause-mapped
 returns-then-is_one-clause-mapped g c rights names is =
     let old = g.M.PhysMem.ram c.args.memory.now in
-    let new = g.M.PhysMem.ram c.write_word.new.self in
+    let new = g.M.PhysMem.ram c.replace.new.memory in
     let x = c.args.place.now in
     let (r, one) = (c.is_one.ensures.one rights names is).0 c.if-is_one.true in
     let word = c.leaf-word.ensures ∙ ap (λ (q : Option Rights). page_word x.address q) (sym is ∙ one c.args.within c.requires.within) in
-    join-maps old new x rights _ r c.requires.place one (written-middle old new x _ c.requires.place (omega (arith, c.leaf-word.type_inv)) c.write_word.ensures)
+    join-maps old new x rights _ r c.requires.place one c.replace.ensures.written
     (ap (λ (w : ℕ). w - 2) word)
 
 pub returns-then-is_one-clause-beside : goal.returns-then-is_one-clause-beside
 returns-then-is_one-clause-beside g c =
     let old = g.M.PhysMem.ram c.args.memory.now in
-    let new = g.M.PhysMem.ram c.write_word.new.self in
+    let new = g.M.PhysMem.ram c.replace.new.memory in
     let x = c.args.place.now in
-    KeepsBeside-of_middle old new x _ c.requires.place (written-middle old new x _ c.requires.place (omega (arith, c.leaf-word.type_inv)) c.write_word.ensures)
+    KeepsBeside-of_middle old new x _ c.requires.place c.replace.ensures.written
 
 pub returns-else-is_one-clause-mapped : goal.returns-else-is_one-clause-mapped
 returns-else-is_one-clause-mapped g c rights names is =
     inr (names, λ r one. absurd (both_ways _ c.if-is_one.false ((c.is_one.ensures.one rights names is).1 (r, one))))
+
+pub returns-then-is_one-clause-steps : goal.returns-then-is_one-clause-steps
+returns-then-is_one-clause-steps g c = Only-map c.replace.ensures.steps (λ h s its. elim its [ inl cut ↦ inl cut | inr (_, is, _) ↦ inr is ])
+
+pub returns-else-is_one-clause-steps : goal.returns-else-is_one-clause-steps
+returns-else-is_one-clause-steps g c = Only-none
+
+pub returns-then-is_one-clause-orders : goal.returns-then-is_one-clause-orders
+returns-then-is_one-clause-orders g c = c.replace.ensures.orders
+
+pub returns-else-is_one-clause-orders : goal.returns-else-is_one-clause-orders
+returns-else-is_one-clause-orders g c = Only-none

@@ -1,8 +1,12 @@
 -- SPDX-License-Identifier: MIT OR Apache-2.0
-use Rattle.std.proofs.Common.{◌∙◌, ℕ, ◌-◌, ap, sym, arith, inl, Option}
+use Rattle.std.proofs.Common.{◌∙◌, ℕ, ◌-◌, ap, sym, arith, inl, inr, Option}
 use Rattle.ffa_model.specs.Descriptor.{page_word}
 use Rattle.ffa_model.specs.declared.rights.Rights.{Rights}
-use Rattle.ffa_stage2.proofs.OneBlock.{block-first, join-maps, some_of, written-middle, KeepsBeside-of_middle}
+use Rattle.ffa_physmem.proofs.Moments.{Only-map, Only-none, Only-one}
+use Rattle.ffa_model.specs.Ram.{Ram}
+use Rattle.ffa_stage2.specs.Places.{word_at}
+use Rattle.ffa_stage2.proofs.Moments.{orderly-write}
+use Rattle.ffa_stage2.proofs.OneBlock.{block-first, block-here, typed, join-maps, some_of, written-middle, KeepsBeside-of_middle}
 use Rattle.ffa_stage2.proofs.blocks.put_block.Goals as goal
 
 pub overflow_sub-word : goal.overflow_sub-word
@@ -12,26 +16,74 @@ overflow_sub-word g c =
     let word = c.leaf-word.ensures ∙ ap (λ (q : Option Rights). page_word x.address q) is ∙ block-first x.address r c.requires.place.aligned c.requires.place.within in
     omega (arith, word)
 
-pub returns-then-word-clause-mapped : goal.returns-then-word-clause-mapped
-returns-then-word-clause-mapped g c =
+-- the word stands already
+pub returns-then-now-word-clause-mapped : goal.returns-then-now-word-clause-mapped
+returns-then-now-word-clause-mapped g c =
+    let x = c.args.place.now in
+    let (r, is) = some_of c.args.right c.requires.some in
+    let word = c.leaf-word.ensures ∙ ap (λ (q : Option Rights). page_word x.address q) is ∙ block-first x.address r c.requires.place.aligned c.requires.place.within in
+    inl (record { right = r; one = λ j _. is; is = sym c.word-now.ensures ∙ c.if-now-word.true ∙ omega (arith, word) })
+
+pub returns-then-now-word-clause-steps : goal.returns-then-now-word-clause-steps
+returns-then-now-word-clause-steps g c = Only-none
+
+-- a block of another right: its permissions alone change
+pub returns-then-now-eq-BLOCK-clause-mapped : goal.returns-then-now-eq-BLOCK-clause-mapped
+returns-then-now-eq-BLOCK-clause-mapped g c =
     let old = g.M.PhysMem.ram c.args.memory.now in
     let new = g.M.PhysMem.ram c.write_word.new.self in
     let x = c.args.place.now in
     let (r, is) = some_of c.args.right c.requires.some in
     let word = c.leaf-word.ensures ∙ ap (λ (q : Option Rights). page_word x.address q) is in
-    join-maps old new x _ _ r c.requires.place (λ j _. is) (written-middle old new x _ c.requires.place (omega (arith, c.leaf-word.type_inv)) c.write_word.ensures)
+    join-maps old new x _ _ r c.requires.place (λ j _. is) (written-middle old new x _ c.requires.place (omega (arith, c.leaf-word.type_inv)) c.write_word.ensures.ram)
     (ap (λ (w : ℕ). w - 2) word)
 
-pub returns-then-word-clause-beside : goal.returns-then-word-clause-beside
-returns-then-word-clause-beside g c =
+pub returns-then-now-eq-BLOCK-clause-beside : goal.returns-then-now-eq-BLOCK-clause-beside
+returns-then-now-eq-BLOCK-clause-beside g c =
     let old = g.M.PhysMem.ram c.args.memory.now in
     let new = g.M.PhysMem.ram c.write_word.new.self in
     let x = c.args.place.now in
-    KeepsBeside-of_middle old new x _ c.requires.place (written-middle old new x _ c.requires.place (omega (arith, c.leaf-word.type_inv)) c.write_word.ensures)
+    KeepsBeside-of_middle old new x _ c.requires.place (written-middle old new x _ c.requires.place (omega (arith, c.leaf-word.type_inv)) c.write_word.ensures.ram)
 
-pub returns-else-word-clause-mapped : goal.returns-else-word-clause-mapped
-returns-else-word-clause-mapped g c =
+pub returns-then-now-eq-BLOCK-clause-steps : goal.returns-then-now-eq-BLOCK-clause-steps
+returns-then-now-eq-BLOCK-clause-steps g c = Only-map (Only-one c.write_word.ensures.steps) (λ h s is. inr (is.after ∙ sym c.write_word.ensures.ram))
+
+-- the table: break before make
+pub returns-else-now-eq-BLOCK-clause-mapped : goal.returns-else-now-eq-BLOCK-clause-mapped
+returns-else-now-eq-BLOCK-clause-mapped g c =
+    let old = g.M.PhysMem.ram c.args.memory.now in
+    let new = g.M.PhysMem.ram c.replace.new.memory in
     let x = c.args.place.now in
     let (r, is) = some_of c.args.right c.requires.some in
-    let word = c.leaf-word.ensures ∙ ap (λ (q : Option Rights). page_word x.address q) is ∙ block-first x.address r c.requires.place.aligned c.requires.place.within in
-    inl (record { right = r; one = λ j _. is; is = sym c.word.ensures ∙ c.if-word.false ∙ omega (arith, word) })
+    let word = c.leaf-word.ensures ∙ ap (λ (q : Option Rights). page_word x.address q) is in
+    join-maps old new x _ _ r c.requires.place (λ j _. is) c.replace.ensures.written (ap (λ (w : ℕ). w - 2) word)
+
+pub returns-else-now-eq-BLOCK-clause-beside : goal.returns-else-now-eq-BLOCK-clause-beside
+returns-else-now-eq-BLOCK-clause-beside g c =
+    KeepsBeside-of_middle (g.M.PhysMem.ram c.args.memory.now) (g.M.PhysMem.ram c.replace.new.memory) c.args.place.now _ c.requires.place c.replace.ensures.written
+
+pub returns-else-now-eq-BLOCK-clause-steps : goal.returns-else-now-eq-BLOCK-clause-steps
+returns-else-now-eq-BLOCK-clause-steps g c = Only-map c.replace.ensures.steps (λ h s its. elim its [ inl cut ↦ inl cut | inr (_, is, _) ↦ inr is ])
+
+pub returns-then-now-word-clause-orders : goal.returns-then-now-word-clause-orders
+returns-then-now-word-clause-orders g c = Only-none
+
+pub returns-then-now-eq-BLOCK-clause-orders : goal.returns-then-now-eq-BLOCK-clause-orders
+returns-then-now-eq-BLOCK-clause-orders g c =
+    let old = g.M.PhysMem.ram c.args.memory.now in
+    let x = c.args.place.now in
+    let place = c.requires.place in
+    let (rights, maps) = c.requires.stands in
+    let (r, is) = some_of c.args.right c.requires.some in
+    let block = block-here old x rights place maps (typed old x _ c.word-now.ensures c.if-now-eq-BLOCK.true) in
+    let word = c.leaf-word.ensures ∙ ap (λ (q : Option Rights). page_word x.address q) is ∙ block-first x.address r place.aligned place.within in
+    Only-map (Only-one c.write_word.ensures.steps) (λ h s wrote. orderly-write x h s old _ place (omega (arith, c.leaf-word.type_inv)) wrote.before wrote.after
+    (inr (inr (
+      block.right,
+      r,
+      ap (λ (m : Ram). word_at m x) wrote.before ∙ block.is,
+      omega (arith, word),
+    ))))
+
+pub returns-else-now-eq-BLOCK-clause-orders : goal.returns-else-now-eq-BLOCK-clause-orders
+returns-else-now-eq-BLOCK-clause-orders g c = c.replace.ensures.orders

@@ -1,6 +1,9 @@
 -- SPDX-License-Identifier: MIT OR Apache-2.0
-use Rattle.std.proofs.Common.{arith}
-use Rattle.ffa_stage2.proofs.OneBlock.{block-here, block-fits, typed, written-middle, KeepsBeside-of_middle, KeepsBeside-then, IsPlace-kept}
+use Rattle.std.proofs.Common.{◌≡◌, ◌∙◌, ℕ, ◌%◌, ap, sym, arith, inl, inr}
+use Rattle.ffa_physmem.proofs.Moments.{Only-map, Only-none, Only-then}
+use Rattle.ffa_stage2.proofs.OneBlock.{block-here, block-fits, typed, KeepsBeside-of_middle, KeepsBeside-then, IsPlace-kept}
+use Rattle.ffa_stage2.proofs.Moments.{apart-same, apart-filled, cut-then, orderly-apart, way-filling, way-replaced}
+use Rattle.ffa_stage2.specs.Places.{word_at}
 use Rattle.ffa_stage2.proofs.PageRuns.{split-kept, split-maps, three-filled}
 use Rattle.ffa_stage2.proofs.blocks.split.Goals as goal
 
@@ -23,25 +26,78 @@ keep-requires-2-clause-word g c =
     let (rights, maps) = c.requires.mapped in
     omega (arith, c.requires.word, block-fits ram c.args.place.now rights c.requires.place maps (typed ram c.args.place.now _ c.requires.word c.requires.block))
 
+pub replace-requires : goal.replace-requires
+replace-requires g c =
+    let old = g.M.PhysMem.ram c.args.memory.now in
+    let full = g.M.PhysMem.ram c.fill.new.memory in
+    record { place = IsPlace-kept old full c.args.place.now c.requires.place (three-filled old _ _ full c.args.place.now _ _ _ _ _ _ _ _ _ c.requires.place c.keep.ensures.filled c.keep-2.ensures.filled c.fill.ensures.filled) }
+
 pub returns-clause-mapped : goal.returns-clause-mapped
 returns-clause-mapped g c rights maps =
     let old = g.M.PhysMem.ram c.args.memory.now in
     let full = g.M.PhysMem.ram c.fill.new.memory in
-    let new = g.M.PhysMem.ram c.write_word.new.self in
+    let new = g.M.PhysMem.ram c.replace.new.memory in
     let x = c.args.place.now in
     let place = c.requires.place in
-    let beside = three-filled old _ _ full x _ _ _ _ _ _ _ _ _ place c.keep.ensures c.keep-2.ensures c.fill.ensures in
+    let beside = three-filled old _ _ full x _ _ _ _ _ _ _ _ _ place c.keep.ensures.filled c.keep-2.ensures.filled c.fill.ensures.filled in
     split-maps old _ _ full new x rights c.args.from c.args.to c.args.right c.args.word _ place
     (block-here old x rights place maps (typed old x _ c.requires.word c.requires.block)) c.requires.word c.leaf.ensures c.if-leaf-word.false c.requires.from c.requires.to c.requires.part
-    c.keep.ensures c.keep-2.ensures c.fill.ensures (written-middle full new x _ (IsPlace-kept old full x place beside) place.fits c.write_word.ensures)
+    c.keep.ensures.filled c.keep-2.ensures.filled c.fill.ensures.filled c.replace.ensures.written
 
 pub returns-clause-beside : goal.returns-clause-beside
 returns-clause-beside g c =
     let old = g.M.PhysMem.ram c.args.memory.now in
     let full = g.M.PhysMem.ram c.fill.new.memory in
-    let new = g.M.PhysMem.ram c.write_word.new.self in
+    let new = g.M.PhysMem.ram c.replace.new.memory in
     let x = c.args.place.now in
     let place = c.requires.place in
-    let beside = three-filled old _ _ full x _ _ _ _ _ _ _ _ _ place c.keep.ensures c.keep-2.ensures c.fill.ensures in
+    let beside = three-filled old _ _ full x _ _ _ _ _ _ _ _ _ place c.keep.ensures.filled c.keep-2.ensures.filled c.fill.ensures.filled in
     let kept = IsPlace-kept old full x place beside in
-    KeepsBeside-then old full new x beside (KeepsBeside-of_middle full new x _ kept (written-middle full new x _ kept place.fits c.write_word.ensures))
+    KeepsBeside-then old full new x beside (KeepsBeside-of_middle full new x _ kept c.replace.ensures.written)
+
+pub returns-then-leaf-word-clause-steps : goal.returns-then-leaf-word-clause-steps
+returns-then-leaf-word-clause-steps g c rights maps = Only-none
+
+-- the level 3 page is written while the block stands, and is named when it is whole
+pub returns-clause-steps : goal.returns-clause-steps
+returns-clause-steps g c rights maps =
+    let old = g.M.PhysMem.ram c.args.memory.now in
+    let low = g.M.PhysMem.ram c.keep.new.memory in
+    let high = g.M.PhysMem.ram c.keep-2.new.memory in
+    let new = g.M.PhysMem.ram c.replace.new.memory in
+    let x = c.args.place.now in
+    let from = c.args.from in
+    let to = c.args.to in
+    let right = c.args.right in
+    let place = c.requires.place in
+    let block = block-here old x rights place maps (typed old x _ c.requires.word c.requires.block) in
+    let first = apart-same old x place in
+    let second = apart-filled old old low x _ _ _ place first c.keep.ensures.filled in
+    let third = apart-filled old low high x _ _ _ place second c.keep-2.ensures.filled in
+    Only-then (Only-then (Only-then
+    (Only-map c.keep.ensures.steps (λ h s some. way-filling old old s.after x rights from to right _ _ _ place block first some))
+    c.keep-2.ensures.steps (λ h s some. way-filling old low s.after x rights from to right _ _ _ place block second some))
+    c.fill.ensures.steps (λ h s some. way-filling old high s.after x rights from to right _ _ _ place block third some))
+    c.replace.ensures.steps
+    (λ h s its. way-replaced old new s.after x rights from to right (returns-clause-mapped g c rights maps) (returns-clause-beside g c)
+    (elim its [ inl cut ↦ inl (cut-then old _ s.after x (apart-filled old high _ x _ _ _ place third c.fill.ensures.filled).beside cut) | inr (_, is, _) ↦ inr is ]))
+
+pub returns-then-leaf-word-clause-orders : goal.returns-then-leaf-word-clause-orders
+returns-then-leaf-word-clause-orders g c = Only-none
+
+pub returns-clause-orders : goal.returns-clause-orders
+returns-clause-orders g c =
+    let old = g.M.PhysMem.ram c.args.memory.now in
+    let low = g.M.PhysMem.ram c.keep.new.memory in
+    let high = g.M.PhysMem.ram c.keep-2.new.memory in
+    let x = c.args.place.now in
+    let place = c.requires.place in
+    let first = apart-same old x place in
+    let second = apart-filled old old low x _ _ _ place first c.keep.ensures.filled in
+    let third = apart-filled old low high x _ _ _ place second c.keep-2.ensures.filled in
+    let typed : word_at old x % 4 ≡ 1 = ap (λ (w : ℕ). w % 4) (sym c.requires.word) ∙ c.requires.block in
+    Only-then (Only-then (Only-then
+    (Only-map c.keep.ensures.orders (λ h s one. orderly-apart x h s old old c.args.from 0 _ place first typed (omega (arith, c.requires.from, c.requires.to)) one))
+    c.keep-2.ensures.orders (λ h s one. orderly-apart x h s old low 512 c.args.to _ place second typed (omega arith) one))
+    c.fill.ensures.orders (λ h s one. orderly-apart x h s old high c.args.to c.args.from _ place third typed c.requires.to one))
+    c.replace.ensures.orders (λ h s is. is)

@@ -6,13 +6,13 @@ use Rattle.ffa_stage2.proofs.tables.link.Goals as goal
 pub loop-block-init : goal.loop-block-init
 loop-block-init g c =
     linking-first (g.M.PhysMem.ram c.args.memory.now) (g.M.PhysMem.ram c.write_word.new.self) _ c.args.layout.now.blocks c.args.layout.now.base.0 c.args.index _ _ _
-    c.requires.tables c.requires.base c.requires.index c.write_word.ensures (omega arith) (omega arith) (omega arith)
+    c.requires.tables c.requires.base c.requires.index c.write_word.ensures.ram (omega arith) (omega arith) (omega arith)
 
 pub loop-block-preserved : goal.loop-block-preserved
 loop-block-preserved g c =
     let i = c.loop-block.invariant in
     linking-next (g.M.PhysMem.ram c.args.memory.now) (g.M.PhysMem.ram c.loop-block.memory) (g.M.PhysMem.ram c.write_word-in-loop-block.new.self) _ c.args.layout.now.blocks c.args.layout.now.base.0 c.args.index c.loop-block.block _ _ _
-    i (i.rest.base ∙ c.requires.base) c.requires.index c.loop-block-test.true c.write_word-in-loop-block.ensures (omega arith) (omega arith) (omega arith)
+    i (i.rest.base ∙ c.requires.base) c.requires.index c.loop-block-test.true c.write_word-in-loop-block.ensures.ram (omega arith) (omega arith) (omega arith)
 
 pub returns-clause-tables : goal.returns-clause-tables
 returns-clause-tables g c =

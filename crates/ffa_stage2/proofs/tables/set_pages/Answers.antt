@@ -1,9 +1,11 @@
 -- SPDX-License-Identifier: MIT OR Apache-2.0
-use Rattle.std.proofs.Common.{◌≡◌, ◌+◌, ◌*◌, ◌/◌, ◌%◌, ◌-◌, ◌<◌, arith, subst}
+use Rattle.std.proofs.Common.{◌≡◌, ◌+◌, ◌*◌, ◌/◌, ◌%◌, ◌-◌, ◌<◌, arith, subst, sym}
 use Rattle.arrayvec.specs.ArrayVec.{array_vec_len}
 use Rattle.ffa_stage2.specs.Tables.{IsBuilt, rights_of_block, with_pages}
 use Rattle.ffa_stage2.proofs.Rights.{built-same, with_pages-none}
 use Rattle.ffa_stage2.proofs.Changes.{place-of, maps-of, others-beside, blocks-built}
+use Rattle.ffa_physmem.proofs.Moments.{Only-both, Only-map, Only-none, Only-then}
+use Rattle.ffa_stage2.proofs.Moments.{between-block, ordered-of, place-of-kept, walks-between}
 use Rattle.ffa_stage2.proofs.RunChanges.{KeepsOthers-same, KeepsOthers-then, runs-built, runs-walk}
 use Rattle.ffa_stage2.proofs.tables.set_pages.Goals as goal
 
@@ -15,6 +17,9 @@ loop-next-init g c =
       upto = omega arith;
       built = λ access h. built-same (g.M.PhysMem.ram c.args.memory.now) (array_vec_len l.regions) l.blocks access _ h (λ e p _ _. with_pages-none access c.args.index c.args.first.0 c.args.right e p);
       others = KeepsOthers-same _ _ _;
+      steps = λ access h. Only-none;
+      orders = Only-none;
+      others_stay = Only-none;
     }
 
 pub of-place-requires-clause-fits : goal.of-place-requires-clause-fits
@@ -55,6 +60,27 @@ loop-next-preserved g c =
           i.from (omega (arith, c.min-to.ensures, c.loop-next-test.true)) (omega arith) (omega (arith, c.min-to.ensures, c.loop-next-test.true)) (omega (arith, c.min-to.ensures))
           c.change.ensures.mapped;
       others = KeepsOthers-then _ _ _ _ _ i.others (others-beside (g.M.PhysMem.ram c.loop-next.memory) (g.M.PhysMem.ram c.change.new.memory) _ c.args.index k _ hk c.of-place.ensures c.change.ensures.beside);
+      steps = λ access h.
+          let built = i.built access h in
+          let rights = with_pages access c.args.index c.args.first.0 c.loop-next.next c.args.right c.args.index in
+          Only-then (i.steps access h)
+          (c.change.ensures.steps (rights_of_block rights k)
+          (maps-of (g.M.PhysMem.ram c.loop-next.memory) _ c.args.index k _ rights c.of-place.ensures (built.each c.args.index k c.requires.index hk)))
+          (λ hist s way. between-block (g.M.PhysMem.ram c.loop-next.memory) s.after _ _ c.args.index k c.args.first.0 c.loop-next.next c.min-to.result (c.args.first.0 + c.args.count)
+          (c.loop-next.next % 512) (c.min-to.result - 512 * k) access c.args.right _ built c.requires.index hk c.of-place.ensures way
+          i.from (omega (arith, c.min-to.ensures, c.loop-next-test.true)) (omega (arith, c.min-to.ensures)) (omega arith) (omega (arith, c.min-to.ensures, c.loop-next-test.true)) (omega (arith, c.min-to.ensures)));
+      orders = Only-then i.orders c.change.ensures.orders
+          (λ h s its. ordered-of (g.M.PhysMem.ram c.args.memory.now) c.args.layout.now.blocks c.args.index k c.of-place.result hk
+          (place-of-kept (g.M.PhysMem.ram c.loop-next.memory) (g.M.PhysMem.ram c.args.memory.now) c.args.layout.now.blocks c.args.index k c.of-place.result (sym i.others.base) c.of-place.ensures)
+          h s its);
+      others_stay =
+          let (access, h) = c.requires.built in
+          let built = i.built access h in
+          let rights = with_pages access c.args.index c.args.first.0 c.loop-next.next c.args.right c.args.index in
+          Only-then i.others_stay
+          (c.change.ensures.steps (rights_of_block rights k)
+          (maps-of (g.M.PhysMem.ram c.loop-next.memory) _ c.args.index k _ rights c.of-place.ensures (built.each c.args.index k c.requires.index hk)))
+          (λ hist s way. KeepsOthers-then _ _ s.after _ _ i.others (others-beside (g.M.PhysMem.ram c.loop-next.memory) s.after _ c.args.index k _ hk c.of-place.ensures way.beside));
     }
 
 pub returns-clause-built : goal.returns-clause-built
@@ -81,3 +107,21 @@ returns-clause-blocks g c access h =
     let all : c.loop-next.next ≡ c.args.first.0 + c.args.count = omega (arith, i.upto, c.loop-next-test.false) in
     blocks-built (g.M.PhysMem.ram c.loop-next.memory) _ _ _
     (subst (λ n. IsBuilt (g.M.PhysMem.ram c.loop-next.memory) (array_vec_len l.regions) l.blocks (with_pages access c.args.index c.args.first.0 n c.args.right)) all (i.built access h))
+
+pub returns-clause-steps : goal.returns-clause-steps
+returns-clause-steps g c access h = c.loop-next.invariant.steps access h
+
+pub returns-clause-others_stay : goal.returns-clause-others_stay
+returns-clause-others_stay g c = c.loop-next.invariant.others_stay
+
+pub returns-clause-each_walk : goal.returns-clause-each_walk
+returns-clause-each_walk g c =
+    let (access, h) = c.requires.built in
+    let i = c.loop-next.invariant in
+    let old = g.M.PhysMem.ram c.args.memory.now in
+    let new = g.M.PhysMem.ram c.loop-next.memory in
+    Only-map (Only-both (i.steps access h) i.others_stay)
+    (λ hist s (between, others). walks-between old new s.after _ _ access _ h (returns-clause-built g c access h) between others.base others.size i.others.base i.others.size)
+
+pub returns-clause-orders : goal.returns-clause-orders
+returns-clause-orders g c = c.loop-next.invariant.orders

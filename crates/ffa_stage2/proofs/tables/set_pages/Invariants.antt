@@ -2,6 +2,9 @@
 use Rattle.std.proofs.Common.{ℕ, ◌-◌, ◌≤◌, Option}
 use Rattle.ffa_model.specs.declared.rights.Rights.{Rights}
 use Rattle.arrayvec.specs.ArrayVec.{array_vec_len}
+use Rattle.ffa_physmem.specs.Moments.{Only}
+use Rattle.ffa_stage2.specs.Moments.{IsBetween}
+use Rattle.ffa_stage2.specs.Orders.{IsOrdered}
 use Rattle.ffa_stage2.specs.Tables.{IsBuilt, KeepsOthers, with_pages}
 use Rattle.ffa_stage2.proofs.tables.set_pages.Given as goal
 
@@ -14,6 +17,11 @@ invariant-loop-next g l = record {
       → IsBuilt (g.M.PhysMem.ram l.fn.memory) (array_vec_len l.layout.regions) l.layout.blocks access
       → IsBuilt (g.M.PhysMem.ram l.memory) (array_vec_len l.layout.regions) l.layout.blocks (with_pages access l.index l.fn.first.0 l.next l.right);
   others : KeepsOthers (g.M.PhysMem.ram l.fn.memory) (g.M.PhysMem.ram l.memory) l.layout.blocks l.index;
+  steps : (access : ℕ → ℕ → Option Rights)
+      → IsBuilt (g.M.PhysMem.ram l.fn.memory) (array_vec_len l.layout.regions) l.layout.blocks access
+      → Only (g.M.PhysMem.past l.fn.memory) (g.M.PhysMem.past l.memory) (λ _ s. IsBetween s.after (array_vec_len l.layout.regions) l.layout.blocks access (with_pages access l.index l.fn.first.0 l.end l.right));
+  orders : Only (g.M.PhysMem.past l.fn.memory) (g.M.PhysMem.past l.memory) (λ h s. IsOrdered (g.M.PhysMem.ram l.fn.memory) l.layout.blocks l.index h s);
+  others_stay : Only (g.M.PhysMem.past l.fn.memory) (g.M.PhysMem.past l.memory) (λ _ s. KeepsOthers (g.M.PhysMem.ram l.fn.memory) s.after l.layout.blocks l.index);
 }
 
 -- the pages that are left

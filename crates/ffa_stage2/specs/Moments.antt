@@ -1,0 +1,91 @@
+-- SPDX-License-Identifier: MIT OR Apache-2.0
+-- On the way from one access to another: what tables give between two writes.
+use Rattle.std.specs.Prelude.{◌≡◌, ℕ, ◌+◌, ◌*◌, ◌^◌, ◌<◌, ◌≤◌, ◌⊎◌, true, List, Option, is_some, is_ok, None, Err}
+use Rattle.arrayvec.specs.ArrayVec.{array_vec_len}
+use Rattle.ffa_model.specs.Ram.{Ram, page_of}
+use Rattle.ffa_model.specs.Manifest.{root_of}
+use Rattle.ffa_model.specs.Walk.{Answer, walk}
+use Rattle.ffa_model.specs.declared.operation.FaultKind.TheVariants.{Translation}
+use Rattle.ffa_model.specs.declared.rights.Rights.{Rights}
+use Rattle.ffa_stage2.specs.declared.layout.Layout.{Layout}
+use Rattle.ffa_physmem.specs.Moments.{IsSettledBy, KeepsBelow, Step}
+use Rattle.ffa_stage2.specs.Orders.{IsOrdered}
+use Rattle.ffa_stage2.specs.Tables.{IsBuilt, IsStanding, table_page}
+
+-- this right or nothing
+abbrev pub IsNoMore : Option Rights → Option Rights → Type 0
+IsNoMore right other = (right ≡ other) ⊎ (right ≡ None)
+
+-- The tables stand in the RAM, and to each page all endpoints have the rights of the one access or nothing, or all have those of
+-- the other or nothing: so where in neither of the two both of two endpoints have a right to a page, they haven't here.
+pub record IsBetween (ram : Ram) (endpoints blocks : ℕ) (access after : ℕ → ℕ → Option Rights) : Type 0 where
+  pub rights : ℕ → ℕ → Option Rights
+  pub stands : IsStanding ram endpoints blocks rights
+  pub each : (p : ℕ) → ((e : ℕ) → IsNoMore (rights e p) (access e p)) ⊎ ((e : ℕ) → IsNoMore (rights e p) (after e p))
+
+abbrev pub IsBetweenFor : Layout → Ram → (ℕ → ℕ → Option Rights) → (ℕ → ℕ → Option Rights) → Type 0
+IsBetweenFor layout ram access after = IsBetween ram (array_vec_len layout.regions) layout.blocks access after
+
+-- no right now, after which a page was settled if there was one before; or a right before and behind
+abbrev pub IsOutOrStays : Option Rights → Option Rights → Option Rights → Type 0 → Type 0
+IsOutOrStays now before behind settled = ((now ≡ None) × (is_some before ≡ true → settled)) ⊎ ((is_some before ≡ true) × (is_some behind ≡ true))
+
+-- a step that leaves the pages from one on as they are
+abbrev pub KeepsBehind : ℕ → Step → Type 0
+KeepsBehind first s = (p : ℕ) → first ≤ p → page_of s.after p ≡ page_of s.before p
+
+-- Before a step that writes pages behind the tables, the tables give these rights. To a page that it changes an endpoint has
+-- no right then, and if it had one before the operation, the page was settled since that ended; or the endpoint has a right to
+-- it both before the operation and behind it.
+pub record IsUnreached (old : Ram) (endpoints blocks : ℕ) (access after : ℕ → ℕ → Option Rights) (h : List Step) (s : Step) : Type 0 where
+  pub rights : ℕ → ℕ → Option Rights
+  pub stands : IsStanding s.before endpoints blocks rights
+  pub place : s.before.base ≡ old.base
+  pub each :
+      (p : ℕ) → table_page blocks endpoints 0 ≤ p
+      → (page_of s.after p ≡ page_of s.before p) ⊎ ((e : ℕ) → e < endpoints → IsOutOrStays (rights e p) (access e p) (after e p) (IsSettledBy (table_page blocks endpoints 0) e p h))
+
+-- a step that leaves all tables as they are, or is one in the tables of an endpoint, by way of nothing where it has to be
+abbrev pub IsInOrder : Ram → ℕ → ℕ → List Step → Step → Type 0
+IsInOrder old endpoints blocks h s = KeepsBelow (table_page blocks endpoints 0) s ⊎ ((e : ℕ) × (e < endpoints) × IsOrdered old blocks e h s)
+
+-- a step on the way from one RAM where tables are built to another
+pub record IsMoment (old new : Ram) (endpoints blocks : ℕ) (h : List Step) (s : Step) : Type 0 where
+  pub access : ℕ → ℕ → Option Rights
+  pub after : ℕ → ℕ → Option Rights
+  pub was : IsBuilt old endpoints blocks access
+  pub is : IsBuilt new endpoints blocks after
+  pub between : IsBetween s.after endpoints blocks access after
+  pub order : IsInOrder old endpoints blocks h s
+  pub unreached : KeepsBehind (table_page blocks endpoints 0) s ⊎ IsUnreached old endpoints blocks access after h s
+  pub place : s.after.base ≡ old.base
+  pub stays : new.base ≡ old.base
+
+-- the walk of each endpoint's table gives at an address what it gives in another RAM, or nothing
+abbrev pub WalkAlike : Ram → Ram → ℕ → ℕ → ℕ → Type 0
+WalkAlike ram other endpoints blocks address =
+    (e : ℕ) → e < endpoints
+    → (walk ram (root_of ram.base blocks e) address ≡ walk other (root_of other.base blocks e) address)
+    ⊎ (walk ram (root_of ram.base blocks e) address ≡ Err Translation)
+
+-- at every address the walks of all endpoints' tables give what they give in the one RAM, or all give what they give in the
+-- other
+abbrev pub WalksBetween : Ram → Ram → ℕ → ℕ → Ram → Type 0
+WalksBetween old new endpoints blocks ram =
+    (address : ℕ) → address < 2 ^ 32 → WalkAlike ram old endpoints blocks address ⊎ WalkAlike ram new endpoints blocks address
+
+-- what an endpoint's walk gives at an address
+abbrev pub walk_at : Ram → ℕ → ℕ → ℕ → Answer
+walk_at ram blocks e address = walk ram (root_of ram.base blocks e) address
+
+-- A page behind the tables changes at a step only while the walk of no endpoint leads there but of one whose walk leads there both
+-- before the operation and behind it; and where an endpoint's walk led there before the operation and doesn't now, the page
+-- was settled since then.
+abbrev pub WritesUnreached : Ram → Ram → ℕ → ℕ → List Step → Step → Type 0
+WritesUnreached old new endpoints blocks h s =
+    (p : ℕ) → table_page blocks endpoints 0 ≤ p → p < 512 * blocks
+    → (page_of s.after p ≡ page_of s.before p)
+    ⊎ ((e : ℕ) → e < endpoints
+    → ((walk_at s.before blocks e (old.base + 4096 * p) ≡ Err Translation)
+    × (is_ok (walk_at old blocks e (old.base + 4096 * p)) ≡ true → IsSettledBy (table_page blocks endpoints 0) e p h))
+    ⊎ ((is_ok (walk_at old blocks e (old.base + 4096 * p)) ≡ true) × (is_ok (walk_at new blocks e (old.base + 4096 * p)) ≡ true)))
