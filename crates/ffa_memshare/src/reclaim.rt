@@ -8,6 +8,8 @@ ghost use Rattle.ffa_model.specs.Calls.{first_failure};
 ghost use Rattle.ffa_model.specs.Identifiers.{place};
 ghost use Rattle.ffa_model.specs.MemoryReturn.{named_ranges, reclaim_guards};
 ghost use Rattle.ffa_model.specs.Transactions.{closed};
+ghost use Rattle.ffa_physmem.specs.Moments.{Only};
+ghost use Rattle.ffa_stage2.specs.Moments.{IsMoment};
 ghost use Rattle.ffa_pages.specs.Entry.{own_right_at};
 ghost use Rattle.ffa_memshare.specs.Changed.{IsChanged, changed_reclaimer};
 ghost use Rattle.ffa_memshare.specs.Changes.{IsMarked, IsMoved};
@@ -50,10 +52,12 @@ impl Pool {
         ensures kept { OnErr result (self.new ≡ self.old) }
         ensures kept_pages { OnErr result (pages.new ≡ pages.old) }
         ensures kept_ram { OnErr result (M.ram ram.new ≡ M.ram ram.old) }
+        ensures kept_past { OnErr result (M.past ram.new ≡ M.past ram.old) }
         ensures slot { OnOk result (IsClosed self.old self.new handle) }
         ensures open_transactions { OnOk result (open_in self.new ≡ closed (open_in self.old) handle) }
         ensures ram { OnOk result (IsMoved (M.ram ram.old) (M.ram ram.new) (array_vec_len layout.now.regions) layout.now.blocks
             (place caller.0) (in_ranges layout.now.base.0 (named_ranges (finite.get (map_in self.old.slots) handle))) (own_right_at pages.old) (flags == 1)) }
+        ensures steps { Only (M.past ram.old) (M.past ram.new) (λ h s. IsMoment (M.ram ram.old) (M.ram ram.new) (array_vec_len layout.now.regions) layout.now.blocks h s) }
         ensures pages { OnOk result (IsMarked pages.old pages.new
             (in_ranges layout.now.base.0 (named_ranges (finite.get (map_in self.old.slots) handle))) (Mark.Named None)) }
         ensures changed { IfOk result (λ changed. IsChanged changed (named_ranges (finite.get (map_in self.old.slots) handle))

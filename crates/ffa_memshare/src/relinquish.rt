@@ -7,6 +7,8 @@ ghost use Rattle.ffa_model.specs.Buffers.{buffers_in};
 ghost use Rattle.ffa_model.specs.Calls.{first_failure};
 ghost use Rattle.ffa_model.specs.MemoryReturn.{relinquish_guards};
 ghost use Rattle.ffa_model.specs.RelinquishDescriptor.{relinquish_of};
+ghost use Rattle.ffa_physmem.specs.Moments.{Only};
+ghost use Rattle.ffa_stage2.specs.Moments.{IsMoment};
 ghost use Rattle.ffa_rxtx.specs.Parts.{tx_in};
 ghost use Rattle.ffa_memshare.specs.Callers.{IsCaller};
 ghost use Rattle.ffa_memshare.specs.Relinquished.{IsRelinquished};
@@ -48,8 +50,10 @@ impl Pool {
             (relinquish_of (tx_in (M.ram ram.old) (buffers_in buffers.now caller.0)))) }
         ensures kept { OnErr result (self.new ≡ self.old) }
         ensures kept_ram { OnErr result (M.ram ram.new ≡ M.ram ram.old) }
+        ensures kept_past { OnErr result (M.past ram.new ≡ M.past ram.old) }
         ensures done { IfOk result (λ changed. IsRelinquished self.old self.new (M.ram ram.old) (M.ram ram.new) layout.now.base.0
             (array_vec_len layout.now.regions) layout.now.blocks caller.0 (tx_in (M.ram ram.old) (buffers_in buffers.now caller.0)) changed) }
+        ensures steps { Only (M.past ram.old) (M.past ram.new) (λ h s. IsMoment (M.ram ram.old) (M.ram ram.new) (array_vec_len layout.now.regions) layout.now.blocks h s) }
     {
         let found = self.check_relinquish(ram, buffers, caller)?;
         let open = self.at(found.slot);

@@ -5,7 +5,8 @@ ghost use Rattle.ffa_model.specs.Buffers.{buffers_in, buffers_with_rx};
 ghost use Rattle.ffa_model.specs.ResponseBytes.{response_bytes, response_record, response_size};
 ghost use Rattle.ffa_model.specs.SendDescriptor.{page_total};
 ghost use Rattle.ffa_model.specs.State.{is_known_among};
-ghost use Rattle.ffa_rxtx.specs.Parts.{IsInRam, with_rx_bytes};
+ghost use Rattle.ffa_physmem.specs.Moments.{Only};
+ghost use Rattle.ffa_rxtx.specs.Parts.{IsBesideRx, IsInRam, IsRxWriting, with_rx_bytes};
 
 use ffa_memdesc::write_response;
 use ffa_model::{EndpointId, Response, Version};
@@ -27,6 +28,8 @@ pub fn respond<M: PhysMem>(
     ensures size { result ≡ response_size version response.now.ranges.items }
     ensures ram { M.ram ram.new ≡ with_rx_bytes (M.ram ram.old) (buffers_in buffers.old endpoint.0) (response_bytes version (response_record response.now)) }
     ensures full { buffers.new ≡ buffers_with_rx buffers.old endpoint.0 true }
+    ensures beside { IsBesideRx (M.ram ram.old) (M.ram ram.new) (buffers_in buffers.old endpoint.0) }
+    ensures steps { Only (M.past ram.old) (M.past ram.new) (λ _ s. IsRxWriting (M.ram ram.old) (buffers_in buffers.old endpoint.0) s) }
 {
     match buffers.of(endpoint) {
         Some(mapped) => {

@@ -12,7 +12,9 @@ ghost use Rattle.ffa_model.specs.ResponseBytes.{response_record};
 ghost use Rattle.ffa_model.specs.RetrieveDescriptor.{retrieve_of};
 ghost use Rattle.ffa_model.specs.State.{Transaction};
 ghost use Rattle.ffa_pages.specs.Entry.{owner_at};
-ghost use Rattle.ffa_memshare.specs.Callers.{IsCaller};
+ghost use Rattle.ffa_physmem.specs.Moments.{Only};
+ghost use Rattle.ffa_stage2.specs.Moments.{IsMoment};
+ghost use Rattle.ffa_memshare.specs.Callers.{IsCaller, IsRxApart};
 ghost use Rattle.ffa_memshare.specs.Ranges.{ArePlaced, in_ranges};
 ghost use Rattle.ffa_memshare.specs.Retrieved.{IsAnswered, IsPassedOn, IsRetrieved, IsTaken};
 ghost use Rattle.ffa_memshare.specs.Scenes.{descriptor_in, scene_in};
@@ -64,10 +66,15 @@ impl Pool {
         ensures kept_pages { OnErr result (pages.new ≡ pages.old) }
         ensures kept_buffers { OnErr result (buffers.new ≡ buffers.old) }
         ensures kept_ram { OnErr result (M.ram ram.new ≡ M.ram ram.old) }
+        ensures kept_past { OnErr result (M.past ram.new ≡ M.past ram.old) }
         ensures full { OnOk result (buffers.new ≡ buffers_with_rx buffers.old caller.0 true) }
         ensures done { IfOk result (λ retrieved. IsRetrieved self.old self.new (M.ram ram.old) (M.ram ram.new) pages.old pages.new layout.now.base.0
             (array_vec_len layout.now.regions) layout.now.blocks (buffers_in buffers.old caller.0) caller
             (descriptor_in (M.ram ram.old) buffers.old caller.0 call.now) retrieved.size retrieved.changed) }
+        ensures steps { ((k h : ℕ) (t : Transaction)
+            → pool_slot self.old.slots k ≡ Some (h, t)
+            → IsRxApart (array_vec_len layout.now.regions) layout.now.blocks (buffers_in buffers.old caller.0) (in_ranges layout.now.base.0 t.ranges))
+            → Only (M.past ram.old) (M.past ram.new) (λ h s. IsMoment (M.ram ram.old) (M.ram ram.new) (array_vec_len layout.now.regions) layout.now.blocks h s) }
     {
         let found = self.check_retrieve(ram, layout, pages, buffers, caller, call)?;
         let open = self.at(found.slot);
@@ -131,6 +138,8 @@ impl OpenTransaction {
         ensures answered { IsAnswered (M.ram ram.old) (M.ram ram.new) layout.now.base.0 (array_vec_len layout.now.regions) layout.now.blocks
             (buffers_in buffers.old caller.0) self.now.handle (view_of self.now) caller.0 version right result }
         ensures full { buffers.new ≡ buffers_with_rx buffers.old caller.0 true }
+        ensures steps { IsRxApart (array_vec_len layout.now.regions) layout.now.blocks (buffers_in buffers.old caller.0) (in_ranges layout.now.base.0 self.now.ranges)
+            → Only (M.past ram.old) (M.past ram.new) (λ h s. IsMoment (M.ram ram.old) (M.ram ram.new) (array_vec_len layout.now.regions) layout.now.blocks h s) }
     {
         // Proof step: the ranges are `MOST_RANGES` at most.
         let _ = self.ranges.len();

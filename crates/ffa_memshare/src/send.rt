@@ -7,6 +7,8 @@ ghost use Rattle.ffa_model.specs.Calls.{first_failure};
 ghost use Rattle.ffa_model.specs.MemorySend.{send_guards};
 ghost use Rattle.ffa_model.specs.SendDescriptor.{send_of};
 ghost use Rattle.ffa_model.specs.Transactions.{next_handle};
+ghost use Rattle.ffa_physmem.specs.Moments.{Only};
+ghost use Rattle.ffa_stage2.specs.Moments.{IsMoment};
 ghost use Rattle.ffa_pages.specs.Entry.{entry_at};
 ghost use Rattle.ffa_stage2.specs.Tables.{table_page};
 ghost use Rattle.ffa_memshare.specs.Callers.{IsCaller};
@@ -59,9 +61,13 @@ impl Pool {
         ensures kept { OnErr result (self.new ≡ self.old) }
         ensures kept_pages { OnErr result (pages.new ≡ pages.old) }
         ensures kept_ram { OnErr result (M.ram ram.new ≡ M.ram ram.old) }
+        ensures kept_past { OnErr result (M.past ram.new ≡ M.past ram.old) }
         ensures handle { IfOk result (λ sent. sent.handle ≡ next_handle (open_in self.old) caller.0) }
         ensures sent { IfOk result (λ sent. IsSent self.old self.new pages.old pages.new (M.ram ram.old) (M.ram ram.new) layout.now.base.0
             (array_vec_len layout.now.regions) layout.now.blocks caller.0 kind (descriptor_in (M.ram ram.old) buffers.now caller.0 call.now) sent.changed) }
+
+        // At each moment the walks of all endpoints at an address are those from before the call, or all are those from behind.
+        ensures steps { Only (M.past ram.old) (M.past ram.new) (λ h s. IsMoment (M.ram ram.old) (M.ram ram.new) (array_vec_len layout.now.regions) layout.now.blocks h s) }
     {
         let found = self.check_send(ram, layout, pages, buffers, caller, kind, call)?;
         let FoundOffer { transaction, slot } = found;

@@ -1,5 +1,5 @@
 -- SPDX-License-Identifier: MIT OR Apache-2.0
-use Rattle.std.proofs.Common.{ℕ, Bool, length, sym, arith}
+use Rattle.std.proofs.Common.{length, sym, arith}
 use Rattle.std.specs.Prelude.{◌&&◌, not}
 use Rattle.ffa_model.specs.Rights.{may_store}
 use Rattle.ffa_pages.specs.Entry.{own_right_at}

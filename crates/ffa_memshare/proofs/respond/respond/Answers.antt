@@ -5,6 +5,8 @@ use Rattle.ffa_model.specs.declared.endpoint.Version.{Version}
 use Rattle.ffa_model.specs.declared.endpoint.Version.TheVariants.{Compact, V1_1}
 use Rattle.ffa_model.specs.DescriptorPlaces.{header_size}
 use Rattle.ffa_model.specs.Ram.{with_page}
+use Rattle.ffa_physmem.proofs.Moments.{Only-map}
+use Rattle.ffa_rxtx.proofs.Moments.{rx-loan, rx-written}
 use Rattle.ffa_model.specs.ResponseBytes.{response_bytes, response_record}
 use Rattle.ffa_model.specs.State.{Buffers}
 use Rattle.ffa_rxtx.specs.Parts.{IsInRam, with_rx_bytes}
@@ -32,3 +34,13 @@ returns-clause-ram g c =
     ∙ sym (short-run c.in-Some.mapped.pages (g.M.PhysMem.ram c.args.ram.now) rx bytes inside.some
     (omega (arith, length-response_bytes c.args.version (response_record c.args.response.now), header-few c.args.version, c.as_slice.ensures.fits, ap length c.as_slice.ensures.value)))
     ∙ ap (λ (o : Option Buffers). with_rx_bytes (g.M.PhysMem.ram c.args.ram.now) o bytes) c.in-Some.ensures
+
+pub returns-clause-beside : goal.returns-clause-beside
+returns-clause-beside g c =
+    rx-written (g.M.PhysMem.ram c.args.ram.now) _ (buffers_of c.in-Some.mapped) c.in-Some.ensures c.requires.rx _ c.write_response-size.new.out
+    (g.met.M.PhysMem.one_page c.args.ram.now c.in-Some.mapped.rx.0 c.write_response-size.new.out)
+
+pub returns-clause-steps : goal.returns-clause-steps
+returns-clause-steps g c =
+    Only-map (g.met.M.PhysMem.in_loan c.args.ram.now c.in-Some.mapped.rx.0 c.write_response-size.new.out)
+    (λ _ s loan. rx-loan (g.M.PhysMem.ram c.args.ram.now) _ (buffers_of c.in-Some.mapped) c.in-Some.ensures c.requires.rx s loan)

@@ -11,6 +11,7 @@ use Rattle.ffa_rxtx.specs.Parts.{tx_in}
 use Rattle.ffa_memshare.specs.Changes.{IsMoved}
 use Rattle.ffa_memshare.specs.Ranges.{in_ranges}
 use Rattle.ffa_memshare.specs.Stored.{open_in, view_of}
+use Rattle.ffa_physmem.proofs.Moments.{Only-none}
 use Rattle.ffa_memshare.proofs.Asks.{asked-open, asked-slot}
 use Rattle.ffa_memshare.proofs.pool.Pool.relinquish.Goals as goal
 
@@ -46,6 +47,9 @@ returns-clause-done g c =
       moved =
           subst (λ (zero : Bool). IsMoved old new (array_vec_len l.regions) l.blocks (place c.args.caller.0) (in_ranges l.base.0 it.ranges) (λ p. None) zero) its.zero
           (subst (λ (i : ℕ). IsMoved old new (array_vec_len l.regions) l.blocks i (in_ranges l.base.0 it.ranges) (λ p. None) found.zero) c.place-index.ensures
-          c.change_pages.ensures);
+          c.change_pages.ensures.moved);
       access = c.of-changed.ensures;
     }
+
+pub returns-in_err-found-clause-steps : goal.returns-in_err-found-clause-steps
+returns-in_err-found-clause-steps g c = Only-none

@@ -10,6 +10,7 @@ use Rattle.ffa_memshare.specs.Named.{own_rights_in}
 use Rattle.ffa_memshare.specs.Retrieved.{IsAnswered}
 use Rattle.ffa_memshare.specs.Scenes.{descriptor_in, scene_in}
 use Rattle.ffa_memshare.specs.Stored.{open_in, view_of}
+use Rattle.ffa_physmem.proofs.Moments.{Only-none}
 use Rattle.ffa_memshare.proofs.Asks.{asked-open, asked-slot, same-handle, same-open, shared-placed}
 use Rattle.ffa_memshare.proofs.pool.Pool.retrieve.Goals as goal
 
@@ -69,3 +70,11 @@ returns-clause-done g c =
           c.hand_over-size.ensures.answered;
       access = c.of-changed.ensures;
     }
+
+pub returns-clause-steps : goal.returns-clause-steps
+returns-clause-steps g c rx_apart =
+    let it = c.at-open.result.now in
+    c.hand_over-size.ensures.steps (rx_apart c.in_ok-found.found.slot it.handle (view_of it) c.at-open.ensures.value)
+
+pub returns-in_err-found-clause-steps : goal.returns-in_err-found-clause-steps
+returns-in_err-found-clause-steps g c rx_apart = Only-none

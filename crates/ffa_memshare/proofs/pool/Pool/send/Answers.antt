@@ -6,6 +6,7 @@ use Rattle.ffa_model.specs.SendDescriptor.{send_of}
 use Rattle.ffa_model.proofs.Guards.{answers-code, answers-pass}
 use Rattle.ffa_memshare.specs.Scenes.{descriptor_in, scene_in}
 use Rattle.ffa_memshare.specs.Stored.{open_in}
+use Rattle.ffa_physmem.proofs.Moments.{Only-none}
 use Rattle.ffa_memshare.proofs.pool.Pool.send.Goals as goal
 
 pub returns-in_err-found-clause-refusal : goal.returns-in_err-found-clause-refusal
@@ -32,3 +33,6 @@ open-requires-clause-sender g c = search rules
 
 pub returns-clause-sent : goal.returns-clause-sent
 returns-clause-sent g c = search rules
+
+pub returns-in_err-found-clause-steps : goal.returns-in_err-found-clause-steps
+returns-in_err-found-clause-steps g c = Only-none

@@ -1,5 +1,6 @@
 -- SPDX-License-Identifier: MIT OR Apache-2.0
 use Rattle.std.proofs.Common.{◌∙◌, ◌≤◌, ◌<◌, ◌^◌, ℕ, List, length, false, Some, sym, ap, subst, arith}
+use Rattle.std.proofs.lemmas.Bool.{false≢true}
 use Rattle.arrayvec.specs.ArrayVec.{array_vec_len}
 use Rattle.ffa_model.specs.declared.transaction.Range.{Range}
 use Rattle.ffa_model.specs.Buffers.{buffers_in}
@@ -8,6 +9,7 @@ use Rattle.ffa_model.specs.SendDescriptor.{page_total}
 use Rattle.ffa_rxtx.specs.Parts.{with_rx_bytes}
 use Rattle.ffa_memshare.specs.Changes.{IsMoved}
 use Rattle.ffa_memshare.specs.Ranges.{in_ranges}
+use Rattle.ffa_memshare.proofs.Moments.{then-responded}
 use Rattle.ffa_memshare.proofs.Retrieves.{few-pages}
 use Rattle.ffa_memshare.proofs.transaction.OpenTransaction.hand_over.Goals as goal
 
@@ -30,9 +32,23 @@ returns-clause-answered g c =
       granted = granted;
       moved =
           subst (λ (k : ℕ). IsMoved old granted (array_vec_len l.regions) l.blocks k (in_ranges l.base.0 ranges) (λ p. Some c.args.right) false) c.place-index.ensures
-          c.change_pages.ensures;
+          c.change_pages.ensures.moved;
       answered =
           c.respond.ensures.ram
           ∙ ap (λ (r : ResponseRecord). with_rx_bytes granted (buffers_in c.args.buffers.now c.args.caller.0) (response_bytes c.args.version r)) c.response-response.ensures;
       bytes = c.respond.ensures.size ∙ ap (λ (r : ResponseRecord). response_size c.args.version r.ranges) c.response-response.ensures;
     }
+
+pub returns-clause-steps : goal.returns-clause-steps
+returns-clause-steps g c rx_apart =
+    let l = c.args.layout.now in
+    let n = array_vec_len l.regions in
+    let b = l.blocks in
+    let old = g.M.PhysMem.ram c.args.ram.now in
+    let granted = g.M.PhysMem.ram c.change_pages.new.ram in
+    let new = g.M.PhysMem.ram c.respond.new.ram in
+    let moved = c.change_pages.ensures.moved in
+    let (access, built) = c.requires.held.room.built in
+    let index = c.place-index.result in
+    then-responded old granted new n b index (in_ranges l.base.0 c.args.self.now.ranges) (λ p. Some c.args.right) _ rx_apart access built moved.built moved.base c.respond.ensures.beside
+    (g.M.PhysMem.past c.args.ram.now) _ _ (c.change_pages.ensures.steps (λ p at zero. absurd (false≢true zero))) c.respond.ensures.steps

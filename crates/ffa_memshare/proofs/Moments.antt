@@ -1,0 +1,225 @@
+-- SPDX-License-Identifier: MIT OR Apache-2.0
+-- On the way of a call: rights and zeros between two writes.
+use Rattle.std.proofs.Common.{◌≡◌, ◌∙◌, ℕ, zero, suc, ◌+◌, ◌≤◌, ◌<◌, Bool, true, false, List, [], ◌∷◌, length, take, replicate, Option, Some, None, cond, refl, sym, ap, subst, arith, inl, inr, ◌⊎◌}
+use Rattle.std.specs.Prelude.{◌==◌, ◌&&◌, ◌||◌, is_some}
+use Rattle.std.proofs.Math.Bool.{or-true}
+use Rattle.std.proofs.lemmas.Bool.{cases_Bool, cases_eq, cases_lt, false≢true, false_from_ne_true}
+use Rattle.std.proofs.lemmas.List.{get_or-set_other, get_or-set_same, length-set}
+use Rattle.std.proofs.lemmas.Bool.Decides.{nat_tests}
+use Rattle.ffa_model.specs.Ram.{Ram, page_of, with_page}
+use Rattle.ffa_model.specs.declared.rights.Rights.{Rights}
+use Rattle.ffa_model.specs.declared.transaction.Range.{Range}
+use Rattle.ffa_model.specs.Lists.{is_in_run}
+use Rattle.ffa_model.specs.State.{Buffers}
+use Rattle.ffa_physmem.specs.Moments.{IsBeside, IsSettledBy, IsWriting, Only, Step}
+use Rattle.ffa_physmem.proofs.Moments.{Only-map, Only-then, writing-below, writing-keeps}
+use Rattle.ffa_rxtx.specs.Parts.{IsBesideRx, IsRxWriting}
+use Rattle.ffa_stage2.specs.Moments.{IsBetween, IsMoment, IsOutOrStays}
+use Rattle.ffa_stage2.specs.Orders.{IsOrdered}
+use Rattle.ffa_stage2.specs.Tables.{IsBuilt, table_page}
+use Rattle.ffa_stage2.specs.Blocks.{IsEither}
+use Rattle.ffa_stage2.proofs.Kept.{built-kept, built_by-kept}
+use Rattle.ffa_stage2.proofs.Walks.{standing-of_built}
+use Rattle.ffa_stage2.proofs.Moments.{between-beside, between-last as between-behind, between-then, ordered-behind}
+use Rattle.ffa_memshare.specs.Callers.{IsRxApart}
+use Rattle.ffa_memshare.specs.Changes.{AreBehind, IsCleared}
+use Rattle.ffa_memshare.specs.Grants.{with_rights}
+use Rattle.ffa_memshare.specs.Ranges.{in_range, in_ranges}
+use Rattle.ffa_memshare.proofs.Places.{between, between-last, between-next, between-none}
+use Rattle.ffa_memshare.proofs.Rights.{no-rights, same-rights}
+
+-- some of the pages that are named in the end
+pub between-more : (first next end p : ℕ) → next ≤ end → between first next p ≡ true → between first end p ≡ true
+between-more first next end p high inside = grind (arith, inside, nat_tests)
+
+pub some-ranges : (base : ℕ) (ranges : List Range) (k p : ℕ) → in_ranges base (take k ranges) p ≡ true → in_ranges base ranges p ≡ true
+some-ranges base [] zero p is = is
+some-ranges base [] (suc k) p is = is
+some-ranges base (q ∷ ranges) zero p is = absurd (false≢true is)
+some-ranges base (q ∷ ranges) (suc k) p is = elim (cases_Bool (in_range base q p)) [
+  | inl its ↦ ap (λ b. b || in_ranges base ranges p) its
+  | inr other ↦
+      ap (λ b. in_range base q p || b) (some-ranges base ranges k p (sym (ap (λ b. b || in_ranges base (take k ranges) p) other) ∙ is))
+      ∙ or-true (in_range base q p)
+]
+
+-- have the right already
+pub rights-part : (access : ℕ → ℕ → Option Rights) (index : ℕ) (named all : ℕ → Bool) (right : ℕ → Option Rights) → ((p : ℕ) → named p ≡ true → all p ≡ true)
+    → (f : ℕ → ℕ → Option Rights) → ((e p : ℕ) → f e p ≡ with_rights access index named right e p) → (p : ℕ)
+    → ((e : ℕ) → f e p ≡ access e p) ⊎ ((e : ℕ) → f e p ≡ with_rights access index all right e p)
+rights-part access index named all right more f is p = elim (cases_Bool (named p)) [
+  | inl its ↦ inr (λ e. is e p ∙ same-rights access index named all right e p (its ∙ sym (more p its)))
+  | inr other ↦ inl (λ e. is e p ∙ sym (no-rights access index named right e p other))
+]
+
+its-right : (access : ℕ → ℕ → Option Rights) (index : ℕ) (named : ℕ → Bool) (right : ℕ → Option Rights) (p : ℕ) → named p ≡ true → with_rights access index named right index p ≡ right p
+its-right access index named right p is = let here : (index == index && named p) ≡ true = grind (arith, is, nat_tests) in rw here
+
+-- so a moment on the way to some of these rights is one on the way to all
+pub between-part : (ram : Ram) (n b : ℕ) (access : ℕ → ℕ → Option Rights) (index : ℕ) (named more all : ℕ → Bool) (right : ℕ → Option Rights) (g : ℕ → ℕ → Option Rights)
+    → ((p : ℕ) → named p ≡ true → all p ≡ true) → ((p : ℕ) → more p ≡ true → all p ≡ true) → ((e p : ℕ) → g e p ≡ with_rights access index more right e p)
+    → IsBetween ram n b (with_rights access index named right) g → IsBetween ram n b access (with_rights access index all right)
+between-part ram n b access index named more all right g first second is between =
+    between-then ram n b access (with_rights access index named right) g (with_rights access index all right) between
+    (rights-part access index named all right first (with_rights access index named right) (λ e p. refl))
+    (rights-part access index more all right second g is)
+
+-- zeros change no other page
+pub cleared-beside : (old new : Ram) (named : ℕ → Bool) → IsCleared old new named → IsBeside old new named
+cleared-beside old new named cleared = record {
+  base = cleared.base;
+  size = cleared.size;
+  pages = λ p off. cleared.pages p ∙ ap (λ t. cond t (replicate 4096 0) (page_of old p)) off;
+}
+
+-- pages of a run become zeros one by one
+pub cleared-none : (ram : Ram) (first next : ℕ) → next ≡ first → IsCleared ram ram (between first next)
+cleared-none ram first next is = record {
+  base = refl;
+  size = refl;
+  pages = λ p. let off : between first next p ≡ false = rw is (between-none first p) in rw off;
+}
+
+pub cleared-page : (old middle new : Ram) (first next : ℕ) → first ≤ next → next < length middle.pages → IsCleared old middle (between first next)
+    → new ≡ with_page middle next (replicate 4096 0) → IsCleared old new (between first (next + 1))
+cleared-page old middle new first next low inside cleared wrote = record {
+  base = ap (λ (r : Ram). r.base) wrote ∙ cleared.base;
+  size = ap (λ (r : Ram). length r.pages) wrote ∙ length-set middle.pages next (replicate 4096 0) ∙ cleared.size;
+  pages = λ p. ap (λ (r : Ram). page_of r p) wrote ∙ elim (cases_eq p next) [
+    | inl same ↦
+        let here : between first (next + 1) p ≡ true = rw same (between-last first next low) in
+        rw here (rw same (get_or-set_same middle.pages next (replicate 4096 0) [] inside))
+    | inr other ↦
+        let here : between first (next + 1) p ≡ between first next p = between-next first next p (λ same. other same) in
+        rw here (get_or-set_other middle.pages next p (replicate 4096 0) [] other ∙ cleared.pages p)
+  ];
+}
+
+-- ---- each step on the way of a call
+
+-- a right that is the same before, now and behind
+pub stays-same : (now before behind : Option Rights) (settled : Type 0) → now ≡ before → behind ≡ before → IsOutOrStays now before behind settled
+stays-same now None behind settled same still = inl (same, λ none. absurd (false≢true none))
+stays-same now (Some r) behind settled same still = inr (refl, ap is_some still)
+
+-- or that there wasn't, or is
+stays-some : (before behind : Option Rights) (settled : Type 0) → is_some behind ≡ true → IsOutOrStays before before behind settled
+stays-some None behind settled some = inl (refl, λ none. absurd (false≢true none))
+stays-some (Some r) behind settled some = inr (refl, some)
+
+other-right : (access : ℕ → ℕ → Option Rights) (index : ℕ) (named : ℕ → Bool) (right : ℕ → Option Rights) (e p : ℕ) → (e ≡ index → ⊥) → with_rights access index named right e p ≡ access e p
+other-right access index named right e p other = let off : (e == index && named p) ≡ false = grind (arith, nat_tests) in rw off
+
+module _ (old new : Ram) (n b : ℕ) (access after : ℕ → ℕ → Option Rights) (built : IsBuilt old n b access) (is : IsBuilt new n b after) (stays : new.base ≡ old.base) where
+  -- a word of an endpoint's tables
+  pub granted-moment : (index : ℕ) → index < n → (h : List Step) (s : Step) → IsBetween s.after n b access after → s.after.base ≡ old.base → IsOrdered old b index h s
+      → IsMoment old new n b h s
+  granted-moment index lt h s between base ordered = record {
+    access = access;
+    after = after;
+    was = built;
+    is = is;
+    between = between;
+    order = inr (index, lt, ordered);
+    unreached = inl (ordered-behind old b index n h s ordered lt);
+    place = base;
+    stays = stays;
+  }
+
+  -- nothing, while the tables give the rights in the end
+  pub settled-moment : (middle : Ram) → IsBuilt middle n b after → middle.base ≡ old.base → (h : List Step) (s : Step) → s.after ≡ s.before → s.after ≡ middle → IsMoment old new n b h s
+  settled-moment middle done base h s same at = record {
+    access = access;
+    after = after;
+    was = built;
+    is = is;
+    between = subst (λ r. IsBetween r n b access after) (sym at) (between-behind middle n b access after done);
+    order = inl (λ p _. ap (λ (r : Ram). page_of r p) same);
+    unreached = inl (λ p _. ap (λ (r : Ram). page_of r p) same);
+    place = ap (λ (r : Ram). r.base) at ∙ base;
+    stays = stays;
+  }
+
+  -- pages behind the tables, while these give one of the two
+  pub written-moment : (middle : Ram) (named : ℕ → Bool) (rights : ℕ → ℕ → Option Rights) → AreBehind n b named → IsBuilt middle n b rights → IsBetween middle n b access after → middle.base ≡ old.base
+      → (h : List Step) (s : Step) → IsWriting middle named s
+      → ((p : ℕ) → named p ≡ true → (e : ℕ) → e < n → IsOutOrStays (rights e p) (access e p) (after e p) (IsSettledBy (table_page b n 0) e p h)) → IsMoment old new n b h s
+  written-moment middle named rights behind now between base h s writing each = record {
+    access = access;
+    after = after;
+    was = built;
+    is = is;
+    between = between-beside middle s.after n b named access after behind between writing.after;
+    order = inl (writing-below middle s named (table_page b n 0) below writing);
+    unreached = inr (record {
+      rights = rights;
+      stands = built_by-kept IsEither middle s.before n b rights (standing-of_built middle n b rights now) writing.before.base writing.before.size
+          (λ p low. writing.before.pages p (below p low));
+      place = writing.before.base ∙ base;
+      each = λ p at. elim (cases_Bool (named p)) [ inl there ↦ inr (each p there) | inr off ↦ inl (writing-keeps middle s named writing p off) ];
+    });
+    place = writing.after.base ∙ base;
+    stays = stays;
+  }
+    where
+      below : (p : ℕ) → p < table_page b n 0 → named p ≡ false
+      below p low = false_from_ne_true (named p) (λ at. absurd (omega (arith, low, behind p at)))
+
+-- rights that end: nobody who had one has it any more, and it is settled
+pub taken-each : (access : ℕ → ℕ → Option Rights) (index : ℕ) (named : ℕ → Bool) (right : ℕ → Option Rights) (e p : ℕ) (settled : Type 0) → named p ≡ true → right p ≡ None → (e ≡ index → settled)
+    → IsOutOrStays (with_rights access index named right e p) (access e p) (with_rights access index named right e p) settled
+taken-each access index named right e p settled at none is = elim (cases_eq e index) [
+  | inl same ↦ inl (rw same (its-right access index named right p at ∙ none), λ _. is same)
+  | inr other ↦ stays-same _ (access e p) _ settled (other-right access index named right e p (λ same. other same)) (other-right access index named right e p (λ same. other same))
+]
+
+-- rights that begin
+pub given-each : (access : ℕ → ℕ → Option Rights) (index : ℕ) (named : ℕ → Bool) (right : ℕ → Option Rights) (e p : ℕ) (settled : Type 0) → named p ≡ true → is_some (right p) ≡ true
+    → IsOutOrStays (access e p) (access e p) (with_rights access index named right e p) settled
+given-each access index named right e p settled at some = elim (cases_eq e index) [
+  | inl same ↦ stays-some (access e p) _ settled (ap is_some (rw same (its-right access index named right p at)) ∙ some)
+  | inr other ↦ stays-same (access e p) (access e p) _ settled refl (other-right access index named right e p (λ same. other same))
+]
+
+before-run : (first n p : ℕ) → p < first → is_in_run first n p ≡ false
+before-run first n p low = grind (arith, nat_tests)
+
+-- rights, and then a response in RX, whose pages aren't named
+module _ (old granted new : Ram) (n b index : ℕ) (named : ℕ → Bool) (right : ℕ → Option Rights) (own : Option Buffers) (rx : IsRxApart n b own named)
+    (access : ℕ → ℕ → Option Rights) (built : IsBuilt old n b access)
+    (done : (f : ℕ → ℕ → Option Rights) → IsBuilt old n b f → IsBuilt granted n b (with_rights f index named right)) (base : granted.base ≡ old.base)
+    (beside : IsBesideRx granted new own) where
+  behind-rx : (x : Buffers) → own ≡ Some x → AreBehind n b (is_in_run x.rx x.pages)
+  behind-rx x are p at = elim (cases_lt p x.rx) [
+    | inl low ↦ absurd (false≢true (sym (before-run x.rx x.pages p low) ∙ at))
+    | inr high ↦ let first = rx.behind x are in omega (arith, high, first)
+  ]
+
+  kept : (ram : Ram) → IsBesideRx granted ram own → (after : ℕ → ℕ → Option Rights) → IsBuilt granted n b after → IsBuilt ram n b after
+  kept ram its after is =
+      let x = its.buffers in
+      built-kept granted ram n b after is its.beside.base its.beside.size
+      (λ p low. its.beside.pages p (before-run x.rx x.pages p (omega (arith, low, rx.behind x its.are))))
+
+  pub then-responded : (past middle last : Option (List Step)) → Only past middle (λ h s. IsMoment old granted n b h s) → Only middle last (λ _ s. IsRxWriting granted own s)
+      → Only past last (λ h s. IsMoment old new n b h s)
+  then-responded past middle last first second =
+      let after : ℕ → ℕ → Option Rights = with_rights access index named right in
+      let is : IsBuilt granted n b after = done access built in
+      Only-then (Only-map first (λ _ s m. record {
+        access = m.access;
+        after = m.after;
+        was = m.was;
+        is = kept new beside m.after m.is;
+        between = m.between;
+        order = m.order;
+        unreached = m.unreached;
+        place = m.place;
+        stays = beside.beside.base ∙ base;
+      }))
+      second
+      (λ h s its.
+      let x = its.buffers in
+      written-moment old new n b access after built (kept new beside after is) (beside.beside.base ∙ base) granted (is_in_run x.rx x.pages) after
+      (behind-rx x its.are) is (between-behind granted n b access after is) base h s its.writing
+      (λ p at e he. let same : after e p ≡ access e p = sym (no-rights access index named right e p (rx.apart x its.are p at)) in stays-same (after e p) (access e p) (after e p) _ same same))
