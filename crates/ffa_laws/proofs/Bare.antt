@@ -151,12 +151,13 @@ module _ (e : ℕ) (s : State) where
   abbrev v : State
   v = view e s
 
-  bare-stored : (address : ℕ) (size : Size) (value : ℕ) → store_fault s address (size_of size) ≡ None → AreBare e v (writes e s address (little_bytes (size_of size) value))
-  bare-stored address size value none =
+  pub bare-store : (address : ℕ) (size : Size) (value : ℕ) → AreBare e v (where_passed (store_fault s address (size_of size)) (writes e s address (little_bytes (size_of size) value)))
+  bare-store address size value =
+      bare-passed e v (store_fault s address (size_of size)) (writes e s address (little_bytes (size_of size) value)) (λ none.
       bare-where e v _ (Wrote address (little_bytes (size_of size) value) ∷ []) (λ near. (
         (above-base s.runner s address (fault-none (address % size_of size == 0) (access_at s s.runner address) may_store none), some-bytes size value),
         tt,
-      ))
+      )))
 
   bare-sent : (kind : Kind) (o : Option SendRecord) → AreBare e v (opens e s kind o)
   bare-sent kind None = tt
@@ -229,6 +230,5 @@ module _ (e : ℕ) (s : State) where
     pub are-bare : (op : Op) → AreBare e v (events e s op)
     are-bare (Call x) = bare-call (decode x) (decode-halved x)
     are-bare (Load address size) = tt
-    are-bare (Store address size value) =
-        bare-passed e v (store_fault s address (size_of size)) (writes e s address (little_bytes (size_of size) value)) (bare-stored address size value)
+    are-bare (Store address size value) = bare-store address size value
     are-bare (Fetch address) = tt

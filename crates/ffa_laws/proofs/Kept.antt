@@ -30,7 +30,7 @@ use Rattle.ffa_laws.specs.Isolation.{is_indirect_message, is_send2}
 use Rattle.ffa_laws.proofs.Form.{accessed-kept, served-kept}
 
 -- ---- the endpoints stay the same, and where RAM begins
-abbrev fixed : State → List Party × ℕ
+abbrev pub fixed : State → List Party × ℕ
 fixed s = (s.parties, s.ram_base)
 
 sent-fixed : (s : State) (kind : Kind) (r : Option SendRecord) → fixed (memory_sent s kind r) ≡ fixed s
@@ -54,7 +54,7 @@ service-fixed s (MemRetrieve x) = retrieved-fixed s (retrieve_read s x.total)
 service-fixed s MemRelinquish = relinquished-fixed s (relinquish_read s)
 service-fixed s call = refl
 
-step-fixed : (s : State) (op : Op) → fixed (step s op).state ≡ fixed s
+pub step-fixed : (s : State) (op : Op) → fixed (step s op).state ≡ fixed s
 step-fixed s (Call x) = served-kept (λ t. fixed t ≡ fixed s) s (service s (decode x)) refl (λ none. service-fixed s (decode x))
 step-fixed s (Load address size) = accessed-kept (λ t. fixed t ≡ fixed s) s s (Data (number_at s address (size_of size))) (read_fault s address (size_of size)) refl (λ none. refl)
 step-fixed s (Store address size value) = accessed-kept (λ t. fixed t ≡ fixed s) s (stored s address (little_bytes (size_of size) value)) Done (store_fault s address (size_of size)) refl (λ none. refl)

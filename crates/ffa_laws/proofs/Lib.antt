@@ -65,3 +65,5 @@ pub mod Tellings
 pub mod Forgotten
 pub mod Origins
 pub mod Waiting
+pub mod ElsewhereLaws
+pub mod ElsewhereRunLaws

@@ -126,10 +126,8 @@ zero-word word lt none =
     omega (arith, whole, lt)
 
 -- ---- what each operation tells
-module _ (e : ℕ) (s : State) (sound : IsSoundState s) (known : is_known s e ≡ true) where
-  abbrev v : State
-  v = view e s
-
+-- ---- a store
+module _ (e : ℕ) (s : State) where
   -- a page that the runner writes to is one of RAM that an endpoint owns
   reached-page : (address : ℕ) → is_some (access_at s s.runner address) ≡ true → is_some (page_at s ((address - s.ram_base) / 4096)) ≡ true
   reached-page address =
@@ -142,13 +140,17 @@ module _ (e : ℕ) (s : State) (sound : IsSoundState s) (known : is_known s e �
       owned None t some = some
       owned (Some q) t some = refl
 
-  met-stored : (address n : ℕ) (bytes : List ℕ) → store_fault s address n ≡ None → AreMet e v (writes e s address bytes)
-  met-stored address n bytes none =
-      met-where e v _ (Wrote address bytes ∷ []) (λ near. (
+  pub met-store : (address n : ℕ) (bytes : List ℕ) → AreMet e (view e s) (where_passed (store_fault s address n) (writes e s address bytes))
+  met-store address n bytes =
+      met-passed e (view e s) (store_fault s address n) (writes e s address bytes) (λ none. met-where e (view e s) _ (Wrote address bytes ∷ []) (λ near. (
         ap is_some (view-page e s ((address - s.ram_base) / 4096) ∙ ap (λ b. kept b (page_at s ((address - s.ram_base) / 4096))) near)
             ∙ reached-page address (fault-none (address % n == 0) (access_at s s.runner address) may_store none),
         tt,
-      ))
+      )))
+
+module _ (e : ℕ) (s : State) (sound : IsSoundState s) (known : is_known s e ≡ true) where
+  abbrev v : State
+  v = view e s
 
   met-delivered : first_failure (msg_send2 s).guards ≡ None → AreMet e v (delivers e s (tx_bytes s s.runner))
   met-delivered none =
@@ -252,5 +254,5 @@ module _ (e : ℕ) (s : State) (sound : IsSoundState s) (known : is_known s e �
   pub are-met : (op : Op) → AreMet e v (events e s op)
   are-met (Call x) = met-call (decode x) (decode-halved x)
   are-met (Load address size) = tt
-  are-met (Store address size value) = met-passed e v (store_fault s address (size_of size)) (writes e s address (little_bytes (size_of size) value)) (met-stored address (size_of size) (little_bytes (size_of size) value))
+  are-met (Store address size value) = met-store e s address (size_of size) (little_bytes (size_of size) value)
   are-met (Fetch address) = tt

@@ -195,6 +195,14 @@ news-public e s next told private =
     ] refl
 
 -- ---- the calls
+-- a write may repeat, so that it is news to whoever is told it
+pub news-store : (e : ℕ) (v s : State) (address n : ℕ) (bytes : List ℕ) → AreNews e v (where_passed (store_fault s address n) (writes e s address bytes))
+news-store e v s address n bytes = of (store_fault s address n)
+  where
+    of : (o : Option FaultKind) → AreNews e v (where_passed o (writes e s address bytes))
+    of None = repeats e v _ (Wrote address bytes) refl
+    of (Some fault) = tt
+
 module _ (e : ℕ) (s : State) (steady : IsSteady s) where
   abbrev v : State
   v = view e s
@@ -352,11 +360,7 @@ module _ (e : ℕ) (s : State) (steady : IsSteady s) where
   news-op : is_known s e ≡ true → s.runner ≢ e → (op : Op) → AreNews e v (events e s op)
   news-op known other (Call x) = news-call known other (decode x)
   news-op known other (Load address size) = tt
-  news-op known other (Store address size value) = of (store_fault s address (size_of size))
-    where
-      of : (o : Option FaultKind) → AreNews e v (where_passed o (writes e s address (little_bytes (size_of size) value)))
-      of None = repeats e v _ (Wrote address (little_bytes (size_of size) value)) refl
-      of (Some fault) = tt
+  news-op known other (Store address size value) = news-store e v s address (size_of size) (little_bytes (size_of size) value)
   news-op known other (Fetch address) = tt
 
 pub silence : (s : State) (op : Op) → IsSteady s → Silence s op

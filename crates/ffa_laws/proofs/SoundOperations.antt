@@ -2,7 +2,7 @@
 -- Each operation keeps a state sound.
 use Rattle.std.proofs.Common.{◌≡◌, ℕ, true, false, cond, length, None, sym}
 use Rattle.byteorder.specs.Endian.{little_bytes}
-use Rattle.std.specs.Prelude.{◌-◌, ◌/◌, ◌%◌}
+use Rattle.std.specs.Prelude.{◌==◌, ◌-◌, ◌/◌, ◌%◌}
 use Rattle.ffa_model.specs.declared.operation.Op.{Op}
 use Rattle.ffa_model.specs.declared.operation.Op.TheVariants.{Call, Load, Store, Fetch}
 use Rattle.ffa_model.specs.declared.operation.Outcome.TheVariants.{Data, Done}
@@ -27,7 +27,7 @@ use Rattle.ffa_laws.proofs.Form.{accessed-kept, served-kept}
 use Rattle.ffa_laws.proofs.SoundBuffers.{filled-state-sound, map-sound, rx-sound, unmap-sound}
 use Rattle.ffa_laws.proofs.SoundKept.{pages-sound, schedule-sound}
 use Rattle.ffa_laws.proofs.SoundNotifications.{bind-sound, create-sound, destroy-sound, framework-sound, get-sound, set-sound, unbind-sound}
-use Rattle.ffa_laws.proofs.SoundPages.{informed-sound, sent-sound, stored-sound}
+use Rattle.ffa_laws.proofs.SoundPages.{informed-sound, sent-sound, store-aligned, stored-sound}
 use Rattle.ffa_laws.proofs.SoundRetrieves.{retrieve-sound}
 use Rattle.ffa_laws.proofs.SoundReturns.{reclaim-sound, relinquish-sound}
 use Rattle.ffa_laws.proofs.SoundSends.{send-sound}
@@ -90,15 +90,17 @@ module _ (s : State) (sound : IsSoundState s) where
   pub call-sound : (call : calls.Call) → IsSoundState (served s (service s call)).state
   call-sound call = served-kept IsSoundState s (service s call) sound (service-sound call)
 
-  store-sound : (address : ℕ) (size : Size) (value : ℕ) → store_fault s address (size_of size) ≡ None → IsSoundState (stored s address (little_bytes (size_of size) value))
-  store-sound address size value none =
+  -- a store at an aligned address, whoever stores
+  pub store-sound : (address : ℕ) (size : Size) (value : ℕ) → (address % size_of size == 0) ≡ true → IsSoundState (stored s address (little_bytes (size_of size) value))
+  store-sound address size value aligned =
       pages-sound s sound (written_pages s.pages ((address - s.ram_base) / 4096) (address % 4096) (little_bytes (size_of size) value))
       (rewritten-written s.pages ((address - s.ram_base) / 4096) (address % 4096) (little_bytes (size_of size) value))
-      (stored-sound s sound address ((address - s.ram_base) / 4096) size value none)
+      (stored-sound s sound address ((address - s.ram_base) / 4096) size value aligned)
 
   pub step-sound : (op : Op) → IsSoundState (step s op).state
   step-sound (Call x) = call-sound (decode x)
   step-sound (Load address size) = accessed-kept IsSoundState s s (Data (number_at s address (size_of size))) (read_fault s address (size_of size)) sound (λ none. sound)
   step-sound (Store address size value) =
-      accessed-kept IsSoundState s (stored s address (little_bytes (size_of size) value)) Done (store_fault s address (size_of size)) sound (store-sound address size value)
+      accessed-kept IsSoundState s (stored s address (little_bytes (size_of size) value)) Done (store_fault s address (size_of size)) sound
+      (λ none. store-sound address size value (store-aligned s address (size_of size) none))
   step-sound (Fetch address) = accessed-kept IsSoundState s s (Data (number_at s address 4)) (fetch_fault s address) sound (λ none. sound)

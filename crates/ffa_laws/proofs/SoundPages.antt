@@ -75,11 +75,13 @@ aligned-inside B8 address is = let even = eqb-true (address % 8) 0 is in omega (
 abbrev is_sound_party : Party → Bool
 is_sound_party party = length party.uuid == 16 && list_all (λ b. nat_lt b 256) party.uuid
 
+pub store-aligned : (s : State) (address n : ℕ) → store_fault s address n ≡ None → (address % n == 0) ≡ true
+store-aligned s address n none = fault-aligned (address % n == 0) (access_at s s.runner address) may_store none
+
 module _ (s : State) (sound : IsSoundState s) where
-  pub stored-sound : (address p : ℕ) (size : Size) (value : ℕ) → store_fault s address (size_of size) ≡ None
+  pub stored-sound : (address p : ℕ) (size : Size) (value : ℕ) → (address % size_of size == 0) ≡ true
       → AreSoundPages s (written_pages s.pages p (address % 4096) (little_bytes (size_of size) value))
-  stored-sound address p size value none =
-      let aligned = fault-aligned (address % size_of size == 0) (access_at s s.runner address) may_store none in
+  stored-sound address p size value aligned =
       let inside = aligned-inside size address aligned in
       let width = length-bytes_low_first 0 (size_of size) value in
       written-sound s s.pages sound.pages (little_bytes (size_of size) value) (number-bytes 0 (size_of size) value) p (address % 4096) (omega (arith, inside, width))

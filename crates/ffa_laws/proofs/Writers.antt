@@ -10,6 +10,7 @@ use Rattle.ffa_model.specs.declared.descriptor.RelinquishDesc.{RelinquishDesc}
 use Rattle.ffa_model.specs.declared.operation.Op.{Op}
 use Rattle.ffa_model.specs.declared.operation.Op.TheVariants.{Call, Load, Store, Fetch}
 use Rattle.ffa_model.specs.declared.operation.Outcome.TheVariants.{Data, Done}
+use Rattle.ffa_model.specs.declared.operation.Size.{Size}
 use Rattle.ffa_model.specs.declared.operation.FaultKind.TheVariants.{Permission}
 use Rattle.ffa_model.specs.declared.call.Call as calls
 use Rattle.ffa_model.specs.declared.call.Call.TheVariants.{PartitionInfoGet, MemDonate, MemLend, MemShare, MemRetrieve, MemRelinquish, MemReclaim, MsgSend2}
@@ -26,7 +27,7 @@ use Rattle.ffa_model.specs.State.{State, Page, Transaction, Buffers, buffers_of,
 use Rattle.ffa_model.specs.Access.{access, handle_at, held_by, names, right_by, right_of}
 use Rattle.ffa_model.specs.Buffers.{Candidate, candidate_at, filled, filled_pages, is_usable}
 use Rattle.ffa_model.specs.Calls.{first_failure}
-use Rattle.ffa_model.specs.Memory.{access_at, fault_of, fetch_fault, number_at, page_bytes, read_fault, size_of, store_fault, stored, zeroed_if, zeroed_page}
+use Rattle.ffa_model.specs.Memory.{access_at, fault_of, fetch_fault, number_at, page_bytes, read_fault, size_of, store, store_fault, stored, zeroed_if, zeroed_page}
 use Rattle.ffa_model.specs.MemoryRetrieve.{donated_page, memory_retrieve}
 use Rattle.ffa_model.specs.MemoryReturn.{is_zeroable, memory_reclaim, memory_relinquish, named_ranges, reclaim_guards, relinquish_guards, relinquish_read, relinquished, relinquished_from}
 use Rattle.ffa_model.specs.MemorySend.{memory_send, memory_sent, send_guards, send_read}
@@ -93,17 +94,8 @@ base-owner : (e : ℕ) (page : Option Page) → option_map_or (λ (q : Page). q.
 base-owner e None own = refl
 base-owner e (Some q) own = ap (λ b. cond b (Some q.own_right) None) (eq-eqb q.owner e own)
 
-module _ (s : State) (sound : IsSoundState s) (p : ℕ) (no_right : may_store (access s s.runner p) ≡ false) where
-  steady : IsSteady s
-  steady = sound-steady s sound
-
-  -- RX of the runner is of other pages
-  own-rx : (b : Buffers) → buffers_of s s.runner ≡ Some b → (q : ℕ) → is_in_run b.rx b.pages q ≡ true → p ≢ q
-  own-rx b is q its same = false≢true (sym no_right ∙ ap (λ r. may_store (access s s.runner r)) same ∙ usable-writes s s.runner q ((sound.buffers s.runner b steady.runner is).rx q its))
-
-  by-runner : (ps : List (Option Page)) (bytes : List ℕ) → bytes_in (filled_pages ps bytes (buffers_of s s.runner)) p ≡ bytes_in ps p
-  by-runner ps bytes = elsewhere-filled ps p bytes (buffers_of s s.runner) own-rx
-
+-- a store is into another page than one to which the runner may not write
+module _ (s : State) (p : ℕ) (no_right : may_store (access s s.runner p) ≡ false) where
   stored-elsewhere : (address n : ℕ) → store_fault s address n ≡ None → p ≢ (address - s.ram_base) / 4096
   stored-elsewhere address n none same =
       false≢true (sym no_right ∙ ap (λ q. may_store (access s s.runner q)) same ∙ reached (may-store (address % n == 0) (access_at s s.runner address) none))
@@ -114,6 +106,22 @@ module _ (s : State) (sound : IsSoundState s) (p : ℕ) (no_right : may_store (a
             | true ↦ λ some. some
             | false ↦ λ some. absurd (false≢true some)
           ]
+
+  pub only-store : (address : ℕ) (size : Size) (value : ℕ) → page_bytes (store s address size value).state p ≡ page_bytes s p
+  only-store address size value =
+      accessed-kept (λ t. page_bytes t p ≡ page_bytes s p) s (stored s address (little_bytes (size_of size) value)) Done (store_fault s address (size_of size)) refl
+      (λ none. ap bytes_of (elsewhere s.pages ((address - s.ram_base) / 4096) p (address % 4096) (little_bytes (size_of size) value) (stored-elsewhere address (size_of size) none)))
+
+module _ (s : State) (sound : IsSoundState s) (p : ℕ) (no_right : may_store (access s s.runner p) ≡ false) where
+  steady : IsSteady s
+  steady = sound-steady s sound
+
+  -- RX of the runner is of other pages
+  own-rx : (b : Buffers) → buffers_of s s.runner ≡ Some b → (q : ℕ) → is_in_run b.rx b.pages q ≡ true → p ≢ q
+  own-rx b is q its same = false≢true (sym no_right ∙ ap (λ r. may_store (access s s.runner r)) same ∙ usable-writes s s.runner q ((sound.buffers s.runner b steady.runner is).rx q its))
+
+  by-runner : (ps : List (Option Page)) (bytes : List ℕ) → bytes_in (filled_pages ps bytes (buffers_of s s.runner)) p ≡ bytes_in ps p
+  by-runner ps bytes = elsewhere-filled ps p bytes (buffers_of s s.runner) own-rx
 
   -- zeros: either nothing, or elsewhere
   elsewhere-zeroed : (asked : Bool) (ranges : List Range) → (asked ≡ true → names s ranges p ≡ true → page_at s p ≡ None) → bytes_in (zeroed_if asked s ranges).pages p ≡ bytes_in s.pages p
@@ -238,9 +246,7 @@ module _ (s : State) (sound : IsSoundState s) (p : ℕ) (no_right : may_store (a
   only-op (Call x) not_filled later =
       served-kept (λ t. (is_reclaim (decode x) && may_store (access t s.runner p)) ≡ false → page_bytes t p ≡ page_bytes s p) s (service s (decode x)) (λ later. refl) (only-service (decode x) not_filled) later
   only-op (Load address size) not_filled later = accessed-kept (λ t. page_bytes t p ≡ page_bytes s p) s s (Data (number_at s address (size_of size))) (read_fault s address (size_of size)) refl (λ none. refl)
-  only-op (Store address size value) not_filled later =
-      accessed-kept (λ t. page_bytes t p ≡ page_bytes s p) s (stored s address (little_bytes (size_of size) value)) Done (store_fault s address (size_of size)) refl
-      (λ none. ap bytes_of (elsewhere s.pages ((address - s.ram_base) / 4096) p (address % 4096) (little_bytes (size_of size) value) (stored-elsewhere address (size_of size) none)))
+  only-op (Store address size value) not_filled later = only-store s p no_right address size value
   only-op (Fetch address) not_filled later = accessed-kept (λ t. page_bytes t p ≡ page_bytes s p) s s (Data (number_at s address 4)) (fetch_fault s address) refl (λ none. refl)
 
 pub only_writers : (s : State) (op : Op) → IsSoundState s → OnlyWriters s op

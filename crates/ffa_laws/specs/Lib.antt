@@ -10,3 +10,5 @@ pub mod Silence
 pub mod Writers
 pub mod RunIntegrity
 pub mod Isolation
+pub mod Elsewhere
+pub mod ElsewhereRuns

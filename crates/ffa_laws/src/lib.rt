@@ -2,8 +2,13 @@
 //! Laws of the small machine, proved over its definitions alone.
 #![tactic(auto)]
 
+pub mod elsewhere;
 pub mod isolation;
 
+pub use elsewhere::{
+    confidential_as, integrity_as, isolated_as, one_step_as, only_writers_as, own_access_as,
+    silence_as,
+};
 pub use isolation::{
     confidential, first_is_sound, integrity, isolated, loans, one_call, one_step, only_writers,
     own_access, rights_never_grow, run_integrity, silence, sound_is_steady,

@@ -45,6 +45,7 @@ pub mod MemoryRetrieve
 pub mod MemoryReturn
 pub mod SoundState
 pub mod Step
+pub mod Elsewhere
 pub mod Obstacles
 pub mod AboutRegisters
 pub mod AboutContents
