@@ -1,6 +1,6 @@
 -- SPDX-License-Identifier: MIT OR Apache-2.0
 -- What a check that fails is about: the code sees of the machine's parts what the definition sees of its state.
-use Rattle.std.proofs.Common.{◌≡◌, ◌∙◌, ℕ, length, take, Option, sym, ap}
+use Rattle.std.proofs.Common.{◌≡◌, ◌∙◌, ℕ, List, length, take, Option, sym, ap}
 use Rattle.std.specs.FinMap as finite
 use Rattle.ffa_memshare.specs.declared.descriptor_call.DescriptorCall.{DescriptorCall}
 use Rattle.ffa_memshare.specs.Named.{own_rights_in}
@@ -26,11 +26,12 @@ use Rattle.ffa_spmc.specs.Meaning.{IsManager, Parts, state_of}
 use Rattle.ffa_spmc.proofs.Candidates.{candidates-are}
 use Rattle.ffa_spmc.proofs.Notified.{each-bitmap}
 use Rattle.ffa_spmc.proofs.Pools.{own_rights-are}
+use Rattle.ffa_physmem.specs.Moments.{Step}
 use Rattle.ffa_spmc.proofs.Replied.{managed_of}
 use Rattle.ffa_spmc.proofs.Sends.{sent-is}
 
 -- what is so of the parts is so of what contracts see
-pub seen-in : {X : Type 0} (x : Parts) (now : Managed) → managed_of x ≡ now → (c : State → X) (o : X) → o ≡ c (state_of x) → o ≡ c now.state
+pub seen-in : {X : Type 0} (x : Parts) {past : Option (List Step)} (now : Managed) → managed_of x past ≡ now → (c : State → X) (o : X) → o ≡ c (state_of x) → o ≡ c now.state
 seen-in x now view c o is = is ∙ ap (λ (m : Managed). c m.state) view
 
 module _ (x : Parts) (machine : IsManager x) (refusal : Refusal) where

@@ -4,11 +4,12 @@ use Rattle.std.proofs.Common.{◌≡◌, ◌∙◌, ℕ, ◌-◌, ◌/◌, ◌%�
 use Rattle.std.specs.Prelude.{◌&&◌, is_some, nat_le, nat_lt}
 use Rattle.std.specs.Option.{option_and_then, option_map_or}
 use Rattle.byteorder.specs.Endian.{little_bytes}
-use Rattle.ffa_model.specs.declared.operation.Outcome.TheVariants.{Done}
+use Rattle.ffa_model.specs.declared.operation.Op.TheVariants.{Store}
+use Rattle.ffa_model.specs.declared.operation.Outcome.TheVariants.{Data, Done}
 use Rattle.ffa_model.specs.declared.operation.Size.{Size}
 use Rattle.ffa_model.specs.Access.{access}
-use Rattle.ffa_model.specs.Memory as memory
-use Rattle.ffa_model.specs.Memory.{size_of, store_fault, stored}
+use Rattle.ffa_model.specs.Elsewhere.{as_run_by, step_elsewhere}
+use Rattle.ffa_model.specs.Memory.{fetch, fetch_fault, number_at, size_of, store, store_fault, stored}
 use Rattle.ffa_model.specs.State.{State, is_known}
 use Rattle.ffa_model.proofs.CallAccesses.{access-written}
 use Rattle.ffa_laws.proofs.Form.{accessed-kept}
@@ -22,25 +23,32 @@ use Rattle.ffa_spmc.specs.Snapshot.{Snapshot}
 abbrev page_from : ℕ → ℕ → Option ℕ
 page_from address base = cond (nat_le base address && nat_lt address (2 ^ 32)) (Some ((address - base) / 4096)) None
 
--- A STORE leaves access, endpoints, the runner and RAM's place.
-module _ (s new : State) (address : ℕ) (size : Size) (value : ℕ) (is : new ≡ (memory.store s address size value).state) where
+-- A FETCH leaves the state.
+pub fetch-state : (s : State) (address : ℕ) → (fetch s address).state ≡ s
+fetch-state s address = accessed-kept (λ t. t ≡ s) s s (Data (number_at s address 4)) (fetch_fault s address) refl (λ none. refl)
+
+-- A store leaves who runs.
+pub store-runner : (s : State) (address : ℕ) (size : Size) (value : ℕ) → as_run_by s.runner (store s address size value).state ≡ (store s address size value).state
+store-runner s address size value =
+    accessed-kept (λ t. as_run_by s.runner t ≡ t) s (stored s address (little_bytes (size_of size) value)) Done (store_fault s address (size_of size)) refl (λ none. refl)
+
+-- A STORE leaves access, endpoints and RAM's place, whoever stores.
+module _ (s : State) (e : ℕ) (new : State) (address : ℕ) (size : Size) (value : ℕ) (is : new ≡ (step_elsewhere s e (Store address size value)).state) where
   after : (P : State → Type 0) → P s → P (stored s address (little_bytes (size_of size) value)) → P new
   after P old written =
-      subst P (sym is) (accessed-kept P s (stored s address (little_bytes (size_of size) value)) Done (store_fault s address (size_of size)) old (λ none. written))
+      subst P (sym is)
+      (accessed-kept (λ t. P (as_run_by s.runner t)) (as_run_by e s) (stored (as_run_by e s) address (little_bytes (size_of size) value)) Done (store_fault (as_run_by e s) address (size_of size)) old (λ none. written))
 
-  pub store-access : (e p : ℕ) → access new e p ≡ access s e p
-  store-access e p =
-      after (λ t. access t e p ≡ access s e p) refl
-      (access-written s ((address - s.ram_base) / 4096) (address % 4096) (little_bytes (size_of size) value) e p)
-
-  pub store-runner : new.runner ≡ s.runner
-  store-runner = after (λ t. t.runner ≡ s.runner) refl refl
+  pub store-access : (f p : ℕ) → access new f p ≡ access s f p
+  store-access f p =
+      after (λ t. access t f p ≡ access s f p) refl
+      (access-written s ((address - s.ram_base) / 4096) (address % 4096) (little_bytes (size_of size) value) f p)
 
   pub store-base : new.ram_base ≡ s.ram_base
   store-base = after (λ t. t.ram_base ≡ s.ram_base) refl refl
 
-  pub store-known : (e : ℕ) → is_known s e ≡ true → is_known new e ≡ true
-  store-known e known = after (λ t. is_known t e ≡ true) known known
+  pub store-known : (f : ℕ) → is_known s f ≡ true → is_known new f ≡ true
+  store-known f known = after (λ t. is_known t f ≡ true) known known
 
 -- WHERE what is held, the runner and RAM's place are the same, an address misses the same page.
 module _ (x y : Snapshot) (held : x.held ≡ y.held) (runner : x.state.runner ≡ y.state.runner) (base : x.state.ram_base ≡ y.state.ram_base) (address : ℕ) where

@@ -1,9 +1,9 @@
 -- SPDX-License-Identifier: MIT OR Apache-2.0
 -- Bytes in an endpoint's RX: they stand in a page of its own, and the state has them as RAM does.
-use Rattle.std.proofs.Common.{◌≡◌, ◌∙◌, ℕ, ◌<◌, true, List, length, Option, Some, None, refl, sym, subst, zero, suc, ◌+◌, ◌-◌, ◌≤◌, [], take, drop, ap, arith, length-set, get_or-set_other}
+use Rattle.std.proofs.Common.{◌≡◌, ◌∙◌, ℕ, ◌<◌, true, false, List, length, Option, Some, None, refl, sym, subst, zero, suc, ◌+◌, ◌-◌, ◌≤◌, [], take, drop, ap, arith, length-set, get_or-set_other}
 use Rattle.std.specs.Prelude.{IsSomeAnd, is_some, nat_le, ◌==◌}
 use Rattle.std.specs.Option.{option_map, option_map_or}
-use Rattle.std.proofs.lemmas.Bool.{and_parts, eqb-true, false≢true, leb-true}
+use Rattle.std.proofs.lemmas.Bool.{and_parts, eqb-true, false≢true, leb-true, not-true}
 use Rattle.arrayvec.specs.ArrayVec.{array_vec_len}
 use Rattle.ffa_stage2.specs.Tables.{table_page}
 use Rattle.ffa_model.proofs.Runs.{run-wider, to-run}
@@ -67,6 +67,16 @@ module _ (x : Parts) (machine : IsManager x) where
           ap (λ (o : Option Page). option_map_or (λ (q : Page). q.owner) o manager) at
           ∙ eqb-true page.owner e (and_parts (page.owner == e) _ (and_parts _ _ passes).0).0
 
+  -- which no open transaction names
+  usable-unnamed : (e p : ℕ) → is_usable e (candidate_at s p) ≡ true → is_some (handle_at s p) ≡ false
+  usable-unnamed e p usable = of (page_at s p) refl usable
+    where
+      of : (o : Option Page) → page_at s p ≡ o
+          → is_usable e (option_map (λ (page : Page). let q : Candidate = record { owner = page.owner; own_right = page.own_right; named = is_some (handle_at s p) } in q) o) ≡ true
+          → is_some (handle_at s p) ≡ false
+      of None at passes = absurd (false≢true passes)
+      of (Some page) at passes = not-true (is_some (handle_at s p)) (and_parts (page.owner == e) _ (and_parts _ _ passes).0).1
+
   -- the pages of an endpoint's buffers
   pub buffers-there : (f : ℕ) → is_known s f ≡ true → (b : Buffers) → buffers_in x.kept.buffers f ≡ Some b → AreThere s f b
   buffers-there f known b is =
@@ -78,6 +88,11 @@ module _ (x : Parts) (machine : IsManager x) where
         tx_owner = λ p its. usable-owner f p (sound.tx p its);
         rx_owner = λ p its. usable-owner f p (sound.rx p its);
       }
+
+  -- no open transaction names a page of RX
+  pub rx-unnamed : (f : ℕ) → is_known s f ≡ true → (b : Buffers) → buffers_in x.kept.buffers f ≡ Some b → (p : ℕ) → is_in_run b.rx b.pages p ≡ true
+      → is_some (handle_at s p) ≡ false
+  rx-unnamed f known b is p its = usable-unnamed f p ((machine.sound.buffers f b known is).rx p its)
 
   -- pages in a row that are there are pages of RAM
   run-inside : (first n : ℕ) → 1 ≤ n → ((p : ℕ) → is_in_run first n p ≡ true → IsThere p) → first + n ≤ length x.ram.pages
@@ -167,6 +182,15 @@ module _ (x : Parts) (machine : IsManager x) where
       filled-run : (b : Buffers) → buffers_in x.kept.buffers f ≡ Some b
           → (state_of (record x { ram = with_run b.pages x.ram b.rx bytes })).pages ≡ written_run b.pages s.pages b.rx bytes
       filled-run b is = run-state b.pages x.ram b.rx bytes (λ p its. there-inside p ((buffers-there f known b is).rx p its))
+
+      -- the tables give the access that they gave
+      pub tables-still : HasTables after_fill.ram x.manifest rights
+      tables-still = of (buffers_in x.kept.buffers f) refl
+        where
+          of : (o : Option Buffers) → buffers_in x.kept.buffers f ≡ o → HasTables (with_rx_bytes x.ram o bytes) x.manifest rights
+          of None is = machine.tables
+          of (Some b) is =
+              run-tables b.pages x.ram b.rx bytes machine.tables (λ p its. let (page, there) = (buffers-there f known b is).rx p its in owned-behind x machine p page there)
 
       pub tables-filled : StillHasTables x after_fill.ram
       tables-filled = of (buffers_in x.kept.buffers f) refl

@@ -20,7 +20,7 @@ use Rattle.ffa_model.specs.Sound.{IsSound}
 use Rattle.ffa_model.proofs.Listed.{length-listed, get_or-listed, get_or-listed_past}
 use Rattle.ffa_model.proofs.Accepted.{accepted}
 use Rattle.ffa_model.proofs.Owners.{right-own}
-use Rattle.ffa_model.proofs.Places.{known-named, known-place}
+use Rattle.ffa_model.proofs.Places.{known-place}
 use Rattle.ffa_model.proofs.Handles.{find_none}
 use Rattle.ffa_pages.specs.Entry.{Entry, entry_at, first_entry, owner_at}
 use Rattle.ffa_stage2.specs.Tables.{table_page}
@@ -147,10 +147,3 @@ module _ (x : Parts) where
         (known-place (length x.kept.chain.works) e
         (subst (λ (n : ℕ). 1 ≤ n) (sym counted) (accepted x.manifest.ram_base.0 x.manifest.ram_blocks x.manifest.endpoints.items x.manifest.accepted).some_endpoints)
         known)
-
-    -- so is the runner
-    pub runner-known : (e : ℕ) → e ≡ x.kept.chain.runner → place e < length x.manifest.endpoints.items
-    runner-known e at = subst (λ (r : ℕ). place r < length x.manifest.endpoints.items) (sym at) (endpoint-known x.kept.chain.runner scheduled.runner)
-
-    pub runner-named : (e : ℕ) → e ≡ x.kept.chain.runner → identifier (place e) ≡ e
-    runner-named e at = subst (λ (r : ℕ). identifier (place r) ≡ r) (sym at) (known-named (length x.kept.chain.works) x.kept.chain.runner scheduled.runner)

@@ -18,12 +18,13 @@ use Rattle.ffa_model.specs.Memory.{access_at, page_of_address}
 use Rattle.ffa_model.specs.Ram.{Ram}
 use Rattle.ffa_model.specs.Rights.{may_write}
 use Rattle.ffa_model.specs.SoundState.{IsSoundState}
-use Rattle.ffa_model.specs.State.{State, address_of, is_known, is_known_among}
+use Rattle.ffa_model.specs.State.{State, address_of, is_known}
 use Rattle.ffa_model.specs.Walk.{Answer, mapped_answer}
 use Rattle.ffa_model.proofs.Places.{known-named, known-place}
 use Rattle.ffa_tlb.specs.declared.translations.Entry.{Entry}
 use Rattle.ffa_tlb.specs.Lookups.{IsFilled, is_pair, lookup}
-use Rattle.ffa_spmc.specs.Cached.{AreWalks, IsWalk, missed_page}
+use Rattle.ffa_physmem.specs.Moments.{Step}
+use Rattle.ffa_spmc.specs.Cached.{AreWalks, IsWalk, missed_page, run_by}
 use Rattle.ffa_spmc.specs.Caching.{moved_back, moved_to}
 use Rattle.ffa_spmc.specs.Snapshot.{Snapshot}
 use Rattle.ffa_spmc.specs.Walks.{walk_of}
@@ -201,7 +202,7 @@ module _ (ram : Ram) (s : State) (agrees : Agrees ram s) (sound : IsSoundState s
 -- FILLED
 -- what is held after a walk's answer was given is the walk's answer still
 pub walks-filled : (ram : Ram) (s : State) (old new : List Entry) (e p : ℕ) (leaf : Leaf)
-    → AreWalks (record { state = s; ram = ram; held = old }) → IsFilled old new e p leaf → IsWalk ram s e p leaf → AreWalks (record { state = s; ram = ram; held = new })
+    → AreWalks (record { state = s; ram = ram; held = old; past = None }) → IsFilled old new e p leaf → IsWalk ram s e p leaf → AreWalks (record { state = s; ram = ram; held = new; past = None })
 walks-filled ram s old new e p leaf walks filled walk f q l is = elim (filled f q) [
   | inl none ↦ absurd (none-some l (sym none ∙ is))
   | inr same ↦ at (is_pair f q e p) refl (sym same ∙ is)
@@ -213,10 +214,6 @@ walks-filled ram s old new e p leaf walks filled walk f q l is = elim (filled f 
         let (endpoint, page) = and_parts (f == e) (q == p) pair in
         subst (λ (r : Leaf). IsWalk ram s f q r) (same_Some leaf l given)
         (subst (λ (r : ℕ). IsWalk ram s f r leaf) (sym (eqb-true q p page)) (subst (λ (r : ℕ). IsWalk ram s r p leaf) (sym (eqb-true f e endpoint)) walk))
-
--- the runner is one of the endpoints
-pub runner-known : (s : State) → IsSoundState s → is_known s s.runner ≡ true
-runner-known s sound = subst (λ (n : ℕ). is_known_among n s.runner ≡ true) sound.sized.works sound.schedule.runner
 
 -- a page for which nothing is held is that of the address
 pub missed-in : (x : Snapshot) (address p : ℕ) → missed_page x address ≡ Some p → page_of_address x.state address ≡ Some p
@@ -230,21 +227,24 @@ missed-in x address p = of (page_of_address x.state address)
         at true none = absurd (none-some p none)
         at false is = is
 
--- What the runner may come to hold of what a walk answered for an address: `now` is what a contract sees, and there the walk
+-- What an endpoint may come to hold of what a walk answered for an address: `now` is what a contract sees, and there the walk
 -- answered this leaf, and nothing was held for this page.
-module _ (ram : Ram) (s : State) (held : List Entry) (agrees : Agrees ram s) (sound : IsSoundState s) (now : Snapshot) (view : record { state = s; ram = ram; held = held } ≡ now)
-    (address p : ℕ) (leaf : Leaf) (answered : Ok leaf ≡ walk_of now.ram now.state now.state.runner address) (missed : Some p ≡ missed_page now address) where
+module _ (ram : Ram) (s : State) (held : List Entry) (agrees : Agrees ram s) (sound : IsSoundState s) {writes : Option (List Step)} (now : Snapshot) (view : record { state = s; ram = ram; held = held; past = writes } ≡ now)
+    (e : ℕ) (known : is_known now.state e ≡ true) (address p : ℕ) (leaf : Leaf) (answered : Ok leaf ≡ walk_of now.ram now.state e address) (missed : Some p ≡ missed_page (run_by e now) address) where
+  known-here : is_known s e ≡ true
+  known-here = ap (λ (seen : Snapshot). is_known seen.state e) view ∙ known
+
   at-page : page_of_address s address ≡ Some p
-  at-page = ap (λ (seen : Snapshot). page_of_address seen.state address) view ∙ missed-in now address p (sym missed)
+  at-page = ap (λ (seen : Snapshot). page_of_address seen.state address) view ∙ missed-in (run_by e now) address p (sym missed)
 
-  walked : walk_of ram s s.runner address ≡ Ok leaf
-  walked = ap (λ (seen : Snapshot). walk_of seen.ram seen.state seen.state.runner address) view ∙ sym answered
+  walked : walk_of ram s e address ≡ Ok leaf
+  walked = ap (λ (seen : Snapshot). walk_of seen.ram seen.state e address) view ∙ sym answered
 
-  pub runner-past : address % 4096 ≤ leaf.phys
-  runner-past = past ram s agrees sound s.runner (runner-known s sound) address p at-page leaf walked
+  pub own-past : address % 4096 ≤ leaf.phys
+  own-past = past ram s agrees sound e known-here address p at-page leaf walked
 
-  pub runner-back : IsWalk ram s s.runner p (moved_back leaf address)
-  runner-back = walk-back ram s agrees sound s.runner (runner-known s sound) address p at-page leaf walked
+  pub own-back : IsWalk ram s e p (moved_back leaf address)
+  own-back = walk-back ram s agrees sound e known-here address p at-page leaf walked
 
 -- AFTER A CHANGE
 -- Where RAM agrees with the states before and after, whatever is held still, of an endpoint's page to which access is as
@@ -253,24 +253,23 @@ module _ (ram ram' : Ram) (s t : State) (agrees : Agrees ram s) (agrees' : Agree
     (known : (e : ℕ) → is_known s e ≡ true → is_known t e ≡ true) where
   pub walks-after : (old new : List Entry)
       → ((e p : ℕ) (leaf : Leaf) → lookup new e p ≡ Some leaf → (lookup old e p ≡ Some leaf) × (access t e p ≡ access s e p))
-      → AreWalks (record { state = s; ram = ram; held = old }) → AreWalks (record { state = t; ram = ram'; held = new })
+      → AreWalks (record { state = s; ram = ram; held = old; past = None }) → AreWalks (record { state = t; ram = ram'; held = new; past = None })
   walks-after old new stays walks e p leaf is =
       let (was, same) = stays e p leaf is in
       let walk = walks e p leaf was in
       walk-stays ram ram' s t agrees agrees' sound sound' base e p leaf (known e walk.known) same walk
 
-  pub answer-after : ((e p : ℕ) → access t e p ≡ access s e p) → (address : ℕ) → walk_of ram s s.runner address ≡ walk_of ram' t s.runner address
-  answer-after same address =
-      let runs : is_known s s.runner ≡ true = runner-known s sound in
-      walk-known ram s agrees sound s.runner runs address
+  pub answer-after : ((e p : ℕ) → access t e p ≡ access s e p) → (e : ℕ) → is_known s e ≡ true → (address : ℕ) → walk_of ram s e address ≡ walk_of ram' t e address
+  answer-after same e there address =
+      walk-known ram s agrees sound e there address
       ∙ ap (λ (o : Option Rights). mapped_answer o address) (sym access-after)
-      ∙ sym (walk-known ram' t agrees' sound' s.runner (known s.runner runs) address)
+      ∙ sym (walk-known ram' t agrees' sound' e (known e there) address)
     where
-      of : (o : Option ℕ) → option_and_then (access t s.runner) o ≡ option_and_then (access s s.runner) o
+      of : (o : Option ℕ) → option_and_then (access t e) o ≡ option_and_then (access s e) o
       of None = refl
-      of (Some p) = same s.runner p
+      of (Some p) = same e p
 
-      access-after : access_at t s.runner address ≡ access_at s s.runner address
+      access-after : access_at t e address ≡ access_at s e address
       access-after =
-          ap (λ (b : ℕ). option_and_then (access t s.runner) (cond (nat_le b address && nat_lt address (2 ^ 32)) (Some ((address - b) / 4096)) None)) base
+          ap (λ (b : ℕ). option_and_then (access t e) (cond (nat_le b address && nat_lt address (2 ^ 32)) (Some ((address - b) / 4096)) None)) base
           ∙ of (page_of_address s address)

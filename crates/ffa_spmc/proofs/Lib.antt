@@ -10,6 +10,9 @@ pub mod Reaches
 pub mod Agreements
 pub mod Certificates
 pub mod Stores
+pub mod Readings
+pub mod Besides
+pub mod Amongs
 pub mod Machines
 pub mod Moves
 pub mod Closes
@@ -36,3 +39,4 @@ pub mod Sizes
 pub mod Chains
 pub mod Reasons
 pub mod Abouts
+pub mod Moments

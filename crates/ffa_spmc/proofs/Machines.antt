@@ -1,24 +1,21 @@
 -- SPDX-License-Identifier: MIT OR Apache-2.0
 -- A machine keeps its tables through a write to a page that an endpoint owns, and is one after a call.
-use Rattle.std.proofs.Common.{◌≡◌, ◌∙◌, ℕ, ◌<◌, ◌≤◌, true, List, [], length, Option, Some, refl, sym, ap, subst, arith, length-set}
+use Rattle.std.proofs.Common.{◌≡◌, ◌∙◌, ℕ, ◌<◌, ◌≤◌, List, [], length, Option, Some, refl, sym, ap, subst, arith, length-set}
 use Rattle.std.proofs.lemmas.List.{get_or-set_other}
 use Rattle.ffa_model.specs.Access.{access}
-use Rattle.ffa_model.specs.Agreement.{root}
-use Rattle.ffa_model.specs.Identifiers.{identifier, place}
+use Rattle.ffa_model.specs.Identifiers.{identifier}
 use Rattle.ffa_model.specs.Ram.{Ram, page_of, with_page, with_bytes}
 use Rattle.ffa_model.specs.Notifications.{Notifications}
 use Rattle.ffa_model.specs.RunStates.{Schedule}
 use Rattle.ffa_model.specs.State.{State, Page, Buffers, page_at}
-use Rattle.ffa_model.specs.Walk.{is_page_address}
 use Rattle.ffa_model.specs.declared.call.Call as calls
 use Rattle.ffa_model.specs.SoundState.{IsSoundState}
 use Rattle.ffa_model.specs.Step.{serve}
 use Rattle.ffa_model.proofs.CallAccesses.{access-written}
 use Rattle.ffa_laws.proofs.SoundOperations.{call-sound}
-use Rattle.ffa_stage2.specs.Tables.{IsBuilt, table_page}
+use Rattle.ffa_stage2.specs.Tables.{table_page}
 use Rattle.ffa_spmc.specs.Meaning.{HasTables, IsManager, Parts, access_by_place, state_of}
-use Rattle.ffa_spmc.proofs.Held.{owned-behind, runner-known}
-use Rattle.ffa_spmc.proofs.Agreements.{root-is}
+use Rattle.ffa_spmc.proofs.Held.{owned-behind}
 use Rattle.ffa_spmc.proofs.Stores.{state-written}
 
 -- the tables in this RAM, in place of the machine's own, give the access of the state
@@ -26,12 +23,6 @@ abbrev pub StillHasTables : Parts → Ram → Type 0
 StillHasTables x ram = HasTables ram x.manifest (access_by_place (state_of (record x { ram = ram })))
 
 module _ (x : Parts) (machine : IsManager x) where
-  -- the root of the runner's table is a page of the RAM
-  pub runner-root : is_page_address x.ram (root (state_of x) (place x.kept.chain.runner)) ≡ true
-  runner-root =
-      ap (is_page_address x.ram) (root-is x machine (place x.kept.chain.runner))
-      ∙ machine.laws.begin x.ram (length x.manifest.endpoints.items) x.manifest.ram_blocks (access_by_place (state_of x)) (place x.kept.chain.runner) machine.tables.built (runner-known x machine x.kept.chain.runner refl)
-
   -- a write to a page that an endpoint owns leaves the tables as they are
   module _ (p at : ℕ) (bytes : List ℕ) (page : Page) (inside : p < length x.ram.pages) (there : page_at (state_of x) p ≡ Some page) where
     abbrev new : Ram
@@ -47,20 +38,23 @@ module _ (x : Parts) (machine : IsManager x) where
     same-access i q =
         sym (ap (λ (s : State). access s (identifier i) q) (state-written x p at bytes inside) ∙ access-written (state_of x) p at bytes (identifier i) q)
 
+    -- the tables give the access that they gave
+    pub tables-same : HasTables new x.manifest (access_by_place (state_of x))
+    tables-same = record {
+      base = machine.tables.base;
+      size = size ∙ machine.tables.size;
+      built =
+          machine.laws.stay x.ram new (length x.manifest.endpoints.items) x.manifest.ram_blocks (access_by_place (state_of x)) machine.tables.built
+          (record {
+            base = refl;
+            size = size;
+            pages = λ q low. get_or-set_other x.ram.pages p q (with_bytes (page_of x.ram p) at bytes) [] (λ same. absurd (omega (arith, low, behind, same)));
+          });
+    }
+
+    -- which is that of the state
     pub tables-written : StillHasTables x new
-    tables-written =
-        record {
-          base = machine.tables.base;
-          size = size ∙ machine.tables.size;
-          built =
-              subst (IsBuilt new (length x.manifest.endpoints.items) x.manifest.ram_blocks) (λ k i q. same-access i q k)
-              (machine.laws.stay x.ram new (length x.manifest.endpoints.items) x.manifest.ram_blocks (access_by_place (state_of x)) machine.tables.built
-              (record {
-                base = refl;
-                size = size;
-                pages = λ q low. get_or-set_other x.ram.pages p q (with_bytes (page_of x.ram p) at bytes) [] (λ same. absurd (omega (arith, low, behind, same)));
-              }));
-        }
+    tables-written = subst (HasTables new x.manifest) (λ k i q. same-access i q k) tables-same
 
 -- a machine is one after a call that changed no owner, where the tables give the access
 pub machine-served : (x : Parts) (ram : Ram) (buffers : List (Option Buffers)) (chain : Schedule) (bitmaps : Notifications) → IsManager x

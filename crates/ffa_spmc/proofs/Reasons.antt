@@ -1,6 +1,6 @@
 -- SPDX-License-Identifier: MIT OR Apache-2.0
 -- Why an operation is refused: the checks see of the machine's parts what the guards of each call see of its state.
-use Rattle.std.proofs.Common.{◌≡◌, ◌∙◌, ℕ, length, map, take, Option, Some, None, Result, Ok, Err, refl, sym, ap}
+use Rattle.std.proofs.Common.{◌≡◌, ◌∙◌, ℕ, List, length, map, take, Option, Some, None, Result, Ok, Err, refl, sym, ap}
 use Rattle.std.specs.FinMap as finite
 use Rattle.std.specs.Prelude.{⊤}
 use Rattle.std.specs.Result.{result_err}
@@ -38,12 +38,13 @@ use Rattle.ffa_spmc.proofs.Accesses.{done_or_fault}
 use Rattle.ffa_spmc.proofs.Candidates.{candidates-are}
 use Rattle.ffa_spmc.proofs.Notified.{each-bitmap}
 use Rattle.ffa_spmc.proofs.Pools.{own_rights-are}
+use Rattle.ffa_physmem.specs.Moments.{Step}
 use Rattle.ffa_spmc.proofs.Replied.{managed_of}
 use Rattle.ffa_spmc.proofs.Retrieves.{scene-is}
 use Rattle.ffa_spmc.proofs.Sends.{sent-is}
 
 -- what is so of the parts is so of what contracts see
-pub seen-refusal : (x : Parts) (now : Managed) → managed_of x ≡ now → (c : State → Service) (o : Option Refusal)
+pub seen-refusal : (x : Parts) {past : Option (List Step)} (now : Managed) → managed_of x past ≡ now → (c : State → Service) (o : Option Refusal)
     → o ≡ first_refusal (c (state_of x)).guards → o ≡ first_refusal (c now.state).guards
 seen-refusal x now view c o is = is ∙ ap (λ (m : Managed). first_refusal (c m.state).guards) view
 

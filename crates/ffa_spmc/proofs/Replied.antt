@@ -16,6 +16,8 @@ use Rattle.ffa_model.specs.Step.{service}
 use Rattle.ffa_memshare.specs.declared.changed.Changed.{Changed}
 use Rattle.ffa_memshare.specs.Stored.{Pooled}
 use Rattle.ffa_pages.specs.Entry.{Entry}
+use Rattle.ffa_physmem.specs.Moments.{Step}
+use Rattle.ffa_physmem.proofs.Moments.{Only-none}
 use Rattle.ffa_tlb.specs.declared.translations.Entry.{Entry as Held}
 use Rattle.ffa_spmc.specs.declared.answer.Answer.{Answer}
 use Rattle.ffa_spmc.specs.AccessChange.{IsAccessChange}
@@ -23,12 +25,13 @@ use Rattle.ffa_spmc.specs.Managed.{Managed}
 use Rattle.ffa_spmc.specs.Meaning.{Parts, state_of}
 use Rattle.ffa_spmc.specs.Replies.{done_or_error, reply_of, reply_or_error}
 use Rattle.ffa_spmc.specs.Served.{IsAnswered, IsReplied, IsTold}
+use Rattle.ffa_spmc.specs.Moments.{AreMoments}
 use Rattle.ffa_spmc.specs.Unowned.{KeepsUnowned}
 use Rattle.ffa_spmc.proofs.AccessChanges.{access-served, none-changed}
 
 -- what contracts see of the parts
-abbrev pub managed_of : Parts → Managed
-managed_of x = record { state = state_of x; ram = x.ram }
+abbrev pub managed_of : Parts → Option (List Step) → Managed
+managed_of x past = record { state = state_of x; ram = x.ram; past = past }
 
 -- where what is done is told without an error, an error is a refusal
 pub refused-told : {X P : Type 0} (told : X → Reply) (r : Result X ErrorCode) (reply : Reply) → reply ≡ reply_of told r
@@ -60,33 +63,39 @@ kept-buffers x (Err code) ram pages pool buffers same_ram same_pages same_pool s
     λ i. record x { ram = same_ram i; kept = record x.kept { pages = same_pages i; pool = same_pool i; buffers = same_buffers i } }
 
 -- what is so of the parts is so of what contracts see
-module _ (x y : Parts) (now : Managed) (seen : managed_of x ≡ now) (c : State → Service) (reply : Reply) where
-  pub replied-with : replied (state_of y) reply ≡ served (state_of x) (c (state_of x)) → (is_error reply ≡ true → y ≡ x) → KeepsUnowned (state_of x) x.ram y.ram
-      → IsReplied now (managed_of y) (c now.state) reply
-  replied-with is kept unowned =
+module _ (x y : Parts) {past : Option (List Step)} (now : Managed) (seen : managed_of x past ≡ now) (c : State → Service) (reply : Reply) where
+  pub replied-with : (later : Option (List Step)) → replied (state_of y) reply ≡ served (state_of x) (c (state_of x)) → (is_error reply ≡ true → y ≡ x) → (is_error reply ≡ true → later ≡ past)
+      → KeepsUnowned (state_of x) x.ram y.ram → AreMoments (state_of x) x.ram y.ram past later → IsReplied now (managed_of y later) (c now.state) reply
+  replied-with later is kept kept_past unowned moments =
       record {
         served = is ∙ ap (λ (m : Managed). served m.state (c m.state)) seen;
-        refused = λ error. ap managed_of (kept error) ∙ seen;
+        refused = λ error. (λ i. managed_of (kept error i) (kept_past error i)) ∙ seen;
         unowned = subst (λ (m : Managed). KeepsUnowned m.state m.ram y.ram) seen unowned;
+        moments = subst (λ (m : Managed). AreMoments m.state m.ram y.ram m.past later) seen moments;
       }
 
   -- where RAM is left as it was
   pub replied-beside : replied (state_of y) reply ≡ served (state_of x) (c (state_of x)) → (is_error reply ≡ true → y ≡ x) → y.ram ≡ x.ram
-      → IsReplied now (managed_of y) (c now.state) reply
-  replied-beside is kept same = replied-with is kept (λ p behind none. ap (λ (r : Ram). page_of r p) same)
+      → IsReplied now (managed_of y past) (c now.state) reply
+  replied-beside is kept same = replied-with past is kept (λ error. refl) (λ p behind none. ap (λ (r : Ram). page_of r p) same) Only-none
 
 -- and of a call on memory, whose answer tells this change
-module _ (x y : Parts) (now : Managed) (seen : managed_of x ≡ now) (c : State → Service) (answer : Answer) (changed : Option Changed) where
-  pub told-with : replied (state_of y) answer.reply ≡ served (state_of x) (c (state_of x)) → (is_error answer.reply ≡ true → y ≡ x)
-      → KeepsUnowned (state_of x) x.ram y.ram → answer.changed ≡ changed → IsAccessChange (state_of x) (state_of y) changed
-      → (is_error answer.reply ≡ true → answer.changed ≡ None) → IsTold now (managed_of y) (c now.state) answer
-  told-with is kept unowned told change none =
+module _ (x y : Parts) {past : Option (List Step)} (now : Managed) (seen : managed_of x past ≡ now) (c : State → Service) (answer : Answer) (changed : Option Changed) where
+  pub told-with : (later : Option (List Step)) → replied (state_of y) answer.reply ≡ served (state_of x) (c (state_of x)) → (is_error answer.reply ≡ true → y ≡ x)
+      → (is_error answer.reply ≡ true → later ≡ past)
+      → KeepsUnowned (state_of x) x.ram y.ram → AreMoments (state_of x) x.ram y.ram past later → answer.changed ≡ changed → IsAccessChange (state_of x) (state_of y) changed
+      → (is_error answer.reply ≡ true → answer.changed ≡ None) → IsTold now (managed_of y later) (c now.state) answer
+  told-with later is kept kept_past unowned moments told change none =
       record {
-        replied = replied-with x y now seen c answer.reply is kept unowned;
+        replied = replied-with x y now seen c answer.reply later is kept kept_past unowned moments;
         access = subst (λ (o : Option Changed). IsAccessChange now.state (state_of y) o) (sym told)
             (subst (λ (m : Managed). IsAccessChange m.state (state_of y) changed) seen change);
         unchanged = none;
       }
+
+-- a call that changes nothing
+pub replied-still : (old : Managed) (c : Service) (reply : Reply) → replied old.state reply ≡ served old.state c → IsReplied old old c reply
+replied-still old c reply is = record { served = is; refused = λ error. refl; unowned = λ p behind none. refl; moments = Only-none }
 
 -- a call that isn't on memory changes nobody's access, and what a cache holds stays
 pub answered-beside : (old new : Managed) (held : List Held) (call same : calls.Call) (reply : Reply) → call ≡ same → is_memory_call same ≡ false

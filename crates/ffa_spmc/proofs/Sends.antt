@@ -25,9 +25,9 @@ use Rattle.ffa_model.specs.State.{State, Page, Party, Buffers, is_known, is_know
 use Rattle.ffa_model.proofs.Guards.{guard-passes}
 use Rattle.ffa_rxtx.specs.Parts.{tx_in, with_rx_bytes}
 use Rattle.ffa_messages.specs.Parts.{AreEndsApart, AreInRam, receiver_in, sent_in}
-use Rattle.ffa_spmc.specs.Meaning.{IsManager, Parts, state_of}
+use Rattle.ffa_spmc.specs.Meaning.{HasTables, IsManager, Parts, access_by_place, state_of}
 use Rattle.ffa_spmc.specs.Unowned.{KeepsUnowned}
-use Rattle.ffa_spmc.proofs.Fills.{buffers-there, in-ram, runner-there, state-filled, tables-filled}
+use Rattle.ffa_spmc.proofs.Fills.{buffers-there, in-ram, runner-there, state-filled, tables-filled, tables-still}
 use Rattle.ffa_spmc.proofs.Held.{each, parties_are}
 use Rattle.ffa_spmc.proofs.Agreements.{agrees}
 use Rattle.ffa_spmc.proofs.Machines.{StillHasTables}
@@ -127,6 +127,12 @@ module _ (x : Parts) (machine : IsManager x) where
 
         pub told-known : is_known s f.0 ≡ true
         told-known = subst (λ (k : ℕ). is_known s k ≡ true) (sym to-receiver) (receiver-known passes)
+
+        pub receiver-there : is_known s receiver ≡ true
+        receiver-there = receiver-known passes
+
+        pub tables-kept : HasTables new x.manifest (access_by_place s)
+        tables-kept = subst (λ (ram : Ram). HasTables ram x.manifest (access_by_place s)) (sym wrote) (tables-still x machine receiver (receiver-known passes) (message_in tx))
 
         pub tables-sent : StillHasTables x new
         tables-sent = subst (StillHasTables x) (sym wrote) (tables-filled x machine receiver (receiver-known passes) (message_in tx))

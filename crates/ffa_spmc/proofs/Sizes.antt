@@ -107,6 +107,10 @@ step-sizes s (Store address size value) =
     (λ none. of-pages s _ (length-set s.pages ((address - s.ram_base) / 4096) _))
 step-sizes s (Fetch address) = accessed-kept (λ t. sizes t ≡ sizes s) s s (Data (number_at s address 4)) (fetch_fault s address) refl (λ none. refl)
 
--- so the tables end where they did
+-- so there are as many pages
+pub pages-step : (s : State) (op : Op) → length (step s op).state.pages ≡ length s.pages
+pages-step s op = ap (λ (n : ℕ × ℕ). n.1) (step-sizes s op)
+
+-- and the tables end where they did
 pub tables-step : (s : State) (op : Op) → pages_of_tables (step s op).state ≡ pages_of_tables s
 tables-step s op = ap (λ (n : ℕ × ℕ). n.0 * table_pages (n.1 / 512)) (step-sizes s op)

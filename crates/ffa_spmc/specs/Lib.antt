@@ -12,3 +12,5 @@ pub mod Served
 pub mod Booted
 pub mod Unowned
 pub mod Operated
+pub mod Among
+pub mod Moments

@@ -6,16 +6,18 @@ use Rattle.ffa_model.specs.Agreement.{Agrees}
 use Rattle.ffa_model.specs.Refusals.{is_refusal}
 use Rattle.ffa_model.specs.Step.{step}
 use Rattle.ffa_spmc.specs.Cached.{AreForgotten, AreKept, AreSameOrGone, AreWalks, is_accessed, is_miss}
+use Rattle.ffa_spmc.specs.Moments.{AreMoments}
 use Rattle.ffa_spmc.specs.Snapshot.{Snapshot}
 use Rattle.ffa_spmc.specs.Unowned.{KeepsUnowned}
 
--- one operation: the small machine's state, RAM that agrees with it, and a cache that forgets what has changed and keeps
+-- one operation: the small machine's state, RAM that agrees with it, walks that change once at every address, and a cache that forgets what has changed and keeps
 -- the rest
 pub record IsOperated (old : Snapshot) (op : Op) (new : Snapshot) : Type 0 where
   pub state : new.state ≡ (step old.state op).state
   pub agrees : Agrees new.ram new.state
   pub refused : is_refusal (step old.state op).outcome ≡ true → new ≡ old
   pub unowned : KeepsUnowned old.state old.ram new.ram
+  pub moments : AreMoments old.state old.ram new.ram old.past new.past
   pub walks : AreWalks new
   pub forgotten : AreForgotten old new
   pub kept : is_miss old op ≡ false → AreKept old new

@@ -9,6 +9,7 @@ use Rattle.ffa_tlb.specs.declared.translations.Entry.{Entry}
 use Rattle.ffa_spmc.specs.declared.answer.Answer.{Answer}
 use Rattle.ffa_spmc.specs.AccessChange.{IsAccessChange, IsForgotten}
 use Rattle.ffa_spmc.specs.Managed.{Managed}
+use Rattle.ffa_spmc.specs.Moments.{AreMoments}
 use Rattle.ffa_spmc.specs.Unowned.{KeepsUnowned}
 
 -- a call of the runner is replied to as the small machine does
@@ -17,6 +18,7 @@ pub record IsReplied (old new : Managed) (c : Service) (reply : Reply) : Type 0 
   -- a refusal changes nothing
   pub refused : is_error reply ≡ true → new ≡ old
   pub unowned : KeepsUnowned old.state old.ram new.ram
+  pub moments : AreMoments old.state old.ram new.ram old.past new.past
 
 -- and what the answer to a call on memory tells that it changes of access is so
 pub record IsTold (old new : Managed) (c : Service) (answer : Answer) : Type 0 where

@@ -8,5 +8,6 @@ pub mod machine;
 mod manager;
 mod playable;
 mod replies;
+mod run;
 
 pub use machine::Machine;

@@ -22,10 +22,13 @@ ghost use Rattle.ffa_model.specs.Step.{serve, step, outcomes, state_after};
 ghost use Rattle.ffa_spmc.specs.Cached.{AreSameOrGone, AreForgotten, AreKept, AreWalks, is_accessed, is_miss};
 ghost use Rattle.ffa_spmc.specs.Operated.{AreOperated};
 ghost use Rattle.ffa_spmc.specs.Booted.{IsBooted};
+ghost use Rattle.ffa_spmc.specs.Moments.{AreMoments};
 ghost use Rattle.ffa_spmc.specs.Unowned.{KeepsUnowned};
 
 mod accesses;
+mod among;
 mod certificates;
+mod elsewhere;
 mod reasons;
 
 use crate::manager::Manager;
@@ -51,9 +54,9 @@ impl<M: PhysMem + Drop, T: Translations + Drop> Model for Machine<M, T> {
 
     ghost use Rattle.ffa_spmc.specs.Cached.{AreWalks};
 
-    ghost view = { λ m. record { state = m.manager.state; ram = m.manager.ram; held = T.entries m.cache } };
+    ghost view = { λ m. record { state = m.manager.state; ram = m.manager.ram; held = T.entries m.cache; past = m.manager.past } };
 
-    ghost invariant = { λ m. AreWalks (record { state = m.manager.state; ram = m.manager.ram; held = T.entries m.cache }) };
+    ghost invariant = { λ m. AreWalks (record { state = m.manager.state; ram = m.manager.ram; held = T.entries m.cache; past = m.manager.past }) };
 }
 
 // Fills all pages with zeros.
@@ -174,6 +177,11 @@ impl<M: PhysMem + Drop, T: Translations + Drop> Machine<M, T> {
         ensures refused { is_refusal result ≡ true → self.new ≡ self.old }
         ensures unowned { KeepsUnowned self.old.state self.old.ram self.new.ram }
 
+        // At each step, and at every address, the walks of all endpoints give what they gave before it or nothing, or all
+        // give what they give behind it or nothing. A descriptor goes by way of nothing where it has to, and a page changes
+        // only while nobody reaches it but who does both before and behind.
+        ensures moments { AreMoments self.old.state self.old.ram self.new.ram self.old.past self.new.past }
+
         // What the cache answers is the walk's answer over the bytes of the new RAM. It holds nothing for a page to which
         // an endpoint's access has changed. All else stays, but for an access that misses: it may take the place of others,
         // and only the runner's page is new.
@@ -226,15 +234,19 @@ impl<M: PhysMem + Drop, T: Translations + Drop> Machine<M, T> {
         ensures state { self.new.state ≡ (step self.old.state op.now).state }
         ensures refused { is_refusal result ≡ true → self.new ≡ self.old }
         ensures unowned { KeepsUnowned self.old.state self.old.ram self.new.ram }
+        ensures moments { AreMoments self.old.state self.old.ram self.new.ram self.old.past self.new.past }
         ensures forgotten { AreForgotten self.old self.new }
         ensures kept { is_miss self.old op.now ≡ false → AreKept self.old self.new }
         ensures others { AreSameOrGone self.old self.new (is_accessed self.old.state op.now) }
     {
+        // Proof step: the state is sound, so that the runner is an endpoint of the machine.
+        self.manager.holds();
+        let runner = self.manager.runner();
         match *op {
             Op::Call(x) => self.call(x),
-            Op::Load { addr, size } => self.load(addr, size),
-            Op::Store { addr, size, value } => self.store(addr, size, value),
-            Op::Fetch { addr } => self.fetch(addr),
+            Op::Load { addr, size } => self.load(runner, addr, size),
+            Op::Store { addr, size, value } => self.store(runner, addr, size, value),
+            Op::Fetch { addr } => self.fetch(runner, addr),
         }
     }
 
@@ -245,6 +257,7 @@ impl<M: PhysMem + Drop, T: Translations + Drop> Machine<M, T> {
         ensures state { self.new.state ≡ (serve self.old.state (decode x)).state }
         ensures refused { is_refusal result ≡ true → self.new ≡ self.old }
         ensures unowned { KeepsUnowned self.old.state self.old.ram self.new.ram }
+        ensures moments { AreMoments self.old.state self.old.ram self.new.ram self.old.past self.new.past }
         ensures forgotten { AreForgotten self.old self.new }
         ensures kept { AreKept self.old self.new }
         ensures others { AreSameOrGone self.old self.new (λ e p. false) }

@@ -15,6 +15,7 @@ ghost use Rattle.ffa_model.specs.Step.{serve, service};
 ghost use Rattle.ffa_spmc.specs.AccessChange.{IsForgotten};
 ghost use Rattle.ffa_spmc.specs.Booted.{IsBooted};
 ghost use Rattle.ffa_spmc.specs.Served.{IsAnswered};
+ghost use Rattle.ffa_spmc.specs.Moments.{AreMoments};
 ghost use Rattle.ffa_spmc.specs.Unowned.{KeepsUnowned};
 
 mod abouts;
@@ -26,6 +27,7 @@ mod forgetting;
 mod memory;
 mod messages;
 mod notifications;
+mod readings;
 mod reasons;
 
 use crate::kept::Kept;
@@ -55,7 +57,7 @@ impl<M: PhysMem + Drop> Model for Manager<M> {
 
     ghost use Rattle.ffa_spmc.specs.Meaning.{Parts, state_of, IsManager};
 
-    ghost view = { λ m. let x : Parts = record { ram = M.ram m.ram; manifest = m.manifest; kept = m.kept } in record { state = state_of x; ram = x.ram } };
+    ghost view = { λ m. let x : Parts = record { ram = M.ram m.ram; manifest = m.manifest; kept = m.kept } in record { state = state_of x; ram = x.ram; past = M.past m.ram } };
 
     ghost invariant = { λ m. IsManager (record { ram = M.ram m.ram; manifest = m.manifest; kept = m.kept }) };
 }
@@ -168,6 +170,7 @@ impl<M: PhysMem + Drop> Manager<M> {
         ensures state { self.new.state ≡ (serve self.old.state (decode x)).state }
         ensures refused { is_refusal result ≡ true → self.new ≡ self.old }
         ensures unowned { KeepsUnowned self.old.state self.old.ram self.new.ram }
+        ensures moments { AreMoments self.old.state self.old.ram self.new.ram self.old.past self.new.past }
         ensures forgotten { IsForgotten self.old.state self.new.state (T.entries cache.old) (T.entries cache.new) }
         ensures unchanged { is_refusal result ≡ true → T.entries cache.new ≡ T.entries cache.old }
     {

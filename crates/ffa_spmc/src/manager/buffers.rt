@@ -7,6 +7,7 @@ ghost use Rattle.ffa_model.specs.Calls.{first_refusal, success};
 ghost use Rattle.ffa_model.specs.State.{version_of};
 ghost use Rattle.ffa_model.specs.Setup.{info_get, info_guards, told_info_size, informed, is_count_alone, selected, uuid_bytes};
 ghost use Rattle.ffa_spmc.specs.Served.{IsReplied};
+ghost use Rattle.ffa_spmc.specs.Moments.{AreMoments};
 ghost use Rattle.ffa_spmc.specs.Unowned.{KeepsUnowned};
 
 use super::Manager;
@@ -84,6 +85,7 @@ impl<M: PhysMem + Drop> Manager<M> {
         requires { first_refusal (info_guards self.old.state (uuid_bytes uuid) flags) ≡ None }
         ensures state { self.new.state ≡ informed self.old.state (uuid_bytes uuid) flags }
         ensures unowned { KeepsUnowned self.old.state self.old.ram self.new.ram }
+        ensures moments { AreMoments self.old.state self.old.ram self.new.ram self.old.past self.new.past }
         ensures reply { result ≡ success (length (selected self.old.state.parties (uuid_bytes uuid))) (if is_count_alone flags then 0 else told_info_size (version_of self.old.state self.old.state.runner)) }
     {
         let count = ffa_setup::count(&self.manifest, uuid);

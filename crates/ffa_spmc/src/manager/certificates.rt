@@ -22,7 +22,7 @@ impl<M: PhysMem + Drop> Manager<M> {
     }
 
     // The address of the level 1 table of the endpoint at a place.
-    fn root_at(&self, place: usize) -> u32
+    pub(super) fn root_at(&self, place: usize) -> u32
         requires { place < length self.now.state.parties }
         ensures value { result ≡ root self.now.state place }
         ensures page { is_page_address self.now.ram result ≡ true }

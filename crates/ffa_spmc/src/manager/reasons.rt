@@ -300,21 +300,24 @@ impl<M: PhysMem + Drop> Manager<M> {
     pub(crate) fn load_fault(&self, addr: u64, size: Size) -> Option<FaultKind>
         ensures { result ≡ read_fault self.now.state addr (size_of size) }
     {
-        fault_in(self.load(self.translate(addr), addr, size))
+        let runner = self.kept.chain.runner();
+        fault_in(self.load(runner, self.translate(runner, addr), addr, size))
     }
 
     // Of a fetch.
     pub(crate) fn fetch_fault(&self, addr: u64) -> Option<FaultKind>
         ensures { result ≡ fetch_fault self.now.state addr }
     {
-        fault_in(self.fetch(self.translate(addr), addr))
+        let runner = self.kept.chain.runner();
+        fault_in(self.fetch(runner, self.translate(runner, addr), addr))
     }
 
     // Of a store.
     pub(crate) fn store_fault(&self, addr: u64, size: Size) -> Option<FaultKind>
         ensures { result ≡ store_fault self.now.state addr (size_of size) }
     {
-        ffa_walker::check_store(&self.ram, self.translate(addr), addr, size).err()
+        let walked = self.translate(self.kept.chain.runner(), addr);
+        ffa_walker::check_store(&self.ram, walked, addr, size).err()
     }
 
     // What stands in the way of an address, for a translation fault below 2^32.

@@ -29,7 +29,7 @@ returns-clause-forgotten g c =
     let old = g.T.Translations.entries c.self.inside.cache in
     let new = g.T.Translations.entries c.call-outcome.new.cache in
     let f = c.call-outcome.ensures.forgotten in
-    let now : Snapshot = record { state = t; ram = c.call-outcome.new.self.ram; held = new } in
+    let now : Snapshot = record { state = t; ram = c.call-outcome.new.self.ram; held = new; past = c.call-outcome.new.self.past } in
     subst (λ (seen : Snapshot). AreForgotten seen now) c.self.view_is
     (gone s t f.changed f.access old new f.rest)
 
@@ -40,7 +40,7 @@ returns-clause-kept g c =
     let old = g.T.Translations.entries c.self.inside.cache in
     let new = g.T.Translations.entries c.call-outcome.new.cache in
     let f = c.call-outcome.ensures.forgotten in
-    let now : Snapshot = record { state = t; ram = c.call-outcome.new.self.ram; held = new } in
+    let now : Snapshot = record { state = t; ram = c.call-outcome.new.self.ram; held = new; past = c.call-outcome.new.self.past } in
     subst (λ (seen : Snapshot). AreKept seen now) c.self.view_is
     (same-held s t f.changed f.access old new f.rest
     c.self.inside.manager.ram c.holds.ensures.agrees c.holds.ensures.sound c.self.invariant)
@@ -52,6 +52,6 @@ returns-clause-others g c =
     let old = g.T.Translations.entries c.self.inside.cache in
     let new = g.T.Translations.entries c.call-outcome.new.cache in
     let f = c.call-outcome.ensures.forgotten in
-    let now : Snapshot = record { state = t; ram = c.call-outcome.new.self.ram; held = new } in
+    let now : Snapshot = record { state = t; ram = c.call-outcome.new.self.ram; held = new; past = c.call-outcome.new.self.past } in
     subst (λ (seen : Snapshot). AreSameOrGone seen now (λ e p. false)) c.self.view_is
     (λ e p _. gone-or-held s t f.changed f.access old new f.rest e p)

@@ -20,6 +20,7 @@ loop-i-preserved g c =
             agrees = c.op.ensures.agrees;
             refused = λ is. c.op.ensures.refused (ap is_refusal c.op.ensures.outcome ∙ is);
             unowned = c.op.ensures.unowned;
+            moments = c.op.ensures.moments;
             walks = c.op.ensures.walks;
             forgotten = c.op.ensures.forgotten;
             kept = c.op.ensures.kept;

@@ -1,14 +1,16 @@
 -- SPDX-License-Identifier: MIT OR Apache-2.0
-use Rattle.std.proofs.Common.{◌∙◌, ℕ, refl, sym, ap, subst}
-use Rattle.ffa_model.specs.Memory as memory
+use Rattle.std.proofs.Common.{◌∙◌, refl, sym, ap, subst}
+use Rattle.ffa_model.specs.declared.operation.Op.TheVariants.{Store}
+use Rattle.ffa_model.specs.Elsewhere.{as_run_by, step_elsewhere}
 use Rattle.ffa_model.specs.Ram.{Ram}
-use Rattle.ffa_spmc.specs.Cached.{missed_page}
+use Rattle.ffa_model.specs.State.{is_known}
+use Rattle.ffa_spmc.specs.Cached.{missed_page, run_by}
 use Rattle.ffa_spmc.specs.Caching.{IsCached}
 use Rattle.ffa_spmc.specs.Managed.{Managed}
 use Rattle.ffa_spmc.specs.Snapshot.{Snapshot}
 use Rattle.ffa_spmc.specs.Unowned.{KeepsUnowned}
 use Rattle.ffa_spmc.specs.Walks.{walk_of}
-use Rattle.ffa_spmc.proofs.CachedAccesses.{cached-from, missed-same, store-access, store-base, store-known, store-runner}
+use Rattle.ffa_spmc.proofs.CachedAccesses.{cached-from, missed-same, store-access, store-base, store-known}
 use Rattle.ffa_spmc.proofs.HeldWalks.{answer-after, walks-after}
 use Rattle.ffa_spmc.proofs.machine.Machine.store.Goals as goal
 
@@ -17,59 +19,69 @@ invariant_of-self g c =
     let s = c.self.inside.manager.state in
     let t = c.store-outcome.new.self.state in
     let is = c.store-outcome.ensures.state in
+    let e = c.args.endpoint.0 in
     let held = g.T.Translations.entries c.self.inside.cache in
     walks-after c.self.inside.manager.ram c.store-outcome.new.self.ram s t
     c.holds.ensures.agrees c.holds-2.ensures.agrees c.holds.ensures.sound c.holds-2.ensures.sound
-    (store-base s t c.args.addr c.args.size c.args.value is) (store-known s t c.args.addr c.args.size c.args.value is) held held
-    (λ e p leaf there. (there, store-access s t c.args.addr c.args.size c.args.value is e p)) c.self.invariant
+    (store-base s e t c.args.addr c.args.size c.args.value is) (store-known s e t c.args.addr c.args.size c.args.value is) held held
+    (λ f p leaf there. (there, store-access s e t c.args.addr c.args.size c.args.value is f p)) c.self.invariant
 
 pub fill-requires-clause-answer : goal.fill-requires-clause-answer
 fill-requires-clause-answer g c =
     let s = c.self.inside.manager.state in
     let t = c.store-outcome.new.self.state in
     let is = c.store-outcome.ensures.state in
+    let e = c.args.endpoint.0 in
     c.walk-walked.ensures.answer
-    ∙ ap (λ (seen : Snapshot). walk_of seen.ram seen.state seen.state.runner c.args.addr) (sym c.self.view_is)
+    ∙ ap (λ (seen : Snapshot). walk_of seen.ram seen.state e c.args.addr) (sym c.self.view_is)
     ∙ answer-after c.self.inside.manager.ram c.store-outcome.new.self.ram s t
     c.holds.ensures.agrees c.holds-2.ensures.agrees c.holds.ensures.sound c.holds-2.ensures.sound
-    (store-base s t c.args.addr c.args.size c.args.value is) (store-known s t c.args.addr c.args.size c.args.value is)
-    (store-access s t c.args.addr c.args.size c.args.value is) c.args.addr
-    ∙ ap (λ (e : ℕ). walk_of c.store-outcome.new.self.ram t e c.args.addr) (sym (store-runner s t c.args.addr c.args.size c.args.value is))
+    (store-base s e t c.args.addr c.args.size c.args.value is) (store-known s e t c.args.addr c.args.size c.args.value is)
+    (store-access s e t c.args.addr c.args.size c.args.value is) e (ap (λ (seen : Snapshot). is_known seen.state e) c.self.view_is ∙ c.requires) c.args.addr
+
+pub fill-requires-clause-known : goal.fill-requires-clause-known
+fill-requires-clause-known g c =
+    let s = c.self.inside.manager.state in
+    let e = c.args.endpoint.0 in
+    store-known s e c.store-outcome.new.self.state c.args.addr c.args.size c.args.value c.store-outcome.ensures.state e
+    (ap (λ (seen : Snapshot). is_known seen.state e) c.self.view_is ∙ c.requires)
 
 pub fill-requires-clause-missed : goal.fill-requires-clause-missed
 fill-requires-clause-missed g c =
     let s = c.self.inside.manager.state in
     let t = c.store-outcome.new.self.state in
     let is = c.store-outcome.ensures.state in
+    let e = c.args.endpoint.0 in
     let held = g.T.Translations.entries c.self.inside.cache in
     c.walk-walked.ensures.missed
-    ∙ ap (λ (seen : Snapshot). missed_page seen c.args.addr) (sym c.self.view_is)
-    ∙ missed-same (record { state = s; ram = c.self.inside.manager.ram; held = held }) (record { state = t; ram = c.store-outcome.new.self.ram; held = held })
-    refl (sym (store-runner s t c.args.addr c.args.size c.args.value is)) (sym (store-base s t c.args.addr c.args.size c.args.value is)) c.args.addr
+    ∙ ap (λ (seen : Snapshot). missed_page (run_by e seen) c.args.addr) (sym c.self.view_is)
+    ∙ missed-same (record { state = as_run_by e s; ram = c.self.inside.manager.ram; held = held; past = c.self.inside.manager.past }) (record { state = as_run_by e t; ram = c.store-outcome.new.self.ram; held = held; past = c.store-outcome.new.self.past })
+    refl refl (sym (store-base s e t c.args.addr c.args.size c.args.value is)) c.args.addr
 
 pub returns-clause-held : goal.returns-clause-held
 returns-clause-held g c =
     let s = c.self.inside.manager.state in
     let t = c.store-outcome.new.self.state in
     let is = c.store-outcome.ensures.state in
+    let e = c.args.endpoint.0 in
     let held = g.T.Translations.entries c.self.inside.cache in
-    subst (λ (seen : Snapshot). IsCached seen c.fill.new.self c.args.addr) c.self.view_is
-    (cached-from (record { state = t; ram = c.store-outcome.new.self.ram; held = held }) (record { state = s; ram = c.self.inside.manager.ram; held = held })
-    refl (store-runner s t c.args.addr c.args.size c.args.value is) (store-base s t c.args.addr c.args.size c.args.value is) c.args.addr c.fill.new.self c.fill.ensures.held)
+    subst (λ (seen : Snapshot). IsCached (run_by e seen) c.fill.new.self c.args.addr) c.self.view_is
+    (cached-from (record { state = as_run_by e t; ram = c.store-outcome.new.self.ram; held = held; past = c.store-outcome.new.self.past }) (record { state = as_run_by e s; ram = c.self.inside.manager.ram; held = held; past = c.self.inside.manager.past })
+    refl refl (store-base s e t c.args.addr c.args.size c.args.value is) c.args.addr c.fill.new.self c.fill.ensures.held)
 
 pub returns-clause-outcome : goal.returns-clause-outcome
 returns-clause-outcome g c =
-    c.store-outcome.ensures.outcome ∙ ap (λ (seen : Snapshot). (memory.store seen.state c.args.addr c.args.size c.args.value).outcome) c.self.view_is
+    c.store-outcome.ensures.outcome ∙ ap (λ (seen : Snapshot). (step_elsewhere seen.state c.args.endpoint.0 (Store c.args.addr c.args.size c.args.value)).outcome) c.self.view_is
 
 pub returns-clause-state : goal.returns-clause-state
 returns-clause-state g c =
-    c.fill.ensures.state ∙ c.store-outcome.ensures.state ∙ ap (λ (seen : Snapshot). (memory.store seen.state c.args.addr c.args.size c.args.value).state) c.self.view_is
+    c.fill.ensures.state ∙ c.store-outcome.ensures.state ∙ ap (λ (seen : Snapshot). (step_elsewhere seen.state c.args.endpoint.0 (Store c.args.addr c.args.size c.args.value)).state) c.self.view_is
 
 pub returns-clause-refused : goal.returns-clause-refused
 returns-clause-refused g c =
     λ refused.
     c.fill.ensures.refused refused
-    ∙ ap (λ (m : Managed). record { state = m.state; ram = m.ram; held = g.T.Translations.entries c.self.inside.cache }) (c.store-outcome.ensures.refused refused)
+    ∙ ap (λ (m : Managed). record { state = m.state; ram = m.ram; held = g.T.Translations.entries c.self.inside.cache; past = m.past }) (c.store-outcome.ensures.refused refused)
     ∙ c.self.view_is
 
 pub returns-clause-unowned : goal.returns-clause-unowned

@@ -5,11 +5,14 @@ use Rattle.ffa_model.specs.Buffers.{buffers_with_rx}
 use Rattle.ffa_model.specs.Ram.{Ram}
 use Rattle.ffa_model.specs.Setup.{told_info_size, uuid_bytes}
 use Rattle.ffa_model.specs.State.{Buffers, version_of}
-use Rattle.ffa_spmc.specs.Meaning.{IsManager, state_of}
-use Rattle.ffa_spmc.proofs.Fills.{known-buffered, runner-there, rx-in-ram}
+use Rattle.ffa_spmc.specs.Meaning.{HasTables, IsManager, access_by_place, state_of}
+use Rattle.ffa_physmem.proofs.Moments.{Only-none}
+use Rattle.ffa_spmc.proofs.Fills.{known-buffered, runner-there, rx-in-ram, tables-still}
 use Rattle.ffa_spmc.proofs.Information.{info-reply, informed-own, machine-informed, state-informed}
 use Rattle.ffa_spmc.specs.Managed.{Managed}
+use Rattle.ffa_spmc.specs.Moments.{AreMoments}
 use Rattle.ffa_spmc.specs.Unowned.{KeepsUnowned}
+use Rattle.ffa_spmc.proofs.Moments.{rx-moments}
 use Rattle.ffa_spmc.proofs.Unowned.{unowned-filled}
 use Rattle.ffa_spmc.proofs.Inside.{parts_of}
 use Rattle.ffa_spmc.proofs.manager.Manager.inform.Goals as goal
@@ -61,3 +64,16 @@ returns-clause-unowned g c =
     subst (λ (seen : Managed). KeepsUnowned seen.state seen.ram (g.M.PhysMem.ram c.fill.new.ram)) c.self.view_is
     (subst (KeepsUnowned (state_of x) x.ram) (sym c.fill.ensures.ram)
     (unowned-filled x c.self.invariant c.runner-runner.result.0 (runner-there x c.self.invariant c.runner-runner.result.0 c.runner-runner.ensures.runner) x.ram c.as_slice.result.now))
+
+pub returns-clause-moments : goal.returns-clause-moments
+returns-clause-moments g c =
+    let x = parts_of g.M.PhysMem.ram c.self.inside in
+    let later = g.M.PhysMem.past c.fill.new.ram in
+    subst (λ (seen : Managed). AreMoments seen.state seen.ram (g.M.PhysMem.ram c.fill.new.ram) seen.past later) c.self.view_is
+    (rx-moments x c.self.invariant c.runner-runner.result.0 (runner-there x c.self.invariant c.runner-runner.result.0 c.runner-runner.ensures.runner) (g.M.PhysMem.ram c.fill.new.ram)
+    (subst (λ (ram : Ram). HasTables ram x.manifest (access_by_place (state_of x))) (sym c.fill.ensures.ram)
+    (tables-still x c.self.invariant c.runner-runner.result.0 (runner-there x c.self.invariant c.runner-runner.result.0 c.runner-runner.ensures.runner) c.as_slice.result.now))
+    _ later c.fill.ensures.steps)
+
+pub returns-then-is_count_alone-clause-moments : goal.returns-then-is_count_alone-clause-moments
+returns-then-is_count_alone-clause-moments g c = Only-none

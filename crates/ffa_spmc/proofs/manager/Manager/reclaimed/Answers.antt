@@ -8,6 +8,7 @@ use Rattle.ffa_spmc.specs.Meaning.{Parts, state_of}
 use Rattle.ffa_spmc.proofs.Replied.{told-with, kept-memory, refused-done}
 use Rattle.ffa_model.specs.State.{State}
 use Rattle.ffa_spmc.proofs.Inside.{parts_of}
+use Rattle.ffa_spmc.proofs.Moments.{moments-of}
 use Rattle.ffa_spmc.proofs.Pools.{pool-shared}
 use Rattle.ffa_spmc.proofs.Reclaims.{reclaim-changes, reclaim-machine, reclaim-served, reclaim-unowned}
 use Rattle.ffa_spmc.proofs.manager.Manager.reclaimed.Goals as goal
@@ -31,6 +32,7 @@ returns g c =
     let x = parts_of g.M.PhysMem.ram c.self.inside in
     let y : Parts = record x { ram = g.M.PhysMem.ram c.reclaim.new.ram; kept = record x.kept { pages = c.reclaim.new.pages; pool = c.reclaim.new.self } } in
     told-with x y c.args.self.now c.self.view_is (λ (s : State). memory_reclaim s c.args.low c.args.high c.args.flags) c.returned.result (result_ok c.reclaim.result)
+    (g.M.PhysMem.past c.reclaim.new.ram)
     (ap (λ (reply : Reply). replied (state_of y) reply) c.returned.ensures.reply
     ∙ reclaim-served x c.self.invariant c.runner-runner.result.0 c.runner-runner.ensures.runner c.args.low c.args.high c.args.flags
     c.word_of_halves-handle.result c.word_of_halves-handle.ensures
@@ -40,11 +42,13 @@ returns g c =
     (refused-done c.reclaim.result c.returned.result.reply c.returned.ensures.reply
     (kept-memory x c.reclaim.result (g.M.PhysMem.ram c.reclaim.new.ram) c.reclaim.new.pages c.reclaim.new.self
     c.reclaim.ensures.kept_ram c.reclaim.ensures.kept_pages c.reclaim.ensures.kept))
+    (refused-done c.reclaim.result c.returned.result.reply c.returned.ensures.reply c.reclaim.ensures.kept_past)
     (reclaim-unowned x c.self.invariant c.runner-runner.result.0 c.runner-runner.ensures.runner c.args.low c.args.high c.args.flags
     c.word_of_halves-handle.result c.word_of_halves-handle.ensures
     (g.M.PhysMem.ram c.reclaim.new.ram) c.reclaim.new.pages c.reclaim.new.self c.reclaim.result c.reclaim.ensures.refusal
     c.reclaim.ensures.kept c.reclaim.ensures.kept_pages c.reclaim.ensures.kept_ram
     c.reclaim.ensures.slot c.reclaim.ensures.open_transactions c.reclaim.ensures.ram c.reclaim.ensures.pages c.reclaim.ensures.changed)
+    (moments-of x c.self.invariant (g.M.PhysMem.ram c.reclaim.new.ram) _ _ c.reclaim.ensures.steps)
     c.returned.ensures.changed
     (reclaim-changes x c.self.invariant c.runner-runner.result.0 c.runner-runner.ensures.runner c.args.low c.args.high c.args.flags
     c.word_of_halves-handle.result c.word_of_halves-handle.ensures

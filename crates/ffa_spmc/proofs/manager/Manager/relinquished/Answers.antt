@@ -10,6 +10,7 @@ use Rattle.ffa_spmc.proofs.Answered.{refused-both}
 use Rattle.ffa_spmc.proofs.Replied.{told-with, refused-done}
 use Rattle.ffa_model.specs.State.{State}
 use Rattle.ffa_spmc.proofs.Inside.{parts_of}
+use Rattle.ffa_spmc.proofs.Moments.{moments-of}
 use Rattle.ffa_spmc.proofs.Pools.{pool-shared}
 use Rattle.ffa_spmc.proofs.Relinquishes.{relinquish-changes, relinquish-machine, relinquish-served, relinquish-unowned}
 use Rattle.ffa_spmc.proofs.manager.Manager.relinquished.Goals as goal
@@ -35,13 +36,16 @@ returns g c =
     let x = parts_of g.M.PhysMem.ram c.self.inside in
     let y : Parts = record x { ram = g.M.PhysMem.ram c.relinquish.new.ram; kept = record x.kept { pool = c.relinquish.new.self } } in
     told-with x y c.args.self.now c.self.view_is (λ (s : State). memory_relinquish s) c.returned.result (result_ok c.relinquish.result)
+    (g.M.PhysMem.past c.relinquish.new.ram)
     (ap (λ (reply : Reply). replied (state_of y) reply) c.returned.ensures.reply
     ∙ relinquish-served x c.self.invariant c.runner-runner.result.0 c.runner-runner.ensures.runner (g.M.PhysMem.ram c.relinquish.new.ram) c.relinquish.new.self
     c.relinquish.result c.relinquish.ensures.refusal c.relinquish.ensures.kept c.relinquish.ensures.kept_ram c.relinquish.ensures.done)
     (refused-done c.relinquish.result c.returned.result.reply c.returned.ensures.reply
     (refused-both c.relinquish.result (λ a b i. record x { ram = a i; kept = record x.kept { pool = b i } }) c.relinquish.ensures.kept_ram c.relinquish.ensures.kept))
+    (refused-done c.relinquish.result c.returned.result.reply c.returned.ensures.reply c.relinquish.ensures.kept_past)
     (relinquish-unowned x c.self.invariant c.runner-runner.result.0 c.runner-runner.ensures.runner (g.M.PhysMem.ram c.relinquish.new.ram) c.relinquish.new.self
     c.relinquish.result c.relinquish.ensures.refusal c.relinquish.ensures.kept c.relinquish.ensures.kept_ram c.relinquish.ensures.done)
+    (moments-of x c.self.invariant (g.M.PhysMem.ram c.relinquish.new.ram) _ _ c.relinquish.ensures.steps)
     c.returned.ensures.changed
     (relinquish-changes x c.self.invariant c.runner-runner.result.0 c.runner-runner.ensures.runner (g.M.PhysMem.ram c.relinquish.new.ram) c.relinquish.new.self
     c.relinquish.result c.relinquish.ensures.refusal c.relinquish.ensures.kept c.relinquish.ensures.kept_ram c.relinquish.ensures.done)

@@ -1,6 +1,6 @@
 -- SPDX-License-Identifier: MIT OR Apache-2.0
-use Rattle.std.proofs.Common.{refl}
-use Rattle.ffa_spmc.proofs.Replied.{answered-as, answered-beside}
+use Rattle.std.proofs.Common.{refl, rules}
+use Rattle.ffa_spmc.proofs.Replied.{answered-beside, replied-still, answered-as}
 use Rattle.ffa_spmc.proofs.manager.Manager.reply.Goals as goal
 
 pub returns-in-RxRelease : goal.returns-in-RxRelease
@@ -68,3 +68,18 @@ returns-in-MemRelinquish g c = answered-as c.args.self.now _ _ _ _ _ c.relinquis
 
 pub returns-in-MemReclaim : goal.returns-in-MemReclaim
 returns-in-MemReclaim g c = answered-as c.args.self.now _ _ _ _ _ c.reclaim.result c.in-MemReclaim.is c.reclaim.ensures
+
+pub returns-in-Version : goal.returns-in-Version
+returns-in-Version g c = answered-beside c.args.self.now _ _ _ _ c.version.result c.in-Version.is refl (replied-still c.args.self.now _ c.version.result (search rules))
+
+pub returns-in-Features : goal.returns-in-Features
+returns-in-Features g c = answered-beside c.args.self.now _ _ _ _ c.features.result c.in-Features.is refl (replied-still c.args.self.now _ c.features.result (search rules))
+
+pub returns-in-IdGet : goal.returns-in-IdGet
+returns-in-IdGet g c = answered-beside c.args.self.now _ _ _ _ c.id.result c.in-IdGet.is refl (replied-still c.args.self.now _ c.id.result (search rules))
+
+pub returns-in-SpmIdGet : goal.returns-in-SpmIdGet
+returns-in-SpmIdGet g c = answered-beside c.args.self.now _ _ _ _ c.spm_id.result c.in-SpmIdGet.is refl (replied-still c.args.self.now _ c.spm_id.result (search rules))
+
+pub returns-in-Unknown : goal.returns-in-Unknown
+returns-in-Unknown g c = answered-beside c.args.self.now _ _ _ _ _ c.in-Unknown.is refl (replied-still c.args.self.now _ _ (search rules))

@@ -9,7 +9,8 @@ use Rattle.ffa_model.specs.MemoryRetrieve.{memory_retrieve}
 use Rattle.ffa_memshare.specs.declared.changed.Retrieved.{Retrieved as Taken}
 use Rattle.ffa_spmc.specs.Meaning.{Parts, state_of}
 use Rattle.ffa_spmc.specs.Managed.{Managed}
-use Rattle.ffa_spmc.proofs.Fills.{caller-is}
+use Rattle.ffa_spmc.proofs.Fills.{caller-is, runner-there}
+use Rattle.ffa_spmc.proofs.Moments.{moments-of, rx-apart}
 use Rattle.ffa_spmc.proofs.Replied.{told-with, kept-buffers, refused-told}
 use Rattle.ffa_model.specs.State.{State}
 use Rattle.ffa_memshare.specs.declared.descriptor_call.DescriptorCall.{DescriptorCall}
@@ -44,6 +45,7 @@ returns g c =
     let its : DescriptorCall = record { transfer = c.args.transfer; version = c.version-version.result } in
     let y : Parts = record x { ram = g.M.PhysMem.ram c.retrieve.new.ram; kept = record x.kept { pages = c.retrieve.new.pages; pool = c.retrieve.new.self; buffers = c.retrieve.new.buffers } } in
     told-with x y c.args.self.now c.self.view_is (λ (s : State). memory_retrieve s c.args.transfer) c.retrieved.result (option_map (λ (taken : Taken). taken.changed) (result_ok c.retrieve.result))
+    (g.M.PhysMem.past c.retrieve.new.ram)
     (ap (λ (reply : Reply). replied (state_of y) reply) c.retrieved.ensures.reply
     ∙ retrieve-served x c.self.invariant c.runner-runner.result c.runner-runner.ensures.runner its (c.version-version.ensures ∙ sym (ap (λ (seen : Managed). version_of seen.state seen.state.runner) c.self.view_is))
     (g.M.PhysMem.ram c.retrieve.new.ram) c.retrieve.new.pages c.retrieve.new.self c.retrieve.new.buffers
@@ -52,10 +54,13 @@ returns g c =
     (refused-told (λ (taken : Taken). Retrieved taken.size) c.retrieve.result c.retrieved.result.reply c.retrieved.ensures.reply (λ done. refl)
     (kept-buffers x c.retrieve.result (g.M.PhysMem.ram c.retrieve.new.ram) c.retrieve.new.pages c.retrieve.new.self c.retrieve.new.buffers
     c.retrieve.ensures.kept_ram c.retrieve.ensures.kept_pages c.retrieve.ensures.kept c.retrieve.ensures.kept_buffers))
+    (refused-told (λ (taken : Taken). Retrieved taken.size) c.retrieve.result c.retrieved.result.reply c.retrieved.ensures.reply (λ done. refl) c.retrieve.ensures.kept_past)
     (retrieve-unowned x c.self.invariant c.runner-runner.result c.runner-runner.ensures.runner its (c.version-version.ensures ∙ sym (ap (λ (seen : Managed). version_of seen.state seen.state.runner) c.self.view_is))
     (g.M.PhysMem.ram c.retrieve.new.ram) c.retrieve.new.pages c.retrieve.new.self c.retrieve.new.buffers
     c.retrieve.result c.retrieve.ensures.refusal c.retrieve.ensures.kept c.retrieve.ensures.kept_pages c.retrieve.ensures.kept_buffers c.retrieve.ensures.kept_ram
     c.retrieve.ensures.full c.retrieve.ensures.done)
+    (moments-of x c.self.invariant (g.M.PhysMem.ram c.retrieve.new.ram) _ _
+    (c.retrieve.ensures.steps (rx-apart x c.self.invariant c.runner-runner.result.0 (runner-there x c.self.invariant c.runner-runner.result.0 c.runner-runner.ensures.runner))))
     c.retrieved.ensures.changed
     (retrieve-changes x c.self.invariant c.runner-runner.result c.runner-runner.ensures.runner its (c.version-version.ensures ∙ sym (ap (λ (seen : Managed). version_of seen.state seen.state.runner) c.self.view_is))
     (g.M.PhysMem.ram c.retrieve.new.ram) c.retrieve.new.pages c.retrieve.new.self c.retrieve.new.buffers

@@ -1,21 +1,29 @@
 -- SPDX-License-Identifier: MIT OR Apache-2.0
-use Rattle.std.proofs.Common.{◌∙◌, sym, ap, subst}
+use Rattle.std.proofs.Common.{◌≡◌, ◌∙◌, Result, Err, sym, ap, subst}
+use Rattle.std.specs.Prelude.{OnErr}
 use Rattle.std.proofs.lemmas.Bool.{true≢false}
 use Rattle.ffa_model.specs.declared.call.Call.TheVariants.{MsgSend2}
 use Rattle.ffa_model.specs.Calls.{Stepped, replied, served}
 use Rattle.ffa_model.specs.Messages.{msg_send2}
 use Rattle.ffa_model.specs.Refusals.{is_error}
+use Rattle.ffa_model.specs.declared.operation.ErrorCode.{ErrorCode}
+use Rattle.ffa_spmc.specs.Moments.{AreMoments}
+use Rattle.ffa_spmc.proofs.Moments.{rx-moments, still-moments}
 use Rattle.ffa_spmc.proofs.Replied.{managed_of}
 use Rattle.ffa_spmc.specs.Meaning.{IsManager, Parts, state_of}
 use Rattle.ffa_spmc.specs.Managed.{Managed}
 use Rattle.ffa_spmc.specs.Unowned.{KeepsUnowned}
 use Rattle.ffa_spmc.proofs.Machines.{machine-served}
 use Rattle.ffa_spmc.proofs.Notified.{known-notified}
-use Rattle.ffa_spmc.proofs.Sends.{buffers-in-ram, ends-apart, send-unowned, sent, tables-sent, told-known, unsent, unsent-parts}
+use Rattle.ffa_spmc.proofs.Sends.{buffers-in-ram, ends-apart, receiver-there, tables-kept, send-unowned, sent, tables-sent, told-known, unsent, unsent-parts}
 use Rattle.ffa_spmc.proofs.Fills.{known-buffered, runner-there}
 use Rattle.ffa_spmc.proofs.Inside.{parts_of}
 use Rattle.ffa_spmc.proofs.manager.Manager.send.Goals.{in-Ok, in-Err}
 use Rattle.ffa_spmc.proofs.manager.Manager.send.Goals as goal
+
+-- a message that isn't sent
+unsent-past : {X P : Type 0} {r : Result X ErrorCode} (code : ErrorCode) → r ≡ Err code → OnErr r P → P
+unsent-past {P = P} code is kept = subst (λ o. OnErr o P) is kept
 
 pub send2-requires : goal.send2-requires
 send2-requires g c =
@@ -65,11 +73,23 @@ returns g c =
           ∙ ap (λ (seen : Managed). served seen.state (msg_send2 seen.state)) c.self.view_is;
       refused = elim c.match-send2.branch [
         | in-Ok w ↦ λ error. absurd (true≢false (sym error ∙ ap is_error w.result-is))
-        | in-Err w ↦ λ error. ap managed_of (ap (parts_of g.M.PhysMem.ram) w.self-inside-is ∙ unsent-parts x c.self.invariant c.runner-runner.result.0 c.runner-runner.ensures.runner c.send2.result (g.M.PhysMem.ram c.send2.new.ram) c.send2.new.buffers c.send2.ensures.refusal c.send2.ensures.kept_ram c.send2.ensures.kept c.send2.ensures.ram c.send2.ensures.full c.send2.ensures.receiver w.in-Err.code w.in-Err.is) ∙ c.self.view_is
+        | in-Err w ↦ λ error. (λ i. managed_of ((ap (parts_of g.M.PhysMem.ram) w.self-inside-is ∙ unsent-parts x c.self.invariant c.runner-runner.result.0 c.runner-runner.ensures.runner c.send2.result (g.M.PhysMem.ram c.send2.new.ram) c.send2.new.buffers c.send2.ensures.refusal c.send2.ensures.kept_ram c.send2.ensures.kept c.send2.ensures.ram c.send2.ensures.full c.send2.ensures.receiver w.in-Err.code w.in-Err.is) i) ((ap (λ inside. g.M.PhysMem.past inside.ram) w.self-inside-is ∙ unsent-past w.in-Err.code w.in-Err.is c.send2.ensures.kept_past) i)) ∙ c.self.view_is
       ];
       unowned =
           elim c.match-send2.branch [
             | in-Ok w ↦ subst (λ (y : Parts). KeepsUnowned c.args.self.now.state c.args.self.now.ram y.ram) (ap (parts_of g.M.PhysMem.ram) (sym w.self-inside-is)) kept
             | in-Err w ↦ subst (λ (y : Parts). KeepsUnowned c.args.self.now.state c.args.self.now.ram y.ram) (ap (parts_of g.M.PhysMem.ram) (sym w.self-inside-is)) kept
+          ];
+      moments =
+          let new = g.M.PhysMem.ram c.send2.new.ram in
+          let later = g.M.PhysMem.past c.send2.new.ram in
+          elim c.match-send2.branch [
+            | in-Ok w ↦ subst (λ inside. AreMoments c.args.self.now.state c.args.self.now.ram (g.M.PhysMem.ram inside.ram) c.args.self.now.past (g.M.PhysMem.past inside.ram)) (sym w.self-inside-is)
+                (subst (λ (seen : Managed). AreMoments seen.state seen.ram new seen.past later) c.self.view_is
+                (rx-moments x c.self.invariant _ (receiver-there x c.self.invariant c.runner-runner.result.0 c.runner-runner.ensures.runner c.send2.result (g.M.PhysMem.ram c.send2.new.ram) c.send2.new.buffers c.send2.ensures.refusal c.send2.ensures.kept_ram c.send2.ensures.kept c.send2.ensures.ram c.send2.ensures.full c.send2.ensures.receiver w.in-Ok.receiver w.in-Ok.is) new
+                (tables-kept x c.self.invariant c.runner-runner.result.0 c.runner-runner.ensures.runner c.send2.result (g.M.PhysMem.ram c.send2.new.ram) c.send2.new.buffers c.send2.ensures.refusal c.send2.ensures.kept_ram c.send2.ensures.kept c.send2.ensures.ram c.send2.ensures.full c.send2.ensures.receiver w.in-Ok.receiver w.in-Ok.is) _ later c.send2.ensures.steps))
+            | in-Err w ↦ subst (λ inside. AreMoments c.args.self.now.state c.args.self.now.ram (g.M.PhysMem.ram inside.ram) c.args.self.now.past (g.M.PhysMem.past inside.ram)) (sym w.self-inside-is)
+                (subst (λ (seen : Managed). AreMoments seen.state seen.ram new seen.past later) c.self.view_is
+                (still-moments (state_of x) x.ram new _ later (unsent-past w.in-Err.code w.in-Err.is c.send2.ensures.kept_past)))
           ];
     }

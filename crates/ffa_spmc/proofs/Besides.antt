@@ -1,0 +1,37 @@
+-- SPDX-License-Identifier: MIT OR Apache-2.0
+-- Two states that differ in bytes of pages alone.
+use Rattle.std.proofs.Common.{◌≡◌, ◌∙◌, ℕ, ◌/◌, ◌*◌, Bool, true, false, length, sym, ap}
+use Rattle.ffa_model.specs.Access.{access}
+use Rattle.ffa_model.specs.Manifest.{table_pages}
+use Rattle.ffa_model.specs.State.{State, is_known, page_at}
+use Rattle.ffa_model.proofs.Accesses.{length-map_at}
+use Rattle.ffa_laws.specs.Readable.{blank_where}
+use Rattle.ffa_laws.proofs.Blanks.{access-b, page-b}
+use Rattle.ffa_spmc.specs.Among.{AreBeside}
+use Rattle.ffa_spmc.specs.Unowned.{pages_of_tables}
+
+module _ (s t : State) (named : ℕ → Bool) (beside : AreBeside s t named) where
+  pub beside-base : t.ram_base ≡ s.ram_base
+  beside-base = ap (λ (u : State). u.ram_base) (sym beside.same)
+
+  pub beside-known : (e : ℕ) → is_known s e ≡ true → is_known t e ≡ true
+  beside-known e known = ap (λ (u : State). is_known u e) (sym beside.same) ∙ known
+
+  pub beside-access : (e p : ℕ) → access t e p ≡ access s e p
+  beside-access e p = sym (access-b t named e p) ∙ ap (λ (u : State). access u e p) (sym beside.same) ∙ access-b s named e p
+
+  pub beside-size : length t.pages ≡ length s.pages
+  beside-size =
+      sym (length-map_at (λ p page. blank_where (named p) page) t.pages) ∙ ap (λ (u : State). length u.pages) (sym beside.same)
+      ∙ length-map_at (λ p page. blank_where (named p) page) s.pages
+
+  pub beside-tables : pages_of_tables t ≡ pages_of_tables s
+  beside-tables =
+      ap (λ (u : State). length u.parties * table_pages (length t.pages / 512)) (sym beside.same)
+      ∙ ap (λ (n : ℕ). length s.parties * table_pages (n / 512)) beside-size
+
+  -- a page that isn't named
+  pub beside-page : (p : ℕ) → named p ≡ false → page_at t p ≡ page_at s p
+  beside-page p off =
+      sym (page-b t named p ∙ ap (λ (b : Bool). blank_where b (page_at t p)) off) ∙ ap (λ (u : State). page_at u p) (sym beside.same)
+      ∙ page-b s named p ∙ ap (λ (b : Bool). blank_where b (page_at s p)) off

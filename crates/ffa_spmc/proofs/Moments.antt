@@ -1,0 +1,111 @@
+-- SPDX-License-Identifier: MIT OR Apache-2.0
+-- Between the writes of an operation.
+use Rattle.std.proofs.Common.{◌≡◌, ◌∙◌, ℕ, ◌*◌, ◌<◌, ◌≤◌, Bool, true, List, length, Option, Some, refl, sym, ap, subst, arith}
+use Rattle.std.specs.Prelude.{is_some}
+use Rattle.std.proofs.lemmas.Bool.{false≢true, false_from_ne_true}
+use Rattle.arrayvec.specs.ArrayVec.{array_vec_len}
+use Rattle.ffa_model.specs.Agreement.{blocks_of}
+use Rattle.ffa_model.specs.Buffers.{buffers_in}
+use Rattle.ffa_model.specs.Lists.{is_in_run}
+use Rattle.ffa_model.specs.Ram.{Ram}
+use Rattle.ffa_model.specs.State.{Buffers, State, Transaction, is_known}
+use Rattle.ffa_model.proofs.Runs.{to-run}
+use Rattle.ffa_memshare.specs.Callers.{IsRxApart}
+use Rattle.ffa_memshare.specs.Ranges.{in_ranges}
+use Rattle.ffa_memshare.specs.Stored.{pool_slot}
+use Rattle.ffa_memshare.proofs.Moments.{stays-same, written-moment}
+use Rattle.ffa_physmem.specs.Moments.{IsWriting, Only, Step}
+use Rattle.ffa_physmem.proofs.Moments.{Only-map, Only-none}
+use Rattle.ffa_rxtx.specs.Parts.{IsRxWriting}
+use Rattle.ffa_stage2.specs.Moments.{IsInOrder, IsMoment, WalksBetween, WritesUnreached}
+use Rattle.ffa_stage2.specs.Tables.{table_page}
+use Rattle.ffa_stage2.proofs.Moments.{between-first, moment-unreached, moment-walks}
+use Rattle.ffa_spmc.specs.Meaning.{HasTables, IsManager, Parts, access_by_place, slot_names, state_of}
+use Rattle.ffa_spmc.specs.Moments.{AreMoments, IsSafeStep}
+use Rattle.ffa_spmc.proofs.Fills.{buffers-there, rx-unnamed, there-inside}
+use Rattle.ffa_spmc.proofs.Held.{owned-behind, parties_are, size_is}
+use Rattle.ffa_spmc.proofs.Moves.{of-manifest}
+use Rattle.ffa_spmc.proofs.Pools.{named-kept}
+
+-- where nothing was written
+pub still-moments : (s : State) (old new : Ram) (past later : Option (List Step)) → later ≡ past → AreMoments s old new past later
+still-moments s old new past later same = subst (λ (l : Option (List Step)). AreMoments s old new past l) (sym same) Only-none
+
+module _ (x : Parts) (machine : IsManager x) where
+  abbrev n : ℕ
+  n = length x.manifest.endpoints.items
+
+  abbrev b : ℕ
+  b = x.manifest.ram_blocks
+
+  blocks-are : blocks_of (state_of x) ≡ b
+  blocks-are =
+      let size : length (state_of x).pages ≡ 512 * b = size_is x ∙ machine.tables.size in
+      omega (arith, size)
+
+  -- by the numbers of the state
+  by-state : (old new : Ram) (h : List Step) (step : Step) → WalksBetween old new n b step.after → IsInOrder old n b h step → WritesUnreached old new n b h step
+      → IsSafeStep (state_of x) old new h step
+  by-state old new h step walks order unreached = record {
+    walks = of (λ k j. WalksBetween old new k j step.after) walks;
+    order = of (λ k j. IsInOrder old k j h step) order;
+    unreached = of (λ k j. WritesUnreached old new k j h step) unreached;
+  }
+    where
+      of : (P : ℕ → ℕ → Type 0) → P n b → P (length (state_of x).parties) (blocks_of (state_of x))
+      of P its = subst (λ (k : ℕ). P k (blocks_of (state_of x))) (sym (parties_are x)) (subst (λ (k : ℕ). P n k) (sym blocks-are) its)
+
+  -- rights that change
+  pub moments-of : (new : Ram) (past later : Option (List Step))
+      → Only past later (λ h s. IsMoment x.ram new (array_vec_len x.kept.layout.regions) x.kept.layout.blocks h s) → AreMoments (state_of x) x.ram new past later
+  moments-of new past later only =
+      Only-map (of-manifest x machine (λ base endpoints blocks. Only past later (λ h s. IsMoment x.ram new endpoints blocks h s)) only)
+      (λ h s m. by-state x.ram new h s (moment-walks x.ram new n b h s m) m.order (moment-unreached x.ram new n b h s m))
+
+  -- pages behind the tables that are written while these stay
+  pub beside-moments : (new : Ram) → HasTables new x.manifest (access_by_place (state_of x)) → {past later : Option (List Step)} {P : List Step → Step → Type 0} → Only past later P
+      → ((h : List Step) (s : Step) → P h s → (named : ℕ → Bool) × ((p : ℕ) → named p ≡ true → table_page b n 0 ≤ p) × IsWriting x.ram named s)
+      → AreMoments (state_of x) x.ram new past later
+  beside-moments new still only its =
+      Only-map only (λ h s holds.
+      let (named, behind, writing) = its h s holds in
+      let old = machine.tables.built in
+      let rights = access_by_place (state_of x) in
+      let m : IsMoment x.ram new n b h s =
+      written-moment x.ram new n b rights rights old still.built (still.base ∙ sym machine.tables.base) x.ram named rights behind old
+      (between-first x.ram n b rights rights old) refl h s writing
+      (λ p at e he. stays-same (rights e p) (rights e p) (rights e p) _ refl refl)
+      in
+      by-state x.ram new h s (moment-walks x.ram new n b h s m) m.order (moment-unreached x.ram new n b h s m))
+
+  -- RX of an endpoint is behind the tables
+  rx-pages : (f : ℕ) → is_known (state_of x) f ≡ true → (buffers : Buffers) → buffers_in x.kept.buffers f ≡ Some buffers
+      → (p : ℕ) → is_in_run buffers.rx buffers.pages p ≡ true → table_page b n 0 ≤ p
+  rx-pages f known buffers are p its = let (page, there) = (buffers-there x machine f known buffers are).rx p its in owned-behind x machine p page there
+
+  -- and no open transaction names its pages
+  pub rx-apart : (f : ℕ) → is_known (state_of x) f ≡ true → (k h : ℕ) (t : Transaction) → pool_slot x.kept.pool.slots k ≡ Some (h, t)
+      → IsRxApart (array_vec_len x.kept.layout.regions) x.kept.layout.blocks (buffers_in x.kept.buffers f) (in_ranges x.kept.layout.base.0 t.ranges)
+  rx-apart f known k h t is = record {
+    behind = λ buffers are.
+        let some : 1 ≤ buffers.pages = (buffers-there x machine f known buffers are).some in
+        let behind : table_page b n 0 ≤ buffers.rx = rx-pages f known buffers are buffers.rx (to-run buffers.rx buffers.pages buffers.rx (omega arith) (omega (arith, some))) in
+        rw (machine.layout.blocks, machine.layout.endpoints) behind;
+    apart = λ buffers are p its. false_from_ne_true (in_ranges x.kept.layout.base.0 t.ranges p) (named buffers are p its);
+  }
+    where
+      named : (buffers : Buffers) → buffers_in x.kept.buffers f ≡ Some buffers → (p : ℕ) → is_in_run buffers.rx buffers.pages p ≡ true
+          → in_ranges x.kept.layout.base.0 t.ranges p ≡ true → ⊥
+      named buffers are p its at =
+          let there = (buffers-there x machine f known buffers are).rx p its in
+          let inside : p < length x.ram.pages = there-inside x machine p there in
+          let listed : p < length x.kept.pages = omega (arith, inside, machine.tables.size, machine.owners.size) in
+          let here : slot_names x.manifest.ram_base.0 p (pool_slot x.kept.pool.slots k) ≡ true =
+          ap (slot_names x.manifest.ram_base.0 p) is ∙ ap (λ base. in_ranges base t.ranges p) (sym machine.layout.base) ∙ at in
+          let slot = (machine.open_transactions.marks p k listed).1 here in
+          false≢true (sym (rx-unnamed x machine f known buffers are p its) ∙ named-kept x machine p inside ∙ ap is_some slot)
+
+  pub rx-moments : (f : ℕ) → is_known (state_of x) f ≡ true → (new : Ram) → HasTables new x.manifest (access_by_place (state_of x)) → (past later : Option (List Step))
+      → Only past later (λ _ s. IsRxWriting x.ram (buffers_in x.kept.buffers f) s) → AreMoments (state_of x) x.ram new past later
+  rx-moments f known new still past later only =
+      beside-moments new still only (λ _ s its. (is_in_run its.buffers.rx its.buffers.pages, rx-pages f known its.buffers its.are, its.writing))

@@ -1,0 +1,42 @@
+-- SPDX-License-Identifier: MIT OR Apache-2.0
+use Rattle.std.proofs.Common.{◌+◌, ◌≤◌, length, true, refl, sym, subst}
+use Rattle.ffa_spmc.specs.Among.{IsRead, is_in}
+use Rattle.ffa_spmc.specs.Snapshot.{Snapshot}
+use Rattle.ffa_spmc.specs.Unowned.{pages_of_tables}
+use Rattle.ffa_spmc.proofs.Besides.{beside-access, beside-base, beside-known}
+use Rattle.ffa_spmc.proofs.HeldWalks.{walks-after}
+use Rattle.ffa_spmc.proofs.machine.Machine.begin_reading.Goals as goal
+
+pub begin_reading-requires-clause-within : goal.begin_reading-requires-clause-within
+begin_reading-requires-clause-within g c =
+    subst (λ (seen : Snapshot). c.args.run.first.0 + c.args.run.count ≤ length seen.ram.pages) (sym c.self.view_is) c.requires.within
+
+pub begin_reading-requires-clause-behind : goal.begin_reading-requires-clause-behind
+begin_reading-requires-clause-behind g c =
+    subst (λ (seen : Snapshot). pages_of_tables seen.state ≤ c.args.run.first.0) (sym c.self.view_is) c.requires.behind
+
+pub invariant_of-self : goal.invariant_of-self
+invariant_of-self g c =
+    let s = c.self.inside.manager.state in
+    let t = c.begin_reading.new.self.state in
+    let beside = c.begin_reading.ensures.state in
+    let held = g.T.Translations.entries c.self.inside.cache in
+    walks-after c.self.inside.manager.ram c.begin_reading.new.self.ram s t
+    c.holds.ensures.agrees c.holds-2.ensures.agrees c.holds.ensures.sound c.holds-2.ensures.sound
+    (beside-base s t (is_in c.args.run) beside) (beside-known s t (is_in c.args.run) beside) held held
+    (λ e p leaf there. (there, beside-access s t (is_in c.args.run) beside e p)) c.self.invariant
+
+pub returns : goal.returns
+returns g c =
+    let held = g.T.Translations.entries c.self.inside.cache in
+    let new = c.begin_reading.new.self in
+    subst (λ (seen : Snapshot). IsRead c.args.run true seen (record { state = new.state; ram = new.ram; held = held; past = new.past })) c.self.view_is
+    (record {
+      state = c.begin_reading.ensures.state;
+      ram = c.begin_reading.ensures.ram;
+      step = c.begin_reading.ensures.step;
+      held = refl;
+      agrees = c.holds-2.ensures.agrees;
+      sound = c.holds-2.ensures.sound;
+      walks = invariant_of-self g c;
+    })

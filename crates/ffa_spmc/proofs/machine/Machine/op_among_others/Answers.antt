@@ -1,0 +1,59 @@
+-- SPDX-License-Identifier: MIT OR Apache-2.0
+use Rattle.std.proofs.Common.{◌≡◌, ◌∙◌, ◌+◌, ◌≤◌, length, Option, Some, None, sym, subst}
+use Rattle.std.specs.Prelude.{IsSome}
+use Rattle.ffa_model.specs.State.{page_at}
+use Rattle.ffa_spmc.specs.declared.run.Run.{Run}
+use Rattle.ffa_spmc.specs.Among.{IsDoneAmong, IsDoneReading, pages_read}
+use Rattle.ffa_spmc.specs.Snapshot.{Snapshot}
+use Rattle.ffa_spmc.specs.Unowned.{pages_of_tables}
+use Rattle.ffa_spmc.proofs.Amongs.{among-unowned, left-behind, left-within}
+use Rattle.ffa_spmc.proofs.machine.Machine.op_among_others.Goals as goal
+
+pub returns-in_default-clause-done : goal.returns-in_default-clause-done
+returns-in_default-clause-done g c =
+    let old = c.args.self.now in
+    let none : pages_read old.state c.args.op.now ≡ None =
+    subst (λ (seen : Snapshot). pages_read seen.state c.args.op.now ≡ None) c.self.view_is (sym c.pages_read.ensures.pages ∙ c.in_default.is)
+    in
+    subst (λ (o : Option Run). IsDoneReading o old c.args.op.now c.op_apart.result c.op_apart.new.self) (sym none) c.op_apart.ensures.done
+
+pub end_reading-requires-clause-within : goal.end_reading-requires-clause-within
+end_reading-requires-clause-within g c =
+    let within : c.in-Some.run'.first.0 + c.in-Some.run'.count ≤ length c.args.self.now.ram.pages =
+    subst (λ (seen : Snapshot). c.in-Some.run'.first.0 + c.in-Some.run'.count ≤ length seen.ram.pages) c.self.view_is c.in-Some.ensures.within
+    in
+    left-within c.in-Some.run' c.args.self.now c.begin_reading.new.self c.op_apart-outcome.new.self c.args.op.now c.begin_reading.ensures
+    c.op_apart-outcome.ensures.done.operated.state c.op_apart-outcome.ensures.done.operated.agrees within
+
+pub end_reading-requires-clause-behind : goal.end_reading-requires-clause-behind
+end_reading-requires-clause-behind g c =
+    let behind : pages_of_tables c.args.self.now.state ≤ c.in-Some.run'.first.0 =
+    subst (λ (seen : Snapshot). pages_of_tables seen.state ≤ c.in-Some.run'.first.0) c.self.view_is c.in-Some.ensures.behind
+    in
+    left-behind c.in-Some.run' c.args.self.now c.begin_reading.new.self c.op_apart-outcome.new.self c.args.op.now c.begin_reading.ensures
+    c.op_apart-outcome.ensures.done.operated.state c.op_apart-outcome.ensures.done.operated.agrees behind
+
+pub returns-clause-done : goal.returns-clause-done
+returns-clause-done g c =
+    let old = c.args.self.now in
+    let some : pages_read old.state c.args.op.now ≡ Some c.in-Some.run' =
+    subst (λ (x : Snapshot). pages_read x.state c.args.op.now ≡ Some c.in-Some.run') c.self.view_is (sym c.pages_read.ensures.pages ∙ c.in-Some.is)
+    in
+    let among : IsDoneAmong c.in-Some.run' old c.args.op.now c.op_apart-outcome.result c.end_reading.new.self = record {
+      seen = c.begin_reading.new.self;
+      left = c.op_apart-outcome.new.self;
+      read = c.begin_reading.ensures;
+      done = c.op_apart-outcome.ensures.done;
+      ended = c.end_reading.ensures;
+    } in
+    subst (λ (o : Option Run). IsDoneReading o old c.args.op.now c.op_apart-outcome.result c.end_reading.new.self) (sym some) among
+
+pub returns-clause-walks : goal.returns-clause-walks
+returns-clause-walks g c = c.end_reading.ensures.walks
+
+pub returns-clause-unowned : goal.returns-clause-unowned
+returns-clause-unowned g c =
+    among-unowned c.in-Some.run' c.args.self.now c.begin_reading.new.self c.op_apart-outcome.new.self c.args.op.now c.begin_reading.ensures
+    c.op_apart-outcome.ensures.done.operated.state c.op_apart-outcome.ensures.done.operated.agrees c.end_reading.new.self c.end_reading.ensures
+    c.op_apart-outcome.ensures.done.operated.unowned
+    (λ p its. subst (λ (seen : Snapshot). IsSome (page_at seen.state p)) c.self.view_is (c.in-Some.ensures.owned p its))

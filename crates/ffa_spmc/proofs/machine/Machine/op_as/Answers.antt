@@ -1,0 +1,49 @@
+-- SPDX-License-Identifier: MIT OR Apache-2.0
+use Rattle.std.proofs.Common.{subst}
+use Rattle.ffa_model.specs.SoundState.{IsSoundState}
+use Rattle.ffa_laws.specs.OwnAccess.{AreApart}
+use Rattle.ffa_spmc.specs.Cached.{AreWalks}
+use Rattle.ffa_spmc.specs.Snapshot.{Snapshot}
+use Rattle.ffa_spmc.proofs.Laws.{access-as, confidential-as, integrity-as, no_growth-as, silence-as, step-as, writers-as}
+use Rattle.ffa_spmc.proofs.machine.Machine.op_as.Goals as goal
+
+pub returns-clause-walks : goal.returns-clause-walks
+returns-clause-walks g c = subst AreWalks c.self-2.view_is c.self-2.invariant
+
+pub returns-clause-step : goal.returns-clause-step
+returns-clause-step g c =
+    step-as c.args.self.now.state
+    (subst (λ (seen : Snapshot). IsSoundState seen.state) c.self.view_is c.holds.ensures.sound) c.args.endpoint.0 c.requires c.args.op.now
+
+pub returns-clause-integrity : goal.returns-clause-integrity
+returns-clause-integrity g c =
+    integrity-as c.args.self.now.state
+    (subst (λ (seen : Snapshot). IsSoundState seen.state) c.self.view_is c.holds.ensures.sound) c.args.endpoint.0 c.requires c.args.op.now
+
+pub returns-clause-only_writers : goal.returns-clause-only_writers
+returns-clause-only_writers g c =
+    writers-as c.args.self.now.state
+    (subst (λ (seen : Snapshot). IsSoundState seen.state) c.self.view_is c.holds.ensures.sound) c.args.endpoint.0 c.requires c.args.op.now
+
+pub returns-clause-own_access : goal.returns-clause-own_access
+returns-clause-own_access g c =
+    access-as c.args.self.now.state
+    (subst (λ (seen : Snapshot). IsSoundState seen.state) c.self.view_is c.holds.ensures.sound) c.args.endpoint.0 c.requires c.args.op.now
+    (subst (λ (seen : Snapshot). AreApart seen.state) c.self.view_is c.holds.ensures.apart)
+
+pub returns-clause-never_grow : goal.returns-clause-never_grow
+returns-clause-never_grow g c =
+    no_growth-as c.args.self.now.state
+    (subst (λ (seen : Snapshot). IsSoundState seen.state) c.self.view_is c.holds.ensures.sound) c.args.endpoint.0 c.requires c.args.op.now
+    _ c.operate_as-outcome.ensures.state
+
+pub returns-clause-silence : goal.returns-clause-silence
+returns-clause-silence g c =
+    silence-as c.args.self.now.state
+    (subst (λ (seen : Snapshot). IsSoundState seen.state) c.self.view_is c.holds.ensures.sound) c.args.endpoint.0 c.requires c.args.op.now
+
+pub returns-clause-confidential : goal.returns-clause-confidential
+returns-clause-confidential g c =
+    confidential-as c.args.self.now.state
+    (subst (λ (seen : Snapshot). IsSoundState seen.state) c.self.view_is c.holds.ensures.sound) c.args.endpoint.0 c.requires c.args.op.now
+    (subst (λ (seen : Snapshot). AreApart seen.state) c.self.view_is c.holds.ensures.apart)

@@ -1,0 +1,20 @@
+-- SPDX-License-Identifier: MIT OR Apache-2.0
+-- What holds at each step of an operation, where others walk the tables meanwhile.
+use Rattle.std.specs.Prelude.{List, length, Option}
+use Rattle.ffa_model.specs.Agreement.{blocks_of}
+use Rattle.ffa_model.specs.Ram.{Ram}
+use Rattle.ffa_model.specs.State.{State}
+use Rattle.ffa_physmem.specs.Moments.{Only, Step}
+use Rattle.ffa_stage2.specs.Moments.{IsInOrder, WalksBetween, WritesUnreached}
+
+-- Behind the step, and at every address, the walks of all endpoints' tables give what they gave in the old RAM or nothing, or all
+-- give what they give in the new one or nothing. A descriptor that changes goes by way of nothing where it has to. And pages
+-- behind the tables change only where no walk leads that isn't there both before and behind.
+pub record IsSafeStep (s : State) (old new : Ram) (h : List Step) (step : Step) : Type 0 where
+  pub walks : WalksBetween old new (length s.parties) (blocks_of s) step.after
+  pub order : IsInOrder old (length s.parties) (blocks_of s) h step
+  pub unreached : WritesUnreached old new (length s.parties) (blocks_of s) h step
+
+-- each step on the way from one history to a later one is such a one
+abbrev pub AreMoments : State → Ram → Ram → Option (List Step) → Option (List Step) → Type 0
+AreMoments s old new past later = Only past later (λ h step. IsSafeStep s old new h step)

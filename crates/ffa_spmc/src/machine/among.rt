@@ -1,0 +1,73 @@
+// SPDX-License-Identifier: MIT OR Apache-2.0
+//! An operation while other processors of its runner write to the runner's TX.
+ghost use Rattle.std.specs.Prelude.{true, false, ◌≡◌, ◌+◌, ◌≤◌, length};
+ghost use Rattle.ffa_model.specs.Agreement.{Agrees};
+ghost use Rattle.ffa_model.specs.SoundState.{IsSoundState};
+ghost use Rattle.ffa_spmc.specs.Among.{IsDone, IsDoneReading, IsRead, pages_read};
+ghost use Rattle.ffa_spmc.specs.Cached.{AreWalks};
+ghost use Rattle.ffa_spmc.specs.Unowned.{KeepsUnowned, pages_of_tables};
+
+use super::Machine;
+use crate::run::Run;
+use ffa_model::{Op, Outcome};
+use ffa_physmem::PhysMem;
+use ffa_tlb::Translations;
+
+impl<M: PhysMem + Drop, T: Translations + Drop> Machine<M, T> {
+    /// Does one operation of the runner, as `op` does, while other processors of the same endpoint may write to its TX: of
+    /// TX it reads at once the pages that the operation reads, and then does it by what that one reading gave.
+    pub fn op_among_others(&mut self, op: &Op) -> Outcome
+        // Where it reads pages of TX, these are observed in one step; then the operation is done as in a machine that has in
+        // them what was seen; then they are released in one step. Other pages are what `op` leaves in them.
+        ensures done { IsDoneReading (pages_read self.old.state op.now) self.old op.now result self.new }
+
+        // Whatever others wrote: walks give the access of the state, which is sound, and nothing that the cache holds is stale.
+        ensures agrees { Agrees self.new.ram self.new.state }
+        ensures sound { IsSoundState self.new.state }
+        ensures walks { AreWalks self.new }
+        ensures unowned { KeepsUnowned self.old.state self.old.ram self.new.ram }
+    {
+        let Some(run) = self.manager.pages_read(op) else {
+            return self.op_apart(op);
+        };
+        self.begin_reading(run);
+        let outcome = self.op_apart(op);
+        self.end_reading(run);
+        outcome
+    }
+
+    // The operation itself, which stands here once for both its calls.
+    #[inline(never)]
+    fn op_apart(&mut self, op: &Op) -> Outcome
+        ensures done { IsDone self.old op.now result self.new }
+        ensures sound { IsSoundState self.new.state }
+    {
+        self.op(op)
+    }
+
+    // Reads pages behind the tables at once.
+    fn begin_reading(&mut self, run: Run)
+        requires within { run.first.0 + run.count ≤ length self.old.ram.pages }
+        requires behind { pages_of_tables self.old.state ≤ run.first.0 }
+        ensures { IsRead run true self.old self.new }
+    {
+        // Proof step: the state is sound, and the tables give its access.
+        self.manager.holds();
+        self.manager.begin_reading(run);
+        // Proof step: so it is afterwards.
+        self.manager.holds();
+    }
+
+    // Ends that.
+    fn end_reading(&mut self, run: Run)
+        requires within { run.first.0 + run.count ≤ length self.old.ram.pages }
+        requires behind { pages_of_tables self.old.state ≤ run.first.0 }
+        ensures { IsRead run false self.old self.new }
+    {
+        // Proof step: the state is sound, and the tables give its access.
+        self.manager.holds();
+        self.manager.end_reading(run);
+        // Proof step: so it is afterwards.
+        self.manager.holds();
+    }
+}

@@ -1,0 +1,134 @@
+// SPDX-License-Identifier: MIT OR Apache-2.0
+//! Pages of the runner's TX, to which other processors of the runner may write while a call reads them.
+ghost use Rattle.std.specs.Prelude.{true, false, ◌≡◌, ℕ, ◌+◌, ◌≤◌, length, IfSome, IsSome};
+ghost use Rattle.ffa_model.specs.Ram.{page_of};
+ghost use Rattle.ffa_model.specs.SoundState.{are_bytes};
+ghost use Rattle.ffa_model.specs.State.{page_at};
+ghost use Rattle.ffa_physmem.specs.Moments.{IsBeside, IsReading, One};
+ghost use Rattle.ffa_spmc.specs.Among.{AreBeside, bytes_read, is_in, pages_holding, pages_read};
+ghost use Rattle.ffa_spmc.specs.Unowned.{pages_of_tables};
+
+use super::Manager;
+use crate::run::Run;
+use ffa_model::{Call, Op, PageNo};
+use ffa_physmem::{PAGE_SIZE, PhysMem};
+
+// The bytes that the descriptor of FFA_MEM_RELINQUISH has.
+const RELINQUISH_BYTES: usize = 18;
+
+// How many bytes of a TX of so many a call reads.
+fn bytes_read(call: &Call, room: usize) -> usize
+    ensures { result ≡ bytes_read call.now room }
+{
+    match call {
+        Call::MsgSend2 => room,
+        Call::MemDonate(transfer)
+        | Call::MemLend(transfer)
+        | Call::MemShare(transfer)
+        | Call::MemRetrieve(transfer) => transfer.total as usize,
+        Call::MemRelinquish => RELINQUISH_BYTES,
+        _ => 0,
+    }
+}
+
+// How many of these pages hold so many bytes.
+fn pages_holding(pages: u32, bytes: usize) -> u32
+    ensures { result ≡ pages_holding pages bytes }
+{
+    let wanted = bytes.div_ceil(PAGE_SIZE);
+    if (pages as usize) < wanted {
+        pages
+    } else {
+        wanted as u32
+    }
+}
+
+// What was read of a page are bytes.
+fn holds_bytes(page: &[u8; 4096])
+    ensures { are_bytes page.now }
+{
+    for index in 0..PAGE_SIZE {
+        // Proof step: each number that is read is a byte.
+        let _byte = page[index];
+    }
+}
+
+// So it is of each of these pages.
+fn hold_bytes<M: PhysMem>(ram: &M, run: Run)
+    requires { run.first.0 + run.count ≤ length (M.ram ram.now).pages }
+    ensures { (p : ℕ) → is_in run p ≡ true → are_bytes (page_of (M.ram ram.now) p) }
+{
+    // Proof step: a page's number fits 32 bits.
+    let _all = ram.pages();
+    for page in run.first.0..run.first.0 + run.count {
+        holds_bytes(ram.page(PageNo(page)));
+    }
+}
+
+// Reads pages at once.
+fn observe_in<M: PhysMem>(ram: &mut M, run: Run)
+    requires { run.first.0 + run.count ≤ length (M.ram ram.old).pages }
+    ensures beside { IsBeside (M.ram ram.old) (M.ram ram.new) (is_in run) }
+    ensures whole { (p : ℕ) → length (page_of (M.ram ram.new) p) ≡ length (page_of (M.ram ram.old) p) }
+    ensures steps { One (M.past ram.old) (M.past ram.new) (λ s. IsReading (M.ram ram.old) (M.ram ram.new) run.first.0 run.count true s) }
+    ensures bytes { (p : ℕ) → is_in run p ≡ true → are_bytes (page_of (M.ram ram.new) p) }
+{
+    ram.observe(run.first, run.count);
+    hold_bytes(ram, run);
+}
+
+// Ends that.
+fn release_in<M: PhysMem>(ram: &mut M, run: Run)
+    requires { run.first.0 + run.count ≤ length (M.ram ram.old).pages }
+    ensures beside { IsBeside (M.ram ram.old) (M.ram ram.new) (is_in run) }
+    ensures whole { (p : ℕ) → length (page_of (M.ram ram.new) p) ≡ length (page_of (M.ram ram.old) p) }
+    ensures steps { One (M.past ram.old) (M.past ram.new) (λ s. IsReading (M.ram ram.old) (M.ram ram.new) run.first.0 run.count false s) }
+    ensures bytes { (p : ℕ) → is_in run p ≡ true → are_bytes (page_of (M.ram ram.new) p) }
+{
+    ram.release(run.first, run.count);
+    hold_bytes(ram, run);
+}
+
+impl<M: PhysMem + Drop> Manager<M> {
+    // The pages of its TX that an operation of the runner reads, if it reads any: they are the runner's own.
+    pub(crate) fn pages_read(&self, op: &Op) -> Option<Run>
+        ensures pages { result ≡ pages_read self.now.state op.now }
+        ensures within { IfSome result (λ run. run.first.0 + run.count ≤ length self.now.ram.pages) }
+        ensures behind { IfSome result (λ run. pages_of_tables self.now.state ≤ run.first.0) }
+        ensures owned { IfSome result (λ run. (p : ℕ) → is_in run p ≡ true → IsSome (page_at self.now.state p)) }
+    {
+        let Op::Call(x) = op else { return None };
+        let mapped = self.kept.buffers.of(self.kept.chain.runner())?;
+        let bytes = bytes_read(&ffa_abi::decode(*x), mapped.room());
+        let count = pages_holding(mapped.pages, bytes);
+        if count == 0 {
+            return None;
+        }
+        Some(Run {
+            first: mapped.tx,
+            count,
+        })
+    }
+
+    // Reads pages behind the tables at once.
+    pub(crate) fn begin_reading(&mut self, run: Run)
+        requires within { run.first.0 + run.count ≤ length self.old.ram.pages }
+        requires behind { pages_of_tables self.old.state ≤ run.first.0 }
+        ensures state { AreBeside self.old.state self.new.state (is_in run) }
+        ensures ram { IsBeside self.old.ram self.new.ram (is_in run) }
+        ensures step { One self.old.past self.new.past (λ s. IsReading self.old.ram self.new.ram run.first.0 run.count true s) }
+    {
+        observe_in(&mut self.ram, run);
+    }
+
+    // Ends that.
+    pub(crate) fn end_reading(&mut self, run: Run)
+        requires within { run.first.0 + run.count ≤ length self.old.ram.pages }
+        requires behind { pages_of_tables self.old.state ≤ run.first.0 }
+        ensures state { AreBeside self.old.state self.new.state (is_in run) }
+        ensures ram { IsBeside self.old.ram self.new.ram (is_in run) }
+        ensures step { One self.old.past self.new.past (λ s. IsReading self.old.ram self.new.ram run.first.0 run.count false s) }
+    {
+        release_in(&mut self.ram, run);
+    }
+}
