@@ -57,6 +57,9 @@ struct tried rattle_realloc(void *block, size_t kept, size_t size, size_t align)
 
 void rattle_dealloc(void *block) { (void)block; }
 
+/* No processor walks these tables: nothing is to be settled. */
+void ffa_settle(uint16_t endpoint, uint64_t address, uint64_t size) { (void)endpoint, (void)address, (void)size; }
+
 static _Alignas(FFA_PAGE_BYTES) struct ffa_page pages[512];
 static struct ffa_machine machine;
 static struct ffa_lent list;

@@ -2,9 +2,10 @@
 /* Gorseplumb from C: a partition manager core of FF-A 1.1, as a machine that does one operation at a time.
  *
  * Link libffa_c.a with it, the three functions of heap.c, which give the archive its memory (rattle_alloc, rattle_realloc and
- * rattle_dealloc, or three of your own by these names), and memcpy, memmove and memset. Each function here keeps the contract
- * that stands beside its namesake in crates/ffa_c/src, and the proof reaches to there: that the declarations below are those of
- * the crate is tested, and not proved, and so is what is said of pieces of memory.
+ * rattle_dealloc, or three of your own by these names), memcpy, memmove, memset and write. Where a processor walks the tables,
+ * `write` is that of settle.c, over an ffa_settle of your own (below). Each function here keeps the contract that stands beside
+ * its namesake in crates/ffa_c/src, and the proof reaches to there: that the declarations below are those of the crate is tested,
+ * and not proved, and so is what is said of pieces of memory.
  *
  * What C owes, and nothing checks:
  *
@@ -48,6 +49,24 @@ struct ffa_slot {
     void *at;
 };
 
+/* What has to be settled while an operation is on its way. The library writes it to a descriptor that no file has, by POSIX's
+ * `write`, in one call with the size of this struct; settle.c has that function, and calls ffa_settle. A C library's own `write`
+ * answers an error and does nothing, which is enough where no processor walks the tables. Only a machine in lent RAM writes it. */
+#define FFA_SETTLES (-0xFFA)
+
+struct ffa_settling {
+    uint64_t endpoint; /* its identifier */
+    uint64_t address;  /* of the first page */
+    uint64_t size;     /* of all pages, in bytes; 0 where the page at this address was filled with zeros */
+};
+
+/* Firmware defines this one. When it returns, all that the library has stored so far is seen by every processor and every walk of
+ * tables, and no processor holds a translation, for an address of these pages, that came of this endpoint's tables as they were
+ * before. On AArch64 that is DSB ISHST; then with the endpoint's VMID in VTTBR_EL2 TLBI IPAS2E1IS of each page, DSB ISH, TLBI
+ * VMALLE1IS; and last DSB ISH and ISB. With a size of 0 the first DSB is all of it. It is called while an operation is on its
+ * way, under the lock of that, and may not call the library. docs/EMBEDDING.md says when. */
+void ffa_settle(uint16_t endpoint, uint64_t address, uint64_t size);
+
 /* Registers x0 to x7. */
 struct ffa_registers {
     uint64_t x[8];
@@ -59,7 +78,8 @@ enum ffa_kind {
     FFA_DONE = 2,       /* a store was done */
     FFA_FAULT = 3,      /* `value` is an enum ffa_fault */
     FFA_NO_MACHINE = 4, /* there is no machine, and nothing was done */
-    FFA_BAD_SIZE = 5    /* the size is none of 1, 2, 4 and 8, with a machine or without one, and nothing was done */
+    FFA_BAD_SIZE = 5,   /* the size is none of 1, 2, 4 and 8, with a machine or without one, and nothing was done */
+    FFA_NO_ENDPOINT = 6 /* the machine has no such endpoint, and nothing was done */
 };
 
 enum ffa_fault {
@@ -173,6 +193,14 @@ struct ffa_outcome ffa_call(struct ffa_machine *machine, const struct ffa_regist
 struct ffa_outcome ffa_load(struct ffa_machine *machine, uint64_t address, uint32_t size);
 struct ffa_outcome ffa_store(struct ffa_machine *machine, uint64_t address, uint32_t size, uint64_t value);
 struct ffa_outcome ffa_fetch(struct ffa_machine *machine, uint64_t address);
+
+/* The same of any endpoint, whoever runs, as where another processor runs it: of the runner they are the four above. A call of
+ * another is answered FFA_ERROR with BUSY, `runner` names that endpoint, which isn't the machine's runner, and nothing changes;
+ * its loads, stores and fetches go by its own table. Where the machine has no such endpoint the answer is FFA_NO_ENDPOINT. */
+struct ffa_outcome ffa_call_as(struct ffa_machine *machine, uint16_t endpoint, const struct ffa_registers *registers);
+struct ffa_outcome ffa_load_as(struct ffa_machine *machine, uint16_t endpoint, uint64_t address, uint32_t size);
+struct ffa_outcome ffa_store_as(struct ffa_machine *machine, uint16_t endpoint, uint64_t address, uint32_t size, uint64_t value);
+struct ffa_outcome ffa_fetch_as(struct ffa_machine *machine, uint16_t endpoint, uint64_t address);
 
 /* Questions, which change nothing. The first four answer FFA_NOTHING where there is no machine.
  *

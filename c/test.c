@@ -1,6 +1,6 @@
 /* SPDX-License-Identifier: MIT OR Apache-2.0 */
 /* The first row of the manual, a lend that is retrieved, given up and reclaimed, what the border answers out of order, pages
- * that are lent and given back, and each piece of memory refused in turn. It brings the library's memory itself. */
+ * that are lent and given back, what is to be settled, and each piece of memory refused in turn. It brings the library's memory itself. */
 #include <stdio.h>
 #include <stdlib.h>
 #include <string.h>
@@ -43,6 +43,17 @@ struct tried rattle_realloc(void *block, size_t kept, size_t size, size_t align)
 void rattle_dealloc(void *block) {
     pieces--;
     free(block);
+}
+
+/* What the library had settled of pages, the first of it. */
+#define MOST_SETTLED 8
+static struct ffa_settling settled[MOST_SETTLED];
+static size_t settlings;
+
+void ffa_settle(uint16_t endpoint, uint64_t address, uint64_t size) {
+    if (size == 0) return;
+    if (settlings < MOST_SETTLED) settled[settlings] = (struct ffa_settling){endpoint, address, size};
+    settlings++;
 }
 
 #define CHECK(holds) \
@@ -151,6 +162,27 @@ static void lend(void) {
     CALL(0x8001, 0x84000060, 0, 0xFFFFFFFE, 0, 0x84000077, 1, 0x8001);
 }
 
+/* While 0000 runs, 8001 acts as it may on another processor. */
+static void elsewhere(void) {
+    struct ffa_registers id = {{0x84000069}};
+    struct ffa_outcome busy = ffa_call_as(&machine, 0x8001, &id);
+    CHECK(busy.kind == FFA_REGISTERS && busy.runner == 0x8001 && ffa_runner(&machine) == 0);
+    CHECK(busy.x[0] == 0x84000060 && busy.x[1] == 0 && busy.x[2] == 0xFFFFFFFC);
+    for (int i = 3; i < 8; i++) CHECK(busy.x[i] == 0);
+    struct ffa_outcome own = ffa_call_as(&machine, 0, &id);
+    CHECK(own.kind == FFA_REGISTERS && own.runner == 0 && own.x[0] == 0x84000061 && own.x[2] == 0);
+    CHECK(ffa_store_as(&machine, 0x8001, 0x40020000, 1, 0x2B).kind == FFA_DONE);
+    struct ffa_outcome loaded = ffa_load_as(&machine, 0x8001, 0x40020000, 1);
+    CHECK(loaded.kind == FFA_DATA && loaded.value == 0x2B);
+    CHECK(ffa_fetch_as(&machine, 0x8001, 0x40020000).kind == FFA_DATA);
+    CHECK(ffa_store_as(&machine, 0x8001, 0x40020000, 1, 0).kind == FFA_DONE);
+    faults(ffa_load_as(&machine, 0x8001, 0x40010000, 1), FFA_FAULT_TRANSLATION);
+    faults(ffa_load_as(&machine, 0, 0x40020000, 1), FFA_FAULT_TRANSLATION);
+    CHECK(ffa_call_as(&machine, 0x8000, &id).kind == FFA_NO_ENDPOINT && ffa_call_as(&machine, 0x8003, &id).kind == FFA_NO_ENDPOINT);
+    CHECK(ffa_load_as(&machine, 0x8003, 0x40020000, 1).kind == FFA_NO_ENDPOINT);
+    CHECK(ffa_load_as(&machine, 0x8001, 0x40020000, 3).kind == FFA_BAD_SIZE && ffa_runner(&machine) == 0);
+}
+
 static void out_of_order(void) {
     struct ffa_registers none = {{0}};
     static struct ffa_page bytes;
@@ -159,6 +191,8 @@ static void out_of_order(void) {
     CHECK(!machine.live && machine.at == NULL && !untouched.live);
     CHECK(ffa_call(&machine, &none).kind == FFA_NO_MACHINE && ffa_fetch(&machine, 0).kind == FFA_NO_MACHINE);
     CHECK(ffa_load(&machine, 0, 1).kind == FFA_NO_MACHINE && ffa_store(&machine, 0, 1, 0).kind == FFA_NO_MACHINE);
+    CHECK(ffa_call_as(&machine, 0, &none).kind == FFA_NO_MACHINE && ffa_fetch_as(&machine, 0, 0).kind == FFA_NO_MACHINE);
+    CHECK(ffa_load_as(&machine, 0, 0, 1).kind == FFA_NO_MACHINE && ffa_store_as(&machine, 0, 0, 3, 0).kind == FFA_BAD_SIZE);
     CHECK(ffa_load(&machine, 0, 3).kind == FFA_BAD_SIZE && ffa_store(&machine, 0, 0, 0).kind == FFA_BAD_SIZE && !machine.live);
     CHECK(ffa_runner(&machine) == FFA_NOTHING && ffa_endpoints(&machine) == FFA_NOTHING);
     CHECK(ffa_owner(&machine, 0) == FFA_NOTHING);
@@ -232,6 +266,7 @@ static void numbers(void) {
     struct ffa_lent untouched = {0};
     CHECK(ffa_boot_parts(&machine, &right) == FFA_OK && ffa_boot_parts(&machine, &right) == FFA_OCCUPIED);
     first_row();
+    elsewhere();
     lend();
     CHECK(ffa_free(&machine, &untouched) == FFA_OK);
 #define REFUSED(answer_, ...) \
@@ -264,6 +299,13 @@ static void numbers(void) {
 #undef REFUSED
 }
 
+/* In lent RAM the page of `lend` is settled where its lender and then its borrower have lost it, before another can have it. */
+static void settles(void) {
+    CHECK(settlings == 2);
+    CHECK(settled[0].endpoint == 0x8001 && settled[0].address == 0x40021000 && settled[0].size == FFA_PAGE_BYTES);
+    CHECK(settled[1].endpoint == 0x8002 && settled[1].address == 0x40021000 && settled[1].size == FFA_PAGE_BYTES);
+}
+
 static void lent_machine(void) {
     struct ffa_parts parts = row_parts();
     memset(pages, 0xA5, sizeof pages);
@@ -271,12 +313,14 @@ static void lent_machine(void) {
     size_t before = pieces;
     asked = 0;
     CHECK(ffa_boot_lent_parts(&machine, &list, &parts) == FFA_OK);
-    /* One piece of memory, once: the machine. The list has two, of before. */
-    CHECK(asked == 1 && pieces == before + 1 && ffa_lent_pages(&list) == 0);
+    /* Two pieces of memory, once: the machine, and room for a copy of TX. The list has two, of before. */
+    CHECK(asked == 2 && pieces == before + 2 && ffa_lent_pages(&list) == 0);
     CHECK(ffa_boot_lent_parts(&machine, &list, &parts) == FFA_OCCUPIED);
     CHECK(ffa_boot_lent(&machine, &list, text, text_size) == FFA_OCCUPIED);
     first_row();
+    CHECK(settlings == 0);
     lend();
+    settles();
     /* RAM is the pages themselves: what was stored is there. */
     CHECK(pages[16].bytes[0] == 0x2A && pages[33].bytes[0] == 0x5A && pages[511].bytes[0] == 0 && pages[512].bytes[0] == 0xA5);
     static struct ffa_page bytes;

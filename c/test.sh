@@ -37,9 +37,9 @@ has() {
 # that write tables, as they are compiled: stores NAME OBJDUMP PROGRAM
 stores() {
     "$2" -d --no-show-raw-insn "$3" | awk '
-        /^[0-9a-f]+ <.*>:$/ { writes_tables = index($0, "<ffa_stage2::tables::") > 0 }
-        !writes_tables || /\(%rsp/ || /\[sp/ { next }
-        /\tmov[a-z]* +[%$][a-z0-9]+,-?(0x[0-9a-f]+)?\(%/ { if ($2 == "mov" && $3 ~ /^%r([abcd]x|[sd]i|bp|8|9|1[0-5]),/) whole++; else { print; others++ } }
+        /^[0-9a-f]+ <.*>:$/ { writes_tables = /<ffa_stage2::(tables|blocks)::/ }
+        !writes_tables || /\(%rsp/ || /\[(sp|x29)/ { next }
+        /\tmov[a-z]* +[%$][a-z0-9]+,-?(0x[0-9a-f]+)?\(%/ { if (($2 == "mov" && $3 ~ /^%r([abcd]x|[sd]i|bp|8|9|1[0-5]),/) || ($2 == "movq" && $3 ~ /^\$/)) whole++; else { print; others++ } }
         /\tst[a-z]*\t/ { if ($2 == "str" && $3 ~ /^x/) whole++; else { print; others++ } }
         END { exit !(whole && !others) }' >&2 || { echo "$1: a word of a table isn't written by one store of 64 bits" >&2; exit 1; }
     echo "$1: each store of the functions that write tables is of 64 bits"
@@ -68,17 +68,17 @@ archive native
 "$player" check "$top/examples/machine.toml" >/dev/null
 for compiler in gcc clang; do
     has $compiler || continue
-    $compiler $strict $sanitized "$here/test.c" "$to/native.a" -o "$to/test"
+    $compiler $strict $sanitized "$here/test.c" "$here/settle.c" "$to/native.a" -o "$to/test"
     echo "$compiler, sanitized: $("$to/test")"
-    $compiler $strict -O2 "$here/test.c" "$to/native.a" -o "$to/test"
+    $compiler $strict -O2 "$here/test.c" "$here/settle.c" "$to/native.a" -o "$to/test"
     echo "$compiler: $("$to/test")"
     $compiler $strict $sanitized "$here/example.c" "$here/heap.c" "$to/native.a" -o "$to/example"
     "$to/example"
     $compiler $strict $sanitized "$here/play.c" "$here/heap.c" "$to/native.a" -o "$to/play"
     plays "$compiler, sanitized" "$to/play"
     bare="$strict -O2 -ffreestanding -fno-stack-protector -nostdlib -static"
-    $compiler $bare "$here/freestanding.c" "$to/native.a" -o "$to/whole"
-    $compiler $bare -Wl,--gc-sections "$here/freestanding.c" "$to/native.a" -o "$to/free"
+    $compiler $bare "$here/freestanding.c" "$here/settle.c" "$to/native.a" -o "$to/whole"
+    $compiler $bare -Wl,--gc-sections "$here/freestanding.c" "$here/settle.c" "$to/native.a" -o "$to/free"
     "$to/free"
     echo "$compiler: linked with no C library, and run: $(bytes "$to/free") bytes, and $(bytes "$to/whole") with what nobody calls"
 done
@@ -89,7 +89,7 @@ if has g++; then
 fi
 # The archive isn't instrumented by the sanitizers: valgrind looks at what it reads and writes, too.
 if has gcc && has valgrind; then
-    gcc $strict -O1 -g "$here/test.c" "$to/native.a" -o "$to/test"
+    gcc $strict -O1 -g "$here/test.c" "$here/settle.c" "$to/native.a" -o "$to/test"
     echo "valgrind: $(valgrind -q --error-exitcode=9 --leak-check=full "$to/test")"
 fi
 if has gcc; then stores native objdump "$to/test"; fi
@@ -99,12 +99,12 @@ echo "asked of the program: $symbols"
 if has aarch64-linux-gnu-gcc && has qemu-aarch64-static; then
     archive arm --target aarch64-unknown-linux-gnu
     arm="aarch64-linux-gnu-gcc $strict -O2 -static"
-    $arm "$here/test.c" "$to/arm.a" -o "$to/test"
+    $arm "$here/test.c" "$here/settle.c" "$to/arm.a" -o "$to/test"
     echo "AArch64: $(qemu-aarch64-static "$to/test")"
     stores AArch64 aarch64-linux-gnu-objdump "$to/test"
     $arm "$here/play.c" "$here/heap.c" "$to/arm.a" -o "$to/play"
     plays AArch64 qemu-aarch64-static "$to/play"
-    $arm -ffreestanding -fno-stack-protector -nostdlib -Wl,--gc-sections "$here/freestanding.c" "$to/arm.a" -o "$to/free"
+    $arm -ffreestanding -fno-stack-protector -nostdlib -Wl,--gc-sections "$here/freestanding.c" "$here/settle.c" "$to/arm.a" -o "$to/free"
     qemu-aarch64-static "$to/free"
     echo "AArch64: linked with no C library, and run"
     archive native

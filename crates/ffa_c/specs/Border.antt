@@ -22,6 +22,8 @@ use Rattle.ffa_laws.specs.OwnAccess.{OwnAccess}
 use Rattle.ffa_laws.specs.Readable.{Confidential}
 use Rattle.ffa_laws.specs.Silence.{Silence}
 use Rattle.ffa_laws.specs.Writers.{OnlyWriters}
+use Rattle.ffa_spmc.specs.Among.{IsDoneReading, pages_read}
+use Rattle.ffa_spmc.specs.Moments.{AreMoments}
 use Rattle.ffa_spmc.specs.Snapshot.{Snapshot}
 use Rattle.ffa_spmc.specs.Unowned.{KeepsUnowned}
 use Rattle.ffa_c.specs.declared.outcome.FfaOutcome.{FfaOutcome}
@@ -67,6 +69,7 @@ pub record HasDone (old new : Snapshot) (op : Op) (told : FfaOutcome) : Type 0 w
   pub agrees : Agrees new.ram new.state
   pub refused : is_refusal (step old.state op).outcome ≡ true → new ≡ old
   pub unowned : KeepsUnowned old.state old.ram new.ram
+  pub moments : AreMoments old.state old.ram new.ram old.past new.past
   pub sound : IsSoundState new.state
   pub alone : OneStep old.state op
   pub whole : Integrity old.state op
@@ -77,11 +80,25 @@ pub record HasDone (old new : Snapshot) (op : Op) (told : FfaOutcome) : Type 0 w
   pub only_writers : OnlyWriters old.state op
   pub silent_offers : OfferSaysNothing old.state op
 
+-- so it was while others may have written to the runner's TX: of that it read each page once, as the machine's own call promises it
+pub record HasDoneAmong (old new : Snapshot) (op : Op) (told : FfaOutcome) : Type 0 where
+  pub outcome : Outcome
+  pub is_told : told ≡ packed outcome
+  pub done : IsDoneReading (pages_read old.state op) old op outcome new
+  pub agrees : Agrees new.ram new.state
+  pub unowned : KeepsUnowned old.state old.ram new.ram
+  pub sound : IsSoundState new.state
+
+-- by whose the RAM is: others may write to RAM that is lent
+abbrev pub HasDoneIn : Bool → Snapshot → Snapshot → Op → FfaOutcome → Type 0
+HasDoneIn false old new op told = HasDone old new op told
+HasDoneIn true old new op told = HasDoneAmong old new op told
+
 -- the same of what C holds, which may be no machine; whose the RAM is stays
 abbrev pub Operated : Option Boarded → Option Boarded → Op → FfaOutcome → Type 0
 Operated None new op told = (new ≡ None) × (told ≡ nothing_done 4)
 Operated (Some old) new op told =
-    (s : Snapshot) × (new ≡ Some (record { machine = s; is_lent = old.is_lent })) × HasDone old.machine s op told
+    (s : Snapshot) × (new ≡ Some (record { machine = s; is_lent = old.is_lent })) × HasDoneIn old.is_lent old.machine s op told
 
 -- the size of so many bytes
 abbrev pub size_at : ℕ → Option Size

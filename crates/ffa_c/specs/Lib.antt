@@ -1,5 +1,6 @@
 -- SPDX-License-Identifier: MIT OR Apache-2.0
 pub mod Border
+pub mod Elsewhere
 pub mod Boarded
 pub mod Booting
 pub mod Given

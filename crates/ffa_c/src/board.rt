@@ -1,13 +1,18 @@
 // SPDX-License-Identifier: MIT OR Apache-2.0
 //! A machine with the outcomes that C sees, whichever RAM it has.
-ghost use Rattle.std.specs.Prelude.{◌≡◌, ◌<◌, ◌*◌, true, false, length};
+ghost use Rattle.std.specs.Prelude.{◌≡◌, ◌≢◌, ◌<◌, ◌*◌, true, false, length};
 ghost use Rattle.ffa_model.specs.Access.{access};
 ghost use Rattle.ffa_model.specs.Ram.{page_of, zero_ram};
+ghost use Rattle.ffa_model.specs.State.{is_known};
 ghost use Rattle.ffa_manifest.specs.Document.{parts_of};
 ghost use Rattle.ffa_c.specs.Booting.{IsFirst};
-ghost use Rattle.ffa_c.specs.Border.{HasDone, access_code, owner_number};
+ghost use Rattle.ffa_c.specs.Border.{HasDoneIn, access_code, nothing_done, owner_number};
+ghost use Rattle.ffa_c.specs.Elsewhere.{HasActed};
 
-use crate::kind::{Kind, access_by, done_by, endpoints_of, owner_by, page_in, pages_of, runner_of};
+use crate::kind::{
+    Kind, access_by, acted_by, done_among, done_by, endpoints_of, owner_by, page_in, pages_of,
+    runner_of,
+};
 use crate::outcome::FfaOutcome;
 use ffa_lent::{Frames, LentRam};
 use ffa_model::{EndpointId, Manifest, Op, PageNo};
@@ -72,14 +77,35 @@ impl Board {
         }
     }
 
-    /// Does one operation of the runner.
+    /// Does one operation of the runner, to whose TX others may write at the same time where the RAM is lent.
     pub fn op(&mut self, op: &Op) -> FfaOutcome
-        ensures done { HasDone self.old.machine self.new.machine op.now result }
+        ensures done { HasDoneIn self.old.is_lent self.old.machine self.new.machine op.now result }
         ensures kind { self.new.is_lent ≡ self.old.is_lent }
     {
         match &mut self.kind {
             Kind::Heap(machine) => done_by(machine, op),
-            Kind::Lent(machine) => done_by(machine, op),
+            Kind::Lent(machine) => done_among(machine, op),
+        }
+    }
+
+    /// Does one operation of an endpoint, whoever runs: that of the runner is `op`. Where there is no such endpoint, nothing is done.
+    pub fn op_as(&mut self, endpoint: EndpointId, op: &Op) -> FfaOutcome
+        ensures unknown { is_known self.old.machine.state endpoint.0 ≡ false → (self.new ≡ self.old) × (result ≡ nothing_done 6) }
+        ensures runner { is_known self.old.machine.state endpoint.0 ≡ true → self.old.machine.state.runner ≡ endpoint.0
+            → HasDoneIn self.old.is_lent self.old.machine self.new.machine op.now result }
+        ensures other { is_known self.old.machine.state endpoint.0 ≡ true → self.old.machine.state.runner ≢ endpoint.0
+            → HasActed self.old.machine self.new.machine endpoint.0 op.now result }
+        ensures kind { self.new.is_lent ≡ self.old.is_lent }
+    {
+        if !endpoint.is_among(self.endpoints() as usize) {
+            return FfaOutcome::nothing(6);
+        }
+        if u32::from(endpoint.0) == self.runner() {
+            return self.op(op);
+        }
+        match &mut self.kind {
+            Kind::Heap(machine) => acted_by(machine, endpoint, op),
+            Kind::Lent(machine) => acted_by(machine, endpoint, op),
         }
     }
 

@@ -238,7 +238,13 @@ fn boxed_over(
     ensures pages { IfErr result (λ _. length frames.new.pages ≡ length frames.old.pages) }
 {
     let pages = mem::replace(frames, Frames::none(alloc));
-    let ram = LentRam::new(manifest.ram_base, pages);
+    let ram = match LentRam::new(alloc, manifest.ram_base, pages) {
+        Ok(ram) => ram,
+        Err(pages) => {
+            *frames = pages;
+            return Err(NoMemory);
+        }
+    };
     match Box::new(alloc, Board::boot_lent(manifest, ram)) {
         Ok(board) => Ok(board),
         Err(refused) => {

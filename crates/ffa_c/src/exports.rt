@@ -91,7 +91,8 @@ fn operate(alloc: Global, machine: &mut FfaMachine, op: &Op) -> FfaOutcome
     }
 }
 
-fn size_of(bytes: u32) -> Option<Size>
+// The size of so many bytes, if it is one.
+pub(crate) fn size_of(bytes: u32) -> Option<Size>
     ensures { result ≡ size_at bytes }
 {
     match bytes {

@@ -1,9 +1,11 @@
 // SPDX-License-Identifier: MIT OR Apache-2.0
 //! A machine by where its RAM comes from, and what C asks of any machine.
-ghost use Rattle.std.specs.Prelude.{◌≡◌, ◌<◌, length};
+ghost use Rattle.std.specs.Prelude.{◌≡◌, ◌<◌, true, length};
 ghost use Rattle.ffa_model.specs.Access.{access};
 ghost use Rattle.ffa_model.specs.Ram.{page_of};
-ghost use Rattle.ffa_c.specs.Border.{HasDone, access_code, exec_code, level_code, owner_number};
+ghost use Rattle.ffa_model.specs.State.{is_known};
+ghost use Rattle.ffa_c.specs.Border.{HasDone, HasDoneAmong, access_code, exec_code, level_code, owner_number};
+ghost use Rattle.ffa_c.specs.Elsewhere.{HasActed};
 
 use crate::outcome::FfaOutcome;
 use ffa_lent::LentRam;
@@ -29,6 +31,27 @@ pub(crate) fn done_by<M: PhysMem + Drop>(machine: &mut Machine<M>, op: &Op) -> F
     ensures { HasDone machine.old machine.new op.now result }
 {
     FfaOutcome::of(&machine.op(op))
+}
+
+/// The same, while others may write to the runner's TX.
+#[inline]
+pub(crate) fn done_among<M: PhysMem + Drop>(machine: &mut Machine<M>, op: &Op) -> FfaOutcome
+    ensures { HasDoneAmong machine.old machine.new op.now result }
+{
+    FfaOutcome::of(&machine.op_among_others(op))
+}
+
+/// An operation of an endpoint of a machine, whoever runs, with the outcome for C.
+#[inline]
+pub(crate) fn acted_by<M: PhysMem + Drop>(
+    machine: &mut Machine<M>,
+    endpoint: EndpointId,
+    op: &Op,
+) -> FfaOutcome
+    requires { is_known machine.old.state endpoint.0 ≡ true }
+    ensures { HasActed machine.old machine.new endpoint.0 op.now result }
+{
+    FfaOutcome::of(&machine.op_as(endpoint, op))
 }
 
 /// The endpoint that runs.

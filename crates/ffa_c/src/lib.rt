@@ -5,6 +5,7 @@
 
 pub mod board;
 pub mod booting;
+pub mod elsewhere;
 pub mod exports;
 pub mod held;
 pub mod held_frames;

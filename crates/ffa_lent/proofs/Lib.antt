@@ -1,5 +1,6 @@
 -- SPDX-License-Identifier: MIT OR Apache-2.0
 pub mod Boxes
+pub mod Observed
 pub mod Steps
 pub mod BoxCalls
 pub mod Owners

@@ -1,12 +1,13 @@
 // SPDX-License-Identifier: MIT OR Apache-2.0
 //! Pages that are lent, and RAM over them.
-ghost use Rattle.std.specs.Prelude.{◌≡◌, ℕ, ◌+◌, ◌*◌, ◌%◌, ◌^◌, ◌<◌, ◌≤◌, ◌++◌, [], ◌∷◌, None, IfOk, IfErr, is_ok, if◌then◌else◌, length, map, vec_len};
+ghost use Rattle.std.specs.Prelude.{◌≡◌, ℕ, ◌+◌, ◌*◌, ◌%◌, ◌^◌, ◌<◌, ◌≤◌, ◌++◌, [], ◌∷◌, None, IfOk, IfErr, IfSome, Some, ◌-◌, is_ok, slice_index_or, if◌then◌else◌, length, map, vec_len};
 ghost use Rattle.std.specs.Option.{option_map, option_to_list};
 ghost use Rattle.ffa_lent.specs.Listed.{empty};
 
 use crate::lent::Lent;
-use ffa_model::{Address, PageNo};
-use ffa_physmem::PhysMem;
+use crate::settling;
+use ffa_model::{Address, MOST_BUFFER_PAGES, PageNo};
+use ffa_physmem::{PAGE_SIZE, PhysMem, put_word};
 use std::alloc::{AllocError, Global};
 use std::marker::Model;
 
@@ -74,27 +75,41 @@ impl Frames {
     }
 }
 
-/// RAM in frames of one page each, which are lent and may lie anywhere.
+/// RAM in frames of one page each, which are lent and may lie anywhere. Others may write to them. Pages that are observed have
+/// a copy, which is read in their place, so they are what one reading gave.
 #[derive(Drop)]
 pub struct LentRam {
     base: Address,
     frames: Vec<Box<[u8; 4096], Lent>>,
+    // Copies of so many pages, from the first that is observed on.
+    copies: Vec<[u8; 4096]>,
+    first: PageNo,
+    count: usize,
     ghost aligned: { base.0 % 4096 ≡ 0 },
     ghost fits: { base.0 + 4096 * vec_len frames ≤ 2 ^ 32 },
+    ghost held: { count ≤ vec_len copies },
 }
 
 impl LentRam {
-    ghost use Rattle.ffa_lent.specs.LentRam.{ram_of};
+    ghost use Rattle.ffa_lent.specs.LentRam.{is_observed, ram_of};
 
-    /// RAM at this address, whose pages are those that are lent, with the bytes that are in them.
-    pub fn new(base: Address, frames: Frames) -> LentRam
+    /// RAM at this address, whose pages are those that are lent, with the bytes that are in them. Where there is no memory for
+    /// the copies of a TX, the pages come back.
+    pub fn new(alloc: Global, base: Address, frames: Frames) -> Result<LentRam, Frames>
         requires aligned { base.0 % 4096 ≡ 0 }
         requires fits { base.0 + 4096 * length frames.pages ≤ 2 ^ 32 }
-        ensures { ram_of result ≡ record { base = base.0; pages = frames.pages } }
+        ensures ram { IfOk result (λ m. ram_of m ≡ record { base = base.0; pages = frames.pages }) }
+        ensures returned { IfErr result (λ f. f ≡ frames) }
     {
-        LentRam {
-            base,
-            frames: frames.list,
+        match room_for_copies(alloc) {
+            Ok(copies) => Ok(LentRam {
+                base,
+                frames: frames.list,
+                copies,
+                first: PageNo(0),
+                count: 0,
+            }),
+            Err(AllocError) => Err(frames),
         }
     }
 
@@ -102,18 +117,76 @@ impl LentRam {
     pub fn into_frames(self) -> Frames
         ensures { result.pages ≡ (ram_of self).pages }
     {
-        Frames { list: self.frames }
+        let mut ram = self;
+        ram.write_back();
+        Frames { list: ram.frames }
+    }
+
+    // Where the copy of a page stands, if it is observed.
+    fn place(&self, page: PageNo) -> Option<usize>
+        ensures value { result ≡ (if is_observed self.now page.0 then Some (page.0 - self.now.first.0) else None) }
+        ensures within { IfSome result (λ place. place < vec_len self.now.copies) }
+    {
+        let page = page.0 as usize;
+        let first = self.first.0 as usize;
+        if first <= page && page < first + self.count {
+            Some(page - first)
+        } else {
+            None
+        }
+    }
+
+    // Writes the copies of what is observed into the frames. Nothing is observed then, and no byte changes.
+    fn write_back(&mut self)
+        ensures ram { ram_of self.new ≡ ram_of self.old }
+        ensures none { self.new.count ≡ 0 }
+    {
+        while self.count > 0 {
+            self.write_last();
+        }
+    }
+
+    // Writes the last copy into its frame. That page is no longer observed.
+    fn write_last(&mut self)
+        requires { 0 < self.old.count }
+        ensures ram { ram_of self.new ≡ ram_of self.old }
+        ensures fewer { self.new.count + 1 ≡ self.old.count }
+    {
+        let last = self.count - 1;
+        let page = self.first.0 as usize + last;
+        if page >= self.frames.len() {
+            self.count = last;
+            return;
+        }
+        *self.frames[page] = self.copies[last];
+        self.count = last;
     }
 }
 
+// Room for the copies of as many pages as TX may have.
+fn room_for_copies(alloc: Global) -> Result<Vec<[u8; 4096]>, AllocError> {
+    let mut copies = Vec::with_capacity(alloc, MOST_BUFFER_PAGES as usize)?;
+    for _page in 0..MOST_BUFFER_PAGES {
+        copies.push([0; 4096])?;
+    }
+    Ok(copies)
+}
+
 impl PhysMem for LentRam {
-    ghost use Rattle.ffa_lent.specs.LentRam.{ram_of, with_frame, ram_of-with_frame};
+    ghost use Rattle.std.specs.Prelude.{None};
+    ghost use Rattle.ffa_physmem.specs.Unrecorded.{unrecorded};
+    ghost use Rattle.ffa_lent.specs.LentRam.{ram_of, with_bytes, ram_of-with_bytes};
 
     ghost ram = { ram_of };
 
-    ghost with_bytes = { with_frame };
+    ghost with_bytes = { with_bytes };
 
-    ghost one_page = { ram_of-with_frame };
+    // No record is kept.
+    ghost past = { λ _. None };
+
+    ghost one_page = { ram_of-with_bytes };
+
+    ghost in_loan = { λ _ _ _. unrecorded };
 
     fn base(&self) -> Address {
         self.base
@@ -124,13 +197,86 @@ impl PhysMem for LentRam {
     }
 
     fn page(&self, page: PageNo) -> &[u8; 4096] {
-        let bytes = self.frames[page.0 as usize].as_ref();
-        // Proof step: the whole of a page is its 4096 bytes.
-        let _ = &bytes[..];
-        bytes
+        if let Some(place) = self.place(page) {
+            let copy = &self.copies[place];
+            // Proof step: the whole of a page is its 4096 bytes.
+            let _ = &copy[..];
+            return copy;
+        }
+        let frame = self.frames[page.0 as usize].as_ref();
+        // Proof step: so here.
+        let _ = &frame[..];
+        frame
     }
 
+    // What is written to an observed page is written to its copy, and gone with that.
     fn page_mut(&mut self, page: PageNo) -> &mut [u8; 4096] {
+        if let Some(place) = self.place(page) {
+            return &mut self.copies[place];
+        }
         self.frames[page.0 as usize].as_mut()
+    }
+
+    fn write_word(&mut self, page: PageNo, index: usize, value: u64) {
+        put_word(self.page_mut(page), index, value);
+    }
+
+    // The zeros are seen before anything that is written behind them.
+    fn clear_page(&mut self, page: PageNo) {
+        *self.page_mut(page) = [0; PAGE_SIZE];
+        self.settle(0, page, 0);
+    }
+
+    fn settle(&mut self, endpoint: usize, first: PageNo, count: u32) {
+        settling::ask(endpoint, self.base, first, count);
+    }
+
+    // Observes nothing where pages are observed already, or more are named than a TX may have.
+    fn observe(&mut self, first: PageNo, count: u32) {
+        let count = count as usize;
+        if self.count == 0 && count <= self.copies.len() {
+            copy_frames(&mut self.copies, &self.frames, first.0 as usize, count);
+            self.first = first;
+            self.count = count;
+        }
+    }
+
+    // Ends what was observed of these pages and no others.
+    fn release(&mut self, first: PageNo, count: u32) {
+        if self.first == first && self.count == count as usize {
+            // Proof step: a copy has as many bytes as its frame.
+            are_whole(&self.copies, &self.frames, first.0 as usize, self.count);
+            self.count = 0;
+        }
+    }
+}
+
+// Copies so many frames, from one on. Each byte of a frame is read once.
+fn copy_frames(
+    copies: &mut [[u8; 4096]],
+    frames: &[Box<[u8; 4096], Lent>],
+    first: usize,
+    count: usize,
+)
+    requires within { first + count ≤ length frames.now }
+    requires room { count ≤ length copies.old }
+    ensures room { length copies.new ≡ length copies.old }
+    ensures copied { (k : ℕ) → k < count → slice_index_or copies.new k [] ≡ slice_index_or (map (λ b. b.value) frames.now) (first + k) [] }
+{
+    for index in 0..count {
+        copies[index].copy_from_slice(frames[first + index].as_ref());
+    }
+}
+
+// Each of these copies has as many bytes as its frame.
+fn are_whole(copies: &[[u8; 4096]], frames: &[Box<[u8; 4096], Lent>], first: usize, count: usize)
+    requires within { first + count ≤ length frames.now }
+    requires room { count ≤ length copies.now }
+    ensures { (k : ℕ) → k < count → length (slice_index_or copies.now k []) ≡ length (slice_index_or (map (λ b. b.value) frames.now) (first + k) []) }
+{
+    for index in 0..count {
+        let _ = &copies[index][..];
+        let frame = frames[first + index].as_ref();
+        let _ = &frame[..];
     }
 }

@@ -4,6 +4,7 @@
 
 pub mod frames;
 pub mod lent;
+mod settling;
 pub mod slot;
 
 pub use frames::{Frames, LentRam};

@@ -1,7 +1,7 @@
 -- SPDX-License-Identifier: MIT OR Apache-2.0
 use Rattle.std.proofs.Common.{ap, subst, ◌∙◌, Some}
 use Rattle.ffa_c.specs.Boarded.{Boarded}
-use Rattle.ffa_c.specs.Border.{HasDone}
+use Rattle.ffa_c.specs.Border.{HasDoneIn}
 use Rattle.ffa_c.proofs.exports.operate.Goals as goal
 
 pub returns-in-Some : goal.returns-in-Some
@@ -11,5 +11,5 @@ returns-in-Some c =
     rw c.in-Some.ensures.taken (
       new.machine,
       c.put.ensures ∙ ap (λ k. Some (record { machine = new.machine; is_lent = k })) same,
-      subst (λ (b : Boarded). HasDone b.machine new.machine c.args.op.now c.op-outcome.result) c.deref_mut.ensures.value c.op-outcome.ensures.done,
+      subst (λ (b : Boarded). HasDoneIn b.is_lent b.machine new.machine c.args.op.now c.op-outcome.result) c.deref_mut.ensures.value c.op-outcome.ensures.done,
     )

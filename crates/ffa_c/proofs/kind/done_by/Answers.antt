@@ -11,6 +11,7 @@ returns g c = record {
   agrees = c.op.ensures.agrees;
   refused = λ r. c.op.ensures.refused (ap is_refusal c.op.ensures.outcome ∙ r);
   unowned = c.op.ensures.unowned;
+  moments = c.op.ensures.moments;
   sound = c.op.ensures.sound;
   alone = c.op.ensures.step;
   whole = c.op.ensures.integrity;

@@ -1,0 +1,23 @@
+-- SPDX-License-Identifier: MIT OR Apache-2.0
+use Rattle.std.proofs.Common.{ap, ◌∙◌}
+use Rattle.ffa_model.specs.Refusals.{is_refusal}
+use Rattle.ffa_c.specs.Border.{packed}
+use Rattle.ffa_c.proofs.kind.acted_by.Goals as goal
+
+pub returns : goal.returns
+returns g c = record {
+  outcome = c.of.ensures ∙ ap packed c.op_as.ensures.outcome;
+  state = c.op_as.ensures.state;
+  agrees = c.op_as.ensures.agrees;
+  refused = λ r. c.op_as.ensures.refused (ap is_refusal c.op_as.ensures.outcome ∙ r);
+  unowned = c.op_as.ensures.unowned;
+  moments = c.op_as.ensures.moments;
+  sound = c.op_as.ensures.sound;
+  alone = c.op_as.ensures.step;
+  whole = c.op_as.ensures.integrity;
+  silence = c.op_as.ensures.silence;
+  confidential = c.op_as.ensures.confidential;
+  never_grow = c.op_as.ensures.never_grow;
+  own_access = c.op_as.ensures.own_access;
+  only_writers = c.op_as.ensures.only_writers;
+}

@@ -1,0 +1,12 @@
+-- SPDX-License-Identifier: MIT OR Apache-2.0
+use Rattle.ffa_c.proofs.kind.done_among.Goals as goal
+
+pub returns : goal.returns
+returns g c = record {
+  outcome = c.op_among_others.result;
+  is_told = c.of.ensures;
+  done = c.op_among_others.ensures.done;
+  agrees = c.op_among_others.ensures.agrees;
+  unowned = c.op_among_others.ensures.unowned;
+  sound = c.op_among_others.ensures.sound;
+}

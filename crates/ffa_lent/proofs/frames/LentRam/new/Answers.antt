@@ -1,0 +1,11 @@
+-- SPDX-License-Identifier: MIT OR Apache-2.0
+use Rattle.std.proofs.Common.{◌∙◌, List, ℕ, refl, ap}
+use Rattle.ffa_model.specs.Ram.{Ram}
+use Rattle.ffa_lent.specs.Listed.{Listed}
+use Rattle.ffa_lent.proofs.Boxes.{unseen}
+use Rattle.ffa_lent.proofs.frames.LentRam.new.Goals as goal
+
+pub returns-in-Ok-clause-ram : goal.returns-in-Ok-clause-ram
+returns-in-Ok-clause-ram c =
+    ap (λ (p : List (List ℕ)). let r : Ram = record { base = c.args.base.0; pages = p } in r)
+    (unseen c.frames.inside.list.items c.in-Ok.copies.items 0 0 refl ∙ ap (λ (l : Listed). l.pages) c.frames.view_is)

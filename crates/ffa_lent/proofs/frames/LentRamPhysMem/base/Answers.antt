@@ -1,0 +1,10 @@
+-- SPDX-License-Identifier: MIT OR Apache-2.0
+use Rattle.std.proofs.Common.{arith}
+use Rattle.ffa_lent.proofs.Boxes.{pages-seen}
+use Rattle.ffa_lent.proofs.frames.LentRamPhysMem.base.Goals as goal
+
+pub returns-clause-within : goal.returns-clause-within
+returns-clause-within c =
+    let m = c.args.self.now in
+    let same = pages-seen m in
+    omega (arith, m.fits, same, m.frames.ok)
