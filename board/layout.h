@@ -14,6 +14,7 @@
 #define SCENE_TEXT 0x49000000
 
 #define STACK_BYTES 0x100000
+#define SECOND_STACK_BYTES 0x10000
 
 /* The immediates of the hypercalls by which an endpoint's program and the firmware work together. 0 is FF-A's. A word that a
  * scene fetches may be a hypercall with an immediate from FIRST_FETCHED on. */

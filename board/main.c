@@ -4,11 +4,28 @@
 #include "generators.h"
 #include "tables.h"
 #include "text.h"
+#include "watch.h"
 
 void firmware(void);
 _Noreturn void firmware_broken(uint64_t syndrome, uint64_t link, uint64_t address);
 
 static struct board board;
+
+/* Hexadecimal words of a line. */
+static void take_words(const char **at, uint64_t *words, unsigned count) {
+    unsigned digits;
+    for (unsigned i = 0; i < count; i++) {
+        if (!take_hex(at, &words[i], &digits)) stop("a word is missing");
+    }
+}
+
+/* A scene may begin with a line `watch PLACE FIRST COUNT STEP`, hexadecimal: what a second processor watches meanwhile. */
+static void take_watch(struct board *of) {
+    uint64_t words[4];
+    if (!take_word(&of->scene, "watch")) return;
+    take_words(&of->scene, words, 4);
+    begin_watch(of, (uint32_t)words[0], words[1], (uint32_t)words[2], words[3]);
+}
 
 /* A scene may begin with a line `everywhere`: at its end the walks of all 2^32 addresses are asked. It may have a line `random SEED COUNT`
  * next, hexadecimal: its lines follow behind so many operations that are made up. */
@@ -28,6 +45,7 @@ struct operation next_operation(struct board *of) {
     while (operation.kind == NOTHING || operation.kind == SHOW) {
         if (*of->scene == '\0') {
             if (of->everywhere) look_outside(of);
+            end_watch();
             end_well();
         }
         operation = read_operation(&of->scene);
@@ -48,6 +66,7 @@ void firmware(void) {
     place_programs(&board);
     if (board.generated) begin_generators(&board, seed, count);
     after_boot();
+    take_watch(&board);
     run_board(&board);
 }
 

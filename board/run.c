@@ -5,6 +5,7 @@
 #include "generators.h"
 #include "tables.h"
 #include "text.h"
+#include "watch.h"
 #include "words.h"
 
 static unsigned logarithm_of(unsigned size) { return size == 1 ? 0 : size == 2 ? 1 : size == 4 ? 2 : 3; }
@@ -28,6 +29,7 @@ static void give(struct board *board, struct operation operation) {
         dispatch_access(endpoint, DO_LOAD + logarithm_of(endpoint->operation.size), DOING);
         break;
     case STORE:
+        begin_change();
         dispatch_access(endpoint, DO_STORE + logarithm_of(endpoint->operation.size), DOING);
         break;
     case FETCH:
@@ -90,9 +92,10 @@ static void serve_call(struct board *board) {
     struct endpoint *caller = running(board);
     if (caller->operation.kind != CALL || caller->phase != DOING) unexpected(board, "call");
     struct ffa_registers registers = first_registers(&caller->context);
-    park_tables();
+    begin_change();
     struct ffa_outcome outcome = ffa_call(&board->machine, &registers);
-    after_call(board->running, caller->root, (uint32_t)registers.x[0], (uint32_t)outcome.x[0]);
+    after_call((uint32_t)registers.x[0], (uint32_t)outcome.x[0]);
+    end_change(board);
     uint32_t next = place_of(outcome.runner);
     if (outcome.kind != FFA_REGISTERS || next >= board->count) unexpected(board, "outcome");
     if (next != board->running) switch_to(board, next);
@@ -222,5 +225,6 @@ _Noreturn void run_board(struct board *board) {
         walk_tables(board->running, running(board)->root);
         enter(&running(board)->context);
         serve(board, read_esr_el2());
+        if (running(board)->phase == SETTLED) end_change(board);
     }
 }

@@ -12,11 +12,12 @@ compiler=aarch64-linux-gnu-gcc
 copier=aarch64-linux-gnu-objcopy
 emulator=qemu-system-aarch64
 flags=(-std=c11 -Wall -Wextra -Wpedantic -Wshadow -Werror -ffreestanding -fno-stack-protector -fno-tree-loop-distribute-patterns
-    "-I$top/c" "-I$here" -nostdlib -static "-Wl,--gc-sections" "-Wl,--build-id=none")
+    -mno-outline-atomics "-I$top/c" "-I$here" -nostdlib -static "-Wl,--gc-sections" "-Wl,--build-id=none")
 
 usage() {
     cat <<'HELP'
-board/run.sh [--install] [--keep FOLDER] [--seed N] [--operations N] [--break-root | --break-invalidation | --break-vectors]
+board/run.sh [--install] [--keep FOLDER] [--seed N] [--operations N] [--rounds N]
+    [--break-root | --break-vectors | --break-settling | --break-zeros-first | --break-zeros-last]
 
 Runs all scenes on QEMU's machine `virt`, and compares. It takes some minutes, and longer where the core is proved first.
 
@@ -24,12 +25,14 @@ Runs all scenes on QEMU's machine `virt`, and compares. It takes some minutes, a
   --keep FOLDER         leaves what each scene printed in this folder: FIRMWARE-PROCESSOR-SCENE.uart, and its .trace, .found and .expected
   --seed N              the seed of operations that are made up; 1 where none is given
   --operations N        how many of them; 10000 where nothing is given
+  --rounds N            how often pages are offered and had back while a second processor watches; 60 where nothing is given
   --break-root          builds a firmware in which one endpoint runs with another's tables, and wants a difference to be found
-  --break-invalidation  builds one that forgets no translation after a call, and wants a difference to be found
   --break-vectors       builds one that doesn't save vector registers, and wants a difference to be found
+  --break-settling      builds one that forgets no translation when the core asks for it, and wants the second processor to see it
+  --break-zeros-first   compiles, without proofs, a core that writes zeros before it takes a right, and wants the second processor to see it
+  --break-zeros-last    the same of one that writes zeros behind the right that it gives
 
-Without a --break the scenes also run on a firmware that goes on walking an endpoint's tables while a call is on its way: QEMU forgets all
-translations when the VMID changes, so only there they are forgotten by the TLBI alone. All breaks are tried at the end, too.
+Without a --break all of them are tried at the end, too.
 
 It ends with 0 and `passed`, with 1 and what differs or is missing, or with 64 where the words are none of these.
 HELP
@@ -46,16 +49,16 @@ refuse() {
     exit 64
 }
 
-keep='' seed=1 operations=10000 install='' breaks=() manifests=() traces=()
+keep='' seed=1 operations=10000 rounds=60 install='' breaks=() manifests=() traces=()
 while (($#)); do
     case $1 in
         --install) install=yes ;;
-        --keep | --seed | --operations)
+        --keep | --seed | --operations | --rounds)
             [[ ${2:-} ]] || refuse "$1 needs a word behind it"
             declare "${1#--}=$2"
             shift
             ;;
-        --break-root | --break-invalidation | --break-vectors) breaks+=("${1#--break-}") ;;
+        --break-root | --break-vectors | --break-settling | --break-zeros-first | --break-zeros-last) breaks+=("${1#--break-}") ;;
         --help) usage && exit 0 ;;
         *) refuse "there is no $1" ;;
     esac
@@ -64,6 +67,7 @@ done
 is_count() { [[ $1 =~ ^(0|[1-9][0-9]{0,8})$ ]]; }
 is_count "$seed" || refuse "the seed is a number below a thousand million, and not $seed"
 is_count "$operations" || refuse "the number of operations is one below a thousand million, and not $operations"
+is_count "$rounds" || refuse "the number of rounds is one below a thousand million, and not $rounds"
 ((${#breaks[@]} < 2)) || refuse "one --break at a time"
 if [[ $install ]]; then
     command -v apt-get >/dev/null || fail "there is no apt-get, by which --install installs Debian's ${packages[*]}"
@@ -77,8 +81,12 @@ if [[ $keep ]]; then mkdir -p "$keep"; fi
 to=$(mktemp -d)
 trap 'rm -rf "$to"' EXIT
 
-# The core's archive for AArch64, as $to/arm.a. An archive that was there, for another target, is there again afterwards.
+# The core's archive for AArch64, as $to/arm.a, which may stand ready in the folder ARCHIVES. An archive that was there, for another target, is there again afterwards.
 make_archive() {
+    if [[ -e ${ARCHIVES:-}/arm.a ]]; then
+        cp "$ARCHIVES/arm.a" "$to/arm.a"
+        return
+    fi
     local at=$top/crates/ffa_c/out/libffa_c.a
     if [[ -e $at ]]; then cp -p "$at" "$to/before.a"; fi
     (cd "$top/crates/ffa_c" && rt lib --target aarch64-unknown-linux-gnu) >"$to/log" 2>&1 || fail "the archive isn't made, rt lib ended with $?: $(cat "$to/log")"
@@ -93,28 +101,34 @@ build_generator() {
     $copier -O binary "$to/generator.elf" "$to/generator.bin"
 }
 
-# A firmware: build NAME DEFINITION..
-build() {
-    local name=$1
-    shift
-    $compiler "${flags[@]}" -O2 "$@" -Wl,--no-warn-rwx-segments -Wa,-I"$to" -T "$here/board.ld" "$here"/*.c "$here"/*.S "$to/arm.a" -o "$to/$name.elf"
+# A firmware over the core that is proved, or over one that isn't: build NAME DEFINITION.., build_over CORE NAME DEFINITION..
+build() { build_over "$to/arm.a" "$@"; }
+
+build_over() {
+    local core=$1 name=$2
+    shift 2
+    $compiler "${flags[@]}" -O2 "$@" -Wl,--no-warn-rwx-segments -Wa,-I"$to" -T "$here/board.ld" "$here"/*.c "$here"/*.S "$top/c/settle.c" "$core" -o "$to/$name.elf"
 }
 
 # Runs a scene, and has the program play what was done: play FIRMWARE PROCESSOR MANIFEST SCENE, true where both print the same. What was
 # printed is in $to/uart, trace, found and expected. A firmware that hangs, or an emulator that doesn't run it, prints no end.
 play() {
-    local memory=256M
+    local memory=256M processors=1
     if [[ $1 == high ]]; then memory=3G; fi
+    if is_watched "$4"; then processors=2; fi
     : >"$to/uart"
-    timeout 300 $emulator -machine virt,virtualization=on -cpu "$2" -m $memory -nodefaults -display none -serial "file:$to/uart" \
+    timeout 300 $emulator -machine virt,virtualization=on -accel tcg,thread=multi -smp $processors -cpu "$2" -m $memory -nodefaults -display none -serial "file:$to/uart" \
         -kernel "$to/$1.elf" -device "loader,file=$3,addr=0x48000000,force-raw=on" \
         -device "loader,file=$4,addr=0x49000000,force-raw=on" </dev/null >&2 || echo "! $emulator ended with $?" >>"$to/uart"
     sed -n 's/^> //p' "$to/uart" >"$to/trace"
     sed -n 's/^< //p' "$to/uart" >"$to/found"
     "$player" run "$3" "$to/trace" >"$to/expected" || fail "the program doesn't play what $(basename "$4") did"
     if [[ $keep ]]; then keep_scene "$1-$2-$(basename "$4")"; fi
-    has_end && cmp -s "$to/expected" "$to/found"
+    has_end && ! grep -q '^!' "$to/uart" && cmp -s "$to/expected" "$to/found"
 }
+
+# Whether a second processor runs beside a scene.
+is_watched() { grep -q '^watch ' "$1"; }
 
 has_end() { [[ $(tail -n 1 "$to/uart") == "= end" ]]; }
 
@@ -124,7 +138,7 @@ keep_scene() {
 
 # The operations of a text, each written in one way: in upper case, and with no zeros that say nothing.
 operations_of() {
-    sed -E -e '/^(#|$|random|everywhere)/d' "$1" | tr '[:lower:]' '[:upper:]' |
+    sed -E -e '/^(#|$|random|everywhere|watch)/d' "$1" | tr '[:lower:]' '[:upper:]' |
         sed -E -e '/^CALL/s/( 0+)+$//' -e '/^(CALL|LOAD|FETCH)/s/ 0+([0-9A-F])/ \1/g' -e 's/^STORE 0+([0-9A-F])/STORE \1/'
 }
 
@@ -157,6 +171,7 @@ agree() {
     whole "$4" || fail "$name: $1 on $2 left lines out"
     echo "$name: $1 on $2: $(wc -l <"$to/trace") operations, $(count fault "$to/found") faults," \
         "$(count fetch "$to/trace") fetches: as the program prints them"
+    sed -n 's/^= the/the/p' "$to/uart"
 }
 
 # A partition tries to load from each page of RAM, near its first and its last byte; to store into each table page, and to fetch from it; and
@@ -208,6 +223,9 @@ make_scenes() {
     add "$scenes/generators.toml" "$to/random"
     add "$scenes/machine.toml" "$to/generated-machine"
     add "$scenes/four.toml" "$to/generated-four"
+    "$here/watches" 3 "$rounds" >"$to/watch-owner"
+    "$here/watches" 2 "$rounds" >"$to/watch-borrower"
+    add "$scenes/four.toml" "$to"/watch-{owner,borrower}
 }
 
 # All scenes on one firmware and one processor.
@@ -216,10 +234,11 @@ all_agree() {
     for i in "${!traces[@]}"; do agree "$1" "$2" "${manifests[i]}" "${traces[i]}"; done
 }
 
-# A firmware that is broken, and the first scene that shows it: found FIRMWARE WHAT
+# A firmware that is broken, and the first scene of those whose names begin with a word that shows it: found FIRMWARE WHAT [WORD]
 found() {
     local i
     for i in "${!traces[@]}"; do
+        [[ $(basename "${traces[i]}") == "${3:-}"* ]] || continue
         if ! play "$1" cortex-a57 "${manifests[i]}" "${traces[i]}"; then
             [[ -s $to/found ]] || fail "$2: $emulator ran nothing"
             echo "$2: found by $(basename "${traces[i]}")"
@@ -230,11 +249,20 @@ found() {
     fail "$2: no scene finds it"
 }
 
+# A firmware over a core that its proofs refuse, by an edit of board/broken, and the scene of two processors that shows it.
+find_unproved() {
+    "$here/unproved" --edit "$here/broken/$1.edit" "$to/$1.o"
+    build_over "$to/$1.o" "$1"
+    found "$1" "$2" watch
+}
+
 find_break() {
     case $1 in
         root) build wrong-root -DWRONG_ROOT=1 && found wrong-root "an endpoint with another's tables" ;;
-        invalidation) build no-invalidation -DPARK=0 -DINVALIDATE=0 && found no-invalidation "translations that are kept" ;;
         vectors) build no-vectors -DSAVE_VECTORS=0 && found no-vectors "vector registers that aren't saved" ;;
+        settling) build no-settling -DSETTLE=0 && found no-settling "translations that are kept" watch ;;
+        zeros-first) find_unproved zeros-first "zeros before a right is taken" ;;
+        zeros-last) find_unproved zeros-last "zeros behind a right that is given" ;;
     esac
 }
 
@@ -246,13 +274,11 @@ build documented
 if ((${#breaks[@]})); then
     agree documented cortex-a57 "${manifests[0]}" "${traces[0]}"
 else
-    build unparked -DPARK=0
     all_agree documented cortex-a57
     all_agree documented max
-    all_agree unparked cortex-a57
     build high -DRAM_BASE=0xC0000000
     agree high cortex-a57 "$to/high.toml" "$to/generated-high"
-    breaks=(root invalidation vectors)
+    breaks=(root vectors settling zeros-first zeros-last)
 fi
 for name in "${breaks[@]}"; do find_break "$name"; done
 echo passed

@@ -48,6 +48,27 @@ _start:
         msr     daifset, #15
         adrp    x0, stack_top
         add     x0, x0, :lo12:stack_top
+        bl      begin
+        bl      clear
+        bl      translate
+        bl      firmware
+0:      wfe
+        b       0b
+
+/* The second processor's entry, with translation off. */
+        .global second_start
+second_start:
+        msr     daifset, #15
+        adrp    x0, second_stack_top
+        add     x0, x0, :lo12:second_stack_top
+        bl      begin
+        bl      translate
+        bl      second_processor
+0:      wfe
+        b       0b
+
+/* A stack pointer, x0, and where exceptions go. */
+begin:
         msr     spsel, #1
         mov     sp, x0
         mov     x0, #0x33ff             /* CPTR_EL2 (DDI 0487): TFP 0, vector registers don't trap */
@@ -56,11 +77,7 @@ _start:
         add     x0, x0, :lo12:vectors
         msr     vbar_el2, x0
         isb
-        bl      clear
-        bl      translate
-        bl      firmware
-0:      wfe
-        b       0b
+        ret
 
 /* Fills what the program begins with zeros with zeros. */
 clear:
@@ -193,3 +210,5 @@ vectors:
         .balign 4096
         .space  STACK_BYTES
 stack_top:
+        .space  SECOND_STACK_BYTES
+second_stack_top:

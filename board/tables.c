@@ -1,8 +1,11 @@
 /* SPDX-License-Identifier: MIT OR Apache-2.0 */
 #include "tables.h"
 #include "calls.h"
+#include "endpoint.h"
+#include "gorseplumb.h"
 #include "layout.h"
 #include "processor.h"
+#include "watch.h"
 
 SYSTEM_REGISTER(par_el1)
 
@@ -16,7 +19,14 @@ SYSTEM_REGISTER(par_el1)
 #define VTCR (UINT64_C(32) | UINT64_C(1) << 6 | UINT64_C(5) << 8 | UINT64_C(3) << 12 | UINT64_C(2) << 16 | UINT64_C(1) << 31)
 
 /* VTTBR_EL2.VMID has 8 bits, as VTCR_EL2.VS is 0. Endpoints have 1 and on. */
-#define PARKED_VMID 255
+#define VMID_OF(place) ((place) + UINT64_C(1))
+#define UNUSED_VMID 255
+
+/* The second processor is awaited in one of so many settlings that forget nothing, as there is one for each page of zeros. */
+#define AWAITED_IN 64
+
+/* Up to so many pages are forgotten one by one. */
+#define MOST_SINGLY 16
 
 static _Alignas(4096) const uint64_t maps_nothing[512];
 
@@ -27,21 +37,42 @@ static void load_root(uint64_t root, uint64_t vmid) {
 
 void begin_tables(void) {
     write_vtcr_el2(VTCR);
-    load_root((uintptr_t)maps_nothing, PARKED_VMID);
+    load_root((uintptr_t)maps_nothing, UNUSED_VMID);
     write_hcr_el2(HCR);
     DO("isb");
 }
 
-void walk_tables(uint32_t place, uint64_t root) { load_root(root, place + 1); }
+void walk_tables(uint32_t place, uint64_t root) { load_root(root, VMID_OF(place)); }
 
-void park_tables(void) {
-    if (PARK) load_root((uintptr_t)maps_nothing, PARKED_VMID);
+/* Has every processor forget what came of one endpoint's tables for these pages. The VMID in VTTBR_EL2 says whose; nothing is walked
+ * there meanwhile. */
+static void forget(uint32_t place, uint64_t address, uint64_t size) {
+    uint64_t walked = read_vttbr_el2();
+    load_root((uintptr_t)maps_nothing, VMID_OF(place));
+    if (size <= MOST_SINGLY * FFA_PAGE_BYTES) {
+        for (uint64_t page = address; page < address + size; page += FFA_PAGE_BYTES) {
+            __asm__ volatile("tlbi ipas2e1is, %0" : : "r"(page >> 12) : "memory");
+        }
+        DO("dsb ish");
+        DO("tlbi vmalle1is");
+    } else {
+        DO("tlbi vmalls12e1is");
+    }
+    DO("dsb ish");
+    write_vttbr_el2(walked);
+    DO("isb");
 }
 
-/* What each call that ends well may have changed, beside registers. */
-enum changes { NO_MEMORY_CHANGES, BYTES, ACCESS };
+void ffa_settle(uint16_t endpoint, uint64_t address, uint64_t size) {
+    static uint32_t turn;
+    DO("dsb ishst");
+    if (size != 0) note_settling(endpoint);
+    if (SETTLE && size != 0) forget(place_of(endpoint), address, size);
+    if (size != 0 || turn++ % AWAITED_IN == 0) await_watch();
+}
 
-static enum changes changes_of(uint32_t function) {
+/* Whether a call that ends well may change bytes of pages, or who has them. */
+static bool changes_bytes(uint32_t function) {
     switch (function & ~WITH_64_BITS) {
     case FFA_MEM_DONATE:
     case FFA_MEM_LEND:
@@ -49,23 +80,17 @@ static enum changes changes_of(uint32_t function) {
     case FFA_MEM_RETRIEVE_REQ:
     case FFA_MEM_RELINQUISH:
     case FFA_MEM_RECLAIM:
-        return ACCESS;
     case FFA_PARTITION_INFO_GET:
     case FFA_MSG_SEND2:
-        return BYTES;
+        return true;
     default:
-        return NO_MEMORY_CHANGES;
+        return false;
     }
 }
 
-void after_call(uint32_t place, uint64_t root, uint32_t function, uint32_t answer) {
-    enum changes changes = answer == FFA_ERROR ? NO_MEMORY_CHANGES : changes_of(function);
+void after_call(uint32_t function, uint32_t answer) {
     DO("dsb ishst");
-    if (changes == ACCESS) {
-        walk_tables(place, root);
-        if (INVALIDATE) DO("tlbi vmalls12e1is");
-    }
-    if (changes != NO_MEMORY_CHANGES) DO("ic ialluis");
+    if (answer != FFA_ERROR && changes_bytes(function)) DO("ic ialluis");
     DO("dsb ish");
     DO("isb");
 }

@@ -7,11 +7,8 @@
 #include <stdint.h>
 
 /* What may be left out, for board/run.sh to show that the comparison finds it. */
-#ifndef PARK
-#define PARK 1 /* no table of the machine is walked while a call is on its way */
-#endif
-#ifndef INVALIDATE
-#define INVALIDATE 1 /* translations are forgotten after a call that changed access */
+#ifndef SETTLE
+#define SETTLE 1 /* translations are forgotten where the core asks for it */
 #endif
 #ifndef WRONG_ROOT
 #define WRONG_ROOT 0 /* the partition 8001 runs with the tables of the next endpoint */
@@ -23,11 +20,8 @@ void begin_tables(void);
 /* Has EL1 walk the tables of the endpoint at a place of the manifest, whose level 1 table this is. */
 void walk_tables(uint32_t place, uint64_t root);
 
-/* Has EL1 walk a table that maps nothing, as long as a call is on its way. */
-void park_tables(void);
-
-/* After a call of the endpoint at `place`: what the call did is seen by whoever runs next. */
-void after_call(uint32_t place, uint64_t root, uint32_t function, uint32_t answer);
+/* After a call: what it did is seen by whoever runs next, on each processor. */
+void after_call(uint32_t function, uint32_t answer);
 
 /* After the machine was made, and its programs stored. */
 void after_boot(void);

@@ -25,6 +25,11 @@ void put_number(uint64_t value) {
     put_hex(value, digits);
 }
 
+void put_decimal(uint64_t value) {
+    if (value >= 10) put_decimal(value / 10);
+    put_byte((char)('0' + value % 10));
+}
+
 bool same_text(const char *one, const char *other) {
     while (*one != '\0' && *one == *other) one++, other++;
     return *one == *other;

@@ -9,6 +9,7 @@
 void put_text(const char *text);
 void put_hex(uint64_t value, unsigned digits); /* upper case, with so many digits */
 void put_number(uint64_t value);               /* upper case, with no leading zeros */
+void put_decimal(uint64_t value);
 bool same_text(const char *one, const char *other);
 
 /* Reads the word at *at, ends before a space, LF or NUL, and moves *at behind it and one space: whether it is hexadecimal. */
