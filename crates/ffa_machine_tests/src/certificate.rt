@@ -81,20 +81,35 @@ fn push_region(text: &mut String, digit: u32) -> Result<(), AllocError> {
     )
 }
 
-// Whether a machine gives its own certificate where the first endpoint has this right to the first run.
+// Whether a machine gives its own certificate where the last of its endpoints has this right to the first run.
 fn passes_with<M: PhysMem + Drop, T: Translations + Drop>(
     machine: &Machine<M, T>,
     runs: &mut Vec<CertRun>,
+    endpoints: usize,
     right: Option<Rights>,
 ) -> bool {
-    if let Some(first) = runs.first_mut() {
-        first.access[0] = right;
+    if let Some(access) = runs
+        .first_mut()
+        .and_then(|first| first.access.get_mut(endpoints.saturating_sub(1)))
+    {
+        *access = right;
+    }
+    machine.audit(runs.as_slice())
+}
+
+// Whether a machine gives its own certificate where the last run begins a page later.
+fn passes_with_a_gap<M: PhysMem + Drop, T: Translations + Drop>(
+    machine: &Machine<M, T>,
+    runs: &mut Vec<CertRun>,
+) -> bool {
+    if let Some(last) = runs.last_mut() {
+        last.first = PageNo(last.first.0.saturating_add(1));
     }
     machine.audit(runs.as_slice())
 }
 
 // A machine gives its own certificate, which has a run for each endpoint, one before and one behind; but not with a right
-// to the first, and not without the last.
+// to the first, not with a gap before the last, and not without the last.
 fn check<M: PhysMem + Drop, T: Translations + Drop>(
     rt: &impl Abort,
     alloc: Global,
@@ -105,9 +120,10 @@ fn check<M: PhysMem + Drop, T: Translations + Drop>(
     same(rt, runs.len(), endpoints.saturating_add(2));
     holds(
         rt,
-        !passes_with(machine, &mut runs, Some(Rights::default())),
+        !passes_with(machine, &mut runs, endpoints, Some(Rights::default())),
     );
-    holds(rt, passes_with(machine, &mut runs, None));
+    holds(rt, passes_with(machine, &mut runs, endpoints, None));
+    holds(rt, !passes_with_a_gap(machine, &mut runs));
     let _last = runs.pop();
     holds(rt, !machine.audit(runs.as_slice()));
     Ok(())
@@ -173,10 +189,20 @@ fn gives(memory: &FlatRam, runs: &[CertRun]) -> bool {
     is_in_ram(memory, u64::from(BASE)) && audit(memory, &[BASE], runs)
 }
 
+// The first run's pages may be read and written by the first endpoint.
+fn give_the_first(runs: &mut Vec<CertRun>) {
+    if let Some(first) = runs.first_mut() {
+        first.access[0] = Some(Rights {
+            level: Data::Rw,
+            exec: false,
+        });
+    }
+}
+
 #[test]
 fn tables_that_give_more(rt: HostRuntime) -> Result<(), Fail> {
     let machine = booted(rt.alloc(), &row_machine())?;
-    let runs = certificate(rt.alloc(), &machine)?;
+    let mut runs = certificate(rt.alloc(), &machine)?;
     let mut memory = copied(rt.alloc(), &machine)?;
     holds(&rt, gives(&memory, runs.as_slice()));
     // The page at 40010000 may not be written any more.
@@ -186,6 +212,11 @@ fn tables_that_give_more(rt: HostRuntime) -> Result<(), Fail> {
     holds(&rt, gives(&memory, runs.as_slice()));
     // A block of 1 GiB for the addresses from 0 on.
     flip(&mut memory, ROOT, 0, 0x7FD);
+    holds(&rt, !gives(&memory, runs.as_slice()));
+    flip(&mut memory, ROOT, 0, 0x7FD);
+    // A block for all of RAM, where the runs give its first pages.
+    flip(&mut memory, LEVEL2, 0, 0x0040_0000_0000_27FE);
+    give_the_first(&mut runs);
     holds(&rt, !gives(&memory, runs.as_slice()));
     Ok(())
 }

@@ -2,8 +2,9 @@
 //! The player's machine as it boots, and lines that it takes and refuses.
 use crate::checks::{holds, same, same_at};
 use crate::machines::{FlatPlayer, booted, play};
-use ffa_model::{PageNo, built_in, row_machine};
-use ffa_physmem::PhysMem;
+use ffa_model::{Op, Outcome, PageNo, Size, built_in, row_machine};
+use ffa_physmem::{FlatRam, PhysMem};
+use ffa_spmc::Machine;
 use ffa_syntax::PlayError;
 use ffa_trace::{Begun, Player};
 use std::alloc::Global;
@@ -42,6 +43,25 @@ fn boots_with_tables(rt: HostRuntime) -> Result<(), Fail> {
     }
     let player = demonstration(rt.alloc())?;
     same(&rt, word(&player, 0x4000_5100), Some(0x0000_0000_4002_07FF));
+    Ok(())
+}
+
+// What comes of two operations.
+fn run(machine: &mut Machine<FlatRam>, ops: &[Op; 2]) -> [Outcome; 2] {
+    let mut outcomes = [Outcome::Done; 2];
+    machine.run(ops, &mut outcomes);
+    outcomes
+}
+
+#[test]
+fn runs_operations_one_after_another(rt: HostRuntime) -> Result<(), Fail> {
+    let mut machine = booted(rt.alloc(), &row_machine())?;
+    let (addr, size) = (0x4001_0000, Size::B1);
+    let value = 0x2A;
+    let store = Op::Store { addr, size, value };
+    let [stored, loaded] = run(&mut machine, &[store, Op::Load { addr, size }]);
+    holds(&rt, matches!(stored, Outcome::Done));
+    holds(&rt, matches!(loaded, Outcome::Data(0x2A)));
     Ok(())
 }
 

@@ -23,6 +23,9 @@ mod cached;
 // Rows on machines with endpoints of the compact form.
 mod compact;
 
+// Operations of endpoints that don't run.
+mod elsewhere;
+
 // Transactions with many ranges, and many of them.
 mod limits;
 
@@ -37,6 +40,9 @@ mod notifications;
 
 // Rows where memory is short.
 mod refused;
+
+// Calls that read TX while others write to it.
+mod shifting;
 
 // Calls on memory, looked at after each write.
 mod watched;
@@ -200,6 +206,7 @@ fn stores_in_either_case(rt: HostRuntime) -> Result<(), Fail> {
     let row = "\
 store 40010000 11223344 -> done
 load 40010000 1 -> data 44
+load 40010001 2 -> fault alignment
 load 40010002 2 -> data 1122
 store 4001fff8 0123456789abcDEF -> done
 load 4001FFF8 4 -> data 89ABCDEF
@@ -274,6 +281,7 @@ fn features_of_every_identifier(rt: HostRuntime) -> Result<(), Fail> {
 fn information_on_one_partition(rt: HostRuntime) -> Result<(), Fail> {
     let row = "\
 call 84000066 4001E000 4001F000 1 -> 0: 84000061
+call 84000068 1 -> 0: 84000060 0 FFFFFFFE
 call 84000068 33221100 77665544 BBAA9988 FFEEDDCC -> 0: 84000061 0 1 18
 load 4001F000 8 -> data 0000010F00018001
 call 84000068 33221100 77665544 BBAA9988 FFEEDDCC -> 0: 84000060 0 FFFFFFFC

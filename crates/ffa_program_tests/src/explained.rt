@@ -44,7 +44,7 @@ call C4000066 14001E000 4001F000 1;FFA_RXTX_MAP check 3: TX does not begin at a 
 call 84000066 40010001 40011000 1;FFA_RXTX_MAP check 3: TX does not begin at a page and lie in RAM: w1 is 40010001
 call 84000066 40010000 40200000 1;FFA_RXTX_MAP check 4: RX does not begin at a page and lie in RAM: w2 is 40200000
 call 84000066 40010000 40010000 1;FFA_RXTX_MAP check 5: RX and TX have a page in common: w2 is 40010000
-call 84000066 40020000 40010000 1;FFA_RXTX_MAP check 6: a page of TX is not the caller's own to read and write, or is in an open transaction: 40020000 belongs to 8001
+call 84000066 40020000 40010000 2;FFA_RXTX_MAP check 6: a page of TX is not the caller's own to read and write, or is in an open transaction: 40020000 belongs to 8001
 call 84000066 40010000 40020000 1;FFA_RXTX_MAP check 7: a page of RX is not the caller's own to read and write, or is in an open transaction: 40020000 belongs to 8001
 call 84000067 1;FFA_RXTX_UNMAP check 1: the endpoint is not 0: w1 is 00000001
 call 84000067;FFA_RXTX_UNMAP check 2: the caller has no RX and TX
@@ -69,7 +69,7 @@ call 84000071;FFA_MEM_DONATE check 1: the caller has no RX and TX
 call 84000074;FFA_MEM_RETRIEVE_REQ check 1: the caller has no RX and TX
 call 84000076;FFA_MEM_RELINQUISH check 1: the caller has no RX and TX
 call 84000077 1 0 2;FFA_MEM_RECLAIM check 1: a flag is set that has to be 0: w3 is 00000002
-call 84000077 1;FFA_MEM_RECLAIM check 2: no open transaction of the caller has the handle: handle 0000000000000001
+call 84000077 1 8001;FFA_MEM_RECLAIM check 2: no open transaction of the caller has the handle: handle 0000800100000001
 call 8400006D 80010000/call 8400007D 0 1;FFA_NOTIFICATION_BITMAP_CREATE check 1: the caller is not the normal world
 call 8400007D 1 1;FFA_NOTIFICATION_BITMAP_CREATE check 2: the endpoint is not the normal world: w1 is 00000001
 call 8400007D 0 2;FFA_NOTIFICATION_BITMAP_CREATE check 3: the count of execution contexts is not 1: w2 is 00000002
@@ -102,6 +102,7 @@ call 84000082 8001;FFA_NOTIFICATION_GET check 1: the receiver is not the caller:
 call 84000082 10000;FFA_NOTIFICATION_GET check 2: the execution context is not 0: w1 is 00010000
 call 84000082 0 10;FFA_NOTIFICATION_GET check 3: the flags ask for a class that is none of the four: w2 is 00000010
 call 84000082 0 1;FFA_NOTIFICATION_GET check 4: the endpoint has no bitmaps
+call 8400006D 80010000/call 84000066 40020000 40021000 1/store 40020000 002F8001/store 40020018 0000000200000010/store 40020020 30/store 40020030 0000005000020000/store 40020040 0000005000028002/store 40020050 0000000100000001/store 40020060 0000000040022000/store 40020068 01/call 84000072 70 70/call 8400006B/call 84000066 40010000 40011000 1/store 40010000 8001/store 40010008 0000800100000001/store 40010018 0000000100000010/store 40010020 30/store 40010032 0A/call 84000074 40 40;FFA_MEM_RETRIEVE_REQ check 13: the right that is asked for is more than the caller may get: handle 0000800100000001
 load 40020001 2;40020001 is no multiple of 2
 store 40010004 0000000000000000;40010004 is no multiple of 8
 fetch 40010002;40010002 is no multiple of 4
@@ -250,6 +251,7 @@ store 40030058 0000000000000001
 const WITH_PAGE_TO_READ: &str = "\
 store 40030030 0000004000028001/call 84000072 60 60;FFA_MEM_LEND check 11: a grant is more than the owner's right to a page: 40012000
 store 40030000 0000000100008002/call 84000072 60 60;FFA_MEM_LEND check 12: zeros are asked of a page that its owner may not write to: 40012000
+call 84000072 60 60/call 84000077 1 8002/store 40012000 2A;40012000 may not be written
 call 84000072 60 60/call 84000077 1 8002 1;FFA_MEM_RECLAIM check 4: zeros are asked of a page that its owner may not write to: 40012000 is in the open transaction 0000800200000001
 ";
 
@@ -259,6 +261,8 @@ properties = 6 => properties = 4;call 8400006F 8001;FFA_MSG_SEND_DIRECT_REQ chec
 properties = 15 => properties = 14;call 8400006F 8001;FFA_MSG_SEND_DIRECT_REQ check 7: the receiver does not receive direct requests: endpoint 8001
 properties = 6 => properties = 2;call 84000066 40010000 40011000 1/store 4001000C 8001/store 40010008 14/store 40010010 01/call 84000086;FFA_MSG_SEND2 check 10: the caller does not send indirect messages
 properties = 15 => properties = 11;call 84000066 40010000 40011000 1/store 4001000C 8001/store 40010008 14/store 40010010 01/call 84000086;FFA_MSG_SEND2 check 11: the receiver does not receive indirect messages: endpoint 8001
+rights = \"rw\" => rights = \"ro\";store 40010000 2A;40010000 may not be written
+16, rights = \"rwx\" => 15, rights = \"rwx\" }, { base = 0x4002F000, pages = 1, rights = \"rw\";call 8400006D 80010000/call 84000066 40020000 40021000 1/store 40020000 8001/store 40020018 0000000100000010/store 40020020 30/store 40020030 0000004000020000/store 40020040 0000000100000002/store 40020050 000000004002E000/store 40020058 0000000000000002/call 84000072 60 60/call 8400006B/call 84000066 40010000 40011000 1/store 40010000 8001/store 40010008 0000800100000001/store 40010018 0000000100000010/store 40010020 30/store 40010032 0A/call 84000074 40 40;FFA_MEM_RETRIEVE_REQ check 13: the right that is asked for is more than the caller may get: handle 0000800100000001
 base = 0x40030000, pages = 16 => base = 0x40030000, pages = 32;call 8400006D 80020000/call 84000066 40030000 40031000 1/store 40030000 8002/store 40030018 0000000100000010/store 40030020 0000000000000030/store 40030030 0000004000028001/store 40030040 0000000100000001/store 40030058 0000000000000001/store 40030050 0000000040032000/call 84000072 60 60/store 40030050 0000000040033000/call 84000072 60 60/store 40030050 0000000040034000/call 84000072 60 60/store 40030050 0000000040035000/call 84000072 60 60/store 40030050 0000000040036000/call 84000072 60 60/store 40030050 0000000040037000/call 84000072 60 60/store 40030050 0000000040038000/call 84000072 60 60/store 40030050 0000000040039000/call 84000072 60 60/store 40030050 000000004003A000/call 84000072 60 60/store 40030050 000000004003B000/call 84000072 60 60/store 40030050 000000004003C000/call 84000072 60 60/store 40030050 000000004003D000/call 84000072 60 60/store 40030050 000000004003E000/call 84000072 60 60/store 40030050 000000004003F000/call 84000072 60 60/store 40030050 0000000040040000/call 84000072 60 60/store 40030050 0000000040041000/call 84000072 60 60/store 40030050 0000000040042000/call 84000072 60 60;FFA_MEM_LEND check 13: the caller has as many open transactions as it may have
 ";
 

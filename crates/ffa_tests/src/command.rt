@@ -83,12 +83,12 @@ fn push_request(words: &mut String, request: &Request<'_>) -> Result<(), AllocEr
         }
         Request::Compare {
             manifest,
-            trace,
-            expected,
             machine,
             explain,
             ..
         } => {
+            let trace = request.trace().unwrap_or_default();
+            let expected = request.expected().unwrap_or_default();
             write!(words, "compare {manifest} {trace} {expected}")?;
             push_machine(words, machine)?;
             push_flags(words, &[("explain", explain)])
@@ -121,7 +121,8 @@ fn asked<'a>(alloc: Global, words: &'a [&'a str]) -> Result<String, AllocError> 
         Ok(request) => {
             let mut text = String::new(alloc);
             push_request(&mut text, &request)?;
-            push_flags(&mut text, &[("verbose", request.is_verbose())])?;
+            let (verbose, at_once) = (request.is_verbose(), request.answers_at_once());
+            push_flags(&mut text, &[("verbose", verbose), ("at-once", at_once)])?;
             Ok(text)
         }
         Err(error) => format!(in alloc; "{:?}", error.kind()),
@@ -144,8 +145,8 @@ fn check_line(rt: &impl Abort, alloc: Global, row: &str) -> Result<(), Fail> {
     Ok(())
 }
 
-// Each row is a command line, an arrow and what it asks for: the command, its paths and its flags, or the kind of its
-// mistake, as `{:?}` prints it.
+// Each row is a command line, an arrow and what it asks for: the command, its paths, its flags, and whether it answers at
+// once, or the kind of its mistake, as `{:?}` prints it.
 fn check(rt: &impl Abort, alloc: Global, rows: &str) -> Result<(), Fail> {
     for row in rows.lines() {
         check_line(rt, alloc, row)?;
@@ -162,8 +163,8 @@ ffaplay compare row.toml first.trace first.text => compare row.toml first.trace 
 ffaplay check row.toml => check row.toml
 ffaplay layout -- row.toml => layout row.toml
 ffaplay run - first.trace => run - first.trace
-ffaplay run row.toml - => run row.toml -
-ffaplay demo - => demo -
+ffaplay run row.toml - => run row.toml - --at-once
+ffaplay demo - => demo - --at-once
 ffaplay compare row.toml - first.text => compare row.toml - first.text
 ffaplay compare row.toml first.trace -- - => compare row.toml first.trace -
 ffaplay check - => check -
@@ -177,7 +178,7 @@ fn commands_with_flags(rt: HostRuntime) -> Result<(), Fail> {
     let rows = "\
 ffaplay run row.toml --frames first.trace => run row.toml first.trace --frames
 ffaplay run row.toml --tlb first.trace => run row.toml first.trace --tlb
-ffaplay run --line-buffered row.toml first.trace => run row.toml first.trace --line-buffered
+ffaplay run --line-buffered row.toml first.trace => run row.toml first.trace --line-buffered --at-once
 ffaplay run row.toml first.trace --number => run row.toml first.trace --number
 ffaplay run row.toml first.trace --names => run row.toml first.trace --names
 ffaplay run --explain row.toml first.trace => run row.toml first.trace --explain
@@ -187,7 +188,7 @@ ffaplay run --strict row.toml first.trace => run row.toml first.trace --strict
 ffaplay demo first.trace --strict --names => demo first.trace --names --strict
 ffaplay demo --tlb first.trace => demo first.trace --tlb
 ffaplay demo first.trace --tlb --frames => demo first.trace --frames --tlb
-ffaplay demo --names - --number --line-buffered => demo - --line-buffered --number --names
+ffaplay demo --names - --number --line-buffered => demo - --line-buffered --number --names --at-once
 ffaplay demo --verbose first.trace => demo first.trace --verbose
 ffaplay compare --tlb a --frames b c => compare a b c --frames --tlb
 ffaplay compare a b c --verbose => compare a b c --verbose

@@ -112,6 +112,12 @@ properties = 6 => properties = 6
 name = 0 => M3 UnknownKey|
 properties = 6 => properties = 6
 uuid = 0 => M3 UnknownKey|
+properties = 6 => properties = 6
+\"\" = 0 => M3 UnknownKey|
+version = \"1.1\"
+uuid => version = \"1.2\"
+name = 0
+uuid => M3 UnknownKey|
 ram_blocks = 1 => ram_blocks = \"1\" => M5 WrongKind|
 { base = 0x40010000, pages = 16, rights = \"rw\" } => 0 => M5 WrongKind|
 \"rw\" => \"wr\" => M5 WrongKind";
@@ -139,7 +145,8 @@ fn refused_regions(rt: HostRuntime) -> Result<(), Fail> {
 0x40010000, pages = 16 => 0x40008000, pages = 1 => M12 RegionOutside|
 pages = 16 => pages = 9223372036854775807 => M12 RegionOutside|
 0x40010000 => -4096 => M12 RegionOutside|
-0x40030000 => 0x40028000 => M13 RegionOverlap";
+0x40030000 => 0x40028000 => M13 RegionOverlap|
+0x40030000, pages = 16 => 0x4000F000, pages = 2 => M13 RegionOverlap";
     check_changes(&rt, rt.alloc(), changes)
 }
 

@@ -114,6 +114,15 @@ lend 70 2F8001 0 0 200000010 30 0 5000010000 0 5000018002 0 100000001 0 40022000
 donate 60 8002 0 0 100000010 30 0 4000008001 0 100000001 0 40031000 1 => SendDesc { sender: EndpointId(32770), zero: false, tag: 0, receivers: [Receiver { endpoint: EndpointId(32769), grant: None }], ranges: [Range { address: 1073942528, pages: 1 }] }
 ";
 
+// A receiver that is named twice; ranges that overlap, and that have together 2^32 pages more than is told; bytes between
+// the header and the access descriptors, which may hold anything.
+const OTHERS: &str = "\
+lend 70 2F8001 0 0 200000010 30 0 5000018002 0 5000018002 0 100000001 0 40022000 1 => Access(1, ReceiverTwice)
+lend 70 8001 0 0 100000010 30 0 4000028002 0 200000003 0 40022000 1 40021000 2 => Range(1, Overlap)
+lend 70 8001 0 0 100000010 30 0 4000028002 0 200000001 0 0 FFFFFFFF 100000000000 2 => Composite(Total)
+lend 70 8001 0 0 100000010 40 0 1 0 5000028002 0 100000001 0 40021000 1 => SendDesc { sender: EndpointId(32769), zero: false, tag: 0, receivers: [Receiver { endpoint: EndpointId(32770), grant: Some(Rw) }], ranges: [Range { address: 1073876992, pages: 1 }] }
+";
+
 // The share with two pages told where one is given, past the last address, and up to 2^48.
 const ENDS: &str = "\
 share 70 2F8001 0 0 200000010 30 0 5000010000 0 5000018002 0 100000002 0 40022000 1 => Composite(Total)
@@ -156,7 +165,8 @@ compact 50 8001 0 0 101000000 3000028002 0 100000001 0 40021000 1 => Header(Acce
 
 #[test]
 fn sends_are_read(rt: HostRuntime) -> Result<(), Fail> {
-    check(&rt, rt.alloc(), SENDS)
+    check(&rt, rt.alloc(), SENDS)?;
+    check(&rt, rt.alloc(), OTHERS)
 }
 
 #[test]

@@ -36,7 +36,7 @@ fn run_and_wait(rt: HostRuntime) -> Result<(), Fail> {
     same(&rt, chain.status(NORMAL), Status::Blocked);
     same(&rt, chain.status(SECOND), Status::Waiting);
     same(&rt, chain.work(FIRST), Some(Work::Run));
-    alike(&rt, chain.run(0x8002_0000), Err(ErrorCode::Denied));
+    alike(&rt, chain.run(0x8002_0001), Err(ErrorCode::Denied));
     alike(&rt, chain.wait(), Ok(passed(0x8400_006B, 0x8001_0000)));
     same(&rt, chain.runner(), NORMAL);
     same(&rt, chain.status(FIRST), Status::Waiting);

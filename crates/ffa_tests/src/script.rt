@@ -16,7 +16,7 @@ use std::test::Fail;
 const OPERATIONS: &str = "\
 call 84000063 10001
 call 0
-call FFFFFFFFFFFFFFFF 0 0 0 0 0 0 A
+call FFFFFFFFFFFFFFFF 0 0 0 0 0 0 1
 load 4002E000 8
 load 0000000140000000 1
 store 40010000 2A
@@ -136,7 +136,7 @@ fn operations_are_written(rt: HostRuntime) -> Result<(), Fail> {
         &Op::Call([0x8400_0063, 0x1_0001, 0, 0, 0, 0, 0, 0]),
     )?;
     put_operation(&mut text, &Op::Call([0; 8]))?;
-    put_operation(&mut text, &Op::Call([u64::MAX, 0, 0, 0, 0, 0, 0, 10]))?;
+    put_operation(&mut text, &Op::Call([u64::MAX, 0, 0, 0, 0, 0, 0, 1]))?;
     put_operation(
         &mut text,
         &Op::Load {

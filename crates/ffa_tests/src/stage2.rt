@@ -81,11 +81,22 @@ fn lend<M: PhysMem>(memory: &mut M, layout: &Layout, right: Rights)
     set_page(memory, layout, 1, PageNo(513), Some(right));
 }
 
+// Gives the first endpoint another right to the last page.
+fn set_last<M: PhysMem>(memory: &mut M, layout: &Layout, right: Option<Rights>)
+    requires built { (access : ℕ → ℕ → Option Rights) × IsBuiltFor layout.now (M.ram memory.old) access }
+    requires blocks { layout.now.blocks ≡ 2 }
+    requires endpoints { array_vec_len layout.now.regions ≡ 2 }
+    ensures { (access : ℕ → ℕ → Option Rights) × IsBuiltFor layout.now (M.ram memory.new) access }
+{
+    set_page(memory, layout, 0, PageNo(1023), right);
+}
+
 // And back.
 fn reclaim<M: PhysMem>(memory: &mut M, layout: &Layout, right: Rights)
     requires built { (access : ℕ → ℕ → Option Rights) × IsBuiltFor layout.now (M.ram memory.old) access }
     requires blocks { layout.now.blocks ≡ 2 }
     requires endpoints { array_vec_len layout.now.regions ≡ 2 }
+    ensures { (access : ℕ → ℕ → Option Rights) × IsBuiltFor layout.now (M.ram memory.new) access }
 {
     set_page(memory, layout, 1, PageNo(513), None);
     set_page(memory, layout, 0, PageNo(513), Some(right));
@@ -106,7 +117,10 @@ fn splits_and_joins(
     same(rt, word(&ram, 3, 1), Some(0));
     same(rt, word(&ram, 5, 1), Some(0x0000_0000_4000_7003));
     same(rt, word(&ram, 7, 1), Some(block ^ 0x1002));
+    set_last(&mut ram, &layout, None);
     reclaim(&mut ram, &layout, right);
+    same(rt, word(&ram, 1, 1), Some(0x0000_0000_4000_3003));
+    set_last(&mut ram, &layout, Some(right));
     same(rt, word(&ram, 1, 1), Some(block));
     same(rt, word(&ram, 7, 1), Some(0));
     Ok(())
@@ -256,9 +270,11 @@ fn leaf_gives_descriptors(rt: HostRuntime) {
 fn build_writes_tables(rt: HostRuntime) -> Result<(), NoMemory> {
     for manifest in [built_in(), row_machine()] {
         let mut ram = FlatRam::new(rt.alloc(), manifest.ram_base, 512)?;
+        ram.write_word(PageNo(1), 1, 3);
         build(&mut ram, &Layout::of(&manifest));
         same(&rt, word(&ram, 0, 1), Some(0x0000_0000_4000_1003));
         same(&rt, word(&ram, 1, 0), Some(0x0000_0000_4000_2003));
+        same(&rt, word(&ram, 1, 1), Some(0));
         same(&rt, word(&ram, 2, 16), Some(0x0040_0000_4001_07ff));
         same(&rt, word(&ram, 5, 32), Some(0x0000_0000_4002_07ff));
     }

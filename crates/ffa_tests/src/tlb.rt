@@ -82,6 +82,16 @@ fn any_number_picks_a_slot(rt: HostRuntime) {
     holds(&rt, cache.lookup(EndpointId(0), PageNo(5)).is_none());
 }
 
+// A page that is filled again has its last leaf, whichever slot it takes.
+#[test]
+fn the_last_leaf_is_held(rt: HostRuntime) {
+    let mut cache = Tlb::<InTurn, 2>::new(InTurn::default());
+    holds(&rt, cache.lookup(EndpointId(0), PageNo(0)).is_none());
+    cache.fill(ENDPOINT, PageNo(5), leaf_of(5));
+    cache.fill(ENDPOINT, PageNo(5), leaf_of(6));
+    same(&rt, cache.lookup(ENDPOINT, PageNo(5)), Some(leaf_of(6)));
+}
+
 #[test]
 fn no_cache_holds_nothing(rt: HostRuntime) {
     let mut none = NoTlb;

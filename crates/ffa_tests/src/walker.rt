@@ -57,7 +57,7 @@ const WALKS: &str = "\
 00000000400007FD Ok(Leaf { phys: 1073746484, read: true, write: true, exec: true }) Ok(90)
 00000000400003FD Err(AccessFlag) Err(AccessFlag)
 00000000800007FD Ok(Leaf { phys: 2147488308, read: true, write: true, exec: true }) Err(OutsideRam)
-0000000080000003 Err(OutsideRam) Err(OutsideRam)
+0000000040200003 Err(OutsideRam) Err(OutsideRam)
 FFFFFFFFFFFFFFFE Err(Translation) Err(Translation)";
 
 #[test]

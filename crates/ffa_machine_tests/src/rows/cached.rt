@@ -6,7 +6,7 @@ ghost use Rattle.ffa_model.specs.Ram.{zero_ram};
 use super::memory::{LEND, MAPPED, RELINQUISH, RETRIEVE, RETRIEVED, TO_FIRST, TO_SECOND};
 use super::*;
 use crate::checks::{holds, holds_at};
-use ffa_model::{Address, EndpointId, PageNo};
+use ffa_model::{Address, EndpointId, Leaf, PageNo};
 use ffa_physmem::{FlatRam, PhysMem};
 use ffa_spmc::Machine;
 use ffa_tlb::{InTurn, Replacement, Tlb};
@@ -126,6 +126,47 @@ fn a_lend_prints_the_same(rt: HostRuntime) -> Result<(), Fail> {
     plays(&rt, rt.alloc(), &parts)
 }
 
+// Two pages are lent as one range, of which the second was held.
+#[test]
+fn a_lend_of_a_held_range(rt: HostRuntime) -> Result<(), Fail> {
+    let lend = "\
+load 40022000 1 -> data 00
+store 4002E000 0000000000008001 -> done
+store 4002E018 0000000100000010 -> done
+store 4002E020 0000000000000030 -> done
+store 4002E030 0000004000028002 -> done
+store 4002E040 0000000100000002 -> done
+store 4002E050 0000000040021000 -> done
+store 4002E058 0000000000000002 -> done
+call 84000072 60 60 -> 8001: 84000061 0 1 8001
+load 40022000 1 -> fault translation
+";
+    plays(&rt, rt.alloc(), &[MAPPED, lend])
+}
+
+// Zeros stand in RAM, and nothing in the cache, whatever was there before a machine began.
+#[test]
+fn begins_with_nothing(rt: HostRuntime) -> Result<(), Fail> {
+    let mut cache = four_in_turn();
+    let (phys, read, write, exec) = (0x4000_0000, true, true, true);
+    cache.fill(
+        FIRST,
+        LENT,
+        Leaf {
+            phys,
+            read,
+            write,
+            exec,
+        },
+    );
+    let mut ram = FlatRam::new(rt.alloc(), Address(0x4000_0000), 512)?;
+    ram.write_word(LENT, 0, 0x5A);
+    let mut player = Player::new(Machine::boot_with(&row_machine(), ram, cache));
+    goes_on(&rt, rt.alloc(), &mut player, MAPPED)?;
+    holds(&rt, !is_held(&player, FIRST, LENT));
+    goes_on(&rt, rt.alloc(), &mut player, LOAD)
+}
+
 // The pages of the machine's tables.
 const TABLES: u32 = 9;
 
@@ -145,13 +186,19 @@ impl Counting {
 }
 
 impl PhysMem for Counting {
-    ghost use Rattle.std.specs.Prelude.{refl};
+    ghost use Rattle.std.specs.Prelude.{refl, None};
+    ghost use Rattle.ffa_physmem.specs.Unrecorded.{unrecorded};
 
     ghost ram = { λ m. ⟦<FlatRam as PhysMem>⟧.ram m.ram };
 
     ghost with_bytes = { λ m page bytes. record m { ram = ⟦<FlatRam as PhysMem>⟧.with_bytes m.ram page bytes } };
 
+    // No record is kept.
+    ghost past = { λ _. None };
+
     ghost one_page = { λ m page bytes. refl };
+
+    ghost in_loan = { λ _ _ _. unrecorded };
 
     fn base(&self) -> Address {
         self.ram.base()
@@ -173,6 +220,16 @@ impl PhysMem for Counting {
     fn read_word(&self, page: PageNo, index: usize) -> u64 {
         self.count(page);
         self.ram.read_word(page, index)
+    }
+
+    fn settle(&mut self, _endpoint: usize, _first: PageNo, _count: u32) {}
+
+    fn observe(&mut self, _first: PageNo, _count: u32) {}
+
+    fn release(&mut self, _first: PageNo, _count: u32) {}
+
+    fn write_word(&mut self, page: PageNo, index: usize, value: u64) {
+        self.ram.write_word(page, index, value);
     }
 }
 
@@ -207,10 +264,16 @@ fn reads_of<T: Translations + Drop>(
 fn a_page_that_is_held_is_not_walked(rt: HostRuntime) -> Result<(), Fail> {
     let alloc = rt.alloc();
     let mut player = counting_player(alloc)?;
-    played(alloc, &mut player, "call 8400006D 80010000\n")?;
+    played(
+        alloc,
+        &mut player,
+        "fetch 40010000\ncall 8400006D 80010000\n",
+    )?;
+    holds(&rt, !is_held(&player, EndpointId(0), PageNo(0x10)));
     holds(&rt, reads_of(alloc, &mut player, "load 40020000 1\n")? > 0);
     reads_of(alloc, &mut player, "load 40021000 1\n")?;
-    same(&rt, reads_of(alloc, &mut player, "load 40021000 1\n")?, 0);
+    let again = "load 40021000 1\ncall 84000069\nload 40021000 1\n";
+    same(&rt, reads_of(alloc, &mut player, again)?, 0);
     holds(&rt, is_held(&player, FIRST, PageNo(0x20)));
     holds(&rt, is_held(&player, FIRST, LENT));
     Ok(())

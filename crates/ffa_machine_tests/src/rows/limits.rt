@@ -29,11 +29,17 @@ fn manifest_with_more(alloc: Global, pages: &str) -> Result<Manifest, Fail> {
     Ok(read(alloc, text.as_str())?)
 }
 
-// Behind sixteen shares the last page isn't shared once more, and another one has no room, though the second partition has.
+// Behind sixteen shares the last page isn't shared once more, and another one has no room, though the second partition has. Zeros
+// that are asked of a page for which there is no room aren't written.
 const FULL: &str = "\
 call 84000073 60 60 -> 8001: 84000060 0 FFFFFFFA
 store 4002E050 0000000040021000 -> done
 call 84000073 60 60 -> 8001: 84000060 0 FFFFFFFD
+store 40021000 5A -> done
+store 4002E000 0000000100008001 -> done
+call 84000072 60 60 -> 8001: 84000060 0 FFFFFFFD
+load 40021000 1 -> data 5A
+store 4002E000 00000000002F8001 -> done
 call 8400006B -> 0: 8400006B 80010000
 call 8400006D 80020000 -> 8002: 8400006D 80020000
 store 4003E000 00000000002F8002 -> done
@@ -187,6 +193,7 @@ fn a_range_across_pages(rt: HostRuntime) -> Result<(), Fail> {
 // marks stand one page less.
 const WHOLE: &str = "\
 call 84000066 40020000 40024000 # -> 8001: 84000061
+store 40020FF0 FFFFFFFFFFFFFFFF -> done
 store 40020000 0000000000008001 -> done
 store 40020018 0000000100000010 -> done
 store 40020020 0000000000000030 -> done

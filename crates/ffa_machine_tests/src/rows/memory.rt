@@ -61,6 +61,9 @@ load 40021000 1 -> fault translation
 #[test]
 fn a_lend_and_its_response(rt: HostRuntime) -> Result<(), Fail> {
     let response = "\
+call 84000068 -> 8002: 84000061 0 2 18
+call 84000074 40 40 -> 8002: 84000060 0 FFFFFFFC
+call 84000065 -> 8002: 84000061
 call 84000074 40 40 -> 8002: 84000075 60 60
 load 4003F000 8 -> data 00000010002F8001
 load 4003F008 8 -> data 0000800100000001
@@ -391,6 +394,8 @@ fn a_lend_of_each_length(rt: HostRuntime) -> Result<(), Fail> {
 #[test]
 fn the_certificate_after_a_lend(rt: HostRuntime) -> Result<(), Fail> {
     let certificate = "\
+store 4002E050 0000000040022000 -> done
+call 84000072 60 60 -> 8001: 84000061 0 2 8001
 audit -> cert 40000000 401FFFFF 3
 root 0000 40000000
 root 8001 40003000
@@ -399,7 +404,8 @@ pages 40000000 4000FFFF 8000 - --- --- ---
 pages 40010000 4001FFFF 0000 - rw- --- ---
 pages 40020000 40020FFF 8001 - --- rwx ---
 pages 40021000 40021FFF 8001 0000800100000001 --- --- ---
-pages 40022000 4002FFFF 8001 - --- rwx ---
+pages 40022000 40022FFF 8001 0000800100000002 --- --- ---
+pages 40023000 4002FFFF 8001 - --- rwx ---
 pages 40030000 4003FFFF 8002 - --- --- rw-
 pages 40040000 401FFFFF 8000 - --- --- ---
 agrees
@@ -413,7 +419,8 @@ pages 40000000 4000FFFF 8000 - --- --- ---
 pages 40010000 4001FFFF 0000 - rw- --- ---
 pages 40020000 40020FFF 8001 - --- rwx ---
 pages 40021000 40021FFF 8001 0000800100000001 --- --- rw-
-pages 40022000 4002FFFF 8001 - --- rwx ---
+pages 40022000 40022FFF 8001 0000800100000002 --- --- ---
+pages 40023000 4002FFFF 8001 - --- rwx ---
 pages 40030000 4003FFFF 8002 - --- --- rw-
 pages 40040000 401FFFFF 8000 - --- --- ---
 agrees

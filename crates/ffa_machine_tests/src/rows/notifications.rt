@@ -62,11 +62,38 @@ call 8400006D 80010000 -> 8001: 8400006D 80010000
 call 84000081 80010000 0 0 1 -> 8001: 84000061
 call 8400006B -> 0: 8400006B 80010000
 call 84000080 80010000 0 0 1 -> 0: 84000060 0 FFFFFFFA
+call 8400007F 80010000 0 0 1 -> 0: 84000060 0 FFFFFFFA
 call 8400007E 0 -> 0: 84000060 0 FFFFFFFA
 call 84000082 0 1 -> 0: 84000061 0 0 1
 call 8400007E 0 -> 0: 84000061
 call 8400006D 80010000 -> 8001: 8400006D 80010000
 call 84000081 80010000 0 0 1 -> 8001: 84000060 0 FFFFFFFA
+";
+    compact::plays_in_both_forms(&rt, rt.alloc(), row)
+}
+
+// The first partition sends a message to the normal world, which is told where it has bitmaps. They are taken away once no bit
+// of any class is pending.
+#[test]
+fn a_message_to_the_normal_world_is_told(rt: HostRuntime) -> Result<(), Fail> {
+    let row = "\
+call 84000066 4001E000 4001F000 1 -> 0: 84000061
+call 8400006D 80010000 -> 8001: 8400006D 80010000
+call 84000066 4002E000 4002F000 1 -> 8001: 84000061
+store 4002E008 8001000000000014 -> done
+store 4002E010 00000001 -> done
+call 84000086 -> 8001: 84000061
+call 8400006B -> 0: 8400006B 80010000
+call 8400007D 0 1 -> 0: 84000061
+call 84000082 0 4 -> 0: 84000061
+call 84000065 -> 0: 84000061
+call 8400006D 80010000 -> 8001: 8400006D 80010000
+call 84000086 -> 8001: 84000061
+call 8400006B -> 0: 8400006B 80010000
+call 8400007E 0 -> 0: 84000060 0 FFFFFFFA
+call 84000082 0 1 -> 0: 84000061
+call 84000082 0 4 -> 0: 84000061 0 0 0 0 0 1
+call 8400007E 0 -> 0: 84000061
 ";
     compact::plays_in_both_forms(&rt, rt.alloc(), row)
 }

@@ -1,11 +1,11 @@
 // SPDX-License-Identifier: MIT OR Apache-2.0
 //! Calls on memory in RAM that is looked at after each write, as a second processor could look: what the walk of a page
-//! answers changes once at most in a call, so it is at any time what it was before the call or what it is behind it; and
-//! no page is filled with zeros that a walk leads to.
+//! answers is at any time what it was before the call, what it is behind it, or nothing; and no page is filled with zeros to
+//! which a walk leads, or led since the page was last settled.
 //!
 //! Each word of a table is a write of its own here, and no page of tables is lent by `page_mut`: of a loan a look would see
 //! all words at once. One page is lent in a retrieve, its caller's RX.
-ghost use Rattle.std.specs.Prelude.{◌≡◌, ◌*◌, IfOk};
+ghost use Rattle.std.specs.Prelude.{◌≡◌, ◌*◌, ◌<◌, length, IfOk};
 ghost use Rattle.ffa_model.specs.Ram.{zero_ram};
 
 use super::memory::{MAPPED, RETRIEVE, TO_FIRST, TO_SECOND};
@@ -37,13 +37,21 @@ properties = 15
 regions = [{ base = 0x40030000, pages = 16, rights = \"rw\" }]
 ";
 
-// The walk of a page by one endpoint's tables: what it answered last, and how often that has changed.
+// The walk of a page by one endpoint's tables: what it answered when the call began, what else it answered that leads
+// somewhere, and what it answers now; what a translation unit may hold of it, since it was seen and not settled; whether it
+// answered nothing on the way, and whether more than one other thing.
 #[derive(Drop)]
 struct Walk {
+    endpoint: usize,
     root: u32,
+    page: u32,
     address: u64,
+    before: Cell<Result<Leaf, FaultKind>>,
+    behind: Cell<Result<Leaf, FaultKind>>,
     answer: Cell<Result<Leaf, FaultKind>>,
-    changes: Cell<u32>,
+    held: Cell<Result<Leaf, FaultKind>>,
+    is_broken: Cell<bool>,
+    is_strange: Cell<bool>,
 }
 
 impl Walk {
@@ -58,19 +66,45 @@ impl Walk {
     // Notes what it answers now.
     fn look(&self, ram: &FlatRam) {
         let answer = self.answer_in(ram);
-        if answer != self.answer.get() {
-            self.answer.set(answer);
-            self.changes.set(self.changes.get().wrapping_add(1));
+        let last = self.answer.get();
+        if answer.is_ok() {
+            self.held.set(answer);
         }
+        if answer == last {
+            return;
+        }
+        self.answer.set(answer);
+        if answer.is_err() {
+            self.is_broken.set(true);
+        } else if answer != self.before.get() {
+            let is_second = self.behind.get().is_ok() && answer != self.behind.get();
+            self.is_strange.set(self.is_strange.get() || is_second);
+            self.behind.set(answer);
+        }
+    }
+
+    // Whether it answered anything but what it did before, what it does now, and nothing.
+    fn is_wavering(&self) -> bool {
+        let behind = self.behind.get();
+        self.is_strange.get() || behind.is_ok() && behind != self.answer.get()
+    }
+
+    // Forgets what was noted: a call begins.
+    fn begin(&self) {
+        self.before.set(self.answer.get());
+        self.behind.set(Err(FaultKind::Translation));
+        self.is_broken.set(false);
+        self.is_strange.set(false);
     }
 }
 
-// What the writes of a call did: how many walks answer otherwise since one of the writes, and how many changed more than
-// once; how many pages became zeros, and how many of them while a walk led to them; how many pages were lent to be
-// written, of which a look sees all writes together.
+// What the writes of a call did: how many walks answer otherwise behind it, how many answer the same but gave nothing on the
+// way, and how many gave anything else; how many pages became zeros, and how many of them while a translation unit could
+// reach them; how many pages were lent to be written, of which a look sees all writes together.
 #[derive(Clone, Copy, Debug, PartialEq, Eq)]
 struct Writes {
     changed: u32,
+    broken: u32,
     wavering: u32,
     cleared: u32,
     reached: u32,
@@ -96,11 +130,11 @@ impl Watched {
         }
     }
 
-    // Whether some walk leads to a page.
+    // Whether some translation unit may reach a page.
     fn is_reached(&self, page: PageNo) -> bool {
         let base = u64::from(self.ram.base().0);
         let address = u64::wrapping_add(base, 4096 * u64::from(page.0));
-        self.walks.iter().any(|walk| match walk.answer.get() {
+        self.walks.iter().any(|walk| match walk.held.get() {
             Ok(leaf) => leaf.phys == address,
             Err(_) => false,
         })
@@ -111,7 +145,7 @@ impl Watched {
         self.is_call.set(true);
         self.look();
         for walk in self.walks.iter() {
-            walk.changes.set(0);
+            walk.begin();
         }
         self.writes.set(NOTHING);
     }
@@ -122,10 +156,12 @@ impl Watched {
         self.is_call.set(false);
         let mut writes = self.writes.get();
         for walk in self.walks.iter() {
-            match walk.changes.get() {
-                0 => {}
-                1 => writes.changed = writes.changed.wrapping_add(1),
-                _ => writes.wavering = writes.wavering.wrapping_add(1),
+            if walk.is_wavering() {
+                writes.wavering = writes.wavering.wrapping_add(1);
+            } else if walk.answer.get() != walk.before.get() {
+                writes.changed = writes.changed.wrapping_add(1);
+            } else if walk.is_broken.get() {
+                writes.broken = writes.broken.wrapping_add(1);
             }
         }
         writes
@@ -135,6 +171,7 @@ impl Watched {
 // No writes.
 const NOTHING: Writes = Writes {
     changed: 0,
+    broken: 0,
     wavering: 0,
     cleared: 0,
     reached: 0,
@@ -142,13 +179,19 @@ const NOTHING: Writes = Writes {
 };
 
 impl PhysMem for Watched {
-    ghost use Rattle.std.specs.Prelude.{refl};
+    ghost use Rattle.std.specs.Prelude.{refl, None};
+    ghost use Rattle.ffa_physmem.specs.Unrecorded.{unrecorded};
 
     ghost ram = { λ m. ⟦<FlatRam as PhysMem>⟧.ram m.ram };
 
     ghost with_bytes = { λ m page bytes. record m { ram = ⟦<FlatRam as PhysMem>⟧.with_bytes m.ram page bytes } };
 
+    // No record is kept.
+    ghost past = { λ _. None };
+
     ghost one_page = { λ m page bytes. refl };
+
+    ghost in_loan = { λ _ _ _. unrecorded };
 
     fn base(&self) -> Address {
         self.ram.base()
@@ -171,6 +214,20 @@ impl PhysMem for Watched {
         });
         self.ram.page_mut(page)
     }
+
+    fn settle(&mut self, endpoint: usize, first: PageNo, count: u32) {
+        self.look();
+        for walk in self.walks.iter() {
+            let is_named = walk.page >= first.0 && walk.page - first.0 < count;
+            if walk.endpoint == endpoint && is_named {
+                walk.held.set(walk.answer.get());
+            }
+        }
+    }
+
+    fn observe(&mut self, _first: PageNo, _count: u32) {}
+
+    fn release(&mut self, _first: PageNo, _count: u32) {}
 
     fn write_word(&mut self, page: PageNo, index: usize, value: u64) {
         self.ram.write_word(page, index, value);
@@ -210,20 +267,29 @@ impl Watched {
 fn walks_of(alloc: Global, manifest: &Manifest) -> Result<Vec<Walk>, Fail> {
     let mut walks = Vec::new(alloc);
     for index in 0..manifest.endpoints.len() {
-        push_walks(&mut walks, manifest, manifest.root(index))?;
+        push_walks(&mut walks, manifest, index)?;
     }
     Ok(walks)
 }
 
-// Adds the walks from a root of the first three pages of each block, and of its last three.
-fn push_walks(walks: &mut Vec<Walk>, manifest: &Manifest, root: u32) -> Result<(), Fail> {
+// Adds the walks of an endpoint for the first three pages of each block, and its last three.
+fn push_walks(walks: &mut Vec<Walk>, manifest: &Manifest, endpoint: usize) -> Result<(), Fail>
+    requires { endpoint < length manifest.now.endpoints.items }
+{
+    let root = manifest.root(endpoint);
     for page in 0..512 * manifest.ram_blocks {
         if (page + 3) % 512 < 6 {
             walks.push(Walk {
+                endpoint,
                 root,
+                page,
                 address: u64::from(manifest.ram_base.0) + 4096 * u64::from(page),
+                before: Cell::new(Err(FaultKind::Translation)),
+                behind: Cell::new(Err(FaultKind::Translation)),
                 answer: Cell::new(Err(FaultKind::Translation)),
-                changes: Cell::new(0),
+                held: Cell::new(Err(FaultKind::Translation)),
+                is_broken: Cell::new(false),
+                is_strange: Cell::new(false),
             })?;
         }
     }
@@ -251,11 +317,13 @@ fn writes_of(
     Ok(player.machine().ram().counted())
 }
 
-// Pages that are sent: how many they are, and how many of them are looked at.
+// Pages that are sent: how many they are, and how many of them are looked at; and of how many others, that are looked at, the
+// sender's block is split or joined.
 struct Sending {
     steps: &'static str,
     pages: u32,
     looked_at: u32,
+    beside: u32,
 }
 
 // The page before the block, and the whole block.
@@ -267,6 +335,7 @@ store 4002E058 0000000000000201 -> done
 ",
     pages: 513,
     looked_at: 7,
+    beside: 0,
 };
 
 // One page inside the block.
@@ -278,6 +347,7 @@ store 4002E058 0000000000000001 -> done
 ",
     pages: 1,
     looked_at: 1,
+    beside: 5,
 };
 
 impl Sending {
@@ -287,6 +357,14 @@ impl Sending {
             changed: self.looked_at,
             cleared: self.pages,
             ..NOTHING
+        }
+    }
+
+    // The same of the sender, whose block is broken for it.
+    fn with_a_break(&self) -> Writes {
+        Writes {
+            broken: self.beside,
+            ..self.with_zeros()
         }
     }
 
@@ -320,7 +398,7 @@ store 4003E010 8002 -> done
 
 const RETRIEVED: &str = "response: call 84000074 40 40 -> 8002: 84000075 60 60";
 
-const RECLAIM: &str = "zeros: call 84000077 1 8001 1 -> 8001: 84000061";
+const RECLAIM: &str = "break and zeros: call 84000077 1 8001 1 -> 8001: 84000061";
 
 // Plays steps one by one on a machine whose first partition runs. What a step does that is a call with zeros or with a
 // response is counted.
@@ -344,6 +422,9 @@ fn counts_step(
     if let Some(call) = step.strip_prefix("zeros: ") {
         let writes = writes_of(rt, alloc, player, call)?;
         same_at(rt, writes, sending.with_zeros(), &step);
+    } else if let Some(call) = step.strip_prefix("break and zeros: ") {
+        let writes = writes_of(rt, alloc, player, call)?;
+        same_at(rt, writes, sending.with_a_break(), &step);
     } else if let Some(call) = step.strip_prefix("response: ") {
         let writes = writes_of(rt, alloc, player, call)?;
         same_at(rt, writes, sending.with_response(), &step);
@@ -359,7 +440,8 @@ fn lends(rt: &impl Abort, alloc: Global, sending: &Sending) -> Result<(), Fail> 
         ZEROED,
         LENT,
         sending.steps,
-        "zeros: call 84000072 60 60 -> 8001: 84000061 0 1 8001",
+        "break and zeros: call 84000072 60 60 -> 8001: 84000061 0 1 8001",
+        "call 84000068 0 0 0 0 1 -> 8001: 84000061 0 2",
         TO_SECOND,
         RETRIEVE,
         RETRIEVED,
@@ -383,9 +465,9 @@ fn donates(rt: &impl Abort, alloc: Global, sending: &Sending) -> Result<(), Fail
         ZEROED,
         DONATED,
         sending.steps,
-        "zeros: call 84000071 60 60 -> 8001: 84000061 0 1 8001",
+        "break and zeros: call 84000071 60 60 -> 8001: 84000061 0 1 8001",
         RECLAIM,
-        "zeros: call 84000071 60 60 -> 8001: 84000061 0 2 8001",
+        "break and zeros: call 84000071 60 60 -> 8001: 84000061 0 2 8001",
         TO_SECOND,
         RETRIEVE,
         "store 4003E008 0000800100000002 -> done",

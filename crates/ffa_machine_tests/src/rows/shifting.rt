@@ -1,0 +1,279 @@
+// SPDX-License-Identifier: MIT OR Apache-2.0
+//! Calls that read TX in RAM to which others write at the same time: what one reading gave is what the call goes by.
+//!
+//! One word of this RAM is another one at each reading, and another one still when the reading ends, so a call that read
+//! it twice, or after the end, would find two words.
+ghost use Rattle.std.specs.Prelude.{◌≡◌, ℕ, ◌+◌, ◌*◌, ◌≤◌, length, IfOk};
+ghost use Rattle.ffa_model.specs.Lists.{is_in_run};
+ghost use Rattle.ffa_model.specs.Ram.{page_of, zero_ram};
+ghost use Rattle.ffa_physmem.specs.Moments.{IsBeside};
+
+use super::*;
+use crate::checks::{alike, same};
+use ffa_manifest::read;
+use ffa_model::{Address, EndpointId, Op, Outcome, PageNo, Size};
+use ffa_physmem::{FlatRam, PhysMem};
+use ffa_spmc::Machine;
+
+// The machine of the rows with a third partition.
+const MACHINE: &str = "ram_base = 0x40000000
+ram_blocks = 1
+[[endpoint]]
+version = \"1.1\"
+properties = 6
+regions = [{ base = 0x40010000, pages = 16, rights = \"rw\" }]
+[[endpoint]]
+version = \"1.1\"
+uuid = \"00112233-4455-6677-8899-aabbccddeeff\"
+properties = 15
+regions = [{ base = 0x40020000, pages = 16, rights = \"rw\" }]
+[[endpoint]]
+version = \"1.1\"
+uuid = \"10112233-4455-6677-8899-aabbccddeeff\"
+properties = 15
+regions = [{ base = 0x40030000, pages = 16, rights = \"rw\" }]
+[[endpoint]]
+version = \"1.1\"
+uuid = \"20112233-4455-6677-8899-aabbccddeeff\"
+properties = 15
+regions = [{ base = 0x40040000, pages = 16, rights = \"rw\" }]
+";
+
+// The first page of the first partition's TX, and the words of the page that its descriptor names and of its message's receiver.
+const TX: PageNo = PageNo(0x2E);
+
+const NAMED: usize = 10;
+
+const RECEIVER: usize = 1;
+
+// RAM a word of which is the next of these whenever it is read at once, and whenever that ends.
+#[derive(Drop)]
+struct Shifting {
+    ram: FlatRam,
+    word: usize,
+    next: [u64; 2],
+    taken: usize,
+}
+
+impl Shifting {
+    // RAM of zeros for a machine.
+    fn new(
+        alloc: Global,
+        manifest: &Manifest,
+        word: usize,
+        next: [u64; 2],
+    ) -> Result<Shifting, Fail>
+        ensures { IfOk result (λ ram. ⟦<Shifting as PhysMem>⟧.ram ram ≡ zero_ram manifest.now.ram_base.0 (512 * manifest.now.ram_blocks)) }
+    {
+        let ram = FlatRam::new(alloc, manifest.ram_base, 512 * manifest.ram_blocks)?;
+        Ok(Shifting {
+            ram,
+            word,
+            next,
+            taken: 0,
+        })
+    }
+
+    // Writes the next word, where its page is one of these.
+    fn shift(&mut self, first: PageNo, count: u32)
+        requires { first.0 + count ≤ length (⟦<FlatRam as PhysMem>⟧.ram self.old.ram).pages }
+        ensures beside { IsBeside (⟦<FlatRam as PhysMem>⟧.ram self.old.ram) (⟦<FlatRam as PhysMem>⟧.ram self.new.ram) (is_in_run first.0 count) }
+        ensures whole { (p : ℕ) → length (page_of (⟦<FlatRam as PhysMem>⟧.ram self.new.ram) p) ≡ length (page_of (⟦<FlatRam as PhysMem>⟧.ram self.old.ram) p) }
+    {
+        if self.taken < 2 && self.word < 512 && first.0 <= TX.0 && TX.0 - first.0 < count {
+            // Proof step: the page is whole.
+            let _ = self.ram.page(TX);
+            self.ram.write_word(TX, self.word, self.next[self.taken]);
+            self.taken += 1;
+        }
+    }
+}
+
+impl PhysMem for Shifting {
+    ghost use Rattle.std.specs.Prelude.{refl, None};
+    ghost use Rattle.ffa_physmem.specs.Unrecorded.{unrecorded};
+
+    ghost ram = { λ m. ⟦<FlatRam as PhysMem>⟧.ram m.ram };
+
+    ghost with_bytes = { λ m page bytes. record m { ram = ⟦<FlatRam as PhysMem>⟧.with_bytes m.ram page bytes } };
+
+    // No record is kept.
+    ghost past = { λ _. None };
+
+    ghost one_page = { λ m page bytes. refl };
+
+    ghost in_loan = { λ _ _ _. unrecorded };
+
+    fn base(&self) -> Address {
+        self.ram.base()
+    }
+
+    fn pages(&self) -> u32 {
+        self.ram.pages()
+    }
+
+    fn page(&self, page: PageNo) -> &[u8; 4096] {
+        self.ram.page(page)
+    }
+
+    fn page_mut(&mut self, page: PageNo) -> &mut [u8; 4096] {
+        self.ram.page_mut(page)
+    }
+
+    fn write_word(&mut self, page: PageNo, index: usize, value: u64) {
+        self.ram.write_word(page, index, value);
+    }
+
+    fn settle(&mut self, _endpoint: usize, _first: PageNo, _count: u32) {}
+
+    fn observe(&mut self, first: PageNo, count: u32) {
+        self.shift(first, count);
+    }
+
+    fn release(&mut self, first: PageNo, count: u32) {
+        self.shift(first, count);
+    }
+}
+
+// A call with three registers.
+fn call(x0: u64, x1: u64, x2: u64) -> Op {
+    Op::Call([x0, x1, x2, 0, 0, 0, 0, 0])
+}
+
+// FFA_RXTX_MAP of one page each.
+fn map(tx: u64) -> Op {
+    Op::Call([
+        0x8400_0066,
+        tx,
+        u64::wrapping_add(tx, 0x1000),
+        1,
+        0,
+        0,
+        0,
+        0,
+    ])
+}
+
+fn store(addr: u64, value: u64) -> Op {
+    Op::Store {
+        addr,
+        size: Size::B8,
+        value,
+    }
+}
+
+// Each partition maps its buffers, and the first one runs in the end.
+fn begin(machine: &mut Machine<Shifting>) {
+    for (target, tx) in [
+        (0x8003_0000, 0x4004_E000),
+        (0x8002_0000, 0x4003_E000),
+        (0x8001_0000, 0x4002_E000),
+    ] {
+        // FFA_MSG_WAIT of the partition that runs, and FFA_RUN of the next.
+        let _ = machine.op(&call(0x8400_006B, 0, 0));
+        let _ = machine.op(&call(0x8400_006D, target, 0));
+        let _ = machine.op(&map(tx));
+    }
+}
+
+// A machine whose first partition runs, and where all partitions have buffers.
+fn shifting_machine(alloc: Global, word: usize, next: [u64; 2]) -> Result<Machine<Shifting>, Fail> {
+    let manifest = read(alloc, MACHINE)?;
+    let ram = Shifting::new(alloc, &manifest, word, next)?;
+    let mut machine = Machine::boot_cleared(&manifest, ram, NoTlb);
+    begin(&mut machine);
+    Ok(machine)
+}
+
+// The registers in which an operation ends, if it is a call.
+fn registers(outcome: &Outcome) -> [u64; 8] {
+    match outcome {
+        Outcome::Regs { x, .. } => *x,
+        _ => [0; 8],
+    }
+}
+
+// A word of a page, where RAM has it.
+fn word_at(machine: &Machine<Shifting>, page: PageNo, index: usize) -> Option<u64> {
+    let ram = machine.ram();
+    if page.0 < ram.pages() && index < 512 {
+        Some(ram.read_word(page, index))
+    } else {
+        None
+    }
+}
+
+// A lend of the page at 40021000 to the second partition, but for the word that names the page.
+fn write_lend(machine: &mut Machine<Shifting>) {
+    let words = [
+        (0x00, 0x8001),
+        (0x18, 0x1_0000_0010),
+        (0x20, 0x30),
+        (0x30, 0x40_0002_8002),
+        (0x40, 0x1_0000_0001),
+        (0x58, 1),
+    ];
+    for (place, value) in words {
+        let _ = machine.op(&store(u64::wrapping_add(0x4002_E000, place), value));
+    }
+}
+
+// The page that the one reading names is lent, and not the one that stands in TX when the call ends.
+#[test]
+fn a_descriptor_is_read_once(rt: HostRuntime) -> Result<(), Fail> {
+    let mut machine = shifting_machine(rt.alloc(), NAMED, [0x4002_1000, 0x4002_2000])?;
+    write_lend(&mut machine);
+    let outcome = machine.op_among_others(&call(0x8400_0072, 0x60, 0x60));
+    same(&rt, registers(&outcome)[0], 0x8400_0061);
+    same(&rt, word_at(&machine, TX, NAMED), Some(0x4002_2000));
+    alike(
+        &rt,
+        machine.access(EndpointId(0x8001), PageNo(0x21)).is_some(),
+        false,
+    );
+    alike(
+        &rt,
+        machine.access(EndpointId(0x8001), PageNo(0x22)).is_some(),
+        true,
+    );
+    Ok(())
+}
+
+// A page of another endpoint that the one reading names is refused, though the next one names an own page.
+#[test]
+fn a_bad_descriptor_is_read_once(rt: HostRuntime) -> Result<(), Fail> {
+    let mut machine = shifting_machine(rt.alloc(), NAMED, [0x4003_1000, 0x4002_1000])?;
+    write_lend(&mut machine);
+    let outcome = machine.op_among_others(&call(0x8400_0072, 0x60, 0x60));
+    same(&rt, registers(&outcome)[0], 0x8400_0060);
+    alike(
+        &rt,
+        machine.access(EndpointId(0x8001), PageNo(0x21)).is_some(),
+        true,
+    );
+    Ok(())
+}
+
+// A message goes to the receiver that the one reading names, with the bytes of that reading.
+#[test]
+fn a_message_is_read_once(rt: HostRuntime) -> Result<(), Fail> {
+    let next = [0x8001_8002_0000_0018, 0x8001_8003_0000_0018];
+    let mut machine = shifting_machine(rt.alloc(), RECEIVER, next)?;
+    let _ = machine.op(&store(0x4002_E010, 2));
+    let _ = machine.op(&store(0x4002_E018, 0x0707));
+    let outcome = machine.op_among_others(&call(0x8400_0086, 0, 0));
+    same(&rt, registers(&outcome)[0], 0x8400_0061);
+    same(
+        &rt,
+        word_at(&machine, TX, RECEIVER),
+        Some(0x8001_8003_0000_0018),
+    );
+    same(
+        &rt,
+        word_at(&machine, PageNo(0x3F), RECEIVER),
+        Some(0x8001_8002_0000_0018),
+    );
+    same(&rt, word_at(&machine, PageNo(0x3F), 3), Some(0x0707));
+    same(&rt, word_at(&machine, PageNo(0x4F), RECEIVER), Some(0));
+    Ok(())
+}
