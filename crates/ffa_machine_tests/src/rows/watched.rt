@@ -1,7 +1,8 @@
 // SPDX-License-Identifier: MIT OR Apache-2.0
 //! Calls on memory in RAM that is looked at after each write, as a second processor could look: what the walk of a page
-//! answers is at any time what it was before the call, what it is behind it, or nothing; and no page is filled with zeros to
-//! which a walk leads, or led since the page was last settled.
+//! answers is at any time what it was before the call, what it is behind it, or nothing; no page is filled with zeros to
+//! which a walk leads, or led since the page was last settled; and behind a call no translation unit may hold what a walk gave
+//! before it and gives no more.
 //!
 //! Each word of a table is a write of its own here, and no page of tables is lent by `page_mut`: of a loan a look would see
 //! all words at once. One page is lent in a retrieve, its caller's RX.
@@ -89,6 +90,11 @@ impl Walk {
         self.is_strange.get() || behind.is_ok() && behind != self.answer.get()
     }
 
+    // Whether a translation unit may hold another answer than that of now.
+    fn is_stale(&self) -> bool {
+        self.held.get().is_ok() && self.held.get() != self.answer.get()
+    }
+
     // Forgets what was noted: a call begins.
     fn begin(&self) {
         self.before.set(self.answer.get());
@@ -100,7 +106,8 @@ impl Walk {
 
 // What the writes of a call did: how many walks answer otherwise behind it, how many answer the same but gave nothing on the
 // way, and how many gave anything else; how many pages became zeros, and how many of them while a translation unit could
-// reach them; how many pages were lent to be written, of which a look sees all writes together.
+// reach them; of how many walks a translation unit may hold another answer behind it; how many pages were lent to be written,
+// of which a look sees all writes together.
 #[derive(Clone, Copy, Debug, PartialEq, Eq)]
 struct Writes {
     changed: u32,
@@ -108,6 +115,7 @@ struct Writes {
     wavering: u32,
     cleared: u32,
     reached: u32,
+    stale: u32,
     lent: u32,
 }
 
@@ -156,6 +164,7 @@ impl Watched {
         self.is_call.set(false);
         let mut writes = self.writes.get();
         for walk in self.walks.iter() {
+            writes.stale = writes.stale.wrapping_add(u32::from(walk.is_stale()));
             if walk.is_wavering() {
                 writes.wavering = writes.wavering.wrapping_add(1);
             } else if walk.answer.get() != walk.before.get() {
@@ -175,6 +184,7 @@ const NOTHING: Writes = Writes {
     wavering: 0,
     cleared: 0,
     reached: 0,
+    stale: 0,
     lent: 0,
 };
 
@@ -368,6 +378,22 @@ impl Sending {
         }
     }
 
+    // Changes of the access to these pages, which keep their bytes.
+    fn with_bytes(&self) -> Writes {
+        Writes {
+            cleared: 0,
+            ..self.with_zeros()
+        }
+    }
+
+    // The same of the sender, whose block is broken for it.
+    fn with_bytes_and_a_break(&self) -> Writes {
+        Writes {
+            cleared: 0,
+            ..self.with_a_break()
+        }
+    }
+
     // Changes of the access to these pages, and a response in RX.
     fn with_response(&self) -> Writes {
         Writes {
@@ -400,8 +426,7 @@ const RETRIEVED: &str = "response: call 84000074 40 40 -> 8002: 84000075 60 60";
 
 const RECLAIM: &str = "break and zeros: call 84000077 1 8001 1 -> 8001: 84000061";
 
-// Plays steps one by one on a machine whose first partition runs. What a step does that is a call with zeros or with a
-// response is counted.
+// Plays steps one by one on a machine whose first partition runs. What a step does that is a call on memory is counted.
 fn counts(rt: &impl Abort, alloc: Global, sending: &Sending, parts: &[&str]) -> Result<(), Fail> {
     let mut player = watched_machine(rt, alloc)?;
     for part in parts {
@@ -425,6 +450,12 @@ fn counts_step(
     } else if let Some(call) = step.strip_prefix("break and zeros: ") {
         let writes = writes_of(rt, alloc, player, call)?;
         same_at(rt, writes, sending.with_a_break(), &step);
+    } else if let Some(call) = step.strip_prefix("bytes: ") {
+        let writes = writes_of(rt, alloc, player, call)?;
+        same_at(rt, writes, sending.with_bytes(), &step);
+    } else if let Some(call) = step.strip_prefix("break and bytes: ") {
+        let writes = writes_of(rt, alloc, player, call)?;
+        same_at(rt, writes, sending.with_bytes_and_a_break(), &step);
     } else if let Some(call) = step.strip_prefix("response: ") {
         let writes = writes_of(rt, alloc, player, call)?;
         same_at(rt, writes, sending.with_response(), &step);
@@ -434,29 +465,62 @@ fn counts_step(
     Ok(())
 }
 
-// A lend and its way back, with zeros at each step that may have them.
-fn lends(rt: &impl Abort, alloc: Global, sending: &Sending) -> Result<(), Fail> {
+// How a lend is sent, how it is given up, and how it is reclaimed.
+struct Lending {
+    send: &'static str,
+    give_up: &'static str,
+    reclaim: &'static str,
+}
+
+// With zeros at each step that may have them.
+const WITH_ZEROS: Lending = Lending {
+    send: "break and zeros: call 84000072 60 60 -> 8001: 84000061 0 1 8001",
+    give_up: "zeros: call 84000076 -> 8002: 84000061",
+    reclaim: RECLAIM,
+};
+
+// Every page keeps its bytes.
+const WITH_BYTES: Lending = Lending {
+    send: "\
+store 4002E000 0000000000008001 -> done
+break and bytes: call 84000072 60 60 -> 8001: 84000061 0 1 8001
+",
+    give_up: "\
+store 4003E008 0000000100000000 -> done
+bytes: call 84000076 -> 8002: 84000061
+",
+    reclaim: "break and bytes: call 84000077 1 8001 0 -> 8001: 84000061",
+};
+
+// A lend and its way back.
+fn lends(rt: &impl Abort, alloc: Global, sending: &Sending, lending: &Lending) -> Result<(), Fail> {
     let parts = [
         ZEROED,
         LENT,
         sending.steps,
-        "break and zeros: call 84000072 60 60 -> 8001: 84000061 0 1 8001",
+        lending.send,
         "call 84000068 0 0 0 0 1 -> 8001: 84000061 0 2",
         TO_SECOND,
         RETRIEVE,
         RETRIEVED,
         GIVEN_UP,
-        "zeros: call 84000076 -> 8002: 84000061",
+        lending.give_up,
         TO_FIRST,
-        RECLAIM,
+        lending.reclaim,
     ];
     counts(rt, alloc, sending, &parts)
 }
 
 #[test]
 fn each_write_of_a_lend(rt: HostRuntime) -> Result<(), Fail> {
-    lends(&rt, rt.alloc(), &AROUND)?;
-    lends(&rt, rt.alloc(), &INSIDE)
+    lends(&rt, rt.alloc(), &AROUND, &WITH_ZEROS)?;
+    lends(&rt, rt.alloc(), &INSIDE, &WITH_ZEROS)
+}
+
+#[test]
+fn each_write_of_a_lend_that_keeps_its_bytes(rt: HostRuntime) -> Result<(), Fail> {
+    lends(&rt, rt.alloc(), &AROUND, &WITH_BYTES)?;
+    lends(&rt, rt.alloc(), &INSIDE, &WITH_BYTES)
 }
 
 // A donate that is reclaimed, with zeros at each step, and another that is retrieved.
