@@ -348,16 +348,16 @@ store 4002E058 0000000000000201 -> done
     beside: 0,
 };
 
-// One page inside the block.
+// Two pages inside the block.
 const INSIDE: Sending = Sending {
     steps: "\
-store 4002E040 0000000100000001 -> done
+store 4002E040 0000000100000002 -> done
 store 4002E050 0000000040201000 -> done
-store 4002E058 0000000000000001 -> done
+store 4002E058 0000000000000002 -> done
 ",
-    pages: 1,
-    looked_at: 1,
-    beside: 5,
+    pages: 2,
+    looked_at: 2,
+    beside: 4,
 };
 
 impl Sending {
