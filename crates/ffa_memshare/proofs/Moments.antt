@@ -3,7 +3,7 @@
 use Rattle.std.proofs.Common.{◌≡◌, ◌∙◌, ℕ, zero, suc, ◌+◌, ◌≤◌, ◌<◌, Bool, true, false, List, [], ◌∷◌, length, take, replicate, Option, Some, None, cond, refl, sym, ap, subst, arith, inl, inr, ◌⊎◌}
 use Rattle.std.specs.Prelude.{◌==◌, ◌&&◌, ◌||◌, is_some}
 use Rattle.std.proofs.Math.Bool.{or-true}
-use Rattle.std.proofs.lemmas.Bool.{cases_Bool, cases_eq, cases_lt, false≢true, false_from_ne_true}
+use Rattle.std.proofs.lemmas.Bool.{cases_Bool, cases_eq, cases_lt, false≢true, false_from_ne_true, true≢false}
 use Rattle.std.proofs.lemmas.List.{get_or-set_other, get_or-set_same, length-set}
 use Rattle.std.proofs.lemmas.Bool.Decides.{nat_tests}
 use Rattle.ffa_model.specs.Ram.{Ram, page_of, with_page}
@@ -14,13 +14,13 @@ use Rattle.ffa_model.specs.State.{Buffers}
 use Rattle.ffa_physmem.specs.Moments.{IsBeside, IsSettledBy, IsWriting, Only, Step}
 use Rattle.ffa_physmem.proofs.Moments.{Only-map, Only-then, writing-below, writing-keeps}
 use Rattle.ffa_rxtx.specs.Parts.{IsBesideRx, IsRxWriting}
-use Rattle.ffa_stage2.specs.Moments.{IsBetween, IsMoment, IsOutOrStays}
+use Rattle.ffa_stage2.specs.Moments.{EndsSettled, IsBetween, IsMoment, IsOutOrStays}
 use Rattle.ffa_stage2.specs.Orders.{IsOrdered}
 use Rattle.ffa_stage2.specs.Tables.{IsBuilt, table_page}
 use Rattle.ffa_stage2.specs.Blocks.{IsEither}
 use Rattle.ffa_stage2.proofs.Kept.{built-kept, built_by-kept}
 use Rattle.ffa_stage2.proofs.Walks.{standing-of_built}
-use Rattle.ffa_stage2.proofs.Moments.{between-beside, between-last as between-behind, between-then, ordered-behind}
+use Rattle.ffa_stage2.proofs.Moments.{between-beside, between-last as between-behind, between-then, ends-of-rights, no-right-ends, ordered-behind}
 use Rattle.ffa_memshare.specs.Callers.{IsRxApart}
 use Rattle.ffa_memshare.specs.Changes.{AreBehind, IsCleared}
 use Rattle.ffa_memshare.specs.Grants.{with_rights}
@@ -181,6 +181,36 @@ given-each access index named right e p settled at some = elim (cases_eq e index
   | inr other ↦ stays-same (access e p) (access e p) _ settled refl (other-right access index named right e p (λ same. other same))
 ]
 
+-- what is settled stays so while pages behind the tables are written
+pub settled-along : (ram : Ram) (named : ℕ → Bool) (end e p : ℕ) → ((q : ℕ) → named q ≡ true → end ≤ q) → (h : List Step) (s : Step) → IsWriting ram named s
+    → IsSettledBy end e p h → IsSettledBy end e p (s ∷ h)
+settled-along ram named end e p behind h s writing so_far =
+    inr (writing-below ram s named end (λ q low. false_from_ne_true (named q) (λ at. absurd (omega (arith, low, behind q at)))) writing, so_far)
+
+-- nobody's rights end but those of one endpoint, to pages that are settled
+pub taken-ends : (old new : Ram) (n b index : ℕ) (access : ℕ → ℕ → Option Rights) (named : ℕ → Bool) (right : ℕ → Option Rights)
+    → IsBuilt old n b access → IsBuilt new n b (with_rights access index named right) → (past : Option (List Step))
+    → ((h : List Step) → past ≡ Some h → (p : ℕ) → named p ≡ true → IsSettledBy (table_page b n 0) index p h) → EndsSettled old new n b past
+taken-ends old new n b index access named right built is past settled =
+    ends-of-rights old new n b access (with_rights access index named right) built is past
+    (λ h there e p he was gone. elim (cases_Bool (e == index && named p)) [
+      | inl both ↦
+          let same : e ≡ index = grind (arith, both, nat_tests) in
+          let at : named p ≡ true = grind (arith, both, nat_tests) in
+          subst (λ i. IsSettledBy (table_page b n 0) i p h) (sym same) (settled h there p at)
+      | inr other ↦
+          let kept : with_rights access index named right e p ≡ access e p = rw other in
+          absurd (true≢false (sym was ∙ ap is_some (sym kept) ∙ gone))
+    ])
+
+-- or nobody's
+pub given-stays : (access : ℕ → ℕ → Option Rights) (index : ℕ) (named : ℕ → Bool) (right : ℕ → Option Rights) → ((p : ℕ) → named p ≡ true → is_some (right p) ≡ true)
+    → (e p : ℕ) → is_some (access e p) ≡ true → is_some (with_rights access index named right e p) ≡ true
+given-stays access index named right some e p was = elim (cases_Bool (e == index && named p)) [
+  | inl both ↦ let at : named p ≡ true = grind (arith, both, nat_tests) in rw both (some p at)
+  | inr other ↦ rw other was
+]
+
 before-run : (first n p : ℕ) → p < first → is_in_run first n p ≡ false
 before-run first n p low = grind (arith, nat_tests)
 
@@ -223,3 +253,9 @@ module _ (old granted new : Ram) (n b index : ℕ) (named : ℕ → Bool) (right
       written-moment old new n b access after built (kept new beside after is) (beside.beside.base ∙ base) granted (is_in_run x.rx x.pages) after
       (behind-rx x its.are) is (between-behind granted n b access after is) base h s its.writing
       (λ p at e he. let same : after e p ≡ access e p = sym (no-rights access index named right e p (rx.apart x its.are p at)) in stays-same (after e p) (access e p) (after e p) _ same same))
+
+  -- and nobody's rights end
+  pub responded-ends : ((p : ℕ) → named p ≡ true → is_some (right p) ≡ true) → (last : Option (List Step)) → EndsSettled old new n b last
+  responded-ends some last =
+      let after : ℕ → ℕ → Option Rights = with_rights access index named right in
+      no-right-ends old new n b access after built (kept new beside after (done access built)) last (given-stays access index named right some)

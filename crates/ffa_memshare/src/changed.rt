@@ -1,10 +1,11 @@
 // SPDX-License-Identifier: MIT OR Apache-2.0
 //! Whose access to which pages a call on memory changes.
-ghost use Rattle.std.specs.Prelude.{◌≡◌};
+ghost use Rattle.std.specs.Prelude.{◌≡◌, Some, None};
 ghost use Rattle.ffa_memshare.specs.Changed.{IsChanged, changed_sender};
 
 use crate::page_ranges::PageRanges;
 use ffa_model::{EndpointId, Kind};
+use std::marker::Model;
 
 /// Whose access to which pages a call on memory changed.
 #[derive(Drop)]
@@ -31,15 +32,66 @@ pub struct Retrieved {
     pub changed: Changed,
 }
 
-impl Changed {
-    // That of an endpoint, or of nobody, to the pages of these ranges.
-    pub(crate) fn of(ranges: &PageRanges, endpoint: Option<EndpointId>) -> Changed
-        ensures { IsChanged result ranges.now endpoint }
+/// What was told last, or nothing. It is filled in where it stands, since its ranges are large to move. Contracts see what is
+/// told.
+#[derive(Drop)]
+pub struct News {
+    is_told: bool,
+    ranges: PageRanges,
+    endpoint: Option<EndpointId>,
+}
+
+impl Model for News {
+    ghost use Rattle.std.specs.Prelude.{Option};
+    ghost use Rattle.ffa_memshare.specs.News.{news_of};
+    ghost use Rattle.ffa_memshare.specs.declared.changed.Changed.{Changed};
+
+    ghost Value = { Option Changed };
+
+    ghost view = { λ n. news_of n.is_told n.ranges n.endpoint };
+}
+
+impl News {
+    /// Nothing.
+    pub fn none() -> News
+        ensures { result ≡ None }
     {
+        News {
+            is_told: false,
+            ranges: PageRanges::none(),
+            endpoint: None,
+        }
+    }
+
+    // Tells that the access of an endpoint, or of nobody, to the pages of these ranges has changed, in place of what was told
+    // before, and gives it.
+    #[inline(always)]
+    pub(crate) fn tell(&mut self, ranges: &PageRanges, endpoint: Option<EndpointId>) -> Changed
+        ensures told { self.new ≡ Some result }
+        ensures changed { IsChanged result ranges.now endpoint }
+    {
+        self.is_told = true;
+        self.ranges.fill(ranges);
+        self.endpoint = endpoint;
         Changed {
             ranges: ranges.copied(),
             endpoint,
         }
+    }
+
+    /// What was told, which is told no more.
+    pub fn take(&mut self) -> Option<Changed>
+        ensures told { result ≡ self.old }
+        ensures none { self.new ≡ None }
+    {
+        if !self.is_told {
+            return None;
+        }
+        self.is_told = false;
+        Some(Changed {
+            ranges: self.ranges.copied(),
+            endpoint: self.endpoint,
+        })
     }
 }
 

@@ -42,6 +42,17 @@ impl PageRange {
     }
 }
 
+// Fills a list, from its front on, with the ranges of a slice alone.
+fn fill(list: &mut ArrayVec<PageRange, MOST_RANGES>, ranges: &[PageRange])
+    requires { length ranges.now ≤ MOST_RANGES }
+    ensures { list.new.items ≡ ranges.now }
+{
+    list.clear();
+    for range in ranges {
+        list.push(*range);
+    }
+}
+
 /// Ranges of pages of one RAM, four bytes for each: a transaction is small to keep and to move. Contracts see the ranges.
 #[derive(Drop)]
 pub struct PageRanges {
@@ -75,6 +86,24 @@ impl PageRanges {
             list.push(PageRange::of(pages, base, range));
         }
         PageRanges { base, list }
+    }
+
+    // No ranges.
+    pub(crate) fn none() -> PageRanges
+        ensures { result ≡ [] }
+    {
+        PageRanges {
+            base: Address(0),
+            list: ArrayVec::new(),
+        }
+    }
+
+    // Becomes the same as these ranges.
+    pub(crate) fn fill(&mut self, ranges: &PageRanges)
+        ensures { self.new ≡ ranges.now }
+    {
+        self.base = ranges.base;
+        fill(&mut self.list, ranges.list.as_slice());
     }
 
     /// The same ranges.

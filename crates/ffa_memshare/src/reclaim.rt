@@ -1,6 +1,6 @@
 // SPDX-License-Identifier: MIT OR Apache-2.0
 //! FFA_MEM_RECLAIM.
-ghost use Rattle.std.specs.Prelude.{◌≡◌, ◌==◌, None, IfOk, OnOk, OnErr};
+ghost use Rattle.std.specs.Prelude.{◌≡◌, ◌==◌, None, Some, IfOk, OnOk, OnErr};
 ghost use Rattle.std.specs.FinMap as finite;
 ghost use Rattle.std.specs.Result.{result_err};
 ghost use Rattle.arrayvec.specs.ArrayVec.{array_vec_len};
@@ -9,7 +9,7 @@ ghost use Rattle.ffa_model.specs.Identifiers.{place};
 ghost use Rattle.ffa_model.specs.MemoryReturn.{named_ranges, reclaim_guards};
 ghost use Rattle.ffa_model.specs.Transactions.{closed};
 ghost use Rattle.ffa_physmem.specs.Moments.{Only};
-ghost use Rattle.ffa_stage2.specs.Moments.{IsMoment};
+ghost use Rattle.ffa_stage2.specs.Moments.{EndsSettled, IsMoment};
 ghost use Rattle.ffa_pages.specs.Entry.{own_right_at};
 ghost use Rattle.ffa_memshare.specs.Changed.{IsChanged, changed_reclaimer};
 ghost use Rattle.ffa_memshare.specs.Changes.{IsMarked, IsMoved};
@@ -19,7 +19,7 @@ ghost use Rattle.ffa_memshare.specs.Shared.{IsShared};
 ghost use Rattle.ffa_memshare.specs.SlotChanges.{IsClosed};
 ghost use Rattle.ffa_memshare.specs.Stored.{map_in, open_in};
 
-use crate::changed::{Changed, changed_sender};
+use crate::changed::{Changed, News, changed_sender};
 use crate::marks::Mark;
 use crate::pool::Pool;
 use ffa_model::{EndpointId, ErrorCode};
@@ -46,6 +46,7 @@ impl Pool {
         caller: EndpointId,
         handle: u64,
         flags: u32,
+        news: &mut News,
     ) -> Result<Changed, ErrorCode>
         requires { IsShared (M.ram ram.old) layout.now.base.0 (array_vec_len layout.now.regions) layout.now.blocks pages.old self.old.slots }
         ensures refusal { result_err result ≡ first_failure (reclaim_guards (own_rights_in pages.old layout.now.base.0) caller.0 flags (finite.get (map_in self.old.slots) handle)) }
@@ -53,11 +54,14 @@ impl Pool {
         ensures kept_pages { OnErr result (pages.new ≡ pages.old) }
         ensures kept_ram { OnErr result (M.ram ram.new ≡ M.ram ram.old) }
         ensures kept_past { OnErr result (M.past ram.new ≡ M.past ram.old) }
+        ensures kept_news { OnErr result (news.new ≡ news.old) }
+        ensures told { IfOk result (λ changed. news.new ≡ Some changed) }
         ensures slot { OnOk result (IsClosed self.old self.new handle) }
         ensures open_transactions { OnOk result (open_in self.new ≡ closed (open_in self.old) handle) }
         ensures ram { OnOk result (IsMoved (M.ram ram.old) (M.ram ram.new) (array_vec_len layout.now.regions) layout.now.blocks
             (place caller.0) (in_ranges layout.now.base.0 (named_ranges (finite.get (map_in self.old.slots) handle))) (own_right_at pages.old) (flags == 1)) }
         ensures steps { Only (M.past ram.old) (M.past ram.new) (λ h s. IsMoment (M.ram ram.old) (M.ram ram.new) (array_vec_len layout.now.regions) layout.now.blocks h s) }
+        ensures ended { EndsSettled (M.ram ram.old) (M.ram ram.new) (array_vec_len layout.now.regions) layout.now.blocks (M.past ram.new) }
         ensures pages { OnOk result (IsMarked pages.old pages.new
             (in_ranges layout.now.base.0 (named_ranges (finite.get (map_in self.old.slots) handle))) (Mark.Named None)) }
         ensures changed { IfOk result (λ changed. IsChanged changed (named_ranges (finite.get (map_in self.old.slots) handle))
@@ -66,7 +70,7 @@ impl Pool {
         let found = self.check_reclaim(pages, layout.base, caller, handle, flags)?;
         let open = self.at(found.slot);
         open.give_back(ram, layout, pages, found.zero);
-        let changed = Changed::of(&open.ranges, changed_sender(open.kind, caller));
+        let changed = news.tell(&open.ranges, changed_sender(open.kind, caller));
         self.close(found.slot);
         Ok(changed)
     }

@@ -1,6 +1,6 @@
 // SPDX-License-Identifier: MIT OR Apache-2.0
 //! FFA_MEM_RELINQUISH.
-ghost use Rattle.std.specs.Prelude.{◌≡◌, length, IfOk, OnErr};
+ghost use Rattle.std.specs.Prelude.{◌≡◌, length, Some, IfOk, OnErr};
 ghost use Rattle.std.specs.Result.{result_err};
 ghost use Rattle.arrayvec.specs.ArrayVec.{array_vec_len};
 ghost use Rattle.ffa_model.specs.Buffers.{buffers_in};
@@ -8,14 +8,14 @@ ghost use Rattle.ffa_model.specs.Calls.{first_failure};
 ghost use Rattle.ffa_model.specs.MemoryReturn.{relinquish_guards};
 ghost use Rattle.ffa_model.specs.RelinquishDescriptor.{relinquish_of};
 ghost use Rattle.ffa_physmem.specs.Moments.{Only};
-ghost use Rattle.ffa_stage2.specs.Moments.{IsMoment};
+ghost use Rattle.ffa_stage2.specs.Moments.{EndsSettled, IsMoment};
 ghost use Rattle.ffa_rxtx.specs.Parts.{tx_in};
 ghost use Rattle.ffa_memshare.specs.Callers.{IsCaller};
 ghost use Rattle.ffa_memshare.specs.Relinquished.{IsRelinquished};
 ghost use Rattle.ffa_memshare.specs.Shared.{IsShared};
 ghost use Rattle.ffa_memshare.specs.Stored.{open_in};
 
-use crate::changed::Changed;
+use crate::changed::{Changed, News};
 use crate::grants::NewRight;
 use crate::page_changes::change_pages;
 use crate::pool::Pool;
@@ -43,6 +43,7 @@ impl Pool {
         pages: &PageTable,
         buffers: &Buffers,
         caller: EndpointId,
+        news: &mut News,
     ) -> Result<Changed, ErrorCode>
         requires shared { IsShared (M.ram ram.old) layout.now.base.0 (array_vec_len layout.now.regions) layout.now.blocks pages.now self.old.slots }
         requires caller { IsCaller (array_vec_len layout.now.regions) (length (M.ram ram.old).pages) caller.0 buffers.now }
@@ -51,16 +52,19 @@ impl Pool {
         ensures kept { OnErr result (self.new ≡ self.old) }
         ensures kept_ram { OnErr result (M.ram ram.new ≡ M.ram ram.old) }
         ensures kept_past { OnErr result (M.past ram.new ≡ M.past ram.old) }
+        ensures kept_news { OnErr result (news.new ≡ news.old) }
+        ensures told { IfOk result (λ changed. news.new ≡ Some changed) }
         ensures done { IfOk result (λ changed. IsRelinquished self.old self.new (M.ram ram.old) (M.ram ram.new) layout.now.base.0
             (array_vec_len layout.now.regions) layout.now.blocks caller.0 (tx_in (M.ram ram.old) (buffers_in buffers.now caller.0)) changed) }
         ensures steps { Only (M.past ram.old) (M.past ram.new) (λ h s. IsMoment (M.ram ram.old) (M.ram ram.new) (array_vec_len layout.now.regions) layout.now.blocks h s) }
+        ensures ended { EndsSettled (M.ram ram.old) (M.ram ram.new) (array_vec_len layout.now.regions) layout.now.blocks (M.past ram.new) }
     {
         let found = self.check_relinquish(ram, buffers, caller)?;
         let open = self.at(found.slot);
         let index = caller.place();
         let nothing = NewRight::Same(None);
         change_pages(ram, layout, pages, &open.ranges, index, nothing, found.zero);
-        let changed = Changed::of(&open.ranges, Some(caller));
+        let changed = news.tell(&open.ranges, Some(caller));
         self.set_held(found.slot, caller, None);
         Ok(changed)
     }

@@ -13,7 +13,7 @@ ghost use Rattle.ffa_model.specs.RetrieveDescriptor.{retrieve_of};
 ghost use Rattle.ffa_model.specs.State.{Transaction};
 ghost use Rattle.ffa_pages.specs.Entry.{owner_at};
 ghost use Rattle.ffa_physmem.specs.Moments.{Only};
-ghost use Rattle.ffa_stage2.specs.Moments.{IsMoment};
+ghost use Rattle.ffa_stage2.specs.Moments.{EndsSettled, IsMoment};
 ghost use Rattle.ffa_memshare.specs.Callers.{IsCaller, IsRxApart};
 ghost use Rattle.ffa_memshare.specs.Ranges.{ArePlaced, in_ranges};
 ghost use Rattle.ffa_memshare.specs.Retrieved.{IsAnswered, IsPassedOn, IsRetrieved, IsTaken};
@@ -21,7 +21,7 @@ ghost use Rattle.ffa_memshare.specs.Scenes.{descriptor_in, scene_in};
 ghost use Rattle.ffa_memshare.specs.Shared.{IsHeld, IsShared};
 ghost use Rattle.ffa_memshare.specs.Stored.{open_in, pool_slot, view_of};
 
-use crate::changed::{Changed, Retrieved};
+use crate::changed::{News, Retrieved};
 use crate::descriptor_call::DescriptorCall;
 use crate::grants::NewRight;
 use crate::marks::{Mark, mark_all};
@@ -56,6 +56,7 @@ impl Pool {
         buffers: &mut Buffers,
         caller: EndpointId,
         call: &DescriptorCall,
+        news: &mut News,
     ) -> Result<Retrieved, ErrorCode>
         requires shared { IsShared (M.ram ram.old) layout.now.base.0 (array_vec_len layout.now.regions) layout.now.blocks pages.old self.old.slots }
         requires caller { IsCaller (array_vec_len layout.now.regions) (length (M.ram ram.old).pages) caller.0 buffers.old }
@@ -67,6 +68,8 @@ impl Pool {
         ensures kept_buffers { OnErr result (buffers.new ≡ buffers.old) }
         ensures kept_ram { OnErr result (M.ram ram.new ≡ M.ram ram.old) }
         ensures kept_past { OnErr result (M.past ram.new ≡ M.past ram.old) }
+        ensures kept_news { OnErr result (news.new ≡ news.old) }
+        ensures told { IfOk result (λ retrieved. news.new ≡ Some retrieved.changed) }
         ensures full { OnOk result (buffers.new ≡ buffers_with_rx buffers.old caller.0 true) }
         ensures done { IfOk result (λ retrieved. IsRetrieved self.old self.new (M.ram ram.old) (M.ram ram.new) pages.old pages.new layout.now.base.0
             (array_vec_len layout.now.regions) layout.now.blocks (buffers_in buffers.old caller.0) caller
@@ -75,12 +78,16 @@ impl Pool {
             → pool_slot self.old.slots k ≡ Some (h, t)
             → IsRxApart (array_vec_len layout.now.regions) layout.now.blocks (buffers_in buffers.old caller.0) (in_ranges layout.now.base.0 t.ranges))
             → Only (M.past ram.old) (M.past ram.new) (λ h s. IsMoment (M.ram ram.old) (M.ram ram.new) (array_vec_len layout.now.regions) layout.now.blocks h s) }
+        ensures ended { ((k h : ℕ) (t : Transaction)
+            → pool_slot self.old.slots k ≡ Some (h, t)
+            → IsRxApart (array_vec_len layout.now.regions) layout.now.blocks (buffers_in buffers.old caller.0) (in_ranges layout.now.base.0 t.ranges))
+            → EndsSettled (M.ram ram.old) (M.ram ram.new) (array_vec_len layout.now.regions) layout.now.blocks (M.past ram.new) }
     {
         let found = self.check_retrieve(ram, layout, pages, buffers, caller, call)?;
         let open = self.at(found.slot);
         let version = call.version;
         let size = open.hand_over(ram, layout, pages, buffers, caller, version, found.right);
-        let changed = Changed::of(&open.ranges, Some(caller));
+        let changed = news.tell(&open.ranges, Some(caller));
         self.take(pages, layout.base, found.slot, caller, found.right);
         Ok(Retrieved { size, changed })
     }
@@ -140,6 +147,8 @@ impl OpenTransaction {
         ensures full { buffers.new ≡ buffers_with_rx buffers.old caller.0 true }
         ensures steps { IsRxApart (array_vec_len layout.now.regions) layout.now.blocks (buffers_in buffers.old caller.0) (in_ranges layout.now.base.0 self.now.ranges)
             → Only (M.past ram.old) (M.past ram.new) (λ h s. IsMoment (M.ram ram.old) (M.ram ram.new) (array_vec_len layout.now.regions) layout.now.blocks h s) }
+        ensures ended { IsRxApart (array_vec_len layout.now.regions) layout.now.blocks (buffers_in buffers.old caller.0) (in_ranges layout.now.base.0 self.now.ranges)
+            → EndsSettled (M.ram ram.old) (M.ram ram.new) (array_vec_len layout.now.regions) layout.now.blocks (M.past ram.new) }
     {
         // Proof step: the ranges are `MOST_RANGES` at most.
         let _ = self.ranges.len();

@@ -1,6 +1,6 @@
 // SPDX-License-Identifier: MIT OR Apache-2.0
 //! FFA_MEM_DONATE, FFA_MEM_LEND and FFA_MEM_SHARE.
-ghost use Rattle.std.specs.Prelude.{◌≡◌, ◌<◌, ℕ, length, None, IfOk, OnErr};
+ghost use Rattle.std.specs.Prelude.{◌≡◌, ◌<◌, ℕ, length, None, Some, IfOk, OnErr};
 ghost use Rattle.std.specs.Result.{result_err};
 ghost use Rattle.arrayvec.specs.ArrayVec.{array_vec_len};
 ghost use Rattle.ffa_model.specs.Calls.{first_failure};
@@ -8,7 +8,7 @@ ghost use Rattle.ffa_model.specs.MemorySend.{send_guards};
 ghost use Rattle.ffa_model.specs.SendDescriptor.{send_of};
 ghost use Rattle.ffa_model.specs.Transactions.{next_handle};
 ghost use Rattle.ffa_physmem.specs.Moments.{Only};
-ghost use Rattle.ffa_stage2.specs.Moments.{IsMoment};
+ghost use Rattle.ffa_stage2.specs.Moments.{EndsSettled, IsMoment};
 ghost use Rattle.ffa_pages.specs.Entry.{entry_at};
 ghost use Rattle.ffa_stage2.specs.Tables.{table_page};
 ghost use Rattle.ffa_memshare.specs.Callers.{IsCaller};
@@ -17,7 +17,7 @@ ghost use Rattle.ffa_memshare.specs.Sent.{IsSent};
 ghost use Rattle.ffa_memshare.specs.Shared.{IsRoom};
 ghost use Rattle.ffa_memshare.specs.Stored.{open_in};
 
-use crate::changed::{Changed, Sent, changed_sender};
+use crate::changed::{News, Sent, changed_sender};
 use crate::descriptor_call::DescriptorCall;
 use crate::found::FoundOffer;
 use crate::pool::Pool;
@@ -50,6 +50,7 @@ impl Pool {
         caller: EndpointId,
         kind: Kind,
         call: &DescriptorCall,
+        news: &mut News,
     ) -> Result<Sent, ErrorCode>
         requires room { IsRoom (M.ram ram.old) layout.now.base.0 (array_vec_len layout.now.regions) layout.now.blocks pages.old }
         requires caller { IsCaller (array_vec_len layout.now.regions) (length (M.ram ram.old).pages) caller.0 buffers.now }
@@ -62,18 +63,21 @@ impl Pool {
         ensures kept_pages { OnErr result (pages.new ≡ pages.old) }
         ensures kept_ram { OnErr result (M.ram ram.new ≡ M.ram ram.old) }
         ensures kept_past { OnErr result (M.past ram.new ≡ M.past ram.old) }
+        ensures kept_news { OnErr result (news.new ≡ news.old) }
+        ensures told { IfOk result (λ sent. news.new ≡ Some sent.changed) }
         ensures handle { IfOk result (λ sent. sent.handle ≡ next_handle (open_in self.old) caller.0) }
         ensures sent { IfOk result (λ sent. IsSent self.old self.new pages.old pages.new (M.ram ram.old) (M.ram ram.new) layout.now.base.0
             (array_vec_len layout.now.regions) layout.now.blocks caller.0 kind (descriptor_in (M.ram ram.old) buffers.now caller.0 call.now) sent.changed) }
 
         // At each moment the walks of all endpoints at an address are those from before the call, or all are those from behind.
         ensures steps { Only (M.past ram.old) (M.past ram.new) (λ h s. IsMoment (M.ram ram.old) (M.ram ram.new) (array_vec_len layout.now.regions) layout.now.blocks h s) }
+        ensures ended { EndsSettled (M.ram ram.old) (M.ram ram.new) (array_vec_len layout.now.regions) layout.now.blocks (M.past ram.new) }
     {
         let found = self.check_send(ram, layout, pages, buffers, caller, kind, call)?;
         let FoundOffer { transaction, slot } = found;
         let handle = transaction.handle;
         transaction.take_pages(ram, layout, pages, slot as u8);
-        let changed = Changed::of(&transaction.ranges, changed_sender(kind, caller));
+        let changed = news.tell(&transaction.ranges, changed_sender(kind, caller));
         self.open(slot, transaction);
         Ok(Sent { handle, changed })
     }

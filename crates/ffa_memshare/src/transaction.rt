@@ -8,7 +8,7 @@ ghost use Rattle.ffa_model.specs.Identifiers.{place};
 ghost use Rattle.ffa_model.specs.State.{Page};
 ghost use Rattle.ffa_model.specs.Transactions.{are_executable, are_writable};
 ghost use Rattle.ffa_physmem.specs.Moments.{Only};
-ghost use Rattle.ffa_stage2.specs.Moments.{IsMoment};
+ghost use Rattle.ffa_stage2.specs.Moments.{EndsSettled, IsMoment};
 ghost use Rattle.ffa_pages.specs.Entry.{own_right_at};
 ghost use Rattle.ffa_memshare.specs.Changes.{IsMarked, IsMoved};
 ghost use Rattle.ffa_memshare.specs.Named.{own_rights_in};
@@ -106,6 +106,7 @@ impl OpenTransaction {
         ensures moved { IsMoved (M.ram ram.old) (M.ram ram.new) (array_vec_len layout.now.regions) layout.now.blocks
             (place self.now.sender.0) (in_ranges layout.now.base.0 self.now.ranges) (own_right_at pages.old) zero }
         ensures steps { Only (M.past ram.old) (M.past ram.new) (λ h s. IsMoment (M.ram ram.old) (M.ram ram.new) (array_vec_len layout.now.regions) layout.now.blocks h s) }
+        ensures ended { EndsSettled (M.ram ram.old) (M.ram ram.new) (array_vec_len layout.now.regions) layout.now.blocks (M.past ram.new) }
         ensures marked { IsMarked pages.old pages.new (in_ranges layout.now.base.0 self.now.ranges) (Mark.Named None) }
     {
         let ranges = &self.ranges;
@@ -127,6 +128,7 @@ impl OpenTransaction {
         ensures moved { IsMoved (M.ram ram.old) (M.ram ram.new) (array_vec_len layout.now.regions) layout.now.blocks
             (place self.now.sender.0) (in_ranges layout.now.base.0 self.now.ranges) (new_right (right_after self.now.kind) pages.old) self.now.zero }
         ensures steps { Only (M.past ram.old) (M.past ram.new) (λ h s. IsMoment (M.ram ram.old) (M.ram ram.new) (array_vec_len layout.now.regions) layout.now.blocks h s) }
+        ensures ended { EndsSettled (M.ram ram.old) (M.ram ram.new) (array_vec_len layout.now.regions) layout.now.blocks (M.past ram.new) }
         ensures marked { IsMarked pages.old pages.new (in_ranges layout.now.base.0 self.now.ranges) (Mark.Named (Some slot)) }
     {
         let ranges = &self.ranges;

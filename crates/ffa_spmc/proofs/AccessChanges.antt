@@ -36,7 +36,7 @@ use Rattle.ffa_memshare.specs.declared.changed.Changed.{Changed}
 use Rattle.ffa_memshare.specs.Changed.{IsChanged, changed_sender}
 use Rattle.ffa_memshare.specs.Ranges.{ArePlaced}
 use Rattle.ffa_memshare.proofs.Joined.{owners-right, reclaim-beside, reclaim-none, reclaim-share, unheld-right}
-use Rattle.ffa_spmc.specs.AccessChange.{IsAccessChange, is_of, is_whose}
+use Rattle.ffa_spmc.specs.AccessChange.{IsAccessChange, IsTelling, is_of, is_whose}
 use Rattle.ffa_spmc.specs.Meaning.{IsManager, Parts, state_of}
 use Rattle.ffa_spmc.proofs.Granted.{donate-beside, none-kept, own-kept, send-beside, sendable-own}
 use Rattle.ffa_spmc.proofs.Held.{size_is}
@@ -163,6 +163,10 @@ module _ (s : State) (sound : IsSoundState s) (f p : ℕ) (lt : p < length s.pag
 -- A CALL THAT CHANGES NONE
 pub none-changed : (s t : State) → ((e p : ℕ) → access t e p ≡ access s e p) → IsAccessChange s t None
 none-changed s t same = record { placed = tt; exclusive = λ e p its. absurd (false≢true its); rest = λ e p kept. same e p }
+
+-- what was told before stays
+pub nothing-told : (s t : State) (before now : Option Changed) → ((e p : ℕ) → access t e p ≡ access s e p) → now ≡ before → IsTelling s t before now
+nothing-told s t before now same still = record { changed = None; access = none-changed s t same; told = still }
 
 -- WHAT CHANGED, of two managers with as many blocks of RAM, where it is so of the pages of RAM
 module _ (x y : Parts) (machine : IsManager x) (next : IsManager y) (blocks : y.manifest.ram_blocks ≡ x.manifest.ram_blocks) where

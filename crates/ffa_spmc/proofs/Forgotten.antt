@@ -40,7 +40,7 @@ module _ (s t : State) (changed : Option Changed) (change : IsAccessChange s t c
   gone-or-held e p = by_change e p ((lookup new e p ≡ None) ⊎ (lookup new e p ≡ lookup old e p)) (λ _ none. inl none) (λ _ held. inr held)
 
   -- where access changed there was none, or there is none, so nothing was held where it is as before
-  pub same-held : (ram : Ram) → Agrees ram s → IsSoundState s → AreWalks (record { state = s; ram = ram; held = old; past = None })
+  pub same-held : (ram : Ram) → Agrees ram s → IsSoundState s → AreWalks (record { state = s; ram = ram; held = old; past = None; told = None })
       → (e p : ℕ) → access t e p ≡ access s e p → lookup new e p ≡ lookup old e p
   same-held ram agrees sound walks e p same =
       by_change e p (lookup new e p ≡ lookup old e p)

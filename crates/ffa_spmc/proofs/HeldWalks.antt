@@ -7,6 +7,7 @@ use Rattle.std.specs.Option.{option_and_then}
 use Rattle.std.proofs.lemmas.Bool.{and_parts, eqb-true, leb-true}
 use Rattle.std.proofs.lemmas.Bool.Decides.{nat_tests}
 use Rattle.std.proofs.lemmas.Option.{none-some, same_Some}
+use Rattle.ffa_memshare.specs.declared.changed.Changed.{Changed}
 use Rattle.ffa_model.specs.declared.leaf.Leaf.{Leaf}
 use Rattle.ffa_model.specs.declared.operation.FaultKind.{FaultKind}
 use Rattle.ffa_model.specs.declared.operation.FaultKind.TheVariants.{Translation}
@@ -202,7 +203,7 @@ module _ (ram : Ram) (s : State) (agrees : Agrees ram s) (sound : IsSoundState s
 -- FILLED
 -- what is held after a walk's answer was given is the walk's answer still
 pub walks-filled : (ram : Ram) (s : State) (old new : List Entry) (e p : ℕ) (leaf : Leaf)
-    → AreWalks (record { state = s; ram = ram; held = old; past = None }) → IsFilled old new e p leaf → IsWalk ram s e p leaf → AreWalks (record { state = s; ram = ram; held = new; past = None })
+    → AreWalks (record { state = s; ram = ram; held = old; past = None; told = None }) → IsFilled old new e p leaf → IsWalk ram s e p leaf → AreWalks (record { state = s; ram = ram; held = new; past = None; told = None })
 walks-filled ram s old new e p leaf walks filled walk f q l is = elim (filled f q) [
   | inl none ↦ absurd (none-some l (sym none ∙ is))
   | inr same ↦ at (is_pair f q e p) refl (sym same ∙ is)
@@ -229,7 +230,7 @@ missed-in x address p = of (page_of_address x.state address)
 
 -- What an endpoint may come to hold of what a walk answered for an address: `now` is what a contract sees, and there the walk
 -- answered this leaf, and nothing was held for this page.
-module _ (ram : Ram) (s : State) (held : List Entry) (agrees : Agrees ram s) (sound : IsSoundState s) {writes : Option (List Step)} (now : Snapshot) (view : record { state = s; ram = ram; held = held; past = writes } ≡ now)
+module _ (ram : Ram) (s : State) (held : List Entry) (agrees : Agrees ram s) (sound : IsSoundState s) {writes : Option (List Step)} {told : Option Changed} (now : Snapshot) (view : record { state = s; ram = ram; held = held; past = writes; told = told } ≡ now)
     (e : ℕ) (known : is_known now.state e ≡ true) (address p : ℕ) (leaf : Leaf) (answered : Ok leaf ≡ walk_of now.ram now.state e address) (missed : Some p ≡ missed_page (run_by e now) address) where
   known-here : is_known s e ≡ true
   known-here = ap (λ (seen : Snapshot). is_known seen.state e) view ∙ known
@@ -253,7 +254,7 @@ module _ (ram ram' : Ram) (s t : State) (agrees : Agrees ram s) (agrees' : Agree
     (known : (e : ℕ) → is_known s e ≡ true → is_known t e ≡ true) where
   pub walks-after : (old new : List Entry)
       → ((e p : ℕ) (leaf : Leaf) → lookup new e p ≡ Some leaf → (lookup old e p ≡ Some leaf) × (access t e p ≡ access s e p))
-      → AreWalks (record { state = s; ram = ram; held = old; past = None }) → AreWalks (record { state = t; ram = ram'; held = new; past = None })
+      → AreWalks (record { state = s; ram = ram; held = old; past = None; told = None }) → AreWalks (record { state = t; ram = ram'; held = new; past = None; told = None })
   walks-after old new stays walks e p leaf is =
       let (was, same) = stays e p leaf is in
       let walk = walks e p leaf was in

@@ -17,9 +17,9 @@ use Rattle.ffa_memshare.proofs.Moments.{stays-same, written-moment}
 use Rattle.ffa_physmem.specs.Moments.{IsWriting, Only, Step}
 use Rattle.ffa_physmem.proofs.Moments.{Only-map, Only-none}
 use Rattle.ffa_rxtx.specs.Parts.{IsRxWriting}
-use Rattle.ffa_stage2.specs.Moments.{IsInOrder, IsMoment, WalksBetween, WritesUnreached}
+use Rattle.ffa_stage2.specs.Moments.{EndsSettled, IsInOrder, IsMoment, WalksBetween, WritesUnreached}
 use Rattle.ffa_stage2.specs.Tables.{table_page}
-use Rattle.ffa_stage2.proofs.Moments.{between-first, moment-unreached, moment-walks}
+use Rattle.ffa_stage2.proofs.Moments.{between-first, moment-unreached, moment-walks, no-right-ends, nothing-ends}
 use Rattle.ffa_spmc.specs.Meaning.{HasTables, IsManager, Parts, access_by_place, slot_names, state_of}
 use Rattle.ffa_spmc.specs.Moments.{AreMoments, IsSafeStep}
 use Rattle.ffa_spmc.proofs.Fills.{buffers-there, rx-unnamed, there-inside}
@@ -28,8 +28,14 @@ use Rattle.ffa_spmc.proofs.Moves.{of-manifest}
 use Rattle.ffa_spmc.proofs.Pools.{named-kept}
 
 -- where nothing was written
-pub still-moments : (s : State) (old new : Ram) (past later : Option (List Step)) → later ≡ past → AreMoments s old new past later
-still-moments s old new past later same = subst (λ (l : Option (List Step)). AreMoments s old new past l) (sym same) Only-none
+pub still-moments : (s : State) (old new : Ram) (past later : Option (List Step)) → new ≡ old → later ≡ past → AreMoments s old new past later
+still-moments s old new past later same same_past = record {
+  steps = subst (λ (l : Option (List Step)). Only past l (λ h step. IsSafeStep s old new h step)) (sym same_past) Only-none;
+  ended = nothing-ends old new (length s.parties) (blocks_of s) later same;
+}
+
+pub no-moments : (s : State) (ram : Ram) (past : Option (List Step)) → AreMoments s ram ram past past
+no-moments s ram past = still-moments s ram ram past past refl refl
 
 module _ (x : Parts) (machine : IsManager x) where
   abbrev n : ℕ
@@ -44,39 +50,46 @@ module _ (x : Parts) (machine : IsManager x) where
       omega (arith, size)
 
   -- by the numbers of the state
+  of-state : (P : ℕ → ℕ → Type 0) → P n b → P (length (state_of x).parties) (blocks_of (state_of x))
+  of-state P its = subst (λ (k : ℕ). P k (blocks_of (state_of x))) (sym (parties_are x)) (subst (λ (k : ℕ). P n k) (sym blocks-are) its)
+
   by-state : (old new : Ram) (h : List Step) (step : Step) → WalksBetween old new n b step.after → IsInOrder old n b h step → WritesUnreached old new n b h step
       → IsSafeStep (state_of x) old new h step
   by-state old new h step walks order unreached = record {
-    walks = of (λ k j. WalksBetween old new k j step.after) walks;
-    order = of (λ k j. IsInOrder old k j h step) order;
-    unreached = of (λ k j. WritesUnreached old new k j h step) unreached;
+    walks = of-state (λ k j. WalksBetween old new k j step.after) walks;
+    order = of-state (λ k j. IsInOrder old k j h step) order;
+    unreached = of-state (λ k j. WritesUnreached old new k j h step) unreached;
   }
-    where
-      of : (P : ℕ → ℕ → Type 0) → P n b → P (length (state_of x).parties) (blocks_of (state_of x))
-      of P its = subst (λ (k : ℕ). P k (blocks_of (state_of x))) (sym (parties_are x)) (subst (λ (k : ℕ). P n k) (sym blocks-are) its)
 
   -- rights that change
   pub moments-of : (new : Ram) (past later : Option (List Step))
-      → Only past later (λ h s. IsMoment x.ram new (array_vec_len x.kept.layout.regions) x.kept.layout.blocks h s) → AreMoments (state_of x) x.ram new past later
-  moments-of new past later only =
-      Only-map (of-manifest x machine (λ base endpoints blocks. Only past later (λ h s. IsMoment x.ram new endpoints blocks h s)) only)
-      (λ h s m. by-state x.ram new h s (moment-walks x.ram new n b h s m) m.order (moment-unreached x.ram new n b h s m))
+      → Only past later (λ h s. IsMoment x.ram new (array_vec_len x.kept.layout.regions) x.kept.layout.blocks h s)
+      → EndsSettled x.ram new (array_vec_len x.kept.layout.regions) x.kept.layout.blocks later → AreMoments (state_of x) x.ram new past later
+  moments-of new past later only ended = record {
+    steps =
+        Only-map (of-manifest x machine (λ base endpoints blocks. Only past later (λ h s. IsMoment x.ram new endpoints blocks h s)) only)
+        (λ h s m. by-state x.ram new h s (moment-walks x.ram new n b h s m) m.order (moment-unreached x.ram new n b h s m));
+    ended = of-state (λ k j. EndsSettled x.ram new k j later) (of-manifest x machine (λ base endpoints blocks. EndsSettled x.ram new endpoints blocks later) ended);
+  }
 
   -- pages behind the tables that are written while these stay
   pub beside-moments : (new : Ram) → HasTables new x.manifest (access_by_place (state_of x)) → {past later : Option (List Step)} {P : List Step → Step → Type 0} → Only past later P
       → ((h : List Step) (s : Step) → P h s → (named : ℕ → Bool) × ((p : ℕ) → named p ≡ true → table_page b n 0 ≤ p) × IsWriting x.ram named s)
       → AreMoments (state_of x) x.ram new past later
-  beside-moments new still only its =
-      Only-map only (λ h s holds.
-      let (named, behind, writing) = its h s holds in
+  beside-moments new still {later = later} only its =
       let old = machine.tables.built in
       let rights = access_by_place (state_of x) in
-      let m : IsMoment x.ram new n b h s =
-      written-moment x.ram new n b rights rights old still.built (still.base ∙ sym machine.tables.base) x.ram named rights behind old
-      (between-first x.ram n b rights rights old) refl h s writing
-      (λ p at e he. stays-same (rights e p) (rights e p) (rights e p) _ refl refl)
-      in
-      by-state x.ram new h s (moment-walks x.ram new n b h s m) m.order (moment-unreached x.ram new n b h s m))
+      record {
+        steps = Only-map only (λ h s holds.
+            let (named, behind, writing) = its h s holds in
+            let m : IsMoment x.ram new n b h s =
+            written-moment x.ram new n b rights rights old still.built (still.base ∙ sym machine.tables.base) x.ram named rights behind old
+            (between-first x.ram n b rights rights old) refl h s writing
+            (λ p at e he. stays-same (rights e p) (rights e p) (rights e p) _ refl refl)
+            in
+            by-state x.ram new h s (moment-walks x.ram new n b h s m) m.order (moment-unreached x.ram new n b h s m));
+        ended = of-state (λ k j. EndsSettled x.ram new k j later) (no-right-ends x.ram new n b rights rights old still.built later (λ e p was. was));
+      }
 
   -- RX of an endpoint is behind the tables
   rx-pages : (f : ℕ) → is_known (state_of x) f ≡ true → (buffers : Buffers) → buffers_in x.kept.buffers f ≡ Some buffers

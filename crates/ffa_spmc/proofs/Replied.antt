@@ -1,7 +1,9 @@
 -- SPDX-License-Identifier: MIT OR Apache-2.0
 -- What each call's part of the manager promises follows from what it keeps where it refuses.
-use Rattle.std.proofs.Common.{◌≡◌, ◌∙◌, None, true, false, List, Option, Result, Ok, Err, refl, sym, ap, subst}
+use Rattle.std.proofs.Common.{◌≡◌, ◌∙◌, None, true, false, List, Option, Some, Result, Ok, Err, refl, sym, ap, subst}
 use Rattle.std.specs.Prelude.{IfOk, OnErr}
+use Rattle.std.specs.Option.{option_map, option_or}
+use Rattle.std.specs.Result.{result_ok}
 use Rattle.std.proofs.lemmas.Bool.{true≢false}
 use Rattle.ffa_laws.proofs.Kept.{is_memory_call}
 use Rattle.ffa_model.specs.declared.call.Call as calls
@@ -17,7 +19,6 @@ use Rattle.ffa_memshare.specs.declared.changed.Changed.{Changed}
 use Rattle.ffa_memshare.specs.Stored.{Pooled}
 use Rattle.ffa_pages.specs.Entry.{Entry}
 use Rattle.ffa_physmem.specs.Moments.{Step}
-use Rattle.ffa_physmem.proofs.Moments.{Only-none}
 use Rattle.ffa_tlb.specs.declared.translations.Entry.{Entry as Held}
 use Rattle.ffa_spmc.specs.declared.answer.Answer.{Answer}
 use Rattle.ffa_spmc.specs.AccessChange.{IsAccessChange}
@@ -28,6 +29,7 @@ use Rattle.ffa_spmc.specs.Served.{IsAnswered, IsReplied, IsTold}
 use Rattle.ffa_spmc.specs.Moments.{AreMoments}
 use Rattle.ffa_spmc.specs.Unowned.{KeepsUnowned}
 use Rattle.ffa_spmc.proofs.AccessChanges.{access-served, none-changed}
+use Rattle.ffa_spmc.proofs.Moments.{no-moments, still-moments}
 
 -- what contracts see of the parts
 abbrev pub managed_of : Parts → Option (List Step) → Managed
@@ -46,6 +48,12 @@ pub refused-replied : {P : Type 0} (r : Result Reply ErrorCode) (reply told : Re
     → is_error told ≡ false → OnErr r P → is_error reply ≡ true → P
 refused-replied (Ok y) reply told is so plain kept error = absurd (true≢false (sym error ∙ ap is_error (is ∙ so) ∙ plain))
 refused-replied (Err code) reply told is so plain kept error = kept
+
+-- what is done is told, and a refusal leaves what was told
+pub told-of : {X : Type 0} (r : Result X ErrorCode) (change : X → Changed) (before now : Option Changed) → OnErr r (now ≡ before) → IfOk r (λ x. now ≡ Some (change x))
+    → now ≡ option_or (option_map change (result_ok r)) before
+told-of (Ok x) change before now kept told = told
+told-of (Err code) change before now kept told = kept
 
 -- a refused call on memory keeps all parts
 pub kept-memory : {X : Type 0} (x : Parts) (r : Result X ErrorCode) (ram : Ram) (pages : List (Option Entry)) (pool : Pooled)
@@ -77,7 +85,8 @@ module _ (x y : Parts) {past : Option (List Step)} (now : Managed) (seen : manag
   -- where RAM is left as it was
   pub replied-beside : replied (state_of y) reply ≡ served (state_of x) (c (state_of x)) → (is_error reply ≡ true → y ≡ x) → y.ram ≡ x.ram
       → IsReplied now (managed_of y past) (c now.state) reply
-  replied-beside is kept same = replied-with past is kept (λ error. refl) (λ p behind none. ap (λ (r : Ram). page_of r p) same) Only-none
+  replied-beside is kept same = replied-with past is kept (λ error. refl) (λ p behind none. ap (λ (r : Ram). page_of r p) same)
+      (still-moments (state_of x) x.ram y.ram past past same refl)
 
 -- and of a call on memory, whose answer tells this change
 module _ (x y : Parts) {past : Option (List Step)} (now : Managed) (seen : managed_of x past ≡ now) (c : State → Service) (answer : Answer) (changed : Option Changed) where
@@ -95,24 +104,27 @@ module _ (x y : Parts) {past : Option (List Step)} (now : Managed) (seen : manag
 
 -- a call that changes nothing
 pub replied-still : (old : Managed) (c : Service) (reply : Reply) → replied old.state reply ≡ served old.state c → IsReplied old old c reply
-replied-still old c reply is = record { served = is; refused = λ error. refl; unowned = λ p behind none. refl; moments = Only-none }
+replied-still old c reply is = record { served = is; refused = λ error. refl; unowned = λ p behind none. refl; moments = no-moments old.state old.ram old.past }
 
 -- a call that isn't on memory changes nobody's access, and what a cache holds stays
-pub answered-beside : (old new : Managed) (held : List Held) (call same : calls.Call) (reply : Reply) → call ≡ same → is_memory_call same ≡ false
-    → IsReplied old new (service old.state same) reply → IsAnswered old new held held (service old.state call) reply
-answered-beside old new held call same reply is beside its =
-    subst (λ (a : calls.Call). IsAnswered old new held held (service old.state a) reply) (sym is)
+pub answered-beside : (old new : Managed) (held : List Held) (told : Option Changed) (call same : calls.Call) (reply : Reply) → call ≡ same → is_memory_call same ≡ false
+    → IsReplied old new (service old.state same) reply → IsAnswered old new held held told told (service old.state call) reply
+answered-beside old new held told call same reply is beside its =
+    subst (λ (a : calls.Call). IsAnswered old new held held told told (service old.state a) reply) (sym is)
     (record {
+      changed = None;
       replied = its;
       forgotten = record {
-        changed = None;
         access = none-changed old.state new.state (λ e p. ap (λ (t : Stepped). access t.state e p) its.served ∙ access-served old.state e p same beside);
         rest = λ e p. refl;
       };
+      told = refl;
       unchanged = λ error. refl;
+      untold = λ error. refl;
     })
 
 -- a call on memory is answered by its part
-pub answered-as : (old new : Managed) (held kept : List Held) (call same : calls.Call) (reply : Reply) → call ≡ same
-    → IsAnswered old new held kept (service old.state same) reply → IsAnswered old new held kept (service old.state call) reply
-answered-as old new held kept call same reply is its = subst (λ (a : calls.Call). IsAnswered old new held kept (service old.state a) reply) (sym is) its
+pub answered-as : (old new : Managed) (held kept : List Held) (before now : Option Changed) (call same : calls.Call) (reply : Reply) → call ≡ same
+    → IsAnswered old new held kept before now (service old.state same) reply → IsAnswered old new held kept before now (service old.state call) reply
+answered-as old new held kept before now call same reply is its =
+    subst (λ (a : calls.Call). IsAnswered old new held kept before now (service old.state a) reply) (sym is) its

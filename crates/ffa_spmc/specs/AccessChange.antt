@@ -1,15 +1,12 @@
 -- SPDX-License-Identifier: MIT OR Apache-2.0
--- FOR PROOFS ALONE
--- What a call changes of access.
-use Rattle.std.specs.Prelude.{◌≡◌, ◌⊎◌, ℕ, ◌==◌, Bool, true, false, ◌&&◌, List, length, Option, Some, None, IfSome, if◌then◌else◌}
-use Rattle.std.specs.Option.{option_map_or}
+-- What an operation changes of access, and what a machine tells of that.
+use Rattle.std.specs.Prelude.{◌≡◌, ◌⊎◌, ℕ, ◌==◌, Bool, true, false, ◌&&◌, length, Option, Some, None, IfSome}
+use Rattle.std.specs.Option.{option_map_or, option_or}
 use Rattle.ffa_model.specs.declared.endpoint.EndpointId.{EndpointId}
 use Rattle.ffa_model.specs.Access.{access, names}
 use Rattle.ffa_model.specs.State.{State}
 use Rattle.ffa_memshare.specs.declared.changed.Changed.{Changed}
 use Rattle.ffa_memshare.specs.Ranges.{ArePlaced}
-use Rattle.ffa_tlb.specs.declared.translations.Entry.{Entry}
-use Rattle.ffa_tlb.specs.Lookups.{lookup}
 
 -- whether an endpoint is e
 abbrev pub is_whose : Option EndpointId → ℕ → Bool
@@ -29,8 +26,9 @@ pub record IsAccessChange (old new : State) (changed : Option Changed) : Type 0 
   -- every other access is as before
   pub rest : (e p : ℕ) → is_of old changed e p ≡ false → access new e p ≡ access old e p
 
--- of what a cache held nothing is left where an access changed, and all the rest
-pub record IsForgotten (old new : State) (held kept : List Entry) : Type 0 where
+-- A machine tells what an operation has changed: it tells a change from then on, which is so; or it tells what it told before,
+-- and no access has changed.
+pub record IsTelling (old new : State) (before now : Option Changed) : Type 0 where
   pub changed : Option Changed
   pub access : IsAccessChange old new changed
-  pub rest : (e p : ℕ) → lookup kept e p ≡ (if is_of old changed e p then None else lookup held e p)
+  pub told : now ≡ option_or changed before

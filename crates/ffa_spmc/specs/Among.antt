@@ -1,7 +1,7 @@
 -- SPDX-License-Identifier: MIT OR Apache-2.0
 -- An operation while other processors of its runner write to the runner's TX: which pages of TX it reads, and that it does
 -- what an operation does that finds there what one reading of these pages gave.
-use Rattle.std.specs.Prelude.{◌≡◌, ℕ, ◌+◌, ◌*◌, ◌/◌, ◌==◌, Bool, true, false, nat_lt, length, Option, Some, None, if◌then◌else◌}
+use Rattle.std.specs.Prelude.{◌≡◌, ℕ, ◌+◌, ◌*◌, ◌/◌, ◌==◌, Bool, true, false, nat_lt, List, [], ◌∷◌, length, Option, Some, None, if◌then◌else◌}
 use Rattle.std.specs.Option.{option_and_then}
 use Rattle.ffa_model.specs.declared.call.Call as calls
 use Rattle.ffa_model.specs.declared.call.Call.TheVariants.{MemDonate, MemLend, MemShare, MemRetrieve, MemRelinquish, MsgSend2}
@@ -67,6 +67,7 @@ pub record IsRead (run : Run) (begins : Bool) (old new : Snapshot) : Type 0 wher
   pub ram : IsBeside old.ram new.ram (is_in run)
   pub step : One old.past new.past (λ s. IsReading old.ram new.ram run.first.0 run.count begins s)
   pub held : new.held ≡ old.held
+  pub told : new.told ≡ old.told
   pub agrees : Agrees new.ram new.state
   pub sound : IsSoundState new.state
   pub walks : AreWalks new
@@ -100,3 +101,10 @@ pub record IsDoneAmong (run : Run) (old : Snapshot) (op : Op) (told : Outcome) (
 abbrev pub IsDoneReading : Option Run → Snapshot → Op → Outcome → Snapshot → Type 0
 IsDoneReading None old op told new = IsDone old op told new
 IsDoneReading (Some run) old op told new = IsDoneAmong run old op told new
+
+-- so were operations that were done one after another, each with one of the outcomes
+abbrev pub AreDoneReading : Snapshot → List Op → List Outcome → Snapshot → Type 0
+AreDoneReading old [] told new = (told ≡ []) × (new ≡ old)
+AreDoneReading old (op ∷ ops) told new =
+    (next : Snapshot) × (outcome : Outcome) × (rest : List Outcome)
+    × (told ≡ outcome ∷ rest) × IsDoneReading (pages_read old.state op) old op outcome next × AreDoneReading next ops rest new

@@ -1,10 +1,13 @@
 -- SPDX-License-Identifier: MIT OR Apache-2.0
 -- FOR PROOFS ALONE
 -- What the machine's private steps do to its cache.
-use Rattle.std.specs.Prelude.{◌≡◌, ℕ, ◌+◌, ◌-◌, ◌%◌, ◌==◌, Bool, ◌&&◌, List, None, if◌then◌else◌}
+use Rattle.std.specs.Prelude.{◌≡◌, ℕ, ◌+◌, ◌-◌, ◌%◌, ◌==◌, Bool, ◌&&◌, List, Option, None, if◌then◌else◌}
 use Rattle.ffa_model.specs.declared.leaf.Leaf.{Leaf}
+use Rattle.ffa_memshare.specs.declared.changed.Changed.{Changed}
+use Rattle.ffa_model.specs.State.{State}
 use Rattle.ffa_tlb.specs.declared.translations.Entry.{Entry}
 use Rattle.ffa_tlb.specs.Lookups.{lookup}
+use Rattle.ffa_spmc.specs.AccessChange.{IsAccessChange, is_of}
 use Rattle.ffa_spmc.specs.Cached.{AreSameOrGone, is_runners, missed_page}
 use Rattle.ffa_spmc.specs.Snapshot.{Snapshot}
 
@@ -27,3 +30,8 @@ AreOut old new e test = (f q : ℕ) → lookup new f q ≡ (if f == e && test q 
 -- the pages of the largest RAM
 abbrev pub most_pages : ℕ
 most_pages = 16384
+
+-- of what a cache held nothing is left where an access changed, and all the rest
+pub record IsForgotten (old new : State) (held kept : List Entry) (changed : Option Changed) : Type 0 where
+  pub access : IsAccessChange old new changed
+  pub rest : (e p : ℕ) → lookup kept e p ≡ (if is_of old changed e p then None else lookup held e p)

@@ -5,7 +5,7 @@ use Rattle.ffa_model.specs.Agreement.{blocks_of}
 use Rattle.ffa_model.specs.Ram.{Ram}
 use Rattle.ffa_model.specs.State.{State}
 use Rattle.ffa_physmem.specs.Moments.{Only, Step}
-use Rattle.ffa_stage2.specs.Moments.{IsInOrder, WalksBetween, WritesUnreached}
+use Rattle.ffa_stage2.specs.Moments.{EndsSettled, IsInOrder, WalksBetween, WritesUnreached}
 
 -- Behind the step, and at every address, the walks of all endpoints' tables give what they gave in the old RAM or nothing, or all
 -- give what they give in the new one or nothing. A descriptor that changes goes by way of nothing where it has to. And pages
@@ -15,6 +15,8 @@ pub record IsSafeStep (s : State) (old new : Ram) (h : List Step) (step : Step) 
   pub order : IsInOrder old (length s.parties) (blocks_of s) h step
   pub unreached : WritesUnreached old new (length s.parties) (blocks_of s) h step
 
--- each step on the way from one history to a later one is such a one
-abbrev pub AreMoments : State → Ram → Ram → Option (List Step) → Option (List Step) → Type 0
-AreMoments s old new past later = Only past later (λ h step. IsSafeStep s old new h step)
+-- Each step on the way from one history to a later one is such a one. And at its end, where an endpoint's walk led to a page and
+-- leads there no more, the page was settled in the endpoint's tables, and no table has changed since then.
+pub record AreMoments (s : State) (old new : Ram) (past later : Option (List Step)) : Type 0 where
+  pub steps : Only past later (λ h step. IsSafeStep s old new h step)
+  pub ended : EndsSettled old new (length s.parties) (blocks_of s) later

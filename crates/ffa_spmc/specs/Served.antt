@@ -1,13 +1,16 @@
 -- SPDX-License-Identifier: MIT OR Apache-2.0
 -- FOR PROOFS ALONE
 -- What each call's part of the manager promises.
-use Rattle.std.specs.Prelude.{◌≡◌, true, List, None}
+use Rattle.std.specs.Prelude.{◌≡◌, true, List, Option, None}
+use Rattle.std.specs.Option.{option_or}
 use Rattle.ffa_model.specs.declared.call.Reply.{Reply}
 use Rattle.ffa_model.specs.Calls.{Service, replied, served}
 use Rattle.ffa_model.specs.Refusals.{is_error}
 use Rattle.ffa_tlb.specs.declared.translations.Entry.{Entry}
 use Rattle.ffa_spmc.specs.declared.answer.Answer.{Answer}
-use Rattle.ffa_spmc.specs.AccessChange.{IsAccessChange, IsForgotten}
+use Rattle.ffa_memshare.specs.declared.changed.Changed.{Changed}
+use Rattle.ffa_spmc.specs.AccessChange.{IsAccessChange}
+use Rattle.ffa_spmc.specs.Caching.{IsForgotten}
 use Rattle.ffa_spmc.specs.Managed.{Managed}
 use Rattle.ffa_spmc.specs.Moments.{AreMoments}
 use Rattle.ffa_spmc.specs.Unowned.{KeepsUnowned}
@@ -26,8 +29,12 @@ pub record IsTold (old new : Managed) (c : Service) (answer : Answer) : Type 0 w
   pub access : IsAccessChange old.state new.state answer.changed
   pub unchanged : is_error answer.reply ≡ true → answer.changed ≡ None
 
--- a call of the runner is replied to, and a cache that held one list of entries holds another that forgets what changed
-pub record IsAnswered (old new : Managed) (held kept : List Entry) (c : Service) (reply : Reply) : Type 0 where
+-- a call of the runner is replied to, a cache that held one list of entries holds another that forgets what changed, and that is
+-- told, or else what was told before
+pub record IsAnswered (old new : Managed) (held kept : List Entry) (before now : Option Changed) (c : Service) (reply : Reply) : Type 0 where
+  pub changed : Option Changed
   pub replied : IsReplied old new c reply
-  pub forgotten : IsForgotten old.state new.state held kept
+  pub forgotten : IsForgotten old.state new.state held kept changed
+  pub told : now ≡ option_or changed before
   pub unchanged : is_error reply ≡ true → kept ≡ held
+  pub untold : is_error reply ≡ true → now ≡ before

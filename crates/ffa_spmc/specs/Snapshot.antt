@@ -1,11 +1,13 @@
 -- SPDX-License-Identifier: MIT OR Apache-2.0
--- What a contract sees of a machine: its state, its RAM with every byte, the leaves that its cache holds, and what was
--- written to its RAM so far, where a record of it is kept.
+-- What a contract sees of a machine: its state, its RAM with every byte, the leaves that its cache holds, what was written to
+-- its RAM so far, where a record of it is kept, and what it tells of access that changed.
 use Rattle.std.specs.Prelude.{List, Option, refl}
-use Rattle.std.specs.Coded.{Coded, code_by, coded×}
+use Rattle.std.specs.Coded.{Coded, code_by, coded×, coded_option}
 use Rattle.ffa_model.specs.Ram.{Ram}
 use Rattle.ffa_model.specs.State.{State}
 use Rattle.ffa_model.specs.Codes.{coded_state}
+use Rattle.ffa_memshare.specs.Codes.{coded_changed}
+use Rattle.ffa_memshare.specs.declared.changed.Changed.{Changed}
 use Rattle.ffa_physmem.specs.Moments.{Step}
 use Rattle.ffa_tlb.specs.Codes.{coded_entries}
 use Rattle.ffa_tlb.specs.declared.translations.Entry.{Entry}
@@ -16,8 +18,11 @@ pub record Snapshot : Type 0 where
   pub ram : Ram
   pub held : List Entry
   pub past : Option (List Step)
+  pub told : Option Changed
 
 abbrev pub coded_snapshot : Coded Snapshot
 coded_snapshot =
-    code_by (State × (Ram × (List Entry × Option (List Step)))) (coded× coded_state (coded× coded_ram (coded× coded_entries coded_past)))
-    (λ s. (s.state, (s.ram, (s.held, s.past)))) (λ p. record { state = p.0; ram = p.1.0; held = p.1.1.0; past = p.1.1.1 }) (λ _. refl)
+    code_by (State × (Ram × (List Entry × (Option (List Step) × Option Changed))))
+    (coded× coded_state (coded× coded_ram (coded× coded_entries (coded× coded_past (coded_option coded_changed)))))
+    (λ s. (s.state, (s.ram, (s.held, (s.past, s.told)))))
+    (λ p. record { state = p.0; ram = p.1.0; held = p.1.1.0; past = p.1.1.1.0; told = p.1.1.1.1 }) (λ _. refl)

@@ -1,6 +1,6 @@
 // SPDX-License-Identifier: MIT OR Apache-2.0
 //! The machine.
-ghost use Rattle.std.specs.Prelude.{true, false, [], ◌≡◌, ℕ, ◌*◌, ◌<◌, ◌≤◌, length};
+ghost use Rattle.std.specs.Prelude.{true, false, None, [], ◌≡◌, ℕ, ◌*◌, ◌<◌, ◌≤◌, length};
 ghost use Rattle.ffa_model.specs.declared.limits.TheConstants.{MOST_ENDPOINTS};
 ghost use Rattle.ffa_model.specs.Access.{access};
 ghost use Rattle.ffa_model.specs.Agreement.{Agrees};
@@ -19,6 +19,7 @@ ghost use Rattle.ffa_model.specs.Refusals.{is_refusal};
 ghost use Rattle.ffa_model.specs.Registers.{decode};
 ghost use Rattle.ffa_model.specs.State.{owner_of};
 ghost use Rattle.ffa_model.specs.Step.{serve, step, outcomes, state_after};
+ghost use Rattle.ffa_spmc.specs.AccessChange.{IsTelling};
 ghost use Rattle.ffa_spmc.specs.Cached.{AreSameOrGone, AreForgotten, AreKept, AreWalks, is_accessed, is_miss};
 ghost use Rattle.ffa_spmc.specs.Operated.{AreOperated};
 ghost use Rattle.ffa_spmc.specs.Booted.{IsBooted};
@@ -32,17 +33,19 @@ mod elsewhere;
 mod reasons;
 
 use crate::manager::Manager;
+use ffa_memshare::{Changed, News};
 use ffa_model::{EndpointId, Manifest, Op, Outcome, PageNo, Rights};
 use ffa_physmem::PhysMem;
 use ffa_tlb::{NoTlb, Translations};
 use std::marker::Model;
 
 /// A machine over any RAM, with any cache of leaves. Contracts see its state, which is that of the small machine, its RAM
-/// with every byte, and what the cache holds.
+/// with every byte, what the cache holds, and what the machine tells of access that changed.
 #[derive(Drop)]
 pub struct Machine<M: PhysMem + Drop, T: Translations + Drop = NoTlb> {
     manager: Manager<M>,
     cache: T,
+    news: News,
 }
 
 impl<M: PhysMem + Drop, T: Translations + Drop> Model for Machine<M, T> {
@@ -54,9 +57,9 @@ impl<M: PhysMem + Drop, T: Translations + Drop> Model for Machine<M, T> {
 
     ghost use Rattle.ffa_spmc.specs.Cached.{AreWalks};
 
-    ghost view = { λ m. record { state = m.manager.state; ram = m.manager.ram; held = T.entries m.cache; past = m.manager.past } };
+    ghost view = { λ m. record { state = m.manager.state; ram = m.manager.ram; held = T.entries m.cache; past = m.manager.past; told = m.news } };
 
-    ghost invariant = { λ m. AreWalks (record { state = m.manager.state; ram = m.manager.ram; held = T.entries m.cache; past = m.manager.past }) };
+    ghost invariant = { λ m. AreWalks (record { state = m.manager.state; ram = m.manager.ram; held = T.entries m.cache; past = m.manager.past; told = m.news }) };
 }
 
 // Fills all pages with zeros.
@@ -87,6 +90,7 @@ impl<M: PhysMem + Drop, T: Translations + Drop> Machine<M, T> {
         requires size { length (M.ram ram).pages ≡ 512 * manifest.now.ram_blocks }
         ensures booted { IsBooted manifest.now result.state result.ram }
         ensures held { result.held ≡ [] }
+        ensures told { result.told ≡ None }
     {
         let mut ram = ram;
         clear(&mut ram);
@@ -101,12 +105,14 @@ impl<M: PhysMem + Drop, T: Translations + Drop> Machine<M, T> {
         requires { M.ram ram ≡ zero_ram manifest.now.ram_base.0 (512 * manifest.now.ram_blocks) }
         ensures booted { IsBooted manifest.now result.state result.ram }
         ensures held { result.held ≡ [] }
+        ensures told { result.told ≡ None }
     {
         let mut cache = cache;
         cache.clear();
         Machine {
             manager: Manager::first(manifest, ram),
             cache,
+            news: News::none(),
         }
     }
 
@@ -131,6 +137,15 @@ impl<M: PhysMem + Drop, T: Translations + Drop> Machine<M, T> {
         ensures walks { AreWalks self.now }
     {
         &self.cache
+    }
+
+    /// Whose access to which pages the last call on memory that was done has changed: told once. It is the caller's, or
+    /// nobody's, as of a share.
+    pub fn take_change(&mut self) -> Option<Changed>
+        ensures told { result ≡ self.old.told }
+        ensures rest { self.new ≡ record self.old { told = None } }
+    {
+        self.news.take()
     }
 
     /// The endpoint that runs.
@@ -190,6 +205,9 @@ impl<M: PhysMem + Drop, T: Translations + Drop> Machine<M, T> {
         ensures kept { is_miss self.old op.now ≡ false → AreKept self.old self.new }
         ensures others { AreSameOrGone self.old self.new (is_accessed self.old.state op.now) }
 
+        // Whose access to which pages it changed is told from then on; or nobody's has changed, and what was told stays.
+        ensures telling { IsTelling self.old.state self.new.state self.old.told self.new.told }
+
         // The state stays sound. What another endpoint learns is in its events, what the runner sees depends on its view
         // alone, and a page that its owner has alone is safe from others.
         ensures sound { IsSoundState self.new.state }
@@ -238,6 +256,7 @@ impl<M: PhysMem + Drop, T: Translations + Drop> Machine<M, T> {
         ensures forgotten { AreForgotten self.old self.new }
         ensures kept { is_miss self.old op.now ≡ false → AreKept self.old self.new }
         ensures others { AreSameOrGone self.old self.new (is_accessed self.old.state op.now) }
+        ensures telling { IsTelling self.old.state self.new.state self.old.told self.new.told }
     {
         // Proof step: the state is sound, so that the runner is an endpoint of the machine.
         self.manager.holds();
@@ -261,10 +280,11 @@ impl<M: PhysMem + Drop, T: Translations + Drop> Machine<M, T> {
         ensures forgotten { AreForgotten self.old self.new }
         ensures kept { AreKept self.old self.new }
         ensures others { AreSameOrGone self.old self.new (λ e p. false) }
+        ensures telling { IsTelling self.old.state self.new.state self.old.told self.new.told }
     {
         // Proof step: the state is sound, and the tables give its access.
         self.manager.holds();
-        let outcome = self.manager.call(x, &mut self.cache);
+        let outcome = self.manager.call(x, &mut self.cache, &mut self.news);
         // Proof step: so it is afterwards.
         self.manager.holds();
         outcome

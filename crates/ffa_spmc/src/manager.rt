@@ -1,6 +1,7 @@
 // SPDX-License-Identifier: MIT OR Apache-2.0
 //! The partition manager: what it keeps, and what its calls and accesses do.
-ghost use Rattle.std.specs.Prelude.{true, ◌≡◌, None, ◌*◌, ◌<◌, ◌≤◌, length};
+ghost use Rattle.std.specs.Prelude.{true, ◌≡◌, None, Option, ◌*◌, ◌<◌, ◌≤◌, length};
+ghost use Rattle.std.specs.Option.{option_or};
 ghost use Rattle.ffa_model.specs.declared.limits.TheConstants.{MOST_ENDPOINTS};
 ghost use Rattle.ffa_model.specs.Access.{access};
 ghost use Rattle.ffa_model.specs.Agreement.{Agrees};
@@ -12,7 +13,8 @@ ghost use Rattle.ffa_model.specs.Refusals.{is_refusal, passes_no_error};
 ghost use Rattle.ffa_model.specs.Registers.{decode};
 ghost use Rattle.ffa_model.specs.State.{owner_of, version_of};
 ghost use Rattle.ffa_model.specs.Step.{serve, service};
-ghost use Rattle.ffa_spmc.specs.AccessChange.{IsForgotten};
+ghost use Rattle.ffa_memshare.specs.declared.changed.Changed.{Changed};
+ghost use Rattle.ffa_spmc.specs.Caching.{IsForgotten};
 ghost use Rattle.ffa_spmc.specs.Booted.{IsBooted};
 ghost use Rattle.ffa_spmc.specs.Served.{IsAnswered};
 ghost use Rattle.ffa_spmc.specs.Moments.{AreMoments};
@@ -31,6 +33,7 @@ mod readings;
 mod reasons;
 
 use crate::kept::Kept;
+use ffa_memshare::News;
 use ffa_model::{
     Address, Call, EndpointId, ErrorCode, Kind, Manifest, Outcome, PageNo, Reply, Rights, Version,
 };
@@ -163,18 +166,27 @@ impl<M: PhysMem + Drop> Manager<M> {
         }
     }
 
-    // A call of the runner, in its registers, after which the cache holds nothing that the call has made untrue.
+    // A call of the runner, in its registers, after which the cache holds nothing that the call has made untrue, and what it
+    // changed is told.
     #[inline(always)]
-    pub(crate) fn call<T: Translations>(&mut self, x: [u64; 8], cache: &mut T) -> Outcome
+    pub(crate) fn call<T: Translations>(
+        &mut self,
+        x: [u64; 8],
+        cache: &mut T,
+        news: &mut News,
+    ) -> Outcome
         ensures outcome { result ≡ (serve self.old.state (decode x)).outcome }
         ensures state { self.new.state ≡ (serve self.old.state (decode x)).state }
         ensures refused { is_refusal result ≡ true → self.new ≡ self.old }
         ensures unowned { KeepsUnowned self.old.state self.old.ram self.new.ram }
         ensures moments { AreMoments self.old.state self.old.ram self.new.ram self.old.past self.new.past }
-        ensures forgotten { IsForgotten self.old.state self.new.state (T.entries cache.old) (T.entries cache.new) }
+        ensures changed { (changed : Option Changed)
+            × IsForgotten self.old.state self.new.state (T.entries cache.old) (T.entries cache.new) changed
+            × (news.new ≡ option_or changed news.old) }
         ensures unchanged { is_refusal result ≡ true → T.entries cache.new ≡ T.entries cache.old }
+        ensures untold { is_refusal result ≡ true → news.new ≡ news.old }
     {
-        let reply = self.reply(ffa_abi::decode(x), cache);
+        let reply = self.reply(ffa_abi::decode(x), cache, news);
         Outcome::Regs {
             runner: self.kept.chain.runner(),
             x: ffa_abi::encode(&reply),
@@ -183,9 +195,9 @@ impl<M: PhysMem + Drop> Manager<M> {
 
     // The reply to a call of the runner. Each arm answers for itself.
     #[inline(always)]
-    fn reply<T: Translations>(&mut self, call: Call, cache: &mut T) -> Reply
+    fn reply<T: Translations>(&mut self, call: Call, cache: &mut T, news: &mut News) -> Reply
         requires { passes_no_error call ≡ true }
-        ensures { IsAnswered self.old self.new (T.entries cache.old) (T.entries cache.new) (service self.old.state call) result }
+        ensures { IsAnswered self.old self.new (T.entries cache.old) (T.entries cache.new) news.old news.new (service self.old.state call) result }
     {
         match call {
             Call::Version { version } => ffa_setup::version(version),
@@ -212,12 +224,12 @@ impl<M: PhysMem + Drop> Manager<M> {
                 payload,
             } => self.respond(function, word, flags, payload),
             Call::MsgSend2 => self.send(),
-            Call::MemDonate(transfer) => self.offer(Kind::Donate, transfer, cache),
-            Call::MemLend(transfer) => self.offer(Kind::Lend, transfer, cache),
-            Call::MemShare(transfer) => self.offer(Kind::Share, transfer, cache),
-            Call::MemRetrieve(transfer) => self.retrieve(transfer, cache),
-            Call::MemRelinquish => self.relinquish(cache),
-            Call::MemReclaim { low, high, flags } => self.reclaim(low, high, flags, cache),
+            Call::MemDonate(transfer) => self.offer(Kind::Donate, transfer, cache, news),
+            Call::MemLend(transfer) => self.offer(Kind::Lend, transfer, cache, news),
+            Call::MemShare(transfer) => self.offer(Kind::Share, transfer, cache, news),
+            Call::MemRetrieve(transfer) => self.retrieve(transfer, cache, news),
+            Call::MemRelinquish => self.relinquish(cache, news),
+            Call::MemReclaim { low, high, flags } => self.reclaim(low, high, flags, cache, news),
             Call::BitmapCreate { endpoint, contexts } => { self.create_bitmaps(endpoint, contexts) }
             Call::BitmapDestroy { endpoint } => self.destroy_bitmaps(endpoint),
             Call::NotificationBind {

@@ -2,7 +2,7 @@
 -- On the way to other rights: what stands between two writes.
 use Rattle.std.proofs.Common.{◌≡◌, ◌≢◌, ◌∙◌, ℕ, ◌+◌, ◌-◌, ◌*◌, ◌/◌, ◌%◌, ◌^◌, ◌<◌, ◌≤◌, true, false, refl, ap, sym, subst, arith, List, length, Option, Some, None, Err, inl, inr, ◌⊎◌}
 use Rattle.std.specs.Prelude.{◌==◌, ◌&&◌, nat_le, nat_lt, if◌then◌else◌, Bool, is_some, is_ok}
-use Rattle.std.proofs.lemmas.Bool.{cases_lt, cases_eq, cases_Bool, false_from_ne_true}
+use Rattle.std.proofs.lemmas.Bool.{cases_lt, cases_eq, cases_Bool, false_from_ne_true, true≢false}
 use Rattle.std.proofs.lemmas.Bool.Decides.{nat_tests}
 use Rattle.std.proofs.Math.Nat.{mul-le-mul_right}
 use Rattle.ffa_model.specs.Ram.{Ram, page_of, with_page, word_of, with_word}
@@ -11,9 +11,9 @@ use Rattle.ffa_model.specs.Descriptor.{page_word}
 use Rattle.ffa_model.specs.declared.operation.FaultKind.TheVariants.{Translation}
 use Rattle.ffa_model.specs.declared.rights.Rights.{Rights}
 use Rattle.ffa_stage2.specs.declared.blocks.Place.{Place}
-use Rattle.ffa_physmem.specs.Moments.{IsBeside, Step}
+use Rattle.ffa_physmem.specs.Moments.{IsBeside, IsSettledBy, Step}
 use Rattle.ffa_stage2.specs.Blocks.{IsBlock, IsEither, block_word}
-use Rattle.ffa_stage2.specs.Moments.{IsBetween, IsMoment, IsNoMore, KeepsBehind, WalksBetween, WritesUnreached, walk_at}
+use Rattle.ffa_stage2.specs.Moments.{EndsSettled, IsBetween, IsMoment, IsNoMore, KeepsBehind, WalksBetween, WritesUnreached, walk_at}
 use Rattle.ffa_stage2.specs.Tables.{IsBuilt, IsStanding, rights_of_block, table_page, with_pages}
 use Rattle.ffa_stage2.specs.Orders.{IsBlockWrite, IsLeafWrite, IsOrdered, IsSettledLast, IsWritten}
 use Rattle.ffa_stage2.specs.Places.{IsPlace, IsPlaceOf, Maps, Names, KeepsBeside, IsCut, IsOneOf, IsOrderly, IsFilled, IsFilling, IsOnTheWay, with_run, word_at}
@@ -396,6 +396,29 @@ moment-unreached old new n b h s m p behind hp = elim m.unreached [
         ])
   ]
 ]
+
+-- rights that end, as walks tell it
+pub ends-of-rights : (old new : Ram) (n b : ℕ) (access after : ℕ → ℕ → Option Rights) → IsBuilt old n b access → IsBuilt new n b after → (past : Option (List Step))
+    → ((h : List Step) → past ≡ Some h → (e p : ℕ) → e < n → is_some (access e p) ≡ true → is_some (after e p) ≡ false → IsSettledBy (table_page b n 0) e p h)
+    → EndsSettled old new n b past
+ends-of-rights old new n b access after built is past each h there e p he hp was gone =
+    each h there e p he (some old access built ∙ was) (some new after is ∙ gone)
+  where
+    some : (ram : Ram) (rights : ℕ → ℕ → Option Rights) → IsBuilt ram n b rights → is_some (rights e p) ≡ is_ok (walk_at ram b e (ram.base + 4096 * p))
+    some ram rights its =
+        answer-some (rights e p) (ram.base + 4096 * p)
+        ∙ sym (ap is_ok (walk-page ram n b rights e p ram.base (standing-of_built ram n b rights its) refl he hp))
+
+-- where none end
+pub no-right-ends : (old new : Ram) (n b : ℕ) (access after : ℕ → ℕ → Option Rights) → IsBuilt old n b access → IsBuilt new n b after → (past : Option (List Step))
+    → ((e p : ℕ) → is_some (access e p) ≡ true → is_some (after e p) ≡ true) → EndsSettled old new n b past
+no-right-ends old new n b access after built is past stays =
+    ends-of-rights old new n b access after built is past (λ h there e p he was gone. absurd (true≢false (sym (stays e p was) ∙ gone)))
+
+-- where RAM is the same
+pub nothing-ends : (old new : Ram) (n b : ℕ) (past : Option (List Step)) → new ≡ old → EndsSettled old new n b past
+nothing-ends old new n b past same h there e p he hp was gone =
+    absurd (true≢false (sym was ∙ ap (λ (r : Ram). is_ok (walk_at r b e (r.base + 4096 * p))) (sym same) ∙ gone))
 
 -- at the place of a block
 pub ordered-of : (old : Ram) (b e k : ℕ) (x : Place) → k < b → IsPlaceOf old b e k x → (h : List Step) (s : Step) → IsOrderly x h s → IsOrdered old b e h s

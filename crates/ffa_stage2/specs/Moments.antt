@@ -1,6 +1,6 @@
 -- SPDX-License-Identifier: MIT OR Apache-2.0
 -- On the way from one access to another: what tables give between two writes.
-use Rattle.std.specs.Prelude.{◌≡◌, ℕ, ◌+◌, ◌*◌, ◌^◌, ◌<◌, ◌≤◌, ◌⊎◌, true, List, Option, is_some, is_ok, None, Err}
+use Rattle.std.specs.Prelude.{◌≡◌, ℕ, ◌+◌, ◌*◌, ◌^◌, ◌<◌, ◌≤◌, ◌⊎◌, true, false, List, Option, is_some, is_ok, Some, None, Err}
 use Rattle.arrayvec.specs.ArrayVec.{array_vec_len}
 use Rattle.ffa_model.specs.Ram.{Ram, page_of}
 use Rattle.ffa_model.specs.Manifest.{root_of}
@@ -89,3 +89,13 @@ WritesUnreached old new endpoints blocks h s =
     → ((walk_at s.before blocks e (old.base + 4096 * p) ≡ Err Translation)
     × (is_ok (walk_at old blocks e (old.base + 4096 * p)) ≡ true → IsSettledBy (table_page blocks endpoints 0) e p h))
     ⊎ ((is_ok (walk_at old blocks e (old.base + 4096 * p)) ≡ true) × (is_ok (walk_at new blocks e (old.base + 4096 * p)) ≡ true)))
+
+-- At the end of a history, of what led from one RAM to another: where an endpoint's walk led to a page and leads there no more,
+-- the page was settled in the endpoint's tables, and no table has changed since then.
+abbrev pub EndsSettled : Ram → Ram → ℕ → ℕ → Option (List Step) → Type 0
+EndsSettled old new endpoints blocks past =
+    (h : List Step) → past ≡ Some h
+    → (e p : ℕ) → e < endpoints → p < 512 * blocks
+    → is_ok (walk_at old blocks e (old.base + 4096 * p)) ≡ true
+    → is_ok (walk_at new blocks e (new.base + 4096 * p)) ≡ false
+    → IsSettledBy (table_page blocks endpoints 0) e p h

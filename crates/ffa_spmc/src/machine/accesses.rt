@@ -82,6 +82,7 @@ impl<M: PhysMem + Drop, T: Translations + Drop> Machine<M, T> {
         ensures state { self.new.state ≡ self.old.state }
         ensures ram { self.new.ram ≡ self.old.ram }
         ensures past { self.new.past ≡ self.old.past }
+        ensures told { self.new.told ≡ self.old.told }
         ensures held { IsCached (run_by endpoint.0 self.old) self.new addr }
         ensures refused { is_refusal outcome.now ≡ true → self.new ≡ self.old }
     {
@@ -105,6 +106,7 @@ impl<M: PhysMem + Drop, T: Translations + Drop> Machine<M, T> {
         ensures unowned { KeepsUnowned self.old.state self.old.ram self.new.ram }
         ensures moments { AreMoments self.old.state self.old.ram self.new.ram self.old.past self.new.past }
         ensures held { IsCached (run_by endpoint.0 self.old) self.new addr }
+        ensures told { self.new.told ≡ self.old.told }
     {
         let walked = self.walk(endpoint, addr);
         let outcome = self.manager.load(endpoint, walked.answer, addr, size);
@@ -121,6 +123,7 @@ impl<M: PhysMem + Drop, T: Translations + Drop> Machine<M, T> {
         ensures unowned { KeepsUnowned self.old.state self.old.ram self.new.ram }
         ensures moments { AreMoments self.old.state self.old.ram self.new.ram self.old.past self.new.past }
         ensures held { IsCached (run_by endpoint.0 self.old) self.new addr }
+        ensures told { self.new.told ≡ self.old.told }
     {
         let walked = self.walk(endpoint, addr);
         let outcome = self.manager.fetch(endpoint, walked.answer, addr);
@@ -144,6 +147,7 @@ impl<M: PhysMem + Drop, T: Translations + Drop> Machine<M, T> {
         ensures unowned { KeepsUnowned self.old.state self.old.ram self.new.ram }
         ensures moments { AreMoments self.old.state self.old.ram self.new.ram self.old.past self.new.past }
         ensures held { IsCached (run_by endpoint.0 self.old) self.new addr }
+        ensures told { self.new.told ≡ self.old.told }
     {
         let walked = self.walk(endpoint, addr);
         // Proof step: the state is sound, and the tables give its access.

@@ -3,7 +3,7 @@
 ghost use Rattle.std.specs.Prelude.{true, false, ◌≡◌, ◌+◌, ◌≤◌, length};
 ghost use Rattle.ffa_model.specs.Agreement.{Agrees};
 ghost use Rattle.ffa_model.specs.SoundState.{IsSoundState};
-ghost use Rattle.ffa_spmc.specs.Among.{IsDone, IsDoneReading, IsRead, pages_read};
+ghost use Rattle.ffa_spmc.specs.Among.{AreDoneReading, IsDone, IsDoneReading, IsRead, pages_read};
 ghost use Rattle.ffa_spmc.specs.Cached.{AreWalks};
 ghost use Rattle.ffa_spmc.specs.Unowned.{KeepsUnowned, pages_of_tables};
 
@@ -34,6 +34,31 @@ impl<M: PhysMem + Drop, T: Translations + Drop> Machine<M, T> {
         let outcome = self.op_apart(op);
         self.end_reading(run);
         outcome
+    }
+
+    /// Does operations one after another, each of the endpoint that runs then, while others may write to its TX, and fills in
+    /// their outcomes.
+    pub fn run_among_others(&mut self, ops: &[Op], filled: &mut [Outcome])
+        requires { length ops.now ≡ length filled.old }
+        // From one operation to the next the machine changes as `op_among_others` says, and nothing is done besides.
+        ensures chain { AreDoneReading self.old ops.now filled.new self.new }
+        ensures agrees { Agrees self.new.ram self.new.state }
+        ensures sound { IsSoundState self.new.state }
+        ensures walks { AreWalks self.new }
+    {
+        self.operate_all_among(ops, filled);
+        // Proof step: the state is sound, and the tables give its access.
+        self.manager.holds();
+    }
+
+    // The operations themselves, in turn.
+    fn operate_all_among(&mut self, ops: &[Op], filled: &mut [Outcome])
+        requires { length ops.now ≡ length filled.old }
+        ensures { AreDoneReading self.old ops.now filled.new self.new }
+    {
+        for i in 0..ops.len() {
+            filled[i] = self.op_among_others(&ops[i]);
+        }
     }
 
     // The operation itself, which stands here once for both its calls.

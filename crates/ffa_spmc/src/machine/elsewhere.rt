@@ -1,16 +1,19 @@
 // SPDX-License-Identifier: MIT OR Apache-2.0
 //! Operations of any endpoint: while one processor runs the runner, another may run another endpoint.
-ghost use Rattle.std.specs.Prelude.{◌≡◌, true, false};
+ghost use Rattle.std.specs.Prelude.{◌≡◌, true, false, length};
 ghost use Rattle.ffa_model.specs.Agreement.{Agrees};
 ghost use Rattle.ffa_model.specs.Calls.{encode};
-ghost use Rattle.ffa_model.specs.Elsewhere.{as_run_by, step_as, step_elsewhere};
+ghost use Rattle.ffa_model.specs.Elsewhere.{as_run_by, outcomes_as, state_after_as, step_as, step_elsewhere};
 ghost use Rattle.ffa_model.specs.Refusals.{is_refusal};
 ghost use Rattle.ffa_model.specs.SoundState.{IsSoundState};
 ghost use Rattle.ffa_model.specs.State.{is_known};
 ghost use Rattle.ffa_laws.specs.Elsewhere.{ConfidentialAs, IntegrityAs, OneStepAs, OnlyWritersAs, OwnAccessAs, SilenceAs};
+ghost use Rattle.ffa_laws.specs.ElsewhereRuns.{IsolatedAs, are_known};
 ghost use Rattle.ffa_laws.specs.Isolation.{NeverGrow};
+ghost use Rattle.ffa_spmc.specs.AccessChange.{IsTelling};
 ghost use Rattle.ffa_spmc.specs.Cached.{AreForgotten, AreKept, AreSameOrGone, AreWalks, is_accessed, is_miss, run_by};
 ghost use Rattle.ffa_spmc.specs.Moments.{AreMoments};
+ghost use Rattle.ffa_spmc.specs.Operated.{AreOperatedAs, numbered};
 ghost use Rattle.ffa_spmc.specs.Unowned.{KeepsUnowned};
 
 use super::Machine;
@@ -47,6 +50,9 @@ impl<M: PhysMem + Drop, T: Translations + Drop> Machine<M, T> {
         ensures kept { is_miss (run_by endpoint.0 self.old) op.now ≡ false → AreKept self.old self.new }
         ensures others { AreSameOrGone self.old self.new (is_accessed (as_run_by endpoint.0 self.old.state) op.now) }
 
+        // Whose access to which pages it changed is told from then on; or nobody's has changed, and what was told stays.
+        ensures telling { IsTelling self.old.state self.new.state self.old.told self.new.told }
+
         // The state stays sound. What another endpoint learns is in its events, what the endpoint sees depends on its view
         // alone, which says who runs, and a page that its owner has alone is safe from others.
         ensures sound { IsSoundState self.new.state }
@@ -76,6 +82,44 @@ impl<M: PhysMem + Drop, T: Translations + Drop> Machine<M, T> {
         outcome
     }
 
+    /// Does operations one after another, each of the endpoint beside it, whoever runs, and fills in their outcomes.
+    pub fn run_as(&mut self, ops: &[(EndpointId, Op)], filled: &mut [Outcome])
+        requires length { length ops.now ≡ length filled.old }
+        requires known { are_known self.old.state (numbered ops.now) ≡ true }
+        ensures outcomes { filled.new ≡ outcomes_as self.old.state (numbered ops.now) }
+        ensures state { self.new.state ≡ state_after_as self.old.state (numbered ops.now) }
+        ensures agrees { Agrees self.new.ram self.new.state }
+        ensures walks { AreWalks self.new }
+        ensures sound { IsSoundState self.new.state }
+
+        // From one operation to the next the RAM and the cache change as `op_as` says, and nothing is done besides.
+        ensures chain { AreOperatedAs self.old ops.now self.new }
+
+        // What an endpoint sees, and its view afterwards, are the same from every state that it sees alike, with every list of
+        // operations in which it does the same and is told the same.
+        ensures isolated { IsolatedAs self.old.state (numbered ops.now) }
+        ensures never_grow { NeverGrow self.old.state self.new.state }
+    {
+        // Proof step: the state is sound, and the tables give its access.
+        self.manager.holds();
+        self.operate_all_as(ops, filled);
+        // Proof step: so it is afterwards.
+        self.manager.holds();
+    }
+
+    // The operations themselves, in turn.
+    fn operate_all_as(&mut self, ops: &[(EndpointId, Op)], filled: &mut [Outcome])
+        requires length { length ops.now ≡ length filled.old }
+        requires known { are_known self.old.state (numbered ops.now) ≡ true }
+        ensures outcomes { filled.new ≡ outcomes_as self.old.state (numbered ops.now) }
+        ensures state { self.new.state ≡ state_after_as self.old.state (numbered ops.now) }
+        ensures chain { AreOperatedAs self.old ops.now self.new }
+    {
+        for i in 0..ops.len() {
+            filled[i] = self.op_as(ops[i].0, &ops[i].1);
+        }
+    }
+
     // The operation itself, of the runner or of another.
     fn operate_as(&mut self, endpoint: EndpointId, op: &Op) -> Outcome
         requires { is_known self.old.state endpoint.0 ≡ true }
@@ -87,6 +131,7 @@ impl<M: PhysMem + Drop, T: Translations + Drop> Machine<M, T> {
         ensures forgotten { AreForgotten self.old self.new }
         ensures kept { is_miss (run_by endpoint.0 self.old) op.now ≡ false → AreKept self.old self.new }
         ensures others { AreSameOrGone self.old self.new (is_accessed (as_run_by endpoint.0 self.old.state) op.now) }
+        ensures telling { IsTelling self.old.state self.new.state self.old.told self.new.told }
     {
         if endpoint == self.runner() {
             self.operate(op)
@@ -106,6 +151,7 @@ impl<M: PhysMem + Drop, T: Translations + Drop> Machine<M, T> {
         ensures forgotten { AreForgotten self.old self.new }
         ensures kept { is_miss (run_by endpoint.0 self.old) op.now ≡ false → AreKept self.old self.new }
         ensures others { AreSameOrGone self.old self.new (is_accessed (as_run_by endpoint.0 self.old.state) op.now) }
+        ensures telling { IsTelling self.old.state self.new.state self.old.told self.new.told }
     {
         match *op {
             Op::Call(_) => busy(endpoint),

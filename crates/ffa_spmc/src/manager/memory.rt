@@ -1,6 +1,8 @@
 // SPDX-License-Identifier: MIT OR Apache-2.0
 //! The calls on memory. Each stands alone, so that other calls have no room for it, and has the cache forget whose access to
-//! which pages it changed. What the pool does for it is inlined here, since its answer is large to hand on.
+//! which pages it changed, and tells it. What the pool does for it is inlined here, since its answer is large to hand on.
+ghost use Rattle.std.specs.Prelude.{◌≡◌};
+ghost use Rattle.std.specs.Option.{option_or};
 ghost use Rattle.ffa_model.specs.MemoryRetrieve.{memory_retrieve};
 ghost use Rattle.ffa_model.specs.MemoryReturn.{memory_reclaim, memory_relinquish};
 ghost use Rattle.ffa_model.specs.MemorySend.{memory_send};
@@ -9,7 +11,7 @@ ghost use Rattle.ffa_spmc.specs.Served.{IsAnswered, IsTold};
 use super::forgetting::forget;
 use super::{Manager, word_of_halves};
 use crate::answer::Answer;
-use ffa_memshare::DescriptorCall;
+use ffa_memshare::{DescriptorCall, News};
 use ffa_model::{Kind, Reply, Transfer};
 use ffa_physmem::PhysMem;
 use ffa_tlb::Translations;
@@ -22,21 +24,23 @@ impl<M: PhysMem + Drop> Manager<M> {
         kind: Kind,
         transfer: Transfer,
         cache: &mut T,
+        news: &mut News,
     ) -> Reply
-        ensures { IsAnswered self.old self.new (T.entries cache.old) (T.entries cache.new) (memory_send self.old.state kind transfer) result }
+        ensures { IsAnswered self.old self.new (T.entries cache.old) (T.entries cache.new) news.old news.new (memory_send self.old.state kind transfer) result }
     {
         // Proof step: the state is sound.
         self.holds();
         let base = self.ram_base();
-        let answer = self.offered(kind, transfer);
+        let answer = self.offered(kind, transfer, news);
         forget(cache, base, &answer.changed);
         answer.reply
     }
 
     // The same, and whose access it changed.
     #[inline(always)]
-    fn offered(&mut self, kind: Kind, transfer: Transfer) -> Answer
-        ensures { IsTold self.old self.new (memory_send self.old.state kind transfer) result }
+    fn offered(&mut self, kind: Kind, transfer: Transfer, news: &mut News) -> Answer
+        ensures done { IsTold self.old self.new (memory_send self.old.state kind transfer) result }
+        ensures told { news.new ≡ option_or result.changed news.old }
     {
         let version = self.version();
         let call = DescriptorCall { transfer, version };
@@ -51,26 +55,33 @@ impl<M: PhysMem + Drop> Manager<M> {
             runner,
             kind,
             &call,
+            news,
         ))
     }
 
     // FFA_MEM_RETRIEVE_REQ of the runner.
     #[inline(never)]
-    pub(super) fn retrieve<T: Translations>(&mut self, transfer: Transfer, cache: &mut T) -> Reply
-        ensures { IsAnswered self.old self.new (T.entries cache.old) (T.entries cache.new) (memory_retrieve self.old.state transfer) result }
+    pub(super) fn retrieve<T: Translations>(
+        &mut self,
+        transfer: Transfer,
+        cache: &mut T,
+        news: &mut News,
+    ) -> Reply
+        ensures { IsAnswered self.old self.new (T.entries cache.old) (T.entries cache.new) news.old news.new (memory_retrieve self.old.state transfer) result }
     {
         // Proof step: the state is sound.
         self.holds();
         let base = self.ram_base();
-        let answer = self.retrieved(transfer);
+        let answer = self.retrieved(transfer, news);
         forget(cache, base, &answer.changed);
         answer.reply
     }
 
     // The same, and whose access it changed.
     #[inline(always)]
-    fn retrieved(&mut self, transfer: Transfer) -> Answer
-        ensures { IsTold self.old self.new (memory_retrieve self.old.state transfer) result }
+    fn retrieved(&mut self, transfer: Transfer, news: &mut News) -> Answer
+        ensures done { IsTold self.old self.new (memory_retrieve self.old.state transfer) result }
+        ensures told { news.new ≡ option_or result.changed news.old }
     {
         let version = self.version();
         let call = DescriptorCall { transfer, version };
@@ -84,26 +95,28 @@ impl<M: PhysMem + Drop> Manager<M> {
             &mut kept.buffers,
             runner,
             &call,
+            news,
         ))
     }
 
     // FFA_MEM_RELINQUISH of the runner.
     #[inline(never)]
-    pub(super) fn relinquish<T: Translations>(&mut self, cache: &mut T) -> Reply
-        ensures { IsAnswered self.old self.new (T.entries cache.old) (T.entries cache.new) (memory_relinquish self.old.state) result }
+    pub(super) fn relinquish<T: Translations>(&mut self, cache: &mut T, news: &mut News) -> Reply
+        ensures { IsAnswered self.old self.new (T.entries cache.old) (T.entries cache.new) news.old news.new (memory_relinquish self.old.state) result }
     {
         // Proof step: the state is sound.
         self.holds();
         let base = self.ram_base();
-        let answer = self.relinquished();
+        let answer = self.relinquished(news);
         forget(cache, base, &answer.changed);
         answer.reply
     }
 
     // The same, and whose access it changed.
     #[inline(always)]
-    fn relinquished(&mut self) -> Answer
-        ensures { IsTold self.old self.new (memory_relinquish self.old.state) result }
+    fn relinquished(&mut self, news: &mut News) -> Answer
+        ensures done { IsTold self.old self.new (memory_relinquish self.old.state) result }
+        ensures told { news.new ≡ option_or result.changed news.old }
     {
         let runner = self.kept.chain.runner();
         let kept = &mut self.kept;
@@ -114,6 +127,7 @@ impl<M: PhysMem + Drop> Manager<M> {
             &kept.pages,
             &kept.buffers,
             runner,
+            news,
         ))
     }
 
@@ -125,27 +139,37 @@ impl<M: PhysMem + Drop> Manager<M> {
         high: u32,
         flags: u32,
         cache: &mut T,
+        news: &mut News,
     ) -> Reply
-        ensures { IsAnswered self.old self.new (T.entries cache.old) (T.entries cache.new) (memory_reclaim self.old.state low high flags) result }
+        ensures { IsAnswered self.old self.new (T.entries cache.old) (T.entries cache.new) news.old news.new (memory_reclaim self.old.state low high flags) result }
     {
         // Proof step: the state is sound.
         self.holds();
         let base = self.ram_base();
-        let answer = self.reclaimed(low, high, flags);
+        let answer = self.reclaimed(low, high, flags, news);
         forget(cache, base, &answer.changed);
         answer.reply
     }
 
     // The same, and whose access it changed.
     #[inline(always)]
-    fn reclaimed(&mut self, low: u32, high: u32, flags: u32) -> Answer
-        ensures { IsTold self.old self.new (memory_reclaim self.old.state low high flags) result }
+    fn reclaimed(&mut self, low: u32, high: u32, flags: u32, news: &mut News) -> Answer
+        ensures done { IsTold self.old self.new (memory_reclaim self.old.state low high flags) result }
+        ensures told { news.new ≡ option_or result.changed news.old }
     {
         let runner = self.kept.chain.runner();
         let handle = word_of_halves(low, high);
         let kept = &mut self.kept;
         let pages = &mut kept.pages;
         let pool = &mut kept.pool;
-        Answer::returned(pool.reclaim(&mut self.ram, &kept.layout, pages, runner, handle, flags))
+        Answer::returned(pool.reclaim(
+            &mut self.ram,
+            &kept.layout,
+            pages,
+            runner,
+            handle,
+            flags,
+            news,
+        ))
     }
 }

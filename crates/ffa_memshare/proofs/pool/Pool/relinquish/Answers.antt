@@ -1,5 +1,5 @@
 -- SPDX-License-Identifier: MIT OR Apache-2.0
-use Rattle.std.proofs.Common.{ℕ, None, subst}
+use Rattle.std.proofs.Common.{ℕ, None, subst, refl}
 use Rattle.std.specs.Prelude.{Bool}
 use Rattle.arrayvec.specs.ArrayVec.{array_vec_len}
 use Rattle.ffa_model.specs.Buffers.{buffers_in}
@@ -12,6 +12,7 @@ use Rattle.ffa_memshare.specs.Changes.{IsMoved}
 use Rattle.ffa_memshare.specs.Ranges.{in_ranges}
 use Rattle.ffa_memshare.specs.Stored.{open_in, view_of}
 use Rattle.ffa_physmem.proofs.Moments.{Only-none}
+use Rattle.ffa_stage2.proofs.Moments.{nothing-ends}
 use Rattle.ffa_memshare.proofs.Asks.{asked-open, asked-slot}
 use Rattle.ffa_memshare.proofs.pool.Pool.relinquish.Goals as goal
 
@@ -48,8 +49,11 @@ returns-clause-done g c =
           subst (λ (zero : Bool). IsMoved old new (array_vec_len l.regions) l.blocks (place c.args.caller.0) (in_ranges l.base.0 it.ranges) (λ p. None) zero) its.zero
           (subst (λ (i : ℕ). IsMoved old new (array_vec_len l.regions) l.blocks i (in_ranges l.base.0 it.ranges) (λ p. None) found.zero) c.place-index.ensures
           c.change_pages.ensures.moved);
-      access = c.of-changed.ensures;
+      access = c.tell-changed.ensures.changed;
     }
 
 pub returns-in_err-found-clause-steps : goal.returns-in_err-found-clause-steps
 returns-in_err-found-clause-steps g c = Only-none
+
+pub returns-in_err-found-clause-ended : goal.returns-in_err-found-clause-ended
+returns-in_err-found-clause-ended g c = nothing-ends _ _ _ _ _ refl

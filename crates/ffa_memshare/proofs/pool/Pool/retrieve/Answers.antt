@@ -1,5 +1,5 @@
 -- SPDX-License-Identifier: MIT OR Apache-2.0
-use Rattle.std.proofs.Common.{◌∙◌, ℕ, ap, sym, subst}
+use Rattle.std.proofs.Common.{◌∙◌, ℕ, refl, ap, sym, subst}
 use Rattle.arrayvec.specs.ArrayVec.{array_vec_len}
 use Rattle.ffa_model.specs.Buffers.{buffers_in}
 use Rattle.ffa_model.specs.MemoryRetrieve.{retrieve_guards, right_for}
@@ -11,6 +11,7 @@ use Rattle.ffa_memshare.specs.Retrieved.{IsAnswered}
 use Rattle.ffa_memshare.specs.Scenes.{descriptor_in, scene_in}
 use Rattle.ffa_memshare.specs.Stored.{open_in, view_of}
 use Rattle.ffa_physmem.proofs.Moments.{Only-none}
+use Rattle.ffa_stage2.proofs.Moments.{nothing-ends}
 use Rattle.ffa_memshare.proofs.Asks.{asked-open, asked-slot, same-handle, same-open, shared-placed}
 use Rattle.ffa_memshare.proofs.pool.Pool.retrieve.Goals as goal
 
@@ -68,7 +69,7 @@ returns-clause-done g c =
           (buffers_in c.args.buffers.now c.args.caller.0) h (view_of it) c.args.caller.0 c.args.call.now.version found.right c.hand_over-size.result)
           (same-handle slots found.slot its.asked.handle it (its.transaction, its.slot) c.at-open.ensures.value)
           c.hand_over-size.ensures.answered;
-      access = c.of-changed.ensures;
+      access = c.tell-changed.ensures.changed;
     }
 
 pub returns-clause-steps : goal.returns-clause-steps
@@ -78,3 +79,11 @@ returns-clause-steps g c rx_apart =
 
 pub returns-in_err-found-clause-steps : goal.returns-in_err-found-clause-steps
 returns-in_err-found-clause-steps g c rx_apart = Only-none
+
+pub returns-clause-ended : goal.returns-clause-ended
+returns-clause-ended g c rx_apart =
+    let it = c.at-open.result.now in
+    c.hand_over-size.ensures.ended (rx_apart c.in_ok-found.found.slot it.handle (view_of it) c.at-open.ensures.value)
+
+pub returns-in_err-found-clause-ended : goal.returns-in_err-found-clause-ended
+returns-in_err-found-clause-ended g c rx_apart = nothing-ends _ _ _ _ _ refl

@@ -1,5 +1,5 @@
 -- SPDX-License-Identifier: MIT OR Apache-2.0
-use Rattle.std.proofs.Common.{rules}
+use Rattle.std.proofs.Common.{rules, refl}
 use Rattle.arrayvec.specs.ArrayVec.{array_vec_len}
 use Rattle.ffa_model.specs.MemorySend.{send_guards}
 use Rattle.ffa_model.specs.SendDescriptor.{send_of}
@@ -7,6 +7,7 @@ use Rattle.ffa_model.proofs.Guards.{answers-code, answers-pass}
 use Rattle.ffa_memshare.specs.Scenes.{descriptor_in, scene_in}
 use Rattle.ffa_memshare.specs.Stored.{open_in}
 use Rattle.ffa_physmem.proofs.Moments.{Only-none}
+use Rattle.ffa_stage2.proofs.Moments.{nothing-ends}
 use Rattle.ffa_memshare.proofs.pool.Pool.send.Goals as goal
 
 pub returns-in_err-found-clause-refusal : goal.returns-in_err-found-clause-refusal
@@ -36,3 +37,6 @@ returns-clause-sent g c = search rules
 
 pub returns-in_err-found-clause-steps : goal.returns-in_err-found-clause-steps
 returns-in_err-found-clause-steps g c = Only-none
+
+pub returns-in_err-found-clause-ended : goal.returns-in_err-found-clause-ended
+returns-in_err-found-clause-ended g c = nothing-ends _ _ _ _ _ refl

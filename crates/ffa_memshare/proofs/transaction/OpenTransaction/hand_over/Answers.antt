@@ -1,5 +1,5 @@
 -- SPDX-License-Identifier: MIT OR Apache-2.0
-use Rattle.std.proofs.Common.{◌∙◌, ◌≤◌, ◌<◌, ◌^◌, ℕ, List, length, false, Some, sym, ap, subst, arith}
+use Rattle.std.proofs.Common.{◌∙◌, ◌≤◌, ◌<◌, ◌^◌, ℕ, List, length, false, Some, refl, sym, ap, subst, arith}
 use Rattle.std.proofs.lemmas.Bool.{false≢true}
 use Rattle.arrayvec.specs.ArrayVec.{array_vec_len}
 use Rattle.ffa_model.specs.declared.transaction.Range.{Range}
@@ -9,7 +9,7 @@ use Rattle.ffa_model.specs.SendDescriptor.{page_total}
 use Rattle.ffa_rxtx.specs.Parts.{with_rx_bytes}
 use Rattle.ffa_memshare.specs.Changes.{IsMoved}
 use Rattle.ffa_memshare.specs.Ranges.{in_ranges}
-use Rattle.ffa_memshare.proofs.Moments.{then-responded}
+use Rattle.ffa_memshare.proofs.Moments.{responded-ends, then-responded}
 use Rattle.ffa_memshare.proofs.Retrieves.{few-pages}
 use Rattle.ffa_memshare.proofs.transaction.OpenTransaction.hand_over.Goals as goal
 
@@ -52,3 +52,12 @@ returns-clause-steps g c rx_apart =
     let index = c.place-index.result in
     then-responded old granted new n b index (in_ranges l.base.0 c.args.self.now.ranges) (λ p. Some c.args.right) _ rx_apart access built moved.built moved.base c.respond.ensures.beside
     (g.M.PhysMem.past c.args.ram.now) _ _ (c.change_pages.ensures.steps (λ p at zero. absurd (false≢true zero))) c.respond.ensures.steps
+
+pub returns-clause-ended : goal.returns-clause-ended
+returns-clause-ended g c rx_apart =
+    let l = c.args.layout.now in
+    let moved = c.change_pages.ensures.moved in
+    let (access, built) = c.requires.held.room.built in
+    responded-ends (g.M.PhysMem.ram c.args.ram.now) (g.M.PhysMem.ram c.change_pages.new.ram) (g.M.PhysMem.ram c.respond.new.ram) (array_vec_len l.regions) l.blocks
+    c.place-index.result (in_ranges l.base.0 c.args.self.now.ranges) (λ p. Some c.args.right) _ rx_apart access built moved.built moved.base c.respond.ensures.beside
+    (λ p at. refl) _

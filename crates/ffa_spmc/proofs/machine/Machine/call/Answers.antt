@@ -3,6 +3,7 @@ use Rattle.std.proofs.Common.{◌≡◌, ◌∙◌, false, true, sym, ap, subst}
 use Rattle.ffa_model.specs.declared.operation.Op.TheVariants.{Call}
 use Rattle.ffa_model.specs.State.{State, is_known}
 use Rattle.ffa_laws.proofs.Kept.{base-step, known-step}
+use Rattle.ffa_spmc.specs.AccessChange.{IsTelling}
 use Rattle.ffa_spmc.specs.Cached.{AreSameOrGone, AreForgotten, AreKept}
 use Rattle.ffa_spmc.specs.Snapshot.{Snapshot}
 use Rattle.ffa_spmc.proofs.Forgotten.{gone, gone-or-held, same-held, still-held}
@@ -15,12 +16,12 @@ invariant_of-self g c =
     let t = c.call-outcome.new.self.state in
     let old = g.T.Translations.entries c.self.inside.cache in
     let new = g.T.Translations.entries c.call-outcome.new.cache in
-    let f = c.call-outcome.ensures.forgotten in
+    let (changed, f, told) = c.call-outcome.ensures.changed in
     let base : t.ram_base ≡ s.ram_base = ap (λ (state : State). state.ram_base) c.call-outcome.ensures.state ∙ base-step s (Call c.args.x) in
     walks-after c.self.inside.manager.ram c.call-outcome.new.self.ram s t
     c.holds.ensures.agrees c.holds-2.ensures.agrees c.holds.ensures.sound c.holds-2.ensures.sound base
     (λ e known. subst (λ (state : State). is_known state e ≡ true) (sym c.call-outcome.ensures.state) (known-step s (Call c.args.x) e known)) old new
-    (still-held s t f.changed f.access old new f.rest) c.self.invariant
+    (still-held s t changed f.access old new f.rest) c.self.invariant
 
 pub returns-clause-forgotten : goal.returns-clause-forgotten
 returns-clause-forgotten g c =
@@ -28,10 +29,10 @@ returns-clause-forgotten g c =
     let t = c.call-outcome.new.self.state in
     let old = g.T.Translations.entries c.self.inside.cache in
     let new = g.T.Translations.entries c.call-outcome.new.cache in
-    let f = c.call-outcome.ensures.forgotten in
-    let now : Snapshot = record { state = t; ram = c.call-outcome.new.self.ram; held = new; past = c.call-outcome.new.self.past } in
+    let (changed, f, told) = c.call-outcome.ensures.changed in
+    let now : Snapshot = record { state = t; ram = c.call-outcome.new.self.ram; held = new; past = c.call-outcome.new.self.past; told = c.call-outcome.new.news } in
     subst (λ (seen : Snapshot). AreForgotten seen now) c.self.view_is
-    (gone s t f.changed f.access old new f.rest)
+    (gone s t changed f.access old new f.rest)
 
 pub returns-clause-kept : goal.returns-clause-kept
 returns-clause-kept g c =
@@ -39,10 +40,10 @@ returns-clause-kept g c =
     let t = c.call-outcome.new.self.state in
     let old = g.T.Translations.entries c.self.inside.cache in
     let new = g.T.Translations.entries c.call-outcome.new.cache in
-    let f = c.call-outcome.ensures.forgotten in
-    let now : Snapshot = record { state = t; ram = c.call-outcome.new.self.ram; held = new; past = c.call-outcome.new.self.past } in
+    let (changed, f, told) = c.call-outcome.ensures.changed in
+    let now : Snapshot = record { state = t; ram = c.call-outcome.new.self.ram; held = new; past = c.call-outcome.new.self.past; told = c.call-outcome.new.news } in
     subst (λ (seen : Snapshot). AreKept seen now) c.self.view_is
-    (same-held s t f.changed f.access old new f.rest
+    (same-held s t changed f.access old new f.rest
     c.self.inside.manager.ram c.holds.ensures.agrees c.holds.ensures.sound c.self.invariant)
 
 pub returns-clause-others : goal.returns-clause-others
@@ -51,7 +52,13 @@ returns-clause-others g c =
     let t = c.call-outcome.new.self.state in
     let old = g.T.Translations.entries c.self.inside.cache in
     let new = g.T.Translations.entries c.call-outcome.new.cache in
-    let f = c.call-outcome.ensures.forgotten in
-    let now : Snapshot = record { state = t; ram = c.call-outcome.new.self.ram; held = new; past = c.call-outcome.new.self.past } in
+    let (changed, f, told) = c.call-outcome.ensures.changed in
+    let now : Snapshot = record { state = t; ram = c.call-outcome.new.self.ram; held = new; past = c.call-outcome.new.self.past; told = c.call-outcome.new.news } in
     subst (λ (seen : Snapshot). AreSameOrGone seen now (λ e p. false)) c.self.view_is
-    (λ e p _. gone-or-held s t f.changed f.access old new f.rest e p)
+    (λ e p _. gone-or-held s t changed f.access old new f.rest e p)
+
+pub returns-clause-telling : goal.returns-clause-telling
+returns-clause-telling g c =
+    let (changed, f, told) = c.call-outcome.ensures.changed in
+    subst (λ (seen : Snapshot). IsTelling seen.state c.call-outcome.new.self.state seen.told c.call-outcome.new.news) c.self.view_is
+    (record { changed = changed; access = f.access; told = told })

@@ -30,12 +30,13 @@ pub returns : goal.returns
 returns g c =
     let held = g.T.Translations.entries c.self.inside.cache in
     let new = c.end_reading.new.self in
-    subst (λ (seen : Snapshot). IsRead c.args.run false seen (record { state = new.state; ram = new.ram; held = held; past = new.past })) c.self.view_is
+    subst (λ (seen : Snapshot). IsRead c.args.run false seen (record { state = new.state; ram = new.ram; held = held; past = new.past; told = c.self.inside.news })) c.self.view_is
     (record {
       state = c.end_reading.ensures.state;
       ram = c.end_reading.ensures.ram;
       step = c.end_reading.ensures.step;
       held = refl;
+      told = refl;
       agrees = c.holds-2.ensures.agrees;
       sound = c.holds-2.ensures.sound;
       walks = invariant_of-self g c;

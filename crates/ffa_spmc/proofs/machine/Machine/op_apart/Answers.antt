@@ -18,6 +18,7 @@ returns-clause-done g c = record {
     forgotten = c.op.ensures.forgotten;
     kept = c.op.ensures.kept;
     others = c.op.ensures.others;
+    telling = c.op.ensures.telling;
   };
   laws = record {
     alone = c.op.ensures.step;

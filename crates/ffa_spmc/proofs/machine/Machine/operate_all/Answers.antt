@@ -25,6 +25,7 @@ loop-i-preserved g c =
             forgotten = c.op.ensures.forgotten;
             kept = c.op.ensures.kept;
             others = c.op.ensures.others;
+            telling = c.op.ensures.telling;
           })
           c.loop-i.invariant.chain;
     }

@@ -55,7 +55,7 @@ fill-requires-clause-missed g c =
     let held = g.T.Translations.entries c.self.inside.cache in
     c.walk-walked.ensures.missed
     ∙ ap (λ (seen : Snapshot). missed_page (run_by e seen) c.args.addr) (sym c.self.view_is)
-    ∙ missed-same (record { state = as_run_by e s; ram = c.self.inside.manager.ram; held = held; past = c.self.inside.manager.past }) (record { state = as_run_by e t; ram = c.store-outcome.new.self.ram; held = held; past = c.store-outcome.new.self.past })
+    ∙ missed-same (record { state = as_run_by e s; ram = c.self.inside.manager.ram; held = held; past = c.self.inside.manager.past; told = c.self.inside.news }) (record { state = as_run_by e t; ram = c.store-outcome.new.self.ram; held = held; past = c.store-outcome.new.self.past; told = c.self.inside.news })
     refl refl (sym (store-base s e t c.args.addr c.args.size c.args.value is)) c.args.addr
 
 pub returns-clause-held : goal.returns-clause-held
@@ -66,7 +66,7 @@ returns-clause-held g c =
     let e = c.args.endpoint.0 in
     let held = g.T.Translations.entries c.self.inside.cache in
     subst (λ (seen : Snapshot). IsCached (run_by e seen) c.fill.new.self c.args.addr) c.self.view_is
-    (cached-from (record { state = as_run_by e t; ram = c.store-outcome.new.self.ram; held = held; past = c.store-outcome.new.self.past }) (record { state = as_run_by e s; ram = c.self.inside.manager.ram; held = held; past = c.self.inside.manager.past })
+    (cached-from (record { state = as_run_by e t; ram = c.store-outcome.new.self.ram; held = held; past = c.store-outcome.new.self.past; told = c.self.inside.news }) (record { state = as_run_by e s; ram = c.self.inside.manager.ram; held = held; past = c.self.inside.manager.past; told = c.self.inside.news })
     refl refl (store-base s e t c.args.addr c.args.size c.args.value is) c.args.addr c.fill.new.self c.fill.ensures.held)
 
 pub returns-clause-outcome : goal.returns-clause-outcome
@@ -81,7 +81,7 @@ pub returns-clause-refused : goal.returns-clause-refused
 returns-clause-refused g c =
     λ refused.
     c.fill.ensures.refused refused
-    ∙ ap (λ (m : Managed). record { state = m.state; ram = m.ram; held = g.T.Translations.entries c.self.inside.cache; past = m.past }) (c.store-outcome.ensures.refused refused)
+    ∙ ap (λ (m : Managed). record { state = m.state; ram = m.ram; held = g.T.Translations.entries c.self.inside.cache; past = m.past; told = c.self.inside.news }) (c.store-outcome.ensures.refused refused)
     ∙ c.self.view_is
 
 pub returns-clause-unowned : goal.returns-clause-unowned

@@ -6,3 +6,6 @@ use Rattle.ffa_spmc.proofs.manager.Manager.call.Goals as goal
 
 pub reply-reply-requires : goal.reply-reply-requires
 reply-reply-requires g c = ap passes_no_error c.decode.ensures ∙ decode-named c.args.x
+
+pub returns-clause-changed : goal.returns-clause-changed
+returns-clause-changed g c = let a = c.reply-reply.ensures in (a.changed, a.forgotten, a.told)

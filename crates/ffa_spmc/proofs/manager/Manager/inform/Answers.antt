@@ -6,13 +6,12 @@ use Rattle.ffa_model.specs.Ram.{Ram}
 use Rattle.ffa_model.specs.Setup.{told_info_size, uuid_bytes}
 use Rattle.ffa_model.specs.State.{Buffers, version_of}
 use Rattle.ffa_spmc.specs.Meaning.{HasTables, IsManager, access_by_place, state_of}
-use Rattle.ffa_physmem.proofs.Moments.{Only-none}
 use Rattle.ffa_spmc.proofs.Fills.{known-buffered, runner-there, rx-in-ram, tables-still}
 use Rattle.ffa_spmc.proofs.Information.{info-reply, informed-own, machine-informed, state-informed}
 use Rattle.ffa_spmc.specs.Managed.{Managed}
 use Rattle.ffa_spmc.specs.Moments.{AreMoments}
 use Rattle.ffa_spmc.specs.Unowned.{KeepsUnowned}
-use Rattle.ffa_spmc.proofs.Moments.{rx-moments}
+use Rattle.ffa_spmc.proofs.Moments.{no-moments, rx-moments}
 use Rattle.ffa_spmc.proofs.Unowned.{unowned-filled}
 use Rattle.ffa_spmc.proofs.Inside.{parts_of}
 use Rattle.ffa_spmc.proofs.manager.Manager.inform.Goals as goal
@@ -76,4 +75,4 @@ returns-clause-moments g c =
     _ later c.fill.ensures.steps)
 
 pub returns-then-is_count_alone-clause-moments : goal.returns-then-is_count_alone-clause-moments
-returns-then-is_count_alone-clause-moments g c = Only-none
+returns-then-is_count_alone-clause-moments g c = no-moments c.args.self.now.state c.args.self.now.ram c.args.self.now.past

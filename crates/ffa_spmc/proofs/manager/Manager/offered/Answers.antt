@@ -35,8 +35,8 @@ invariant_of-self g c =
     (g.M.PhysMem.ram c.send.new.ram) c.send.new.pages c.send.new.self
     c.send.result c.send.ensures.refusal c.send.ensures.kept c.send.ensures.kept_pages c.send.ensures.kept_ram c.send.ensures.handle c.send.ensures.sent
 
-pub returns : goal.returns
-returns g c =
+pub returns-clause-done : goal.returns-clause-done
+returns-clause-done g c =
     let x = parts_of g.M.PhysMem.ram c.self.inside in
     let y : Parts = record x { ram = g.M.PhysMem.ram c.send.new.ram; kept = record x.kept { pages = c.send.new.pages; pool = c.send.new.self } } in
     told-with x y c.args.self.now c.self.view_is (λ (s : State). memory_send s c.args.kind c.args.transfer) c.sent.result (option_map (λ (sent : Sent). sent.changed) (result_ok c.send.result))
@@ -52,7 +52,7 @@ returns g c =
     (offer-unowned x c.self.invariant c.runner-runner.result.0 c.runner-runner.ensures.runner c.args.kind (record { transfer = c.args.transfer; version = c.version-version.result }) (c.version-version.ensures ∙ sym (ap (λ (seen : Managed). version_of seen.state seen.state.runner) c.self.view_is))
     (g.M.PhysMem.ram c.send.new.ram) c.send.new.pages c.send.new.self
     c.send.result c.send.ensures.refusal c.send.ensures.kept c.send.ensures.kept_pages c.send.ensures.kept_ram c.send.ensures.handle c.send.ensures.sent)
-    (moments-of x c.self.invariant (g.M.PhysMem.ram c.send.new.ram) _ _ c.send.ensures.steps)
+    (moments-of x c.self.invariant (g.M.PhysMem.ram c.send.new.ram) _ _ c.send.ensures.steps c.send.ensures.ended)
     c.sent.ensures.changed
     (offer-changes x c.self.invariant c.runner-runner.result.0 c.runner-runner.ensures.runner c.args.kind (record { transfer = c.args.transfer; version = c.version-version.result }) (c.version-version.ensures ∙ sym (ap (λ (seen : Managed). version_of seen.state seen.state.runner) c.self.view_is))
     (g.M.PhysMem.ram c.send.new.ram) c.send.new.pages c.send.new.self

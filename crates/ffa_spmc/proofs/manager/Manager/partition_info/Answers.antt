@@ -4,8 +4,8 @@ use Rattle.ffa_model.specs.declared.call.Reply.TheVariants.{Error}
 use Rattle.ffa_model.specs.declared.operation.ErrorCode.{ErrorCode}
 use Rattle.ffa_model.specs.Calls.{replied}
 use Rattle.ffa_model.specs.Setup.{info_get}
-use Rattle.ffa_physmem.proofs.Moments.{Only-none}
 use Rattle.ffa_spmc.proofs.Answered.{refused-served}
+use Rattle.ffa_spmc.proofs.Moments.{no-moments}
 use Rattle.ffa_spmc.proofs.manager.Manager.partition_info.Goals as goal
 
 pub returns-in-Err : goal.returns-in-Err
@@ -16,5 +16,5 @@ returns-in-Err g c =
           ∙ refused-served c.args.self.now.state (info_get c.args.self.now.state c.args.uuid c.args.flags) c.in-Err.refusal c.in-Err.ensures;
       refused = λ error. refl;
       unowned = λ p behind none. refl;
-      moments = Only-none;
+      moments = no-moments c.args.self.now.state c.args.self.now.ram c.args.self.now.past;
     }

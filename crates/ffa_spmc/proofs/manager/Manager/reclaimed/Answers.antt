@@ -27,8 +27,8 @@ invariant_of-self g c =
     c.reclaim.ensures.kept c.reclaim.ensures.kept_pages c.reclaim.ensures.kept_ram
     c.reclaim.ensures.slot c.reclaim.ensures.open_transactions c.reclaim.ensures.ram c.reclaim.ensures.pages c.reclaim.ensures.changed
 
-pub returns : goal.returns
-returns g c =
+pub returns-clause-done : goal.returns-clause-done
+returns-clause-done g c =
     let x = parts_of g.M.PhysMem.ram c.self.inside in
     let y : Parts = record x { ram = g.M.PhysMem.ram c.reclaim.new.ram; kept = record x.kept { pages = c.reclaim.new.pages; pool = c.reclaim.new.self } } in
     told-with x y c.args.self.now c.self.view_is (λ (s : State). memory_reclaim s c.args.low c.args.high c.args.flags) c.returned.result (result_ok c.reclaim.result)
@@ -48,7 +48,7 @@ returns g c =
     (g.M.PhysMem.ram c.reclaim.new.ram) c.reclaim.new.pages c.reclaim.new.self c.reclaim.result c.reclaim.ensures.refusal
     c.reclaim.ensures.kept c.reclaim.ensures.kept_pages c.reclaim.ensures.kept_ram
     c.reclaim.ensures.slot c.reclaim.ensures.open_transactions c.reclaim.ensures.ram c.reclaim.ensures.pages c.reclaim.ensures.changed)
-    (moments-of x c.self.invariant (g.M.PhysMem.ram c.reclaim.new.ram) _ _ c.reclaim.ensures.steps)
+    (moments-of x c.self.invariant (g.M.PhysMem.ram c.reclaim.new.ram) _ _ c.reclaim.ensures.steps c.reclaim.ensures.ended)
     c.returned.ensures.changed
     (reclaim-changes x c.self.invariant c.runner-runner.result.0 c.runner-runner.ensures.runner c.args.low c.args.high c.args.flags
     c.word_of_halves-handle.result c.word_of_halves-handle.ensures

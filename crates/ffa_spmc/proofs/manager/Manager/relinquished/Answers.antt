@@ -31,8 +31,8 @@ invariant_of-self g c =
     relinquish-machine x c.self.invariant c.runner-runner.result.0 c.runner-runner.ensures.runner (g.M.PhysMem.ram c.relinquish.new.ram) c.relinquish.new.self
     c.relinquish.result c.relinquish.ensures.refusal c.relinquish.ensures.kept c.relinquish.ensures.kept_ram c.relinquish.ensures.done
 
-pub returns : goal.returns
-returns g c =
+pub returns-clause-done : goal.returns-clause-done
+returns-clause-done g c =
     let x = parts_of g.M.PhysMem.ram c.self.inside in
     let y : Parts = record x { ram = g.M.PhysMem.ram c.relinquish.new.ram; kept = record x.kept { pool = c.relinquish.new.self } } in
     told-with x y c.args.self.now c.self.view_is (λ (s : State). memory_relinquish s) c.returned.result (result_ok c.relinquish.result)
@@ -45,7 +45,7 @@ returns g c =
     (refused-done c.relinquish.result c.returned.result.reply c.returned.ensures.reply c.relinquish.ensures.kept_past)
     (relinquish-unowned x c.self.invariant c.runner-runner.result.0 c.runner-runner.ensures.runner (g.M.PhysMem.ram c.relinquish.new.ram) c.relinquish.new.self
     c.relinquish.result c.relinquish.ensures.refusal c.relinquish.ensures.kept c.relinquish.ensures.kept_ram c.relinquish.ensures.done)
-    (moments-of x c.self.invariant (g.M.PhysMem.ram c.relinquish.new.ram) _ _ c.relinquish.ensures.steps)
+    (moments-of x c.self.invariant (g.M.PhysMem.ram c.relinquish.new.ram) _ _ c.relinquish.ensures.steps c.relinquish.ensures.ended)
     c.returned.ensures.changed
     (relinquish-changes x c.self.invariant c.runner-runner.result.0 c.runner-runner.ensures.runner (g.M.PhysMem.ram c.relinquish.new.ram) c.relinquish.new.self
     c.relinquish.result c.relinquish.ensures.refusal c.relinquish.ensures.kept c.relinquish.ensures.kept_ram c.relinquish.ensures.done)

@@ -1,17 +1,18 @@
 -- SPDX-License-Identifier: MIT OR Apache-2.0
-use Rattle.std.proofs.Common.{◌∙◌, refl, sym, ap}
-use Rattle.std.specs.Option.{option_map}
+use Rattle.std.proofs.Common.{◌∙◌, Option, refl, sym, ap}
+use Rattle.std.specs.Option.{option_map, option_or}
 use Rattle.std.specs.Result.{result_ok}
 use Rattle.ffa_model.specs.State.{version_of}
 use Rattle.ffa_model.specs.declared.call.Reply.{Reply}
 use Rattle.ffa_model.specs.Calls.{replied}
 use Rattle.ffa_model.specs.MemoryRetrieve.{memory_retrieve}
+use Rattle.ffa_memshare.specs.declared.changed.Changed.{Changed}
 use Rattle.ffa_memshare.specs.declared.changed.Retrieved.{Retrieved as Taken}
 use Rattle.ffa_spmc.specs.Meaning.{Parts, state_of}
 use Rattle.ffa_spmc.specs.Managed.{Managed}
 use Rattle.ffa_spmc.proofs.Fills.{caller-is, runner-there}
 use Rattle.ffa_spmc.proofs.Moments.{moments-of, rx-apart}
-use Rattle.ffa_spmc.proofs.Replied.{told-with, kept-buffers, refused-told}
+use Rattle.ffa_spmc.proofs.Replied.{told-of, told-with, kept-buffers, refused-told}
 use Rattle.ffa_model.specs.State.{State}
 use Rattle.ffa_memshare.specs.declared.descriptor_call.DescriptorCall.{DescriptorCall}
 use Rattle.ffa_model.specs.declared.call.Reply.TheVariants.{Retrieved}
@@ -39,10 +40,11 @@ invariant_of-self g c =
     c.retrieve.result c.retrieve.ensures.refusal c.retrieve.ensures.kept c.retrieve.ensures.kept_pages c.retrieve.ensures.kept_buffers c.retrieve.ensures.kept_ram
     c.retrieve.ensures.full c.retrieve.ensures.done
 
-pub returns : goal.returns
-returns g c =
+pub returns-clause-done : goal.returns-clause-done
+returns-clause-done g c =
     let x = parts_of g.M.PhysMem.ram c.self.inside in
     let its : DescriptorCall = record { transfer = c.args.transfer; version = c.version-version.result } in
+    let apart = rx-apart x c.self.invariant c.runner-runner.result.0 (runner-there x c.self.invariant c.runner-runner.result.0 c.runner-runner.ensures.runner) in
     let y : Parts = record x { ram = g.M.PhysMem.ram c.retrieve.new.ram; kept = record x.kept { pages = c.retrieve.new.pages; pool = c.retrieve.new.self; buffers = c.retrieve.new.buffers } } in
     told-with x y c.args.self.now c.self.view_is (λ (s : State). memory_retrieve s c.args.transfer) c.retrieved.result (option_map (λ (taken : Taken). taken.changed) (result_ok c.retrieve.result))
     (g.M.PhysMem.past c.retrieve.new.ram)
@@ -60,10 +62,15 @@ returns g c =
     c.retrieve.result c.retrieve.ensures.refusal c.retrieve.ensures.kept c.retrieve.ensures.kept_pages c.retrieve.ensures.kept_buffers c.retrieve.ensures.kept_ram
     c.retrieve.ensures.full c.retrieve.ensures.done)
     (moments-of x c.self.invariant (g.M.PhysMem.ram c.retrieve.new.ram) _ _
-    (c.retrieve.ensures.steps (rx-apart x c.self.invariant c.runner-runner.result.0 (runner-there x c.self.invariant c.runner-runner.result.0 c.runner-runner.ensures.runner))))
+    (c.retrieve.ensures.steps apart) (c.retrieve.ensures.ended apart))
     c.retrieved.ensures.changed
     (retrieve-changes x c.self.invariant c.runner-runner.result c.runner-runner.ensures.runner its (c.version-version.ensures ∙ sym (ap (λ (seen : Managed). version_of seen.state seen.state.runner) c.self.view_is))
     (g.M.PhysMem.ram c.retrieve.new.ram) c.retrieve.new.pages c.retrieve.new.self c.retrieve.new.buffers
     c.retrieve.result c.retrieve.ensures.refusal c.retrieve.ensures.kept c.retrieve.ensures.kept_pages c.retrieve.ensures.kept_buffers c.retrieve.ensures.kept_ram
     c.retrieve.ensures.full c.retrieve.ensures.done)
     c.retrieved.ensures.unchanged
+
+pub returns-clause-told : goal.returns-clause-told
+returns-clause-told g c =
+    told-of c.retrieve.result (λ (taken : Taken). taken.changed) c.args.news.now c.retrieve.new.news c.retrieve.ensures.kept_news c.retrieve.ensures.told
+    ∙ ap (λ (o : Option Changed). option_or o c.args.news.now) (sym c.retrieved.ensures.changed)

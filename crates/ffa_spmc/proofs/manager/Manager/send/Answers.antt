@@ -90,6 +90,6 @@ returns g c =
                 (tables-kept x c.self.invariant c.runner-runner.result.0 c.runner-runner.ensures.runner c.send2.result (g.M.PhysMem.ram c.send2.new.ram) c.send2.new.buffers c.send2.ensures.refusal c.send2.ensures.kept_ram c.send2.ensures.kept c.send2.ensures.ram c.send2.ensures.full c.send2.ensures.receiver w.in-Ok.receiver w.in-Ok.is) _ later c.send2.ensures.steps))
             | in-Err w ↦ subst (λ inside. AreMoments c.args.self.now.state c.args.self.now.ram (g.M.PhysMem.ram inside.ram) c.args.self.now.past (g.M.PhysMem.past inside.ram)) (sym w.self-inside-is)
                 (subst (λ (seen : Managed). AreMoments seen.state seen.ram new seen.past later) c.self.view_is
-                (still-moments (state_of x) x.ram new _ later (unsent-past w.in-Err.code w.in-Err.is c.send2.ensures.kept_past)))
+                (still-moments (state_of x) x.ram new _ later (unsent-past w.in-Err.code w.in-Err.is c.send2.ensures.kept_ram) (unsent-past w.in-Err.code w.in-Err.is c.send2.ensures.kept_past)))
           ];
     }

@@ -25,6 +25,10 @@ invariant_of-self g c =
 pub returns : goal.returns
 returns g c =
     let now = c.args.self.now in
+    let kept : c.if-is_ok.self.ram ≡ now.ram = elim c.if-is_ok.branch [
+      | then-is_ok w ↦ ap (λ (m : Managed). m.ram) w.self-is ∙ ap (λ (m : Managed). m.ram) c.self.view_is
+      | else-is_ok w ↦ ap (λ (m : Managed). m.ram) w.self-is ∙ ap (λ (m : Managed). m.ram) c.self.view_is
+    ] in
     let later : c.if-is_ok.self.past ≡ now.past = elim c.if-is_ok.branch [
       | then-is_ok w ↦ ap (λ (m : Managed). m.past) w.self-is ∙ ap (λ (m : Managed). m.past) c.self.view_is
       | else-is_ok w ↦ ap (λ (m : Managed). m.past) w.self-is ∙ ap (λ (m : Managed). m.past) c.self.view_is
@@ -33,5 +37,5 @@ returns g c =
       served = search rules;
       refused = search rules;
       unowned = search rules;
-      moments = still-moments now.state now.ram c.if-is_ok.self.ram now.past c.if-is_ok.self.past later;
+      moments = still-moments now.state now.ram c.if-is_ok.self.ram now.past c.if-is_ok.self.past kept later;
     }
