@@ -202,6 +202,27 @@ struct ffa_outcome ffa_load_as(struct ffa_machine *machine, uint16_t endpoint, u
 struct ffa_outcome ffa_store_as(struct ffa_machine *machine, uint16_t endpoint, uint64_t address, uint32_t size, uint64_t value);
 struct ffa_outcome ffa_fetch_as(struct ffa_machine *machine, uint16_t endpoint, uint64_t address);
 
+/* Pages in a row. */
+struct ffa_range {
+    uint64_t address; /* of the first byte */
+    uint64_t size;    /* of all pages, in bytes */
+};
+
+#define FFA_MOST_RANGES 64
+
+/* Whose access to which pages has changed, from none to some or from some to none. */
+struct ffa_change {
+    uint32_t endpoint;
+    uint32_t range_count; /* of `ranges`, from the first on; zeros stand behind them */
+    struct ffa_range ranges[FFA_MOST_RANGES];
+};
+
+/* What the last call on memory that was done has changed of access, told once: true, and `change` says it. False, and `change`
+ * stays: that call changed nobody's access, as a share, or was told before, or there was none, or there is no machine. Asked
+ * behind each operation it tells all that this one changed, for an SMMU's tables, say: no other access changed; what the access
+ * is now, ffa_access answers. */
+bool ffa_changed(struct ffa_machine *machine, struct ffa_change *change);
+
 /* Questions, which change nothing. The first four answer FFA_NOTHING where there is no machine.
  *
  * The endpoint that runs, and how many there are. */

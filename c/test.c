@@ -1,6 +1,6 @@
 /* SPDX-License-Identifier: MIT OR Apache-2.0 */
 /* The first row of the manual, a lend that is retrieved, given up and reclaimed, what the border answers out of order, pages
- * that are lent and given back, what is to be settled, and each piece of memory refused in turn. It brings the library's memory itself. */
+ * that are lent and given back, what is to be settled, what has changed, and each piece of memory refused in turn. It brings the library's memory itself. */
 #include <stdio.h>
 #include <stdlib.h>
 #include <string.h>
@@ -86,6 +86,23 @@ static void loads(uint64_t address, uint32_t size, uint64_t value) {
 
 static void faults(struct ffa_outcome told, uint64_t fault) { CHECK(told.kind == FFA_FAULT && told.value == fault); }
 
+/* No operation has changed anybody's access since the last that was told. */
+static void nothing_changed(void) {
+    static struct ffa_change change;
+    memset(&change, 0x5A, sizeof change);
+    CHECK(!ffa_changed(&machine, &change) && change.endpoint == 0x5A5A5A5A && change.ranges[63].size == 0x5A5A5A5A5A5A5A5A);
+}
+
+/* The last operation has changed the access of this endpoint to this page, and to no other, which is told once. */
+static void changed(uint32_t endpoint, uint64_t address) {
+    static struct ffa_change change;
+    memset(&change, 0x5A, sizeof change);
+    CHECK(ffa_changed(&machine, &change) && change.endpoint == endpoint && change.range_count == 1);
+    CHECK(change.ranges[0].address == address && change.ranges[0].size == FFA_PAGE_BYTES);
+    for (int place = 1; place < FFA_MOST_RANGES; place++) CHECK(change.ranges[place].address == 0 && change.ranges[place].size == 0);
+    nothing_changed();
+}
+
 static const uint8_t *text = (const uint8_t *)manifest;
 static const size_t text_size = sizeof manifest - 1;
 
@@ -109,6 +126,7 @@ static void first_row(void) {
     static struct ffa_page bytes;
     CHECK(ffa_read_page(&machine, 16, &bytes) && bytes.bytes[0] == 0x2A && bytes.bytes[1] == 0);
     CHECK(!ffa_read_page(&machine, 512, &bytes) && !ffa_read_page(&machine, UINT32_MAX, &bytes));
+    nothing_changed();
 }
 
 static void lend(void) {
@@ -129,6 +147,7 @@ static void lend(void) {
     stores(0x4002E058, 1);
     CALL(0x8001, 0x84000061, 0, 1, 0x8001, 0x84000072, 0x60, 0x60);
     faults(ffa_load(&machine, 0x40021000, 1), FFA_FAULT_TRANSLATION);
+    changed(0x8001, 0x40021000);
     CHECK(ffa_access(&machine, 0x8001, 33) == 0);
 
     /* 8002 retrieves it, and stores a byte. */
@@ -142,24 +161,29 @@ static void lend(void) {
     CALL(0x8002, 0x84000075, 0x60, 0x60, 0, 0x84000074, 0x40, 0x40);
     loads(0x4003F000, 8, 0x00000010002F8001);
     CHECK(ffa_access(&machine, 0x8002, 33) == 3);
+    changed(0x8002, 0x40021000);
     CHECK(ffa_store(&machine, 0x40021000, 1, 0x5A).kind == FFA_DONE);
 
     /* A reclaim is denied while it is held, and gives the byte back afterwards. */
     CALL(0, 0x8400006B, 0x80020000, 0, 0, 0x8400006B);
     CALL(0x8001, 0x8400006D, 0x80010000, 0, 0, 0x8400006D, 0x80010000);
     CALL(0x8001, 0x84000060, 0, 0xFFFFFFFA, 0, 0x84000077, 1, 0x8001);
+    nothing_changed();
     CALL(0, 0x8400006B, 0x80010000, 0, 0, 0x8400006B);
     CALL(0x8002, 0x8400006D, 0x80020000, 0, 0, 0x8400006D, 0x80020000);
     stores(0x4003E000, 0x0000800100000001);
     stores(0x4003E008, 0x0000000100000000);
     CHECK(ffa_store(&machine, 0x4003E010, 2, 0x8002).kind == FFA_DONE);
     CALL(0x8002, 0x84000061, 0, 0, 0, 0x84000076);
+    changed(0x8002, 0x40021000);
     faults(ffa_load(&machine, 0x40021000, 1), FFA_FAULT_TRANSLATION);
     CALL(0, 0x8400006B, 0x80020000, 0, 0, 0x8400006B);
     CALL(0x8001, 0x8400006D, 0x80010000, 0, 0, 0x8400006D, 0x80010000);
     CALL(0x8001, 0x84000061, 0, 0, 0, 0x84000077, 1, 0x8001);
+    changed(0x8001, 0x40021000);
     loads(0x40021000, 1, 0x5A);
     CALL(0x8001, 0x84000060, 0, 0xFFFFFFFE, 0, 0x84000077, 1, 0x8001);
+    nothing_changed();
 }
 
 /* While 0000 runs, 8001 acts as it may on another processor. */
@@ -196,6 +220,7 @@ static void out_of_order(void) {
     CHECK(ffa_load(&machine, 0, 3).kind == FFA_BAD_SIZE && ffa_store(&machine, 0, 0, 0).kind == FFA_BAD_SIZE && !machine.live);
     CHECK(ffa_runner(&machine) == FFA_NOTHING && ffa_endpoints(&machine) == FFA_NOTHING);
     CHECK(ffa_owner(&machine, 0) == FFA_NOTHING);
+    nothing_changed();
     CHECK(ffa_access(&machine, 0, 0) == FFA_NOTHING && !ffa_read_page(&machine, 0, &bytes));
     CHECK(ffa_boot(&machine, (const uint8_t *)"", 0) == 4 && !machine.live);
     CHECK(ffa_boot(&machine, (const uint8_t *)"\xFF", 1) == 2 && ffa_boot(&machine, (const uint8_t *)"a = ", 4) == 2);

@@ -22,6 +22,7 @@ use Rattle.ffa_laws.specs.OwnAccess.{OwnAccess}
 use Rattle.ffa_laws.specs.Readable.{Confidential}
 use Rattle.ffa_laws.specs.Silence.{Silence}
 use Rattle.ffa_laws.specs.Writers.{OnlyWriters}
+use Rattle.ffa_spmc.specs.AccessChange.{IsTelling}
 use Rattle.ffa_spmc.specs.Among.{IsDoneReading, pages_read}
 use Rattle.ffa_spmc.specs.Moments.{AreMoments}
 use Rattle.ffa_spmc.specs.Snapshot.{Snapshot}
@@ -70,6 +71,7 @@ pub record HasDone (old new : Snapshot) (op : Op) (told : FfaOutcome) : Type 0 w
   pub refused : is_refusal (step old.state op).outcome ≡ true → new ≡ old
   pub unowned : KeepsUnowned old.state old.ram new.ram
   pub moments : AreMoments old.state old.ram new.ram old.past new.past
+  pub telling : IsTelling old.state new.state old.told new.told
   pub sound : IsSoundState new.state
   pub alone : OneStep old.state op
   pub whole : Integrity old.state op

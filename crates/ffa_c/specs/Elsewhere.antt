@@ -10,6 +10,7 @@ use Rattle.ffa_model.specs.declared.operation.Op.{Op}
 use Rattle.ffa_model.specs.declared.operation.Size.{Size}
 use Rattle.ffa_laws.specs.Elsewhere.{ConfidentialAs, IntegrityAs, OneStepAs, OnlyWritersAs, OwnAccessAs, SilenceAs}
 use Rattle.ffa_laws.specs.Isolation.{NeverGrow}
+use Rattle.ffa_spmc.specs.AccessChange.{IsTelling}
 use Rattle.ffa_spmc.specs.Moments.{AreMoments}
 use Rattle.ffa_spmc.specs.Snapshot.{Snapshot}
 use Rattle.ffa_spmc.specs.Unowned.{KeepsUnowned}
@@ -25,6 +26,7 @@ pub record HasActed (old new : Snapshot) (e : ℕ) (op : Op) (told : FfaOutcome)
   pub refused : is_refusal (step_as old.state e op).outcome ≡ true → new ≡ old
   pub unowned : KeepsUnowned old.state old.ram new.ram
   pub moments : AreMoments old.state old.ram new.ram old.past new.past
+  pub telling : IsTelling old.state new.state old.told new.told
   pub sound : IsSoundState new.state
   pub alone : OneStepAs old.state e op
   pub whole : IntegrityAs old.state e op

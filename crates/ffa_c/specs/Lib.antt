@@ -3,5 +3,6 @@ pub mod Border
 pub mod Elsewhere
 pub mod Boarded
 pub mod Booting
+pub mod Changes
 pub mod Given
 pub mod Lending

@@ -7,6 +7,7 @@ ghost use Rattle.ffa_model.specs.State.{is_known};
 ghost use Rattle.ffa_manifest.specs.Document.{parts_of};
 ghost use Rattle.ffa_c.specs.Booting.{IsFirst};
 ghost use Rattle.ffa_c.specs.Border.{HasDoneIn, access_code, nothing_done, owner_number};
+ghost use Rattle.ffa_c.specs.Changes.{with_all_told};
 ghost use Rattle.ffa_c.specs.Elsewhere.{HasActed};
 
 use crate::kind::{
@@ -15,6 +16,7 @@ use crate::kind::{
 };
 use crate::outcome::FfaOutcome;
 use ffa_lent::{Frames, LentRam};
+use ffa_memshare::Changed;
 use ffa_model::{EndpointId, Manifest, Op, PageNo};
 use ffa_physmem::{FlatRam, PhysMem};
 use ffa_spmc::Machine;
@@ -106,6 +108,17 @@ impl Board {
         match &mut self.kind {
             Kind::Heap(machine) => acted_by(machine, endpoint, op),
             Kind::Lent(machine) => acted_by(machine, endpoint, op),
+        }
+    }
+
+    /// Whose access to which pages the last call on memory that was done has changed: told once.
+    pub fn take_change(&mut self) -> Option<Changed>
+        ensures told { result ≡ self.old.machine.told }
+        ensures rest { self.new ≡ with_all_told self.old }
+    {
+        match &mut self.kind {
+            Kind::Heap(machine) => machine.take_change(),
+            Kind::Lent(machine) => machine.take_change(),
         }
     }
 

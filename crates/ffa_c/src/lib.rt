@@ -1,10 +1,11 @@
 // SPDX-License-Identifier: MIT OR Apache-2.0
 //! The machine for C: a static library. Its four operations say again what `Machine::op` promises, but for what that says of a
-//! cache, since there is none. Boots say that the machine is in its first state; questions and lists have promises of their own.
+//! cache, since there is none. Boots say that the machine is in its first state; questions, changes and lists have promises of their own.
 #![tactic(auto)]
 
 pub mod board;
 pub mod booting;
+pub mod changes;
 pub mod elsewhere;
 pub mod exports;
 pub mod held;
