@@ -20,6 +20,9 @@ mod buffers;
 // Rows on machines with a cache, and what it holds.
 mod cached;
 
+// What a machine tells of access that changed.
+mod changed;
+
 // Rows on machines with endpoints of the compact form.
 mod compact;
 

@@ -4,8 +4,8 @@ use crate::checks::{holds, same, same_at};
 use crate::machines::{FlatPlayer, booted};
 use ffa_explain::line_fault;
 use ffa_lines::{Difference, Form, compare, next_line, play};
-use ffa_model::built_in;
-use ffa_syntax::PlayError;
+use ffa_model::{FaultKind, built_in};
+use ffa_syntax::{PlayError, text};
 use ffa_trace::Player;
 use std::alloc::{AllocError, Global};
 use std::process::Abort;
@@ -43,10 +43,18 @@ struct Left {
 
 // Plays a trace in a form.
 fn played(alloc: Global, form: Form, trace: &[u8]) -> Result<Left, Fail> {
-    let mut player = player(alloc)?;
+    played_on(&mut player(alloc)?, alloc, form, trace)
+}
+
+fn played_on(
+    player: &mut FlatPlayer,
+    alloc: Global,
+    form: Form,
+    trace: &[u8],
+) -> Result<Left, Fail> {
     let (mut out, mut bytes) = (Vec::new(alloc), Vec::new(alloc));
     let mut left = trace;
-    let ended = play(&mut player, alloc, form, &mut left, &mut out, &mut bytes);
+    let ended = play(player, alloc, form, &mut left, &mut out, &mut bytes);
     Ok(Left { out, bytes, ended })
 }
 
@@ -76,9 +84,18 @@ fn stops_at(
     number: u64,
     bad: &str,
 ) -> Result<(), Fail> {
-    let left = played(alloc, Form::default(), trace.as_bytes())?;
+    let mut player = player(alloc)?;
+    let left = played_on(&mut player, alloc, Form::default(), trace.as_bytes())?;
     same(rt, left.ended, Err(PlayError::BadLine(number)));
     same(rt, left.bytes.as_slice(), bad.as_bytes());
+    goes_on(rt, alloc, &mut player)
+}
+
+// The normal world runs still, and its calls are served.
+fn goes_on(rt: &impl Abort, alloc: Global, player: &mut FlatPlayer) -> Result<(), Fail> {
+    let left = played_on(player, alloc, Form::default(), TRACE.as_bytes())?;
+    same(rt, left.ended, Ok(()));
+    same(rt, left.out.as_slice(), TEXT.as_bytes());
     Ok(())
 }
 
@@ -87,6 +104,22 @@ fn stops_at(
 fn stops_at_a_bad_line(rt: HostRuntime) -> Result<(), Fail> {
     stops_at(&rt, rt.alloc(), "show\nshow \n", 2, "show \n")?;
     stops_at(&rt, rt.alloc(), "\nfetch 0\nshow", 3, "show")
+}
+
+// The lines of faults.
+const FAULT_LINES: [(FaultKind, &str); 5] = [
+    (FaultKind::Translation, "fault translation\n"),
+    (FaultKind::Permission, "fault permission\n"),
+    (FaultKind::Alignment, "fault alignment\n"),
+    (FaultKind::AccessFlag, "fault access-flag\n"),
+    (FaultKind::OutsideRam, "fault outside-ram\n"),
+];
+
+#[test]
+fn tells_each_fault_by_its_name(rt: HostRuntime) {
+    for (fault, line) in FAULT_LINES {
+        same(&rt, text::fault_line(fault), line.as_bytes());
+    }
 }
 
 // Lines without the LF that ends them, and what is wrong with each; the last of them are good.
@@ -146,17 +179,18 @@ fn says_what_is_wrong_with_a_line(rt: HostRuntime) -> Result<(), Fail> {
 
 // Where a play of the trace first differs from the expected text.
 fn compared(alloc: Global, expected: &[u8]) -> Result<Result<Option<Difference>, PlayError>, Fail> {
-    let mut player = player(alloc)?;
+    compared_on(&mut player(alloc)?, alloc, expected)
+}
+
+fn compared_on(
+    player: &mut FlatPlayer,
+    alloc: Global,
+    expected: &[u8],
+) -> Result<Result<Option<Difference>, PlayError>, Fail> {
     let (mut bytes, mut text) = (Vec::new(alloc), Vec::new(alloc));
     let mut left = TRACE.as_bytes();
     Ok(compare(
-        &mut player,
-        alloc,
-        false,
-        &mut left,
-        expected,
-        &mut bytes,
-        &mut text,
+        player, alloc, false, &mut left, expected, &mut bytes, &mut text,
     ))
 }
 
@@ -198,9 +232,10 @@ fn differs(
     number: u64,
     place: usize,
 ) -> Result<(), Fail> {
-    let found = compared(alloc, expected)?;
+    let mut player = player(alloc)?;
+    let found = compared_on(&mut player, alloc, expected)?;
     same(rt, place_of(found), Some((number, place)));
-    Ok(())
+    goes_on(rt, alloc, &mut player)
 }
 
 // The expected text is the whole, the whole with a byte of one of its lines turned, a part, and the whole with more behind.

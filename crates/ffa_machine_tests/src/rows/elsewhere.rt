@@ -68,7 +68,7 @@ fn is_wanted(alloc: Global, outcome: Outcome, wanted: &str) -> Result<bool, Fail
 }
 
 // Does steps, each of which gives what is wanted.
-fn act<M: PhysMem + Drop, T: Translations + Drop>(
+pub(super) fn act<M: PhysMem + Drop, T: Translations + Drop>(
     rt: &impl Abort,
     alloc: Global,
     machine: &mut Machine<M, T>,

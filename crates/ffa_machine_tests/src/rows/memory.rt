@@ -252,7 +252,7 @@ call 84000073 60 60 -> 8001: 84000060 0 FFFFFFFA
 }
 
 // The second partition donates the page at 40031000 to the first.
-const DONATE: &str = "\
+pub(super) const DONATE: &str = "\
 store 4003E000 0000000000008002 -> done
 store 4003E018 0000000100000010 -> done
 store 4003E020 0000000000000030 -> done
@@ -264,7 +264,7 @@ call 84000071 60 60 -> 8002: 84000061 0 1 8002
 ";
 
 // The first takes it, without execution, which the page never had.
-const TAKE: &str = "\
+pub(super) const TAKE: &str = "\
 store 4002E000 0000000000008002 -> done
 store 4002E008 0000800200000001 -> done
 store 4002E018 0000000100000010 -> done
@@ -274,7 +274,7 @@ call 84000074 40 40 -> 8001: 84000060 0 FFFFFFFA
 store 4002E030 0000000000008001 -> done
 ";
 
-const TAKEN: &str = "\
+pub(super) const TAKEN: &str = "\
 call 84000074 40 40 -> 8001: 84000075 60 60
 load 4002F000 8 -> data 00000018002F8002
 load 4002F030 8 -> data 0000004000068001
@@ -389,6 +389,32 @@ fn a_lend_of_each_length(rt: HostRuntime) -> Result<(), Fail> {
     }
     row.add("call 84000072 60 5F -> 8001: 84000060 0 FFFFFFFE")?;
     row.check(&rt, rt.alloc())
+}
+
+// The last page of the second partition is lent: nobody has access to it, nor to the manager's behind it, which are another
+// run still.
+#[test]
+fn a_lend_beside_pages_of_the_manager(rt: HostRuntime) -> Result<(), Fail> {
+    let row = "\
+call 8400006D 80020000 -> 8002: 8400006D 80020000
+call 84000066 4003A000 4003B000 1 -> 8002: 84000061
+store 4003A000 0000000000008002 -> done
+store 4003A018 0000000100000010 -> done
+store 4003A020 0000000000000030 -> done
+store 4003A030 0000004000028001 -> done
+store 4003A040 0000000100000001 -> done
+store 4003A050 000000004003F000 -> done
+store 4003A058 0000000000000001 -> done
+call 84000072 60 60 -> 8002: 84000061 0 1 8002
+show -> runner 8002
+pages 40000000 4000FFFF 8000 --- --- ---
+pages 40010000 4001FFFF 0000 rw- --- ---
+pages 40020000 4002FFFF 8001 --- rwx ---
+pages 40030000 4003EFFF 8002 --- --- rw-
+pages 4003F000 4003FFFF 8002 --- --- ---
+pages 40040000 401FFFFF 8000 --- --- ---
+";
+    plays(&rt, rt.alloc(), &[row])
 }
 
 #[test]

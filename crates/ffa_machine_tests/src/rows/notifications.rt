@@ -28,11 +28,12 @@ call 84000082 8002 4 -> 8002: 84000061
     compact::plays_in_both_forms(&rt, rt.alloc(), row)
 }
 
-// The first partition sets a bit of the second twice, once it is bound, and the second gets it once.
+// The first partition, which has nothing pending, sets a bit of the second twice, once it is bound, and the second gets it once.
 #[test]
 fn a_bit_of_a_partition(rt: HostRuntime) -> Result<(), Fail> {
     let row = "\
 call 8400006D 80010000 -> 8001: 8400006D 80010000
+call 84000082 8001 1 -> 8001: 84000061
 call 84000081 80018002 0 1 -> 8001: 84000060 0 FFFFFFFA
 call 8400006B -> 0: 8400006B 80010000
 call 8400006D 80020000 -> 8002: 8400006D 80020000
