@@ -79,6 +79,7 @@ store 4002E068 0000000000000003 -> done
 call 84000072 70 70 -> 8001: 84000061 0 1 8001
 ";
 
+// A page and three more are lent, and then the page alone.
 #[test]
 fn a_lend_of_two_ranges(rt: HostRuntime) -> Result<(), Fail> {
     let taken = "call 84000074 40 40 -> 8002: 84000075 70 70\n";
@@ -87,6 +88,10 @@ fn a_lend_of_two_ranges(rt: HostRuntime) -> Result<(), Fail> {
 call 84000077 1 8001 1 -> 8001: 84000061
 load 40026000 1 -> data 0
 call 84000077 1 8001 -> 8001: 84000060 0 FFFFFFFE
+";
+    let another = "\
+store 4002E040 0000000100000001 -> done
+call 84000072 60 60 -> 8001: 84000061 0 2 8001
 ";
     let parts = [
         MAPPED,
@@ -100,6 +105,7 @@ call 84000077 1 8001 -> 8001: 84000060 0 FFFFFFFE
         RELINQUISH,
         TO_FIRST,
         reclaim,
+        another,
     ];
     follow(&rt, rt.alloc(), &parts)
 }
