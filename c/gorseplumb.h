@@ -210,7 +210,7 @@ struct ffa_range {
 
 #define FFA_MOST_RANGES 64
 
-/* Whose access to which pages has changed, from none to some or from some to none. */
+/* Whose access to which pages has changed. To each of them the endpoint had none before, or has none now. */
 struct ffa_change {
     uint32_t endpoint;
     uint32_t range_count; /* of `ranges`, from the first on; zeros stand behind them */
