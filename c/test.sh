@@ -33,6 +33,17 @@ has() {
     command -v "$1" >/dev/null || { echo "not run: no $1 (Debian has it in: $packages)"; missing=1; return 1; }
 }
 
+# Runs a program, and prints what it prints behind a name. Where the program doesn't end well, neither does this: says NAME COMMAND..
+says() {
+    local said status=0
+    said=$("${@:2}") || status=$?
+    echo "$1: $said"
+    if ((status)); then
+        echo "$1: status $status" >&2
+        exit 1
+    fi
+}
+
 # Whether each word of a table is written by one store of 64 bits: looks at every store, but those to the stack, of the functions
 # that write tables, as they are compiled: stores NAME OBJDUMP PROGRAM
 stores() {
@@ -69,9 +80,9 @@ archive native
 for compiler in gcc clang; do
     has $compiler || continue
     $compiler $strict $sanitized "$here/test.c" "$here/settle.c" "$to/native.a" -o "$to/test"
-    echo "$compiler, sanitized: $("$to/test")"
+    says "$compiler, sanitized" "$to/test"
     $compiler $strict -O2 "$here/test.c" "$here/settle.c" "$to/native.a" -o "$to/test"
-    echo "$compiler: $("$to/test")"
+    says "$compiler" "$to/test"
     $compiler $strict $sanitized "$here/example.c" "$here/heap.c" "$to/native.a" -o "$to/example"
     "$to/example"
     $compiler $strict $sanitized "$here/play.c" "$here/heap.c" "$to/native.a" -o "$to/play"
@@ -90,7 +101,7 @@ fi
 # The archive isn't instrumented by the sanitizers: valgrind looks at what it reads and writes, too.
 if has gcc && has valgrind; then
     gcc $strict -O1 -g "$here/test.c" "$here/settle.c" "$to/native.a" -o "$to/test"
-    echo "valgrind: $(valgrind -q --error-exitcode=9 --leak-check=full "$to/test")"
+    says valgrind valgrind -q --error-exitcode=9 --leak-check=full "$to/test"
 fi
 if has gcc; then stores native objdump "$to/test"; fi
 symbols=$(nm -u "$to/native.a" | sed -n 's/^ *U //p' | grep -v '^_R\|\$' | sort -u | tr '\n' ' ')
@@ -100,7 +111,7 @@ if has aarch64-linux-gnu-gcc && has qemu-aarch64-static; then
     archive arm --target aarch64-unknown-linux-gnu
     arm="aarch64-linux-gnu-gcc $strict -O2 -static"
     $arm "$here/test.c" "$here/settle.c" "$to/arm.a" -o "$to/test"
-    echo "AArch64: $(qemu-aarch64-static "$to/test")"
+    says AArch64 qemu-aarch64-static "$to/test"
     stores AArch64 aarch64-linux-gnu-objdump "$to/test"
     $arm "$here/play.c" "$here/heap.c" "$to/arm.a" -o "$to/play"
     plays AArch64 qemu-aarch64-static "$to/play"
