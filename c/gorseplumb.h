@@ -11,9 +11,10 @@
  *
  * - A pointer is not null, points to memory of its type that C may write, and no other parameter of the call points there.
  *   Text may be read only, and then `size` bytes of it may be read.
- * - A struct that holds a machine, a list or a page is { 0 } at first. C writes neither of its fields afterwards (but for
- *   a slot's, below), and doesn't follow `at`. It may be moved by copying it, if only the copy is used from then on.
- * - One call at a time on a machine, a list or a slot: no other call may be on its way with it, on no processor and in no
+ * - A struct that holds a machine, a list or pages is { 0 } at first. C writes neither of its fields afterwards (but for
+ *   those of a slot and of a span, below), and doesn't follow `at`. It may be moved by copying it, if only the copy is used from
+ *   then on.
+ * - One call at a time on a machine, a list, a slot or a span: no other call may be on its way with it, on no processor and in no
  *   signal or interrupt handler.
  * - Memory that is lent is nobody else's until it is taken back: C neither reads nor writes it, through any mapping.
  */
@@ -47,6 +48,13 @@ struct ffa_lent {
 struct ffa_slot {
     bool live;
     void *at;
+};
+
+/* Memory of pages that stand side by side, 4096 bytes each, or of none. { 0 } is none. C gives pages by writing both fields: the
+ * address of the first, and how many there are. Where there are none, `at` isn't looked at. */
+struct ffa_span {
+    void *at;
+    size_t pages;
 };
 
 /* What has to be settled while an operation is on its way. The library writes it to a descriptor that no file has, by POSIX's
@@ -117,6 +125,11 @@ struct ffa_region {
 #define FFA_MOST_REGIONS 16
 #define FFA_MOST_ENDPOINTS 8
 
+/* The most blocks of RAM, and its most bytes, of which RAM's base is a multiple. A library for larger machines is the same with another
+ * number of blocks, a power of two up to 512 (MOST_BLOCKS in crates/ffa_model/src/limits.rt). */
+#define FFA_MOST_BLOCKS 32
+#define FFA_MOST_RAM (UINT32_C(0x200000) * FFA_MOST_BLOCKS)
+
 /* An endpoint of a machine. The first is the normal world, whose UUID is zeros. */
 struct ffa_endpoint {
     uint32_t version;    /* the form of its descriptors: 0 is that of FF-A 1.1, 1 the compact one */
@@ -128,8 +141,8 @@ struct ffa_endpoint {
 
 /* A manifest as numbers. */
 struct ffa_parts {
-    uint32_t ram_base;       /* the address of RAM's first byte: a multiple of 64 MiB */
-    uint32_t ram_blocks;     /* of 2 MiB each, from 1 to 32 */
+    uint32_t ram_base;       /* the address of RAM's first byte: a multiple of FFA_MOST_RAM */
+    uint32_t ram_blocks;     /* of 2 MiB each, from 1 to FFA_MOST_BLOCKS */
     uint32_t endpoint_count; /* of `endpoints`, from the first on; what stands behind is not read */
     struct ffa_endpoint endpoints[FFA_MOST_ENDPOINTS];
 };
@@ -145,8 +158,8 @@ enum ffa_answer {
     FFA_MANIFEST_UNKNOWN_KEY = 3,     /* a key that its table doesn't have */
     FFA_MANIFEST_MISSING_KEY = 4,     /* a table lacks one of its keys */
     FFA_MANIFEST_WRONG_KIND = 5,      /* a value of another kind, or unknown rights */
-    FFA_MANIFEST_RAM_BASE = 6,        /* no multiple of 64 MiB from 04000000 to FC000000 */
-    FFA_MANIFEST_RAM_BLOCKS = 7,      /* not from 1 to 32 */
+    FFA_MANIFEST_RAM_BASE = 6,        /* no multiple of FFA_MOST_RAM, or 0, or RAM of that many bytes would end above 4 GiB */
+    FFA_MANIFEST_RAM_BLOCKS = 7,      /* not from 1 to FFA_MOST_BLOCKS */
     FFA_MANIFEST_ENDPOINT_COUNT = 8,  /* not from 1 to 8 */
     FFA_MANIFEST_UUID = 9,            /* can't be read, zeros for a partition, or other than zeros for the normal world */
     FFA_MANIFEST_PROPERTY = 10,       /* not from 0 to 15, or the normal world is to receive */
@@ -157,7 +170,7 @@ enum ffa_answer {
 
     FFA_OCCUPIED = 15,     /* what is to be made, or to be filled, is there already */
     FFA_NO_LIST = 16,      /* there is no list */
-    FFA_NO_PAGE = 17,      /* there is no page in the slot, or none in the list */
+    FFA_NO_PAGE = 17,      /* there is no page in the slot, in the span or in the list */
     FFA_HAS_PAGES = 18,    /* the list has pages still */
     FFA_NOTHING_RUNS = 19, /* there is no machine */
     FFA_WRONG_COUNT = 20   /* the list has more pages than the manifest's RAM, or fewer */
@@ -178,9 +191,10 @@ uint32_t ffa_boot(struct ffa_machine *machine, const uint8_t *text, size_t size)
 uint32_t ffa_boot_parts(struct ffa_machine *machine, const struct ffa_parts *parts);
 
 /* The same in RAM that is lent: the pages of the list, in order. FFA_OK: the list is empty then, and all pages behind the
- * tables are zeros. Else what there was of a machine is as before, and the list has as many pages as before, with the same
- * bytes unless the answer is FFA_NO_ROOM: FFA_OCCUPIED, FFA_NO_LIST, FFA_NO_ROOM, a cause as above, or
- * FFA_WRONG_COUNT, where the pages aren't as many as the manifest's RAM has (512 for each block). */
+ * tables are zeros. Else nothing has changed: FFA_OCCUPIED, FFA_NO_LIST, FFA_NO_ROOM, a cause as above, or FFA_WRONG_COUNT,
+ * where the pages aren't as many as the manifest's RAM has (512 for each block). The machine's memory is the list's: of numbers a
+ * boot takes none, so FFA_NO_ROOM comes only where the list lacks some, since it has more pages than it was begun for, or another
+ * machine that was booted in it has that. While a text is read memory is taken, and given back. */
 uint32_t ffa_boot_lent(struct ffa_machine *machine, struct ffa_lent *lent, const uint8_t *text, size_t size);
 uint32_t ffa_boot_lent_parts(struct ffa_machine *machine, struct ffa_lent *lent, const struct ffa_parts *parts);
 
@@ -242,12 +256,14 @@ uint32_t ffa_access(struct ffa_machine *machine, uint16_t endpoint, uint32_t pag
 bool ffa_read_page(struct ffa_machine *machine, uint32_t page, struct ffa_page *bytes);
 
 /* Ends the machine. RAM of the heap goes back to the heap, and `lent` stays as it is (it may be { 0 }). RAM that was lent goes whole to
- * `lent`, an empty list: every page, in order, with the bytes that it has. FFA_OK: there is no machine any more. Else nothing has
- * changed: FFA_NOTHING_RUNS, and where RAM was lent FFA_NO_LIST or FFA_HAS_PAGES. */
+ * `lent`, an empty list: every page, in order, with the bytes that it has; and so does the machine's memory, so the next boot in the
+ * list takes none. FFA_OK: there is no machine any more. Else nothing has changed: FFA_NOTHING_RUNS, and where RAM was lent
+ * FFA_NO_LIST or FFA_HAS_PAGES. */
 uint32_t ffa_free(struct ffa_machine *machine, struct ffa_lent *lent);
 
-/* Makes an empty list with room for so many pages: one piece of memory for the list and one for its pages' addresses. FFA_OCCUPIED
- * where there is a list; else FFA_OK or FFA_NO_ROOM. Where it isn't FFA_OK nothing has changed. */
+/* Makes an empty list with room for so many pages, in seven pieces of memory: the list, its pages' addresses, and of the machine that
+ * is booted in it its place, its records, four bytes for each page, slots for open transactions and 16 KiB for copies of a TX. FFA_OCCUPIED where there is a list; else FFA_OK or
+ * FFA_NO_ROOM. Where it isn't FFA_OK nothing has changed. */
 uint32_t ffa_begin_lending(struct ffa_lent *lent, uint32_t pages);
 
 /* Moves a page from its slot to the end of the list, and leaves the slot empty. FFA_NO_LIST where there is no list; else
@@ -256,6 +272,11 @@ uint32_t ffa_begin_lending(struct ffa_lent *lent, uint32_t pages);
  * list and slot have the pages that they had. */
 uint32_t ffa_lend(struct ffa_lent *lent, struct ffa_slot *slot);
 
+/* Moves all pages of a span to the end of the list, in order, and leaves the span empty; they come back one by one. FFA_NO_LIST
+ * where there is no list; else FFA_NO_PAGE where the span has no pages; else FFA_OK or FFA_NO_ROOM, which comes only where the list
+ * has no room for all of them. Where it isn't FFA_OK nothing has changed. */
+uint32_t ffa_lend_span(struct ffa_lent *lent, struct ffa_span *span);
+
 /* Moves the list's last page to an empty slot. FFA_NO_LIST where there is no list; else FFA_OCCUPIED where there is a page in the
  * slot; else FFA_NO_PAGE where the list has none; else FFA_OK. Where it isn't FFA_OK nothing has changed. */
 uint32_t ffa_take_back(struct ffa_lent *lent, struct ffa_slot *slot);
@@ -263,7 +284,7 @@ uint32_t ffa_take_back(struct ffa_lent *lent, struct ffa_slot *slot);
 /* The number of pages in the list; 0 where there is no list. */
 uint64_t ffa_lent_pages(struct ffa_lent *lent);
 
-/* Ends an empty list; there is none then. FFA_NO_LIST where there is no list; else FFA_HAS_PAGES where it has pages; else FFA_OK.
+/* Ends an empty list, and gives all memory back that it has; there is none then. FFA_NO_LIST where there is no list; else FFA_HAS_PAGES where it has pages; else FFA_OK.
  * Where it isn't FFA_OK nothing has changed. */
 uint32_t ffa_end_lending(struct ffa_lent *lent);
 

@@ -6,14 +6,11 @@
 
 #include "gorseplumb.h"
 
-/* Makes a list of these pages. Where the answer isn't FFA_OK there is none. */
+/* Makes a list of these pages. Where the answer isn't FFA_OK nothing has changed. */
 static inline uint32_t lend_all(struct ffa_lent *lent, struct ffa_page *pages, uint32_t count) {
+    struct ffa_span span = {pages, count};
     uint32_t answer = ffa_begin_lending(lent, count);
-    for (uint32_t i = 0; i < count && answer == FFA_OK; i++) {
-        struct ffa_slot slot = {true, &pages[i]};
-        answer = ffa_lend(lent, &slot);
-    }
-    return answer;
+    return answer == FFA_OK && count != 0 ? ffa_lend_span(lent, &span) : answer;
 }
 
 /* Takes pages back, and ends the list: whether it had just these pages in this order. */

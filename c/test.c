@@ -18,6 +18,9 @@ struct tried {
 
 static size_t pieces, asked, refused;
 
+/* Of a list: its own, its pages' addresses, copies of TX, and of the machine its place, its records, owners of pages and transactions. */
+enum { LIST_PIECES = 7 };
+
 static struct tried tried(void *block) {
     static char nothing;
     return (struct tried){block != NULL, block != NULL ? block : &nothing};
@@ -239,7 +242,7 @@ static void out_of_order(void) {
     CHECK(ffa_runner(&moved) == 0 && ffa_free(&moved, &untouched) == FFA_OK);
 }
 
-static struct ffa_page pages[513];
+static struct ffa_page pages[1024];
 static struct ffa_lent list;
 
 static void lists(void) {
@@ -259,6 +262,36 @@ static void lists(void) {
     slot.live = false;
     CHECK(ffa_take_back(&list, &slot) == FFA_OK && slot.live && slot.at == &pages[0]);
     CHECK(ffa_end_lending(&list) == FFA_OK && !list.live && pieces == 0);
+}
+
+/* A page of the list comes back, with the byte that it was filled with. */
+static void comes_back(const struct ffa_page *page, uint8_t byte) {
+    struct ffa_slot slot = {0};
+    CHECK(ffa_take_back(&list, &slot) == FFA_OK && slot.live && slot.at == page);
+    for (int i = 0; i < FFA_PAGE_BYTES; i++) CHECK(page->bytes[i] == byte);
+}
+
+/* Pages side by side go to the list by one call. */
+static void spans(void) {
+    struct ffa_span none = {0}, span = {&pages[3], 4};
+    struct ffa_slot slot = {true, &pages[9]};
+    for (int i = 0; i < 10; i++) memset(&pages[i], 0x10 + i, sizeof pages[i]);
+    CHECK(ffa_lend_span(&list, &span) == FFA_NO_LIST && ffa_lend_span(&list, &none) == FFA_NO_LIST && !list.live);
+    CHECK(span.at == &pages[3] && span.pages == 4);
+    CHECK(ffa_begin_lending(&list, 6) == FFA_OK && ffa_lend_span(&list, &none) == FFA_NO_PAGE && ffa_lent_pages(&list) == 0);
+    CHECK(ffa_lend(&list, &slot) == FFA_OK);
+    /* There is room for four more, and the list has them behind the one that it had. */
+    asked = 0;
+    CHECK(ffa_lend_span(&list, &span) == FFA_OK && asked == 0 && span.at == NULL && span.pages == 0);
+    CHECK(ffa_lent_pages(&list) == 5 && ffa_lend_span(&list, &span) == FFA_NO_PAGE && ffa_lent_pages(&list) == 5);
+    span = (struct ffa_span){&pages[1], 1};
+    CHECK(ffa_lend_span(&list, &span) == FFA_OK && asked == 0 && ffa_lent_pages(&list) == 6);
+    /* There is none for two more, for which one piece of memory is asked. */
+    span = (struct ffa_span){&pages[7], 2};
+    CHECK(ffa_lend_span(&list, &span) == FFA_OK && asked == 1 && ffa_lent_pages(&list) == 8);
+    static const int order[] = {9, 3, 4, 5, 6, 1, 7, 8};
+    for (int i = 7; i >= 0; i--) comes_back(&pages[order[i]], (uint8_t)(0x10 + order[i]));
+    CHECK(ffa_end_lending(&list) == FFA_OK && pieces == 0);
 }
 
 /* The machine of machine.toml.h as numbers. */
@@ -331,15 +364,30 @@ static void settles(void) {
     CHECK(settled[1].endpoint == 0x8002 && settled[1].address == 0x40021000 && settled[1].size == FFA_PAGE_BYTES);
 }
 
+/* RAM is the pages of both spans, in the order in which these were lent. */
+static void in_two_spans(void) {
+    struct ffa_parts parts = row_parts();
+    struct ffa_span last = {&pages[256], 256}, first = {&pages[0], 256};
+    CHECK(ffa_begin_lending(&list, 0) == FFA_OK && ffa_lend_span(&list, &last) == FFA_OK && ffa_lend_span(&list, &first) == FFA_OK);
+    CHECK(ffa_boot_lent_parts(&machine, &list, &parts) == FFA_OK);
+    CHECK(ffa_store(&machine, 0x40010000, 1, 0x2A).kind == FFA_DONE && pages[256 + 16].bytes[0] == 0x2A);
+    CHECK(ffa_free(&machine, &list) == FFA_OK && ffa_lent_pages(&list) == 512);
+    for (int i = 0; i < 512; i++) {
+        struct ffa_slot slot = {0};
+        CHECK(ffa_take_back(&list, &slot) == FFA_OK && slot.at == &pages[(255 - i) & 511]);
+    }
+    CHECK(pages[256 + 16].bytes[0] == 0x2A && ffa_end_lending(&list) == FFA_OK && pieces == 0);
+}
+
 static void lent_machine(void) {
     struct ffa_parts parts = row_parts();
     memset(pages, 0xA5, sizeof pages);
     CHECK(lend_all(&list, pages, 512) == FFA_OK);
-    size_t before = pieces;
+    /* A list has its own piece of memory, its pages' addresses, and all that the machine takes. A boot takes none. */
+    CHECK(pieces == LIST_PIECES);
     asked = 0;
     CHECK(ffa_boot_lent_parts(&machine, &list, &parts) == FFA_OK);
-    /* Two pieces of memory, once: the machine, and room for a copy of TX. The list has two, of before. */
-    CHECK(asked == 2 && pieces == before + 2 && ffa_lent_pages(&list) == 0);
+    CHECK(asked == 0 && pieces == LIST_PIECES && ffa_lent_pages(&list) == 0);
     CHECK(ffa_boot_lent_parts(&machine, &list, &parts) == FFA_OCCUPIED);
     CHECK(ffa_boot_lent(&machine, &list, text, text_size) == FFA_OCCUPIED);
     first_row();
@@ -360,7 +408,18 @@ static void lent_machine(void) {
     CHECK(ffa_take_back(&list, &slot) == FFA_OK && slot.at == &pages[512]);
     CHECK(ffa_load(&machine, 0x40021000, 1).kind != FFA_NO_MACHINE);
     CHECK(ffa_free(&machine, &list) == FFA_OK && !machine.live && ffa_lent_pages(&list) == 512);
-    CHECK(pages[33].bytes[0] == 0x5A && take_all_back(&list, pages, 512) && pieces == 0);
+    CHECK(pages[33].bytes[0] == 0x5A && pieces == LIST_PIECES);
+    /* Nor does the next boot take any, and that of a text gives all back that it takes. */
+    parts.ram_blocks = 0;
+    CHECK(ffa_boot_lent_parts(&machine, &list, &parts) == FFA_MANIFEST_RAM_BLOCKS && pieces == LIST_PIECES);
+    parts.ram_blocks = 1;
+    asked = 0;
+    CHECK(ffa_boot_lent_parts(&machine, &list, &parts) == FFA_OK && pages[33].bytes[0] == 0);
+    CHECK(ffa_free(&machine, &list) == FFA_OK && asked == 0 && pieces == LIST_PIECES);
+    CHECK(ffa_boot_lent(&machine, &list, text, text_size) == FFA_OK && asked > 0 && pieces == LIST_PIECES);
+    CHECK(ffa_free(&machine, &list) == FFA_OK && pieces == LIST_PIECES);
+    CHECK(take_all_back(&list, pages, 512) && pieces == 0);
+    in_two_spans();
     /* A machine over the heap's RAM gives no pages back. */
     CHECK(ffa_begin_lending(&list, 0) == FFA_OK && ffa_boot(&machine, text, text_size) == FFA_OK);
     CHECK(ffa_free(&machine, &list) == FFA_OK && ffa_lent_pages(&list) == 0);
@@ -371,6 +430,41 @@ static void lent_machine(void) {
     parts.ram_blocks = 0;
     CHECK(ffa_boot_lent_parts(&machine, &list, &parts) == FFA_MANIFEST_RAM_BLOCKS && ffa_lent_pages(&list) == 512);
     CHECK(take_all_back(&list, pages, 512) && ffa_boot_lent_parts(&machine, &list, &parts) == FFA_NO_LIST && pieces == 0);
+}
+
+/* A machine takes what the list has of memory with its pages. So a second one beside it asks for what the list lacks, its own memory
+ * and room for copies of a TX, and where that is refused the pages are as before; what it got until then stays with the list. A machine
+ * that ends gives its memory to the list. */
+static void two_machines(void) {
+    struct ffa_parts parts = row_parts();
+    struct ffa_machine first = {0};
+    memset(pages, 0xA5, sizeof pages);
+    CHECK(lend_all(&list, pages, 512) == FFA_OK && ffa_boot_lent_parts(&first, &list, &parts) == FFA_OK);
+    for (int i = 512; i < 1024; i++) {
+        struct ffa_slot slot = {true, &pages[i]};
+        CHECK(ffa_lend(&list, &slot) == FFA_OK);
+    }
+    uint32_t answer = FFA_NO_ROOM;
+    size_t turn = 0;
+    for (; answer != FFA_OK; turn++) {
+        asked = 0;
+        refused = turn + 1;
+        answer = ffa_boot_lent_parts(&machine, &list, &parts);
+        refused = 0;
+        CHECK(answer == FFA_OK || (answer == FFA_NO_ROOM && !machine.live && ffa_lent_pages(&list) == 512 && pages[512].bytes[0] == 0xA5));
+    }
+    CHECK(turn == 5 && ffa_lent_pages(&list) == 0);
+    loads(0x40010000, 1, 0);
+    CHECK(ffa_free(&machine, &list) == FFA_OK && ffa_free(&first, &list) == FFA_HAS_PAGES);
+    asked = 0;
+    CHECK(ffa_boot_lent_parts(&machine, &list, &parts) == FFA_OK && ffa_free(&machine, &list) == FFA_OK && asked == 0);
+    for (int i = 1023; i >= 512; i--) {
+        struct ffa_slot slot = {0};
+        CHECK(ffa_take_back(&list, &slot) == FFA_OK && slot.at == &pages[i]);
+    }
+    /* The list keeps of the first machine's pieces as many as it needs. */
+    CHECK(pieces == LIST_PIECES + LIST_PIECES - 1 && ffa_free(&first, &list) == FFA_OK && pieces == LIST_PIECES);
+    CHECK(take_all_back(&list, pages, 512) && pieces == 0);
 }
 
 /* Each piece of memory is refused in turn: the answer says so, and nothing stays behind. */
@@ -388,7 +482,7 @@ static void refusals(void) {
             refused = 0;
             CHECK(answer == FFA_OK || (answer == FFA_NO_ROOM && !machine.live && pieces == 0));
         }
-        CHECK(as_text ? turn > 3 : turn == 3);
+        CHECK(as_text ? turn > 6 : turn == 6);
         CHECK(ffa_free(&machine, &untouched) == FFA_OK);
     }
     CHECK(lend_all(&list, pages, 512) == FFA_OK);
@@ -402,13 +496,16 @@ static void refusals(void) {
         CHECK(answer == FFA_OK || (answer == FFA_NO_ROOM && !machine.live && pieces == before && ffa_lent_pages(&list) == 512));
     }
     CHECK(ffa_free(&machine, &list) == FFA_OK && take_all_back(&list, pages, 512));
-    asked = 0;
-    refused = 1;
-    CHECK(ffa_begin_lending(&list, 4) == FFA_NO_ROOM && !list.live);
-    asked = 0;
-    refused = 2;
-    CHECK(ffa_begin_lending(&list, 4) == FFA_NO_ROOM && !list.live && pieces == 0);
-    refused = 0;
+    answer = FFA_NO_ROOM;
+    size_t begun = 0;
+    for (; answer != FFA_OK; begun++) {
+        asked = 0;
+        refused = begun + 1;
+        answer = ffa_begin_lending(&list, 4);
+        refused = 0;
+        CHECK(answer == FFA_OK || (answer == FFA_NO_ROOM && !list.live && list.at == NULL && pieces == 0));
+    }
+    CHECK(begun == LIST_PIECES + 1 && pieces == LIST_PIECES && ffa_end_lending(&list) == FFA_OK && pieces == 0);
     /* A lend asks for memory only where the list has no room left. */
     struct ffa_slot slot = {true, &pages[0]};
     CHECK(ffa_begin_lending(&list, 1) == FFA_OK);
@@ -419,6 +516,18 @@ static void refusals(void) {
     CHECK(ffa_lend(&list, &slot) == FFA_NO_ROOM && asked == 1 && slot.at == &pages[1] && ffa_lent_pages(&list) == 1);
     refused = 0;
     CHECK(ffa_lend(&list, &slot) == FFA_OK && take_all_back(&list, pages, 2) && pieces == 0);
+    /* A span is lent whole or not at all: where memory is refused the list has its page and its room. */
+    struct ffa_span span = {&pages[1], 3};
+    slot = (struct ffa_slot){true, &pages[0]};
+    CHECK(ffa_begin_lending(&list, 3) == FFA_OK && ffa_lend(&list, &slot) == FFA_OK);
+    asked = 0;
+    refused = 1;
+    CHECK(ffa_lend_span(&list, &span) == FFA_NO_ROOM && asked == 1 && ffa_lent_pages(&list) == 1);
+    CHECK(span.at == &pages[1] && span.pages == 3);
+    span.pages = 2;
+    CHECK(ffa_lend_span(&list, &span) == FFA_OK && asked == 1 && span.at == NULL && take_all_back(&list, pages, 3));
+    refused = 0;
+    CHECK(pieces == 0);
 }
 
 int main(void) {
@@ -428,8 +537,10 @@ int main(void) {
     out_of_order();
     CHECK(pieces == 0);
     lists();
+    spans();
     numbers();
     lent_machine();
+    two_machines();
     refusals();
     CHECK(pieces == 0);
     puts("ok");

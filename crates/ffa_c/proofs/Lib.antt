@@ -1,5 +1,7 @@
 -- SPDX-License-Identifier: MIT OR Apache-2.0
+pub mod Ready
 pub mod Reasons
 pub mod Heap
 pub mod HeldSteps
-pub mod HeldFramesSteps
+pub mod HeldListSteps
+pub mod Given

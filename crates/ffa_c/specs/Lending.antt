@@ -2,17 +2,22 @@
 -- What lending pages does to what C holds.
 use Rattle.std.specs.Prelude.{◌≡◌, ℕ, ◌≤◌, List, [], ◌∷◌, ◌++◌, length, Option, None, Some, if◌then◌else◌}
 use Rattle.std.specs.Option.{option_map}
-use Rattle.ffa_lent.specs.Listed.{Listed}
+use Rattle.ffa_c.specs.LentPages.{LentPages}
 use Rattle.ffa_c.specs.Boarded.{Boarded}
 
 -- the pages of a list, where there is a list
-abbrev pub pages_of : Option Listed → Option (List (List ℕ))
+abbrev pub pages_of : Option LentPages → Option (List (List ℕ))
 pages_of list = option_map (λ l. l.pages) list
 
 -- for how many pages a list has room
-abbrev pub room_of : Option Listed → ℕ
+abbrev pub room_of : Option LentPages → ℕ
 room_of None = 0
 room_of (Some l) = l.room
+
+-- how many pages a list may have so that a boot in them takes no memory, but what a text takes while it is read
+abbrev pub ready_for : Option LentPages → ℕ
+ready_for None = 0
+ready_for (Some l) = l.ready_for
 
 -- a page goes from a slot to the end of a list: it is there once, and the slot is empty
 pub record IsLent (old new : Option (List (List ℕ))) (slot slot_after : Option (List ℕ)) : Type 0 where
@@ -35,7 +40,7 @@ lent_answer (Some pages) None = 17
 lent_answer (Some pages) (Some page) = 0
 
 -- there is a list, and it has no room for one page more
-abbrev pub IsFull : Option Listed → Type 0
+abbrev pub IsFull : Option LentPages → Type 0
 IsFull None = ⊥
 IsFull (Some l) = l.room ≤ length l.pages
 

@@ -5,4 +5,7 @@ pub mod Boarded
 pub mod Booting
 pub mod Changes
 pub mod Given
+pub mod LentPages
+pub mod Readiness
 pub mod Lending
+pub mod Spans

@@ -5,6 +5,7 @@ ghost use Rattle.ffa_model.specs.Access.{access};
 ghost use Rattle.ffa_model.specs.Ram.{page_of, zero_ram};
 ghost use Rattle.ffa_model.specs.State.{is_known};
 ghost use Rattle.ffa_manifest.specs.Document.{parts_of};
+ghost use Rattle.ffa_spmc.specs.Storages.{IsRoomFor};
 ghost use Rattle.ffa_c.specs.Booting.{IsFirst};
 ghost use Rattle.ffa_c.specs.Border.{HasDoneIn, access_code, nothing_done, owner_number};
 ghost use Rattle.ffa_c.specs.Changes.{with_all_told};
@@ -19,8 +20,9 @@ use ffa_lent::{Frames, LentRam};
 use ffa_memshare::Changed;
 use ffa_model::{EndpointId, Manifest, Op, PageNo};
 use ffa_physmem::{FlatRam, PhysMem};
-use ffa_spmc::Machine;
+use ffa_spmc::{Given, Machine, Storage};
 use ffa_tlb::NoTlb;
+use std::alloc::Global;
 use std::marker::Model;
 
 /// A machine with no cache, and with RAM of the heap or RAM that is lent. Contracts see the machine, and which it is.
@@ -41,23 +43,25 @@ impl Model for Board {
 
 impl Board {
     /// The machine of a manifest in its first state, in RAM that is zeros.
-    pub fn boot(manifest: &Manifest, ram: FlatRam) -> Board
-        requires { ⟦<FlatRam as PhysMem>⟧.ram ram ≡ zero_ram manifest.now.ram_base.0 (512 * manifest.now.ram_blocks) }
+    pub fn boot(manifest: &Manifest, ram: FlatRam, storage: Storage<Given<Global>>) -> Board
+        requires storage { IsRoomFor manifest.now storage }
+        requires ram { ⟦<FlatRam as PhysMem>⟧.ram ram ≡ zero_ram manifest.now.ram_base.0 (512 * manifest.now.ram_blocks) }
         ensures first { IsFirst (parts_of manifest.now) result.machine }
         ensures kind { result.is_lent ≡ false }
     {
-        let kind = Kind::Heap(Machine::boot_cleared(manifest, ram, NoTlb));
+        let kind = Kind::Heap(Machine::boot_cleared_in(storage, manifest, ram, NoTlb));
         Board { kind }
     }
 
     /// The machine of a manifest in its first state, in RAM that is lent, which it clears.
-    pub fn boot_lent(manifest: &Manifest, ram: LentRam) -> Board
+    pub fn boot_lent(manifest: &Manifest, ram: LentRam, storage: Storage<Given<Global>>) -> Board
+        requires storage { IsRoomFor manifest.now storage }
         requires base { (⟦<LentRam as PhysMem>⟧.ram ram).base ≡ manifest.now.ram_base.0 }
         requires size { length (⟦<LentRam as PhysMem>⟧.ram ram).pages ≡ 512 * manifest.now.ram_blocks }
         ensures first { IsFirst (parts_of manifest.now) result.machine }
         ensures kind { result.is_lent ≡ true }
     {
-        let kind = Kind::Lent(Machine::boot_with(manifest, ram, NoTlb));
+        let kind = Kind::Lent(Machine::boot_in(storage, manifest, ram, NoTlb));
         Board { kind }
     }
 
@@ -68,13 +72,16 @@ impl Board {
         matches!(self.kind, Kind::Lent(_))
     }
 
-    /// Ends the machine: the pages that were lent, with the bytes that they had in the end.
-    pub fn into_frames(self) -> Frames
+    /// Ends the machine: the pages that were lent, with the bytes that they had in the end, and the room for another machine.
+    pub fn into_frames(self) -> (Frames, Storage<Given<Global>>)
         requires { self.is_lent ≡ true }
-        ensures { result.pages ≡ self.machine.ram.pages }
+        ensures pages { result.0.pages ≡ self.machine.ram.pages }
     {
         match self.kind {
-            Kind::Lent(machine) => machine.into_ram().into_frames(),
+            Kind::Lent(machine) => {
+                let (ram, storage) = machine.into_parts();
+                (ram.into_frames(), storage)
+            }
             Kind::Heap(_) => unreachable!(),
         }
     }

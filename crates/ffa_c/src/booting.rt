@@ -1,21 +1,22 @@
 // SPDX-License-Identifier: MIT OR Apache-2.0
 //! Boots machines for C: over RAM of the heap, and over RAM that is lent.
-ghost use Rattle.std.specs.Prelude.{◌≡◌, ◌≢◌, ◌*◌, ◌⊎◌, [], length, true, false, Ok, Some, None, IfOk, IfErr, IfSome, IsUtf8};
+ghost use Rattle.std.specs.Prelude.{◌≡◌, ◌≢◌, ◌*◌, ◌<◌, ◌⊎◌, [], length, true, false, Ok, Some, None, IfOk, IfErr, IfSome, IsUtf8};
 ghost use Rattle.ffa_manifest.specs.Document.{parts_of};
-ghost use Rattle.ffa_c.specs.Booting.{Describes, HasBooted, IsFirst, IsRefusedFor, TellsCause, TellsWhy, cause_number};
+ghost use Rattle.ffa_c.specs.Booting.{Describes, HasBooted, IsRefusedFor, TellsCause, TellsWhy, cause_number};
 ghost use Rattle.ffa_c.specs.Given.{Gives, IsGivenFor};
-ghost use Rattle.ffa_c.specs.Lending.{page_count, pages_of};
+ghost use Rattle.ffa_c.specs.Lending.{page_count, pages_of, ready_for};
 
 use crate::board::Board;
 use crate::lending::{FfaLent, NO_LIST, NO_MEMORY, OCCUPIED, WRONG_COUNT, put_list, take_list};
+use crate::lent_list::LentList;
 use crate::machine::{FfaMachine, put};
 use crate::parts::{FfaParts, manifest_given};
-use ffa_lent::{Frames, LentRam};
+use crate::seat::Seat;
 use ffa_manifest::ManifestError;
 use ffa_model::Manifest;
 use ffa_physmem::{FlatRam, NoMemory};
-use std::alloc::Global;
-use std::mem;
+use ffa_spmc::Storage;
+use std::alloc::{AllocError, Global};
 
 /// Boots the machine of a manifest's text, in RAM of the heap. 0 is that it was booted. Else nothing has changed: `OCCUPIED`,
 /// where a machine stands already, 1, where there is no memory, or 2 to 14, the cause for which the manifest is refused.
@@ -54,9 +55,8 @@ pub extern "C" fn ffa_boot_parts(alloc: Global, machine: &mut FfaMachine, parts:
 }
 
 /// Boots the machine of a manifest's text in the pages of a list, which it clears, and leaves the list empty. 0 is that it was
-/// booted. Else there is no machine, as before, and the list has as many pages as before, with the bytes that they had unless
-/// it's for want of memory: `OCCUPIED`, `NO_LIST`, 1 to 14 as `ffa_boot` answers, or `WRONG_COUNT`, where the manifest's RAM
-/// has more pages or fewer.
+/// booted. Else nothing has changed: `OCCUPIED`, `NO_LIST`, 1 to 14 as `ffa_boot` answers, or `WRONG_COUNT`, where the manifest's
+/// RAM has more pages or fewer. Where the list has as many pages as it was begun for, memory is taken for the text alone, while it is read.
 #[unsafe(no_mangle)]
 pub extern "C" fn ffa_boot_lent(
     alloc: Global,
@@ -69,8 +69,7 @@ pub extern "C" fn ffa_boot_lent(
     ensures booted { result ≡ 0 → (machine.old.held.value ≡ None) × HasBooted (Describes text.now) true machine.new.held.value }
     ensures emptied { result ≡ 0 → pages_of lent.new.held.value ≡ Some [] }
     ensures machine { result ≢ 0 → machine.new ≡ machine.old }
-    ensures list { result ≢ 0 → result ≢ NO_MEMORY → lent.new.held.value ≡ lent.old.held.value }
-    ensures pages { result ≢ 0 → page_count (pages_of lent.new.held.value) ≡ page_count (pages_of lent.old.held.value) }
+    ensures list { result ≢ 0 → lent.new.held.value ≡ lent.old.held.value }
     ensures cause { result ≢ 0 → machine.old.live ≡ false → IfSome (pages_of lent.old.held.value) (λ pages. TellsWhy (Describes text.now) (IsRefusedFor text.now) (length pages) result) }
 {
     if machine.live {
@@ -85,7 +84,7 @@ pub extern "C" fn ffa_boot_lent(
     }
 }
 
-/// The same for a manifest that is given as numbers.
+/// The same for a manifest that is given as numbers, for which no memory is taken: none at all where the list has no more pages than it was begun for.
 #[unsafe(no_mangle)]
 pub extern "C" fn ffa_boot_lent_parts(
     alloc: Global,
@@ -98,9 +97,9 @@ pub extern "C" fn ffa_boot_lent_parts(
     ensures booted { result ≡ 0 → (machine.old.held.value ≡ None) × HasBooted (Gives parts.now) true machine.new.held.value }
     ensures emptied { result ≡ 0 → pages_of lent.new.held.value ≡ Some [] }
     ensures machine { result ≢ 0 → machine.new ≡ machine.old }
-    ensures list { result ≢ 0 → result ≢ NO_MEMORY → lent.new.held.value ≡ lent.old.held.value }
-    ensures pages { result ≢ 0 → page_count (pages_of lent.new.held.value) ≡ page_count (pages_of lent.old.held.value) }
+    ensures list { result ≢ 0 → lent.new.held.value ≡ lent.old.held.value }
     ensures cause { result ≢ 0 → machine.old.live ≡ false → IfSome (pages_of lent.old.held.value) (λ pages. TellsWhy (Gives parts.now) (IsGivenFor parts.now) (length pages) result) }
+    ensures unready { result ≡ NO_MEMORY → ready_for lent.old.held.value < page_count (pages_of lent.old.held.value) }
 {
     if machine.live {
         OCCUPIED
@@ -155,24 +154,26 @@ fn boot_heap(alloc: Global, machine: &mut FfaMachine, manifest: &Manifest) -> u3
     ensures refused { result ≢ 0 → (result ≡ NO_MEMORY) × (machine.new ≡ machine.old) }
 {
     match boxed(alloc, manifest) {
-        Ok(board) => {
-            put(machine, board);
+        Ok(seat) => {
+            put(machine, seat);
             0
         }
         Err(NoMemory) => NO_MEMORY,
     }
 }
 
-// The machine of a manifest over RAM of the heap, in a box.
+// The machine of a manifest over RAM of the heap, in a seat of its own.
 #[inline(never)]
-pub(crate) fn boxed(alloc: Global, manifest: &Manifest) -> Result<Box<Board>, NoMemory>
-    ensures { IfOk result (λ b. IsFirst (parts_of manifest.now) b.value.machine × (b.value.is_lent ≡ false)) }
+pub(crate) fn boxed(alloc: Global, manifest: &Manifest) -> Result<Box<Seat>, NoMemory>
+    ensures { IfOk result (λ b. HasBooted (λ p. p ≡ parts_of manifest.now) false b.value) }
 {
     let ram = FlatRam::new(alloc, manifest.ram_base, 512 * manifest.ram_blocks)?;
-    match Box::new(alloc, Board::boot(manifest, ram)) {
-        Ok(board) => Ok(board),
-        Err(_) => Err(NoMemory),
-    }
+    let (Ok(mut seat), Ok(storage)) = (Seat::empty(alloc), Storage::given_for(alloc, manifest))
+    else {
+        return Err(NoMemory);
+    };
+    seat.fill(Board::boot(manifest, ram, storage));
+    Ok(seat)
 }
 
 // Boots a machine, where there is none, in the pages of a list.
@@ -186,70 +187,41 @@ fn boot_lent(
     ensures booted { result ≡ 0 → HasBooted (λ p. p ≡ parts_of manifest.now) true machine.new.held.value }
     ensures emptied { result ≡ 0 → pages_of lent.new.held.value ≡ Some [] }
     ensures machine { result ≢ 0 → machine.new ≡ machine.old }
-    ensures list { result ≢ 0 → result ≢ NO_MEMORY → lent.new.held.value ≡ lent.old.held.value }
-    ensures pages { result ≢ 0 → page_count (pages_of lent.new.held.value) ≡ page_count (pages_of lent.old.held.value) }
+    ensures list { result ≢ 0 → lent.new.held.value ≡ lent.old.held.value }
     ensures why { result ≢ 0 → IfSome (pages_of lent.old.held.value) (λ pages. (result ≡ NO_MEMORY) ⊎ ((result ≡ WRONG_COUNT) × (length pages ≢ 512 * manifest.now.ram_blocks))) }
+    ensures unready { result ≡ NO_MEMORY → ready_for lent.old.held.value < page_count (pages_of lent.old.held.value) }
 {
-    let Some(mut frames) = take_list(lent, alloc) else {
+    let Some(mut list) = take_list(lent, alloc) else {
         return NO_LIST;
     };
-    let answer = boot_over(alloc, machine, &mut frames, manifest);
-    put_list(lent, frames);
+    let answer = boot_over(alloc, machine, &mut list, manifest);
+    put_list(lent, list);
     answer
 }
 
-// Boots a machine, where there is none, in these pages.
+// Boots a machine, where there is none, in the pages of this list.
 fn boot_over(
     alloc: Global,
     machine: &mut FfaMachine,
-    frames: &mut Frames,
+    list: &mut LentList,
     manifest: &Manifest,
 ) -> u32
     requires { machine.old.held.value ≡ None }
     ensures booted { result ≡ 0 → HasBooted (λ p. p ≡ parts_of manifest.now) true machine.new.held.value }
-    ensures emptied { result ≡ 0 → frames.new.pages ≡ [] }
+    ensures emptied { result ≡ 0 → list.new.pages ≡ [] }
     ensures machine { result ≢ 0 → machine.new ≡ machine.old }
-    ensures list { result ≢ 0 → result ≢ NO_MEMORY → frames.new ≡ frames.old }
-    ensures pages { result ≢ 0 → length frames.new.pages ≡ length frames.old.pages }
-    ensures why { result ≢ 0 → (result ≡ NO_MEMORY) ⊎ ((result ≡ WRONG_COUNT) × (length frames.old.pages ≢ 512 * manifest.now.ram_blocks)) }
+    ensures list { result ≢ 0 → list.new ≡ list.old }
+    ensures why { result ≢ 0 → (result ≡ NO_MEMORY) ⊎ ((result ≡ WRONG_COUNT) × (length list.old.pages ≢ 512 * manifest.now.ram_blocks)) }
+    ensures unready { result ≡ NO_MEMORY → list.old.ready_for < length list.old.pages }
 {
-    if frames.pages() != 512 * manifest.ram_blocks as usize {
+    if list.pages() != 512 * manifest.ram_blocks as usize {
         return WRONG_COUNT;
     }
-    match boxed_over(alloc, manifest, frames) {
-        Ok(board) => {
-            put(machine, board);
+    match list.boot(alloc, manifest) {
+        Ok(seat) => {
+            put(machine, seat);
             0
         }
-        Err(NoMemory) => NO_MEMORY,
-    }
-}
-
-// The machine of a manifest in the pages of a list, in a box.
-#[inline(never)]
-fn boxed_over(
-    alloc: Global,
-    manifest: &Manifest,
-    frames: &mut Frames,
-) -> Result<Box<Board>, NoMemory>
-    requires { length frames.old.pages ≡ 512 * manifest.now.ram_blocks }
-    ensures booted { IfOk result (λ b. IsFirst (parts_of manifest.now) b.value.machine × (b.value.is_lent ≡ true)) }
-    ensures emptied { IfOk result (λ _. frames.new.pages ≡ []) }
-    ensures pages { IfErr result (λ _. length frames.new.pages ≡ length frames.old.pages) }
-{
-    let pages = mem::replace(frames, Frames::none(alloc));
-    let ram = match LentRam::new(alloc, manifest.ram_base, pages) {
-        Ok(ram) => ram,
-        Err(pages) => {
-            *frames = pages;
-            return Err(NoMemory);
-        }
-    };
-    match Box::new(alloc, Board::boot_lent(manifest, ram)) {
-        Ok(board) => Ok(board),
-        Err(refused) => {
-            *frames = refused.value.into_frames();
-            Err(NoMemory)
-        }
+        Err(AllocError) => NO_MEMORY,
     }
 }

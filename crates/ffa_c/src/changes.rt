@@ -65,9 +65,9 @@ pub extern "C" fn ffa_changed(
 {
     match take(machine, alloc) {
         None => false,
-        Some(mut board) => {
-            let changed = board.take_change();
-            put(machine, board);
+        Some(mut seat) => {
+            let changed = seat.take_change();
+            put(machine, seat);
             tell(&changed, change)
         }
     }

@@ -74,9 +74,9 @@ fn operate_as(alloc: Global, machine: &mut FfaMachine, endpoint: u16, op: &Op) -
 {
     match take(machine, alloc) {
         None => FfaOutcome::nothing(4),
-        Some(mut board) => {
-            let outcome = board.op_as(EndpointId(endpoint), op);
-            put(machine, board);
+        Some(mut seat) => {
+            let outcome = seat.op_as(EndpointId(endpoint), op);
+            put(machine, seat);
             outcome
         }
     }

@@ -83,9 +83,9 @@ fn operate(alloc: Global, machine: &mut FfaMachine, op: &Op) -> FfaOutcome
 {
     match take(machine, alloc) {
         None => FfaOutcome::nothing(4),
-        Some(mut board) => {
-            let outcome = board.op(op);
-            put(machine, board);
+        Some(mut seat) => {
+            let outcome = seat.op(op);
+            put(machine, seat);
             outcome
         }
     }
@@ -112,9 +112,9 @@ pub extern "C" fn ffa_runner(alloc: Global, machine: &mut FfaMachine) -> u32
 {
     match take(machine, alloc) {
         None => NOTHING,
-        Some(board) => {
-            let runner = board.runner();
-            put(machine, board);
+        Some(seat) => {
+            let runner = seat.board().runner();
+            put(machine, seat);
             runner
         }
     }
@@ -128,9 +128,9 @@ pub extern "C" fn ffa_endpoints(alloc: Global, machine: &mut FfaMachine) -> u32
 {
     match take(machine, alloc) {
         None => NOTHING,
-        Some(board) => {
-            let endpoints = board.endpoints();
-            put(machine, board);
+        Some(seat) => {
+            let endpoints = seat.board().endpoints();
+            put(machine, seat);
             endpoints
         }
     }
@@ -144,9 +144,9 @@ pub extern "C" fn ffa_owner(alloc: Global, machine: &mut FfaMachine, page: u32) 
 {
     match take(machine, alloc) {
         None => NOTHING,
-        Some(board) => {
-            let owner = board.owner_of(page);
-            put(machine, board);
+        Some(seat) => {
+            let owner = seat.board().owner_of(page);
+            put(machine, seat);
             owner
         }
     }
@@ -165,9 +165,9 @@ pub extern "C" fn ffa_access(
 {
     match take(machine, alloc) {
         None => NOTHING,
-        Some(board) => {
-            let access = board.access(endpoint, page);
-            put(machine, board);
+        Some(seat) => {
+            let access = seat.board().access(endpoint, page);
+            put(machine, seat);
             access
         }
     }
@@ -188,12 +188,13 @@ pub extern "C" fn ffa_read_page(
 {
     match take(machine, alloc) {
         None => false,
-        Some(board) => {
+        Some(seat) => {
+            let board = seat.board();
             let is_there = page < board.pages();
             if is_there {
                 bytes.bytes = *board.page(page);
             }
-            put(machine, board);
+            put(machine, seat);
             is_there
         }
     }

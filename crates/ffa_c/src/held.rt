@@ -4,14 +4,14 @@ ghost use Rattle.std.specs.Prelude.{◌≡◌, Option, Some, None, IsSome};
 ghost use Rattle.std.specs.Coded.{coded_option};
 ghost use Rattle.ffa_c.specs.Boarded.{Boarded, coded_boarded};
 
-use crate::board::Board;
+use crate::seat::Seat;
 use std::alloc::{Allocator, Global};
 use std::marker::Model;
 
-/// The pointer to a board, which owns it, or a pointer that owns nothing.
+/// The pointer to a board in its seat, which owns both, or a pointer that owns nothing.
 #[repr(C)]
 pub struct Held {
-    // It points to a `Board`. C is told of bytes, since it is to read and write none of them.
+    // It points to a `Seat`. C is told of bytes, since it is to read and write none of them.
     at: *mut u8,
     // It takes no bytes.
     alloc: Global,
@@ -20,9 +20,10 @@ pub struct Held {
 
 impl Model for Held {
     ghost use Rattle.ffa_lent.specs.Slots.{slot_owns};
-    ghost use Rattle.ffa_c.specs.contracts.board.Board.{the_row as board_row};
+    ghost use Rattle.ffa_c.specs.Boarded.{seated};
+    ghost use Rattle.ffa_c.specs.contracts.seat.Seat.{the_row as seat_row};
 
-    ghost also_owns = { λ h. slot_owns (⟦<Global as Allocator>⟧.dealloc_token h.alloc) board_row h.at h.value };
+    ghost also_owns = { λ h. slot_owns (⟦<Global as Allocator>⟧.dealloc_token h.alloc) seat_row h.at (seated h.value) };
 }
 
 impl Held {
@@ -36,24 +37,25 @@ impl Held {
         }
     }
 
-    /// The board behind this pointer.
-    pub fn close(board: Box<Board>) -> Held
-        ensures { result.value ≡ Some board.value }
+    /// The board in this seat, behind its pointer.
+    pub fn close(seat: Box<Seat>) -> Held
+        requires { IsSome seat.value }
+        ensures { result.value ≡ seat.value }
     {
-        let (at, alloc) = Box::into_raw_with_allocator(board);
+        let (at, alloc) = Box::into_raw_with_allocator(seat);
         Held {
             at: at as *mut u8,
             alloc,
         }
     }
 
-    /// The board that is held, as its box.
-    pub fn open(self) -> Box<Board>
+    /// The board that is held, in its seat.
+    pub fn open(self) -> Box<Seat>
         requires { IsSome self.value }
-        ensures { self.value ≡ Some result.value }
+        ensures { result.value ≡ self.value }
     {
         let Held { at, alloc } = self;
-        unsafe { Box::from_raw(alloc, at as *mut Board) }
+        unsafe { Box::from_raw(alloc, at as *mut Seat) }
     }
 
     /// Lets a pointer go that owns nothing.

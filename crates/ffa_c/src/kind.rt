@@ -11,7 +11,9 @@ use crate::outcome::FfaOutcome;
 use ffa_lent::LentRam;
 use ffa_model::{Data, EndpointId, Op, PageNo, Rights};
 use ffa_physmem::{FlatRam, PhysMem};
-use ffa_spmc::Machine;
+use ffa_spmc::{Given, Machine, Store};
+use ffa_tlb::NoTlb;
+use std::alloc::Global;
 
 /// What a question answers where there is no machine, or no such page.
 pub const NOTHING: u32 = 0xFFFF_FFFF;
@@ -20,14 +22,17 @@ pub const NOTHING: u32 = 0xFFFF_FFFF;
 #[derive(Drop)]
 pub enum Kind {
     /// The RAM is one piece of the heap.
-    Heap(Machine<FlatRam>),
+    Heap(Machine<FlatRam, NoTlb, Given<Global>>),
     /// The RAM is lent, page by page.
-    Lent(Machine<LentRam>),
+    Lent(Machine<LentRam, NoTlb, Given<Global>>),
 }
 
 /// An operation of a machine, with the outcome for C.
 #[inline]
-pub(crate) fn done_by<M: PhysMem + Drop>(machine: &mut Machine<M>, op: &Op) -> FfaOutcome
+pub(crate) fn done_by<M: PhysMem + Drop, S: Store>(
+    machine: &mut Machine<M, NoTlb, S>,
+    op: &Op,
+) -> FfaOutcome
     ensures { HasDone machine.old machine.new op.now result }
 {
     FfaOutcome::of(&machine.op(op))
@@ -35,7 +40,10 @@ pub(crate) fn done_by<M: PhysMem + Drop>(machine: &mut Machine<M>, op: &Op) -> F
 
 /// The same, while others may write to the runner's TX.
 #[inline]
-pub(crate) fn done_among<M: PhysMem + Drop>(machine: &mut Machine<M>, op: &Op) -> FfaOutcome
+pub(crate) fn done_among<M: PhysMem + Drop, S: Store>(
+    machine: &mut Machine<M, NoTlb, S>,
+    op: &Op,
+) -> FfaOutcome
     ensures { HasDoneAmong machine.old machine.new op.now result }
 {
     FfaOutcome::of(&machine.op_among_others(op))
@@ -43,8 +51,8 @@ pub(crate) fn done_among<M: PhysMem + Drop>(machine: &mut Machine<M>, op: &Op) -
 
 /// An operation of an endpoint of a machine, whoever runs, with the outcome for C.
 #[inline]
-pub(crate) fn acted_by<M: PhysMem + Drop>(
-    machine: &mut Machine<M>,
+pub(crate) fn acted_by<M: PhysMem + Drop, S: Store>(
+    machine: &mut Machine<M, NoTlb, S>,
     endpoint: EndpointId,
     op: &Op,
 ) -> FfaOutcome
@@ -55,28 +63,31 @@ pub(crate) fn acted_by<M: PhysMem + Drop>(
 }
 
 /// The endpoint that runs.
-pub(crate) fn runner_of<M: PhysMem + Drop>(machine: &Machine<M>) -> u32
+pub(crate) fn runner_of<M: PhysMem + Drop, S: Store>(machine: &Machine<M, NoTlb, S>) -> u32
     ensures { result ≡ machine.now.state.runner }
 {
     u32::from(machine.runner().0)
 }
 
 /// The number of endpoints.
-pub(crate) fn endpoints_of<M: PhysMem + Drop>(machine: &Machine<M>) -> u32
+pub(crate) fn endpoints_of<M: PhysMem + Drop, S: Store>(machine: &Machine<M, NoTlb, S>) -> u32
     ensures { result ≡ length machine.now.state.parties }
 {
     machine.endpoints() as u32
 }
 
 /// The number of pages.
-pub(crate) fn pages_of<M: PhysMem + Drop>(machine: &Machine<M>) -> u32
+pub(crate) fn pages_of<M: PhysMem + Drop, S: Store>(machine: &Machine<M, NoTlb, S>) -> u32
     ensures { result ≡ length machine.now.ram.pages }
 {
     machine.ram().pages()
 }
 
 /// The bytes of a page.
-pub(crate) fn page_in<M: PhysMem + Drop>(machine: &Machine<M>, page: PageNo) -> &[u8; 4096]
+pub(crate) fn page_in<M: PhysMem + Drop, S: Store>(
+    machine: &Machine<M, NoTlb, S>,
+    page: PageNo,
+) -> &[u8; 4096]
     requires { page.0 < length machine.now.ram.pages }
     ensures { result.now ≡ page_of machine.now.ram page.0 }
 {
@@ -84,7 +95,10 @@ pub(crate) fn page_in<M: PhysMem + Drop>(machine: &Machine<M>, page: PageNo) -> 
 }
 
 /// The owner of a page, or `NOTHING` where there is no such page; 0x8000 is the manager.
-pub(crate) fn owner_by<M: PhysMem + Drop>(machine: &Machine<M>, page: PageNo) -> u32
+pub(crate) fn owner_by<M: PhysMem + Drop, S: Store>(
+    machine: &Machine<M, NoTlb, S>,
+    page: PageNo,
+) -> u32
     ensures { result ≡ owner_number machine.now page.0 }
 {
     if page.0 < machine.ram().pages() {
@@ -95,8 +109,8 @@ pub(crate) fn owner_by<M: PhysMem + Drop>(machine: &Machine<M>, page: PageNo) ->
 }
 
 /// The right of an endpoint to a page, as a code.
-pub(crate) fn access_by<M: PhysMem + Drop>(
-    machine: &Machine<M>,
+pub(crate) fn access_by<M: PhysMem + Drop, S: Store>(
+    machine: &Machine<M, NoTlb, S>,
     endpoint: EndpointId,
     page: PageNo,
 ) -> u32

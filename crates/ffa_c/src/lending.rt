@@ -2,13 +2,15 @@
 //! Pages that C lends, and gets back.
 ghost use Rattle.std.specs.Prelude.{◌≡◌, ◌≢◌, ◌≤◌, true, false, Option, Some, None, IfSome, is_some};
 ghost use Rattle.std.specs.Option.{option_map};
-ghost use Rattle.ffa_lent.specs.Listed.{empty};
-ghost use Rattle.ffa_c.specs.Lending.{IsFull, IsLent, begun_answer, freed_answer, given_back, lent_answer, list_answer, page_count, pages_of, room_of, taken_answer};
+ghost use Rattle.ffa_c.specs.LentPages.{empty};
+ghost use Rattle.ffa_c.specs.Boarded.{lends, ram_pages};
+ghost use Rattle.ffa_c.specs.Lending.{IsFull, IsLent, begun_answer, freed_answer, given_back, lent_answer, list_answer, page_count, pages_of, ready_for, room_of, taken_answer};
 
-use crate::board::Board;
-use crate::held_frames::HeldFrames;
+use crate::held_list::HeldList;
+use crate::lent_list::LentList;
 use crate::machine::{FfaMachine, put, take};
-use ffa_lent::{Frames, Lent, Slot};
+use crate::seat::Seat;
+use ffa_lent::{Lent, Slot};
 use std::alloc::Global;
 use std::mem;
 
@@ -39,7 +41,7 @@ pub struct FfaLent {
     /// Whether there is a list.
     pub live: bool,
     /// Where it is.
-    pub held: HeldFrames,
+    pub held: HeldList,
     pub ghost agree: { live ≡ is_some held.value },
 }
 
@@ -55,12 +57,12 @@ pub struct FfaSlot {
 
 // Takes the list out.
 #[inline]
-pub(crate) fn take_list(lent: &mut FfaLent, alloc: Global) -> Option<Box<Frames>>
+pub(crate) fn take_list(lent: &mut FfaLent, alloc: Global) -> Option<Box<LentList>>
     ensures taken { lent.old.held.value ≡ option_map (λ b. b.value) result }
     ensures none_left { lent.new.held.value ≡ None }
 {
     if lent.live {
-        let held = mem::replace(&mut lent.held, HeldFrames::none(alloc));
+        let held = mem::replace(&mut lent.held, HeldList::none(alloc));
         lent.live = false;
         Some(held.open())
     } else {
@@ -70,11 +72,11 @@ pub(crate) fn take_list(lent: &mut FfaLent, alloc: Global) -> Option<Box<Frames>
 
 // Puts a list where there is none.
 #[inline]
-pub(crate) fn put_list(lent: &mut FfaLent, frames: Box<Frames>)
+pub(crate) fn put_list(lent: &mut FfaLent, list: Box<LentList>)
     requires { lent.old.held.value ≡ None }
-    ensures { lent.new.held.value ≡ Some frames.value }
+    ensures { lent.new.held.value ≡ Some list.value }
 {
-    mem::replace(&mut lent.held, HeldFrames::close(frames)).end();
+    mem::replace(&mut lent.held, HeldList::close(list)).end();
     lent.live = true;
 }
 
@@ -103,8 +105,8 @@ fn put_page(slot: &mut FfaSlot, page: Box<[u8; 4096], Lent>)
     slot.live = true;
 }
 
-/// Makes an empty list with room for so many pages. 0 is that it was made. Else nothing has changed: `OCCUPIED`, where there
-/// is a list, or `NO_MEMORY`.
+/// Makes an empty list with room for so many pages, and with all that a machine in them takes beside them. 0 is that it was made.
+/// Else nothing has changed: `OCCUPIED`, where there is a list, or `NO_MEMORY`.
 #[unsafe(no_mangle)]
 pub extern "C" fn ffa_begin_lending(alloc: Global, lent: &mut FfaLent, pages: u32) -> u32
     ensures answer { result ≢ NO_MEMORY → result ≡ begun_answer (pages_of lent.old.held.value) }
@@ -116,8 +118,8 @@ pub extern "C" fn ffa_begin_lending(alloc: Global, lent: &mut FfaLent, pages: u3
         return OCCUPIED;
     }
     match empty_list(alloc, pages as usize) {
-        Some(frames) => {
-            put_list(lent, frames);
+        Some(list) => {
+            put_list(lent, list);
             0
         }
         None => NO_MEMORY,
@@ -125,20 +127,20 @@ pub extern "C" fn ffa_begin_lending(alloc: Global, lent: &mut FfaLent, pages: u3
 }
 
 // A list without pages, with room for so many.
-fn empty_list(alloc: Global, pages: usize) -> Option<Box<Frames>>
+fn empty_list(alloc: Global, pages: usize) -> Option<Box<LentList>>
     ensures { IfSome result (λ b. b.value ≡ empty pages) }
 {
-    let Ok(frames) = Frames::with_room(alloc, pages) else {
+    let Ok(list) = LentList::with_room(alloc, pages) else {
         return None;
     };
-    boxed_list(alloc, frames)
+    boxed_list(alloc, list)
 }
 
 // A list in a box, if there is memory for that.
-fn boxed_list(alloc: Global, frames: Frames) -> Option<Box<Frames>>
-    ensures { IfSome result (λ b. b.value ≡ frames) }
+fn boxed_list(alloc: Global, list: LentList) -> Option<Box<LentList>>
+    ensures { IfSome result (λ b. b.value ≡ list) }
 {
-    Box::new(alloc, frames).ok()
+    Box::new(alloc, list).ok()
 }
 
 /// Moves a page from its slot to the end of the list. 0 is that it was moved. Else no page was: `NO_LIST`, `NO_PAGE`, where
@@ -152,29 +154,31 @@ pub extern "C" fn ffa_lend(alloc: Global, lent: &mut FfaLent, slot: &mut FfaSlot
     ensures list { result ≢ 0 → pages_of lent.new.held.value ≡ pages_of lent.old.held.value }
     ensures page { result ≢ 0 → slot.new.page.bytes ≡ slot.old.page.bytes }
     ensures room { room_of lent.old.held.value ≤ room_of lent.new.held.value }
+    ensures ready { ready_for lent.new.held.value ≡ ready_for lent.old.held.value }
 {
-    let Some(mut frames) = take_list(lent, alloc) else {
+    let Some(mut list) = take_list(lent, alloc) else {
         return NO_LIST;
     };
-    let answer = lend_to(&mut frames, slot);
-    put_list(lent, frames);
+    let answer = lend_to(&mut list, slot);
+    put_list(lent, list);
     answer
 }
 
 // Moves a page to the end of a list.
-fn lend_to(frames: &mut Frames, slot: &mut FfaSlot) -> u32
-    ensures answer { result ≢ NO_MEMORY → result ≡ lent_answer (Some frames.old.pages) slot.old.page.bytes }
-    ensures wanting { result ≡ NO_MEMORY → lent_answer (Some frames.old.pages) slot.old.page.bytes ≡ 0 }
-    ensures full { result ≡ NO_MEMORY → IsFull (Some frames.old) }
-    ensures lent { result ≡ 0 → IsLent (Some frames.old.pages) (Some frames.new.pages) slot.old.page.bytes slot.new.page.bytes }
-    ensures list { result ≢ 0 → frames.new.pages ≡ frames.old.pages }
+fn lend_to(list: &mut LentList, slot: &mut FfaSlot) -> u32
+    ensures answer { result ≢ NO_MEMORY → result ≡ lent_answer (Some list.old.pages) slot.old.page.bytes }
+    ensures wanting { result ≡ NO_MEMORY → lent_answer (Some list.old.pages) slot.old.page.bytes ≡ 0 }
+    ensures full { result ≡ NO_MEMORY → IsFull (Some list.old) }
+    ensures lent { result ≡ 0 → IsLent (Some list.old.pages) (Some list.new.pages) slot.old.page.bytes slot.new.page.bytes }
+    ensures list { result ≢ 0 → list.new.pages ≡ list.old.pages }
     ensures page { result ≢ 0 → slot.new.page.bytes ≡ slot.old.page.bytes }
-    ensures room { frames.old.room ≤ frames.new.room }
+    ensures room { list.old.room ≤ list.new.room }
+    ensures ready { list.new.ready_for ≡ list.old.ready_for }
 {
     let Some(page) = take_page(slot) else {
         return NO_PAGE;
     };
-    match frames.lend(page) {
+    match list.lend(page) {
         Ok(()) => 0,
         Err(page) => {
             put_page(slot, page);
@@ -192,27 +196,29 @@ pub extern "C" fn ffa_take_back(alloc: Global, lent: &mut FfaLent, slot: &mut Ff
     ensures list { result ≢ 0 → pages_of lent.new.held.value ≡ pages_of lent.old.held.value }
     ensures page { result ≢ 0 → slot.new.page.bytes ≡ slot.old.page.bytes }
     ensures room { room_of lent.new.held.value ≡ room_of lent.old.held.value }
+    ensures ready { ready_for lent.new.held.value ≡ ready_for lent.old.held.value }
 {
-    let Some(mut frames) = take_list(lent, alloc) else {
+    let Some(mut list) = take_list(lent, alloc) else {
         return NO_LIST;
     };
-    let answer = take_from(&mut frames, slot);
-    put_list(lent, frames);
+    let answer = take_from(&mut list, slot);
+    put_list(lent, list);
     answer
 }
 
 // Moves the last page of a list to a slot.
-fn take_from(frames: &mut Frames, slot: &mut FfaSlot) -> u32
-    ensures answer { result ≡ taken_answer (Some frames.old.pages) slot.old.page.bytes }
-    ensures taken { result ≡ 0 → IsLent (Some frames.new.pages) (Some frames.old.pages) slot.new.page.bytes slot.old.page.bytes }
-    ensures list { result ≢ 0 → frames.new.pages ≡ frames.old.pages }
+fn take_from(list: &mut LentList, slot: &mut FfaSlot) -> u32
+    ensures answer { result ≡ taken_answer (Some list.old.pages) slot.old.page.bytes }
+    ensures taken { result ≡ 0 → IsLent (Some list.new.pages) (Some list.old.pages) slot.new.page.bytes slot.old.page.bytes }
+    ensures list { result ≢ 0 → list.new.pages ≡ list.old.pages }
     ensures page { result ≢ 0 → slot.new.page.bytes ≡ slot.old.page.bytes }
-    ensures room { frames.new.room ≡ frames.old.room }
+    ensures room { list.new.room ≡ list.old.room }
+    ensures ready { list.new.ready_for ≡ list.old.ready_for }
 {
     if slot.live {
         return OCCUPIED;
     }
-    match frames.take_back() {
+    match list.take_back() {
         None => NO_PAGE,
         Some(page) => {
             put_page(slot, page);
@@ -229,9 +235,9 @@ pub extern "C" fn ffa_lent_pages(alloc: Global, lent: &mut FfaLent) -> u64
 {
     match take_list(lent, alloc) {
         None => 0,
-        Some(frames) => {
-            let pages = frames.pages() as u64;
-            put_list(lent, frames);
+        Some(list) => {
+            let pages = list.pages() as u64;
+            put_list(lent, list);
             pages
         }
     }
@@ -244,20 +250,21 @@ pub extern "C" fn ffa_end_lending(alloc: Global, lent: &mut FfaLent) -> u32
     ensures ended { result ≡ 0 → lent.new.held.value ≡ None }
     ensures refused { result ≢ 0 → lent.new.held.value ≡ lent.old.held.value }
 {
-    let Some(frames) = take_list(lent, alloc) else {
+    let Some(list) = take_list(lent, alloc) else {
         return NO_LIST;
     };
-    if frames.pages() == 0 {
+    if list.pages() == 0 {
         0
     } else {
-        put_list(lent, frames);
+        put_list(lent, list);
         HAS_PAGES
     }
 }
 
 /// Ends a machine. RAM of the heap is given back to it. RAM that was lent goes, page by page and in order, with the bytes that
-/// it had in the end, to the list, which has to be there and empty. 0 is that the machine has ended. Else nothing has changed:
-/// `NO_MACHINE`, and for RAM that was lent `NO_LIST` or `HAS_PAGES`.
+/// it had in the end, to the list, which has to be there and empty, and so does the machine's own memory: the next boot in the
+/// list takes none. 0 is that the machine has ended. Else nothing has changed: `NO_MACHINE`, and for RAM that was lent `NO_LIST`
+/// or `HAS_PAGES`.
 #[unsafe(no_mangle)]
 pub extern "C" fn ffa_free(alloc: Global, machine: &mut FfaMachine, lent: &mut FfaLent) -> u32
     ensures answer { result ≡ freed_answer machine.old.held.value (pages_of lent.old.held.value) }
@@ -267,37 +274,37 @@ pub extern "C" fn ffa_free(alloc: Global, machine: &mut FfaMachine, lent: &mut F
     ensures machine { result ≢ 0 → machine.new.held.value ≡ machine.old.held.value }
     ensures list { result ≢ 0 → lent.new.held.value ≡ lent.old.held.value }
 {
-    let Some(board) = take(machine, alloc) else {
+    let Some(seat) = take(machine, alloc) else {
         return NO_MACHINE;
     };
-    if board.is_lent() {
-        free_lent(alloc, machine, lent, board)
+    if seat.board().is_lent() {
+        free_lent(alloc, machine, lent, seat)
     } else {
-        drop(board);
+        drop(seat);
         0
     }
 }
 
 // Ends a machine over lent RAM, which was taken out, or puts it back.
-fn free_lent(alloc: Global, machine: &mut FfaMachine, lent: &mut FfaLent, board: Box<Board>) -> u32
+fn free_lent(alloc: Global, machine: &mut FfaMachine, lent: &mut FfaLent, seat: Box<Seat>) -> u32
     requires taken { machine.old.held.value ≡ None }
-    requires lent { board.value.is_lent ≡ true }
+    requires lent { lends seat.value ≡ Some true }
     ensures answer { result ≡ list_answer (pages_of lent.old.held.value) }
     ensures ended { result ≡ 0 → machine.new.held.value ≡ None }
-    ensures given_back { result ≡ 0 → pages_of lent.new.held.value ≡ Some board.value.machine.ram.pages }
-    ensures machine { result ≢ 0 → machine.new.held.value ≡ Some board.value }
+    ensures given_back { result ≡ 0 → pages_of lent.new.held.value ≡ ram_pages seat.value }
+    ensures machine { result ≢ 0 → machine.new.held.value ≡ seat.value }
     ensures list { result ≢ 0 → lent.new.held.value ≡ lent.old.held.value }
 {
-    let Some(mut frames) = take_list(lent, alloc) else {
-        put(machine, board);
+    let Some(mut list) = take_list(lent, alloc) else {
+        put(machine, seat);
         return NO_LIST;
     };
-    if frames.pages() != 0 {
-        put(machine, board);
-        put_list(lent, frames);
+    if list.pages() != 0 {
+        put(machine, seat);
+        put_list(lent, list);
         return HAS_PAGES;
     }
-    *frames = Box::into_inner(board).into_frames();
-    put_list(lent, frames);
+    list.take_in(seat);
+    put_list(lent, list);
     0
 }

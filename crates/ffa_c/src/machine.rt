@@ -1,10 +1,10 @@
 // SPDX-License-Identifier: MIT OR Apache-2.0
 //! The machine that C holds.
-ghost use Rattle.std.specs.Prelude.{◌≡◌, Option, Some, None, is_some};
-ghost use Rattle.std.specs.Option.{option_map};
+ghost use Rattle.std.specs.Prelude.{◌≡◌, None, IfSome, IsSome, is_some};
+ghost use Rattle.std.specs.Option.{option_and_then};
 
-use crate::board::Board;
 use crate::held::Held;
+use crate::seat::Seat;
 use std::alloc::Global;
 use std::mem;
 
@@ -18,10 +18,11 @@ pub struct FfaMachine {
     pub ghost agree: { live ≡ is_some held.value },
 }
 
-/// Takes the machine out.
+/// Takes the machine out, in its seat.
 #[inline]
-pub fn take(machine: &mut FfaMachine, alloc: Global) -> Option<Box<Board>>
-    ensures taken { machine.old.held.value ≡ option_map (λ b. b.value) result }
+pub fn take(machine: &mut FfaMachine, alloc: Global) -> Option<Box<Seat>>
+    ensures taken { machine.old.held.value ≡ option_and_then (λ b. b.value) result }
+    ensures there { IfSome result (λ b. IsSome b.value) }
     ensures none_left { machine.new.held.value ≡ None }
 {
     if machine.live {
@@ -33,12 +34,13 @@ pub fn take(machine: &mut FfaMachine, alloc: Global) -> Option<Box<Board>>
     }
 }
 
-/// Puts a machine where there is none.
+/// Puts a machine, in its seat, where there is none.
 #[inline]
-pub fn put(machine: &mut FfaMachine, board: Box<Board>)
-    requires { machine.old.held.value ≡ None }
-    ensures { machine.new.held.value ≡ Some board.value }
+pub fn put(machine: &mut FfaMachine, seat: Box<Seat>)
+    requires none { machine.old.held.value ≡ None }
+    requires there { IsSome seat.value }
+    ensures { machine.new.held.value ≡ seat.value }
 {
-    mem::replace(&mut machine.held, Held::close(board)).end();
+    mem::replace(&mut machine.held, Held::close(seat)).end();
     machine.live = true;
 }

@@ -5,7 +5,7 @@ ghost use Rattle.std.specs.Prelude.{◌<◌, length, IfSome};
 use ffa_model::{EndpointId, Manifest, Op, Outcome, PageNo, Rights};
 use ffa_physmem::{FlatRam, NoMemory, PhysMem};
 use ffa_scenes::{PAGE, Stage};
-use ffa_spmc::Machine;
+use ffa_spmc::{Given, Machine, Storage};
 use ffa_tlb::NoTlb;
 use ffa_turns::{Counts, Entry, GenerateError, fitted, wanted};
 use std::alloc::Allocator;
@@ -13,7 +13,7 @@ use std::alloc::Allocator;
 /// A machine, the lines of a turn, and how often what came.
 #[derive(Drop)]
 pub struct MachineStage<A: Allocator + Copy> {
-    machine: Machine<FlatRam<A>, NoTlb>,
+    machine: Machine<FlatRam<A>, NoTlb, Given<A>>,
     entries: Vec<Entry, A>,
     room: u64,
     /// There was memory for each line of this turn.
@@ -22,13 +22,16 @@ pub struct MachineStage<A: Allocator + Copy> {
 }
 
 // The machine's contract is long, and nobody here needs it.
-fn operate<A: Allocator + Copy>(machine: &mut Machine<FlatRam<A>, NoTlb>, op: &Op) -> Outcome {
+fn operate<A: Allocator + Copy>(
+    machine: &mut Machine<FlatRam<A>, NoTlb, Given<A>>,
+    op: &Op,
+) -> Outcome {
     machine.op(op)
 }
 
 // The page at an address.
 fn page_at<A: Allocator + Copy>(
-    machine: &Machine<FlatRam<A>, NoTlb>,
+    machine: &Machine<FlatRam<A>, NoTlb, Given<A>>,
     address: u64,
 ) -> Option<PageNo>
     ensures in_ram { IfSome result (λ page. page.0 < length machine.now.ram.pages) }
@@ -50,8 +53,11 @@ impl<A: Allocator + Copy> MachineStage<A> {
     pub fn new(alloc: A, manifest: &Manifest) -> Result<MachineStage<A>, NoMemory> {
         let (base, pages) = (manifest.ram_base, 512 * manifest.ram_blocks);
         let ram = FlatRam::new_in(alloc, base, pages)?;
+        let Ok(storage) = Storage::given_for(alloc, manifest) else {
+            return Err(NoMemory);
+        };
         Ok(MachineStage {
-            machine: Machine::boot_cleared(manifest, ram, NoTlb),
+            machine: Machine::boot_cleared_in(storage, manifest, ram, NoTlb),
             entries: Vec::new(alloc),
             room: 0,
             is_whole: true,

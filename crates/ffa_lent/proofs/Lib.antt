@@ -4,4 +4,5 @@ pub mod Observed
 pub mod Steps
 pub mod BoxCalls
 pub mod Owners
+pub mod Strips
 pub mod Slots

@@ -1,8 +1,8 @@
 // SPDX-License-Identifier: MIT OR Apache-2.0
 //! Pages that are lent, and RAM over them.
-ghost use Rattle.std.specs.Prelude.{◌≡◌, ℕ, ◌+◌, ◌*◌, ◌%◌, ◌^◌, ◌<◌, ◌≤◌, ◌++◌, [], ◌∷◌, None, IfOk, IfErr, IfSome, Some, ◌-◌, is_ok, slice_index_or, if◌then◌else◌, length, map, vec_len};
+ghost use Rattle.std.specs.Prelude.{◌≡◌, true, false, ℕ, ◌+◌, ◌*◌, ◌%◌, ◌^◌, ◌<◌, ◌≤◌, ◌++◌, [], ◌∷◌, None, IfOk, IfErr, IfSome, Some, max, ◌-◌, is_ok, slice_index_or, if◌then◌else◌, length, map, vec_len};
 ghost use Rattle.std.specs.Option.{option_map, option_to_list};
-ghost use Rattle.ffa_lent.specs.Listed.{empty};
+ghost use Rattle.ffa_lent.specs.Listed.{empty, nothing_listed};
 
 use crate::lent::Lent;
 use crate::settling;
@@ -11,38 +11,41 @@ use ffa_physmem::{PAGE_SIZE, PhysMem, put_word};
 use std::alloc::{AllocError, Global};
 use std::marker::Model;
 
-/// Pages that are lent, in the order in which they came. Contracts see the bytes of each, and for how many there is room.
+/// Pages that are lent, in the order in which they came, and beside them room for the copies that RAM over them keeps. Contracts
+/// see the bytes of each page, for how many there is room, and whether the room for copies is there.
 #[derive(Drop)]
 pub struct Frames {
     list: Vec<Box<[u8; 4096], Lent>>,
+    copies: Option<Vec<[u8; 4096]>>,
 }
 
 impl Model for Frames {
-    ghost use Rattle.std.specs.Prelude.{map, vec_capacity};
+    ghost use Rattle.std.specs.Prelude.{is_some, map, vec_capacity};
     ghost use Rattle.ffa_lent.specs.Listed.{Listed, coded_listed};
 
     ghost Value = { Listed };
 
     ghost coded = { coded_listed };
 
-    ghost view = { λ f. record { pages = map (λ b. b.value) f.list.items; room = vec_capacity f.list } };
+    ghost view = { λ f. record { pages = map (λ b. b.value) f.list.items; room = vec_capacity f.list; is_ready = is_some f.copies } };
 }
 
 impl Frames {
-    /// No pages, for which the list takes no memory.
+    /// No pages, for which the list takes no memory, and no room for copies.
     pub fn none(alloc: Global) -> Frames
-        ensures { result ≡ empty 0 }
+        ensures { result ≡ nothing_listed }
     {
         let list = Vec::new(alloc);
-        Frames { list }
+        Frames { list, copies: None }
     }
 
-    /// No pages, and room for so many, for which the list takes no more memory.
+    /// No pages, and room for so many, for which the list takes no more memory, nor RAM over them.
     pub fn with_room(alloc: Global, pages: usize) -> Result<Frames, AllocError>
         ensures { IfOk result (λ f. f ≡ empty pages) }
     {
         let list = Vec::with_capacity(alloc, pages)?;
-        Ok(Frames { list })
+        let copies = Some(room_for_copies(alloc)?);
+        Ok(Frames { list, copies })
     }
 
     /// The number of pages.
@@ -52,12 +55,24 @@ impl Frames {
         self.list.len()
     }
 
+    /// Makes room for so many pages more, and for no others. Where there is no memory for that, nothing changes.
+    pub fn reserve(&mut self, more: usize) -> Result<(), AllocError>
+        ensures pages { self.new.pages ≡ self.old.pages }
+        ensures made { IfOk result (λ _. self.new.room ≡ max self.old.room (length self.old.pages + more)) }
+        ensures ready { self.new.is_ready ≡ self.old.is_ready }
+        ensures unchanged { IfErr result (λ _. self.new ≡ self.old) }
+        ensures full { IfErr result (λ _. self.old.room < length self.old.pages + more) }
+    {
+        self.list.reserve_exact(more)
+    }
+
     /// Adds a page behind the others. Where there is no room and no memory for that, the page comes back.
     pub fn lend(&mut self, page: Box<[u8; 4096], Lent>) -> Result<(), Box<[u8; 4096], Lent>>
         ensures pages { self.new.pages ≡ (if is_ok result then self.old.pages ++ page.value ∷ [] else self.old.pages) }
         ensures returned { IfErr result (λ b. b.value ≡ page.value) }
         ensures full { IfErr result (λ _. self.old.room ≤ length self.old.pages) }
         ensures room { self.old.room ≤ self.new.room }
+        ensures ready { self.new.is_ready ≡ self.old.is_ready }
     {
         match self.list.push(page) {
             Ok(()) => Ok(()),
@@ -70,6 +85,7 @@ impl Frames {
         ensures last { self.old.pages ≡ self.new.pages ++ option_to_list (option_map (λ b. b.value) result) }
         ensures none { result ≡ None → self.old.pages ≡ [] }
         ensures room { self.new.room ≡ self.old.room }
+        ensures ready { self.new.is_ready ≡ self.old.is_ready }
     {
         self.list.pop()
     }
@@ -93,33 +109,43 @@ pub struct LentRam {
 impl LentRam {
     ghost use Rattle.ffa_lent.specs.LentRam.{is_observed, ram_of};
 
-    /// RAM at this address, whose pages are those that are lent, with the bytes that are in them. Where there is no memory for
-    /// the copies of a TX, the pages come back.
+    /// RAM at this address, whose pages are those that are lent, with the bytes that are in them. It takes memory only where the
+    /// room for the copies of a TX doesn't come with the pages, and where that is refused all comes back.
     pub fn new(alloc: Global, base: Address, frames: Frames) -> Result<LentRam, Frames>
         requires aligned { base.0 % 4096 ≡ 0 }
         requires fits { base.0 + 4096 * length frames.pages ≤ 2 ^ 32 }
         ensures ram { IfOk result (λ m. ram_of m ≡ record { base = base.0; pages = frames.pages }) }
         ensures returned { IfErr result (λ f. f ≡ frames) }
+        ensures unready { IfErr result (λ _. frames.is_ready ≡ false) }
     {
-        match room_for_copies(alloc) {
-            Ok(copies) => Ok(LentRam {
-                base,
-                frames: frames.list,
-                copies,
-                first: PageNo(0),
-                count: 0,
-            }),
-            Err(AllocError) => Err(frames),
-        }
+        let Frames { list, copies } = frames;
+        let copies = match copies {
+            Some(copies) => copies,
+            None => match room_for_copies(alloc) {
+                Ok(copies) => copies,
+                Err(AllocError) => return Err(Frames { list, copies: None }),
+            },
+        };
+        Ok(LentRam {
+            base,
+            frames: list,
+            copies,
+            first: PageNo(0),
+            count: 0,
+        })
     }
 
-    /// The pages once more, with the bytes that RAM had in the end.
+    /// The pages once more, with the bytes that RAM had in the end, and the room for copies.
     pub fn into_frames(self) -> Frames
-        ensures { result.pages ≡ (ram_of self).pages }
+        ensures pages { result.pages ≡ (ram_of self).pages }
+        ensures ready { result.is_ready ≡ true }
     {
         let mut ram = self;
         ram.write_back();
-        Frames { list: ram.frames }
+        Frames {
+            list: ram.frames,
+            copies: Some(ram.copies),
+        }
     }
 
     // Where the copy of a page stands, if it is observed.

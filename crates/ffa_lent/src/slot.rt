@@ -10,9 +10,9 @@ use std::marker::Model;
 /// The pointer to a page's memory of 4096 bytes, which owns it, or a pointer that owns nothing.
 #[repr(C)]
 pub struct Slot {
-    at: *mut [u8; 4096],
+    pub(crate) at: *mut [u8; 4096],
     // It takes no bytes.
-    lent: Lent,
+    pub(crate) lent: Lent,
     pub ghost bytes: { Option (List ℕ) } by { coded_option (coded_list coded_ℕ) },
 }
 

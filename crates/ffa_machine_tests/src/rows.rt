@@ -5,7 +5,7 @@
 //! `8001: 84000061 0 1`: the runner, then the registers without their leading zeros and without the last ones that are
 //! zero. What is printed below a first line stands below it.
 use crate::checks::same;
-use crate::machines::{booted_in_frames, booted_with, four_in_turn, play};
+use crate::machines::{booted_in_frames, booted_in_room, booted_with, four_in_turn, play};
 use ffa_model::{Manifest, row_machine};
 use ffa_playable::Playable;
 use ffa_tlb::{NoTlb, Translations};
@@ -96,13 +96,14 @@ impl Row {
         self.check_on(rt, alloc, &row_machine())
     }
 
-    // Plays the trace on fresh machines of a manifest: in RAM of each kind, without a cache and with one, it prints the
-    // text.
+    // Plays the trace on fresh machines of a manifest: in RAM of each kind, without a cache and with one, and in room of the
+    // heap's it prints the text.
     fn check_on(&self, rt: &impl Abort, alloc: Global, manifest: &Manifest) -> Result<(), Fail> {
         self.check_in_flat_ram(rt, alloc, manifest, NoTlb)?;
         self.check_in_flat_ram(rt, alloc, manifest, four_in_turn())?;
         self.check_in_frames(rt, alloc, manifest, NoTlb)?;
-        self.check_in_frames(rt, alloc, manifest, four_in_turn())
+        self.check_in_frames(rt, alloc, manifest, four_in_turn())?;
+        self.check_in_room(rt, alloc, manifest)
     }
 
     fn check_in_flat_ram<T: Translations + Drop>(
@@ -124,6 +125,16 @@ impl Row {
         cache: T,
     ) -> Result<(), Fail> {
         let mut player = Player::new(booted_in_frames(alloc, manifest, cache)?);
+        self.prints(rt, alloc, &mut player)
+    }
+
+    fn check_in_room(
+        &self,
+        rt: &impl Abort,
+        alloc: Global,
+        manifest: &Manifest,
+    ) -> Result<(), Fail> {
+        let mut player = Player::new(booted_in_room(alloc, manifest)?);
         self.prints(rt, alloc, &mut player)
     }
 

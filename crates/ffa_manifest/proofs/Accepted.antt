@@ -7,7 +7,7 @@ use Rattle.std.proofs.lemmas.Bool.{and_parts, or_parts, ne_eqb, cond-false}
 use Rattle.std.proofs.lemmas.List.Folds.{list_all-append}
 use Rattle.toml.specs.Data.{Data, Items, as_table, Members}
 use Rattle.uuid.specs.Text.{parsed}
-use Rattle.ffa_model.specs.declared.limits.TheConstants.{MOST_ENDPOINTS, MOST_REGIONS}
+use Rattle.ffa_model.specs.declared.limits.TheConstants.{MOST_BLOCKS, MOST_ENDPOINTS, MOST_REGIONS}
 use Rattle.ffa_model.specs.declared.endpoint.Region.{Region}
 use Rattle.ffa_model.specs.declared.endpoint.Endpoint.{Endpoint}
 use Rattle.ffa_model.specs.Bits.{is_set}
@@ -143,4 +143,4 @@ accepted_parts ms base blocks ds es base_is blocks_is items read =
     let few : is_from_to 1 MOST_ENDPOINTS (length es) ≡ true = ap (is_from_to 1 MOST_ENDPOINTS) count ∙ items_at-count _ MOST_ENDPOINTS EndpointCount ms ds items in
     let all : EndpointsRead (is_placed base blocks (item_count ds)) es = read_each-keeps (EndpointsRead (is_placed base blocks (item_count ds))) (next_endpoint (is_placed base blocks (item_count ds)))
     (one_more (is_placed base blocks (item_count ds))) [] ds es (record { named = refl; counted = refl; in_place = refl; apart = refl }) read in
-    rw (tested_ok is_ram_base RamBase first base h1, tested_ok (is_from_to 1 32) RamBlocks second blocks h2, few, named_some es few all.named, all.counted, count, all.in_place, all.apart) refl
+    rw (tested_ok is_ram_base RamBase first base h1, tested_ok (is_from_to 1 MOST_BLOCKS) RamBlocks second blocks h2, few, named_some es few all.named, all.counted, count, all.in_place, all.apart) refl

@@ -3,6 +3,7 @@
 use Rattle.std.specs.Prelude.{ℕ, List, [], ◌∷◌, Result, Ok, codes}
 use Rattle.toml.specs.Data.{Members}
 use Rattle.toml.specs.Parse.{parse_document}
+use Rattle.ffa_model.specs.declared.limits.TheConstants.{MOST_BLOCKS}
 use Rattle.ffa_model.specs.declared.endpoint.Endpoint.{Endpoint}
 use Rattle.ffa_model.specs.declared.manifest.Manifest.{Manifest}
 use Rattle.ffa_model.specs.Manifest.{is_ram_base, is_from_to, is_placed}
@@ -28,7 +29,7 @@ unfoldable pub ram_base_at : Members → Result ℕ ManifestError
 ram_base_at ms = integer_at (codes "ram_base") ms >>= tested is_ram_base RamBase
 
 unfoldable pub ram_blocks_at : Members → Result ℕ ManifestError
-ram_blocks_at ms = integer_at (codes "ram_blocks") ms >>= tested (is_from_to 1 32) RamBlocks
+ram_blocks_at ms = integer_at (codes "ram_blocks") ms >>= tested (is_from_to 1 MOST_BLOCKS) RamBlocks
 
 -- the top table
 unfoldable pub machine : Members → Result Parts ManifestError

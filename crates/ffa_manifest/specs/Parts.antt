@@ -1,7 +1,7 @@
 -- SPDX-License-Identifier: MIT OR Apache-2.0
 -- The first cause for which parts make no machine, in the order in which a text would be read.
 use Rattle.std.specs.Prelude.{ℕ, Bool, ◌&&◌, ◌||◌, ◌==◌, nat_lt, not, List, [], ◌∷◌, ◌++◌, length, Option, Some, None, if◌then◌else◌}
-use Rattle.ffa_model.specs.declared.limits.TheConstants.{MOST_ENDPOINTS, MOST_REGIONS}
+use Rattle.ffa_model.specs.declared.limits.TheConstants.{MOST_BLOCKS, MOST_ENDPOINTS, MOST_REGIONS}
 use Rattle.ffa_model.specs.declared.endpoint.Region.{Region}
 use Rattle.ffa_model.specs.declared.endpoint.Endpoint.{Endpoint}
 use Rattle.ffa_model.specs.Bits.{is_set}
@@ -52,7 +52,7 @@ endpoint_tests is_placed before e =
 unfoldable pub tests_of : Parts → Tests
 tests_of parts =
     (is_ram_base parts.ram_base, RamBase)
-    ∷ (is_from_to 1 32 parts.ram_blocks, RamBlocks)
+    ∷ (is_from_to 1 MOST_BLOCKS parts.ram_blocks, RamBlocks)
     ∷ (is_from_to 1 MOST_ENDPOINTS (length parts.endpoints), EndpointCount)
     ∷ tests_of_each (endpoint_tests (is_placed parts.ram_base parts.ram_blocks (length parts.endpoints))) [] parts.endpoints
 

@@ -1,6 +1,7 @@
 // SPDX-License-Identifier: MIT OR Apache-2.0
 //! The top table of a manifest.
-ghost use Rattle.std.specs.Prelude.{◌≡◌, ◌≤◌, IfOk, length};
+ghost use Rattle.std.specs.Prelude.{◌≡◌, ◌≤◌, ◌-◌, ◌^◌, IfOk, length};
+ghost use Rattle.ffa_model.specs.declared.limits.TheConstants.{MOST_BLOCKS, MOST_RAM};
 ghost use Rattle.toml.specs.View.{table_view, items_view};
 ghost use Rattle.ffa_manifest.specs.Reading.{Exact};
 ghost use Rattle.ffa_manifest.specs.Document.{top_keys as top_keys_in, ram_base_at as ram_base_in, ram_blocks_at as ram_blocks_in, machine as machine_in, parts_of};
@@ -10,7 +11,7 @@ use crate::endpoints::endpoints_from;
 use crate::error::ManifestError;
 use crate::keys::{integer_at, items_at, only_keys};
 use crate::place::{Place, is_ram_base};
-use ffa_model::{Address, MOST_ENDPOINTS, Manifest};
+use ffa_model::{Address, MOST_BLOCKS, MOST_ENDPOINTS, Manifest};
 use toml::{Table, Value};
 
 /// The keys of the top table.
@@ -26,7 +27,7 @@ pub(crate) fn top_keys(table: &Table) -> Result<(), ManifestError>
 #[tactic(auto, unfolding(crate::specs::Document::ram_base_at))]
 pub(crate) fn ram_base_at(table: &Table) -> Result<u32, ManifestError>
     ensures number { Exact (λ n. n) result (ram_base_in (table_view table.now)) }
-    ensures highest { IfOk result (λ n. n ≤ 0xFC000000) }
+    ensures highest { IfOk result (λ n. n ≤ 2 ^ 32 - MOST_RAM) }
 {
     match integer_at(table, "ram_base")? {
         Some(n) if is_ram_base(n) => Ok(n as u32),
@@ -37,10 +38,10 @@ pub(crate) fn ram_base_at(table: &Table) -> Result<u32, ManifestError>
 #[tactic(auto, unfolding(crate::specs::Document::ram_blocks_at))]
 pub(crate) fn ram_blocks_at(table: &Table) -> Result<u32, ManifestError>
     ensures number { Exact (λ n. n) result (ram_blocks_in (table_view table.now)) }
-    ensures most { IfOk result (λ n. n ≤ 32) }
+    ensures most { IfOk result (λ n. n ≤ MOST_BLOCKS) }
 {
     match integer_at(table, "ram_blocks")? {
-        Some(n) if 1 <= n && n <= 32 => Ok(n as u32),
+        Some(n) if 1 <= n && n <= u64::from(MOST_BLOCKS) => Ok(n as u32),
         _ => Err(ManifestError::RamBlocks),
     }
 }

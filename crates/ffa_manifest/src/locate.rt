@@ -12,7 +12,7 @@ use crate::endpoints::{
 };
 use crate::keys::is_among;
 use crate::place::Place;
-use crate::refusal::{Found, Location};
+use crate::refusal::{Fault, Found, Location};
 use crate::regions::{
     REGION_KEYS, base_at, next_region, pages_at, region, region_items, region_keys, regions_from,
     rights_at,
@@ -44,13 +44,8 @@ pub(crate) fn in_top(alloc: Global, table: &Table) -> Result<Location, AllocErro
         endpoint_items(table),
     ) {
         _ if top_keys(table).is_err() => unknown_key(alloc, table, &TOP_KEYS)?,
-        (Err(_), ..) => at_key(
-            alloc,
-            table,
-            "ram_base",
-            "no multiple of 64 MiB from 0x04000000 to 0xFC000000",
-        )?,
-        (_, Err(_), _) => at_key(alloc, table, "ram_blocks", "no number from 1 to 32")?,
+        (Err(_), ..) => at_faulty_key(alloc, table, "ram_base", Fault::NoRamBase)?,
+        (_, Err(_), _) => at_faulty_key(alloc, table, "ram_blocks", Fault::NoBlockCount)?,
         (_, _, Err(_)) => at_key(
             alloc,
             table,
@@ -209,7 +204,17 @@ fn at_key(
     alloc: Global,
     table: &Table,
     key: &'static str,
-    fault: &'static str,
+    words: &'static str,
+) -> Result<Found, AllocError> {
+    at_faulty_key(alloc, table, key, Fault::Words(words))
+}
+
+// The key that a table lacks, or its value with what is wrong with that.
+fn at_faulty_key(
+    alloc: Global,
+    table: &Table,
+    key: &'static str,
+    fault: Fault,
 ) -> Result<Found, AllocError> {
     match table.get(key) {
         None => Ok(Found::MissingKey(key)),

@@ -13,7 +13,7 @@ use crate::place::{Place, is_ram_base};
 use crate::regions::{is_apart_from_all, is_free};
 use arrayvec::ArrayVec;
 use bitflags::Flags;
-use ffa_model::{Address, Endpoint, MOST_ENDPOINTS, Manifest, Properties, Region};
+use ffa_model::{Address, Endpoint, MOST_BLOCKS, MOST_ENDPOINTS, Manifest, Properties, Region};
 
 fn is_nil(uuid: &[u8; 16]) -> bool
     ensures { result ≡ is_nil_in uuid.now }
@@ -122,7 +122,7 @@ pub fn of_parts(
     if !is_ram_base(u64::from(ram_base)) {
         return Err(ManifestError::RamBase);
     }
-    if ram_blocks < 1 || 32 < ram_blocks {
+    if ram_blocks < 1 || MOST_BLOCKS < ram_blocks {
         return Err(ManifestError::RamBlocks);
     }
     if endpoints.is_empty() {

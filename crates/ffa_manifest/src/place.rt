@@ -1,16 +1,17 @@
 // SPDX-License-Identifier: MIT OR Apache-2.0
 //! Where the regions of a machine may lie.
-ghost use Rattle.std.specs.Prelude.{◌≡◌, ◌≤◌};
-ghost use Rattle.ffa_model.specs.declared.limits.TheConstants.{MOST_ENDPOINTS};
+ghost use Rattle.std.specs.Prelude.{◌≡◌, ◌-◌, ◌^◌, ◌≤◌};
+ghost use Rattle.ffa_model.specs.declared.limits.TheConstants.{MOST_BLOCKS, MOST_ENDPOINTS, MOST_RAM};
 ghost use Rattle.ffa_model.specs.Manifest.{is_ram_base as is_ram_base_in};
 
-use ffa_model::{Region, Rights};
+use ffa_model::{MOST_RAM, Region, Rights};
 
-/// Whether RAM may begin at this address: a multiple of 64 MiB from 0x04000000 to 0xFC000000.
+/// Whether RAM may begin at this address: a multiple of the largest RAM, but not 0, from which
+/// the largest RAM ends at 2^32 at most.
 pub(crate) fn is_ram_base(base: u64) -> bool
     ensures { result ≡ is_ram_base_in base }
 {
-    base % 0x400_0000 == 0 && 0x400_0000 <= base && base <= 0xFC00_0000
+    base % MOST_RAM == 0 && MOST_RAM <= base && base <= (1 << 32) - MOST_RAM
 }
 
 /// A machine's RAM, of which the front holds the tables of its endpoints.
@@ -22,8 +23,8 @@ pub(crate) struct Place {
     pub blocks: u32,
     /// How many endpoints have tables.
     pub endpoints: u32,
-    ghost low: { base ≤ 0xFC000000 },
-    ghost small: { blocks ≤ 32 },
+    ghost low: { base ≤ 2 ^ 32 - MOST_RAM },
+    ghost small: { blocks ≤ MOST_BLOCKS },
     ghost few: { endpoints ≤ MOST_ENDPOINTS },
 }
 

@@ -2,6 +2,7 @@
 //! What is told of a manifest that is refused.
 
 use crate::error::ManifestError;
+use ffa_model::{MOST_BLOCKS, MOST_RAM};
 use std::fmt;
 
 /// Why a manifest is refused, and where. It prints as one line.
@@ -38,13 +39,41 @@ pub enum Found {
     Value {
         key: &'static str,
         value: String,
-        fault: &'static str,
+        fault: Fault,
     },
     /// The value that stands for the whole endpoint or region, and what is wrong with it.
     Whole {
         value: String,
         fault: &'static str,
     },
+}
+
+/// What is wrong with a value.
+#[derive(Clone, Copy, Debug)]
+pub enum Fault {
+    /// No RAM begins there.
+    NoRamBase,
+    /// No RAM has so many blocks.
+    NoBlockCount,
+    /// What these words say.
+    Words(&'static str),
+}
+
+impl fmt::Display for Fault {
+    fn fmt<W: fmt::Write>(&self, f: &mut fmt::Formatter<W>) -> fmt::Result {
+        match self {
+            Fault::NoRamBase => {
+                let (least, most) = (MOST_RAM, (1 << 32) - MOST_RAM);
+                let unit = MOST_RAM / 0x10_0000;
+                write!(
+                    f,
+                    "no multiple of {unit} MiB from {least:#010X} to {most:#010X}"
+                )
+            }
+            Fault::NoBlockCount => write!(f, "no number from 1 to {MOST_BLOCKS}"),
+            Fault::Words(words) => write!(f, "{words}"),
+        }
+    }
 }
 
 impl fmt::Display for Refusal {

@@ -14,7 +14,7 @@ use Rattle.ffa_memshare.specs.SlotChanges.{IsFree}
 use Rattle.ffa_memshare.specs.declared.transaction.OpenTransaction.{OpenTransaction}
 use Rattle.ffa_memshare.specs.Stored.{IsPool, Pooled, Slot, map_in, open_in, pool_slot, kept_slot, kept_slots, view_of}
 use Rattle.ffa_model.proofs.Places.{place-identifier}
-use Rattle.ffa_memshare.proofs.PoolKept.{unfound}
+use Rattle.ffa_memshare.proofs.PoolKept.{seen-at, unfound}
 
 -- one more where a slot is free
 abbrev vacant : Slot → ℕ
@@ -151,12 +151,6 @@ module _ (kept : Pooled) (pool : IsPool kept) (e : ℕ) (known : identifier (pla
       le-ltb _ _ (omega (arith, sixteen, none))
 
 -- WHAT THE CODE FINDS IN A SLOT
--- what a slot of the code has, clauses see
-seen-at : (items : List (Option OpenTransaction)) (k : ℕ) (o : Option OpenTransaction) → k < length items → o ≡ get_or items k o → pool_slot (kept_slots items) k ≡ kept_slot o
-seen-at [] k o lt at = absurd (omega arith)
-seen-at (q ∷ items) zero o lt at = ap kept_slot (sym at)
-seen-at (q ∷ items) (suc k) o lt at = seen-at items k o (omega arith) at
-
 pub slot-free : (items : List (Option OpenTransaction)) (k : ℕ) (o : Option OpenTransaction) → k < length items → o ≡ get_or items k o → is_some o ≡ false → pool_slot (kept_slots items) k ≡ None
 slot-free items k None lt at none = seen-at items k None lt at
 slot-free items k (Some t) lt at none = absurd (true≢false none)

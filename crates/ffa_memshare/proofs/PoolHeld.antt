@@ -1,7 +1,6 @@
 -- SPDX-License-Identifier: MIT OR Apache-2.0
 -- A transaction that stays in its slot, and is held otherwise.
 use Rattle.std.proofs.Common.{◌≡◌, ◌∙◌, ℕ, ◌<◌, Bool, true, false, cond, List, length, set, set-set, Option, Some, None, refl, sym, ap, subst, inl, inr}
-use Rattle.std.specs.List.{refill}
 use Rattle.std.specs.Ordering.{nat_cmp, eq_by_cmp}
 use Rattle.std.specs.FinMap as finite
 use Rattle.std.specs.Cmp.{nat_cmp_total, unsigned_tied}
@@ -12,11 +11,10 @@ use Rattle.ffa_model.specs.State.{Transaction}
 use Rattle.ffa_model.specs.Transactions.{handle_of, with_transaction}
 use Rattle.ffa_model.proofs.Slots.{map-freed, map-put}
 use Rattle.ffa_model.specs.declared.rights.Rights.{Rights}
-use Rattle.ffa_model.proofs.Written.{map-refill-set}
 use Rattle.ffa_memshare.specs.declared.transaction.OpenTransaction.{OpenTransaction}
 use Rattle.ffa_memshare.specs.Held.{Held, held_with, with_holder}
 use Rattle.ffa_memshare.specs.Stored.{IsInPlace, IsPool, Pooled, Slot, map_in, open_in, pool_slot, kept_slot, kept_slots, view_of}
-use Rattle.ffa_memshare.proofs.PoolKept.{past-none}
+use Rattle.ffa_memshare.proofs.PoolKept.{past-none, slots-put}
 
 -- a slot that has a transaction is one of the slots
 pub slot-within : (slots : List Slot) (k : ℕ) (x : ℕ × Transaction) → pool_slot slots k ≡ Some x → k < length slots
@@ -95,9 +93,9 @@ module _ (kept : Pooled) (pool : IsPool kept) (k h : ℕ) (t u : Transaction) (a
   held-open = λ i. record { transactions = replaced i; sent = kept.sent }
 
 -- in the code: its holders were written where it lies
-pub held-slots : (xs ys : List (Option OpenTransaction)) (k : ℕ) (t : OpenTransaction) (m : Held) (e : ℕ) (right : Option Rights)
-    → ys ≡ xs → m ≡ held_with t.held e right
-    → kept_slots (refill (length xs) xs (set ys k (Some (record t { held = m })))) ≡ set (kept_slots xs) k (Some (t.handle, with_holder (view_of t) e right))
-held-slots xs ys k t m e right same is =
-    map-refill-set kept_slot xs ys k (Some (record t { held = m })) same
+pub held-slots : (xs after : List (Option OpenTransaction)) (k : ℕ) (t : OpenTransaction) (m : Held) (e : ℕ) (right : Option Rights)
+    → after ≡ set xs k (Some (record t { held = m })) → m ≡ held_with t.held e right
+    → kept_slots after ≡ set (kept_slots xs) k (Some (t.handle, with_holder (view_of t) e right))
+held-slots xs after k t m e right same is =
+    slots-put xs after k (Some (record t { held = m })) same
     ∙ ap (λ (h : Held). set (kept_slots xs) k (Some (t.handle, record (view_of t) { held = h }))) is

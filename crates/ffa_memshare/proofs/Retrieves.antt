@@ -2,6 +2,7 @@
 -- What an endpoint has taken.
 use Rattle.std.proofs.Common.{◌≡◌, ◌⊎◌, Bool, Option, ℕ, suc, ◌+◌, ◌*◌, ◌^◌, ◌<◌, ◌≤◌, List, [], ◌∷◌, length, Some, refl, arith, inl, inr}
 use Rattle.std.proofs.lemmas.List.Sums.{sum_by-cons}
+use Rattle.ffa_model.specs.declared.limits.TheConstants.{MOST_BLOCKS, MOST_PAGES}
 use Rattle.ffa_model.specs.declared.endpoint.EndpointId.{EndpointId}
 use Rattle.ffa_model.specs.declared.rights.Kind.{Kind}
 use Rattle.ffa_model.specs.declared.rights.Kind.TheVariants.{Share, Lend, Donate}
@@ -40,14 +41,14 @@ kept-passed Lend kinds table named e right = refl
 kept-passed Donate kinds table named e right = not-donate kinds
 
 -- the pages of ranges in RAM are few
-placed-total : (base blocks : ℕ) (ranges : List Range) → blocks ≤ 32 → ArePlaced base (512 * blocks) ranges → page_total ranges ≤ 16384 * length ranges
+placed-total : (base blocks : ℕ) (ranges : List Range) → blocks ≤ MOST_BLOCKS → ArePlaced base (512 * blocks) ranges → page_total ranges ≤ MOST_PAGES * length ranges
 placed-total base blocks [] few placed = omega arith
 placed-total base blocks (range ∷ ranges) few placed =
     let one : IsPlaced base (512 * blocks) range = placed 0 range (omega arith) refl in
     let rest = placed-total base blocks ranges few (λ i r lt is. placed (suc i) r (omega arith) is) in
     let step : page_total (range ∷ ranges) ≡ range.pages + page_total ranges = sum_by-cons (λ (r : Range). r.pages) range ranges in
-    let pages : range.pages ≤ 16384 = omega (arith, one.within, few) in
+    let pages : range.pages ≤ MOST_PAGES = omega (arith, one.within, few) in
     omega (arith, step, pages, rest)
 
-pub few-pages : (base blocks : ℕ) (ranges : List Range) → blocks ≤ 32 → length ranges ≤ 64 → ArePlaced base (512 * blocks) ranges → page_total ranges < 2 ^ 32
+pub few-pages : (base blocks : ℕ) (ranges : List Range) → blocks ≤ MOST_BLOCKS → length ranges ≤ 64 → ArePlaced base (512 * blocks) ranges → page_total ranges < 2 ^ 32
 few-pages base blocks ranges few most placed = let total = placed-total base blocks ranges few placed in omega (arith, total)

@@ -9,8 +9,8 @@ ghost use Rattle.ffa_memshare.specs.Ranges.{ArePlaced, IsPlaced, in_range};
 
 use crate::grants::first_page;
 use crate::page_ranges::PageRanges;
-use ffa_model::{Address, Data, PageNo, Range, Rights};
-use ffa_pages::PageTable;
+use ffa_model::{Address, Data, PageNo, Range, Rights, Room};
+use ffa_pages::{KeptPage, PageTable};
 
 /// What all of some pages have.
 #[derive(Clone, Copy, PartialEq, Eq)]
@@ -49,7 +49,12 @@ impl Common {
 }
 
 // What these pages and those of a range have.
-fn common_with(pages: &PageTable, base: Address, range: &Range, before: Common) -> Common
+fn common_with<P: Room<KeptPage> + Drop>(
+    pages: &PageTable<P>,
+    base: Address,
+    range: &Range,
+    before: Common,
+) -> Common
     requires { IsPlaced base.0 (length pages.now) range.now }
     ensures writable { result.is_writable ≡ (before.is_writable && all_named (length pages.now) (in_range base.0 range.now) (λ p. may_store (own_right_at pages.now p))) }
     ensures executable { result.is_executable ≡ (before.is_executable && all_named (length pages.now) (in_range base.0 range.now) (λ p. may_fetch (own_right_at pages.now p))) }
@@ -67,7 +72,11 @@ fn common_with(pages: &PageTable, base: Address, range: &Range, before: Common) 
 }
 
 /// What the owners of all pages of these ranges may do with them while no transaction names them.
-pub fn common_of(pages: &PageTable, base: Address, ranges: &PageRanges) -> Common
+pub fn common_of<P: Room<KeptPage> + Drop>(
+    pages: &PageTable<P>,
+    base: Address,
+    ranges: &PageRanges,
+) -> Common
     requires { ArePlaced base.0 (length pages.now) ranges.now }
     ensures writable { result.is_writable ≡ are_writable (own_rights_in pages.now base.0) ranges.now }
     ensures executable { result.is_executable ≡ are_executable (own_rights_in pages.now base.0) ranges.now }

@@ -3,6 +3,7 @@
 ghost use Rattle.std.specs.Prelude.{◌≡◌, ◌<◌, ◌&&◌, ℕ, [], Some, length, not};
 ghost use Rattle.std.specs.FinMap as finite;
 ghost use Rattle.std.specs.List.{list_all};
+ghost use Rattle.ffa_model.specs.declared.limits.TheConstants.{MOST_PAGES};
 ghost use Rattle.ffa_model.specs.declared.transaction.Receiver.{Receiver as Named};
 ghost use Rattle.ffa_model.specs.About.{failing_offer, failing_reclaim, failing_send, first_unwritable, passes};
 ghost use Rattle.ffa_model.specs.Buffers.{buffers_in};
@@ -21,22 +22,22 @@ ghost use Rattle.ffa_memshare.specs.Stored.{map_in};
 use crate::checks::send::is_own;
 use crate::descriptor_call::DescriptorCall;
 use crate::page_run::read_send;
-use crate::pool::Pool;
+use crate::pool::{OpenSlot, Pool};
 use arrayvec::ArrayVec;
 use ffa_model::{
-    Address, Data, EndpointId, Kind, MOST_RANGES, PageNo, Range, Receiver, Refusal, Rights,
+    Address, Data, EndpointId, Kind, MOST_RANGES, PageNo, Range, Receiver, Refusal, Rights, Room,
     SendDesc,
 };
-use ffa_pages::PageTable;
+use ffa_pages::{KeptPage, PageTable};
 use ffa_physmem::PhysMem;
 use ffa_rxtx::Buffers;
 
 /// The page that a check of FFA_MEM_DONATE, FFA_MEM_LEND or FFA_MEM_SHARE of an endpoint is about, where it fails: the first page
 /// of the RAM from `base` on that the descriptor in TX names and that fails it.
-pub fn failing_send<M: PhysMem>(
+pub fn failing_send<M: PhysMem, P: Room<KeptPage> + Drop>(
     ram: &M,
     base: Address,
-    pages: &PageTable,
+    pages: &PageTable<P>,
     buffers: &Buffers,
     caller: EndpointId,
     kind: Kind,
@@ -57,9 +58,9 @@ pub fn failing_send<M: PhysMem>(
 }
 
 // The first page that is offered and that fails a check.
-fn failing_offer(
+fn failing_offer<P: Room<KeptPage> + Drop>(
     offer: &SendDesc,
-    pages: &PageTable,
+    pages: &PageTable<P>,
     base: Address,
     buffers: &Buffers,
     sender: EndpointId,
@@ -77,9 +78,9 @@ fn failing_offer(
 }
 
 // Whether a page is offered and fails a check.
-fn fails(
+fn fails<P: Room<KeptPage> + Drop>(
     offer: &SendDesc,
-    pages: &PageTable,
+    pages: &PageTable<P>,
     base: Address,
     buffers: &Buffers,
     sender: EndpointId,
@@ -95,9 +96,9 @@ fn fails(
 }
 
 // Whether a page passes a check.
-fn passes(
+fn passes<P: Room<KeptPage> + Drop>(
     offer: &SendDesc,
-    pages: &PageTable,
+    pages: &PageTable<P>,
     buffers: &Buffers,
     sender: EndpointId,
     refusal: Refusal,
@@ -118,9 +119,9 @@ fn passes(
 
 /// The page that a check of FFA_MEM_RECLAIM of the transaction with this handle is about, where it fails: the first of its pages
 /// that its owner may not write, in the RAM from `base` on.
-pub fn failing_reclaim(
-    pool: &Pool,
-    pages: &PageTable,
+pub fn failing_reclaim<P: Room<KeptPage> + Drop, O: Room<OpenSlot> + Drop>(
+    pool: &Pool<O>,
+    pages: &PageTable<P>,
     base: Address,
     handle: u64,
     refusal: Refusal,
@@ -138,7 +139,11 @@ pub fn failing_reclaim(
 }
 
 // Puts the ranges of the transaction with this handle into an empty list, if it is open.
-fn list_ranges(pool: &Pool, handle: u64, ranges: &mut ArrayVec<Range, MOST_RANGES>)
+fn list_ranges<O: Room<OpenSlot> + Drop>(
+    pool: &Pool<O>,
+    handle: u64,
+    ranges: &mut ArrayVec<Range, MOST_RANGES>,
+)
     requires { ranges.old.items ≡ [] }
     ensures { ranges.new.items ≡ named_ranges (finite.get (map_in pool.now.slots) handle) }
 {
@@ -148,7 +153,11 @@ fn list_ranges(pool: &Pool, handle: u64, ranges: &mut ArrayVec<Range, MOST_RANGE
 }
 
 // The first page of these ranges that its owner may not write.
-fn first_unwritable(ranges: &[Range], pages: &PageTable, base: Address) -> Option<PageNo>
+fn first_unwritable<P: Room<KeptPage> + Drop>(
+    ranges: &[Range],
+    pages: &PageTable<P>,
+    base: Address,
+) -> Option<PageNo>
     ensures { result ≡ first_unwritable (own_rights_in pages.now base.0) ranges.now }
 {
     for number in 0..pages.pages() {
@@ -161,7 +170,12 @@ fn first_unwritable(ranges: &[Range], pages: &PageTable, base: Address) -> Optio
 }
 
 // Whether a page stands in one of these ranges and its owner may not write it.
-fn is_unwritable(ranges: &[Range], pages: &PageTable, base: Address, page: PageNo) -> bool
+fn is_unwritable<P: Room<KeptPage> + Drop>(
+    ranges: &[Range],
+    pages: &PageTable<P>,
+    base: Address,
+    page: PageNo,
+) -> bool
     requires { page.0 < length pages.now }
     ensures { result ≡ (in_ranges base.0 ranges.now page.0 && not (may_store (own_right_at pages.now page.0))) }
 {
@@ -184,18 +198,23 @@ fn has_page(range: &Range, base: Address, page: PageNo) -> bool
 }
 
 // Whether an endpoint may send a page: its own, in no open transaction, and without a buffer.
-fn is_sendable(pages: &PageTable, buffers: &Buffers, sender: EndpointId, page: PageNo) -> bool
+fn is_sendable<P: Room<KeptPage> + Drop>(
+    pages: &PageTable<P>,
+    buffers: &Buffers,
+    sender: EndpointId,
+    page: PageNo,
+) -> bool
     requires { page.0 < length pages.now }
     ensures { result ≡ is_sendable sender.0 (candidates_in pages.now 0) buffers.now page.0 }
 {
-    // Proof step: the number of pages is 2^14 at most.
+    // Proof step: the number of pages is MOST_PAGES at most.
     let _ = pages.pages();
     is_own(pages, sender, page) && !is_buffer(buffers, page)
 }
 
 // Whether somebody has a buffer in a page.
 fn is_buffer(buffers: &Buffers, page: PageNo) -> bool
-    requires { page.0 < 16384 }
+    requires { page.0 < MOST_PAGES }
     ensures { result ≡ is_buffer buffers.now page.0 }
 {
     buffers.is_any_buffer(page, page.0 + 1)

@@ -7,28 +7,28 @@ ghost use Rattle.ffa_memshare.specs.Ranges.{ArePlaced, IsPlaced};
 
 use crate::grants::first_page;
 use arrayvec::ArrayVec;
-use ffa_model::{Address, MOST_RANGES, Range};
-use ffa_pages::PageTable;
+use ffa_model::{Address, MOST_RANGES, Range, Room};
+use ffa_pages::{KeptPage, PageTable};
 use std::marker::Model;
 
-// A range by the number of its first page in RAM, of which a table of pages has fewer than 2^16.
+// A range by the number of its first page in RAM.
 #[derive(Clone, Copy, Default)]
 pub(crate) struct PageRange {
-    first: u16,
-    pages: u16,
+    first: u32,
+    pages: u32,
 }
 
 impl PageRange {
     // A range of the RAM at an address.
-    fn of(pages: &PageTable, base: Address, range: &Range) -> PageRange
+    fn of<P: Room<KeptPage> + Drop>(pages: &PageTable<P>, base: Address, range: &Range) -> PageRange
         requires { IsPlaced base.0 (length pages.now) range.now }
         ensures { range_at base.0 result ≡ range.now }
     {
-        // Proof step: the number of pages is 2^14 at most.
+        // Proof step: the number of pages is MOST_PAGES at most.
         let _ = pages.pages();
         PageRange {
-            first: first_page(base, range) as u16,
-            pages: range.pages as u16,
+            first: first_page(base, range),
+            pages: range.pages,
         }
     }
 
@@ -37,7 +37,7 @@ impl PageRange {
     {
         Range {
             address: u64::from(base.0) + 4096 * u64::from(self.first),
-            pages: u32::from(self.pages),
+            pages: self.pages,
         }
     }
 }
@@ -53,7 +53,7 @@ fn fill(list: &mut ArrayVec<PageRange, MOST_RANGES>, ranges: &[PageRange])
     }
 }
 
-/// Ranges of pages of one RAM, four bytes for each: a transaction is small to keep and to move. Contracts see the ranges.
+/// Ranges of pages of one RAM, eight bytes for each: a transaction is small to keep and to move. Contracts see the ranges.
 #[derive(Drop)]
 pub struct PageRanges {
     base: Address,
@@ -73,8 +73,8 @@ impl Model for PageRanges {
 
 impl PageRanges {
     /// These ranges, of pages of the RAM at an address.
-    pub(crate) fn of(
-        pages: &PageTable,
+    pub(crate) fn of<P: Room<KeptPage> + Drop>(
+        pages: &PageTable<P>,
         base: Address,
         ranges: &ArrayVec<Range, MOST_RANGES>,
     ) -> PageRanges

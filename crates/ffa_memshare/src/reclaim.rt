@@ -21,13 +21,13 @@ ghost use Rattle.ffa_memshare.specs.Stored.{map_in, open_in};
 
 use crate::changed::{Changed, News, changed_sender};
 use crate::marks::Mark;
-use crate::pool::Pool;
-use ffa_model::{EndpointId, ErrorCode};
-use ffa_pages::PageTable;
+use crate::pool::{OpenSlot, Pool};
+use ffa_model::{EndpointId, ErrorCode, Room};
+use ffa_pages::{KeptPage, PageTable};
 use ffa_physmem::PhysMem;
 use ffa_stage2::Layout;
 
-impl Pool {
+impl<O: Room<OpenSlot> + Drop> Pool<O> {
     /// FFA_MEM_RECLAIM of an endpoint, with w3: the transaction is open no more, its pages are the sender's with its own
     /// right, and zeros where bit 0 of the word asks for it. It gives whose access changed: the sender's, but nobody's
     /// of a share.
@@ -38,11 +38,11 @@ impl Pool {
     /// open; `Denied` where a receiver holds it, or zeros are asked of a page whose own right isn't rw. An error changes
     /// nothing.
     #[inline(always)]
-    pub fn reclaim<M: PhysMem>(
+    pub fn reclaim<M: PhysMem, P: Room<KeptPage> + Drop>(
         &mut self,
         ram: &mut M,
         layout: &Layout,
-        pages: &mut PageTable,
+        pages: &mut PageTable<P>,
         caller: EndpointId,
         handle: u64,
         flags: u32,

@@ -18,14 +18,14 @@ ghost use Rattle.ffa_memshare.specs.Stored.{open_in};
 use crate::changed::{Changed, News};
 use crate::grants::NewRight;
 use crate::page_changes::change_pages;
-use crate::pool::Pool;
-use ffa_model::{EndpointId, ErrorCode};
-use ffa_pages::PageTable;
+use crate::pool::{OpenSlot, Pool};
+use ffa_model::{EndpointId, ErrorCode, Room};
+use ffa_pages::{KeptPage, PageTable};
 use ffa_physmem::PhysMem;
 use ffa_rxtx::Buffers;
 use ffa_stage2::Layout;
 
-impl Pool {
+impl<O: Room<OpenSlot> + Drop> Pool<O> {
     /// FFA_MEM_RELINQUISH of an endpoint, with the descriptor in its TX: it holds the transaction no more and has no right
     /// to the pages, which are zeros where the descriptor asks for it. It gives that the caller's access to the pages
     /// changed.
@@ -36,11 +36,11 @@ impl Pool {
     /// than the caller, or no transaction with its handle is open that is offered to the caller; `Denied` where the caller
     /// doesn't hold it, or zeros are asked of what the caller doesn't hold in a lend with rw. An error changes nothing.
     #[inline(always)]
-    pub fn relinquish<M: PhysMem>(
+    pub fn relinquish<M: PhysMem, P: Room<KeptPage> + Drop>(
         &mut self,
         ram: &mut M,
         layout: &Layout,
-        pages: &PageTable,
+        pages: &PageTable<P>,
         buffers: &Buffers,
         caller: EndpointId,
         news: &mut News,

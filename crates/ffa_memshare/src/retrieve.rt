@@ -26,17 +26,17 @@ use crate::descriptor_call::DescriptorCall;
 use crate::grants::NewRight;
 use crate::marks::{Mark, mark_all};
 use crate::page_changes::change_pages;
-use crate::pool::Pool;
+use crate::pool::{OpenSlot, Pool};
 use crate::respond::respond;
 use crate::transaction::OpenTransaction;
 use arrayvec::ArrayVec;
-use ffa_model::{Address, EndpointId, ErrorCode, Kind, Response, Rights, Version};
-use ffa_pages::PageTable;
+use ffa_model::{Address, EndpointId, ErrorCode, Kind, Response, Rights, Room, Version};
+use ffa_pages::{KeptPage, PageTable};
 use ffa_physmem::PhysMem;
 use ffa_rxtx::Buffers;
 use ffa_stage2::Layout;
 
-impl Pool {
+impl<O: Room<OpenSlot> + Drop> Pool<O> {
     /// FFA_MEM_RETRIEVE_REQ of an endpoint, with the descriptor in its TX: it holds the right that it asked for, which the
     /// answer in its RX tells, and the pages of a donate are its own. It gives the length of the answer, and that
     /// the caller's access to the pages changed.
@@ -48,11 +48,11 @@ impl Pool {
     /// tag or kind; `Denied` where the caller holds it already, or asks for more than it may hold; `Busy` where RX is full.
     /// An error changes nothing.
     #[inline(always)]
-    pub fn retrieve<M: PhysMem>(
+    pub fn retrieve<M: PhysMem, P: Room<KeptPage> + Drop>(
         &mut self,
         ram: &mut M,
         layout: &Layout,
-        pages: &mut PageTable,
+        pages: &mut PageTable<P>,
         buffers: &mut Buffers,
         caller: EndpointId,
         call: &DescriptorCall,
@@ -94,9 +94,9 @@ impl Pool {
 
     // Notes that an endpoint holds the open transaction in a slot with this right. The pages of a donate are its own then,
     // with this right, and the donate is open no more.
-    fn take(
+    fn take<P: Room<KeptPage> + Drop>(
         &mut self,
-        pages: &mut PageTable,
+        pages: &mut PageTable<P>,
         base: Address,
         slot: usize,
         endpoint: EndpointId,
@@ -129,11 +129,11 @@ impl Pool {
 impl OpenTransaction {
     // Gives an endpoint this right to the pages, and tells the endpoint so in its RX, in its version. RX is full then. It
     // answers how many bytes that takes.
-    fn hand_over<M: PhysMem>(
+    fn hand_over<M: PhysMem, P: Room<KeptPage> + Drop>(
         &self,
         ram: &mut M,
         layout: &Layout,
-        pages: &PageTable,
+        pages: &PageTable<P>,
         buffers: &mut Buffers,
         caller: EndpointId,
         version: Version,

@@ -20,14 +20,14 @@ ghost use Rattle.ffa_memshare.specs.Stored.{open_in};
 use crate::changed::{News, Sent, changed_sender};
 use crate::descriptor_call::DescriptorCall;
 use crate::found::FoundOffer;
-use crate::pool::Pool;
-use ffa_model::{EndpointId, ErrorCode, Kind};
-use ffa_pages::PageTable;
+use crate::pool::{OpenSlot, Pool};
+use ffa_model::{EndpointId, ErrorCode, Kind, Room};
+use ffa_pages::{KeptPage, PageTable};
 use ffa_physmem::PhysMem;
 use ffa_rxtx::Buffers;
 use ffa_stage2::Layout;
 
-impl Pool {
+impl<O: Room<OpenSlot> + Drop> Pool<O> {
     /// FFA_MEM_DONATE, FFA_MEM_LEND or FFA_MEM_SHARE of an endpoint, with the descriptor in its TX: the transaction is
     /// open, and nobody holds it. The sender has no right to the pages, but keeps its own in a share, and they are zeros
     /// where the descriptor asks for it. Returns the handle, and whose access changed: the sender's, but nobody's
@@ -41,11 +41,11 @@ impl Pool {
     /// somebody's buffer, or has less itself than is granted or than zeros need; `NoMemory` where `MOST_OPEN` transactions of
     /// the caller are open or it has made `MOST_SENDS` sends. An error changes nothing.
     #[inline(always)]
-    pub fn send<M: PhysMem>(
+    pub fn send<M: PhysMem, P: Room<KeptPage> + Drop>(
         &mut self,
         ram: &mut M,
         layout: &Layout,
-        pages: &mut PageTable,
+        pages: &mut PageTable<P>,
         buffers: &Buffers,
         caller: EndpointId,
         kind: Kind,

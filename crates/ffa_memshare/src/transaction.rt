@@ -24,22 +24,22 @@ use crate::marks::{Mark, mark_all};
 use crate::page_changes::change_pages;
 use crate::page_ranges::PageRanges;
 use arrayvec::ArrayVec;
-use ffa_model::{Address, EndpointId, Kind, MOST_RECEIVERS, Receiver, Rights};
-use ffa_pages::PageTable;
+use ffa_model::{Address, EndpointId, Kind, MOST_RECEIVERS, Receiver, Rights, Room};
+use ffa_pages::{KeptPage, PageTable};
 use ffa_physmem::PhysMem;
 use ffa_stage2::Layout;
 
 /// A transaction that is open.
 #[derive(Drop)]
 pub struct OpenTransaction {
-    pub handle: u64,
-    pub kind: Kind,
-    pub sender: EndpointId,
-    pub tag: u64,
-    pub zero: bool,
-    pub ranges: PageRanges,
-    pub receivers: ArrayVec<Receiver, MOST_RECEIVERS>,
-    pub held: Holders,
+    pub(crate) handle: u64,
+    pub(crate) kind: Kind,
+    pub(crate) sender: EndpointId,
+    pub(crate) tag: u64,
+    pub(crate) zero: bool,
+    pub(crate) ranges: PageRanges,
+    pub(crate) receivers: ArrayVec<Receiver, MOST_RECEIVERS>,
+    pub(crate) held: Holders,
 }
 
 impl OpenTransaction {
@@ -86,7 +86,11 @@ impl OpenTransaction {
     }
 
     // What all its pages have.
-    pub(crate) fn common(&self, pages: &PageTable, base: Address) -> Common
+    pub(crate) fn common<P: Room<KeptPage> + Drop>(
+        &self,
+        pages: &PageTable<P>,
+        base: Address,
+    ) -> Common
         requires { ArePlaced base.0 (length pages.now) self.now.ranges }
         ensures writable { result.is_writable ≡ are_writable (own_rights_in pages.now base.0) self.now.ranges }
         ensures executable { result.is_executable ≡ are_executable (own_rights_in pages.now base.0) self.now.ranges }
@@ -95,11 +99,11 @@ impl OpenTransaction {
     }
 
     // Gives its pages back to the sender, who has its own right to them, and zeros where that is asked.
-    pub(crate) fn give_back<M: PhysMem>(
+    pub(crate) fn give_back<M: PhysMem, P: Room<KeptPage> + Drop>(
         &self,
         ram: &mut M,
         layout: &Layout,
-        pages: &mut PageTable,
+        pages: &mut PageTable<P>,
         zero: bool,
     )
         requires { IsHeld (M.ram ram.old) layout.now.base.0 (array_vec_len layout.now.regions) layout.now.blocks pages.old (view_of self.now) }
@@ -117,11 +121,11 @@ impl OpenTransaction {
 
     // Takes its pages from the sender, who keeps its own right to them in a share alone: they are marked with the slot, and
     // zeros where that is asked.
-    pub(crate) fn take_pages<M: PhysMem>(
+    pub(crate) fn take_pages<M: PhysMem, P: Room<KeptPage> + Drop>(
         &self,
         ram: &mut M,
         layout: &Layout,
-        pages: &mut PageTable,
+        pages: &mut PageTable<P>,
         slot: u8,
     )
         requires { IsHeld (M.ram ram.old) layout.now.base.0 (array_vec_len layout.now.regions) layout.now.blocks pages.old (view_of self.now) }

@@ -1,18 +1,18 @@
 -- SPDX-License-Identifier: MIT OR Apache-2.0
 -- What an accepted manifest gives, fact by fact.
-use Rattle.std.proofs.Common.{◌≡◌, ℕ, ◌%◌, ◌≤◌, true, List, length}
+use Rattle.std.proofs.Common.{◌≡◌, ℕ, ◌-◌, ◌%◌, ◌^◌, ◌≤◌, true, List, length}
 use Rattle.std.specs.List.{list_all}
 use Rattle.std.proofs.lemmas.Bool.{and_parts, leb-true, eqb-true}
-use Rattle.ffa_model.specs.declared.limits.TheConstants.{MOST_ENDPOINTS}
+use Rattle.ffa_model.specs.declared.limits.TheConstants.{MOST_BLOCKS, MOST_ENDPOINTS, MOST_RAM}
 use Rattle.ffa_model.specs.declared.endpoint.Endpoint.{Endpoint}
 use Rattle.ffa_model.specs.Manifest.{is_accepted, is_placed, are_identified, are_counted, are_apart, regions_of}
 
 pub record Accepted (base blocks : ℕ) (es : List Endpoint) : Type 0 where
-  pub aligned : base % 0x4000000 ≡ 0
-  pub lowest : 0x4000000 ≤ base
-  pub highest : base ≤ 0xFC000000
+  pub aligned : base % MOST_RAM ≡ 0
+  pub lowest : MOST_RAM ≤ base
+  pub highest : base ≤ 2 ^ 32 - MOST_RAM
   pub some_blocks : 1 ≤ blocks
-  pub few_blocks : blocks ≤ 32
+  pub few_blocks : blocks ≤ MOST_BLOCKS
   pub some_endpoints : 1 ≤ length es
   pub few_endpoints : length es ≤ MOST_ENDPOINTS
   pub identified : are_identified es ≡ true

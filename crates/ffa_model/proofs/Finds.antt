@@ -2,6 +2,8 @@
 -- The first element that passes a test.
 use Rattle.std.proofs.Common.{◌≡◌, ◌∙◌, ℕ, zero, suc, ◌<◌, Bool, true, false, cond, List, [], ◌∷◌, filter, Option, Some, None, refl, ap, arith}
 use Rattle.std.specs.Prelude.{◌&&◌, find, if◌then◌else◌}
+use Rattle.std.specs.List.{All}
+use Rattle.std.proofs.lemmas.List.Elements.{All-head, All-tail}
 use Rattle.ffa_model.specs.Lists.{listed}
 
 -- of those that pass another test
@@ -33,3 +35,9 @@ pub find-same : {X : Type 0} (test also : X → Bool) (n : ℕ) (f : ℕ → X) 
 find-same test also zero f same = refl
 find-same test also (suc n) f same =
     λ i. cond (same 0 (omega arith) i) (Some (f 0)) (find-same test also n (λ k. f (suc k)) (λ k lt. same (suc k) (omega arith)) i)
+
+pub find-alike : {X : Type 0} (test also : X → Bool) (xs : List X) → All (λ x. test x ≡ also x) xs → find test xs ≡ find also xs
+find-alike test also [] same = refl
+find-alike {X = X} test also (x ∷ xs) same =
+    let P : X → Type 0 = λ y. test y ≡ also y in
+    λ i. cond (All-head P x xs same i) (Some x) (find-alike test also xs (All-tail P x xs same) i)

@@ -3,9 +3,10 @@
 use Rattle.std.proofs.Common.{◌≡◌, ◌∙◌, ℕ, suc, zero, ◌+◌, ◌*◌, ◌<◌, ◌≤◌, Bool, true, false, cond, List, [], ◌∷◌, ◌++◌, length, get_or, map, Option, Some, None, refl, sym, ap, subst, arith}
 use Rattle.std.specs.Prelude.{◌==◌, find, is_some}
 use Rattle.std.specs.Option.{option_map, option_map_or, option_or}
-use Rattle.std.specs.List.{list_all, flat_map, enumerate_from}
+use Rattle.std.specs.List.{All, list_all, flat_map, enumerate_from}
 use Rattle.std.proofs.lemmas.Bool.{true≢false, false≢true, and_parts, eq-eqb, eqb-true, ne_eqb}
 use Rattle.std.proofs.lemmas.Bool.Decides.{nat_tests}
+use Rattle.std.proofs.lemmas.List.Elements.{All-append, All-head, All-map, All-nil, All-tail}
 use Rattle.std.proofs.lemmas.List.Folds.{find-append, list_all-append, list_all-map}
 use Rattle.ffa_model.specs.declared.endpoint.Region.{Region}
 use Rattle.ffa_model.specs.declared.endpoint.Endpoint.{Endpoint}
@@ -74,6 +75,16 @@ has base p x = has_page base p x.1
 abbrev right_if : ℕ → Option (ℕ × Region) → Option Rights
 right_if e None = None
 right_if e (Some x) = cond (x.0 == e) (Some x.1.rights) None
+
+-- what holds of each region of each endpoint
+pub All-owned : (P : Region → Type 0) (k : ℕ) (es : List Endpoint) → All (λ (e : Endpoint). All P e.regions.items) es → All (λ (x : ℕ × Region). P x.1) (owned_from k es)
+All-owned P k [] all = All-nil (λ (x : ℕ × Region). P x.1)
+All-owned P k (e ∷ es) all =
+    let each : Endpoint → Type 0 = λ (e : Endpoint). All P e.regions.items in
+    let owned : ℕ × Region → Type 0 = λ (x : ℕ × Region). P x.1 in
+    All-append owned (map (λ (r : Region). (identifier k, r)) e.regions.items) (owned_from (k + 1) es)
+    (All-map owned (λ (r : Region). (identifier k, r)) e.regions.items (All-head each e es all))
+    (All-owned P (k + 1) es (All-tail each e es all))
 
 find-owned : (base p o : ℕ) (rs : List Region) → find (has base p) (map (λ (r : Region). (o, r)) rs) ≡ option_map (λ (r : Region). (o, r)) (find (has_page base p) rs)
 find-owned base p o [] = refl

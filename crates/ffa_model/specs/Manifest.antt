@@ -1,8 +1,8 @@
 -- SPDX-License-Identifier: MIT OR Apache-2.0
 -- Which parts make a machine, and where its tables stand.
-use Rattle.std.specs.Prelude.{ℕ, ◌+◌, ◌*◌, ◌%◌, ◌==◌, ◌&&◌, ◌||◌, nat_lt, nat_le, not, Bool, true, false, List, [], ◌∷◌, length}
+use Rattle.std.specs.Prelude.{ℕ, ◌+◌, ◌-◌, ◌*◌, ◌^◌, ◌%◌, ◌==◌, ◌&&◌, ◌||◌, nat_lt, nat_le, not, Bool, true, false, List, [], ◌∷◌, length}
 use Rattle.std.specs.List.{list_all, flat_map}
-use Rattle.ffa_model.specs.declared.limits.TheConstants.{MOST_ENDPOINTS, MOST_REGIONS}
+use Rattle.ffa_model.specs.declared.limits.TheConstants.{MOST_BLOCKS, MOST_ENDPOINTS, MOST_RAM, MOST_REGIONS}
 use Rattle.ffa_model.specs.declared.endpoint.Region.{Region}
 use Rattle.ffa_model.specs.declared.endpoint.Endpoint.{Endpoint}
 use Rattle.ffa_model.specs.Bits.{is_set}
@@ -22,9 +22,9 @@ tables_end base blocks count = root_of base blocks count
 abbrev pub ram_end : ℕ → ℕ → ℕ
 ram_end base blocks = base + 0x200000 * blocks
 
--- a multiple of 64 MiB from 0x04000000 to 0xFC000000
+-- a multiple of the largest RAM, but not 0, from which the largest RAM ends at 2^32 at most
 abbrev pub is_ram_base : ℕ → Bool
-is_ram_base base = (base % 0x4000000 == 0 && nat_le 0x4000000 base) && nat_le base 0xFC000000
+is_ram_base base = (base % MOST_RAM == 0 && nat_le MOST_RAM base) && nat_le base (2 ^ 32 - MOST_RAM)
 
 -- between these two, each included
 abbrev pub is_from_to : ℕ → ℕ → ℕ → Bool
@@ -68,5 +68,5 @@ are_counted es = list_all (λ (e : Endpoint). is_from_to 1 MOST_REGIONS (length 
 -- the conditions of an accepted manifest
 abbrev pub is_accepted : ℕ → ℕ → List Endpoint → Bool
 is_accepted base blocks es =
-    ((is_ram_base base && is_from_to 1 32 blocks) && (is_from_to 1 MOST_ENDPOINTS (length es) && are_identified es))
+    ((is_ram_base base && is_from_to 1 MOST_BLOCKS blocks) && (is_from_to 1 MOST_ENDPOINTS (length es) && are_identified es))
     && (are_counted es && (list_all (is_placed base blocks (length es)) (regions_of es) && are_apart (regions_of es)))

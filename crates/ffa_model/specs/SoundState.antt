@@ -3,7 +3,7 @@
 use Rattle.std.specs.Prelude.{◌≡◌, ◌<◌, ◌≤◌, ℕ, ◌*◌, ◌^◌, true, nat_lt, List, length, Some, None, slice_get}
 use Rattle.std.specs.List.{list_all}
 use Rattle.std.specs.FinSet as finite_set
-use Rattle.ffa_model.specs.declared.limits.TheConstants.{MOST_BUFFER_PAGES, MOST_ENDPOINTS, MOST_OPEN, MOST_RANGES, MOST_SENDS}
+use Rattle.ffa_model.specs.declared.limits.TheConstants.{MOST_BLOCKS, MOST_BUFFER_PAGES, MOST_ENDPOINTS, MOST_OPEN, MOST_RANGES, MOST_SENDS}
 use Rattle.ffa_model.specs.declared.rights.Rights.{Rights}
 use Rattle.ffa_model.specs.declared.rights.Kind.TheVariants.{Donate}
 use Rattle.ffa_model.specs.Lists.{is_in_run}
@@ -97,7 +97,7 @@ pub record IsSized (s : State) : Type 0 where
   pub some : 1 ≤ length s.parties
   pub few : length s.parties ≤ MOST_ENDPOINTS
   pub base : is_ram_base s.ram_base ≡ true
-  pub blocks : (n : ℕ) × (length s.pages ≡ 512 * n) × (1 ≤ n) × (n ≤ 32)
+  pub blocks : (n : ℕ) × (length s.pages ≡ 512 * n) × (1 ≤ n) × (n ≤ MOST_BLOCKS)
   pub sent : length s.sent ≡ length s.parties
   pub buffers : length s.buffers ≡ length s.parties
   pub works : length s.works ≡ length s.parties

@@ -1,6 +1,6 @@
 // SPDX-License-Identifier: MIT OR Apache-2.0
 //! Endpoints, pages and regions.
-ghost use Rattle.std.specs.Prelude.{⊤, true, ◌≡◌, ◌<◌, ◌^◌, [], ◌∷◌, codes};
+ghost use Rattle.std.specs.Prelude.{⊤, true, ◌≡◌, ◌↔◌, ℕ, ◌+◌, ◌*◌, ◌<◌, ◌≤◌, ◌^◌, [], ◌∷◌, All, codes};
 ghost use Rattle.ffa_model.specs.Bits.{high_half, low_half};
 ghost use Rattle.ffa_model.specs.Identifiers.{identifier, place};
 ghost use Rattle.ffa_model.specs.Regions.{has_page, right_in};
@@ -142,6 +142,35 @@ impl Region {
         let start = u64::from(self.base);
         start <= address && address < start + 4096 * u64::from(self.pages)
     }
+
+    /// Up to which page of the RAM at this address, at most an end, the region has all pages from one on or none of them.
+    pub fn alike_until(&self, ram_base: Address, first: PageNo, end: u32) -> u32
+        requires { first.0 < end }
+        ensures some { first.0 < result }
+        ensures end { result ≤ end }
+        ensures alike { (p : ℕ) → first.0 ≤ p → p < result →
+            has_page ram_base.0 p self.now ≡ has_page ram_base.0 first.0 self.now }
+    {
+        let page = u64::from(first.0);
+        let start = u64::from(self.base);
+        let from = pages_below(ram_base, start);
+        let to = pages_below(ram_base, start + 4096 * u64::from(self.pages));
+        let until = if page < from {
+            from
+        } else if page < to {
+            to
+        } else {
+            u64::from(end)
+        };
+        until.min(u64::from(end)) as u32
+    }
+}
+
+// How many pages of the RAM at this address begin below another address, if the RAM goes on so far.
+fn pages_below(ram_base: Address, address: u64) -> u64
+    ensures { (p : ℕ) → (p < result) ↔ (ram_base.0 + 4096 * p < address) }
+{
+    address.saturating_sub(u64::from(ram_base.0)).div_ceil(4096)
 }
 
 /// An endpoint as the manifest gives it. The UUID of the normal world is zeros.
@@ -200,4 +229,20 @@ pub fn right_in(regions: &[Region], ram_base: Address, page: PageNo) -> Option<R
         .iter()
         .find(|region| region.has_page(ram_base, page))
         .map(|region| region.rights)
+}
+
+/// Up to which page of the RAM at this address, at most an end, each of these regions has all pages from one on or none
+/// of them.
+pub fn regions_until(regions: &[Region], ram_base: Address, first: PageNo, end: u32) -> u32
+    requires { first.0 < end }
+    ensures some { first.0 < result }
+    ensures end { result ≤ end }
+    ensures alike { (p : ℕ) → first.0 ≤ p → p < result →
+        All (λ r. has_page ram_base.0 p r ≡ has_page ram_base.0 first.0 r) regions.now }
+{
+    let mut until = end;
+    for region in regions {
+        until = region.alike_until(ram_base, first, until);
+    }
+    until
 }

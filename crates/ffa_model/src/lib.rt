@@ -8,6 +8,7 @@ pub mod descriptor;
 pub mod endpoint;
 pub mod flaw;
 pub mod function;
+pub mod home;
 pub mod leaf;
 pub mod limits;
 pub mod machines;
@@ -15,6 +16,7 @@ pub mod manifest;
 pub mod operation;
 pub mod refusal;
 pub mod rights;
+pub mod room;
 pub mod schedule;
 pub mod transaction;
 pub mod why;
@@ -22,21 +24,25 @@ pub mod why;
 pub use call::{Call, Reply, Transfer};
 pub use certificate::CertRun;
 pub use descriptor::{RelinquishDesc, Response, RetrieveDesc, SendDesc};
-pub use endpoint::{Address, Endpoint, EndpointId, PageNo, Properties, Region, Version, right_in};
+pub use endpoint::{
+    Address, Endpoint, EndpointId, PageNo, Properties, Region, Version, regions_until, right_in,
+};
 pub use flaw::{
     AccessFlaw, CompositeFlaw, FieldPlace, Flaw, HeaderFlaw, RangeFlaw, RelinquishFlaw,
     RetrieveFlaw, SendFlaw,
 };
+pub use home::{Here, Home};
 pub use leaf::Leaf;
 pub use limits::{
-    MOST_BUFFER_PAGES, MOST_ENDPOINTS, MOST_OPEN, MOST_RANGES, MOST_RECEIVERS, MOST_REGIONS,
-    MOST_SENDS,
+    MOST_BLOCKS, MOST_BUFFER_PAGES, MOST_ENDPOINTS, MOST_OPEN, MOST_PAGES, MOST_RAM, MOST_RANGES,
+    MOST_RECEIVERS, MOST_REGIONS, MOST_SENDS,
 };
 pub use machines::{built_in, row_machine};
 pub use manifest::Manifest;
 pub use operation::{ErrorCode, FaultKind, Op, Outcome, Size};
 pub use refusal::Refusal;
 pub use rights::{Data, Kind, Rights};
+pub use room::Room;
 pub use schedule::{Status, Work};
 pub use transaction::{Range, Receiver};
 pub use why::{About, Grant, Obstacle, Why};

@@ -1,6 +1,15 @@
 // SPDX-License-Identifier: MIT OR Apache-2.0
 //! How much a machine has room for. Each limit stands here once, and every definition, contract and array names it.
 
+/// The most blocks of RAM, of 2 MiB each: a power of two up to 512, so that RAM stands in one table of level 2.
+pub const MOST_BLOCKS: u32 = 32;
+
+/// The most bytes of RAM, of which RAM's base is a multiple.
+pub const MOST_RAM: u64 = 0x20_0000 * MOST_BLOCKS as u64;
+
+/// The most pages of RAM.
+pub const MOST_PAGES: usize = 512 * MOST_BLOCKS as usize;
+
 /// The most endpoints of a machine: the normal world and the partitions.
 pub const MOST_ENDPOINTS: usize = 8;
 

@@ -1,13 +1,13 @@
 // SPDX-License-Identifier: MIT OR Apache-2.0
 //! The manifest of a machine.
-ghost use Rattle.std.specs.Prelude.{true, ◌≡◌, ◌+◌, ◌*◌, ◌<◌, length, map};
+ghost use Rattle.std.specs.Prelude.{true, ◌≡◌, ℕ, ◌+◌, ◌*◌, ◌<◌, ◌≤◌, All, length, map};
 ghost use Rattle.ffa_model.specs.First.{party_of};
 ghost use Rattle.ffa_model.specs.Manifest.{is_accepted, root_of};
-ghost use Rattle.ffa_model.specs.Regions.{right_in, regions_at, owner_in};
+ghost use Rattle.ffa_model.specs.Regions.{has_page, right_in, regions_at, owned_regions, owner_in};
 ghost use Rattle.ffa_model.specs.State.{is_known_among, version_among};
 ghost use Rattle.ffa_model.specs.Endpoints.{have_uuids};
 
-use crate::endpoint::{Address, Endpoint, EndpointId, PageNo, Version};
+use crate::endpoint::{Address, Endpoint, EndpointId, PageNo, Version, regions_until};
 use crate::limits::MOST_ENDPOINTS;
 use crate::rights::Rights;
 use arrayvec::ArrayVec;
@@ -83,6 +83,22 @@ impl Manifest {
             }
         }
         EndpointId::MANAGER
+    }
+
+    /// Up to which page, at most an end, each region of each endpoint has all pages from one on or none of them.
+    pub fn alike_until(&self, first: PageNo, end: u32) -> u32
+        requires { first.0 < end }
+        ensures some { first.0 < result }
+        ensures end { result ≤ end }
+        ensures alike { (p : ℕ) → first.0 ≤ p → p < result →
+            All (λ x. has_page self.now.ram_base.0 p x.1 ≡ has_page self.now.ram_base.0 first.0 x.1)
+            (owned_regions self.now.endpoints.items) }
+    {
+        let mut until = end;
+        for endpoint in self.endpoints.as_slice() {
+            until = regions_until(endpoint.regions.as_slice(), self.ram_base, first, until);
+        }
+        until
     }
 
     /// The same manifest once more, whose UUIDs have 16 bytes each, as the types say. It takes no memory.

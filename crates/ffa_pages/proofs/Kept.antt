@@ -5,8 +5,8 @@ use Rattle.std.specs.Prelude.{◌==◌, if◌then◌else◌}
 use Rattle.std.specs.Option.{option_map}
 use Rattle.ffa_model.specs.declared.rights.Rights.{Rights}
 use Rattle.ffa_model.specs.Identifiers.{manager}
-use Rattle.ffa_pages.specs.declared.table.KeptPage.{KeptPage}
-use Rattle.ffa_pages.specs.declared.table.Standing.{Standing}
+use Rattle.ffa_pages.specs.declared.page.KeptPage.{KeptPage}
+use Rattle.ffa_pages.specs.declared.page.Standing.{Standing}
 use Rattle.ffa_pages.specs.Entry.{Entry}
 use Rattle.ffa_pages.specs.Stored.{own_right_in, slot_in, standing_of, entry_of, entries_of}
 

@@ -6,9 +6,9 @@ use Rattle.std.specs.Option.{option_map}
 use Rattle.ffa_model.specs.declared.rights.Data.TheVariants.{Ro, Rw}
 use Rattle.ffa_model.specs.declared.rights.Rights.{Rights}
 use Rattle.ffa_model.specs.Identifiers.{manager}
-use Rattle.ffa_pages.specs.declared.table.KeptPage.{KeptPage}
-use Rattle.ffa_pages.specs.declared.table.Standing.{Standing}
-use Rattle.ffa_pages.specs.declared.table.Standing.TheVariants.{Read, ReadExecute, Write, WriteExecute, NamedRead, NamedReadExecute, NamedWrite, NamedWriteExecute}
+use Rattle.ffa_pages.specs.declared.page.KeptPage.{KeptPage}
+use Rattle.ffa_pages.specs.declared.page.Standing.{Standing}
+use Rattle.ffa_pages.specs.declared.page.Standing.TheVariants.{Read, ReadExecute, Write, WriteExecute, NamedRead, NamedReadExecute, NamedWrite, NamedWriteExecute}
 use Rattle.ffa_pages.specs.Entry.{Entry}
 
 abbrev pub own_right_in : Standing → Rights

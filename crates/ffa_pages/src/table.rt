@@ -1,136 +1,52 @@
 // SPDX-License-Identifier: MIT OR Apache-2.0
 //! The owners of pages.
-ghost use Rattle.std.specs.Prelude.{◌≡◌, ◌≢◌, ℕ, ◌*◌, ◌<◌, ◌≤◌, ◌⊎◌, [], length, slice_set};
+ghost use Rattle.std.specs.Prelude.{◌≡◌, ◌≢◌, ℕ, ◌*◌, ◌<◌, ◌≤◌, ◌⊎◌, [], length, slice_set, IfOk, OnOk, OnErr};
+ghost use Rattle.ffa_model.specs.declared.limits.TheConstants.{MOST_PAGES};
 ghost use Rattle.ffa_model.specs.Identifiers.{manager};
 ghost use Rattle.ffa_model.specs.Lists.{listed};
 ghost use Rattle.ffa_pages.specs.Entry.{entry_at, owner_at, own_right_at, slot_at, given, marked, first_entry};
-ghost use Rattle.ffa_pages.specs.Stored.{own_right_in, slot_in, standing_of, entry_of, entries_of};
+ghost use Rattle.ffa_pages.specs.Stored.{entry_of, entries_of};
 
+use crate::page::{KeptPage, Standing};
 use arrayvec::ArrayVec;
-use ffa_model::{Data, EndpointId, Manifest, PageNo, Rights};
+use ffa_model::{EndpointId, MOST_PAGES, Manifest, PageNo, Rights, Room};
+use std::alloc::{AllocError, Allocator};
 use std::marker::Model;
-use std::mem::size_of;
-
-/// The most pages that RAM has: 32 blocks of 512.
-const MOST_PAGES: usize = 16384;
-
-// The right of a page's owner while the page stands in no open transaction, and the place in the pool of the open
-// transaction that names the page. One enum has both in two bytes: as two fields they take four.
-#[derive(Clone, Copy, Default, PartialEq, Eq)]
-enum Standing {
-    #[default]
-    Read,
-    ReadExecute,
-    Write,
-    WriteExecute,
-    NamedRead(u8),
-    NamedReadExecute(u8),
-    NamedWrite(u8),
-    NamedWriteExecute(u8),
-}
-
-impl Standing {
-    fn of(own_right: Rights, slot: Option<u8>) -> Standing
-        ensures own_right { own_right_in result ≡ own_right }
-        ensures slot { slot_in result ≡ slot }
-    {
-        match (own_right.level, own_right.exec, slot) {
-            (Data::Ro, false, None) => Standing::Read,
-            (Data::Ro, true, None) => Standing::ReadExecute,
-            (Data::Rw, false, None) => Standing::Write,
-            (Data::Rw, true, None) => Standing::WriteExecute,
-            (Data::Ro, false, Some(slot)) => Standing::NamedRead(slot),
-            (Data::Ro, true, Some(slot)) => Standing::NamedReadExecute(slot),
-            (Data::Rw, false, Some(slot)) => Standing::NamedWrite(slot),
-            (Data::Rw, true, Some(slot)) => Standing::NamedWriteExecute(slot),
-        }
-    }
-
-    fn own_right(self) -> Rights
-        ensures { result ≡ own_right_in self }
-    {
-        let (level, exec) = match self {
-            Standing::Read | Standing::NamedRead(_) => (Data::Ro, false),
-            Standing::ReadExecute | Standing::NamedReadExecute(_) => (Data::Ro, true),
-            Standing::Write | Standing::NamedWrite(_) => (Data::Rw, false),
-            Standing::WriteExecute | Standing::NamedWriteExecute(_) => (Data::Rw, true),
-        };
-        Rights { level, exec }
-    }
-
-    fn slot(self) -> Option<u8>
-        ensures { result ≡ slot_in self }
-    {
-        match self {
-            Standing::NamedRead(slot)
-            | Standing::NamedReadExecute(slot)
-            | Standing::NamedWrite(slot)
-            | Standing::NamedWriteExecute(slot) => Some(slot),
-            Standing::Read | Standing::ReadExecute | Standing::Write | Standing::WriteExecute =>
-                None,
-        }
-    }
-}
-
-// What is kept of a page, in four bytes. Of a page of the manager, which `EndpointId::MANAGER` owns, the standing says
-// nothing.
-#[derive(Clone, Copy, Default, PartialEq, Eq)]
-struct KeptPage {
-    owner: EndpointId,
-    standing: Standing,
-}
-
-const _: () = prove!(size_of::<KeptPage>() == 4);
-
-impl KeptPage {
-    // A page of the manager.
-    const MANAGERS: KeptPage = KeptPage {
-        owner: EndpointId::MANAGER,
-        standing: Standing::Read,
-    };
-
-    // The standing of a page that an endpoint owns.
-    fn owned(self) -> Option<Standing>
-        ensures { result ≡ standing_of self }
-    {
-        if self.owner == EndpointId::MANAGER {
-            None
-        } else {
-            Some(self.standing)
-        }
-    }
-}
 
 /// Of each page of RAM its owner, the owner's right to it while it stands in no open transaction, and the place of the
-/// open transaction that names it in the pool of these. It takes no memory beyond itself.
+/// open transaction that names it in the pool of these. It lies in the table itself, or in memory of an allocator.
 #[derive(Drop)]
-pub struct PageTable {
-    pages: ArrayVec<KeptPage, MOST_PAGES>,
+pub struct PageTable<P: Room<KeptPage> + Drop = ArrayVec<KeptPage, MOST_PAGES>> {
+    pages: P,
 }
 
-impl Model for PageTable {
-    ghost use Rattle.std.specs.Prelude.{List, Option};
+impl<P: Room<KeptPage> + Drop> Model for PageTable<P> {
+    ghost use Rattle.std.specs.Prelude.{◌≤◌, List, Option, length};
+    ghost use Rattle.ffa_model.specs.declared.limits.TheConstants.{MOST_PAGES};
     ghost use Rattle.ffa_pages.specs.Entry.{Entry};
 
     ghost Value = { List (Option Entry) };
 
     ghost use Rattle.ffa_pages.specs.Stored.{entries_of};
 
-    ghost view = { λ t. entries_of t.pages.items };
+    ghost view = { λ t. entries_of (P.items t.pages) };
+
+    ghost invariant = { λ t. length (P.items t.pages) ≤ MOST_PAGES };
 }
 
 impl PageTable {
     /// The table in which each page of a region is the region's endpoint's, with the region's right, all others are the
-    /// manager's, and no transaction is open.
+    /// manager's, and no transaction is open. It takes no memory.
     pub fn of(manifest: &Manifest) -> PageTable
         ensures { result ≡ listed (512 * manifest.now.ram_blocks) (first_entry manifest.now.ram_base.0 manifest.now.endpoints.items) }
     {
         let mut table = PageTable::none();
+        table.begin(512 * manifest.ram_blocks as usize);
         table.fill(manifest);
         table
     }
 
-    /// The table of no RAM at all.
+    /// The table of no RAM at all, with room for the largest.
     pub fn none() -> PageTable
         ensures { result ≡ [] }
     {
@@ -139,20 +55,63 @@ impl PageTable {
         }
     }
 
-    /// Makes the table of no RAM the one that `of` gives, where it stands: a table is large to move.
+    /// Makes the table of no RAM one of so many pages, which are the manager's, where it stands: it is large to move.
+    pub fn begin(&mut self, pages: usize)
+        requires none { self.old ≡ [] }
+        requires few { pages ≤ MOST_PAGES }
+        ensures { length self.new ≡ pages }
+    {
+        push_managers(&mut self.pages, pages);
+    }
+}
+
+impl<A: Allocator> PageTable<Vec<KeptPage, A>> {
+    /// The table of so many pages, which are the manager's, in memory of an allocator.
+    pub fn of_managers(alloc: A, pages: usize) -> Result<PageTable<Vec<KeptPage, A>>, AllocError>
+        requires { pages ≤ MOST_PAGES }
+        ensures { IfOk result (λ table. length table ≡ pages) }
+    {
+        let mut table = PageTable {
+            pages: Vec::new(alloc),
+        };
+        table.resize(pages)?;
+        Ok(table)
+    }
+
+    /// Makes it a table of so many pages. It takes memory only where it never had as many; where that is refused it stays as
+    /// it is.
+    pub fn resize(&mut self, pages: usize) -> Result<(), AllocError>
+        requires { pages ≤ MOST_PAGES }
+        ensures resized { OnOk result (length self.new ≡ pages) }
+        ensures refused { OnErr result (self.new ≡ self.old) }
+        ensures more { OnErr result (length self.old < pages) }
+    {
+        self.pages.resize(pages, KeptPage::MANAGERS)
+    }
+}
+
+impl<P: Room<KeptPage> + Drop> PageTable<P> {
+    /// Makes it the table in which each page of a region is the region's endpoint's, with the region's right, all others
+    /// are the manager's, and no transaction is open.
     pub fn fill(&mut self, manifest: &Manifest)
-        requires { self.old ≡ [] }
+        requires { length self.old ≡ 512 * manifest.now.ram_blocks }
         ensures { self.new ≡ listed (512 * manifest.now.ram_blocks) (first_entry manifest.now.ram_base.0 manifest.now.endpoints.items) }
     {
-        push_pages(&mut self.pages, manifest);
+        let end = 512 * manifest.ram_blocks;
+        let mut next = 0;
+        while next < end {
+            let until = alike_from(manifest, PageNo(next), end);
+            self.put_run(PageNo(next), until, first_kept(manifest, PageNo(next)));
+            next = until;
+        }
     }
 
     /// The number of pages.
     pub fn pages(&self) -> u32
         ensures count { result ≡ length self.now }
-        ensures most { result ≤ 16384 }
+        ensures most { result ≤ MOST_PAGES }
     {
-        self.pages.len() as u32
+        self.pages.count() as u32
     }
 
     /// The owner of a page, `EndpointId::MANAGER` where it is no endpoint's.
@@ -231,7 +190,18 @@ impl PageTable {
         ensures beside { (p : ℕ) → ((p < first.0) ⊎ (end ≤ p)) → entry_at self.new p ≡ entry_at self.old p }
     {
         let kept = self.kept(first);
-        for page in first.0 + 1..end {
+        self.put_run(PageNo(first.0 + 1), end, kept);
+    }
+
+    // Keeps the same of pages from one on, up to an end.
+    fn put_run(&mut self, first: PageNo, end: u32, kept: KeptPage)
+        requires some { first.0 ≤ end }
+        requires end { end ≤ length self.old }
+        ensures size { length self.new ≡ length self.old }
+        ensures like { (p : ℕ) → first.0 ≤ p → p < end → entry_at self.new p ≡ entry_of kept }
+        ensures beside { (p : ℕ) → ((p < first.0) ⊎ (end ≤ p)) → entry_at self.new p ≡ entry_at self.old p }
+    {
+        for page in first.0..end {
             self.put(PageNo(page), kept);
         }
     }
@@ -241,7 +211,7 @@ impl PageTable {
         requires { page.0 < length self.old }
         ensures { self.new ≡ slice_set self.old page.0 (entry_of kept) }
     {
-        self.pages[page.0 as usize] = kept;
+        *self.pages.at_mut(page.0 as usize) = kept;
     }
 
     // What is kept of a page.
@@ -249,18 +219,29 @@ impl PageTable {
         requires { page.0 < length self.now }
         ensures { entry_of result ≡ entry_at self.now page.0 }
     {
-        self.pages[page.0 as usize]
+        *self.pages.at(page.0 as usize)
     }
 }
 
-// Appends what is kept of each page from the start, to nothing yet.
-fn push_pages(pages: &mut ArrayVec<KeptPage, MOST_PAGES>, manifest: &Manifest)
-    requires { pages.old.items ≡ [] }
-    ensures { entries_of pages.new.items ≡ listed (512 * manifest.now.ram_blocks) (first_entry manifest.now.ram_base.0 manifest.now.endpoints.items) }
+// Appends so many pages of the manager to nothing yet.
+fn push_managers(pages: &mut ArrayVec<KeptPage, MOST_PAGES>, count: usize)
+    requires none { pages.old.items ≡ [] }
+    requires few { count ≤ MOST_PAGES }
+    ensures { length pages.new.items ≡ count }
 {
-    for page in 0..512 * manifest.ram_blocks {
-        pages.push(first_kept(manifest, PageNo(page)));
+    for _page in 0..count {
+        pages.push(KeptPage::MANAGERS);
     }
+}
+
+// Up to which page, at most an end, the regions of a manifest have all pages from one on alike.
+fn alike_from(manifest: &Manifest, first: PageNo, end: u32) -> u32
+    requires { first.0 < end }
+    ensures some { first.0 < result }
+    ensures end { result ≤ end }
+    ensures alike { (p : ℕ) → first.0 ≤ p → p < result → first_entry manifest.now.ram_base.0 manifest.now.endpoints.items p ≡ first_entry manifest.now.ram_base.0 manifest.now.endpoints.items first.0 }
+{
+    manifest.alike_until(first, end)
 }
 
 // What is kept of a page from the start.

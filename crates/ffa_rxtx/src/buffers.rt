@@ -17,9 +17,9 @@ ghost use Rattle.ffa_rxtx.specs.Stored.{buffers_of};
 
 use arrayvec::ArrayVec;
 use ffa_model::{
-    Address, Data, EndpointId, ErrorCode, MOST_BUFFER_PAGES, MOST_ENDPOINTS, PageNo, Refusal,
+    Address, Data, EndpointId, ErrorCode, MOST_BUFFER_PAGES, MOST_ENDPOINTS, PageNo, Refusal, Room,
 };
-use ffa_pages::PageTable;
+use ffa_pages::{KeptPage, PageTable};
 use ffa_physmem::{PAGE_SIZE, PhysMem, put_front};
 use std::marker::Model;
 
@@ -123,9 +123,9 @@ impl Buffers {
     /// In this order: `Denied` where the caller has buffers; `InvalidParameters` where they aren't one to four pages, an
     /// address isn't that of a page, a page isn't in RAM, or one is in both; `Denied` where a page isn't the caller's,
     /// stands in an open transaction, or has an own right without rw. An error changes nothing.
-    pub fn map(
+    pub fn map<P: Room<KeptPage> + Drop>(
         &mut self,
-        table: &PageTable,
+        table: &PageTable<P>,
         ram_base: Address,
         caller: EndpointId,
         tx: u64,
@@ -180,9 +180,9 @@ impl Buffers {
     /// # Errors
     ///
     /// The first check of the call that fails.
-    pub fn check_map(
+    pub fn check_map<P: Room<KeptPage> + Drop>(
         &self,
-        table: &PageTable,
+        table: &PageTable<P>,
         ram_base: Address,
         caller: EndpointId,
         tx: u64,
@@ -328,8 +328,8 @@ fn are_apart(first: PageNo, other: PageNo, pages: u32) -> bool
 }
 
 // The first of this many pages at an address, if they are there.
-pub(crate) fn run_at(
-    table: &PageTable,
+pub(crate) fn run_at<P: Room<KeptPage> + Drop>(
+    table: &PageTable<P>,
     ram_base: Address,
     address: u64,
     pages: u32,
@@ -350,7 +350,12 @@ pub(crate) fn run_at(
 }
 
 // Whether an endpoint owns each of this many pages alone and may write it.
-fn are_usable(table: &PageTable, endpoint: EndpointId, first: PageNo, pages: u32) -> bool
+fn are_usable<P: Room<KeptPage> + Drop>(
+    table: &PageTable<P>,
+    endpoint: EndpointId,
+    first: PageNo,
+    pages: u32,
+) -> bool
     requires { first.0 + pages ≤ length table.now }
     ensures { result ≡ list_all (λ p. is_usable endpoint.0 (candidate_in table.now p)) (run first.0 pages) }
 {
@@ -365,7 +370,11 @@ fn are_usable(table: &PageTable, endpoint: EndpointId, first: PageNo, pages: u32
 }
 
 // Whether an endpoint owns a page alone and may write it.
-pub(crate) fn is_usable(table: &PageTable, endpoint: EndpointId, page: PageNo) -> bool
+pub(crate) fn is_usable<P: Room<KeptPage> + Drop>(
+    table: &PageTable<P>,
+    endpoint: EndpointId,
+    page: PageNo,
+) -> bool
     requires { page.0 < length table.now }
     ensures { result ≡ is_usable endpoint.0 (candidate_in table.now page.0) }
 {

@@ -7,13 +7,13 @@ ghost use Rattle.ffa_model.specs.Lists.{run};
 ghost use Rattle.ffa_rxtx.specs.Parts.{candidate_in, candidates_in};
 
 use crate::buffers::{is_usable, run_at};
-use ffa_model::{Address, EndpointId, PageNo, Refusal};
-use ffa_pages::PageTable;
+use ffa_model::{Address, EndpointId, PageNo, Refusal, Room};
+use ffa_pages::{KeptPage, PageTable};
 
 /// The page that a check of FFA_RXTX_MAP of an endpoint is about, where it fails: the first page of TX, or of RX, that can't be
 /// one of its buffers.
-pub fn failing_map(
-    table: &PageTable,
+pub fn failing_map<P: Room<KeptPage> + Drop>(
+    table: &PageTable<P>,
     ram_base: Address,
     caller: EndpointId,
     tx: u64,
@@ -31,8 +31,8 @@ pub fn failing_map(
 }
 
 // The first of this many pages from an address on that an endpoint can't have a buffer in, where they are in RAM.
-fn unusable_from(
-    table: &PageTable,
+fn unusable_from<P: Room<KeptPage> + Drop>(
+    table: &PageTable<P>,
     ram_base: Address,
     endpoint: EndpointId,
     address: u64,
@@ -47,8 +47,8 @@ fn unusable_from(
 }
 
 // The first of this many pages that an endpoint doesn't own alone, or may not write.
-fn first_unusable(
-    table: &PageTable,
+fn first_unusable<P: Room<KeptPage> + Drop>(
+    table: &PageTable<P>,
     endpoint: EndpointId,
     first: PageNo,
     pages: u32,

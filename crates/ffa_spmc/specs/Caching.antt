@@ -2,6 +2,7 @@
 -- FOR PROOFS ALONE
 -- What the machine's private steps do to its cache.
 use Rattle.std.specs.Prelude.{◌≡◌, ℕ, ◌+◌, ◌-◌, ◌%◌, ◌==◌, Bool, ◌&&◌, List, Option, None, if◌then◌else◌}
+use Rattle.ffa_model.specs.declared.limits.TheConstants.{MOST_PAGES}
 use Rattle.ffa_model.specs.declared.leaf.Leaf.{Leaf}
 use Rattle.ffa_memshare.specs.declared.changed.Changed.{Changed}
 use Rattle.ffa_model.specs.State.{State}
@@ -29,7 +30,7 @@ AreOut old new e test = (f q : ℕ) → lookup new f q ≡ (if f == e && test q 
 
 -- the pages of the largest RAM
 abbrev pub most_pages : ℕ
-most_pages = 16384
+most_pages = MOST_PAGES
 
 -- of what a cache held nothing is left where an access changed, and all the rest
 pub record IsForgotten (old new : State) (held kept : List Entry) (changed : Option Changed) : Type 0 where

@@ -5,6 +5,9 @@ pub mod Snapshot
 pub mod Cached
 pub mod Caching
 pub mod Owners
+pub mod Storages
+pub mod FirstRecords
+pub mod KeptParts
 pub mod Meaning
 pub mod Replies
 pub mod AccessChange

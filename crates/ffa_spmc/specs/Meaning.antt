@@ -18,7 +18,7 @@ use Rattle.ffa_model.specs.First.{first}
 use Rattle.ffa_model.specs.SoundState.{IsSoundState}
 use Rattle.ffa_memshare.specs.Ranges.{ArePlaced, in_ranges}
 use Rattle.ffa_memshare.specs.Stored.{Slot, map_in, pool_slot}
-use Rattle.ffa_spmc.specs.declared.kept.Kept.{Kept}
+use Rattle.ffa_spmc.specs.KeptParts.{KeptParts}
 
 -- a page of the state, with the bytes that RAM holds
 abbrev pub held_page : Ram → List (Option Entry) → ℕ → Option Page
@@ -29,7 +29,7 @@ held_page ram owners p =
 pub record Parts : Type 0 where
   pub ram : Ram
   pub manifest : Manifest
-  pub kept : Kept
+  pub kept : KeptParts
 
 -- the state that they mean
 abbrev pub state_of : Parts → State

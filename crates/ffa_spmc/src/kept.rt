@@ -1,63 +1,64 @@
 // SPDX-License-Identifier: MIT OR Apache-2.0
 //! What a machine keeps beside its RAM.
-ghost use Rattle.std.specs.Prelude.{◌≡◌, [], None, length, map, replicate};
-ghost use Rattle.std.specs.FinSet as finite_set;
-ghost use Rattle.std.specs.List.{enumerate_from};
-ghost use Rattle.ffa_model.specs.First.{has_first_bitmaps};
+ghost use Rattle.std.specs.Prelude.{◌≡◌, ◌*◌, None, length, replicate};
+ghost use Rattle.ffa_model.specs.declared.limits.TheConstants.{MOST_OPEN};
+ghost use Rattle.ffa_model.specs.Lists.{listed};
 ghost use Rattle.ffa_model.specs.RunStates.{first_schedule};
+ghost use Rattle.ffa_pages.specs.Entry.{first_entry};
+ghost use Rattle.ffa_spmc.specs.FirstRecords.{AreFirstRecords};
+ghost use Rattle.ffa_spmc.specs.Storages.{IsRoomFor};
 
+use crate::records::Records;
+use crate::storage::{Inline, Storage, Store};
 use ffa_memshare::Pool;
-use ffa_model::Manifest;
-use ffa_notify::Bitmaps;
+use ffa_model::{Home, Manifest};
 use ffa_pages::PageTable;
 use ffa_rxtx::Buffers;
 use ffa_schedule::Chain;
-use ffa_stage2::Layout;
-use std::mem::size_of;
 
-/// What a machine keeps beside the RAM and the manifest.
+/// What a machine keeps beside the RAM.
 #[derive(Drop)]
-pub struct Kept {
-    /// Where the tables stand, and how many.
-    pub layout: Layout,
+pub struct Kept<S: Store = Inline> {
+    /// The manifest, the layout and the bitmaps of notifications.
+    pub records: S::Records,
     /// Who owns each page.
-    pub pages: PageTable,
+    pub pages: PageTable<S::Pages>,
     /// The open memory transactions.
-    pub pool: Pool,
+    pub pool: Pool<S::Open>,
     /// Each endpoint's buffers.
     pub buffers: Buffers,
     /// Who runs, and for whom.
     pub chain: Chain,
-    /// Who has bitmaps of notifications, which bits are bound, and which are pending.
-    pub bitmaps: Bitmaps,
 }
 
-const _: () = prove!(size_of::<Kept>() <= 131072);
-
-impl Kept {
-    /// What the machine of a manifest with this layout keeps at first, but for the owners and the slots of transactions,
-    /// which are still to be filled in: nobody has buffers, the normal world runs, and partitions that receive notifications
-    /// have bitmaps, of which no bit is bound or pending.
+impl<S: Store> Kept<S> {
+    /// What the machine of a manifest keeps at first: each page of a region is its endpoint's, nothing is open, nobody has
+    /// buffers, the normal world runs, and partitions that receive notifications have bitmaps, of which no bit is bound or
+    /// pending.
     // Inlined, as `Manager::first` is.
     #[inline(always)]
-    pub fn unfilled(manifest: &Manifest, layout: Layout) -> Kept
-        ensures layout { result.layout ≡ layout }
-        ensures pages { result.pages ≡ [] }
-        ensures slots { result.pool.slots ≡ [] }
-        ensures sent { result.pool.sent ≡ [] }
+    pub fn first(manifest: &Manifest, storage: Storage<S>) -> Kept<S>
+        requires { IsRoomFor manifest.now storage }
+        ensures records { AreFirstRecords manifest.now (S.Records.value result.records) }
+        ensures pages { result.pages ≡ listed (512 * manifest.now.ram_blocks) (first_entry manifest.now.ram_base.0 manifest.now.endpoints.items) }
+        ensures slots { result.pool.slots ≡ replicate (MOST_OPEN * length manifest.now.endpoints.items) None }
+        ensures sent { result.pool.sent ≡ replicate (length manifest.now.endpoints.items) 0 }
         ensures buffers { result.buffers ≡ replicate (length manifest.now.endpoints.items) None }
         ensures chain { result.chain ≡ first_schedule (length manifest.now.endpoints.items) }
-        ensures bitmaps { result.bitmaps.bitmaps ≡ map has_first_bitmaps (enumerate_from 0 manifest.now.endpoints.items) }
-        ensures bound { result.bitmaps.bound ≡ finite_set.empty }
-        ensures pending { result.bitmaps.pending ≡ finite_set.empty }
     {
+        let Storage {
+            mut pages,
+            pool,
+            mut records,
+        } = storage;
+        pages.fill(manifest);
+        *records.get_mut() = Records::of(manifest);
         Kept {
-            layout,
-            pages: PageTable::none(),
-            pool: Pool::none(),
+            records,
+            pages,
+            pool,
             buffers: Buffers::none(manifest.endpoints.len()),
             chain: Chain::first(manifest.endpoints.len()),
-            bitmaps: Bitmaps::of(manifest),
         }
     }
 }

@@ -7,7 +7,11 @@ mod kept;
 pub mod machine;
 mod manager;
 mod playable;
+mod records;
 mod replies;
 mod run;
+pub mod storage;
 
 pub use machine::Machine;
+pub use records::Records;
+pub use storage::{Given, Inline, Storage, Store};

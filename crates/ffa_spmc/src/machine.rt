@@ -24,6 +24,7 @@ ghost use Rattle.ffa_spmc.specs.Cached.{AreSameOrGone, AreForgotten, AreKept, Ar
 ghost use Rattle.ffa_spmc.specs.Operated.{AreOperated};
 ghost use Rattle.ffa_spmc.specs.Booted.{IsBooted};
 ghost use Rattle.ffa_spmc.specs.Moments.{AreMoments};
+ghost use Rattle.ffa_spmc.specs.Storages.{IsRoomFor};
 ghost use Rattle.ffa_spmc.specs.Unowned.{KeepsUnowned};
 
 mod accesses;
@@ -33,6 +34,7 @@ mod elsewhere;
 mod reasons;
 
 use crate::manager::Manager;
+use crate::storage::{Inline, Storage, Store};
 use ffa_memshare::{Changed, News};
 use ffa_model::{EndpointId, Manifest, Op, Outcome, PageNo, Rights};
 use ffa_physmem::PhysMem;
@@ -42,13 +44,13 @@ use std::marker::Model;
 /// A machine over any RAM, with any cache of leaves. Contracts see its state, which is that of the small machine, its RAM
 /// with every byte, what the cache holds, and what the machine tells of access that changed.
 #[derive(Drop)]
-pub struct Machine<M: PhysMem + Drop, T: Translations + Drop = NoTlb> {
-    manager: Manager<M>,
+pub struct Machine<M: PhysMem + Drop, T: Translations + Drop = NoTlb, S: Store = Inline> {
+    manager: Manager<M, S>,
     cache: T,
     news: News,
 }
 
-impl<M: PhysMem + Drop, T: Translations + Drop> Model for Machine<M, T> {
+impl<M: PhysMem + Drop, T: Translations + Drop, S: Store> Model for Machine<M, T, S> {
     ghost use Rattle.ffa_spmc.specs.Snapshot.{Snapshot, coded_snapshot};
 
     ghost Value = { Snapshot };
@@ -107,10 +109,57 @@ impl<M: PhysMem + Drop, T: Translations + Drop> Machine<M, T> {
         ensures held { result.held ≡ [] }
         ensures told { result.told ≡ None }
     {
+        Machine::first(manifest, ram, cache, Storage::inline(manifest))
+    }
+}
+
+impl<M: PhysMem + Drop, T: Translations + Drop, S: Store> Machine<M, T, S> {
+    /// The same machine, which keeps what it keeps of pages and open transactions in room of its caller's: so it is small
+    /// itself, wherever that room is.
+    #[inline(never)]
+    pub fn boot_in(storage: Storage<S>, manifest: &Manifest, ram: M, cache: T) -> Machine<M, T, S>
+        requires storage { IsRoomFor manifest.now storage }
+        requires base { (M.ram ram).base ≡ manifest.now.ram_base.0 }
+        requires size { length (M.ram ram).pages ≡ 512 * manifest.now.ram_blocks }
+        ensures booted { IsBooted manifest.now result.state result.ram }
+        ensures held { result.held ≡ [] }
+        ensures told { result.told ≡ None }
+    {
+        let mut ram = ram;
+        clear(&mut ram);
+        Machine::first(manifest, ram, cache, storage)
+    }
+
+    /// The same machine, in RAM of which every byte is zero already.
+    #[inline(never)]
+    pub fn boot_cleared_in(
+        storage: Storage<S>,
+        manifest: &Manifest,
+        ram: M,
+        cache: T,
+    ) -> Machine<M, T, S>
+        requires storage { IsRoomFor manifest.now storage }
+        requires ram { M.ram ram ≡ zero_ram manifest.now.ram_base.0 (512 * manifest.now.ram_blocks) }
+        ensures booted { IsBooted manifest.now result.state result.ram }
+        ensures held { result.held ≡ [] }
+        ensures told { result.told ≡ None }
+    {
+        Machine::first(manifest, ram, cache, storage)
+    }
+
+    // The machine of a manifest in RAM of zeros, with this room.
+    #[inline(always)]
+    fn first(manifest: &Manifest, ram: M, cache: T, storage: Storage<S>) -> Machine<M, T, S>
+        requires ram { M.ram ram ≡ zero_ram manifest.now.ram_base.0 (512 * manifest.now.ram_blocks) }
+        requires storage { IsRoomFor manifest.now storage }
+        ensures booted { IsBooted manifest.now result.state result.ram }
+        ensures held { result.held ≡ [] }
+        ensures told { result.told ≡ None }
+    {
         let mut cache = cache;
         cache.clear();
         Machine {
-            manager: Manager::first(manifest, ram),
+            manager: Manager::first(manifest, ram, storage),
             cache,
             news: News::none(),
         }
@@ -129,6 +178,18 @@ impl<M: PhysMem + Drop, T: Translations + Drop> Machine<M, T> {
         ensures { M.ram result ≡ self.ram }
     {
         self.manager.into_ram()
+    }
+
+    /// The same, with the room for another machine.
+    pub fn into_parts(self) -> (M, Storage<S>)
+        ensures { M.ram result.0 ≡ self.ram }
+    {
+        let Machine {
+            manager,
+            cache: _,
+            news: _,
+        } = self;
+        manager.into_parts()
     }
 
     /// The cache. Whatever it answers is what the walk of a page's first address answers now.

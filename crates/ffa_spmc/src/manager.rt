@@ -17,6 +17,7 @@ ghost use Rattle.ffa_memshare.specs.declared.changed.Changed.{Changed};
 ghost use Rattle.ffa_spmc.specs.Caching.{IsForgotten};
 ghost use Rattle.ffa_spmc.specs.Booted.{IsBooted};
 ghost use Rattle.ffa_spmc.specs.Served.{IsAnswered};
+ghost use Rattle.ffa_spmc.specs.Storages.{IsRoomFor};
 ghost use Rattle.ffa_spmc.specs.Moments.{AreMoments};
 ghost use Rattle.ffa_spmc.specs.Unowned.{KeepsUnowned};
 
@@ -33,60 +34,55 @@ mod readings;
 mod reasons;
 
 use crate::kept::Kept;
+use crate::storage::{Inline, Storage, Store};
 use ffa_memshare::News;
 use ffa_model::{
-    Address, Call, EndpointId, ErrorCode, Kind, Manifest, Outcome, PageNo, Reply, Rights, Version,
+    Address, Call, EndpointId, ErrorCode, Home, Kind, Manifest, Outcome, PageNo, Reply, Rights,
+    Version,
 };
 use ffa_physmem::PhysMem;
-use ffa_stage2::{Layout, build, built_tables};
+use ffa_stage2::{build, built_tables};
 use ffa_tlb::Translations;
 use std::marker::Model;
 
 /// The partition manager over any RAM. Contracts see its state, which is that of the small machine, and its RAM with
 /// every byte.
 #[derive(Drop)]
-pub(crate) struct Manager<M: PhysMem + Drop> {
+pub(crate) struct Manager<M: PhysMem + Drop, S: Store = Inline> {
     ram: M,
-    manifest: Manifest,
-    kept: Kept,
+    kept: Kept<S>,
 }
 
-impl<M: PhysMem + Drop> Model for Manager<M> {
+impl<M: PhysMem + Drop, S: Store> Model for Manager<M, S> {
     ghost use Rattle.ffa_spmc.specs.Managed.{Managed, coded_managed};
 
     ghost Value = { Managed };
 
     ghost coded = { coded_managed };
 
+    ghost use Rattle.ffa_spmc.specs.KeptParts.{kept_parts};
     ghost use Rattle.ffa_spmc.specs.Meaning.{Parts, state_of, IsManager};
 
-    ghost view = { λ m. let x : Parts = record { ram = M.ram m.ram; manifest = m.manifest; kept = m.kept } in record { state = state_of x; ram = x.ram; past = M.past m.ram } };
+    ghost view = { λ m. let x : Parts = record { ram = M.ram m.ram; manifest = (S.Records.value m.kept.records).manifest; kept = kept_parts S.Records.value m.kept } in record { state = state_of x; ram = x.ram; past = M.past m.ram } };
 
-    ghost invariant = { λ m. IsManager (record { ram = M.ram m.ram; manifest = m.manifest; kept = m.kept }) };
+    ghost invariant = { λ m. IsManager (record { ram = M.ram m.ram; manifest = (S.Records.value m.kept.records).manifest; kept = kept_parts S.Records.value m.kept }) };
 }
 
-impl<M: PhysMem + Drop> Manager<M> {
-    // The manager of a manifest in its first state, in RAM of which every byte is zero: it builds the tables. It is inlined
-    // where a machine boots, since a call would hand what it keeps on through a copy more.
+impl<M: PhysMem + Drop, S: Store> Manager<M, S> {
+    // The manager of a manifest in its first state, in RAM of which every byte is zero, with this room: it builds the tables. It
+    // is inlined where a machine boots, since a call would hand what it keeps on through a copy more.
     #[inline(always)]
-    pub(crate) fn first(manifest: &Manifest, ram: M) -> Manager<M>
-        requires { M.ram ram ≡ zero_ram manifest.now.ram_base.0 (512 * manifest.now.ram_blocks) }
+    pub(crate) fn first(manifest: &Manifest, ram: M, storage: Storage<S>) -> Manager<M, S>
+        requires ram { M.ram ram ≡ zero_ram manifest.now.ram_base.0 (512 * manifest.now.ram_blocks) }
+        requires storage { IsRoomFor manifest.now storage }
         ensures { IsBooted manifest.now result.state result.ram }
     {
         let mut ram = ram;
-        let layout = Layout::of(manifest);
-        build(&mut ram, &layout);
+        let kept = Kept::first(manifest, storage);
+        build(&mut ram, &kept.records.get().layout);
         // Proof step: what built tables give holds from here on, and the manager's invariant has it.
         built_tables();
-        // Owners and slots are filled in where they stand, since they are large to move.
-        let mut kept = Kept::unfilled(manifest, layout);
-        kept.pages.fill(manifest);
-        kept.pool.fill(manifest.endpoints.len());
-        Manager {
-            ram,
-            manifest: manifest.copied(),
-            kept,
-        }
+        Manager { ram, kept }
     }
 
     // The RAM, whose bytes are all that the machine keeps of tables and data.
@@ -102,6 +98,28 @@ impl<M: PhysMem + Drop> Manager<M> {
         ensures { M.ram result ≡ self.ram }
     {
         self.ram
+    }
+
+    // The same, and the room for what was kept.
+    pub(crate) fn into_parts(self) -> (M, Storage<S>)
+        ensures { M.ram result.0 ≡ self.ram }
+    {
+        let Manager { ram, kept } = self;
+        let Kept {
+            records,
+            pages,
+            pool,
+            buffers: _,
+            chain: _,
+        } = kept;
+        (
+            ram,
+            Storage {
+                pages,
+                pool,
+                records,
+            },
+        )
     }
 
     // What holds of every manager: the tables give the access of the state, which is sound, and in which nobody is offered
@@ -120,7 +138,7 @@ impl<M: PhysMem + Drop> Manager<M> {
     pub(crate) fn ram_base(&self) -> Address
         ensures { result.0 ≡ self.now.state.ram_base }
     {
-        self.manifest.ram_base
+        self.kept.records.get().manifest.ram_base
     }
 
     // The endpoint that runs.
@@ -136,14 +154,15 @@ impl<M: PhysMem + Drop> Manager<M> {
         ensures some { 1 ≤ result }
         ensures few { result ≤ MOST_ENDPOINTS }
     {
-        self.manifest.endpoints.len()
+        self.kept.records.get().manifest.endpoints.len()
     }
 
     // The form in which the runner writes and reads descriptors.
     fn version(&self) -> Version
         ensures { result ≡ version_of self.now.state self.now.state.runner }
     {
-        self.manifest.version_of(self.kept.chain.runner())
+        let records = self.kept.records.get();
+        records.manifest.version_of(self.kept.chain.runner())
     }
 
     // The owner of a page of the RAM; 0x8000 is the manager.

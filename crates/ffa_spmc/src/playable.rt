@@ -1,12 +1,13 @@
 // SPDX-License-Identifier: MIT OR Apache-2.0
 //! The machine as a player sees it.
 use crate::machine::Machine;
+use crate::storage::Store;
 use ffa_model::{Address, CertRun, EndpointId, Op, Outcome, PageNo, Rights, Why};
 use ffa_physmem::PhysMem;
 use ffa_playable::Playable;
 use ffa_tlb::Translations;
 
-impl<M: PhysMem + Drop, T: Translations + Drop> Playable for Machine<M, T> {
+impl<M: PhysMem + Drop, T: Translations + Drop, S: Store> Playable for Machine<M, T, S> {
     ghost state = { λ machine. machine.state };
 
     #[inline(always)]

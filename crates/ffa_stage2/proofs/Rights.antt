@@ -1,6 +1,6 @@
 -- SPDX-License-Identifier: MIT OR Apache-2.0
 -- Access functions.
-use Rattle.std.proofs.Common.{◌≡◌, ◌≢◌, ◌∙◌, ℕ, ◌+◌, ◌*◌, ◌<◌, ◌≤◌, true, false, sym, ap, arith, Option, inl, inr, ◌⊎◌}
+use Rattle.std.proofs.Common.{◌≡◌, ◌≢◌, ◌∙◌, ℕ, ◌+◌, ◌*◌, ◌<◌, ◌≤◌, true, false, sym, ap, arith, Option, None, inl, inr, ◌⊎◌}
 use Rattle.std.specs.Prelude.{◌==◌, ◌&&◌, ◌||◌, nat_le, nat_lt}
 use Rattle.std.proofs.lemmas.Bool.{cases_Bool, cases_lt}
 use Rattle.std.proofs.lemmas.Bool.Decides.{nat_tests}
@@ -71,6 +71,23 @@ rights_until-next rights done page until its le same e p = elim (cases_Bool (e =
   | inr out ↦
       let kept : (nat_lt e done || (e == done && nat_lt p until)) ≡ (nat_lt e done || (e == done && nat_lt p page)) = grind (arith, le, out, nat_tests) in
       rw (out, kept)
+]
+
+-- a run of pages more, which are to have none
+pub rights_until-skip : (rights : ℕ → ℕ → Option Rights) (done page until : ℕ) → page ≤ until
+    → ((p : ℕ) → page ≤ p → p < until → rights done p ≡ None) → (e p : ℕ)
+    → rights_until rights done page e p ≡ rights_until rights done until e p
+rights_until-skip rights done page until le none e p = elim (cases_Bool (e == done && (nat_le page p && nat_lt p until))) [
+  | inl here ↦
+      let at : e ≡ done = grind (arith, here, nat_tests) in
+      let low : page ≤ p = grind (arith, here, nat_tests) in
+      let high : p < until = grind (arith, here, nat_tests) in
+      let before : (nat_lt e done || (e == done && nat_lt p page)) ≡ false = grind (arith, at, low, nat_tests) in
+      let now : (nat_lt e done || (e == done && nat_lt p until)) ≡ true = grind (arith, at, high, nat_tests) in
+      rw (before, now) (sym (ap (λ n. rights n p) at ∙ none p low high))
+  | inr out ↦
+      let kept : (nat_lt e done || (e == done && nat_lt p until)) ≡ (nat_lt e done || (e == done && nat_lt p page)) = grind (arith, le, out, nat_tests) in
+      rw kept
 ]
 
 -- all pages of an endpoint have theirs

@@ -2,6 +2,7 @@
 -- The tables of all endpoints in the RAM's first pages: for each endpoint in order one page of level 1, one of level 2,
 -- and one of level 3 for each block of 2 MiB.
 use Rattle.std.specs.Prelude.{◌≡◌, true, ℕ, List, ◌+◌, ◌-◌, ◌*◌, ◌/◌, ◌%◌, ◌^◌, ◌<◌, ◌≤◌, ◌⊎◌, ◌==◌, ◌&&◌, nat_le, nat_lt, Bool, if◌then◌else◌, length, Option, None}
+use Rattle.ffa_model.specs.declared.limits.TheConstants.{MOST_BLOCKS, MOST_RAM}
 use Rattle.ffa_model.specs.Bits.{bits}
 use Rattle.ffa_model.specs.Ram.{Ram, page_of, word_of}
 use Rattle.ffa_model.specs.Manifest.{table_pages, root_of}
@@ -27,8 +28,8 @@ level2_place base = bits 29 21 base
 
 -- the RAM has room for the tables of this many endpoints
 pub record HasRoom (ram : Ram) (endpoints blocks : ℕ) : Type 0 where
-  pub place : ram.base % 0x4000000 ≡ 0
-  pub few : blocks ≤ 32
+  pub place : ram.base % MOST_RAM ≡ 0
+  pub few : blocks ≤ MOST_BLOCKS
   pub within : ram.base + 0x200000 * blocks ≤ 2 ^ 32
   pub size : length ram.pages ≡ 512 * blocks
   pub room : endpoints * table_pages blocks ≤ 512 * blocks

@@ -2,11 +2,13 @@
 //! Where the RAM stands, and which pages of it each endpoint may use from the start.
 ghost use Rattle.std.specs.Prelude.{◌≡◌, ℕ, ◌+◌, ◌*◌, ◌%◌, ◌^◌, ◌<◌, ◌≤◌};
 ghost use Rattle.arrayvec.specs.ArrayVec.{array_vec_len};
+ghost use Rattle.ffa_model.specs.declared.limits.TheConstants.{MOST_BLOCKS, MOST_RAM};
 ghost use Rattle.ffa_model.specs.Manifest.{table_pages};
 
 use arrayvec::ArrayVec;
 use ffa_model::{
-    Address, Endpoint, MOST_ENDPOINTS, MOST_REGIONS, Manifest, PageNo, Region, Rights, right_in,
+    Address, Endpoint, MOST_ENDPOINTS, MOST_REGIONS, Manifest, PageNo, Region, Rights,
+    regions_until, right_in,
 };
 
 /// The regions of one endpoint.
@@ -38,8 +40,8 @@ pub struct Layout {
     pub blocks: u32,
     /// The regions by the endpoint's place in the manifest.
     pub regions: ArrayVec<Regions, MOST_ENDPOINTS>,
-    pub ghost place: { base.0 % 0x4000000 ≡ 0 },
-    pub ghost few: { blocks ≤ 32 },
+    pub ghost place: { base.0 % MOST_RAM ≡ 0 },
+    pub ghost few: { blocks ≤ MOST_BLOCKS },
     pub ghost within: { base.0 + 0x200000 * blocks ≤ 2 ^ 32 },
     pub ghost room: { array_vec_len regions * table_pages blocks ≤ 512 * blocks },
 }
@@ -83,14 +85,12 @@ impl Layout {
         ensures end { result ≤ 512 * self.now.blocks }
         ensures same { (p : ℕ) → first.0 ≤ p → p < result → layout_right self.now index p ≡ layout_right self.now index first.0 }
     {
-        let right = self.right(index, first);
-        let end = 512 * self.blocks;
-        for page in first.0 + 1..end {
-            if self.right(index, PageNo(page)) != right {
-                return page;
-            }
-        }
-        end
+        regions_until(
+            self.regions[index].list.as_slice(),
+            self.base,
+            first,
+            512 * self.blocks,
+        )
     }
 
     // One of an endpoint's table pages: 0 is level 1, 1 is level 2, and 2 + k is level 3 of block k.

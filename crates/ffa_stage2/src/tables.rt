@@ -156,7 +156,7 @@ fn link<M: PhysMem>(memory: &mut M, layout: &Layout, index: usize)
     }
 }
 
-// Gives one endpoint the rights of its regions, a run of pages with one right at a time.
+// Gives one endpoint, which has no right yet, the rights of its regions, a run of pages with one right at a time.
 fn grant<M: PhysMem>(memory: &mut M, layout: &Layout, index: usize)
     requires index { index < array_vec_len layout.now.regions }
     requires built { IsBuiltFor layout.now (M.ram memory.old) (rights_until (layout_right layout.now) index 0) }
@@ -168,7 +168,9 @@ fn grant<M: PhysMem>(memory: &mut M, layout: &Layout, index: usize)
     while next < end {
         let right = layout.right(index, PageNo(next));
         let until = layout.right_until(index, PageNo(next));
-        set_pages(memory, layout, index, PageNo(next), until - next, right);
+        if right.is_some() {
+            set_pages(memory, layout, index, PageNo(next), until - next, right);
+        }
         next = until;
     }
 }

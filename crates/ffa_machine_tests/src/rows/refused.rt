@@ -6,10 +6,11 @@ use super::*;
 use crate::checks::{holds, holds_at};
 use crate::machines::{FlatPlayer, booted};
 use ffa_physmem::{FlatRam, FrameRam};
-use ffa_spmc::Machine;
+use ffa_spmc::{Machine, Storage};
 use ffa_syntax::PlayError;
 use ffa_tlb::{InTurn, Tlb};
 use linked_list_allocator::LocalHeap;
+use std::alloc::AllocError;
 use std::io;
 use std::io::Read;
 
@@ -193,6 +194,31 @@ fn places_of_refusal(
 }
 
 // The room for a line grows to 8, 16, 32 and 64 bytes in the first line, which is as long as any.
+// Room for the rows' machine over a heap of this size: whether it came. Where it didn't, nothing of the heap is used.
+fn has_room(rt: &impl Abort, alloc: Global, size: usize) -> Result<bool, Fail> {
+    let heap = LocalHeap::new(alloc, size)?;
+    match Storage::given_for(&heap, &row_machine()) {
+        Ok(_storage) => Ok(true),
+        Err(AllocError) => {
+            holds(rt, heap.used() == 0);
+            Ok(false)
+        }
+    }
+}
+
+#[test]
+fn room_comes_whole_or_not(rt: HostRuntime) -> Result<(), Fail> {
+    let mut came = 0;
+    for kibibytes in 1..65 {
+        if has_room(&rt, rt.alloc(), 1024 * kibibytes)? {
+            came += 1;
+        }
+    }
+    // Four bytes for each of 512 pages, 16 slots for each of three endpoints, and records: between 16 and 48 KiB.
+    holds(&rt, 16 < came && came < 48);
+    Ok(())
+}
+
 #[test]
 fn a_lend_or_no_memory(rt: HostRuntime) -> Result<(), Fail> {
     let parts = [MAPPED, LEND, TO_SECOND, RETRIEVE, RETRIEVED];

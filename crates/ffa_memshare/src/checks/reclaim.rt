@@ -12,20 +12,20 @@ ghost use Rattle.ffa_memshare.specs.Shared.{AreInRam};
 ghost use Rattle.ffa_memshare.specs.Stored.{map_in, pool_slot};
 
 use crate::found::FoundReturn;
-use crate::pool::Pool;
+use crate::pool::{OpenSlot, Pool};
 use crate::transaction::OpenTransaction;
-use ffa_model::{Address, EndpointId, Refusal};
-use ffa_pages::PageTable;
+use ffa_model::{Address, EndpointId, Refusal, Room};
+use ffa_pages::{KeptPage, PageTable};
 
-impl Pool {
+impl<O: Room<OpenSlot> + Drop> Pool<O> {
     /// Whether an endpoint may reclaim the transaction with this handle, with w3: its slot, and whether zeros are asked.
     ///
     /// # Errors
     ///
     /// The first check of FFA_MEM_RECLAIM that fails.
-    pub fn check_reclaim(
+    pub fn check_reclaim<P: Room<KeptPage> + Drop>(
         &self,
-        pages: &PageTable,
+        pages: &PageTable<P>,
         base: Address,
         caller: EndpointId,
         handle: u64,
@@ -55,9 +55,9 @@ impl OpenTransaction {
     ghost use Rattle.ffa_memshare.specs.Stored.{view_of};
 
     // Whether its sender may end it, with flags that are known, or why not.
-    fn check_reclaim(
+    fn check_reclaim<P: Room<KeptPage> + Drop>(
         &self,
-        pages: &PageTable,
+        pages: &PageTable<P>,
         base: Address,
         caller: EndpointId,
         flags: u32,

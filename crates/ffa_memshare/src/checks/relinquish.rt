@@ -13,13 +13,13 @@ ghost use Rattle.ffa_memshare.specs.Stored.{open_in};
 
 use crate::found::FoundReturn;
 use crate::page_run::{PageRun, read_relinquish};
-use crate::pool::Pool;
+use crate::pool::{OpenSlot, Pool};
 use crate::transaction::OpenTransaction;
-use ffa_model::{Data, EndpointId, Kind, Refusal, RelinquishDesc};
+use ffa_model::{Data, EndpointId, Kind, Refusal, RelinquishDesc, Room};
 use ffa_physmem::PhysMem;
 use ffa_rxtx::Buffers;
 
-impl Pool {
+impl<O: Room<OpenSlot> + Drop> Pool<O> {
     /// Whether an endpoint may give up what the descriptor in its TX says: the transaction's slot, and whether zeros are asked.
     ///
     /// # Errors

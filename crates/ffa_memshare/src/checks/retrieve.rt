@@ -21,26 +21,26 @@ ghost use Rattle.ffa_memshare.specs.Stored.{open_in};
 use crate::descriptor_call::DescriptorCall;
 use crate::found::FoundRight;
 use crate::page_run::read_retrieve;
-use crate::pool::Pool;
+use crate::pool::{OpenSlot, Pool};
 use crate::transaction::OpenTransaction;
-use ffa_model::{Address, Data, EndpointId, Kind, Refusal, RetrieveDesc, Rights};
-use ffa_pages::PageTable;
+use ffa_model::{Address, Data, EndpointId, Kind, Refusal, RetrieveDesc, Rights, Room};
+use ffa_pages::{KeptPage, PageTable};
 use ffa_physmem::PhysMem;
 use ffa_rxtx::Buffers;
 use ffa_stage2::Layout;
 
-impl Pool {
+impl<O: Room<OpenSlot> + Drop> Pool<O> {
     /// Whether an endpoint may take what the descriptor in its TX asks for: the transaction's slot, and the right that the
     /// endpoint gets.
     ///
     /// # Errors
     ///
     /// The first check of FFA_MEM_RETRIEVE_REQ that fails.
-    pub fn check_retrieve<M: PhysMem>(
+    pub fn check_retrieve<M: PhysMem, P: Room<KeptPage> + Drop>(
         &self,
         ram: &M,
         layout: &Layout,
-        pages: &PageTable,
+        pages: &PageTable<P>,
         buffers: &Buffers,
         caller: EndpointId,
         call: &DescriptorCall,
@@ -81,7 +81,12 @@ impl OpenTransaction {
     }
 
     // The most that an endpoint may hold that is granted this data right.
-    fn ceiling(&self, pages: &PageTable, base: Address, granted: Data) -> Rights
+    fn ceiling<P: Room<KeptPage> + Drop>(
+        &self,
+        pages: &PageTable<P>,
+        base: Address,
+        granted: Data,
+    ) -> Rights
         requires { ArePlaced base.0 (length pages.now) self.now.ranges }
         ensures { (e : ℕ) → grant_to (view_of self.now) e ≡ granted → result ≡ ceiling (own_rights_in pages.now base.0) (view_of self.now) e }
     {
@@ -99,9 +104,9 @@ impl OpenTransaction {
     }
 
     // The right that an endpoint gets whose RX is full or not, or why it gets none.
-    fn check_retrieve(
+    fn check_retrieve<P: Room<KeptPage> + Drop>(
         &self,
-        pages: &PageTable,
+        pages: &PageTable<P>,
         base: Address,
         is_full: bool,
         caller: EndpointId,

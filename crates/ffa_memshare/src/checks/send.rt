@@ -27,25 +27,27 @@ use crate::grants::first_page;
 use crate::holders::Holders;
 use crate::page_ranges::PageRanges;
 use crate::page_run::read_send;
-use crate::pool::Pool;
+use crate::pool::{OpenSlot, Pool};
 use crate::transaction::OpenTransaction;
-use ffa_model::{Address, Data, EndpointId, Kind, PageNo, Range, Receiver, Refusal, SendDesc};
-use ffa_pages::PageTable;
+use ffa_model::{
+    Address, Data, EndpointId, Kind, PageNo, Range, Receiver, Refusal, Room, SendDesc,
+};
+use ffa_pages::{KeptPage, PageTable};
 use ffa_physmem::PhysMem;
 use ffa_rxtx::Buffers;
 use ffa_stage2::Layout;
 
-impl Pool {
+impl<O: Room<OpenSlot> + Drop> Pool<O> {
     /// Whether an endpoint may send what the descriptor in its TX offers: the transaction that it opens, and the free slot for it.
     ///
     /// # Errors
     ///
     /// The first check of FFA_MEM_DONATE, FFA_MEM_LEND or FFA_MEM_SHARE that fails.
-    pub fn check_send<M: PhysMem>(
+    pub fn check_send<M: PhysMem, P: Room<KeptPage> + Drop>(
         &self,
         ram: &M,
         layout: &Layout,
-        pages: &PageTable,
+        pages: &PageTable<P>,
         buffers: &Buffers,
         caller: EndpointId,
         kind: Kind,
@@ -93,7 +95,7 @@ fn are_known(receivers: &[Receiver], endpoints: usize) -> bool
 }
 
 // Whether a range lies in the RAM of these pages.
-fn is_inside(range: &Range, pages: &PageTable, base: Address) -> bool
+fn is_inside<P: Room<KeptPage> + Drop>(range: &Range, pages: &PageTable<P>, base: Address) -> bool
     ensures { result ≡ is_inside (own_rights_in pages.now base.0) range.now }
 {
     let start = u64::from(base.0);
@@ -103,14 +105,22 @@ fn is_inside(range: &Range, pages: &PageTable, base: Address) -> bool
 }
 
 // Whether all ranges do.
-fn are_inside(ranges: &[Range], pages: &PageTable, base: Address) -> bool
+fn are_inside<P: Room<KeptPage> + Drop>(
+    ranges: &[Range],
+    pages: &PageTable<P>,
+    base: Address,
+) -> bool
     ensures { result ≡ list_all (is_inside (own_rights_in pages.now base.0)) ranges.now }
 {
     ranges.iter().all(|range| is_inside(range, pages, base))
 }
 
 // Whether a page is an endpoint's, and no open transaction names it.
-pub(crate) fn is_own(pages: &PageTable, sender: EndpointId, page: PageNo) -> bool
+pub(crate) fn is_own<P: Room<KeptPage> + Drop>(
+    pages: &PageTable<P>,
+    sender: EndpointId,
+    page: PageNo,
+) -> bool
     requires { page.0 < length pages.now }
     ensures { result ≡ is_own sender.0 (candidate_in pages.now page.0) }
 {
@@ -120,8 +130,8 @@ pub(crate) fn is_own(pages: &PageTable, sender: EndpointId, page: PageNo) -> boo
 }
 
 // Whether an endpoint may send the pages of a range.
-fn is_range_sendable(
-    pages: &PageTable,
+fn is_range_sendable<P: Room<KeptPage> + Drop>(
+    pages: &PageTable<P>,
     base: Address,
     buffers: &Buffers,
     sender: EndpointId,
@@ -143,8 +153,8 @@ fn is_range_sendable(
 }
 
 // Whether an endpoint may send the pages of these ranges.
-fn are_sendable(
-    pages: &PageTable,
+fn are_sendable<P: Room<KeptPage> + Drop>(
+    pages: &PageTable<P>,
     base: Address,
     buffers: &Buffers,
     sender: EndpointId,
@@ -178,10 +188,10 @@ fn asks_for_writes(offer: &SendDesc) -> bool
 
 // Whether the pages that are offered, which are those of these ranges, have rw themselves, where that is asked for, or what
 // it is asked for.
-fn check_writes(
+fn check_writes<P: Room<KeptPage> + Drop>(
     offer: &SendDesc,
     ranges: &PageRanges,
-    pages: &PageTable,
+    pages: &PageTable<P>,
     base: Address,
 ) -> Result<(), Refusal>
     requires ranges { ranges.now ≡ offer.now.ranges.items }
@@ -201,10 +211,10 @@ fn check_writes(
 }
 
 // The ranges of what an endpoint offers, where it may send that, or why it may not.
-fn check_offer(
+fn check_offer<P: Room<KeptPage> + Drop>(
     offer: &SendDesc,
     layout: &Layout,
-    pages: &PageTable,
+    pages: &PageTable<P>,
     buffers: &Buffers,
     caller: EndpointId,
 ) -> Result<PageRanges, Refusal>

@@ -10,7 +10,7 @@ use ffa_command::MachineOptions;
 use ffa_model::Manifest;
 use ffa_physmem::{FlatRam, FrameRam, PhysMem};
 use ffa_report::Failure;
-use ffa_spmc::Machine;
+use ffa_spmc::{Machine, Storage};
 use ffa_tasks::{Task, Trace, do_task};
 use ffa_tlb::{InTurn, NoTlb, Tlb, Translations};
 use ffa_trace::Player;
@@ -123,6 +123,11 @@ fn play_in<
     ensures played { OnOk result (IsDoneBy task.entry (first_of (parts_of manifest.now)) (R.remaining trace.entry.reader) (W.contents out.old) (W.contents out.new)) }
     ensures failed { IfErr result (PlayFails task.entry (first_of (parts_of manifest.now)) (R.remaining trace.entry.reader) (W.contents out.old) (W.contents out.new)) }
 {
-    let mut player = Player::new(Machine::boot_cleared(manifest, ram, cache));
-    do_task(&mut player, alloc, task, trace, out, told)
+    match Storage::given_for(alloc, manifest) {
+        Ok(storage) => {
+            let machine = Machine::boot_cleared_in(storage, manifest, ram, cache);
+            do_task(&mut Player::new(machine), alloc, task, trace, out, told)
+        }
+        Err(_) => Err(Failure::NoMemory),
+    }
 }

@@ -13,6 +13,7 @@ ghost use Rattle.ffa_spmc.specs.Unowned.{KeepsUnowned};
 ghost use Rattle.ffa_spmc.specs.Walks.{walk_of};
 
 use super::Machine;
+use crate::storage::Store;
 use ffa_model::{EndpointId, FaultKind, Leaf, Op, Outcome, PageNo, Size};
 use ffa_physmem::PhysMem;
 use ffa_tlb::Translations;
@@ -46,7 +47,7 @@ fn moved_back(leaf: Leaf, addr: u64) -> Leaf
     }
 }
 
-impl<M: PhysMem + Drop, T: Translations + Drop> Machine<M, T> {
+impl<M: PhysMem + Drop, T: Translations + Drop, S: Store> Machine<M, T, S> {
     // The walk of an address for an endpoint: by the leaf that is held for its page, or else by the endpoint's table. It is
     // inlined, though accesses of three kinds call it.
     #[inline(always)]

@@ -9,11 +9,12 @@ ghost use Rattle.ffa_spmc.specs.Unowned.{KeepsUnowned, pages_of_tables};
 
 use super::Machine;
 use crate::run::Run;
+use crate::storage::Store;
 use ffa_model::{Op, Outcome};
 use ffa_physmem::PhysMem;
 use ffa_tlb::Translations;
 
-impl<M: PhysMem + Drop, T: Translations + Drop> Machine<M, T> {
+impl<M: PhysMem + Drop, T: Translations + Drop, S: Store> Machine<M, T, S> {
     /// Does one operation of the runner, as `op` does, while other processors of the same endpoint may write to its TX: of
     /// TX it reads at once the pages that the operation reads, and then does it by what that one reading gave.
     pub fn op_among_others(&mut self, op: &Op) -> Outcome

@@ -12,11 +12,12 @@ ghost use Rattle.ffa_model.specs.Lists.{listed};
 ghost use Rattle.ffa_model.specs.State.{identifiers};
 
 use super::Machine;
+use crate::storage::Store;
 use ffa_model::{CertRun, EndpointId, MOST_ENDPOINTS, PageNo, Rights};
 use ffa_physmem::PhysMem;
 use ffa_tlb::Translations;
 
-impl<M: PhysMem + Drop, T: Translations + Drop> Machine<M, T> {
+impl<M: PhysMem + Drop, T: Translations + Drop, S: Store> Machine<M, T, S> {
     /// The longest run from a page of the RAM on whose pages have one owner, one open transaction or none, and one access of
     /// each endpoint. It takes no memory.
     #[tactic(auto, unfolding(ffa_model::specs::Certificate::run_from))]

@@ -17,11 +17,12 @@ ghost use Rattle.ffa_spmc.specs.Operated.{AreOperatedAs, numbered};
 ghost use Rattle.ffa_spmc.specs.Unowned.{KeepsUnowned};
 
 use super::Machine;
+use crate::storage::Store;
 use ffa_model::{EndpointId, ErrorCode, Op, Outcome, Reply};
 use ffa_physmem::PhysMem;
 use ffa_tlb::Translations;
 
-impl<M: PhysMem + Drop, T: Translations + Drop> Machine<M, T> {
+impl<M: PhysMem + Drop, T: Translations + Drop, S: Store> Machine<M, T, S> {
     /// Does one operation of any endpoint of the machine, whoever runs. For the runner this is `op`. A call of another
     /// endpoint is answered FFA_ERROR with BUSY, to that endpoint, and nothing changes; a load, a store or a fetch goes by
     /// that endpoint's own access, by its own table. Who runs stays as it is but for a call of the runner.

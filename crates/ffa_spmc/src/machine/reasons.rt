@@ -7,11 +7,12 @@ ghost use Rattle.ffa_model.specs.Step.{step};
 ghost use Rattle.ffa_model.specs.Why.{granted, outcome_of, why, why_fault};
 
 use super::Machine;
+use crate::storage::Store;
 use ffa_model::{EndpointId, FaultKind, Grant, Op, PageNo, Why};
 use ffa_physmem::PhysMem;
 use ffa_tlb::Translations;
 
-impl<M: PhysMem + Drop, T: Translations + Drop> Machine<M, T> {
+impl<M: PhysMem + Drop, T: Translations + Drop, S: Store> Machine<M, T, S> {
     /// Why an operation of the runner is refused: of a call the first check that fails, with what it is about, where that is a
     /// register, an endpoint or a handle that registers, a message's header or a descriptor name, the first condition that a
     /// descriptor breaks, a bit or a page, and nothing for other checks; and of an access its fault, with what stands in the way.

@@ -8,11 +8,12 @@ ghost use Rattle.ffa_model.specs.State.{transaction_of};
 ghost use Rattle.ffa_model.specs.Transactions.{handle_of, own_rights_of};
 
 use super::{Manager, word_of_halves};
+use crate::storage::Store;
 use ffa_memshare::DescriptorCall;
-use ffa_model::{About, Call, Kind, Obstacle, PageNo, Refusal, Transfer};
+use ffa_model::{About, Call, Home, Kind, Obstacle, PageNo, Refusal, Transfer};
 use ffa_physmem::PhysMem;
 
-impl<M: PhysMem + Drop> Manager<M> {
+impl<M: PhysMem + Drop, S: Store> Manager<M, S> {
     // What a check of a call that fails is about. The number is that of the function, in w0.
     pub(crate) fn about(&self, number: u32, call: Call, refusal: Refusal) -> Option<About>
         ensures { result ≡ about self.now.state number call refusal }
@@ -54,7 +55,7 @@ impl<M: PhysMem + Drop> Manager<M> {
     fn failing_map(&self, tx: u64, rx: u64, pages: u32, refusal: Refusal) -> Option<PageNo>
         ensures { result ≡ failing_map self.now.state.runner (candidates self.now.state) tx rx pages refusal }
     {
-        let base = self.manifest.ram_base;
+        let base = self.kept.records.get().manifest.ram_base;
         let runner = self.kept.chain.runner();
         ffa_rxtx::failing_map(&self.kept.pages, base, runner, tx, rx, pages, refusal)
     }
@@ -65,7 +66,7 @@ impl<M: PhysMem + Drop> Manager<M> {
     {
         let version = self.version();
         let call = DescriptorCall { transfer, version };
-        let base = self.manifest.ram_base;
+        let base = self.kept.records.get().manifest.ram_base;
         let runner = self.kept.chain.runner();
         let (pages, buffers) = (&self.kept.pages, &self.kept.buffers);
         ffa_memshare::failing_send(
@@ -78,7 +79,7 @@ impl<M: PhysMem + Drop> Manager<M> {
         ensures { result ≡ failing_reclaim (own_rights_of self.now.state) (transaction_of self.now.state (handle_of high low)) refusal }
     {
         let handle = word_of_halves(low, high);
-        let base = self.manifest.ram_base;
+        let base = self.kept.records.get().manifest.ram_base;
         ffa_memshare::failing_reclaim(&self.kept.pool, &self.kept.pages, base, handle, refusal)
     }
 

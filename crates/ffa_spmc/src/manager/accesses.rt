@@ -12,10 +12,11 @@ ghost use Rattle.ffa_spmc.specs.Unowned.{KeepsUnowned};
 ghost use Rattle.ffa_spmc.specs.Walks.{walk_of};
 
 use super::Manager;
-use ffa_model::{EndpointId, FaultKind, Leaf, Op, Outcome, PageNo, Size};
+use crate::storage::Store;
+use ffa_model::{EndpointId, FaultKind, Home, Leaf, Op, Outcome, PageNo, Size};
 use ffa_physmem::PhysMem;
 
-impl<M: PhysMem + Drop> Manager<M> {
+impl<M: PhysMem + Drop, S: Store> Manager<M, S> {
     // What the walk of an address by an endpoint's table answers.
     #[inline(always)]
     pub(crate) fn translate(&self, endpoint: EndpointId, addr: u64) -> Result<Leaf, FaultKind>
@@ -29,7 +30,7 @@ impl<M: PhysMem + Drop> Manager<M> {
     pub(crate) fn page_of(&self, addr: u64) -> Option<PageNo>
         ensures { option_map (λ (page : PageNo). page.0) result ≡ memory.page_of_address self.now.state addr }
     {
-        let base = u64::from(self.manifest.ram_base.0);
+        let base = u64::from(self.kept.records.get().manifest.ram_base.0);
         if base <= addr && addr < 1 << 32 {
             Some(PageNo(((addr - base) / 4096) as u32))
         } else {

@@ -12,7 +12,8 @@ ghost use Rattle.ffa_spmc.specs.Unowned.{KeepsUnowned};
 
 use super::Manager;
 use crate::replies::done_or_error;
-use ffa_model::{Refusal, Reply};
+use crate::storage::Store;
+use ffa_model::{Home, Refusal, Reply};
 use ffa_physmem::PhysMem;
 
 // Whether a request for partition information asks for the count alone.
@@ -22,7 +23,7 @@ fn is_count_alone(flags: u32) -> bool
     flags % 2 == 1
 }
 
-impl<M: PhysMem + Drop> Manager<M> {
+impl<M: PhysMem + Drop, S: Store> Manager<M, S> {
     // FFA_RX_RELEASE of the runner.
     pub(super) fn release(&mut self) -> Reply
         ensures { IsReplied self.old self.new (rx_release self.old.state) result }
@@ -35,9 +36,9 @@ impl<M: PhysMem + Drop> Manager<M> {
     pub(super) fn map(&mut self, tx: u64, rx: u64, pages: u32) -> Reply
         ensures { IsReplied self.old self.new (rxtx_map self.old.state tx rx pages) result }
     {
-        let ram_base = self.manifest.ram_base;
         let runner = self.kept.chain.runner();
         let kept = &mut self.kept;
+        let ram_base = kept.records.get().manifest.ram_base;
         let owners = &kept.pages;
         done_or_error(kept.buffers.map(owners, ram_base, runner, tx, rx, pages))
     }
@@ -65,7 +66,8 @@ impl<M: PhysMem + Drop> Manager<M> {
         ensures { result_err result ≡ first_refusal (info_guards self.now.state (uuid_bytes uuid) flags) }
     {
         let runner = self.kept.chain.runner();
-        if !ffa_setup::is_recognized(&self.manifest, uuid) {
+        let records = self.kept.records.get();
+        if !ffa_setup::is_recognized(&records.manifest, uuid) {
             return Err(Refusal::UuidUnknown);
         }
         if is_count_alone(flags) {
@@ -88,12 +90,13 @@ impl<M: PhysMem + Drop> Manager<M> {
         ensures moments { AreMoments self.old.state self.old.ram self.new.ram self.old.past self.new.past }
         ensures reply { result ≡ success (length (selected self.old.state.parties (uuid_bytes uuid))) (if is_count_alone flags then 0 else told_info_size (version_of self.old.state self.old.state.runner)) }
     {
-        let count = ffa_setup::count(&self.manifest, uuid);
+        let records = self.kept.records.get();
+        let count = ffa_setup::count(&records.manifest, uuid);
         if is_count_alone(flags) {
             return Reply::Success([count, 0, 0, 0, 0, 0]);
         }
         let version = self.version();
-        let bytes = ffa_setup::info_bytes(&self.manifest, version, uuid);
+        let bytes = ffa_setup::info_bytes(&records.manifest, version, uuid);
         let runner = self.kept.chain.runner();
         self.kept
             .buffers

@@ -8,11 +8,12 @@ ghost use Rattle.ffa_model.specs.Certified.{IsCertified};
 ghost use Rattle.ffa_model.specs.Walk.{is_page_address};
 
 use super::Manager;
+use crate::storage::Store;
 use arrayvec::ArrayVec;
-use ffa_model::{CertRun, MOST_ENDPOINTS, PageNo};
+use ffa_model::{CertRun, Home, MOST_ENDPOINTS, PageNo};
 use ffa_physmem::PhysMem;
 
-impl<M: PhysMem + Drop> Manager<M> {
+impl<M: PhysMem + Drop, S: Store> Manager<M, S> {
     // The handle of the open transaction in which a page of the RAM stands.
     pub(crate) fn handle_at(&self, page: PageNo) -> Option<u64>
         requires { page.0 < length self.now.state.pages }
@@ -27,7 +28,7 @@ impl<M: PhysMem + Drop> Manager<M> {
         ensures value { result ≡ root self.now.state place }
         ensures page { is_page_address self.now.ram result ≡ true }
     {
-        self.manifest.root(place)
+        self.kept.records.get().manifest.root(place)
     }
 
     // The same of each endpoint.

@@ -8,11 +8,12 @@ ghost use Rattle.ffa_model.specs.Notifications.{notifications_of};
 ghost use Rattle.ffa_model.specs.State.{buffers_of};
 
 use super::Manager;
+use crate::storage::Store;
 use ffa_memshare::DescriptorCall;
-use ffa_model::{About, Call, Kind, Refusal, Transfer};
+use ffa_model::{About, Call, Home, Kind, Refusal, Transfer};
 use ffa_physmem::PhysMem;
 
-impl<M: PhysMem + Drop> Manager<M> {
+impl<M: PhysMem + Drop, S: Store> Manager<M, S> {
     // What a message, a descriptor or bits tell of a check that fails.
     pub(crate) fn about_contents(&self, call: Call, refusal: Refusal) -> Option<About>
         ensures { result ≡ about_contents self.now.state call refusal }
@@ -74,6 +75,7 @@ impl<M: PhysMem + Drop> Manager<M> {
         ensures { result ≡ about_bits (length self.now.state.parties) (notifications_of self.now.state) self.now.state.runner call.now refusal }
     {
         let runner = self.kept.chain.runner();
-        self.kept.bitmaps.about_bits(runner, call, refusal)
+        let records = self.kept.records.get();
+        records.bitmaps.about_bits(runner, call, refusal)
     }
 }

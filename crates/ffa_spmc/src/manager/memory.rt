@@ -11,12 +11,13 @@ ghost use Rattle.ffa_spmc.specs.Served.{IsAnswered, IsTold};
 use super::forgetting::forget;
 use super::{Manager, word_of_halves};
 use crate::answer::Answer;
+use crate::storage::Store;
 use ffa_memshare::{DescriptorCall, News};
-use ffa_model::{Kind, Reply, Transfer};
+use ffa_model::{Home, Kind, Reply, Transfer};
 use ffa_physmem::PhysMem;
 use ffa_tlb::Translations;
 
-impl<M: PhysMem + Drop> Manager<M> {
+impl<M: PhysMem + Drop, S: Store> Manager<M, S> {
     // FFA_MEM_DONATE, FFA_MEM_LEND or FFA_MEM_SHARE of the runner.
     #[inline(never)]
     pub(super) fn offer<T: Translations>(
@@ -46,10 +47,11 @@ impl<M: PhysMem + Drop> Manager<M> {
         let call = DescriptorCall { transfer, version };
         let runner = self.kept.chain.runner();
         let kept = &mut self.kept;
+        let records = kept.records.get();
         let pool = &mut kept.pool;
         Answer::sent(pool.send(
             &mut self.ram,
-            &kept.layout,
+            &records.layout,
             &mut kept.pages,
             &kept.buffers,
             runner,
@@ -87,10 +89,11 @@ impl<M: PhysMem + Drop> Manager<M> {
         let call = DescriptorCall { transfer, version };
         let runner = self.kept.chain.runner();
         let kept = &mut self.kept;
+        let records = kept.records.get();
         let pool = &mut kept.pool;
         Answer::retrieved(pool.retrieve(
             &mut self.ram,
-            &kept.layout,
+            &records.layout,
             &mut kept.pages,
             &mut kept.buffers,
             runner,
@@ -120,10 +123,11 @@ impl<M: PhysMem + Drop> Manager<M> {
     {
         let runner = self.kept.chain.runner();
         let kept = &mut self.kept;
+        let records = kept.records.get();
         let pool = &mut kept.pool;
         Answer::returned(pool.relinquish(
             &mut self.ram,
-            &kept.layout,
+            &records.layout,
             &kept.pages,
             &kept.buffers,
             runner,
@@ -161,10 +165,11 @@ impl<M: PhysMem + Drop> Manager<M> {
         let handle = word_of_halves(low, high);
         let kept = &mut self.kept;
         let pages = &mut kept.pages;
+        let records = kept.records.get();
         let pool = &mut kept.pool;
         Answer::returned(pool.reclaim(
             &mut self.ram,
-            &kept.layout,
+            &records.layout,
             pages,
             runner,
             handle,

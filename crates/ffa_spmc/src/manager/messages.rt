@@ -8,11 +8,12 @@ ghost use Rattle.ffa_spmc.specs.Served.{IsReplied};
 
 use super::Manager;
 use crate::replies::{DONE, reply_or_error};
+use crate::storage::Store;
 use ffa_messages::{DirectMessage, direct_req, direct_resp, send2};
-use ffa_model::Reply;
+use ffa_model::{Home, Reply};
 use ffa_physmem::PhysMem;
 
-impl<M: PhysMem + Drop> Manager<M> {
+impl<M: PhysMem + Drop, S: Store> Manager<M, S> {
     // FFA_RUN of the runner.
     pub(super) fn run_partition(&mut self, target: u32) -> Reply
         ensures { IsReplied self.old self.new (run_partition self.old.state target) result }
@@ -56,7 +57,9 @@ impl<M: PhysMem + Drop> Manager<M> {
             flags,
             payload,
         };
-        reply_or_error(direct_req(&mut self.kept.chain, &self.manifest, &message))
+        let kept = &mut self.kept;
+        let records = kept.records.get();
+        reply_or_error(direct_req(&mut kept.chain, &records.manifest, &message))
     }
 
     // FFA_MSG_SEND_DIRECT_RESP of the runner.
@@ -85,9 +88,10 @@ impl<M: PhysMem + Drop> Manager<M> {
     {
         let runner = self.kept.chain.runner();
         let kept = &mut self.kept;
-        match send2(&mut self.ram, &mut kept.buffers, &self.manifest, runner) {
+        let records = kept.records.get_mut();
+        match send2(&mut self.ram, &mut kept.buffers, &records.manifest, runner) {
             Ok(receiver) => {
-                kept.bitmaps.raise_framework(receiver);
+                records.bitmaps.raise_framework(receiver);
                 DONE
             }
             Err(code) => Reply::Error(code),

@@ -5,16 +5,18 @@ ghost use Rattle.ffa_spmc.specs.Served.{IsReplied};
 
 use super::{Manager, word_of_halves};
 use crate::replies::{done_or_error, reply_or_error};
-use ffa_model::Reply;
+use crate::storage::Store;
+use ffa_model::{Home, Reply};
 use ffa_physmem::PhysMem;
 
-impl<M: PhysMem + Drop> Manager<M> {
+impl<M: PhysMem + Drop, S: Store> Manager<M, S> {
     // FFA_NOTIFICATION_BITMAP_CREATE of the runner.
     pub(super) fn create_bitmaps(&mut self, endpoint: u32, contexts: u32) -> Reply
         ensures { IsReplied self.old self.new (bitmap_create self.old.state endpoint contexts) result }
     {
         let runner = self.kept.chain.runner();
-        done_or_error(self.kept.bitmaps.create(runner, endpoint, contexts))
+        let records = self.kept.records.get_mut();
+        done_or_error(records.bitmaps.create(runner, endpoint, contexts))
     }
 
     // FFA_NOTIFICATION_BITMAP_DESTROY of the runner.
@@ -22,7 +24,8 @@ impl<M: PhysMem + Drop> Manager<M> {
         ensures { IsReplied self.old self.new (bitmap_destroy self.old.state endpoint) result }
     {
         let runner = self.kept.chain.runner();
-        done_or_error(self.kept.bitmaps.destroy(runner, endpoint))
+        let records = self.kept.records.get_mut();
+        done_or_error(records.bitmaps.destroy(runner, endpoint))
     }
 
     // FFA_NOTIFICATION_BIND of the runner.
@@ -31,7 +34,8 @@ impl<M: PhysMem + Drop> Manager<M> {
     {
         let runner = self.kept.chain.runner();
         let bitmap = word_of_halves(low, high);
-        done_or_error(self.kept.bitmaps.bind(runner, word, flags, bitmap))
+        let records = self.kept.records.get_mut();
+        done_or_error(records.bitmaps.bind(runner, word, flags, bitmap))
     }
 
     // FFA_NOTIFICATION_UNBIND of the runner.
@@ -40,7 +44,8 @@ impl<M: PhysMem + Drop> Manager<M> {
     {
         let runner = self.kept.chain.runner();
         let bitmap = word_of_halves(low, high);
-        done_or_error(self.kept.bitmaps.unbind(runner, word, flags, bitmap))
+        let records = self.kept.records.get_mut();
+        done_or_error(records.bitmaps.unbind(runner, word, flags, bitmap))
     }
 
     // FFA_NOTIFICATION_SET of the runner.
@@ -49,7 +54,8 @@ impl<M: PhysMem + Drop> Manager<M> {
     {
         let runner = self.kept.chain.runner();
         let bitmap = word_of_halves(low, high);
-        done_or_error(self.kept.bitmaps.set(runner, word, flags, bitmap))
+        let records = self.kept.records.get_mut();
+        done_or_error(records.bitmaps.set(runner, word, flags, bitmap))
     }
 
     // FFA_NOTIFICATION_GET of the runner.
@@ -57,6 +63,7 @@ impl<M: PhysMem + Drop> Manager<M> {
         ensures { IsReplied self.old self.new (notification_get self.old.state word flags) result }
     {
         let runner = self.kept.chain.runner();
-        reply_or_error(self.kept.bitmaps.get(runner, word, flags))
+        let records = self.kept.records.get_mut();
+        reply_or_error(records.bitmaps.get(runner, word, flags))
     }
 }

@@ -10,6 +10,7 @@ ghost use Rattle.ffa_spmc.specs.Unowned.{pages_of_tables};
 
 use super::Manager;
 use crate::run::Run;
+use crate::storage::Store;
 use ffa_model::{Call, Op, PageNo};
 use ffa_physmem::{PAGE_SIZE, PhysMem};
 
@@ -89,7 +90,7 @@ fn release_in<M: PhysMem>(ram: &mut M, run: Run)
     hold_bytes(ram, run);
 }
 
-impl<M: PhysMem + Drop> Manager<M> {
+impl<M: PhysMem + Drop, S: Store> Manager<M, S> {
     // The pages of its TX that an operation of the runner reads, if it reads any: they are the runner's own.
     pub(crate) fn pages_read(&self, op: &Op) -> Option<Run>
         ensures pages { result ≡ pages_read self.now.state op.now }

@@ -18,14 +18,16 @@ ghost use Rattle.ffa_model.specs.Why.{granted};
 ghost use Rattle.ffa_spmc.specs.Replies.{fault_in};
 
 use super::{Manager, word_of_halves};
+use crate::storage::Store;
 use ffa_memshare::DescriptorCall;
 use ffa_messages::{DirectMessage, check_direct_req, check_direct_resp, check_send2};
 use ffa_model::{
-    Call, EndpointId, FaultKind, Grant, Kind, Obstacle, Outcome, PageNo, Refusal, Size, Transfer,
+    Call, EndpointId, FaultKind, Grant, Home, Kind, Obstacle, Outcome, PageNo, Refusal, Size,
+    Transfer,
 };
 use ffa_physmem::PhysMem;
 
-impl<M: PhysMem + Drop> Manager<M> {
+impl<M: PhysMem + Drop, S: Store> Manager<M, S> {
     // The first check of a call that fails. Each arm asks the check of its call.
     pub(crate) fn refusal(&self, call: Call) -> Option<Refusal>
         ensures { result ≡ first_refusal (service self.now.state call).guards }
@@ -98,7 +100,7 @@ impl<M: PhysMem + Drop> Manager<M> {
     fn map_refusal(&self, tx: u64, rx: u64, pages: u32) -> Option<Refusal>
         ensures { result ≡ first_refusal (rxtx_map self.now.state tx rx pages).guards }
     {
-        let base = self.manifest.ram_base;
+        let base = self.kept.records.get().manifest.ram_base;
         let runner = self.kept.chain.runner();
         let kept = &self.kept;
         let found = kept
@@ -152,7 +154,8 @@ impl<M: PhysMem + Drop> Manager<M> {
             flags,
             payload,
         };
-        check_direct_req(&self.kept.chain, &self.manifest, &message).err()
+        let records = self.kept.records.get();
+        check_direct_req(&self.kept.chain, &records.manifest, &message).err()
     }
 
     // Of FFA_MSG_SEND_DIRECT_RESP.
@@ -179,7 +182,9 @@ impl<M: PhysMem + Drop> Manager<M> {
         ensures { result ≡ first_refusal (msg_send2 self.now.state).guards }
     {
         let runner = self.kept.chain.runner();
-        check_send2(&self.ram, &self.kept.buffers, &self.manifest, runner).err()
+        let kept = &self.kept;
+        let records = kept.records.get();
+        check_send2(&self.ram, &kept.buffers, &records.manifest, runner).err()
     }
 
     // Of FFA_MEM_DONATE, FFA_MEM_LEND or FFA_MEM_SHARE.
@@ -190,7 +195,8 @@ impl<M: PhysMem + Drop> Manager<M> {
         let call = DescriptorCall { transfer, version };
         let runner = self.kept.chain.runner();
         let kept = &self.kept;
-        let (layout, pages) = (&kept.layout, &kept.pages);
+        let records = kept.records.get();
+        let (layout, pages) = (&records.layout, &kept.pages);
         let found = kept.pool.check_send(
             &self.ram,
             layout,
@@ -211,7 +217,8 @@ impl<M: PhysMem + Drop> Manager<M> {
         let call = DescriptorCall { transfer, version };
         let runner = self.kept.chain.runner();
         let kept = &self.kept;
-        let (layout, pages) = (&kept.layout, &kept.pages);
+        let records = kept.records.get();
+        let (layout, pages) = (&records.layout, &kept.pages);
         let found = kept
             .pool
             .check_retrieve(&self.ram, layout, pages, &kept.buffers, runner, &call);
@@ -235,9 +242,10 @@ impl<M: PhysMem + Drop> Manager<M> {
         let runner = self.kept.chain.runner();
         let handle = word_of_halves(low, high);
         let kept = &self.kept;
+        let base = kept.records.get().layout.base;
         let found = kept
             .pool
-            .check_reclaim(&kept.pages, kept.layout.base, runner, handle, flags);
+            .check_reclaim(&kept.pages, base, runner, handle, flags);
         found.err()
     }
 
@@ -246,8 +254,11 @@ impl<M: PhysMem + Drop> Manager<M> {
         ensures { result ≡ first_refusal (bitmap_create self.now.state endpoint contexts).guards }
     {
         let runner = self.kept.chain.runner();
-        let bitmaps = &self.kept.bitmaps;
-        bitmaps.check_create(runner, endpoint, contexts).err()
+        let records = self.kept.records.get();
+        records
+            .bitmaps
+            .check_create(runner, endpoint, contexts)
+            .err()
     }
 
     // Of FFA_NOTIFICATION_BITMAP_DESTROY.
@@ -255,7 +266,8 @@ impl<M: PhysMem + Drop> Manager<M> {
         ensures { result ≡ first_refusal (bitmap_destroy self.now.state endpoint).guards }
     {
         let runner = self.kept.chain.runner();
-        self.kept.bitmaps.check_destroy(runner, endpoint).err()
+        let records = self.kept.records.get();
+        records.bitmaps.check_destroy(runner, endpoint).err()
     }
 
     // Of FFA_NOTIFICATION_BIND.
@@ -264,8 +276,11 @@ impl<M: PhysMem + Drop> Manager<M> {
     {
         let runner = self.kept.chain.runner();
         let bitmap = word_of_halves(low, high);
-        let bitmaps = &self.kept.bitmaps;
-        bitmaps.check_bind(runner, word, flags, bitmap).err()
+        let records = self.kept.records.get();
+        records
+            .bitmaps
+            .check_bind(runner, word, flags, bitmap)
+            .err()
     }
 
     // Of FFA_NOTIFICATION_UNBIND.
@@ -274,8 +289,11 @@ impl<M: PhysMem + Drop> Manager<M> {
     {
         let runner = self.kept.chain.runner();
         let bitmap = word_of_halves(low, high);
-        let bitmaps = &self.kept.bitmaps;
-        bitmaps.check_unbind(runner, word, flags, bitmap).err()
+        let records = self.kept.records.get();
+        records
+            .bitmaps
+            .check_unbind(runner, word, flags, bitmap)
+            .err()
     }
 
     // Of FFA_NOTIFICATION_SET.
@@ -284,8 +302,8 @@ impl<M: PhysMem + Drop> Manager<M> {
     {
         let runner = self.kept.chain.runner();
         let bitmap = word_of_halves(low, high);
-        let bitmaps = &self.kept.bitmaps;
-        bitmaps.check_set(runner, word, flags, bitmap).err()
+        let records = self.kept.records.get();
+        records.bitmaps.check_set(runner, word, flags, bitmap).err()
     }
 
     // Of FFA_NOTIFICATION_GET.
@@ -293,7 +311,8 @@ impl<M: PhysMem + Drop> Manager<M> {
         ensures { result ≡ first_refusal (notification_get self.now.state word flags).guards }
     {
         let runner = self.kept.chain.runner();
-        self.kept.bitmaps.check_get(runner, word, flags).err()
+        let records = self.kept.records.get();
+        records.bitmaps.check_get(runner, word, flags).err()
     }
 
     // The fault of a load.

@@ -10,6 +10,6 @@ use Rattle.ffa_memshare.proofs.failing.failing_offer.Given as goal
 
 -- no page so far is one that fails
 abbrev pub invariant-loop-number : goal.invariant-loop-number
-invariant-loop-number l =
+invariant-loop-number g l =
     (k : ℕ) → k < l.number
     → (in_ranges l.base.0 l.offer.ranges.items k && not (passes l.sender.0 (candidates_in l.pages l.base.0) (own_rights_in l.pages l.base.0) l.buffers (send_record l.offer) l.refusal k)) ≡ false

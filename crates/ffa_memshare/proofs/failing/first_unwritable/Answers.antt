@@ -8,17 +8,17 @@ use Rattle.ffa_memshare.proofs.FirstFailing.{first-at, first-none, none-next}
 use Rattle.ffa_memshare.proofs.failing.first_unwritable.Goals as goal
 
 pub returns-then-is_unwritable : goal.returns-then-is_unwritable
-returns-then-is_unwritable c =
+returns-then-is_unwritable g c =
     let table = c.args.pages.now in
     first-at (λ p. may_store (own_right_at table p)) (in_ranges c.args.base.0 c.args.ranges.now) (length table) c.loop-number.number (let test = c.loop-number-test.true in omega arith)
     c.loop-number.invariant (sym c.if-is_unwritable.ensures)
 
 pub returns : goal.returns
-returns c =
+returns g c =
     let table = c.args.pages.now in
     first-none (λ p. may_store (own_right_at table p)) (in_ranges c.args.base.0 c.args.ranges.now) (length table) (λ k lt. c.loop-number.invariant k (let test = c.loop-number-test.false in omega arith))
 
 pub loop-number-preserved : goal.loop-number-preserved
-loop-number-preserved c =
+loop-number-preserved g c =
     let table = c.args.pages.now in
     none-next (λ p. in_ranges c.args.base.0 c.args.ranges.now p && not (may_store (own_right_at table p))) c.loop-number.number c.loop-number.invariant (sym c.if-is_unwritable.ensures)

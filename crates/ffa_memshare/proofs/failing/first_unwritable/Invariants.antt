@@ -8,5 +8,5 @@ use Rattle.ffa_memshare.proofs.failing.first_unwritable.Given as goal
 
 -- no page so far is one that may not be written
 abbrev pub invariant-loop-number : goal.invariant-loop-number
-invariant-loop-number l =
+invariant-loop-number g l =
     (k : ℕ) → k < l.number → (in_ranges l.base.0 l.ranges k && not (may_store (own_right_at l.pages k))) ≡ false

@@ -5,4 +5,4 @@ use Rattle.ffa_rxtx.specs.Parts.{candidate_in}
 use Rattle.ffa_rxtx.proofs.buffers.are_usable.Given as goal
 
 abbrev pub invariant-loop-i : goal.invariant-loop-i
-invariant-loop-i l = (k : ℕ) → k < l.i → is_usable l.endpoint.0 (candidate_in l.table (l.first.0 + k)) ≡ true
+invariant-loop-i g l = (k : ℕ) → k < l.i → is_usable l.endpoint.0 (candidate_in l.table (l.first.0 + k)) ≡ true

@@ -3,7 +3,7 @@ use Rattle.std.proofs.Common.{rules}
 use Rattle.ffa_rxtx.proofs.buffers.is_usable.Goals as goal
 
 pub returns-then-is_alone : goal.returns-then-is_alone
-returns-then-is_alone c = search rules
+returns-then-is_alone g c = search rules
 
 pub returns-else-is_alone : goal.returns-else-is_alone
-returns-else-is_alone c = search rules
+returns-else-is_alone g c = search rules

@@ -1,15 +1,16 @@
 -- SPDX-License-Identifier: MIT OR Apache-2.0
-use Rattle.std.proofs.Common.{◌≡◌, ◌∙◌, ◌+◌, ◌-◌, arith, subst, sym}
+use Rattle.std.proofs.Common.{◌≡◌, ◌∙◌, ◌+◌, ◌-◌, ◌≤◌, None, arith, subst, sym}
+use Rattle.std.proofs.lemmas.Grind.{common_steps}
 use Rattle.arrayvec.specs.ArrayVec.{array_vec_len}
 use Rattle.ffa_stage2.specs.Layout.{layout_right}
 use Rattle.ffa_stage2.specs.Tables.{IsBuilt, with_pages}
 use Rattle.ffa_stage2.specs.Words.{rights_until}
 use Rattle.ffa_stage2.proofs.Kept.{KeepsRest-then, KeepsRest-of_others}
-use Rattle.ffa_stage2.proofs.Rights.{built-same, rights_until-next, rights_until-full}
+use Rattle.ffa_stage2.proofs.Rights.{built-same, rights_until-next, rights_until-skip, rights_until-full}
 use Rattle.ffa_stage2.proofs.tables.grant.Goals as goal
 
-pub loop-next-preserved : goal.loop-next-preserved
-loop-next-preserved g c =
+pub loop-next-preserved-then-is_some : goal.loop-next-preserved-then-is_some
+loop-next-preserved-then-is_some g c =
     let i = c.loop-next.invariant in
     let l = c.args.layout.now in
     let next = c.loop-next.next in
@@ -26,6 +27,21 @@ loop-next-preserved g c =
           (λ q low high. c.right_until-until.ensures.same q low high ∙ sym c.right-right.ensures) e p);
       rest = KeepsRest-then (g.M.PhysMem.ram c.args.memory.now) (g.M.PhysMem.ram c.loop-next.memory) (g.M.PhysMem.ram c.set_pages.new.memory) (array_vec_len l.regions) l.blocks
           i.rest (KeepsRest-of_others _ _ _ _ c.args.index c.set_pages.ensures.others c.requires.index);
+    }
+
+pub loop-next-preserved : goal.loop-next-preserved
+loop-next-preserved g c =
+    let i = c.loop-next.invariant in
+    let l = c.args.layout.now in
+    let until = c.right_until-until.ensures in
+    let le : c.loop-next.next ≤ c.right_until-until.result = omega (arith, until.some) in
+    let none : c.right-right.result ≡ None = grind (arith, common_steps) in
+    record {
+      until = until.end;
+      built = built-same (g.M.PhysMem.ram c.loop-next.memory) (array_vec_len l.regions) l.blocks _ (rights_until (layout_right l) c.args.index c.right_until-until.result) i.built
+          (λ e p _ _. rights_until-skip (layout_right l) c.args.index c.loop-next.next c.right_until-until.result le
+          (λ q low high. until.same q low high ∙ sym c.right-right.ensures ∙ none) e p);
+      rest = i.rest;
     }
 
 pub returns-clause-built : goal.returns-clause-built

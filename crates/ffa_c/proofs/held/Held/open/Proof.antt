@@ -1,6 +1,6 @@
 -- SPDX-License-Identifier: MIT OR Apache-2.0
 -- `open` hands on what the pointer owns.
-use Rattle.ffa_lent.proofs.Steps.{[], ◌∷◌, Some, IsSome, ap, sym, ◌∙◌, refl, ftrue, proved, fact, tables, WpFn, ‵, raw, ◌⊛◌, prop, at_ret, ◌$◌, ◌∵◌, !, qed, done, move, keep, drop, split, fsplit, join, regoal, suffices, group, enter, of_opd, stop, fld, no_more, and_then, first, blocks, exec, returns, alloc_all, pass_all, free_all, look_at, get, get_in, sets, lands_last, env, sub, whole, yes, ptr_val, block_ptr, vstruct, of_list, owns, plain, nothing, owned, peeks, heard, Is, shows, makes, glues, ⊑_refl, calls_at_last, framed, Stays, walk_of, says, stay_dropped, Goes-dropped, ends_at}
+use Rattle.ffa_lent.proofs.Steps.{[], ◌∷◌, IsSome, ◌∙◌, refl, ftrue, proved, fact, tables, WpFn, ‵, raw, ◌⊛◌, prop, at_ret, ◌$◌, ◌∵◌, !, qed, done, move, keep, drop, split, fsplit, join, regoal, suffices, group, enter, of_opd, stop, fld, no_more, and_then, first, blocks, exec, returns, alloc_all, pass_all, free_all, look_at, get, get_in, sets, lands_last, env, sub, whole, yes, ptr_val, block_ptr, vstruct, of_list, owns, plain, nothing, owned, peeks, heard, Is, shows, makes, glues, ⊑_refl, calls_at_last, framed, Stays, walk_of, says, stay_dropped, Goes-dropped, ends_at}
 use Rattle.ffa_lent.proofs.BoxCalls.{Joins, at_joins, joins_in, joins_out}
 use Rattle.ffa_lent.proofs.Owners.{slot_out}
 use Rattle.std.proofs.Handle.{heap_val}
@@ -10,8 +10,9 @@ use Rattle.std.proofs.impls.GlobalAllocator.TheImpl.Met.{passed}
 use Rattle.std.specs.contracts.alloc.Global as heap
 use Rattle.std.specs.contracts.alloc.Global.{the_row as Heap}
 use Rattle.std.specs.contracts.impls.GlobalAllocator.TheImpl.{ghosts, dict}
+use Rattle.ffa_c.specs.Boarded.{seated}
 use Rattle.ffa_c.proofs.Heap.{Handle, handle_laws, allocator, heap_is}
-use Rattle.ffa_c.proofs.HeldSteps.{Board, Argument, argument_laws, BoardBox, box_laws, Held, held_vals}
+use Rattle.ffa_c.proofs.HeldSteps.{Seat, Argument, argument_laws, SeatBox, box_laws, Held, held_vals, has-seat, in-seat}
 use Rattle.ffa_c.proofs.held.Held.TheLaws.{lowers}
 use Rattle.ffa_c.specs.contracts.held.Held.«open» as f
 use Rattle.ffa_c.proofs.held.Held.«open».Statement.{statement}
@@ -30,8 +31,8 @@ open_spec {M} 𝓤 𝓛 𝓜 𝓡 wired =
     let d = a.0 in let holds = ghosts.dealloc_token d.alloc in
     let y : W.Ghost = ((κs, qs, bounds, a, (held_vals d, tt)), tt) in
     qed 𝓛 ((‵ ftrue ⊛ ‵ (owns (Held ∷ []) a y.0.4)) ∷ raw (fact 𝓤 (IsSome d.value)) ∷ []) ∵
-    move ! (1 ∷ []) $ heard ! _ (λ some. split ! $ drop ! $ fsplit ! $ fsplit ! $ drop ! $
-    slot_out ! holds Board d.at d.value some (λ x held b o at.
+    move ! (1 ∷ []) $ heard ! _ (λ there. split ! $ drop ! $ fsplit ! $ fsplit ! $ drop ! $
+    slot_out ! holds Seat d.at (seated d.value) (has-seat d.value there) (λ x held b o at.
     regoal ! (λ p. prop (WpFn 𝓤 𝓛.H 𝓣.C 𝓣.Λ code.function (vstruct (of_list (ptr_val p ∷ heap_val ∷ [])) ∷ []) (W.post y))) at refl $
     enter ! _ _ _ _ _ $ alloc_all ! (λ l. pass_all ! refl ((tt, (tt, (((tt, tt), tt), tt))), tt) $
     sets ! (of_opd ! (get_in ! (fld ! refl (stop !)) (sub ! 0 refl (whole !)))) refl (tt, tt) $
@@ -48,9 +49,9 @@ open_spec {M} 𝓤 𝓛 𝓜 𝓡 wired =
     joins_in Argument allocator M' R ! (⊑_refl []) (⊑_refl []) d.alloc (block_ptr b o) x (heap_val ∷ []) $
     calls_at_last ! (framed 𝓤 𝓛.H 𝓜 𝓣) (Joins Argument allocator 𝓛 M' R) m (at_joins Argument allocator 𝓛 M' R d.alloc (block_ptr b o) x (heap_val ∷ [])) (and_then ! (get ! refl) (and_then ! (get ! refl) (no_more !))) (λ v.
     joins_out Argument allocator M' R ! tt d.alloc (block_ptr b o) x (heap_val ∷ []) v (λ owner same.
-    peeks ! BoardBox (Is BoardBox) (shows 𝓛 BoardBox) owner (v ∷ []) (λ is. let fits = ((box_laws.lawful 𝓛).typed owner (v ∷ []) is).0 in
+    peeks ! SeatBox (Is SeatBox) (shows 𝓛 SeatBox) owner (v ∷ []) (λ is. let fits = ((box_laws.lawful 𝓛).typed owner (v ∷ []) is).0 in
     lands_last ! refl fits $ exec ! 𝓣.C 𝓣.Λ (env code.Mir.locals l) code.Mir.t-4 (at_ret _ (W.post y)) $
     sets ! (of_opd ! (get ! refl)) refl fits $
     returns ! (look_at ! 0 refl) $ free_all ! refl $ keep ! (0 ∷ []) $
-    suffices ! _ (ends_at 𝓛 f.ended stayed c y v owner (tt, tt) (tt, tt)) $ says ! (held ∙ ap Some (sym same)) $
+    suffices ! _ (ends_at 𝓛 f.ended stayed c y v owner (tt, tt) (tt, tt)) $ says ! (same ∙ in-seat d.value x there held) $
     nothing ! $ nothing ! $ join ! $ nothing ! $ group ! 3 $ done !)))))))

@@ -4,7 +4,7 @@ use Rattle.ffa_model.specs.Ram.{Ram}
 use Rattle.ffa_lent.proofs.Boxes.{unseen}
 use Rattle.ffa_lent.proofs.frames.LentRam.into_frames.Goals as goal
 
-pub returns : goal.returns
-returns c =
+pub returns-clause-pages : goal.returns-clause-pages
+returns-clause-pages c =
     let m = c.write_back.new.self in
     sym (unseen m.frames.items m.copies.items m.first.0 m.count c.write_back.ensures.none) ∙ ap (λ (r : Ram). r.pages) c.write_back.ensures.ram

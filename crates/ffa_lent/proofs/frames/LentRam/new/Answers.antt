@@ -5,7 +5,7 @@ use Rattle.ffa_lent.specs.Listed.{Listed}
 use Rattle.ffa_lent.proofs.Boxes.{unseen}
 use Rattle.ffa_lent.proofs.frames.LentRam.new.Goals as goal
 
-pub returns-in-Ok-clause-ram : goal.returns-in-Ok-clause-ram
-returns-in-Ok-clause-ram c =
+pub returns-clause-ram : goal.returns-clause-ram
+returns-clause-ram c =
     ap (λ (p : List (List ℕ)). let r : Ram = record { base = c.args.base.0; pages = p } in r)
-    (unseen c.frames.inside.list.items c.in-Ok.copies.items 0 0 refl ∙ ap (λ (l : Listed). l.pages) c.frames.view_is)
+    (unseen c.frames.inside.list.items _ 0 0 refl ∙ ap (λ (l : Listed). l.pages) c.frames.view_is)

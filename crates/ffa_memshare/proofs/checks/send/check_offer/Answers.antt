@@ -14,7 +14,7 @@ use Rattle.ffa_memshare.proofs.Offered.{checked-offered, of_sendable, sendable-p
 use Rattle.ffa_memshare.proofs.checks.send.check_offer.Goals as goal
 
 pub check_writes-requires-clause-own : goal.check_writes-requires-clause-own
-check_writes-requires-clause-own c =
+check_writes-requires-clause-own g c =
     let o = c.args.offer.now in
     let l = c.args.layout.now in
     let table = c.args.pages.now in
@@ -27,7 +27,7 @@ check_writes-requires-clause-own c =
     (c.args.caller.0, checked-offered table l.base.0 c.args.caller.0 c.args.buffers.now (send_record o) (omega (arith, l.place)) c.requires.aligned sender inside sendable)
 
 pub returns-clause-offered : goal.returns-clause-offered
-returns-clause-offered c =
+returns-clause-offered g c =
     let o = c.args.offer.now in
     let l = c.args.layout.now in
     let table = c.args.pages.now in
@@ -40,7 +40,7 @@ returns-clause-offered c =
     checked-offered table l.base.0 c.args.caller.0 c.args.buffers.now (send_record o) (omega (arith, l.place)) c.requires.aligned sender inside sendable
 
 pub returns-in_err-check_writes-clause-refusal : goal.returns-in_err-check_writes-clause-refusal
-returns-in_err-check_writes-clause-refusal c =
+returns-in_err-check_writes-clause-refusal g c =
     let o = c.args.offer.now in
     let r = send_record o in
     let l = c.args.layout.now in
@@ -57,3 +57,21 @@ returns-in_err-check_writes-clause-refusal c =
     let passed = sendable-pass (array_vec_len l.regions) (candidates_in table l.base.0) own_rights c.args.buffers.now c.args.caller.0 r sender known inside sendable in
     let refused : c.from_residual.result ≡ Err c.in_err-check_writes.field-0.0 = search of_calls in
     rw refused (c.in_err-check_writes.ensures ∙ first-pass before (write_guards own_rights r) passed)
+
+pub returns-clause-refusal : goal.returns-clause-refusal
+returns-clause-refusal g c =
+    let o = c.args.offer.now in
+    let r = send_record o in
+    let l = c.args.layout.now in
+    let table = c.args.pages.now in
+    let own_rights = own_rights_in table l.base.0 in
+    let before = of_sendable (array_vec_len l.regions) (candidates_in table l.base.0) own_rights c.args.buffers.now c.args.caller.0 r in
+    let sender : o.sender.0 ≡ c.args.caller.0 = search rules in
+    let known : are_known (array_vec_len l.regions) o.receivers.items ≡ true = search rules in
+    let inside : list_all (is_inside own_rights) o.ranges.items ≡ true =
+    sym (ap (list_all (is_inside own_rights)) c.as_slice-2.ensures.value) ∙ sym c.are_inside.ensures ∙ c.if-not-are_inside.false in
+    let sendable : list_all (is_sendable c.args.caller.0 (candidates_in table l.base.0) c.args.buffers.now) (pages_in own_rights o.ranges.items) ≡ true =
+    sym (ap (λ (rs : List Range). list_all (is_sendable c.args.caller.0 (candidates_in table l.base.0) c.args.buffers.now) (pages_in own_rights rs)) c.of-ranges.ensures)
+    ∙ sym c.are_sendable.ensures ∙ c.if-not-are_sendable.false in
+    let passed = sendable-pass (array_vec_len l.regions) (candidates_in table l.base.0) own_rights c.args.buffers.now c.args.caller.0 r sender known inside sendable in
+    c.in_ok-check_writes.ensures ∙ first-pass before (write_guards own_rights r) passed

@@ -6,4 +6,4 @@ use Rattle.ffa_memshare.proofs.page_ranges.PageRanges.of.Given as goal
 
 -- the ranges so far
 abbrev pub invariant-loop-range : goal.invariant-loop-range
-invariant-loop-range l = map (range_at l.base.0) l.list.items ≡ take l.range-index l.ranges.items
+invariant-loop-range g l = map (range_at l.base.0) l.list.items ≡ take l.range-index l.ranges.items

@@ -10,10 +10,10 @@ use Rattle.ffa_memshare.proofs.Asks.{asked-open}
 use Rattle.ffa_memshare.proofs.pool.Pool.check_reclaim.Goals as goal
 
 pub check_reclaim-requires-clause-placed : goal.check_reclaim-requires-clause-placed
-check_reclaim-requires-clause-placed c = let it = c.at-open.result.now in c.requires c.in-Some.slot it.handle (view_of it) c.at-open.ensures.value
+check_reclaim-requires-clause-placed g c = let it = c.at-open.result.now in c.requires c.in-Some.slot it.handle (view_of it) c.at-open.ensures.value
 
 pub returns-in_err-check_reclaim-clause-refusal : goal.returns-in_err-check_reclaim-clause-refusal
-returns-in_err-check_reclaim-clause-refusal c =
+returns-in_err-check_reclaim-clause-refusal g c =
     let slots = c.args.self.now.slots in
     let h = c.args.handle in
     let it = c.at-open.result.now in
@@ -24,7 +24,7 @@ returns-in_err-check_reclaim-clause-refusal c =
     ∙ ap (λ (o : Option Transaction). first_refusal (reclaim_guards (own_rights_in c.args.pages.now c.args.base.0) c.args.caller.0 c.args.flags o)) (sym get))
 
 pub returns-clause-refusal : goal.returns-clause-refusal
-returns-clause-refusal c =
+returns-clause-refusal g c =
     let slots = c.args.self.now.slots in
     let h = c.args.handle in
     let it = c.at-open.result.now in

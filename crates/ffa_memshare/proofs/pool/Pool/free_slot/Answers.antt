@@ -12,11 +12,11 @@ use Rattle.ffa_memshare.proofs.FreeSlots.{all-open, few-open, slot-free, slot-ta
 use Rattle.ffa_memshare.proofs.pool.Pool.free_slot.Goals as goal
 
 pub loop-slot-init : goal.loop-slot-init
-loop-slot-init c = record { from = omega (arith, c.place-first.ensures); taken = λ k from to. absurd (omega (arith, c.place-first.ensures)) }
+loop-slot-init g c = record { from = omega (arith, c.place-first.ensures); taken = λ k from to. absurd (omega (arith, c.place-first.ensures)) }
 
 pub returns-then-is_none-clause-free : goal.returns-then-is_none-clause-free
-returns-then-is_none-clause-free c =
-    let items = c.self.inside.slots.items in
+returns-then-is_none-clause-free g c =
+    let items = g.O.Room.items c.self.inside.slots in
     let k = c.loop-slot.slot in
     let size = ap (λ (p : Pooled). length p.sent) c.self.view_is in
     let lt : k < length items =
@@ -25,26 +25,24 @@ returns-then-is_none-clause-free c =
       within = omega (arith, lt, length-map items kept_slot, ap (λ (p : Pooled). length p.slots) c.self.view_is);
       own = omega (arith, c.loop-slot-test.true, c.place-first.ensures, c.loop-slot.invariant.from);
       free = ap (λ (p : Pooled). pool_slot p.slots k) (sym c.self.view_is)
-          ∙ slot-free items k c.index-deref-slot.result lt
-          (c.index-deref-slot.is ∙ ap (λ (xs : List (Option OpenTransaction)). get_or xs k c.index-deref-slot.result) c.deref.ensures.0) c.if-is_none.ensures;
+          ∙ slot-free items k c.at.result.now lt (c.at.ensures c.at.result.now) c.if-is_none.ensures;
     }
 
 pub returns-then-is_none-clause-few : goal.returns-then-is_none-clause-few
-returns-then-is_none-clause-few c =
+returns-then-is_none-clause-few g c =
     sym (subst (λ (p : Pooled). nat_lt (open_count (open_in p) c.args.sender.0) 16 ≡ true) c.self.view_is
-    (few-open (record { slots = kept_slots c.self.inside.slots.items; sent = c.self.inside.sent.items }) c.self.invariant c.args.sender.0 c.requires.known
+    (few-open (record { slots = kept_slots (g.O.Room.items c.self.inside.slots); sent = c.self.inside.sent.items }) c.self.invariant c.args.sender.0 c.requires.known
     (omega (arith, c.requires.place, ap (λ (p : Pooled). length p.sent) c.self.view_is)) c.loop-slot.slot
-    (subst (λ (p : Pooled). IsFree p.slots (place c.args.sender.0) c.loop-slot.slot) (sym c.self.view_is) (returns-then-is_none-clause-free c))))
+    (subst (λ (p : Pooled). IsFree p.slots (place c.args.sender.0) c.loop-slot.slot) (sym c.self.view_is) (returns-then-is_none-clause-free g c))))
 
 pub loop-slot-preserved : goal.loop-slot-preserved
-loop-slot-preserved c =
-    let items = c.self.inside.slots.items in
+loop-slot-preserved g c =
+    let items = g.O.Room.items c.self.inside.slots in
     let slot = c.loop-slot.slot in
     let size = ap (λ (p : Pooled). length p.sent) c.self.view_is in
     let lt : slot < length items =
     omega (arith, c.loop-slot-test.true, c.place-first.ensures, c.requires.place, c.self.invariant.size, length-map items kept_slot, size) in
-    let (x, at) = slot-taken items slot c.index-deref-slot.result lt
-    (c.index-deref-slot.is ∙ ap (λ (xs : List (Option OpenTransaction)). get_or xs slot c.index-deref-slot.result) c.deref.ensures.0) c.if-is_none.ensures in
+    let (x, at) = slot-taken items slot c.at.result.now lt (c.at.ensures c.at.result.now) c.if-is_none.ensures in
     record {
       from = omega (arith, c.loop-slot.invariant.from);
       taken = λ k from to. elim (cases_eq k slot) [
@@ -54,13 +52,13 @@ loop-slot-preserved c =
     }
 
 pub returns-clause-few : goal.returns-clause-few
-returns-clause-few c =
+returns-clause-few g c =
     sym (subst (λ (p : Pooled). nat_lt (open_count (open_in p) c.args.sender.0) 16 ≡ false) c.self.view_is
-    (all-open (record { slots = kept_slots c.self.inside.slots.items; sent = c.self.inside.sent.items }) c.self.invariant c.args.sender.0 c.requires.known
+    (all-open (record { slots = kept_slots (g.O.Room.items c.self.inside.slots); sent = c.self.inside.sent.items }) c.self.invariant c.args.sender.0 c.requires.known
     (omega (arith, c.requires.place, ap (λ (p : Pooled). length p.sent) c.self.view_is))
     (λ k from to. let (x, at) = c.loop-slot.invariant.taken k from (omega (arith, c.loop-slot-test.false, c.place-first.ensures)) in (x, ap (λ (p : Pooled). pool_slot p.slots k) c.self.view_is ∙ at))))
 
 pub returns-then-is_none-clause-fits : goal.returns-then-is_none-clause-fits
-returns-then-is_none-clause-fits c =
+returns-then-is_none-clause-fits g c =
     let size = ap (λ (p : Pooled). length p.sent) c.self.view_is in
     omega (arith, c.loop-slot-test.true, c.place-first.ensures, c.requires.place, c.self.invariant.few, size)

@@ -7,7 +7,7 @@ use Rattle.ffa_memshare.proofs.pool.Pool.free_slot.Given as goal
 
 -- the slots so far have transactions
 abbrev pub invariant-loop-slot : goal.invariant-loop-slot
-invariant-loop-slot l = record {
+invariant-loop-slot g l = record {
   from : 16 * place l.fn.sender.0 ≤ l.slot;
   taken : (k : ℕ) → 16 * place l.fn.sender.0 ≤ k → k < l.slot → (x : ℕ × Transaction) × (pool_slot l.self.slots k ≡ Some x);
 }

@@ -3,4 +3,4 @@ use Rattle.std.proofs.Common.{rules}
 use Rattle.ffa_memshare.proofs.pool.Pool.next_handle.Goals as goal
 
 pub returns : goal.returns
-returns c = search rules
+returns g c = search rules

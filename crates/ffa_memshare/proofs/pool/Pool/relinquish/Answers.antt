@@ -57,3 +57,8 @@ returns-in_err-found-clause-steps g c = Only-none
 
 pub returns-in_err-found-clause-ended : goal.returns-in_err-found-clause-ended
 returns-in_err-found-clause-ended g c = nothing-ends _ _ _ _ _ refl
+
+pub change_pages-requires-clause-placed : goal.change_pages-requires-clause-placed
+change_pages-requires-clause-placed g c =
+    let it = c.at-open.result.now in
+    (c.requires.shared.each c.in_ok-found.found.slot it.handle (view_of it) c.at-open.ensures.value).placed

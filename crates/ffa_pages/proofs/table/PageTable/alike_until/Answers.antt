@@ -3,4 +3,4 @@ use Rattle.std.proofs.Common.{rules}
 use Rattle.ffa_pages.proofs.table.PageTable.alike_until.Goals as goal
 
 pub returns-then-ne-clause-alike : goal.returns-then-ne-clause-alike
-returns-then-ne-clause-alike c = search rules
+returns-then-ne-clause-alike g c = search rules

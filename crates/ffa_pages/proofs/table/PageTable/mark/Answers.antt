@@ -6,7 +6,7 @@ use Rattle.ffa_pages.proofs.Kept.{entry_of-marked}
 use Rattle.ffa_pages.proofs.table.PageTable.mark.Goals as goal
 
 pub returns-in-Some : goal.returns-in-Some
-returns-in-Some c =
+returns-in-Some g c =
     let marked : Entry → Entry = λ e. record e { slot = c.args.slot } in
     c.put.ensures
     ∙ ap (λ (o : Option Entry). slice_set c.args.self.now c.args.page.0 o)

@@ -3,4 +3,4 @@ use Rattle.std.proofs.Common.{rules}
 use Rattle.ffa_pages.proofs.table.PageTable.own_right_of.Goals as goal
 
 pub returns : goal.returns
-returns c = search rules
+returns g c = search rules

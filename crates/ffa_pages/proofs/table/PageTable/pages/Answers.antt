@@ -4,4 +4,4 @@ use Rattle.std.proofs.Common.{arith}
 use Rattle.ffa_pages.proofs.table.PageTable.pages.Goals as goal
 
 pub returns-clause-count : goal.returns-clause-count
-returns-clause-count c = grind (arith, common_steps)
+returns-clause-count g c = grind (arith, common_steps)

@@ -1,20 +1,25 @@
 -- SPDX-License-Identifier: MIT OR Apache-2.0
-use Rattle.std.proofs.Common.{◌∙◌, length}
+use Rattle.std.proofs.Common.{◌∙◌, length, sym}
 use Rattle.ffa_model.specs.AboutContents.{about_bits}
 use Rattle.ffa_model.specs.Notifications.{notifications_of}
 use Rattle.ffa_model.specs.State.{State}
-use Rattle.ffa_spmc.proofs.Inside.{parts_of}
+use Rattle.ffa_spmc.proofs.Inside.{machine-alike, parts_of, view-alike, with_records}
 use Rattle.ffa_spmc.proofs.Abouts.{bits-told, seen-in}
 use Rattle.ffa_spmc.proofs.Notified.{runner-notified}
 use Rattle.ffa_spmc.proofs.manager.Manager.about_bits.Goals as goal
 
 pub returns : goal.returns
 returns g c =
-    let x = parts_of g.M.PhysMem.ram c.self.inside in
-    seen-in x c.args.self.now c.self.view_is (λ (s : State). about_bits (length s.parties) (notifications_of s) s.runner c.args.call.now c.args.refusal) c.about_bits.result
-    (c.about_bits.ensures ∙ bits-told x c.self.invariant c.runner-runner.result.0 c.runner-runner.ensures.runner c.args.refusal c.args.call.now)
+    let old = parts_of g.M.PhysMem.ram g.S.Records.Home.value c.self.inside in
+    let x = with_records old c.get-records.result.now in
+    let machine = machine-alike old (sym c.get-records.ensures) c.self.invariant in
+    let view = view-alike old (sym c.get-records.ensures) c.self.view_is in
+    seen-in x c.args.self.now view (λ (s : State). about_bits (length s.parties) (notifications_of s) s.runner c.args.call.now c.args.refusal) c.about_bits.result
+    (c.about_bits.ensures ∙ bits-told x machine c.runner-runner.result.0 c.runner-runner.ensures.runner c.args.refusal c.args.call.now)
 
 pub about_bits-requires : goal.about_bits-requires
 about_bits-requires g c =
-    let x = parts_of g.M.PhysMem.ram c.self.inside in
-    runner-notified x c.self.invariant c.runner-runner.result.0 c.runner-runner.ensures.runner
+    let old = parts_of g.M.PhysMem.ram g.S.Records.Home.value c.self.inside in
+    let x = with_records old c.get-records.result.now in
+    let machine = machine-alike old (sym c.get-records.ensures) c.self.invariant in
+    runner-notified x machine c.runner-runner.result.0 c.runner-runner.ensures.runner

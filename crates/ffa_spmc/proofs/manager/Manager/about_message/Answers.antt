@@ -10,11 +10,11 @@ use Rattle.ffa_spmc.proofs.manager.Manager.about_message.Goals as goal
 
 pub returns : goal.returns
 returns g c =
-    let x = parts_of g.M.PhysMem.ram c.self.inside in
+    let x = parts_of g.M.PhysMem.ram g.S.Records.Home.value c.self.inside in
     seen-in x c.args.self.now c.self.view_is (λ (s : State). about_message (buffers_of s s.runner) (header_in (tx_bytes s s.runner)) c.args.refusal) c.about_message.result
     (c.about_message.ensures ∙ message-told x c.self.invariant c.runner-runner.result.0 c.runner-runner.ensures.runner c.args.refusal)
 
 pub about_message-requires : goal.about_message-requires
 about_message-requires g c =
-    let x = parts_of g.M.PhysMem.ram c.self.inside in
+    let x = parts_of g.M.PhysMem.ram g.S.Records.Home.value c.self.inside in
     buffers-in-ram x c.self.invariant

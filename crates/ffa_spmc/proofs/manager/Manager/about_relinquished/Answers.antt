@@ -9,11 +9,11 @@ use Rattle.ffa_spmc.proofs.manager.Manager.about_relinquished.Goals as goal
 
 pub returns : goal.returns
 returns g c =
-    let x = parts_of g.M.PhysMem.ram c.self.inside in
+    let x = parts_of g.M.PhysMem.ram g.S.Records.Home.value c.self.inside in
     seen-in x c.args.self.now c.self.view_is (λ (s : State). about_relinquished s c.args.refusal) c.about_relinquish.result
     (c.about_relinquish.ensures ∙ relinquish-told x c.self.invariant c.runner-runner.result.0 c.runner-runner.ensures.runner c.args.refusal)
 
 pub about_relinquish-requires : goal.about_relinquish-requires
 about_relinquish-requires g c =
-    let x = parts_of g.M.PhysMem.ram c.self.inside in
+    let x = parts_of g.M.PhysMem.ram g.S.Records.Home.value c.self.inside in
     record { tx = (caller-is x c.self.invariant c.runner-runner.result.0 c.runner-runner.ensures.runner).inside }

@@ -11,7 +11,7 @@ use Rattle.ffa_spmc.proofs.manager.Manager.about_retrieved.Goals as goal
 
 pub returns : goal.returns
 returns g c =
-    let x = parts_of g.M.PhysMem.ram c.self.inside in
+    let x = parts_of g.M.PhysMem.ram g.S.Records.Home.value c.self.inside in
     let its : DescriptorCall = record { transfer = c.args.transfer; version = c.version-version.result } in
     seen-in x c.args.self.now c.self.view_is (λ (s : State). about_retrieved s c.args.transfer c.args.refusal) c.about_retrieve.result
     (c.about_retrieve.ensures ∙ retrieve-told x c.self.invariant c.runner-runner.result.0 c.runner-runner.ensures.runner c.args.refusal its
@@ -19,5 +19,5 @@ returns g c =
 
 pub about_retrieve-requires : goal.about_retrieve-requires
 about_retrieve-requires g c =
-    let x = parts_of g.M.PhysMem.ram c.self.inside in
+    let x = parts_of g.M.PhysMem.ram g.S.Records.Home.value c.self.inside in
     record { tx = (caller-is x c.self.invariant c.runner-runner.result.0 c.runner-runner.ensures.runner).inside }

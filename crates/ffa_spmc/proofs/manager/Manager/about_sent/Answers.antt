@@ -11,7 +11,7 @@ use Rattle.ffa_spmc.proofs.manager.Manager.about_sent.Goals as goal
 
 pub returns : goal.returns
 returns g c =
-    let x = parts_of g.M.PhysMem.ram c.self.inside in
+    let x = parts_of g.M.PhysMem.ram g.S.Records.Home.value c.self.inside in
     let its : DescriptorCall = record { transfer = c.args.transfer; version = c.version-version.result } in
     seen-in x c.args.self.now c.self.view_is (λ (s : State). about_sent s c.args.kind c.args.transfer c.args.refusal) c.about_send.result
     (c.about_send.ensures ∙ sent-told x c.self.invariant c.runner-runner.result.0 c.runner-runner.ensures.runner c.args.refusal its
@@ -20,5 +20,5 @@ returns g c =
 
 pub about_send-requires : goal.about_send-requires
 about_send-requires g c =
-    let x = parts_of g.M.PhysMem.ram c.self.inside in
+    let x = parts_of g.M.PhysMem.ram g.S.Records.Home.value c.self.inside in
     record { tx = (caller-is x c.self.invariant c.runner-runner.result.0 c.runner-runner.ensures.runner).inside }

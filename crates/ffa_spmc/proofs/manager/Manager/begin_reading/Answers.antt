@@ -14,7 +14,7 @@ observe_in-requires g c = subst (λ (seen : Managed). c.args.run.first.0 + c.arg
 
 pub invariant_of-self : goal.invariant_of-self
 invariant_of-self g c =
-    let x = parts_of g.M.PhysMem.ram c.self.inside in
+    let x = parts_of g.M.PhysMem.ram g.S.Records.Home.value c.self.inside in
     machine-read x (g.M.PhysMem.ram c.observe_in.new.ram) (is_in c.args.run) c.observe_in.ensures.beside c.observe_in.ensures.whole
     c.self.invariant c.observe_in.ensures.bytes
     (behind-tables x c.self.invariant c.args.run
@@ -22,7 +22,7 @@ invariant_of-self g c =
 
 pub returns-clause-state : goal.returns-clause-state
 returns-clause-state g c =
-    let x = parts_of g.M.PhysMem.ram c.self.inside in
+    let x = parts_of g.M.PhysMem.ram g.S.Records.Home.value c.self.inside in
     let new = g.M.PhysMem.ram c.observe_in.new.ram in
     subst (λ (seen : Managed). AreBeside seen.state (state_of (read x new (is_in c.args.run) c.observe_in.ensures.beside)) (is_in c.args.run)) c.self.view_is
     (states-beside x new (is_in c.args.run) c.observe_in.ensures.beside c.observe_in.ensures.whole)

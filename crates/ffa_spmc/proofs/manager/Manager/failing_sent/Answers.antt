@@ -4,20 +4,25 @@ use Rattle.ffa_model.specs.State.{State, version_of}
 use Rattle.ffa_model.specs.About.{failing_sent}
 use Rattle.ffa_memshare.specs.declared.descriptor_call.DescriptorCall.{DescriptorCall}
 use Rattle.ffa_spmc.specs.Managed.{Managed}
-use Rattle.ffa_spmc.proofs.Inside.{parts_of}
+use Rattle.ffa_spmc.proofs.Inside.{machine-alike, parts_of, view-alike, with_records}
 use Rattle.ffa_spmc.proofs.Abouts.{seen-in, sent-failing}
 use Rattle.ffa_spmc.proofs.Fills.{caller-is}
 use Rattle.ffa_spmc.proofs.manager.Manager.failing_sent.Goals as goal
 
 pub returns : goal.returns
 returns g c =
-    let x = parts_of g.M.PhysMem.ram c.self.inside in
+    let old = parts_of g.M.PhysMem.ram g.S.Records.Home.value c.self.inside in
+    let x = with_records old c.get.result.now in
+    let machine = machine-alike old (sym c.get.ensures) c.self.invariant in
+    let view = view-alike old (sym c.get.ensures) c.self.view_is in
     let its : DescriptorCall = record { transfer = c.args.transfer; version = c.version-version.result } in
-    seen-in x c.args.self.now c.self.view_is (λ (s : State). failing_sent s c.args.kind c.args.transfer c.args.refusal) c.failing_send.result
-    (c.failing_send.ensures ∙ sent-failing x c.self.invariant c.runner-runner.result.0 c.runner-runner.ensures.runner c.args.refusal its
-    (c.version-version.ensures ∙ sym (ap (λ (seen : Managed). version_of seen.state seen.state.runner) c.self.view_is)) c.args.kind)
+    seen-in x c.args.self.now view (λ (s : State). failing_sent s c.args.kind c.args.transfer c.args.refusal) c.failing_send.result
+    (c.failing_send.ensures ∙ sent-failing x machine c.runner-runner.result.0 c.runner-runner.ensures.runner c.args.refusal its
+    (c.version-version.ensures ∙ sym (ap (λ (seen : Managed). version_of seen.state seen.state.runner) view)) c.args.kind)
 
 pub failing_send-requires : goal.failing_send-requires
 failing_send-requires g c =
-    let x = parts_of g.M.PhysMem.ram c.self.inside in
-    record { tx = (caller-is x c.self.invariant c.runner-runner.result.0 c.runner-runner.ensures.runner).inside }
+    let old = parts_of g.M.PhysMem.ram g.S.Records.Home.value c.self.inside in
+    let x = with_records old c.get.result.now in
+    let machine = machine-alike old (sym c.get.ensures) c.self.invariant in
+    record { tx = (caller-is x machine c.runner-runner.result.0 c.runner-runner.ensures.runner).inside }

@@ -9,7 +9,7 @@ use Rattle.ffa_spmc.proofs.manager.Manager.fetch.Goals as goal
 
 pub fetch_at-requires : goal.fetch_at-requires
 fetch_at-requires g c =
-    let x = parts_of g.M.PhysMem.ram c.self.inside in
+    let x = parts_of g.M.PhysMem.ram g.S.Records.Home.value c.self.inside in
     record {
       offset = offset-kept x c.self.invariant c.args.endpoint.0 (known-inside x c.args.self.now c.self.view_is c.args.endpoint.0 c.requires.known)
           c.args.self.now c.self.view_is c.args.addr c.args.walked c.requires.walked;
@@ -17,7 +17,7 @@ fetch_at-requires g c =
 
 pub returns-in-Ok : goal.returns-in-Ok
 returns-in-Ok g c =
-    let x = parts_of g.M.PhysMem.ram c.self.inside in
+    let x = parts_of g.M.PhysMem.ram g.S.Records.Home.value c.self.inside in
     ap Data c.from.ensures
     ∙ loaded-seen x c.self.invariant c.args.endpoint.0 (known-inside x c.args.self.now c.self.view_is c.args.endpoint.0 c.requires.known)
     c.args.self.now c.self.view_is c.args.addr c.args.walked c.requires.walked
@@ -25,7 +25,7 @@ returns-in-Ok g c =
 
 pub returns-in-Err : goal.returns-in-Err
 returns-in-Err g c =
-    let x = parts_of g.M.PhysMem.ram c.self.inside in
+    let x = parts_of g.M.PhysMem.ram g.S.Records.Home.value c.self.inside in
     loaded-seen x c.self.invariant c.args.endpoint.0 (known-inside x c.args.self.now c.self.view_is c.args.endpoint.0 c.requires.known)
     c.args.self.now c.self.view_is c.args.addr c.args.walked c.requires.walked
     4 may_execute may_fetch (Err c.in-Err.fault) (λ right. refl) (sym c.in-Err.is ∙ c.fetch_at.ensures.fetched)

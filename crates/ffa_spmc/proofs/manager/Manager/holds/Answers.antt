@@ -11,7 +11,7 @@ use Rattle.ffa_spmc.proofs.manager.Manager.holds.Goals as goal
 
 pub returns-clause-agrees : goal.returns-clause-agrees
 returns-clause-agrees g c =
-    let x = parts_of g.M.PhysMem.ram c.self.inside in
+    let x = parts_of g.M.PhysMem.ram g.S.Records.Home.value c.self.inside in
     subst (λ (seen : Managed). Agrees seen.ram seen.state) c.self.view_is (agrees x c.self.invariant)
 
 pub returns-clause-sound : goal.returns-clause-sound
@@ -20,5 +20,5 @@ returns-clause-sound g c =
 
 pub returns-clause-apart : goal.returns-clause-apart
 returns-clause-apart g c =
-    let x = parts_of g.M.PhysMem.ram c.self.inside in
+    let x = parts_of g.M.PhysMem.ram g.S.Records.Home.value c.self.inside in
     subst (λ (seen : Managed). AreApart seen.state) c.self.view_is (senders-apart x c.self.invariant)

@@ -8,6 +8,6 @@ use Rattle.ffa_spmc.proofs.manager.Manager.is_in_ram.Goals as goal
 
 pub returns : goal.returns
 returns g c =
-    let x = parts_of g.M.PhysMem.ram c.self.inside in
+    let x = parts_of g.M.PhysMem.ram g.S.Records.Home.value c.self.inside in
     ap (λ (n : ℕ). nat_lt c.args.page.0 n)
     (c.pages.ensures.count ∙ owners-size x c.self.invariant ∙ sym (size_is x) ∙ ap (λ (seen : Managed). length seen.state.pages) c.self.view_is)

@@ -13,48 +13,61 @@ use Rattle.ffa_spmc.proofs.Fills.{caller-is}
 use Rattle.ffa_spmc.proofs.Replied.{told-with, kept-memory, refused-told}
 use Rattle.ffa_model.specs.State.{State}
 use Rattle.ffa_model.specs.MemorySend.{handle_reply}
-use Rattle.ffa_spmc.proofs.Inside.{parts_of}
+use Rattle.ffa_spmc.proofs.Inside.{machine-alike, parts_of, told-alike, view-alike, with_records}
 use Rattle.ffa_spmc.proofs.Moments.{moments-of}
 use Rattle.ffa_spmc.proofs.Offers.{offer-endpoints, offer-changes, offer-machine, offer-served, offer-unowned}
 use Rattle.ffa_spmc.proofs.manager.Manager.offered.Goals as goal
 
 pub send-requires-clause-caller : goal.send-requires-clause-caller
 send-requires-clause-caller g c =
-    let x = parts_of g.M.PhysMem.ram c.self.inside in
-    caller-is x c.self.invariant c.runner-runner.result.0 c.runner-runner.ensures.runner
+    let old = parts_of g.M.PhysMem.ram g.S.Records.Home.value c.self.inside in
+    let x = with_records old c.get-records.result.now in
+    let machine = machine-alike old (sym c.get-records.ensures) c.self.invariant in
+    caller-is x machine c.runner-runner.result.0 c.runner-runner.ensures.runner
 
 pub send-requires-clause-endpoints : goal.send-requires-clause-endpoints
 send-requires-clause-endpoints g c =
-    let x = parts_of g.M.PhysMem.ram c.self.inside in
-    offer-endpoints x c.self.invariant
+    let old = parts_of g.M.PhysMem.ram g.S.Records.Home.value c.self.inside in
+    let x = with_records old c.get-records.result.now in
+    let machine = machine-alike old (sym c.get-records.ensures) c.self.invariant in
+    offer-endpoints x machine
 
 pub invariant_of-self : goal.invariant_of-self
 invariant_of-self g c =
-    let x = parts_of g.M.PhysMem.ram c.self.inside in
-    offer-machine x c.self.invariant c.runner-runner.result.0 c.runner-runner.ensures.runner c.args.kind (record { transfer = c.args.transfer; version = c.version-version.result }) (c.version-version.ensures ∙ sym (ap (λ (seen : Managed). version_of seen.state seen.state.runner) c.self.view_is))
+    let old = parts_of g.M.PhysMem.ram g.S.Records.Home.value c.self.inside in
+    let x = with_records old c.get-records.result.now in
+    let machine = machine-alike old (sym c.get-records.ensures) c.self.invariant in
+    let view = view-alike old (sym c.get-records.ensures) c.self.view_is in
+    let y : Parts = record x { ram = g.M.PhysMem.ram c.send.new.ram; kept = record x.kept { pages = c.send.new.pages; pool = c.send.new.self } } in
+    machine-alike y c.get-records.ensures
+    (offer-machine x machine c.runner-runner.result.0 c.runner-runner.ensures.runner c.args.kind (record { transfer = c.args.transfer; version = c.version-version.result }) (c.version-version.ensures ∙ sym (ap (λ (seen : Managed). version_of seen.state seen.state.runner) view))
     (g.M.PhysMem.ram c.send.new.ram) c.send.new.pages c.send.new.self
-    c.send.result c.send.ensures.refusal c.send.ensures.kept c.send.ensures.kept_pages c.send.ensures.kept_ram c.send.ensures.handle c.send.ensures.sent
+    c.send.result c.send.ensures.refusal c.send.ensures.kept c.send.ensures.kept_pages c.send.ensures.kept_ram c.send.ensures.handle c.send.ensures.sent)
 
 pub returns-clause-done : goal.returns-clause-done
 returns-clause-done g c =
-    let x = parts_of g.M.PhysMem.ram c.self.inside in
+    let old = parts_of g.M.PhysMem.ram g.S.Records.Home.value c.self.inside in
+    let x = with_records old c.get-records.result.now in
+    let machine = machine-alike old (sym c.get-records.ensures) c.self.invariant in
+    let view = view-alike old (sym c.get-records.ensures) c.self.view_is in
     let y : Parts = record x { ram = g.M.PhysMem.ram c.send.new.ram; kept = record x.kept { pages = c.send.new.pages; pool = c.send.new.self } } in
-    told-with x y c.args.self.now c.self.view_is (λ (s : State). memory_send s c.args.kind c.args.transfer) c.sent.result (option_map (λ (sent : Sent). sent.changed) (result_ok c.send.result))
+    told-alike y c.get-records.ensures
+    (told-with x y c.args.self.now view (λ (s : State). memory_send s c.args.kind c.args.transfer) c.sent.result (option_map (λ (sent : Sent). sent.changed) (result_ok c.send.result))
     (g.M.PhysMem.past c.send.new.ram)
     (ap (λ (reply : Reply). replied (state_of y) reply) c.sent.ensures.reply
-    ∙ offer-served x c.self.invariant c.runner-runner.result.0 c.runner-runner.ensures.runner c.args.kind (record { transfer = c.args.transfer; version = c.version-version.result }) (c.version-version.ensures ∙ sym (ap (λ (seen : Managed). version_of seen.state seen.state.runner) c.self.view_is))
+    ∙ offer-served x machine c.runner-runner.result.0 c.runner-runner.ensures.runner c.args.kind (record { transfer = c.args.transfer; version = c.version-version.result }) (c.version-version.ensures ∙ sym (ap (λ (seen : Managed). version_of seen.state seen.state.runner) view))
     (g.M.PhysMem.ram c.send.new.ram) c.send.new.pages c.send.new.self
     c.send.result c.send.ensures.refusal c.send.ensures.kept c.send.ensures.kept_pages c.send.ensures.kept_ram c.send.ensures.handle c.send.ensures.sent)
     (refused-told (λ (sent : Sent). handle_reply sent.handle) c.send.result c.sent.result.reply c.sent.ensures.reply (λ done. refl)
     (kept-memory x c.send.result (g.M.PhysMem.ram c.send.new.ram) c.send.new.pages c.send.new.self
     c.send.ensures.kept_ram c.send.ensures.kept_pages c.send.ensures.kept))
     (refused-told (λ (sent : Sent). handle_reply sent.handle) c.send.result c.sent.result.reply c.sent.ensures.reply (λ done. refl) c.send.ensures.kept_past)
-    (offer-unowned x c.self.invariant c.runner-runner.result.0 c.runner-runner.ensures.runner c.args.kind (record { transfer = c.args.transfer; version = c.version-version.result }) (c.version-version.ensures ∙ sym (ap (λ (seen : Managed). version_of seen.state seen.state.runner) c.self.view_is))
+    (offer-unowned x machine c.runner-runner.result.0 c.runner-runner.ensures.runner c.args.kind (record { transfer = c.args.transfer; version = c.version-version.result }) (c.version-version.ensures ∙ sym (ap (λ (seen : Managed). version_of seen.state seen.state.runner) view))
     (g.M.PhysMem.ram c.send.new.ram) c.send.new.pages c.send.new.self
     c.send.result c.send.ensures.refusal c.send.ensures.kept c.send.ensures.kept_pages c.send.ensures.kept_ram c.send.ensures.handle c.send.ensures.sent)
-    (moments-of x c.self.invariant (g.M.PhysMem.ram c.send.new.ram) _ _ c.send.ensures.steps c.send.ensures.ended)
+    (moments-of x machine (g.M.PhysMem.ram c.send.new.ram) _ _ c.send.ensures.steps c.send.ensures.ended)
     c.sent.ensures.changed
-    (offer-changes x c.self.invariant c.runner-runner.result.0 c.runner-runner.ensures.runner c.args.kind (record { transfer = c.args.transfer; version = c.version-version.result }) (c.version-version.ensures ∙ sym (ap (λ (seen : Managed). version_of seen.state seen.state.runner) c.self.view_is))
+    (offer-changes x machine c.runner-runner.result.0 c.runner-runner.ensures.runner c.args.kind (record { transfer = c.args.transfer; version = c.version-version.result }) (c.version-version.ensures ∙ sym (ap (λ (seen : Managed). version_of seen.state seen.state.runner) view))
     (g.M.PhysMem.ram c.send.new.ram) c.send.new.pages c.send.new.self
     c.send.result c.send.ensures.refusal c.send.ensures.kept c.send.ensures.kept_pages c.send.ensures.kept_ram c.send.ensures.handle c.send.ensures.sent)
-    c.sent.ensures.unchanged
+    c.sent.ensures.unchanged)

@@ -1,5 +1,5 @@
 -- SPDX-License-Identifier: MIT OR Apache-2.0
-use Rattle.std.proofs.Common.{◌∙◌, ap}
+use Rattle.std.proofs.Common.{◌∙◌, ap, sym}
 use Rattle.std.specs.Result.{result_ok}
 use Rattle.ffa_model.specs.declared.call.Reply.{Reply}
 use Rattle.ffa_model.specs.Calls.{replied}
@@ -7,7 +7,7 @@ use Rattle.ffa_model.specs.MemoryReturn.{memory_reclaim}
 use Rattle.ffa_spmc.specs.Meaning.{Parts, state_of}
 use Rattle.ffa_spmc.proofs.Replied.{told-with, kept-memory, refused-done}
 use Rattle.ffa_model.specs.State.{State}
-use Rattle.ffa_spmc.proofs.Inside.{parts_of}
+use Rattle.ffa_spmc.proofs.Inside.{machine-alike, parts_of, told-alike, view-alike, with_records}
 use Rattle.ffa_spmc.proofs.Moments.{moments-of}
 use Rattle.ffa_spmc.proofs.Pools.{pool-shared}
 use Rattle.ffa_spmc.proofs.Reclaims.{reclaim-changes, reclaim-machine, reclaim-served, reclaim-unowned}
@@ -15,26 +15,36 @@ use Rattle.ffa_spmc.proofs.manager.Manager.reclaimed.Goals as goal
 
 pub reclaim-requires : goal.reclaim-requires
 reclaim-requires g c =
-    let x = parts_of g.M.PhysMem.ram c.self.inside in
-    pool-shared x c.self.invariant
+    let old = parts_of g.M.PhysMem.ram g.S.Records.Home.value c.self.inside in
+    let x = with_records old c.get-records.result.now in
+    let machine = machine-alike old (sym c.get-records.ensures) c.self.invariant in
+    pool-shared x machine
 
 pub invariant_of-self : goal.invariant_of-self
 invariant_of-self g c =
-    let x = parts_of g.M.PhysMem.ram c.self.inside in
-    reclaim-machine x c.self.invariant c.runner-runner.result.0 c.runner-runner.ensures.runner c.args.low c.args.high c.args.flags
+    let old = parts_of g.M.PhysMem.ram g.S.Records.Home.value c.self.inside in
+    let x = with_records old c.get-records.result.now in
+    let machine = machine-alike old (sym c.get-records.ensures) c.self.invariant in
+    let y : Parts = record x { ram = g.M.PhysMem.ram c.reclaim.new.ram; kept = record x.kept { pages = c.reclaim.new.pages; pool = c.reclaim.new.self } } in
+    machine-alike y c.get-records.ensures
+    (reclaim-machine x machine c.runner-runner.result.0 c.runner-runner.ensures.runner c.args.low c.args.high c.args.flags
     c.word_of_halves-handle.result c.word_of_halves-handle.ensures
     (g.M.PhysMem.ram c.reclaim.new.ram) c.reclaim.new.pages c.reclaim.new.self c.reclaim.result c.reclaim.ensures.refusal
     c.reclaim.ensures.kept c.reclaim.ensures.kept_pages c.reclaim.ensures.kept_ram
-    c.reclaim.ensures.slot c.reclaim.ensures.open_transactions c.reclaim.ensures.ram c.reclaim.ensures.pages c.reclaim.ensures.changed
+    c.reclaim.ensures.slot c.reclaim.ensures.open_transactions c.reclaim.ensures.ram c.reclaim.ensures.pages c.reclaim.ensures.changed)
 
 pub returns-clause-done : goal.returns-clause-done
 returns-clause-done g c =
-    let x = parts_of g.M.PhysMem.ram c.self.inside in
+    let old = parts_of g.M.PhysMem.ram g.S.Records.Home.value c.self.inside in
+    let x = with_records old c.get-records.result.now in
+    let machine = machine-alike old (sym c.get-records.ensures) c.self.invariant in
+    let view = view-alike old (sym c.get-records.ensures) c.self.view_is in
     let y : Parts = record x { ram = g.M.PhysMem.ram c.reclaim.new.ram; kept = record x.kept { pages = c.reclaim.new.pages; pool = c.reclaim.new.self } } in
-    told-with x y c.args.self.now c.self.view_is (λ (s : State). memory_reclaim s c.args.low c.args.high c.args.flags) c.returned.result (result_ok c.reclaim.result)
+    told-alike y c.get-records.ensures
+    (told-with x y c.args.self.now view (λ (s : State). memory_reclaim s c.args.low c.args.high c.args.flags) c.returned.result (result_ok c.reclaim.result)
     (g.M.PhysMem.past c.reclaim.new.ram)
     (ap (λ (reply : Reply). replied (state_of y) reply) c.returned.ensures.reply
-    ∙ reclaim-served x c.self.invariant c.runner-runner.result.0 c.runner-runner.ensures.runner c.args.low c.args.high c.args.flags
+    ∙ reclaim-served x machine c.runner-runner.result.0 c.runner-runner.ensures.runner c.args.low c.args.high c.args.flags
     c.word_of_halves-handle.result c.word_of_halves-handle.ensures
     (g.M.PhysMem.ram c.reclaim.new.ram) c.reclaim.new.pages c.reclaim.new.self c.reclaim.result c.reclaim.ensures.refusal
     c.reclaim.ensures.kept c.reclaim.ensures.kept_pages c.reclaim.ensures.kept_ram
@@ -43,16 +53,16 @@ returns-clause-done g c =
     (kept-memory x c.reclaim.result (g.M.PhysMem.ram c.reclaim.new.ram) c.reclaim.new.pages c.reclaim.new.self
     c.reclaim.ensures.kept_ram c.reclaim.ensures.kept_pages c.reclaim.ensures.kept))
     (refused-done c.reclaim.result c.returned.result.reply c.returned.ensures.reply c.reclaim.ensures.kept_past)
-    (reclaim-unowned x c.self.invariant c.runner-runner.result.0 c.runner-runner.ensures.runner c.args.low c.args.high c.args.flags
+    (reclaim-unowned x machine c.runner-runner.result.0 c.runner-runner.ensures.runner c.args.low c.args.high c.args.flags
     c.word_of_halves-handle.result c.word_of_halves-handle.ensures
     (g.M.PhysMem.ram c.reclaim.new.ram) c.reclaim.new.pages c.reclaim.new.self c.reclaim.result c.reclaim.ensures.refusal
     c.reclaim.ensures.kept c.reclaim.ensures.kept_pages c.reclaim.ensures.kept_ram
     c.reclaim.ensures.slot c.reclaim.ensures.open_transactions c.reclaim.ensures.ram c.reclaim.ensures.pages c.reclaim.ensures.changed)
-    (moments-of x c.self.invariant (g.M.PhysMem.ram c.reclaim.new.ram) _ _ c.reclaim.ensures.steps c.reclaim.ensures.ended)
+    (moments-of x machine (g.M.PhysMem.ram c.reclaim.new.ram) _ _ c.reclaim.ensures.steps c.reclaim.ensures.ended)
     c.returned.ensures.changed
-    (reclaim-changes x c.self.invariant c.runner-runner.result.0 c.runner-runner.ensures.runner c.args.low c.args.high c.args.flags
+    (reclaim-changes x machine c.runner-runner.result.0 c.runner-runner.ensures.runner c.args.low c.args.high c.args.flags
     c.word_of_halves-handle.result c.word_of_halves-handle.ensures
     (g.M.PhysMem.ram c.reclaim.new.ram) c.reclaim.new.pages c.reclaim.new.self c.reclaim.result c.reclaim.ensures.refusal
     c.reclaim.ensures.kept c.reclaim.ensures.kept_pages c.reclaim.ensures.kept_ram
     c.reclaim.ensures.slot c.reclaim.ensures.open_transactions c.reclaim.ensures.ram c.reclaim.ensures.pages c.reclaim.ensures.changed)
-    c.returned.ensures.unchanged
+    c.returned.ensures.unchanged)

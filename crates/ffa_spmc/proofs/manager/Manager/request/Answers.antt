@@ -1,9 +1,9 @@
 -- SPDX-License-Identifier: MIT OR Apache-2.0
-use Rattle.std.proofs.Common.{◌∙◌, ap, refl}
+use Rattle.std.proofs.Common.{◌∙◌, ap, refl, sym}
 use Rattle.ffa_model.specs.declared.call.Reply.{Reply}
 use Rattle.ffa_model.specs.declared.call.Call.TheVariants.{DirectRequest}
 use Rattle.ffa_model.specs.Calls.{Stepped, replied}
-use Rattle.ffa_spmc.specs.Meaning.{state_of}
+use Rattle.ffa_spmc.specs.Meaning.{Parts, state_of}
 use Rattle.ffa_spmc.proofs.Machines.{machine-called}
 use Rattle.std.specs.Prelude.{List}
 use Rattle.ffa_model.specs.Bits.{low_half}
@@ -16,25 +16,35 @@ use Rattle.ffa_model.specs.RunStates.{Schedule}
 use Rattle.ffa_model.specs.State.{State}
 use Rattle.ffa_spmc.proofs.Answered.{refused-so}
 use Rattle.ffa_spmc.proofs.Replied.{refused-replied, replied-beside}
-use Rattle.ffa_spmc.proofs.Inside.{parts_of}
+use Rattle.ffa_spmc.proofs.Inside.{machine-alike, parts_of, replied-alike, view-alike, with_records}
 use Rattle.ffa_spmc.proofs.manager.Manager.request.Goals as goal
 
 pub invariant_of-self : goal.invariant_of-self
 invariant_of-self g c =
-    let x = parts_of g.M.PhysMem.ram c.self.inside in
-    machine-called x x.ram x.kept.buffers c.direct_req.new.chain c.self.invariant c.self.invariant.tables (DirectRequest c.args.function c.args.word c.args.flags c.args.payload)
-    (ap (λ (st : Stepped). st.state) (scheduled x (direct_request (state_of x) c.args.function c.args.word c.args.flags c.args.payload) (requested x.kept.chain (low_half c.args.word)) c.direct_req.new.chain c.direct_req.result refl (c.direct_req.ensures.refusal ∙ ap (λ (parties : List Party). first_failure (request_guards parties x.kept.chain c.args.word c.args.flags)) (parties-listed x)) c.direct_req.ensures.kept c.direct_req.ensures.changed c.direct_req.ensures.reply))
+    let old = parts_of g.M.PhysMem.ram g.S.Records.Home.value c.self.inside in
+    let x = with_records old c.get-records.result.now in
+    let machine = machine-alike old (sym c.get-records.ensures) c.self.invariant in
+    let y : Parts = record x { kept = record x.kept { chain = c.direct_req.new.chain } } in
+    machine-alike y c.get-records.ensures
+    (machine-called x x.ram x.kept.buffers c.direct_req.new.chain machine machine.tables (DirectRequest c.args.function c.args.word c.args.flags c.args.payload)
+    (ap (λ (st : Stepped). st.state) (scheduled x (direct_request (state_of x) c.args.function c.args.word c.args.flags c.args.payload) (requested x.kept.chain (low_half c.args.word)) c.direct_req.new.chain c.direct_req.result refl (c.direct_req.ensures.refusal ∙ ap (λ (parties : List Party). first_failure (request_guards parties x.kept.chain c.args.word c.args.flags)) (parties-listed x)) c.direct_req.ensures.kept c.direct_req.ensures.changed c.direct_req.ensures.reply)))
 
 pub returns : goal.returns
 returns g c =
-    let x = parts_of g.M.PhysMem.ram c.self.inside in
-    replied-beside x (record x { kept = record x.kept { chain = c.direct_req.new.chain } }) c.args.self.now c.self.view_is (λ (s : State). direct_request s c.args.function c.args.word c.args.flags c.args.payload) c.reply_or_error.result
+    let old = parts_of g.M.PhysMem.ram g.S.Records.Home.value c.self.inside in
+    let x = with_records old c.get-records.result.now in
+    let view = view-alike old (sym c.get-records.ensures) c.self.view_is in
+    let y : Parts = record x { kept = record x.kept { chain = c.direct_req.new.chain } } in
+    replied-alike y c.get-records.ensures
+    (replied-beside x y c.args.self.now view (λ (s : State). direct_request s c.args.function c.args.word c.args.flags c.args.payload) c.reply_or_error.result
     (ap (λ (reply : Reply). replied (with_chain x c.direct_req.new.chain) reply) c.reply_or_error.ensures
     ∙ scheduled x (direct_request (state_of x) c.args.function c.args.word c.args.flags c.args.payload) (requested x.kept.chain (low_half c.args.word)) c.direct_req.new.chain c.direct_req.result refl (c.direct_req.ensures.refusal ∙ ap (λ (parties : List Party). first_failure (request_guards parties x.kept.chain c.args.word c.args.flags)) (parties-listed x)) c.direct_req.ensures.kept c.direct_req.ensures.changed c.direct_req.ensures.reply)
     (refused-replied c.direct_req.result c.reply_or_error.result _ c.reply_or_error.ensures c.direct_req.ensures.reply c.requires (refused-so c.direct_req.result (ap (λ (chain : Schedule). record x { kept = record x.kept { chain = chain } })) c.direct_req.ensures.kept))
-    refl
+    refl)
 
 pub direct_req-requires : goal.direct_req-requires
 direct_req-requires g c =
-    let x = parts_of g.M.PhysMem.ram c.self.inside in
-    record { endpoints = counted x c.self.invariant }
+    let old = parts_of g.M.PhysMem.ram g.S.Records.Home.value c.self.inside in
+    let x = with_records old c.get-records.result.now in
+    let machine = machine-alike old (sym c.get-records.ensures) c.self.invariant in
+    record { endpoints = counted x machine }

@@ -17,13 +17,13 @@ use Rattle.ffa_spmc.proofs.manager.Manager.respond.Goals as goal
 
 pub invariant_of-self : goal.invariant_of-self
 invariant_of-self g c =
-    let x = parts_of g.M.PhysMem.ram c.self.inside in
+    let x = parts_of g.M.PhysMem.ram g.S.Records.Home.value c.self.inside in
     machine-called x x.ram x.kept.buffers c.direct_resp.new.chain c.self.invariant c.self.invariant.tables (DirectResponse c.args.function c.args.word c.args.flags c.args.payload)
     (ap (λ (st : Stepped). st.state) (scheduled x (direct_response (state_of x) c.args.function c.args.word c.args.flags c.args.payload) (finished x.kept.chain (low_half c.args.word)) c.direct_resp.new.chain c.direct_resp.result refl c.direct_resp.ensures.refusal c.direct_resp.ensures.kept c.direct_resp.ensures.changed c.direct_resp.ensures.reply))
 
 pub returns : goal.returns
 returns g c =
-    let x = parts_of g.M.PhysMem.ram c.self.inside in
+    let x = parts_of g.M.PhysMem.ram g.S.Records.Home.value c.self.inside in
     replied-beside x (record x { kept = record x.kept { chain = c.direct_resp.new.chain } }) c.args.self.now c.self.view_is (λ (s : State). direct_response s c.args.function c.args.word c.args.flags c.args.payload) c.reply_or_error.result
     (ap (λ (reply : Reply). replied (with_chain x c.direct_resp.new.chain) reply) c.reply_or_error.ensures
     ∙ scheduled x (direct_response (state_of x) c.args.function c.args.word c.args.flags c.args.payload) (finished x.kept.chain (low_half c.args.word)) c.direct_resp.new.chain c.direct_resp.result refl c.direct_resp.ensures.refusal c.direct_resp.ensures.kept c.direct_resp.ensures.changed c.direct_resp.ensures.reply)

@@ -20,13 +20,13 @@ use Rattle.ffa_spmc.proofs.manager.Manager.run_partition.Goals as goal
 
 pub invariant_of-self : goal.invariant_of-self
 invariant_of-self g c =
-    let x = parts_of g.M.PhysMem.ram c.self.inside in
+    let x = parts_of g.M.PhysMem.ram g.S.Records.Home.value c.self.inside in
     machine-called x x.ram x.kept.buffers c.run.new.self c.self.invariant c.self.invariant.tables (Run c.args.target)
     (ap (λ (st : Stepped). st.state) (scheduled x (run_partition (state_of x) c.args.target) (given_cycles x.kept.chain (high_half c.args.target) (status_in x.kept.chain (high_half c.args.target))) c.run.new.self c.run.result refl (c.run.ensures.refusal ∙ ap (λ (n : ℕ). first_failure (run_guards n x.kept.chain c.args.target)) (counted x c.self.invariant ∙ sym (parties_are x))) c.run.ensures.kept c.run.ensures.changed c.run.ensures.reply))
 
 pub returns : goal.returns
 returns g c =
-    let x = parts_of g.M.PhysMem.ram c.self.inside in
+    let x = parts_of g.M.PhysMem.ram g.S.Records.Home.value c.self.inside in
     replied-beside x (record x { kept = record x.kept { chain = c.run.new.self } }) c.args.self.now c.self.view_is (λ (s : State). run_partition s c.args.target) c.reply_or_error.result
     (ap (λ (reply : Reply). replied (with_chain x c.run.new.self) reply) c.reply_or_error.ensures
     ∙ scheduled x (run_partition (state_of x) c.args.target) (given_cycles x.kept.chain (high_half c.args.target) (status_in x.kept.chain (high_half c.args.target))) c.run.new.self c.run.result refl (c.run.ensures.refusal ∙ ap (λ (n : ℕ). first_failure (run_guards n x.kept.chain c.args.target)) (counted x c.self.invariant ∙ sym (parties_are x))) c.run.ensures.kept c.run.ensures.changed c.run.ensures.reply)

@@ -1,7 +1,7 @@
 -- SPDX-License-Identifier: MIT OR Apache-2.0
-use Rattle.std.proofs.Common.{◌∙◌}
+use Rattle.std.proofs.Common.{◌∙◌, sym}
 use Rattle.ffa_model.specs.State.{State}
-use Rattle.ffa_spmc.proofs.Inside.{parts_of}
+use Rattle.ffa_spmc.proofs.Inside.{machine-alike, parts_of, view-alike, with_records}
 use Rattle.ffa_model.specs.Notifications.{notification_set}
 use Rattle.ffa_spmc.proofs.Reasons.{seen-refusal, set-checked}
 use Rattle.ffa_spmc.proofs.Notified.{runner-notified}
@@ -9,11 +9,16 @@ use Rattle.ffa_spmc.proofs.manager.Manager.set_refusal.Goals as goal
 
 pub returns : goal.returns
 returns g c =
-    let x = parts_of g.M.PhysMem.ram c.self.inside in
-    seen-refusal x c.args.self.now c.self.view_is (λ (s : State). notification_set s c.args.word c.args.flags c.args.low c.args.high) c.err.result
-    (c.err.ensures.value ∙ c.check_set.ensures.refusal ∙ set-checked x c.self.invariant c.runner-runner.result.0 c.runner-runner.ensures.runner c.args.word c.args.flags c.args.low c.args.high c.word_of_halves-bitmap.result c.word_of_halves-bitmap.ensures)
+    let old = parts_of g.M.PhysMem.ram g.S.Records.Home.value c.self.inside in
+    let x = with_records old c.get-records.result.now in
+    let machine = machine-alike old (sym c.get-records.ensures) c.self.invariant in
+    let view = view-alike old (sym c.get-records.ensures) c.self.view_is in
+    seen-refusal x c.args.self.now view (λ (s : State). notification_set s c.args.word c.args.flags c.args.low c.args.high) c.err.result
+    (c.err.ensures.value ∙ c.check_set.ensures.refusal ∙ set-checked x machine c.runner-runner.result.0 c.runner-runner.ensures.runner c.args.word c.args.flags c.args.low c.args.high c.word_of_halves-bitmap.result c.word_of_halves-bitmap.ensures)
 
 pub check_set-requires : goal.check_set-requires
 check_set-requires g c =
-    let x = parts_of g.M.PhysMem.ram c.self.inside in
-    runner-notified x c.self.invariant c.runner-runner.result.0 c.runner-runner.ensures.runner
+    let old = parts_of g.M.PhysMem.ram g.S.Records.Home.value c.self.inside in
+    let x = with_records old c.get-records.result.now in
+    let machine = machine-alike old (sym c.get-records.ensures) c.self.invariant in
+    runner-notified x machine c.runner-runner.result.0 c.runner-runner.ensures.runner

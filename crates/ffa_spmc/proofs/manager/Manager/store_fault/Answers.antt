@@ -13,14 +13,14 @@ use Rattle.ffa_spmc.proofs.manager.Manager.store_fault.Goals as goal
 
 pub check_store-requires : goal.check_store-requires
 check_store-requires g c =
-    let x = parts_of g.M.PhysMem.ram c.self.inside in
+    let x = parts_of g.M.PhysMem.ram g.S.Records.Home.value c.self.inside in
     let there = known-inside x c.args.self.now c.self.view_is c.runner.result.0
     (runner-seen x c.self.invariant c.args.self.now c.self.view_is c.runner.result.0 (c.runner.ensures.runner ∙ ap (λ (seen : Managed). seen.state.runner) c.self.view_is)) in
     record { offset = offset-kept x c.self.invariant c.runner.result.0 there c.args.self.now c.self.view_is c.args.addr c.translate-walked.result c.translate-walked.ensures }
 
 pub returns : goal.returns
 returns g c =
-    let x = parts_of g.M.PhysMem.ram c.self.inside in
+    let x = parts_of g.M.PhysMem.ram g.S.Records.Home.value c.self.inside in
     let there = known-inside x c.args.self.now c.self.view_is c.runner.result.0
     (runner-seen x c.self.invariant c.args.self.now c.self.view_is c.runner.result.0 (c.runner.ensures.runner ∙ ap (λ (seen : Managed). seen.state.runner) c.self.view_is)) in
     c.err.ensures.value

@@ -12,7 +12,7 @@ use Rattle.ffa_spmc.proofs.manager.Manager.translate.Goals as goal
 
 pub root_at-requires : goal.root_at-requires
 root_at-requires g c =
-    let x = parts_of g.M.PhysMem.ram c.self.inside in
+    let x = parts_of g.M.PhysMem.ram g.S.Records.Home.value c.self.inside in
     let e = c.args.endpoint.0 in
     subst (λ (i : ℕ). i < length c.args.self.now.state.parties) (sym c.place.ensures)
     (subst (λ (seen : Managed). place e < length seen.state.parties) c.self.view_is

@@ -8,6 +8,6 @@ use Rattle.ffa_spmc.proofs.manager.Manager.wait_refusal.Goals as goal
 
 pub returns : goal.returns
 returns g c =
-    let x = parts_of g.M.PhysMem.ram c.self.inside in
+    let x = parts_of g.M.PhysMem.ram g.S.Records.Home.value c.self.inside in
     seen-refusal x c.args.self.now c.self.view_is (λ (s : State). msg_wait s) c.err.result
     (c.err.ensures.value ∙ c.check_wait.ensures.refusal)

@@ -1,0 +1,16 @@
+-- SPDX-License-Identifier: MIT OR Apache-2.0
+use Rattle.std.proofs.Common.{◌≡◌, ◌∙◌, Some, ap, sym}
+use Rattle.ffa_c.specs.Boarded.{Boarded}
+use Rattle.ffa_c.proofs.seat.Seat.op_as.Goals as goal
+
+pub returns-clause-done : goal.returns-clause-done
+returns-clause-done c =
+    let new = c.op_as.new.self in
+    let its = c.op_as.ensures in
+    let was : c.args.self.now ≡ Some c.in-Some.board = sym c.self.view_is ∙ c.in-Some.is in
+    let put = ap (λ k. Some (record { machine = new.machine; is_lent = k })) its.kind in
+    rw was (
+      λ unknown. let (same, told) = its.unknown unknown in (ap (λ (b : Boarded). Some b) same, told),
+      λ known is. (new.machine, put, its.runner known is),
+      λ known other. (new.machine, put, its.other known other),
+    )

@@ -1,0 +1,65 @@
+// SPDX-License-Identifier: MIT OR Apache-2.0
+//! Lent pages as C holds them, or none.
+ghost use Rattle.std.specs.Prelude.{◌≡◌, Option, Some, None, IsSome};
+ghost use Rattle.std.specs.Coded.{coded_option};
+ghost use Rattle.ffa_c.specs.LentPages.{LentPages, coded_lent_pages};
+
+use crate::lent_list::LentList;
+use std::alloc::{Allocator, Global};
+use std::marker::Model;
+
+/// The pointer to a list of lent pages, which owns it, or a pointer that owns nothing.
+#[repr(C)]
+pub struct HeldList {
+    // It points to a `LentList`. C is told of bytes, since it is to read and write none of them.
+    at: *mut u8,
+    // It takes no bytes.
+    alloc: Global,
+    pub ghost value: { Option LentPages } by { coded_option coded_lent_pages },
+}
+
+impl Model for HeldList {
+    ghost use Rattle.ffa_lent.specs.Slots.{slot_owns};
+    ghost use Rattle.ffa_c.specs.contracts.lent_list.LentList.{the_row as list_row};
+
+    ghost also_owns = { λ h. slot_owns (⟦<Global as Allocator>⟧.dealloc_token h.alloc) list_row h.at h.value };
+}
+
+impl HeldList {
+    /// A null pointer, which owns nothing.
+    pub fn none(alloc: Global) -> HeldList
+        ensures { result.value ≡ None }
+    {
+        HeldList {
+            at: std::ptr::null_mut(),
+            alloc,
+        }
+    }
+
+    /// The list behind this pointer.
+    pub fn close(list: Box<LentList>) -> HeldList
+        ensures { result.value ≡ Some list.value }
+    {
+        let (at, alloc) = Box::into_raw_with_allocator(list);
+        HeldList {
+            at: at as *mut u8,
+            alloc,
+        }
+    }
+
+    /// The list that is held, as its box.
+    pub fn open(self) -> Box<LentList>
+        requires { IsSome self.value }
+        ensures { self.value ≡ Some result.value }
+    {
+        let HeldList { at, alloc } = self;
+        unsafe { Box::from_raw(alloc, at as *mut LentList) }
+    }
+
+    /// Lets a pointer go that owns nothing.
+    pub fn end(self)
+        requires { self.value ≡ None }
+    {
+        let HeldList { at: _, alloc: _ } = self;
+    }
+}

@@ -1,0 +1,183 @@
+// SPDX-License-Identifier: MIT OR Apache-2.0
+//! The list of lent pages, with what a machine in them needs.
+ghost use Rattle.std.specs.Prelude.{◌≡◌, ◌+◌, ◌*◌, ◌<◌, ◌≤◌, ◌++◌, ◌∷◌, [], true, false, Some, None, IfOk, IfErr, IfSome, is_ok, length, if◌then◌else◌};
+ghost use Rattle.std.specs.Option.{option_map, option_to_list};
+ghost use Rattle.ffa_manifest.specs.Document.{parts_of};
+ghost use Rattle.ffa_spmc.specs.Storages.{IsRoomFor};
+ghost use Rattle.ffa_c.specs.Boarded.{lends, ram_pages};
+ghost use Rattle.ffa_c.specs.Booting.{HasBooted};
+ghost use Rattle.ffa_c.specs.LentPages.{empty};
+ghost use Rattle.ffa_c.specs.Readiness.{storage_pages};
+
+use crate::board::Board;
+use crate::seat::Seat;
+use ffa_lent::{Frames, Lent, LentRam, Span};
+use ffa_model::{MOST_ENDPOINTS, MOST_PAGES, Manifest};
+use ffa_spmc::{Given, Storage};
+use std::alloc::{AllocError, Global};
+use std::marker::Model;
+use std::mem;
+
+/// Pages that are lent, and beside them memory for the machine that is booted in them: its place, and room for what it keeps.
+/// Contracts see the bytes of each page, for how many there is room, and how many RAM may have so that a boot takes no memory.
+#[derive(Drop)]
+pub struct LentList {
+    frames: Frames,
+    seat: Option<Box<Seat>>,
+    storage: Option<Storage<Given<Global>>>,
+}
+
+impl Model for LentList {
+    ghost use Rattle.std.specs.Prelude.{◌≡◌, None, IfSome, is_some};
+    ghost use Rattle.ffa_c.specs.LentPages.{LentPages, coded_lent_pages};
+    ghost use Rattle.ffa_c.specs.Readiness.{ready_pages};
+
+    ghost Value = { LentPages };
+
+    ghost coded = { coded_lent_pages };
+
+    ghost view = { λ l. record { pages = l.frames.pages; room = l.frames.room; ready_for = ready_pages l.frames.is_ready (is_some l.seat) l.storage } };
+
+    // No machine stands in the seat.
+    ghost invariant = { λ l. IfSome l.seat (λ b. b.value ≡ None) };
+}
+
+impl LentList {
+    /// No pages, room for so many, and memory for a machine in them.
+    pub fn with_room(alloc: Global, pages: usize) -> Result<LentList, AllocError>
+        ensures { IfOk result (λ l. l ≡ empty pages) }
+    {
+        let frames = Frames::with_room(alloc, pages)?;
+        let seat = Some(Seat::empty(alloc)?);
+        let storage = Some(Storage::given(alloc, pages.min(MOST_PAGES), MOST_ENDPOINTS)?);
+        Ok(LentList {
+            frames,
+            seat,
+            storage,
+        })
+    }
+
+    /// The number of pages.
+    pub fn pages(&self) -> usize
+        ensures { result ≡ length self.now.pages }
+    {
+        self.frames.pages()
+    }
+
+    /// Adds a page behind the others. Where there is no room and no memory for that, the page comes back.
+    pub fn lend(&mut self, page: Box<[u8; 4096], Lent>) -> Result<(), Box<[u8; 4096], Lent>>
+        ensures pages { self.new.pages ≡ (if is_ok result then self.old.pages ++ page.value ∷ [] else self.old.pages) }
+        ensures returned { IfErr result (λ b. b.value ≡ page.value) }
+        ensures full { IfErr result (λ _. self.old.room ≤ length self.old.pages) }
+        ensures room { self.old.room ≤ self.new.room }
+        ensures ready { self.new.ready_for ≡ self.old.ready_for }
+    {
+        self.frames.lend(page)
+    }
+
+    /// Takes the last page out, if there is one.
+    pub fn take_back(&mut self) -> Option<Box<[u8; 4096], Lent>>
+        ensures last { self.old.pages ≡ self.new.pages ++ option_to_list (option_map (λ b. b.value) result) }
+        ensures none { result ≡ None → self.old.pages ≡ [] }
+        ensures room { self.new.room ≡ self.old.room }
+        ensures ready { self.new.ready_for ≡ self.old.ready_for }
+    {
+        self.frames.take_back()
+    }
+
+    /// Adds the pages of a span behind the others, in order. Where there is no room and no memory for all of them, they come back,
+    /// and nothing changes.
+    pub fn lend_span(&mut self, span: Span) -> Result<(), Span>
+        ensures lent { IfOk result (λ _. self.new.pages ≡ self.old.pages ++ span.strip.pages) }
+        ensures room { IfOk result (λ _. self.old.room ≤ self.new.room) }
+        ensures ready { IfOk result (λ _. self.new.ready_for ≡ self.old.ready_for) }
+        ensures returned { IfErr result (λ s. s ≡ span) }
+        ensures unchanged { IfErr result (λ _. self.new ≡ self.old) }
+        ensures full { IfErr result (λ _. self.old.room < length self.old.pages + length span.strip.pages) }
+    {
+        self.frames.lend_span(span)
+    }
+
+    /// Boots the machine of a manifest in the pages, and leaves none. It takes memory only for what the list lacks, and where that
+    /// is refused the list is as before.
+    #[inline(never)]
+    pub fn boot(&mut self, alloc: Global, manifest: &Manifest) -> Result<Box<Seat>, AllocError>
+        requires { length self.old.pages ≡ 512 * manifest.now.ram_blocks }
+        ensures booted { IfOk result (λ b. HasBooted (λ p. p ≡ parts_of manifest.now) true b.value) }
+        ensures emptied { IfOk result (λ _. self.new.pages ≡ []) }
+        ensures refused { IfErr result (λ _. self.new ≡ self.old) }
+        ensures unready { IfErr result (λ _. self.old.ready_for < length self.old.pages) }
+    {
+        let storage = storage_in(&mut self.storage, alloc, manifest)?;
+        let Ok(mut seat) = seat_in(&mut self.seat, alloc) else {
+            self.storage = Some(storage);
+            return Err(AllocError);
+        };
+        let frames = mem::replace(&mut self.frames, Frames::none(alloc));
+        match LentRam::new(alloc, manifest.ram_base, frames) {
+            Ok(ram) => {
+                seat.fill(Board::boot_lent(manifest, ram, storage));
+                Ok(seat)
+            }
+            Err(frames) => {
+                self.frames = frames;
+                self.seat = Some(seat);
+                self.storage = Some(storage);
+                Err(AllocError)
+            }
+        }
+    }
+
+    /// Ends the machine in a seat, whose RAM is lent: its pages are those of the list, with the bytes that they had in the end, and
+    /// so is its memory.
+    pub fn take_in(&mut self, seat: Box<Seat>)
+        requires { lends seat.value ≡ Some true }
+        ensures pages { Some self.new.pages ≡ ram_pages seat.value }
+    {
+        let mut seat = seat;
+        let (frames, mut storage) = seat.vacate();
+        storage.widen();
+        self.frames = frames;
+        self.storage = Some(storage);
+        self.seat = Some(seat);
+    }
+}
+
+// The room that is there, if it is enough for the machine of a manifest, or other room.
+fn storage_in(
+    own: &mut Option<Storage<Given<Global>>>,
+    alloc: Global,
+    manifest: &Manifest,
+) -> Result<Storage<Given<Global>>, AllocError>
+    ensures room { IfOk result (IsRoomFor manifest.now) }
+    ensures kept { IfErr result (λ _. own.new ≡ own.old) }
+    ensures lacking { IfErr result (λ _. storage_pages own.old < 512 * manifest.now.ram_blocks) }
+{
+    let Some(mut storage) = own.take() else {
+        return Storage::given_for(alloc, manifest);
+    };
+    if storage.is_room_for(manifest) {
+        match storage.fit(manifest) {
+            Ok(()) => return Ok(storage),
+            Err(AllocError) => unreachable!(),
+        }
+    }
+    let made = Storage::given_for(alloc, manifest);
+    if made.is_err() {
+        *own = Some(storage);
+    }
+    made
+}
+
+// The seat that is there, or another.
+fn seat_in(own: &mut Option<Box<Seat>>, alloc: Global) -> Result<Box<Seat>, AllocError>
+    requires { IfSome own.old (λ b. b.value ≡ None) }
+    ensures empty { IfOk result (λ b. b.value ≡ None) }
+    ensures none_left { own.new ≡ None }
+    ensures lacking { IfErr result (λ _. own.old ≡ None) }
+{
+    match own.take() {
+        Some(seat) => Ok(seat),
+        None => Seat::empty(alloc),
+    }
+}

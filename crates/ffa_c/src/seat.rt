@@ -1,0 +1,103 @@
+// SPDX-License-Identifier: MIT OR Apache-2.0
+//! A board's place in memory.
+ghost use Rattle.std.specs.Prelude.{◌≡◌, true, Option, Some, None, IsSome, IfOk, is_some};
+ghost use Rattle.std.specs.Option.{option_map};
+ghost use Rattle.std.specs.Coded.{coded_option};
+ghost use Rattle.ffa_c.specs.Boarded.{Boarded, coded_boarded, lends, ram_pages};
+ghost use Rattle.ffa_c.specs.Border.{Operated};
+ghost use Rattle.ffa_c.specs.Changes.{told_by, with_all_told};
+ghost use Rattle.ffa_c.specs.Elsewhere.{OperatedAs};
+
+use crate::board::Board;
+use crate::outcome::FfaOutcome;
+use ffa_lent::Frames;
+use ffa_memshare::Changed;
+use ffa_model::{EndpointId, Op};
+use ffa_spmc::{Given, Storage};
+use std::alloc::{AllocError, Global};
+use std::marker::Model;
+
+/// Memory for a board, with one in it or none, so that it can be there before the board is and after it. Contracts see the
+/// board, if there is one.
+#[derive(Drop)]
+pub struct Seat {
+    board: Option<Board>,
+}
+
+impl Model for Seat {
+    ghost Value = { Option Boarded };
+
+    ghost coded = { coded_option coded_boarded };
+
+    ghost view = { λ s. s.board };
+}
+
+impl Seat {
+    /// One in which there is no board, if there is memory for it.
+    pub fn empty(alloc: Global) -> Result<Box<Seat>, AllocError>
+        ensures { IfOk result (λ b. b.value ≡ None) }
+    {
+        match Box::new(alloc, Seat { board: None }) {
+            Ok(seat) => Ok(seat),
+            Err(_) => Err(AllocError),
+        }
+    }
+
+    /// Puts a board there.
+    pub fn fill(&mut self, board: Board)
+        ensures { self.new ≡ Some board }
+    {
+        self.board = Some(board);
+    }
+
+    /// Ends the machine that is there, in RAM that is lent: the pages with the bytes that they had in the end, and the room for
+    /// another machine.
+    pub fn vacate(&mut self) -> (Frames, Storage<Given<Global>>)
+        requires { lends self.old ≡ Some true }
+        ensures pages { Some result.0.pages ≡ ram_pages self.old }
+        ensures emptied { self.new ≡ None }
+    {
+        self.board.take().unwrap().into_frames()
+    }
+
+    /// The board that is there.
+    pub fn board(&self) -> &Board
+        requires { IsSome self.now }
+        ensures { self.now ≡ Some result.now }
+    {
+        self.board.as_ref().unwrap()
+    }
+
+    /// Does one operation of the runner.
+    pub fn op(&mut self, op: &Op) -> FfaOutcome
+        ensures done { Operated self.old self.new op.now result }
+        ensures there { is_some self.new ≡ is_some self.old }
+    {
+        let Some(board) = &mut self.board else {
+            return FfaOutcome::nothing(4);
+        };
+        board.op(op)
+    }
+
+    /// Does one operation of an endpoint, whoever runs.
+    pub fn op_as(&mut self, endpoint: EndpointId, op: &Op) -> FfaOutcome
+        ensures done { OperatedAs self.old self.new endpoint.0 op.now result }
+        ensures there { is_some self.new ≡ is_some self.old }
+    {
+        let Some(board) = &mut self.board else {
+            return FfaOutcome::nothing(4);
+        };
+        board.op_as(endpoint, op)
+    }
+
+    /// Whose access to which pages the last call on memory that was done has changed: told once.
+    pub fn take_change(&mut self) -> Option<Changed>
+        ensures told { result ≡ told_by self.old }
+        ensures rest { self.new ≡ option_map with_all_told self.old }
+    {
+        match &mut self.board {
+            Some(board) => board.take_change(),
+            None => None,
+        }
+    }
+}

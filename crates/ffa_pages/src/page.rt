@@ -1,0 +1,94 @@
+// SPDX-License-Identifier: MIT OR Apache-2.0
+//! What is kept of a page.
+ghost use Rattle.std.specs.Prelude.{◌≡◌};
+ghost use Rattle.ffa_pages.specs.Stored.{own_right_in, slot_in, standing_of};
+
+use ffa_model::{Data, EndpointId, Rights};
+use std::mem::size_of;
+
+// The right of a page's owner while the page stands in no open transaction, and the place in the pool of the open
+// transaction that names the page. One enum has both in two bytes: as two fields they take four.
+#[derive(Clone, Copy, Default, PartialEq, Eq)]
+pub(crate) enum Standing {
+    #[default]
+    Read,
+    ReadExecute,
+    Write,
+    WriteExecute,
+    NamedRead(u8),
+    NamedReadExecute(u8),
+    NamedWrite(u8),
+    NamedWriteExecute(u8),
+}
+
+impl Standing {
+    pub(crate) fn of(own_right: Rights, slot: Option<u8>) -> Standing
+        ensures own_right { own_right_in result ≡ own_right }
+        ensures slot { slot_in result ≡ slot }
+    {
+        match (own_right.level, own_right.exec, slot) {
+            (Data::Ro, false, None) => Standing::Read,
+            (Data::Ro, true, None) => Standing::ReadExecute,
+            (Data::Rw, false, None) => Standing::Write,
+            (Data::Rw, true, None) => Standing::WriteExecute,
+            (Data::Ro, false, Some(slot)) => Standing::NamedRead(slot),
+            (Data::Ro, true, Some(slot)) => Standing::NamedReadExecute(slot),
+            (Data::Rw, false, Some(slot)) => Standing::NamedWrite(slot),
+            (Data::Rw, true, Some(slot)) => Standing::NamedWriteExecute(slot),
+        }
+    }
+
+    pub(crate) fn own_right(self) -> Rights
+        ensures { result ≡ own_right_in self }
+    {
+        let (level, exec) = match self {
+            Standing::Read | Standing::NamedRead(_) => (Data::Ro, false),
+            Standing::ReadExecute | Standing::NamedReadExecute(_) => (Data::Ro, true),
+            Standing::Write | Standing::NamedWrite(_) => (Data::Rw, false),
+            Standing::WriteExecute | Standing::NamedWriteExecute(_) => (Data::Rw, true),
+        };
+        Rights { level, exec }
+    }
+
+    pub(crate) fn slot(self) -> Option<u8>
+        ensures { result ≡ slot_in self }
+    {
+        match self {
+            Standing::NamedRead(slot)
+            | Standing::NamedReadExecute(slot)
+            | Standing::NamedWrite(slot)
+            | Standing::NamedWriteExecute(slot) => Some(slot),
+            Standing::Read | Standing::ReadExecute | Standing::Write | Standing::WriteExecute =>
+                None,
+        }
+    }
+}
+
+/// What is kept of a page, in four bytes. Of a page of the manager, which `EndpointId::MANAGER` owns, the standing says
+/// nothing.
+#[derive(Clone, Copy, Default, PartialEq, Eq)]
+pub struct KeptPage {
+    pub(crate) owner: EndpointId,
+    pub(crate) standing: Standing,
+}
+
+const _: () = prove!(size_of::<KeptPage>() == 4);
+
+impl KeptPage {
+    /// A page of the manager.
+    pub const MANAGERS: KeptPage = KeptPage {
+        owner: EndpointId::MANAGER,
+        standing: Standing::Read,
+    };
+
+    // The standing of a page that an endpoint owns.
+    pub(crate) fn owned(self) -> Option<Standing>
+        ensures { result ≡ standing_of self }
+    {
+        if self.owner == EndpointId::MANAGER {
+            None
+        } else {
+            Some(self.standing)
+        }
+    }
+}

@@ -1,0 +1,31 @@
+// SPDX-License-Identifier: MIT OR Apache-2.0
+//! What is large of what a machine keeps, but for what it keeps of pages and open transactions.
+ghost use Rattle.ffa_spmc.specs.FirstRecords.{AreFirstRecords};
+
+use ffa_model::Manifest;
+use ffa_notify::Bitmaps;
+use ffa_stage2::Layout;
+
+/// The manifest of a machine, its layout, and the bitmaps of notifications.
+#[derive(Drop)]
+pub struct Records {
+    /// The manifest.
+    pub manifest: Manifest,
+    /// Where the tables stand, and how many.
+    pub layout: Layout,
+    /// Who has bitmaps of notifications, which bits are bound, and which are pending.
+    pub bitmaps: Bitmaps,
+}
+
+impl Records {
+    /// Those of the machine of a manifest in its first state. It takes no memory.
+    pub fn of(manifest: &Manifest) -> Records
+        ensures { AreFirstRecords manifest.now result }
+    {
+        Records {
+            manifest: manifest.copied(),
+            layout: Layout::of(manifest),
+            bitmaps: Bitmaps::of(manifest),
+        }
+    }
+}

@@ -1,0 +1,144 @@
+// SPDX-License-Identifier: MIT OR Apache-2.0
+//! Room for what a machine keeps.
+ghost use Rattle.std.specs.Prelude.{true, false, ◌≡◌, ◌*◌, ◌<◌, ◌≤◌, ◌⊎◌, None, length, replicate, IfOk, OnOk, OnErr};
+ghost use Rattle.ffa_model.specs.declared.limits.TheConstants.{MOST_ENDPOINTS, MOST_OPEN, MOST_PAGES};
+ghost use Rattle.ffa_spmc.specs.Storages.{IsRoomFor};
+
+use crate::records::Records;
+use arrayvec::ArrayVec;
+use ffa_memshare::{MOST_SLOTS, OpenSlot, Pool};
+use ffa_model::{Here, Home, MOST_ENDPOINTS, MOST_PAGES, Manifest, Room, built_in};
+use ffa_pages::{KeptPage, PageTable};
+use std::alloc::{AllocError, Allocator};
+use std::marker::PhantomData;
+use std::mem::size_of;
+
+/// Where machines keep what is large of what they keep.
+pub trait Store {
+    /// The owners of pages.
+    type Pages: Room<KeptPage> + Drop;
+    /// The open transactions.
+    type Open: Room<OpenSlot> + Drop;
+    /// The manifest, the layout and the bitmaps of notifications.
+    type Records: Home<Records> + Drop;
+}
+
+/// In the machine itself, which is as large as the largest RAM needs.
+#[derive(Drop)]
+pub struct Inline;
+
+impl Store for Inline {
+    type Pages = ArrayVec<KeptPage, MOST_PAGES>;
+
+    type Open = ArrayVec<OpenSlot, MOST_SLOTS>;
+
+    type Records = Here<Records>;
+}
+
+/// In memory of an allocator, as much as the machine's RAM needs.
+#[derive(Drop)]
+pub struct Given<A: Allocator + Drop> {
+    marker: PhantomData<A>,
+}
+
+impl<A: Allocator + Drop> Store for Given<A> {
+    type Pages = Vec<KeptPage, A>;
+
+    type Open = Vec<OpenSlot, A>;
+
+    type Records = Box<Records, A>;
+}
+
+// A machine with given room is small, whatever its RAM has.
+const _: () = prove!(size_of::<PageTable>() + size_of::<Pool>() <= 4 * MOST_PAGES + 98304);
+
+const _: () = prove!(
+    size_of::<PageTable<Vec<KeptPage>>>() + size_of::<Pool<Vec<OpenSlot>>>() <= 128
+);
+
+/// Room for one machine.
+#[derive(Drop)]
+pub struct Storage<S: Store = Inline> {
+    /// The owners of pages.
+    pub(crate) pages: PageTable<S::Pages>,
+    /// The open transactions.
+    pub(crate) pool: Pool<S::Open>,
+    /// The manifest, the layout and the bitmaps of notifications, which a boot writes.
+    pub(crate) records: S::Records,
+}
+
+impl Storage {
+    /// Room for the machine of a manifest, in the machine itself. It takes no memory.
+    #[inline(always)]
+    pub fn inline(manifest: &Manifest) -> Storage
+        ensures { IsRoomFor manifest.now result }
+    {
+        let mut pages = PageTable::none();
+        pages.begin(512 * manifest.ram_blocks as usize);
+        let mut pool = Pool::none();
+        pool.fill(manifest.endpoints.len());
+        Storage {
+            pages,
+            pool,
+            records: Here {
+                value: Records::of(manifest),
+            },
+        }
+    }
+}
+
+impl<A: Allocator + Copy + Drop> Storage<Given<A>> {
+    /// Room for a machine of so many pages of RAM and so many endpoints, in memory of an allocator.
+    pub fn given(alloc: A, pages: usize, endpoints: usize) -> Result<Storage<Given<A>>, AllocError>
+        requires pages { pages ≤ MOST_PAGES }
+        requires endpoints { endpoints ≤ MOST_ENDPOINTS }
+        ensures pages { IfOk result (λ storage. length storage.pages ≡ pages) }
+        ensures slots { IfOk result (λ storage. storage.pool.slots ≡ replicate (MOST_OPEN * endpoints) None) }
+        ensures sent { IfOk result (λ storage. storage.pool.sent ≡ replicate endpoints 0) }
+    {
+        Ok(Storage {
+            pages: PageTable::of_managers(alloc, pages)?,
+            pool: Pool::free_in(alloc, endpoints)?,
+            records: Box::new(alloc, Records::of(&built_in()))?,
+        })
+    }
+
+    /// Room for the machine of a manifest, in memory of an allocator.
+    pub fn given_for(alloc: A, manifest: &Manifest) -> Result<Storage<Given<A>>, AllocError>
+        ensures { IfOk result (IsRoomFor manifest.now) }
+    {
+        Storage::given(
+            alloc,
+            512 * manifest.ram_blocks as usize,
+            manifest.endpoints.len(),
+        )
+    }
+
+    /// Whether it is room for as many pages and endpoints as a manifest has.
+    pub fn is_room_for(&self, manifest: &Manifest) -> bool
+        ensures pages { result ≡ true → 512 * manifest.now.ram_blocks ≤ length self.now.pages }
+        ensures endpoints { result ≡ true → length manifest.now.endpoints.items ≤ length self.now.pool.sent }
+        ensures lacking { result ≡ false → (length self.now.pages < 512 * manifest.now.ram_blocks)
+            ⊎ (length self.now.pool.sent < length manifest.now.endpoints.items) }
+    {
+        512 * manifest.ram_blocks <= self.pages.pages()
+            && manifest.endpoints.len() <= self.pool.endpoints()
+    }
+
+    /// Makes it room for as many endpoints as there may be, where there is memory for that: where it was that once, there is.
+    pub fn widen(&mut self)
+        ensures { self.new.pages ≡ self.old.pages }
+    {
+        let _ = self.pool.restart(MOST_ENDPOINTS);
+    }
+
+    /// Makes it room for the machine of a manifest. It takes memory only where it is room for fewer pages, or fewer endpoints.
+    pub fn fit(&mut self, manifest: &Manifest) -> Result<(), AllocError>
+        ensures fits { OnOk result (IsRoomFor manifest.now self.new) }
+        ensures more { OnErr result ((length self.old.pages < 512 * manifest.now.ram_blocks)
+            ⊎ (length self.old.pool.sent < length manifest.now.endpoints.items)) }
+    {
+        self.pages.resize(512 * manifest.ram_blocks as usize)?;
+        self.pool.restart(manifest.endpoints.len())
+    }
+}
