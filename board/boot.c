@@ -7,8 +7,9 @@
 #include "tables.h"
 #include "text.h"
 
-#define MOST_BLOCKS 32
 #define PAGES_OF_BLOCK 512
+
+_Static_assert(RAM_BASE > FIRMWARE_BASE || RAM_BASE + FFA_MOST_RAM <= FIRMWARE_BASE, "a machine's RAM may reach into the firmware");
 
 static uint32_t length_of(const char *text) {
     uint32_t length = 0;
@@ -21,7 +22,7 @@ void boot(struct board *board, const char *manifest) {
     struct ffa_page *ram = (struct ffa_page *)RAM_BASE;
     struct ffa_lent list = {0};
     uint32_t answer = FFA_WRONG_COUNT;
-    for (uint32_t blocks = 1; blocks <= MOST_BLOCKS && answer == FFA_WRONG_COUNT; blocks++) {
+    for (uint32_t blocks = 1; blocks <= FFA_MOST_BLOCKS && answer == FFA_WRONG_COUNT; blocks++) {
         board->pages = PAGES_OF_BLOCK * blocks;
         if (lend_all(&list, ram, board->pages) != FFA_OK) stop("no pages were lent");
         answer = ffa_boot_lent(&board->machine, &list, (const uint8_t *)manifest, length_of(manifest));

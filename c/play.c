@@ -1,6 +1,7 @@
 /* SPDX-License-Identifier: MIT OR Apache-2.0 */
 /* Plays a trace through the border, and prints what the program prints: play heap|lent MANIFEST TRACE. With `lent` the machine
- * stands in pages of this program. RAM is taken to begin at 40000000, as in each manifest of examples/. */
+ * stands in pages of this program. RAM is taken to begin at 40000000, as in each manifest of examples/. Of `audit` the runs are left
+ * out, since the library tells no handles; whether the tables agree with ffa_access is found by a walk of their bytes. */
 #include <inttypes.h>
 #include <stdio.h>
 #include <stdlib.h>
@@ -9,7 +10,15 @@
 #include "lending.h"
 
 #define RAM_BASE UINT32_C(0x40000000)
-#define MOST_PAGES (32 * 512)
+#define PAGES_OF_BLOCK 512
+#define MOST_PAGES (FFA_MOST_BLOCKS * PAGES_OF_BLOCK)
+
+/* Fields of a table's word (DDI 0487, D8.3). */
+#define WORDS 512
+#define KIND UINT64_C(3)
+#define ADDRESS UINT64_C(0x0000FFFFFFFFF000)
+#define ACCESS_FLAG (UINT64_C(1) << 10)
+#define EXECUTE_NEVER (UINT64_C(1) << 54)
 
 static struct ffa_machine machine;
 
@@ -59,6 +68,18 @@ static void print_outcome(struct ffa_outcome told, unsigned size) {
 
 static uint16_t identifier(uint32_t place) { return place == 0 ? 0 : (uint16_t)(0x8000 + place); }
 
+static uint32_t pages_of_ram(void) {
+    uint32_t pages = 0;
+    while (ffa_owner(&machine, pages) != FFA_NOTHING) pages++;
+    return pages;
+}
+
+/* The number of a page of RAM; one that RAM doesn't have for an address outside. */
+static uint32_t page_of(uint64_t address) {
+    uint64_t page = (address - RAM_BASE) / FFA_PAGE_BYTES;
+    return page < MOST_PAGES ? (uint32_t)page : MOST_PAGES;
+}
+
 static bool is_as_before(uint32_t page, uint32_t endpoints) {
     if (ffa_owner(&machine, page) != ffa_owner(&machine, page - 1)) return false;
     for (uint32_t place = 0; place < endpoints; place++) {
@@ -86,6 +107,48 @@ static void show(void) {
     }
 }
 
+/* What a word that maps pages from an address on lets an endpoint do with each of them, as ffa_access says it. */
+static uint32_t right_of(uint64_t word) {
+    if ((word & ACCESS_FLAG) == 0) return 0;
+    return (uint32_t)(word >> 6 & 3) | (word & EXECUTE_NEVER ? 0 : FFA_EXECUTE);
+}
+
+/* Whether a word maps just the pages of so many bytes to which ffa_access says that the endpoint has access. */
+static bool maps(uint16_t endpoint, uint64_t word, bool is_leaf, uint64_t first, uint64_t size) {
+    if (is_leaf && (word & ADDRESS) != first) return false;
+    for (uint64_t address = first; address < first + size; address += FFA_PAGE_BYTES) {
+        if (ffa_access(&machine, endpoint, page_of(address)) != (is_leaf ? right_of(word) : 0)) return false;
+    }
+    return true;
+}
+
+/* The same of the table of a level, and of those that it leads to. */
+static bool agrees(uint16_t endpoint, uint64_t table, int level, uint64_t first) {
+    uint64_t words[WORDS], size = (uint64_t)FFA_PAGE_BYTES << 9 * (3 - level);
+    struct ffa_page bytes;
+    if (!ffa_read_page(&machine, page_of(table), &bytes)) return false;
+    memcpy(words, bytes.bytes, sizeof words);
+    for (uint64_t i = 0; i < WORDS && first + size * i <= UINT32_MAX; i++) {
+        uint64_t word = words[i], address = first + size * i;
+        bool leads_on = level < 3 && (word & KIND) == 3, is_leaf = (word & KIND) == (level < 3 ? 1 : 3);
+        if (leads_on ? !agrees(endpoint, word & ADDRESS, level + 1, address) : !maps(endpoint, word, is_leaf, address, size)) return false;
+    }
+    return true;
+}
+
+static void audit(void) {
+    uint32_t pages = pages_of_ram(), endpoints = ffa_endpoints(&machine);
+    uint64_t end = RAM_BASE + (uint64_t)FFA_PAGE_BYTES * pages;
+    bool all_agree = true;
+    printf("cert %08" PRIX32 " %08" PRIX64 " %" PRIX32 "\n", RAM_BASE, end - 1, endpoints);
+    for (uint32_t place = 0; place < endpoints; place++) {
+        uint64_t root = RAM_BASE + (uint64_t)FFA_PAGE_BYTES * place * (2 + pages / PAGES_OF_BLOCK);
+        printf("root %04" PRIX16 " %08" PRIX64 "\n", identifier(place), root);
+        all_agree = all_agree && agrees(identifier(place), root, 1, 0);
+    }
+    printf(all_agree ? "agrees\n" : "differs\n");
+}
+
 static void play(char *line) {
     char *word = strtok(line, " ");
     if (word == NULL || word[0] == '#') return;
@@ -108,44 +171,45 @@ static void play(char *line) {
         print_outcome(ffa_fetch(&machine, numbers[0]), 4);
     } else if (strcmp(word, "show") == 0) {
         show();
+    } else if (strcmp(word, "audit") == 0) {
+        audit();
     } else {
         stop("a line that isn't known");
     }
+}
+
+static void boot_on_heap(const char *text, size_t size) {
+    if (ffa_boot(&machine, (const uint8_t *)text, size) != FFA_OK) stop("the manifest is refused");
+}
+
+/* Boots in as many pages as a machine on the heap's RAM has: the answer is how many. */
+static uint32_t boot_in(struct ffa_page *pages, struct ffa_lent *lent, const char *text, size_t size) {
+    boot_on_heap(text, size);
+    uint32_t count = pages_of_ram();
+    if (ffa_free(&machine, lent) != FFA_OK) stop("the machine wasn't freed");
+    if (lend_all(lent, pages, count) != FFA_OK) stop("no pages were lent");
+    if (ffa_boot_lent(&machine, lent, (const uint8_t *)text, size) != FFA_OK) stop("no boot in lent pages");
+    return count;
 }
 
 int main(int count, char **words) {
     static struct ffa_page pages[MOST_PAGES];
     struct ffa_lent lent = {0};
     if (count != 4) stop("play heap|lent MANIFEST TRACE");
+    bool is_lent = strcmp(words[1], "lent") == 0;
     size_t size, trace_size;
-    char *text = text_of(words[2], &size);
-    uint32_t booted;
-    if (strcmp(words[1], "lent") == 0) {
-        booted = FFA_WRONG_COUNT;
-        for (uint32_t blocks = 1; blocks <= 32 && booted == FFA_WRONG_COUNT; blocks++) {
-            if (lend_all(&lent, pages, 512 * blocks) != FFA_OK) stop("no pages were lent");
-            booted = ffa_boot_lent(&machine, &lent, (const uint8_t *)text, size);
-            if (booted == FFA_WRONG_COUNT && !take_all_back(&lent, pages, 512 * blocks)) stop("pages stayed lent");
-        }
-    } else {
-        booted = ffa_boot(&machine, (const uint8_t *)text, size);
-    }
-    if (booted != FFA_OK) stop("the manifest is refused");
-    char *trace = text_of(words[3], &trace_size);
+    uint32_t lent_pages = 0;
+    char *text = text_of(words[2], &size), *trace = text_of(words[3], &trace_size);
+    if (is_lent) lent_pages = boot_in(pages, &lent, text, size);
+    else boot_on_heap(text, size);
     for (char *line = trace, *end; line < trace + trace_size; line = end + 1) {
         end = strchr(line, '\n');
         if (end == NULL) break;
         *end = '\0';
         play(line);
     }
-    if (lent.live) {
-        uint64_t pages_in_ram = 0;
-        while (ffa_owner(&machine, (uint32_t)pages_in_ram) != FFA_NOTHING) pages_in_ram++;
-        if (ffa_free(&machine, &lent) != FFA_OK || ffa_lent_pages(&lent) != pages_in_ram) stop("pages weren't given back");
-        if (!take_all_back(&lent, pages, (uint32_t)pages_in_ram)) stop("pages stayed lent");
-    } else if (ffa_free(&machine, &lent) != FFA_OK) {
-        stop("the machine wasn't freed");
-    }
+    if (ffa_free(&machine, &lent) != FFA_OK) stop("the machine wasn't freed");
+    if (is_lent && !take_all_back(&lent, pages, lent_pages)) stop("pages weren't given back");
     free(text);
     free(trace);
     return 0;

@@ -1,8 +1,9 @@
 #!/usr/bin/env bash
 # SPDX-License-Identifier: MIT OR Apache-2.0
 # Builds the C library and what stands in this folder over it, with every warning an error, and runs it: the test under
-# sanitizers and valgrind, the example, the traces of examples/ through the border beside the program, and a link with no C library; for
-# AArch64 too, where there are a compiler and an emulator for it. With --install it first installs Debian's packages for that.
+# sanitizers and valgrind, the example, the traces of examples/ through the border beside the program, and links with no C library, of
+# which one runs on a stack of 64 KiB; for AArch64 too, where there are a compiler and an emulator for it. With --install it first installs
+# Debian's packages for that.
 set -euo pipefail
 here=$(cd "$(dirname "${BASH_SOURCE[0]}")" && pwd)
 top=$(dirname "$here")
@@ -59,15 +60,17 @@ stores() {
 # The bytes of code and data of a program, as `size` adds them up.
 bytes() { size "$1" | awk 'NR == 2 { print $4 }'; }
 
-# Plays each trace that there is, on RAM of the heap and on lent pages: plays NAME COMMAND..
+# Plays each trace that there is, and `audit`, on RAM of the heap and on lent pages: plays NAME COMMAND.. The library tells no handles,
+# so the runs of `audit` are left out.
 plays() {
-    local name=$1 machine trace kind
+    local name=$1 machine kind
     shift
     for pair in machine:first machine:calls partitions:accesses partitions:messages partitions:sharing; do
-        machine=$top/examples/${pair%:*}.toml trace=$top/examples/${pair#*:}.trace
-        "$player" run "$machine" "$trace" >"$to/expected"
+        machine=$top/examples/${pair%:*}.toml
+        { cat "$top/examples/${pair#*:}.trace" && echo audit; } >"$to/trace"
+        "$player" run "$machine" "$to/trace" | sed -E '/^pages .{8} .{8} .{4} (-|[0-9A-F]{16}) /d' >"$to/expected"
         for kind in heap lent; do
-            "$@" $kind "$machine" "$trace" >"$to/played"
+            "$@" $kind "$machine" "$to/trace" >"$to/played"
             cmp "$to/expected" "$to/played" || { echo "$name: $kind: $pair differs" >&2; exit 1; }
         done
     done
@@ -92,6 +95,8 @@ for compiler in gcc clang; do
     $compiler $bare -Wl,--gc-sections "$here/freestanding.c" "$here/settle.c" "$to/native.a" -o "$to/free"
     "$to/free"
     echo "$compiler: linked with no C library, and run: $(bytes "$to/free") bytes, and $(bytes "$to/whole") with what nobody calls"
+    $compiler $bare -Wl,--gc-sections "$here/small_stack.c" "$top/board/bytes.c" "$here/settle.c" "$to/native.a" -o "$to/small"
+    says "$compiler" "$to/small"
 done
 if has g++; then
     printf '#include "gorseplumb.h"\n#include "lending.h"\n' >"$to/header.cpp"
@@ -115,9 +120,12 @@ if has aarch64-linux-gnu-gcc && has qemu-aarch64-static; then
     stores AArch64 aarch64-linux-gnu-objdump "$to/test"
     $arm "$here/play.c" "$here/heap.c" "$to/arm.a" -o "$to/play"
     plays AArch64 qemu-aarch64-static "$to/play"
-    $arm -ffreestanding -fno-stack-protector -nostdlib -Wl,--gc-sections "$here/freestanding.c" "$here/settle.c" "$to/arm.a" -o "$to/free"
+    bare="-ffreestanding -fno-stack-protector -nostdlib -Wl,--gc-sections"
+    $arm $bare "$here/freestanding.c" "$here/settle.c" "$to/arm.a" -o "$to/free"
     qemu-aarch64-static "$to/free"
     echo "AArch64: linked with no C library, and run"
+    $arm $bare "$here/small_stack.c" "$top/board/bytes.c" "$here/settle.c" "$to/arm.a" -o "$to/small"
+    says AArch64 qemu-aarch64-static "$to/small"
     archive native
 fi
 if ((missing)); then echo "passed, but for what was not run"; else echo "passed"; fi
