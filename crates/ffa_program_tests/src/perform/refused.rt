@@ -1,6 +1,8 @@
 // SPDX-License-Identifier: MIT OR Apache-2.0
-//! Commands where memory is short: each allocation of RAM and of the player is refused in turn, over a heap of a fixed
-//! size. What a manifest is read with is refused by the script tests/refused-memory.
+//! Commands where memory is short: each allocation of RAM, of a machine's room and of the player is refused in turn, over a
+//! heap of a fixed size. What a manifest is read with is refused by the script tests/refused-memory.
+
+ghost use Rattle.std.specs.Prelude.{◌≤◌};
 
 use super::{DEMO, FIRST, FIRST_TEXT, KINDS, ROW, RUN, on_kind, performed_once};
 use ffa_command::Request;
@@ -17,6 +19,14 @@ use std::test::Fail;
 const PAGES: usize = 512 * 4096;
 
 const LIST: usize = 512 * 16;
+
+// What the room of a machine with 2 MiB of RAM takes: the owners of its pages, the slots of each endpoint for open
+// transactions, and its records.
+const OWNERS: usize = 512 * 4;
+
+const SLOTS: usize = 16 * 624;
+
+const RECORDS: usize = 4160;
 
 // What the player takes at most: the room for a line of up to 33 bytes, before it grows and after.
 const LINE: usize = 256;
@@ -98,38 +108,44 @@ fn is_done(
     Ok(status == 0)
 }
 
-// On a machine of each kind: RAM is refused, or each growth of the room for a line, or nothing.
+// On a machine of each kind with so many endpoints: RAM is refused, or a piece of the machine's room, or each growth of the
+// room for a line, or nothing.
 fn done_or_no_memory(
     rt: &impl Abort,
     alloc: Global,
     request: &Request<'_>,
     trace: &str,
     text: &[u8],
-) -> Result<(), Fail> {
+    endpoints: usize,
+) -> Result<(), Fail>
+    requires { endpoints ≤ 8 }
+{
     for (frames, tlb) in KINDS {
         let request = on_kind(request, (frames, tlb));
         let ram = if frames { PAGES + LIST } else { PAGES };
-        for room in [16, 4096, LIST, ram - 16, ram] {
+        let records = ram + OWNERS + endpoints * SLOTS;
+        let booted = records + RECORDS;
+        for room in [16, 4096, LIST, ram - 16, ram, ram + OWNERS, records, booted] {
             assert!(rt; !is_done(rt, alloc, &request, trace, text, room)?, "{room}");
         }
         for more in (16..LINE).step_by(16) {
-            is_done(rt, alloc, &request, trace, text, ram + more)?;
+            is_done(rt, alloc, &request, trace, text, booted + more)?;
         }
-        assert!(rt; is_done(rt, alloc, &request, trace, text, ram + LINE)?);
+        assert!(rt; is_done(rt, alloc, &request, trace, text, booted + LINE)?);
     }
     Ok(())
 }
 
 #[test]
 fn demonstrates_or_has_no_memory(rt: HostRuntime) -> Result<(), Fail> {
-    done_or_no_memory(&rt, rt.alloc(), &DEMO, FIRST, FIRST_TEXT.as_bytes())
+    done_or_no_memory(&rt, rt.alloc(), &DEMO, FIRST, FIRST_TEXT.as_bytes(), 2)
 }
 
 #[test]
 fn runs_or_has_no_memory(rt: HostRuntime) -> Result<(), Fail> {
     let whole = performed_once(rt.alloc(), &RUN, Some(ROW.as_bytes()), Some(LEND));
     assert_eq!(rt; whole.status, 0);
-    done_or_no_memory(&rt, rt.alloc(), &RUN, LEND, &whole.out)
+    done_or_no_memory(&rt, rt.alloc(), &RUN, LEND, &whole.out, 3)
 }
 
 // Each frame is refused in turn.
