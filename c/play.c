@@ -30,10 +30,15 @@ static void stop(const char *why) {
 static char *text_of(const char *path, size_t *size) {
     FILE *file = fopen(path, "rb");
     if (file == NULL) stop(path);
-    size_t room = 1 << 20;
-    char *text = malloc(room);
-    if (text == NULL) stop("no memory");
-    *size = fread(text, 1, room - 1, file);
+    size_t room = 0;
+    char *text = NULL;
+    *size = 0;
+    do {
+        room = room == 0 ? 1 << 20 : 2 * room;
+        text = realloc(text, room);
+        if (text == NULL) stop("no memory");
+        *size += fread(text + *size, 1, room - 1 - *size, file);
+    } while (*size == room - 1);
     text[*size] = '\0';
     fclose(file);
     return text;

@@ -5,6 +5,7 @@ use Rattle.std.specs.Prelude.{◌==◌, nat_lt, is_some, filter}
 use Rattle.std.specs.Ordering.{nat_cmp}
 use Rattle.std.specs.FinMap as finite
 use Rattle.std.proofs.lemmas.Bool.{eq-eqb, false≢true, le-ltb, lt-ltb, ne_eqb, true≢false}
+use Rattle.ffa_model.specs.declared.limits.TheConstants.{MOST_OPEN}
 use Rattle.ffa_model.specs.Identifiers.{identifier, place}
 use Rattle.ffa_model.specs.State.{Transaction}
 use Rattle.ffa_model.specs.Transactions.{open_count}
@@ -125,30 +126,30 @@ module _ (test : Transaction → Bool) where
       omega (arith, rest, first)
 
 module _ (kept : Pooled) (pool : IsPool kept) (e : ℕ) (known : identifier (place e) ≡ e) (lt : place e < length kept.sent) where
-  -- open transactions and free slots are eight together
-  sixteen : open_count (open_in kept) e + free_in (16 * place e) 16 kept.slots ≡ 16
-  sixteen =
-      ap (λ n. n + free_in (16 * place e) 16 kept.slots) (count-slots (λ (t : Transaction). t.sender == e) kept.slots pool.apart)
-      ∙ passing-free (λ (t : Transaction). t.sender == e) (16 * place e) 16 kept.slots (omega (arith, pool.size, lt))
+  -- open transactions and free slots are as many together as a sender has slots
+  together : open_count (open_in kept) e + free_in (MOST_OPEN * place e) MOST_OPEN kept.slots ≡ MOST_OPEN
+  together =
+      ap (λ n. n + free_in (MOST_OPEN * place e) MOST_OPEN kept.slots) (count-slots (λ (t : Transaction). t.sender == e) kept.slots pool.apart)
+      ∙ passing-free (λ (t : Transaction). t.sender == e) (MOST_OPEN * place e) MOST_OPEN kept.slots (omega (arith, pool.size, lt))
       (λ k x at from to. (
-      let here : k / 16 ≡ place e = omega arith in
+      let here : k / MOST_OPEN ≡ place e = omega arith in
       eq-eqb x.1.sender e ((pool.places k x.0 x.1 at).sender ∙ ap identifier here ∙ known)
       ))
       (λ k x at less. ne_eqb x.1.sender e (λ same. apart k x at same (λ here. omega (arith, here, less))))
       (λ k x at past. ne_eqb x.1.sender e (λ same. apart k x at same (λ here. omega (arith, here, past))))
     where
-      apart : (k : ℕ) (x : ℕ × Transaction) → pool_slot kept.slots k ≡ Some x → x.1.sender ≡ e → (k / 16 ≡ place e → ⊥) → ⊥
-      apart k x at same away = away (sym (place-identifier (k / 16)) ∙ ap place (sym (pool.places k x.0 x.1 at).sender ∙ same))
+      apart : (k : ℕ) (x : ℕ × Transaction) → pool_slot kept.slots k ≡ Some x → x.1.sender ≡ e → (k / MOST_OPEN ≡ place e → ⊥) → ⊥
+      apart k x at same away = away (sym (place-identifier (k / MOST_OPEN)) ∙ ap place (sym (pool.places k x.0 x.1 at).sender ∙ same))
 
-  pub few-open : (k : ℕ) → IsFree kept.slots (place e) k → nat_lt (open_count (open_in kept) e) 16 ≡ true
+  pub few-open : (k : ℕ) → IsFree kept.slots (place e) k → nat_lt (open_count (open_in kept) e) MOST_OPEN ≡ true
   few-open k free =
-      let some = one-free (16 * place e) 16 kept.slots k (omega (arith, free.own)) (omega (arith, free.own)) free.within free.free in
-      lt-ltb _ _ (omega (arith, sixteen, some))
+      let some = one-free (MOST_OPEN * place e) MOST_OPEN kept.slots k (omega (arith, free.own)) (omega (arith, free.own)) free.within free.free in
+      lt-ltb _ _ (omega (arith, together, some))
 
-  pub all-open : ((k : ℕ) → 16 * place e ≤ k → k < 16 * place e + 16 → (x : ℕ × Transaction) × (pool_slot kept.slots k ≡ Some x)) → nat_lt (open_count (open_in kept) e) 16 ≡ false
+  pub all-open : ((k : ℕ) → MOST_OPEN * place e ≤ k → k < MOST_OPEN * place e + MOST_OPEN → (x : ℕ × Transaction) × (pool_slot kept.slots k ≡ Some x)) → nat_lt (open_count (open_in kept) e) MOST_OPEN ≡ false
   all-open taken =
-      let none = none-free (16 * place e) 16 kept.slots taken in
-      le-ltb _ _ (omega (arith, sixteen, none))
+      let none = none-free (MOST_OPEN * place e) MOST_OPEN kept.slots taken in
+      le-ltb _ _ (omega (arith, together, none))
 
 -- WHAT THE CODE FINDS IN A SLOT
 pub slot-free : (items : List (Option OpenTransaction)) (k : ℕ) (o : Option OpenTransaction) → k < length items → o ≡ get_or items k o → is_some o ≡ false → pool_slot (kept_slots items) k ≡ None

@@ -2,7 +2,7 @@
 -- What an endpoint has taken.
 use Rattle.std.proofs.Common.{◌≡◌, ◌⊎◌, Bool, Option, ℕ, suc, ◌+◌, ◌*◌, ◌^◌, ◌<◌, ◌≤◌, List, [], ◌∷◌, length, Some, refl, arith, inl, inr}
 use Rattle.std.proofs.lemmas.List.Sums.{sum_by-cons}
-use Rattle.ffa_model.specs.declared.limits.TheConstants.{MOST_BLOCKS, MOST_PAGES}
+use Rattle.ffa_model.specs.declared.limits.TheConstants.{MOST_BLOCKS, MOST_PAGES, MOST_RANGES}
 use Rattle.ffa_model.specs.declared.endpoint.EndpointId.{EndpointId}
 use Rattle.ffa_model.specs.declared.rights.Kind.{Kind}
 use Rattle.ffa_model.specs.declared.rights.Kind.TheVariants.{Share, Lend, Donate}
@@ -50,5 +50,5 @@ placed-total base blocks (range ∷ ranges) few placed =
     let pages : range.pages ≤ MOST_PAGES = omega (arith, one.within, few) in
     omega (arith, step, pages, rest)
 
-pub few-pages : (base blocks : ℕ) (ranges : List Range) → blocks ≤ MOST_BLOCKS → length ranges ≤ 64 → ArePlaced base (512 * blocks) ranges → page_total ranges < 2 ^ 32
+pub few-pages : (base blocks : ℕ) (ranges : List Range) → blocks ≤ MOST_BLOCKS → length ranges ≤ MOST_RANGES → ArePlaced base (512 * blocks) ranges → page_total ranges < 2 ^ 32
 few-pages base blocks ranges few most placed = let total = placed-total base blocks ranges few placed in omega (arith, total)

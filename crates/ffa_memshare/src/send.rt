@@ -21,7 +21,7 @@ use crate::changed::{News, Sent, changed_sender};
 use crate::descriptor_call::DescriptorCall;
 use crate::found::FoundOffer;
 use crate::pool::{OpenSlot, Pool};
-use ffa_model::{EndpointId, ErrorCode, Kind, Room};
+use ffa_model::{EndpointId, ErrorCode, Kind, Room, SlotNumber};
 use ffa_pages::{KeptPage, PageTable};
 use ffa_physmem::PhysMem;
 use ffa_rxtx::Buffers;
@@ -76,7 +76,7 @@ impl<O: Room<OpenSlot> + Drop> Pool<O> {
         let found = self.check_send(ram, layout, pages, buffers, caller, kind, call)?;
         let FoundOffer { transaction, slot } = found;
         let handle = transaction.handle;
-        transaction.take_pages(ram, layout, pages, slot as u8);
+        transaction.take_pages(ram, layout, pages, slot as SlotNumber);
         let changed = news.tell(&transaction.ranges, changed_sender(kind, caller));
         self.open(slot, transaction);
         Ok(Sent { handle, changed })

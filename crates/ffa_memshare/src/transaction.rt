@@ -24,7 +24,7 @@ use crate::marks::{Mark, mark_all};
 use crate::page_changes::change_pages;
 use crate::page_ranges::PageRanges;
 use arrayvec::ArrayVec;
-use ffa_model::{Address, EndpointId, Kind, MOST_RECEIVERS, Receiver, Rights, Room};
+use ffa_model::{Address, EndpointId, Kind, MOST_RECEIVERS, Receiver, Rights, Room, SlotNumber};
 use ffa_pages::{KeptPage, PageTable};
 use ffa_physmem::PhysMem;
 use ffa_stage2::Layout;
@@ -126,7 +126,7 @@ impl OpenTransaction {
         ram: &mut M,
         layout: &Layout,
         pages: &mut PageTable<P>,
-        slot: u8,
+        slot: SlotNumber,
     )
         requires { IsHeld (M.ram ram.old) layout.now.base.0 (array_vec_len layout.now.regions) layout.now.blocks pages.old (view_of self.now) }
         ensures moved { IsMoved (M.ram ram.old) (M.ram ram.new) (array_vec_len layout.now.regions) layout.now.blocks

@@ -1,6 +1,6 @@
 -- SPDX-License-Identifier: MIT OR Apache-2.0
 -- Access after each call on memory, for each page and each endpoint.
-use Rattle.std.proofs.Common.{◌≡◌, ◌∙◌, ℕ, zero, suc, ◌+◌, ◌<◌, ◌≤◌, Bool, true, false, cond, not, List, length, take, drop, Option, Some, None, refl, sym, ap, subst, arith, inl, inr}
+use Rattle.std.proofs.Common.{◌≡◌, ◌∙◌, ℕ, zero, suc, ◌+◌, ◌^◌, ◌<◌, ◌≤◌, Bool, true, false, cond, not, List, length, take, drop, Option, Some, None, refl, sym, ap, subst, arith, inl, inr}
 use Rattle.std.specs.Prelude.{◌==◌, ◌&&◌, is_some, if◌then◌else◌, slice_set}
 use Rattle.std.specs.List.{list_all}
 use Rattle.std.specs.Option.{option_and_then, option_map}
@@ -97,9 +97,9 @@ sendable-unnamed s e p ranges all lt named =
     of None h = absurd (false≢true h)
     of (Some page) h = none (handle_at s p) (and_parts _ _ h).1
 
--- two handles that are equal have one sender and one number
-pub handle-parts : (e f a b : ℕ) → handle_of e a ≡ handle_of f b → a ≤ 65536 → b ≤ 65536 → (e ≡ f) × (a ≡ b)
-handle-parts e f a b same few_a few_b = (omega arith, omega arith)
+-- two handles that are equal have one sender and one number, where the numbers are less than 2^32 apart
+pub handle-parts : (e f a b : ℕ) → handle_of e a ≡ handle_of f b → a < b + 2 ^ 32 → b < a + 2 ^ 32 → (e ≡ f) × (a ≡ b)
+handle-parts e f a b same near_a near_b = (omega arith, omega arith)
 
 -- the runner is an endpoint
 pub runner-known : (s : State) → IsSoundState s → IsKnown s s.runner
@@ -117,7 +117,7 @@ handle-new s sound e known = of (transaction_of s (next_handle (open_of s) e)) r
         let most_e : sent_by s e ≤ MOST_SENDS = sound.sent e known in
         let most_t : sent_by s t.sender ≤ MOST_SENDS = sound.sent t.sender good.sender in
         let below : number.0 ≤ sent_by s t.sender = number.3 in
-        let parts = handle-parts e t.sender (sent_by s e + 1) number.0 number.1 (omega arith) (omega arith) in
+        let parts = handle-parts e t.sender (sent_by s e + 1) number.0 number.1 (omega (arith, most_e, number.2)) (omega (arith, most_t, below)) in
         let sent : sent_by s e ≡ sent_by s t.sender = ap (sent_by s) parts.0 in
         let next : sent_by s e + 1 ≡ number.0 = parts.1 in
         absurd (omega arith)

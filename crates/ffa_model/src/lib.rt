@@ -35,7 +35,7 @@ pub use home::{Here, Home};
 pub use leaf::Leaf;
 pub use limits::{
     MOST_BLOCKS, MOST_BUFFER_PAGES, MOST_ENDPOINTS, MOST_OPEN, MOST_PAGES, MOST_RAM, MOST_RANGES,
-    MOST_RECEIVERS, MOST_REGIONS, MOST_SENDS,
+    MOST_RECEIVERS, MOST_REGIONS, MOST_SENDS, SlotNumber,
 };
 pub use machines::{built_in, row_machine};
 pub use manifest::Manifest;

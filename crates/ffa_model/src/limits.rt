@@ -28,5 +28,9 @@ pub const MOST_RANGES: usize = 64;
 /// The most open transactions of one sender.
 pub const MOST_OPEN: usize = 16;
 
+/// The number of an open transaction's slot, as it is kept of each page. It has a value for each of the `MOST_OPEN` *
+/// `MOST_ENDPOINTS` slots.
+pub type SlotNumber = u8;
+
 /// The most sends of one endpoint while the machine runs. Each has a number of its own in its handle.
 pub const MOST_SENDS: u32 = 65535;

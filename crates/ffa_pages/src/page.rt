@@ -3,11 +3,11 @@
 ghost use Rattle.std.specs.Prelude.{◌≡◌};
 ghost use Rattle.ffa_pages.specs.Stored.{own_right_in, slot_in, standing_of};
 
-use ffa_model::{Data, EndpointId, Rights};
+use ffa_model::{Data, EndpointId, Rights, SlotNumber};
 use std::mem::size_of;
 
 // The right of a page's owner while the page stands in no open transaction, and the place in the pool of the open
-// transaction that names the page. One enum has both in two bytes: as two fields they take four.
+// transaction that names the page. One enum has both in twice the bytes of a place: as two fields they take more.
 #[derive(Clone, Copy, Default, PartialEq, Eq)]
 pub(crate) enum Standing {
     #[default]
@@ -15,14 +15,14 @@ pub(crate) enum Standing {
     ReadExecute,
     Write,
     WriteExecute,
-    NamedRead(u8),
-    NamedReadExecute(u8),
-    NamedWrite(u8),
-    NamedWriteExecute(u8),
+    NamedRead(SlotNumber),
+    NamedReadExecute(SlotNumber),
+    NamedWrite(SlotNumber),
+    NamedWriteExecute(SlotNumber),
 }
 
 impl Standing {
-    pub(crate) fn of(own_right: Rights, slot: Option<u8>) -> Standing
+    pub(crate) fn of(own_right: Rights, slot: Option<SlotNumber>) -> Standing
         ensures own_right { own_right_in result ≡ own_right }
         ensures slot { slot_in result ≡ slot }
     {
@@ -50,7 +50,7 @@ impl Standing {
         Rights { level, exec }
     }
 
-    pub(crate) fn slot(self) -> Option<u8>
+    pub(crate) fn slot(self) -> Option<SlotNumber>
         ensures { result ≡ slot_in self }
     {
         match self {
@@ -64,15 +64,15 @@ impl Standing {
     }
 }
 
-/// What is kept of a page, in four bytes. Of a page of the manager, which `EndpointId::MANAGER` owns, the standing says
-/// nothing.
+/// What is kept of a page, in four bytes where a `SlotNumber` has one. Of a page of the manager, which `EndpointId::MANAGER`
+/// owns, the standing says nothing.
 #[derive(Clone, Copy, Default, PartialEq, Eq)]
 pub struct KeptPage {
     pub(crate) owner: EndpointId,
     pub(crate) standing: Standing,
 }
 
-const _: () = prove!(size_of::<KeptPage>() == 4);
+const _: () = prove!(size_of::<KeptPage>() == 2 + 2 * size_of::<SlotNumber>());
 
 impl KeptPage {
     /// A page of the manager.

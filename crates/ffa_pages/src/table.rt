@@ -9,7 +9,7 @@ ghost use Rattle.ffa_pages.specs.Stored.{entry_of, entries_of};
 
 use crate::page::{KeptPage, Standing};
 use arrayvec::ArrayVec;
-use ffa_model::{EndpointId, MOST_PAGES, Manifest, PageNo, Rights, Room};
+use ffa_model::{EndpointId, MOST_PAGES, Manifest, PageNo, Rights, Room, SlotNumber};
 use std::alloc::{AllocError, Allocator};
 use std::marker::Model;
 
@@ -131,7 +131,7 @@ impl<P: Room<KeptPage> + Drop> PageTable<P> {
     }
 
     /// The place in the pool of the open transaction that names a page, if one does.
-    pub fn slot_of(&self, page: PageNo) -> Option<u8>
+    pub fn slot_of(&self, page: PageNo) -> Option<SlotNumber>
         requires { page.0 < length self.now }
         ensures { result ≡ slot_at self.now page.0 }
     {
@@ -169,7 +169,7 @@ impl<P: Room<KeptPage> + Drop> PageTable<P> {
 
     /// Says which open transaction names a page that an endpoint owns, by its place in the pool, or that none does. Of a
     /// page of the manager nothing is kept.
-    pub fn mark(&mut self, page: PageNo, slot: Option<u8>)
+    pub fn mark(&mut self, page: PageNo, slot: Option<SlotNumber>)
         requires { page.0 < length self.old }
         ensures { self.new ≡ marked self.old page.0 slot }
     {

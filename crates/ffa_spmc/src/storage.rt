@@ -7,7 +7,7 @@ ghost use Rattle.ffa_spmc.specs.Storages.{IsRoomFor};
 use crate::records::Records;
 use arrayvec::ArrayVec;
 use ffa_memshare::{MOST_SLOTS, OpenSlot, Pool};
-use ffa_model::{Here, Home, MOST_ENDPOINTS, MOST_PAGES, Manifest, Room, built_in};
+use ffa_model::{Here, Home, MOST_ENDPOINTS, MOST_PAGES, MOST_RANGES, Manifest, Room, built_in};
 use ffa_pages::{KeptPage, PageTable};
 use std::alloc::{AllocError, Allocator};
 use std::marker::PhantomData;
@@ -49,9 +49,13 @@ impl<A: Allocator + Drop> Store for Given<A> {
     type Records = Box<Records, A>;
 }
 
-// A machine with given room is small, whatever its RAM has.
-const _: () = prove!(size_of::<PageTable>() + size_of::<Pool>() <= 4 * MOST_PAGES + 98304);
+// A slot has eight bytes for each range, and at most 256 beside them.
+const _: () = prove!(
+    size_of::<PageTable>() + size_of::<Pool>()
+        <= size_of::<KeptPage>() * MOST_PAGES + (8 * MOST_RANGES + 256) * MOST_SLOTS
+);
 
+// A machine with given room is small, whatever its RAM has.
 const _: () = prove!(
     size_of::<PageTable<Vec<KeptPage>>>() + size_of::<Pool<Vec<OpenSlot>>>() <= 128
 );

@@ -3,6 +3,7 @@ use Rattle.std.proofs.Common.{◌≡◌, ◌∙◌, ◌<◌, Option, List, get_o
 use Rattle.std.specs.Prelude.{nat_lt, true, false}
 use Rattle.std.proofs.lemmas.Bool.{cases_eq}
 use Rattle.std.proofs.lemmas.List.{length-map}
+use Rattle.ffa_model.specs.declared.limits.TheConstants.{MOST_OPEN}
 use Rattle.ffa_model.specs.Identifiers.{place}
 use Rattle.ffa_model.specs.Transactions.{open_count}
 use Rattle.ffa_memshare.specs.declared.transaction.OpenTransaction.{OpenTransaction}
@@ -30,7 +31,7 @@ returns-then-is_none-clause-free g c =
 
 pub returns-then-is_none-clause-few : goal.returns-then-is_none-clause-few
 returns-then-is_none-clause-few g c =
-    sym (subst (λ (p : Pooled). nat_lt (open_count (open_in p) c.args.sender.0) 16 ≡ true) c.self.view_is
+    sym (subst (λ (p : Pooled). nat_lt (open_count (open_in p) c.args.sender.0) MOST_OPEN ≡ true) c.self.view_is
     (few-open (record { slots = kept_slots (g.O.Room.items c.self.inside.slots); sent = c.self.inside.sent.items }) c.self.invariant c.args.sender.0 c.requires.known
     (omega (arith, c.requires.place, ap (λ (p : Pooled). length p.sent) c.self.view_is)) c.loop-slot.slot
     (subst (λ (p : Pooled). IsFree p.slots (place c.args.sender.0) c.loop-slot.slot) (sym c.self.view_is) (returns-then-is_none-clause-free g c))))
@@ -53,7 +54,7 @@ loop-slot-preserved g c =
 
 pub returns-clause-few : goal.returns-clause-few
 returns-clause-few g c =
-    sym (subst (λ (p : Pooled). nat_lt (open_count (open_in p) c.args.sender.0) 16 ≡ false) c.self.view_is
+    sym (subst (λ (p : Pooled). nat_lt (open_count (open_in p) c.args.sender.0) MOST_OPEN ≡ false) c.self.view_is
     (all-open (record { slots = kept_slots (g.O.Room.items c.self.inside.slots); sent = c.self.inside.sent.items }) c.self.invariant c.args.sender.0 c.requires.known
     (omega (arith, c.requires.place, ap (λ (p : Pooled). length p.sent) c.self.view_is))
     (λ k from to. let (x, at) = c.loop-slot.invariant.taken k from (omega (arith, c.loop-slot-test.false, c.place-first.ensures)) in (x, ap (λ (p : Pooled). pool_slot p.slots k) c.self.view_is ∙ at))))

@@ -2,6 +2,7 @@
 use Rattle.std.proofs.Common.{◌∙◌, ◌≤◌, ◌<◌, ◌^◌, ℕ, List, length, false, Some, refl, sym, ap, subst, arith}
 use Rattle.std.proofs.lemmas.Bool.{false≢true}
 use Rattle.arrayvec.specs.ArrayVec.{array_vec_len}
+use Rattle.ffa_model.specs.declared.limits.TheConstants.{MOST_RANGES}
 use Rattle.ffa_model.specs.declared.transaction.Range.{Range}
 use Rattle.ffa_model.specs.Buffers.{buffers_in}
 use Rattle.ffa_model.specs.ResponseBytes.{ResponseRecord, response_bytes, response_size}
@@ -18,7 +19,7 @@ respond-requires-clause-total g c =
     let l = c.args.layout.now in
     let ranges = c.args.self.now.ranges in
     let (access, built) = c.requires.held.room.built in
-    let most : length ranges ≤ 64 = omega (arith, c.len.ensures.count, c.len.ensures.few) in
+    let most : length ranges ≤ MOST_RANGES = omega (arith, c.len.ensures.count, c.len.ensures.few) in
     subst (λ (xs : List Range). page_total xs < 2 ^ 32) (sym (ap (λ (r : ResponseRecord). r.ranges) c.response-response.ensures))
     (few-pages l.base.0 l.blocks ranges built.fits.few most c.requires.held.placed)
 
