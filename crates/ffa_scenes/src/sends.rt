@@ -10,7 +10,7 @@ use crate::stage::Stage;
 use arrayvec::ArrayVec;
 use ffa_compose::write_send;
 use ffa_model::function::{FFA_MEM_DONATE, FFA_MEM_LEND, FFA_MEM_SHARE};
-use ffa_model::{Data, EndpointId, Kind, MOST_RECEIVERS, Range, Receiver, SendDesc};
+use ffa_model::{Data, EndpointId, Kind, MOST_RANGES, MOST_RECEIVERS, Range, Receiver, SendDesc};
 
 /// Whoever has so few pages left gives none away for good.
 const FEWEST_FREE: u32 = 6;
@@ -79,7 +79,7 @@ fn offer_of(handle: u64, kind: Kind, desc: &SendDesc, parts: [Range; MOST_PARTS]
 }
 
 // The ranges that have pages.
-fn ranges_of(parts: &[Range; MOST_PARTS]) -> ArrayVec<Range, 64> {
+fn ranges_of(parts: &[Range; MOST_PARTS]) -> ArrayVec<Range, MOST_RANGES> {
     let mut ranges = ArrayVec::new();
     for part in parts {
         if part.pages > 0 {
