@@ -198,6 +198,12 @@ uint32_t ffa_boot_parts(struct ffa_machine *machine, const struct ffa_parts *par
 uint32_t ffa_boot_lent(struct ffa_machine *machine, struct ffa_lent *lent, const uint8_t *text, size_t size);
 uint32_t ffa_boot_lent_parts(struct ffa_machine *machine, struct ffa_lent *lent, const struct ffa_parts *parts);
 
+/* The same, but pages of the manifest's regions keep the bytes that they are lent with: an image of a partition or of a kernel that
+ * was put there is there before the first operation, and a region that nobody may write to can have any bytes. All other pages behind
+ * the tables are zeros, and whatever stood where the tables are built is gone. A boot that is refused changes no byte. */
+uint32_t ffa_boot_held(struct ffa_machine *machine, struct ffa_lent *lent, const uint8_t *text, size_t size);
+uint32_t ffa_boot_held_parts(struct ffa_machine *machine, struct ffa_lent *lent, const struct ffa_parts *parts);
+
 /* One operation of the endpoint that runs: a call with eight registers, a load of 1, 2, 4 or 8 bytes, a store of the value's
  * lowest bytes, as many as `size` says, and a fetch of one instruction. The outcome and the machine's next state are those
  * of the definition of the machine, and with them goes every promise that the machine's own operations make, but what these

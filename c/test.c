@@ -1,6 +1,7 @@
 /* SPDX-License-Identifier: MIT OR Apache-2.0 */
 /* The first row of the manual, a lend that is retrieved, given up and reclaimed, what the border answers out of order, pages
- * that are lent and given back, what is to be settled, what has changed, and each piece of memory refused in turn. It brings the library's memory itself. */
+ * that are lent and given back, with their bytes or cleared, what is to be settled, what has changed, and each piece of memory
+ * refused in turn. It brings the library's memory itself. */
 #include <stdio.h>
 #include <stdlib.h>
 #include <string.h>
@@ -432,6 +433,72 @@ static void lent_machine(void) {
     CHECK(take_all_back(&list, pages, 512) && ffa_boot_lent_parts(&machine, &list, &parts) == FFA_NO_LIST && pieces == 0);
 }
 
+/* With what a page is filled, which is no zero. */
+static uint8_t mark(int page) { return (uint8_t)(0x80 | (page & 0x7F)); }
+
+static void mark_pages(void) {
+    for (int i = 0; i < 512; i++) memset(&pages[i], mark(i), sizeof pages[i]);
+}
+
+static bool is_filled(const struct ffa_page *page, uint8_t byte) {
+    for (int i = 0; i < FFA_PAGE_BYTES; i++) {
+        if (page->bytes[i] != byte) return false;
+    }
+    return true;
+}
+
+/* The tables of three endpoints over a block. */
+enum { TABLE_PAGES = 9 };
+
+/* The machine has the tables of a machine in cleared pages, the bytes that were in the pages of its regions, and else zeros. */
+static void is_held(const struct ffa_page *tables) {
+    for (uint32_t page = 0; page < 512; page++) {
+        static struct ffa_page bytes;
+        CHECK(ffa_read_page(&machine, page, &bytes));
+        if (page < TABLE_PAGES) CHECK(memcmp(&bytes, &tables[page], sizeof bytes) == 0);
+        if (page >= TABLE_PAGES) CHECK(is_filled(&bytes, ffa_owner(&machine, page) != 0x8000 ? mark((int)page) : 0));
+    }
+}
+
+/* A boot that keeps bytes, of a manifest with code that 8001 may not write to, and data that 8002 may not. */
+static void held_machine(void) {
+    static struct ffa_page tables[TABLE_PAGES];
+    struct ffa_parts parts = row_parts();
+    parts.endpoints[1].regions[0].rights = FFA_READ | FFA_EXECUTE;
+    parts.endpoints[2].regions[0].rights = FFA_READ;
+    CHECK(ffa_boot_held_parts(&machine, &list, &parts) == FFA_NO_LIST && ffa_boot_held(&machine, &list, text, text_size) == FFA_NO_LIST);
+    CHECK(lend_all(&list, pages, 512) == FFA_OK && ffa_boot_lent_parts(&machine, &list, &parts) == FFA_OK);
+    memcpy(tables, pages, sizeof tables);
+    CHECK(ffa_free(&machine, &list) == FFA_OK);
+    mark_pages();
+    /* What is refused leaves all bytes. */
+    parts.ram_blocks = 0;
+    CHECK(ffa_boot_held_parts(&machine, &list, &parts) == FFA_MANIFEST_RAM_BLOCKS);
+    parts.ram_blocks = 2;
+    CHECK(ffa_boot_held_parts(&machine, &list, &parts) == FFA_WRONG_COUNT && ffa_boot_held(&machine, &list, text, 4) == 2);
+    for (int i = 0; i < 512; i++) CHECK(is_filled(&pages[i], mark(i)));
+    CHECK(!machine.live && ffa_lent_pages(&list) == 512);
+    parts.ram_blocks = 1;
+    asked = 0;
+    CHECK(ffa_boot_held_parts(&machine, &list, &parts) == FFA_OK && asked == 0 && ffa_lent_pages(&list) == 0);
+    is_held(tables);
+    loads(0x40010000, 8, 0x9090909090909090);
+    struct ffa_outcome code = ffa_fetch_as(&machine, 0x8001, 0x40020000), data = ffa_load_as(&machine, 0x8002, 0x4003FFFF, 1);
+    CHECK(code.kind == FFA_DATA && code.value == 0xA0A0A0A0 && data.kind == FFA_DATA && data.value == 0xBF);
+    faults(ffa_store_as(&machine, 0x8001, 0x40020000, 1, 0), FFA_FAULT_PERMISSION);
+    faults(ffa_store_as(&machine, 0x8002, 0x40030000, 1, 0), FFA_FAULT_PERMISSION);
+    CHECK(ffa_boot_held_parts(&machine, &list, &parts) == FFA_OCCUPIED && ffa_boot_held(&machine, &list, text, text_size) == FFA_OCCUPIED);
+    is_held(tables);
+    CHECK(ffa_free(&machine, &list) == FFA_OK && ffa_boot_lent(&machine, &list, text, text_size) == FFA_OK);
+    memcpy(tables, pages, sizeof tables);
+    CHECK(ffa_free(&machine, &list) == FFA_OK);
+    mark_pages();
+    CHECK(ffa_boot_held(&machine, &list, text, text_size) == FFA_OK && ffa_lent_pages(&list) == 0);
+    is_held(tables);
+    CHECK(ffa_store_as(&machine, 0x8002, 0x40030000, 1, 0).kind == FFA_DONE && ffa_free(&machine, &list) == FFA_OK);
+    CHECK(take_all_back(&list, pages, 512) && pieces == 0);
+}
+
 /* A machine takes what the list has of memory with its pages. So a second one beside it asks for what the list lacks, its own memory
  * and room for copies of a TX, and where that is refused the pages are as before; what it got until then stays with the list. A machine
  * that ends gives its memory to the list. */
@@ -540,6 +607,7 @@ int main(void) {
     spans();
     numbers();
     lent_machine();
+    held_machine();
     two_machines();
     refusals();
     CHECK(pieces == 0);

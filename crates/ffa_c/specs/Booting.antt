@@ -1,16 +1,19 @@
 -- SPDX-License-Identifier: MIT OR Apache-2.0
 -- What a boot tells C, and what C holds after it.
-use Rattle.std.specs.Prelude.{◌≡◌, ◌≢◌, ◌⊎◌, ℕ, ◌*◌, ◌<◌, ◌≤◌, Bool, List, length, replicate, Option, None, Some, Ok, Err, IsUtf8}
+use Rattle.std.specs.Prelude.{◌≡◌, ◌≢◌, ◌⊎◌, ℕ, ◌*◌, ◌<◌, ◌≤◌, Bool, true, List, [], length, replicate, slice_index_or, Option, None, Some, Ok, Err, IsUtf8}
 use Rattle.ffa_model.specs.Agreement.{Agrees}
-use Rattle.ffa_model.specs.First.{first}
+use Rattle.ffa_model.specs.First.{first, first_held}
 use Rattle.ffa_model.specs.Manifest.{table_pages}
 use Rattle.ffa_model.specs.Ram.{page_of}
 use Rattle.ffa_model.specs.SoundState.{IsSoundState}
+use Rattle.ffa_model.specs.State.{page_at}
 use Rattle.ffa_manifest.specs.Document.{Parts, machine_of}
 use Rattle.ffa_manifest.specs.declared.error.ManifestError.{ManifestError}
 use Rattle.ffa_manifest.specs.declared.error.ManifestError.TheVariants as causes
 use Rattle.ffa_spmc.specs.Snapshot.{Snapshot}
 use Rattle.ffa_c.specs.Boarded.{Boarded}
+use Rattle.ffa_c.specs.declared.board.Bytes.{Bytes}
+use Rattle.ffa_c.specs.declared.board.Bytes.TheVariants.{Cleared, Kept}
 
 -- the number of a cause, as the manual gives it after the letter M
 abbrev pub cause_number : ManifestError → ℕ
@@ -36,17 +39,37 @@ pub record IsFirst (parts : Parts) (s : Snapshot) : Type 0 where
   pub cleared : (p : ℕ) → length s.state.parties * table_pages parts.ram_blocks ≤ p → p < length s.ram.pages → page_of s.ram p ≡ replicate 4096 0
   pub sound : IsSoundState s.state
 
--- the machine of parts that C described is in its first state, over RAM that is lent or not
-pub record IsBooted (describes : Parts → Type 0) (is_lent : Bool) (b : Boarded) : Type 0 where
+-- the same where the pages of its regions keep the bytes of pages that are given, and all others behind the tables are zeros
+pub record IsFirstHeld (pages : List (List ℕ)) (parts : Parts) (s : Snapshot) : Type 0 where
+  pub state : s.state ≡ first_held parts.ram_base parts.ram_blocks parts.endpoints (λ p. slice_index_or pages p [])
+  pub agrees : Agrees s.ram s.state
+  pub cleared :
+      (p : ℕ) → length s.state.parties * table_pages parts.ram_blocks ≤ p → p < length s.ram.pages → page_at s.state p ≡ None
+      → page_of s.ram p ≡ replicate 4096 0
+  pub sound : IsSoundState s.state
+
+-- by what a boot does with the bytes of lent pages
+abbrev pub IsFirstBy : Bytes → List (List ℕ) → Parts → Snapshot → Type 0
+IsFirstBy Cleared pages parts s = IsFirst parts s
+IsFirstBy Kept pages parts s = IsFirstHeld pages parts s
+
+-- the machine of parts that C described is in a first state, over RAM that is lent or not
+pub record IsBooted (describes : Parts → Type 0) (is_first : Parts → Snapshot → Type 0) (is_lent : Bool) (b : Boarded) : Type 0 where
   pub parts : Parts
   pub described : describes parts
-  pub begun : IsFirst parts b.machine
+  pub begun : is_first parts b.machine
   pub kind : b.is_lent ≡ is_lent
 
 -- the same of what C holds
+abbrev pub HasBegun : (Parts → Type 0) → (Parts → Snapshot → Type 0) → Bool → Option Boarded → Type 0
+HasBegun describes is_first is_lent None = ⊥
+HasBegun describes is_first is_lent (Some b) = IsBooted describes is_first is_lent b
+
 abbrev pub HasBooted : (Parts → Type 0) → Bool → Option Boarded → Type 0
-HasBooted describes is_lent None = ⊥
-HasBooted describes is_lent (Some b) = IsBooted describes is_lent b
+HasBooted describes is_lent held = HasBegun describes IsFirst is_lent held
+
+abbrev pub HasBootedHeld : (Parts → Type 0) → List (List ℕ) → Option Boarded → Type 0
+HasBootedHeld describes pages held = HasBegun describes (IsFirstHeld pages) true held
 
 -- the number of a cause for which a manifest may be refused
 abbrev pub TellsCause : (ManifestError → Type 0) → ℕ → Type 0

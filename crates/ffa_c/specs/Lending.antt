@@ -9,6 +9,11 @@ use Rattle.ffa_c.specs.Boarded.{Boarded}
 abbrev pub pages_of : Option LentPages → Option (List (List ℕ))
 pages_of list = option_map (λ l. l.pages) list
 
+-- the bytes of its pages in order; nothing where there is no list
+abbrev pub bytes_of : Option LentPages → List (List ℕ)
+bytes_of None = []
+bytes_of (Some l) = l.pages
+
 -- for how many pages a list has room
 abbrev pub room_of : Option LentPages → ℕ
 room_of None = 0

@@ -6,7 +6,7 @@ ghost use Rattle.ffa_model.specs.Ram.{page_of, zero_ram};
 ghost use Rattle.ffa_model.specs.State.{is_known};
 ghost use Rattle.ffa_manifest.specs.Document.{parts_of};
 ghost use Rattle.ffa_spmc.specs.Storages.{IsRoomFor};
-ghost use Rattle.ffa_c.specs.Booting.{IsFirst};
+ghost use Rattle.ffa_c.specs.Booting.{IsFirst, IsFirstBy};
 ghost use Rattle.ffa_c.specs.Border.{HasDoneIn, access_code, nothing_done, owner_number};
 ghost use Rattle.ffa_c.specs.Changes.{with_all_told};
 ghost use Rattle.ffa_c.specs.Elsewhere.{HasActed};
@@ -24,6 +24,15 @@ use ffa_spmc::{Given, Machine, Storage};
 use ffa_tlb::NoTlb;
 use std::alloc::Global;
 use std::marker::Model;
+
+/// What a boot does with the bytes of pages that are lent.
+#[derive(Clone, Copy)]
+pub enum Bytes {
+    /// All pages behind the tables are zeros.
+    Cleared,
+    /// Pages of the manifest's regions keep theirs, and all others behind the tables are zeros.
+    Kept,
+}
 
 /// A machine with no cache, and with RAM of the heap or RAM that is lent. Contracts see the machine, and which it is.
 #[derive(Drop)]
@@ -53,16 +62,26 @@ impl Board {
         Board { kind }
     }
 
-    /// The machine of a manifest in its first state, in RAM that is lent, which it clears.
-    pub fn boot_lent(manifest: &Manifest, ram: LentRam, storage: Storage<Given<Global>>) -> Board
+    /// The machine of a manifest in its first state, in RAM that is lent, which it clears, or whose regions keep their bytes.
+    pub fn boot_lent(
+        manifest: &Manifest,
+        ram: LentRam,
+        storage: Storage<Given<Global>>,
+        bytes: Bytes,
+    ) -> Board
         requires storage { IsRoomFor manifest.now storage }
         requires base { (⟦<LentRam as PhysMem>⟧.ram ram).base ≡ manifest.now.ram_base.0 }
         requires size { length (⟦<LentRam as PhysMem>⟧.ram ram).pages ≡ 512 * manifest.now.ram_blocks }
-        ensures first { IsFirst (parts_of manifest.now) result.machine }
+        ensures first { IsFirstBy bytes (⟦<LentRam as PhysMem>⟧.ram ram).pages (parts_of manifest.now) result.machine }
         ensures kind { result.is_lent ≡ true }
     {
-        let kind = Kind::Lent(Machine::boot_in(storage, manifest, ram, NoTlb));
-        Board { kind }
+        let machine = match bytes {
+            Bytes::Cleared => Machine::boot_in(storage, manifest, ram, NoTlb),
+            Bytes::Kept => Machine::boot_held_in(storage, manifest, ram, NoTlb),
+        };
+        Board {
+            kind: Kind::Lent(machine),
+        }
     }
 
     /// Whether the RAM is lent.

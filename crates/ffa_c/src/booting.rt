@@ -2,11 +2,11 @@
 //! Boots machines for C: over RAM of the heap, and over RAM that is lent.
 ghost use Rattle.std.specs.Prelude.{◌≡◌, ◌≢◌, ◌*◌, ◌<◌, ◌⊎◌, [], length, true, false, Ok, Some, None, IfOk, IfErr, IfSome, IsUtf8};
 ghost use Rattle.ffa_manifest.specs.Document.{parts_of};
-ghost use Rattle.ffa_c.specs.Booting.{Describes, HasBooted, IsRefusedFor, TellsCause, TellsWhy, cause_number};
+ghost use Rattle.ffa_c.specs.Booting.{Describes, HasBegun, HasBooted, HasBootedHeld, IsFirstBy, IsRefusedFor, TellsCause, TellsWhy, cause_number};
 ghost use Rattle.ffa_c.specs.Given.{Gives, IsGivenFor};
-ghost use Rattle.ffa_c.specs.Lending.{page_count, pages_of, ready_for};
+ghost use Rattle.ffa_c.specs.Lending.{bytes_of, page_count, pages_of, ready_for};
 
-use crate::board::Board;
+use crate::board::{Board, Bytes};
 use crate::lending::{FfaLent, NO_LIST, NO_MEMORY, OCCUPIED, WRONG_COUNT, put_list, take_list};
 use crate::lent_list::LentList;
 use crate::machine::{FfaMachine, put};
@@ -78,7 +78,7 @@ pub extern "C" fn ffa_boot_lent(
         NO_LIST
     } else {
         match manifest_of(alloc, text) {
-            Ok(manifest) => boot_lent(alloc, machine, lent, &manifest),
+            Ok(manifest) => boot_lent(alloc, machine, lent, &manifest, Bytes::Cleared),
             Err(cause) => number_of(cause),
         }
     }
@@ -107,7 +107,65 @@ pub extern "C" fn ffa_boot_lent_parts(
         NO_LIST
     } else {
         match manifest_given(parts) {
-            Ok(manifest) => boot_lent(alloc, machine, lent, &manifest),
+            Ok(manifest) => boot_lent(alloc, machine, lent, &manifest, Bytes::Cleared),
+            Err(cause) => number_of(cause),
+        }
+    }
+}
+
+/// The same as `ffa_boot_lent`, but pages of the manifest's regions keep their bytes, so that what was put there, as images of
+/// partitions or of a kernel, is there before the first operation. All others behind the tables are zeros.
+#[unsafe(no_mangle)]
+pub extern "C" fn ffa_boot_held(
+    alloc: Global,
+    machine: &mut FfaMachine,
+    lent: &mut FfaLent,
+    text: &[u8],
+) -> u32
+    ensures occupied { machine.old.live ≡ true → result ≡ OCCUPIED }
+    ensures no_list { machine.old.live ≡ false → lent.old.live ≡ false → result ≡ NO_LIST }
+    ensures booted { result ≡ 0 → (machine.old.held.value ≡ None) × HasBootedHeld (Describes text.now) (bytes_of lent.old.held.value) machine.new.held.value }
+    ensures emptied { result ≡ 0 → pages_of lent.new.held.value ≡ Some [] }
+    ensures machine { result ≢ 0 → machine.new ≡ machine.old }
+    ensures list { result ≢ 0 → lent.new.held.value ≡ lent.old.held.value }
+    ensures cause { result ≢ 0 → machine.old.live ≡ false → IfSome (pages_of lent.old.held.value) (λ pages. TellsWhy (Describes text.now) (IsRefusedFor text.now) (length pages) result) }
+{
+    if machine.live {
+        OCCUPIED
+    } else if !lent.live {
+        NO_LIST
+    } else {
+        match manifest_of(alloc, text) {
+            Ok(manifest) => boot_lent(alloc, machine, lent, &manifest, Bytes::Kept),
+            Err(cause) => number_of(cause),
+        }
+    }
+}
+
+/// The same for a manifest that is given as numbers, for which memory is taken as `ffa_boot_lent_parts` takes it.
+#[unsafe(no_mangle)]
+pub extern "C" fn ffa_boot_held_parts(
+    alloc: Global,
+    machine: &mut FfaMachine,
+    lent: &mut FfaLent,
+    parts: &FfaParts,
+) -> u32
+    ensures occupied { machine.old.live ≡ true → result ≡ OCCUPIED }
+    ensures no_list { machine.old.live ≡ false → lent.old.live ≡ false → result ≡ NO_LIST }
+    ensures booted { result ≡ 0 → (machine.old.held.value ≡ None) × HasBootedHeld (Gives parts.now) (bytes_of lent.old.held.value) machine.new.held.value }
+    ensures emptied { result ≡ 0 → pages_of lent.new.held.value ≡ Some [] }
+    ensures machine { result ≢ 0 → machine.new ≡ machine.old }
+    ensures list { result ≢ 0 → lent.new.held.value ≡ lent.old.held.value }
+    ensures cause { result ≢ 0 → machine.old.live ≡ false → IfSome (pages_of lent.old.held.value) (λ pages. TellsWhy (Gives parts.now) (IsGivenFor parts.now) (length pages) result) }
+    ensures unready { result ≡ NO_MEMORY → ready_for lent.old.held.value < page_count (pages_of lent.old.held.value) }
+{
+    if machine.live {
+        OCCUPIED
+    } else if !lent.live {
+        NO_LIST
+    } else {
+        match manifest_given(parts) {
+            Ok(manifest) => boot_lent(alloc, machine, lent, &manifest, Bytes::Kept),
             Err(cause) => number_of(cause),
         }
     }
@@ -182,9 +240,10 @@ fn boot_lent(
     machine: &mut FfaMachine,
     lent: &mut FfaLent,
     manifest: &Manifest,
+    bytes: Bytes,
 ) -> u32
     requires { machine.old.held.value ≡ None }
-    ensures booted { result ≡ 0 → HasBooted (λ p. p ≡ parts_of manifest.now) true machine.new.held.value }
+    ensures booted { result ≡ 0 → HasBegun (λ p. p ≡ parts_of manifest.now) (IsFirstBy bytes (bytes_of lent.old.held.value)) true machine.new.held.value }
     ensures emptied { result ≡ 0 → pages_of lent.new.held.value ≡ Some [] }
     ensures machine { result ≢ 0 → machine.new ≡ machine.old }
     ensures list { result ≢ 0 → lent.new.held.value ≡ lent.old.held.value }
@@ -194,7 +253,7 @@ fn boot_lent(
     let Some(mut list) = take_list(lent, alloc) else {
         return NO_LIST;
     };
-    let answer = boot_over(alloc, machine, &mut list, manifest);
+    let answer = boot_over(alloc, machine, &mut list, manifest, bytes);
     put_list(lent, list);
     answer
 }
@@ -205,9 +264,10 @@ fn boot_over(
     machine: &mut FfaMachine,
     list: &mut LentList,
     manifest: &Manifest,
+    bytes: Bytes,
 ) -> u32
     requires { machine.old.held.value ≡ None }
-    ensures booted { result ≡ 0 → HasBooted (λ p. p ≡ parts_of manifest.now) true machine.new.held.value }
+    ensures booted { result ≡ 0 → HasBegun (λ p. p ≡ parts_of manifest.now) (IsFirstBy bytes list.old.pages) true machine.new.held.value }
     ensures emptied { result ≡ 0 → list.new.pages ≡ [] }
     ensures machine { result ≢ 0 → machine.new ≡ machine.old }
     ensures list { result ≢ 0 → list.new ≡ list.old }
@@ -217,7 +277,7 @@ fn boot_over(
     if list.pages() != 512 * manifest.ram_blocks as usize {
         return WRONG_COUNT;
     }
-    match list.boot(alloc, manifest) {
+    match list.boot(alloc, manifest, bytes) {
         Ok(seat) => {
             put(machine, seat);
             0

@@ -5,11 +5,11 @@ ghost use Rattle.std.specs.Option.{option_map, option_to_list};
 ghost use Rattle.ffa_manifest.specs.Document.{parts_of};
 ghost use Rattle.ffa_spmc.specs.Storages.{IsRoomFor};
 ghost use Rattle.ffa_c.specs.Boarded.{lends, ram_pages};
-ghost use Rattle.ffa_c.specs.Booting.{HasBooted};
+ghost use Rattle.ffa_c.specs.Booting.{HasBegun, IsFirstBy};
 ghost use Rattle.ffa_c.specs.LentPages.{empty};
 ghost use Rattle.ffa_c.specs.Readiness.{storage_pages};
 
-use crate::board::Board;
+use crate::board::{Board, Bytes};
 use crate::seat::Seat;
 use ffa_lent::{Frames, Lent, LentRam, Span};
 use ffa_model::{MOST_ENDPOINTS, MOST_PAGES, Manifest};
@@ -98,12 +98,17 @@ impl LentList {
         self.frames.lend_span(span)
     }
 
-    /// Boots the machine of a manifest in the pages, and leaves none. It takes memory only for what the list lacks, and where that
-    /// is refused the list is as before.
+    /// Boots the machine of a manifest in the pages, which it clears, or whose bytes it keeps, and leaves none. It takes memory only
+    /// for what the list lacks, and where that is refused the list is as before.
     #[inline(never)]
-    pub fn boot(&mut self, alloc: Global, manifest: &Manifest) -> Result<Box<Seat>, AllocError>
+    pub fn boot(
+        &mut self,
+        alloc: Global,
+        manifest: &Manifest,
+        bytes: Bytes,
+    ) -> Result<Box<Seat>, AllocError>
         requires { length self.old.pages ≡ 512 * manifest.now.ram_blocks }
-        ensures booted { IfOk result (λ b. HasBooted (λ p. p ≡ parts_of manifest.now) true b.value) }
+        ensures booted { IfOk result (λ b. HasBegun (λ p. p ≡ parts_of manifest.now) (IsFirstBy bytes self.old.pages) true b.value) }
         ensures emptied { IfOk result (λ _. self.new.pages ≡ []) }
         ensures refused { IfErr result (λ _. self.new ≡ self.old) }
         ensures unready { IfErr result (λ _. self.old.ready_for < length self.old.pages) }
@@ -116,7 +121,7 @@ impl LentList {
         let frames = mem::replace(&mut self.frames, Frames::none(alloc));
         match LentRam::new(alloc, manifest.ram_base, frames) {
             Ok(ram) => {
-                seat.fill(Board::boot_lent(manifest, ram, storage));
+                seat.fill(Board::boot_lent(manifest, ram, storage, bytes));
                 Ok(seat)
             }
             Err(frames) => {

@@ -1,12 +1,14 @@
 // SPDX-License-Identifier: MIT OR Apache-2.0
 //! Isolation: what an endpoint sees comes from its view, from its own operations, and from the events towards it.
 
-ghost use Rattle.std.specs.Prelude.{ℕ, ◌≡◌, ◌≤◌, true, List, length, Some, slice_get};
+ghost use Rattle.std.specs.Prelude.{ℕ, ◌≡◌, ◌≢◌, ◌*◌, ◌<◌, ◌≤◌, true, List, length, Some, slice_get};
 ghost use Rattle.ffa_model.specs.declared.endpoint.Endpoint.{Endpoint};
-ghost use Rattle.ffa_model.specs.First.{first};
+ghost use Rattle.ffa_model.specs.First.{first, first_held};
 ghost use Rattle.ffa_model.specs.declared.call.Call.{Call};
 ghost use Rattle.ffa_model.specs.declared.operation.Op.{Op};
+ghost use Rattle.ffa_model.specs.Identifiers.{manager};
 ghost use Rattle.ffa_model.specs.Manifest.{is_accepted};
+ghost use Rattle.ffa_model.specs.Regions.{owner_in};
 ghost use Rattle.ffa_model.specs.SoundState.{IsSoundState, are_bytes};
 ghost use Rattle.ffa_model.specs.State.{State};
 ghost use Rattle.ffa_model.specs.Step.{serve, state_after, step};
@@ -110,9 +112,14 @@ pub fn sound_is_steady()
     ensures { (s : State) → IsSoundState s → IsSteady s }
 {}
 
-/// The state in which the machine of an accepted manifest starts, whose UUIDs have 16 bytes each, is sound.
+/// The state in which the machine of an accepted manifest starts, whose UUIDs have 16 bytes each, is sound: with zeros, and with
+/// whatever 4096 bytes each page of a region comes.
 pub fn first_is_sound()
-    ensures { (base blocks : ℕ) (es : List Endpoint) → is_accepted base blocks es ≡ true
+    ensures zeros { (base blocks : ℕ) (es : List Endpoint) → is_accepted base blocks es ≡ true
         → ((i : ℕ) (e : Endpoint) → slice_get es i ≡ Some e → (length e.uuid ≡ 16) × are_bytes e.uuid)
         → IsSoundState (first base blocks es) }
+    ensures held { (base blocks : ℕ) (es : List Endpoint) (held : ℕ → List ℕ) → is_accepted base blocks es ≡ true
+        → ((i : ℕ) (e : Endpoint) → slice_get es i ≡ Some e → (length e.uuid ≡ 16) × are_bytes e.uuid)
+        → ((p : ℕ) → p < 512 * blocks → owner_in base es p ≢ manager → (length (held p) ≡ 4096) × are_bytes (held p))
+        → IsSoundState (first_held base blocks es held) }
 {}

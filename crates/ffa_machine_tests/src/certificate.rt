@@ -34,7 +34,7 @@ fn run_at<M: PhysMem + Drop, T: Translations + Drop>(
 }
 
 // The runs of the machine's pages.
-fn certificate<M: PhysMem + Drop, T: Translations + Drop>(
+pub(crate) fn certificate<M: PhysMem + Drop, T: Translations + Drop>(
     alloc: Global,
     machine: &Machine<M, T>,
 ) -> Result<Vec<CertRun>, Fail> {

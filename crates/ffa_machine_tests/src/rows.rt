@@ -29,6 +29,9 @@ mod compact;
 // Operations of endpoints that don't run.
 mod elsewhere;
 
+// Machines that keep the bytes with which their RAM came.
+mod held;
+
 // Transactions with many ranges, and many of them.
 mod limits;
 

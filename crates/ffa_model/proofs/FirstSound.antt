@@ -1,6 +1,6 @@
 -- SPDX-License-Identifier: MIT OR Apache-2.0
--- The first state of an accepted manifest is sound.
-use Rattle.std.proofs.Common.{◌≡◌, ◌∙◌, ℕ, zero, suc, ◌+◌, ◌*◌, ◌<◌, ◌≤◌, Bool, true, false, cond, List, [], ◌∷◌, length, get_or, map, replicate, Option, Some, None, refl, sym, ap, subst, arith, inl, inr}
+-- The first state of an accepted manifest is sound, whatever bytes the pages of its regions have.
+use Rattle.std.proofs.Common.{◌≡◌, ◌≢◌, ◌∙◌, ℕ, zero, suc, ◌+◌, ◌*◌, ◌<◌, ◌≤◌, Bool, true, false, cond, List, [], ◌∷◌, length, get_or, map, replicate, Option, Some, None, refl, sym, ap, subst, arith, inl, inr}
 use Rattle.std.specs.Prelude.{◌==◌, find, filter, slice_get}
 use Rattle.std.specs.List.{enumerate_from, list_all}
 use Rattle.std.specs.Option.{option_map}
@@ -18,10 +18,10 @@ use Rattle.ffa_model.specs.declared.limits.TheConstants.{MOST_ENDPOINTS, MOST_OP
 use Rattle.ffa_model.specs.declared.endpoint.Endpoint.{Endpoint}
 use Rattle.ffa_model.specs.declared.endpoint.Region.{Region}
 use Rattle.ffa_model.specs.declared.schedule.Work.{Work}
-use Rattle.ffa_model.specs.Identifiers.{identifier, place}
+use Rattle.ffa_model.specs.Identifiers.{identifier, manager, place}
 use Rattle.ffa_model.specs.Manifest.{is_accepted, is_ram_base}
-use Rattle.ffa_model.specs.Regions.{has_page, owned_regions}
-use Rattle.ffa_model.specs.First.{first, has_first_bitmaps, page_with_bytes, party_of}
+use Rattle.ffa_model.specs.Regions.{has_page, owned_regions, owner_in}
+use Rattle.ffa_model.specs.First.{first, first_held, has_first_bitmaps, page_with_bytes, party_of}
 use Rattle.ffa_model.specs.State.{State, Page, Party, Transaction, Buffers, is_known_among, page_at, transaction_of}
 use Rattle.ffa_model.specs.RunStates.{first_schedule}
 use Rattle.ffa_model.specs.Sound.{IsSound}
@@ -29,7 +29,7 @@ use Rattle.ffa_model.specs.Access.{is_naming}
 use Rattle.ffa_model.specs.SoundState.{IsSized, IsSoundPage, IsSoundParty, IsSoundState, are_bytes}
 use Rattle.ffa_model.proofs.Accepted.{Accepted, accepted}
 use Rattle.ffa_model.proofs.Listed.{get_or-listed, get_or-listed_past, length-listed}
-use Rattle.ffa_model.proofs.Owners.{owned_from}
+use Rattle.ffa_model.proofs.Owners.{found-owner, owned_from}
 
 -- each owner is an endpoint
 identifier-known : (n k : ℕ) → k < n → is_known_among n (identifier k) ≡ true
@@ -55,7 +55,7 @@ found-known test also (y ∷ ys) x all is =
       | false ↦ λ found. found-known test also ys x rest found
     ] is
 
-zeros-bytes : (n : ℕ) → are_bytes (replicate n 0)
+pub zeros-bytes : (n : ℕ) → are_bytes (replicate n 0)
 zeros-bytes zero = refl
 zeros-bytes (suc n) = zeros-bytes n
 
@@ -75,9 +75,10 @@ none-open =
     ∙ sym (finite.len-entries (finite.empty {X = Transaction} {R = nat_cmp}))
     ∙ finite.len-empty nat_cmp Transaction
 
-module _ (base blocks : ℕ) (es : List Endpoint) (good : is_accepted base blocks es ≡ true) where
+module _ (base blocks : ℕ) (es : List Endpoint) (held : ℕ → List ℕ) (good : is_accepted base blocks es ≡ true)
+    (whole : (p : ℕ) → p < 512 * blocks → owner_in base es p ≢ manager → (length (held p) ≡ 4096) × are_bytes (held p)) where
   abbrev s : State
-  s = first base blocks es
+  s = first_held base blocks es held
 
   facts : Accepted base blocks es
   facts = accepted base blocks es good
@@ -92,35 +93,36 @@ module _ (base blocks : ℕ) (es : List Endpoint) (good : is_accepted base block
         some = subst (λ n. 1 ≤ n) (sym (length-map es party_of)) facts.some_endpoints;
         few = subst (λ n. n ≤ MOST_ENDPOINTS) (sym (length-map es party_of)) facts.few_endpoints;
         base = placed;
-        blocks = (blocks, length-listed (512 * blocks) (λ p. page_with_bytes base es p (replicate 4096 0)), facts.some_blocks, facts.few_blocks);
+        blocks = (blocks, length-listed (512 * blocks) (λ p. page_with_bytes base es p (held p)), facts.some_blocks, facts.few_blocks);
         sent = length-replicate {A = ℕ} (length es) 0 ∙ sym (length-map es party_of);
         buffers = length-replicate {A = Option Buffers} (length es) None ∙ sym (length-map es party_of);
         works = length-replicate {A = Option Work} (length es) None ∙ sym (length-map es party_of);
         bitmaps = length-map (enumerate_from 0 es) has_first_bitmaps ∙ length-enumerate_from 0 es ∙ sym (length-map es party_of);
       }
 
-  page-first : (p : ℕ) (page : Page) → page_at s p ≡ Some page → page_with_bytes base es p (replicate 4096 0) ≡ Some page
+  page-first : (p : ℕ) (page : Page) → page_at s p ≡ Some page → (p < 512 * blocks) × (page_with_bytes base es p (held p) ≡ Some page)
   unfolding first
   page-first p page is = elim (cases_lt p (512 * blocks)) [
-    | inl lt ↦ sym (get_or-listed (512 * blocks) (λ q. page_with_bytes base es q (replicate 4096 0)) p None lt) ∙ is
-    | inr past ↦ absurd (none-some page (sym (get_or-listed_past (512 * blocks) (λ q. page_with_bytes base es q (replicate 4096 0)) p None past) ∙ is))
+    | inl lt ↦ (lt, sym (get_or-listed (512 * blocks) (λ q. page_with_bytes base es q (held q)) p None lt) ∙ is)
+    | inr past ↦ absurd (none-some page (sym (get_or-listed_past (512 * blocks) (λ q. page_with_bytes base es q (held q)) p None past) ∙ is))
   ]
 
-  sound-page : (p : ℕ) (page : Page) → page_with_bytes base es p (replicate 4096 0) ≡ Some page → IsSoundPage s page
+  sound-page : (p : ℕ) (page : Page) → p < 512 * blocks → page_with_bytes base es p (held p) ≡ Some page → IsSoundPage s page
   unfolding first
-  sound-page p page is = of (find (λ (x : ℕ × Region). has_page base p x.1) (owned_regions es)) refl is
+  sound-page p page inside is = of (find (λ (x : ℕ × Region). has_page base p x.1) (owned_regions es)) refl is
     where
       of : (o : Option (ℕ × Region)) → find (λ (x : ℕ × Region). has_page base p x.1) (owned_regions es) ≡ o
-          → option_map (λ (x : ℕ × Region). let q : Page = record { owner = x.0; own_right = x.1.rights; bytes = replicate 4096 0 } in q) o ≡ Some page
-          → IsSoundPage (first base blocks es) page
+          → option_map (λ (x : ℕ × Region). let q : Page = record { owner = x.0; own_right = x.1.rights; bytes = held p } in q) o ≡ Some page
+          → IsSoundPage (first_held base blocks es held) page
       of None found none = absurd (none-some page none)
       of (Some x) found some =
-          subst (λ (q : Page). IsSoundPage (first base blocks es) q) (same_Some _ page some)
+          let (size, bytes) = whole p inside (found-owner base p es x found) in
+          subst (λ (q : Page). IsSoundPage (first_held base blocks es held) q) (same_Some _ page some)
           (record {
             owner = subst (λ n. is_known_among n x.0 ≡ true) (sym (length-map es party_of))
                 (found-known (λ (y : ℕ × Region). has_page base p y.1) (λ (y : ℕ × Region). is_known_among (length es) y.0) (owned_regions es) x (all-known (length es) 0 es (omega arith)) found);
-            size = length-replicate {A = ℕ} 4096 0;
-            bytes = zeros-bytes 4096;
+            size = size;
+            bytes = bytes;
           })
 
   none-at : (h : ℕ) (t : Transaction) → transaction_of s h ≡ Some t → ⊥
@@ -134,9 +136,9 @@ module _ (base blocks : ℕ) (es : List Endpoint) (good : is_accepted base block
       record {
         sized = first-sized;
         parties = parties;
-        pages = λ p page is. sound-page p page (page-first p page is);
+        pages = λ p page is. let (inside, found) = page-first p page is in sound-page p page inside found;
         transactions = λ h t is. absurd (none-at h t is);
-        one = λ p h k lt at_h at_k. absurd (false≢true (sym (ap (λ o. is_naming (first base blocks es) p o) (finite.get-empty nat_cmp h)) ∙ at_h));
+        one = λ p h k lt at_h at_k. absurd (false≢true (sym (ap (λ o. is_naming (first_held base blocks es held) p o) (finite.get-empty nat_cmp h)) ∙ at_h));
         few = λ e known. none-counted (λ (t : Transaction). t.sender == e) _ none-open;
         sent = λ e known. subst (λ n. n ≤ MOST_SENDS) (sym (same-all {X = ℕ} (length es) (place e) 0)) (omega arith);
         buffers = λ e b known is. absurd (none-some b (sym (same-all {X = Option Buffers} (length es) (place e) None) ∙ is));

@@ -1,11 +1,12 @@
 -- SPDX-License-Identifier: MIT OR Apache-2.0
 -- Who owns a page of an accepted manifest: the endpoint with the one region that has it.
-use Rattle.std.proofs.Common.{◌≡◌, ◌∙◌, ℕ, suc, zero, ◌+◌, ◌*◌, ◌<◌, ◌≤◌, Bool, true, false, cond, List, [], ◌∷◌, ◌++◌, length, get_or, map, Option, Some, None, refl, sym, ap, subst, arith}
+use Rattle.std.proofs.Common.{◌≡◌, ◌≢◌, ◌∙◌, ℕ, suc, zero, ◌+◌, ◌*◌, ◌<◌, ◌≤◌, Bool, true, false, cond, List, [], ◌∷◌, ◌++◌, length, get_or, map, Option, Some, None, refl, sym, ap, subst, arith, inl, inr}
 use Rattle.std.specs.Prelude.{◌==◌, find, is_some}
 use Rattle.std.specs.Option.{option_map, option_map_or, option_or}
 use Rattle.std.specs.List.{All, list_all, flat_map, enumerate_from}
-use Rattle.std.proofs.lemmas.Bool.{true≢false, false≢true, and_parts, eq-eqb, eqb-true, ne_eqb}
+use Rattle.std.proofs.lemmas.Bool.{cases_eq, true≢false, false≢true, and_parts, eq-eqb, eqb-true, ne_eqb}
 use Rattle.std.proofs.lemmas.Bool.Decides.{nat_tests}
+use Rattle.std.proofs.lemmas.Option.{none-some, same_Some}
 use Rattle.std.proofs.lemmas.List.Elements.{All-append, All-head, All-map, All-nil, All-tail}
 use Rattle.std.proofs.lemmas.List.Folds.{find-append, list_all-append, list_all-map}
 use Rattle.ffa_model.specs.declared.endpoint.Region.{Region}
@@ -13,7 +14,7 @@ use Rattle.ffa_model.specs.declared.endpoint.Endpoint.{Endpoint}
 use Rattle.ffa_model.specs.declared.rights.Rights.{Rights}
 use Rattle.ffa_model.specs.Manifest.{is_apart, are_apart, is_placed, regions_of, table_pages, tables_end}
 use Rattle.ffa_model.specs.Identifiers.{manager, identifier, place}
-use Rattle.ffa_model.specs.Regions.{has_page, right_in, regions_at, owned_regions}
+use Rattle.ffa_model.specs.Regions.{has_page, right_in, regions_at, owned_regions, owner_in}
 use Rattle.ffa_model.specs.State.{Page}
 use Rattle.ffa_model.specs.First.{page_with_bytes}
 use Rattle.ffa_model.specs.Access.{right_of}
@@ -284,3 +285,41 @@ found-right base p es x apart is =
 pub identifier-manager : (i : ℕ) → identifier i ≡ manager → ⊥
 identifier-manager zero h = omega (arith, h)
 identifier-manager (suc i) h = omega (arith, h)
+
+-- a page that a region has is no page of the manager
+pub found-owner : (base p : ℕ) (es : List Endpoint) (x : ℕ × Region) → find (has base p) (owned_regions es) ≡ Some x → owner_in base es p ≢ manager
+found-owner base p es x found is =
+    identifier-manager (place x.0)
+    (found-named base p es x found ∙ sym (ap (λ (o : Option (ℕ × Region)). option_map_or (λ (y : ℕ × Region). y.0) o manager) found) ∙ is)
+
+-- no endpoint has a page of the manager at first, and a page that none has is the manager's
+pub managers-none : (base p : ℕ) (es : List Endpoint) (bytes : List ℕ) → owner_in base es p ≡ manager → page_with_bytes base es p bytes ≡ None
+managers-none base p es bytes is = of (find (has base p) (owned_regions es)) refl
+  where
+    of : (o : Option (ℕ × Region)) → find (has base p) (owned_regions es) ≡ o
+        → option_map (λ (x : ℕ × Region). let q : Page = record { owner = x.0; own_right = x.1.rights; bytes = bytes } in q) o ≡ None
+    of None found = refl
+    of (Some x) found = absurd (found-owner base p es x found is)
+
+pub none-managers : (base p : ℕ) (es : List Endpoint) (bytes : List ℕ) → page_with_bytes base es p bytes ≡ None → owner_in base es p ≡ manager
+none-managers base p es bytes none = of (find (has base p) (owned_regions es)) none
+  where
+    of : (o : Option (ℕ × Region)) → option_map (λ (x : ℕ × Region). let q : Page = record { owner = x.0; own_right = x.1.rights; bytes = bytes } in q) o ≡ None
+        → option_map_or (λ (x : ℕ × Region). x.0) o manager ≡ manager
+    of None is = refl
+    of (Some x) is = absurd (none-some _ (sym is))
+
+-- a page of a region has the bytes that are given for it
+pub given-bytes : (base p : ℕ) (es : List Endpoint) (bytes : List ℕ) (page : Page) → page_with_bytes base es p bytes ≡ Some page → page.bytes ≡ bytes
+given-bytes base p es bytes page is = of (find (has base p) (owned_regions es)) is
+  where
+    of : (o : Option (ℕ × Region)) → option_map (λ (x : ℕ × Region). let q : Page = record { owner = x.0; own_right = x.1.rights; bytes = bytes } in q) o ≡ Some page → page.bytes ≡ bytes
+    of None none = absurd (none-some page none)
+    of (Some x) some = ap (λ (q : Page). q.bytes) (sym (same_Some _ page some))
+
+-- and no others count
+pub given-same : (base p : ℕ) (es : List Endpoint) (a b : List ℕ) → (owner_in base es p ≢ manager → a ≡ b) → page_with_bytes base es p a ≡ page_with_bytes base es p b
+given-same base p es a b same = elim (cases_eq (owner_in base es p) manager) [
+  | inl is ↦ managers-none base p es a is ∙ sym (managers-none base p es b is)
+  | inr other ↦ ap (page_with_bytes base es p) (same other)
+]

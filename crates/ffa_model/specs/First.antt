@@ -49,3 +49,8 @@ first base blocks es =
       bound = finite_set.empty;
       pending = finite_set.empty;
     }
+
+-- the same where the pages of regions have these bytes, and not zeros
+abbrev pub first_held : ℕ → ℕ → List Endpoint → (ℕ → List ℕ) → State
+first_held base blocks es held =
+    record (first base blocks es) { pages = listed (512 * blocks) (λ p. page_with_bytes base es p (held p)) }

@@ -5,7 +5,7 @@ use Rattle.std.specs.Option.{option_and_then, option_map}
 use Rattle.std.specs.FinMap as finite
 use Rattle.std.specs.FinSet as finite_set
 use Rattle.std.specs.List.{enumerate_from, list_all}
-use Rattle.std.proofs.Common.{◌≡◌, ◌∙◌, ◌⊎◌, ℕ, suc, zero, ◌*◌, ◌<◌, ◌≤◌, List, [], ◌∷◌, length, map, get_or, replicate, Option, Some, None, refl, sym, ap, subst, arith, inl, inr}
+use Rattle.std.proofs.Common.{◌≡◌, ◌≢◌, ◌∙◌, ◌⊎◌, ℕ, suc, zero, ◌*◌, ◌<◌, ◌≤◌, List, [], ◌∷◌, length, map, get_or, replicate, Option, Some, None, refl, sym, ap, subst, arith, inl, inr}
 use Rattle.std.proofs.lemmas.Bool.{and_parts, cases_lt, eqb-true, false≢true}
 use Rattle.std.proofs.lemmas.List.{get_or-replicate, length-map, length-replicate}
 use Rattle.std.proofs.lemmas.Option.{none-some, same_Some}
@@ -19,12 +19,13 @@ use Rattle.ffa_model.specs.Lists.{listed}
 use Rattle.ffa_model.specs.Manifest.{table_pages}
 use Rattle.ffa_model.specs.Ram.{Ram, page_of, zero_ram}
 use Rattle.ffa_model.specs.Regions.{has_page, owned_regions, regions_at, regions_of_each, right_in as right_among}
-use Rattle.ffa_model.specs.State.{Page}
-use Rattle.ffa_model.specs.First.{first, has_first_bitmaps, page_with_bytes}
+use Rattle.ffa_model.specs.State.{State, Page, page_at}
+use Rattle.ffa_model.specs.First.{first, first_held, has_first_bitmaps, page_with_bytes}
 use Rattle.ffa_model.specs.RunStates.{first_schedule}
 use Rattle.ffa_model.proofs.Accepted.{accepted}
 use Rattle.ffa_model.proofs.Listed.{get_or-listed, get_or-listed_past, length-listed, listed-same}
-use Rattle.ffa_model.proofs.Owners.{owned-behind}
+use Rattle.ffa_model.proofs.Owners.{given-bytes, given-same, none-managers, owned-behind}
+use Rattle.ffa_model.proofs.FirstSound.{zeros-bytes}
 use Rattle.ffa_model.proofs.Slots.{entries_in}
 use Rattle.ffa_stage2.specs.declared.layout.Layout.{Layout}
 use Rattle.ffa_stage2.specs.declared.layout.Regions.{Regions}
@@ -37,7 +38,10 @@ use Rattle.ffa_spmc.specs.Owners.{first_owners}
 use Rattle.ffa_model.specs.Endpoints.{have_uuids}
 use Rattle.ffa_model.specs.SoundState.{IsSoundState, are_bytes}
 use Rattle.ffa_model.specs.Uuid.{is_uuid}
-use Rattle.ffa_laws.proofs.Firsts.{first-state-sound}
+use Rattle.ffa_laws.proofs.Firsts.{first-held-sound}
+use Rattle.ffa_spmc.specs.Booted.{IsBooted, IsBootedHeld}
+use Rattle.ffa_spmc.specs.Readied.{IsReadyFor, first_owner}
+use Rattle.ffa_model.specs.Identifiers.{manager}
 use Rattle.ffa_spmc.specs.Meaning.{AreOpenTransactions, AreOwners, HasTables, IsManager, Parts, access_by_place, held_page, slot_names, state_of}
 use Rattle.ffa_spmc.proofs.Held.{access-first, page-at, page-held, parties_are}
 
@@ -47,7 +51,7 @@ regions-each (e ∷ es) zero = refl
 regions-each (e ∷ es) (suc i) = regions-each es i
 
 -- no endpoint owns a page before the end of the tables
-unowned : (m : Manifest) (p : ℕ) (bytes : List ℕ) → p < length m.endpoints.items * table_pages m.ram_blocks → page_with_bytes m.ram_base.0 m.endpoints.items p bytes ≡ None
+pub unowned : (m : Manifest) (p : ℕ) (bytes : List ℕ) → p < length m.endpoints.items * table_pages m.ram_blocks → page_with_bytes m.ram_base.0 m.endpoints.items p bytes ≡ None
 unowned m p bytes low = of (page_with_bytes m.ram_base.0 m.endpoints.items p bytes) refl
   where
     of : (o : Option Page) → page_with_bytes m.ram_base.0 m.endpoints.items p bytes ≡ o → page_with_bytes m.ram_base.0 m.endpoints.items p bytes ≡ None
@@ -118,15 +122,26 @@ open-first m n =
       );
     }
 
+-- a page of RAM of zeros
+zero-page : (m : Manifest) (p : ℕ) → p < 512 * m.ram_blocks → page_of (zero_ram m.ram_base.0 (512 * m.ram_blocks)) p ≡ replicate 4096 0
+zero-page m p lt = get_or-replicate (512 * m.ram_blocks) p (replicate 4096 0) [] lt
+
+-- a page of the first state
+page-there : (m : Manifest) (given : Ram) (p : ℕ) (page : Page) → page_at (first_held m.ram_base.0 m.ram_blocks m.endpoints.items (page_of given)) p ≡ Some page
+    → (p < 512 * m.ram_blocks) × (page_with_bytes m.ram_base.0 m.endpoints.items p (page_of given p) ≡ Some page)
+page-there m given p page is = elim (cases_lt p (512 * m.ram_blocks)) [
+  | inl lt ↦ (lt, sym (get_or-listed (512 * m.ram_blocks) (λ q. page_with_bytes m.ram_base.0 m.endpoints.items q (page_of given q)) p None lt) ∙ is)
+  | inr past ↦ absurd (none-some page (sym (get_or-listed_past (512 * m.ram_blocks) (λ q. page_with_bytes m.ram_base.0 m.endpoints.items q (page_of given q)) p None past) ∙ is))
+]
+
 -- the right that an endpoint's regions give it, by its place in the manifest
 abbrev own_right : Manifest → ℕ → ℕ → Option Rights
 own_right m i p = right_among m.ram_base.0 (regions_at m.endpoints.items i) p
 
-module _ (zeros : Ram) (x : Parts)
-    (cleared : zeros ≡ zero_ram x.manifest.ram_base.0 (512 * x.manifest.ram_blocks))
+module _ (given : Ram) (x : Parts) (ready : IsReadyFor x.manifest given)
     (base : x.kept.layout.base.0 ≡ x.manifest.ram_base.0) (blocks : x.kept.layout.blocks ≡ x.manifest.ram_blocks) (regions : regions_in x.kept.layout ≡ regions_of_each x.manifest.endpoints.items)
     (built : IsBuilt x.ram (array_vec_len x.kept.layout.regions) x.kept.layout.blocks (layout_right x.kept.layout))
-    (rest : KeepsRest zeros x.ram (array_vec_len x.kept.layout.regions) x.kept.layout.blocks)
+    (rest : KeepsRest given x.ram (array_vec_len x.kept.layout.regions) x.kept.layout.blocks)
     (owners : x.kept.pages ≡ first_owners x.manifest) (slots : x.kept.pool.slots ≡ replicate (MOST_OPEN * length x.manifest.endpoints.items) None)
     (sent : x.kept.pool.sent ≡ replicate (length x.manifest.endpoints.items) 0) (none : x.kept.buffers ≡ replicate (length x.manifest.endpoints.items) None) (schedule : x.kept.chain ≡ first_schedule (length x.manifest.endpoints.items))
     (bitmaps : x.kept.bitmaps.bitmaps ≡ map has_first_bitmaps (enumerate_from 0 x.manifest.endpoints.items)) (bound : x.kept.bitmaps.bound ≡ finite_set.empty) (pending : x.kept.bitmaps.pending ≡ finite_set.empty)
@@ -143,10 +158,10 @@ module _ (zeros : Ram) (x : Parts)
       ∙ length-map es (λ (e : Endpoint). e.regions.items)
 
   base-is : x.ram.base ≡ x.manifest.ram_base.0
-  base-is = rest.base ∙ ap (λ (r : Ram). r.base) cleared
+  base-is = rest.base ∙ ready.base
 
   size-is : length x.ram.pages ≡ 512 * x.manifest.ram_blocks
-  size-is = rest.size ∙ ap (λ (r : Ram). length r.pages) cleared ∙ length-replicate (512 * x.manifest.ram_blocks) (replicate 4096 0)
+  size-is = rest.size ∙ ready.size
 
   right-is : (e p : ℕ) → layout_right layout e p ≡ own_right x.manifest e p
   right-is e p =
@@ -167,31 +182,28 @@ module _ (zeros : Ram) (x : Parts)
   tables-first : HasTables x.ram x.manifest (access_by_place (state_of x))
   tables-first = record { base = base-is; size = size-is; built = built-is }
 
-  -- a page behind the tables is zeros
-  behind-zeros : (p : ℕ) → p < length x.ram.pages → length es * table_pages x.manifest.ram_blocks ≤ p → page_of x.ram p ≡ replicate 4096 0
-  behind-zeros p inside behind =
-      let end : table_page layout.blocks (array_vec_len layout.regions) 0 ≤ p = of_end many blocks behind in
-      rest.pages p end ∙ ap (λ (r : Ram). page_of r p) cleared
-      ∙ get_or-replicate (512 * x.manifest.ram_blocks) p (replicate 4096 0) [] (omega (arith, inside, size-is))
+  -- a page behind the tables has the bytes that were given
+  behind-given : (p : ℕ) → length es * table_pages x.manifest.ram_blocks ≤ p → page_of x.ram p ≡ page_of given p
+  behind-given p behind = rest.pages p (of_end many blocks behind)
     where
       of_end : {n b k c : ℕ} → n ≡ k → b ≡ c → k * table_pages c ≤ p → table_page b n 0 ≤ p
       of_end same_n same_b h = rw (same_n, same_b) (omega (arith, h))
 
   -- and nobody owns one before
-  page-zeros : (p : ℕ) → p < length x.ram.pages → held_page x.ram x.kept.pages p ≡ page_with_bytes x.manifest.ram_base.0 es p (replicate 4096 0)
-  page-zeros p inside =
+  page-given : (p : ℕ) → p < length x.ram.pages → held_page x.ram x.kept.pages p ≡ page_with_bytes x.manifest.ram_base.0 es p (page_of given p)
+  page-given p inside =
       sym (page-held x p inside) ∙ page-at x size-is owners p inside
       ∙ elim (cases_lt p (length es * table_pages x.manifest.ram_blocks)) [
-        | inl low ↦ unowned x.manifest p (page_of x.ram p) low ∙ sym (unowned x.manifest p (replicate 4096 0) low)
-        | inr behind ↦ ap (page_with_bytes x.manifest.ram_base.0 es p) (behind-zeros p inside behind)
+        | inl low ↦ unowned x.manifest p (page_of x.ram p) low ∙ sym (unowned x.manifest p (page_of given p) low)
+        | inr behind ↦ ap (page_with_bytes x.manifest.ram_base.0 es p) (behind-given p behind)
       ]
 
-  pages-first : listed (length x.ram.pages) (held_page x.ram x.kept.pages) ≡ listed (512 * x.manifest.ram_blocks) (λ p. page_with_bytes x.manifest.ram_base.0 es p (replicate 4096 0))
+  pages-first : listed (length x.ram.pages) (held_page x.ram x.kept.pages) ≡ listed (512 * x.manifest.ram_blocks) (λ p. page_with_bytes x.manifest.ram_base.0 es p (page_of given p))
   pages-first =
-      listed-same (length x.ram.pages) (held_page x.ram x.kept.pages) (λ p. page_with_bytes x.manifest.ram_base.0 es p (replicate 4096 0)) page-zeros
-      ∙ ap (λ (n : ℕ). listed n (λ p. page_with_bytes x.manifest.ram_base.0 es p (replicate 4096 0))) size-is
+      listed-same (length x.ram.pages) (held_page x.ram x.kept.pages) (λ p. page_with_bytes x.manifest.ram_base.0 es p (page_of given p)) page-given
+      ∙ ap (λ (n : ℕ). listed n (λ p. page_with_bytes x.manifest.ram_base.0 es p (page_of given p))) size-is
 
-  pub state-first : state_of x ≡ first x.manifest.ram_base.0 x.manifest.ram_blocks es
+  pub state-first : state_of x ≡ first_held x.manifest.ram_base.0 x.manifest.ram_blocks es (page_of given)
   unfolding first
   state-first = λ i. record (first x.manifest.ram_base.0 x.manifest.ram_blocks es) {
     pages = pages-first i;
@@ -225,9 +237,75 @@ module _ (zeros : Ram) (x : Parts)
         open_transactions =
             subst (λ (list : List (Option Entry)). AreOpenTransactions x.manifest list x.kept.pool.slots) (sym owners)
             (subst (AreOpenTransactions x.manifest (first_owners x.manifest)) (sym slots) (open-first x.manifest (MOST_OPEN * length es)));
-        sound = subst IsSoundState (sym state-first) (first-state-sound x.manifest.ram_base.0 x.manifest.ram_blocks es x.manifest.accepted (uuid-at es uuids));
+        sound =
+            subst IsSoundState (sym state-first)
+            (first-held-sound x.manifest.ram_base.0 x.manifest.ram_blocks es (page_of given) x.manifest.accepted (uuid-at es uuids)
+            (λ p inside. ready.whole p (omega (arith, inside, ready.size))));
       }
 
-  -- the pages behind the tables, the manager's too
-  pub cleared-behind : (p : ℕ) → length (state_of x).parties * table_pages x.manifest.ram_blocks ≤ p → p < length x.ram.pages → page_of x.ram p ≡ replicate 4096 0
-  cleared-behind p behind inside = behind-zeros p inside (subst (λ (n : ℕ). n * table_pages x.manifest.ram_blocks ≤ p) (parties_are x) behind)
+  -- the pages behind the tables that nobody owns
+  pub cleared-behind : (p : ℕ) → length (state_of x).parties * table_pages x.manifest.ram_blocks ≤ p → p < length x.ram.pages → page_at (state_of x) p ≡ None
+      → page_of x.ram p ≡ replicate 4096 0
+  cleared-behind p behind inside none =
+      let past = subst (λ (n : ℕ). n * table_pages x.manifest.ram_blocks ≤ p) (parties_are x) behind in
+      behind-given p past
+      ∙ ready.cleared p past (omega (arith, inside, rest.size))
+      (none-managers x.manifest.ram_base.0 p es (page_of x.ram p) (sym (page-at x size-is owners p inside) ∙ none))
+
+-- RAM of zeros is ready
+pub zeros-ready : (m : Manifest) (ram : Ram) → ram ≡ zero_ram m.ram_base.0 (512 * m.ram_blocks) → IsReadyFor m ram
+zeros-ready m ram zeros =
+    subst (IsReadyFor m) (sym zeros)
+    (record {
+      base = refl;
+      size = many;
+      whole = λ p inside other.
+          subst (λ (bytes : List ℕ). (length bytes ≡ 4096) × are_bytes bytes) (sym (zero-page m p (omega (arith, inside, many))))
+          (length-replicate {A = ℕ} 4096 0, zeros-bytes 4096);
+      cleared = λ p behind inside its. zero-page m p (omega (arith, inside, many));
+    })
+  where
+    many : length (replicate (512 * m.ram_blocks) (replicate {A = ℕ} 4096 0)) ≡ 512 * m.ram_blocks
+    many = length-replicate (512 * m.ram_blocks) (replicate {A = ℕ} 4096 0)
+
+-- the machine of RAM of zeros is booted
+pub booted-zeros : (m : Manifest) (given : Ram) (s : State) (ram : Ram) → given ≡ zero_ram m.ram_base.0 (512 * m.ram_blocks) → IsBootedHeld m given s ram → IsBooted m s ram
+unfolding first
+booted-zeros m given s ram zeros booted =
+    record {
+      state = booted.state ∙ (λ i. record (first m.ram_base.0 m.ram_blocks m.endpoints.items) { pages = same i });
+      agrees = booted.agrees;
+      cleared = λ p behind inside. of p behind inside (page_at s p) refl;
+      sound = booted.sound;
+    }
+  where
+    bytes-at : (p : ℕ) → p < 512 * m.ram_blocks → page_of given p ≡ replicate 4096 0
+    bytes-at p lt = ap (λ (r : Ram). page_of r p) zeros ∙ zero-page m p lt
+
+    same : listed (512 * m.ram_blocks) (λ p. page_with_bytes m.ram_base.0 m.endpoints.items p (page_of given p)) ≡ listed (512 * m.ram_blocks) (λ p. page_with_bytes m.ram_base.0 m.endpoints.items p (replicate 4096 0))
+    same =
+        listed-same (512 * m.ram_blocks) (λ p. page_with_bytes m.ram_base.0 m.endpoints.items p (page_of given p)) (λ p. page_with_bytes m.ram_base.0 m.endpoints.items p (replicate 4096 0))
+        (λ p lt. ap (page_with_bytes m.ram_base.0 m.endpoints.items p) (bytes-at p lt))
+
+    of : (p : ℕ) → length s.parties * table_pages m.ram_blocks ≤ p → p < length ram.pages → (o : Option Page) → page_at s p ≡ o → page_of ram p ≡ replicate 4096 0
+    of p behind inside None none = booted.cleared p behind inside none
+    of p behind inside (Some page) some =
+        let (lt, there) = page-there m given p page (sym (ap (λ (t : State). page_at t p) booted.state) ∙ some) in
+        booted.agrees.bytes p page some ∙ given-bytes m.ram_base.0 p m.endpoints.items (page_of given p) page there ∙ bytes-at p lt
+
+-- no bytes count but those of regions
+pub booted-kept : (m : Manifest) (given cleared : Ram) (s : State) (ram : Ram) → ((p : ℕ) → first_owner m p ≢ manager → page_of cleared p ≡ page_of given p)
+    → IsBootedHeld m cleared s ram → IsBootedHeld m given s ram
+booted-kept m given cleared s ram kept booted =
+    record {
+      state =
+          booted.state
+          ∙ (λ i. record (first m.ram_base.0 m.ram_blocks m.endpoints.items) {
+            pages =
+                listed-same (512 * m.ram_blocks) (λ p. page_with_bytes m.ram_base.0 m.endpoints.items p (page_of cleared p)) (λ p. page_with_bytes m.ram_base.0 m.endpoints.items p (page_of given p))
+                (λ p lt. given-same m.ram_base.0 p m.endpoints.items (page_of cleared p) (page_of given p) (kept p)) i;
+          });
+      agrees = booted.agrees;
+      cleared = booted.cleared;
+      sound = booted.sound;
+    }

@@ -18,6 +18,7 @@ pub mod Moves
 pub mod Closes
 pub mod Accesses
 pub mod Boots
+pub mod Clearings
 pub mod Candidates
 pub mod BufferCalls
 pub mod Fills

@@ -1,13 +1,13 @@
 -- SPDX-License-Identifier: MIT OR Apache-2.0
 -- What a boot leaves.
-use Rattle.std.specs.Prelude.{◌≡◌, ℕ, ◌*◌, ◌<◌, ◌≤◌, length, replicate}
+use Rattle.std.specs.Prelude.{◌≡◌, ℕ, ◌*◌, ◌<◌, ◌≤◌, None, length, replicate}
 use Rattle.ffa_model.specs.declared.manifest.Manifest.{Manifest}
 use Rattle.ffa_model.specs.Agreement.{Agrees}
-use Rattle.ffa_model.specs.First.{first}
+use Rattle.ffa_model.specs.First.{first, first_held}
 use Rattle.ffa_model.specs.Manifest.{table_pages}
 use Rattle.ffa_model.specs.Ram.{Ram, page_of}
 use Rattle.ffa_model.specs.SoundState.{IsSoundState}
-use Rattle.ffa_model.specs.State.{State}
+use Rattle.ffa_model.specs.State.{State, page_at}
 
 -- the first state of a manifest, which RAM's tables give and which is sound
 pub record IsBooted (m : Manifest) (s : State) (ram : Ram) : Type 0 where
@@ -15,4 +15,14 @@ pub record IsBooted (m : Manifest) (s : State) (ram : Ram) : Type 0 where
   pub agrees : Agrees ram s
   -- pages behind the tables are zeros
   pub cleared : (p : ℕ) → length s.parties * table_pages m.ram_blocks ≤ p → p < length ram.pages → page_of ram p ≡ replicate 4096 0
+  pub sound : IsSoundState s
+
+-- the same where the pages of regions keep the bytes of the RAM that was given
+pub record IsBootedHeld (m : Manifest) (given : Ram) (s : State) (ram : Ram) : Type 0 where
+  pub state : s ≡ first_held m.ram_base.0 m.ram_blocks m.endpoints.items (page_of given)
+  pub agrees : Agrees ram s
+  -- pages behind the tables that no endpoint owns are zeros
+  pub cleared :
+      (p : ℕ) → length s.parties * table_pages m.ram_blocks ≤ p → p < length ram.pages → page_at s p ≡ None
+      → page_of ram p ≡ replicate 4096 0
   pub sound : IsSoundState s

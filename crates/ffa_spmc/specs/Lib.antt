@@ -13,6 +13,7 @@ pub mod Replies
 pub mod AccessChange
 pub mod Served
 pub mod Booted
+pub mod Readied
 pub mod Unowned
 pub mod Operated
 pub mod Among

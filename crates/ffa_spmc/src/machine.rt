@@ -22,8 +22,9 @@ ghost use Rattle.ffa_model.specs.Step.{serve, step, outcomes, state_after};
 ghost use Rattle.ffa_spmc.specs.AccessChange.{IsTelling};
 ghost use Rattle.ffa_spmc.specs.Cached.{AreSameOrGone, AreForgotten, AreKept, AreWalks, is_accessed, is_miss};
 ghost use Rattle.ffa_spmc.specs.Operated.{AreOperated};
-ghost use Rattle.ffa_spmc.specs.Booted.{IsBooted};
+ghost use Rattle.ffa_spmc.specs.Booted.{IsBooted, IsBootedHeld};
 ghost use Rattle.ffa_spmc.specs.Moments.{AreMoments};
+ghost use Rattle.ffa_spmc.specs.Readied.{IsReadyFor};
 ghost use Rattle.ffa_spmc.specs.Storages.{IsRoomFor};
 ghost use Rattle.ffa_spmc.specs.Unowned.{KeepsUnowned};
 
@@ -33,7 +34,7 @@ mod certificates;
 mod elsewhere;
 mod reasons;
 
-use crate::manager::Manager;
+use crate::manager::{Manager, clear_rest};
 use crate::storage::{Inline, Storage, Store};
 use ffa_memshare::{Changed, News};
 use ffa_model::{EndpointId, Manifest, Op, Outcome, PageNo, Rights};
@@ -111,6 +112,19 @@ impl<M: PhysMem + Drop, T: Translations + Drop> Machine<M, T> {
     {
         Machine::first(manifest, ram, cache, Storage::inline(manifest))
     }
+
+    /// The same machine, in RAM that comes with bytes: pages of the manifest's regions keep theirs, so that what was put there,
+    /// as an image of a partition, is there before the first operation. All other pages behind the tables are zeros.
+    #[inline(never)]
+    pub fn boot_held(manifest: &Manifest, ram: M, cache: T) -> Machine<M, T>
+        requires base { (M.ram ram).base ≡ manifest.now.ram_base.0 }
+        requires size { length (M.ram ram).pages ≡ 512 * manifest.now.ram_blocks }
+        ensures booted { IsBootedHeld manifest.now (M.ram ram) result.state result.ram }
+        ensures held { result.held ≡ [] }
+        ensures told { result.told ≡ None }
+    {
+        Machine::first_held(manifest, ram, cache, Storage::inline(manifest))
+    }
 }
 
 impl<M: PhysMem + Drop, T: Translations + Drop, S: Store> Machine<M, T, S> {
@@ -147,12 +161,45 @@ impl<M: PhysMem + Drop, T: Translations + Drop, S: Store> Machine<M, T, S> {
         Machine::first(manifest, ram, cache, storage)
     }
 
-    // The machine of a manifest in RAM of zeros, with this room.
+    /// The machine of `boot_held`, with room of the caller's.
+    #[inline(never)]
+    pub fn boot_held_in(
+        storage: Storage<S>,
+        manifest: &Manifest,
+        ram: M,
+        cache: T,
+    ) -> Machine<M, T, S>
+        requires storage { IsRoomFor manifest.now storage }
+        requires base { (M.ram ram).base ≡ manifest.now.ram_base.0 }
+        requires size { length (M.ram ram).pages ≡ 512 * manifest.now.ram_blocks }
+        ensures booted { IsBootedHeld manifest.now (M.ram ram) result.state result.ram }
+        ensures held { result.held ≡ [] }
+        ensures told { result.told ≡ None }
+    {
+        Machine::first_held(manifest, ram, cache, storage)
+    }
+
+    // The machine of a manifest, with this room, in RAM whose regions keep their bytes.
+    #[inline(always)]
+    fn first_held(manifest: &Manifest, ram: M, cache: T, storage: Storage<S>) -> Machine<M, T, S>
+        requires base { (M.ram ram).base ≡ manifest.now.ram_base.0 }
+        requires size { length (M.ram ram).pages ≡ 512 * manifest.now.ram_blocks }
+        requires storage { IsRoomFor manifest.now storage }
+        ensures booted { IsBootedHeld manifest.now (M.ram ram) result.state result.ram }
+        ensures held { result.held ≡ [] }
+        ensures told { result.told ≡ None }
+    {
+        let mut ram = ram;
+        clear_rest(&mut ram, manifest);
+        Machine::first(manifest, ram, cache, storage)
+    }
+
+    // The machine of a manifest, with this room, in RAM of which all is zeros but what the manifest's regions hold.
     #[inline(always)]
     fn first(manifest: &Manifest, ram: M, cache: T, storage: Storage<S>) -> Machine<M, T, S>
-        requires ram { M.ram ram ≡ zero_ram manifest.now.ram_base.0 (512 * manifest.now.ram_blocks) }
+        requires ram { IsReadyFor manifest.now (M.ram ram) }
         requires storage { IsRoomFor manifest.now storage }
-        ensures booted { IsBooted manifest.now result.state result.ram }
+        ensures booted { IsBootedHeld manifest.now (M.ram ram) result.state result.ram }
         ensures held { result.held ≡ [] }
         ensures told { result.told ≡ None }
     {

@@ -1,12 +1,11 @@
 // SPDX-License-Identifier: MIT OR Apache-2.0
 //! The partition manager: what it keeps, and what its calls and accesses do.
-ghost use Rattle.std.specs.Prelude.{true, ◌≡◌, None, Option, ◌*◌, ◌<◌, ◌≤◌, length};
+ghost use Rattle.std.specs.Prelude.{true, ◌≡◌, None, Option, ◌<◌, ◌≤◌, length};
 ghost use Rattle.std.specs.Option.{option_or};
 ghost use Rattle.ffa_model.specs.declared.limits.TheConstants.{MOST_ENDPOINTS};
 ghost use Rattle.ffa_model.specs.Access.{access};
 ghost use Rattle.ffa_model.specs.Agreement.{Agrees};
 ghost use Rattle.ffa_model.specs.Bits.{word_of_halves};
-ghost use Rattle.ffa_model.specs.Ram.{zero_ram};
 ghost use Rattle.ffa_model.specs.SoundState.{IsSoundState};
 ghost use Rattle.ffa_laws.specs.OwnAccess.{AreApart};
 ghost use Rattle.ffa_model.specs.Refusals.{is_refusal, passes_no_error};
@@ -15,7 +14,8 @@ ghost use Rattle.ffa_model.specs.State.{owner_of, version_of};
 ghost use Rattle.ffa_model.specs.Step.{serve, service};
 ghost use Rattle.ffa_memshare.specs.declared.changed.Changed.{Changed};
 ghost use Rattle.ffa_spmc.specs.Caching.{IsForgotten};
-ghost use Rattle.ffa_spmc.specs.Booted.{IsBooted};
+ghost use Rattle.ffa_spmc.specs.Booted.{IsBootedHeld};
+ghost use Rattle.ffa_spmc.specs.Readied.{IsReadyFor};
 ghost use Rattle.ffa_spmc.specs.Served.{IsAnswered};
 ghost use Rattle.ffa_spmc.specs.Storages.{IsRoomFor};
 ghost use Rattle.ffa_spmc.specs.Moments.{AreMoments};
@@ -25,6 +25,7 @@ mod abouts;
 mod accesses;
 mod buffers;
 mod certificates;
+mod clearing;
 mod contents;
 mod forgetting;
 mod memory;
@@ -35,6 +36,7 @@ mod reasons;
 
 use crate::kept::Kept;
 use crate::storage::{Inline, Storage, Store};
+pub(crate) use clearing::clear_rest;
 use ffa_memshare::News;
 use ffa_model::{
     Address, Call, EndpointId, ErrorCode, Home, Kind, Manifest, Outcome, PageNo, Reply, Rights,
@@ -69,13 +71,13 @@ impl<M: PhysMem + Drop, S: Store> Model for Manager<M, S> {
 }
 
 impl<M: PhysMem + Drop, S: Store> Manager<M, S> {
-    // The manager of a manifest in its first state, in RAM of which every byte is zero, with this room: it builds the tables. It
-    // is inlined where a machine boots, since a call would hand what it keeps on through a copy more.
+    // The manager of a manifest in its first state, in RAM of which all is zeros but what the manifest's regions hold, with this
+    // room: it builds the tables. It is inlined where a machine boots, since a call would hand what it keeps on through a copy more.
     #[inline(always)]
     pub(crate) fn first(manifest: &Manifest, ram: M, storage: Storage<S>) -> Manager<M, S>
-        requires ram { M.ram ram ≡ zero_ram manifest.now.ram_base.0 (512 * manifest.now.ram_blocks) }
+        requires ram { IsReadyFor manifest.now (M.ram ram) }
         requires storage { IsRoomFor manifest.now storage }
-        ensures { IsBooted manifest.now result.state result.ram }
+        ensures { IsBootedHeld manifest.now (M.ram ram) result.state result.ram }
     {
         let mut ram = ram;
         let kept = Kept::first(manifest, storage);

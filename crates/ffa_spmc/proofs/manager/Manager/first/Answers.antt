@@ -4,7 +4,7 @@ use Rattle.ffa_spmc.specs.declared.records.Records.{Records}
 use Rattle.ffa_spmc.specs.FirstRecords.{AreFirstRecords}
 use Rattle.ffa_spmc.specs.KeptParts.{kept_parts}
 use Rattle.ffa_spmc.specs.Meaning.{IsManager, Parts, state_of}
-use Rattle.ffa_spmc.specs.Booted.{IsBooted}
+use Rattle.ffa_spmc.specs.Booted.{IsBootedHeld}
 use Rattle.ffa_spmc.proofs.Boots.{cleared-behind, machine-first, state-first}
 use Rattle.ffa_spmc.proofs.Agreements.{agrees}
 use Rattle.ffa_spmc.proofs.Inside.{with_records}
@@ -25,7 +25,7 @@ returns g c =
     let x : Parts = record { ram = g.M.PhysMem.ram c.build.new.memory; manifest = own.manifest; kept = record (kept_parts g.S.Records.Home.value c.first-kept.result) { layout = own.layout; bitmaps = own.bitmaps } } in
     let first =
     machine-first (g.M.PhysMem.ram c.args.ram) x c.requires.ram are.base are.ram_blocks are.regions c.build.ensures.built c.build.ensures.rest c.first-kept.ensures.pages c.first-kept.ensures.slots c.first-kept.ensures.sent c.first-kept.ensures.buffers c.first-kept.ensures.chain are.bitmaps are.bound are.pending are.uuids c.built_tables.ensures in
-    subst (λ (records : Records). IsBooted c.args.manifest.now (state_of (with_records x records)) x.ram) ((λ i. record c.get.result.now { manifest = sym are.manifest i }) ∙ c.get.ensures)
+    subst (λ (records : Records). IsBootedHeld c.args.manifest.now (g.M.PhysMem.ram c.args.ram) (state_of (with_records x records)) x.ram) ((λ i. record c.get.result.now { manifest = sym are.manifest i }) ∙ c.get.ensures)
     (record {
       state = state-first (g.M.PhysMem.ram c.args.ram) x c.requires.ram are.base are.ram_blocks are.regions c.build.ensures.built c.build.ensures.rest c.first-kept.ensures.pages c.first-kept.ensures.slots c.first-kept.ensures.sent c.first-kept.ensures.buffers c.first-kept.ensures.chain are.bitmaps are.bound are.pending are.uuids c.built_tables.ensures;
       agrees = agrees x first;

@@ -1,0 +1,16 @@
+-- SPDX-License-Identifier: MIT OR Apache-2.0
+use Rattle.std.proofs.Common.{◌∙◌, sym}
+use Rattle.ffa_manifest.specs.Document.{parts_of}
+use Rattle.ffa_c.specs.Given.{Gives, IsGivenFor}
+use Rattle.ffa_c.specs.Lending.{pages_of}
+use Rattle.ffa_c.proofs.Given.{number-in-room}
+use Rattle.ffa_c.proofs.Reasons.{pages-why, numbers-want-memory}
+use Rattle.ffa_c.proofs.booting.ffa_boot_held_parts.Goals as goal
+
+pub returns-in-Ok-clause-cause : goal.returns-in-Ok-clause-cause
+returns-in-Ok-clause-cause c = λ refused _.
+    pages-why (Gives c.args.parts.now) (IsGivenFor c.args.parts.now) (parts_of c.in-Ok.manifest) (pages_of c.args.lent.now.held.value) _
+    c.in-Ok.ensures.given (numbers-want-memory c.args.parts.now) (c.boot_lent.ensures.why refused)
+
+pub returns-in-Err-clause-unready : goal.returns-in-Err-clause-unready
+returns-in-Err-clause-unready c = λ one. absurd (number-in-room c.args.parts.now _ c.in-Err.ensures.refused (sym c.number_of.ensures.number ∙ one))

@@ -1,0 +1,123 @@
+// SPDX-License-Identifier: MIT OR Apache-2.0
+//! Rows on machines that keep the bytes with which their RAM came.
+use super::*;
+use crate::certificate::certificate;
+use crate::checks::{holds, holds_at};
+use crate::machines::booted_with;
+use ffa_manifest::read;
+use ffa_model::{EndpointId, PageNo};
+use ffa_physmem::{FlatRam, FrameRam, NoMemory, PhysMem};
+use ffa_spmc::{Given, Machine, Storage};
+
+// The first partition has code that nobody may write, and data; the second has data that nobody may write.
+const MANIFEST: &str = r#"
+ram_base = 0x40000000
+ram_blocks = 1
+[[endpoint]]
+version = "1.1"
+properties = 6
+regions = [{ base = 0x40010000, pages = 16, rights = "rw" }]
+[[endpoint]]
+version = "1.1"
+uuid = "00112233-4455-6677-8899-aabbccddeeff"
+properties = 15
+regions = [{ base = 0x40020000, pages = 4, rights = "rox" }, { base = 0x40024000, pages = 4, rights = "rw" }]
+[[endpoint]]
+version = "1.1"
+uuid = "10112233-4455-6677-8899-aabbccddeeff"
+properties = 15
+regions = [{ base = 0x40030000, pages = 4, rights = "ro" }]
+"#;
+
+const ROW: &str = "\
+load 40010000 8 -> data 9090909090909090
+load 4001FFF8 8 -> data 9F9F9F9F9F9F9F9F
+load 40000000 8 -> fault translation
+load 40009000 8 -> fault translation
+load 40020000 1 -> fault translation
+load 00000000 8 -> fault translation
+call 8400006D 80010000 -> 8001: 8400006D 80010000
+fetch 40020000 -> data A0A0A0A0
+load 40023FF8 8 -> data A3A3A3A3A3A3A3A3
+store 40020000 00 -> fault permission
+fetch 40024000 -> fault permission
+store 40024000 5A -> done
+load 40024000 2 -> data A45A
+load 40030000 1 -> fault translation
+call 8400006B -> 0: 8400006B 80010000
+call 8400006D 80020000 -> 8002: 8400006D 80020000
+load 40033FFC 4 -> data B3B3B3B3
+store 40030000 00 -> fault permission
+fetch 40030000 -> fault permission
+";
+
+// The byte of which a page is full before a boot. It is no zero.
+fn mark(page: u32) -> u8 {
+    0x80 | (page % 0x80) as u8
+}
+
+// Fills each page with its mark.
+fn fill<M: PhysMem>(ram: &mut M) {
+    for page in 0..ram.pages() {
+        *ram.page_mut(PageNo(page)) = [mark(page); 4096];
+    }
+}
+
+fn full_ram(alloc: Global, manifest: &Manifest) -> Result<FlatRam, NoMemory> {
+    let mut ram = FlatRam::new(alloc, manifest.ram_base, 512 * manifest.ram_blocks)?;
+    fill(&mut ram);
+    Ok(ram)
+}
+
+fn full_frames(alloc: Global, manifest: &Manifest) -> Result<FrameRam, NoMemory> {
+    let mut ram = FrameRam::new(alloc, manifest.ram_base, 512 * manifest.ram_blocks)?;
+    fill(&mut ram);
+    Ok(ram)
+}
+
+// Whether a page of RAM is as a boot has to leave it: an endpoint's is full of its mark, any other is zeros.
+fn is_as_booted<M: PhysMem + Drop>(machine: &Machine<M>, page: PageNo) -> bool {
+    let byte = if machine.owner_of(page) == EndpointId::MANAGER {
+        0
+    } else {
+        mark(page.0)
+    };
+    *machine.ram().page(page) == [byte; 4096]
+}
+
+// The pages of tables are those of a boot that clears RAM, and all others are as they have to be.
+#[test]
+fn keeps_the_pages_of_regions(rt: HostRuntime) -> Result<(), Fail> {
+    let manifest = read(rt.alloc(), MANIFEST)?;
+    let cleared = booted_with(rt.alloc(), &manifest, NoTlb)?;
+    let machine = Machine::boot_held(&manifest, full_ram(rt.alloc(), &manifest)?, NoTlb);
+    for page in 0..machine.ram().pages().min(cleared.ram().pages()) {
+        let is_right = if page < 9 {
+            machine.ram().page(PageNo(page)) == cleared.ram().page(PageNo(page))
+        } else {
+            is_as_booted(&machine, PageNo(page))
+        };
+        holds_at(&rt, is_right, &page);
+    }
+    let runs = certificate(rt.alloc(), &machine)?;
+    holds(&rt, machine.audit(runs.as_slice()));
+    Ok(())
+}
+
+// What stands in regions is loaded and fetched, by whoever may, in RAM of each kind and in either room.
+#[test]
+fn loads_what_came_with_ram(rt: HostRuntime) -> Result<(), Fail> {
+    let manifest = read(rt.alloc(), MANIFEST)?;
+    let held = Machine::boot_held(&manifest, full_ram(rt.alloc(), &manifest)?, NoTlb);
+    goes_on(&rt, rt.alloc(), &mut Player::new(held), ROW)?;
+    let framed = Machine::boot_held(
+        &manifest,
+        full_frames(rt.alloc(), &manifest)?,
+        four_in_turn(),
+    );
+    goes_on(&rt, rt.alloc(), &mut Player::new(framed), ROW)?;
+    let storage: Storage<Given<Global>> = Storage::given_for(rt.alloc(), &manifest)?;
+    let ram = full_ram(rt.alloc(), &manifest)?;
+    let roomed = Machine::boot_held_in(storage, &manifest, ram, NoTlb);
+    goes_on(&rt, rt.alloc(), &mut Player::new(roomed), ROW)
+}

@@ -1,0 +1,46 @@
+// SPDX-License-Identifier: MIT OR Apache-2.0
+//! RAM that comes with bytes: which of its pages keep them.
+ghost use Rattle.std.specs.Prelude.{◌≡◌, ◌≢◌, ℕ, ◌*◌, ◌<◌, length, replicate};
+ghost use Rattle.ffa_model.specs.Identifiers.{manager};
+ghost use Rattle.ffa_model.specs.Manifest.{table_pages};
+ghost use Rattle.ffa_model.specs.Ram.{page_of, with_page};
+ghost use Rattle.ffa_model.specs.SoundState.{are_bytes};
+ghost use Rattle.ffa_spmc.specs.Readied.{IsReadyFor, first_owner};
+
+use super::readings::holds_bytes;
+use ffa_model::{EndpointId, Manifest, PageNo};
+use ffa_physmem::PhysMem;
+
+// Fills all pages behind the tables with zeros but those of the manifest's regions, which keep their bytes.
+pub(crate) fn clear_rest<M: PhysMem>(ram: &mut M, manifest: &Manifest)
+    requires base { (M.ram ram.old).base ≡ manifest.now.ram_base.0 }
+    requires size { length (M.ram ram.old).pages ≡ 512 * manifest.now.ram_blocks }
+    ensures ready { IsReadyFor manifest.now (M.ram ram.new) }
+    ensures kept { (p : ℕ) → first_owner manifest.now p ≢ manager → page_of (M.ram ram.new) p ≡ page_of (M.ram ram.old) p }
+{
+    for page in pages_of_tables(manifest)..ram.pages() {
+        clear_unowned(ram, manifest, PageNo(page));
+    }
+}
+
+// Fills a page with zeros where no region has it.
+fn clear_unowned<M: PhysMem>(ram: &mut M, manifest: &Manifest, page: PageNo)
+    requires { page.0 < length (M.ram ram.old).pages }
+    ensures cleared { first_owner manifest.now page.0 ≡ manager → M.ram ram.new ≡ with_page (M.ram ram.old) page.0 (replicate 4096 0) }
+    ensures kept { first_owner manifest.now page.0 ≢ manager → M.ram ram.new ≡ M.ram ram.old }
+    ensures whole { length (page_of (M.ram ram.new) page.0) ≡ 4096 }
+    ensures bytes { are_bytes (page_of (M.ram ram.new) page.0) }
+{
+    if manifest.owner_of(page) == EndpointId::MANAGER {
+        ram.clear_page(page);
+    }
+    // Proof step: what the page holds are bytes.
+    holds_bytes(ram.page(page));
+}
+
+// How many pages the tables have, which are RAM's first.
+fn pages_of_tables(manifest: &Manifest) -> u32
+    ensures { result ≡ length manifest.now.endpoints.items * table_pages manifest.now.ram_blocks }
+{
+    manifest.endpoints.len() as u32 * (2 + manifest.ram_blocks)
+}
