@@ -257,6 +257,10 @@ uint32_t ffa_owner(struct ffa_machine *machine, uint32_t page);
  * has no such endpoint or page. */
 uint32_t ffa_access(struct ffa_machine *machine, uint16_t endpoint, uint32_t page);
 
+/* Whether an endpoint has a notification pending, which its next FFA_NOTIFICATION_GET of all classes would give it: what its
+ * processor's interrupt is to be sent for, without a look at each call. False: there is none, no such endpoint, or no machine. */
+bool ffa_pending(struct ffa_machine *machine, uint16_t endpoint);
+
 /* Copies the bytes of a page of RAM: true. False: there is no machine, or a machine without such a page, which the answer doesn't
  * tell apart, and `bytes` stays. */
 bool ffa_read_page(struct ffa_machine *machine, uint32_t page, struct ffa_page *bytes);

@@ -1,7 +1,7 @@
 /* SPDX-License-Identifier: MIT OR Apache-2.0 */
 /* The first row of the manual, a lend that is retrieved, given up and reclaimed, what the border answers out of order, pages
- * that are lent and given back, with their bytes or cleared, what is to be settled, what has changed, and each piece of memory
- * refused in turn. It brings the library's memory itself. */
+ * that are lent and given back, with their bytes or cleared, what is to be settled, what has changed, what is pending, and each piece of
+ * memory refused in turn. It brings the library's memory itself. */
 #include <stdio.h>
 #include <stdlib.h>
 #include <string.h>
@@ -211,6 +211,42 @@ static void elsewhere(void) {
     CHECK(ffa_load_as(&machine, 0x8001, 0x40020000, 3).kind == FFA_BAD_SIZE && ffa_runner(&machine) == 0);
 }
 
+/* Notifications are pending for these endpoints, and for nobody else. */
+static void pending_for(bool first, bool second) {
+    for (uint32_t endpoint = 0; endpoint <= UINT16_MAX; endpoint++) {
+        CHECK(ffa_pending(&machine, (uint16_t)endpoint) == ((endpoint == 0x8001 && first) || (endpoint == 0x8002 && second)));
+    }
+}
+
+/* 8001 lets 0000 set a bit, and 8002 lets 8001: each is pending from where it is set to where it is got. */
+static void pending(void) {
+    pending_for(false, false);
+    CALL(0x8002, 0x8400006D, 0x80020000, 0, 0, 0x8400006D, 0x80020000);
+    CALL(0x8002, 0x84000061, 0, 0, 0, 0x8400007F, 0x80018002, 0, 0, 0x80);
+    CALL(0, 0x8400006B, 0x80020000, 0, 0, 0x8400006B);
+    CALL(0x8001, 0x8400006D, 0x80010000, 0, 0, 0x8400006D, 0x80010000);
+    CALL(0x8001, 0x84000061, 0, 0, 0, 0x8400007F, 0x00008001, 0, 8);
+    pending_for(false, false);
+    CALL(0x8001, 0x84000061, 0, 0, 0, 0x84000081, 0x80018002, 0, 0, 0x80);
+    pending_for(false, true);
+    CALL(0, 0x8400006B, 0x80010000, 0, 0, 0x8400006B);
+    CALL(0, 0x84000061, 0, 0, 0, 0x84000081, 0x00008001, 0, 8);
+    pending_for(true, true);
+    /* 8001 asks for the bits of partitions, of which it has none, and then for those of the normal world. */
+    CALL(0x8001, 0x8400006D, 0x80010000, 0, 0, 0x8400006D, 0x80010000);
+    CALL(0x8001, 0x84000061, 0, 0, 0, 0x84000082, 0x8001, 1);
+    pending_for(true, true);
+    struct ffa_registers get = {{0x84000082, 0x8001, 2}};
+    struct ffa_outcome got = ffa_call(&machine, &get);
+    CHECK(got.kind == FFA_REGISTERS && got.x[0] == 0x84000061 && got.x[2] == 0 && got.x[4] == 8);
+    pending_for(false, true);
+    CALL(0, 0x8400006B, 0x80010000, 0, 0, 0x8400006B);
+    CALL(0x8002, 0x8400006D, 0x80020000, 0, 0, 0x8400006D, 0x80020000);
+    CALL(0x8002, 0x84000061, 0, 0, 0x80, 0x84000082, 0x8002, 15);
+    pending_for(false, false);
+    CALL(0, 0x8400006B, 0x80020000, 0, 0, 0x8400006B);
+}
+
 static void out_of_order(void) {
     struct ffa_registers none = {{0}};
     static struct ffa_page bytes;
@@ -225,7 +261,7 @@ static void out_of_order(void) {
     CHECK(ffa_runner(&machine) == FFA_NOTHING && ffa_endpoints(&machine) == FFA_NOTHING);
     CHECK(ffa_owner(&machine, 0) == FFA_NOTHING);
     nothing_changed();
-    CHECK(ffa_access(&machine, 0, 0) == FFA_NOTHING && !ffa_read_page(&machine, 0, &bytes));
+    CHECK(ffa_access(&machine, 0, 0) == FFA_NOTHING && !ffa_read_page(&machine, 0, &bytes) && !ffa_pending(&machine, 0));
     CHECK(ffa_boot(&machine, (const uint8_t *)"", 0) == 4 && !machine.live);
     CHECK(ffa_boot(&machine, (const uint8_t *)"\xFF", 1) == 2 && ffa_boot(&machine, (const uint8_t *)"a = ", 4) == 2);
     CHECK(ffa_boot(&machine, text, text_size) == FFA_OK);
@@ -326,6 +362,7 @@ static void numbers(void) {
     CHECK(ffa_boot_parts(&machine, &right) == FFA_OK && ffa_boot_parts(&machine, &right) == FFA_OCCUPIED);
     first_row();
     elsewhere();
+    pending();
     lend();
     CHECK(ffa_free(&machine, &untouched) == FFA_OK);
 #define REFUSED(answer_, ...) \

@@ -2,6 +2,7 @@
 -- What C sees of a machine.
 use Rattle.std.specs.Prelude.{◌≡◌, ℕ, ◌+◌, Bool, true, false, replicate, Option, None, Some, ◌==◌, nat_lt, length, if◌then◌else◌}
 use Rattle.ffa_model.specs.Agreement.{Agrees}
+use Rattle.ffa_model.specs.Notifications.{has_pending, notifications_of}
 use Rattle.ffa_model.specs.Refusals.{is_refusal}
 use Rattle.ffa_model.specs.SoundState.{IsSoundState}
 use Rattle.ffa_model.specs.State.{owner_of}
@@ -127,3 +128,8 @@ owner_number s page = if nat_lt page (length s.state.pages) then owner_of s.stat
 abbrev pub has_page : Option Boarded → ℕ → Bool
 has_page None page = false
 has_page (Some b) page = nat_lt page (length b.machine.ram.pages)
+
+-- whether there is a machine that has a notification of this endpoint pending
+abbrev pub is_pending_for : ℕ → Option Boarded → Bool
+is_pending_for endpoint None = false
+is_pending_for endpoint (Some b) = has_pending (notifications_of b.machine.state) endpoint

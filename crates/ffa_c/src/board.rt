@@ -2,6 +2,7 @@
 //! A machine with the outcomes that C sees, whichever RAM it has.
 ghost use Rattle.std.specs.Prelude.{◌≡◌, ◌≢◌, ◌<◌, ◌*◌, true, false, length};
 ghost use Rattle.ffa_model.specs.Access.{access};
+ghost use Rattle.ffa_model.specs.Notifications.{has_pending, notifications_of};
 ghost use Rattle.ffa_model.specs.Ram.{page_of, zero_ram};
 ghost use Rattle.ffa_model.specs.State.{is_known};
 ghost use Rattle.ffa_manifest.specs.Document.{parts_of};
@@ -195,6 +196,16 @@ impl Board {
         match &self.kind {
             Kind::Heap(machine) => access_by(machine, EndpointId(endpoint), PageNo(page)),
             Kind::Lent(machine) => access_by(machine, EndpointId(endpoint), PageNo(page)),
+        }
+    }
+
+    /// Whether an endpoint has a notification pending.
+    pub fn has_pending(&self, endpoint: u16) -> bool
+        ensures { result ≡ has_pending (notifications_of self.now.machine.state) endpoint }
+    {
+        match &self.kind {
+            Kind::Heap(machine) => machine.has_pending(EndpointId(endpoint)),
+            Kind::Lent(machine) => machine.has_pending(EndpointId(endpoint)),
         }
     }
 

@@ -3,7 +3,7 @@
 ghost use Rattle.std.specs.Prelude.{◌≡◌, Some, None, IfSome, length, true, false};
 ghost use Rattle.ffa_model.specs.Access.{access};
 ghost use Rattle.ffa_model.specs.Ram.{page_of};
-ghost use Rattle.ffa_c.specs.Border.{Operated, OperatedSized, access_code, asked, has_page, owner_number, size_at};
+ghost use Rattle.ffa_c.specs.Border.{Operated, OperatedSized, access_code, asked, has_page, is_pending_for, owner_number, size_at};
 
 use crate::kind::NOTHING;
 use crate::machine::{FfaMachine, put, take};
@@ -169,6 +169,22 @@ pub extern "C" fn ffa_access(
             let access = seat.board().access(endpoint, page);
             put(machine, seat);
             access
+        }
+    }
+}
+
+/// Whether an endpoint has a notification pending.
+#[unsafe(no_mangle)]
+pub extern "C" fn ffa_pending(alloc: Global, machine: &mut FfaMachine, endpoint: u16) -> bool
+    ensures same { machine.new.held.value ≡ machine.old.held.value }
+    ensures value { result ≡ is_pending_for endpoint machine.old.held.value }
+{
+    match take(machine, alloc) {
+        None => false,
+        Some(seat) => {
+            let pending = seat.board().has_pending(endpoint);
+            put(machine, seat);
+            pending
         }
     }
 }

@@ -77,8 +77,8 @@ impl Bitmaps {
         !self.bound_to(receiver, sender)
     }
 
-    // Whether any bit of a receiver is pending.
-    pub(crate) fn has_pending(&self, receiver: EndpointId) -> bool
+    /// Whether any bit of a receiver is pending, whichever its class.
+    pub fn has_pending(&self, receiver: EndpointId) -> bool
         requires { is_known_among (length self.now.bitmaps) receiver.0 ≡ true }
         ensures { result ≡ has_pending self.now receiver.0 }
     {

@@ -1,7 +1,11 @@
 -- SPDX-License-Identifier: MIT OR Apache-2.0
 -- Calls of notifications change the state as the small machine's.
-use Rattle.std.proofs.Common.{◌≡◌, ◌∙◌, ℕ, Bool, true, List, length, Result, refl, sym, ap, subst}
-use Rattle.std.specs.Prelude.{⊤, IfOk, OnOk, OnErr}
+use Rattle.std.proofs.Common.{◌≡◌, ◌∙◌, ℕ, Bool, true, false, List, [], ◌∷◌, length, Result, refl, sym, ap, subst}
+use Rattle.std.specs.Prelude.{⊤, ◌||◌, IfOk, OnOk, OnErr, slice_index}
+use Rattle.std.specs.List.{list_any}
+use Rattle.std.proofs.lemmas.Bool.{false_from_ne_true, true≢false}
+use Rattle.ffa_model.specs.Lists.{listed}
+use Rattle.ffa_model.specs.SoundState.{IsSoundState}
 use Rattle.std.specs.Result.{result_err}
 use Rattle.ffa_model.specs.declared.refusal.Refusal.{Refusal}
 use Rattle.ffa_model.specs.declared.call.Call as calls
@@ -10,7 +14,7 @@ use Rattle.ffa_model.specs.declared.operation.ErrorCode.{ErrorCode}
 use Rattle.ffa_model.specs.Bits.{bits_of, high_half, low_half, word_of_halves}
 use Rattle.ffa_model.specs.Calls.{Service, Stepped, first_failure, replied, served, success}
 use Rattle.ffa_model.specs.First.{first}
-use Rattle.ffa_model.specs.Notifications.{Notifications, bind_guards, bitmap_create, bitmap_destroy, class_of, create_guards, destroy_guards, get_guards, get_reply, notification_bind, notification_get, notification_set, notification_unbind, set_guards, unbind_guards, with_bitmaps, with_bound, with_notifications, with_pending, without_bitmaps, without_bound, without_pending}
+use Rattle.ffa_model.specs.Notifications.{Notifications, bind_guards, bitmap_create, bitmap_destroy, class_of, create_guards, destroy_guards, get_guards, get_reply, has_pending, is_pending, manager_class, normal_class, notification_bind, notification_get, notification_set, notification_unbind, notifications_of, partition_class, receiver_bit, set_guards, unbind_guards, with_bitmaps, with_bound, with_notifications, with_pending, without_bitmaps, without_bound, without_pending}
 use Rattle.ffa_model.specs.State.{State, is_known_among}
 use Rattle.ffa_model.specs.Step.{serve}
 use Rattle.ffa_spmc.specs.Meaning.{IsManager, Parts, state_of}
@@ -113,3 +117,17 @@ module _ (x : Parts) where
           set refusal done =
               halved (notification_set s word flags low high) (λ n f b. set_guards n x.kept.bitmaps f word flags b) (λ f b. with_pending x.kept.bitmaps (low_half word) (class_of f) (bits_of b))
               (word_of_halves low high) refl refl refl bitmap halves refusal same done
+
+-- nothing that fails of each element holds of any
+none-any : {X : Type 0} (test : X → Bool) (xs : List X) → ((x : X) → test x ≡ false) → list_any test xs ≡ false
+none-any test [] none = refl
+none-any test (x ∷ xs) none = ap (λ (b : Bool). b || list_any test xs) (none x) ∙ none-any test xs none
+
+-- no bit is pending of an endpoint that isn't there
+pub none-pending : (s : State) → IsSoundState s → (e : ℕ) → is_known_among (length s.parties) e ≡ false → has_pending (notifications_of s) e ≡ false
+none-pending s sound e unknown =
+    none-any (λ class. list_any (is_pending (notifications_of s) e class) (listed 64 (λ k. k))) (partition_class ∷ normal_class ∷ manager_class ∷ [])
+    (λ class. none-any (is_pending (notifications_of s) e class) (listed 64 (λ k. k)) (λ bit. false_from_ne_true (is_pending (notifications_of s) e class bit) (λ is.
+    let its = sound.pending (receiver_bit e class bit) is in
+    let same : e ≡ its.receiver = ap (λ (entry : List ℕ). slice_index entry 0) its.is in
+    true≢false (sym its.to_known ∙ ap (is_known_among (length s.parties)) (sym same) ∙ unknown))))

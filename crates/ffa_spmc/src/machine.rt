@@ -4,6 +4,7 @@ ghost use Rattle.std.specs.Prelude.{true, false, None, [], ◌≡◌, ℕ, ◌*�
 ghost use Rattle.ffa_model.specs.declared.limits.TheConstants.{MOST_ENDPOINTS};
 ghost use Rattle.ffa_model.specs.Access.{access};
 ghost use Rattle.ffa_model.specs.Agreement.{Agrees};
+ghost use Rattle.ffa_model.specs.Notifications.{has_pending, notifications_of};
 ghost use Rattle.ffa_model.specs.Ram.{zero_ram};
 ghost use Rattle.ffa_model.specs.SoundState.{IsSoundState};
 ghost use Rattle.ffa_laws.specs.Events.{seen};
@@ -285,6 +286,14 @@ impl<M: PhysMem + Drop, T: Translations + Drop, S: Store> Machine<M, T, S> {
         ensures { result ≡ access self.now.state endpoint.0 page.0 }
     {
         self.manager.access(endpoint, page)
+    }
+
+    /// Whether an endpoint has a notification pending: whether FFA_NOTIFICATION_GET of all classes would give it a bit. Of an
+    /// endpoint that isn't there none is.
+    pub fn has_pending(&self, endpoint: EndpointId) -> bool
+        ensures { result ≡ has_pending (notifications_of self.now.state) endpoint.0 }
+    {
+        self.manager.has_pending(endpoint)
     }
 
     /// Does one operation of the runner. A refusal, which is FFA_ERROR or a fault, changes nothing.

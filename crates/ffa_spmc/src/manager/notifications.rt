@@ -1,15 +1,23 @@
 // SPDX-License-Identifier: MIT OR Apache-2.0
 //! The calls of notifications.
-ghost use Rattle.ffa_model.specs.Notifications.{bitmap_create, bitmap_destroy, notification_bind, notification_get, notification_set, notification_unbind};
+ghost use Rattle.std.specs.Prelude.{◌≡◌};
+ghost use Rattle.ffa_model.specs.Notifications.{bitmap_create, bitmap_destroy, has_pending, notifications_of, notification_bind, notification_get, notification_set, notification_unbind};
 ghost use Rattle.ffa_spmc.specs.Served.{IsReplied};
 
 use super::{Manager, word_of_halves};
 use crate::replies::{done_or_error, reply_or_error};
 use crate::storage::Store;
-use ffa_model::{Home, Reply};
+use ffa_model::{EndpointId, Home, Reply};
 use ffa_physmem::PhysMem;
 
 impl<M: PhysMem + Drop, S: Store> Manager<M, S> {
+    // Whether a bit of an endpoint is pending. None is of an endpoint that isn't there.
+    pub(crate) fn has_pending(&self, endpoint: EndpointId) -> bool
+        ensures { result ≡ has_pending (notifications_of self.now.state) endpoint.0 }
+    {
+        endpoint.is_among(self.endpoints()) && self.kept.records.get().bitmaps.has_pending(endpoint)
+    }
+
     // FFA_NOTIFICATION_BITMAP_CREATE of the runner.
     pub(super) fn create_bitmaps(&mut self, endpoint: u32, contexts: u32) -> Reply
         ensures { IsReplied self.old self.new (bitmap_create self.old.state endpoint contexts) result }
