@@ -1,7 +1,7 @@
 // SPDX-License-Identifier: MIT OR Apache-2.0
 //! Send descriptors.
 
-ghost use Rattle.std.specs.Prelude.{◌≡◌, ◌≤◌, true, Some, IfOk, IfErr, OnOk, OnErr};
+ghost use Rattle.std.specs.Prelude.{◌≡◌, ◌≤◌, true, Some, IfErr, OnOk, OnErr};
 ghost use Rattle.std.specs.Option.{option_map};
 ghost use Rattle.std.specs.Result.{result_ok, result_err};
 ghost use Rattle.ffa_model.specs.declared.limits.TheConstants.{MOST_RECEIVERS};
@@ -16,7 +16,6 @@ use crate::bytes::{Bytes, read_u32};
 use crate::header::{Header, NORMAL_MEMORY, read_header};
 use crate::ranges::{page_total, read_range_count, read_ranges};
 use crate::receivers::read_receivers;
-use arrayvec::ArrayVec;
 use ffa_model::{CompositeFlaw, Flaw, Kind, MOST_RECEIVERS, SendDesc, SendFlaw, Version};
 
 /// The greatest flags of a send. Bit 0 asks for zeros, but not in a share.
@@ -75,8 +74,13 @@ fn check_header(kind: Kind, header: &Header) -> Result<(), SendFlaw>
     Ok(())
 }
 
-fn send_in<B: Bytes>(bytes: &B, version: Version, kind: Kind) -> Result<SendDesc, Flaw>
-    ensures found { IfOk result (λ d. Some (send_record d) ≡ send_of kind (in_version version (B.bytes bytes.now))) }
+fn send_in<B: Bytes>(
+    bytes: &B,
+    version: Version,
+    kind: Kind,
+    offer: &mut SendDesc,
+) -> Result<(), Flaw>
+    ensures found { OnOk result (Some (send_record offer.new) ≡ send_of kind (in_version version (B.bytes bytes.now))) }
     ensures first { result_err result ≡ send_flaw kind (in_version version (B.bytes bytes.now)) }
 {
     let header = match read_header(bytes, version) {
@@ -92,28 +96,32 @@ fn send_in<B: Bytes>(bytes: &B, version: Version, kind: Kind) -> Result<SendDesc
         Ok(count) => count,
         Err(flaw) => return Err(Flaw::Composite(flaw)),
     };
-    let mut ranges = ArrayVec::new();
-    read_ranges(bytes, composite, count, &mut ranges)?;
-    if page_total(&ranges) != read_u32(bytes, composite as usize) as u64 {
+    offer.ranges.clear();
+    read_ranges(bytes, composite, count, &mut offer.ranges)?;
+    if page_total(&offer.ranges) != read_u32(bytes, composite as usize) as u64 {
         return Err(Flaw::Composite(CompositeFlaw::Total));
     }
-    Ok(SendDesc {
-        sender: header.sender,
-        zero: header.flags == 1,
-        tag: header.tag,
-        receivers,
-        ranges,
-    })
+    offer.sender = header.sender;
+    offer.zero = header.flags == 1;
+    offer.tag = header.tag;
+    offer.receivers = receivers;
+    Ok(())
 }
 
-/// What the bytes say, wherever they lie, as a send descriptor of this kind, from a caller of this version. An error is
-/// the first condition of these that they break.
-pub fn read_send<B: Bytes>(bytes: &B, version: Version, kind: Kind) -> Result<SendDesc, Flaw>
-    ensures found { IfOk result (λ d. Send kind (in_version version (B.bytes bytes.now)) (send_record d)) }
+/// Puts what the bytes say, wherever they lie, as a send descriptor of this kind, from a caller of this version, in the
+/// place of an offer, which is large to clear and to move. An error is the first condition of these that they break, and
+/// says nothing of the offer.
+pub fn read_send<B: Bytes>(
+    bytes: &B,
+    version: Version,
+    kind: Kind,
+    offer: &mut SendDesc,
+) -> Result<(), Flaw>
+    ensures found { OnOk result (Send kind (in_version version (B.bytes bytes.now)) (send_record offer.new)) }
     ensures none { OnErr result ((r : SendRecord) → Send kind (in_version version (B.bytes bytes.now)) r → ⊥) }
-    ensures computed { option_map send_record (result_ok result) ≡ send_of kind (in_version version (B.bytes bytes.now)) }
+    ensures computed { option_map (λ _. send_record offer.new) (result_ok result) ≡ send_of kind (in_version version (B.bytes bytes.now)) }
     ensures broken { IfErr result (SendBreaks kind (in_version version (B.bytes bytes.now))) }
     ensures first { result_err result ≡ send_flaw kind (in_version version (B.bytes bytes.now)) }
 {
-    send_in(bytes, version, kind)
+    send_in(bytes, version, kind, offer)
 }

@@ -38,8 +38,9 @@ pub fn about_send<M: PhysMem>(
     let Ok(bytes) = call.descriptor(ram, buffers, caller) else {
         return None;
     };
-    match read_send(&bytes, call.version, kind) {
-        Ok(offer) => named_by_send(&offer, endpoints, refusal),
+    let mut offer = SendDesc::none();
+    match read_send(&bytes, call.version, kind, &mut offer) {
+        Ok(()) => named_by_send(&offer, endpoints, refusal),
         Err(flaw) => about_flaw(&bytes, call.version, flaw, refusal),
     }
 }

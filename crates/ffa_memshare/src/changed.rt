@@ -3,6 +3,7 @@
 ghost use Rattle.std.specs.Prelude.{◌≡◌, Some, None};
 ghost use Rattle.ffa_memshare.specs.Changed.{IsChanged, changed_sender};
 
+use crate::draft::Draft;
 use crate::page_ranges::PageRanges;
 use ffa_model::{EndpointId, Kind};
 use std::marker::Model;
@@ -32,16 +33,16 @@ pub struct Retrieved {
     pub changed: Changed,
 }
 
-/// What was told last, or nothing. It is filled in where it stands, since its ranges are large to move. Contracts see what is
-/// told.
+// What was told last, or nothing. It is filled in where it stands, since its ranges are large to move. Contracts see what is
+// told.
 #[derive(Drop)]
-pub struct News {
+pub(crate) struct Told {
     is_told: bool,
     ranges: PageRanges,
     endpoint: Option<EndpointId>,
 }
 
-impl Model for News {
+impl Model for Told {
     ghost use Rattle.std.specs.Prelude.{Option};
     ghost use Rattle.ffa_memshare.specs.News.{news_of};
     ghost use Rattle.ffa_memshare.specs.declared.changed.Changed.{Changed};
@@ -51,12 +52,12 @@ impl Model for News {
     ghost view = { λ n. news_of n.is_told n.ranges n.endpoint };
 }
 
-impl News {
-    /// Nothing.
-    pub fn none() -> News
+impl Told {
+    // Nothing.
+    fn none() -> Told
         ensures { result ≡ None }
     {
-        News {
+        Told {
             is_told: false,
             ranges: PageRanges::none(),
             endpoint: None,
@@ -79,8 +80,8 @@ impl News {
         }
     }
 
-    /// What was told, which is told no more.
-    pub fn take(&mut self) -> Option<Changed>
+    // What was told, which is told no more.
+    fn take(&mut self) -> Option<Changed>
         ensures told { result ≡ self.old }
         ensures none { self.new ≡ None }
     {
@@ -92,6 +93,42 @@ impl News {
             ranges: self.ranges.copied(),
             endpoint: self.endpoint,
         })
+    }
+}
+
+/// What was told last, or nothing, with room in which a call is read. Contracts see what is told.
+#[derive(Drop)]
+pub struct News {
+    pub(crate) told: Told,
+    pub(crate) draft: Draft,
+}
+
+impl Model for News {
+    ghost use Rattle.std.specs.Prelude.{Option};
+    ghost use Rattle.ffa_memshare.specs.declared.changed.Changed.{Changed};
+
+    ghost Value = { Option Changed };
+
+    ghost view = { λ n. n.told };
+}
+
+impl News {
+    /// Nothing.
+    pub fn none() -> News
+        ensures { result ≡ None }
+    {
+        News {
+            told: Told::none(),
+            draft: Draft::none(),
+        }
+    }
+
+    /// What was told, which is told no more.
+    pub fn take(&mut self) -> Option<Changed>
+        ensures told { result ≡ self.old }
+        ensures none { self.new ≡ None }
+    {
+        self.told.take()
     }
 }
 

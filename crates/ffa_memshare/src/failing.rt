@@ -21,8 +21,9 @@ ghost use Rattle.ffa_memshare.specs.Stored.{map_in};
 
 use crate::checks::send::is_own;
 use crate::descriptor_call::DescriptorCall;
+use crate::open_slot::OpenSlot;
 use crate::page_run::read_send;
-use crate::pool::{OpenSlot, Pool};
+use crate::pool::Pool;
 use arrayvec::ArrayVec;
 use ffa_model::{
     Address, Data, EndpointId, Kind, MOST_RANGES, PageNo, Range, Receiver, Refusal, Rights, Room,
@@ -51,9 +52,10 @@ pub fn failing_send<M: PhysMem, P: Room<KeptPage> + Drop>(
     let Ok(bytes) = call.descriptor(ram, buffers, caller) else {
         return None;
     };
-    let Ok(offer) = read_send(&bytes, call.version, kind) else {
+    let mut offer = SendDesc::none();
+    if read_send(&bytes, call.version, kind, &mut offer).is_err() {
         return None;
-    };
+    }
     failing_offer(&offer, pages, base, buffers, caller, refusal)
 }
 

@@ -1,17 +1,7 @@
 // SPDX-License-Identifier: MIT OR Apache-2.0
 //! What the checks of a call on memory find, for its effect.
 
-use crate::transaction::OpenTransaction;
 use ffa_model::Rights;
-
-/// What a send is done with.
-#[derive(Drop)]
-pub struct FoundOffer {
-    /// The transaction that it opens.
-    pub transaction: OpenTransaction,
-    /// The free slot of the sender that the transaction is put into.
-    pub slot: usize,
-}
 
 /// What a retrieve is done with.
 #[derive(Clone, Copy, PartialEq, Eq)]

@@ -1,6 +1,6 @@
 // SPDX-License-Identifier: MIT OR Apache-2.0
 //! Who holds an open transaction, and with which right.
-ghost use Rattle.std.specs.Prelude.{◌≡◌, ◌<◌, None};
+ghost use Rattle.std.specs.Prelude.{◌≡◌, ◌<◌, ◌≤◌, length, None};
 ghost use Rattle.std.specs.FinMap as finite;
 ghost use Rattle.ffa_model.specs.declared.limits.TheConstants.{MOST_ENDPOINTS};
 ghost use Rattle.ffa_model.specs.Identifiers.{identifier, place};
@@ -9,6 +9,17 @@ ghost use Rattle.ffa_memshare.specs.Held.{held_with};
 use arrayvec::ArrayVec;
 use ffa_model::{EndpointId, MOST_ENDPOINTS, Rights};
 use std::marker::Model;
+
+// Fills a list, from its front on, with the rights of a slice alone.
+fn fill(list: &mut ArrayVec<Option<Rights>, MOST_ENDPOINTS>, rights: &[Option<Rights>])
+    requires { length rights.now ≤ MOST_ENDPOINTS }
+    ensures { list.new.items ≡ rights.now }
+{
+    list.clear();
+    for right in rights {
+        list.push(*right);
+    }
+}
 
 /// The right that each endpoint holds. It stands at the endpoint's place in the manifest.
 #[derive(Drop)]
@@ -47,6 +58,13 @@ impl Holders {
             rights.push(None);
         }
         Holders { rights }
+    }
+
+    /// Becomes the same as these.
+    pub fn fill(&mut self, others: &Holders)
+        ensures { self.new ≡ others.now }
+    {
+        fill(&mut self.rights, others.rights.as_slice());
     }
 
     /// The right that an endpoint holds.

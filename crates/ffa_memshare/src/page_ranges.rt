@@ -1,6 +1,6 @@
 // SPDX-License-Identifier: MIT OR Apache-2.0
 //! Ranges of whole pages of RAM, as an open transaction keeps them.
-ghost use Rattle.std.specs.Prelude.{◌≡◌, ◌<◌, ◌≤◌, [], length, slice_index_or};
+ghost use Rattle.std.specs.Prelude.{◌≡◌, ◌<◌, ◌≤◌, [], length, map, slice_index_or};
 ghost use Rattle.ffa_model.specs.declared.limits.TheConstants.{MOST_RANGES};
 ghost use Rattle.ffa_memshare.specs.PageRanges.{range_at};
 ghost use Rattle.ffa_memshare.specs.Ranges.{ArePlaced, IsPlaced};
@@ -53,6 +53,23 @@ fn fill(list: &mut ArrayVec<PageRange, MOST_RANGES>, ranges: &[PageRange])
     }
 }
 
+// Fills a list, from its front on, with ranges of pages of the RAM at an address alone.
+fn put<P: Room<KeptPage> + Drop>(
+    list: &mut ArrayVec<PageRange, MOST_RANGES>,
+    pages: &PageTable<P>,
+    base: Address,
+    ranges: &[Range],
+)
+    requires placed { ArePlaced base.0 (length pages.now) ranges.now }
+    requires few { length ranges.now ≤ MOST_RANGES }
+    ensures { map (range_at base.0) list.new.items ≡ ranges.now }
+{
+    list.clear();
+    for range in ranges {
+        list.push(PageRange::of(pages, base, range));
+    }
+}
+
 /// Ranges of pages of one RAM, eight bytes for each: a transaction is small to keep and to move. Contracts see the ranges.
 #[derive(Drop)]
 pub struct PageRanges {
@@ -72,20 +89,18 @@ impl Model for PageRanges {
 }
 
 impl PageRanges {
-    /// These ranges, of pages of the RAM at an address.
-    pub(crate) fn of<P: Room<KeptPage> + Drop>(
+    /// Becomes these ranges, of pages of the RAM at an address.
+    pub(crate) fn place<P: Room<KeptPage> + Drop>(
+        &mut self,
         pages: &PageTable<P>,
         base: Address,
         ranges: &ArrayVec<Range, MOST_RANGES>,
-    ) -> PageRanges
+    )
         requires { ArePlaced base.0 (length pages.now) ranges.now.items }
-        ensures { result ≡ ranges.now.items }
+        ensures { self.new ≡ ranges.now.items }
     {
-        let mut list = ArrayVec::new();
-        for range in ranges.as_slice() {
-            list.push(PageRange::of(pages, base, range));
-        }
-        PageRanges { base, list }
+        self.base = base;
+        put(&mut self.list, pages, base, ranges.as_slice());
     }
 
     // No ranges.

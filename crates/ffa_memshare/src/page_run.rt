@@ -1,6 +1,6 @@
 // SPDX-License-Identifier: MIT OR Apache-2.0
 //! Bytes that stand in pages in a row.
-ghost use Rattle.std.specs.Prelude.{◌≡◌, ℕ, ◌+◌, ◌*◌, ◌≤◌, length, IfOk, IfErr, IfSome};
+ghost use Rattle.std.specs.Prelude.{◌≡◌, ℕ, ◌+◌, ◌*◌, ◌≤◌, length, OnOk, IfErr, IfSome};
 ghost use Rattle.std.specs.Option.{option_map};
 ghost use Rattle.std.specs.Result.{result_err, result_ok};
 ghost use Rattle.ffa_model.specs.DescriptorPlaces.{in_version};
@@ -85,21 +85,22 @@ impl<'m, M: PhysMem> Bytes for PageRun<'m, M> {
     }
 }
 
-/// What the bytes say as a send descriptor of this kind, from a caller of this version; else the first
-/// condition that they break. In one page they are read as a slice.
+/// Puts what the bytes say as a send descriptor of this kind, from a caller of this version, in the place of an offer; else
+/// the first condition that they break. In one page they are read as a slice.
 pub(crate) fn read_send<M: PhysMem>(
     bytes: &PageRun<M>,
     version: Version,
     kind: Kind,
-) -> Result<SendDesc, Flaw>
-    ensures found { IfOk result (λ d. Send kind (in_version version bytes.now) (send_record d)) }
-    ensures computed { option_map send_record (result_ok result) ≡ send_of kind (in_version version bytes.now) }
+    offer: &mut SendDesc,
+) -> Result<(), Flaw>
+    ensures found { OnOk result (Send kind (in_version version bytes.now) (send_record offer.new)) }
+    ensures computed { option_map (λ _. send_record offer.new) (result_ok result) ≡ send_of kind (in_version version bytes.now) }
     ensures broken { IfErr result (SendBreaks kind (in_version version bytes.now)) }
     ensures first { result_err result ≡ send_flaw kind (in_version version bytes.now) }
 {
     match bytes.in_one_page() {
-        Some(page) => ffa_memdesc::read_send(&page, version, kind),
-        None => ffa_memdesc::read_send(bytes, version, kind),
+        Some(page) => ffa_memdesc::read_send(&page, version, kind, offer),
+        None => ffa_memdesc::read_send(bytes, version, kind, offer),
     }
 }
 

@@ -21,7 +21,8 @@ ghost use Rattle.ffa_memshare.specs.Stored.{map_in, open_in};
 
 use crate::changed::{Changed, News, changed_sender};
 use crate::marks::Mark;
-use crate::pool::{OpenSlot, Pool};
+use crate::open_slot::OpenSlot;
+use crate::pool::Pool;
 use ffa_model::{EndpointId, ErrorCode, Room};
 use ffa_pages::{KeptPage, PageTable};
 use ffa_physmem::PhysMem;
@@ -70,7 +71,9 @@ impl<O: Room<OpenSlot> + Drop> Pool<O> {
         let found = self.check_reclaim(pages, layout.base, caller, handle, flags)?;
         let open = self.at(found.slot);
         open.give_back(ram, layout, pages, found.zero);
-        let changed = news.tell(&open.ranges, changed_sender(open.kind, caller));
+        let changed = news
+            .told
+            .tell(&open.ranges, changed_sender(open.kind, caller));
         self.close(found.slot);
         Ok(changed)
     }

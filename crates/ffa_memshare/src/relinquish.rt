@@ -17,8 +17,9 @@ ghost use Rattle.ffa_memshare.specs.Stored.{open_in};
 
 use crate::changed::{Changed, News};
 use crate::grants::NewRight;
+use crate::open_slot::OpenSlot;
 use crate::page_changes::change_pages;
-use crate::pool::{OpenSlot, Pool};
+use crate::pool::Pool;
 use ffa_model::{EndpointId, ErrorCode, Room};
 use ffa_pages::{KeptPage, PageTable};
 use ffa_physmem::PhysMem;
@@ -64,7 +65,7 @@ impl<O: Room<OpenSlot> + Drop> Pool<O> {
         let index = caller.place();
         let nothing = NewRight::Same(None);
         change_pages(ram, layout, pages, &open.ranges, index, nothing, found.zero);
-        let changed = news.tell(&open.ranges, Some(caller));
+        let changed = news.told.tell(&open.ranges, Some(caller));
         self.set_held(found.slot, caller, None);
         Ok(changed)
     }

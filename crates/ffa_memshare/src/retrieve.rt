@@ -25,8 +25,9 @@ use crate::changed::{News, Retrieved};
 use crate::descriptor_call::DescriptorCall;
 use crate::grants::NewRight;
 use crate::marks::{Mark, mark_all};
+use crate::open_slot::OpenSlot;
 use crate::page_changes::change_pages;
-use crate::pool::{OpenSlot, Pool};
+use crate::pool::Pool;
 use crate::respond::respond;
 use crate::transaction::OpenTransaction;
 use arrayvec::ArrayVec;
@@ -87,7 +88,7 @@ impl<O: Room<OpenSlot> + Drop> Pool<O> {
         let open = self.at(found.slot);
         let version = call.version;
         let size = open.hand_over(ram, layout, pages, buffers, caller, version, found.right);
-        let changed = news.tell(&open.ranges, Some(caller));
+        let changed = news.told.tell(&open.ranges, Some(caller));
         self.take(pages, layout.base, found.slot, caller, found.right);
         Ok(Retrieved { size, changed })
     }

@@ -19,8 +19,8 @@ ghost use Rattle.ffa_memshare.specs.Stored.{open_in};
 
 use crate::changed::{News, Sent, changed_sender};
 use crate::descriptor_call::DescriptorCall;
-use crate::found::FoundOffer;
-use crate::pool::{OpenSlot, Pool};
+use crate::open_slot::OpenSlot;
+use crate::pool::Pool;
 use ffa_model::{EndpointId, ErrorCode, Kind, Room, SlotNumber};
 use ffa_pages::{KeptPage, PageTable};
 use ffa_physmem::PhysMem;
@@ -73,11 +73,14 @@ impl<O: Room<OpenSlot> + Drop> Pool<O> {
         ensures steps { Only (M.past ram.old) (M.past ram.new) (λ h s. IsMoment (M.ram ram.old) (M.ram ram.new) (array_vec_len layout.now.regions) layout.now.blocks h s) }
         ensures ended { EndsSettled (M.ram ram.old) (M.ram ram.new) (array_vec_len layout.now.regions) layout.now.blocks (M.past ram.new) }
     {
-        let found = self.check_send(ram, layout, pages, buffers, caller, kind, call)?;
-        let FoundOffer { transaction, slot } = found;
+        let draft = &mut news.draft;
+        let slot = self.check_send(ram, layout, pages, buffers, caller, kind, call, draft)?;
+        let transaction = &news.draft.transaction;
         let handle = transaction.handle;
         transaction.take_pages(ram, layout, pages, slot as SlotNumber);
-        let changed = news.tell(&transaction.ranges, changed_sender(kind, caller));
+        let changed = news
+            .told
+            .tell(&transaction.ranges, changed_sender(kind, caller));
         self.open(slot, transaction);
         Ok(Sent { handle, changed })
     }

@@ -1,10 +1,12 @@
 // SPDX-License-Identifier: MIT OR Apache-2.0
 //! One open transaction.
-ghost use Rattle.std.specs.Prelude.{◌≡◌, ◌==◌, length, find, Some, None};
+ghost use Rattle.std.specs.Prelude.{◌≡◌, ◌==◌, [], length, find, Some, None};
 ghost use Rattle.arrayvec.specs.ArrayVec.{array_vec_len};
 ghost use Rattle.ffa_model.specs.declared.transaction.Receiver.{Receiver as Named};
 ghost use Rattle.ffa_model.specs.Access.{held_by, is_receiver, right_by};
 ghost use Rattle.ffa_model.specs.Identifiers.{place};
+ghost use Rattle.ffa_model.specs.MemorySend.{transaction_from};
+ghost use Rattle.ffa_model.specs.SendDescriptor.{send_record};
 ghost use Rattle.ffa_model.specs.State.{Page};
 ghost use Rattle.ffa_model.specs.Transactions.{are_executable, are_writable};
 ghost use Rattle.ffa_physmem.specs.Moments.{Only};
@@ -24,7 +26,9 @@ use crate::marks::{Mark, mark_all};
 use crate::page_changes::change_pages;
 use crate::page_ranges::PageRanges;
 use arrayvec::ArrayVec;
-use ffa_model::{Address, EndpointId, Kind, MOST_RECEIVERS, Receiver, Rights, Room, SlotNumber};
+use ffa_model::{
+    Address, EndpointId, Kind, MOST_RECEIVERS, Receiver, Rights, Room, SendDesc, SlotNumber,
+};
 use ffa_pages::{KeptPage, PageTable};
 use ffa_physmem::PhysMem;
 use ffa_stage2::Layout;
@@ -42,8 +46,63 @@ pub struct OpenTransaction {
     pub(crate) held: Holders,
 }
 
+// The same receivers.
+fn copied(receivers: &ArrayVec<Receiver, MOST_RECEIVERS>) -> ArrayVec<Receiver, MOST_RECEIVERS>
+    ensures { result ≡ receivers.now }
+{
+    let mut copy = ArrayVec::new();
+    for receiver in receivers.as_slice() {
+        copy.push(*receiver);
+    }
+    copy
+}
+
 impl OpenTransaction {
     ghost use Rattle.ffa_memshare.specs.Stored.{view_of};
+
+    // One of no pages, which is offered to nobody: room for another.
+    pub(crate) fn none() -> OpenTransaction
+        ensures { result.ranges ≡ [] }
+    {
+        OpenTransaction {
+            handle: 0,
+            kind: Kind::Share,
+            sender: EndpointId::MANAGER,
+            tag: 0,
+            zero: false,
+            ranges: PageRanges::none(),
+            receivers: ArrayVec::new(),
+            held: Holders::none(),
+        }
+    }
+
+    // Becomes what a sender offers with this handle, of which the ranges stand here already.
+    pub(crate) fn offer(&mut self, handle: u64, kind: Kind, offer: &SendDesc)
+        ensures handle { self.new.handle ≡ handle }
+        ensures offered { self.old.ranges ≡ offer.now.ranges.items → view_of self.new ≡ transaction_from kind (send_record offer.now) }
+    {
+        self.handle = handle;
+        self.kind = kind;
+        self.sender = offer.sender;
+        self.tag = offer.tag;
+        self.zero = offer.zero;
+        self.receivers = copied(&offer.receivers);
+        self.held = Holders::none();
+    }
+
+    // Becomes the same as another. It is filled in where it stands, by as many ranges as there are.
+    pub(crate) fn fill(&mut self, other: &OpenTransaction)
+        ensures { self.new ≡ other.now }
+    {
+        self.handle = other.handle;
+        self.kind = other.kind;
+        self.sender = other.sender;
+        self.tag = other.tag;
+        self.zero = other.zero;
+        self.ranges.fill(&other.ranges);
+        self.receivers = copied(&other.receivers);
+        self.held.fill(&other.held);
+    }
 
     // What it says of a receiver.
     pub(crate) fn receiver(&self, endpoint: EndpointId) -> Option<Receiver>

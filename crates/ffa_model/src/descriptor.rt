@@ -1,5 +1,6 @@
 // SPDX-License-Identifier: MIT OR Apache-2.0
 //! What the descriptors of memory transactions say (DEN0077A, 5.11 and 16).
+ghost use Rattle.std.specs.Prelude.{◌≡◌, []};
 
 use crate::endpoint::EndpointId;
 use crate::limits::{MOST_RANGES, MOST_RECEIVERS};
@@ -16,6 +17,22 @@ pub struct SendDesc {
     pub tag: u64,
     pub receivers: ArrayVec<Receiver, MOST_RECEIVERS>,
     pub ranges: ArrayVec<Range, MOST_RANGES>,
+}
+
+impl SendDesc {
+    /// What offers nothing to nobody. It is room for what is read, whose list is large to clear and to move.
+    pub fn none() -> SendDesc
+        ensures receivers { result.receivers.items ≡ [] }
+        ensures ranges { result.ranges.items ≡ [] }
+    {
+        SendDesc {
+            sender: EndpointId::MANAGER,
+            zero: false,
+            tag: 0,
+            receivers: ArrayVec::new(),
+            ranges: ArrayVec::new(),
+        }
+    }
 }
 
 /// What a retrieve descriptor says: that of FFA_MEM_RETRIEVE_REQ. `None` is a field that is not specified.

@@ -9,7 +9,7 @@ use crate::printed;
 use arrayvec::ArrayVec;
 use byteorder::{ByteOrder, LittleEndian};
 use ffa_memdesc::{Response, read_relinquish, read_retrieve, read_send, write_response};
-use ffa_model::{Data, EndpointId, Kind, Range, Rights, Version};
+use ffa_model::{Data, EndpointId, Kind, Range, Rights, SendDesc, Version};
 use std::alloc::{AllocError, Global};
 use std::process::Abort;
 use std::test::Fail;
@@ -47,8 +47,9 @@ fn said_of_send(
     version: Version,
     kind: Kind,
 ) -> Result<String, AllocError> {
-    match read_send(&bytes, version, kind) {
-        Ok(desc) => printed::send(alloc, &desc),
+    let mut desc = SendDesc::none();
+    match read_send(&bytes, version, kind, &mut desc) {
+        Ok(()) => printed::send(alloc, &desc),
         Err(flaw) => printed::flaw(alloc, flaw),
     }
 }

@@ -12,7 +12,8 @@ ghost use Rattle.ffa_memshare.specs.Shared.{AreInRam};
 ghost use Rattle.ffa_memshare.specs.Stored.{map_in, pool_slot};
 
 use crate::found::FoundReturn;
-use crate::pool::{OpenSlot, Pool};
+use crate::open_slot::OpenSlot;
+use crate::pool::Pool;
 use crate::transaction::OpenTransaction;
 use ffa_model::{Address, EndpointId, Refusal, Room};
 use ffa_pages::{KeptPage, PageTable};

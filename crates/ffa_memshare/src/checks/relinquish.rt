@@ -12,8 +12,9 @@ ghost use Rattle.ffa_memshare.specs.Found.{IsGivenUp};
 ghost use Rattle.ffa_memshare.specs.Stored.{open_in};
 
 use crate::found::FoundReturn;
+use crate::open_slot::OpenSlot;
 use crate::page_run::{PageRun, read_relinquish};
-use crate::pool::{OpenSlot, Pool};
+use crate::pool::Pool;
 use crate::transaction::OpenTransaction;
 use ffa_model::{Data, EndpointId, Kind, Refusal, RelinquishDesc, Room};
 use ffa_physmem::PhysMem;

@@ -20,8 +20,9 @@ ghost use Rattle.ffa_memshare.specs.Stored.{open_in};
 
 use crate::descriptor_call::DescriptorCall;
 use crate::found::FoundRight;
+use crate::open_slot::OpenSlot;
 use crate::page_run::read_retrieve;
-use crate::pool::{OpenSlot, Pool};
+use crate::pool::Pool;
 use crate::transaction::OpenTransaction;
 use ffa_model::{Address, Data, EndpointId, Kind, Refusal, RetrieveDesc, Rights, Room};
 use ffa_pages::{KeptPage, PageTable};

@@ -22,13 +22,12 @@ ghost use Rattle.ffa_memshare.specs.Stored.{open_in, view_of};
 
 use crate::common::common_of;
 use crate::descriptor_call::DescriptorCall;
-use crate::found::FoundOffer;
+use crate::draft::Draft;
 use crate::grants::first_page;
-use crate::holders::Holders;
+use crate::open_slot::OpenSlot;
 use crate::page_ranges::PageRanges;
 use crate::page_run::read_send;
-use crate::pool::{OpenSlot, Pool};
-use crate::transaction::OpenTransaction;
+use crate::pool::Pool;
 use ffa_model::{
     Address, Data, EndpointId, Kind, PageNo, Range, Receiver, Refusal, Room, SendDesc,
 };
@@ -38,7 +37,8 @@ use ffa_rxtx::Buffers;
 use ffa_stage2::Layout;
 
 impl<O: Room<OpenSlot> + Drop> Pool<O> {
-    /// Whether an endpoint may send what the descriptor in its TX offers: the transaction that it opens, and the free slot for it.
+    /// Whether an endpoint may send what the descriptor in its TX offers: the free slot for the transaction that it opens,
+    /// which stands in the draft then.
     ///
     /// # Errors
     ///
@@ -52,36 +52,36 @@ impl<O: Room<OpenSlot> + Drop> Pool<O> {
         caller: EndpointId,
         kind: Kind,
         call: &DescriptorCall,
-    ) -> Result<FoundOffer, Refusal>
+        draft: &mut Draft,
+    ) -> Result<usize, Refusal>
         requires caller { IsCaller (array_vec_len layout.now.regions) (length (M.ram ram.now).pages) caller.0 buffers.now }
         requires endpoints { length self.now.sent ≡ array_vec_len layout.now.regions }
         ensures refusal { result_err result ≡ first_refusal (send_guards
             (scene_in (array_vec_len layout.now.regions) pages.now layout.now.base.0 buffers.now (open_in self.now))
             caller.0 call.now.transfer (send_of kind (descriptor_in (M.ram ram.now) buffers.now caller.0 call.now))) }
-        ensures handle { IfOk result (λ found. found.transaction.handle ≡ next_handle (open_in self.now) caller.0) }
-        ensures offered { IfOk result (λ found. IsOffered pages.now layout.now.base.0 caller.0 kind
-            (descriptor_in (M.ram ram.now) buffers.now caller.0 call.now) (view_of found.transaction)) }
-        ensures free { IfOk result (λ found. IsFree self.now.slots (place caller.0) found.slot) }
+        ensures handle { OnOk result (draft.new.transaction.handle ≡ next_handle (open_in self.now) caller.0) }
+        ensures offered { OnOk result (IsOffered pages.now layout.now.base.0 caller.0 kind
+            (descriptor_in (M.ram ram.now) buffers.now caller.0 call.now) (view_of draft.new.transaction)) }
+        ensures free { IfOk result (IsFree self.now.slots (place caller.0)) }
         ensures few { OnOk result (sends_of (open_in self.now) caller.0 < MOST_SENDS) }
-        ensures fits { IfOk result (λ found. found.slot < MOST_SLOTS) }
+        ensures fits { IfOk result (λ slot. slot < MOST_SLOTS) }
     {
         let bytes = call.descriptor(ram, buffers, caller)?;
-        let Ok(offer) = read_send(&bytes, call.version, kind) else {
+        let Ok(()) = read_send(&bytes, call.version, kind, &mut draft.offer) else {
             return Err(Refusal::DescriptorMalformed);
         };
-        let ranges = check_offer(&offer, layout, pages, buffers, caller)?;
+        let transaction = &mut draft.transaction;
+        check_offer(
+            &draft.offer,
+            layout,
+            pages,
+            buffers,
+            caller,
+            &mut transaction.ranges,
+        )?;
         let slot = self.room(caller)?;
-        let transaction = OpenTransaction {
-            handle: self.next_handle(caller),
-            kind,
-            sender: offer.sender,
-            tag: offer.tag,
-            zero: offer.zero,
-            ranges,
-            receivers: offer.receivers,
-            held: Holders::none(),
-        };
-        Ok(FoundOffer { transaction, slot })
+        transaction.offer(self.next_handle(caller), kind, &draft.offer);
+        Ok(slot)
     }
 }
 
@@ -210,18 +210,19 @@ fn check_writes<P: Room<KeptPage> + Drop>(
     Err(Refusal::ZerosUnwritable)
 }
 
-// The ranges of what an endpoint offers, where it may send that, or why it may not.
+// Puts the ranges of what an endpoint offers in the place of others, where it may send that, or says why it may not.
 fn check_offer<P: Room<KeptPage> + Drop>(
     offer: &SendDesc,
     layout: &Layout,
     pages: &PageTable<P>,
     buffers: &Buffers,
     caller: EndpointId,
-) -> Result<PageRanges, Refusal>
+    ranges: &mut PageRanges,
+) -> Result<(), Refusal>
     requires aligned { AreAligned offer.now.ranges.items }
     ensures refusal { result_err result ≡ first_refusal (after_offer (array_vec_len layout.now.regions) (candidates_in pages.now layout.now.base.0) (own_rights_in pages.now layout.now.base.0) buffers.now caller.0 (send_record offer.now) []) }
     ensures offered { OnOk result (IsOwnOffer pages.now layout.now.base.0 caller.0 (send_record offer.now)) }
-    ensures ranges { IfOk result (λ ranges. ranges ≡ offer.now.ranges.items) }
+    ensures ranges { OnOk result (ranges.new ≡ offer.now.ranges.items) }
 {
     if offer.sender != caller {
         return Err(Refusal::SenderIsAnother);
@@ -232,10 +233,10 @@ fn check_offer<P: Room<KeptPage> + Drop>(
     if !are_inside(offer.ranges.as_slice(), pages, layout.base) {
         return Err(Refusal::RangeOutside);
     }
-    let ranges = PageRanges::of(pages, layout.base, &offer.ranges);
-    if !are_sendable(pages, layout.base, buffers, caller, &ranges) {
+    ranges.place(pages, layout.base, &offer.ranges);
+    if !are_sendable(pages, layout.base, buffers, caller, ranges) {
         return Err(Refusal::PageUnsendable);
     }
-    check_writes(offer, &ranges, pages, layout.base)?;
-    Ok(ranges)
+    check_writes(offer, ranges, pages, layout.base)?;
+    Ok(())
 }

@@ -19,7 +19,7 @@ ghost use Rattle.ffa_spmc.specs.Replies.{fault_in};
 
 use super::{Manager, word_of_halves};
 use crate::storage::Store;
-use ffa_memshare::DescriptorCall;
+use ffa_memshare::{DescriptorCall, Draft};
 use ffa_messages::{DirectMessage, check_direct_req, check_direct_resp, check_send2};
 use ffa_model::{
     Call, EndpointId, FaultKind, Grant, Home, Kind, Obstacle, Outcome, PageNo, Refusal, Size,
@@ -205,6 +205,7 @@ impl<M: PhysMem + Drop, S: Store> Manager<M, S> {
             runner,
             kind,
             &call,
+            &mut Draft::none(),
         );
         found.err()
     }

@@ -22,7 +22,7 @@ check_writes-requires-clause-own g c =
     let inside : list_all (is_inside (own_rights_in table l.base.0)) o.ranges.items ≡ true =
     sym (ap (list_all (is_inside (own_rights_in table l.base.0))) c.as_slice-2.ensures.value) ∙ sym c.are_inside.ensures ∙ c.if-not-are_inside.false in
     let sendable : list_all (is_sendable c.args.caller.0 (candidates_in table l.base.0) c.args.buffers.now) (pages_in (own_rights_in table l.base.0) o.ranges.items) ≡ true =
-    sym (ap (λ (rs : List Range). list_all (is_sendable c.args.caller.0 (candidates_in table l.base.0) c.args.buffers.now) (pages_in (own_rights_in table l.base.0) rs)) c.of-ranges.ensures)
+    sym (ap (λ (rs : List Range). list_all (is_sendable c.args.caller.0 (candidates_in table l.base.0) c.args.buffers.now) (pages_in (own_rights_in table l.base.0) rs)) c.place.ensures)
     ∙ sym c.are_sendable.ensures ∙ c.if-not-are_sendable.false in
     (c.args.caller.0, checked-offered table l.base.0 c.args.caller.0 c.args.buffers.now (send_record o) (omega (arith, l.place)) c.requires.aligned sender inside sendable)
 
@@ -35,7 +35,7 @@ returns-clause-offered g c =
     let inside : list_all (is_inside (own_rights_in table l.base.0)) o.ranges.items ≡ true =
     sym (ap (list_all (is_inside (own_rights_in table l.base.0))) c.as_slice-2.ensures.value) ∙ sym c.are_inside.ensures ∙ c.if-not-are_inside.false in
     let sendable : list_all (is_sendable c.args.caller.0 (candidates_in table l.base.0) c.args.buffers.now) (pages_in (own_rights_in table l.base.0) o.ranges.items) ≡ true =
-    sym (ap (λ (rs : List Range). list_all (is_sendable c.args.caller.0 (candidates_in table l.base.0) c.args.buffers.now) (pages_in (own_rights_in table l.base.0) rs)) c.of-ranges.ensures)
+    sym (ap (λ (rs : List Range). list_all (is_sendable c.args.caller.0 (candidates_in table l.base.0) c.args.buffers.now) (pages_in (own_rights_in table l.base.0) rs)) c.place.ensures)
     ∙ sym c.are_sendable.ensures ∙ c.if-not-are_sendable.false in
     checked-offered table l.base.0 c.args.caller.0 c.args.buffers.now (send_record o) (omega (arith, l.place)) c.requires.aligned sender inside sendable
 
@@ -52,7 +52,7 @@ returns-in_err-check_writes-clause-refusal g c =
     let inside : list_all (is_inside own_rights) o.ranges.items ≡ true =
     sym (ap (list_all (is_inside own_rights)) c.as_slice-2.ensures.value) ∙ sym c.are_inside.ensures ∙ c.if-not-are_inside.false in
     let sendable : list_all (is_sendable c.args.caller.0 (candidates_in table l.base.0) c.args.buffers.now) (pages_in own_rights o.ranges.items) ≡ true =
-    sym (ap (λ (rs : List Range). list_all (is_sendable c.args.caller.0 (candidates_in table l.base.0) c.args.buffers.now) (pages_in own_rights rs)) c.of-ranges.ensures)
+    sym (ap (λ (rs : List Range). list_all (is_sendable c.args.caller.0 (candidates_in table l.base.0) c.args.buffers.now) (pages_in own_rights rs)) c.place.ensures)
     ∙ sym c.are_sendable.ensures ∙ c.if-not-are_sendable.false in
     let passed = sendable-pass (array_vec_len l.regions) (candidates_in table l.base.0) own_rights c.args.buffers.now c.args.caller.0 r sender known inside sendable in
     let refused : c.from_residual.result ≡ Err c.in_err-check_writes.field-0.0 = search of_calls in
@@ -71,7 +71,7 @@ returns-clause-refusal g c =
     let inside : list_all (is_inside own_rights) o.ranges.items ≡ true =
     sym (ap (list_all (is_inside own_rights)) c.as_slice-2.ensures.value) ∙ sym c.are_inside.ensures ∙ c.if-not-are_inside.false in
     let sendable : list_all (is_sendable c.args.caller.0 (candidates_in table l.base.0) c.args.buffers.now) (pages_in own_rights o.ranges.items) ≡ true =
-    sym (ap (λ (rs : List Range). list_all (is_sendable c.args.caller.0 (candidates_in table l.base.0) c.args.buffers.now) (pages_in own_rights rs)) c.of-ranges.ensures)
+    sym (ap (λ (rs : List Range). list_all (is_sendable c.args.caller.0 (candidates_in table l.base.0) c.args.buffers.now) (pages_in own_rights rs)) c.place.ensures)
     ∙ sym c.are_sendable.ensures ∙ c.if-not-are_sendable.false in
     let passed = sendable-pass (array_vec_len l.regions) (candidates_in table l.base.0) own_rights c.args.buffers.now c.args.caller.0 r sender known inside sendable in
     c.in_ok-check_writes.ensures ∙ first-pass before (write_guards own_rights r) passed

@@ -12,7 +12,7 @@ use Rattle.ffa_memshare.proofs.pool.Pool.check_send.Goals as goal
 
 pub check_offer-requires : goal.check_offer-requires
 check_offer-requires g c =
-    record { aligned = sent-aligned c.args.kind (in_version c.args.call.now.version c.in_ok-bytes.bytes) (send_record c.in-Ok.offer) c.in-Ok.ensures.found }
+    record { aligned = sent-aligned c.args.kind (in_version c.args.call.now.version c.in_ok-bytes.bytes) (send_record c.read_send.new.offer) c.in-Ok.ensures.found }
 
 pub room-requires-clause-known : goal.room-requires-clause-known
 room-requires-clause-known g c = known-named (array_vec_len c.args.layout.now.regions) c.args.caller.0 c.requires.caller.known
@@ -26,60 +26,52 @@ returns-in_err-bytes-clause-refusal g c =
     rw refused
     (send-transfer scene c.args.caller.0 c.args.call.now.transfer read c.in_err-bytes.field-0.0 c.in_err-bytes.ensures.refusal)
 
-pub returns-in_err-ranges-clause-refusal : goal.returns-in_err-ranges-clause-refusal
-returns-in_err-ranges-clause-refusal g c =
+pub returns-in_err-check_offer-clause-refusal : goal.returns-in_err-check_offer-clause-refusal
+returns-in_err-check_offer-clause-refusal g c =
     let l = c.args.layout.now in
     let scene = scene_in (array_vec_len l.regions) c.args.pages.now l.base.0 c.args.buffers.now (open_in c.args.self.now) in
     let read = send_of c.args.kind (descriptor_in (g.M.PhysMem.ram c.args.ram.now) c.args.buffers.now c.args.caller.0 c.args.call.now) in
-    let is : read ≡ Some (send_record c.in-Ok.offer) =
+    let is : read ≡ Some (send_record c.read_send.new.offer) =
     sym (ap (λ b. send_of c.args.kind (in_version c.args.call.now.version b)) c.in_ok-bytes.ensures.bytes) ∙ sym c.in-Ok.ensures.computed in
-    let refused : c.from_residual-in_err-ranges.result ≡ Err c.in_err-ranges.field-0.0 = search of_calls in
+    let refused : c.from_residual-in_err-check_offer.result ≡ Err c.in_err-check_offer.field-0.0 = search of_calls in
     rw refused
-    (send-offer scene c.args.caller.0 c.args.call.now.transfer read (send_record c.in-Ok.offer) c.in_ok-bytes.ensures.refusal is c.in_err-ranges.field-0.0 c.in_err-ranges.ensures.refusal)
+    (send-offer scene c.args.caller.0 c.args.call.now.transfer read (send_record c.read_send.new.offer) c.in_ok-bytes.ensures.refusal is c.in_err-check_offer.field-0.0 c.in_err-check_offer.ensures.refusal)
 
 pub returns-in_err-slot-clause-refusal : goal.returns-in_err-slot-clause-refusal
 returns-in_err-slot-clause-refusal g c =
     let l = c.args.layout.now in
     let scene = scene_in (array_vec_len l.regions) c.args.pages.now l.base.0 c.args.buffers.now (open_in c.args.self.now) in
     let read = send_of c.args.kind (descriptor_in (g.M.PhysMem.ram c.args.ram.now) c.args.buffers.now c.args.caller.0 c.args.call.now) in
-    let is : read ≡ Some (send_record c.in-Ok.offer) =
+    let is : read ≡ Some (send_record c.read_send.new.offer) =
     sym (ap (λ b. send_of c.args.kind (in_version c.args.call.now.version b)) c.in_ok-bytes.ensures.bytes) ∙ sym c.in-Ok.ensures.computed in
     let refused : c.from_residual-in_err-slot.result ≡ Err c.in_err-slot.field-0.0 = search of_calls in
     rw refused
-    (send-room scene c.args.caller.0 c.args.call.now.transfer read (send_record c.in-Ok.offer) c.in_ok-bytes.ensures.refusal is c.in_ok-ranges.ensures.refusal c.in_err-slot.ensures.refusal)
+    (send-room scene c.args.caller.0 c.args.call.now.transfer read (send_record c.read_send.new.offer) c.in_ok-bytes.ensures.refusal is c.in_ok-check_offer.ensures.refusal c.in_err-slot.ensures.refusal)
 
 pub returns-clause-refusal : goal.returns-clause-refusal
 returns-clause-refusal g c =
     let l = c.args.layout.now in
     let scene = scene_in (array_vec_len l.regions) c.args.pages.now l.base.0 c.args.buffers.now (open_in c.args.self.now) in
     let read = send_of c.args.kind (descriptor_in (g.M.PhysMem.ram c.args.ram.now) c.args.buffers.now c.args.caller.0 c.args.call.now) in
-    let is : read ≡ Some (send_record c.in-Ok.offer) =
+    let is : read ≡ Some (send_record c.read_send.new.offer) =
     sym (ap (λ b. send_of c.args.kind (in_version c.args.call.now.version b)) c.in_ok-bytes.ensures.bytes) ∙ sym c.in-Ok.ensures.computed in
-    send-room scene c.args.caller.0 c.args.call.now.transfer read (send_record c.in-Ok.offer) c.in_ok-bytes.ensures.refusal is c.in_ok-ranges.ensures.refusal c.in_ok-slot.ensures.refusal
+    send-room scene c.args.caller.0 c.args.call.now.transfer read (send_record c.read_send.new.offer) c.in_ok-bytes.ensures.refusal is c.in_ok-check_offer.ensures.refusal c.in_ok-slot.ensures.refusal
 
 pub returns-clause-offered : goal.returns-clause-offered
 returns-clause-offered g c =
     let version = c.args.call.now.version in
-    let offer = send_record c.in-Ok.offer in
+    let offer = send_record c.read_send.new.offer in
     record {
       offer = offer;
       described =
           sym (ap (λ b. send_of c.args.kind (in_version version b)) c.in_ok-bytes.ensures.bytes) ∙ sym c.in-Ok.ensures.computed;
-      transaction = λ i. record {
-        kind = c.args.kind;
-        sender = offer.sender;
-        tag = offer.tag;
-        zero = offer.zero;
-        ranges = c.in_ok-ranges.ensures.ranges i;
-        receivers = offer.receivers;
-        held = c.none.ensures i;
-      };
-      own = c.in_ok-ranges.ensures.offered;
+      transaction = c.offer.ensures.offered c.in_ok-check_offer.ensures.ranges;
+      own = c.in_ok-check_offer.ensures.offered;
       other = sent-other c.args.kind (in_version version c.in_ok-bytes.bytes) offer c.in-Ok.ensures.found;
     }
 
 pub returns-clause-handle : goal.returns-clause-handle
-returns-clause-handle g c = c.next_handle.ensures
+returns-clause-handle g c = c.offer.ensures.handle ∙ c.next_handle.ensures
 
 pub returns-clause-free : goal.returns-clause-free
 returns-clause-free g c = c.in_ok-slot.ensures.free

@@ -9,11 +9,11 @@ returns-clause-some g c =
     let items = g.O.Room.items c.self.inside.slots in
     let within : c.args.slot < length items = omega (arith, c.if-slot-count.false, c.count.ensures) in
     let seen = sym (ap (λ (p : Pooled). pool_slot p.slots c.args.slot) c.self.view_is) ∙ seen-at items c.args.slot c.at.result.now within (c.at.ensures c.at.result.now) in
-    seen-some c.args.self.now.slots c.args.slot c.at.result.now c.as_ref.result seen c.as_ref.ensures.value
+    seen-some c.args.self.now.slots c.args.slot c.at.result.now c.get.result seen c.get.ensures
 
 pub returns-clause-none : goal.returns-clause-none
 returns-clause-none g c =
     let items = g.O.Room.items c.self.inside.slots in
     let within : c.args.slot < length items = omega (arith, c.if-slot-count.false, c.count.ensures) in
     let seen = sym (ap (λ (p : Pooled). pool_slot p.slots c.args.slot) c.self.view_is) ∙ seen-at items c.args.slot c.at.result.now within (c.at.ensures c.at.result.now) in
-    seen-none c.args.self.now.slots c.args.slot c.at.result.now c.as_ref.result seen c.as_ref.ensures.value
+    seen-none c.args.self.now.slots c.args.slot c.at.result.now c.get.result seen c.get.ensures

@@ -10,13 +10,13 @@ use Rattle.ffa_physmem.proofs.Moments.{Only-none}
 use Rattle.ffa_stage2.proofs.Moments.{nothing-ends}
 use Rattle.ffa_memshare.proofs.pool.Pool.send.Goals as goal
 
-pub returns-in_err-found-clause-refusal : goal.returns-in_err-found-clause-refusal
-returns-in_err-found-clause-refusal g c =
+pub returns-in_err-slot-clause-refusal : goal.returns-in_err-slot-clause-refusal
+returns-in_err-slot-clause-refusal g c =
     let l = c.args.layout.now in
     answers-code
     (send_guards (scene_in (array_vec_len l.regions) c.args.pages.now l.base.0 c.args.buffers.now (open_in c.args.self.now)) c.args.caller.0 c.args.call.now.transfer
     (send_of c.args.kind (descriptor_in (g.M.PhysMem.ram c.args.ram.now) c.args.buffers.now c.args.caller.0 c.args.call.now)))
-    c.in_err-found.field-0.0 c.from_residual.result c.in_err-found.ensures.refusal c.from_residual.ensures.1
+    c.in_err-slot.field-0.0 c.from_residual.result c.in_err-slot.ensures.refusal c.from_residual.ensures.1
 
 pub returns-clause-refusal : goal.returns-clause-refusal
 returns-clause-refusal g c =
@@ -24,7 +24,7 @@ returns-clause-refusal g c =
     answers-pass
     (send_guards (scene_in (array_vec_len l.regions) c.args.pages.now l.base.0 c.args.buffers.now (open_in c.args.self.now)) c.args.caller.0 c.args.call.now.transfer
     (send_of c.args.kind (descriptor_in (g.M.PhysMem.ram c.args.ram.now) c.args.buffers.now c.args.caller.0 c.args.call.now)))
-    c.in_ok-found.ensures.refusal
+    c.in_ok-slot.ensures.refusal
 
 pub take_pages-requires : goal.take_pages-requires
 take_pages-requires g c = search rules
@@ -35,8 +35,8 @@ open-requires-clause-sender g c = search rules
 pub returns-clause-sent : goal.returns-clause-sent
 returns-clause-sent g c = search rules
 
-pub returns-in_err-found-clause-steps : goal.returns-in_err-found-clause-steps
-returns-in_err-found-clause-steps g c = Only-none
+pub returns-in_err-slot-clause-steps : goal.returns-in_err-slot-clause-steps
+returns-in_err-slot-clause-steps g c = Only-none
 
-pub returns-in_err-found-clause-ended : goal.returns-in_err-found-clause-ended
-returns-in_err-found-clause-ended g c = nothing-ends _ _ _ _ _ refl
+pub returns-in_err-slot-clause-ended : goal.returns-in_err-slot-clause-ended
+returns-in_err-slot-clause-ended g c = nothing-ends _ _ _ _ _ refl
