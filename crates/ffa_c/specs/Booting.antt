@@ -39,7 +39,7 @@ pub record IsFirst (parts : Parts) (s : Snapshot) : Type 0 where
   pub cleared : (p : ℕ) → length s.state.parties * table_pages parts.ram_blocks ≤ p → p < length s.ram.pages → page_of s.ram p ≡ replicate 4096 0
   pub sound : IsSoundState s.state
 
--- the same where the pages of its regions keep the bytes of pages that are given, and all others behind the tables are zeros
+-- the same where pages of its regions have the bytes of pages that are given, and all others behind the tables are zeros
 pub record IsFirstHeld (pages : List (List ℕ)) (parts : Parts) (s : Snapshot) : Type 0 where
   pub state : s.state ≡ first_held parts.ram_base parts.ram_blocks parts.endpoints (λ p. slice_index_or pages p [])
   pub agrees : Agrees s.ram s.state
@@ -54,16 +54,16 @@ IsFirstBy Cleared pages parts s = IsFirst parts s
 IsFirstBy Kept pages parts s = IsFirstHeld pages parts s
 
 -- the machine of parts that C described is in a first state, over RAM that is lent or not
-pub record IsBooted (describes : Parts → Type 0) (is_first : Parts → Snapshot → Type 0) (is_lent : Bool) (b : Boarded) : Type 0 where
+pub record IsBooted (describes : Parts → Type 0) (begins : Parts → Snapshot → Type 0) (is_lent : Bool) (b : Boarded) : Type 0 where
   pub parts : Parts
   pub described : describes parts
-  pub begun : is_first parts b.machine
+  pub begun : begins parts b.machine
   pub kind : b.is_lent ≡ is_lent
 
 -- the same of what C holds
 abbrev pub HasBegun : (Parts → Type 0) → (Parts → Snapshot → Type 0) → Bool → Option Boarded → Type 0
-HasBegun describes is_first is_lent None = ⊥
-HasBegun describes is_first is_lent (Some b) = IsBooted describes is_first is_lent b
+HasBegun describes begins is_lent None = ⊥
+HasBegun describes begins is_lent (Some b) = IsBooted describes begins is_lent b
 
 abbrev pub HasBooted : (Parts → Type 0) → Bool → Option Boarded → Type 0
 HasBooted describes is_lent held = HasBegun describes IsFirst is_lent held

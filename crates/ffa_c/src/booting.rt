@@ -124,7 +124,8 @@ pub extern "C" fn ffa_boot_held(
 ) -> u32
     ensures occupied { machine.old.live ≡ true → result ≡ OCCUPIED }
     ensures no_list { machine.old.live ≡ false → lent.old.live ≡ false → result ≡ NO_LIST }
-    ensures booted { result ≡ 0 → (machine.old.held.value ≡ None) × HasBootedHeld (Describes text.now) (bytes_of lent.old.held.value) machine.new.held.value }
+    ensures booted { result ≡ 0 → (machine.old.held.value ≡ None)
+        × HasBootedHeld (Describes text.now) (bytes_of lent.old.held.value) machine.new.held.value }
     ensures emptied { result ≡ 0 → pages_of lent.new.held.value ≡ Some [] }
     ensures machine { result ≢ 0 → machine.new ≡ machine.old }
     ensures list { result ≢ 0 → lent.new.held.value ≡ lent.old.held.value }
@@ -152,7 +153,8 @@ pub extern "C" fn ffa_boot_held_parts(
 ) -> u32
     ensures occupied { machine.old.live ≡ true → result ≡ OCCUPIED }
     ensures no_list { machine.old.live ≡ false → lent.old.live ≡ false → result ≡ NO_LIST }
-    ensures booted { result ≡ 0 → (machine.old.held.value ≡ None) × HasBootedHeld (Gives parts.now) (bytes_of lent.old.held.value) machine.new.held.value }
+    ensures booted { result ≡ 0 → (machine.old.held.value ≡ None)
+        × HasBootedHeld (Gives parts.now) (bytes_of lent.old.held.value) machine.new.held.value }
     ensures emptied { result ≡ 0 → pages_of lent.new.held.value ≡ Some [] }
     ensures machine { result ≢ 0 → machine.new ≡ machine.old }
     ensures list { result ≢ 0 → lent.new.held.value ≡ lent.old.held.value }
@@ -243,7 +245,8 @@ fn boot_lent(
     bytes: Bytes,
 ) -> u32
     requires { machine.old.held.value ≡ None }
-    ensures booted { result ≡ 0 → HasBegun (λ p. p ≡ parts_of manifest.now) (IsFirstBy bytes (bytes_of lent.old.held.value)) true machine.new.held.value }
+    ensures booted { result ≡ 0
+        → HasBegun (λ p. p ≡ parts_of manifest.now) (IsFirstBy bytes (bytes_of lent.old.held.value)) true machine.new.held.value }
     ensures emptied { result ≡ 0 → pages_of lent.new.held.value ≡ Some [] }
     ensures machine { result ≢ 0 → machine.new ≡ machine.old }
     ensures list { result ≢ 0 → lent.new.held.value ≡ lent.old.held.value }
@@ -267,7 +270,8 @@ fn boot_over(
     bytes: Bytes,
 ) -> u32
     requires { machine.old.held.value ≡ None }
-    ensures booted { result ≡ 0 → HasBegun (λ p. p ≡ parts_of manifest.now) (IsFirstBy bytes list.old.pages) true machine.new.held.value }
+    ensures booted { result ≡ 0
+        → HasBegun (λ p. p ≡ parts_of manifest.now) (IsFirstBy bytes list.old.pages) true machine.new.held.value }
     ensures emptied { result ≡ 0 → list.new.pages ≡ [] }
     ensures machine { result ≢ 0 → machine.new ≡ machine.old }
     ensures list { result ≢ 0 → list.new ≡ list.old }

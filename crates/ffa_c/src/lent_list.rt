@@ -108,7 +108,8 @@ impl LentList {
         bytes: Bytes,
     ) -> Result<Box<Seat>, AllocError>
         requires { length self.old.pages ≡ 512 * manifest.now.ram_blocks }
-        ensures booted { IfOk result (λ b. HasBegun (λ p. p ≡ parts_of manifest.now) (IsFirstBy bytes self.old.pages) true b.value) }
+        ensures booted { IfOk result
+            (λ b. HasBegun (λ p. p ≡ parts_of manifest.now) (IsFirstBy bytes self.old.pages) true b.value) }
         ensures emptied { IfOk result (λ _. self.new.pages ≡ []) }
         ensures refused { IfErr result (λ _. self.new ≡ self.old) }
         ensures unready { IfErr result (λ _. self.old.ready_for < length self.old.pages) }

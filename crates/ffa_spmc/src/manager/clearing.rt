@@ -12,11 +12,14 @@ use ffa_model::{EndpointId, Manifest, PageNo};
 use ffa_physmem::PhysMem;
 
 // Fills all pages behind the tables with zeros but those of the manifest's regions, which keep their bytes.
+// Not inlined, so that no boot has its frame while it builds tables.
+#[inline(never)]
 pub(crate) fn clear_rest<M: PhysMem>(ram: &mut M, manifest: &Manifest)
     requires base { (M.ram ram.old).base ≡ manifest.now.ram_base.0 }
     requires size { length (M.ram ram.old).pages ≡ 512 * manifest.now.ram_blocks }
     ensures ready { IsReadyFor manifest.now (M.ram ram.new) }
-    ensures kept { (p : ℕ) → first_owner manifest.now p ≢ manager → page_of (M.ram ram.new) p ≡ page_of (M.ram ram.old) p }
+    ensures kept { (p : ℕ) → first_owner manifest.now p ≢ manager
+        → page_of (M.ram ram.new) p ≡ page_of (M.ram ram.old) p }
 {
     for page in pages_of_tables(manifest)..ram.pages() {
         clear_unowned(ram, manifest, PageNo(page));
@@ -26,7 +29,8 @@ pub(crate) fn clear_rest<M: PhysMem>(ram: &mut M, manifest: &Manifest)
 // Fills a page with zeros where no region has it.
 fn clear_unowned<M: PhysMem>(ram: &mut M, manifest: &Manifest, page: PageNo)
     requires { page.0 < length (M.ram ram.old).pages }
-    ensures cleared { first_owner manifest.now page.0 ≡ manager → M.ram ram.new ≡ with_page (M.ram ram.old) page.0 (replicate 4096 0) }
+    ensures cleared { first_owner manifest.now page.0 ≡ manager
+        → M.ram ram.new ≡ with_page (M.ram ram.old) page.0 (replicate 4096 0) }
     ensures kept { first_owner manifest.now page.0 ≢ manager → M.ram ram.new ≡ M.ram ram.old }
     ensures whole { length (page_of (M.ram ram.new) page.0) ≡ 4096 }
     ensures bytes { are_bytes (page_of (M.ram ram.new) page.0) }
