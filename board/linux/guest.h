@@ -1,0 +1,46 @@
+/* SPDX-License-Identifier: MIT OR Apache-2.0 */
+/* Endpoints that run by themselves: Linux as 0000, and partitions. What board/ has of the processor and of the core's answers is used as it is. */
+#ifndef BOARD_LINUX_GUEST_H
+#define BOARD_LINUX_GUEST_H
+
+#include "board.h"
+
+/* The list of images, which run.sh writes and has QEMU load here (place.c). */
+#define IMAGE_LIST 0x49000000
+
+static inline struct endpoint *running(struct board *board) { return &board->endpoints[board->running]; }
+
+/* Makes the machine of a manifest's text in the board's own RAM. */
+void boot_machine(struct board *board, const char *manifest);
+
+/* Stores the images of the list into the pages of their endpoints, as operations of these, and has each endpoint begin in its own. */
+void place_images(struct board *board, const char *list);
+
+/* Makes the processor ready for Linux and for partitions. */
+void begin_guests(struct board *board);
+
+/* Another endpoint runs than who called. */
+void switch_guest(struct board *board, uint32_t next);
+
+/* Runs endpoints until Linux turns the board off. */
+_Noreturn void run_guests(struct board *board);
+
+/* A call of who runs: FF-A's go to the core, the others are answered by the firmware. */
+void serve_call(struct board *board);
+void serve_power_call(struct context *context);
+
+/* An abort that EL2 takes. Linux's access to a device is done for it; any other abort of Linux's is handed to it as an external one. */
+void serve_abort(struct board *board, uint64_t syndrome);
+
+/* Does the access to a device that an abort is about, if it is one: whether it was. */
+bool serve_device(struct context *context, uint64_t syndrome, uint64_t address);
+
+/* What the core does is printed as a trace with its outcomes, between the lines of Linux: what a call reads in TX, the call, what it answers, and
+ * what it wrote to RX. */
+void record_call(struct board *board, const struct ffa_registers *registers);
+void record_answer(struct board *board, const struct ffa_registers *registers, const struct ffa_outcome *outcome);
+
+/* A line of the firmware's own begins: it ends the line of Linux's that is open. */
+void begin_line(void);
+
+#endif

@@ -1,0 +1,69 @@
+/* SPDX-License-Identifier: MIT OR Apache-2.0 */
+/* What Linux asks of firmware beside FF-A: versions and power (PSCI, DEN0022; SMCCC, DEN0028). There is one processor, which runs. */
+#include "guest.h"
+#include "text.h"
+
+#define NOT_SUPPORTED UINT64_MAX
+#define SUCCESS 0
+
+#define SMCCC_VERSION UINT32_C(0x80000000)
+#define SMCCC_ARCH_FEATURES UINT32_C(0x80000001)
+#define PSCI_VERSION UINT32_C(0x84000000)
+#define PSCI_MIGRATE_INFO_TYPE UINT32_C(0x84000006)
+#define PSCI_SYSTEM_OFF UINT32_C(0x84000008)
+#define PSCI_SYSTEM_RESET UINT32_C(0x84000009)
+#define PSCI_FEATURES UINT32_C(0x8400000A)
+
+#define VERSION(major, minor) ((uint64_t)(major) << 16 | (minor))
+#define NOTHING_TO_MIGRATE 2
+
+/* Linux's arm_ffa driver wants SMCCC 1.2, and asks for SMCCC's version only where PSCI_FEATURES knows it. */
+static uint64_t feature(uint32_t function) {
+    switch (function) {
+    case SMCCC_VERSION:
+    case PSCI_VERSION:
+    case PSCI_MIGRATE_INFO_TYPE:
+    case PSCI_SYSTEM_OFF:
+    case PSCI_SYSTEM_RESET:
+    case PSCI_FEATURES:
+        return SUCCESS;
+    default:
+        return NOT_SUPPORTED;
+    }
+}
+
+static uint64_t answer(const struct context *context) {
+    switch ((uint32_t)context->x[0]) {
+    case SMCCC_VERSION:
+        return VERSION(1, 2);
+    case SMCCC_ARCH_FEATURES:
+        return (uint32_t)context->x[1] == SMCCC_VERSION ? SUCCESS : NOT_SUPPORTED;
+    case PSCI_VERSION:
+        return VERSION(1, 1);
+    case PSCI_MIGRATE_INFO_TYPE:
+        return NOTHING_TO_MIGRATE;
+    case PSCI_FEATURES:
+        return feature((uint32_t)context->x[1]);
+    default:
+        return NOT_SUPPORTED;
+    }
+}
+
+void serve_power_call(struct context *context) {
+    uint32_t function = (uint32_t)context->x[0];
+    if (function == PSCI_SYSTEM_OFF) {
+        begin_line();
+        end_well();
+    }
+    if (function == PSCI_SYSTEM_RESET) {
+        begin_line();
+        stop("Linux wants a reset");
+    }
+    context->x[0] = answer(context);
+    begin_line();
+    put_text("# call ");
+    put_number(function);
+    put_text(" that isn't FF-A's: ");
+    put_number(context->x[0]);
+    put_text("\n");
+}
