@@ -1,6 +1,6 @@
 /* SPDX-License-Identifier: MIT OR Apache-2.0 */
-/* Links libffa_c.a with no C library: what firmware has to give, one boot in pages of its own, and their return. The few lines
- * of assembler tell Linux the result; firmware has none of them. */
+/* Links libffa_c.a with no C library: what firmware has to give beside memory (array.c), one boot in pages of its own, and their
+ * return. The few lines of assembler tell Linux the result; firmware has none of them. */
 #include "gorseplumb.h"
 #include "lending.h"
 
@@ -28,34 +28,6 @@ void *memset(void *to, int byte, size_t size) {
     while (size--) *t++ = (unsigned char)byte;
     return to;
 }
-
-struct tried {
-    bool ok;
-    void *p;
-};
-
-struct tried rattle_alloc(size_t size, size_t align);
-struct tried rattle_realloc(void *block, size_t kept, size_t size, size_t align);
-void rattle_dealloc(void *block);
-
-/* Memory that is given and never taken back, since a boot takes little. */
-static _Alignas(16) unsigned char memory[1 << 20];
-static size_t taken;
-
-struct tried rattle_alloc(size_t size, size_t align) {
-    size_t whole = ((size != 0 ? size : align) + 15) & ~(size_t)15;
-    if (whole > sizeof memory - taken) return (struct tried){false, memory};
-    taken += whole;
-    return (struct tried){true, memory + taken - whole};
-}
-
-struct tried rattle_realloc(void *block, size_t kept, size_t size, size_t align) {
-    struct tried moved = rattle_alloc(size, align);
-    if (moved.ok) memcpy(moved.p, block, kept);
-    return moved;
-}
-
-void rattle_dealloc(void *block) { (void)block; }
 
 /* No processor walks these tables: nothing is to be settled. */
 void ffa_settle(uint16_t endpoint, uint64_t address, uint64_t size) { (void)endpoint, (void)address, (void)size; }

@@ -11,34 +11,6 @@
 #define BELOW_BYTES 0x100000
 #define PAINT 0xA5
 
-struct tried {
-    bool ok;
-    void *p;
-};
-
-struct tried rattle_alloc(size_t size, size_t align);
-struct tried rattle_realloc(void *block, size_t kept, size_t size, size_t align);
-void rattle_dealloc(void *block);
-
-/* Memory that is given and never taken back: 2 MiB are the RAM of one machine. */
-static _Alignas(16) unsigned char memory[4 << 20];
-static size_t taken;
-
-struct tried rattle_alloc(size_t size, size_t align) {
-    size_t whole = ((size != 0 ? size : align) + 15) & ~(size_t)15;
-    if (whole > sizeof memory - taken) return (struct tried){false, memory};
-    taken += whole;
-    return (struct tried){true, memory + taken - whole};
-}
-
-struct tried rattle_realloc(void *block, size_t kept, size_t size, size_t align) {
-    struct tried moved = rattle_alloc(size, align);
-    if (moved.ok) memcpy(moved.p, block, kept);
-    return moved;
-}
-
-void rattle_dealloc(void *block) { (void)block; }
-
 void ffa_settle(uint16_t endpoint, uint64_t address, uint64_t size) { (void)endpoint, (void)address, (void)size; }
 
 /* Runs a function on the stack that ends below `top`. */
