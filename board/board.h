@@ -1,5 +1,6 @@
 /* SPDX-License-Identifier: MIT OR Apache-2.0 */
-/* The board: a machine of the core, and its endpoints as programs that the processor runs. */
+/* The board: a machine of the core, and its endpoints, which the processor runs. What stands here serves each firmware: that of scenes, and
+ * the one in linux/. */
 #ifndef BOARD_BOARD_H
 #define BOARD_BOARD_H
 
@@ -12,32 +13,26 @@ struct board {
     uint32_t count; /* of endpoints */
     struct endpoint endpoints[FFA_MOST_ENDPOINTS];
     uint32_t running; /* a place of the manifest */
-    bool answered;    /* a call was answered, and nobody has told yet what it sees */
-    uint64_t calls;   /* how many were made by programs */
-    const char *scene;
-    bool everywhere; /* the walks of all addresses are asked at the scene's end */
-    bool generated;  /* operations are made up before those of the scene */
 };
 
-/* Makes the machine of a manifest's text in the board's own RAM. */
-void boot(struct board *board, const char *manifest);
+static inline struct endpoint *running(struct board *board) { return &board->endpoints[board->running]; }
+
+/* How a machine is made of a manifest's text in the pages of a list: ffa_boot_lent. */
+typedef uint32_t boot_in_list(struct ffa_machine *machine, struct ffa_lent *list, const uint8_t *text, size_t size);
+
+/* Makes the machine of a manifest's text in the first pages of the board's own RAM, as many as the manifest asks for. Its endpoints have their
+ * identifiers and their tables then. */
+void boot(struct board *board, const char *manifest, boot_in_list *boot_in);
 
 /* From here on the core may ask for no memory: the board stops where it does. */
 void end_memory(void);
 
-/* Stores each endpoint's program into its page, and its generator where operations are made up, as operations of that endpoint. */
-void place_programs(struct board *board);
+/* A call of the endpoint that runs: its x0 to x7, as the trap left them, go to the core, and what comes back goes to x0 to x7 of whoever runs
+ * next, from here on. */
+void serve_call(struct board *board);
 
-/* The next operation of the endpoint that runs. It doesn't come back where there is none. */
-struct operation next_operation(struct board *board);
-
-/* Serves the exceptions of endpoints until the scene ends. */
-_Noreturn void run_board(struct board *board);
-
-/* Prints who runs, and who owns and reaches each page, as the processor's walks have it. */
-void show(struct board *board);
-
-/* Sees that the processor's walks give no endpoint a page outside RAM. */
-void look_outside(struct board *board);
+/* What a firmware does right before the core has a call, and right behind its answer. Each firmware defines both. */
+void begin_call(struct board *board, const struct ffa_registers *registers);
+void end_call(struct board *board, const struct ffa_registers *registers, const struct ffa_outcome *outcome);
 
 #endif

@@ -1,13 +1,10 @@
 /* SPDX-License-Identifier: MIT OR Apache-2.0 */
 #include "board.h"
-#include "calls.h"
 #include "layout.h"
-#include "lending.h"
-#include "operation.h"
-#include "tables.h"
 #include "text.h"
 
 #define PAGES_OF_BLOCK 512
+#define MOST_PAGES (PAGES_OF_BLOCK * FFA_MOST_BLOCKS)
 
 _Static_assert(RAM_BASE > FIRMWARE_BASE || RAM_BASE + FFA_MOST_RAM <= FIRMWARE_BASE, "a machine's RAM may reach into the firmware");
 
@@ -17,66 +14,31 @@ static uint32_t length_of(const char *text) {
     return length;
 }
 
-/* Boots in the first pages of the board's RAM, as many as the manifest asks for. */
-void boot(struct board *board, const char *manifest) {
-    struct ffa_page *ram = (struct ffa_page *)RAM_BASE;
+static void lend_block(struct board *board, struct ffa_lent *list) {
+    struct ffa_span block = {(struct ffa_page *)RAM_BASE + board->pages, PAGES_OF_BLOCK};
+    if (ffa_lend_span(list, &block) != FFA_OK) stop("no pages were lent");
+    board->pages += PAGES_OF_BLOCK;
+}
+
+/* Who the endpoints are, and where their tables begin. */
+static void name_endpoints(struct board *board) {
+    uint32_t tables = 2 + board->pages / PAGES_OF_BLOCK;
+    board->count = ffa_endpoints(&board->machine);
+    for (uint32_t i = 0; i < board->count; i++) {
+        board->endpoints[i].identifier = identifier_of(i);
+        board->endpoints[i].root = RAM_BASE + (uint64_t)FFA_PAGE_BYTES * i * tables;
+    }
+}
+
+void boot(struct board *board, const char *manifest, boot_in_list *boot_in) {
     struct ffa_lent list = {0};
     uint32_t answer = FFA_WRONG_COUNT;
-    for (uint32_t blocks = 1; blocks <= FFA_MOST_BLOCKS && answer == FFA_WRONG_COUNT; blocks++) {
-        board->pages = PAGES_OF_BLOCK * blocks;
-        if (lend_all(&list, ram, board->pages) != FFA_OK) stop("no pages were lent");
-        answer = ffa_boot_lent(&board->machine, &list, (const uint8_t *)manifest, length_of(manifest));
-        if (answer == FFA_WRONG_COUNT && !take_all_back(&list, ram, board->pages)) stop("pages stayed lent");
+    if (ffa_begin_lending(&list, MOST_PAGES) != FFA_OK) stop("there is no list of pages");
+    while (answer == FFA_WRONG_COUNT && board->pages < MOST_PAGES) {
+        lend_block(board, &list);
+        answer = boot_in(&board->machine, &list, (const uint8_t *)manifest, length_of(manifest));
     }
     if (answer != FFA_OK) stop("the manifest is refused");
-    board->count = ffa_endpoints(&board->machine);
-}
-
-/* Where an endpoint's program stands: the last page that it may load, store and fetch. */
-static uint64_t page_of_program(struct board *board, uint16_t identifier) {
-    for (uint32_t page = board->pages; page > 0; page--) {
-        if (ffa_access(&board->machine, identifier, page - 1) == (FFA_WRITE | FFA_EXECUTE)) {
-            return RAM_BASE + (uint64_t)FFA_PAGE_BYTES * (page - 1);
-        }
-    }
-    stop("an endpoint has no page for its program");
-}
-
-/* The core does an operation for the endpoint that runs by its account. No program runs yet. */
-static void store(struct board *board, uint64_t address, uint64_t value) {
-    struct operation operation = {.kind = STORE, .address = address, .size = 8, .value = value};
-    put_operation(&operation);
-    if (ffa_store(&board->machine, address, 8, value).kind != FFA_DONE) stop("a program can't be stored");
-    put_done();
-}
-
-static void call(struct board *board, uint64_t function, uint64_t argument) {
-    struct operation operation = {.kind = CALL, .x = {function, argument}};
-    struct ffa_registers registers = {.x = {function, argument}};
-    put_operation(&operation);
-    struct ffa_outcome told = ffa_call(&board->machine, &registers);
-    put_registers(told.runner, told.x);
-}
-
-/* Instructions by two, but for what is zero in RAM already, and the endpoint's identifier where the program has room for it. */
-static void place(struct board *board, struct endpoint *endpoint, uint64_t address, const uint32_t *begin, const uint32_t *end) {
-    for (const uint32_t *at = begin; at < end; at += 2, address += 8) {
-        uint64_t word = at == program_identity ? endpoint->identifier : at[0] | (uint64_t)at[1] << 32;
-        if (word != 0) store(board, address, word);
-    }
-}
-
-void place_programs(struct board *board) {
-    for (uint32_t i = 0; i < board->count; i++) {
-        struct endpoint *endpoint = &board->endpoints[i];
-        endpoint->identifier = identifier_of(i);
-        endpoint->root = RAM_BASE + (uint64_t)FFA_PAGE_BYTES * i * (2 + board->pages / PAGES_OF_BLOCK);
-        endpoint->program = page_of_program(board, endpoint->identifier);
-        if (i != 0) call(board, FFA_RUN, (uint64_t)endpoint->identifier << 16);
-        place(board, endpoint, endpoint->program, program_begin, program_end);
-        if (board->generated) place(board, endpoint, endpoint->program - GENERATOR_CODE, generator_begin, generator_end);
-        if (i != 0) call(board, FFA_MSG_WAIT, 0);
-        begin_context(&endpoint->context, endpoint->program);
-    }
-    if (WRONG_ROOT) board->endpoints[1].root = board->endpoints[2 % board->count].root;
+    name_endpoints(board);
+    end_memory();
 }

@@ -1,10 +1,9 @@
 /* SPDX-License-Identifier: MIT OR Apache-2.0 */
 #include "doing.h"
+#include "exception.h"
 #include "layout.h"
 #include "processor.h"
 #include "text.h"
-
-struct endpoint *running(struct board *board) { return &board->endpoints[board->running]; }
 
 _Noreturn void unexpected(struct board *board, const char *what) {
     struct endpoint *endpoint = running(board);
@@ -12,13 +11,7 @@ _Noreturn void unexpected(struct board *board, const char *what) {
     put_text(what);
     put_text(" of ");
     put_hex(endpoint->identifier, 4);
-    put_text(": syndrome ");
-    put_number(read_esr_el2());
-    put_text(", fault address ");
-    put_number(read_far_el2());
-    put_text(", program counter ");
-    put_number(endpoint->context.pc);
-    put_text("\n");
+    put_exception(read_esr_el2(), read_far_el2(), endpoint->context.pc);
     stop("unexpected");
 }
 

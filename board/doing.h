@@ -5,8 +5,6 @@
 
 #include "board.h"
 
-struct endpoint *running(struct board *board);
-
 /* An exception that fits nothing that was asked for: it is printed, for the comparison to find it, and the board stops. */
 _Noreturn void unexpected(struct board *board, const char *what);
 

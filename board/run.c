@@ -3,17 +3,21 @@
 #include "layout.h"
 #include "processor.h"
 #include "generators.h"
-#include "tables.h"
+#include "scene.h"
 #include "text.h"
 #include "watch.h"
 #include "words.h"
 
+/* How many calls were made by programs, and whether the last was answered and nobody has told yet what it sees. */
+static uint64_t calls;
+static bool answered;
+
 static unsigned logarithm_of(unsigned size) { return size == 1 ? 0 : size == 2 ? 1 : size == 4 ? 2 : 3; }
 
-static void dispatch_call(struct board *board, struct endpoint *endpoint) {
+static void dispatch_call(struct endpoint *endpoint) {
     for (unsigned i = 0; i < 8; i++) endpoint->context.x[i] = endpoint->operation.x[i];
     endpoint->phase = DOING;
-    dispatch(endpoint, board->calls++ % 2 == 0 ? DO_HVC : DO_SMC);
+    dispatch(endpoint, calls++ % 2 == 0 ? DO_HVC : DO_SMC);
 }
 
 /* The program does an operation, of which its line is printed first. */
@@ -23,7 +27,7 @@ static void give(struct board *board, struct operation operation) {
     put_operation(&operation);
     switch (endpoint->operation.kind) {
     case CALL:
-        dispatch_call(board, endpoint);
+        dispatch_call(endpoint);
         break;
     case LOAD:
         dispatch_access(endpoint, DO_LOAD + logarithm_of(endpoint->operation.size), DOING);
@@ -69,38 +73,21 @@ static void told(struct board *board) {
 /* The program tells what it sees when it runs: what the call before was answered. */
 static void seen(struct board *board) {
     struct endpoint *endpoint = running(board);
-    if (board->answered) put_registers((uint32_t)endpoint->context.x[8], endpoint->context.x);
-    board->answered = false;
+    if (answered) put_registers((uint32_t)endpoint->context.x[8], endpoint->context.x);
+    answered = false;
     endpoint->phase = SETTLED;
 }
 
-/* Another endpoint runs than who called. */
-static void switch_to(struct board *board, uint32_t next) {
-    save_system(&running(board)->context);
-    board->running = next;
-    load_system(&running(board)->context);
-}
-
-static struct ffa_registers first_registers(const struct context *context) {
-    struct ffa_registers registers;
-    for (unsigned i = 0; i < 8; i++) registers.x[i] = context->x[i];
-    return registers;
-}
-
-/* A call: the trap hands x0 to x7 to the core, and puts back what comes, of whoever runs next. */
-static void serve_call(struct board *board) {
-    struct endpoint *caller = running(board);
-    if (caller->operation.kind != CALL || caller->phase != DOING) unexpected(board, "call");
-    struct ffa_registers registers = first_registers(&caller->context);
+void begin_call(struct board *board, const struct ffa_registers *registers) {
+    (void)registers;
+    if (running(board)->operation.kind != CALL || running(board)->phase != DOING) unexpected(board, "call");
     begin_change();
-    struct ffa_outcome outcome = ffa_call(&board->machine, &registers);
-    after_call((uint32_t)registers.x[0], (uint32_t)outcome.x[0]);
+}
+
+void end_call(struct board *board, const struct ffa_registers *registers, const struct ffa_outcome *outcome) {
+    (void)registers, (void)outcome;
     end_change(board);
-    uint32_t next = place_of(outcome.runner);
-    if (outcome.kind != FFA_REGISTERS || next >= board->count) unexpected(board, "outcome");
-    if (next != board->running) switch_to(board, next);
-    for (unsigned i = 0; i < 8; i++) running(board)->context.x[i] = outcome.x[i];
-    board->answered = true;
+    answered = true;
 }
 
 /* An abort that EL2 takes: it is what came of the access that was asked for. The instruction is skipped, and of a fetch control goes

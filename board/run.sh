@@ -3,16 +3,10 @@
 # Builds the board's firmware over the core's library for AArch64, has QEMU run each scene on it, and compares what the processor did with what the
 # program ffaplay prints of the same operations. With --help it says more.
 set -euo pipefail
-here=$(cd "$(dirname "${BASH_SOURCE[0]}")" && pwd)
-top=$(dirname "$here")
-scenes=$here/scenes
-player=${FFAPLAY:-$top/ffaplay} # the program, which judges
+me=board
+. "$(dirname "${BASH_SOURCE[0]}")/common.sh"
+scenes=$board/scenes
 packages=(qemu-system-arm gcc-aarch64-linux-gnu)
-compiler=aarch64-linux-gnu-gcc
-copier=aarch64-linux-gnu-objcopy
-emulator=qemu-system-aarch64
-flags=(-std=c11 -Wall -Wextra -Wpedantic -Wshadow -Werror -ffreestanding -fno-stack-protector -fno-tree-loop-distribute-patterns
-    -mno-outline-atomics "-I$top/c" "-I$here" -nostdlib -static "-Wl,--gc-sections" "-Wl,--build-id=none")
 
 usage() {
     cat <<'HELP'
@@ -38,17 +32,6 @@ It ends with 0 and `passed`, with 1 and what differs or is missing, or with 64 w
 HELP
 }
 
-fail() {
-    echo "board: $*" >&2
-    exit 1
-}
-
-refuse() {
-    echo "board: $*" >&2
-    usage >&2
-    exit 64
-}
-
 keep='' seed=1 operations=10000 rounds=60 install='' breaks=() manifests=() traces=()
 while (($#)); do
     case $1 in
@@ -64,40 +47,19 @@ while (($#)); do
     esac
     shift
 done
-is_count() { [[ $1 =~ ^(0|[1-9][0-9]{0,8})$ ]]; }
 is_count "$seed" || refuse "the seed is a number below a thousand million, and not $seed"
 is_count "$operations" || refuse "the number of operations is one below a thousand million, and not $operations"
 is_count "$rounds" || refuse "the number of rounds is one below a thousand million, and not $rounds"
 ((${#breaks[@]} < 2)) || refuse "one --break at a time"
-if [[ $install ]]; then
-    command -v apt-get >/dev/null || fail "there is no apt-get, by which --install installs Debian's ${packages[*]}"
-    log=$(apt-get update 2>&1 && apt-get install -y --no-install-recommends "${packages[@]}" 2>&1) || fail "packages aren't installed: $log"
-fi
-for command in $compiler $copier $emulator; do
-    command -v "$command" >/dev/null || fail "there is no $command: Debian has it in ${packages[*]}, which board/run.sh --install installs"
-done
-command -v rt >/dev/null || fail "there is no rt, the toolchain's command: README.md says what is needed"
+if [[ $install ]]; then install_packages "${packages[@]}"; fi
+needs "${packages[*]}" $compiler $copier $emulator
 if [[ $keep ]]; then mkdir -p "$keep"; fi
 to=$(mktemp -d)
 trap 'rm -rf "$to"' EXIT
 
-# The core's archive for AArch64, as $to/arm.a, which may stand ready in the folder ARCHIVES. An archive that was there, for another target, is there again afterwards.
-make_archive() {
-    if [[ -e ${ARCHIVES:-}/arm.a ]]; then
-        cp "$ARCHIVES/arm.a" "$to/arm.a"
-        return
-    fi
-    local at=$top/crates/ffa_c/out/libffa_c.a
-    if [[ -e $at ]]; then cp -p "$at" "$to/before.a"; fi
-    (cd "$top/crates/ffa_c" && rt lib --target aarch64-unknown-linux-gnu) >"$to/log" 2>&1 || fail "the archive isn't made, rt lib ended with $?: $(cat "$to/log")"
-    mv "$at" "$to/arm.a"
-    if [[ -e $to/before.a ]]; then cp -p "$to/before.a" "$at"; fi
-}
-
-# The code of the endpoints' generators, which stands in pages of their own: no translation of EL1's, no vector registers, no variables.
+# The code of the endpoints' generators.
 build_generator() {
-    $compiler "${flags[@]}" -Os -fpie -mgeneral-regs-only -ffunction-sections -T "$here/generator/generator.ld" \
-        "$here"/generator/*.c "$here/bytes.c" -o "$to/generator.elf"
+    $compiler "${flags[@]}" "${program_flags[@]}" -T "$board/generator/generator.ld" "$board"/generator/*.c "$top/c/bytes.c" -o "$to/generator.elf"
     $copier -O binary "$to/generator.elf" "$to/generator.bin"
 }
 
@@ -107,21 +69,17 @@ build() { build_over "$to/arm.a" "$@"; }
 build_over() {
     local core=$1 name=$2
     shift 2
-    $compiler "${flags[@]}" -O2 "$@" -Wl,--no-warn-rwx-segments -Wa,-I"$to" -T "$here/board.ld" "$here"/*.c "$here"/*.S "$top/c/settle.c" "$core" -o "$to/$name.elf"
+    $compiler "${flags[@]}" -O2 "$@" -Wl,--no-warn-rwx-segments -Wa,-I"$to" -T "$board/board.ld" "$board"/*.c "$board"/*.S "$top"/c/{bytes,settle}.c "$core" -o "$to/$name.elf"
 }
 
-# Runs a scene, and has the program play what was done: play FIRMWARE PROCESSOR MANIFEST SCENE, true where both print the same. What was
-# printed is in $to/uart, trace, found and expected. A firmware that hangs, or an emulator that doesn't run it, prints no end.
+# Runs a scene, and has the program play what was done: play FIRMWARE PROCESSOR MANIFEST SCENE, true where both print the same. What the
+# program printed is in $to/expected.
 play() {
-    local memory=256M processors=1
+    local devices memory=256M processors=1
     if [[ $1 == high ]]; then memory=3G; fi
     if is_watched "$4"; then processors=2; fi
-    : >"$to/uart"
-    timeout 300 $emulator -machine virt,virtualization=on -accel tcg,thread=multi -smp $processors -cpu "$2" -m $memory -nodefaults -display none -serial "file:$to/uart" \
-        -kernel "$to/$1.elf" -device "loader,file=$3,addr=0x48000000,force-raw=on" \
-        -device "loader,file=$4,addr=0x49000000,force-raw=on" </dev/null >&2 || echo "! $emulator ended with $?" >>"$to/uart"
-    sed -n 's/^> //p' "$to/uart" >"$to/trace"
-    sed -n 's/^< //p' "$to/uart" >"$to/found"
+    mapfile -t devices < <(loader "$3" 48000000 && loader "$4" 49000000)
+    emulate "$1" -machine virt,virtualization=on -accel tcg,thread=multi -smp $processors -cpu "$2" -m $memory "${devices[@]}"
     "$player" run "$3" "$to/trace" >"$to/expected" || fail "the program doesn't play what $(basename "$4") did"
     if [[ $keep ]]; then keep_scene "$1-$2-$(basename "$4")"; fi
     has_end && ! grep -q '^!' "$to/uart" && cmp -s "$to/expected" "$to/found"
@@ -129,8 +87,6 @@ play() {
 
 # Whether a second processor runs beside a scene.
 is_watched() { grep -q '^watch ' "$1"; }
-
-has_end() { [[ $(tail -n 1 "$to/uart") == "= end" ]]; }
 
 keep_scene() {
     for kind in uart trace found expected; do cp "$to/$kind" "$keep/$1.$kind"; done
@@ -223,8 +179,8 @@ make_scenes() {
     add "$scenes/generators.toml" "$to/random"
     add "$scenes/machine.toml" "$to/generated-machine"
     add "$scenes/four.toml" "$to/generated-four"
-    "$here/watches" 3 "$rounds" >"$to/watch-owner"
-    "$here/watches" 2 "$rounds" >"$to/watch-borrower"
+    "$board/watches" 3 "$rounds" >"$to/watch-owner"
+    "$board/watches" 2 "$rounds" >"$to/watch-borrower"
     add "$scenes/four.toml" "$to"/watch-{owner,borrower}
 }
 
@@ -251,7 +207,7 @@ found() {
 
 # A firmware over a core that its proofs refuse, by an edit of board/broken, and the scene of two processors that shows it.
 find_unproved() {
-    "$here/unproved" --edit "$here/broken/$1.edit" "$to/$1.o"
+    "$board/unproved" --edit "$board/broken/$1.edit" "$to/$1.o"
     build_over "$to/$1.o" "$1"
     found "$1" "$2" watch
 }
@@ -266,7 +222,7 @@ find_break() {
     esac
 }
 
-make_archive
+make_archive "$top"
 [[ -n ${FFAPLAY:-} ]] || "$top/ffaplay" prove
 make_scenes
 build_generator

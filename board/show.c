@@ -1,9 +1,8 @@
 /* SPDX-License-Identifier: MIT OR Apache-2.0 */
-#include "board.h"
 #include "doing.h"
 #include "layout.h"
 #include "processor.h"
-#include "tables.h"
+#include "scene.h"
 #include "text.h"
 
 SYSTEM_REGISTER(par_el1)

@@ -55,7 +55,8 @@ _start:
 0:      wfe
         b       0b
 
-/* The second processor's entry, with translation off. */
+/* The second processor's entry, with translation off: in a firmware that starts one. */
+        .section .text.second, "ax"
         .global second_start
 second_start:
         msr     daifset, #15
@@ -68,6 +69,7 @@ second_start:
         b       0b
 
 /* A stack pointer, x0, and where exceptions go. */
+        .section .text.start, "ax"
 begin:
         msr     spsel, #1
         mov     sp, x0

@@ -3,27 +3,18 @@
 #include "calls.h"
 #include "endpoint.h"
 #include "gorseplumb.h"
-#include "layout.h"
 #include "processor.h"
-#include "watch.h"
 
 SYSTEM_REGISTER(par_el1)
 
 /* The fields of registers are those of DDI 0487, under the register's name.
  *
- * HCR_EL2: stage 2 is on (VM), EL1 is AArch64 (RW), its SMC, WFI and WFE trap (TSC, TWI, TWE), interrupts go to EL2 (FMO, IMO, AMO), and EL1 has no
- * translation of its own, with memory that is normal and write-back (DC). */
-#define HCR (UINT64_C(1) << 0 | UINT64_C(7) << 3 | UINT64_C(7) << 12 | UINT64_C(1) << 19 | UINT64_C(1) << 31)
-
-/* VTCR_EL2: T0SZ 32, SL0 1, write-back walks (IRGN0, ORGN0) that are inner shareable (SH0), TG0 0 and 40 bits of physical address (PS). */
+ * VTCR_EL2: T0SZ 32, SL0 1, write-back walks (IRGN0, ORGN0) that are inner shareable (SH0), TG0 0 and 40 bits of physical address (PS). */
 #define VTCR (UINT64_C(32) | UINT64_C(1) << 6 | UINT64_C(5) << 8 | UINT64_C(3) << 12 | UINT64_C(2) << 16 | UINT64_C(1) << 31)
 
 /* VTTBR_EL2.VMID has 8 bits, as VTCR_EL2.VS is 0. Endpoints have 1 and on. */
 #define VMID_OF(place) ((place) + UINT64_C(1))
 #define UNUSED_VMID 255
-
-/* The second processor is awaited in one of so many settlings that forget nothing, as there is one for each page of zeros. */
-#define AWAITED_IN 64
 
 /* Up to so many pages are forgotten one by one. */
 #define MOST_SINGLY 16
@@ -35,10 +26,10 @@ static void load_root(uint64_t root, uint64_t vmid) {
     DO("isb");
 }
 
-void begin_tables(void) {
+void begin_tables(uint64_t hcr) {
     write_vtcr_el2(VTCR);
     load_root((uintptr_t)maps_nothing, UNUSED_VMID);
-    write_hcr_el2(HCR);
+    write_hcr_el2(hcr);
     DO("isb");
 }
 
@@ -63,13 +54,17 @@ static void forget(uint32_t place, uint64_t address, uint64_t size) {
     DO("isb");
 }
 
-void ffa_settle(uint16_t endpoint, uint64_t address, uint64_t size) {
-    static uint32_t turn;
+static struct settled settled;
+
+void settle_tables(uint16_t endpoint, uint64_t address, uint64_t size) {
     DO("dsb ishst");
-    if (size != 0) note_settling(endpoint);
-    if (SETTLE && size != 0) forget(place_of(endpoint), address, size);
-    if (size != 0 || turn++ % AWAITED_IN == 0) await_watch();
+    if (size == 0) return;
+    settled.times++;
+    settled.pages += size / FFA_PAGE_BYTES;
+    if (SETTLE) forget(place_of(endpoint), address, size);
 }
+
+struct settled all_settled(void) { return settled; }
 
 /* Whether a call that ends well may change bytes of pages, or who has them. */
 static bool changes_bytes(uint32_t function) {

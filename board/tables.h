@@ -14,11 +14,28 @@
 #define WRONG_ROOT 0 /* the partition 8001 runs with the tables of the next endpoint */
 #endif
 
-/* Turns stage 2 on for EL1, with no table of the machine walked yet. */
-void begin_tables(void);
+/* Fields of HCR_EL2 (DDI 0487), of which each firmware says what it has while an endpoint runs: VM and TSC at least. */
+#define HCR_VM (UINT64_C(1) << 0)         /* stage 2 is on */
+#define HCR_INTERRUPTS (UINT64_C(7) << 3) /* FMO, IMO, AMO: interrupts go to EL2 */
+#define HCR_DC (UINT64_C(1) << 12)        /* EL1 has no translation of its own, and memory is normal and write-back */
+#define HCR_WAITS (UINT64_C(3) << 13)     /* TWI, TWE: WFI and WFE trap */
+#define HCR_TSC (UINT64_C(1) << 19)       /* an SMC traps */
+#define HCR_RW (UINT64_C(1) << 31)        /* EL1 is AArch64 */
+
+/* Turns stage 2 on for EL1, with this HCR_EL2, and with no table of the machine walked yet. */
+void begin_tables(uint64_t hcr);
 
 /* Has EL1 walk the tables of the endpoint at a place of the manifest, whose level 1 table this is. */
 void walk_tables(uint32_t place, uint64_t root);
+
+/* What ffa_settle has to do, which each firmware defines. */
+void settle_tables(uint16_t endpoint, uint64_t address, uint64_t size);
+
+/* How often translations had to be forgotten, and of how many pages. */
+struct settled {
+    uint64_t times, pages;
+};
+struct settled all_settled(void);
 
 /* After a call: what it did is seen by whoever runs next, on each processor. */
 void after_call(uint32_t function, uint32_t answer);

@@ -2,7 +2,7 @@
 #include "watch.h"
 #include "layout.h"
 #include "processor.h"
-#include "tables.h"
+#include "scene.h"
 #include "text.h"
 
 #define MOST_WATCHED 64
@@ -19,6 +19,9 @@
 #define FREE_BURST 64
 #define LONG_BURST 256
 #define AWAITED 6
+
+/* The second processor is awaited in one of so many settlings that forget nothing, as there is one for each page of zeros. */
+#define AWAITED_IN 64
 
 /* What was to be seen is kept behind so many operations. */
 #define KEPT 1024
@@ -250,17 +253,26 @@ static unsigned watch_pages(uint64_t turn) {
     return count;
 }
 
-void note_settling(uint16_t endpoint) {
+/* The core has something settled in an endpoint's tables. */
+static void note_settling(uint16_t endpoint) {
     if (endpoint == watch.identifier) watch.settled[(version + 1) / 2 % KEPT] = true;
 }
 
-void await_watch(void) {
+/* Waits until the second processor has made some accesses, if it doesn't wait itself. */
+static void await_watch(void) {
     write_now(&wanted, read_now(&tried) + AWAITED);
     while (watch.on && is_awaited() && !read_now(&waits)) continue;
 }
 
+void ffa_settle(uint16_t endpoint, uint64_t address, uint64_t size) {
+    static uint32_t turn;
+    if (size != 0) note_settling(endpoint);
+    settle_tables(endpoint, address, size);
+    if (size != 0 || turn++ % AWAITED_IN == 0) await_watch();
+}
+
 void second_processor(void) {
-    begin_tables();
+    begin_tables(PROGRAM_HCR);
     walk_tables(watch.place, watch.root);
     load_system(&watch.runs.context);
     uint64_t turn = 0;

@@ -15,12 +15,6 @@ void begin_watch(struct board *board, uint32_t place, uint64_t first, uint32_t c
 void begin_change(void);
 void end_change(struct board *board);
 
-/* The core has something settled in an endpoint's tables. */
-void note_settling(uint16_t endpoint);
-
-/* Waits until the second processor has made some accesses, if it doesn't wait itself: while the core has something settled. */
-void await_watch(void);
-
 /* Stops the second processor, and prints what it saw. */
 void end_watch(void);
 

@@ -1,33 +1,8 @@
 /* SPDX-License-Identifier: MIT OR Apache-2.0 */
-/* Links libffa_c.a with no C library: what firmware has to give beside memory (array.c), one boot in pages of its own, and their
- * return. The few lines of assembler tell Linux the result; firmware has none of them. */
+/* Links libffa_c.a with no C library: what firmware has to give beside memory (array.c) and copies of bytes (bytes.c), one boot in
+ * pages of its own, and their return. The few lines of assembler tell Linux the result; firmware has none of them. */
 #include "gorseplumb.h"
 #include "lending.h"
-
-void *memcpy(void *to, const void *from, size_t size);
-void *memmove(void *to, const void *from, size_t size);
-void *memset(void *to, int byte, size_t size);
-
-void *memcpy(void *to, const void *from, size_t size) {
-    unsigned char *t = to;
-    const unsigned char *f = from;
-    while (size--) *t++ = *f++;
-    return to;
-}
-
-void *memmove(void *to, const void *from, size_t size) {
-    unsigned char *t = to;
-    const unsigned char *f = from;
-    if (t < f) return memcpy(to, from, size);
-    while (size--) t[size] = f[size];
-    return to;
-}
-
-void *memset(void *to, int byte, size_t size) {
-    unsigned char *t = to;
-    while (size--) *t++ = (unsigned char)byte;
-    return to;
-}
 
 /* No processor walks these tables: nothing is to be settled. */
 void ffa_settle(uint16_t endpoint, uint64_t address, uint64_t size) { (void)endpoint, (void)address, (void)size; }

@@ -2,7 +2,7 @@
 /* Boots a machine from numbers and operates it on a stack of 64 KiB, with no C library, as firmware may: in lent pages, and on RAM of
  * the heap. The stack and 1 MiB below it are painted anew for each part, and the part took what isn't paint behind it. Where that is
  * more than the stack, the status is 1. The assembler asks Linux to write and to end; firmware has none of that. */
-#include "../board/bytes.h"
+#include "bytes.h"
 #include "../board/calls.h"
 #include "gorseplumb.h"
 #include "lending.h"

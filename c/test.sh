@@ -91,11 +91,11 @@ for compiler in gcc clang; do
     $compiler $strict $sanitized "$here/play.c" "$here/heap.c" "$to/native.a" -o "$to/play"
     plays "$compiler, sanitized" "$to/play"
     bare="$strict -O2 -ffreestanding -fno-stack-protector -nostdlib -static"
-    $compiler $bare "$here/freestanding.c" "$here/array.c" "$here/settle.c" "$to/native.a" -o "$to/whole"
-    $compiler $bare -Wl,--gc-sections "$here/freestanding.c" "$here/array.c" "$here/settle.c" "$to/native.a" -o "$to/free"
+    $compiler $bare "$here"/{freestanding,array,bytes,settle}.c "$to/native.a" -o "$to/whole"
+    $compiler $bare -Wl,--gc-sections "$here"/{freestanding,array,bytes,settle}.c "$to/native.a" -o "$to/free"
     "$to/free"
     echo "$compiler: linked with no C library, and run: $(bytes "$to/free") bytes, and $(bytes "$to/whole") with what nobody calls"
-    $compiler $bare -Wl,--gc-sections -DARRAY_BYTES=0x400000 "$here/small_stack.c" "$here/array.c" "$top/board/bytes.c" "$here/settle.c" "$to/native.a" -o "$to/small"
+    $compiler $bare -Wl,--gc-sections -DARRAY_BYTES=0x400000 "$here"/{small_stack,array,bytes,settle}.c "$to/native.a" -o "$to/small"
     says "$compiler" "$to/small"
 done
 if has g++; then
@@ -121,10 +121,10 @@ if has aarch64-linux-gnu-gcc && has qemu-aarch64-static; then
     $arm "$here/play.c" "$here/heap.c" "$to/arm.a" -o "$to/play"
     plays AArch64 qemu-aarch64-static "$to/play"
     bare="-ffreestanding -fno-stack-protector -nostdlib -Wl,--gc-sections"
-    $arm $bare "$here/freestanding.c" "$here/array.c" "$here/settle.c" "$to/arm.a" -o "$to/free"
+    $arm $bare "$here"/{freestanding,array,bytes,settle}.c "$to/arm.a" -o "$to/free"
     qemu-aarch64-static "$to/free"
     echo "AArch64: linked with no C library, and run"
-    $arm $bare -DARRAY_BYTES=0x400000 "$here/small_stack.c" "$here/array.c" "$top/board/bytes.c" "$here/settle.c" "$to/arm.a" -o "$to/small"
+    $arm $bare -DARRAY_BYTES=0x400000 "$here"/{small_stack,array,bytes,settle}.c "$to/arm.a" -o "$to/small"
     says AArch64 qemu-aarch64-static "$to/small"
     archive native
 fi

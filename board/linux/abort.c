@@ -1,5 +1,6 @@
 /* SPDX-License-Identifier: MIT OR Apache-2.0 */
 /* Aborts of stage 2. The core's tables have RAM alone, so Linux's devices abort too, and are told from the rest here. */
+#include "exception.h"
 #include "guest.h"
 #include "processor.h"
 #include "text.h"
@@ -30,19 +31,13 @@ SYSTEM_REGISTER(sctlr_el1)
 #define FROM_OWN_STACK 0x200
 #define FROM_EL0 0x400
 
-static void tell(const struct endpoint *endpoint, const char *what, uint64_t syndrome, uint64_t address) {
+void tell(const struct endpoint *endpoint, const char *what, uint64_t syndrome, uint64_t address) {
     begin_line();
     put_text("# ");
     put_text(what);
     put_text(" of ");
     put_hex(endpoint->identifier, 4);
-    put_text(": syndrome ");
-    put_number(syndrome);
-    put_text(", address ");
-    put_number(address);
-    put_text(", at ");
-    put_number(endpoint->context.pc);
-    put_text("\n");
+    put_exception(syndrome, address, endpoint->context.pc);
 }
 
 static uint64_t vector_of(uint64_t state) {

@@ -6,7 +6,7 @@
 #include "text.h"
 
 #ifndef NOTIFY
-#define NOTIFY 0 /* 1 interrupts Linux where a partition has set a notification of its, which the core doesn't ask for */
+#define NOTIFY 0 /* 1 interrupts Linux where a notification is pending for it, and tells it of that interrupt, which the core knows nothing of */
 #endif
 
 /* FF-A has the functions 60 to EF of the standard secure service calls (DEN0077A, 11.1), which aren't interrupted, in 32 and in 64 bits. */
@@ -15,15 +15,8 @@ static bool is_ffa(uint32_t function) {
     return plain >= UINT32_C(0x84000060) && plain <= UINT32_C(0x840000EF);
 }
 
-static struct ffa_registers first_registers(const struct context *context) {
-    struct ffa_registers registers;
-    for (unsigned i = 0; i < 8; i++) registers.x[i] = context->x[i];
-    return registers;
-}
-
 /* Linux has notifications only where FFA_FEATURES tells it of an interrupt, and it wants one that a processor sends itself: 0 to 7 are its own. The core knows
  * of no interrupt, and answers NOT_SUPPORTED. */
-#define FFA_FEATURES UINT32_C(0x84000064)
 #define PENDING_INTERRUPT 1 /* the feature (DEN0077A, FFA_FEATURES) */
 #define PENDING_NUMBER UINT64_C(8)
 #define INTERRUPT_OF_ITS(number) __asm__ volatile("msr icc_sgi1r_el1, %0" : : "r"((number) << 24 | 1) : "memory")
@@ -43,25 +36,19 @@ static void notify_linux(const struct ffa_registers *registers, const struct ffa
     if (NOTIFY && sets && (uint16_t)registers->x[1] == 0) INTERRUPT_OF_ITS(PENDING_NUMBER);
 }
 
-static void serve_ffa(struct board *board) {
-    struct endpoint *caller = running(board);
-    struct ffa_registers registers = first_registers(&caller->context);
-    board->calls++;
-    park_tables();
-    record_call(board, &registers);
-    struct ffa_outcome outcome = ffa_call(&board->machine, &registers);
-    record_answer(board, &registers, &outcome);
-    after_call(board->running, caller->root, (uint32_t)registers.x[0], (uint32_t)outcome.x[0]);
-    notify_linux(&registers, &outcome);
-    uint32_t next = place_of(outcome.runner);
-    if (outcome.kind != FFA_REGISTERS || next >= board->count) stop("the core's outcome is no answer to a call");
-    if (next != board->running) switch_guest(board, next);
-    for (unsigned i = 0; i < 8; i++) running(board)->context.x[i] = outcome.x[i];
+void begin_call(struct board *board, const struct ffa_registers *registers) { record_call(board, registers); }
+
+void end_call(struct board *board, const struct ffa_registers *registers, const struct ffa_outcome *outcome) {
+    record_answer(board, registers, outcome);
+    notify_linux(registers, outcome);
 }
 
-void serve_call(struct board *board) {
-    if (board->running == 0 && serve_feature(&running(board)->context)) return;
-    if (is_ffa((uint32_t)running(board)->context.x[0])) serve_ffa(board);
-    else if (board->running == 0) serve_power_call(&running(board)->context);
+void ffa_settle(uint16_t endpoint, uint64_t address, uint64_t size) { settle_tables(endpoint, address, size); }
+
+void serve_trap(struct board *board) {
+    struct context *context = &running(board)->context;
+    if (board->running == 0 && serve_feature(context)) return;
+    if (is_ffa((uint32_t)context->x[0])) serve_call(board);
+    else if (board->running == 0) serve_power_call(context);
     else stop("a partition made a call that isn't FF-A's");
 }

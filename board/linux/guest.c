@@ -22,12 +22,12 @@ SYSTEM_REGISTER(cntp_cval_el0)
 
 /* The fields of registers are those of DDI 0487, under the register's name.
  *
- * HCR_EL2 while Linux runs: stage 2 is on (VM), EL1 is AArch64 (RW) and its SMC traps (TSC). Interrupts are Linux's, and so is stage 1. */
-#define LINUX_HCR (UINT64_C(1) << 0 | UINT64_C(1) << 19 | UINT64_C(1) << 31)
+ * HCR_EL2 while Linux runs: interrupts are Linux's, and so is stage 1. */
+#define LINUX_HCR (HCR_VM | HCR_TSC | HCR_RW)
 
-/* And while a partition runs: as board/ has it. Interrupts would go to EL2 (FMO, IMO, AMO), so the registers of the interrupt controller's processor interface
- * that a partition reaches are virtual ones, which nothing signals. */
-#define PARTITION_HCR (LINUX_HCR | UINT64_C(7) << 3 | UINT64_C(7) << 12)
+/* And while a partition runs. Interrupts would go to EL2, so the registers of the interrupt controller's processor interface that a partition reaches are
+ * virtual ones, which nothing signals. */
+#define PARTITION_HCR (LINUX_HCR | HCR_INTERRUPTS | HCR_DC | HCR_WAITS)
 
 /* SCTLR_EL1 as Linux's boot protocol wants it: no translation and no caches. */
 #define LINUX_SCTLR UINT64_C(0x30D00800)
@@ -44,6 +44,9 @@ static struct {
     uint64_t virtual_control, virtual_value, physical_control, physical_value, priority;
 } of_linux;
 
+/* Whether the processor is Linux's now. */
+static bool is_linux;
+
 static void suspend_linux(void) {
     of_linux.virtual_control = read_cntv_ctl_el0();
     of_linux.virtual_value = read_cntv_cval_el0();
@@ -55,6 +58,7 @@ static void suspend_linux(void) {
     write_icc_pmr_el1(0);
     write_cnthctl_el2(0);
     write_hcr_el2(PARTITION_HCR);
+    is_linux = false;
 }
 
 static void resume_linux(void) {
@@ -65,9 +69,11 @@ static void resume_linux(void) {
     write_cntp_cval_el0(of_linux.physical_value);
     write_cntp_ctl_el0(of_linux.physical_control);
     write_icc_pmr_el1(of_linux.priority);
+    is_linux = true;
 }
 
 void begin_guests(struct board *board) {
+    begin_tables(PARTITION_HCR);
     write_vpidr_el2(read_midr_el1());
     write_vmpidr_el2(read_mpidr_el1());
     write_hstr_el2(0);
@@ -76,46 +82,38 @@ void begin_guests(struct board *board) {
     DO("isb");
     write_ich_hcr_el2(0);
     board->endpoints[0].context.system[AT_sctlr_el1] = LINUX_SCTLR;
-    resume_linux();
     load_system(&running(board)->context);
 }
 
-void switch_guest(struct board *board, uint32_t next) {
-    save_system(&running(board)->context);
-    if (board->running == 0) suspend_linux();
-    board->running = next;
-    if (next == 0) resume_linux();
-    load_system(&running(board)->context);
+/* The processor is made that of who runs next. */
+static void change_guest(const struct board *board) {
+    bool wants_linux = board->running == 0;
+    if (is_linux && !wants_linux) suspend_linux();
+    if (!is_linux && wants_linux) resume_linux();
 }
 
 static void serve(struct board *board, uint64_t syndrome) {
     switch (class_of(syndrome)) {
     case CLASS_SMC:
         running(board)->context.pc += 4; /* one that is trapped is at the program counter still */
-        serve_call(board);
+        serve_trap(board);
         break;
     case CLASS_HVC:
-        serve_call(board);
+        serve_trap(board);
         break;
     case CLASS_FETCH_BELOW:
     case CLASS_DATA_BELOW:
         serve_abort(board, syndrome);
         break;
     default:
-        begin_line();
-        put_text("# an exception that nobody serves, of ");
-        put_hex(running(board)->identifier, 4);
-        put_text(": syndrome ");
-        put_number(syndrome);
-        put_text(", at ");
-        put_number(running(board)->context.pc);
-        put_text("\n");
+        tell(running(board), "an exception that nobody serves", syndrome, read_far_el2());
         stop("exception");
     }
 }
 
 _Noreturn void run_guests(struct board *board) {
     for (;;) {
+        change_guest(board);
         walk_tables(board->running, running(board)->root);
         enter(&running(board)->context);
         serve(board, read_esr_el2());

@@ -8,25 +8,17 @@
 /* The list of images, which run.sh writes and has QEMU load here (place.c). */
 #define IMAGE_LIST 0x49000000
 
-static inline struct endpoint *running(struct board *board) { return &board->endpoints[board->running]; }
-
-/* Makes the machine of a manifest's text in the board's own RAM. */
-void boot_machine(struct board *board, const char *manifest);
-
 /* Stores the images of the list into the pages of their endpoints, as operations of these, and has each endpoint begin in its own. */
 void place_images(struct board *board, const char *list);
 
 /* Makes the processor ready for Linux and for partitions. */
 void begin_guests(struct board *board);
 
-/* Another endpoint runs than who called. */
-void switch_guest(struct board *board, uint32_t next);
-
 /* Runs endpoints until Linux turns the board off. */
 _Noreturn void run_guests(struct board *board);
 
 /* A call of who runs: FF-A's go to the core, the others are answered by the firmware. */
-void serve_call(struct board *board);
+void serve_trap(struct board *board);
 void serve_power_call(struct context *context);
 
 /* An abort that EL2 takes. Linux's access to a device is done for it; any other abort of Linux's is handed to it as an external one. */
@@ -42,5 +34,8 @@ void record_answer(struct board *board, const struct ffa_registers *registers, c
 
 /* A line of the firmware's own begins: it ends the line of Linux's that is open. */
 void begin_line(void);
+
+/* An exception of an endpoint, as such a line. */
+void tell(const struct endpoint *endpoint, const char *what, uint64_t syndrome, uint64_t address);
 
 #endif

@@ -2,31 +2,30 @@
 /* The firmware that runs Linux as the normal world of the core. */
 #include "guest.h"
 #include "layout.h"
-#include "tables.h"
+#include "processor.h"
 #include "text.h"
 
+SYSTEM_REGISTER(cntpct_el0)
+SYSTEM_REGISTER(cntfrq_el0)
+
 void firmware(void);
-_Noreturn void firmware_broken(uint64_t syndrome, uint64_t link, uint64_t address);
 
 static struct board board;
 
+static uint64_t nanoseconds(void) { return read_cntpct_el0() * (UINT64_C(1000000000) / read_cntfrq_el0()); }
+
+/* Where the emulator counts an instruction as a nanosecond, this is how many a boot takes. */
+static void put_boot(uint64_t took) {
+    put_text("# boot: ");
+    put_decimal(took);
+    put_text(" ns\n");
+}
+
 void firmware(void) {
-    begin_tables();
-    boot_machine(&board, (const char *)MANIFEST_TEXT);
-    end_memory();
+    uint64_t begin = nanoseconds();
+    boot(&board, (const char *)MANIFEST_TEXT, ffa_boot_lent);
+    put_boot(nanoseconds() - begin);
     place_images(&board, (const char *)IMAGE_LIST);
     begin_guests(&board);
     run_guests(&board);
-}
-
-_Noreturn void firmware_broken(uint64_t syndrome, uint64_t link, uint64_t address) {
-    begin_line();
-    put_text("# unexpected exception of the firmware: syndrome ");
-    put_number(syndrome);
-    put_text(", at ");
-    put_number(link);
-    put_text(", fault address ");
-    put_number(address);
-    put_text("\n");
-    stop("broken");
 }

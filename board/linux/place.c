@@ -7,37 +7,12 @@
 #include "calls.h"
 #include "guest.h"
 #include "layout.h"
-#include "lending.h"
 #include "operation.h"
 #include "processor.h"
 #include "tables.h"
 #include "text.h"
 
 SYSTEM_REGISTER(ctr_el0)
-
-#define MOST_BLOCKS 32
-#define PAGES_OF_BLOCK 512
-
-static uint32_t length_of(const char *text) {
-    uint32_t length = 0;
-    while (text[length] != '\0') length++;
-    return length;
-}
-
-/* Boots in the first pages of the board's RAM, as many as the manifest asks for. */
-void boot_machine(struct board *board, const char *manifest) {
-    struct ffa_page *ram = (struct ffa_page *)RAM_BASE;
-    struct ffa_lent list = {0};
-    uint32_t answer = FFA_WRONG_COUNT;
-    for (uint32_t blocks = MOST_BLOCKS; blocks > 0 && answer == FFA_WRONG_COUNT; blocks--) {
-        board->pages = PAGES_OF_BLOCK * blocks;
-        if (lend_all(&list, ram, board->pages) != FFA_OK) stop("no pages were lent");
-        answer = ffa_boot_lent(&board->machine, &list, (const uint8_t *)manifest, length_of(manifest));
-        if (answer == FFA_WRONG_COUNT && !take_all_back(&list, ram, board->pages)) stop("pages stayed lent");
-    }
-    if (answer != FFA_OK) stop("the manifest is refused");
-    board->count = ffa_endpoints(&board->machine);
-}
 
 /* A call that the core does for the endpoint that runs by its account, as a line of the trace. */
 static void call(struct board *board, uint64_t function, uint64_t argument) {
@@ -94,10 +69,6 @@ static void clean_machine(struct board *board) {
 }
 
 void place_images(struct board *board, const char *list) {
-    for (uint32_t i = 0; i < board->count; i++) {
-        board->endpoints[i].identifier = identifier_of(i);
-        board->endpoints[i].root = RAM_BASE + (uint64_t)FFA_PAGE_BYTES * i * (2 + board->pages / PAGES_OF_BLOCK);
-    }
     while (*list != '\0') place_image(board, &list);
     for (uint32_t i = 0; i < board->count; i++) {
         if (board->endpoints[i].program == 0) stop("an endpoint has no image");

@@ -1,6 +1,7 @@
 /* SPDX-License-Identifier: MIT OR Apache-2.0 */
 /* What Linux asks of firmware beside FF-A: versions and power (PSCI, DEN0022; SMCCC, DEN0028). There is one processor, which runs. */
 #include "guest.h"
+#include "tables.h"
 #include "text.h"
 
 #define NOT_SUPPORTED UINT64_MAX
@@ -49,10 +50,19 @@ static uint64_t answer(const struct context *context) {
     }
 }
 
+static void put_settled(void) {
+    put_text("# settled ");
+    put_decimal(all_settled().times);
+    put_text(" times, ");
+    put_decimal(all_settled().pages);
+    put_text(" pages\n");
+}
+
 void serve_power_call(struct context *context) {
     uint32_t function = (uint32_t)context->x[0];
     if (function == PSCI_SYSTEM_OFF) {
         begin_line();
+        put_settled();
         end_well();
     }
     if (function == PSCI_SYSTEM_RESET) {

@@ -1,7 +1,7 @@
 /* SPDX-License-Identifier: MIT OR Apache-2.0 */
 /* What compiled code asks for by these names, as C has them. */
-#ifndef BOARD_BYTES_H
-#define BOARD_BYTES_H
+#ifndef GORSEPLUMB_BYTES_H
+#define GORSEPLUMB_BYTES_H
 
 #include <stddef.h>
 

@@ -1,0 +1,75 @@
+# SPDX-License-Identifier: MIT OR Apache-2.0
+# What run.sh and linux/run.sh have in common. Who reads this in has a name, `me`, by which it speaks, and its own `usage`.
+board=$(cd "$(dirname "${BASH_SOURCE[0]}")" && pwd)
+top=$(dirname "$board")
+player=${FFAPLAY:-$top/ffaplay} # the program, which judges
+compiler=aarch64-linux-gnu-gcc
+copier=aarch64-linux-gnu-objcopy
+emulator=qemu-system-aarch64
+flags=(-std=c11 -Wall -Wextra -Wpedantic -Wshadow -Werror -ffreestanding -fno-stack-protector -fno-tree-loop-distribute-patterns
+    -mno-outline-atomics "-I$top/c" "-I$board" -nostdlib -static "-Wl,--gc-sections" "-Wl,--build-id=none")
+
+# A program for EL1 that stands in pages of its own: no translation, no vector registers, no variables, and no access that isn't aligned.
+program_flags=(-Os -fpie -mgeneral-regs-only -mstrict-align -ffunction-sections)
+
+fail() {
+    echo "$me: $*" >&2
+    exit 1
+}
+
+refuse() {
+    echo "$me: $*" >&2
+    usage >&2
+    exit 64
+}
+
+is_count() { [[ $1 =~ ^(0|[1-9][0-9]{0,8})$ ]]; }
+
+# Installs Debian's packages: install_packages PACKAGE..
+install_packages() {
+    local log
+    command -v apt-get >/dev/null || fail "there is no apt-get, by which --install installs Debian's $*"
+    log=$(apt-get update 2>&1 && apt-get install -y --no-install-recommends "$@" 2>&1) || fail "packages aren't installed: $log"
+}
+
+# Whether commands are there, of packages that --install installs: needs "PACKAGE.." COMMAND..
+needs() {
+    local command
+    for command in "${@:2}"; do
+        command -v "$command" >/dev/null || fail "there is no $command: Debian has it in $1, which --install installs"
+    done
+    command -v rt >/dev/null || fail "there is no rt, the toolchain's command: README.md says what is needed"
+}
+
+# The core's archive for AArch64, as $to/arm.a, which may stand ready in the folder ARCHIVES: make_archive REPOSITORY. An archive that was there, for
+# another target, is there again afterwards.
+make_archive() {
+    if [[ -e ${ARCHIVES:-}/arm.a ]]; then
+        cp "$ARCHIVES/arm.a" "$to/arm.a"
+        return
+    fi
+    local at=$1/crates/ffa_c/out/libffa_c.a
+    "$1/prove" ffa_c >&2 || fail "the core isn't proved"
+    if [[ -e $at ]]; then cp -p "$at" "$to/before.a"; fi
+    (cd "$1/crates/ffa_c" && rt lib --target aarch64-unknown-linux-gnu) >"$to/log" 2>&1 || fail "the archive isn't made, rt lib ended with $?: $(cat "$to/log")"
+    mv "$at" "$to/arm.a"
+    if [[ -e $to/before.a ]]; then cp -p "$to/before.a" "$at"; fi
+}
+
+# A file that QEMU puts somewhere, as two of its words: loader FILE ADDRESS
+loader() { printf -- '-device\nloader,file=%s,addr=0x%s,force-raw=on\n' "$1" "$2"; }
+
+# Runs a firmware, and parts what it prints: emulate FIRMWARE WORD.., of which the words are the emulator's. All is in $to/uart, the trace in $to/trace, and
+# what came of it in $to/found. A firmware that hangs, or an emulator that doesn't run it, prints no end.
+emulate() {
+    local firmware=$1
+    shift
+    : >"$to/uart"
+    timeout "${limit:-300}" "$emulator" "$@" -nodefaults -display none -serial "file:$to/uart" -kernel "$to/$firmware.elf" </dev/null >&2 ||
+        echo "! $emulator ended with $?" >>"$to/uart"
+    sed -n 's/^> //p' "$to/uart" >"$to/trace"
+    sed -n 's/^< //p' "$to/uart" >"$to/found"
+}
+
+# Whether the board came to its end.
+has_end() { [[ $(tail -n 1 "$to/uart") == "= end" ]]; }
