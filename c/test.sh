@@ -1,9 +1,9 @@
 #!/usr/bin/env bash
 # SPDX-License-Identifier: MIT OR Apache-2.0
 # Builds the C library and what stands in this folder over it, with every warning an error, and runs it: the test under
-# sanitizers and valgrind, the example, the traces of examples/ through the border beside the program, and links with no C library, of
-# which one runs on a stack of 64 KiB; for AArch64 too, where there are a compiler and an emulator for it. With --install it first installs
-# Debian's packages for that.
+# sanitizers and valgrind, that of copies of bytes, the example, the traces of examples/ through the border beside the program, and
+# links with no C library, of which one runs on a stack of 64 KiB; for AArch64 too, where there are a compiler and an emulator for it.
+# With --install it first installs Debian's packages for that.
 set -euo pipefail
 here=$(cd "$(dirname "${BASH_SOURCE[0]}")" && pwd)
 top=$(dirname "$here")
@@ -16,6 +16,7 @@ to=$(mktemp -d)
 trap 'rm -rf "$to"' EXIT
 strict="-std=c11 -Wall -Wextra -Wpedantic -Wshadow -Werror -I$here"
 sanitized="-O1 -g -fsanitize=address,undefined -fno-sanitize-recover=all"
+renamed="-Dmemcpy=copy_bytes -Dmemmove=move_bytes -Dmemset=set_bytes" # bytes.c beside a C library, which has these
 missing=0
 
 # The archive for a target, which may stand ready in the folder ARCHIVES: archive NAME ARGUMENT..
@@ -84,6 +85,8 @@ for compiler in gcc clang; do
     has $compiler || continue
     $compiler $strict $sanitized "$here/test.c" "$here/settle.c" "$to/native.a" -o "$to/test"
     says "$compiler, sanitized" "$to/test"
+    $compiler $strict $sanitized $renamed "$here"/{test_bytes,bytes}.c -o "$to/bytes"
+    says "$compiler, sanitized" "$to/bytes"
     $compiler $strict -O2 "$here/test.c" "$here/settle.c" "$to/native.a" -o "$to/test"
     says "$compiler" "$to/test"
     $compiler $strict $sanitized "$here/example.c" "$here/heap.c" "$to/native.a" -o "$to/example"
