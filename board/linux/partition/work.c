@@ -14,14 +14,14 @@ struct message {
     uint32_t flags, zero, at, endpoints, size;
 };
 
-/* Reads and fills memory: the sum of what was there. */
-static uint64_t fill(uint64_t seed, const struct composite *of) {
+/* Reads memory, and fills it where it isn't to be read alone: the sum of what was there. */
+static uint64_t fill(uint64_t seed, bool reads, const struct composite *of) {
     uint64_t sum = 0, place = 0;
     for (uint32_t i = 0; i < of->ranges; i++) {
         volatile uint64_t *words = (volatile uint64_t *)of->range[i].address;
         for (uint64_t at = 0; at < of->range[i].pages * UINT64_C(512); at++, place++) {
             sum += words[at];
-            words[at] = WORK_WORD(seed, place);
+            if (!reads) words[at] = WORK_WORD(seed, place);
         }
     }
     return sum;
@@ -31,7 +31,7 @@ static uint32_t fill_offered(struct registers *request, bool keep, unsigned char
     uint64_t handle = request->x[4];
     uint32_t refused = retrieve(request->x[1], handle, base);
     if (refused) return refused;
-    request->x[4] = fill(request->x[5], retrieved(base));
+    request->x[4] = fill(request->x[5], request->x[6] == 1, retrieved(base));
     request->x[5] = retrieved(base)->pages;
     refused = release();
     return refused || keep ? refused : relinquish(request->x[1], handle, base);

@@ -5,7 +5,9 @@
 #define BOARD_LINUX_WORK_H
 
 #define WORK_ADD 1    /* answers x4 to x7, each one more */
-#define WORK_FILL 2   /* retrieves the memory of the handle x4, fills it with words of the seed x5, and relinquishes: x4 answers with the sum of what was there, x5 with the pages */
+/* Retrieves the memory of the handle x4, fills it with words of the seed x5, or reads alone where x6 is 1, and relinquishes: x4 answers with the sum of what was
+ * there, x5 with the pages. */
+#define WORK_FILL 2
 #define WORK_HOLD 3   /* the same, and keeps it */
 #define WORK_DROP 4   /* relinquishes the memory of the handle x4 */
 #define WORK_YIELD 5  /* yields x4 times, and then answers x4 */
