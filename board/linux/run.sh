@@ -11,12 +11,7 @@ flags+=("-I$here")
 
 # Where QEMU puts what waits for the firmware, and where that places it: RAM of the machine is 40000000 to 43FFFFFF, and Linux has 40200000 to 43DFFFFF.
 waiting=(50000000 54000000 55000000 56000000)
-image_at=40200000 initramfs_at=42000000 tree_at=42F00000 first_at=43E00000 second_at=43F00000 third_at=43F80000
-
-# What Linux says beside expected.txt, by what it has.
-without_notifications=('Notification setup failed -95, not enabled' 'Linux has no notifications here')
-with_notifications=('ok: so often it came: 1' 'ok: notification, sent: 0')
-two_processors=('CPU1: failed to boot: -95' 'Notification bitmap create error -22' 'Linux has no notifications here')
+image_at=40200000 initramfs_at=43C00000 tree_at=43D80000 first_at=43E00000 second_at=43F00000 third_at=43F80000
 
 usage() {
     cat <<'HELP'
@@ -119,15 +114,14 @@ keep_run() {
     for kind in uart linux trace found expected explained; do cp "$to/$kind" "$keep/$1.$kind"; done
 }
 
-# The lines that Linux has to say and doesn't: those of expected.txt, and more: missing LINE..
+# The lines of expected.txt that Linux has to say and doesn't: missing SECTION..
 missing() {
     local line
-    { sed -E '/^(#|$)/d' "$here/expected.txt" && printf '%s\n' "$@"; } | while IFS= read -r line; do
-        grep -qF -- "$line" "$to/linux" || echo "$line"
-    done
+    awk -v sections=" $* " '/^\[/ { on = index(sections, " " substr($0, 2, length($0) - 2) " "); next } on && !/^(#|$)/' "$here/expected.txt" |
+        while IFS= read -r line; do grep -qF -- "$line" "$to/linux" || echo "$line"; done
 }
 
-# Judges what was run: judge NAME LINE..
+# Judges what was run: judge NAME SECTION.., of expected.txt
 judge() {
     local lacks name=$1
     shift
@@ -155,9 +149,48 @@ find_stale() {
 # What takes how many instructions, with nothing printed: the emulator counts one as a nanosecond.
 measure() {
     build silent -DRECORD=0
-    build_tree smc 1 rounds=1000
+    build_tree smc 1 ffa_try.rounds=1000
     run silent silent -cpu cortex-a57 -icount shift=0,sleep=off
+    sed -n 's/^# boot/boot/p' "$to/linux"
     grep -o 'note: 1000 rounds.*' "$to/linux" || fail "nothing was measured"
+}
+
+# Runs Linux once, and judges: try NAME FIRMWARE PROCESSOR SECTION..
+try() {
+    run "$1" "$2" -cpu "$3"
+    judge "$1" "${@:4}"
+}
+
+# Threads of Linux that all work at once, at random: try_random PROCESSOR SECTION..
+try_random() {
+    build_tree smc 1 "ffa_try.random=$rounds"
+    try random plain "$1" "${@:2}" random
+    grep -o 'random: .*' "$to/linux" | sed -n 1p
+}
+
+# All that is run of the kernel of the kind 4k.
+run_all() {
+    local all=(linux driver 6.12) conduit
+    build notify -DNOTIFY=1
+    for conduit in smc hvc; do
+        build_tree $conduit 1
+        try $conduit plain cortex-a57 "${all[@]}" no-interrupt
+    done
+    build_tree smc 1
+    try max plain max "${all[@]}" no-interrupt
+    try notify notify cortex-a57 "${all[@]}" notifications
+    build_tree smc 2
+    try two-processors plain cortex-a57 "${all[@]}" two-processors
+    try_random cortex-a57 "${all[@]}"
+    find_stale
+    measure
+}
+
+# What is run of another: run_other PROCESSOR SECTION
+run_other() {
+    build_tree smc 1
+    try "$kernel" plain "$1" linux driver "$2"
+    try_random "$1" linux driver "$2"
 }
 
 "$here/kernel" ${install:+--install} --jobs "$jobs" "$kernel" "$work"
@@ -166,20 +199,16 @@ make_archive "$top"
 [[ -n ${FFAPLAY:-} ]] || "$top/ffaplay" prove
 build_partition
 build plain
-build notify -DNOTIFY=1
-for conduit in smc hvc; do
-    build_tree $conduit 1
-    run $conduit plain -cpu cortex-a57
-    judge $conduit "${without_notifications[@]}"
-done
-build_tree smc 1
-run max plain -cpu max
-judge max "${without_notifications[@]}"
-run notify notify -cpu cortex-a57
-judge notify "${with_notifications[@]}"
-build_tree smc 2
-run two-processors plain -cpu cortex-a57
-judge two-processors "${two_processors[@]}"
-find_stale
-measure
+case $kernel in
+    4k) run_all ;;
+    16k) run_other max 6.12 ;;
+    64k) run_other cortex-a57 6.12 ;;
+    6.1)
+        sed -i '0,/version = "1.1"/s//version = "compact"/' "$to/manifest"
+        run_other cortex-a57 6.1
+        ;;
+    debian*)
+        try "$kernel" plain cortex-a57 linux no-driver
+        ;;
+esac
 echo passed
