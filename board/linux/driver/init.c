@@ -1,7 +1,8 @@
 /* SPDX-License-Identifier: MIT OR Apache-2.0 */
-/* The first process of Linux: it loads Linux's own arm_ffa with its drivers of Trusted Services, which it uses, and of OP-TEE, and the driver of this folder, whose
- * probe does its work. Then it unloads all, loads arm_ffa once more, and turns the board off. What isn't in its file system it goes without: 6.1 has no driver of
- * Trusted Services, and of Debian's kernels no more is wanted than that they come so far. The kernel's own nolibc is all that it has. */
+/* The first process of Linux: it loads Linux's own arm_ffa with its drivers of Trusted Services, which it uses, and of OP-TEE,
+ * and the driver of this folder, whose probe does its work. Then it unloads all, loads arm_ffa once more, and turns the board
+ * off. What isn't in its file system it goes without: 6.1 has no driver of Trusted Services, and of Debian's kernels no more is
+ * wanted than that they come so far. The kernel's own nolibc is all that it has. */
 #include <linux/sysinfo.h>
 #include <linux/tee.h>
 #include <stdbool.h>

@@ -1,5 +1,5 @@
 /* SPDX-License-Identifier: MIT OR Apache-2.0 */
-/* Memory that is shared and lent, what the core refuses of that, and how many transactions may be open. */
+/* Shares and lends, what the core refuses of them, and how many transactions may be open. */
 #define pr_fmt(fmt) "ffa_try: " fmt
 
 #include <linux/kernel.h>
@@ -12,13 +12,19 @@
 
 #define MANY_PIECES 300
 
-/* Linux's TX: a page of its own, or 4 KiB where that is more than the core takes, or where the driver is one of FF-A 1.0. */
+/*
+ * Linux's TX: a page of its own, or 4 KiB where that is more than the core takes, or where the
+ * driver is one of FF-A 1.0.
+ */
 #define TX_BYTES (SPEAKS_1_1 && PAGE_SIZE == SZ_16K ? SZ_16K : SZ_4K)
 /* What stands before the ranges of a descriptor to one receiver. */
 #define HEAD_BYTES (SPEAKS_1_1 ? 80 : 64)
 #define RANGES_OF_TX ((TX_BYTES - HEAD_BYTES) / 16)
 
-/* What comes of a share of so many pieces. What doesn't fit into TX goes in fragments, of which the core takes none, and Linux has an error of its own for that. */
+/*
+ * What comes of a share of so many pieces. What doesn't fit into TX goes in fragments, of which the
+ * core takes none, and Linux has an error of its own for that.
+ */
 static int wanted_of(unsigned int count)
 {
 	if (count > RANGES_OF_TX)
@@ -30,7 +36,10 @@ static int wanted_of(unsigned int count)
 static const struct sending share = { .rights = FFA_MEM_RW };
 static const struct sending lend = { .lend = true, .rights = FFA_MEM_RW };
 
-/* The partition reads and fills what it was sent and relinquishes: each side finds the words that the other wrote. Answers what the reclaim came to. */
+/*
+ * The partition reads and fills what it was sent and relinquishes: each side finds the words that
+ * the other wrote. Answers what the reclaim came to.
+ */
 static int try_use(struct pieces *of, const struct sending *how, u64 handle)
 {
 	u64 words = of->count * WORDS_OF_PAGE;

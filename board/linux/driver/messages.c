@@ -63,7 +63,8 @@ static void try_indirect(void)
 		sum += message[i];
 	tell("the partition listens", ask_of(WORK_LISTEN, 0, 0), 0);
 	tell("indirect message", send_message(partner, message, sizeof(message)), 0);
-	tell("and another, before it was taken", send_message(partner, message, sizeof(message)), -EBUSY);
+	tell("and another, before it was taken",
+	     send_message(partner, message, sizeof(message)), -EBUSY);
 	tell("the partition takes it", ask(partner, WORK_TAKE, &data), 0);
 	tell("its bytes", data.data1 == sum && data.data2 == sizeof(message), 1);
 }
@@ -82,7 +83,8 @@ static void try_received(const struct ffa_notifier_ops *ops)
 	msleep(20);
 	tell("so often it came", came, 1);
 	tell("it isn't wanted any more", ops->notify_relinquish(partner, NOTIFICATION), 0);
-	tell("the partition can't set it now", ask_of(WORK_NOTIFY, BIT(NOTIFICATION), 0), REFUSED_DENIED);
+	tell("the partition can't set it now",
+	     ask_of(WORK_NOTIFY, BIT(NOTIFICATION), 0), REFUSED_DENIED);
 }
 
 static void try_sent(const struct ffa_notifier_ops *ops)

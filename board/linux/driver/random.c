@@ -1,5 +1,8 @@
 /* SPDX-License-Identifier: MIT OR Apache-2.0 */
-/* Clients that all work at once, each in a thread and with a generator of its own: what each of them does is random, and what comes of it has to be right. */
+/*
+ * Clients that all work at once, each in a thread and with a generator of its own: what each of
+ * them does is random, and what comes of it has to be right.
+ */
 #define pr_fmt(fmt) "ffa_try: " fmt
 
 #include <linux/completion.h>
@@ -30,7 +33,10 @@ struct client {
 /* The partner, for requests of 32 bits. */
 static struct ffa_device narrow;
 
-/* A handle that was reclaimed stays nobody's for as long as this is held for writing: whoever sends holds it for reading. */
+/*
+ * A handle that was reclaimed stays nobody's for as long as this is held for writing: whoever sends
+ * holds it for reading.
+ */
 static DECLARE_RWSEM(senders);
 
 static u32 below(struct client *of, u32 limit)
@@ -53,7 +59,8 @@ static void expect(struct client *of, const char *what, long found, long wanted)
 		return;
 	}
 	of->failed++;
-	pr_err("FAILED: random: client %u, round %u: %s: %ld, and not %ld\n", of->number, of->round, what, found, wanted);
+	pr_err("FAILED: random: client %u, round %u: %s: %ld, and not %ld\n",
+	       of->number, of->round, what, found, wanted);
 }
 
 /* The others go on. */
@@ -65,8 +72,12 @@ static void rest(struct client *of)
 		usleep_range(50, 500);
 }
 
-/* A request of another client may be with the partition, which has yielded, or its message may be in the partition's RX. Both end by themselves. */
-static int ask_until(struct client *of, struct ffa_device *device, u64 work, struct ffa_send_direct_data *data)
+/*
+ * A request of another client may be with the partition, which has yielded, or its message may be
+ * in the partition's RX. Both end by themselves.
+ */
+static int ask_until(struct client *of, struct ffa_device *device, u64 work,
+		     struct ffa_send_direct_data *data)
 {
 	const struct ffa_send_direct_data asked = *data;
 	unsigned int times;
@@ -91,10 +102,16 @@ static struct ffa_device *partition_of(unsigned int place)
 
 static void go_wide(struct client *of)
 {
-	struct ffa_send_direct_data asked = { 0, word_of(of), word_of(of), word_of(of), word_of(of) };
+	struct ffa_send_direct_data asked = {
+		.data1 = word_of(of),
+		.data2 = word_of(of),
+		.data3 = word_of(of),
+		.data4 = word_of(of),
+	};
 	struct ffa_send_direct_data data = asked;
+	int answer = ask_until(of, partition_of(below(of, 2)), WORK_ADD, &data);
 
-	expect(of, "request", ask_until(of, partition_of(below(of, 2)), WORK_ADD, &data), 0);
+	expect(of, "request", answer, 0);
 	expect(of, "answers, each one more",
 	       data.data1 == asked.data1 + 1 && data.data2 == asked.data2 + 1 &&
 	       data.data3 == asked.data3 + 1 && data.data4 == asked.data4 + 1, 1);
@@ -106,15 +123,17 @@ static void go_narrow(struct client *of)
 	struct ffa_send_direct_data data = { .data1 = first, .data4 = last };
 
 	expect(of, "request of 32 bits", ask_until(of, &narrow, WORK_ADD, &data), 0);
-	expect(of, "answers of 32 bits, each one more", data.data1 == first + 1 && data.data4 == last + 1, 1);
+	expect(of, "answers of 32 bits, each one more",
+	       data.data1 == first + 1 && data.data4 == last + 1, 1);
 }
 
 static void go_yielding(struct client *of)
 {
 	u64 times = 1 + below(of, 3);
 	struct ffa_send_direct_data data = { .data1 = times };
+	int answer = ask_until(of, partition_of(below(of, 2)), WORK_YIELD, &data);
 
-	expect(of, "request of a partition that yields", ask_until(of, partition_of(below(of, 2)), WORK_YIELD, &data), 0);
+	expect(of, "request of a partition that yields", answer, 0);
 	expect(of, "its answer", data.data1, times);
 }
 
@@ -148,9 +167,11 @@ static void go_message(struct client *of)
 static void go_foreign(struct client *of)
 {
 	const unsigned long places[] = { table_at, partition_at, outside_at };
+	int error = send_place(places[below(of, ARRAY_SIZE(places))]);
 
-	expect(of, "share of what isn't Linux's", send_place(places[below(of, ARRAY_SIZE(places))]), -EACCES);
-	expect(of, "reclaim of what is nothing", reclaim(word_of(of) | BIT_ULL(63), 0), -EINVAL);
+	expect(of, "share of what isn't Linux's", error, -EACCES);
+	error = reclaim(word_of(of) | BIT_ULL(63), 0);
+	expect(of, "reclaim of what is nothing", error, -EINVAL);
 }
 
 /* A transaction, and what stands in its pages: the words of a seed, or zeros. */
@@ -208,7 +229,11 @@ static void use(struct transaction *in, unsigned int place, bool keep)
 {
 	bool reads = rights_of(in, place) == FFA_MEM_RO || below(in->by, 4) == 0;
 	u64 seed = word_of(in->by), words = in->of->count * WORDS_OF_PAGE;
-	struct ffa_send_direct_data data = { .data1 = in->handle, .data2 = seed, .data3 = reads };
+	struct ffa_send_direct_data data = {
+		.data1 = in->handle,
+		.data2 = seed,
+		.data3 = reads,
+	};
 	int error = ask_until(in->by, partition_of(place), keep ? WORK_HOLD : WORK_FILL, &data);
 
 	expect(in->by, "retrieve", error, 0);
@@ -216,7 +241,8 @@ static void use(struct transaction *in, unsigned int place, bool keep)
 		return;
 	in->held[place] = keep;
 	expect(in->by, "pages", data.data2, in->of->count * PAGES_OF_PIECE);
-	expect(in->by, "words that it found", data.data1 == (in->zeros ? 0 : sum_of(in->seed, words)), 1);
+	expect(in->by, "words that it found",
+	       data.data1 == (in->zeros ? 0 : sum_of(in->seed, words)), 1);
 	if (reads)
 		return;
 	in->seed = seed;
@@ -229,19 +255,26 @@ static void use_wrongly(struct transaction *in, unsigned int place)
 	struct ffa_send_direct_data data = { .data1 = in->handle };
 	int answer = ask_until(in->by, partition_of(place), WORK_HOLD, &data);
 
-	expect(in->by, "retrieve that is wrong", answer, rights_of(in, place) ? REFUSED_DENIED : REFUSED_INVALID);
+	expect(in->by, "retrieve that is wrong", answer,
+	       rights_of(in, place) ? REFUSED_DENIED : REFUSED_INVALID);
 }
 
-static void relinquish(struct transaction *in, unsigned int place)
+static int relinquish(struct transaction *in, unsigned int place)
 {
 	struct ffa_send_direct_data data = { .data1 = in->handle };
-	int error = ask_until(in->by, partition_of(place), WORK_DROP, &data);
 
-	expect(in->by, "relinquish", error, 0);
+	return ask_until(in->by, partition_of(place), WORK_DROP, &data);
+}
+
+/* Once, or once more, which is wrong. */
+static void drop(struct transaction *in, unsigned int place)
+{
+	int error = relinquish(in, place);
+
+	expect(in->by, "it relinquishes", error, 0);
 	in->held[place] = error;
-	data.data1 = in->handle;
-	if (below(in->by, 4) == 0)
-		expect(in->by, "relinquish once more", ask_until(in->by, partition_of(place), WORK_DROP, &data), REFUSED_DENIED);
+	if (!error && below(in->by, 4) == 0)
+		expect(in->by, "and once more", relinquish(in, place), REFUSED_DENIED);
 }
 
 static void use_by_each(struct transaction *in)
@@ -260,7 +293,7 @@ static void use_by_each(struct transaction *in)
 	for (place = 0; place < 2; place++) {
 		rest(in->by);
 		if (in->held[place])
-			relinquish(in, place);
+			drop(in, place);
 	}
 }
 
@@ -346,7 +379,9 @@ static void go_lend(struct client *of)
 
 /* What a client does in a round. The last two are nothing for a driver of FF-A 1.0. */
 static void (*const ways[])(struct client *of) = {
-	go_wide, go_narrow, go_foreign, go_share, go_share, go_lend, go_lend, go_message, go_yielding,
+	go_wide, go_narrow, go_foreign,
+	go_share, go_share, go_lend, go_lend,
+	go_message, go_yielding,
 };
 
 static int run_client(void *data)
@@ -403,7 +438,8 @@ void try_random(unsigned int rounds, u64 seed)
 	for (i = 0; i < CLIENTS; i++)
 		count_client(&all, &clients[i]);
 	pr_info("random: %u rounds by %u threads: %u requests, %u shares, %u lends, %u reclaims, %u refused as wanted, %u failed\n",
-		all.round, CLIENTS, all.requests, all.shares, all.lends, all.reclaims, all.refused, all.failed);
+		all.round, CLIENTS, all.requests, all.shares, all.lends, all.reclaims, all.refused,
+		all.failed);
 	tell("random rounds that weren't gone", rounds - all.round, 0);
 	tell("what failed in random rounds", all.failed, 0);
 }

@@ -1,7 +1,8 @@
 /* SPDX-License-Identifier: MIT OR Apache-2.0 */
 /*
- * A driver on Linux's ffa bus, which asks all that the bus offers of the partition that it is bound to, and says what came of it: a line `ok` or `FAILED` for each
- * thing. What the core refuses is wanted here by its error, too.
+ * A driver on Linux's ffa bus, which asks all that the bus offers of the partition that it is bound
+ * to, and says what came of it: a line `ok` or `FAILED` for each thing. What the core refuses is
+ * wanted here by its error, too.
  */
 #define pr_fmt(fmt) "ffa_try: " fmt
 
@@ -15,7 +16,7 @@
 
 static unsigned int rounds;
 module_param(rounds, uint, 0);
-MODULE_PARM_DESC(rounds, "how often requests and shares are measured; not at all where it isn't given");
+MODULE_PARM_DESC(rounds, "how often requests and shares are measured");
 
 static unsigned int pieces = 64;
 module_param(pieces, uint, 0);
@@ -101,7 +102,10 @@ static void introduce(const struct ffa_device *device)
 #endif
 }
 
-/* The second partition has a driver of its own. Of its device this needs no more than its identifier, for requests to it. */
+/*
+ * The second partition has a driver of its own. Of its device this needs no more than its
+ * identifier, for requests to it.
+ */
 static int find_second(void)
 {
 	struct ffa_partition_info info[4] = {};

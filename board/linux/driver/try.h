@@ -11,8 +11,8 @@
 #include "work.h"
 
 /*
- * Of the kernels that it is built for, 6.12 has a driver of FF-A 1.1. That of 6.1 is one of 1.0: it offers no indirect messages, no cycles and no notifications,
- * and takes FFA_YIELD for no answer.
+ * Of the kernels that it is built for, 6.12 has a driver of FF-A 1.1. That of 6.1 is one of 1.0: it
+ * offers no indirect messages, no cycles and no notifications, and takes FFA_YIELD for no answer.
  */
 #define SPEAKS_1_1 (LINUX_VERSION_CODE >= KERNEL_VERSION(6, 12, 0))
 
@@ -21,7 +21,7 @@
 #define REFUSED_BUSY (-4)
 #define REFUSED_DENIED (-6)
 
-/* try.c: the partition that the driver is bound to, and the one that shares are offered to beside it. */
+/* try.c: the partition that the driver is bound to, and one that shares are offered to as well. */
 extern struct ffa_device *partner;
 extern struct ffa_device second;
 
@@ -34,7 +34,10 @@ extern unsigned long table_at, partition_at, firmware_at, device_at, outside_at;
 /* What is tried, what came of it, and what is wanted. */
 void tell(const char *what, long found, long wanted);
 
-/* A direct request: what the partition answers in x3, which is 0 or what the core refused it, or an error of Linux's. */
+/*
+ * A direct request: what the partition answers in x3, which is 0 or what the core refused it, or an
+ * error of Linux's.
+ */
 int ask(struct ffa_device *device, u64 work, struct ffa_send_direct_data *data);
 int ask_of(u64 work, u64 argument, u64 other);
 
@@ -64,7 +67,8 @@ struct sending {
 	bool lend;
 	bool own_buffer; /* the descriptor stands in a buffer of its own, and not in TX */
 	u32 flags;
-	u8 rights, second_rights; /* of the partner, and of the second: none where it isn't offered to it */
+	u8 rights; /* of the partner; none where it isn't offered to it */
+	u8 second_rights;
 };
 
 int send_pieces(struct pieces *of, const struct sending *how, u64 *handle);
