@@ -5,6 +5,7 @@
 
 #include <linux/arm_ffa.h>
 #include <linux/scatterlist.h>
+#include <linux/sizes.h>
 #include <linux/types.h>
 #include <linux/version.h>
 
@@ -49,7 +50,7 @@ struct pieces {
 };
 
 #define WORDS_OF_PAGE (PAGE_SIZE / sizeof(u64))
-#define PAGES_OF_PIECE (PAGE_SIZE / FFA_PAGE_SIZE)
+#define PAGES_OF_PIECE (PAGE_SIZE / SZ_4K) /* of the core */
 
 struct pieces *take_pieces(unsigned int count);
 void give_pieces_back(struct pieces *of);
