@@ -165,7 +165,7 @@ try() {
 try_random() {
     build_tree smc 1 "ffa_try.random=$rounds"
     try random plain "$1" "${@:2}" random
-    grep -o 'random: .*' "$to/linux" | sed -n 1p
+    grep -o 'random: [0-9].*' "$to/linux"
 }
 
 # All that is run of the kernel of the kind 4k.
@@ -208,6 +208,7 @@ case $kernel in
         run_other cortex-a57 6.1
         ;;
     debian*)
+        build_tree smc 1
         try "$kernel" plain cortex-a57 linux no-driver
         ;;
 esac
