@@ -232,7 +232,7 @@ static void use(struct transaction *in, unsigned int place, bool keep)
 	struct ffa_send_direct_data data = {
 		.data1 = in->handle,
 		.data2 = seed,
-		.data3 = reads,
+		.data3 = reads ? WORK_READS : 0,
 	};
 	int error = ask_until(in->by, partition_of(place), keep ? WORK_HOLD : WORK_FILL, &data);
 

@@ -29,9 +29,9 @@ uint32_t ask(struct registers *of) {
 uint32_t map_buffers(unsigned char *base) {
     uint64_t *mapped = (uint64_t *)(base + MAPPED);
     struct registers map = {{FFA_RXTX_MAP | WITH_64_BITS, (uint64_t)(base + TX), (uint64_t)(base + RX), 1}};
-    if (*mapped) return 0;
-    *mapped = 1;
-    return ask(&map);
+    uint32_t refused = *mapped ? 0 : ask(&map);
+    if (!refused) *mapped = 1;
+    return refused;
 }
 
 uint32_t release(void) {

@@ -10,6 +10,8 @@ struct registers {
     uint64_t x[8];
 };
 
+#define PAGE_BYTES 4096
+
 /* Where a partition has what, so many bytes from its first page on: behind its code and its stack. */
 #define TX 0x4000
 #define RX 0x5000

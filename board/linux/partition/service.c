@@ -14,8 +14,6 @@
 #define OK 0
 #define FAILED 1
 
-#define PAGE_BYTES 4096
-
 /* The memory that is shared with the service: one piece at a time, of one range. */
 struct shared {
     uint64_t handle, address, bytes;
@@ -27,6 +25,7 @@ static uint64_t handle_of(const struct registers *request) { return (uint32_t)re
 
 static uint32_t take(const struct registers *request, unsigned char *base) {
     struct shared *shared = shared_of(base);
+    if (shared->handle != 0) return FAILED;
     uint32_t refused = retrieve(request->x[1], handle_of(request), base);
     if (refused) return refused;
     shared->handle = handle_of(request);
@@ -36,8 +35,11 @@ static uint32_t take(const struct registers *request, unsigned char *base) {
 }
 
 static uint32_t give_up(const struct registers *request, unsigned char *base) {
-    *shared_of(base) = (struct shared){0};
-    return relinquish(request->x[1], handle_of(request), base);
+    struct shared *shared = shared_of(base);
+    if (shared->handle != handle_of(request)) return FAILED;
+    uint32_t refused = relinquish(request->x[1], shared->handle, base);
+    if (!refused) *shared = (struct shared){0};
+    return refused;
 }
 
 static void manage(struct registers *request, unsigned char *base) {

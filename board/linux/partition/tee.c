@@ -13,6 +13,7 @@
 #define HAS_NOTIFICATIONS 2
 #define OK 0
 #define BUSY UINT32_C(0xFFFF000D)
+#define BAD_PARAMETERS UINT32_C(0xFFFF0006)
 #define ITEM_NOT_FOUND UINT32_C(0xFFFF0008)
 #define NOT_SUPPORTED UINT32_C(0xFFFF000A)
 
@@ -25,7 +26,7 @@ struct argument {
 /* Pieces of memory that Linux has shared and that are retrieved, each of one range. */
 #define MOST_PIECES 32
 struct piece {
-    uint64_t handle, address;
+    uint64_t handle, address, bytes;
 };
 
 static struct piece *piece_of(uint64_t handle, unsigned char *base) {
@@ -44,7 +45,7 @@ static struct piece *reach(const struct registers *request, unsigned char *base)
     if (piece != 0) return piece;
     piece = piece_of(0, base);
     if (piece == 0 || retrieve(request->x[1], handle_of(request), base)) return 0;
-    *piece = (struct piece){handle_of(request), retrieved(base)->range[0].address};
+    *piece = (struct piece){handle_of(request), retrieved(base)->range[0].address, PAGE_BYTES * (uint64_t)retrieved(base)->range[0].pages};
     return release() ? 0 : piece;
 }
 
@@ -55,10 +56,13 @@ static uint32_t forget(const struct registers *request, unsigned char *base) {
     return relinquish(request->x[1], handle_of(request), base);
 }
 
+/* The argument stands in a piece, so many bytes from its start on. */
 static uint32_t call_with_argument(const struct registers *request, unsigned char *base) {
     const struct piece *piece = reach(request, base);
+    uint64_t at = (uint32_t)request->x[6];
     if (piece == 0) return BUSY;
-    struct argument *argument = (struct argument *)(piece->address + (uint32_t)request->x[6]);
+    if (at % 8 != 0 || at + sizeof(struct argument) > piece->bytes) return BAD_PARAMETERS;
+    struct argument *argument = (struct argument *)(piece->address + at);
     argument->result = argument->command == OPEN_SESSION ? ITEM_NOT_FOUND : OK;
     return OK;
 }

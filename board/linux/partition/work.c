@@ -31,7 +31,7 @@ static uint32_t fill_offered(struct registers *request, bool keep, unsigned char
     uint64_t handle = request->x[4];
     uint32_t refused = retrieve(request->x[1], handle, base);
     if (refused) return refused;
-    request->x[4] = fill(request->x[5], request->x[6] == 1, retrieved(base));
+    request->x[4] = fill(request->x[5], request->x[6] == WORK_READS, retrieved(base));
     request->x[5] = retrieved(base)->pages;
     refused = release();
     return refused || keep ? refused : relinquish(request->x[1], handle, base);
