@@ -10,6 +10,7 @@
 #include <linux/err.h>
 #include <linux/kernel.h>
 #include <linux/kthread.h>
+#include <linux/log2.h>
 #include <linux/mm.h>
 #include <linux/prandom.h>
 #include <linux/printk.h>
@@ -219,9 +220,9 @@ static int wanted_of(const struct sending *how)
 /* Small counts as often as great ones. */
 static unsigned int choose_count(struct client *of)
 {
-	unsigned int most = min_t(unsigned int, MOST_BYTES / PAGE_SIZE, min(ranges, 64U));
+	unsigned int most = min_t(unsigned int, MOST_BYTES / PAGE_SIZE, ranges);
 
-	return 1 + below(of, min(most, 1U << below(of, 7)));
+	return 1 + below(of, min(most, 1U << below(of, order_base_2(most) + 1)));
 }
 
 /* A receiver finds in the pages what has to stand there, and may leave words of its own. */
