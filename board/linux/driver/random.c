@@ -225,6 +225,38 @@ static unsigned int choose_count(struct client *of)
 	return 1 + below(of, min(most, 1U << below(of, order_base_2(most) + 1)));
 }
 
+static int send(struct transaction *in, u64 *handle)
+{
+	int error;
+
+	down_read(&senders);
+	error = send_pieces(in->of, &in->how, handle);
+	up_read(&senders);
+	return error;
+}
+
+static int send_first(struct transaction *in)
+{
+	int error;
+
+	fill_pieces(in->of, in->seed);
+	error = send(in, &in->handle);
+	expect(in->by, in->how.lend ? "lend" : "share", error, wanted_of(&in->how));
+	in->zeros = in->how.flags & FFA_MEM_CLEAR;
+	return error;
+}
+
+/* What is in a transaction is sent once more, which is wrong. */
+static void send_again(struct transaction *in)
+{
+	u64 handle;
+	int error = send(in, &handle);
+
+	expect(in->by, "pages that are in a transaction", error, -EACCES);
+	if (!error)
+		expect(in->by, "reclaim of these", reclaim(handle, 0), 0);
+}
+
 /* A receiver finds in the pages what has to stand there, and may leave words of its own. */
 static void use(struct transaction *in, unsigned int place, bool keep)
 {
@@ -289,6 +321,8 @@ static void use_by_each(struct transaction *in)
 		if ((in->held[place] || !rights_of(in, place)) && below(in->by, 4) == 0)
 			use_wrongly(in, place);
 	}
+	if (below(in->by, 4) == 0)
+		send_again(in);
 	if (in->held[0] || in->held[1])
 		expect(in->by, "reclaim, too early", reclaim(in->handle, 0), -EACCES);
 	for (place = 0; place < 2; place++) {
@@ -330,19 +364,6 @@ static int have_back(struct transaction *in)
 	return error;
 }
 
-static int send(struct transaction *in)
-{
-	int error;
-
-	fill_pieces(in->of, in->seed);
-	down_read(&senders);
-	error = send_pieces(in->of, &in->how, &in->handle);
-	up_read(&senders);
-	expect(in->by, in->how.lend ? "lend" : "share", error, wanted_of(&in->how));
-	in->zeros = in->how.flags & FFA_MEM_CLEAR;
-	return error;
-}
-
 static void go_memory(struct client *of, bool lend)
 {
 	struct transaction in = { .by = of, .how = choose(of, lend), .seed = word_of(of) };
@@ -353,7 +374,7 @@ static void go_memory(struct client *of, bool lend)
 		expect(of, "pages of Linux's", -ENOMEM, 0);
 		return;
 	}
-	if (send(&in)) {
+	if (send_first(&in)) {
 		give_pieces_back(in.of);
 		return;
 	}
