@@ -46,6 +46,16 @@ int send_message(struct ffa_device *device, const void *text, size_t size)
 	return device->ops->msg_ops->indirect_send(device, (void *)text, size);
 }
 
+int want_notification(int id, void (*come)(int id, void *data), void *data)
+{
+	return partner->ops->notifier_ops->notify_request(partner, false, come, data, id);
+}
+
+int drop_notification(int id)
+{
+	return partner->ops->notifier_ops->notify_relinquish(partner, id);
+}
+
 static void try_cycles(void)
 {
 	tell("a partition that yields three times first", ask_of(WORK_YIELD, 3, 0), 0);
@@ -77,12 +87,12 @@ static void on_notification(int id, void *data)
 }
 
 /* What the partition sets comes to Linux, and what it isn't bound to any more doesn't. */
-static void try_received(const struct ffa_notifier_ops *ops)
+static void try_received(void)
 {
 	tell("the partition sets it", ask_of(WORK_NOTIFY, BIT(NOTIFICATION), 0), 0);
 	msleep(20);
 	tell("so often it came", came, 1);
-	tell("it isn't wanted any more", ops->notify_relinquish(partner, NOTIFICATION), 0);
+	tell("it isn't wanted any more", drop_notification(NOTIFICATION), 0);
 	tell("the partition can't set it now",
 	     ask_of(WORK_NOTIFY, BIT(NOTIFICATION), 0), REFUSED_DENIED);
 }
@@ -101,20 +111,30 @@ static void try_sent(const struct ffa_notifier_ops *ops)
 static void try_notifications(void)
 {
 	const struct ffa_notifier_ops *ops = partner->ops->notifier_ops;
-	int error = ops->notify_request(partner, false, on_notification, NULL, NOTIFICATION);
+	int error = want_notification(NOTIFICATION, on_notification, NULL);
 
 	if (error == -EOPNOTSUPP) {
 		pr_info("note: Linux has no notifications here\n");
 		return;
 	}
 	tell("notification, asked for", error, 0);
-	try_received(ops);
+	try_received();
 	tell("notification for one processor",
 	     ops->notify_request(partner, true, on_notification, NULL, NOTIFICATION), -EINVAL);
 	try_sent(ops);
 }
 #else
 int send_message(struct ffa_device *device, const void *text, size_t size)
+{
+	return -EOPNOTSUPP;
+}
+
+int want_notification(int id, void (*come)(int id, void *data), void *data)
+{
+	return -EOPNOTSUPP;
+}
+
+int drop_notification(int id)
 {
 	return -EOPNOTSUPP;
 }

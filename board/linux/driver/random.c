@@ -8,6 +8,7 @@
 #include <linux/completion.h>
 #include <linux/delay.h>
 #include <linux/err.h>
+#include <linux/jiffies.h>
 #include <linux/kernel.h>
 #include <linux/kthread.h>
 #include <linux/log2.h>
@@ -23,10 +24,12 @@
 #define CLIENTS 8
 #define MOST_BYTES SZ_1M /* of one share or lend */
 #define MOST_TIMES 1000  /* that a request is made again where the partition is busy */
+#define NOTIFICATION 8   /* of the first client, each has its own */
 
 struct client {
 	struct rnd_state random;
-	struct completion done;
+	struct completion done, notified;
+	bool has_notification;
 	unsigned int number, rounds, round;
 	unsigned int requests, shares, lends, reclaims, refused, failed;
 };
@@ -389,6 +392,26 @@ static void go_memory(struct client *of, bool lend)
 	give_reclaimed_back(in.of, error);
 }
 
+static void on_notification(int id, void *data)
+{
+	complete(data);
+}
+
+/* The partition sets the client's notification, and it comes. */
+static void go_notified(struct client *of)
+{
+	struct ffa_send_direct_data data = { .data1 = BIT(NOTIFICATION + of->number) };
+	int error;
+
+	if (!of->has_notification)
+		return;
+	reinit_completion(&of->notified);
+	error = ask_until(of, partner, WORK_NOTIFY, &data);
+	expect(of, "the partition sets a notification", error, 0);
+	if (!error)
+		expect(of, "it comes", wait_for_completion_timeout(&of->notified, HZ) != 0, 1);
+}
+
 static void go_share(struct client *of)
 {
 	go_memory(of, false);
@@ -399,19 +422,20 @@ static void go_lend(struct client *of)
 	go_memory(of, true);
 }
 
-/* What a client does in a round. The last two are nothing for a driver of FF-A 1.0. */
+/* What a client does in a round. The last are nothing for a driver of FF-A 1.0. */
 static void (*const ways[])(struct client *of) = {
 	go_wide, go_narrow, go_foreign,
 	go_share, go_share, go_lend, go_lend,
-	go_message, go_yielding,
+	go_message, go_yielding, go_notified,
 };
+#define LATER 3
 
 static int run_client(void *data)
 {
 	struct client *of = data;
 
 	for (of->round = 0; of->round < of->rounds; of->round++) {
-		ways[below(of, ARRAY_SIZE(ways) - (SPEAKS_1_1 ? 0 : 2))](of);
+		ways[below(of, ARRAY_SIZE(ways) - (SPEAKS_1_1 ? 0 : LATER))](of);
 		rest(of);
 	}
 	kthread_complete_and_exit(&of->done, 0);
@@ -421,11 +445,17 @@ static int run_client(void *data)
 static void begin_client(struct client *of, unsigned int number, unsigned int rounds, u64 seed)
 {
 	struct task_struct *thread;
+	int error;
 
 	of->number = number;
 	of->rounds = rounds / CLIENTS + (number < rounds % CLIENTS);
 	prandom_seed_state(&of->random, seed + number * 0x9E3779B97F4A7C15ULL);
 	init_completion(&of->done);
+	init_completion(&of->notified);
+	error = want_notification(NOTIFICATION + number, on_notification, &of->notified);
+	of->has_notification = !error;
+	if (error != -EOPNOTSUPP)
+		expect(of, "a notification of its own", error, 0);
 	thread = kthread_run(run_client, of, "client%u", number);
 	if (!IS_ERR(thread))
 		return;
@@ -436,6 +466,8 @@ static void begin_client(struct client *of, unsigned int number, unsigned int ro
 static void count_client(struct client *all, struct client *of)
 {
 	wait_for_completion(&of->done);
+	if (of->has_notification)
+		expect(of, "its notification is dropped", drop_notification(NOTIFICATION + of->number), 0);
 	all->round += of->round;
 	all->requests += of->requests;
 	all->shares += of->shares;

@@ -84,7 +84,12 @@ void try_reach(void);
 void measure(unsigned int rounds, unsigned int pieces);
 void try_random(unsigned int rounds, u64 seed);
 
-/* messages.c: FFA_MSG_SEND2. */
+/*
+ * messages.c: FFA_MSG_SEND2, and notifications that the partner may set. Both are -EOPNOTSUPP where
+ * Linux doesn't have them.
+ */
 int send_message(struct ffa_device *device, const void *text, size_t size);
+int want_notification(int id, void (*come)(int id, void *data), void *data);
+int drop_notification(int id);
 
 #endif
