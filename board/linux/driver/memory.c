@@ -138,7 +138,7 @@ static int keep_one(struct kept *kept)
 /* How many transactions may be open at a time: what Linux's own drivers have open is among them. */
 static void try_many(void)
 {
-	struct kept *kept = kcalloc(open + 1, sizeof(*kept), GFP_KERNEL);
+	struct kept *kept = kcalloc(open + 1UL, sizeof(*kept), GFP_KERNEL);
 	unsigned int count = 0;
 	int error = 0;
 

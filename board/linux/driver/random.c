@@ -439,7 +439,6 @@ static int run_client(void *data)
 		rest(of);
 	}
 	kthread_complete_and_exit(&of->done, 0);
-	return 0;
 }
 
 static void begin_client(struct client *of, unsigned int number, unsigned int rounds, u64 seed)

@@ -19,7 +19,6 @@ static int load(void *at)
 
 	pr_info("note: a thread loaded %llx\n", word);
 	kthread_complete_and_exit(&loaded, 0);
-	return 0;
 }
 
 /* The thread that tries has an external abort, which is its end, and Linux goes on without it. */

@@ -120,6 +120,8 @@ static int try_all(struct ffa_device *device)
 {
 	if (partner)
 		return -EBUSY;
+	if (!ranges)
+		return -EINVAL;
 	partner = device;
 	introduce(device);
 	tell("the second partition, by its UUID", find_second(), 0);
