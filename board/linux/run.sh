@@ -15,12 +15,13 @@ image_at=40200000 initramfs_at=43C00000 tree_at=43D80000 first_at=43E00000 secon
 
 usage() {
     cat <<'HELP'
-board/linux/run.sh [--install] [--kernel KIND] [--rounds N] [--work FOLDER] [--keep FOLDER] [--jobs N]
+board/linux/run.sh [--install] [--kernel KIND | --limits NAME] [--rounds N] [--work FOLDER] [--keep FOLDER] [--jobs N]
 
 Runs Linux as the normal world on QEMU's machine `virt`, some times, and compares. Where the core is proved and the kernel built it takes some minutes.
 
   --install      installs Debian's packages for it first
   --kernel KIND  runs another Linux than that of the kind 4k; board/linux/kernel --help names the kinds
+  --limits NAME  runs it over a copy of the repository with other limits, which is proved first: limits/NAME.edit. Linux shares a page 100,000 times there
   --rounds N     how much is made up by threads of Linux; 10000 where nothing is given
   --work FOLDER  has the kernel's source and what is built; what stands there is built once. /tmp/gorseplumb-linux where nothing is given
   --keep FOLDER  leaves what each run printed in this folder: NAME.uart, and its .linux, .trace, .found, .expected and .explained
@@ -30,11 +31,11 @@ It ends with 0 and `passed`, with 1 and what is missing or differs, or with 64 w
 HELP
 }
 
-install='' kernel=4k rounds=10000 work=${TMPDIR:-/tmp}/gorseplumb-linux keep='' jobs=$(nproc)
+install='' kernel=4k limits='' rounds=10000 work=${TMPDIR:-/tmp}/gorseplumb-linux keep='' jobs=$(nproc)
 while (($#)); do
     case $1 in
         --install) install=yes ;;
-        --kernel | --rounds | --work | --keep | --jobs)
+        --kernel | --limits | --rounds | --work | --keep | --jobs)
             [[ ${2:-} ]] || refuse "$1 needs a word behind it"
             declare "${1#--}=$2"
             shift
@@ -45,6 +46,8 @@ while (($#)); do
     shift
 done
 [[ $kernel =~ ^(4k|16k|64k|6\.1|debian|debian-cloud)$ ]] || refuse "there is no kernel $kernel"
+[[ $kernel == 4k || -z $limits ]] || refuse "other limits are tried with the kernel of the kind 4k alone"
+[[ -z $limits || -e $top/limits/$limits.edit ]] || refuse "there are no limits $limits"
 is_count "$rounds" || refuse "the number of rounds is one below a thousand million, and not $rounds"
 if [[ $install ]]; then install_packages "${packages[@]}"; fi
 needs "${packages[*]}" $compiler $copier $emulator dtc
@@ -52,6 +55,19 @@ mkdir -p "$work" ${keep:+"$keep"}
 to=$(mktemp -d)
 trap 'rm -rf "$to"' EXIT
 linux=$work/$kernel
+
+# The repository of which core and program are taken: this one, or a copy with other limits. A copy's program is the one that knows these.
+repository=$top
+if [[ $limits ]]; then
+    repository=$work/limits/$limits
+    player=${FFAPLAY:-$repository/ffaplay}
+    "$top/limits/copy" "$limits" "$repository"
+fi
+flags=("-I$repository/c" "${flags[@]}")
+
+# What the core has room for, by its name in limits.rt.
+limit_of() { sed -n "s/^pub const $1: .* = \([0-9]*\);.*/\1/p" "$repository/crates/ffa_model/src/limits.rt"; }
+ranges=$(limit_of MOST_RANGES)
 
 build_partition() {
     $compiler "${flags[@]}" "${program_flags[@]}" -T "$here/partition/partition.ld" "$here"/partition/*.c "$here/partition/start.S" "$top/c/bytes.c" -o "$to/partition.elf"
@@ -69,11 +85,11 @@ build() {
 
 size_of() { stat -L -c %s "$1"; }
 
-# The device tree: build_tree CONDUIT PROCESSORS WORD.., of which the first is the instruction by which Linux calls, and the last are Linux's arguments
+# The device tree: build_tree CONDUIT PROCESSORS WORD.., of which the first is the instruction by which Linux calls, and the last are for the driver
 build_tree() {
-    local end=$((16#$initramfs_at + $(size_of "$linux/initramfs"))) others=''
+    local end=$((16#$initramfs_at + $(size_of "$linux/initramfs"))) others='' words="ffa_try.ranges=$ranges ffa_try.open=$(limit_of MOST_OPEN)"
     if (($2 == 2)); then others='cpu@1 { device_type = "cpu"; compatible = "arm,cortex-a57"; enable-method = "psci"; reg = <1>; };'; fi
-    sed -e "s/= CONDUIT/= \"$1\"/" -e "s/ARGUMENTS;/\"earlycon console=ttyAMA0 panic=-1 ${*:3}\";/" -e "s/^ *OTHERS$/$others/" \
+    sed -e "s/= CONDUIT/= \"$1\"/" -e "s/ARGUMENTS;/\"earlycon console=ttyAMA0 panic=-1 $words ${*:3}\";/" -e "s/^ *OTHERS$/$others/" \
         -e "s/<0 INITRD_BEGIN>/<0 0x$initramfs_at>/" -e "s/<0 INITRD_END>/<0 $end>/" "$here/linux.dts" | dtc -q -O dtb -o "$to/tree"
 }
 
@@ -92,6 +108,7 @@ list_images() {
 run() {
     local devices name=$1 firmware=$2
     shift 2
+    SECONDS=0
     list_images >"$to/list"
     mapfile -t devices < <(
         loader "$to/manifest" 48000000
@@ -102,6 +119,7 @@ run() {
         loader "$to/partition" "${waiting[3]}"
     )
     emulate "$firmware" -machine virt,virtualization=on,gic-version=3 -m 512M "$@" "${devices[@]}"
+    emulated=$SECONDS
     tr -d '\r' <"$to/uart" | sed -E '/^[><] /d' >"$to/linux"
     "$player" run "$to/manifest" "$to/trace" >"$to/expected" || fail "$name: the program doesn't play what Linux did"
     if [[ $keep ]]; then keep_run "$name"; fi
@@ -114,10 +132,11 @@ keep_run() {
     for kind in uart linux trace found expected explained; do cp "$to/$kind" "$keep/$1.$kind"; done
 }
 
-# The lines of expected.txt that Linux has to say and doesn't: missing SECTION..
+# The lines of expected.txt that Linux has to say and doesn't: missing SECTION.. RANGES there are as many as a transaction may have, and MORE one more.
 missing() {
     local line
     awk -v sections=" $* " '/^\[/ { on = index(sections, " " substr($0, 2, length($0) - 2) " "); next } on && !/^(#|$)/' "$here/expected.txt" |
+        sed -e "s/RANGES/$ranges/" -e "s/MORE/$((ranges + 1))/" |
         while IFS= read -r line; do grep -qF -- "$line" "$to/linux" || echo "$line"; done
 }
 
@@ -134,7 +153,7 @@ judge() {
     if grep 'FAILED' "$to/linux" >&2; then fail "$name: something that Linux tried came out otherwise"; fi
     has_end || fail "$name: the board didn't come to its end"
     echo "$name: $(grep -c '^call' "$to/trace") calls as the program prints them, $(grep -c 'ffa_try: ok' "$to/linux") things that the driver tried," \
-        "$(sed -n 's/^# \(settled .*\)/\1/p' "$to/linux")"
+        "$(sed -n 's/^# \(settled .*\)/\1/p' "$to/linux"), $emulated s"
 }
 
 # A firmware that forgets no translation after a call: Linux has to see that it reaches a page that it has lent.
@@ -186,6 +205,15 @@ run_all() {
     measure
 }
 
+# More shares than the repository's own limits allow.
+run_long() {
+    local limit=3000
+    build_tree smc 1 ffa_try.rounds=50000 ffa_try.pieces=1
+    try long plain cortex-a57 linux driver 6.12 no-interrupt
+    grep -o 'note: 50000 rounds.*' "$to/linux"
+    try_random cortex-a57 linux driver 6.12
+}
+
 # What is run of another: run_other PROCESSOR SECTION
 run_other() {
     build_tree smc 1
@@ -195,12 +223,12 @@ run_other() {
 
 "$here/kernel" ${install:+--install} --jobs "$jobs" "$kernel" "$work"
 cp "$here/linux.toml" "$to/manifest"
-make_archive "$top"
-[[ -n ${FFAPLAY:-} ]] || "$top/ffaplay" prove
+make_archive "$repository"
+[[ -n ${FFAPLAY:-} ]] || "$repository/ffaplay" prove
 build_partition
 build plain
 case $kernel in
-    4k) run_all ;;
+    4k) if [[ $limits ]]; then run_long; else run_all; fi ;;
     16k) run_other max 6.12 ;;
     64k) run_other cortex-a57 6.12 ;;
     6.1)
