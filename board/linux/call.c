@@ -31,16 +31,19 @@ static bool serve_feature(struct context *context) {
     return true;
 }
 
-static void notify_linux(const struct ffa_registers *registers, const struct ffa_outcome *outcome) {
-    bool sets = (uint32_t)registers->x[0] == FFA_NOTIFICATION_SET && (uint32_t)outcome->x[0] == FFA_SUCCESS;
-    if (NOTIFY && sets && (uint16_t)registers->x[1] == 0) INTERRUPT_OF_ITS(PENDING_NUMBER);
+/* Linux is interrupted where something is pending for it and nothing was before: it asks for all that is, until it has been given that. */
+static void notify_linux(struct board *board) {
+    static bool was_pending;
+    bool pending = ffa_pending(&board->machine, 0);
+    if (pending && !was_pending) INTERRUPT_OF_ITS(PENDING_NUMBER);
+    was_pending = pending;
 }
 
 void begin_call(struct board *board, const struct ffa_registers *registers) { record_call(board, registers); }
 
 void end_call(struct board *board, const struct ffa_registers *registers, const struct ffa_outcome *outcome) {
     record_answer(board, registers, outcome);
-    notify_linux(registers, outcome);
+    if (NOTIFY) notify_linux(board);
 }
 
 void ffa_settle(uint16_t endpoint, uint64_t address, uint64_t size) { settle_tables(endpoint, address, size); }

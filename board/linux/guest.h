@@ -5,11 +5,11 @@
 
 #include "board.h"
 
-/* The list of images, which run.sh writes and has QEMU load here (place.c). */
-#define IMAGE_LIST 0x49000000
+/* The list of endpoints, which run.sh writes and has QEMU load here (place.c). */
+#define ENDPOINT_LIST 0x49000000
 
-/* Stores the images of the list into the pages of their endpoints, as operations of these, and has each endpoint begin in its own. */
-void place_images(struct board *board, const char *list);
+/* Has each endpoint of the list begin where that says, in its image. */
+void place_endpoints(struct board *board, const char *list);
 
 /* Makes the processor ready for Linux and for partitions. */
 void begin_guests(struct board *board);

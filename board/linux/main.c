@@ -23,9 +23,9 @@ static void put_boot(uint64_t took) {
 
 void firmware(void) {
     uint64_t begin = nanoseconds();
-    boot(&board, (const char *)MANIFEST_TEXT, ffa_boot_lent);
+    boot(&board, (const char *)MANIFEST_TEXT, ffa_boot_held);
     put_boot(nanoseconds() - begin);
-    place_images(&board, (const char *)IMAGE_LIST);
+    place_endpoints(&board, (const char *)ENDPOINT_LIST);
     begin_guests(&board);
     run_guests(&board);
 }

@@ -1,62 +1,28 @@
 /* SPDX-License-Identifier: MIT OR Apache-2.0 */
-/* The machine's first state, and what stands in its pages before anybody runs.
- *
- * A boot zeroes all pages behind the tables, so images wait outside the machine's RAM and are stored afterwards. The firmware may not write lent pages
- * itself: each word is a store that the core does for the endpoint that runs, within the access that it has. */
-#include "bytes.h"
-#include "calls.h"
+/* Where endpoints begin. Their images stand in pages of their own before the boot, which keeps them. */
 #include "guest.h"
 #include "layout.h"
-#include "operation.h"
 #include "processor.h"
 #include "tables.h"
 #include "text.h"
 
 SYSTEM_REGISTER(ctr_el0)
 
-/* A call that the core does for the endpoint that runs by its account, as a line of the trace. */
-static void call(struct board *board, uint64_t function, uint64_t argument) {
-    struct ffa_registers registers = {.x = {function, argument}};
-    record_call(board, &registers);
-    struct ffa_outcome outcome = ffa_call(&board->machine, &registers);
-    record_answer(board, &registers, &outcome);
-}
-
-/* What is zero is there already. Stores are no lines of the trace: no outcome of a call depends on them. */
-static void store_image(struct board *board, uint64_t from, uint64_t to, uint64_t size) {
-    for (uint64_t at = 0; at < size; at += 8) {
-        uint64_t word;
-        memcpy(&word, (const void *)(from + at), 8);
-        if (word != 0 && ffa_store(&board->machine, to + at, 8, word).kind != FFA_DONE) stop("an image can't be stored where it belongs");
-    }
-}
-
 static uint64_t take_number(const char **at) {
     uint64_t number;
     unsigned digits;
-    if (!take_hex(at, &number, &digits)) stop("the list of images has no number where there has to be one");
+    if (!take_hex(at, &number, &digits)) stop("the list of endpoints has no number where there has to be one");
     return number;
 }
 
-/* An endpoint begins in the first image that the list has for it. What the last one is, as a place, its first register tells it: for Linux that is
- * the device tree, and the boot protocol wants it so. */
-static void begin_in(struct endpoint *endpoint, uint64_t to) {
-    if (endpoint->program == 0) {
-        endpoint->program = to;
-        begin_context(&endpoint->context, to);
-    }
-    endpoint->context.x[0] = to;
-}
-
-/* Lines of four hexadecimal words: an endpoint, where its image waits, where it belongs, and how many bytes it has. */
-static void place_image(struct board *board, const char **list) {
-    uint64_t identifier = take_number(list), from = take_number(list), to = take_number(list), size = take_number(list);
-    uint32_t place = place_of((uint32_t)identifier);
-    if (place >= board->count) stop("an image is nobody's");
-    if (place != 0) call(board, FFA_RUN, identifier << 16);
-    store_image(board, from, to, size);
-    if (place != 0) call(board, FFA_MSG_WAIT, 0);
-    begin_in(&board->endpoints[place], to);
+/* A line of three hexadecimal words: an endpoint, its first instruction, and what x0 tells it there. */
+static void place_endpoint(struct board *board, const char **list) {
+    uint32_t place = place_of((uint32_t)take_number(list));
+    uint64_t first = take_number(list), told = take_number(list);
+    if (place >= board->count) stop("the list has an endpoint that the manifest doesn't have");
+    board->endpoints[place].program = first;
+    begin_context(&board->endpoints[place].context, first);
+    board->endpoints[place].context.x[0] = told;
     if (**list == '\n') ++*list;
 }
 
@@ -68,10 +34,10 @@ static void clean_machine(struct board *board) {
     DO("dsb sy");
 }
 
-void place_images(struct board *board, const char *list) {
-    while (*list != '\0') place_image(board, &list);
+void place_endpoints(struct board *board, const char *list) {
+    while (*list != '\0') place_endpoint(board, &list);
     for (uint32_t i = 0; i < board->count; i++) {
-        if (board->endpoints[i].program == 0) stop("an endpoint has no image");
+        if (board->endpoints[i].program == 0) stop("an endpoint of the manifest isn't in the list");
     }
     clean_machine(board);
     after_boot();

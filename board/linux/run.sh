@@ -9,8 +9,7 @@ here=$board/linux
 packages=(qemu-system-arm gcc-aarch64-linux-gnu binutils-aarch64-linux-gnu device-tree-compiler)
 flags+=("-I$here")
 
-# Where QEMU puts what waits for the firmware, and where that places it: RAM of the machine is 40000000 to 43FFFFFF, and Linux has 40200000 to 43DFFFFF.
-waiting=(50000000 54000000 55000000 56000000)
+# Where QEMU puts images, each in pages of its endpoint: RAM of the machine is 40000000 to 43FFFFFF, and Linux has 40200000 to 43DFFFFF.
 image_at=40200000 initramfs_at=43C00000 tree_at=43D80000 first_at=43E00000 second_at=43F00000 third_at=43F80000
 
 usage() {
@@ -93,32 +92,24 @@ build_tree() {
         -e "s/<0 INITRD_BEGIN>/<0 0x$initramfs_at>/" -e "s/<0 INITRD_END>/<0 $end>/" "$here/linux.dts" | dtc -q -O dtb -o "$to/tree"
 }
 
-# The list of images: the last of an endpoint is told to it.
-list_images() {
-    local line="%s %s %s %X\n"
-    printf "$line" 0 "${waiting[0]}" $image_at "$(size_of "$linux/Image")"
-    printf "$line" 0 "${waiting[1]}" $initramfs_at "$(size_of "$linux/initramfs")"
-    printf "$line" 0 "${waiting[2]}" $tree_at "$(size_of "$to/tree")"
-    printf "$line" 8001 "${waiting[3]}" $first_at "$(size_of "$to/partition")"
-    printf "$line" 8002 "${waiting[3]}" $second_at "$(size_of "$to/partition")"
-    printf "$line" 8003 "${waiting[3]}" $third_at "$(size_of "$to/partition")"
-}
+# Where each endpoint begins, and what x0 tells it there: Linux is told of the device tree.
+list_endpoints() { printf '%s %s %s\n' 0 $image_at $tree_at 8001 $first_at 0 8002 $second_at 0 8003 $third_at 0; }
 
 # Runs Linux, and parts what was printed: run NAME FIRMWARE WORD.., of which the words are the emulator's
 run() {
     local devices name=$1 firmware=$2
     shift 2
+    list_endpoints >"$to/list"
     SECONDS=0
-    list_images >"$to/list"
     mapfile -t devices < <(
         loader "$to/manifest" 48000000
         loader "$to/list" 49000000
-        loader "$linux/Image" "${waiting[0]}"
-        loader "$linux/initramfs" "${waiting[1]}"
-        loader "$to/tree" "${waiting[2]}"
-        loader "$to/partition" "${waiting[3]}"
+        loader "$linux/Image" $image_at
+        loader "$linux/initramfs" $initramfs_at
+        loader "$to/tree" $tree_at
+        for at in $first_at $second_at $third_at; do loader "$to/partition" $at; done
     )
-    emulate "$firmware" -machine virt,virtualization=on,gic-version=3 -m 512M "$@" "${devices[@]}"
+    emulate "$firmware" -machine virt,virtualization=on,gic-version=3 -m 256M "$@" "${devices[@]}"
     emulated=$SECONDS
     tr -d '\r' <"$to/uart" | sed -E '/^[><] /d' >"$to/linux"
     "$player" run "$to/manifest" "$to/trace" >"$to/expected" || fail "$name: the program doesn't play what Linux did"
