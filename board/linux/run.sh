@@ -221,14 +221,10 @@ build plain
 case $kernel in
     4k) if [[ $limits ]]; then run_long; else run_all; fi ;;
     16k) run_other max 6.12 ;;
-    64k) run_other cortex-a57 6.12 ;;
+    64k | debian*) run_other cortex-a57 6.12 ;;
     6.1)
         sed -i '0,/version = "1.1"/s//version = "compact"/' "$to/manifest"
         run_other cortex-a57 6.1
-        ;;
-    debian*)
-        build_tree smc 1
-        try "$kernel" plain cortex-a57 linux no-driver
         ;;
 esac
 echo passed

@@ -113,7 +113,7 @@ static void reach(const char *what, off_t at) {
 
 /* All that works with partitions. */
 static void use_partitions(bool has_core) {
-    bool has_services = load("/arm-tstee.ko", "");
+    bool has_tee = load("/tee.ko", ""), has_services = load("/arm-tstee.ko", "");
     if (has_services) use_service();
     reach("a partition's page has SIGBUS", 0x43E00000);
     reach("a table of the core has SIGBUS", 0x40000000);
@@ -122,6 +122,7 @@ static void use_partitions(bool has_core) {
     unload("ffa_try");
     unload("optee");
     if (has_services) unload("arm_tstee");
+    if (has_tee) unload("tee");
     unload("ffa_module");
     load("/ffa-module.ko", "");
     unload("ffa_module");
