@@ -168,6 +168,26 @@ static void go_message(struct client *of)
 	expect(of, "its bytes", data.data1 == sum && data.data2 == size, 1);
 }
 
+static void on_notification(int id, void *data)
+{
+	complete(data);
+}
+
+/* The partition sets the client's notification, and it comes. */
+static void go_notified(struct client *of)
+{
+	struct ffa_send_direct_data data = { .data1 = BIT(NOTIFICATION + of->number) };
+	int error;
+
+	if (!of->has_notification)
+		return;
+	reinit_completion(&of->notified);
+	error = ask_until(of, partner, WORK_NOTIFY, &data);
+	expect(of, "the partition sets a notification", error, 0);
+	if (!error)
+		expect(of, "it comes", wait_for_completion_timeout(&of->notified, 10 * HZ) != 0, 1);
+}
+
 static void go_foreign(struct client *of)
 {
 	const unsigned long places[] = { table_at, partition_at, outside_at };
@@ -392,26 +412,6 @@ static void go_memory(struct client *of, bool lend)
 	give_reclaimed_back(in.of, error);
 }
 
-static void on_notification(int id, void *data)
-{
-	complete(data);
-}
-
-/* The partition sets the client's notification, and it comes. */
-static void go_notified(struct client *of)
-{
-	struct ffa_send_direct_data data = { .data1 = BIT(NOTIFICATION + of->number) };
-	int error;
-
-	if (!of->has_notification)
-		return;
-	reinit_completion(&of->notified);
-	error = ask_until(of, partner, WORK_NOTIFY, &data);
-	expect(of, "the partition sets a notification", error, 0);
-	if (!error)
-		expect(of, "it comes", wait_for_completion_timeout(&of->notified, HZ) != 0, 1);
-}
-
 static void go_share(struct client *of)
 {
 	go_memory(of, false);
@@ -422,20 +422,21 @@ static void go_lend(struct client *of)
 	go_memory(of, true);
 }
 
-/* What a client does in a round. The last are nothing for a driver of FF-A 1.0. */
+/* What a client does in a round. The last three aren't for a driver of FF-A 1.0. */
 static void (*const ways[])(struct client *of) = {
 	go_wide, go_narrow, go_foreign,
 	go_share, go_share, go_lend, go_lend,
 	go_message, go_yielding, go_notified,
 };
-#define LATER 3
+
+#define WAYS (ARRAY_SIZE(ways) - (SPEAKS_1_1 ? 0 : 3))
 
 static int run_client(void *data)
 {
 	struct client *of = data;
 
 	for (of->round = 0; of->round < of->rounds; of->round++) {
-		ways[below(of, ARRAY_SIZE(ways) - (SPEAKS_1_1 ? 0 : LATER))](of);
+		ways[below(of, WAYS)](of);
 		rest(of);
 	}
 	kthread_complete_and_exit(&of->done, 0);
@@ -466,7 +467,8 @@ static void count_client(struct client *all, struct client *of)
 {
 	wait_for_completion(&of->done);
 	if (of->has_notification)
-		expect(of, "its notification is dropped", drop_notification(NOTIFICATION + of->number), 0);
+		expect(of, "its notification is dropped",
+		       drop_notification(NOTIFICATION + of->number), 0);
 	all->round += of->round;
 	all->requests += of->requests;
 	all->shares += of->shares;

@@ -2,34 +2,43 @@
 /* What isn't Linux's, or isn't any more, is out of its reach. */
 #define pr_fmt(fmt) "ffa_try: " fmt
 
-#include <linux/completion.h>
+#include <linux/delay.h>
 #include <linux/err.h>
 #include <linux/io.h>
-#include <linux/jiffies.h>
 #include <linux/kthread.h>
 #include <linux/printk.h>
+#include <linux/sched/task.h>
 
 #include "try.h"
 
-static DECLARE_COMPLETION(loaded);
+static bool loaded;
 
 static int load(void *at)
 {
 	u64 word = READ_ONCE(*(u64 *)at);
 
+	WRITE_ONCE(loaded, true);
 	pr_info("note: a thread loaded %llx\n", word);
-	kthread_complete_and_exit(&loaded, 0);
+	return 0;
 }
 
 /* The thread that tries has an external abort, which is its end, and Linux goes on without it. */
 static void try_load(const char *what, void *at)
 {
-	struct task_struct *thread;
+	struct task_struct *thread = kthread_create(load, at, "reach");
 
-	reinit_completion(&loaded);
 	pr_info("note: a thread of the kernel reaches for %s\n", what);
-	thread = kthread_run(load, at, "reach");
-	tell(what, IS_ERR(thread) || wait_for_completion_timeout(&loaded, HZ / 10), 0);
+	if (IS_ERR(thread)) {
+		tell(what, PTR_ERR(thread), 0);
+		return;
+	}
+	WRITE_ONCE(loaded, false);
+	get_task_struct(thread);
+	wake_up_process(thread);
+	while (!READ_ONCE(thread->exit_state))
+		msleep(20);
+	put_task_struct(thread);
+	tell(what, READ_ONCE(loaded), 0);
 }
 
 static void try_place(const char *what, phys_addr_t at)
