@@ -91,5 +91,6 @@ void record_answer(struct board *board, const struct ffa_registers *registers, c
     put_registers(outcome->runner, outcome->x);
     if ((uint32_t)outcome->x[0] == FFA_ERROR) return;
     if ((function & ~WITH_64_BITS) == FFA_RXTX_MAP) *of = (struct buffers){registers->x[1], registers->x[2], FFA_PAGE_BYTES * registers->x[3]};
+    if (function == FFA_RXTX_UNMAP) *of = (struct buffers){0};
     put_loads(board, of->rx, written_by(registers->x, outcome));
 }

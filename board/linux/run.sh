@@ -51,6 +51,7 @@ is_count "$rounds" || refuse "the number of rounds is one below a thousand milli
 if [[ $install ]]; then install_packages "${packages[@]}"; fi
 needs "${packages[*]}" $compiler $copier $emulator dtc
 mkdir -p "$work" ${keep:+"$keep"}
+work=$(cd "$work" && pwd)
 to=$(mktemp -d)
 trap 'rm -rf "$to"' EXIT
 linux=$work/$kernel
