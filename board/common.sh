@@ -41,8 +41,8 @@ needs() {
     command -v rt >/dev/null || fail "there is no rt, the toolchain's command: README.md says what is needed"
 }
 
-# The core's archive for AArch64, as $to/arm.a, which may stand ready in the folder ARCHIVES: make_archive REPOSITORY. An archive that was there, for
-# another target, is there again afterwards.
+# The core's archive for AArch64, as $to/arm.a, which may stand ready in the folder ARCHIVES: make_archive REPOSITORY. An archive that was
+# there, for another target, is there again afterwards.
 make_archive() {
     if [[ -e ${ARCHIVES:-}/arm.a ]]; then
         cp "$ARCHIVES/arm.a" "$to/arm.a"
@@ -59,8 +59,9 @@ make_archive() {
 # A file that QEMU puts somewhere, as two of its words: loader FILE ADDRESS
 loader() { printf -- '-device\nloader,file=%s,addr=0x%s,force-raw=on\n' "$1" "$2"; }
 
-# Runs a firmware, and parts what it prints: emulate FIRMWARE WORD.., of which the words are the emulator's. All is in $to/uart, the trace in $to/trace, and
-# what came of it in $to/found. A firmware that hangs, or an emulator that doesn't run it, prints no end.
+# Runs a firmware, and parts what it prints: emulate FIRMWARE WORD.., of which the words are the emulator's. All is in $to/uart, the
+# trace in $to/trace, and what came of it in $to/found. It has $limit seconds, or 300. A firmware that hangs, or an emulator that doesn't
+# run it, prints no end.
 emulate() {
     local firmware=$1
     shift

@@ -2,7 +2,8 @@
 #include "bytes.h"
 #include <stdint.h>
 
-/* A word that may stand for bytes of anything. It is loaded and stored only where it is aligned, as a program may run where nothing else is allowed. */
+/* A word that may stand for bytes of anything. It is loaded and stored only where it is aligned, as a program may run where nothing else
+ * is allowed. */
 typedef uint64_t __attribute__((__may_alias__)) word;
 #define WORD sizeof(word)
 

@@ -1,6 +1,6 @@
 /* SPDX-License-Identifier: MIT OR Apache-2.0 */
-/* Tries bytes.c, whose functions have other names here, at each place of two words, with each size up to some words and each overlap, against copies of byte by byte.
- * A sanitizer sees that no word is loaded or stored that isn't aligned. */
+/* Tries bytes.c, whose functions have other names here, at each place within words, with each size up to some words and each overlap:
+ * each byte of the memory is looked at, around the copy too. A sanitizer sees that no word is loaded or stored that isn't aligned. */
 #include <stdint.h>
 #include <stdio.h>
 #include <stdlib.h>

@@ -51,7 +51,8 @@ static uint64_t external_syndrome(uint64_t syndrome, bool from_el0) {
     return class << 26 | (syndrome & LONG_INSTRUCTION) | (fetch ? 0 : syndrome & WRITE) | EXTERNAL;
 }
 
-/* Linux has an exception of its own: it reached for what isn't there, as memory behind a broken bus. The registers of EL1 are the processor's while Linux runs. */
+/* Linux has an exception of its own: it reached for what isn't there, as memory behind a broken bus. The registers of EL1 are the
+ * processor's while Linux runs. */
 static void hand_to_linux(struct context *context, uint64_t syndrome) {
     write_esr_el1(external_syndrome(syndrome, (context->state & MODE) == MODE_EL0));
     write_far_el1(read_far_el2());

@@ -6,7 +6,7 @@
 #include "text.h"
 
 #ifndef NOTIFY
-#define NOTIFY 0 /* 1 interrupts Linux where a notification is pending for it, and tells it of that interrupt, which the core knows nothing of */
+#define NOTIFY 0 /* 1 interrupts Linux where a notification is pending for it, and tells it of that interrupt, of which the core knows nothing */
 #endif
 
 /* FF-A has the functions 60 to EF of the standard secure service calls (DEN0077A, 11.1), which aren't interrupted, in 32 and in 64 bits. */
@@ -15,8 +15,8 @@ static bool is_ffa(uint32_t function) {
     return plain >= UINT32_C(0x84000060) && plain <= UINT32_C(0x840000EF);
 }
 
-/* Linux has notifications only where FFA_FEATURES tells it of an interrupt, and it wants one that a processor sends itself: 0 to 7 are its own. The core knows
- * of no interrupt, and answers NOT_SUPPORTED. */
+/* Linux has notifications only where FFA_FEATURES tells it of an interrupt, and it wants one that a processor sends itself: 0 to 7 are
+ * its own. The core knows of no interrupt, and answers NOT_SUPPORTED. */
 #define PENDING_INTERRUPT 1 /* the feature (DEN0077A, FFA_FEATURES) */
 #define PENDING_NUMBER UINT64_C(8)
 #define INTERRUPT_OF_ITS(number) __asm__ volatile("msr icc_sgi1r_el1, %0" : : "r"((number) << 24 | 1) : "memory")
@@ -31,7 +31,7 @@ static bool serve_feature(struct context *context) {
     return true;
 }
 
-/* Linux is interrupted where something is pending for it and nothing was before: it asks for all that is, until it has been given that. */
+/* Linux is interrupted where something is pending for it and nothing was before: it asks for all that is, until it was given that. */
 static void notify_linux(struct board *board) {
     static bool was_pending;
     bool pending = ffa_pending(&board->machine, 0);

@@ -1,6 +1,6 @@
 /* SPDX-License-Identifier: MIT OR Apache-2.0 */
-/* Devices of QEMU's machine `virt` that Linux has. The core knows of memory alone, so no table maps them: each access is a fault of stage 2, whose syndrome
- * says what it was, and the firmware does it. */
+/* Devices of QEMU's machine `virt` that Linux has. The core knows of memory alone, so no table maps them: each access is a fault of
+ * stage 2, whose syndrome says what it was, and the firmware does it. */
 #include "guest.h"
 #include "layout.h"
 #include "processor.h"
@@ -20,7 +20,9 @@
 #define IS_WRITE(syndrome) ((syndrome) >> 6 & 1)
 #define ZERO_REGISTER 31
 
-static bool within(uint64_t address, unsigned size, uint64_t base, uint64_t bytes) { return address >= base && address - base <= bytes - size; }
+static bool within(uint64_t address, unsigned size, uint64_t base, uint64_t bytes) {
+    return address >= base && address - base <= bytes - size;
+}
 
 static bool is_device(uint64_t address, unsigned size) {
     return within(address, size, DISTRIBUTOR, DISTRIBUTOR_BYTES) || within(address, size, REDISTRIBUTOR, REDISTRIBUTOR_BYTES) ||

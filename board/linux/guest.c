@@ -25,8 +25,8 @@ SYSTEM_REGISTER(cntp_cval_el0)
  * HCR_EL2 while Linux runs: interrupts are Linux's, and so is stage 1. */
 #define LINUX_HCR (HCR_VM | HCR_TSC | HCR_RW)
 
-/* And while a partition runs. Interrupts would go to EL2, so the registers of the interrupt controller's processor interface that a partition reaches are
- * virtual ones, which nothing signals. */
+/* And while a partition runs. Interrupts would go to EL2, so the registers of the interrupt controller's processor interface that a
+ * partition reaches are virtual ones, which nothing signals. */
 #define PARTITION_HCR (LINUX_HCR | HCR_INTERRUPTS | HCR_DC | HCR_WAITS)
 
 /* SCTLR_EL1 as Linux's boot protocol wants it: no translation and no caches. */
@@ -38,8 +38,8 @@ SYSTEM_REGISTER(cntp_cval_el0)
 /* ICC_SRE_EL2: system registers are the way to the interrupt controller (SRE, DFB, DIB), also for EL1 (Enable). */
 #define INTERRUPTS_BY_REGISTERS 15
 
-/* Timers and interrupts are Linux's alone, and nobody's while a partition runs: what is due then waits until Linux runs again, as the core has no state for a
- * partition that was interrupted. */
+/* Timers and interrupts are Linux's alone, and nobody's while a partition runs: what is due then waits until Linux runs again, as the
+ * core has no state for a partition that was interrupted. */
 static struct {
     uint64_t virtual_control, virtual_value, physical_control, physical_value, priority;
 } of_linux;

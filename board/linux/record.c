@@ -1,6 +1,7 @@
 /* SPDX-License-Identifier: MIT OR Apache-2.0 */
-/* Calls as a trace, for the program ffaplay to play: it is given what the caller has in TX, and has to answer the same, and to have the same in RX. Linux and partitions
- * write their TX natively, so it is printed as stores of theirs, right before the call that reads it. */
+/* Calls as a trace, for the program ffaplay to play: it is given what the caller has in TX, and has to answer the same, and to have
+ * the same in RX. Linux and partitions write their TX natively, so it is printed as stores of theirs, right before the call that
+ * reads it. */
 #include "bytes.h"
 #include "calls.h"
 #include "guest.h"
@@ -53,7 +54,8 @@ static uint64_t read_by(struct board *board, const uint64_t *x, const struct buf
 
 static void put_stores(struct board *board, uint64_t address, uint64_t bytes) {
     for (uint64_t at = 0; at < bytes; at += 8) {
-        struct operation operation = {.kind = STORE, .address = address + at, .size = 8, .value = word_at(board, address + at)};
+        uint64_t word = word_at(board, address + at);
+        struct operation operation = {.kind = STORE, .address = address + at, .size = 8, .value = word};
         put_operation(&operation);
         put_done();
     }
@@ -90,7 +92,10 @@ void record_answer(struct board *board, const struct ffa_registers *registers, c
     if (!RECORD) return;
     put_registers(outcome->runner, outcome->x);
     if ((uint32_t)outcome->x[0] == FFA_ERROR) return;
-    if ((function & ~WITH_64_BITS) == FFA_RXTX_MAP) *of = (struct buffers){registers->x[1], registers->x[2], FFA_PAGE_BYTES * registers->x[3]};
-    if (function == FFA_RXTX_UNMAP) *of = (struct buffers){0};
+    if ((function & ~WITH_64_BITS) == FFA_RXTX_MAP) {
+        *of = (struct buffers){registers->x[1], registers->x[2], FFA_PAGE_BYTES * registers->x[3]};
+    } else if (function == FFA_RXTX_UNMAP) {
+        *of = (struct buffers){0};
+    }
     put_loads(board, of->rx, written_by(registers->x, outcome));
 }
