@@ -9,7 +9,7 @@ AGAINST =
 # one for each processor that has 4 GB of free memory, and wrong bodies are tried by four.
 JOBS =
 
-.PHONY: quick gate prove wrong c board docs bench
+.PHONY: quick gate prove wrong c board linux docs bench
 
 quick:
 	bench/changed --tests $(AGAINST)
@@ -33,6 +33,10 @@ c:
 # Runs the core as a board's firmware under QEMU.
 board:
 	board/run.sh
+
+# Runs Linux as the normal world of the core, under QEMU.
+linux:
+	board/linux/run.sh
 
 # Compares the pages and licence lines with the code, the manual's lists of checks with the definitions, and its pictures with what the
 # program draws.
