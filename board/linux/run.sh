@@ -172,10 +172,10 @@ try() {
     judge "$1" "${@:4}"
 }
 
-# Threads of Linux that all work at once, at random: try_random PROCESSOR SECTION..
+# Threads of Linux that all work at once, at random: try_random FIRMWARE PROCESSOR SECTION..
 try_random() {
     build_tree smc 1 "ffa_try.random=$rounds"
-    try random plain "$1" "${@:2}" random
+    try random "$@" random
     grep -o 'random: [0-9].*' "$to/linux"
 }
 
@@ -192,7 +192,7 @@ run_all() {
     try notify notify cortex-a57 "${all[@]}" notifications
     build_tree smc 2
     try two-processors plain cortex-a57 "${all[@]}" two-processors
-    try_random cortex-a57 "${all[@]}"
+    try_random notify cortex-a57 "${all[@]}" notifications
     find_stale
     measure
 }
@@ -203,14 +203,14 @@ run_long() {
     build_tree smc 1 ffa_try.rounds=50000 ffa_try.pieces=1
     try long plain cortex-a57 linux driver 6.12 no-interrupt
     grep -o 'note: 50000 rounds.*' "$to/linux"
-    try_random cortex-a57 linux driver 6.12
+    try_random plain cortex-a57 linux driver 6.12
 }
 
 # What is run of another: run_other PROCESSOR SECTION
 run_other() {
     build_tree smc 1
     try "$kernel" plain "$1" linux driver "$2"
-    try_random "$1" linux driver "$2"
+    try_random plain "$1" linux driver "$2"
 }
 
 "$here/kernel" ${install:+--install} --jobs "$jobs" "$kernel" "$work"
