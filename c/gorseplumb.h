@@ -274,7 +274,7 @@ uint32_t ffa_free(struct ffa_machine *machine, struct ffa_lent *lent);
 /* Makes an empty list with room for so many pages, in seven pieces of memory: the list, its pages' addresses, and of the machine that
  * is booted in it its place, its records, four bytes for each page, 78 KiB of slots for open transactions and 16 KiB for copies of a
  * TX. FFA_OCCUPIED where there is a list; else FFA_OK or FFA_NO_ROOM. Where it isn't FFA_OK nothing has changed. It takes some 13 KiB
- * of stack, as LLVM compiles it for x86-64, a boot 18 and an operation 12. */
+ * of stack, as LLVM compiles it for x86-64, a boot 20 and an operation 6. */
 uint32_t ffa_begin_lending(struct ffa_lent *lent, uint32_t pages);
 
 /* Moves a page from its slot to the end of the list, and leaves the slot empty. FFA_NO_LIST where there is no list; else
