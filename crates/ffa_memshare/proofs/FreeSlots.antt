@@ -13,7 +13,7 @@ use Rattle.ffa_model.proofs.Counts.{count, count-insert, counted, one, values_of
 use Rattle.ffa_model.proofs.Slots.{AreApart, entries_in}
 use Rattle.ffa_memshare.specs.SlotChanges.{IsFree}
 use Rattle.ffa_memshare.specs.declared.transaction.OpenTransaction.{OpenTransaction}
-use Rattle.ffa_memshare.specs.Stored.{IsPool, Pooled, Slot, map_in, open_in, pool_slot, kept_slot, kept_slots, view_of}
+use Rattle.ffa_memshare.specs.Stored.{IsPool, Pooled, Slot, map_in, open_in, pool_slot, kept_slots, view_of}
 use Rattle.ffa_model.proofs.Places.{place-identifier}
 use Rattle.ffa_memshare.proofs.PoolKept.{seen-at, unfound}
 

@@ -13,7 +13,7 @@ use Rattle.ffa_model.proofs.Slots.{map-freed, map-put}
 use Rattle.ffa_model.specs.declared.rights.Rights.{Rights}
 use Rattle.ffa_memshare.specs.declared.transaction.OpenTransaction.{OpenTransaction}
 use Rattle.ffa_memshare.specs.Held.{Held, held_with, with_holder}
-use Rattle.ffa_memshare.specs.Stored.{IsInPlace, IsPool, Pooled, Slot, map_in, open_in, pool_slot, kept_slot, kept_slots, view_of}
+use Rattle.ffa_memshare.specs.Stored.{IsInPlace, IsPool, Pooled, Slot, map_in, open_in, pool_slot, kept_slots, view_of}
 use Rattle.ffa_memshare.proofs.PoolKept.{past-none, slots-put}
 
 -- a slot that has a transaction is one of the slots

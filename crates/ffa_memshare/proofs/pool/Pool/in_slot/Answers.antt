@@ -1,5 +1,5 @@
 -- SPDX-License-Identifier: MIT OR Apache-2.0
-use Rattle.std.proofs.Common.{◌≡◌, ◌∙◌, ◌<◌, length, sym, ap, arith}
+use Rattle.std.proofs.Common.{◌∙◌, ◌<◌, length, sym, ap, arith}
 use Rattle.ffa_memshare.specs.Stored.{Pooled, pool_slot}
 use Rattle.ffa_memshare.proofs.PoolKept.{seen-at, seen-none, seen-some}
 use Rattle.ffa_memshare.proofs.pool.Pool.in_slot.Goals as goal

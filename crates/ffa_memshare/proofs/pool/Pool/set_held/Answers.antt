@@ -1,10 +1,10 @@
 -- SPDX-License-Identifier: MIT OR Apache-2.0
-use Rattle.std.proofs.Common.{◌≡◌, ◌∙◌, ◌<◌, ℕ, List, Some, length, set, refl, sym, ap, subst, arith}
+use Rattle.std.proofs.Common.{◌≡◌, ◌∙◌, ℕ, List, Some, set, refl, sym, ap, subst}
 use Rattle.std.proofs.lemmas.Option.{same_Some}
 use Rattle.ffa_model.specs.State.{Transaction}
 use Rattle.ffa_model.specs.Transactions.{with_transaction}
 use Rattle.ffa_memshare.specs.Held.{held_with, with_holder}
-use Rattle.ffa_memshare.specs.Stored.{IsPool, Pooled, Slot, open_in, pool_slot, kept_slot, kept_slots, view_of}
+use Rattle.ffa_memshare.specs.Stored.{IsPool, Pooled, Slot, open_in, pool_slot, kept_slots, view_of}
 use Rattle.ffa_memshare.proofs.PoolHeld.{held-open, held-pool, held-slots}
 use Rattle.ffa_memshare.proofs.Reclaims.{slot-holds, slot-kept}
 use Rattle.ffa_memshare.proofs.pool.Pool.set_held.Goals as goal
