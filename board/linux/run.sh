@@ -20,7 +20,8 @@ Runs Linux as the normal world on QEMU's machine `virt`, some times, and compare
 
   --install      installs Debian's packages for it first
   --kernel KIND  runs another Linux than that of the kind 4k; board/linux/kernel --help names the kinds
-  --limits NAME  runs it over a copy of the repository with other limits, which is proved first: limits/NAME.edit. Linux shares a page 100,000 times there
+  --limits NAME  runs it over a copy of the repository with other limits, limits/NAME.edit: its library is proved first, and its program, which judges, is
+                 compiled unproved. Linux shares a page 100,000 times there
   --rounds N     how much is made up by threads of Linux; 10000 where nothing is given
   --work FOLDER  has the kernel's source and what is built; what stands there is built once. /tmp/gorseplumb-linux where nothing is given
   --keep FOLDER  leaves what each run printed in this folder: NAME.uart, and its .linux, .trace, .found, .expected and .explained
@@ -216,7 +217,8 @@ run_other() {
 "$here/kernel" ${install:+--install} --jobs "$jobs" "$kernel" "$work"
 cp "$here/linux.toml" "$to/manifest"
 make_archive "$repository"
-[[ -n ${FFAPLAY:-} ]] || "$repository/ffaplay" prove
+# (a copy's program is taken unproved: it writes no descriptor of more ranges than one page holds for four receivers)
+[[ -n ${FFAPLAY:-}$limits ]] || "$repository/ffaplay" prove
 build_partition
 build plain
 case $kernel in
