@@ -1,12 +1,14 @@
 // SPDX-License-Identifier: MIT OR Apache-2.0
 //! Rows on machines that keep the bytes with which their RAM came.
+ghost use Rattle.std.specs.Prelude.{◌≡◌, ◌*◌, IfOk, length};
+
 use super::*;
 use crate::certificate::certificate;
 use crate::checks::{holds, holds_at};
 use crate::machines::booted_with;
 use ffa_manifest::read;
-use ffa_model::{EndpointId, PageNo};
-use ffa_physmem::{FlatRam, FrameRam, NoMemory, PhysMem};
+use ffa_model::{EndpointId, Manifest, PageNo};
+use ffa_physmem::{FlatRam, FrameRam, PhysMem};
 use ffa_spmc::{Given, Machine, Storage};
 
 // The first partition has code that nobody may write, and data; the second has data that nobody may write.
@@ -51,38 +53,65 @@ store 40030000 00 -> fault permission
 fetch 40030000 -> fault permission
 ";
 
-// The byte of which a page is full before a boot. It is no zero.
-fn mark(page: u32) -> u8 {
-    0x80 | (page % 0x80) as u8
+// What stands in a page before a boot, in its first and in its last word: a byte eight times, which is no zero.
+fn mark(page: u32) -> u64 {
+    let byte = 0x80 | (page % 0x80) as u8;
+    0x0101_0101_0101_0101_u64.wrapping_mul(u64::from(byte))
 }
 
-// Fills each page with its mark.
-fn fill<M: PhysMem>(ram: &mut M) {
-    for page in 0..ram.pages() {
-        *ram.page_mut(PageNo(page)) = [mark(page); 4096];
+fn mark_word<M: PhysMem>(ram: &mut M, page: u32, index: usize) {
+    if page < ram.pages() && index < 512 {
+        ram.write_word(PageNo(page), index, mark(page));
     }
 }
 
-fn full_ram(alloc: Global, manifest: &Manifest) -> Result<FlatRam, NoMemory> {
-    let mut ram = FlatRam::new(alloc, manifest.ram_base, 512 * manifest.ram_blocks)?;
-    fill(&mut ram);
-    Ok(ram)
+fn mark_pages<M: PhysMem>(ram: &mut M) {
+    for page in 0..ram.pages() {
+        mark_word(ram, page, 0);
+        mark_word(ram, page, 511);
+    }
 }
 
-fn full_frames(alloc: Global, manifest: &Manifest) -> Result<FrameRam, NoMemory> {
-    let mut ram = FrameRam::new(alloc, manifest.ram_base, 512 * manifest.ram_blocks)?;
-    fill(&mut ram);
-    Ok(ram)
-}
-
-// Whether a page of RAM is as a boot has to leave it: an endpoint's is full of its mark, any other is zeros.
-fn is_as_booted<M: PhysMem + Drop>(machine: &Machine<M>, page: PageNo) -> bool {
-    let byte = if machine.owner_of(page) == EndpointId::MANAGER {
-        0
+// The RAM for a machine, with the mark of each page.
+fn marked<M: PhysMem + Drop>(ram: M, manifest: &Manifest) -> Result<M, Fail>
+    ensures base { IfOk result (λ ram. (M.ram ram).base ≡ manifest.now.ram_base.0) }
+    ensures size { IfOk result (λ ram. length (M.ram ram).pages ≡ 512 * manifest.now.ram_blocks) }
+{
+    let mut ram = ram;
+    mark_pages(&mut ram);
+    if ram.base() == manifest.ram_base && ram.pages() == 512 * manifest.ram_blocks {
+        Ok(ram)
     } else {
-        mark(page.0)
-    };
-    *machine.ram().page(page) == [byte; 4096]
+        Err(Fail::from("the RAM is another machine's"))
+    }
+}
+
+fn marked_flat(alloc: Global, manifest: &Manifest) -> Result<FlatRam, Fail>
+    ensures base { IfOk result (λ ram. (⟦<FlatRam as PhysMem>⟧.ram ram).base ≡ manifest.now.ram_base.0) }
+    ensures size { IfOk result (λ ram. length (⟦<FlatRam as PhysMem>⟧.ram ram).pages ≡ 512 * manifest.now.ram_blocks) }
+{
+    let ram = FlatRam::new(alloc, manifest.ram_base, 512 * manifest.ram_blocks)?;
+    marked(ram, manifest)
+}
+
+// Whether a page of RAM is as a boot has to leave it: an endpoint's has its mark, any other is zeros.
+fn is_as_booted<M: PhysMem + Drop>(machine: &Machine<M>, page: u32) -> bool {
+    let ram = machine.ram();
+    if page >= ram.pages() {
+        return false;
+    }
+    if machine.owner_of(PageNo(page)) == EndpointId::MANAGER {
+        *ram.page(PageNo(page)) == [0; 4096]
+    } else {
+        ram.read_word(PageNo(page), 0) == mark(page)
+            && ram.read_word(PageNo(page), 511) == mark(page)
+    }
+}
+
+// Whether two machines have the same bytes in a page.
+fn are_alike<M: PhysMem + Drop>(one: &Machine<M>, other: &Machine<M>, page: u32) -> bool {
+    let (one, other) = (one.ram(), other.ram());
+    page < one.pages() && page < other.pages() && one.page(PageNo(page)) == other.page(PageNo(page))
 }
 
 // The pages of tables are those of a boot that clears RAM, and all others are as they have to be.
@@ -90,12 +119,12 @@ fn is_as_booted<M: PhysMem + Drop>(machine: &Machine<M>, page: PageNo) -> bool {
 fn keeps_the_pages_of_regions(rt: HostRuntime) -> Result<(), Fail> {
     let manifest = read(rt.alloc(), MANIFEST)?;
     let cleared = booted_with(rt.alloc(), &manifest, NoTlb)?;
-    let machine = Machine::boot_held(&manifest, full_ram(rt.alloc(), &manifest)?, NoTlb);
-    for page in 0..machine.ram().pages().min(cleared.ram().pages()) {
+    let machine = Machine::boot_held(&manifest, marked_flat(rt.alloc(), &manifest)?, NoTlb);
+    for page in 0..machine.ram().pages() {
         let is_right = if page < 9 {
-            machine.ram().page(PageNo(page)) == cleared.ram().page(PageNo(page))
+            are_alike(&machine, &cleared, page)
         } else {
-            is_as_booted(&machine, PageNo(page))
+            is_as_booted(&machine, page)
         };
         holds_at(&rt, is_right, &page);
     }
@@ -108,16 +137,13 @@ fn keeps_the_pages_of_regions(rt: HostRuntime) -> Result<(), Fail> {
 #[test]
 fn loads_what_came_with_ram(rt: HostRuntime) -> Result<(), Fail> {
     let manifest = read(rt.alloc(), MANIFEST)?;
-    let held = Machine::boot_held(&manifest, full_ram(rt.alloc(), &manifest)?, NoTlb);
+    let held = Machine::boot_held(&manifest, marked_flat(rt.alloc(), &manifest)?, NoTlb);
     goes_on(&rt, rt.alloc(), &mut Player::new(held), ROW)?;
-    let framed = Machine::boot_held(
-        &manifest,
-        full_frames(rt.alloc(), &manifest)?,
-        four_in_turn(),
-    );
+    let frames = FrameRam::new(rt.alloc(), manifest.ram_base, 512 * manifest.ram_blocks)?;
+    let framed = Machine::boot_held(&manifest, marked(frames, &manifest)?, four_in_turn());
     goes_on(&rt, rt.alloc(), &mut Player::new(framed), ROW)?;
     let storage: Storage<Given<Global>> = Storage::given_for(rt.alloc(), &manifest)?;
-    let ram = full_ram(rt.alloc(), &manifest)?;
+    let ram = marked_flat(rt.alloc(), &manifest)?;
     let roomed = Machine::boot_held_in(storage, &manifest, ram, NoTlb);
     goes_on(&rt, rt.alloc(), &mut Player::new(roomed), ROW)
 }
