@@ -69,7 +69,7 @@ build() { build_over "$to/arm.a" "$@"; }
 build_over() {
     local core=$1 name=$2
     shift 2
-    $compiler "${flags[@]}" -O2 "$@" -Wl,--no-warn-rwx-segments -Wa,-I"$to" -T "$board/board.ld" "$board"/*.c "$board"/*.S "$top"/c/{bytes,settle}.c "$core" -o "$to/$name.elf"
+    $compiler "${flags[@]}" -O2 "$@" -Wl,--no-warn-rwx-segments -Wa,-I"$to" -T "$board/board.ld" "$board"/*.c "$board"/*.S "$top"/c/{array,bytes,settle}.c "$core" -o "$to/$name.elf"
 }
 
 # Runs a scene, and has the program play what was done: play FIRMWARE PROCESSOR MANIFEST SCENE, true where both print the same. What the

@@ -10,6 +10,13 @@ void *memcpy(void *to, const void *from, size_t size);
 #define ARRAY_BYTES (1 << 20) /* lent pages are RAM, so a boot takes little */
 #endif
 
+/* A program that wants to know of each block that is asked for defines ARRAY_TELLS, and this function. */
+#ifdef ARRAY_TELLS
+void array_asked(void);
+#else
+static void array_asked(void) {}
+#endif
+
 struct tried {
     bool ok;
     void *p;
@@ -23,6 +30,7 @@ static _Alignas(16) unsigned char memory[ARRAY_BYTES];
 static size_t taken;
 
 struct tried rattle_alloc(size_t size, size_t align) {
+    array_asked();
     size_t whole = ((size != 0 ? size : align) + 15) & ~(size_t)15;
     if (whole > sizeof memory - taken) return (struct tried){false, memory};
     taken += whole;

@@ -80,7 +80,7 @@ build() {
     local shared=(boot call endpoint exception memory operation tables text) name=$1
     shift
     shared=("${shared[@]/#/$board/}")
-    $compiler "${flags[@]}" -O2 "$@" -Wl,--no-warn-rwx-segments -T "$board/board.ld" "$here"/*.c "${shared[@]/%/.c}" "$board/start.S" "$top"/c/{bytes,settle}.c \
+    $compiler "${flags[@]}" -O2 "$@" -Wl,--no-warn-rwx-segments -T "$board/board.ld" "$here"/*.c "${shared[@]/%/.c}" "$board/start.S" "$top"/c/{array,bytes,settle}.c \
         "$to/arm.a" -o "$to/$name.elf"
 }
 
