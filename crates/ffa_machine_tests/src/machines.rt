@@ -4,9 +4,9 @@ use ffa_model::Manifest;
 use ffa_physmem::{FlatRam, FrameRam};
 use ffa_playable::Playable;
 use ffa_spmc::{Given, Machine, Storage};
-use ffa_syntax::PlayError;
 use ffa_tlb::{InTurn, NoTlb, Tlb, Translations};
-use ffa_trace::Player;
+use play_player::Player;
+use play_syntax::PlayError;
 use std::alloc::Global;
 use std::test::Fail;
 

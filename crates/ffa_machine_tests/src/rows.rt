@@ -9,7 +9,7 @@ use crate::machines::{booted_in_frames, booted_in_room, booted_with, four_in_tur
 use ffa_model::{Manifest, row_machine};
 use ffa_playable::Playable;
 use ffa_tlb::{NoTlb, Translations};
-use ffa_trace::Player;
+use play_player::Player;
 use std::alloc::Global;
 use std::process::Abort;
 use std::test::Fail;

@@ -1,7 +1,7 @@
 // SPDX-License-Identifier: MIT OR Apache-2.0
 //! Worked command lines.
 use crate::checks::{holds_at, same, same_at};
-use ffa_command::{
+use play_arguments::{
     DescriptorWords, ErrorKind, MachineOptions, Request, STANDARD_INPUT, TOOLCHAIN, TextOptions,
     VERSION, request,
 };

@@ -8,7 +8,7 @@ use ffa_model::{
     Address, Data, EndpointId, Kind, Op, Range, Receiver, RelinquishDesc, RetrieveDesc, SendDesc,
     Size, Version,
 };
-use ffa_script::{Descriptor, ScriptError, Unfit, put_descriptor, put_operation, put_stores};
+use play_writer::{Descriptor, ScriptError, Unfit, put_descriptor, put_operation, put_stores};
 use std::alloc::Global;
 use std::process::Abort;
 use std::test::Fail;

@@ -2,9 +2,9 @@
 //! Worked words of a descriptor, and what is wrong with others.
 use crate::checks::same_at;
 use crate::printed;
-use ffa_command::{Request, request};
-use ffa_script::Descriptor;
-use ffa_words::{Told, read_words};
+use play_arguments::{Request, request};
+use play_descriptor::{Told, read_words};
+use play_writer::Descriptor;
 use std::alloc::{AllocError, Global};
 use std::process::Abort;
 use std::test::Fail;

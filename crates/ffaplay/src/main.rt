@@ -2,8 +2,8 @@
 //! Plays FF-A calls and memory accesses on a small machine.
 #![tactic(auto)]
 
-use ffa_command::{ErrorKind, Request, STANDARD_INPUT, request};
-use ffa_perform::{Files, perform, show};
+use play_arguments::{ErrorKind, Request, STANDARD_INPUT, request};
+use play_commands::{Files, perform, show};
 use std::alloc::AllocError;
 use std::fs::{self, File};
 use std::io::{BufWriter, Read};

@@ -6,7 +6,7 @@ use crate::checks::{holds, holds_at};
 use ffa_model::{EndpointId, Outcome, PageNo};
 use ffa_physmem::{FlatRam, PhysMem};
 use ffa_spmc::Machine;
-use ffa_syntax::{Line, text};
+use play_syntax::{Line, text};
 
 const SECOND: EndpointId = EndpointId(0x8002);
 

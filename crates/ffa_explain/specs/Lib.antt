@@ -1,4 +1,0 @@
--- SPDX-License-Identifier: MIT OR Apache-2.0
-pub mod Marks
-pub mod Reasons
-pub mod Whole

@@ -1,6 +1,0 @@
--- SPDX-License-Identifier: MIT OR Apache-2.0
-use Rattle.ffa_reasons.proofs.Listed.{listed}
-use Rattle.ffa_reasons.proofs.numbers.checks.Goals as goal
-
-pub returns-clause-guards : goal.returns-clause-guards
-returns-clause-guards c = λ s. listed s c.args.call.now

@@ -1,0 +1,328 @@
+-- SPDX-License-Identifier: MIT OR Apache-2.0
+-- The command line of the program, and what its words ask for.
+use Rattle.std.specs.Prelude.{◌≡◌, ◌⊎◌, ◌∷◌, ℕ, ◌-◌, ◌^◌, List, [], Bool, true, false, ◌||◌, Option, Some, None, codes, if◌then◌else◌, nat_le, option_and_then, option_map}
+use Rattle.std.specs.List.{count_by}
+use Rattle.std.specs.Str.{bytes_eq}
+use Rattle.std.specs.Str.Parse.{digits_value, without_leading_plus}
+use Rattle.std.specs.Option.{option_map_or}
+use Rattle.clap.specs.Words.{App, HasKind, Row, Rule, Text, fault_of, first_of, new_app, new_rule, subcommand_of, with_rule, with_subcommand}
+use Rattle.clap.specs.ValueTests.{accepts}
+use Rattle.clap.specs.declared.builder.action.ArgAction.TheVariants.{Set, SetTrue}
+use Rattle.clap.specs.declared.builder.value_parser.ValueParser.{ValueParser}
+use Rattle.clap.specs.declared.builder.value_parser.ValueParser.TheVariants.{Unsigned}
+use Rattle.clap.specs.declared.error.Error.{Error}
+use Rattle.play_arguments.specs.declared.command_line.DescriptorWords.{DescriptorWords}
+use Rattle.play_arguments.specs.declared.command_line.MachineOptions.{MachineOptions}
+use Rattle.play_arguments.specs.declared.command_line.TextOptions.{TextOptions}
+use Rattle.play_arguments.specs.declared.command_line.Request.{Request}
+use Rattle.play_arguments.specs.declared.command_line.Request.TheVariants.{Run, Demo, Compare, Check, Layout, Descriptor, Generate, Picture}
+
+-- a path that has to be given
+abbrev pub path_rule : Text → Rule
+path_rule id = record (new_rule id) { required = true }
+
+-- a flag, which may be given by its name
+abbrev pub flag_rule : Text → Rule
+flag_rule id = record (new_rule id) { long = Some id; action = Some SetTrue }
+
+-- a value behind its name, which has to be given or need not be
+abbrev pub value_rule : Text → Bool → Rule
+value_rule id needed = record (new_rule id) { long = Some id; action = Some Set; required = needed }
+
+-- the decimal numbers below 2^64
+abbrev pub numbers : ValueParser
+numbers = Unsigned 0 (2 ^ 64 - 1)
+
+-- such a number behind its name, and the one that stands for it where none is given
+abbrev pub number_rule : Text → Text → Rule
+number_rule id usual = record (new_rule id) { long = Some id; action = Some Set; parser = Some numbers; defaults = usual ∷ [] }
+
+abbrev pub with_manifest : App → App
+with_manifest app = with_rule app (path_rule (codes "manifest"))
+
+abbrev pub with_trace : App → App
+with_trace app = with_rule app (path_rule (codes "trace"))
+
+abbrev pub with_expected : App → App
+with_expected app = with_rule app (path_rule (codes "expected"))
+
+-- how the machine is built: with RAM in frames, and with a cache of translations
+abbrev pub with_machine_flags : App → App
+with_machine_flags app = with_rule (with_rule app (flag_rule (codes "frames"))) (flag_rule (codes "tlb"))
+
+abbrev pub with_explain : App → App
+with_explain app = with_rule app (flag_rule (codes "explain"))
+
+-- how the text is written: line by line, with numbers of lines, with names, and with the reasons of refusals
+abbrev pub with_text_flags : App → App
+with_text_flags app =
+    with_explain (with_rule (with_rule (with_rule app (flag_rule (codes "line-buffered"))) (flag_rule (codes "number"))) (flag_rule (codes "names")))
+
+abbrev pub with_strict : App → App
+with_strict app = with_rule app (flag_rule (codes "strict"))
+
+abbrev pub with_verbose : App → App
+with_verbose app = with_rule app (flag_rule (codes "verbose"))
+
+unfoldable pub run_app : App
+run_app = with_verbose (with_strict (with_text_flags (with_machine_flags (with_trace (with_manifest (new_app (codes "run")))))))
+
+unfoldable pub demo_app : App
+demo_app = with_verbose (with_strict (with_text_flags (with_machine_flags (with_trace (new_app (codes "demo"))))))
+
+unfoldable pub compare_app : App
+compare_app = with_verbose (with_explain (with_machine_flags (with_expected (with_trace (with_manifest (new_app (codes "compare")))))))
+
+unfoldable pub check_app : App
+check_app = with_verbose (with_manifest (new_app (codes "check")))
+
+unfoldable pub layout_app : App
+layout_app = with_verbose (with_manifest (new_app (codes "layout")))
+
+-- what a descriptor is for and where TX stands, and what it is to hold
+abbrev pub with_place : App → App
+with_place app = with_rule (with_rule app (path_rule (codes "kind"))) (value_rule (codes "tx") true)
+
+abbrev pub with_optional : Text → App → App
+with_optional id app = with_rule app (value_rule id false)
+
+abbrev pub with_record : App → App
+with_record app =
+    with_optional (codes "of") (with_optional (codes "tag") (with_optional (codes "handle") (with_optional (codes "pages") (with_optional (codes "to") (with_optional (codes "from") app)))))
+
+abbrev pub with_record_flags : App → App
+with_record_flags app = with_rule (with_rule app (flag_rule (codes "zero"))) (flag_rule (codes "compact"))
+
+unfoldable pub descriptor_app : App
+descriptor_app = with_record_flags (with_record (with_place (new_app (codes "descriptor"))))
+
+-- which trace is generated, of how many lines, and whether it is counted
+abbrev pub with_size : App → App
+with_size app = with_rule (with_rule app (number_rule (codes "seed") (codes "1"))) (number_rule (codes "lines") (codes "1000"))
+
+unfoldable pub generate_app : App
+generate_app = with_verbose (with_rule (with_size (with_manifest (new_app (codes "generate")))) (flag_rule (codes "count")))
+
+-- which lines have a row
+unfoldable pub picture_app : App
+picture_app = with_verbose (with_rule (with_trace (with_manifest (new_app (codes "picture")))) (number_rule (codes "every") (codes "0")))
+
+-- the program, which has a version and has to be given a command
+unfoldable pub bare : App
+bare = record (new_app (codes "ffaplay")) { top = record (new_app (codes "ffaplay")).top { subcommand_required = true; has_version = true } }
+
+-- the program with its commands
+abbrev pub with_plays : App → App
+with_plays app = with_subcommand (with_subcommand (with_subcommand app run_app.top) demo_app.top) compare_app.top
+
+abbrev pub with_manifests : App → App
+with_manifests app = with_subcommand (with_subcommand app check_app.top) layout_app.top
+
+abbrev pub with_writers : App → App
+with_writers app = with_subcommand (with_subcommand app descriptor_app.top) generate_app.top
+
+unfoldable pub program : App
+program = with_subcommand (with_writers (with_manifests (with_plays bare))) picture_app.top
+
+-- what a descriptor is to hold, in words
+pub record Described : Type 0 where
+  pub kind : Text
+  pub tx : Text
+  pub from : Option Text
+  pub to : Option Text
+  pub pages : Option Text
+  pub handle : Option Text
+  pub tag : Option Text
+  pub of : Option Text
+  pub zero : Bool
+  pub compact : Bool
+
+abbrev pub words_of : DescriptorWords → Described
+words_of w = record {
+  kind = w.kind.now;
+  tx = w.tx.now;
+  from = option_map (λ s. s.now) w.from;
+  to = option_map (λ s. s.now) w.to;
+  pages = option_map (λ s. s.now) w.pages;
+  handle = option_map (λ s. s.now) w.handle;
+  tag = option_map (λ s. s.now) w.tag;
+  of = option_map (λ s. s.now) w.of;
+  zero = w.zero;
+  compact = w.compact;
+}
+
+-- a command with its paths and what its flags say
+pub data Ask : Type 0 where
+  run : Text → Text → MachineOptions → TextOptions → (strict verbose : Bool) → Ask
+  demo : Text → MachineOptions → TextOptions → (strict verbose : Bool) → Ask
+  compare : Text → Text → Text → MachineOptions → (explain verbose : Bool) → Ask
+  check : Text → Bool → Ask
+  layout : Text → Bool → Ask
+  descriptor : Described → Ask
+  generate : Text → (seed lines : ℕ) → (count verbose : Bool) → Ask
+  picture : Text → Text → (every : ℕ) → Bool → Ask
+
+abbrev pub ask_of : Request → Ask
+ask_of (Run manifest trace machine text strict verbose) = run manifest.now trace.now machine text strict verbose
+ask_of (Demo trace machine text strict verbose) = demo trace.now machine text strict verbose
+ask_of (Compare manifest trace expected machine explain verbose) = compare manifest.now trace.now expected.now machine explain verbose
+ask_of (Check manifest verbose) = check manifest.now verbose
+ask_of (Layout manifest verbose) = layout manifest.now verbose
+ask_of (Descriptor words) = descriptor (words_of words)
+ask_of (Generate manifest seed lines count verbose) = generate manifest.now seed lines count verbose
+ask_of (Picture manifest trace every verbose) = picture manifest.now trace.now every verbose
+
+-- the path of the manifest that is asked for, that of the trace, and that of the expected text
+abbrev pub manifest_of : Ask → Option Text
+manifest_of (run m t o w s v) = Some m
+manifest_of (demo t o w s v) = None
+manifest_of (compare m t e o x v) = Some m
+manifest_of (check m v) = Some m
+manifest_of (layout m v) = Some m
+manifest_of (descriptor d) = None
+manifest_of (generate m s l c v) = Some m
+manifest_of (picture m t e v) = Some m
+
+abbrev pub trace_of : Ask → Option Text
+trace_of (run m t o w s v) = Some t
+trace_of (demo t o w s v) = Some t
+trace_of (compare m t e o x v) = Some t
+trace_of (check m v) = None
+trace_of (layout m v) = None
+trace_of (descriptor d) = None
+trace_of (generate m s l c v) = None
+trace_of (picture m t e v) = Some t
+
+abbrev pub expected_of : Ask → Option Text
+expected_of (compare m t e o x v) = Some e
+expected_of _ = None
+
+-- whether more is to be said of what is refused
+abbrev pub verbose_of : Ask → Bool
+verbose_of (run m t o w s v) = v
+verbose_of (demo t o w s v) = v
+verbose_of (compare m t e o x v) = v
+verbose_of (check m v) = v
+verbose_of (layout m v) = v
+verbose_of (descriptor d) = false
+verbose_of (generate m s l c v) = v
+verbose_of (picture m t e v) = v
+
+-- whether a path is given and is `-`, which stands for standard input
+unfoldable pub is_input : Option Text → Bool
+is_input path = option_map_or (λ p. bytes_eq p (codes "-")) path false
+
+-- whether each text is to be written before more of the trace is read
+abbrev pub answers_at_once : Ask → Bool
+answers_at_once (run m t o w s v) = w.line_buffered || is_input (Some t)
+answers_at_once (demo t o w s v) = w.line_buffered || is_input (Some t)
+answers_at_once (compare m t e o x v) = false
+answers_at_once (check m v) = false
+answers_at_once (layout m v) = false
+answers_at_once (descriptor d) = false
+answers_at_once (generate m s l c v) = false
+answers_at_once (picture m t e v) = false
+
+-- standard input can be read once: at most one of the paths is `-`
+unfoldable pub reads_once : Ask → Bool
+reads_once ask = nat_le (count_by is_input (manifest_of ask ∷ trace_of ask ∷ expected_of ask ∷ [])) 1
+
+-- whether a flag was given
+abbrev pub is_given : Text → List Row → Bool
+is_given id rows = option_map_or (λ value. bytes_eq value (codes "true")) (first_of id rows) false
+
+-- the number that decimal digits write, where it is below 2^64
+unfoldable pub number_of : Text → Option ℕ
+number_of text = if accepts false numbers text then Some (digits_value 10 (without_leading_plus text)) else None
+
+-- what the flags of a command say
+unfoldable pub machine_in : List Row → MachineOptions
+machine_in rows = record { frames = is_given (codes "frames") rows; tlb = is_given (codes "tlb") rows }
+
+unfoldable pub text_in : List Row → TextOptions
+text_in rows = record {
+  line_buffered = is_given (codes "line-buffered") rows;
+  number = is_given (codes "number") rows;
+  names = is_given (codes "names") rows;
+  explain = is_given (codes "explain") rows;
+}
+
+-- what the matches of a command name
+unfoldable pub named_run : List Row → Option Ask
+named_run rows =
+    option_and_then (λ m. option_and_then (λ t. Some (run m t (machine_in rows) (text_in rows) (is_given (codes "strict") rows) (is_given (codes "verbose") rows)))
+    (first_of (codes "trace") rows)) (first_of (codes "manifest") rows)
+
+unfoldable pub named_demo : List Row → Option Ask
+named_demo rows = option_and_then (λ t. Some (demo t (machine_in rows) (text_in rows) (is_given (codes "strict") rows) (is_given (codes "verbose") rows))) (first_of (codes "trace") rows)
+
+unfoldable pub named_compare : List Row → Option Ask
+named_compare rows =
+    option_and_then (λ m. option_and_then (λ t. option_and_then (λ e. Some (compare m t e (machine_in rows) (is_given (codes "explain") rows) (is_given (codes "verbose") rows)))
+    (first_of (codes "expected") rows)) (first_of (codes "trace") rows)) (first_of (codes "manifest") rows)
+
+unfoldable pub named_check : List Row → Option Ask
+named_check rows = option_and_then (λ m. Some (check m (is_given (codes "verbose") rows))) (first_of (codes "manifest") rows)
+
+unfoldable pub named_layout : List Row → Option Ask
+named_layout rows = option_and_then (λ m. Some (layout m (is_given (codes "verbose") rows))) (first_of (codes "manifest") rows)
+
+unfoldable pub words_in : List Row → (kind tx : Text) → Described
+words_in rows kind tx = record {
+  kind = kind;
+  tx = tx;
+  from = first_of (codes "from") rows;
+  to = first_of (codes "to") rows;
+  pages = first_of (codes "pages") rows;
+  handle = first_of (codes "handle") rows;
+  tag = first_of (codes "tag") rows;
+  of = first_of (codes "of") rows;
+  zero = is_given (codes "zero") rows;
+  compact = is_given (codes "compact") rows;
+}
+
+unfoldable pub named_descriptor : List Row → Option Ask
+named_descriptor rows =
+    option_and_then (λ kind. option_and_then (λ tx. Some (descriptor (words_in rows kind tx)))
+    (first_of (codes "tx") rows)) (first_of (codes "kind") rows)
+
+unfoldable pub named_generate : List Row → Option Ask
+named_generate rows =
+    option_and_then (λ m. option_and_then (λ seed. option_and_then (λ lines. Some (generate m seed lines (is_given (codes "count") rows) (is_given (codes "verbose") rows)))
+    (option_and_then number_of (first_of (codes "lines") rows))) (option_and_then number_of (first_of (codes "seed") rows))) (first_of (codes "manifest") rows)
+
+unfoldable pub named_picture : List Row → Option Ask
+named_picture rows =
+    option_and_then (λ m. option_and_then (λ t. option_and_then (λ every. Some (picture m t every (is_given (codes "verbose") rows)))
+    (option_and_then number_of (first_of (codes "every") rows))) (first_of (codes "trace") rows)) (first_of (codes "manifest") rows)
+
+unfoldable pub named : Text → List Row → Option Ask
+named name rows =
+    if bytes_eq name (codes "run") then named_run rows
+    else if bytes_eq name (codes "demo") then named_demo rows
+    else if bytes_eq name (codes "compare") then named_compare rows
+    else if bytes_eq name (codes "check") then named_check rows
+    else if bytes_eq name (codes "layout") then named_layout rows
+    else if bytes_eq name (codes "descriptor") then named_descriptor rows
+    else if bytes_eq name (codes "generate") then named_generate rows
+    else if bytes_eq name (codes "picture") then named_picture rows
+    else None
+
+-- what the command that was met names, by its name and its matches
+abbrev pub named_in : Option (Text × List Row) → Option Ask
+named_in met = option_and_then (λ p. named p.0 p.1) met
+
+-- what is named is asked for, where standard input can be read as often as it names it
+abbrev pub asked_for : Ask → Option Ask
+asked_for ask = if reads_once ask then Some ask else None
+
+abbrev pub asked_in : Option (Text × List Row) → Option Ask
+asked_in met = option_and_then asked_for (named_in met)
+
+-- what the words ask for, by clap's matches of the program's commands on these words
+unfoldable pub asked_by : List Text → Option Ask
+asked_by words = asked_in (subcommand_of program words)
+
+-- memory ran out, or clap finds this fault in the words, or it finds none and yet they ask for nothing
+abbrev pub IsRefusedFor : List Text → Error → Type 0
+IsRefusedFor words e = HasKind (fault_of program words) e ⊎ ((fault_of program words ≡ []) × (asked_by words ≡ None))

@@ -1,0 +1,61 @@
+// SPDX-License-Identifier: MIT OR Apache-2.0
+//! The program's command line: which command its words ask for, with which paths and flags.
+#![tactic(auto)]
+
+ghost use Rattle.std.specs.Prelude.{◌≡◌, IfOk, IfErr, OnErr, Some, None, map};
+ghost use Rattle.clap.specs.Words.{app_of, subcommand_rows_of};
+ghost use Rattle.play_arguments.specs.Commands.{ask_of, asked_by, asked_in, program, IsRefusedFor};
+
+mod command_line;
+mod program;
+
+pub use clap::error::ErrorKind;
+use clap::{ArgMatches, Command, Error};
+pub use command_line::{DescriptorWords, MachineOptions, Request, STANDARD_INPUT, TextOptions};
+pub use program::{TOOLCHAIN, VERSION};
+use std::alloc::{AllocError, Global};
+
+/// What the words ask for, of which the first is the program's name.
+///
+/// An error with the kind `OutOfMemory` is want of memory, whatever the words are. One with the kind `DisplayHelp` has
+/// the help that was asked for, and one with the kind `DisplayVersion` the version. Any other says what is wrong with
+/// the words: that of `STANDARD_INPUT` in the place of two paths has the kind `ArgumentConflict`.
+pub fn request<'a>(alloc: Global, words: &'a [&'a str]) -> Result<Request<'a>, Error>
+    // The command, its paths and its flags are clap's matches of the words.
+    ensures asked { IfOk result (λ r. asked_by (map (λ w. w.now) words.entry.now) ≡ Some (ask_of r)) }
+    ensures refused { IfErr result (IsRefusedFor (map (λ w. w.now) words.entry.now)) }
+{
+    let mut command = program::program(alloc)?;
+    found(&mut command, words)
+}
+
+// What the words of the program's command ask for.
+fn found<'a>(command: &mut Command<'a>, words: &'a [&'a str]) -> Result<Request<'a>, Error>
+    ensures asked { app_of command.old ≡ program → IfOk result (λ r. asked_by (map (λ w. w.now) words.entry.now) ≡ Some (ask_of r)) }
+    ensures refused { app_of command.old ≡ program → IfErr result (IsRefusedFor (map (λ w. w.now) words.entry.now)) }
+{
+    match command.try_get_matches_from_mut(words) {
+        Err(error) => Err(error),
+        Ok(matches) => asked(command, &matches),
+    }
+}
+
+// What the matches ask for. Where they ask for nothing, an error says so, or want of memory.
+fn asked<'a>(command: &mut Command<'_>, matches: &ArgMatches<'a>) -> Result<Request<'a>, Error>
+    ensures asked { IfOk result (λ r. asked_in (subcommand_rows_of matches.now) ≡ Some (ask_of r)) }
+    ensures nothing { OnErr result (asked_in (subcommand_rows_of matches.now) ≡ None) }
+{
+    match command_line::asked_by(matches) {
+        Some(request) => Ok(request),
+        None => Err(refusal(command, matches)?),
+    }
+}
+
+// What is wrong with words in which `clap` finds no fault, and which ask for nothing.
+fn refusal(command: &mut Command<'_>, matches: &ArgMatches<'_>) -> Result<Error, AllocError> {
+    let twice = "'-' stands for standard input, which can be given once only";
+    match command_line::named_by(matches) {
+        Some(_) => command.error(ErrorKind::ArgumentConflict, twice),
+        None => command.error(ErrorKind::MissingSubcommand, "no command was given"),
+    }
+}

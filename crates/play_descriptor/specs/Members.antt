@@ -1,0 +1,108 @@
+-- SPDX-License-Identifier: MIT OR Apache-2.0
+-- What each word of a descriptor says by itself, where it can be read.
+use Rattle.std.specs.Prelude.{ℕ, ◌^◌, ◌%◌, ◌==◌, ◌&&◌, Bool, true, false, nat_lt, List, [], ◌∷◌, codes, Option, Some, None, if◌then◌else◌, option_map, option_and_then}
+use Rattle.std.specs.Str.{bytes_eq}
+use Rattle.std.specs.List.{slice_split}
+use Rattle.play_syntax.specs.TraceLines.{number_of}
+use Rattle.ffa_model.specs.declared.endpoint.Address.{Address}
+use Rattle.ffa_model.specs.declared.endpoint.EndpointId.{EndpointId}
+use Rattle.ffa_model.specs.declared.rights.Data.{Data}
+use Rattle.ffa_model.specs.declared.rights.Data.TheVariants.{Ro, Rw}
+use Rattle.ffa_model.specs.declared.rights.Kind.{Kind}
+use Rattle.ffa_model.specs.declared.rights.Kind.TheVariants.{Share, Lend, Donate}
+use Rattle.ffa_model.specs.declared.transaction.Range.{Range}
+use Rattle.ffa_model.specs.declared.transaction.Receiver.{Receiver}
+use Rattle.play_descriptor.specs.declared.members.Asker.{Asker}
+
+abbrev pub plus : ℕ
+plus = 43
+
+abbrev pub comma : ℕ
+comma = 44
+
+abbrev pub colon : ℕ
+colon = 58
+
+-- PARTS
+
+-- the members of a list
+abbrev pub members_of : List ℕ → List (List ℕ)
+members_of text = slice_split (λ c. c == comma) text
+
+-- a first part, and a second where there is one and no third
+abbrev pub one_or_two : List (List ℕ) → Option (List ℕ × Option (List ℕ))
+one_or_two (first ∷ []) = Some (first, None)
+one_or_two (first ∷ second ∷ []) = Some (first, Some second)
+one_or_two _ = None
+
+-- what is read of these parts, each by itself
+abbrev pub each : {A : Type 0} → (List ℕ → Option A) → List (List ℕ) → Option (List A)
+each read [] = Some []
+each read (part ∷ parts) = option_and_then (λ a. option_map (λ rest. a ∷ rest) (each read parts)) (read part)
+
+-- NUMBERS
+
+abbrev pub below : ℕ → ℕ → Option ℕ
+below bound n = if nat_lt n bound then Some n else None
+
+unfoldable pub identifier_of : List ℕ → Option EndpointId
+identifier_of word = option_map (λ n. record { 0 = n }) (option_and_then (below (2 ^ 16)) (number_of word))
+
+unfoldable pub page_count_of : List ℕ → Option ℕ
+page_count_of word = option_and_then (below (2 ^ 32)) (number_of word)
+
+-- the address of a page, below 2 ^ 32
+unfoldable pub tx_of : List ℕ → Option Address
+tx_of word = option_and_then (λ n. if nat_lt n (2 ^ 32) && (n % 4096 == 0) then Some (record { 0 = n }) else None) (number_of word)
+
+-- `ADDRESS+PAGES`
+abbrev pub range_in : List ℕ × Option (List ℕ) → Option Range
+range_in (first, Some second) = option_and_then (λ a. option_map (λ n. record { address = a; pages = n }) (page_count_of second)) (number_of first)
+range_in (first, None) = None
+
+unfoldable pub range_of : List ℕ → Option Range
+range_of word = option_and_then range_in (one_or_two (slice_split (λ c. c == plus) word))
+
+-- NAMES
+
+unfoldable pub kind_of : List ℕ → Option Kind
+kind_of word =
+    if bytes_eq word (codes "donate") then Some Donate
+    else if bytes_eq word (codes "lend") then Some Lend
+    else if bytes_eq word (codes "share") then Some Share
+    else None
+
+-- a data right
+unfoldable pub grant_of : List ℕ → Option Data
+grant_of word =
+    if bytes_eq word (codes "ro") then Some Ro
+    else if bytes_eq word (codes "rw") then Some Rw
+    else None
+
+-- a right to data or none that is specified, and whether instructions may be fetched
+unfoldable pub right_of : List ℕ → Option (Option Data × Bool)
+right_of word =
+    if bytes_eq word (codes "ro") then Some (Some Ro, false)
+    else if bytes_eq word (codes "rw") then Some (Some Rw, false)
+    else if bytes_eq word (codes "rox") then Some (Some Ro, true)
+    else if bytes_eq word (codes "rwx") then Some (Some Rw, true)
+    else if bytes_eq word (codes "x") then Some (None, true)
+    else None
+
+-- RECEIVERS
+
+-- `ENDPOINT` or `ENDPOINT:RIGHT`, of a send
+abbrev pub receiver_in : List ℕ × Option (List ℕ) → Option Receiver
+receiver_in (first, None) = option_map (λ e. record { endpoint = e; grant = None }) (identifier_of first)
+receiver_in (first, Some right) = option_and_then (λ e. option_map (λ g. record { endpoint = e; grant = Some g }) (grant_of right)) (identifier_of first)
+
+unfoldable pub receiver_of : List ℕ → Option Receiver
+receiver_of word = option_and_then receiver_in (one_or_two (slice_split (λ c. c == colon) word))
+
+-- the same of a retrieve
+abbrev pub asker_in : List ℕ × Option (List ℕ) → Option Asker
+asker_in (first, None) = option_map (λ e. record { endpoint = e; level = None; exec = false }) (identifier_of first)
+asker_in (first, Some right) = option_and_then (λ e. option_map (λ r. record { endpoint = e; level = r.0; exec = r.1 }) (right_of right)) (identifier_of first)
+
+unfoldable pub asker_of : List ℕ → Option Asker
+asker_of word = option_and_then asker_in (one_or_two (slice_split (λ c. c == colon) word))

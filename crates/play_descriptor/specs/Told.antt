@@ -1,0 +1,157 @@
+-- SPDX-License-Identifier: MIT OR Apache-2.0
+-- What the words of a descriptor say, and what is wrong first with them.
+use Rattle.std.specs.Prelude.{◌≡◌, ℕ, Bool, true, false, is_some, nat_le, length, List, codes, Option, Some, None, Result, Ok, Err, option_map, if◌then◌else◌}
+use Rattle.std.specs.Option.{ok_or}
+use Rattle.std.specs.Str.{bytes_eq}
+use Rattle.play_arguments.specs.Commands.{Described}
+use Rattle.play_syntax.specs.TraceLines.{number_of}
+use Rattle.ffa_model.specs.declared.endpoint.EndpointId.{EndpointId}
+use Rattle.ffa_model.specs.declared.endpoint.Address.{Address}
+use Rattle.ffa_model.specs.declared.endpoint.Version.{Version}
+use Rattle.ffa_model.specs.declared.endpoint.Version.TheVariants.{Compact, V1_1}
+use Rattle.ffa_model.specs.declared.limits.TheConstants.{MOST_RANGES, MOST_RECEIVERS}
+use Rattle.ffa_model.specs.declared.rights.Kind.{Kind}
+use Rattle.ffa_model.specs.declared.transaction.Range.{Range}
+use Rattle.ffa_model.specs.declared.transaction.Receiver.{Receiver}
+use Rattle.play_writer.specs.declared.descriptor.Descriptor.TheVariants.{Send, Retrieve, Relinquish}
+use Rattle.play_descriptor.specs.Members.{asker_of, each, identifier_of, kind_of, members_of, range_of, receiver_of, tx_of}
+use Rattle.play_descriptor.specs.declared.fault.Word.{Word}
+use Rattle.play_descriptor.specs.declared.fault.Word.TheVariants as words
+use Rattle.play_descriptor.specs.declared.fault.WordsFault.{WordsFault}
+use Rattle.play_descriptor.specs.declared.fault.WordsFault.TheVariants.{UnknownKind, OutOfPlace, Missing, TooMany, Unreadable}
+use Rattle.play_descriptor.specs.declared.members.Asker.{Asker}
+use Rattle.play_descriptor.specs.declared.told.Told.{Told}
+
+-- what follows, where nothing is wrong so far
+infixl 10 ◌>>=◌
+abbrev pub ◌>>=◌ : {A B : Type 0} → Result A WordsFault → (A → Result B WordsFault) → Result B WordsFault
+(Ok x) >>= f = f x
+(Err e) >>= f = Err e
+
+-- an answer is what the definition says, as this function sees it
+abbrev pub Exact : {X Y : Type 0} → (X → Y) → Result X WordsFault → Result Y WordsFault → Type 0
+Exact seen (Ok x) read = read ≡ Ok (seen x)
+Exact seen (Err e) read = read ≡ Err e
+
+-- WORDS
+
+-- a word that has no place
+abbrev pub unused : Word → Bool → Result (Unit {0}) WordsFault
+unused word true = Err (OutOfPlace word)
+unused word false = Ok tt
+
+-- a word that is needed
+abbrev pub needed : Word → Option (List ℕ) → Result (List ℕ) WordsFault
+needed word given = ok_or given (Missing word)
+
+-- a word that has to be read where it is given, and what stands for it where it isn't
+abbrev pub read_or : {A : Type 0} → A → (List ℕ → Option A) → Word → Option (List ℕ) → Result A WordsFault
+read_or usual read word None = Ok usual
+read_or usual read word (Some text) = ok_or (read text) (Unreadable word)
+
+-- a list of at most so many members
+abbrev pub at_most : ℕ → Word → List ℕ → Result (Unit {0}) WordsFault
+at_most most word text = if nat_le (length (members_of text)) most then Ok tt else Err (TooMany word)
+
+unfoldable pub tx_in : Described → Result Address WordsFault
+tx_in d = ok_or (tx_of d.tx) (Unreadable words.Tx)
+
+unfoldable pub sender_in : List ℕ → Result EndpointId WordsFault
+sender_in text = ok_or (identifier_of text) (Unreadable words.From)
+
+unfoldable pub handle_in : List ℕ → Result ℕ WordsFault
+handle_in text = ok_or (number_of text) (Unreadable words.Handle)
+
+unfoldable pub tag_in : Described → Result ℕ WordsFault
+tag_in d = read_or 0 number_of words.Tag d.tag
+
+-- the kind of the transaction that is retrieved, if it is told
+unfoldable pub of_in : Described → Result (Option Kind) WordsFault
+of_in d = read_or None (λ text. option_map (λ kind. Some kind) (kind_of text)) words.Of d.of
+
+unfoldable pub receivers_in : List ℕ → Result (List Receiver) WordsFault
+receivers_in text = do
+  few ← at_most MOST_RECEIVERS words.To text
+  ok_or (each receiver_of (members_of text)) (Unreadable words.To)
+
+unfoldable pub ranges_in : List ℕ → Result (List Range) WordsFault
+ranges_in text = do
+  few ← at_most MOST_RANGES words.Pages text
+  ok_or (each range_of (members_of text)) (Unreadable words.Pages)
+
+-- the one receiver of a retrieve, and of a relinquish
+unfoldable pub asker_in : List ℕ → Result Asker WordsFault
+asker_in text = do
+  one ← at_most 1 words.To text
+  ok_or (asker_of text) (Unreadable words.To)
+
+unfoldable pub endpoint_in : List ℕ → Result EndpointId WordsFault
+endpoint_in text = do
+  one ← at_most 1 words.To text
+  ok_or (identifier_of text) (Unreadable words.To)
+
+-- DESCRIPTORS
+
+abbrev pub version_in : Described → Version
+version_in d = if d.compact then Compact else V1_1
+
+-- a donate, a lend or a share
+unfoldable pub send_told : Kind → Described → Result Told WordsFault
+send_told kind d = do
+  no_handle ← unused words.Handle (is_some d.handle)
+  no_of ← unused words.Of (is_some d.of)
+  from ← needed words.From d.from
+  to ← needed words.To d.to
+  pages ← needed words.Pages d.pages
+  tx ← tx_in d
+  sender ← sender_in from
+  receivers ← receivers_in to
+  ranges ← ranges_in pages
+  tag ← tag_in d
+  Ok (record {
+    version = version_in d;
+    descriptor = Send kind (record { sender = sender; zero = d.zero; tag = tag; receivers = record { items = receivers }; ranges = record { items = ranges } });
+    tx = tx;
+  })
+
+unfoldable pub retrieve_told : Described → Result Told WordsFault
+retrieve_told d = do
+  no_pages ← unused words.Pages (is_some d.pages)
+  no_zero ← unused words.Zero d.zero
+  from ← needed words.From d.from
+  to ← needed words.To d.to
+  handle_word ← needed words.Handle d.handle
+  tx ← tx_in d
+  sender ← sender_in from
+  asker ← asker_in to
+  handle ← handle_in handle_word
+  tag ← tag_in d
+  kind ← of_in d
+  Ok (record {
+    version = version_in d;
+    descriptor = Retrieve (record { sender = sender; handle = handle; tag = tag; kind = kind; level = asker.level; exec = asker.exec }) asker.endpoint;
+    tx = tx;
+  })
+
+unfoldable pub relinquish_told : Described → Result Told WordsFault
+relinquish_told d = do
+  no_from ← unused words.From (is_some d.from)
+  no_pages ← unused words.Pages (is_some d.pages)
+  no_tag ← unused words.Tag (is_some d.tag)
+  no_of ← unused words.Of (is_some d.of)
+  to ← needed words.To d.to
+  handle_word ← needed words.Handle d.handle
+  tx ← tx_in d
+  endpoint ← endpoint_in to
+  handle ← handle_in handle_word
+  Ok (record {
+    version = version_in d;
+    descriptor = Relinquish (record { handle = handle; zero = d.zero; endpoint = endpoint });
+    tx = tx;
+  })
+
+unfoldable pub told : Described → Result Told WordsFault
+told d =
+    if bytes_eq d.kind (codes "retrieve") then retrieve_told d
+    else if bytes_eq d.kind (codes "relinquish") then relinquish_told d
+    else (ok_or (kind_of d.kind) UnknownKind >>= λ kind. send_told kind d)

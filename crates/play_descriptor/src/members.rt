@@ -1,0 +1,158 @@
+// SPDX-License-Identifier: MIT OR Apache-2.0
+//! Words that are read by themselves.
+ghost use Rattle.std.specs.Prelude.{◌≡◌, ◌%◌, ◌≤◌, length, option_map, IfSome};
+ghost use Rattle.play_descriptor.specs.Members.{asker_of, each, grant_of, identifier_of, kind_of, members_of, page_count_of, range_of, receiver_of, right_of, tx_of};
+
+use crate::parts::{cut, number, one_or_two};
+use arrayvec::ArrayVec;
+use ffa_model::{Address, Data, EndpointId, Kind, MOST_RANGES, MOST_RECEIVERS, Range, Receiver};
+
+/// The endpoint that retrieves, and the right that it asks for. A right to data that is `None` isn't specified.
+#[derive(Clone, Copy, PartialEq, Eq)]
+pub struct Asker {
+    pub endpoint: EndpointId,
+    pub level: Option<Data>,
+    pub exec: bool,
+}
+
+#[tactic(auto, unfolding(crate::specs::Members::identifier_of))]
+pub(crate) fn read_identifier(word: &str) -> Option<EndpointId>
+    ensures { result ≡ identifier_of word.now }
+{
+    match number(word)? {
+        n if n < 1 << 16 => Some(EndpointId(n as u16)),
+        _ => None,
+    }
+}
+
+#[tactic(auto, unfolding(crate::specs::Members::page_count_of))]
+fn read_page_count(word: &str) -> Option<u32>
+    ensures { result ≡ page_count_of word.now }
+{
+    match number(word)? {
+        n if n < 1 << 32 => Some(n as u32),
+        _ => None,
+    }
+}
+
+/// The address of TX.
+#[tactic(auto, unfolding(crate::specs::Members::tx_of))]
+pub(crate) fn read_tx(word: &str) -> Option<Address>
+    ensures value { result ≡ tx_of word.now }
+    ensures aligned { IfSome result (λ a. a.0 % 4096 ≡ 0) }
+{
+    match number(word)? {
+        n if n < 1 << 32 && n % 4096 == 0 => Some(Address(n as u32)),
+        _ => None,
+    }
+}
+
+#[tactic(auto, unfolding(crate::specs::Members::range_of))]
+fn read_range(word: &str) -> Option<Range>
+    ensures { result ≡ range_of word.now }
+{
+    let (address, pages) = one_or_two(word, '+')?;
+    Some(Range {
+        address: number(address)?,
+        pages: read_page_count(pages?)?,
+    })
+}
+
+/// The kind of a transaction.
+#[tactic(auto, unfolding(crate::specs::Members::kind_of))]
+pub(crate) fn read_kind(word: &str) -> Option<Kind>
+    ensures { result ≡ kind_of word.now }
+{
+    match word {
+        "donate" => Some(Kind::Donate),
+        "lend" => Some(Kind::Lend),
+        "share" => Some(Kind::Share),
+        _ => None,
+    }
+}
+
+#[tactic(auto, unfolding(crate::specs::Members::grant_of))]
+fn read_grant(word: &str) -> Option<Data>
+    ensures { result ≡ grant_of word.now }
+{
+    match word {
+        "ro" => Some(Data::Ro),
+        "rw" => Some(Data::Rw),
+        _ => None,
+    }
+}
+
+#[tactic(auto, unfolding(crate::specs::Members::right_of))]
+fn read_right(word: &str) -> Option<(Option<Data>, bool)>
+    ensures { result ≡ right_of word.now }
+{
+    match word {
+        "ro" => Some((Some(Data::Ro), false)),
+        "rw" => Some((Some(Data::Rw), false)),
+        "rox" => Some((Some(Data::Ro), true)),
+        "rwx" => Some((Some(Data::Rw), true)),
+        "x" => Some((None, true)),
+        _ => None,
+    }
+}
+
+#[tactic(auto, unfolding(crate::specs::Members::receiver_of))]
+fn read_receiver(word: &str) -> Option<Receiver>
+    ensures { result ≡ receiver_of word.now }
+{
+    let (first, right) = one_or_two(word, ':')?;
+    let endpoint = read_identifier(first)?;
+    let grant = match right {
+        None => None,
+        Some(right) => Some(read_grant(right)?),
+    };
+    Some(Receiver { endpoint, grant })
+}
+
+/// The one receiver of a retrieve.
+#[tactic(auto, unfolding(crate::specs::Members::asker_of))]
+pub(crate) fn read_asker(word: &str) -> Option<Asker>
+    ensures { result ≡ asker_of word.now }
+{
+    let (first, asked) = one_or_two(word, ':')?;
+    let endpoint = read_identifier(first)?;
+    let (level, exec) = match asked {
+        None => (None, false),
+        Some(asked) => read_right(asked)?,
+    };
+    Some(Asker {
+        endpoint,
+        level,
+        exec,
+    })
+}
+
+/// The receivers of a send.
+pub(crate) fn read_receivers(text: &str) -> Option<ArrayVec<Receiver, MOST_RECEIVERS>>
+    requires { length (members_of text.now) ≤ MOST_RECEIVERS }
+    ensures { option_map (λ rs. rs.items) result ≡ each receiver_of (members_of text.now) }
+{
+    let mut receivers = ArrayVec::new();
+    let mut rest = Some(text);
+    'members: while let Some(left) = rest {
+        let (word, behind) = cut(left, ',');
+        receivers.push(read_receiver(word)?);
+        rest = behind;
+    }
+    Some(receivers)
+}
+
+/// The ranges of a send.
+pub(crate) fn read_ranges(text: &str) -> Option<ArrayVec<Range, MOST_RANGES>>
+    requires { length (members_of text.now) ≤ MOST_RANGES }
+    ensures { option_map (λ rs. rs.items) result ≡ each range_of (members_of text.now) }
+{
+    let mut ranges = ArrayVec::new();
+    let mut rest = Some(text);
+    'members: while let Some(left) = rest {
+        let (word, behind) = cut(left, ',');
+        ranges.push(read_range(word)?);
+        rest = behind;
+    }
+    Some(ranges)
+}

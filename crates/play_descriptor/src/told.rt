@@ -1,0 +1,243 @@
+// SPDX-License-Identifier: MIT OR Apache-2.0
+//! What the words of a descriptor say.
+ghost use Rattle.std.specs.Prelude.{◌≡◌, ◌%◌, IfOk, option_map, is_some};
+ghost use Rattle.play_arguments.specs.Commands.{words_of};
+ghost use Rattle.play_descriptor.specs.Told.{Exact, asker_in, at_most, endpoint_in, handle_in, needed, of_in, ranges_in, receivers_in, relinquish_told, retrieve_told, send_told, sender_in, tag_in, told, tx_in, unused, version_in};
+
+use crate::fault::{Word, WordsFault};
+use crate::members::{
+    Asker, read_asker, read_identifier, read_kind, read_ranges, read_receivers, read_tx,
+};
+use crate::parts::{commas, number};
+use arrayvec::ArrayVec;
+use ffa_model::{
+    Address, EndpointId, Kind, MOST_RANGES, MOST_RECEIVERS, Range, Receiver, RelinquishDesc,
+    RetrieveDesc, SendDesc, Version,
+};
+use play_arguments::DescriptorWords;
+use play_writer::Descriptor;
+
+/// What words say: a descriptor, its form, and where TX stands.
+#[derive(Drop)]
+pub struct Told {
+    pub version: Version,
+    pub descriptor: Descriptor,
+    /// A multiple of 4096.
+    pub tx: Address,
+}
+
+/// Reads the words of a descriptor, or says what is wrong first with them.
+///
+/// Numbers are hexadecimal, of 1 to 16 digits. A donate, a lend and a share need the sender, the receivers and the pages, and may
+/// have a tag and be zeroed; a receiver may have a right to data. A retrieve needs the sender, the one receiver, which may have
+/// a right to data and to instructions, and the handle, and may have a tag and the kind of the transaction. A relinquish needs
+/// the one receiver and the handle, and may be zeroed.
+#[tactic(auto, unfolding(crate::specs::Told::told))]
+pub fn read_words(words: &DescriptorWords<'_>) -> Result<Told, WordsFault>
+    ensures told { result ≡ told (words_of words.now) }
+    ensures aligned { IfOk result (λ t. t.tx.0 % 4096 ≡ 0) }
+{
+    match words.kind {
+        "retrieve" => retrieve(words),
+        "relinquish" => relinquish(words),
+        kind => match read_kind(kind) {
+            None => Err(WordsFault::UnknownKind),
+            Some(kind) => send(kind, words),
+        },
+    }
+}
+
+#[tactic(auto, unfolding(crate::specs::Told::send_told))]
+fn send(kind: Kind, words: &DescriptorWords<'_>) -> Result<Told, WordsFault>
+    ensures told { result ≡ send_told kind (words_of words.now) }
+    ensures aligned { IfOk result (λ t. t.tx.0 % 4096 ≡ 0) }
+{
+    unused(Word::Handle, words.handle.is_some())?;
+    unused(Word::Of, words.of.is_some())?;
+    let from = needed(Word::From, words.from)?;
+    let to = needed(Word::To, words.to)?;
+    let pages = needed(Word::Pages, words.pages)?;
+    let tx = tx_in(words)?;
+    let desc = SendDesc {
+        sender: sender_in(from)?,
+        zero: words.zero,
+        receivers: receivers_in(to)?,
+        ranges: ranges_in(pages)?,
+        tag: tag_in(words)?,
+    };
+    Ok(Told {
+        version: version_in(words),
+        descriptor: Descriptor::Send { kind, desc },
+        tx,
+    })
+}
+
+#[tactic(auto, unfolding(crate::specs::Told::retrieve_told))]
+fn retrieve(words: &DescriptorWords<'_>) -> Result<Told, WordsFault>
+    ensures told { result ≡ retrieve_told (words_of words.now) }
+    ensures aligned { IfOk result (λ t. t.tx.0 % 4096 ≡ 0) }
+{
+    unused(Word::Pages, words.pages.is_some())?;
+    unused(Word::Zero, words.zero)?;
+    let from = needed(Word::From, words.from)?;
+    let to = needed(Word::To, words.to)?;
+    let handle = needed(Word::Handle, words.handle)?;
+    let tx = tx_in(words)?;
+    let sender = sender_in(from)?;
+    let asker = asker_in(to)?;
+    let desc = RetrieveDesc {
+        sender,
+        handle: handle_in(handle)?,
+        tag: tag_in(words)?,
+        kind: of_in(words)?,
+        level: asker.level,
+        exec: asker.exec,
+    };
+    Ok(Told {
+        version: version_in(words),
+        descriptor: Descriptor::Retrieve {
+            desc,
+            receiver: asker.endpoint,
+        },
+        tx,
+    })
+}
+
+#[tactic(auto, unfolding(crate::specs::Told::relinquish_told))]
+fn relinquish(words: &DescriptorWords<'_>) -> Result<Told, WordsFault>
+    ensures told { result ≡ relinquish_told (words_of words.now) }
+    ensures aligned { IfOk result (λ t. t.tx.0 % 4096 ≡ 0) }
+{
+    unused(Word::From, words.from.is_some())?;
+    unused(Word::Pages, words.pages.is_some())?;
+    unused(Word::Tag, words.tag.is_some())?;
+    unused(Word::Of, words.of.is_some())?;
+    let to = needed(Word::To, words.to)?;
+    let handle = needed(Word::Handle, words.handle)?;
+    let tx = tx_in(words)?;
+    let endpoint = endpoint_in(to)?;
+    let desc = RelinquishDesc {
+        handle: handle_in(handle)?,
+        zero: words.zero,
+        endpoint,
+    };
+    Ok(Told {
+        version: version_in(words),
+        descriptor: Descriptor::Relinquish(desc),
+        tx,
+    })
+}
+
+fn unused(word: Word, is_given: bool) -> Result<(), WordsFault>
+    ensures { result ≡ unused word is_given }
+{
+    if is_given {
+        Err(WordsFault::OutOfPlace(word))
+    } else {
+        Ok(())
+    }
+}
+
+fn needed<'a>(word: Word, given: Option<&'a str>) -> Result<&'a str, WordsFault>
+    ensures { Exact (λ s. s.now) result (needed word (option_map (λ s. s.now) given.entry)) }
+{
+    given.ok_or(WordsFault::Missing(word))
+}
+
+// Whether a list has at most so many members.
+fn at_most(most: usize, word: Word, text: &str) -> Result<(), WordsFault>
+    ensures { result ≡ at_most most word text.now }
+{
+    if commas(text) < most {
+        Ok(())
+    } else {
+        Err(WordsFault::TooMany(word))
+    }
+}
+
+fn version_in(words: &DescriptorWords<'_>) -> Version
+    ensures { result ≡ version_in (words_of words.now) }
+{
+    if words.compact {
+        Version::Compact
+    } else {
+        Version::V1_1
+    }
+}
+
+#[tactic(auto, unfolding(crate::specs::Told::tx_in))]
+fn tx_in(words: &DescriptorWords<'_>) -> Result<Address, WordsFault>
+    ensures value { result ≡ tx_in (words_of words.now) }
+    ensures aligned { IfOk result (λ a. a.0 % 4096 ≡ 0) }
+{
+    read_tx(words.tx).ok_or(WordsFault::Unreadable(Word::Tx))
+}
+
+#[tactic(auto, unfolding(crate::specs::Told::sender_in))]
+fn sender_in(text: &str) -> Result<EndpointId, WordsFault>
+    ensures { result ≡ sender_in text.now }
+{
+    read_identifier(text).ok_or(WordsFault::Unreadable(Word::From))
+}
+
+#[tactic(auto, unfolding(crate::specs::Told::handle_in))]
+fn handle_in(text: &str) -> Result<u64, WordsFault>
+    ensures { result ≡ handle_in text.now }
+{
+    number(text).ok_or(WordsFault::Unreadable(Word::Handle))
+}
+
+#[tactic(auto, unfolding(crate::specs::Told::tag_in))]
+fn tag_in(words: &DescriptorWords<'_>) -> Result<u64, WordsFault>
+    ensures { result ≡ tag_in (words_of words.now) }
+{
+    match words.tag {
+        None => Ok(0),
+        Some(text) => number(text).ok_or(WordsFault::Unreadable(Word::Tag)),
+    }
+}
+
+#[tactic(auto, unfolding(crate::specs::Told::of_in))]
+fn of_in(words: &DescriptorWords<'_>) -> Result<Option<Kind>, WordsFault>
+    ensures { result ≡ of_in (words_of words.now) }
+{
+    let Some(text) = words.of else {
+        return Ok(None);
+    };
+    match read_kind(text) {
+        None => Err(WordsFault::Unreadable(Word::Of)),
+        Some(kind) => Ok(Some(kind)),
+    }
+}
+
+#[tactic(auto, unfolding(crate::specs::Told::receivers_in))]
+fn receivers_in(text: &str) -> Result<ArrayVec<Receiver, MOST_RECEIVERS>, WordsFault>
+    ensures { Exact (λ rs. rs.items) result (receivers_in text.now) }
+{
+    at_most(MOST_RECEIVERS, Word::To, text)?;
+    read_receivers(text).ok_or(WordsFault::Unreadable(Word::To))
+}
+
+#[tactic(auto, unfolding(crate::specs::Told::ranges_in))]
+fn ranges_in(text: &str) -> Result<ArrayVec<Range, MOST_RANGES>, WordsFault>
+    ensures { Exact (λ rs. rs.items) result (ranges_in text.now) }
+{
+    at_most(MOST_RANGES, Word::Pages, text)?;
+    read_ranges(text).ok_or(WordsFault::Unreadable(Word::Pages))
+}
+
+#[tactic(auto, unfolding(crate::specs::Told::asker_in))]
+fn asker_in(text: &str) -> Result<Asker, WordsFault>
+    ensures { result ≡ asker_in text.now }
+{
+    at_most(1, Word::To, text)?;
+    read_asker(text).ok_or(WordsFault::Unreadable(Word::To))
+}
+
+#[tactic(auto, unfolding(crate::specs::Told::endpoint_in))]
+fn endpoint_in(text: &str) -> Result<EndpointId, WordsFault>
+    ensures { result ≡ endpoint_in text.now }
+{
+    at_most(1, Word::To, text)?;
+    read_identifier(text).ok_or(WordsFault::Unreadable(Word::To))
+}

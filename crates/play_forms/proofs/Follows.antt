@@ -1,0 +1,167 @@
+-- SPDX-License-Identifier: MIT OR Apache-2.0
+-- A play line by line.
+use Rattle.std.proofs.Common.{◌≡◌, ◌≢◌, ◌+◌, ◌≤◌, ℕ, Bool, true, List, [], ◌∷◌, ◌++◌, length, Option, None, Some, Result, Ok, Err, inl, inr, sym, ap, ◌∙◌, subst, arith, append_assoc, append-nil, refl}
+use Rattle.std.specs.Prelude.{is_some}
+use Rattle.std.specs.Option.{option_map_or}
+use Rattle.std.specs.Io.KnownBytes.{Appends, Consumes, IsAtEnd}
+use Rattle.std.proofs.KnownBytes.{Consumes-nil, Consumes-trans}
+use Rattle.std.proofs.lemmas.Bool.{and_from}
+use Rattle.std.proofs.lemmas.List.Folds.{list_all-append}
+use Rattle.ffa_model.specs.State.{State}
+use Rattle.play_syntax.specs.TraceLines.{Line, feed, line_of, is_good, is_line, has_no_feed, joined}
+use Rattle.play_syntax.specs.TraceText.{line_after, after, after_all}
+use Rattle.play_player.proofs.Runs.{joined-append}
+use Rattle.play_syntax.specs.Output.{TookFront, Writes}
+use Rattle.play_syntax.specs.declared.output.PlayError.{PlayError}
+use Rattle.play_syntax.specs.declared.output.PlayError.TheVariants.{Read, Write, NoMemory, BadLine}
+use Rattle.play_forms.specs.Followed.{Followed, EndsBadly, FailsToWrite, DiffersAt, PlayedIn, Compared}
+use Rattle.play_forms.specs.Forms.{line_text_in, text_of_in, text_in}
+use Rattle.play_forms.proofs.Cuts.{cuts_none}
+use Rattle.play_forms.proofs.CutOff.{cuts_printed}
+use Rattle.play_forms.specs.Reading.{IsBadLine, TakesLine}
+use Rattle.play_forms.specs.Steps.{LeavesOver, PrintsLine}
+use Rattle.play_reasons.specs.Reasons.{reason_if, told_line}
+use Rattle.play_forms.specs.declared.comparison.Difference.{Difference}
+use Rattle.play_forms.specs.declared.form.Form.{Form}
+use Rattle.play_reasons.specs.declared.reason.Reason.{Reason}
+
+pub followed_none : (form : Form) (s : State) (had : Option (List ℕ)) → Followed form s s had had [] []
+followed_none form s had = record { each = refl; read = Consumes-nil had; state = refl; said = refl; cut = cuts_none }
+
+after_one : (s : State) (lines : List (List ℕ)) (line : List ℕ) → after_all s (lines ++ line ∷ []) ≡ after (after_all s lines) line
+after_one s [] line = refl
+after_one s (l ∷ ls) line = after_one (after s l) ls line
+
+pub text_one : (form : Form) (n : ℕ) (s : State) (lines : List (List ℕ)) (line : List ℕ)
+    → text_in form n s (lines ++ line ∷ []) ≡ text_in form n s lines ++ text_of_in form (n + length lines) (after_all s lines) line
+text_one form n s [] line = append-nil _ ∙ ap (λ k. text_of_in form k s line) (omega arith)
+text_one form n s (l ∷ ls) line =
+    let count : n + 1 + length ls ≡ n + length (l ∷ ls) = omega arith in
+    ap (λ t. text_of_in form n s l ++ t) (text_one form (n + 1) (after s l) ls line)
+    ∙ sym (append_assoc (text_of_in form n s l) (text_in form (n + 1) (after s l) ls) _)
+    ∙ ap (λ k. text_in form n s (l ∷ ls) ++ text_of_in form k (after_all s (l ∷ ls)) line) count
+
+module _ (form : Form) (start mid : State) (had has : Option (List ℕ)) (lines : List (List ℕ)) (text : List ℕ) (f : Followed form start mid had has lines text) (number : ℕ) (count : number ≡ 1 + length lines) where
+  -- what a line more prints
+  pub own_text : (line : List ℕ) (meant : Line) → Some meant ≡ line_of line → line_text_in form number mid meant ≡ text_of_in form (1 + length lines) (after_all start lines) line
+  unfolding text_of_in
+  own_text line meant is =
+      let own : line_text_in form number mid meant ≡ text_of_in form number mid line = ap (λ l. option_map_or (line_text_in form number mid) l []) is in
+      own ∙ ap (λ n. text_of_in form n mid line) count ∙ ap (λ s. text_of_in form (1 + length lines) s line) f.state
+
+  -- a line more
+  pub followed_more : (now : State) (then : Option (List ℕ)) (line : List ℕ) (meant : Line) (said : List ℕ) → Consumes has then (line ++ feed ∷ []) → has_no_feed line ≡ true
+      → Some meant ≡ line_of line → now ≡ line_after mid meant → said ≡ line_text_in form number mid meant → Followed form start now had then (lines ++ line ∷ []) (text ++ said)
+  unfolding after
+  followed_more now then line meant said read single is next makes = record {
+    each =
+        let good : is_good line ≡ true = ap is_some (sym is) in
+        list_all-append is_line lines (line ∷ []) ∙ rw (f.each, single, good) refl;
+    read = subst (Consumes had then) (sym (joined-append lines (line ∷ []))) (Consumes-trans had has then (joined lines) (line ++ feed ∷ []) f.read read);
+    state =
+        next ∙ ap (λ l. option_map_or (line_after mid) l mid) is ∙ ap (λ s. after s line) f.state ∙ sym (after_one start lines line);
+    said = whole;
+    cut = cuts_printed form start (lines ++ line ∷ []) (text ++ said) whole;
+  }
+    where
+      whole : text ++ said ≡ text_in form 1 start (lines ++ line ∷ [])
+      whole =
+          ap (λ t. t ++ said) f.said ∙ ap (λ t. text_in form 1 start lines ++ t) (makes ∙ own_text line meant is) ∙ sym (text_one form 1 start lines line)
+
+  -- a bad line
+  abbrev pub ends_at : (bytes : List ℕ) → IsBadLine has bytes → EndsBadly form start mid had text bytes number
+  ends_at bytes bad = record { left = has; lines = lines; followed = f; is_next = count; bad = bad }
+
+  -- a line that was done, of whose text a beginning was written
+  abbrev pub fails_to_write : (now : State) (then : Option (List ℕ)) (line : List ℕ) (meant : Line) → Consumes has then (line ++ feed ∷ []) → has_no_feed line ≡ true → Some meant ≡ line_of line
+      → now ≡ line_after mid meant → (held between holds : Option (List ℕ)) → Appends held between text → TookFront between holds (line_text_in form number mid meant)
+      → FailsToWrite form start now held holds had
+  fails_to_write now then line meant read single is next held between holds written began = record {
+    left = then;
+    lines = lines;
+    last = line;
+    text = text ++ line_text_in form number mid meant;
+    between = between;
+    followed = followed_more now then line meant (line_text_in form number mid meant) read single is next refl;
+    written = subst (Appends held between) f.said written;
+    began = subst (TookFront between holds) (own_text line meant is) began;
+  }
+
+  -- what was read isn't taken
+  pub untaken_played : (e : PlayError) (then : Option (List ℕ)) (bytes : List ℕ) → TakesLine has then bytes number (Err e)
+      → (held holds : Option (List ℕ)) → Appends held holds text → PlayedIn {X = Unit {0}} form start mid held holds had bytes (Err e)
+  untaken_played Read then bytes r held holds written = (has, lines, text, f, written)
+  untaken_played Write then bytes r held holds written = absurd r
+  untaken_played NoMemory then bytes r held holds written = tt
+  untaken_played (BadLine n) then bytes (is, bad) held holds written =
+      (text, subst (EndsBadly form start mid had text bytes) (sym is) (ends_at bytes bad), written)
+
+  pub untaken_compared : (e : PlayError) (then : Option (List ℕ)) (bytes : List ℕ) → TakesLine has then bytes number (Err e)
+      → (explain : Bool) (expected more : List ℕ) → expected ≡ text ++ more → Compared form start mid had explain expected bytes (Err e)
+  untaken_compared Read then bytes r explain expected more alike = (has, lines, text, more, alike, f)
+  untaken_compared Write then bytes r explain expected more alike = absurd r
+  untaken_compared NoMemory then bytes r explain expected more alike = tt
+  untaken_compared (BadLine n) then bytes (is, bad) explain expected more alike =
+      (text, more, alike, subst (EndsBadly form start mid had text bytes) (sym is) (ends_at bytes bad))
+
+  -- what was done isn't written whole
+  pub unwritten_played : (e : PlayError) (now : State) (then : Option (List ℕ)) (line : List ℕ) (meant : Line) → Consumes has then (line ++ feed ∷ []) → has_no_feed line ≡ true → Some meant ≡ line_of line
+      → (held between holds : Option (List ℕ)) → Appends held between text → PrintsLine {X = Unit {0}} form mid now number meant between holds (Err e)
+      → PlayedIn {X = Unit {0}} form start now held holds had line (Err e)
+  unwritten_played Read now then line meant read single is held between holds written r = absurd r
+  unwritten_played Write now then line meant read single is held between holds written (next, began) = fails_to_write now then line meant read single is next held between holds written began
+  unwritten_played NoMemory now then line meant read single is held between holds written r = tt
+  unwritten_played (BadLine n) now then line meant read single is held between holds written r = absurd r
+
+  -- a text that doesn't go on as is expected
+  pub differs_in_line : (now : State) (then : Option (List ℕ)) (line : List ℕ) (meant : Line) (said expected more : List ℕ) (place : ℕ) (explain : Bool) (reason : Option Reason) → Consumes has then (line ++ feed ∷ []) → has_no_feed line ≡ true → Some meant ≡ line_of line
+      → now ≡ line_after mid meant → said ≡ line_text_in form number mid meant → expected ≡ text ++ more → place ≡ length text → ((rest : List ℕ) → more ≢ said ++ rest)
+      → told_line reason ≡ reason_if explain mid meant → DiffersAt form start now had explain expected line (record { number = number; place = place; reason = reason })
+  unfolding after text_of_in
+  differs_in_line now then line meant said expected more place explain reason read single is next makes alike at other told = record {
+    state = mid;
+    left = has;
+    lines = lines;
+    text = text;
+    more = more;
+    followed = f;
+    alike = alike;
+    number = count;
+    place = at;
+    differs =
+        let own : said ≡ text_of_in form number mid line = makes ∙ ap (λ l. option_map_or (line_text_in form number mid) l []) is in
+        inl (then, read, and_from _ _ single (ap is_some (sym is)), next ∙ ap (λ l. option_map_or (line_after mid) l mid) is, λ rest same. other rest (same ∙ ap (λ t. t ++ rest) (sym own)), told ∙ ap (λ l. option_map_or (reason_if explain mid) l []) is);
+  }
+
+  -- no line is left, and the expected text goes on
+  pub differs_at_end : (bytes expected more : List ℕ) (place : ℕ) (explain : Bool) → IsAtEnd has → expected ≡ text ++ more → place ≡ length text → 1 ≤ length more
+      → DiffersAt form start mid had explain expected bytes (record { number = number; place = place; reason = None })
+  differs_at_end bytes expected more place explain at_end alike at some = record {
+    state = mid;
+    left = has;
+    lines = lines;
+    text = text;
+    more = more;
+    followed = f;
+    alike = alike;
+    number = count;
+    place = at;
+    differs = inr (at_end, refl, some);
+  }
+
+  -- whether it does or not
+  pub left_over_compared : (bytes expected more : List ℕ) (place : ℕ) (explain : Bool) → IsAtEnd has → expected ≡ text ++ more → place ≡ length text
+      → (difference : Option Difference) → LeavesOver more number place difference → Compared form start mid had explain expected bytes (Ok difference)
+  left_over_compared bytes expected more place explain at_end alike at None none =
+      (has, lines, subst (Followed form start mid had has lines) (sym (alike ∙ ap (λ r. text ++ r) none ∙ append-nil text)) f, at_end)
+  left_over_compared bytes expected more place explain at_end alike at (Some difference) (some, is) =
+      subst (DiffersAt form start mid had explain expected bytes) (sym is) (differs_at_end bytes expected more place explain at_end alike at some)
+
+-- a line's text, written
+pub prints_line : (form : Form) (start now : State) (number : ℕ) (line : Line) (text : List ℕ) (held holds : Option (List ℕ)) → now ≡ line_after start line → text ≡ line_text_in form number start line
+    → (r : Result (Unit {0}) PlayError) → Writes held holds text r → PrintsLine form start now number line held holds r
+prints_line form start now number line text held holds next makes (Ok _) wrote = (next, subst (Appends held holds) makes wrote)
+prints_line form start now number line text held holds next makes (Err Read) wrote = absurd wrote
+prints_line form start now number line text held holds next makes (Err Write) wrote = (next, subst (TookFront held holds) makes wrote)
+prints_line form start now number line text held holds next makes (Err NoMemory) wrote = absurd wrote
+prints_line form start now number line text held holds next makes (Err (BadLine n)) wrote = absurd wrote

@@ -1,0 +1,37 @@
+-- SPDX-License-Identifier: MIT OR Apache-2.0
+-- Words that printed lines are made of.
+use Rattle.std.proofs.Common.{◌≡◌, ℕ, suc, zero, ◌+◌, ◌/◌, ◌%◌, ◌^◌, Bool, true, false, List, [], ◌∷◌, ◌++◌, Option, None, Some, inl, inr, arith, refl}
+use Rattle.std.specs.Prelude.{◌==◌, nat_lt, slice_index}
+use Rattle.std.specs.List.{list_all}
+use Rattle.std.specs.Option.{option_map_or}
+use Rattle.std.proofs.lemmas.Bool.{cases_Bool, and_parts, and_from}
+use Rattle.ffa_model.specs.Registers.{low}
+use Rattle.play_syntax.specs.TraceLines.{has_no_feed}
+use Rattle.play_syntax.specs.TraceText.{digit, hex}
+use Rattle.ffa_abi.specs.Names.{Row, call_names, call_name_of, name_in}
+use Rattle.play_forms.proofs.Cuts.{is_inner, IsInner, inner_above}
+
+inner_digit : (d : ℕ) → is_inner (digit d) ≡ true
+inner_digit d =
+    elim (cases_Bool (nat_lt d 10)) [
+      | inl few ↦ rw few (inner_above (48 + d) (omega arith))
+      | inr many ↦ rw many (inner_above (55 + d) (omega arith))
+    ]
+
+pub inner_hex : (n x : ℕ) → IsInner (hex n x)
+inner_hex zero x = refl
+inner_hex (suc n) x = and_from _ _ (inner_digit (x / 16 ^ n % 16)) (inner_hex n x)
+
+-- the name of a call
+pub single_in : (rows : List Row) (number : ℕ) → list_all (λ (row : Row). has_no_feed row.1) rows ≡ true → option_map_or has_no_feed (name_in rows number) true ≡ true
+single_in [] number h = refl
+single_in (row ∷ rows) number h =
+    let parts = and_parts (has_no_feed row.1) (list_all (λ (row : Row). has_no_feed row.1) rows) h in
+    elim (cases_Bool (row.0 == number)) [
+      | inl here ↦ rw here parts.0
+      | inr other ↦ rw other (single_in rows number parts.1)
+    ]
+
+pub single_call : (x : List ℕ) → option_map_or has_no_feed (call_name_of x) true ≡ true
+unfolding call_name_of
+single_call x = single_in call_names (low (slice_index x 0)) refl

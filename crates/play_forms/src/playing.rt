@@ -1,0 +1,58 @@
+// SPDX-License-Identifier: MIT OR Apache-2.0
+//! A play that writes each text in a form.
+ghost use Rattle.play_syntax.specs.Lines.{meant};
+ghost use Rattle.play_forms.specs.Followed.{PlayedIn};
+ghost use Rattle.play_forms.specs.Steps.{PrintsLine};
+
+use crate::form::{Form, make_text};
+use crate::read::take_line;
+use ffa_playable::Playable;
+use play_player::Player;
+use play_syntax::{Line, PlayError, output};
+use std::alloc::Allocator;
+use std::io::{BufRead, Write};
+
+/// Does the lines that the reader gives, one after another, and writes the text of each in this form before the next is
+/// done. Lines count from 1.
+///
+/// At a bad line, and where the reader fails, the lines before it were done, and nothing more, and their whole text was
+/// written; where the writer fails, it took a beginning of the text of the line that was done last. The bytes of a bad line
+/// stand in `bytes` as they stand in the trace, with the LF that ends them, where one does. What is left where there is no
+/// memory is in no clause.
+pub fn play<P: Playable, A: Allocator + Copy, R: BufRead, W: Write>(
+    player: &mut Player<P>,
+    alloc: A,
+    form: Form,
+    reader: &mut R,
+    writer: &mut W,
+    bytes: &mut Vec<u8, A>,
+) -> Result<(), PlayError>
+    ensures { PlayedIn form player.old.state player.new.state (W.contents writer.old) (W.contents writer.new) (R.remaining reader.old) bytes.new.items result }
+{
+    let mut text = Vec::new(alloc);
+    let mut number = 1;
+    while number < u64::MAX {
+        match take_line(reader, bytes, number)? {
+            Some(line) => print_line(player, alloc, form, number, &line, writer, &mut text)?,
+            None => return Ok(()),
+        }
+        number += 1;
+    }
+    Err(PlayError::Read)
+}
+
+// Does a line and writes its text, which it makes in `text`.
+fn print_line<P: Playable, A: Allocator + Copy, W: Write>(
+    player: &mut Player<P>,
+    alloc: A,
+    form: Form,
+    number: u64,
+    line: &Line,
+    writer: &mut W,
+    text: &mut Vec<u8, A>,
+) -> Result<(), PlayError>
+    ensures { PrintsLine form player.old.state player.new.state number (meant line.now) (W.contents writer.old) (W.contents writer.new) result }
+{
+    make_text(player, alloc, form, number, line, text)?;
+    output::write_text(writer, text)
+}

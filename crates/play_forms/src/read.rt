@@ -1,0 +1,73 @@
+// SPDX-License-Identifier: MIT OR Apache-2.0
+//! Reading the lines of a trace.
+ghost use Rattle.play_forms.specs.Reading.{ReadsLine, TakesFeed, TakesLine};
+ghost use Rattle.play_forms.specs.Steps.{Refuses};
+
+use play_syntax::{Line, PlayError};
+use std::alloc::Allocator;
+use std::io::{BufRead, ErrorKind};
+
+/// Reads the next line, which has this number, into `line`, and answers whether there is one. The LF that ends a line is
+/// none of its bytes.
+///
+/// After an interrupt it asks the reader again, as `read_until` does. A rest that no LF ends is a bad line, and stands in
+/// `line` then.
+pub fn next_line<A: Allocator, R: BufRead>(
+    reader: &mut R,
+    line: &mut Vec<u8, A>,
+    number: u64,
+) -> Result<bool, PlayError>
+    ensures { ReadsLine (R.remaining reader.old) (R.remaining reader.new) line.new.items number result }
+{
+    line.clear();
+    match reader.read_until(b'\n', line) {
+        Ok(0) => Ok(false),
+        Ok(_) => take_feed(line, number),
+        Err(error) if error.kind() == ErrorKind::OutOfMemory => Err(PlayError::NoMemory),
+        Err(_) => Err(PlayError::Read),
+    }
+}
+
+// Takes off the LF that ends the bytes of a line.
+fn take_feed<A: Allocator>(line: &mut Vec<u8, A>, number: u64) -> Result<bool, PlayError>
+    ensures { TakesFeed line.old.items line.new.items number result }
+{
+    match line.pop() {
+        Some(b'\n') => Ok(true),
+        Some(last) => match line.push(last) {
+            Ok(()) => Err(PlayError::BadLine(number)),
+            Err(_) => Err(PlayError::NoMemory),
+        },
+        None => Err(PlayError::Read),
+    }
+}
+
+/// Reads the next line, which has this number, and answers what it is, or nothing where the reader is at its end.
+///
+/// The bytes of a line that is taken stand in `bytes` without the LF that ends them. Those of a bad line stand there as they
+/// stand in the trace, with the LF that ends them, where one does.
+pub fn take_line<A: Allocator, R: BufRead>(
+    reader: &mut R,
+    bytes: &mut Vec<u8, A>,
+    number: u64,
+) -> Result<Option<Line>, PlayError>
+    ensures { TakesLine (R.remaining reader.old) (R.remaining reader.new) bytes.new.items number result }
+{
+    if !next_line(reader, bytes, number)? {
+        return Ok(None);
+    }
+    match Line::read(bytes) {
+        Some(line) => Ok(Some(line)),
+        None => refuse(bytes, number),
+    }
+}
+
+// Answers that a line is bad, and puts its LF back.
+fn refuse<A: Allocator>(bytes: &mut Vec<u8, A>, number: u64) -> Result<Option<Line>, PlayError>
+    ensures { Refuses bytes.old.items bytes.new.items number result }
+{
+    match bytes.push(b'\n') {
+        Ok(()) => Err(PlayError::BadLine(number)),
+        Err(_) => Err(PlayError::NoMemory),
+    }
+}

@@ -1,0 +1,147 @@
+// SPDX-License-Identifier: MIT OR Apache-2.0
+//! The machine that plays what is generated.
+ghost use Rattle.std.specs.Prelude.{◌<◌, length, IfSome};
+
+use ffa_model::{EndpointId, Manifest, Op, Outcome, PageNo, Rights};
+use ffa_physmem::{FlatRam, NoMemory, PhysMem};
+use ffa_spmc::{Given, Machine, Storage};
+use ffa_tlb::NoTlb;
+use play_scenes::{PAGE, Stage};
+use play_transcript::{Counts, Entry, GenerateError, fitted, wanted};
+use std::alloc::Allocator;
+
+/// A machine, the lines of a turn, and how often what came.
+#[derive(Drop)]
+pub struct MachineStage<A: Allocator + Copy> {
+    machine: Machine<FlatRam<A>, NoTlb, Given<A>>,
+    entries: Vec<Entry, A>,
+    room: u64,
+    /// There was memory for each line of this turn.
+    is_whole: bool,
+    counts: Counts,
+}
+
+// The machine's contract is long, and nobody here needs it.
+fn operate<A: Allocator + Copy>(
+    machine: &mut Machine<FlatRam<A>, NoTlb, Given<A>>,
+    op: &Op,
+) -> Outcome {
+    machine.op(op)
+}
+
+// The page at an address.
+fn page_at<A: Allocator + Copy>(
+    machine: &Machine<FlatRam<A>, NoTlb, Given<A>>,
+    address: u64,
+) -> Option<PageNo>
+    ensures in_ram { IfSome result (λ page. page.0 < length machine.now.ram.pages) }
+    ensures known { IfSome result (λ page. page.0 < length machine.now.state.pages) }
+{
+    let base = u64::from(machine.ram().base().0);
+    let offset = address.checked_sub(base)?;
+    let page = offset / PAGE;
+    if page < u64::from(machine.ram().pages()) {
+        Some(PageNo(page as u32))
+    } else {
+        None
+    }
+}
+
+impl<A: Allocator + Copy> MachineStage<A> {
+    /// The machine of a manifest in its first state.
+    #[inline(never)]
+    pub fn new(alloc: A, manifest: &Manifest) -> Result<MachineStage<A>, NoMemory> {
+        let (base, pages) = (manifest.ram_base, 512 * manifest.ram_blocks);
+        let ram = FlatRam::new_in(alloc, base, pages)?;
+        let Ok(storage) = Storage::given_for(alloc, manifest) else {
+            return Err(NoMemory);
+        };
+        Ok(MachineStage {
+            machine: Machine::boot_cleared_in(storage, manifest, ram, NoTlb),
+            entries: Vec::new(alloc),
+            room: 0,
+            is_whole: true,
+            counts: Counts::new(),
+        })
+    }
+
+    // Adds a line, and answers whether it could. Where there is no memory for one, none is added in the rest of the turn.
+    fn add(&mut self, entry: Entry) -> bool {
+        if !self.is_whole || self.entries.len() as u64 >= self.room {
+            return false;
+        }
+        self.is_whole = self.entries.push(entry).is_ok();
+        self.is_whole
+    }
+
+    /// How often what came.
+    pub fn into_counts(self) -> Counts {
+        let MachineStage { counts, .. } = self;
+        counts
+    }
+}
+
+impl<A: Allocator + Copy> Stage for MachineStage<A> {
+    fn begin(&mut self, most: u64) {
+        self.entries.clear();
+        self.room = most;
+        self.is_whole = true;
+    }
+
+    fn entries(&self) -> Result<&[Entry], GenerateError> {
+        if self.is_whole {
+            Ok(&self.entries)
+        } else {
+            Err(GenerateError::NoMemory)
+        }
+    }
+
+    fn put(&mut self, entry: Entry) {
+        self.add(entry);
+    }
+
+    fn play(&mut self, op: &Op) -> Option<Outcome> {
+        let op = fitted(op);
+        if !self.add(Entry::Operation(op)) {
+            return None;
+        }
+        let outcome = operate(&mut self.machine, &op);
+        self.counts.note(&op, &outcome);
+        Some(outcome)
+    }
+
+    fn wanted(&self, turn: u64) -> EndpointId {
+        wanted(turn, self.machine.endpoints())
+    }
+
+    fn runner(&self) -> EndpointId {
+        self.machine.runner()
+    }
+
+    fn owner_of(&self, address: u64) -> EndpointId {
+        match page_at(&self.machine, address) {
+            Some(page) => self.machine.owner_of(page),
+            None => EndpointId::MANAGER,
+        }
+    }
+
+    fn access(&self, endpoint: EndpointId, address: u64) -> Option<Rights> {
+        let page = page_at(&self.machine, address)?;
+        self.machine.access(endpoint, page)
+    }
+
+    fn word_at(&self, address: u64) -> Option<u64> {
+        let page = page_at(&self.machine, address)?;
+        let index = (address % PAGE / 8) as usize;
+        Some(self.machine.ram().read_word(page, index))
+    }
+
+    fn ram_base(&self) -> u64 {
+        u64::from(self.machine.ram().base().0)
+    }
+
+    fn ram_end(&self) -> u64 {
+        let base = u64::from(self.machine.ram().base().0);
+        base + PAGE * u64::from(self.machine.ram().pages())
+    }
+}

@@ -1,0 +1,155 @@
+// SPDX-License-Identifier: MIT OR Apache-2.0
+//! A trace that is watched: played line by line, with what becomes of the machine's pages.
+ghost use Rattle.std.specs.Prelude.{◌≡◌, [], ◌∷◌, IfErr, IfOk, OnOk};
+ghost use Rattle.ffa_model.specs.Certificate.{certificate};
+ghost use Rattle.play_syntax.specs.TraceText.{line_after};
+ghost use Rattle.play_syntax.specs.Lines.{meant};
+ghost use Rattle.play_picture.specs.Watching.{AreFirst, SeesLine, Watched};
+
+use ffa_model::CertRun;
+use ffa_playable::Playable;
+use play_drawing::{Keep, Row, put_row};
+use play_forms::take_line;
+use play_player::{Player, certificate};
+use play_syntax::{Line, PlayError};
+use std::alloc::Allocator;
+use std::io::{self, BufRead};
+
+// What was seen of a trace so far: the rows, and the certificate behind the last line.
+#[derive(Drop)]
+struct Seen<A: Allocator> {
+    rows: Vec<Row<A>, A>,
+    latest: Vec<CertRun, A>,
+}
+
+/// Does the lines that the reader gives, one after another, and answers the rows of those that have one, each with what the
+/// machine is behind it. The first row is that of the beginning.
+///
+/// At a bad line, and where the reader fails, the lines before it were done, and nothing more. The bytes of a bad line stand
+/// in `bytes` as they stand in the trace, with the LF that ends them, where one does. What is left where there is no memory
+/// is in no clause.
+pub fn watch<P: Playable, A: Allocator + Copy, R: BufRead>(
+    player: &mut Player<P>,
+    alloc: A,
+    keep: Keep,
+    reader: &mut R,
+    bytes: &mut Vec<u8, A>,
+) -> Result<Vec<Row<A>, A>, PlayError>
+    ensures { Watched keep player.old.state player.new.state (R.remaining reader.old) bytes.new.items result }
+{
+    let mut seen = begin(player, alloc)?;
+    let mut number = 1;
+    while number < u64::MAX {
+        let Some(line) = take_line(reader, bytes, number)? else {
+            return Ok(seen.rows);
+        };
+        watch_line(player, alloc, keep, number, &line, bytes, &mut seen)?;
+        number += 1;
+    }
+    Err(PlayError::Read)
+}
+
+// The row of the beginning.
+fn begin<P: Playable, A: Allocator + Copy>(
+    player: &Player<P>,
+    alloc: A,
+) -> Result<Seen<A>, PlayError>
+    ensures rows { IfOk result (λ seen. AreFirst player.now.state seen.rows.items) }
+    ensures latest { IfOk result (λ seen. seen.latest.items ≡ certificate player.now.state) }
+    ensures failed { IfErr result (λ e. e ≡ PlayError.NoMemory) }
+{
+    let latest = certificate_of(player, alloc)?;
+    let rows = first_row(player, alloc, &latest)?;
+    Ok(Seen { rows, latest })
+}
+
+// The row of the beginning, where this is the certificate.
+fn first_row<P: Playable, A: Allocator + Copy>(
+    player: &Player<P>,
+    alloc: A,
+    runs: &[CertRun],
+) -> Result<Vec<Row<A>, A>, PlayError>
+    requires { runs.now ≡ certificate player.now.state }
+    ensures rows { IfOk result (λ rows. AreFirst player.now.state rows.items) }
+    ensures failed { IfErr result (λ e. e ≡ PlayError.NoMemory) }
+{
+    let runner = player.machine().runner();
+    match Row::of_line(alloc, 0, &[], runner, runs) {
+        Ok(row) => alone(alloc, row),
+        Err(_) => Err(PlayError::NoMemory),
+    }
+}
+
+// A row that no other stands beside.
+fn alone<A: Allocator + Copy>(alloc: A, row: Row<A>) -> Result<Vec<Row<A>, A>, PlayError>
+    ensures rows { IfOk result (λ rows. rows.items ≡ row ∷ []) }
+    ensures failed { IfErr result (λ e. e ≡ PlayError.NoMemory) }
+{
+    let mut rows = Vec::new(alloc);
+    match rows.push(row) {
+        Ok(()) => Ok(rows),
+        Err(_) => Err(PlayError::NoMemory),
+    }
+}
+
+// Does the line of this number, of which these are the bytes, and puts its row behind the others, where it is to have one.
+fn watch_line<P: Playable, A: Allocator + Copy>(
+    player: &mut Player<P>,
+    alloc: A,
+    keep: Keep,
+    number: u64,
+    line: &Line,
+    bytes: &[u8],
+    seen: &mut Seen<A>,
+) -> Result<(), PlayError>
+    requires { seen.old.latest.items ≡ certificate player.old.state }
+    ensures seen { OnOk result (SeesLine keep number (meant line.now) bytes.now player.old.state player.new.state seen.old.rows.items seen.new.rows.items) }
+    ensures latest { OnOk result (seen.new.latest.items ≡ certificate player.new.state) }
+    ensures failed { IfErr result (λ e. e ≡ PlayError.NoMemory) }
+{
+    let runs = follow(player, alloc, line)?;
+    let runner = player.machine().runner();
+    match put_row(
+        &mut seen.rows,
+        alloc,
+        keep,
+        number,
+        bytes,
+        runner,
+        &seen.latest,
+        &runs,
+    ) {
+        Ok(()) => {
+            seen.latest = runs;
+            Ok(())
+        }
+        Err(_) => Err(PlayError::NoMemory),
+    }
+}
+
+// Does a line, and answers the certificate behind it.
+fn follow<P: Playable, A: Allocator + Copy>(
+    player: &mut Player<P>,
+    alloc: A,
+    line: &Line,
+) -> Result<Vec<CertRun, A>, PlayError>
+    ensures state { OnOk result (player.new.state ≡ line_after player.old.state (meant line.now)) }
+    ensures runs { IfOk result (λ runs. runs.items ≡ certificate player.new.state) }
+    ensures failed { IfErr result (λ e. e ≡ PlayError.NoMemory) }
+{
+    // The sink takes all that is written.
+    player
+        .line(alloc, line, &mut io::sink())
+        .map_err(|_| PlayError::NoMemory)?;
+    certificate_of(player, alloc)
+}
+
+fn certificate_of<P: Playable, A: Allocator>(
+    player: &Player<P>,
+    alloc: A,
+) -> Result<Vec<CertRun, A>, PlayError>
+    ensures runs { IfOk result (λ runs. runs.items ≡ certificate player.now.state) }
+    ensures failed { IfErr result (λ e. e ≡ PlayError.NoMemory) }
+{
+    certificate::runs(player.machine(), alloc).map_err(|_| PlayError::NoMemory)
+}

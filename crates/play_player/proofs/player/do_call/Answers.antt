@@ -1,0 +1,15 @@
+-- SPDX-License-Identifier: MIT OR Apache-2.0
+use Rattle.std.proofs.Common.{◌∙◌, sym}
+use Rattle.ffa_model.specs.declared.operation.Op.TheVariants.{Call}
+use Rattle.play_syntax.specs.TraceLines.{operate}
+use Rattle.play_syntax.proofs.LineCommands.{call_line}
+use Rattle.play_player.proofs.OneLine.{line_written, line_bad}
+use Rattle.play_player.proofs.player.do_call.Goals as goal
+
+pub returns-then-registers : goal.returns-then-registers
+returns-then-registers g c =
+    let is = c.if-registers.ensures ∙ sym (call_line c.args.words.now) in
+    line_written _ _ _ _ c.args.number _ (operate (Call c.registers.new.x)) is c.operate.ensures.state c.operate.result c.operate.ensures.text
+
+pub returns-else-registers : goal.returns-else-registers
+returns-else-registers g c = line_bad _ _ c.args.number _ (c.if-registers.ensures ∙ sym (call_line c.args.words.now))

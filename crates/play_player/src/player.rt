@@ -1,0 +1,420 @@
+// SPDX-License-Identifier: MIT OR Apache-2.0
+//! The player of traces.
+ghost use Rattle.std.specs.Prelude.{◌≡◌, ◌*◌, codes, ◌==◌, true, [], ◌++◌, position, IfErr, IfOk, OnOk};
+ghost use Rattle.std.specs.List.{flat_map};
+ghost use Rattle.play_syntax.specs.TraceLines.{feed, has_no_feed};
+ghost use Rattle.ffa_model.specs.Memory.{size_of};
+ghost use Rattle.ffa_model.specs.Step.{step};
+ghost use Rattle.play_syntax.specs.TraceText.{hex, spaced, ended, outcome_text};
+ghost use Rattle.play_player.specs.Feeding.{LineDone, LineEnded, Kept, IsNumbered, Fed, Feeding, StopsIn};
+ghost use Rattle.play_syntax.specs.Lines.{Answered, meant};
+ghost use Rattle.play_syntax.specs.Output.{Writes};
+ghost use Rattle.play_player.specs.Played.{Played};
+
+use crate::{certificate, show};
+use ffa_model::{Op, Outcome, Size};
+use ffa_playable::Playable;
+use memchr::memchr;
+use play_syntax::{Line, PlayError, line, output, text};
+use std::alloc::{Allocator, Global};
+use std::io::{Read, Write};
+use std::marker::Model;
+
+/// How many bytes a play asks of its reader at a time.
+const BLOCK: usize = 65536;
+
+/// Plays traces on a machine. Contracts see the state in which that stands.
+#[derive(Drop)]
+pub struct Player<P: Playable> {
+    machine: P,
+}
+
+impl<P: Playable> Model for Player<P> {
+    ghost use Rattle.play_player.specs.Standing.{Standing, coded_standing};
+
+    ghost Value = { Standing };
+
+    ghost coded = { coded_standing };
+
+    ghost view = { λ player. record { state = P.state player.machine } };
+}
+
+/// The bytes of a line whose LF hasn't come yet, and the line's number.
+#[derive(Drop)]
+pub struct Begun<A: Allocator = Global> {
+    /// The bytes, none of which is an LF.
+    pub bytes: Vec<u8, A>,
+    /// The number, counted from 1.
+    pub number: u64,
+    pub ghost unended: { has_no_feed bytes.items ≡ true },
+    pub ghost numbered: { IsNumbered number bytes.items },
+}
+
+impl<A: Allocator> Begun<A> {
+    /// The first line, of which no byte has come.
+    pub fn new(alloc: A) -> Begun<A>
+        ensures bytes { result.bytes.items ≡ [] }
+        ensures number { result.number ≡ 1 }
+    {
+        Begun {
+            bytes: Vec::new(alloc),
+            number: 1,
+        }
+    }
+}
+
+impl<P: Playable> Player<P> {
+    /// A player on this machine, as it is.
+    pub fn new(machine: P) -> Player<P>
+        ensures { result.state ≡ P.state machine }
+    {
+        Player { machine }
+    }
+
+    /// The machine, as the lines so far left it.
+    pub fn machine(&self) -> &P
+        ensures { P.state result.now ≡ self.now.state }
+    {
+        &self.machine
+    }
+
+    /// Does the lines that the reader gives, one after another, and writes the text of each before the next is done.
+    /// Lines count from 1. It asks the reader and the writer for `read` and `write` alone, and tries nothing again
+    /// after an error.
+    pub fn play<R: Read, W: Write>(
+        &mut self,
+        alloc: Global,
+        reader: &mut R,
+        writer: &mut W,
+    ) -> Result<(), PlayError>
+        ensures { Played self.old.state self.new.state (W.contents writer.old) (W.contents writer.new) (R.remaining reader.old) (R.remaining reader.new) result }
+    {
+        self.play_in(alloc, reader, writer)
+    }
+
+    /// Does a line, and writes its text. It answers what came of the operation that the line is.
+    ///
+    /// Only `Line::Audit` wants memory: where that is refused, nothing is done and nothing is written.
+    pub fn line<A: Allocator + Copy, W: Write>(
+        &mut self,
+        alloc: A,
+        line: &Line,
+        writer: &mut W,
+    ) -> Result<Option<Outcome>, PlayError>
+        ensures { Answered self.old.state self.new.state (W.contents writer.old) (W.contents writer.new) (meant line.now) result }
+    {
+        answer(&mut self.machine, alloc, writer, line)
+    }
+
+    /// Takes bytes of a trace, of which `begun` came before: does each line that ends in them, and writes its text, and
+    /// answers what has begun of the line behind these.
+    ///
+    /// So no text of a line whose LF has come is kept back. It asks the writer for `write` alone, and tries nothing again
+    /// after an error. After `PlayError::Read` there are more lines than can be counted.
+    pub fn feed<A: Allocator + Copy, W: Write>(
+        &mut self,
+        alloc: A,
+        begun: Begun<A>,
+        bytes: &[u8],
+        writer: &mut W,
+    ) -> Result<Begun<A>, PlayError>
+        ensures fed { IfOk result (λ next. Feeding self.old.state self.new.state (W.contents writer.old) (W.contents writer.new) begun.number next.number (begun.bytes.items ++ bytes.now) next.bytes.items) }
+        ensures failed { IfErr result (StopsIn self.old.state self.new.state (W.contents writer.old) (W.contents writer.new) begun.number (begun.bytes.items ++ bytes.now)) }
+    {
+        feed(&mut self.machine, alloc, writer, begun, bytes)
+    }
+
+    /// Plays as `play` does, with memory of any allocator. It is `feed`, with what each `read` gave, before the next `read`.
+    pub fn play_in<A: Allocator + Copy, R: Read, W: Write>(
+        &mut self,
+        alloc: A,
+        reader: &mut R,
+        writer: &mut W,
+    ) -> Result<(), PlayError>
+        ensures { Played self.old.state self.new.state (W.contents writer.old) (W.contents writer.new) (R.remaining reader.old) (R.remaining reader.new) result }
+    {
+        play_lines(&mut self.machine, alloc, reader, writer)
+    }
+}
+
+// Not inlined: the block would lie on the stack while the caller boots the machine.
+#[inline(never)]
+fn play_lines<P: Playable, A: Allocator + Copy, R: Read, W: Write>(
+    machine: &mut P,
+    alloc: A,
+    reader: &mut R,
+    writer: &mut W,
+) -> Result<(), PlayError>
+    ensures { Played (P.state machine.old) (P.state machine.new) (W.contents writer.old) (W.contents writer.new) (R.remaining reader.old) (R.remaining reader.new) result }
+{
+    let mut begun = Begun::new(alloc);
+    let mut block = [0; BLOCK];
+    for _ in 0..u64::MAX - 1 {
+        match reader.read(&mut block) {
+            Ok(0) if begun.bytes.is_empty() => return Ok(()),
+            Ok(0) => return Err(PlayError::BadLine(begun.number)),
+            Ok(count) => begun = feed(machine, alloc, writer, begun, &block[..count])?,
+            Err(_) => return Err(PlayError::Read),
+        }
+    }
+    Err(PlayError::Read)
+}
+
+fn feed<P: Playable, A: Allocator + Copy, W: Write>(
+    machine: &mut P,
+    alloc: A,
+    writer: &mut W,
+    begun: Begun<A>,
+    bytes: &[u8],
+) -> Result<Begun<A>, PlayError>
+    ensures fed { IfOk result (λ next. Feeding (P.state machine.old) (P.state machine.new) (W.contents writer.old) (W.contents writer.new) begun.number next.number (begun.bytes.items ++ bytes.now) next.bytes.items) }
+    ensures failed { IfErr result (StopsIn (P.state machine.old) (P.state machine.new) (W.contents writer.old) (W.contents writer.new) begun.number (begun.bytes.items ++ bytes.now)) }
+{
+    let Begun {
+        bytes: mut line,
+        mut number,
+    } = begun;
+    do_lines(machine, alloc, writer, &mut line, &mut number, bytes)?;
+    Ok(Begun {
+        bytes: line,
+        number,
+    })
+}
+
+// Takes bytes that were read: `begun` are those of the line that hasn't ended, and `number` is its number. The last number
+// is that of no line, so bytes behind the lines that can be counted are those of an input that is too long.
+fn do_lines<P: Playable, A: Allocator + Copy, W: Write>(
+    machine: &mut P,
+    alloc: A,
+    writer: &mut W,
+    begun: &mut Vec<u8, A>,
+    number: &mut u64,
+    bytes: &[u8],
+) -> Result<(), PlayError>
+    requires unended { has_no_feed begun.old.items ≡ true }
+    requires numbered { IsNumbered number.old begun.old.items }
+    ensures { Fed (P.state machine.old) (P.state machine.new) (W.contents writer.old) (W.contents writer.new) number.old number.new (begun.old.items ++ bytes.now) begun.new.items result }
+{
+    let mut rest = bytes;
+    while *number < u64::MAX {
+        let Some(end) = first_feed(rest) else {
+            return keep(begun, rest);
+        };
+        end_line(machine, alloc, writer, begun, *number, &rest[..end])?;
+        *number += 1;
+        rest = &rest[end + 1..];
+    }
+    if rest.is_empty() {
+        Ok(())
+    } else {
+        Err(PlayError::Read)
+    }
+}
+
+#[inline(always)]
+fn first_feed(bytes: &[u8]) -> Option<usize>
+    ensures { result ≡ position (λ c. c == feed) bytes.now }
+{
+    memchr(b'\n', bytes)
+}
+
+fn keep<A: Allocator>(begun: &mut Vec<u8, A>, bytes: &[u8]) -> Result<(), PlayError>
+    ensures { Kept begun.old.items begun.new.items bytes.now result }
+{
+    begun
+        .extend_from_slice(bytes)
+        .map_err(|_| PlayError::NoMemory)
+}
+
+// Does the line that begins with `begun` and ends with `piece`. A line that lies in one block isn't copied.
+fn end_line<P: Playable, A: Allocator + Copy, W: Write>(
+    machine: &mut P,
+    alloc: A,
+    writer: &mut W,
+    begun: &mut Vec<u8, A>,
+    number: u64,
+    piece: &[u8],
+) -> Result<(), PlayError>
+    ensures line { LineEnded (P.state machine.old) (P.state machine.new) (W.contents writer.old) (W.contents writer.new) number (begun.old.items ++ piece.now) result }
+    ensures none_begun { OnOk result (begun.new.items ≡ []) }
+{
+    if begun.is_empty() {
+        return do_line(machine, alloc, writer, number, piece);
+    }
+    keep(begun, piece)?;
+    do_line(machine, alloc, writer, number, begun)?;
+    begun.clear();
+    Ok(())
+}
+
+// Does a line, and writes its text. The commands that most lines have are told by their bytes, and each is done where it
+// was read.
+fn do_line<P: Playable, A: Allocator + Copy, W: Write>(
+    machine: &mut P,
+    alloc: A,
+    writer: &mut W,
+    number: u64,
+    bytes: &[u8],
+) -> Result<(), PlayError>
+    ensures { LineDone (P.state machine.old) (P.state machine.new) (W.contents writer.old) (W.contents writer.new) number bytes.now result }
+{
+    match bytes {
+        [] | [b'#', ..] => Ok(()),
+        [b'c', b'a', b'l', b'l', b' ', words @ ..] => do_call(machine, writer, number, words),
+        [b'l', b'o', b'a', b'd', b' ', words @ ..] => do_load(machine, writer, number, words),
+        [b's', b't', b'o', b'r', b'e', b' ', words @ ..] => {
+            do_store(machine, writer, number, words)
+        }
+        _ => do_other(machine, alloc, writer, number, bytes),
+    }
+}
+
+// Does a call, by the words behind its name.
+#[inline(always)]
+fn do_call<P: Playable, W: Write>(
+    machine: &mut P,
+    writer: &mut W,
+    number: u64,
+    words: &[u8],
+) -> Result<(), PlayError>
+    ensures { LineDone (P.state machine.old) (P.state machine.new) (W.contents writer.old) (W.contents writer.new) number (codes "call " ++ words.now) result }
+{
+    let mut x = [0; 8];
+    if line::registers(words, &mut x) {
+        operate(machine, writer, &Op::Call(x))
+    } else {
+        Err(PlayError::BadLine(number))
+    }
+}
+
+// Does a load, alike.
+#[inline(always)]
+fn do_load<P: Playable, W: Write>(
+    machine: &mut P,
+    writer: &mut W,
+    number: u64,
+    words: &[u8],
+) -> Result<(), PlayError>
+    ensures { LineDone (P.state machine.old) (P.state machine.new) (W.contents writer.old) (W.contents writer.new) number (codes "load " ++ words.now) result }
+{
+    match line::load(words) {
+        Some((addr, size)) => operate(machine, writer, &Op::Load { addr, size }),
+        None => Err(PlayError::BadLine(number)),
+    }
+}
+
+// Does a store, alike.
+#[inline(always)]
+fn do_store<P: Playable, W: Write>(
+    machine: &mut P,
+    writer: &mut W,
+    number: u64,
+    words: &[u8],
+) -> Result<(), PlayError>
+    ensures { LineDone (P.state machine.old) (P.state machine.new) (W.contents writer.old) (W.contents writer.new) number (codes "store " ++ words.now) result }
+{
+    match line::store(words) {
+        Some((addr, size, value)) => operate(machine, writer, &Op::Store { addr, size, value }),
+        None => Err(PlayError::BadLine(number)),
+    }
+}
+
+// Does a line of another command, of which a trace has few.
+#[inline(never)]
+fn do_other<P: Playable, A: Allocator + Copy, W: Write>(
+    machine: &mut P,
+    alloc: A,
+    writer: &mut W,
+    number: u64,
+    bytes: &[u8],
+) -> Result<(), PlayError>
+    ensures { LineDone (P.state machine.old) (P.state machine.new) (W.contents writer.old) (W.contents writer.new) number bytes.now result }
+{
+    match Line::read(bytes) {
+        Some(line) => {
+            answer(machine, alloc, writer, &line)?;
+            Ok(())
+        }
+        None => Err(PlayError::BadLine(number)),
+    }
+}
+
+// Does a line that was read, and writes its text. It answers what came of the operation that the line is.
+fn answer<P: Playable, A: Allocator + Copy, W: Write>(
+    machine: &mut P,
+    alloc: A,
+    writer: &mut W,
+    line: &Line,
+) -> Result<Option<Outcome>, PlayError>
+    ensures { Answered (P.state machine.old) (P.state machine.new) (W.contents writer.old) (W.contents writer.new) (meant line.now) result }
+{
+    match *line {
+        Line::Operation(op) => {
+            let outcome = machine.op(&op);
+            write_outcome(writer, &op, &outcome)?;
+            Ok(Some(outcome))
+        }
+        Line::Show => show::write_show(machine, writer).map(|()| None),
+        Line::Audit => certificate::write_audit(machine, alloc, writer).map(|()| None),
+        Line::Nothing => Ok(None),
+    }
+}
+
+// Does an operation, and writes what comes of it.
+#[inline(always)]
+fn operate<P: Playable, W: Write>(machine: &mut P, writer: &mut W, op: &Op) -> Result<(), PlayError>
+    ensures state { P.state machine.new ≡ (step (P.state machine.old) op.now).state }
+    ensures text { Writes (W.contents writer.old) (W.contents writer.new) (outcome_text op.now (step (P.state machine.old) op.now).outcome) result }
+{
+    let outcome = machine.op(op);
+    write_outcome(writer, op, &outcome)
+}
+
+// Writes what an operation with this outcome prints. It is inlined, though plays on machines of four kinds call it.
+#[inline(always)]
+#[tactic(auto, unfolding(play_syntax::specs::TraceText::outcome_words))]
+fn write_outcome<W: Write>(writer: &mut W, op: &Op, outcome: &Outcome) -> Result<(), PlayError>
+    ensures { Writes (W.contents writer.old) (W.contents writer.new) (outcome_text op.now outcome.now) result }
+{
+    match outcome {
+        Outcome::Done => output::write_text(writer, b"done\n"),
+        Outcome::Data(value) => write_data(writer, op, *value),
+        Outcome::Regs { runner, x } => write_registers(writer, runner.0, x),
+        Outcome::Fault(fault) => output::write_text(writer, text::fault_line(*fault)),
+    }
+}
+
+// Writes data that an operation read, alike.
+#[inline(always)]
+#[tactic(auto, unfolding(play_syntax::specs::TraceText::outcome_words))]
+fn write_data<W: Write>(writer: &mut W, op: &Op, value: u64) -> Result<(), PlayError>
+    ensures { Writes (W.contents writer.old) (W.contents writer.new) (outcome_text op.now (Outcome.Data value)) result }
+{
+    match op {
+        Op::Call(_) => output::write_text(writer, b"data \n"),
+        Op::Load { size, .. } | Op::Store { size, .. } => write_bytes(writer, *size, value),
+        Op::Fetch { .. } => write_bytes(writer, Size::B4, value),
+    }
+}
+
+// Writes the line of data of one size.
+fn write_bytes<W: Write>(writer: &mut W, size: Size, value: u64) -> Result<(), PlayError>
+    ensures { Writes (W.contents writer.old) (W.contents writer.new) (ended (codes "data" ++ spaced (hex (2 * size_of size) value))) result }
+{
+    match size {
+        Size::B1 => output::write_text(writer, &text::byte_line(value)),
+        Size::B2 => output::write_text(writer, &text::two_byte_line(value)),
+        Size::B4 => output::write_text(writer, &text::four_byte_line(value)),
+        Size::B8 => output::write_text(writer, &text::eight_byte_line(value)),
+    }
+}
+
+// Writes the line of the runner and its registers. It stands alone, so that other lines have no room for it.
+#[inline(never)]
+fn write_registers<W: Write>(writer: &mut W, runner: u16, x: &[u64; 8]) -> Result<(), PlayError>
+    ensures { Writes (W.contents writer.old) (W.contents writer.new) (ended (codes "regs" ++ spaced (hex 4 runner) ++ flat_map (λ v. spaced (hex 16 v)) x.now)) result }
+{
+    let mut line = [0; text::REGISTERS];
+    text::put_registers(&mut line, runner, x);
+    output::write_text(writer, &line)
+}

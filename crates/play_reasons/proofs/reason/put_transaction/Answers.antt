@@ -1,0 +1,10 @@
+-- SPDX-License-Identifier: MIT OR Apache-2.0
+use Rattle.std.specs.Prelude.{codes}
+use Rattle.play_syntax.specs.TraceText.{hex}
+use Rattle.play_reasons.specs.Reasons.{transaction_text}
+use Rattle.play_reasons.proofs.PutWords.{put_behind}
+use Rattle.play_reasons.proofs.reason.put_transaction.Goals as goal
+
+pub returns-clause-written : goal.returns-clause-written
+unfolding transaction_text
+returns-clause-written g c = put_behind c.put_digits.result c.args.text.now.items _ c.put_digits.new.text.items (codes " is in the open transaction ") (hex 16 c.args.handle) c.in_ok-put.ensures.written c.put_digits.ensures.written

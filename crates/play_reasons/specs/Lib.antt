@@ -1,0 +1,7 @@
+-- SPDX-License-Identifier: MIT OR Apache-2.0
+pub mod Checks
+pub mod FlawWords
+pub mod Words
+pub mod Marks
+pub mod Reasons
+pub mod Whole

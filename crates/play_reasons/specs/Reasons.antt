@@ -1,0 +1,182 @@
+-- SPDX-License-Identifier: MIT OR Apache-2.0
+-- The line that says why an operation is refused.
+use Rattle.std.specs.Prelude.{ℕ, ◌+◌, ◌-◌, ◌*◌, ◌^◌, nat_le, nat_lt, Bool, List, [], ◌++◌, codes, decimal, Option, None, Some, if◌then◌else◌}
+use Rattle.std.specs.Option.{option_map_or}
+use Rattle.ffa_model.specs.declared.flaw.FieldPlace.{FieldPlace}
+use Rattle.ffa_model.specs.declared.flaw.Flaw.{Flaw}
+use Rattle.ffa_model.specs.declared.flaw.Flaw.TheVariants.{Access, Range}
+use Rattle.ffa_model.specs.declared.operation.FaultKind.{FaultKind}
+use Rattle.ffa_model.specs.declared.operation.FaultKind.TheVariants.{Translation, Permission, Alignment, AccessFlag, OutsideRam}
+use Rattle.ffa_model.specs.declared.operation.Op.{Op}
+use Rattle.ffa_model.specs.declared.operation.Op.TheVariants.{Call, Load, Store, Fetch}
+use Rattle.ffa_model.specs.declared.refusal.Refusal.{Refusal}
+use Rattle.ffa_model.specs.declared.why.About.{About}
+use Rattle.ffa_model.specs.declared.why.About.TheVariants.{Page, Endpoint, Handle, Register, Bit, Field}
+use Rattle.ffa_model.specs.declared.why.Obstacle.{Obstacle}
+use Rattle.ffa_model.specs.declared.why.Obstacle.TheVariants as obstacles
+use Rattle.ffa_model.specs.declared.why.Why.{Why}
+use Rattle.ffa_model.specs.declared.why.Why.TheVariants.{Refused, Fault}
+use Rattle.ffa_model.specs.Registers.{decode}
+use Rattle.ffa_model.specs.State.{State}
+use Rattle.play_syntax.specs.TraceLines.{Line, operate, show, audit, skip, line_of}
+use Rattle.play_syntax.specs.TraceText.{bytes_moved, ended, hex}
+use Rattle.ffa_model.specs.Why.{why}
+use Rattle.ffa_abi.specs.Names.{call_name_of}
+use Rattle.ffa_abi.specs.Widths.{is_read_whole}
+use Rattle.play_reasons.specs.Checks.{number_of}
+use Rattle.play_reasons.specs.FlawWords.{flaw_words_of}
+use Rattle.play_reasons.specs.Words.{words_of}
+use Rattle.play_reasons.specs.declared.reason.Reason.{Reason}
+
+-- each such line begins so
+abbrev pub reason_mark : List ℕ
+reason_mark = codes "# refused: "
+
+-- OF A CALL: its name, the number of the check that fails, and what that finds
+
+abbrev pub name_text : Option (List ℕ) → List ℕ
+name_text name = option_map_or (λ n. n ++ codes " ") name []
+
+abbrev pub number_text : Option ℕ → List ℕ
+number_text number = option_map_or (λ n. codes "check " ++ decimal n ++ codes ": ") number []
+
+unfoldable pub check_text : List ℕ → Refusal → List ℕ
+check_text x refusal = name_text (call_name_of x) ++ number_text (number_of (decode x) refusal)
+
+abbrev pub call_text : Op → Refusal → List ℕ
+call_text (Call x) refusal = check_text x refusal
+call_text (Load address size) refusal = []
+call_text (Store address size value) refusal = []
+call_text (Fetch address) refusal = []
+
+-- OF AN ACCESS: its address, and what is so of it
+
+abbrev pub address_of : Op → ℕ
+address_of (Call x) = 0
+address_of (Load address size) = address
+address_of (Store address size value) = address
+address_of (Fetch address) = address
+
+-- in 16 digits where 8 are too few
+abbrev pub address_digits : ℕ → ℕ
+address_digits address = if nat_lt address (2 ^ 32) then 8 else 16
+
+abbrev pub address_text : ℕ → List ℕ
+address_text address = hex (address_digits address) address
+
+unfoldable pub transaction_text : ℕ → List ℕ
+transaction_text handle = codes " is in the open transaction " ++ hex 16 handle
+
+abbrev pub obstacle_text : Option Obstacle → List ℕ
+obstacle_text None = codes " has more than 32 bits"
+obstacle_text (Some obstacles.OutsideRam) = codes " is outside RAM"
+obstacle_text (Some obstacles.ManagersPage) = codes " belongs to the manager"
+obstacle_text (Some (obstacles.OwnedBy endpoint)) = codes " belongs to " ++ hex 4 endpoint.0
+obstacle_text (Some (obstacles.InTransaction handle)) = transaction_text handle
+
+-- what the runner has no right to do there
+abbrev pub right_text : Op → List ℕ
+right_text (Call x) = []
+right_text (Load address size) = codes " may not be read"
+right_text (Store address size value) = codes " may not be written"
+right_text (Fetch address) = codes " may not be executed"
+
+abbrev pub fault_text : Op → FaultKind → Option Obstacle → List ℕ
+fault_text op Translation obstacle = obstacle_text obstacle
+fault_text op Permission obstacle = right_text op
+fault_text op Alignment obstacle = codes " is no multiple of " ++ hex 1 (bytes_moved op)
+fault_text op AccessFlag obstacle = codes " has no access flag"
+fault_text op OutsideRam obstacle = codes " leads out of RAM"
+
+-- OF WHAT A CHECK IS ABOUT, in RAM that begins at a base
+
+abbrev pub page_address : ℕ → ℕ → ℕ
+page_address base page = base + 4096 * page
+
+abbrev pub page_text : ℕ → ℕ → Option Obstacle → List ℕ
+page_text base page None = address_text (page_address base page)
+page_text base page (Some obstacle) = address_text (page_address base page) ++ obstacle_text (Some obstacle)
+
+unfoldable pub named_text : ℕ → List ℕ
+named_text endpoint = codes "endpoint " ++ hex 4 endpoint
+
+unfoldable pub handle_text : ℕ → List ℕ
+handle_text handle = codes "handle " ++ hex 16 handle
+
+-- x before a register that the call reads whole, and else w
+abbrev pub letter_text : Op → ℕ → List ℕ
+letter_text (Call x) register = if is_read_whole x register then codes "x" else codes "w"
+letter_text (Load address size) register = codes "w"
+letter_text (Store address size value) register = codes "w"
+letter_text (Fetch address) register = codes "w"
+
+unfoldable pub register_text : Op → ℕ → ℕ → List ℕ
+register_text op register value = letter_text op register ++ decimal register ++ codes " is " ++ address_text value
+
+abbrev pub bit_text : ℕ → List ℕ
+bit_text number = codes "bit " ++ decimal number
+
+-- which access descriptor, or which range
+abbrev pub index_text : Flaw → List ℕ
+index_text (Access index flaw) = codes "access descriptor " ++ decimal index ++ codes ": "
+index_text (Range index flaw) = codes "range " ++ decimal index ++ codes ": "
+index_text flaw = []
+
+-- its first byte and its last
+abbrev pub place_text : ℕ → ℕ → List ℕ
+place_text first size =
+    if nat_le size 1 then codes "byte " ++ decimal first
+    else codes "bytes " ++ decimal first ++ codes " to " ++ decimal (first + (size - 1))
+
+abbrev pub verb_text : ℕ → List ℕ
+verb_text size = if nat_le size 1 then codes " is " else codes " are "
+
+-- two for each byte, of eight at most
+abbrev pub field_digits : ℕ → ℕ
+field_digits size = if nat_le size 8 then 2 * size else 16
+
+abbrev pub value_text : ℕ → Option ℕ → List ℕ
+value_text size value = option_map_or (λ v. verb_text size ++ hex (field_digits size) v) value []
+
+-- the condition that the descriptor breaks, the field of which it speaks, and the number in that
+unfoldable pub field_text : Flaw → FieldPlace → Option ℕ → List ℕ
+field_text flaw place value =
+    index_text flaw ++ flaw_words_of flaw ++ codes ": " ++ place_text place.first place.size ++ value_text place.size value
+
+abbrev pub subject_text : ℕ → Op → About → List ℕ
+subject_text base op (Page page obstacle) = page_text base page.0 obstacle
+subject_text base op (Endpoint endpoint) = named_text endpoint.0
+subject_text base op (Handle handle) = handle_text handle
+subject_text base op (Register register value) = register_text op register value
+subject_text base op (Bit number) = bit_text number
+subject_text base op (Field flaw place value) = field_text flaw place value
+
+abbrev pub about_text : ℕ → Op → Option About → List ℕ
+about_text base op about = option_map_or (λ its. codes ": " ++ subject_text base op its) about []
+
+-- OF ANY OPERATION
+
+abbrev pub why_text : ℕ → Op → Why → List ℕ
+why_text base op (Refused refusal about) = call_text op refusal ++ words_of refusal ++ about_text base op about
+why_text base op (Fault kind obstacle) = address_text (address_of op) ++ fault_text op kind obstacle
+
+unfoldable pub reason_line : ℕ → Op → Why → List ℕ
+reason_line base op reason = ended (reason_mark ++ why_text base op reason)
+
+-- what stands under the text of a line, where it is an operation that is refused in this state
+abbrev pub reason_text : State → Line → List ℕ
+reason_text s (operate op) = option_map_or (reason_line s.ram_base op) (why s op) []
+reason_text s show = []
+reason_text s audit = []
+reason_text s skip = []
+
+-- where that is asked for
+abbrev pub reason_if : Bool → State → Line → List ℕ
+reason_if explain s line = if explain then reason_text s line else []
+
+abbrev pub reason_of_bytes : Bool → State → List ℕ → List ℕ
+reason_of_bytes explain s bytes = option_map_or (reason_if explain s) (line_of bytes) []
+
+-- the line of a reason that is told, if one is
+abbrev pub told_line : Option Reason → List ℕ
+told_line reason = option_map_or (λ (r : Reason). reason_line r.base.0 r.op r.why) reason []

@@ -1,0 +1,208 @@
+// SPDX-License-Identifier: MIT OR Apache-2.0
+//! Why the bytes of a line are none of the format.
+ghost use Rattle.std.specs.Prelude.{IsNone, ◌↔◌};
+ghost use Rattle.play_reasons.specs.Whole.{IsWhole};
+
+use play_syntax::Line;
+use std::fmt;
+
+/// What is wrong first with a line of a trace. It prints as one line.
+#[derive(Clone, Copy, Debug, PartialEq, Eq)]
+pub enum LineFault {
+    /// No LF ends the line.
+    NoEnd,
+    /// A CR stands before the LF.
+    CarriageReturn,
+    /// The words at this column are wrong, where the first byte of the line has column 1. A word that is missing would
+    /// stand behind the line's last byte.
+    Words { column: usize, cause: WordFault },
+    /// The line is wrong as a whole.
+    Whole,
+}
+
+/// What is wrong with the words of a line.
+#[derive(Clone, Copy, Debug, PartialEq, Eq)]
+pub enum WordFault {
+    /// Two spaces follow one another, or a space begins or ends the line.
+    Empty,
+    /// The first word is no command.
+    UnknownCommand,
+    /// A number is wanted, and a byte of the word is no hexadecimal digit.
+    NoNumber,
+    /// The number has more than 16 digits.
+    LongNumber,
+    /// The bytes to load are none of 1, 2, 4 and 8.
+    Size,
+    /// So many digits write the value to store, which are none of 2, 4, 8 and 16.
+    Digits(usize),
+    /// A call has so many registers, which are none of 1 to 8.
+    Registers(usize),
+    /// The command wants a word more.
+    Missing,
+    /// The command wants no such word.
+    TooMany,
+}
+
+/// Says what is wrong first with a line as it stands in a trace, with the LF that ends it where there is one. Words are
+/// read from the left, and that some are missing, or are too many registers, comes behind what is wrong with one of them.
+pub fn line_fault(bytes: &[u8]) -> Option<LineFault>
+    ensures { IsNone result ↔ IsWhole bytes.now }
+{
+    let Some(line) = bytes.strip_suffix(b"\n") else {
+        return Some(LineFault::NoEnd);
+    };
+    match Line::read(line) {
+        Some(_) => None,
+        None if line.ends_with(b"\r") => Some(LineFault::CarriageReturn),
+        None => Some(words_fault(line)),
+    }
+}
+
+#[derive(Clone, Copy)]
+enum Command {
+    Call,
+    Load,
+    Store,
+    Fetch,
+    // `show` or `audit`.
+    Bare,
+}
+
+// What is wrong with the words of a line that isn't taken.
+fn words_fault(line: &[u8]) -> LineFault {
+    let mut words = line.split(|b| *b == b' ');
+    let name = words.next().unwrap_or(line);
+    let Some(command) = command_named(name) else {
+        let cause = name_fault(name);
+        return LineFault::Words { column: 1, cause };
+    };
+    let mut column = usize::saturating_add(name.len(), 2);
+    let (mut count, mut ninth) = (0, column);
+    for word in words {
+        count = usize::saturating_add(count, 1);
+        if count == 9 {
+            ninth = column;
+        }
+        if let Some(cause) = word_fault(command, count, word) {
+            return LineFault::Words { column, cause };
+        }
+        column = usize::saturating_add(column, usize::saturating_add(word.len(), 1));
+    }
+    count_fault(command, count, ninth, line.len())
+}
+
+fn command_named(name: &[u8]) -> Option<Command> {
+    match name {
+        b"call" => Some(Command::Call),
+        b"load" => Some(Command::Load),
+        b"store" => Some(Command::Store),
+        b"fetch" => Some(Command::Fetch),
+        b"show" | b"audit" => Some(Command::Bare),
+        _ => None,
+    }
+}
+
+fn name_fault(name: &[u8]) -> WordFault {
+    if name.is_empty() {
+        WordFault::Empty
+    } else {
+        WordFault::UnknownCommand
+    }
+}
+
+// What is wrong with the word at this place behind a command, where the first has place 1.
+fn word_fault(command: Command, place: usize, word: &[u8]) -> Option<WordFault> {
+    if word.is_empty() {
+        return Some(WordFault::Empty);
+    }
+    match (command, place) {
+        (Command::Load, 2) => size_fault(word),
+        (Command::Store, 2) => value_fault(word),
+        (Command::Call, _) | (Command::Load | Command::Store | Command::Fetch, 1) => {
+            number_fault(word)
+        }
+        (_, _) => Some(WordFault::TooMany),
+    }
+}
+
+fn number_fault(word: &[u8]) -> Option<WordFault> {
+    if !word.iter().all(u8::is_ascii_hexdigit) {
+        Some(WordFault::NoNumber)
+    } else if word.len() > 16 {
+        Some(WordFault::LongNumber)
+    } else {
+        None
+    }
+}
+
+fn size_fault(word: &[u8]) -> Option<WordFault> {
+    match word {
+        b"1" | b"2" | b"4" | b"8" => None,
+        _ => Some(WordFault::Size),
+    }
+}
+
+fn value_fault(word: &[u8]) -> Option<WordFault> {
+    if !word.iter().all(u8::is_ascii_hexdigit) {
+        return Some(WordFault::NoNumber);
+    }
+    match word.len() {
+        2 | 4 | 8 | 16 => None,
+        digits => Some(WordFault::Digits(digits)),
+    }
+}
+
+// What is wrong with a line of so many bytes, with so many words behind the command, of which each is as it should be. The
+// ninth word stands at this column.
+fn count_fault(command: Command, count: usize, ninth: usize, bytes: usize) -> LineFault {
+    match command {
+        Command::Call => LineFault::Words {
+            column: if count == 0 {
+                usize::saturating_add(bytes, 1)
+            } else {
+                ninth
+            },
+            cause: WordFault::Registers(count),
+        },
+        Command::Load | Command::Store | Command::Fetch => LineFault::Words {
+            column: usize::saturating_add(bytes, 1),
+            cause: WordFault::Missing,
+        },
+        Command::Bare => LineFault::Whole,
+    }
+}
+
+impl fmt::Display for LineFault {
+    fn fmt<W: fmt::Write>(&self, f: &mut fmt::Formatter<W>) -> fmt::Result {
+        let words = match self {
+            LineFault::NoEnd => "no line end",
+            LineFault::CarriageReturn => "a CR before the line's end",
+            LineFault::Words { column, cause } => return write!(f, "column {column}: {cause}"),
+            LineFault::Whole => "no line of a trace",
+        };
+        f.write_str(words)
+    }
+}
+
+impl fmt::Display for WordFault {
+    fn fmt<W: fmt::Write>(&self, f: &mut fmt::Formatter<W>) -> fmt::Result {
+        let words = match self {
+            WordFault::Empty => "an empty word",
+            WordFault::UnknownCommand => "an unknown command",
+            WordFault::NoNumber => "no hexadecimal number",
+            WordFault::LongNumber => "a number of more than 16 digits",
+            WordFault::Size => "a size that is none of 1, 2, 4 and 8",
+            WordFault::Digits(1) => "a value of 1 digit, which is none of 2, 4, 8 and 16",
+            WordFault::Digits(digits) => {
+                return write!(
+                    f,
+                    "a value of {digits} digits, which are none of 2, 4, 8 and 16"
+                );
+            }
+            WordFault::Registers(count) => return write!(f, "{count} registers"),
+            WordFault::Missing => "a word is missing",
+            WordFault::TooMany => "a word too many",
+        };
+        f.write_str(words)
+    }
+}

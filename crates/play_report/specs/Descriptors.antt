@@ -1,0 +1,39 @@
+-- SPDX-License-Identifier: MIT OR Apache-2.0
+-- What printing a descriptor leaves.
+use Rattle.std.specs.Prelude.{◌≡◌, ℕ, List, [], Option, Some, Ok, Err, ⊤}
+use Rattle.std.specs.Io.KnownBytes.{Appends, Keeps}
+use Rattle.play_writer.specs.declared.unfit.Unfit.{Unfit}
+use Rattle.play_writer.specs.Written.{GrowsByDescriptor, unfit_of}
+use Rattle.play_arguments.specs.Commands.{words_of}
+use Rattle.play_arguments.specs.declared.command_line.DescriptorWords.{DescriptorWords}
+use Rattle.play_descriptor.specs.Told.{told}
+use Rattle.play_descriptor.specs.declared.fault.WordsFault.{WordsFault}
+use Rattle.play_descriptor.specs.declared.told.Told.{Told}
+use Rattle.play_report.specs.declared.failure.Failure.{Failure}
+use Rattle.play_report.specs.declared.failure.Failure.TheVariants as failure
+
+-- the lines that write what these words say into TX, and make its call
+abbrev pub IsSaid : DescriptorWords → (held holds : Option (List ℕ)) → Type 0
+IsSaid words held holds =
+    (said : Told) × (told (words_of words) ≡ Ok said) × ((text : List ℕ) × GrowsByDescriptor said.version said.descriptor said.tx.0 [] text × Appends held holds text)
+
+-- the words can't be read, for this fault
+abbrev pub IsMisread : DescriptorWords → WordsFault → Type 0
+IsMisread words fault = told (words_of words) ≡ Err fault
+
+-- no bytes are a descriptor that says what the words do: this condition is the first that it breaks
+abbrev pub IsUnfit : DescriptorWords → Unfit → Type 0
+IsUnfit words cause = (said : Told) × (told (words_of words) ≡ Ok said) × (unfit_of said.descriptor ≡ Some cause)
+
+-- a descriptor isn't printed: its words say none, or no bytes say what they do, and then nothing was written, or the output can't be
+-- written, or there is no memory
+abbrev pub FailsToSay : DescriptorWords → (held holds : Option (List ℕ)) → Failure → Type 0
+FailsToSay words held holds (failure.Words fault) = IsMisread words fault × Keeps held holds
+FailsToSay words held holds (failure.Unfit cause) = IsUnfit words cause × Keeps held holds
+FailsToSay words held holds failure.Write = ⊤
+FailsToSay words held holds failure.NoMemory = ⊤
+FailsToSay words held holds (failure.Manifest cause) = ⊥
+FailsToSay words held holds (failure.BadLine n fault) = ⊥
+FailsToSay words held holds (failure.Read path) = ⊥
+FailsToSay words held holds failure.Differs = ⊥
+FailsToSay words held holds (failure.Unmet n) = ⊥

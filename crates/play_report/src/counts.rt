@@ -1,0 +1,24 @@
+// SPDX-License-Identifier: MIT OR Apache-2.0
+//! What came of a trace that was made up.
+ghost use Rattle.std.specs.Prelude.{IfErr};
+ghost use Rattle.play_report.specs.Failures.{IsShort};
+
+use crate::failure::Failure;
+use crate::output::write;
+use play_transcript::Counts;
+use std::alloc::Allocator;
+use std::io::Write;
+
+/// Prints how often each call and access of a trace ended in which way.
+pub fn print_counts<A: Allocator, W: Write>(
+    alloc: A,
+    counts: &Counts,
+    out: &mut W,
+) -> Result<(), Failure<'static>>
+    ensures { IfErr result IsShort }
+{
+    let mut text = Vec::new(alloc);
+    // A text in memory takes all that there is memory for.
+    write!(text, "{counts}").map_err(|_| Failure::NoMemory)?;
+    write(out, &text)
+}

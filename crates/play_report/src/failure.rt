@@ -1,0 +1,78 @@
+// SPDX-License-Identifier: MIT OR Apache-2.0
+//! Why a command isn't done.
+ghost use Rattle.std.specs.Prelude.{◌≡◌};
+ghost use Rattle.play_report.specs.Failures.{StopsFor, failure_of, status_of};
+
+use ffa_manifest::ManifestError;
+use play_descriptor::WordsFault;
+use play_reasons::{LineFault, line_fault};
+use play_syntax::PlayError;
+use play_writer::Unfit;
+use thiserror::Error;
+
+/// Why a command isn't done.
+#[derive(Clone, Copy, Debug, PartialEq, Eq, Error)]
+pub enum Failure<'a> {
+    /// The manifest is refused.
+    #[error("manifest: {0}")]
+    Manifest(ManifestError),
+    /// The line of this number, counted from 1, is none of a trace. What is wrong with it is told where it was looked for.
+    #[error("line {0}: bad line")]
+    BadLine(u64, Option<LineFault>),
+    /// The file at this path can't be read.
+    #[error("cannot read {0}")]
+    Read(&'a str),
+    /// The output can't be written.
+    #[error("cannot write")]
+    Write,
+    /// There is no memory.
+    #[error("no memory")]
+    NoMemory,
+    /// A trace prints another text than is expected, which the output has told.
+    #[error("another text than expected")]
+    Differs,
+    /// The guard in the line of this number, counted from 1, isn't met.
+    #[error("line {0}: a guard isn't met")]
+    Unmet(u64),
+    /// The words of a descriptor say none.
+    #[error("descriptor: {0}")]
+    Words(WordsFault),
+    /// No bytes are a descriptor that says what the words do.
+    #[error("descriptor: {0}")]
+    Unfit(Unfit),
+}
+
+impl<'a> Failure<'a> {
+    /// The status with which the program ends.
+    pub fn status(&self) -> u8
+        ensures { result ≡ status_of self.now }
+    {
+        match self {
+            Failure::Manifest(_) => 1,
+            Failure::BadLine(..) => 2,
+            Failure::Read(_) | Failure::Write | Failure::NoMemory => 3,
+            Failure::Differs => 4,
+            Failure::Unmet(_) => 5,
+            Failure::Words(_) | Failure::Unfit(_) => 64,
+        }
+    }
+
+    /// Why a play of the trace at this path stopped, where this is wrong with the line at which it did.
+    pub fn of_play(path: &'a str, error: PlayError, fault: Option<LineFault>) -> Failure<'a>
+        ensures { result ≡ failure_of (Failure.Read path.entry) fault error }
+    {
+        match error {
+            PlayError::Read => Failure::Read(path),
+            PlayError::Write => Failure::Write,
+            PlayError::NoMemory => Failure::NoMemory,
+            PlayError::BadLine(number) => Failure::BadLine(number, fault),
+        }
+    }
+
+    /// The same, where these are the bytes of the line at which it did.
+    pub fn of_line(path: &'a str, error: PlayError, line: &[u8]) -> Failure<'a>
+        ensures { StopsFor (Failure.Read path.entry) error result }
+    {
+        Failure::of_play(path, error, line_fault(line))
+    }
+}

@@ -1,0 +1,21 @@
+// SPDX-License-Identifier: MIT OR Apache-2.0
+//! The text of a picture.
+ghost use Rattle.std.specs.Prelude.{◌≡◌, IfErr};
+
+use crate::failure::Failure;
+use play_drawing::{Picture, write_svg};
+use std::alloc::Allocator;
+use std::io::Write;
+
+/// Prints a picture.
+pub fn print_picture<A: Allocator, W: Write>(
+    picture: &Picture<A>,
+    out: &mut W,
+) -> Result<(), Failure<'static>>
+    ensures { IfErr result (λ failure. failure ≡ Failure.Write) }
+{
+    match write_svg(picture, out) {
+        Ok(()) => Ok(()),
+        Err(_) => Err(Failure::Write),
+    }
+}

@@ -1,0 +1,224 @@
+// SPDX-License-Identifier: MIT OR Apache-2.0
+//! The words of a trace's lines. Each function is inlined, though plays on machines of four kinds call it.
+ghost use Rattle.std.specs.Prelude.{◌≡◌, ◌<◌, ◌≤◌, ◌+◌, ◌*◌, ◌^◌, length, replicate, Some, None, option_map, if◌then◌else◌};
+ghost use Rattle.ffa_model.specs.declared.operation.Op.TheVariants.{Call, Load, Store, Fetch};
+ghost use Rattle.play_syntax.specs.TraceLines.{operate, size_named, size_written, call_of, load_of, store_of, fetch_of, words_of};
+ghost use Rattle.play_syntax.specs.Parsed.{AreDigits, GoesOn, IsFront, IsStored, value_at, value_of};
+
+use ffa_model::Size;
+
+// What the first word of some bytes is.
+#[derive(Clone, Copy)]
+enum Front<'a> {
+    // A number, and no other word follows.
+    Last(u64),
+    // A number, and what stands behind the space after it.
+    More(u64, &'a [u8]),
+    // No number.
+    Other,
+}
+
+// Reads the first word as a number, of which four digits are taken at a time.
+#[inline(always)]
+fn read_front(bytes: &[u8]) -> Front<'_>
+    ensures { IsFront bytes.now result }
+{
+    let mut number = 0;
+    let mut end = 0;
+    while end <= 12 {
+        if bytes.len() - end < 4 {
+            break;
+        }
+        let four = four_or_more(bytes, end);
+        if four >= 0x1_0000 {
+            break;
+        }
+        number = 0x1_0000 * number + four;
+        end += 4;
+        if end == bytes.len() {
+            return Front::Last(number);
+        }
+        if bytes[end] == b' ' {
+            return Front::More(number, &bytes[end + 1..]);
+        }
+    }
+    read_on(bytes, number, end)
+}
+
+// Reads on, digit by digit, where so many bytes at the front are the digits of this number.
+#[inline(always)]
+fn read_on(bytes: &[u8], number: u64, end: usize) -> Front<'_>
+    requires digits { AreDigits bytes.now number end }
+    requires few { end ≤ 16 }
+    requires more { GoesOn bytes.now end }
+    ensures { IsFront bytes.now result }
+{
+    if end == bytes.len() {
+        return Front::Other;
+    }
+    let mut number = number;
+    let mut end = end;
+    while end < 16 {
+        let value = value_or_more(bytes[end]);
+        if value >= NO_DIGIT {
+            break;
+        }
+        number = 16 * number + value;
+        end += 1;
+        if end == bytes.len() {
+            return Front::Last(number);
+        }
+        if bytes[end] == b' ' {
+            return Front::More(number, &bytes[end + 1..]);
+        }
+    }
+    Front::Other
+}
+
+// The number that four bytes write as digits. It is too large for four digits where one of them is none: so one test does.
+#[inline(always)]
+fn four_or_more(bytes: &[u8], first: usize) -> u64
+    requires { first + 4 ≤ length bytes.now }
+    ensures { result ≡ 16 * (16 * (16 * value_at bytes.now first + value_at bytes.now (first + 1)) + value_at bytes.now (first + 2)) + value_at bytes.now (first + 3) }
+{
+    let a = value_or_more(bytes[first]);
+    let b = value_or_more(bytes[first + 1]);
+    let c = value_or_more(bytes[first + 2]);
+    let d = value_or_more(bytes[first + 3]);
+    16 * (16 * (16 * a + b) + c) + d
+}
+
+/// Fills in the registers that words name, or says that they name none. `x` holds zeros before.
+#[inline(always)]
+pub fn registers(words: &[u8], x: &mut [u64; 8]) -> bool
+    requires { x.old ≡ replicate 8 0 }
+    ensures { (if result then Some (operate (Call x.new)) else None) ≡ call_of (words_of words.now) }
+{
+    let mut rest = words;
+    for count in 0..8 {
+        match read_front(rest) {
+            Front::Last(number) => {
+                x[count] = number;
+                return true;
+            }
+            Front::More(number, more) => {
+                x[count] = number;
+                rest = more;
+            }
+            Front::Other => return false,
+        }
+    }
+    false
+}
+
+/// The address and the size of a load.
+#[inline(always)]
+pub fn load(words: &[u8]) -> Option<(u64, Size)>
+    ensures { option_map (λ r. operate (Load r.0 r.1)) result ≡ load_of (words_of words.now) }
+{
+    match read_front(words) {
+        Front::More(addr, rest) => Some((addr, size_named(rest)?)),
+        Front::Last(_) | Front::Other => None,
+    }
+}
+
+/// The address, the size and the value of a store.
+#[inline(always)]
+pub fn store(words: &[u8]) -> Option<(u64, Size, u64)>
+    ensures { option_map (λ r. operate (Store r.0 r.1 r.2)) result ≡ store_of (words_of words.now) }
+{
+    match read_front(words) {
+        Front::More(addr, rest) => {
+            let (size, value) = stored(rest)?;
+            Some((addr, size, value))
+        }
+        Front::Last(_) | Front::Other => None,
+    }
+}
+
+// The value that all bytes write, and its size by its digits.
+#[inline(always)]
+fn stored(word: &[u8]) -> Option<(Size, u64)>
+    ensures { IsStored word.now result }
+{
+    let size = size_written(word)?;
+    match read_front(word) {
+        Front::Last(value) => Some((size, value)),
+        Front::More(_, _) | Front::Other => None,
+    }
+}
+
+/// The address of a fetch.
+pub fn fetch(words: &[u8]) -> Option<u64>
+    ensures { option_map (λ addr. operate (Fetch addr)) result ≡ fetch_of (words_of words.now) }
+{
+    match read_front(words) {
+        Front::Last(addr) => Some(addr),
+        Front::More(_, _) | Front::Other => None,
+    }
+}
+
+// How many bytes to load.
+#[inline(always)]
+#[tactic(auto, unfolding(crate::specs::TraceLines::size_named))]
+fn size_named(word: &[u8]) -> Option<Size>
+    ensures { result ≡ size_named word.now }
+{
+    match word {
+        b"1" => Some(Size::B1),
+        b"2" => Some(Size::B2),
+        b"4" => Some(Size::B4),
+        b"8" => Some(Size::B8),
+        _ => None,
+    }
+}
+
+// How many bytes to store, by the digits of the value.
+#[inline(always)]
+#[tactic(auto, unfolding(crate::specs::TraceLines::size_written))]
+fn size_written(word: &[u8]) -> Option<Size>
+    ensures { result ≡ size_written word.now }
+{
+    match word.len() {
+        2 => Some(Size::B1),
+        4 => Some(Size::B2),
+        8 => Some(Size::B4),
+        16 => Some(Size::B8),
+        _ => None,
+    }
+}
+
+// The value of a byte as a hexadecimal digit, or `NO_DIGIT`. It's a look-up, since digits and letters follow one another
+// without rule.
+#[inline(always)]
+fn value_or_more(byte: u8) -> u64
+    ensures value { result ≡ value_of byte }
+    ensures few { result ≤ 2 ^ 32 }
+{
+    let value = DIGIT_VALUES[byte as usize];
+    value
+}
+
+// What stands in the table for a byte that is no digit: more than any four digits write.
+const NO_DIGIT: u64 = 1 << 32;
+
+// The value of each byte as a digit.
+#[rattlefmt::skip]
+static DIGIT_VALUES: [u64; 256] = [
+    NO_DIGIT, NO_DIGIT, NO_DIGIT, NO_DIGIT, NO_DIGIT, NO_DIGIT, NO_DIGIT, NO_DIGIT, NO_DIGIT, NO_DIGIT, NO_DIGIT, NO_DIGIT, NO_DIGIT, NO_DIGIT, NO_DIGIT, NO_DIGIT,
+    NO_DIGIT, NO_DIGIT, NO_DIGIT, NO_DIGIT, NO_DIGIT, NO_DIGIT, NO_DIGIT, NO_DIGIT, NO_DIGIT, NO_DIGIT, NO_DIGIT, NO_DIGIT, NO_DIGIT, NO_DIGIT, NO_DIGIT, NO_DIGIT,
+    NO_DIGIT, NO_DIGIT, NO_DIGIT, NO_DIGIT, NO_DIGIT, NO_DIGIT, NO_DIGIT, NO_DIGIT, NO_DIGIT, NO_DIGIT, NO_DIGIT, NO_DIGIT, NO_DIGIT, NO_DIGIT, NO_DIGIT, NO_DIGIT,
+    0, 1, 2, 3, 4, 5, 6, 7, 8, 9, NO_DIGIT, NO_DIGIT, NO_DIGIT, NO_DIGIT, NO_DIGIT, NO_DIGIT,
+    NO_DIGIT, 10, 11, 12, 13, 14, 15, NO_DIGIT, NO_DIGIT, NO_DIGIT, NO_DIGIT, NO_DIGIT, NO_DIGIT, NO_DIGIT, NO_DIGIT, NO_DIGIT,
+    NO_DIGIT, NO_DIGIT, NO_DIGIT, NO_DIGIT, NO_DIGIT, NO_DIGIT, NO_DIGIT, NO_DIGIT, NO_DIGIT, NO_DIGIT, NO_DIGIT, NO_DIGIT, NO_DIGIT, NO_DIGIT, NO_DIGIT, NO_DIGIT,
+    NO_DIGIT, 10, 11, 12, 13, 14, 15, NO_DIGIT, NO_DIGIT, NO_DIGIT, NO_DIGIT, NO_DIGIT, NO_DIGIT, NO_DIGIT, NO_DIGIT, NO_DIGIT,
+    NO_DIGIT, NO_DIGIT, NO_DIGIT, NO_DIGIT, NO_DIGIT, NO_DIGIT, NO_DIGIT, NO_DIGIT, NO_DIGIT, NO_DIGIT, NO_DIGIT, NO_DIGIT, NO_DIGIT, NO_DIGIT, NO_DIGIT, NO_DIGIT,
+    NO_DIGIT, NO_DIGIT, NO_DIGIT, NO_DIGIT, NO_DIGIT, NO_DIGIT, NO_DIGIT, NO_DIGIT, NO_DIGIT, NO_DIGIT, NO_DIGIT, NO_DIGIT, NO_DIGIT, NO_DIGIT, NO_DIGIT, NO_DIGIT,
+    NO_DIGIT, NO_DIGIT, NO_DIGIT, NO_DIGIT, NO_DIGIT, NO_DIGIT, NO_DIGIT, NO_DIGIT, NO_DIGIT, NO_DIGIT, NO_DIGIT, NO_DIGIT, NO_DIGIT, NO_DIGIT, NO_DIGIT, NO_DIGIT,
+    NO_DIGIT, NO_DIGIT, NO_DIGIT, NO_DIGIT, NO_DIGIT, NO_DIGIT, NO_DIGIT, NO_DIGIT, NO_DIGIT, NO_DIGIT, NO_DIGIT, NO_DIGIT, NO_DIGIT, NO_DIGIT, NO_DIGIT, NO_DIGIT,
+    NO_DIGIT, NO_DIGIT, NO_DIGIT, NO_DIGIT, NO_DIGIT, NO_DIGIT, NO_DIGIT, NO_DIGIT, NO_DIGIT, NO_DIGIT, NO_DIGIT, NO_DIGIT, NO_DIGIT, NO_DIGIT, NO_DIGIT, NO_DIGIT,
+    NO_DIGIT, NO_DIGIT, NO_DIGIT, NO_DIGIT, NO_DIGIT, NO_DIGIT, NO_DIGIT, NO_DIGIT, NO_DIGIT, NO_DIGIT, NO_DIGIT, NO_DIGIT, NO_DIGIT, NO_DIGIT, NO_DIGIT, NO_DIGIT,
+    NO_DIGIT, NO_DIGIT, NO_DIGIT, NO_DIGIT, NO_DIGIT, NO_DIGIT, NO_DIGIT, NO_DIGIT, NO_DIGIT, NO_DIGIT, NO_DIGIT, NO_DIGIT, NO_DIGIT, NO_DIGIT, NO_DIGIT, NO_DIGIT,
+    NO_DIGIT, NO_DIGIT, NO_DIGIT, NO_DIGIT, NO_DIGIT, NO_DIGIT, NO_DIGIT, NO_DIGIT, NO_DIGIT, NO_DIGIT, NO_DIGIT, NO_DIGIT, NO_DIGIT, NO_DIGIT, NO_DIGIT, NO_DIGIT,
+    NO_DIGIT, NO_DIGIT, NO_DIGIT, NO_DIGIT, NO_DIGIT, NO_DIGIT, NO_DIGIT, NO_DIGIT, NO_DIGIT, NO_DIGIT, NO_DIGIT, NO_DIGIT, NO_DIGIT, NO_DIGIT, NO_DIGIT, NO_DIGIT,
+];

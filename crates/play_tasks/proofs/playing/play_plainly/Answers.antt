@@ -1,0 +1,13 @@
+-- SPDX-License-Identifier: MIT OR Apache-2.0
+use Rattle.std.proofs.Common.{None, subst, sym}
+use Rattle.play_tasks.specs.Plays.{PlayFails}
+use Rattle.play_tasks.specs.declared.task.Task.TheVariants.{Plain}
+use Rattle.play_tasks.proofs.Plays.{played_whole, play_failed}
+use Rattle.play_tasks.proofs.playing.play_plainly.Goals as goal
+
+pub returns-in-Ok-clause-played : goal.returns-in-Ok-clause-played
+returns-in-Ok-clause-played g c = played_whole c.in-Ok.field-0 _ _ _ _ _ _ c.in-Ok.ensures
+
+pub returns-clause-failed : goal.returns-clause-failed
+returns-clause-failed g c =
+    subst (PlayFails Plain _ _ _ _) (sym c.of_play.ensures) (play_failed _ _ _ _ _ _ c.args.trace.path None c.in-Err.error c.in-Err.ensures)

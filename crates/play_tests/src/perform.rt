@@ -1,0 +1,531 @@
+// SPDX-License-Identifier: MIT OR Apache-2.0
+//! The commands on worked manifests and traces.
+
+use play_arguments::{MachineOptions, Request, TextOptions};
+use play_commands::{Files, perform, show};
+use std::alloc::Global;
+use std::io::{self, Write};
+use std::process::Abort;
+use std::test::Fail;
+
+// A block of 2 MiB of which a page is lent.
+mod blocks;
+// Numbers, names, comparisons, and what more is said.
+mod lines;
+// The worked example of the manual.
+mod manual;
+// Memory that is refused.
+mod refused;
+// Guards, descriptors from words, and traces that are generated.
+mod writing;
+
+// A machine with two partitions.
+const ROW: &str = "ram_base = 0x40000000
+ram_blocks = 1
+[[endpoint]]
+version = \"1.1\"
+properties = 6
+regions = [{ base = 0x40010000, pages = 16, rights = \"rw\" }]
+[[endpoint]]
+version = \"1.1\"
+uuid = \"00112233-4455-6677-8899-aabbccddeeff\"
+properties = 15
+regions = [{ base = 0x40020000, pages = 16, rights = \"rwx\" }]
+[[endpoint]]
+version = \"1.1\"
+uuid = \"10112233-4455-6677-8899-aabbccddeeff\"
+properties = 15
+regions = [{ base = 0x40030000, pages = 16, rights = \"rw\" }]
+";
+
+// The highest machine that there is, but for its fourth to eighth endpoint. The normal world has one page, and 512 that
+// are one block of 2 MiB.
+const HIGHEST: &str = "ram_base = 0xFC000000
+ram_blocks = 32
+[[endpoint]]
+version = \"1.1\"
+properties = 6
+regions = [
+    { base = 0xFFFFF000, pages = 1, rights = \"rw\" },
+    { base = 0xFFC00000, pages = 512, rights = \"rw\" },
+]
+[[endpoint]]
+version = \"1.1\"
+uuid = \"00112233-4455-6677-8899-aabbccddeeff\"
+properties = 15
+regions = [{ base = 0xFC110000, pages = 1, rights = \"rwx\" }]
+";
+
+const MACHINE: MachineOptions = MachineOptions {
+    frames: false,
+    tlb: false,
+};
+
+const TEXT: TextOptions = TextOptions {
+    line_buffered: false,
+    number: false,
+    names: false,
+    explain: false,
+};
+
+const RUN: Request<'static> = Request::Run {
+    manifest: "row.toml",
+    trace: "row.trace",
+    machine: MACHINE,
+    text: TEXT,
+    strict: false,
+    verbose: false,
+};
+
+const DEMO: Request<'static> = Request::Demo {
+    trace: "no.trace",
+    machine: MACHINE,
+    text: TEXT,
+    strict: false,
+    verbose: false,
+};
+
+const CHECK: Request<'static> = Request::Check {
+    manifest: "row.toml",
+    verbose: false,
+};
+
+const LAYOUT: Request<'static> = Request::Layout {
+    manifest: "row.toml",
+    verbose: false,
+};
+
+// A first trace, and what it prints on the built-in machine.
+const FIRST: &str = "call 84000069\nstore 40010000 2A\nload 40010000 1\nload 40020000 1\nshow\n";
+
+const FIRST_TEXT: &str =
+    "regs 0000 0000000084000061 0000000000000000 0000000000000000 0000000000000000 0000000000000000 0000000000000000 0000000000000000 0000000000000000\ndone\ndata 2A\nfault translation\nrunner 0000\npages 40000000 4000FFFF 8000 --- ---\npages 40010000 4001FFFF 0000 rw- ---\npages 40020000 4002FFFF 8001 --- rwx\npages 40030000 401FFFFF 8000 --- ---\n";
+
+// How a command ended, with what it wrote.
+#[derive(Drop)]
+struct Ended {
+    status: u8,
+    out: Vec<u8>,
+    err: Vec<u8>,
+}
+
+fn performed(alloc: Global, request: &Request<'_>, files: Files<'_, &[u8]>) -> Ended {
+    let mut out = Vec::new(alloc);
+    let mut err = Vec::new(alloc);
+    let status = perform(alloc, request, files, &mut out, &mut err);
+    Ended { status, out, err }
+}
+
+fn performed_once(
+    alloc: Global,
+    request: &Request<'_>,
+    manifest: Option<&[u8]>,
+    trace: Option<&str>,
+) -> Ended {
+    let files = Files {
+        manifest,
+        trace: trace.map(|text| text.as_bytes()),
+        expected: None,
+        reason: None,
+    };
+    performed(alloc, request, files)
+}
+
+// The kinds of machine that play: with RAM in frames or in one piece, and with a cache of translations or none.
+const KINDS: [(bool, bool); 4] = [(false, false), (true, false), (false, true), (true, true)];
+
+// The same command on a machine of one kind.
+fn on_kind<'a>(request: &Request<'a>, (frames, tlb): (bool, bool)) -> Request<'a> {
+    let machine = MachineOptions { frames, tlb };
+    match *request {
+        Request::Run {
+            manifest,
+            trace,
+            text,
+            strict,
+            verbose,
+            ..
+        } => Request::Run {
+            manifest,
+            trace,
+            machine,
+            text,
+            strict,
+            verbose,
+        },
+        Request::Demo {
+            trace,
+            text,
+            strict,
+            verbose,
+            ..
+        } => Request::Demo {
+            trace,
+            machine,
+            text,
+            strict,
+            verbose,
+        },
+        other => other,
+    }
+}
+
+// How a command is to end, with what it is to write.
+#[derive(Clone, Copy)]
+struct Wanted<'a> {
+    status: u8,
+    out: &'a str,
+    err: &'a str,
+}
+
+// A command that is done, and prints this.
+fn done(out: &str) -> Wanted<'_> {
+    Wanted {
+        status: 0,
+        out,
+        err: "",
+    }
+}
+
+// A command that prints nothing, and ends with this status and message.
+fn failed(status: u8, err: &str) -> Wanted<'_> {
+    Wanted {
+        status,
+        out: "",
+        err,
+    }
+}
+
+// Performs a command on a machine of each kind, and sees how it ends.
+fn ends(
+    rt: &impl Abort,
+    alloc: Global,
+    request: &Request<'_>,
+    manifest: Option<&[u8]>,
+    trace: Option<&str>,
+    wanted: Wanted<'_>,
+) {
+    for kind in KINDS {
+        let got = performed_once(alloc, &on_kind(request, kind), manifest, trace);
+        assert_eq!(rt; got.status, wanted.status);
+        assert_eq!(rt; got.out.as_slice(), wanted.out.as_bytes());
+        assert_eq!(rt; got.err.as_slice(), wanted.err.as_bytes());
+    }
+}
+
+#[test]
+fn demonstrates(rt: HostRuntime) {
+    ends(&rt, rt.alloc(), &DEMO, None, Some(FIRST), done(FIRST_TEXT));
+}
+
+#[test]
+fn ends_traces_with_their_status(rt: HostRuntime) {
+    let (alloc, row) = (rt.alloc(), Some(ROW.as_bytes()));
+    ends(&rt, alloc, &RUN, row, Some(""), done(""));
+    let bad = Some("load 40010000 1\nload 40010000 1\nload 4001\n");
+    let third = Wanted {
+        status: 2,
+        out: "data 00\ndata 00\n",
+        err: "ffaplay: line 3: bad line\n",
+    };
+    ends(&rt, alloc, &RUN, row, bad, third);
+    let first = failed(2, "ffaplay: line 1: bad line\n");
+    ends(&rt, alloc, &RUN, row, Some("load 40010000 1"), first);
+}
+
+#[test]
+fn tells_that_a_trace_cannot_be_read(rt: HostRuntime) {
+    let unread = failed(3, "ffaplay: cannot read row.trace\n");
+    ends(&rt, rt.alloc(), &RUN, Some(ROW.as_bytes()), None, unread);
+    let unread = failed(3, "ffaplay: cannot read no.trace\n");
+    ends(&rt, rt.alloc(), &DEMO, None, None, unread);
+}
+
+#[test]
+fn loads_the_highest_word(rt: HostRuntime) {
+    let trace = "store FFFFFFF8 0123456789ABCDEF\nload FFFFFFF8 8\n";
+    let text = "done\ndata 0123456789ABCDEF\n";
+    let manifest = Some(HIGHEST.as_bytes());
+    ends(&rt, rt.alloc(), &RUN, manifest, Some(trace), done(text));
+}
+
+#[test]
+fn loads_and_stores_in_a_block(rt: HostRuntime) {
+    let trace =
+        "store FFC01008 0123456789ABCDEF\nload FFC01008 8\nload FFDFFFF8 8\nfetch FFC01008\nload FFE00000 1\n";
+    let text =
+        "done\ndata 0123456789ABCDEF\ndata 0000000000000000\nfault permission\nfault translation\n";
+    let manifest = Some(HIGHEST.as_bytes());
+    ends(&rt, rt.alloc(), &RUN, manifest, Some(trace), done(text));
+}
+
+// Faults are found in order: the manifest's file, the manifest, the trace's file.
+#[test]
+fn finds_the_first_fault(rt: HostRuntime) -> Result<(), Fail> {
+    let alloc = rt.alloc();
+    let unread = failed(3, "ffaplay: cannot read row.toml\n");
+    ends(&rt, alloc, &RUN, None, None, unread);
+    let overlapping = ROW.replacen(alloc, "0x40030000", "0x40028000", 1)?;
+    let refused = failed(1, "ffaplay: manifest: M13 RegionOverlap\n");
+    ends(
+        &rt,
+        alloc,
+        &RUN,
+        Some(overlapping.as_bytes()),
+        None,
+        refused,
+    );
+    let refused = failed(1, "ffaplay: manifest: M2 Toml\n");
+    ends(&rt, alloc, &RUN, Some(b"\xff"), None, refused);
+    Ok(())
+}
+
+// Changes of ROW: what stands first, an arrow, what is to stand there, another arrow, and the cause for which the manifest
+// is then refused, or that it is accepted.
+const CHANGES: &str = "\
+ram_blocks = 1 => ram_blocks = 1 => accepted
+ram_blocks = 1 => ram_blocks = 2 => accepted
+0x40010000, pages = 16 => 0x40009000, pages = 1 => accepted
+0x40010000, pages = 16 => 0x40008000, pages = 1 => M12 RegionOutside
+0x40000000 => 0x41000000 => M6 RamBase";
+
+#[test]
+fn checks_manifests(rt: HostRuntime) -> Result<(), Fail> {
+    let alloc = rt.alloc();
+    for change in CHANGES.lines() {
+        let (old, rest) = change.split_once(" => ").ok_or("no change")?;
+        let (new, cause) = rest.split_once(" => ").ok_or("no cause")?;
+        let manifest = ROW.replacen(alloc, old, new, 1)?;
+        let told = format!(in alloc; "ffaplay: manifest: {cause}\n")?;
+        let wanted = if cause == "accepted" {
+            done("accepted\n")
+        } else {
+            failed(1, told.as_str())
+        };
+        ends(&rt, alloc, &CHECK, Some(manifest.as_bytes()), None, wanted);
+    }
+    Ok(())
+}
+
+#[test]
+fn prints_layouts(rt: HostRuntime) -> Result<(), Fail> {
+    let one =
+        "0000 40000000 40001000 40002000\n8001 40003000 40004000 40005000\n8002 40006000 40007000 40008000\n";
+    ends(
+        &rt,
+        rt.alloc(),
+        &LAYOUT,
+        Some(ROW.as_bytes()),
+        None,
+        done(one),
+    );
+    let two =
+        "0000 40000000 40001000 40002000\n8001 40004000 40005000 40006000\n8002 40008000 40009000 4000A000\n";
+    let manifest = ROW.replacen(rt.alloc(), "ram_blocks = 1", "ram_blocks = 2", 1)?;
+    ends(
+        &rt,
+        rt.alloc(),
+        &LAYOUT,
+        Some(manifest.as_bytes()),
+        None,
+        done(two),
+    );
+    Ok(())
+}
+
+// Takes up to `room` bytes. Behind these it takes nothing, or fails, and it flushes where it says so.
+#[derive(Drop)]
+struct Stuck {
+    room: usize,
+    fails: bool,
+    flushes: bool,
+}
+
+impl Stuck {
+    // Takes nothing behind `room` bytes, and doesn't flush.
+    fn new(room: usize) -> Stuck {
+        Stuck {
+            room,
+            fails: false,
+            flushes: false,
+        }
+    }
+}
+
+impl Write for Stuck {
+    fn write(&mut self, buf: &[u8]) -> io::Result<usize> {
+        let count = buf.len().min(self.room);
+        if count == 0 && self.fails {
+            return Err(io::Error::from(io::ErrorKind::StorageFull));
+        }
+        self.room -= count;
+        Ok(count)
+    }
+
+    fn flush(&mut self) -> io::Result<()> {
+        if self.flushes {
+            Ok(())
+        } else {
+            Err(io::Error::from(io::ErrorKind::Other))
+        }
+    }
+}
+
+const CANNOT_WRITE: &str = "ffaplay: cannot write\n";
+
+// Performs a command that writes its text into `out`, and sees with which status it ends and what it tells.
+fn tells(
+    rt: &impl Abort,
+    alloc: Global,
+    request: &Request<'_>,
+    manifest: &[u8],
+    trace: Option<&str>,
+    mut out: Stuck,
+    (status, told): (u8, &str),
+) {
+    let mut err = Vec::new(alloc);
+    let files = Files {
+        manifest: Some(manifest),
+        trace: trace.map(|text| text.as_bytes()),
+        expected: None,
+        reason: None,
+    };
+    let ended = perform(alloc, request, files, &mut out, &mut err);
+    assert_eq!(rt; ended, status);
+    assert_eq!(rt; err.as_slice(), told.as_bytes());
+}
+
+#[test]
+fn tells_what_cannot_be_written(rt: HostRuntime) {
+    for request in [RUN, CHECK, LAYOUT] {
+        for room in [0, 3, 1000] {
+            let out = Stuck::new(room);
+            let trace = Some("show\n");
+            tells(
+                &rt,
+                rt.alloc(),
+                &request,
+                ROW.as_bytes(),
+                trace,
+                out,
+                (3, CANNOT_WRITE),
+            );
+        }
+    }
+}
+
+// A writer fails behind each byte of the text, but the last.
+#[test]
+fn tells_that_a_write_failed(rt: HostRuntime) {
+    for (request, bytes) in [(DEMO, 151_usize), (CHECK, 9), (LAYOUT, 96)] {
+        for room in 0..=bytes {
+            let trace = Some("call 84000069\nstore 40010000 2A\n");
+            let out = Stuck {
+                room,
+                fails: true,
+                flushes: true,
+            };
+            let wanted = if room < bytes {
+                (3, CANNOT_WRITE)
+            } else {
+                (0, "")
+            };
+            tells(
+                &rt,
+                rt.alloc(),
+                &request,
+                ROW.as_bytes(),
+                trace,
+                out,
+                wanted,
+            );
+        }
+    }
+}
+
+// What is written stands in a buffer first, so that only the flush fails. The text before a bad line is lost, and the line
+// isn't told.
+#[test]
+fn tells_that_the_flush_failed(rt: HostRuntime) {
+    for trace in ["load 40010000 1\n", "load 40010000 1\nload 4001\n"] {
+        let (trace, out) = (Some(trace), Stuck::new(1000));
+        tells(
+            &rt,
+            rt.alloc(),
+            &RUN,
+            ROW.as_bytes(),
+            trace,
+            out,
+            (3, CANNOT_WRITE),
+        );
+    }
+}
+
+// Where a manifest is refused or a trace can't be read, nothing was printed.
+#[test]
+fn tells_an_earlier_fault_than_the_flush(rt: HostRuntime) {
+    let unread = (3, "ffaplay: cannot read row.trace\n");
+    tells(
+        &rt,
+        rt.alloc(),
+        &RUN,
+        ROW.as_bytes(),
+        None,
+        Stuck::new(1000),
+        unread,
+    );
+    let refused = (1, "ffaplay: manifest: M2 Toml\n");
+    let good = Some("load 40010000 1\n");
+    tells(
+        &rt,
+        rt.alloc(),
+        &RUN,
+        b"\xff",
+        good,
+        Stuck::new(1000),
+        refused,
+    );
+    tells(
+        &rt,
+        rt.alloc(),
+        &CHECK,
+        b"\xff",
+        None,
+        Stuck::new(1000),
+        refused,
+    );
+}
+
+// Shows a help, and sees with which status that ends and what it tells.
+fn shows<W: Write>(rt: &impl Abort, alloc: Global, out: &mut W, (status, told): (u8, &str)) {
+    let mut err = Vec::new(alloc);
+    assert_eq!(rt; show(&"Usage: ffaplay", out, &mut err), status);
+    assert_eq!(rt; err.as_slice(), told.as_bytes());
+}
+
+#[test]
+fn shows_help(rt: HostRuntime) {
+    let mut out = Vec::new(rt.alloc());
+    shows(&rt, rt.alloc(), &mut out, (0, ""));
+    assert_eq!(rt; out.as_slice(), b"Usage: ffaplay".as_slice());
+    for room in [0, 3, 1000] {
+        shows(&rt, rt.alloc(), &mut Stuck::new(room), (3, CANNOT_WRITE));
+    }
+}
+
+// For the tool's option that makes the Nth allocation fail (`rt try --test --fail-alloc N`). The script
+// tests/refused-memory refuses the built program each of them.
+#[test]
+fn whole_or_no_memory(rt: HostRuntime) {
+    let trace = Some("load 40010000 1\n");
+    for kind in KINDS {
+        let request = on_kind(&RUN, kind);
+        let got = performed_once(rt.alloc(), &request, Some(ROW.as_bytes()), trace);
+        if got.status == 3 {
+            assert!(rt; got.out.is_empty() || got.out.as_slice() == b"data 00\n".as_slice());
+        } else {
+            assert_eq!(rt; got.out.as_slice(), b"data 00\n".as_slice());
+            assert_eq!(rt; got.status, 0);
+        }
+    }
+}

@@ -1,0 +1,83 @@
+-- SPDX-License-Identifier: MIT OR Apache-2.0
+-- Where what came of an operation is counted: a row for each call, one for all that is no call, and one for each kind of
+-- access; in a row a column for what was done, and one for each error or fault.
+use Rattle.std.specs.Prelude.{◌≡◌, ℕ, suc, ◌+◌, ◌-◌, ◌*◌, ◌^◌, ◌==◌, List, [], ◌∷◌, length, map, min, position, slice_index, slice_set, if◌then◌else◌}
+use Rattle.std.specs.List.{position_or_len}
+use Rattle.std.specs.Option.{option_map_or}
+use Rattle.ffa_model.specs.declared.function.TheConstants.{FFA_ERROR}
+use Rattle.ffa_model.specs.declared.operation.ErrorCode.{ErrorCode}
+use Rattle.ffa_model.specs.declared.operation.ErrorCode.TheVariants.{NotSupported, InvalidParameters, NoMemory, Busy, Denied}
+use Rattle.ffa_model.specs.declared.operation.FaultKind.{FaultKind}
+use Rattle.ffa_model.specs.declared.operation.FaultKind.TheVariants.{Translation, Permission, Alignment, AccessFlag, OutsideRam}
+use Rattle.ffa_model.specs.declared.operation.Op.{Op}
+use Rattle.ffa_model.specs.declared.operation.Op.TheVariants.{Call, Load, Store, Fetch}
+use Rattle.ffa_model.specs.declared.operation.Outcome.{Outcome}
+use Rattle.ffa_model.specs.declared.operation.Outcome.TheVariants.{Regs, Data, Done, Fault}
+use Rattle.ffa_model.specs.Calls.{code_number}
+use Rattle.ffa_model.specs.Registers.{low, functions, is_form_of}
+use Rattle.play_transcript.specs.declared.counts.Access.{Access}
+use Rattle.play_transcript.specs.declared.counts.Access.TheVariants.{Load as LoadAccess, Store as StoreAccess, Fetch as FetchAccess}
+
+-- ROWS
+
+-- a call's row is its place among the calls; what is no call has the row behind them
+unfoldable pub row_of : ℕ → ℕ
+row_of function = position_or_len (is_form_of function) functions
+
+abbrev pub row_of_access : Access → ℕ
+row_of_access LoadAccess = length functions + 1
+row_of_access StoreAccess = length functions + 2
+row_of_access FetchAccess = length functions + 3
+
+abbrev pub row_of_operation : Op → ℕ
+row_of_operation (Call x) = row_of (low (slice_index x 0))
+row_of_operation (Load addr size) = row_of_access LoadAccess
+row_of_operation (Store addr size value) = row_of_access StoreAccess
+row_of_operation (Fetch addr) = row_of_access FetchAccess
+
+-- COLUMNS
+
+abbrev pub column_of_error : ErrorCode → ℕ
+column_of_error NotSupported = 1
+column_of_error InvalidParameters = 2
+column_of_error NoMemory = 3
+column_of_error Busy = 4
+column_of_error Denied = 5
+
+abbrev pub column_of_fault : FaultKind → ℕ
+column_of_fault Translation = 1
+column_of_fault Permission = 2
+column_of_fault Alignment = 3
+column_of_fault AccessFlag = 4
+column_of_fault OutsideRam = 5
+
+-- the numbers of the errors in the order of their columns
+abbrev pub error_numbers : List ℕ
+error_numbers = map code_number (NotSupported ∷ InvalidParameters ∷ NoMemory ∷ Busy ∷ Denied ∷ [])
+
+-- FFA_VERSION's refusal, in w0
+abbrev pub no_version : ℕ
+no_version = 0xFFFFFFFF
+
+-- of what the next runner sees: FFA_ERROR with a number in w2, FFA_VERSION's refusal, which counts as NOT_SUPPORTED, or what is done
+unfoldable pub column_of_registers : List ℕ → ℕ
+column_of_registers x =
+    if slice_index x 0 == FFA_ERROR then option_map_or suc (position (λ number. slice_index x 2 == number) error_numbers) 0
+    else if slice_index x 0 == no_version then column_of_error NotSupported
+    else 0
+
+abbrev pub column_of : Outcome → ℕ
+column_of (Regs runner x) = column_of_registers x
+column_of (Data value) = 0
+column_of Done = 0
+column_of (Fault fault) = column_of_fault fault
+
+-- CELLS
+
+-- where the count of a row and a column stands
+abbrev pub cell : ℕ → ℕ → ℕ
+cell row column = 6 * row + column
+
+-- one count grew by one, but for one that was the highest, and all others stayed
+abbrev pub CountsOne : ℕ → List ℕ → List ℕ → Type 0
+CountsOne at old new = new ≡ slice_set old at (min (slice_index old at + 1) (2 ^ 64 - 1))

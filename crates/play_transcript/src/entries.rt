@@ -1,0 +1,74 @@
+// SPDX-License-Identifier: MIT OR Apache-2.0
+//! The lines that a turn gave, and their text.
+ghost use Rattle.std.specs.Prelude.{◌≡◌, ◌%◌, ◌^◌, [], ◌∷◌, length, map, min, take, IfOk, OnOk};
+ghost use Rattle.ffa_model.specs.Memory.{size_of};
+ghost use Rattle.play_transcript.specs.Traces.{fitted};
+ghost use Rattle.play_transcript.specs.Turned.{GrowsByLines, meant};
+
+use ffa_model::{Op, Size};
+use play_writer::put_operation;
+use std::alloc::{AllocError, Allocator};
+
+/// A line of a trace.
+#[derive(Clone, Copy)]
+pub enum Entry {
+    Operation(Op),
+    Show,
+    Audit,
+}
+
+/// The same operation, where a store has the lowest bytes of its value, as many as it moves.
+pub fn fitted(op: &Op) -> Op
+    ensures { result ≡ fitted op.now }
+{
+    match *op {
+        Op::Store { addr, size, value } => Op::Store {
+            addr,
+            size,
+            value: lowest(value, size),
+        },
+        Op::Call(_) | Op::Load { .. } | Op::Fetch { .. } => *op,
+    }
+}
+
+// The lowest bytes of a value.
+fn lowest(value: u64, size: Size) -> u64
+    ensures { result ≡ value % 256 ^ size_of size }
+{
+    match size {
+        Size::B1 => value % (1 << 8),
+        Size::B2 => value % (1 << 16),
+        Size::B4 => value % (1 << 32),
+        Size::B8 => value,
+    }
+}
+
+/// Puts the lines of the first entries behind a text, as many as there may be, and answers how many those are.
+pub fn put_entries<A: Allocator>(
+    text: &mut Vec<u8, A>,
+    entries: &[Entry],
+    most: u64,
+) -> Result<u64, AllocError>
+    ensures count { IfOk result (λ count. count ≡ min most (length entries.now)) }
+    ensures lines { IfOk result (λ count.
+        GrowsByLines (map meant (take count entries.now)) text.old.items text.new.items) }
+{
+    let most = most.min(entries.len() as u64);
+    let mut count = 0;
+    while count < most {
+        put_entry(text, &entries[count as usize])?;
+        count += 1;
+    }
+    Ok(count)
+}
+
+// Puts a line behind a text.
+fn put_entry<A: Allocator>(text: &mut Vec<u8, A>, entry: &Entry) -> Result<(), AllocError>
+    ensures { OnOk result (GrowsByLines (meant entry.now ∷ []) text.old.items text.new.items) }
+{
+    match entry {
+        Entry::Operation(op) => put_operation(text, &fitted(op)),
+        Entry::Show => text.extend_from_slice(b"show\n"),
+        Entry::Audit => text.extend_from_slice(b"audit\n"),
+    }
+}

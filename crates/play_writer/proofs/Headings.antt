@@ -1,0 +1,84 @@
+-- SPDX-License-Identifier: MIT OR Apache-2.0
+-- A header that was written, as it is read.
+use Rattle.std.proofs.Common.{◌≡◌, ℕ, ◌*◌, ◌%◌, ◌^◌, ◌<◌, ◌≤◌, true, List, [], ◌++◌, length, refl, ap, arith, length-append, ◌∙◌}
+use Rattle.byteorder.specs.Numbers.{little_number-reads_back}
+use Rattle.ffa_model.specs.declared.endpoint.Version.{Version}
+use Rattle.ffa_model.specs.declared.endpoint.Version.TheVariants.{Compact, V1_1}
+use Rattle.ffa_model.specs.DescriptorPlaces.{Versioned, in_version, u16_at, u32_at, u64_at, header_size, told_access_size, sender_field, attributes_field, flags_field, handle_field, tag_field, receiver_count, array_place, is_rest_zero, IsHeader}
+use Rattle.ffa_model.specs.ResponseBytes.{le}
+use Rattle.play_writer.specs.declared.heading.Heading.{Heading}
+use Rattle.play_writer.specs.Composed.{heading_bytes}
+
+-- each number fits its field
+pub record Fitting (h : Heading) : Type 0 where
+  pub sender : h.sender.0 < 2 ^ 16
+  pub attributes : h.attributes < 2 ^ 16
+  pub flags : h.flags < 2 ^ 32
+  pub handle : h.handle < 2 ^ 64
+  pub tag : h.tag < 2 ^ 64
+  pub count : h.count < 2 ^ 32
+
+-- the header at the front says this
+pub record Headed (b : Versioned) (h : Heading) : Type 0 where
+  pub sender : sender_field b ≡ h.sender.0
+  pub attributes : attributes_field b ≡ h.attributes
+  pub flags : flags_field b ≡ h.flags
+  pub handle : handle_field b ≡ h.handle
+  pub tag : tag_field b ≡ h.tag
+  pub told : u32_at b.bytes 24 ≡ told_access_size b.version
+  pub count : receiver_count b ≡ h.count
+  pub array : array_place b ≡ header_size b.version
+  pub reserved : is_rest_zero b.version b.bytes ≡ true
+
+pub length-heading : (version : Version) (h : Heading) → length (heading_bytes version h) ≡ header_size version
+unfolding le
+length-heading Compact h = refl
+length-heading V1_1 h = refl
+
+pub headed : (version : Version) (h : Heading) (tail : List ℕ) → Fitting h → Headed (in_version version (heading_bytes version h ++ tail)) h
+unfolding le u16_at u32_at u64_at
+headed Compact h tail f =
+    record {
+      sender = little_number-reads_back 2 h.sender.0 [] f.sender;
+      attributes = little_number-reads_back 2 h.attributes [] f.attributes;
+      flags = little_number-reads_back 4 h.flags [] f.flags;
+      handle = little_number-reads_back 8 h.handle [] f.handle;
+      tag = little_number-reads_back 8 h.tag [] f.tag;
+      told = refl;
+      count = little_number-reads_back 4 h.count [] f.count;
+      array = refl;
+      reserved = refl;
+    }
+headed V1_1 h tail f =
+    record {
+      sender = little_number-reads_back 2 h.sender.0 [] f.sender;
+      attributes = little_number-reads_back 2 h.attributes [] f.attributes;
+      flags = little_number-reads_back 4 h.flags [] f.flags;
+      handle = little_number-reads_back 8 h.handle [] f.handle;
+      tag = little_number-reads_back 8 h.tag [] f.tag;
+      told = refl;
+      count = little_number-reads_back 4 h.count [] f.count;
+      array = refl;
+      reserved = refl;
+    }
+
+header_aligned : (version : Version) → header_size version % 16 ≡ 0
+header_aligned Compact = refl
+header_aligned V1_1 = refl
+
+-- its access descriptors stand in the tail
+pub is_header_of : (version : Version) (h : Heading) (tail : List ℕ) → Fitting h → 16 * h.count ≤ length tail → IsHeader (in_version version (heading_bytes version h ++ tail))
+is_header_of version h tail fits room =
+    let says = headed version h tail fits in
+    let long = length-append (heading_bytes version h) tail in
+    let front = length-heading version h in
+    let array = says.array in
+    let count = says.count in
+    record {
+      whole = omega arith;
+      told = says.told;
+      aligned = ap (λ (n : ℕ). n % 16) array ∙ header_aligned version;
+      behind = omega arith;
+      inside = omega arith;
+      reserved = says.reserved;
+    }

@@ -1,0 +1,8 @@
+-- SPDX-License-Identifier: MIT OR Apache-2.0
+use Rattle.ffa_model.specs.SendDescriptor.{send_record}
+use Rattle.play_writer.proofs.Sizes.{fits_page}
+use Rattle.play_writer.proofs.descriptor.write_descriptor.Goals as goal
+
+pub returns-in-Send-clause-inside : goal.returns-in-Send-clause-inside
+returns-in-Send-clause-inside c =
+    fits_page c.args.version c.in-Send.kind (send_record c.in-Send.desc) c.write_send.new.page c.write_send.result c.write_send.ensures.size c.write_send.ensures.read

@@ -1,0 +1,24 @@
+// SPDX-License-Identifier: MIT OR Apache-2.0
+//! Descriptors of memory transactions (DEN0077A, 5.11 and 16), written as `ffa_memdesc` reads them, and lines of traces, written
+//! so that they are read as what was meant: an operation, stores of bytes, a descriptor with its call.
+#![tactic(auto)]
+
+mod access;
+mod descriptor;
+mod heading;
+mod line;
+mod operation;
+mod relinquish;
+mod retrieve;
+mod send;
+mod stores;
+mod unfit;
+
+pub use descriptor::{Descriptor, ScriptError, put_descriptor};
+pub use ffa_model::{RelinquishDesc, RetrieveDesc, SendDesc};
+pub use operation::put_operation;
+pub use relinquish::write_relinquish;
+pub use retrieve::write_retrieve;
+pub use send::write_send;
+pub use stores::put_stores;
+pub use unfit::Unfit;

@@ -1,0 +1,115 @@
+// SPDX-License-Identifier: MIT OR Apache-2.0
+//! Lines of operations.
+
+ghost use Rattle.std.specs.Prelude.{◌≡◌, ◌≤◌, ◌<◌, ◌^◌, [], length, take, OnOk, OnErr};
+ghost use Rattle.arrayvec.specs.ArrayVec.{array_vec_len};
+ghost use Rattle.ffa_model.specs.declared.operation.Op.TheVariants.{Call, Load, Store, Fetch};
+ghost use Rattle.ffa_model.specs.Memory.{size_of};
+ghost use Rattle.play_syntax.specs.TraceLines.{registers_of};
+ghost use Rattle.play_writer.specs.Script.{IsProper, IsLineOf, GrowsBy};
+
+use crate::line::{Line, digits_of, push_hex, push_word};
+use ffa_model::{Op, Size};
+use std::alloc::{AllocError, Allocator};
+
+/// Puts the line of a trace that does this operation behind a text, with its LF. An address has 8 digits where they do,
+/// else 16; a register has as many as it needs, and registers behind x0 that are zero up to x7 are left out. A store's value
+/// has to fit its size. Where there is no memory, the text stays.
+pub fn put_operation<A: Allocator>(text: &mut Vec<u8, A>, op: &Op) -> Result<(), AllocError>
+    requires { IsProper op.now }
+    ensures written { OnOk result (GrowsBy op.now text.old.items text.new.items) }
+    ensures kept { OnErr result (text.new.items ≡ text.old.items) }
+{
+    let mut line = Line::new();
+    push_operation(&mut line, op);
+    line.push(b'\n');
+    text.extend_from_slice(line.as_slice())
+}
+
+fn push_operation(line: &mut Line, op: &Op)
+    requires empty { line.old.items ≡ [] }
+    requires proper { IsProper op.now }
+    ensures line { IsLineOf line.new.items op.now }
+    ensures len { array_vec_len line.new ≤ 140 }
+{
+    match op {
+        Op::Call(x) => push_call(line, x),
+        Op::Load { addr, size } => push_load(line, *addr, *size),
+        Op::Store { addr, size, value } => push_store(line, *addr, *size, *value),
+        Op::Fetch { addr } => push_fetch(line, *addr),
+    }
+}
+
+fn push_call(line: &mut Line, x: &[u64; 8])
+    requires { line.old.items ≡ [] }
+    ensures line { IsLineOf line.new.items (Call x.now) }
+    ensures len { array_vec_len line.new ≤ 140 }
+{
+    push_word(line, b"call");
+    for value in &x[..registers_told(x)] {
+        push_hex(line, digits_of(*value), *value);
+    }
+}
+
+/// How many registers are told: all up to the last that isn't zero, and x0.
+fn registers_told(x: &[u64; 8]) -> usize
+    ensures some { 1 ≤ result }
+    ensures few { result ≤ 8 }
+    ensures rest { x.now ≡ registers_of (take result x.now) }
+{
+    let mut count = 8;
+    while count > 1 && x[count - 1] == 0 {
+        count -= 1;
+    }
+    count
+}
+
+fn push_load(line: &mut Line, addr: u64, size: Size)
+    requires { line.old.items ≡ [] }
+    ensures line { IsLineOf line.new.items (Load addr size) }
+    ensures len { array_vec_len line.new ≤ 140 }
+{
+    push_word(line, b"load");
+    push_hex(line, address_digits(addr), addr);
+    push_hex(line, 1, byte_count(size) as u64);
+}
+
+fn push_store(line: &mut Line, addr: u64, size: Size, value: u64)
+    requires empty { line.old.items ≡ [] }
+    requires fits { value < 256 ^ size_of size }
+    ensures line { IsLineOf line.new.items (Store addr size value) }
+    ensures len { array_vec_len line.new ≤ 140 }
+{
+    push_word(line, b"store");
+    push_hex(line, address_digits(addr), addr);
+    push_hex(line, 2 * byte_count(size) as u32, value);
+}
+
+fn push_fetch(line: &mut Line, addr: u64)
+    requires { line.old.items ≡ [] }
+    ensures line { IsLineOf line.new.items (Fetch addr) }
+    ensures len { array_vec_len line.new ≤ 140 }
+{
+    push_word(line, b"fetch");
+    push_hex(line, address_digits(addr), addr);
+}
+
+fn address_digits(addr: u64) -> u32
+    ensures some { 8 ≤ result }
+    ensures few { result ≤ 16 }
+    ensures enough { addr < 16 ^ result }
+{
+    if addr < 1 << 32 { 8 } else { 16 }
+}
+
+/// How many bytes an access moves.
+pub fn byte_count(size: Size) -> usize
+    ensures { result ≡ size_of size }
+{
+    match size {
+        Size::B1 => 1,
+        Size::B2 => 2,
+        Size::B4 => 4,
+        Size::B8 => 8,
+    }
+}

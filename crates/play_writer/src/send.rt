@@ -1,0 +1,106 @@
+// SPDX-License-Identifier: MIT OR Apache-2.0
+//! Send descriptors.
+
+ghost use Rattle.std.specs.Prelude.{◌≡◌, ◌+◌, ◌*◌, ◌^◌, ◌<◌, ◌≤◌, ℕ, List, length, ◌++◌, get_or, take, drop, None, IfOk, OnErr, if◌then◌else◌};
+ghost use Rattle.std.specs.List.{flat_map};
+ghost use Rattle.std.specs.Result.{result_err};
+ghost use Rattle.ffa_model.specs.declared.transaction.Receiver.{Receiver};
+ghost use Rattle.ffa_model.specs.DescriptorPlaces.{Versioned, in_version, data_code};
+ghost use Rattle.ffa_model.specs.SendDescriptor.{Send, send_record, attributes_of};
+ghost use Rattle.ffa_model.specs.SoundState.{are_bytes};
+ghost use Rattle.ffa_memdesc.specs.Writing.{Wrote};
+ghost use Rattle.play_writer.specs.Composed.{receiver_bytes, send_size};
+ghost use Rattle.play_writer.specs.Conditions.{conditions, first_broken};
+
+use crate::access::write_access;
+use crate::heading::{Heading, write_heading};
+use crate::unfit::{Unfit, find_unfit};
+use ffa_memdesc::parts::{attributes_of, header_size, write_composite, write_ranges};
+use ffa_model::{Data, EndpointId, Kind, Receiver, SendDesc, Version};
+
+/// What the header of a send says.
+fn heading_of(kind: Kind, sender: EndpointId, zero: bool, tag: u64, count: u32) -> Heading
+    ensures exact { result ≡ record { sender = sender; attributes = attributes_of kind count; flags = if zero then 1 else 0; handle = 0; tag = tag; count = count } }
+    ensures sender_fits { sender.0 < 2 ^ 16 }
+    ensures tag_fits { tag < 2 ^ 64 }
+{
+    Heading {
+        sender,
+        attributes: attributes_of(kind, count),
+        flags: zero as u32,
+        handle: 0,
+        tag,
+        count,
+    }
+}
+
+/// The permissions: data in bits 1:0.
+fn grant_code(grant: Option<Data>) -> u8
+    ensures { result ≡ data_code grant }
+{
+    match grant {
+        None => 0,
+        Some(Data::Ro) => 1,
+        Some(Data::Rw) => 2,
+    }
+}
+
+fn write_receivers(page: &mut [u8], at: usize, receivers: &[Receiver], composite: u32)
+    requires { at + 16 * length receivers.now ≤ length page.old }
+    ensures bytes { (old front : List ℕ) → Wrote old front at page.old
+        → Wrote old (front ++ flat_map (receiver_bytes composite) receivers.now) (at + 16 * length receivers.now) page.new }
+    ensures fit { (k : ℕ) → k < length receivers.now → (d : Receiver) → (get_or receivers.now k d).endpoint.0 < 2 ^ 16 }
+{
+    for i in 0..receivers.len() {
+        let receiver = &receivers[i];
+        write_access(
+            page,
+            at + 16 * i,
+            receiver.endpoint,
+            grant_code(receiver.grant),
+            composite,
+        );
+    }
+}
+
+/// Writes what breaks no condition.
+fn write_fit(version: Version, kind: Kind, desc: &SendDesc, page: &mut [u8; 4096]) -> u32
+    requires { first_broken (conditions kind (send_record desc.now)) ≡ None }
+    ensures size { result ≡ send_size version (send_record desc.now) }
+    ensures read { Send kind (in_version version (take result page.new)) (send_record desc.now) }
+    ensures rest { drop result page.new ≡ drop result page.old }
+{
+    let receivers = desc.receivers.as_slice();
+    let ranges = desc.ranges.as_slice();
+    let count = receivers.len() as u32;
+    let array = header_size(version);
+    let composite = array + 16 * count;
+    let heading = heading_of(kind, desc.sender, desc.zero, desc.tag, count);
+    write_heading(page, version, &heading);
+    write_receivers(page, array as usize, receivers, composite);
+    write_composite(page, composite as usize, ranges);
+    write_ranges(page, composite as usize + 16, ranges);
+    composite + 16 + 16 * ranges.len() as u32
+}
+
+/// Writes a send descriptor of this kind from the page's first byte on (DEN0077A, 5.11 and 16), and answers how many
+/// bytes it has. The rest of the page stays. Where the record breaks a condition the page stays, the error says which, and
+/// no bytes are read as that record.
+pub fn write_send(
+    version: Version,
+    kind: Kind,
+    desc: &SendDesc,
+    page: &mut [u8; 4096],
+) -> Result<u32, Unfit>
+    ensures cause { result_err result ≡ first_broken (conditions kind (send_record desc.now)) }
+    ensures size { IfOk result (λ n. n ≡ send_size version (send_record desc.now)) }
+    ensures read { IfOk result (λ n. Send kind (in_version version (take n page.new)) (send_record desc.now)) }
+    ensures rest { IfOk result (λ n. drop n page.new ≡ drop n page.old) }
+    ensures none { OnErr result ((b : Versioned) → are_bytes b.bytes → Send kind b (send_record desc.now) → ⊥) }
+    ensures kept { OnErr result (page.new ≡ page.old) }
+{
+    match find_unfit(kind, desc) {
+        Some(unfit) => Err(unfit),
+        None => Ok(write_fit(version, kind, desc, page)),
+    }
+}
