@@ -4,8 +4,10 @@
 use Rattle.std.specs.Prelude.{ℕ, List, Option, Some, find, slice_index, if◌then◌else◌}
 use Rattle.std.specs.Option.{option_map}
 use Rattle.ffa_model.specs.declared.call.Call.{Call}
+use Rattle.ffa_model.specs.declared.call.DirectMessage.{DirectMessage}
+use Rattle.ffa_model.specs.declared.call.NotificationBits.{NotificationBits}
 use Rattle.ffa_model.specs.declared.call.Transfer.{Transfer}
-use Rattle.ffa_model.specs.Registers.{Function, is_form_of, low, payload, transfer, called}
+use Rattle.ffa_model.specs.Registers.{Function, called, direct_message, is_form_of, low, notification_bits, payload, transfer}
 use Rattle.ffa_model.specs.Bits.{is_set}
 
 -- a register, whole in the 64-bit form of a call and else its low half
@@ -14,6 +16,12 @@ widest x i = if is_set 30 (low (slice_index x 0)) then slice_index x i else low 
 
 abbrev pub payload_of : List ℕ → List ℕ
 payload_of x = payload (widest x)
+
+abbrev pub message_of : List ℕ → DirectMessage
+message_of x = direct_message (λ i. low (slice_index x i)) (widest x)
+
+abbrev pub bits_of_call : List ℕ → NotificationBits
+bits_of_call x = notification_bits (λ i. low (slice_index x i))
 
 abbrev pub transfer_of : List ℕ → Transfer
 transfer_of x = transfer (λ i. low (slice_index x i)) (widest x)

@@ -10,8 +10,8 @@ use Rattle.ffa_model.specs.Registers.{decode, low}
 -- by its number: the addresses of TX and RX, a payload, and the address of a buffer
 abbrev pub is_widened : Call → ℕ → Bool
 is_widened (RxtxMap tx rx pages) register = register == 1 || register == 2
-is_widened (DirectRequest function word flags payload) register = nat_le 3 register && nat_le register 7
-is_widened (DirectResponse function word flags payload) register = nat_le 3 register && nat_le register 7
+is_widened (DirectRequest message) register = nat_le 3 register && nat_le register 7
+is_widened (DirectResponse message) register = nat_le 3 register && nat_le register 7
 is_widened (MemDonate x) register = register == 3
 is_widened (MemLend x) register = register == 3
 is_widened (MemShare x) register = register == 3

@@ -1,10 +1,13 @@
 // SPDX-License-Identifier: MIT OR Apache-2.0
 //! What a check that fails is about, where the call's registers tell it (DEN0077A, 11 to 16).
 ghost use Rattle.std.specs.Prelude.{◌≡◌};
-ghost use Rattle.ffa_model.specs.AboutRegisters.{about_registers, at_endpoint, in_register, registers_of_bind, registers_of_create, registers_of_destroy, registers_of_get, registers_of_map, registers_of_reclaim, registers_of_request, registers_of_response, registers_of_run, registers_of_set, registers_of_transfer, registers_of_unmap};
-ghost use Rattle.ffa_model.specs.Bits.{high_half, low_half, word_of_halves};
+ghost use Rattle.ffa_model.specs.AboutRegisters.{about_registers, in_register, registers_of_bind, registers_of_create, registers_of_destroy, registers_of_get, registers_of_map, registers_of_reclaim, registers_of_request, registers_of_response, registers_of_run, registers_of_set, registers_of_transfer, registers_of_unmap};
+ghost use Rattle.ffa_model.specs.Bits.{word_of_two};
 
-use ffa_model::{About, Call, EndpointId, Refusal, Transfer};
+use crate::reply::word_of_two;
+use ffa_model::{
+    About, Call, DirectMessage, EndpointId, Handle, NotificationBits, Refusal, Transfer,
+};
 
 /// What a check of a call that fails is about, where its registers tell it: a register, an endpoint that one names, or a
 /// handle. The number is that of the function, in w0.
@@ -15,20 +18,24 @@ pub fn about_registers(number: u32, call: &Call, refusal: Refusal) -> Option<Abo
         Call::Features { function } => register(1, u64::from(function)),
         Call::RxtxMap { tx, rx, pages } => of_map(tx, rx, pages, refusal),
         Call::RxtxUnmap { endpoint } => of_unmap(endpoint, refusal),
-        Call::Run { target } => of_run(target, refusal),
-        Call::DirectRequest { word, flags, .. } => of_request(word, flags, refusal),
-        Call::DirectResponse { word, flags, .. } => of_response(word, flags, refusal),
+        Call::Run { target, context } => of_run(target, context, refusal),
+        Call::DirectRequest(message) => of_request(&message, refusal),
+        Call::DirectResponse(message) => of_response(&message, refusal),
         Call::MemDonate(transfer) => of_transfer(&transfer, refusal),
         Call::MemLend(transfer) => of_transfer(&transfer, refusal),
         Call::MemShare(transfer) => of_transfer(&transfer, refusal),
         Call::MemRetrieve(transfer) => of_transfer(&transfer, refusal),
-        Call::MemReclaim { low, high, flags } => of_reclaim(low, high, flags, refusal),
+        Call::MemReclaim { handle, flags } => of_reclaim(handle, flags, refusal),
         Call::BitmapCreate { endpoint, contexts } => of_create(endpoint, contexts, refusal),
         Call::BitmapDestroy { endpoint } => of_destroy(endpoint, refusal),
-        Call::NotificationBind { word, flags, .. } => of_bind(word, flags, refusal),
-        Call::NotificationUnbind { word, flags, .. } => of_bind(word, flags, refusal),
-        Call::NotificationSet { word, flags, .. } => of_set(word, flags, refusal),
-        Call::NotificationGet { receiver, flags } => of_get(receiver, flags, refusal),
+        Call::NotificationBind(bits) => of_bind(&bits, refusal),
+        Call::NotificationUnbind(bits) => of_bind(&bits, refusal),
+        Call::NotificationSet(bits) => of_set(&bits, refusal),
+        Call::NotificationGet {
+            receiver,
+            context,
+            flags,
+        } => of_get(receiver, context, flags, refusal),
         Call::Unknown => register(0, u64::from(number)),
         _ => None,
     }
@@ -58,42 +65,49 @@ fn of_unmap(endpoint: u32, refusal: Refusal) -> Option<About>
 }
 
 // Of FFA_RUN.
-fn of_run(word: u32, refusal: Refusal) -> Option<About>
-    ensures { result ≡ registers_of_run word refusal }
+fn of_run(target: EndpointId, context: u16, refusal: Refusal) -> Option<About>
+    ensures { result ≡ registers_of_run target context refusal }
 {
     match refusal {
-        Refusal::TargetUnknown => high_endpoint(word),
-        Refusal::ContextUnknown => register(1, u64::from(word)),
-        Refusal::TargetNotReady => high_endpoint(word),
+        Refusal::TargetUnknown => Some(About::Endpoint(target)),
+        Refusal::ContextUnknown => register(1, u64::from(word_of_two(target.0, context))),
+        Refusal::TargetNotReady => Some(About::Endpoint(target)),
         _ => None,
     }
 }
 
 // Of FFA_MSG_SEND_DIRECT_REQ.
-fn of_request(word: u32, flags: u32, refusal: Refusal) -> Option<About>
-    ensures { result ≡ registers_of_request word flags refusal }
+fn of_request(message: &DirectMessage, refusal: Refusal) -> Option<About>
+    ensures { result ≡ registers_of_request message.now refusal }
 {
     match refusal {
-        Refusal::SenderIsAnother => high_endpoint(word),
-        Refusal::FlagsReserved => register(2, u64::from(flags)),
-        Refusal::ReceiverUnknown => low_endpoint(word),
-        Refusal::ReceiverIsCaller => low_endpoint(word),
-        Refusal::ReceiverIsNormalWorld => low_endpoint(word),
-        Refusal::RequestsUnreceived => low_endpoint(word),
-        Refusal::ReceiverNotWaiting => low_endpoint(word),
+        Refusal::SenderIsAnother => Some(About::Endpoint(message.sender)),
+        Refusal::FlagsReserved => register(2, u64::from(message.flags)),
+        Refusal::ReceiverUnknown => Some(About::Endpoint(message.receiver)),
+        Refusal::ReceiverIsCaller => Some(About::Endpoint(message.receiver)),
+        Refusal::ReceiverIsNormalWorld => Some(About::Endpoint(message.receiver)),
+        Refusal::RequestsUnreceived => Some(About::Endpoint(message.receiver)),
+        Refusal::ReceiverNotWaiting => Some(About::Endpoint(message.receiver)),
         _ => None,
     }
 }
 
 // Of FFA_MSG_SEND_DIRECT_RESP.
-fn of_response(word: u32, flags: u32, refusal: Refusal) -> Option<About>
-    ensures { result ≡ registers_of_response word flags refusal }
+fn of_response(message: &DirectMessage, refusal: Refusal) -> Option<About>
+    ensures { result ≡ registers_of_response message.now refusal }
 {
     match refusal {
-        Refusal::AnswerMisdirected => register(1, u64::from(word)),
-        Refusal::FlagsReserved => register(2, u64::from(flags)),
+        Refusal::AnswerMisdirected => register(1, ends_of(message)),
+        Refusal::FlagsReserved => register(2, u64::from(message.flags)),
         _ => None,
     }
+}
+
+// The word that names the ends of a direct message.
+fn ends_of(message: &DirectMessage) -> u64
+    ensures { result ≡ word_of_two message.now.sender.0 message.now.receiver.0 }
+{
+    u64::from(word_of_two(message.sender.0, message.receiver.0))
 }
 
 // Of a call whose descriptor stands in TX.
@@ -110,22 +124,15 @@ fn of_transfer(transfer: &Transfer, refusal: Refusal) -> Option<About>
 }
 
 // Of FFA_MEM_RECLAIM.
-fn of_reclaim(low: u32, high: u32, flags: u32, refusal: Refusal) -> Option<About>
-    ensures { result ≡ registers_of_reclaim low high flags refusal }
+fn of_reclaim(handle: Handle, flags: u32, refusal: Refusal) -> Option<About>
+    ensures { result ≡ registers_of_reclaim handle flags refusal }
 {
     match refusal {
         Refusal::FlagsReserved => register(3, u64::from(flags)),
-        Refusal::NotTheSenders => Some(About::Handle(handle_of(low, high))),
-        Refusal::StillHeld => Some(About::Handle(handle_of(low, high))),
+        Refusal::NotTheSenders => Some(About::Handle(handle.0)),
+        Refusal::StillHeld => Some(About::Handle(handle.0)),
         _ => None,
     }
-}
-
-// The handle whose halves stand in two registers.
-fn handle_of(low: u32, high: u32) -> u64
-    ensures { result ≡ word_of_halves low high }
-{
-    (u64::from(high) << 32) + u64::from(low)
 }
 
 // Of FFA_NOTIFICATION_BITMAP_CREATE.
@@ -150,38 +157,38 @@ fn of_destroy(endpoint: u32, refusal: Refusal) -> Option<About>
 }
 
 // Of FFA_NOTIFICATION_BIND and FFA_NOTIFICATION_UNBIND.
-fn of_bind(word: u32, flags: u32, refusal: Refusal) -> Option<About>
-    ensures { result ≡ registers_of_bind word flags refusal }
+fn of_bind(bits: &NotificationBits, refusal: Refusal) -> Option<About>
+    ensures { result ≡ registers_of_bind bits.now refusal }
 {
     match refusal {
-        Refusal::ReceiverIsAnother => low_endpoint(word),
-        Refusal::SenderUnknown => high_endpoint(word),
-        Refusal::SenderIsCaller => high_endpoint(word),
-        Refusal::FlagsReserved => register(2, u64::from(flags)),
+        Refusal::ReceiverIsAnother => Some(About::Endpoint(bits.receiver)),
+        Refusal::SenderUnknown => Some(About::Endpoint(bits.sender)),
+        Refusal::SenderIsCaller => Some(About::Endpoint(bits.sender)),
+        Refusal::FlagsReserved => register(2, u64::from(bits.flags)),
         _ => None,
     }
 }
 
 // Of FFA_NOTIFICATION_SET.
-fn of_set(word: u32, flags: u32, refusal: Refusal) -> Option<About>
-    ensures { result ≡ registers_of_set word flags refusal }
+fn of_set(bits: &NotificationBits, refusal: Refusal) -> Option<About>
+    ensures { result ≡ registers_of_set bits.now refusal }
 {
     match refusal {
-        Refusal::SenderIsAnother => high_endpoint(word),
-        Refusal::ReceiverUnknown => low_endpoint(word),
-        Refusal::ReceiverIsCaller => low_endpoint(word),
-        Refusal::FlagsReserved => register(2, u64::from(flags)),
+        Refusal::SenderIsAnother => Some(About::Endpoint(bits.sender)),
+        Refusal::ReceiverUnknown => Some(About::Endpoint(bits.receiver)),
+        Refusal::ReceiverIsCaller => Some(About::Endpoint(bits.receiver)),
+        Refusal::FlagsReserved => register(2, u64::from(bits.flags)),
         _ => None,
     }
 }
 
 // Of FFA_NOTIFICATION_GET.
-fn of_get(word: u32, flags: u32, refusal: Refusal) -> Option<About>
-    ensures { result ≡ registers_of_get word flags refusal }
+fn of_get(receiver: EndpointId, context: u16, flags: u32, refusal: Refusal) -> Option<About>
+    ensures { result ≡ registers_of_get receiver context flags refusal }
 {
     match refusal {
-        Refusal::ReceiverIsAnother => low_endpoint(word),
-        Refusal::ContextUnknown => register(1, u64::from(word)),
+        Refusal::ReceiverIsAnother => Some(About::Endpoint(receiver)),
+        Refusal::ContextUnknown => register(1, u64::from(word_of_two(context, receiver.0))),
         Refusal::ClassesUnknown => register(2, u64::from(flags)),
         _ => None,
     }
@@ -192,18 +199,4 @@ fn register(register: u32, value: u64) -> Option<About>
     ensures { result ≡ in_register register value }
 {
     Some(About::Register { register, value })
-}
-
-// The endpoint in the high half of a word.
-fn high_endpoint(word: u32) -> Option<About>
-    ensures { result ≡ at_endpoint (high_half word) }
-{
-    Some(About::Endpoint(EndpointId::in_high_half(word)))
-}
-
-// And in the low half.
-fn low_endpoint(word: u32) -> Option<About>
-    ensures { result ≡ at_endpoint (low_half word) }
-{
-    Some(About::Endpoint(EndpointId::in_low_half(word)))
 }

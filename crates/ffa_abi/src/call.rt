@@ -1,19 +1,54 @@
 // SPDX-License-Identifier: MIT OR Apache-2.0
 //! Calls in registers.
 ghost use Rattle.std.specs.Prelude.{◌≡◌, ◌<◌, slice_index};
-ghost use Rattle.ffa_model.specs.Bits.{is_set};
-ghost use Rattle.ffa_model.specs.Registers.{additions, decode, is_function, low, memory, messages, notifications, setup};
-ghost use Rattle.ffa_abi.specs.Parts.{called_in, payload_of, transfer_of, widest};
+ghost use Rattle.ffa_model.specs.Bits.{high_half, is_set, low_half, word_of_halves};
+ghost use Rattle.ffa_model.specs.Registers.{additions, decode, high_endpoint, is_function, low, low_endpoint, memory, messages, notifications, setup};
+ghost use Rattle.ffa_abi.specs.Parts.{called_in, bits_of_call, message_of, payload_of, transfer_of, widest};
 ghost use Rattle.ffa_abi.specs.Widths.{is_read_whole, is_widened};
 
 use ffa_model::function::*;
-use ffa_model::{Call, Transfer};
+use ffa_model::{Call, DirectMessage, EndpointId, Handle, NotificationBits, Transfer};
 
 /// The low half of a register.
 pub fn low(register: u64) -> u32
     ensures { result ≡ low register }
 {
     (register % (1 << 32)) as u32
+}
+
+// The high half of a word.
+fn high_half(word: u32) -> u16
+    ensures { result ≡ high_half word }
+{
+    (word / 0x1_0000) as u16
+}
+
+// The low half of a word.
+fn low_half(word: u32) -> u16
+    ensures { result ≡ low_half word }
+{
+    (word % 0x1_0000) as u16
+}
+
+// The endpoint that the high half of a word names.
+fn high_endpoint(word: u32) -> EndpointId
+    ensures { result ≡ high_endpoint word }
+{
+    EndpointId(high_half(word))
+}
+
+// The endpoint that the low half of a word names.
+fn low_endpoint(word: u32) -> EndpointId
+    ensures { result ≡ low_endpoint word }
+{
+    EndpointId(low_half(word))
+}
+
+// The 64-bit word of two halves.
+fn word_of_halves(low: u32, high: u32) -> u64
+    ensures { result ≡ word_of_halves low high }
+{
+    u64::from(high) * (1 << 32) + u64::from(low)
 }
 
 /// The registers x0 to x7 of a call, of which the low half of x0 names the function.
@@ -83,22 +118,32 @@ impl Registers {
         let call = match self.w(0) {
             FFA_MSG_WAIT => Call::MsgWait,
             FFA_YIELD => Call::Yield,
-            FFA_RUN => Call::Run { target: self.w(1) },
-            FFA_MSG_SEND_DIRECT_REQ | FFA_MSG_SEND_DIRECT_REQ_64 => Call::DirectRequest {
-                function: self.w(0),
-                word: self.w(1),
-                flags: self.w(2),
-                payload: self.payload(),
+            FFA_RUN => Call::Run {
+                target: high_endpoint(self.w(1)),
+                context: low_half(self.w(1)),
             },
-            FFA_MSG_SEND_DIRECT_RESP | FFA_MSG_SEND_DIRECT_RESP_64 => Call::DirectResponse {
-                function: self.w(0),
-                word: self.w(1),
-                flags: self.w(2),
-                payload: self.payload(),
-            },
+            FFA_MSG_SEND_DIRECT_REQ | FFA_MSG_SEND_DIRECT_REQ_64 => {
+                Call::DirectRequest(self.direct_message())
+            }
+            FFA_MSG_SEND_DIRECT_RESP | FFA_MSG_SEND_DIRECT_RESP_64 => {
+                Call::DirectResponse(self.direct_message())
+            }
             _ => return None,
         };
         Some(call)
+    }
+
+    // A direct message, in either form.
+    fn direct_message(&self) -> DirectMessage
+        ensures { result ≡ message_of self.now.0 }
+    {
+        DirectMessage {
+            function: self.w(0),
+            sender: high_endpoint(self.w(1)),
+            receiver: low_endpoint(self.w(1)),
+            flags: self.w(2),
+            payload: self.payload(),
+        }
     }
 
     // What a direct message carries.
@@ -131,8 +176,7 @@ impl Registers {
             FFA_MEM_RETRIEVE_REQ | FFA_MEM_RETRIEVE_REQ_64 => { Call::MemRetrieve(self.transfer()) }
             FFA_MEM_RELINQUISH => Call::MemRelinquish,
             FFA_MEM_RECLAIM => Call::MemReclaim {
-                low: self.w(1),
-                high: self.w(2),
+                handle: Handle(word_of_halves(self.w(1), self.w(2))),
                 flags: self.w(3),
             },
             _ => return None,
@@ -144,7 +188,6 @@ impl Registers {
     fn notification(&self) -> Option<Call>
         ensures { result ≡ called_in notifications self.now.0 }
     {
-        let (word, flags, low, high) = (self.w(1), self.w(2), self.w(3), self.w(4));
         let call = match self.w(0) {
             FFA_NOTIFICATION_BITMAP_CREATE => Call::BitmapCreate {
                 endpoint: self.w(1),
@@ -153,31 +196,29 @@ impl Registers {
             FFA_NOTIFICATION_BITMAP_DESTROY => Call::BitmapDestroy {
                 endpoint: self.w(1),
             },
-            FFA_NOTIFICATION_BIND => Call::NotificationBind {
-                word,
-                flags,
-                low,
-                high,
-            },
-            FFA_NOTIFICATION_UNBIND => Call::NotificationUnbind {
-                word,
-                flags,
-                low,
-                high,
-            },
-            FFA_NOTIFICATION_SET => Call::NotificationSet {
-                word,
-                flags,
-                low,
-                high,
-            },
+            FFA_NOTIFICATION_BIND => Call::NotificationBind(self.notification_bits()),
+            FFA_NOTIFICATION_UNBIND => Call::NotificationUnbind(self.notification_bits()),
+            FFA_NOTIFICATION_SET => Call::NotificationSet(self.notification_bits()),
             FFA_NOTIFICATION_GET => Call::NotificationGet {
-                receiver: self.w(1),
+                receiver: low_endpoint(self.w(1)),
+                context: high_half(self.w(1)),
                 flags: self.w(2),
             },
             _ => return None,
         };
         Some(call)
+    }
+
+    // The bits of a receiver that a call names, for a sender.
+    fn notification_bits(&self) -> NotificationBits
+        ensures { result ≡ bits_of_call self.now.0 }
+    {
+        NotificationBits {
+            sender: high_endpoint(self.w(1)),
+            receiver: low_endpoint(self.w(1)),
+            flags: self.w(2),
+            bitmap: word_of_halves(self.w(3), self.w(4)),
+        }
     }
 
     // The call, where version 1.1 added it.
@@ -221,7 +262,7 @@ fn is_widened(call: &Call, register: u32) -> bool
 {
     match call {
         Call::RxtxMap { .. } => register == 1 || register == 2,
-        Call::DirectRequest { .. } | Call::DirectResponse { .. } => 3 <= register && register <= 7,
+        Call::DirectRequest(_) | Call::DirectResponse(_) => 3 <= register && register <= 7,
         Call::MemDonate(_) | Call::MemLend(_) | Call::MemShare(_) | Call::MemRetrieve(_) => {
             register == 3
         }

@@ -1,11 +1,12 @@
 // SPDX-License-Identifier: MIT OR Apache-2.0
 //! Replies in registers.
 ghost use Rattle.std.specs.Prelude.{◌≡◌};
+ghost use Rattle.ffa_model.specs.Bits.{word_of_two};
 ghost use Rattle.ffa_model.specs.Calls.{code_number, encode};
 ghost use Rattle.ffa_model.specs.declared.call.Reply.{Reply};
 
 use ffa_model::function::{FFA_ERROR, FFA_MEM_RETRIEVE_RESP, FFA_SUCCESS};
-use ffa_model::{ErrorCode, Reply};
+use ffa_model::{DirectMessage, EndpointId, ErrorCode, Reply};
 
 // FF-A's number of a code, as 32 bits of two's complement (DEN0077A, 11.2).
 fn code_number(code: ErrorCode) -> u32
@@ -28,12 +29,29 @@ fn success(results: [u32; 6]) -> [u64; 8]
     [u64::from(FFA_SUCCESS), 0, w2, w3, w4, w5, w6, w7]
 }
 
-// The registers that an endpoint is passed: w0, w1, 0 and x3 to x7.
-fn passed(w0: u32, w1: u32, payload: [u64; 5]) -> [u64; 8]
-    ensures { result ≡ encode (Reply.Passed w0 w1 payload) }
+// The registers of a direct message, as its receiver sees it.
+fn passed(message: &DirectMessage) -> [u64; 8]
+    ensures { result ≡ encode (Reply.Passed message.now) }
 {
-    let [x3, x4, x5, x6, x7] = payload;
-    [u64::from(w0), u64::from(w1), 0, x3, x4, x5, x6, x7]
+    let w0 = u64::from(message.function);
+    let w1 = u64::from(word_of_two(message.sender.0, message.receiver.0));
+    let [x3, x4, x5, x6, x7] = message.payload;
+    [w0, w1, 0, x3, x4, x5, x6, x7]
+}
+
+// The registers that tell of a partition which is given cycles, or gives them back: it and its execution context 0 in w1.
+fn scheduled(function: u32, partition: EndpointId) -> [u64; 8]
+    ensures { result ≡ encode (Reply.Scheduled function partition) }
+{
+    let w1 = u64::from(word_of_two(partition.0, 0));
+    [u64::from(function), w1, 0, 0, 0, 0, 0, 0]
+}
+
+// The word of two halves.
+pub(crate) fn word_of_two(high: u16, low: u16) -> u32
+    ensures { result ≡ word_of_two high low }
+{
+    u32::from(high) * 0x1_0000 + u32::from(low)
 }
 
 /// The registers x0 to x7 of a reply. Those that it does not use, and the upper halves of 32-bit values, are zero.
@@ -47,7 +65,11 @@ pub fn encode(reply: &Reply) -> [u64; 8]
             [u64::from(FFA_ERROR), 0, w2, 0, 0, 0, 0, 0]
         }
         Reply::Success(results) => success(results),
-        Reply::Passed { w0, w1, payload } => passed(w0, w1, payload),
+        Reply::Passed(message) => passed(&message),
+        Reply::Scheduled {
+            function,
+            partition,
+        } => scheduled(function, partition),
         Reply::Retrieved(size) => {
             let size = u64::from(size);
             [u64::from(FFA_MEM_RETRIEVE_RESP), size, size, 0, 0, 0, 0, 0]

@@ -90,7 +90,7 @@ module _ (s : State) (steady : IsSteady s) (e p : ℕ) (owned : owner_of s p ≡
   unnamed-service (MemShare x) none = unnamed-sent Share x none
   unnamed-service (MemRetrieve x) none = unnamed-retrieved x (taken s x none)
   unnamed-service MemRelinquish none = unnamed-relinquished (relinquish_read s)
-  unnamed-service (MemReclaim low high flags) none = unnamed-still s steady (handle_of high low) p unnamed
+  unnamed-service (MemReclaim handle flags) none = unnamed-still s steady handle.0 p unnamed
   unnamed-service call none = unnamed
 
   pub unnamed-kept : (op : Op) → handle_at (step s op).state p ≡ None

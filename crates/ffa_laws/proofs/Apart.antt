@@ -125,7 +125,7 @@ module _ (s : State) (apart : AreApart s) where
   apart-service (MemShare x) none = apart-sent Share x.total
   apart-service (MemRetrieve x) none = apart-retrieved x (taken s x none)
   apart-service MemRelinquish none = apart-relinquished (relinquish_read s)
-  apart-service (MemReclaim low high flags) none = without-one s.transactions (handle_of high low) apart
+  apart-service (MemReclaim handle flags) none = without-one s.transactions handle.0 apart
   apart-service call none = apart
 
   apart-step : (op : Op) → AreApart (step s op).state

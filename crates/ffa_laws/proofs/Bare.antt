@@ -16,7 +16,8 @@ use Rattle.ffa_model.specs.declared.rights.Kind.TheVariants.{Share, Lend, Donate
 use Rattle.ffa_model.specs.declared.call.Call as calls
 use Rattle.ffa_model.specs.declared.call.Call.TheVariants.{MemDonate, MemLend, MemShare, NotificationSet, MsgSend2}
 use Rattle.ffa_model.specs.Access.{access, is_receiver, names}
-use Rattle.ffa_model.specs.Bits.{bits_of, low_half, word_of_halves}
+use Rattle.ffa_model.specs.declared.call.NotificationBits.{NotificationBits}
+use Rattle.ffa_model.specs.Bits.{bits_of}
 use Rattle.ffa_model.specs.Buffers.{room_of}
 use Rattle.ffa_model.specs.Calls.{first_failure}
 use Rattle.ffa_model.specs.Identifiers.{identifier}
@@ -41,7 +42,7 @@ use Rattle.ffa_laws.proofs.BufferLaws.{own-buffers}
 use Rattle.ffa_laws.proofs.Changes.{apply_all-append}
 use Rattle.ffa_laws.proofs.Laws.{other-call}
 use Rattle.ffa_laws.proofs.Maps.{at-map_at, map_at-alike, map_at-twice}
-use Rattle.ffa_laws.proofs.Meets.{IsHalved, decode-halved, zero-word}
+use Rattle.ffa_laws.proofs.Meets.{FitsBitmap, decode-fits, zero-word}
 use Rattle.ffa_laws.proofs.MemoryLaws.{fault-none}
 use Rattle.ffa_laws.proofs.Rows.{all-weaker, row-of, told_row}
 use Rattle.ffa_laws.proofs.SendLaws.{rewritten-sent}
@@ -183,23 +184,22 @@ module _ (e : ℕ) (s : State) where
         bare-where e (apply e v filling) has (bit ∷ []) (λ _. ((some≢nothing, (1, refl)), tt)),
       ))
 
-  bare-set : (word flags low high : ℕ) → low < 2 ^ 32 → high < 2 ^ 32 → first_failure (notification_set s word flags low high).guards ≡ None
-      → AreBare e v (sets e s (low_half word) (bits_of (word_of_halves low high)))
-  bare-set word flags low high lt also none =
-      let bitmap = word_of_halves low high in
-      let asked : not (bitmap == 0) ≡ true = guard-passes (set_guards (length s.parties) (notifications_of s) s.runner word flags bitmap) 4 (sym none) in
-      bare-where e v (low_half word == e) (Pending (class_of s.runner) (bits_of bitmap) ∷ []) (λ mine. (
-        (λ nothing. (let zero_bits : bitmap ≡ 0 = zero-word bitmap (omega (arith, lt, also)) nothing in true≢false (sym asked ∙ ap not (eq-eqb bitmap 0 zero_bits))), (bitmap, refl)),
+  bare-set : (its : NotificationBits) → its.bitmap < 2 ^ 64 → first_failure (notification_set s its).guards ≡ None
+      → AreBare e v (sets e s its.receiver.0 (bits_of its.bitmap))
+  bare-set its lt none =
+      let asked : not (its.bitmap == 0) ≡ true = guard-passes (set_guards (length s.parties) (notifications_of s) s.runner its) 4 (sym none) in
+      bare-where e v (its.receiver.0 == e) (Pending (class_of s.runner) (bits_of its.bitmap) ∷ []) (λ mine. (
+        (λ nothing. true≢false (sym asked ∙ ap not (eq-eqb its.bitmap 0 (zero-word its.bitmap lt nothing))), (its.bitmap, refl)),
         tt,
       ))
 
-  bare-told : is_known s e ≡ true → (call : calls.Call) → IsHalved call → first_failure (service s call).guards ≡ None → AreBare e v (told_by e s call)
-  bare-told known (MemDonate x) halved none = bare-sent Donate (send_read s Donate x.total)
-  bare-told known (MemLend x) halved none = bare-sent Lend (send_read s Lend x.total)
-  bare-told known (MemShare x) halved none = bare-sent Share (send_read s Share x.total)
-  bare-told known (NotificationSet word flags low high) halved none = bare-set word flags low high halved.0 halved.1 none
-  bare-told known MsgSend2 halved none = bare-delivered known none
-  bare-told known call halved none = all-plain e (told_by e s call) v (all-weaker (told_row call) is_plain (told_by e s call) plain (row-of e s call))
+  bare-told : is_known s e ≡ true → (call : calls.Call) → FitsBitmap call → first_failure (service s call).guards ≡ None → AreBare e v (told_by e s call)
+  bare-told known (MemDonate x) fits none = bare-sent Donate (send_read s Donate x.total)
+  bare-told known (MemLend x) fits none = bare-sent Lend (send_read s Lend x.total)
+  bare-told known (MemShare x) fits none = bare-sent Share (send_read s Share x.total)
+  bare-told known (NotificationSet its) fits none = bare-set its fits none
+  bare-told known MsgSend2 fits none = bare-delivered known none
+  bare-told known call fits none = all-plain e (told_by e s call) v (all-weaker (told_row call) is_plain (told_by e s call) plain (row-of e s call))
     where
       neither : (b : Bool) → (b && false) ≡ false
       neither true = refl
@@ -220,15 +220,15 @@ module _ (e : ℕ) (s : State) where
       ]
 
   module _ (steady : IsSteady s) (known : is_known s e ≡ true) (other : s.runner ≢ e) where
-    bare-call : (call : calls.Call) → IsHalved call → AreBare e v (call_events e s call)
-    bare-call call halved =
+    bare-call : (call : calls.Call) → FitsBitmap call → AreBare e v (call_events e s call)
+    bare-call call fits =
         let told = where_passed (first_failure (service s call).guards) (told_by e s call) in
         bare-append e v told (public_change s (serve s call).state)
-        (bare-passed e v (first_failure (service s call).guards) (told_by e s call) (bare-told known call halved))
+        (bare-passed e v (first_failure (service s call).guards) (told_by e s call) (bare-told known call fits))
         (bare-public e s (serve s call).state told (other-call e s steady known other call))
 
     pub are-bare : (op : Op) → AreBare e v (events e s op)
-    are-bare (Call x) = bare-call (decode x) (decode-halved x)
+    are-bare (Call x) = bare-call (decode x) (decode-fits x)
     are-bare (Load address size) = tt
     are-bare (Store address size value) = bare-store address size value
     are-bare (Fetch address) = tt

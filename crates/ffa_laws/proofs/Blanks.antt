@@ -294,12 +294,12 @@ module _ (s : State) (hides : ℕ → Bool) where
           state = ap (λ tx. blank hides (relinquished b (relinquish_of tx))) tx-b ∙ relinquished-b (relinquish_of (tx_bytes s s.runner));
         }
 
-    reclaim-b : (low high flags : ℕ) → Alike (memory_reclaim b low high flags) (memory_reclaim s low high flags)
-    reclaim-b low high flags =
+    reclaim-b : (handle flags : ℕ) → Alike (memory_reclaim b handle flags) (memory_reclaim s handle flags)
+    reclaim-b handle flags =
         record {
-          guards = λ i. first_failure (reclaim_guards (own_rights-b i) s.runner flags (transaction_of s (handle_of high low)));
+          guards = λ i. first_failure (reclaim_guards (own_rights-b i) s.runner flags (transaction_of s handle));
           reply = refl;
-          state = λ i. record (memory_reclaim s low high flags).state { pages = zeroed-blind hides (is_set 0 flags) s (named_ranges (transaction_of s (handle_of high low))) i };
+          state = λ i. record (memory_reclaim s handle flags).state { pages = zeroed-blind hides (is_set 0 flags) s (named_ranges (transaction_of s handle)) i };
         }
 
     send2-b : Alike (msg_send2 b) (msg_send2 s)
@@ -333,7 +333,7 @@ module _ (s : State) (hides : ℕ → Bool) where
     service-b (MemShare x) = send-b Share x
     service-b (MemRetrieve x) = retrieve-b x
     service-b MemRelinquish = relinquish-b
-    service-b (MemReclaim low high flags) = reclaim-b low high flags
+    service-b (MemReclaim handle flags) = reclaim-b handle.0 flags
     service-b MsgSend2 = send2-b
     service-b call = record { guards = refl; reply = refl; state = λ i. record (service s call).state { pages = blanked-twice hides s.pages i } }
 

@@ -141,8 +141,8 @@ module _ (s : State) (steady : IsSteady s) where
   memory-rights (MemShare x) memory none = rewritten-rights s.pages _ (rewritten-sent s Share (send_read s Share x.total))
   memory-rights (MemRetrieve x) memory none = retrieved-rights x none
   memory-rights MemRelinquish memory none = rewritten-rights s.pages _ (rewritten-relinquished s (relinquish_read s))
-  memory-rights (MemReclaim low high flags) memory none =
-      rewritten-rights s.pages _ (rewritten-zeroed_if (is_set 0 flags) s (named_ranges (transaction_of s (handle_of high low))))
+  memory-rights (MemReclaim handle flags) memory none =
+      rewritten-rights s.pages _ (rewritten-zeroed_if (is_set 0 flags) s (named_ranges (transaction_of s handle.0)))
   memory-rights call memory none = absurd (false≢true memory)
 
   by-info : (bytes : List ℕ) → KeepsRights s.pages (filled_pages s.pages bytes (buffers_of s s.runner))

@@ -148,8 +148,8 @@ module _ (s : State) (steady : IsSteady s) (e p : ℕ) (owned : owner_of s p ≡
   memory-page (MemShare x) memory none = sent-elsewhere Share x none
   memory-page (MemRetrieve x) memory none = retrieved-elsewhere x none
   memory-page MemRelinquish memory none = relinquished-elsewhere (relinquish_read s)
-  memory-page (MemReclaim low high flags) memory none =
-      elsewhere-zeroed (is_set 0 flags) (named_ranges (transaction_of s (handle_of high low))) (of_no_transaction (handle_of high low))
+  memory-page (MemReclaim handle flags) memory none =
+      elsewhere-zeroed (is_set 0 flags) (named_ranges (transaction_of s handle.0)) (of_no_transaction handle.0)
   memory-page call memory none = absurd (false≢true memory)
 
   page-kept-call : (call : calls.Call) → (is_send2 call && fills_rx_page s e p) ≡ false → page_at (serve s call).state p ≡ page_at s p

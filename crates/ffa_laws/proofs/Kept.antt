@@ -77,7 +77,7 @@ is_memory_call (MemLend x) = true
 is_memory_call (MemShare x) = true
 is_memory_call (MemRetrieve x) = true
 is_memory_call MemRelinquish = true
-is_memory_call (MemReclaim low high flags) = true
+is_memory_call (MemReclaim handle flags) = true
 is_memory_call call = false
 
 -- What holds of the pages of a state, and of pages into which an operation writes, holds of the pages that each operation
@@ -107,7 +107,7 @@ module _ (R : List (Option Page) → Type 0) (s : State) (same : R s.pages) (by_
   kept-service (MemShare x) by_send by_memory none = by_memory refl none
   kept-service (MemRetrieve x) by_send by_memory none = by_memory refl none
   kept-service MemRelinquish by_send by_memory none = by_memory refl none
-  kept-service (MemReclaim low high flags) by_send by_memory none = by_memory refl none
+  kept-service (MemReclaim handle flags) by_send by_memory none = by_memory refl none
   kept-service MsgSend2 by_send by_memory none = by_send refl none
   kept-service call by_send by_memory none = same
 

@@ -10,7 +10,7 @@ use Rattle.ffa_model.specs.Calls.{Stepped, first_failure}
 use Rattle.ffa_model.specs.Registers.{decode}
 use Rattle.ffa_model.specs.declared.rights.Kind.TheVariants.{Share, Lend, Donate}
 use Rattle.ffa_model.specs.declared.schedule.Status.TheVariants.{Yielded}
-use Rattle.ffa_model.specs.Bits.{bits_of, high_half, word_of_halves, low_half}
+use Rattle.ffa_model.specs.Bits.{bits_of}
 use Rattle.ffa_model.specs.Buffers.{new_buffers}
 use Rattle.ffa_model.specs.RunStates.{direct_request, direct_response, finished, given_cycles, requested, run_partition, schedule_of, status_in, switched, yield_now}
 use Rattle.ffa_model.specs.Notifications.{class_of, notifications_of, with_bitmaps, with_pending, without_pending}
@@ -46,21 +46,21 @@ own-service s steady IdGet = (refl, λ none. (refl, refl))
 own-service s steady SpmIdGet = (refl, λ none. (refl, refl))
 own-service s steady MsgWait = own-wait s
 own-service s steady Yield = own-yield s
-own-service s steady (Run target) = own-run s target
-own-service s steady (DirectRequest function word flags payload) = own-request s function word flags payload
-own-service s steady (DirectResponse function word flags payload) = own-response s function word flags payload
+own-service s steady (Run target context) = own-run s target.0 context
+own-service s steady (DirectRequest message) = own-request s message
+own-service s steady (DirectResponse message) = own-response s message
 own-service s steady (MemDonate x) = own-send s steady Donate x
 own-service s steady (MemLend x) = own-send s steady Lend x
 own-service s steady (MemShare x) = own-send s steady Share x
 own-service s steady (MemRetrieve x) = own-retrieve s steady x
 own-service s steady MemRelinquish = own-relinquish s steady
-own-service s steady (MemReclaim low high flags) = own-reclaim s steady low high flags
+own-service s steady (MemReclaim handle flags) = own-reclaim s steady handle.0 flags
 own-service s steady (BitmapCreate endpoint contexts) = own-create s steady endpoint contexts
 own-service s steady (BitmapDestroy endpoint) = own-destroy s steady endpoint
-own-service s steady (NotificationBind word flags low high) = own-bind s steady word flags low high
-own-service s steady (NotificationUnbind word flags low high) = own-unbind s steady word flags low high
-own-service s steady (NotificationSet word flags low high) = own-set s steady word flags low high
-own-service s steady (NotificationGet word flags) = own-get s steady word flags
+own-service s steady (NotificationBind its) = own-bind s steady its
+own-service s steady (NotificationUnbind its) = own-unbind s steady its
+own-service s steady (NotificationSet its) = own-set s steady its
+own-service s steady (NotificationGet receiver context flags) = own-get s steady receiver.0 context flags
 own-service s steady MsgSend2 = own-send2 s steady
 own-service s steady Unknown = (refl, λ none. (refl, refl))
 
@@ -85,21 +85,21 @@ module _ (e : ℕ) (s : State) (steady : IsSteady s) (known : is_known s e ≡ t
   other-service SpmIdGet = λ none. other-same e s
   other-service MsgWait = λ none. other-wait e s
   other-service Yield = λ none. other-scheduled e s (switched (schedule_of s) Yielded 0) (yield_now s)
-  other-service (Run target) = λ none. other-scheduled e s (given_cycles (schedule_of s) (high_half target) (status_in (schedule_of s) (high_half target))) (run_partition s target)
-  other-service (DirectRequest function word flags payload) = λ none. other-scheduled e s (requested (schedule_of s) (low_half word)) (direct_request s function word flags payload)
-  other-service (DirectResponse function word flags payload) = λ none. other-scheduled e s (finished (schedule_of s) (low_half word)) (direct_response s function word flags payload)
+  other-service (Run target context) = λ none. other-scheduled e s (given_cycles (schedule_of s) target.0 (status_in (schedule_of s) target.0)) (run_partition s target.0 context)
+  other-service (DirectRequest message) = λ none. other-scheduled e s (requested (schedule_of s) message.receiver.0) (direct_request s message)
+  other-service (DirectResponse message) = λ none. other-scheduled e s (finished (schedule_of s) message.receiver.0) (direct_response s message)
   other-service (MemDonate x) = other-send e s steady known other Donate x
   other-service (MemLend x) = other-send e s steady known other Lend x
   other-service (MemShare x) = other-send e s steady known other Share x
   other-service (MemRetrieve x) = other-retrieve e s steady other x
   other-service MemRelinquish = other-relinquish e s steady other
-  other-service (MemReclaim low high flags) = other-reclaim e s steady other low high flags
+  other-service (MemReclaim handle flags) = other-reclaim e s steady other handle.0 flags
   other-service (BitmapCreate endpoint contexts) = other-create e s other endpoint contexts
   other-service (BitmapDestroy endpoint) = other-destroy e s other steady endpoint
-  other-service (NotificationBind word flags low high) = λ none. other-bind e s other word low high flags
-  other-service (NotificationUnbind word flags low high) = λ none. other-unbind e s other word low high flags
-  other-service (NotificationSet word flags low high) = λ none. other-set e s known word flags low high
-  other-service (NotificationGet word flags) = λ none. other-get e s other word flags
+  other-service (NotificationBind its) = λ none. other-bind e s other its
+  other-service (NotificationUnbind its) = λ none. other-unbind e s other its
+  other-service (NotificationSet its) = λ none. other-set e s known its
+  other-service (NotificationGet receiver context flags) = λ none. other-get e s other receiver.0 context flags
   other-service MsgSend2 = other-send2 s steady e known
   other-service Unknown = λ none. other-same e s
 
@@ -123,21 +123,21 @@ steady-service s steady IdGet none = steady
 steady-service s steady SpmIdGet none = steady
 steady-service s steady MsgWait none = steady-wait s steady
 steady-service s steady Yield none = steady-yield s steady
-steady-service s steady (Run target) none = steady-run s steady target none
-steady-service s steady (DirectRequest function word flags payload) none = steady-request s steady function word flags payload none
-steady-service s steady (DirectResponse function word flags payload) none = steady-response s steady function word flags payload none
+steady-service s steady (Run target context) none = steady-run s steady target.0 context none
+steady-service s steady (DirectRequest message) none = steady-request s steady message none
+steady-service s steady (DirectResponse message) none = steady-response s steady message none
 steady-service s steady (MemDonate x) none = steady-send s steady Donate x none
 steady-service s steady (MemLend x) none = steady-send s steady Lend x none
 steady-service s steady (MemShare x) none = steady-send s steady Share x none
 steady-service s steady (MemRetrieve x) none = steady-retrieve s steady x none
 steady-service s steady MemRelinquish none = steady-relinquish s steady
-steady-service s steady (MemReclaim low high flags) none = steady-reclaim s steady low high flags
+steady-service s steady (MemReclaim handle flags) none = steady-reclaim s steady handle.0 flags
 steady-service s steady (BitmapCreate endpoint contexts) none = steady-notified s steady (with_bitmaps (notifications_of s) 0) steady.bound
 steady-service s steady (BitmapDestroy endpoint) none = steady-destroy s steady
-steady-service s steady (NotificationBind word flags low high) none = steady-bind s steady word low high
-steady-service s steady (NotificationUnbind word flags low high) none = steady-unbind s steady word low high
-steady-service s steady (NotificationSet word flags low high) none = steady-notified s steady (with_pending (notifications_of s) (low_half word) (class_of s.runner) (bits_of (word_of_halves low high))) steady.bound
-steady-service s steady (NotificationGet word flags) none = steady-notified s steady (without_pending (notifications_of s) s.runner flags) steady.bound
+steady-service s steady (NotificationBind its) none = steady-bind s steady its
+steady-service s steady (NotificationUnbind its) none = steady-unbind s steady its
+steady-service s steady (NotificationSet its) none = steady-notified s steady (with_pending (notifications_of s) its.receiver.0 (class_of s.runner) (bits_of its.bitmap)) steady.bound
+steady-service s steady (NotificationGet receiver context flags) none = steady-notified s steady (without_pending (notifications_of s) s.runner flags) steady.bound
 steady-service s steady MsgSend2 none = steady-send2 s steady
 steady-service s steady Unknown none = steady
 

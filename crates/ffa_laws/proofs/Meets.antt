@@ -11,12 +11,13 @@ use Rattle.ffa_model.specs.declared.operation.Op.{Op}
 use Rattle.ffa_model.specs.declared.operation.Op.TheVariants.{Call, Load, Store, Fetch}
 use Rattle.ffa_model.specs.declared.call.Call as calls
 use Rattle.ffa_model.specs.declared.call.Call.TheVariants.{MemRelinquish, NotificationSet, MsgSend2}
+use Rattle.ffa_model.specs.declared.call.NotificationBits.{NotificationBits}
 use Rattle.ffa_model.specs.Rights.{may_store}
 use Rattle.ffa_model.specs.Transactions.{not_holding}
 use Rattle.ffa_model.specs.SoundState.{IsSoundState}
 use Rattle.ffa_model.specs.State.{State, Page, Transaction, buffers_of, is_known, page_at, transaction_of}
 use Rattle.ffa_model.specs.Access.{access, is_from, right_of, transaction_at}
-use Rattle.ffa_model.specs.Bits.{bits_of, is_set, low_half, word_of_halves, word_where}
+use Rattle.ffa_model.specs.Bits.{bits_of, is_set, word_of_halves, word_where}
 use Rattle.ffa_model.specs.Calls.{first_failure}
 use Rattle.ffa_model.specs.Lists.{listed}
 use Rattle.ffa_model.specs.Memory.{access_at, size_of, store_fault}
@@ -69,35 +70,38 @@ all-free : (e : ℕ) (es : List Event) (v : State) → list_all is_free es ≡ t
 all-free e [] v free = tt
 all-free e (x ∷ es) v free = let (here, rest) = and_parts (is_free x) (list_all is_free es) free in (free-met e v x here, all-free e es (apply e v x) rest)
 
--- ---- the word of FFA_NOTIFICATION_SET has 64 bits
-abbrev pub IsHalved : calls.Call → Type 0
-IsHalved (NotificationSet word flags low high) = (low < 2 ^ 32) × (high < 2 ^ 32)
-IsHalved call = Unit {0}
+-- ---- the bitmap of FFA_NOTIFICATION_SET has 64 bits
+abbrev pub FitsBitmap : calls.Call → Type 0
+FitsBitmap (NotificationSet its) = its.bitmap < 2 ^ 64
+FitsBitmap call = Unit {0}
 
 abbrev IsNarrow : Function → Type 0
-IsNarrow f = (w x : ℕ → ℕ) → ((i : ℕ) → w i < 2 ^ 32) → IsHalved (f.call w x)
+IsNarrow f = (w x : ℕ → ℕ) → ((i : ℕ) → w i < 2 ^ 32) → FitsBitmap (f.call w x)
 
 abbrev AreNarrow : List Function → Type 0
 AreNarrow [] = Unit {0}
 AreNarrow (f ∷ fs) = IsNarrow f × AreNarrow fs
 
+fits-bitmap : (low high : ℕ) → low < 2 ^ 32 → high < 2 ^ 32 → word_of_halves low high < 2 ^ 64
+fits-bitmap low high lt also = omega arith
+
 functions-narrow : AreNarrow functions
 functions-narrow =
-    (λ w x narrow. tt, (λ w x narrow. tt, (λ w x narrow. tt, (λ w x narrow. tt, (λ w x narrow. tt, (λ w x narrow. tt, (λ w x narrow. tt, (λ w x narrow. tt, (λ w x narrow. tt, (λ w x narrow. tt, (λ w x narrow. tt, (λ w x narrow. tt, (λ w x narrow. tt, (λ w x narrow. tt, (λ w x narrow. tt, (λ w x narrow. tt, (λ w x narrow. tt, (λ w x narrow. tt, (λ w x narrow. tt, (λ w x narrow. tt, (λ w x narrow. tt, (λ w x narrow. tt, (λ w x narrow. (narrow 3, narrow 4), (λ w x narrow. tt, (λ w x narrow. tt, (λ w x narrow. tt, tt))))))))))))))))))))))))))
+    (λ w x narrow. tt, (λ w x narrow. tt, (λ w x narrow. tt, (λ w x narrow. tt, (λ w x narrow. tt, (λ w x narrow. tt, (λ w x narrow. tt, (λ w x narrow. tt, (λ w x narrow. tt, (λ w x narrow. tt, (λ w x narrow. tt, (λ w x narrow. tt, (λ w x narrow. tt, (λ w x narrow. tt, (λ w x narrow. tt, (λ w x narrow. tt, (λ w x narrow. tt, (λ w x narrow. tt, (λ w x narrow. tt, (λ w x narrow. tt, (λ w x narrow. tt, (λ w x narrow. tt, (λ w x narrow. fits-bitmap (w 3) (w 4) (narrow 3) (narrow 4), (λ w x narrow. tt, (λ w x narrow. tt, (λ w x narrow. tt, tt))))))))))))))))))))))))))
 
-found-narrow : (x : List ℕ) (fs : List Function) → AreNarrow fs → IsHalved (called x (find (is_form_of (low (slice_index x 0))) fs))
+found-narrow : (x : List ℕ) (fs : List Function) → AreNarrow fs → FitsBitmap (called x (find (is_form_of (low (slice_index x 0))) fs))
 found-narrow x [] narrow = tt
 found-narrow x (f ∷ fs) narrow =
-    elim (is_form_of (low (slice_index x 0)) f) as (λ b. IsHalved (called x (cond b (Some f) (find (is_form_of (low (slice_index x 0))) fs)))) [
+    elim (is_form_of (low (slice_index x 0)) f) as (λ b. FitsBitmap (called x (cond b (Some f) (find (is_form_of (low (slice_index x 0))) fs)))) [
       | true ↦
           narrow.0 (λ i. low (slice_index x i)) (λ i. if low (slice_index x 0) == f.function then low (slice_index x i) else slice_index x i)
           (λ i. omega arith)
       | false ↦ found-narrow x fs narrow.1
     ]
 
-pub decode-halved : (x : List ℕ) → IsHalved (decode x)
+pub decode-fits : (x : List ℕ) → FitsBitmap (decode x)
 unfolding decode
-decode-halved x = found-narrow x functions functions-narrow
+decode-fits x = found-narrow x functions functions-narrow
 
 -- a word of which no bit is set is 0
 no-bits : (n : ℕ) → word_where n (λ k. false) ≡ 0
@@ -170,17 +174,16 @@ module _ (e : ℕ) (s : State) (sound : IsSoundState s) (known : is_known s e �
       let good = sound.bound (binding receiver class k sender) here in
       ap (has_bitmaps_in (notifications_of s)) (ap (λ x. slice_index x 0) good.is) ∙ good.bitmaps
 
-  met-set : (word flags low high : ℕ) → low < 2 ^ 32 → high < 2 ^ 32 → first_failure (notification_set s word flags low high).guards ≡ None
-      → AreMet e v (sets e s (low_half word) (bits_of (word_of_halves low high)))
-  met-set word flags low high lt also none =
-      let bitmap = word_of_halves low high in
-      let guards = set_guards (length s.parties) (notifications_of s) s.runner word flags bitmap in
-      let some : not (bitmap == 0) ≡ true = guard-passes guards 4 (sym none) in
+  met-set : (its : NotificationBits) → its.bitmap < 2 ^ 64 → first_failure (notification_set s its).guards ≡ None
+      → AreMet e v (sets e s its.receiver.0 (bits_of its.bitmap))
+  met-set its lt none =
+      let guards = set_guards (length s.parties) (notifications_of s) s.runner its in
+      let some : not (its.bitmap == 0) ≡ true = guard-passes guards 4 (sym none) in
       let all = guard-passes guards 5 (sym none) in
-      met-where e v (low_half word == e) (Pending (class_of s.runner) (bits_of bitmap) ∷ []) (λ mine. (
-        own-bitmaps e s known ∙ ap (has_bitmaps_in (notifications_of s)) (sym (eqb-true (low_half word) e mine))
-            ∙ bound-bitmaps (low_half word) (class_of s.runner) s.runner (bits_of bitmap)
-            (λ nothing. (let zero_bits : bitmap ≡ 0 = zero-word bitmap (omega (arith, lt, also)) nothing in true≢false (sym some ∙ ap not (eq-eqb bitmap 0 zero_bits))))
+      met-where e v (its.receiver.0 == e) (Pending (class_of s.runner) (bits_of its.bitmap) ∷ []) (λ mine. (
+        own-bitmaps e s known ∙ ap (has_bitmaps_in (notifications_of s)) (sym (eqb-true its.receiver.0 e mine))
+            ∙ bound-bitmaps its.receiver.0 (class_of s.runner) s.runner (bits_of its.bitmap)
+            (λ nothing. true≢false (sym some ∙ ap not (eq-eqb its.bitmap 0 (zero-word its.bitmap lt nothing))))
             all,
         tt,
       ))
@@ -221,8 +224,8 @@ module _ (e : ℕ) (s : State) (sound : IsSoundState s) (known : is_known s e �
       of true = tt
       of false = (refl, tt)
 
-  met-call : (call : calls.Call) → IsHalved call → AreMet e v (call_events e s call)
-  met-call call halved = of call halved
+  met-call : (call : calls.Call) → FitsBitmap call → AreMet e v (call_events e s call)
+  met-call call fits = of call fits
     where
       told : (c : calls.Call) → (first_failure (service s c).guards ≡ None → AreMet e v (told_by e s c)) → AreMet e v (call_events e s c)
       told c met =
@@ -238,11 +241,11 @@ module _ (e : ℕ) (s : State) (sound : IsSoundState s) (known : is_known s e �
             | inr bound ↦ absurd (true≢false (sym may ∙ never event bound))
           ]
 
-      of : (c : calls.Call) → IsHalved c → AreMet e v (call_events e s c)
-      of MsgSend2 halved = told MsgSend2 met-delivered
-      of (NotificationSet word flags low high) halved = told (NotificationSet word flags low high) (met-set word flags low high halved.0 halved.1)
-      of MemRelinquish halved = told MemRelinquish (λ none. met-released (relinquish_read s))
-      of c halved = rest c (λ event bound. untold event bound)
+      of : (c : calls.Call) → FitsBitmap c → AreMet e v (call_events e s c)
+      of MsgSend2 fits = told MsgSend2 met-delivered
+      of (NotificationSet its) fits = told (NotificationSet its) (met-set its fits)
+      of MemRelinquish fits = told MemRelinquish (λ none. met-released (relinquish_read s))
+      of c fits = rest c (λ event bound. untold event bound)
         where
           untold : (event : Event) → is_free event ≡ false → may_tell c event ≡ false
           untold (Wrote address bytes) bound = refl
@@ -252,7 +255,7 @@ module _ (e : ℕ) (s : State) (sound : IsSoundState s) (known : is_known s e �
           untold event bound = absurd (true≢false bound)
 
   pub are-met : (op : Op) → AreMet e v (events e s op)
-  are-met (Call x) = met-call (decode x) (decode-halved x)
+  are-met (Call x) = met-call (decode x) (decode-fits x)
   are-met (Load address size) = tt
   are-met (Store address size value) = met-store e s address (size_of size) (little_bytes (size_of size) value)
   are-met (Fetch address) = tt

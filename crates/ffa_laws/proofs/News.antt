@@ -23,7 +23,7 @@ use Rattle.ffa_model.specs.declared.call.Call.TheVariants.{MsgWait, Yield, Run, 
 use Rattle.ffa_model.specs.SendDescriptor.{SendRecord}
 use Rattle.ffa_model.specs.State.{State, Transaction, buffers_of, is_known, transaction_of}
 use Rattle.ffa_model.specs.Access.{held_by, is_from, is_held_by, is_offered, is_receiver}
-use Rattle.ffa_model.specs.Bits.{bits_of, high_half, is_set, word_of_halves}
+use Rattle.ffa_model.specs.Bits.{bits_of, is_set}
 use Rattle.ffa_model.specs.Calls.{first_failure}
 use Rattle.ffa_model.specs.Lists.{listed}
 use Rattle.ffa_model.specs.Memory.{size_of, store_fault}
@@ -322,19 +322,19 @@ module _ (e : ℕ) (s : State) (steady : IsSteady s) where
   news-told : (call : calls.Call) → first_failure (service s call).guards ≡ None → AreNews e v (told_by e s call)
   news-told MsgWait none = repeats e v _ _ refl
   news-told Yield none = repeats e v _ _ refl
-  news-told (Run target) none = repeats e v _ _ refl
-  news-told (DirectRequest function word flags payload) none = repeats e v _ _ refl
-  news-told (DirectResponse function word flags payload) none = repeats e v _ _ refl
+  news-told (Run target context) none = repeats e v _ _ refl
+  news-told (DirectRequest message) none = repeats e v _ _ refl
+  news-told (DirectResponse message) none = repeats e v _ _ refl
   news-told (MemDonate x) none = news-sent Donate x none
   news-told (MemLend x) none = news-sent Lend x none
   news-told (MemShare x) none = news-sent Share x none
   news-told (MemRetrieve x) none = news-taken x (taken s x none)
   news-told MemRelinquish none = news-released none
-  news-told (MemReclaim low high flags) none = news-reclaimed (handle_of high low)
+  news-told (MemReclaim handle flags) none = news-reclaimed handle.0
   news-told (BitmapDestroy endpoint) none = news-unbinds 0 e (listed 64 (λ k. k)) (rising-from 0 64 (λ k. k) (λ i. omega arith))
-  news-told (NotificationBind word flags low high) none = news-binds s.runner (high_half word) (bits_of (word_of_halves low high)) (rising-word (word_of_halves low high))
-  news-told (NotificationUnbind word flags low high) none = news-unbinds s.runner (high_half word) (bits_of (word_of_halves low high)) (rising-word (word_of_halves low high))
-  news-told (NotificationSet word flags low high) none = repeats e v _ _ refl
+  news-told (NotificationBind its) none = news-binds s.runner its.sender.0 (bits_of its.bitmap) (rising-word its.bitmap)
+  news-told (NotificationUnbind its) none = news-unbinds s.runner its.sender.0 (bits_of its.bitmap) (rising-word its.bitmap)
+  news-told (NotificationSet its) none = repeats e v _ _ refl
   news-told MsgSend2 none =
       let filling = Filled (message_in (tx_bytes s s.runner)) in
       let pending = Pending manager_class message_bits in

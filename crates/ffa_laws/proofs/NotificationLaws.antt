@@ -12,7 +12,8 @@ use Rattle.std.proofs.lemmas.Bool.Decides.{nat_tests}
 use Rattle.std.proofs.lemmas.List.{set-get_or}
 use Rattle.ffa_model.specs.declared.call.Reply.{Reply}
 use Rattle.ffa_model.specs.declared.call.Reply.TheVariants.{Success}
-use Rattle.ffa_model.specs.Bits.{bits, bits_of, high_half, is_set, word_of_halves, low_half, word_where}
+use Rattle.ffa_model.specs.declared.call.NotificationBits.{NotificationBits}
+use Rattle.ffa_model.specs.Bits.{bits, bits_of, is_set, word_where}
 use Rattle.ffa_model.specs.Lists.{listed, map_at}
 use Rattle.ffa_model.specs.Identifiers.{identifier}
 use Rattle.ffa_model.specs.State.{State, is_known, is_known_among}
@@ -143,15 +144,12 @@ module _ (s : State) (steady : IsSteady s) where
     ),
   )
 
-  module _ (word flags low high : ℕ) where
+  module _ (its : NotificationBits) where
     abbrev sender : ℕ
-    sender = high_half word
-
-    abbrev bitmap : ℕ
-    bitmap = word_of_halves low high
+    sender = its.sender.0
 
     abbrev ks : List ℕ
-    ks = bits_of (word_of_halves low high)
+    ks = bits_of its.bitmap
 
     another-seen : (bit : ℕ) → is_bound_to_another (length s.parties) nv s.runner (class_of sender) bit sender ≡ is_bound_to_another (length s.parties) n s.runner (class_of sender) bit sender
     another-seen bit = ap (λ test. list_any test (listed (length s.parties) identifier)) (fun_ext (λ f. ap (λ b. not (f == sender) && b) (received-seen (class_of sender) bit f)))
@@ -168,48 +166,48 @@ module _ (s : State) (steady : IsSteady s) where
     mine : (x : List ℕ) → among x (map entry ks) ≡ true → bound_to s.runner x ≡ true
     mine x is = among-each (λ y. bound_to s.runner y ≡ true) entry ks x (λ k. or_first (s.runner == s.runner) (sender == s.runner) (eq-eqb s.runner s.runner refl)) is
 
-    pub own-bind : IsOwn s (notification_bind v word flags low high) (notification_bind s word flags low high)
+    pub own-bind : IsOwn s (notification_bind v its) (notification_bind s its)
     own-bind = (
       (λ i. first_failure (
-          (low_half word == s.runner, invalid)
+          (its.receiver.0 == s.runner, invalid)
           ∷ (is_known_among (length s.parties) sender, invalid)
           ∷ (not (sender == s.runner), invalid)
-          ∷ (flags == 0, invalid)
-          ∷ (not (bitmap == 0), invalid)
+          ∷ (its.flags == 0, invalid)
+          ∷ (not (its.bitmap == 0), invalid)
           ∷ (own-bitmaps s.runner s steady.runner i, denied)
           ∷ (list_all (fun_ext bindable-seen i) ks, denied)
           ∷ [])),
       λ none. ((λ i. record v { bound = sym (seen-more (bound_to s.runner) s.bound (map entry ks) mine) i }), refl),
     )
 
-    pub own-unbind : IsOwn s (notification_unbind v word flags low high) (notification_unbind s word flags low high)
+    pub own-unbind : IsOwn s (notification_unbind v its) (notification_unbind s its)
     own-unbind = (
       (λ i. first_failure (
-          (low_half word == s.runner, invalid)
+          (its.receiver.0 == s.runner, invalid)
           ∷ (is_known_among (length s.parties) sender, invalid)
           ∷ (not (sender == s.runner), invalid)
-          ∷ (flags == 0, invalid)
-          ∷ (not (bitmap == 0), invalid)
+          ∷ (its.flags == 0, invalid)
+          ∷ (not (its.bitmap == 0), invalid)
           ∷ (own-bitmaps s.runner s steady.runner i, denied)
           ∷ (list_all (fun_ext unbindable-seen i) ks, denied)
           ∷ [])),
       λ none. ((λ i. record v { bound = sym (seen-less (bound_to s.runner) s.bound (map entry ks)) i }), refl),
     )
 
-    pub own-set : IsOwn s (notification_set v word flags low high) (notification_set s word flags low high)
+    pub own-set : IsOwn s (notification_set v its) (notification_set s its)
     own-set = (
       (λ i. first_failure (
           (sender == s.runner, invalid)
-          ∷ (is_known_among (length s.parties) (low_half word), invalid)
-          ∷ (not (low_half word == s.runner), invalid)
-          ∷ (flags == 0 || flags == 2, invalid)
-          ∷ (not (bitmap == 0), invalid)
-          ∷ (list_all (λ k. sent-seen (low_half word) (class_of s.runner) k i) ks, denied)
+          ∷ (is_known_among (length s.parties) its.receiver.0, invalid)
+          ∷ (not (its.receiver.0 == s.runner), invalid)
+          ∷ (its.flags == 0 || its.flags == 2, invalid)
+          ∷ (not (its.bitmap == 0), invalid)
+          ∷ (list_all (λ k. sent-seen its.receiver.0 (class_of s.runner) k i) ks, denied)
           ∷ [])),
       λ none. (
-        (let known : is_known s (low_half word) ≡ true = guard-passes (set_guards (length s.parties) n s.runner word flags bitmap) 1 (sym none) in
-            let differ : low_half word ≢ s.runner = not-same (low_half word) s.runner (guard-passes (set_guards (length s.parties) n s.runner word flags bitmap) 2 (sym none)) in
-            raised-absent (low_half word) (class_of s.runner) ks s.runner s known differ ∙ sym (raised-hidden (low_half word) (class_of s.runner) ks s.runner s differ)),
+        (let known : is_known s its.receiver.0 ≡ true = guard-passes (set_guards (length s.parties) n s.runner its) 1 (sym none) in
+            let differ : its.receiver.0 ≢ s.runner = not-same its.receiver.0 s.runner (guard-passes (set_guards (length s.parties) n s.runner its) 2 (sym none)) in
+            raised-absent its.receiver.0 (class_of s.runner) ks s.runner s known differ ∙ sym (raised-hidden its.receiver.0 (class_of s.runner) ks s.runner s differ)),
         refl,
       ),
     )
@@ -225,11 +223,11 @@ module _ (s : State) (steady : IsSteady s) where
       ∷ 0
       ∷ [])
 
-  pub own-get : (word flags : ℕ) → IsOwn s (notification_get v word flags) (notification_get s word flags)
-  own-get word flags = (
+  pub own-get : (receiver context flags : ℕ) → IsOwn s (notification_get v receiver context flags) (notification_get s receiver context flags)
+  own-get receiver context flags = (
     (λ i. first_failure (
-        (low_half word == s.runner, invalid)
-        ∷ (high_half word == 0, invalid)
+        (receiver == s.runner, invalid)
+        ∷ (context == 0, invalid)
         ∷ (nat_le flags 15, invalid)
         ∷ (own-bitmaps s.runner s steady.runner i, denied)
         ∷ [])),
@@ -247,23 +245,23 @@ module _ (s : State) (steady : IsSteady s) where
   steady-destroy =
       steady-notified s steady (without_bitmaps n 0) (λ x is. steady.bound x (and_parts (finite_set.contains s.bound x) (not (receiver_of_entry x == 0)) (sym (contains-retained s.bound (λ y. not (receiver_of_entry y == 0)) x) ∙ is)).0)
 
-  pub steady-unbind : (word low high : ℕ) → IsSteady (with_notifications s (without_bound n s.runner (high_half word) (bits_of (word_of_halves low high))))
-  steady-unbind word low high =
-      steady-notified s steady (without_bound n s.runner (high_half word) (bits_of (word_of_halves low high)))
-      (λ x is. steady.bound x (and_parts (finite_set.contains s.bound x) _ (sym (contains-less s.bound (map (λ k. binding s.runner (class_of (high_half word)) k (high_half word)) (bits_of (word_of_halves low high))) x) ∙ is)).0)
+  pub steady-unbind : (its : NotificationBits) → IsSteady (with_notifications s (without_bound n s.runner its.sender.0 (bits_of its.bitmap)))
+  steady-unbind its =
+      steady-notified s steady (without_bound n s.runner its.sender.0 (bits_of its.bitmap))
+      (λ x is. steady.bound x (and_parts (finite_set.contains s.bound x) _ (sym (contains-less s.bound (map (λ k. binding s.runner (class_of its.sender.0) k its.sender.0) (bits_of its.bitmap)) x) ∙ is)).0)
 
-  pub steady-bind : (word low high : ℕ) → IsSteady (with_notifications s (with_bound n s.runner (high_half word) (bits_of (word_of_halves low high))))
-  steady-bind word low high =
-      steady-notified s steady (with_bound n s.runner (high_half word) (bits_of (word_of_halves low high)))
-      (λ x is. form x (finite_set.contains s.bound x) refl (sym (contains-more s.bound (map (λ k. binding s.runner (class_of (high_half word)) k (high_half word)) (bits_of (word_of_halves low high))) x) ∙ is))
+  pub steady-bind : (its : NotificationBits) → IsSteady (with_notifications s (with_bound n s.runner its.sender.0 (bits_of its.bitmap)))
+  steady-bind its =
+      steady-notified s steady (with_bound n s.runner its.sender.0 (bits_of its.bitmap))
+      (λ x is. form x (finite_set.contains s.bound x) refl (sym (contains-more s.bound (map (λ k. binding s.runner (class_of its.sender.0) k its.sender.0) (bits_of its.bitmap)) x) ∙ is))
     where
       form : (x : List ℕ) (b : Bool) → finite_set.contains s.bound x ≡ b
-          → (finite_set.contains s.bound x || among x (map (λ k. binding s.runner (class_of (high_half word)) k (high_half word)) (bits_of (word_of_halves low high)))) ≡ true → IsSteadyBinding x
+          → (finite_set.contains s.bound x || among x (map (λ k. binding s.runner (class_of its.sender.0) k its.sender.0) (bits_of its.bitmap))) ≡ true → IsSteadyBinding x
       form x true old is = steady.bound x old
       form x false new is =
-          let (k, lt, same) = among-bits (λ j. is_set j (word_of_halves low high)) 64 (λ j. j) (λ j. binding s.runner (class_of (high_half word)) j (high_half word)) x
-          (sym (ap (λ b. b || among x (map (λ j. binding s.runner (class_of (high_half word)) j (high_half word)) (bits_of (word_of_halves low high)))) new) ∙ is) in
-          record { receiver = s.runner; bit = k; sender = high_half word; is = same; in_word = lt }
+          let (k, lt, same) = among-bits (λ j. is_set j its.bitmap) 64 (λ j. j) (λ j. binding s.runner (class_of its.sender.0) j its.sender.0) x
+          (sym (ap (λ b. b || among x (map (λ j. binding s.runner (class_of its.sender.0) j its.sender.0) (bits_of its.bitmap))) new) ∙ is) in
+          record { receiver = s.runner; bit = k; sender = its.sender.0; is = same; in_word = lt }
 
 -- ---- to another endpoint
 -- some entries are in a set already, or not
@@ -304,23 +302,23 @@ module _ (e : ℕ) (s : State) where
       other-told e s (with_notifications s (notifications_of t)) (with_notifications (view e s) (notifications_of u)) told refl (own-same e s)
       (length-map_at _ s.pages) refl (by_told ∙ only_u) (ap (view e) (sym only_t) ∙ new ∙ only_u))
 
-  pub other-set : is_known s e ≡ true → (word flags low high : ℕ) → view e (notification_set s word flags low high).state
-      ≡ apply_all e (view e s) (sets e s (low_half word) (bits_of (word_of_halves low high)) ++ public_change s (notification_set s word flags low high).state)
-  other-set known word flags low high =
-      elim (low_half word == e) as (λ b. (low_half word == e) ≡ b → view e (notification_set s word flags low high).state
-      ≡ apply_all e (view e s) (where_true b (Pending (class_of s.runner) (bits_of (word_of_halves low high)) ∷ []) ++ public_change s (notification_set s word flags low high).state)) [
+  pub other-set : is_known s e ≡ true → (its : NotificationBits) → view e (notification_set s its).state
+      ≡ apply_all e (view e s) (sets e s its.receiver.0 (bits_of its.bitmap) ++ public_change s (notification_set s its).state)
+  other-set known its =
+      elim (its.receiver.0 == e) as (λ b. (its.receiver.0 == e) ≡ b → view e (notification_set s its).state
+      ≡ apply_all e (view e s) (where_true b (Pending (class_of s.runner) (bits_of its.bitmap) ∷ []) ++ public_change s (notification_set s its).state)) [
         | true ↦ λ mine.
-            told-notified (notification_set s word flags low high).state (raised (view e s) e (class_of s.runner) (bits_of (word_of_halves low high))) (Pending (class_of s.runner) (bits_of (word_of_halves low high)) ∷ []) refl refl refl
-            (ap (λ f. view e (raised s f (class_of s.runner) (bits_of (word_of_halves low high)))) (eqb-true (low_half word) e mine) ∙ sym (raised-own e (class_of s.runner) (bits_of (word_of_halves low high)) s known))
+            told-notified (notification_set s its).state (raised (view e s) e (class_of s.runner) (bits_of its.bitmap)) (Pending (class_of s.runner) (bits_of its.bitmap) ∷ []) refl refl refl
+            (ap (λ f. view e (raised s f (class_of s.runner) (bits_of its.bitmap))) (eqb-true its.receiver.0 e mine) ∙ sym (raised-own e (class_of s.runner) (bits_of its.bitmap) s known))
         | false ↦ λ other.
-            told-notified (notification_set s word flags low high).state (view e s) [] refl refl refl
-            (raised-hidden (low_half word) (class_of s.runner) (bits_of (word_of_halves low high)) e s (λ same. true≢false (sym (eq-eqb (low_half word) e same) ∙ other)))
+            told-notified (notification_set s its).state (view e s) [] refl refl refl
+            (raised-hidden its.receiver.0 (class_of s.runner) (bits_of its.bitmap) e s (λ same. true≢false (sym (eq-eqb its.receiver.0 e same) ∙ other)))
       ] refl
 
   module _ (other : s.runner ≢ e) where
-    pub other-get : (word flags : ℕ) → view e (notification_get s word flags).state ≡ apply_all e (view e s) (public_change s (notification_get s word flags).state)
-    other-get word flags =
-        told-notified (notification_get s word flags).state (view e s) [] refl refl refl
+    pub other-get : (receiver context flags : ℕ) → view e (notification_get s receiver context flags).state ≡ apply_all e (view e s) (public_change s (notification_get s receiver context flags).state)
+    other-get receiver context flags =
+        told-notified (notification_get s receiver context flags).state (view e s) [] refl refl refl
         (λ i. record (view e s) { pending = retained-within s.pending (λ x. not (receiver_of_entry x == s.runner && is_set (class_of_entry x) flags)) (pending_to e) (λ x is. kept_in x is) i })
       where
         kept_in : (x : List ℕ) → (receiver_of_entry x == e) ≡ true → not (receiver_of_entry x == s.runner && is_set (class_of_entry x) flags) ≡ true
@@ -329,12 +327,12 @@ module _ (e : ℕ) (s : State) where
             ap (λ b. not (b && is_set (class_of_entry x) flags)) away
 
     -- bindings of the runner as receiver, to a sender
-    module _ (word low high : ℕ) where
+    module _ (its : NotificationBits) where
       abbrev to : ℕ
-      to = high_half word
+      to = its.sender.0
 
       abbrev its_bits : List ℕ
-      its_bits = bits_of (word_of_halves low high)
+      its_bits = bits_of its.bitmap
 
       abbrev bound_as : ℕ → ℕ → List ℕ
       bound_as g k = binding s.runner (class_of g) k g
@@ -353,13 +351,13 @@ module _ (e : ℕ) (s : State) where
       is_old k = is_bound (notifications_of s) s.runner (class_of e) k e
 
       -- bits of which those that are new are told at least
-      told-bind : (flags : ℕ) (new : ℕ → Bool) → ((k : ℕ) → new k ≡ false → is_old k ≡ true) → view e (notification_bind s word flags low high).state
-          ≡ apply_all e (view e s) (where_true (to == e) (map (λ k. Bound s.runner (class_of e) k) (filter new its_bits)) ++ public_change s (notification_bind s word flags low high).state)
-      told-bind flags new others_old =
-          elim (to == e) as (λ b. (to == e) ≡ b → view e (notification_bind s word flags low high).state
-          ≡ apply_all e (view e s) (where_true b (map (λ k. Bound s.runner (class_of e) k) (filter new its_bits)) ++ public_change s (notification_bind s word flags low high).state)) [
+      told-bind : (new : ℕ → Bool) → ((k : ℕ) → new k ≡ false → is_old k ≡ true) → view e (notification_bind s its).state
+          ≡ apply_all e (view e s) (where_true (to == e) (map (λ k. Bound s.runner (class_of e) k) (filter new its_bits)) ++ public_change s (notification_bind s its).state)
+      told-bind new others_old =
+          elim (to == e) as (λ b. (to == e) ≡ b → view e (notification_bind s its).state
+          ≡ apply_all e (view e s) (where_true b (map (λ k. Bound s.runner (class_of e) k) (filter new its_bits)) ++ public_change s (notification_bind s its).state)) [
             | true ↦ λ mine.
-                told-notified (notification_bind s word flags low high).state (record (view e s) { bound = finite_set.union (view e s).bound (finite_set.from_list (map (bound_as e) (filter new its_bits))) }) (map (λ k. Bound s.runner (class_of e) k) (filter new its_bits)) refl refl
+                told-notified (notification_bind s its).state (record (view e s) { bound = finite_set.union (view e s).bound (finite_set.from_list (map (bound_as e) (filter new its_bits))) }) (map (λ k. Bound s.runner (class_of e) k) (filter new its_bits)) refl refl
                 (bound-all e s.runner (class_of e) (view e s) (filter new its_bits))
                 (λ i. record (view e s) {
                   bound = (ap (λ g. finite_set.retain (finite_set.union s.bound (finite_set.from_list (map (bound_as g) its_bits))) (bound_to e)) (eqb-true to e mine)
@@ -370,21 +368,21 @@ module _ (e : ℕ) (s : State) where
                       ∙ sym (contains-more (view e s).bound (map (bound_as e) (filter new its_bits)) x))) i;
                 })
             | false ↦ λ differs.
-                told-notified (notification_bind s word flags low high).state (view e s) [] refl refl refl
+                told-notified (notification_bind s its).state (view e s) [] refl refl refl
                 (λ i. record (view e s) { bound = unseen-more (bound_to e) s.bound (map (bound_as to) its_bits) (unseen to differs) i })
           ] refl
 
-      pub other-bind : (flags : ℕ) → view e (notification_bind s word flags low high).state
-          ≡ apply_all e (view e s) (binds e s s.runner to its_bits ++ public_change s (notification_bind s word flags low high).state)
-      other-bind flags = told-bind flags _ (λ k told. grind (arith, told, cases_Bool (is_old k)))
+      pub other-bind : view e (notification_bind s its).state
+          ≡ apply_all e (view e s) (binds e s s.runner to its_bits ++ public_change s (notification_bind s its).state)
+      other-bind = told-bind _ (λ k told. grind (arith, told, cases_Bool (is_old k)))
 
-      pub other-unbind : (flags : ℕ) → view e (notification_unbind s word flags low high).state
-          ≡ apply_all e (view e s) (unbinds e s s.runner to its_bits ++ public_change s (notification_unbind s word flags low high).state)
-      other-unbind flags =
-          elim (to == e) as (λ b. (to == e) ≡ b → view e (notification_unbind s word flags low high).state
-          ≡ apply_all e (view e s) (where_true b (map (λ k. Unbound s.runner (class_of e) k) (filter is_old its_bits)) ++ public_change s (notification_unbind s word flags low high).state)) [
+      pub other-unbind : view e (notification_unbind s its).state
+          ≡ apply_all e (view e s) (unbinds e s s.runner to its_bits ++ public_change s (notification_unbind s its).state)
+      other-unbind =
+          elim (to == e) as (λ b. (to == e) ≡ b → view e (notification_unbind s its).state
+          ≡ apply_all e (view e s) (where_true b (map (λ k. Unbound s.runner (class_of e) k) (filter is_old its_bits)) ++ public_change s (notification_unbind s its).state)) [
             | true ↦ λ mine.
-                told-notified (notification_unbind s word flags low high).state (record (view e s) { bound = finite_set.difference (view e s).bound (finite_set.from_list (map (bound_as e) (filter is_old its_bits))) }) (map (λ k. Unbound s.runner (class_of e) k) (filter is_old its_bits)) refl refl
+                told-notified (notification_unbind s its).state (record (view e s) { bound = finite_set.difference (view e s).bound (finite_set.from_list (map (bound_as e) (filter is_old its_bits))) }) (map (λ k. Unbound s.runner (class_of e) k) (filter is_old its_bits)) refl refl
                 (unbound-all e s.runner (class_of e) (view e s) (filter is_old its_bits))
                 (λ i. record (view e s) {
                   bound = (ap (λ g. finite_set.retain (finite_set.difference s.bound (finite_set.from_list (map (bound_as g) its_bits))) (bound_to e)) (eqb-true to e mine)
@@ -395,7 +393,7 @@ module _ (e : ℕ) (s : State) where
                       ∙ sym (contains-less (view e s).bound (map (bound_as e) (filter is_old its_bits)) x))) i;
                 })
             | false ↦ λ differs.
-                told-notified (notification_unbind s word flags low high).state (view e s) [] refl refl refl
+                told-notified (notification_unbind s its).state (view e s) [] refl refl refl
                 (λ i. record (view e s) { bound = unseen-less (bound_to e) s.bound (map (bound_as to) its_bits) (unseen to differs) i })
           ] refl
 

@@ -118,7 +118,7 @@ module _ (s : State) (h : ℕ) where
   comes-service (MemShare x) none = comes-sent Share x none
   comes-service (MemRetrieve x) none = comes-retrieved x (taken s x none)
   comes-service MemRelinquish none = comes-relinquished (relinquish_read s)
-  comes-service (MemReclaim low high flags) none = inl (without-open s.transactions (handle_of high low) h)
+  comes-service (MemReclaim handle flags) none = inl (without-open s.transactions handle.0 h)
   comes-service call none = inl (same-open s.transactions h)
 
   -- what is open after an operation

@@ -247,11 +247,11 @@ module _ (s : State) (steady : IsSteady s) where
       in-it : (e p : ℕ) → names s t.ranges p ≡ true → access s e p ≡ right_of e (page_at s p) (Some t)
       in-it e p named = ap (right_of e (page_at s p)) (named-in s p h t (once p) there named)
 
-  reclaim-own : (low high flags : ℕ) → first_failure (memory_reclaim s low high flags).guards ≡ None → Own s (memory_reclaim s low high flags).state true false
-  reclaim-own low high flags none = of (transaction_of s h) refl none
+  reclaim-own : (handle flags : ℕ) → first_failure (memory_reclaim s handle flags).guards ≡ None → Own s (memory_reclaim s handle flags).state true false
+  reclaim-own handle flags none = of (transaction_of s h) refl none
     where
       h : ℕ
-      h = handle_of high low
+      h = handle
 
       of : (o : Option Transaction) → transaction_of s h ≡ o → first_failure (reclaim_guards (own_rights_of s) s.runner flags o) ≡ None → Own s (reclaimed s h (is_set 0 flags)) true false
       of None there none = absurd (false≢true (guard-passes (reclaim_guards (own_rights_of s) s.runner flags None) 1 (sym none)))
@@ -350,7 +350,7 @@ module _ (s : State) (steady : IsSteady s) where
     own-service (MemRetrieve x) none =
         retrieved-own apart x (taken s x none)
     own-service MemRelinquish none = relinquish-own apart none
-    own-service (MemReclaim low high flags) none = reclaim-own low high flags none
+    own-service (MemReclaim handle flags) none = reclaim-own handle.0 flags none
     own-service MsgSend2 none =
         as_before s (service s MsgSend2).state false false (access-filled s (header_in (tx_bytes s s.runner)).receiver (message_in (tx_bytes s s.runner)))
     own-service call none = as_before s (service s call).state (gives_access call) (takes_access call) (λ e p. refl)

@@ -82,11 +82,11 @@ module _ (s : State) (steady : IsSteady s) (h flags : ℕ) where
       ∙ zeroed_if-seen s.runner (closed s h) zero t.ranges
       ∙ (λ i. view s.runner (zeroed_if zero (closed s h) (named_ranges (sym there i))))
 
-pub own-reclaim : (s : State) → IsSteady s → (low high flags : ℕ) → IsOwn s (memory_reclaim (view s.runner s) low high flags) (memory_reclaim s low high flags)
-own-reclaim s steady low high flags = (
-  ap (λ o. first_failure (reclaim_guards (own_rights_of (view s.runner s)) s.runner flags o)) (view-transaction s.runner s (handle_of high low))
-      ∙ same-failure s steady (handle_of high low) flags (transaction_of s (handle_of high low)) refl,
-  λ none. (same-state s steady (handle_of high low) flags (transaction_of s (handle_of high low)) refl none (is_set 0 flags), refl),
+pub own-reclaim : (s : State) → IsSteady s → (handle flags : ℕ) → IsOwn s (memory_reclaim (view s.runner s) handle flags) (memory_reclaim s handle flags)
+own-reclaim s steady handle flags = (
+  ap (λ o. first_failure (reclaim_guards (own_rights_of (view s.runner s)) s.runner flags o)) (view-transaction s.runner s handle)
+      ∙ same-failure s steady handle flags (transaction_of s handle) refl,
+  λ none. (same-state s steady handle flags (transaction_of s handle) refl none (is_set 0 flags), refl),
 )
 
 -- ---- to another endpoint
@@ -127,14 +127,14 @@ module _ (e : ℕ) (s : State) (steady : IsSteady s) (other : s.runner ≢ e) (h
           ∙ ap (λ o. (o == e) || false) ((steady.transactions h t there).owned p named)
           ∙ ap (λ b. b || false) not_sender
 
-pub other-reclaim : (e : ℕ) (s : State) → IsSteady s → s.runner ≢ e → (low high flags : ℕ) → IsTold e s (memory_reclaim s low high flags) (closes e s (handle_of high low))
-other-reclaim e s steady other low high flags none =
-    other-told e s (memory_reclaim s low high flags).state (apply_all e (view e s) (closes e s h)) (closes e s h) refl (own-same e s)
+pub other-reclaim : (e : ℕ) (s : State) → IsSteady s → s.runner ≢ e → (handle flags : ℕ) → IsTold e s (memory_reclaim s handle flags) (closes e s handle)
+other-reclaim e s steady other handle flags none =
+    other-told e s (memory_reclaim s handle flags).state (apply_all e (view e s) (closes e s h)) (closes e s h) refl (own-same e s)
     (size (is_offered e (transaction_of s h))) (old (is_offered e (transaction_of s h))) refl
     (told-closed e s steady other h flags (transaction_of s h) refl none (is_set 0 flags) ∙ old (is_offered e (transaction_of s h)))
   where
     h : ℕ
-    h = handle_of high low
+    h = handle
 
     size : (b : Bool) → length (apply_all e (view e s) (where_true b (Closed h ∷ []))).pages ≡ length s.pages
     size true = length-map_at _ (view e s).pages ∙ length-map_at _ s.pages

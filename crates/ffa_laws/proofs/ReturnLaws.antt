@@ -89,9 +89,9 @@ module _ (s : State) (steady : IsSteady s) (h : ℕ) where
         bound = steady.bound;
       }
 
-pub steady-reclaim : (s : State) → IsSteady s → (low high flags : ℕ) → IsSteady (memory_reclaim s low high flags).state
-steady-reclaim s steady low high flags =
-    steady-zeroed (is_set 0 flags) (closed s (handle_of high low)) (named_ranges (transaction_of s (handle_of high low))) (steady-closed s steady (handle_of high low))
+pub steady-reclaim : (s : State) → IsSteady s → (handle flags : ℕ) → IsSteady (memory_reclaim s handle flags).state
+steady-reclaim s steady handle flags =
+    steady-zeroed (is_set 0 flags) (closed s handle) (named_ranges (transaction_of s handle)) (steady-closed s steady handle)
 
 -- A RELINQUISH
 -- who gives up holds nothing, and others what they held

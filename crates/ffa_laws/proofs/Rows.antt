@@ -18,7 +18,7 @@ use Rattle.ffa_model.specs.declared.call.Call.TheVariants.{RxRelease, RxtxMap, R
 use Rattle.ffa_model.specs.SendDescriptor.{SendRecord}
 use Rattle.ffa_model.specs.State.{State, Page, Transaction, transaction_of}
 use Rattle.ffa_model.specs.Access.{is_offered, is_receiver}
-use Rattle.ffa_model.specs.Bits.{bits_of, high_half, low_half, word_of_halves}
+use Rattle.ffa_model.specs.Bits.{bits_of}
 use Rattle.ffa_model.specs.Calls.{encode, first_failure}
 use Rattle.ffa_model.specs.Lists.{listed}
 use Rattle.ffa_model.specs.Memory.{fetch_fault, number_at, read_fault, size_of, store_fault, stored}
@@ -58,9 +58,9 @@ public-service s (RxtxUnmap endpoint) quiet = absurd (true≢false quiet)
 public-service s (PartitionInfoGet uuid flags) quiet = absurd (true≢false quiet)
 public-service s MsgWait quiet = absurd (true≢false quiet)
 public-service s Yield quiet = absurd (true≢false quiet)
-public-service s (Run target) quiet = absurd (true≢false quiet)
-public-service s (DirectRequest function word flags payload) quiet = absurd (true≢false quiet)
-public-service s (DirectResponse function word flags payload) quiet = absurd (true≢false quiet)
+public-service s (Run target context) quiet = absurd (true≢false quiet)
+public-service s (DirectRequest message) quiet = absurd (true≢false quiet)
+public-service s (DirectResponse message) quiet = absurd (true≢false quiet)
 public-service s (MemRetrieve x) quiet = absurd (true≢false quiet)
 public-service s MsgSend2 quiet = absurd (true≢false quiet)
 public-service s call quiet = refl
@@ -151,19 +151,19 @@ released-row e s (Some d) =
 pub row-of : (e : ℕ) (s : State) (call : calls.Call) → list_all (told_row call) (told_by e s call) ≡ true
 row-of e s MsgWait = all-one (told_row MsgWait) ((msg_wait s).state.runner == e) (Message (encode (msg_wait s).reply)) refl
 row-of e s Yield = all-one (told_row Yield) ((yield_now s).state.runner == e) (Message (encode (yield_now s).reply)) refl
-row-of e s (Run target) = all-one (told_row (Run target)) ((run_partition s target).state.runner == e) (Message (encode (run_partition s target).reply)) refl
-row-of e s (DirectRequest function word flags payload) = all-one (told_row (DirectRequest function word flags payload)) ((direct_request s function word flags payload).state.runner == e) (Message (encode (direct_request s function word flags payload).reply)) refl
-row-of e s (DirectResponse function word flags payload) = all-one (told_row (DirectResponse function word flags payload)) ((direct_response s function word flags payload).state.runner == e) (Message (encode (direct_response s function word flags payload).reply)) refl
+row-of e s (Run target context) = all-one (told_row (Run target context)) ((run_partition s target.0 context).state.runner == e) (Message (encode (run_partition s target.0 context).reply)) refl
+row-of e s (DirectRequest message) = all-one (told_row (DirectRequest message)) ((direct_request s message).state.runner == e) (Message (encode (direct_request s message).reply)) refl
+row-of e s (DirectResponse message) = all-one (told_row (DirectResponse message)) ((direct_response s message).state.runner == e) (Message (encode (direct_response s message).reply)) refl
 row-of e s (MemDonate x) = opened e s Donate (MemDonate x) (send_read s Donate x.total) (λ h t named. refl)
 row-of e s (MemLend x) = opened e s Lend (MemLend x) (send_read s Lend x.total) (λ h t named. refl)
 row-of e s (MemShare x) = opened e s Share (MemShare x) (send_read s Share x.total) (λ h t named. refl)
 row-of e s (MemRetrieve x) = taken-row x e s (retrieve_read s x.total)
 row-of e s MemRelinquish = released-row e s (relinquish_read s)
-row-of e s (MemReclaim low high flags) = all-one (told_row (MemReclaim low high flags)) (is_offered e (transaction_of s (handle_of high low))) (Closed (handle_of high low)) refl
+row-of e s (MemReclaim handle flags) = all-one (told_row (MemReclaim handle flags)) (is_offered e (transaction_of s handle.0)) (Closed handle.0) refl
 row-of e s (BitmapDestroy endpoint) = unbound e s (BitmapDestroy endpoint) 0 e (listed 64 (λ k. k)) (λ k. refl)
-row-of e s (NotificationBind word flags low high) = bound e s (NotificationBind word flags low high) s.runner (high_half word) (bits_of (word_of_halves low high)) (λ k. refl)
-row-of e s (NotificationUnbind word flags low high) = unbound e s (NotificationUnbind word flags low high) s.runner (high_half word) (bits_of (word_of_halves low high)) (λ k. refl)
-row-of e s (NotificationSet word flags low high) = all-one (told_row (NotificationSet word flags low high)) (low_half word == e) (Pending (class_of s.runner) (bits_of (word_of_halves low high))) refl
+row-of e s (NotificationBind its) = bound e s (NotificationBind its) s.runner its.sender.0 (bits_of its.bitmap) (λ k. refl)
+row-of e s (NotificationUnbind its) = unbound e s (NotificationUnbind its) s.runner its.sender.0 (bits_of its.bitmap) (λ k. refl)
+row-of e s (NotificationSet its) = all-one (told_row (NotificationSet its)) (its.receiver.0 == e) (Pending (class_of s.runner) (bits_of its.bitmap)) refl
 row-of e s MsgSend2 =
     all-where (told_row MsgSend2) ((header_in (tx_bytes s s.runner)).receiver == e) (Filled (message_in (tx_bytes s s.runner)) ∷ where_true (has_bitmaps_in (notifications_of s) e) (Pending manager_class message_bits ∷ []))
     (all-one (told_row MsgSend2) (has_bitmaps_in (notifications_of s) e) (Pending manager_class message_bits) refl)

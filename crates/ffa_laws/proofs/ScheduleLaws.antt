@@ -1,13 +1,13 @@
 -- SPDX-License-Identifier: MIT OR Apache-2.0
 -- Run states: run, wait, yield and direct messages, in the runner's view, and to others.
 use Rattle.std.proofs.Common.{◌≡◌, ◌∙◌, ℕ, suc, zero, ◌<◌, true, false, List, [], ◌∷◌, length, get_or, set, Option, Some, None, refl, sym, ap, arith, length-set}
-use Rattle.std.specs.Prelude.{◌++◌}
-use Rattle.std.proofs.lemmas.Bool.{eqb-true, false≢true}
+use Rattle.std.specs.Prelude.{◌==◌, ◌++◌}
+use Rattle.std.proofs.lemmas.Bool.{and_parts, eqb-true, false≢true}
+use Rattle.ffa_model.specs.declared.call.DirectMessage.{DirectMessage}
 use Rattle.ffa_model.specs.declared.schedule.Status.{Status}
 use Rattle.ffa_model.specs.declared.schedule.Status.TheVariants.{Running, Waiting, Yielded, Blocked}
 use Rattle.ffa_model.specs.declared.schedule.Work.{Work}
 use Rattle.ffa_model.specs.declared.schedule.Work.TheVariants.{Run, Request}
-use Rattle.ffa_model.specs.Bits.{high_half, low_half, word_of_two}
 use Rattle.ffa_model.specs.Identifiers.{place}
 use Rattle.ffa_model.specs.State.{State, buffers_of, is_known_among}
 use Rattle.ffa_model.specs.Buffers.{buffers_with_rx}
@@ -27,14 +27,14 @@ use Rattle.ffa_laws.proofs.BufferLaws.{view-with_rx}
 
 -- ---- in the runner's view
 module _ (s : State) where
-  pub own-request : (function word flags : ℕ) (payload : List ℕ) → IsOwn s (direct_request (view s.runner s) function word flags payload) (direct_request s function word flags payload)
-  own-request function word flags payload = (refl, λ none. (refl, refl))
+  pub own-request : (message : DirectMessage) → IsOwn s (direct_request (view s.runner s) message) (direct_request s message)
+  own-request message = (refl, λ none. (refl, refl))
 
-  pub own-response : (function word flags : ℕ) (payload : List ℕ) → IsOwn s (direct_response (view s.runner s) function word flags payload) (direct_response s function word flags payload)
-  own-response function word flags payload = (refl, λ none. (refl, refl))
+  pub own-response : (message : DirectMessage) → IsOwn s (direct_response (view s.runner s) message) (direct_response s message)
+  own-response message = (refl, λ none. (refl, refl))
 
-  pub own-run : (word : ℕ) → IsOwn s (run_partition (view s.runner s) word) (run_partition s word)
-  own-run word = (refl, λ none. (refl, refl))
+  pub own-run : (target context : ℕ) → IsOwn s (run_partition (view s.runner s) target context) (run_partition s target context)
+  own-run target context = (refl, λ none. (refl, refl))
 
   pub own-wait : IsOwn s (msg_wait (view s.runner s)) (msg_wait s)
   own-wait = (refl, λ none. (view-with_rx s.runner (with_schedule s (finished (schedule_of s) 0)) s.runner false, refl))
@@ -90,21 +90,21 @@ module _ (s : State) (steady : IsSteady s) where
   first-known : Known s 0
   first-known = refl
 
-  pub steady-request : (function word flags : ℕ) (payload : List ℕ) → first_failure (request_guards s.parties (schedule_of s) word flags) ≡ None → IsSteady (direct_request s function word flags payload).state
-  steady-request function word flags payload none =
-      scheduled-steady (requested (schedule_of s) (low_half word)) (record {
-        runner = guard-passes (request_guards s.parties (schedule_of s) word flags) 2 (sym none);
-        requesters = requesters-set (Known s) s.works (place (low_half word)) (Some (Request (record { 0 = s.runner }))) (λ by is. (let same : s.runner ≡ by = cc in ap (is_known_among (length s.parties)) (sym same) ∙ steady.runner)) steady.requesters;
+  pub steady-request : (message : DirectMessage) → first_failure (request_guards s.parties (schedule_of s) message) ≡ None → IsSteady (direct_request s message).state
+  steady-request message none =
+      scheduled-steady (requested (schedule_of s) message.receiver.0) (record {
+        runner = guard-passes (request_guards s.parties (schedule_of s) message) 2 (sym none);
+        requesters = requesters-set (Known s) s.works (place message.receiver.0) (Some (Request (record { 0 = s.runner }))) (λ by is. (let same : s.runner ≡ by = cc in ap (is_known_among (length s.parties)) (sym same) ∙ steady.runner)) steady.requesters;
       })
 
-  answers : (word : ℕ) (w : Option ℕ) → is_answer s.runner word w ≡ true → (by : ℕ) × (w ≡ Some by) × (word ≡ word_of_two s.runner by)
-  answers word None is = absurd (false≢true is)
-  answers word (Some by) is = (by, refl, eqb-true word (word_of_two s.runner by) is)
+  answers : (message : DirectMessage) (w : Option ℕ) → is_answer s.runner message w ≡ true → (by : ℕ) × (w ≡ Some by) × (message.receiver.0 ≡ by)
+  answers message None is = absurd (false≢true is)
+  answers message (Some by) is = (by, refl, eqb-true message.receiver.0 by (and_parts (message.sender.0 == s.runner) _ is).1)
 
-  pub steady-run : (word : ℕ) → first_failure (run_guards (length s.parties) (schedule_of s) word) ≡ None → IsSteady (run_partition s word).state
-  steady-run word none =
-      scheduled-steady (given_cycles (schedule_of s) (high_half word) (status_in (schedule_of s) (high_half word)))
-      (given-known (high_half word) (status_in (schedule_of s) (high_half word)) (partition-known (length s.parties) (high_half word) (guard-passes (run_guards (length s.parties) (schedule_of s) word) 1 (sym none))))
+  pub steady-run : (target context : ℕ) → first_failure (run_guards (length s.parties) (schedule_of s) target context) ≡ None → IsSteady (run_partition s target context).state
+  steady-run target context none =
+      scheduled-steady (given_cycles (schedule_of s) target (status_in (schedule_of s) target))
+      (given-known target (status_in (schedule_of s) target) (partition-known (length s.parties) target (guard-passes (run_guards (length s.parties) (schedule_of s) target context) 1 (sym none))))
 
   pub steady-yield : IsSteady (yield_now s).state
   steady-yield = scheduled-steady (switched (schedule_of s) Yielded 0) (record { runner = first-known; requesters = steady.requesters })
@@ -115,16 +115,12 @@ module _ (s : State) (steady : IsSteady s) where
       steady-changed s steady s.pages (buffers_with_rx s.buffers s.runner false) (finished (schedule_of s) 0) (unwritten s.pages) (length-set s.buffers (place s.runner) (with_rx_full false (buffers_of s s.runner)))
       known.runner known.requesters (steady-rx s steady s.runner false)
 
-  -- w1 of a response names the runner's requester in its low half
-  pub answerer : (word flags : ℕ) → first_failure (response_guards (schedule_of s) word flags) ≡ None → (by : ℕ) × (requester (work_in (schedule_of s) s.runner) ≡ Some by) × (low_half word ≡ by)
-  answerer word flags none =
-      let (by, is, named) = answers word (requester (work_in (schedule_of s) s.runner)) (guard-passes (response_guards (schedule_of s) word flags) 1 (sym none)) in
-      let known = steady.requesters (place s.runner) by is in
-      let small : by < 65536 = (let few = steady.few in let lt = known-place (length s.parties) by steady.some known in omega arith) in
-      let low : low_half word ≡ by = omega arith in
-      (by, is, low)
+  -- a response goes to the runner's requester
+  pub answerer : (message : DirectMessage) → first_failure (response_guards (schedule_of s) message) ≡ None → (by : ℕ) × (requester (work_in (schedule_of s) s.runner) ≡ Some by) × (message.receiver.0 ≡ by)
+  answerer message none =
+      answers message (requester (work_in (schedule_of s) s.runner)) (guard-passes (response_guards (schedule_of s) message) 1 (sym none))
 
-  pub steady-response : (function word flags : ℕ) (payload : List ℕ) → first_failure (response_guards (schedule_of s) word flags) ≡ None → IsSteady (direct_response s function word flags payload).state
-  steady-response function word flags payload none =
-      (let (by, is, low) = answerer word flags none in
-      scheduled-steady (finished (schedule_of s) (low_half word)) (finished-known (low_half word) (ap (is_known_among (length s.parties)) low ∙ steady.requesters (place s.runner) by is)))
+  pub steady-response : (message : DirectMessage) → first_failure (response_guards (schedule_of s) message) ≡ None → IsSteady (direct_response s message).state
+  steady-response message none =
+      (let (by, is, to) = answerer message none in
+      scheduled-steady (finished (schedule_of s) message.receiver.0) (finished-known message.receiver.0 (ap (is_known_among (length s.parties)) to ∙ steady.requesters (place s.runner) by is)))

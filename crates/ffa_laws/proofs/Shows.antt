@@ -18,7 +18,7 @@ use Rattle.ffa_model.specs.declared.descriptor.RetrieveDesc.{RetrieveDesc}
 use Rattle.ffa_model.specs.declared.descriptor.RelinquishDesc.{RelinquishDesc}
 use Rattle.ffa_model.specs.declared.call.Call as calls
 use Rattle.ffa_model.specs.declared.call.Call.TheVariants.{Version, Features, RxRelease, RxtxMap, RxtxUnmap, PartitionInfoGet, IdGet, MsgWait, Yield, Run, DirectRequest, DirectResponse, MemDonate, MemLend, MemShare, MemRetrieve, MemRelinquish, MemReclaim, BitmapCreate, BitmapDestroy, NotificationBind, NotificationUnbind, NotificationSet, NotificationGet, SpmIdGet, MsgSend2, Unknown}
-use Rattle.ffa_model.specs.Bits.{bits_of, high_half, word_of_halves, low_half}
+use Rattle.ffa_model.specs.Bits.{bits_of}
 use Rattle.ffa_model.specs.State.{State, Transaction, transaction_of, version_of}
 use Rattle.ffa_model.specs.Access.{is_offered, is_receiver}
 use Rattle.ffa_model.specs.Calls.{Service, Stepped, answered, encode, first_failure}
@@ -29,7 +29,6 @@ use Rattle.ffa_model.specs.RunStates.{direct_request, direct_response, msg_wait,
 use Rattle.ffa_model.specs.Messages.{header_in, message_in, tx_bytes}
 use Rattle.ffa_model.specs.Notifications.{class_of, manager_class, message_bits, has_bitmaps_in, notifications_of}
 use Rattle.ffa_model.specs.SendDescriptor.{SendRecord}
-use Rattle.ffa_model.specs.Transactions.{handle_of}
 use Rattle.ffa_model.specs.MemorySend.{memory_sent, send_read, transaction_from}
 use Rattle.ffa_model.specs.MemoryRetrieve.{retrieve_read, retrieved, retrieved_from}
 use Rattle.ffa_model.specs.MemoryReturn.{relinquish_read, relinquished, relinquished_from}
@@ -149,21 +148,21 @@ module _ (e : ℕ) (s : State) (differ : s.runner ≢ e) where
   shows-service SpmIdGet = quiet (service s SpmIdGet) (told_by e s SpmIdGet) refl refl
   shows-service MsgWait = switching (msg_wait s)
   shows-service Yield = switching (yield_now s)
-  shows-service (Run word) = switching (run_partition s word)
-  shows-service (DirectRequest function word flags payload) = switching (direct_request s function word flags payload)
-  shows-service (DirectResponse function word flags payload) = switching (direct_response s function word flags payload)
+  shows-service (Run target context) = switching (run_partition s target.0 context)
+  shows-service (DirectRequest message) = switching (direct_request s message)
+  shows-service (DirectResponse message) = switching (direct_response s message)
   shows-service (MemDonate x) = quiet (service s (MemDonate x)) (told_by e s (MemDonate x)) (no_opening e s Donate (send_read s Donate x.total)) (runs-offered s Donate (send_read s Donate x.total))
   shows-service (MemLend x) = quiet (service s (MemLend x)) (told_by e s (MemLend x)) (no_opening e s Lend (send_read s Lend x.total)) (runs-offered s Lend (send_read s Lend x.total))
   shows-service (MemShare x) = quiet (service s (MemShare x)) (told_by e s (MemShare x)) (no_opening e s Share (send_read s Share x.total)) (runs-offered s Share (send_read s Share x.total))
   shows-service (MemRetrieve x) = quiet (service s (MemRetrieve x)) (told_by e s (MemRetrieve x)) (no_takes e s (retrieve_read s x.total)) (runs-retrieved s (retrieve_read s x.total))
   shows-service MemRelinquish = quiet (service s MemRelinquish) (told_by e s MemRelinquish) (no_releases e s (relinquish_read s)) (runs-relinquished s (relinquish_read s))
-  shows-service (MemReclaim low high flags) = quiet (service s (MemReclaim low high flags)) (told_by e s (MemReclaim low high flags)) (no_message e (is_offered e (transaction_of s (handle_of high low))) (Closed (handle_of high low)) refl) refl
+  shows-service (MemReclaim handle flags) = quiet (service s (MemReclaim handle flags)) (told_by e s (MemReclaim handle flags)) (no_message e (is_offered e (transaction_of s handle.0)) (Closed handle.0) refl) refl
   shows-service (BitmapCreate endpoint contexts) = quiet (service s (BitmapCreate endpoint contexts)) (told_by e s (BitmapCreate endpoint contexts)) refl refl
   shows-service (BitmapDestroy endpoint) = quiet (service s (BitmapDestroy endpoint)) (told_by e s (BitmapDestroy endpoint)) (no_messages e (e == e) _ _ (λ k. refl)) refl
-  shows-service (NotificationBind word flags low high) = quiet (service s (NotificationBind word flags low high)) (told_by e s (NotificationBind word flags low high)) (no_messages e (high_half word == e) _ _ (λ k. refl)) refl
-  shows-service (NotificationUnbind word flags low high) = quiet (service s (NotificationUnbind word flags low high)) (told_by e s (NotificationUnbind word flags low high)) (no_messages e (high_half word == e) _ _ (λ k. refl)) refl
-  shows-service (NotificationSet word flags low high) = quiet (service s (NotificationSet word flags low high)) (told_by e s (NotificationSet word flags low high)) (no_message e (low_half word == e) (Pending (class_of s.runner) (bits_of (word_of_halves low high))) refl) refl
-  shows-service (NotificationGet word flags) = quiet (service s (NotificationGet word flags)) (told_by e s (NotificationGet word flags)) refl refl
+  shows-service (NotificationBind its) = quiet (service s (NotificationBind its)) (told_by e s (NotificationBind its)) (no_messages e (its.sender.0 == e) _ _ (λ k. refl)) refl
+  shows-service (NotificationUnbind its) = quiet (service s (NotificationUnbind its)) (told_by e s (NotificationUnbind its)) (no_messages e (its.sender.0 == e) _ _ (λ k. refl)) refl
+  shows-service (NotificationSet its) = quiet (service s (NotificationSet its)) (told_by e s (NotificationSet its)) (no_message e (its.receiver.0 == e) (Pending (class_of s.runner) (bits_of its.bitmap)) refl) refl
+  shows-service (NotificationGet receiver context flags) = quiet (service s (NotificationGet receiver context flags)) (told_by e s (NotificationGet receiver context flags)) refl refl
   shows-service MsgSend2 = quiet (service s MsgSend2) (told_by e s MsgSend2) (no_delivery e s (tx_bytes s s.runner)) refl
   shows-service Unknown = quiet (service s Unknown) (told_by e s Unknown) refl refl
 

@@ -9,7 +9,7 @@ use Rattle.ffa_model.specs.declared.schedule.Status.{Status}
 use Rattle.ffa_model.specs.declared.schedule.Status.TheVariants.{Running, Waiting, Yielded, Blocked}
 use Rattle.ffa_model.specs.declared.schedule.Work.{Work}
 use Rattle.ffa_model.specs.declared.schedule.Work.TheVariants.{Run, Request}
-use Rattle.ffa_model.specs.Bits.{high_half, low_half}
+use Rattle.ffa_model.specs.declared.call.DirectMessage.{DirectMessage}
 use Rattle.ffa_model.specs.Identifiers.{place}
 use Rattle.ffa_model.specs.State.{Party, is_known_among, is_partition_among}
 use Rattle.ffa_model.specs.RunStates.{Schedule, finished, given_cycles, is_endpoint, is_run, is_waiting, is_yielded, request_guards, requested, requester, run_guards, status_in, switched, wait_guards, with_work, work_in, yield_guards}
@@ -81,39 +81,39 @@ module _ (c : Schedule) (is : IsSound c) (some : 1 ≤ length c.works) (few : le
 
   -- ---- the calls
   module _ (parties : List Party) (each : length parties ≡ length c.works) where
-    pub sound-request : (word flags : ℕ) → first_failure (request_guards parties c word flags) ≡ None → IsSound (requested c (low_half word))
-    sound-request word flags none =
-        started (low_half word) (Some (Request (record { 0 = c.runner }))) partition idle refl
+    pub sound-request : (message : DirectMessage) → first_failure (request_guards parties c message) ≡ None → IsSound (requested c message.receiver.0)
+    sound-request message none =
+        started message.receiver.0 (Some (Request (record { 0 = c.runner }))) partition idle refl
       where
-        known : is_known_among (length c.works) (low_half word) ≡ true
-        known = ap (λ n. is_known_among n (low_half word)) (sym each) ∙ guard-passes (request_guards parties c word flags) 2 (sym none)
+        known : is_known_among (length c.works) message.receiver.0 ≡ true
+        known = ap (λ n. is_known_among n message.receiver.0) (sym each) ∙ guard-passes (request_guards parties c message) 2 (sym none)
 
-        partition : is_partition_among (length c.works) (low_half word) ≡ true
-        partition = elim (known-cases (length c.works) (low_half word) known) [
-          | inl first ↦ absurd (true≢false (sym (guard-passes (request_guards parties c word flags) 4 (sym none)) ∙ not_from_true (low_half word == 0) (eq-eqb (low_half word) 0 first)))
+        partition : is_partition_among (length c.works) message.receiver.0 ≡ true
+        partition = elim (known-cases (length c.works) message.receiver.0 known) [
+          | inl first ↦ absurd (true≢false (sym (guard-passes (request_guards parties c message) 4 (sym none)) ∙ not_from_true (message.receiver.0 == 0) (eq-eqb message.receiver.0 0 first)))
           | inr is ↦ is
         ]
 
-        idle : (is_waiting (status_in c (low_half word)) || is_yielded (status_in c (low_half word))) ≡ true
-        idle = or_left (is_waiting (status_in c (low_half word))) (is_yielded (status_in c (low_half word))) (guard-passes (request_guards parties c word flags) 7 (sym none))
+        idle : (is_waiting (status_in c message.receiver.0) || is_yielded (status_in c message.receiver.0)) ≡ true
+        idle = or_left (is_waiting (status_in c message.receiver.0)) (is_yielded (status_in c message.receiver.0)) (guard-passes (request_guards parties c message) 7 (sym none))
 
-  pub sound-run : (word : ℕ) → first_failure (run_guards (length c.works) c word) ≡ None → IsSound (given_cycles c (high_half word) (status_in c (high_half word)))
-  sound-run word none = go (status_in c (high_half word)) refl
+  pub sound-run : (target context : ℕ) → first_failure (run_guards (length c.works) c target context) ≡ None → IsSound (given_cycles c target (status_in c target))
+  sound-run target context none = go (status_in c target) refl
     where
-      partition : is_partition_among (length c.works) (high_half word) ≡ true
-      partition = guard-passes (run_guards (length c.works) c word) 1 (sym none)
+      partition : is_partition_among (length c.works) target ≡ true
+      partition = guard-passes (run_guards (length c.works) c target context) 1 (sym none)
 
       normal : c.runner ≡ 0
-      normal = eqb-true c.runner 0 (guard-passes (run_guards (length c.works) c word) 0 (sym none))
+      normal = eqb-true c.runner 0 (guard-passes (run_guards (length c.works) c target context) 0 (sym none))
 
-      idle : (is_waiting (status_in c (high_half word)) || is_yielded (status_in c (high_half word))) ≡ true
-      idle = guard-passes (run_guards (length c.works) c word) 3 (sym none)
+      idle : (is_waiting (status_in c target) || is_yielded (status_in c target)) ≡ true
+      idle = guard-passes (run_guards (length c.works) c target context) 3 (sym none)
 
-      go : (status : Status) → status_in c (high_half word) ≡ status → IsSound (given_cycles c (high_half word) status)
-      go Waiting at = started (high_half word) (Some Run) partition idle (ap Some (sym normal))
+      go : (status : Status) → status_in c target ≡ status → IsSound (given_cycles c target status)
+      go Waiting at = started target (Some Run) partition idle (ap Some (sym normal))
       go Yielded at =
-          subst IsSound (λ i. record (switched c Blocked (high_half word)) { works = set-get_or c.works (place (high_half word)) None i })
-          (started (high_half word) (work_in c (high_half word)) partition idle (is.yielded (high_half word) partition at ∙ ap Some (sym normal)))
+          subst IsSound (λ i. record (switched c Blocked target) { works = set-get_or c.works (place target) None i })
+          (started target (work_in c target) partition idle (is.yielded target partition at ∙ ap Some (sym normal)))
       go Running at = is
       go Blocked at = is
 

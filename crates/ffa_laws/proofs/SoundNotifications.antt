@@ -8,7 +8,8 @@ use Rattle.std.specs.Cmp.Lexicographic.{slice_cmp}
 use Rattle.std.specs.FinSet as finite_set
 use Rattle.std.proofs.lemmas.Bool.{and_from, and_parts, cases_eq, eq-eqb, eqb-true, false≢true, lt-ltb, ltb-true, ne_eqb, not-true, not_from_false, not_from_true, or_cases, or_left, or_right, true≢false}
 use Rattle.std.proofs.lemmas.List.{get_or-set_other}
-use Rattle.ffa_model.specs.Bits.{bits_of, high_half, is_set, word_of_halves, low_half}
+use Rattle.ffa_model.specs.declared.call.NotificationBits.{NotificationBits}
+use Rattle.ffa_model.specs.Bits.{bits_of, is_set}
 use Rattle.ffa_model.specs.Identifiers.{identifier, place}
 use Rattle.ffa_model.specs.Lists.{listed}
 use Rattle.ffa_model.specs.State.{State}
@@ -159,12 +160,12 @@ module _ (s : State) (sound : IsSoundState s) where
           (subst (λ g. (not (g == sender) && is_bound n receiver (class_of sender) bit g) ≡ true) (sym (known-named (length s.parties) f from))
           (and_from (not (f == sender)) _ (not_from_false (f == sender) (ne_eqb f sender differ)) is))
 
-  module _ (word flags low high : ℕ) where
+  module _ (its : NotificationBits) where
     abbrev sender : ℕ
-    sender = high_half word
+    sender = its.sender.0
 
     abbrev ks : List ℕ
-    ks = bits_of (word_of_halves low high)
+    ks = bits_of its.bitmap
 
     abbrev entry : ℕ → List ℕ
     entry k = binding s.runner (class_of sender) k sender
@@ -178,13 +179,13 @@ module _ (s : State) (sound : IsSoundState s) where
     abbrev less : Notifications
     less = without_bound n s.runner sender ks
 
-    pub bind-sound : first_failure (bind_guards (length s.parties) n s.runner word flags (word_of_halves low high)) ≡ None → IsSoundState (with_notifications s more)
+    pub bind-sound : first_failure (bind_guards (length s.parties) n s.runner its) ≡ None → IsSoundState (with_notifications s more)
     bind-sound none =
         notifications-sound s sound more sound.sized.bitmaps bound
         (λ x is. let good = sound.pending x is in same-pending more x good (λ lt. let (f, its) = good.bound lt in (f, still (binding good.receiver good.class good.bit f) its)))
       where
         all : list_all may ks ≡ true
-        all = bits-pass (is_bindable (length s.parties) n s.runner sender) (word_of_halves low high) (guard-passes (bind_guards (length s.parties) n s.runner word flags (word_of_halves low high)) 6 (sym none))
+        all = bits-pass (is_bindable (length s.parties) n s.runner sender) its.bitmap (guard-passes (bind_guards (length s.parties) n s.runner its) 6 (sym none))
 
         still : (x : List ℕ) → finite_set.contains s.bound x ≡ true → finite_set.contains more.bound x ≡ true
         still x is = contains-more s.bound (map entry ks) x ∙ or_left (finite_set.contains s.bound x) (among x (map entry ks)) is
@@ -217,18 +218,18 @@ module _ (s : State) (sound : IsSoundState s) where
             sender = sender;
             is = new.2;
             to_known = runner-known s sound;
-            from_known = guard-passes (bind_guards (length s.parties) n s.runner word flags (word_of_halves low high)) 1 (sym none);
+            from_known = guard-passes (bind_guards (length s.parties) n s.runner its) 1 (sym none);
             in_word = ltb-true new.0 64 (and_parts (nat_lt new.0 64) _ new.1).0;
-            bitmaps = guard-passes (bind_guards (length s.parties) n s.runner word flags (word_of_halves low high)) 5 (sym none);
+            bitmaps = guard-passes (bind_guards (length s.parties) n s.runner its) 5 (sym none);
             alone = new-alone new.0 new.1;
           }
         ]
 
-    pub unbind-sound : first_failure (unbind_guards (length s.parties) n s.runner word flags (word_of_halves low high)) ≡ None → IsSoundState (with_notifications s less)
+    pub unbind-sound : first_failure (unbind_guards (length s.parties) n s.runner its) ≡ None → IsSoundState (with_notifications s less)
     unbind-sound none = notifications-sound s sound less sound.sized.bitmaps bound pending
       where
         all : list_all (is_unbindable n s.runner sender) ks ≡ true
-        all = guard-passes (unbind_guards (length s.parties) n s.runner word flags (word_of_halves low high)) 6 (sym none)
+        all = guard-passes (unbind_guards (length s.parties) n s.runner its) 6 (sym none)
 
         before : (x : List ℕ) → finite_set.contains less.bound x ≡ true → finite_set.contains s.bound x ≡ true
         before x is = (and_parts (finite_set.contains s.bound x) (not (among x (map entry ks))) (sym (contains-less s.bound (map entry ks) x) ∙ is)).0
@@ -270,24 +271,24 @@ module _ (s : State) (sound : IsSoundState s) where
   abbrev bound_to : ℕ → ℕ → Bool
   bound_to f k = is_bound n f (class_of s.runner) k s.runner
 
-  pub set-sound : (word flags low high : ℕ) → first_failure (set_guards (length s.parties) n s.runner word flags (word_of_halves low high)) ≡ None
-      → IsSoundState (with_notifications s (with_pending n (low_half word) (class_of s.runner) (bits_of (word_of_halves low high))))
-  set-sound word flags low high none =
-      raised-sound (low_half word) (class_of s.runner) (bits_of (word_of_halves low high)) (λ x is.
-      let (k, passes, same) = among-passed (is_bit (bound_to (low_half word))) (receiver_bit (low_half word) (class_of s.runner)) (bits_of (word_of_halves low high)) x all is in
+  pub set-sound : (its : NotificationBits) → first_failure (set_guards (length s.parties) n s.runner its) ≡ None
+      → IsSoundState (with_notifications s (with_pending n its.receiver.0 (class_of s.runner) (bits_of its.bitmap)))
+  set-sound its none =
+      raised-sound its.receiver.0 (class_of s.runner) (bits_of its.bitmap) (λ x is.
+      let (k, passes, same) = among-passed (is_bit (bound_to its.receiver.0)) (receiver_bit its.receiver.0 (class_of s.runner)) (bits_of its.bitmap) x all is in
       record {
-        receiver = low_half word;
+        receiver = its.receiver.0;
         class = class_of s.runner;
         bit = k;
         is = same;
-        to_known = guard-passes (set_guards (length s.parties) n s.runner word flags (word_of_halves low high)) 1 (sym none);
+        to_known = guard-passes (set_guards (length s.parties) n s.runner its) 1 (sym none);
         of_class = class-bound s.runner;
         in_word = ltb-true k 64 (and_parts (nat_lt k 64) _ passes).0;
         bound = λ lt. (s.runner, (and_parts (nat_lt k 64) _ passes).1);
       })
     where
-      all : list_all (is_bit (bound_to (low_half word))) (bits_of (word_of_halves low high)) ≡ true
-      all = bits-pass (bound_to (low_half word)) (word_of_halves low high) (guard-passes (set_guards (length s.parties) n s.runner word flags (word_of_halves low high)) 5 (sym none))
+      all : list_all (is_bit (bound_to its.receiver.0)) (bits_of its.bitmap) ≡ true
+      all = bits-pass (bound_to its.receiver.0) its.bitmap (guard-passes (set_guards (length s.parties) n s.runner its) 5 (sym none))
 
   pub framework-sound : (f : ℕ) → IsKnown s f → IsSoundState (with_notifications s (with_framework_bit n f))
   framework-sound f to = raised-sound f manager_class message_bits (λ x is.

@@ -11,7 +11,6 @@ use Rattle.ffa_model.specs.declared.rights.Kind.TheVariants.{Share, Lend, Donate
 use Rattle.ffa_model.specs.declared.schedule.Status.TheVariants.{Yielded}
 use Rattle.ffa_model.specs.declared.call.Call as calls
 use Rattle.ffa_model.specs.declared.call.Call.TheVariants.{Version, Features, RxRelease, RxtxMap, RxtxUnmap, PartitionInfoGet, IdGet, MsgWait, Yield, Run, DirectRequest, DirectResponse, MemDonate, MemLend, MemShare, MemRetrieve, MemRelinquish, MemReclaim, BitmapCreate, BitmapDestroy, NotificationBind, NotificationUnbind, NotificationSet, NotificationGet, SpmIdGet, MsgSend2, Unknown}
-use Rattle.ffa_model.specs.Bits.{high_half, low_half}
 use Rattle.ffa_model.specs.Registers.{decode}
 use Rattle.ffa_model.specs.State.{State, buffers_of, version_of}
 use Rattle.ffa_model.specs.Calls.{first_failure, served}
@@ -66,24 +65,24 @@ module _ (s : State) (sound : IsSoundState s) where
   service-sound MsgWait none =
       rx-sound (with_schedule s (finished (schedule_of s) 0)) (run-states (finished (schedule_of s) 0) (sound-service s scheduled MsgWait none)) s.runner false
   service-sound Yield none = run-states (switched (schedule_of s) Yielded 0) (sound-service s scheduled Yield none)
-  service-sound (Run word) none =
-      run-states (given_cycles (schedule_of s) (high_half word) (status_in (schedule_of s) (high_half word))) (sound-service s scheduled (Run word) none)
-  service-sound (DirectRequest function word flags payload) none =
-      run-states (requested (schedule_of s) (low_half word)) (sound-service s scheduled (DirectRequest function word flags payload) none)
-  service-sound (DirectResponse function word flags payload) none =
-      run-states (finished (schedule_of s) (low_half word)) (sound-service s scheduled (DirectResponse function word flags payload) none)
+  service-sound (Run target context) none =
+      run-states (given_cycles (schedule_of s) target.0 (status_in (schedule_of s) target.0)) (sound-service s scheduled (Run target context) none)
+  service-sound (DirectRequest message) none =
+      run-states (requested (schedule_of s) message.receiver.0) (sound-service s scheduled (DirectRequest message) none)
+  service-sound (DirectResponse message) none =
+      run-states (finished (schedule_of s) message.receiver.0) (sound-service s scheduled (DirectResponse message) none)
   service-sound (MemDonate x) none = send-sound s sound Donate x none
   service-sound (MemLend x) none = send-sound s sound Lend x none
   service-sound (MemShare x) none = send-sound s sound Share x none
   service-sound (MemRetrieve x) none = retrieve-sound s sound x none
   service-sound MemRelinquish none = relinquish-sound s sound
-  service-sound (MemReclaim low high flags) none = reclaim-sound s sound low high flags none
+  service-sound (MemReclaim handle flags) none = reclaim-sound s sound handle.0 flags none
   service-sound (BitmapCreate endpoint contexts) none = create-sound s sound
   service-sound (BitmapDestroy endpoint) none = destroy-sound s sound endpoint none
-  service-sound (NotificationBind word flags low high) none = bind-sound s sound word flags low high none
-  service-sound (NotificationUnbind word flags low high) none = unbind-sound s sound word flags low high none
-  service-sound (NotificationSet word flags low high) none = set-sound s sound word flags low high none
-  service-sound (NotificationGet word flags) none = get-sound s sound flags
+  service-sound (NotificationBind its) none = bind-sound s sound its none
+  service-sound (NotificationUnbind its) none = unbind-sound s sound its none
+  service-sound (NotificationSet its) none = set-sound s sound its none
+  service-sound (NotificationGet receiver context flags) none = get-sound s sound flags
   service-sound MsgSend2 none = sent none
   service-sound Unknown none = sound
 

@@ -8,18 +8,18 @@ use Rattle.ffa_model.specs.Bits.{is_set}
 use Rattle.ffa_model.specs.Calls.{first_failure}
 use Rattle.ffa_model.specs.MemoryReturn.{memory_reclaim, memory_relinquish, reclaim_guards, reclaimed, relinquish_read, relinquished, relinquished_from}
 use Rattle.ffa_model.specs.SoundState.{IsSoundState}
-use Rattle.ffa_model.specs.Transactions.{own_rights_of, handle_of}
+use Rattle.ffa_model.specs.Transactions.{own_rights_of}
 use Rattle.ffa_model.proofs.Guards.{guard-passes}
 use Rattle.ffa_model.proofs.KeptCalls.{reclaimed-sound, relinquished-sound}
 
 module _ (s : State) (sound : IsSoundState s) where
-  pub reclaim-sound : (low high flags : ℕ) → first_failure (memory_reclaim s low high flags).guards ≡ None → IsSoundState (memory_reclaim s low high flags).state
-  reclaim-sound low high flags none = of (transaction_of s (handle_of high low)) refl none
+  pub reclaim-sound : (handle flags : ℕ) → first_failure (memory_reclaim s handle flags).guards ≡ None → IsSoundState (memory_reclaim s handle flags).state
+  reclaim-sound handle flags none = of (transaction_of s handle) refl none
     where
-      of : (o : Option Transaction) → transaction_of s (handle_of high low) ≡ o → first_failure (reclaim_guards (own_rights_of s) s.runner flags o) ≡ None
-          → IsSoundState (reclaimed s (handle_of high low) (is_set 0 flags))
+      of : (o : Option Transaction) → transaction_of s handle ≡ o → first_failure (reclaim_guards (own_rights_of s) s.runner flags o) ≡ None
+          → IsSoundState (reclaimed s handle (is_set 0 flags))
       of None there none = absurd (false≢true (guard-passes (reclaim_guards (own_rights_of s) s.runner flags None) 1 (sym none)))
-      of (Some t) there none = reclaimed-sound s sound (handle_of high low) t there (is_set 0 flags)
+      of (Some t) there none = reclaimed-sound s sound handle t there (is_set 0 flags)
 
   pub relinquish-sound : IsSoundState (memory_relinquish s).state
   relinquish-sound = by_descriptor (relinquish_read s)

@@ -11,7 +11,6 @@ use Rattle.ffa_model.specs.declared.schedule.Status.TheVariants.{Running, Waitin
 use Rattle.ffa_model.specs.declared.schedule.Work.TheVariants.{Run as WorkRun, Request}
 use Rattle.ffa_model.specs.declared.call.Call as calls
 use Rattle.ffa_model.specs.declared.call.Call.TheVariants.{Version, Features, RxRelease, RxtxMap, RxtxUnmap, PartitionInfoGet, IdGet, MsgWait, Yield, Run, DirectRequest, DirectResponse, MemDonate, MemLend, MemShare, MemRetrieve, MemRelinquish, MemReclaim, BitmapCreate, BitmapDestroy, NotificationBind, NotificationUnbind, NotificationSet, NotificationGet, SpmIdGet, MsgSend2, Unknown}
-use Rattle.ffa_model.specs.Bits.{high_half, low_half}
 use Rattle.ffa_model.specs.Identifiers.{place}
 use Rattle.ffa_model.specs.State.{State, transaction_of, version_of}
 use Rattle.ffa_model.specs.MemorySend.{memory_sent, send_read}
@@ -90,23 +89,23 @@ module _ (s : State) (is : IsScheduled s) where
   sound-service SpmIdGet none = old
   sound-service MsgWait none = record { sound = sound-wait c is.schedule some few none; works = finished-works 0 }
   sound-service Yield none = record { sound = sound-yield c is.schedule some few none; works = is.works }
-  sound-service (Run word) none = record { sound = sound-run c is.schedule some few word (ap (λ k. first_failure (run_guards k c word)) is.works ∙ none); works = given-works (high_half word) (status_in c (high_half word)) ∙ is.works }
-  sound-service (DirectRequest function word flags payload) none =
-      record { sound = sound-request c is.schedule some few s.parties (sym is.works) word flags none; works = length-set s.works (place (low_half word)) (Some (Request (record { 0 = s.runner }))) ∙ is.works }
-  sound-service (DirectResponse function word flags payload) none =
-      (let (by, asked, low) = answerer s is.steady word flags none in
-      subst (λ e. AreSound n (finished c e)) (sym low) (record { sound = sound-response c is.schedule some few by asked; works = finished-works by }))
+  sound-service (Run target context) none = record { sound = sound-run c is.schedule some few target.0 context (ap (λ k. first_failure (run_guards k c target.0 context)) is.works ∙ none); works = given-works target.0 (status_in c target.0) ∙ is.works }
+  sound-service (DirectRequest message) none =
+      record { sound = sound-request c is.schedule some few s.parties (sym is.works) message none; works = length-set s.works (place message.receiver.0) (Some (Request (record { 0 = s.runner }))) ∙ is.works }
+  sound-service (DirectResponse message) none =
+      (let (by, asked, to) = answerer s is.steady message none in
+      subst (λ e. AreSound n (finished c e)) (sym to) (record { sound = sound-response c is.schedule some few by asked; works = finished-works by }))
   sound-service (MemDonate x) none = sent-old Donate (send_read s Donate x.total)
   sound-service (MemLend x) none = sent-old Lend (send_read s Lend x.total)
   sound-service (MemShare x) none = sent-old Share (send_read s Share x.total)
   sound-service (MemRetrieve x) none = retrieved-old (retrieve_read s x.total)
   sound-service MemRelinquish none = relinquished-old (relinquish_read s)
-  sound-service (MemReclaim low high flags) none = old
+  sound-service (MemReclaim handle flags) none = old
   sound-service (BitmapCreate endpoint contexts) none = old
   sound-service (BitmapDestroy endpoint) none = old
-  sound-service (NotificationBind word flags low high) none = old
-  sound-service (NotificationUnbind word flags low high) none = old
-  sound-service (NotificationSet word flags low high) none = old
-  sound-service (NotificationGet word flags) none = old
+  sound-service (NotificationBind its) none = old
+  sound-service (NotificationUnbind its) none = old
+  sound-service (NotificationSet its) none = old
+  sound-service (NotificationGet receiver context flags) none = old
   sound-service MsgSend2 none = old
   sound-service Unknown none = old

@@ -197,12 +197,12 @@ module _ (s : State) (sound : IsSoundState s) (p : ℕ) (no_right : may_store (a
       read None none = refl
       read (Some d) none = of d (transaction_of s d.handle) refl none
 
-  reclaim-elsewhere : (low high flags : ℕ) → first_failure (memory_reclaim s low high flags).guards ≡ None → may_store (access (memory_reclaim s low high flags).state s.runner p) ≡ false
-      → bytes_in (memory_reclaim s low high flags).state.pages p ≡ bytes_in s.pages p
-  reclaim-elsewhere low high flags none later = of (transaction_of s h) refl none
+  reclaim-elsewhere : (handle flags : ℕ) → first_failure (memory_reclaim s handle flags).guards ≡ None → may_store (access (memory_reclaim s handle flags).state s.runner p) ≡ false
+      → bytes_in (memory_reclaim s handle flags).state.pages p ≡ bytes_in s.pages p
+  reclaim-elsewhere handle flags none later = of (transaction_of s h) refl none
     where
       h : ℕ
-      h = handle_of high low
+      h = handle
 
       asks : (zero all : Bool) → (not zero || all) ≡ true → zero ≡ true → all ≡ true
       asks true all is asked = is
@@ -238,7 +238,7 @@ module _ (s : State) (sound : IsSoundState s) (p : ℕ) (no_right : may_store (a
   only-service (MemShare x) not_filled none later = send-elsewhere Share x none
   only-service (MemRetrieve x) not_filled none later = retrieve-elsewhere x (taken s x none)
   only-service MemRelinquish not_filled none later = relinquish-elsewhere none
-  only-service (MemReclaim low high flags) not_filled none later = reclaim-elsewhere low high flags none later
+  only-service (MemReclaim handle flags) not_filled none later = reclaim-elsewhere handle.0 flags none later
   only-service MsgSend2 not_filled none later = delivered-elsewhere none not_filled
   only-service call not_filled none later = refl
 

@@ -21,7 +21,7 @@ use Rattle.ffa_model.specs.declared.operation.Outcome.{Outcome}
 use Rattle.ffa_model.specs.declared.operation.Outcome.TheVariants.{Regs}
 use Rattle.ffa_model.specs.declared.call.Call as calls
 use Rattle.ffa_model.specs.declared.call.Call.TheVariants.{MsgWait, Yield, Run, DirectRequest, DirectResponse, MemDonate, MemLend, MemShare, MemRetrieve, MemRelinquish, MemReclaim, BitmapDestroy, NotificationBind, NotificationUnbind, NotificationSet, MsgSend2}
-use Rattle.ffa_model.specs.Bits.{bits_of, high_half, word_of_halves, low_half}
+use Rattle.ffa_model.specs.Bits.{bits_of}
 use Rattle.ffa_model.specs.Lists.{listed, map_at}
 use Rattle.ffa_model.specs.Registers.{decode}
 use Rattle.ffa_model.specs.State.{State, Page, Transaction, Buffers, buffers_of, transaction_of}
@@ -33,7 +33,7 @@ use Rattle.ffa_model.specs.RunStates.{direct_request, direct_response, msg_wait,
 use Rattle.ffa_model.specs.Messages.{header_in, message_in, tx_bytes}
 use Rattle.ffa_model.specs.Notifications.{binding, class_of, has_bitmaps_in, is_bound, manager_class, notifications_of, message_bits, with_notifications, with_pending}
 use Rattle.ffa_model.specs.SendDescriptor.{SendRecord}
-use Rattle.ffa_model.specs.Transactions.{own_rights_of, handle_of, holding, next_handle, not_holding, open_of, with_open, with_transaction}
+use Rattle.ffa_model.specs.Transactions.{own_rights_of, holding, next_handle, not_holding, open_of, with_open, with_transaction}
 use Rattle.ffa_model.specs.MemorySend.{memory_sent, send_read, transaction_from}
 use Rattle.ffa_model.specs.MemoryRetrieve.{retrieve_read, right_for}
 use Rattle.ffa_model.specs.MemoryReturn.{named_ranges, relinquish_read}
@@ -207,19 +207,19 @@ sets e s receiver ks = where_true (receiver == e) (Pending (class_of s.runner) k
 abbrev pub told_by : ℕ → State → calls.Call → List Event
 told_by e s MsgWait = switches e (msg_wait s)
 told_by e s Yield = switches e (yield_now s)
-told_by e s (Run target) = switches e (run_partition s target)
-told_by e s (DirectRequest function word flags payload) = switches e (direct_request s function word flags payload)
-told_by e s (DirectResponse function word flags payload) = switches e (direct_response s function word flags payload)
+told_by e s (Run target context) = switches e (run_partition s target.0 context)
+told_by e s (DirectRequest message) = switches e (direct_request s message)
+told_by e s (DirectResponse message) = switches e (direct_response s message)
 told_by e s (MemDonate x) = opens e s Donate (send_read s Donate x.total)
 told_by e s (MemLend x) = opens e s Lend (send_read s Lend x.total)
 told_by e s (MemShare x) = opens e s Share (send_read s Share x.total)
 told_by e s (MemRetrieve x) = takes e s (retrieve_read s x.total)
 told_by e s MemRelinquish = releases e s (relinquish_read s)
-told_by e s (MemReclaim low high flags) = closes e s (handle_of high low)
+told_by e s (MemReclaim handle flags) = closes e s handle.0
 told_by e s (BitmapDestroy endpoint) = unbinds e s 0 e (listed 64 (λ k. k))
-told_by e s (NotificationBind word flags low high) = binds e s s.runner (high_half word) (bits_of (word_of_halves low high))
-told_by e s (NotificationUnbind word flags low high) = unbinds e s s.runner (high_half word) (bits_of (word_of_halves low high))
-told_by e s (NotificationSet word flags low high) = sets e s (low_half word) (bits_of (word_of_halves low high))
+told_by e s (NotificationBind its) = binds e s s.runner its.sender.0 (bits_of its.bitmap)
+told_by e s (NotificationUnbind its) = unbinds e s s.runner its.sender.0 (bits_of its.bitmap)
+told_by e s (NotificationSet its) = sets e s its.receiver.0 (bits_of its.bitmap)
 told_by e s MsgSend2 = delivers e s (tx_bytes s s.runner)
 told_by e s call = []
 

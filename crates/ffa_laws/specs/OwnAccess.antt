@@ -14,7 +14,7 @@ use Rattle.ffa_model.specs.Step.{step}
 -- the calls by which a caller may get a right to a page, and those by which it may lose one
 abbrev pub gives_access : calls.Call → Bool
 gives_access (MemRetrieve x) = true
-gives_access (MemReclaim low high flags) = true
+gives_access (MemReclaim handle flags) = true
 gives_access call = false
 
 abbrev pub takes_access : calls.Call → Bool

@@ -19,7 +19,7 @@ is_filled_by op s p = is_indirect_message op && fills_rx_page s (header_in (tx_b
 
 -- whether a call is FFA_MEM_RECLAIM
 abbrev pub is_reclaim : calls.Call → Bool
-is_reclaim (MemReclaim low high flags) = true
+is_reclaim (MemReclaim handle flags) = true
 is_reclaim call = false
 
 -- whether an operation is a reclaim after which the runner may write to this page, which it may zero then

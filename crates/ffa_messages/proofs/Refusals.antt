@@ -1,11 +1,11 @@
 -- SPDX-License-Identifier: MIT OR Apache-2.0
 -- The checks of messages, as the code makes them.
-use Rattle.std.proofs.Common.{◌≡◌, ◌∙◌, ℕ, ◌*◌, ◌^◌, ◌<◌, is_some, Bool, true, false, List, [], ◌∷◌, ◌++◌, Option, Some, None, refl, sym, ap, arith, eq-eqb}
-use Rattle.std.specs.Prelude.{◌==◌, if◌then◌else◌}
+use Rattle.std.proofs.Common.{◌≡◌, ◌∙◌, ℕ, ◌*◌, is_some, Bool, true, false, List, [], ◌∷◌, ◌++◌, Option, Some, None, refl, sym, ap}
+use Rattle.std.specs.Prelude.{◌==◌, ◌&&◌, if◌then◌else◌}
 use Rattle.std.specs.Option.{option_or}
+use Rattle.ffa_model.specs.declared.call.DirectMessage.{DirectMessage}
 use Rattle.ffa_model.specs.declared.refusal.Refusal.{Refusal}
 use Rattle.ffa_model.specs.declared.refusal.Refusal.TheVariants.{AnswerMisdirected, BuffersMissing, FlagsReserved, NoRequest}
-use Rattle.ffa_model.specs.Bits.{high_half, low_half, word_of_two}
 use Rattle.ffa_model.specs.Buffers.{buffers_in, room_of}
 use Rattle.ffa_model.specs.Calls.{first_refusal}
 use Rattle.ffa_model.specs.Messages.{MessageHeader, header_in, send2_guards}
@@ -16,12 +16,12 @@ use Rattle.ffa_rxtx.specs.Parts.{run_in, tx_in}
 use Rattle.ffa_messages.specs.Parts.{ends_guards, header_guards, sent_in}
 
 -- of a response from the runner to the endpoint that asked the flags alone are left
-pub refused-flags : (c : Schedule) (word flags by : ℕ) (unset : Bool) → word < 2 ^ 32 → Some by ≡ requester (work_in c c.runner) → high_half word ≡ c.runner → low_half word ≡ by → unset ≡ (flags == 0)
-    → (if unset then None else Some FlagsReserved) ≡ first_refusal (response_guards c word flags)
-refused-flags c word flags by unset fits asked from to is =
-    let named : word ≡ word_of_two c.runner by = omega (arith, fits, from, to) in
-    (λ i. first_refusal ((sym (eq-eqb word (word_of_two c.runner by) named) i, AnswerMisdirected) ∷ (is i, FlagsReserved) ∷ []))
-    ∙ (λ i. first_refusal ((is_some (asked i), NoRequest) ∷ (is_answer c.runner word (asked i), AnswerMisdirected) ∷ (flags == 0, FlagsReserved) ∷ []))
+pub refused-flags : (schedule : Schedule) (message : DirectMessage) (by : ℕ) (unset : Bool) → Some by ≡ requester (work_in schedule schedule.runner)
+    → (message.sender.0 == schedule.runner) ≡ true → (message.receiver.0 == by) ≡ true → unset ≡ (message.flags == 0)
+    → (if unset then None else Some FlagsReserved) ≡ first_refusal (response_guards schedule message)
+refused-flags schedule message by unset asked from to is =
+    (λ i. first_refusal ((sym from i && sym to i, AnswerMisdirected) ∷ (is i, FlagsReserved) ∷ []))
+    ∙ (λ i. first_refusal ((is_some (asked i), NoRequest) ∷ (is_answer schedule.runner message (asked i), AnswerMisdirected) ∷ (message.flags == 0, FlagsReserved) ∷ []))
 
 -- guards in two parts
 refusal-append : (guards more : List (Bool × Refusal)) → first_refusal (guards ++ more) ≡ option_or (first_refusal guards) (first_refusal more)

@@ -2,9 +2,8 @@
 //! Indirect messages (DEN0077A, 7.1 and 15).
 ghost use Rattle.std.specs.Prelude.{◌≡◌, ◌+◌, ◌*◌, ◌≤◌, length, map, take, true, is_some, Some, OnOk, OnErr, IfOk, IsSomeAnd};
 ghost use Rattle.std.specs.Result.{result_err};
-ghost use Rattle.ffa_model.specs.AboutContents.{about_ends, about_message};
 ghost use Rattle.ffa_model.specs.Buffers.{buffers_in, buffers_with_rx, room_of};
-ghost use Rattle.ffa_model.specs.Calls.{first_failure, first_refusal};
+ghost use Rattle.ffa_model.specs.Calls.{first_failure};
 ghost use Rattle.ffa_model.specs.First.{party_of};
 ghost use Rattle.ffa_model.specs.Messages.{header_in, message_in, send2_guards};
 ghost use Rattle.ffa_model.specs.Ram.{number_in, page_of};
@@ -13,28 +12,25 @@ ghost use Rattle.ffa_model.specs.Lists.{is_in_run};
 ghost use Rattle.ffa_physmem.specs.Moments.{IsWriting, Only};
 ghost use Rattle.ffa_rxtx.specs.Parts.{IsInRam, IsRxWriting, run_in, with_run, with_rx_bytes};
 ghost use Rattle.ffa_rxtx.specs.Stored.{buffers_of};
-ghost use Rattle.ffa_messages.specs.Parts.{AreEndsApart, AreInRam, IsBeside, ends_guards, header_guards, header_of, receiver_in, sent_in, size_in};
+ghost use Rattle.ffa_messages.specs.Parts.{AreEndsApart, AreInRam, IsBeside, header_of, receiver_in, sent_in};
 
-use crate::parties::has_indirect_messages;
+use crate::checks::check_send2;
 use byteorder::{ByteOrder, LittleEndian};
-use ffa_model::{About, EndpointId, ErrorCode, Manifest, PageNo, Refusal};
+use ffa_model::{EndpointId, ErrorCode, Manifest, PageNo};
 use ffa_physmem::{PAGE_SIZE, PhysMem};
 use ffa_rxtx::{Buffers, Mapped};
-
-/// How many bytes the header of a message has.
-const HEADER_SIZE: u32 = 20;
 
 /// The header with which a message in TX begins (DEN0077A, 7.1).
 #[derive(Clone, Copy, PartialEq, Eq)]
 pub struct MessageHeader {
-    flags: u32,
-    reserved: u32,
+    pub(crate) flags: u32,
+    pub(crate) reserved: u32,
     /// Where the payload begins, counted from the header's first byte.
-    offset: u32,
-    receiver: EndpointId,
-    sender: EndpointId,
+    pub(crate) offset: u32,
+    pub(crate) receiver: EndpointId,
+    pub(crate) sender: EndpointId,
     /// How many bytes the payload has.
-    size: u32,
+    pub(crate) size: u32,
 }
 
 impl MessageHeader {
@@ -53,100 +49,11 @@ impl MessageHeader {
     }
 
     // How many bytes the message has with its header.
-    fn end(&self) -> usize
+    pub(crate) fn end(&self) -> usize
         ensures { result ≡ self.now.offset + self.now.size }
     {
         self.offset as usize + self.size as usize
     }
-
-    // The checks of a message by itself, in the TX of a caller that has room for so many bytes there.
-    fn check(&self, manifest: &Manifest, caller: EndpointId, room: usize) -> Result<(), Refusal>
-        ensures refusal { result_err result ≡ first_refusal (header_guards (map party_of manifest.now.endpoints.items) caller.0 room (header_of self.now)) }
-        ensures fits { OnOk result (self.now.offset + self.now.size ≤ room) }
-        ensures known { OnOk result (is_known_among (length manifest.now.endpoints.items) self.now.receiver.0 ≡ true) }
-    {
-        if self.flags != 0 {
-            return Err(Refusal::FlagsReserved);
-        }
-        if self.reserved != 0 {
-            return Err(Refusal::HeaderReserved);
-        }
-        if self.sender != caller {
-            return Err(Refusal::SenderIsAnother);
-        }
-        if !self.receiver.is_among(manifest.endpoints.len()) {
-            return Err(Refusal::ReceiverUnknown);
-        }
-        if self.receiver == caller {
-            return Err(Refusal::ReceiverIsCaller);
-        }
-        if self.offset < HEADER_SIZE {
-            return Err(Refusal::MessageInHeader);
-        }
-        if self.size == 0 {
-            return Err(Refusal::MessageEmpty);
-        }
-        if self.end() > room {
-            return Err(Refusal::MessageTooLong);
-        }
-        Ok(())
-    }
-
-    // The checks of a message's ends, which are the caller and the receiver.
-    fn check_ends(
-        &self,
-        buffers: &Buffers,
-        manifest: &Manifest,
-        caller: EndpointId,
-    ) -> Result<(), Refusal>
-        ensures refusal { result_err result ≡ first_refusal (ends_guards (map party_of manifest.now.endpoints.items) buffers.now caller.0 (header_of self.now)) }
-        ensures buffers { OnOk result (is_some (buffers_in buffers.now self.now.receiver.0) ≡ true) }
-        ensures room { OnOk result (self.now.offset + self.now.size ≤ room_of (buffers_in buffers.now self.now.receiver.0)) }
-    {
-        if !has_indirect_messages(manifest, caller) {
-            return Err(Refusal::MessagesUnsent);
-        }
-        if !has_indirect_messages(manifest, self.receiver) {
-            return Err(Refusal::MessagesUnreceived);
-        }
-        let to = match buffers.of(self.receiver) {
-            Some(to) => to,
-            None => return Err(Refusal::ReceiverBuffersMissing),
-        };
-        if to.is_full {
-            return Err(Refusal::ReceiverRxFull);
-        }
-        if self.end() > to.room() {
-            return Err(Refusal::ReceiverRxSmall);
-        }
-        Ok(())
-    }
-
-    // Which of its ends a check that fails is about.
-    fn about(&self, refusal: Refusal) -> Option<About>
-        ensures { result ≡ about_ends (header_of self.now) refusal }
-    {
-        match refusal {
-            Refusal::SenderIsAnother => Some(About::Endpoint(self.sender)),
-            Refusal::ReceiverUnknown
-            | Refusal::ReceiverIsCaller
-            | Refusal::MessagesUnreceived
-            | Refusal::ReceiverBuffersMissing
-            | Refusal::ReceiverRxFull
-            | Refusal::ReceiverRxSmall => Some(About::Endpoint(self.receiver)),
-            _ => None,
-        }
-    }
-}
-
-/// An indirect message that passes the checks of FFA_MSG_SEND2: where it stands, for whom it is, and how long.
-#[derive(Clone, Copy, PartialEq, Eq)]
-pub struct IndirectMessage {
-    /// The sender's buffers. The message begins with the first byte of TX.
-    pub from: Mapped,
-    pub receiver: EndpointId,
-    /// How many bytes it has with its header.
-    pub size: usize,
 }
 
 // The number in the two bytes of a page from this place on.
@@ -198,55 +105,8 @@ pub fn send2<M: PhysMem>(
     Ok(message.receiver)
 }
 
-/// The checks of FFA_MSG_SEND2 in order: the first that fails, or the message, which may be sent.
-pub fn check_send2<M: PhysMem>(
-    ram: &M,
-    buffers: &Buffers,
-    manifest: &Manifest,
-    caller: EndpointId,
-) -> Result<IndirectMessage, Refusal>
-    requires { AreInRam (length (M.ram ram.now).pages) buffers.now }
-    ensures refusal { result_err result ≡ first_refusal (send2_guards (map party_of manifest.now.endpoints.items) buffers.now caller.0 (header_in (sent_in (M.ram ram.now) buffers.now caller.0))) }
-    ensures from { IfOk result (λ message. Some (buffers_of message.from) ≡ buffers_in buffers.now caller.0) }
-    ensures receiver { IfOk result (λ message. message.receiver.0 ≡ receiver_in (M.ram ram.now) buffers.now caller.0) }
-    ensures size { IfOk result (λ message. message.size ≡ size_in (M.ram ram.now) buffers.now caller.0) }
-    ensures fits { IfOk result (λ message. message.size ≤ 4096 * message.from.pages) }
-    ensures buffers { IfOk result (λ message. is_some (buffers_in buffers.now message.receiver.0) ≡ true) }
-    ensures known { IfOk result (λ message. is_known_among (length buffers.now) message.receiver.0 ≡ true) }
-    ensures room { IfOk result (λ message. message.size ≤ room_of (buffers_in buffers.now message.receiver.0)) }
-{
-    let from = match buffers.of(caller) {
-        Some(from) => from,
-        None => return Err(Refusal::BuffersMissing),
-    };
-    let header = read_header(ram, &from);
-    header.check(manifest, caller, from.room())?;
-    header.check_ends(buffers, manifest, caller)?;
-    Ok(IndirectMessage {
-        from,
-        receiver: header.receiver,
-        size: header.end(),
-    })
-}
-
-/// Which end that the header in its TX names a check of FFA_MSG_SEND2 of an endpoint is about, where it fails.
-pub fn about_message<M: PhysMem>(
-    ram: &M,
-    buffers: &Buffers,
-    caller: EndpointId,
-    refusal: Refusal,
-) -> Option<About>
-    requires { AreInRam (length (M.ram ram.now).pages) buffers.now }
-    ensures { result ≡ about_message (buffers_in buffers.now caller.0) (header_in (sent_in (M.ram ram.now) buffers.now caller.0)) refusal }
-{
-    match buffers.of(caller) {
-        Some(from) => read_header(ram, &from).about(refusal),
-        None => None,
-    }
-}
-
 // The header in TX of these buffers.
-fn read_header<M: PhysMem>(ram: &M, from: &Mapped) -> MessageHeader
+pub(crate) fn read_header<M: PhysMem>(ram: &M, from: &Mapped) -> MessageHeader
     requires { IsInRam (length (M.ram ram.now).pages) (buffers_of from.now) }
     ensures { header_of result ≡ header_in (run_in (M.ram ram.now) from.now.tx.0 from.now.pages) }
 {

@@ -2,9 +2,13 @@
 //! Messages between endpoints (DEN0077A, 7.1 and 15).
 #![tactic(auto)]
 
+mod checks;
 mod direct;
 mod indirect;
 mod parties;
+mod reasons;
 
-pub use direct::{DirectMessage, check_direct_req, check_direct_resp, direct_req, direct_resp};
-pub use indirect::{IndirectMessage, about_message, check_send2, send2};
+pub use checks::{IndirectMessage, check_direct_req, check_direct_resp, check_send2};
+pub use direct::{direct_req, direct_resp};
+pub use indirect::send2;
+pub use reasons::about_message;

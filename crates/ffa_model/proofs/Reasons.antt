@@ -22,7 +22,6 @@ use Rattle.ffa_model.specs.declared.schedule.Status.{Status}
 use Rattle.ffa_model.specs.declared.schedule.Status.TheVariants.{Waiting, Running, Blocked, Yielded}
 use Rattle.ffa_model.specs.declared.why.Why.{Why}
 use Rattle.ffa_model.specs.Access.{access, handle_at, transaction_at}
-use Rattle.ffa_model.specs.Bits.{high_half}
 use Rattle.ffa_model.specs.Calls.{Service, answered, first_failure, first_refusal, served, success}
 use Rattle.ffa_model.specs.Memory.{accessed, fetch_fault, number_at, read_fault, size_of, store_fault, stored}
 use Rattle.ffa_model.specs.RefusalCodes.{code_of}
@@ -37,11 +36,11 @@ use Rattle.ffa_model.proofs.Named.{decode-named}
 use Rattle.byteorder.specs.Endian.{little_bytes}
 
 -- what a call replies that no guard refuses isn't seen as FFA_ERROR
-run-no-error : (word : ℕ) (status : Status) → is_error (run_reply word status) ≡ false
-run-no-error word Waiting = refl
-run-no-error word Yielded = refl
-run-no-error word Running = refl
-run-no-error word Blocked = refl
+run-no-error : (target : ℕ) (status : Status) → is_error (run_reply target status) ≡ false
+run-no-error target Waiting = refl
+run-no-error target Yielded = refl
+run-no-error target Running = refl
+run-no-error target Blocked = refl
 
 version-no-error : (known : Bool) → is_error (cond known (replies.Version 0x10001) (replies.Version 0xFFFFFFFF)) ≡ false
 version-no-error true = refl
@@ -62,21 +61,21 @@ done-no-error s IdGet named none = refl
 done-no-error s SpmIdGet named none = refl
 done-no-error s MsgWait named none = refl
 done-no-error s Yield named none = refl
-done-no-error s (Run word) named none = run-no-error word (status_in (schedule_of s) (high_half word))
-done-no-error s (DirectRequest function word flags payload) named none = not-true _ named
-done-no-error s (DirectResponse function word flags payload) named none = not-true _ named
+done-no-error s (Run target context) named none = run-no-error target.0 (status_in (schedule_of s) target.0)
+done-no-error s (DirectRequest message) named none = not-true _ named
+done-no-error s (DirectResponse message) named none = not-true _ named
 done-no-error s (MemDonate x) named none = refl
 done-no-error s (MemLend x) named none = refl
 done-no-error s (MemShare x) named none = refl
 done-no-error s (MemRetrieve x) named none = refl
 done-no-error s MemRelinquish named none = refl
-done-no-error s (MemReclaim low high flags) named none = refl
+done-no-error s (MemReclaim handle flags) named none = refl
 done-no-error s (BitmapCreate endpoint contexts) named none = refl
 done-no-error s (BitmapDestroy endpoint) named none = refl
-done-no-error s (NotificationBind word flags low high) named none = refl
-done-no-error s (NotificationUnbind word flags low high) named none = refl
-done-no-error s (NotificationSet word flags low high) named none = refl
-done-no-error s (NotificationGet word flags) named none = refl
+done-no-error s (NotificationBind its) named none = refl
+done-no-error s (NotificationUnbind its) named none = refl
+done-no-error s (NotificationSet its) named none = refl
+done-no-error s (NotificationGet receiver context flags) named none = refl
 done-no-error s MsgSend2 named none = refl
 done-no-error s Unknown named none = absurd (none-some NotSupported (sym none))
 

@@ -77,7 +77,7 @@ failing_page s (RxtxMap tx rx pages) refusal = failing_map s.runner (candidates 
 failing_page s (MemDonate x) refusal = failing_sent s Donate x refusal
 failing_page s (MemLend x) refusal = failing_sent s Lend x refusal
 failing_page s (MemShare x) refusal = failing_sent s Share x refusal
-failing_page s (MemReclaim low high flags) refusal = failing_reclaim (own_rights_of s) (transaction_of s (handle_of high low)) refusal
+failing_page s (MemReclaim handle flags) refusal = failing_reclaim (own_rights_of s) (transaction_of s handle.0) refusal
 failing_page s call refusal = None
 
 -- a page, with what stands in the runner's way there

@@ -18,7 +18,7 @@ use Rattle.ffa_model.specs.declared.transaction.Receiver.{Receiver}
 use Rattle.ffa_model.specs.declared.why.About.{About}
 use Rattle.ffa_model.specs.declared.why.About.TheVariants.{Endpoint, Handle, Bit, Field}
 use Rattle.ffa_model.specs.AboutRegisters.{at_endpoint}
-use Rattle.ffa_model.specs.Bits.{bits_of, high_half, low_half, word_of_halves}
+use Rattle.ffa_model.specs.Bits.{bits_of}
 use Rattle.ffa_model.specs.Calls.{first_refusal}
 use Rattle.ffa_model.specs.DescriptorPlaces.{Versioned, in_version}
 use Rattle.ffa_model.specs.FirstFlaws.{relinquish_flaw, retrieve_flaw, send_flaw}
@@ -133,9 +133,9 @@ about_set endpoints n e receiver bitmap BitsNotTheCallers =
 about_set endpoints n e receiver bitmap refusal = None
 
 abbrev pub about_bits : ℕ → Notifications → ℕ → Call → Refusal → Option About
-about_bits endpoints n e (NotificationBind word flags low high) refusal = about_bind endpoints n e (high_half word) (word_of_halves low high) refusal
-about_bits endpoints n e (NotificationUnbind word flags low high) refusal = about_unbind endpoints n e (high_half word) (word_of_halves low high) refusal
-about_bits endpoints n e (NotificationSet word flags low high) refusal = about_set endpoints n e (low_half word) (word_of_halves low high) refusal
+about_bits endpoints n e (NotificationBind its) refusal = about_bind endpoints n e its.sender.0 its.bitmap refusal
+about_bits endpoints n e (NotificationUnbind its) refusal = about_unbind endpoints n e its.sender.0 its.bitmap refusal
+about_bits endpoints n e (NotificationSet its) refusal = about_set endpoints n e its.receiver.0 its.bitmap refusal
 about_bits endpoints n e call refusal = None
 
 -- ON A STATE

@@ -6,9 +6,10 @@ use Rattle.ffa_model.specs.declared.operation.ErrorCode.TheVariants.{NotSupporte
 use Rattle.ffa_model.specs.declared.operation.Outcome.{Outcome}
 use Rattle.ffa_model.specs.declared.operation.Outcome.TheVariants.{Regs}
 use Rattle.ffa_model.specs.declared.call.Reply.{Reply}
-use Rattle.ffa_model.specs.declared.call.Reply.TheVariants.{Version, Error, Success, Passed, Retrieved}
+use Rattle.ffa_model.specs.declared.call.Reply.TheVariants.{Version, Error, Success, Passed, Scheduled, Retrieved}
 use Rattle.ffa_model.specs.declared.function.TheConstants.{FFA_ERROR, FFA_SUCCESS, FFA_MEM_RETRIEVE_RESP}
 use Rattle.ffa_model.specs.declared.refusal.Refusal.{Refusal}
+use Rattle.ffa_model.specs.Bits.{word_of_two}
 use Rattle.ffa_model.specs.State.{State}
 use Rattle.ffa_model.specs.RefusalCodes.{code_of}
 
@@ -30,12 +31,13 @@ code_number NoMemory = 0xFFFFFFFD
 code_number Busy = 0xFFFFFFFC
 code_number Denied = 0xFFFFFFFA
 
--- the eight registers of a reply
+-- the eight registers of a reply: w1 names two endpoints, or an endpoint and its execution context
 abbrev pub encode : Reply → List ℕ
 encode (Version version) = version ∷ replicate 7 0
 encode (Error code) = FFA_ERROR ∷ 0 ∷ code_number code ∷ replicate 5 0
 encode (Success results) = FFA_SUCCESS ∷ 0 ∷ results
-encode (Passed w0 w1 payload) = w0 ∷ w1 ∷ 0 ∷ payload
+encode (Passed message) = message.function ∷ word_of_two message.sender.0 message.receiver.0 ∷ 0 ∷ message.payload
+encode (Scheduled function partition) = function ∷ word_of_two partition.0 0 ∷ replicate 6 0
 encode (Retrieved size) = FFA_MEM_RETRIEVE_RESP ∷ size ∷ size ∷ replicate 5 0
 
 -- success with these two results in w2 and w3

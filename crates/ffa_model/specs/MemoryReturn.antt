@@ -16,7 +16,7 @@ use Rattle.ffa_model.specs.Access.{is_from, is_offered, is_held_by, held_by}
 use Rattle.ffa_model.specs.Memory.{zeroed_if}
 use Rattle.ffa_model.specs.Messages.{tx_bytes}
 use Rattle.ffa_model.specs.RelinquishDescriptor.{relinquish_of}
-use Rattle.ffa_model.specs.Transactions.{OwnRights, OpenTransactions, own_rights_of, handle_of, are_writable, closed, not_holding, with_transaction, open_of, with_open}
+use Rattle.ffa_model.specs.Transactions.{OwnRights, OpenTransactions, own_rights_of, are_writable, closed, not_holding, with_transaction, open_of, with_open}
 use Rattle.ffa_model.specs.Calls.{Service, success}
 
 -- FFA_MEM_RELINQUISH
@@ -87,11 +87,10 @@ reclaim_guards own_rights e flags t =
 abbrev pub reclaimed : State → ℕ → Bool → State
 reclaimed s h zero = zeroed_if zero (with_open s (closed (open_of s) h)) (named_ranges (transaction_of s h))
 
--- the handle's low half stands in w1, and its high half in w2
-abbrev pub memory_reclaim : State → ℕ → ℕ → ℕ → Service
-memory_reclaim s low high flags =
+abbrev pub memory_reclaim : State → ℕ → ℕ → Service
+memory_reclaim s handle flags =
     record {
-      guards = reclaim_guards (own_rights_of s) s.runner flags (transaction_of s (handle_of high low));
-      state = reclaimed s (handle_of high low) (is_set 0 flags);
+      guards = reclaim_guards (own_rights_of s) s.runner flags (transaction_of s handle);
+      state = reclaimed s handle (is_set 0 flags);
       reply = success 0 0;
     }

@@ -7,9 +7,10 @@ use Rattle.std.specs.List.{list_any, list_all}
 use Rattle.std.specs.FinSet as finite_set
 use Rattle.ffa_model.specs.declared.refusal.Refusal.{Refusal}
 use Rattle.ffa_model.specs.declared.refusal.Refusal.TheVariants.{NotNormalWorld, EndpointNotNormalWorld, ContextCount, BitmapsExist, BitmapsMissing, BitsPending, ReceiverIsAnother, SenderUnknown, SenderIsCaller, FlagsReserved, BitsNone, BitsTaken, BitsNotTheSenders, SenderIsAnother, ReceiverUnknown, ReceiverIsCaller, BitsNotTheCallers, ContextUnknown, ClassesUnknown}
+use Rattle.ffa_model.specs.declared.call.NotificationBits.{NotificationBits}
 use Rattle.ffa_model.specs.declared.call.Reply.{Reply}
 use Rattle.ffa_model.specs.declared.call.Reply.TheVariants.{Success}
-use Rattle.ffa_model.specs.Bits.{bits, bits_of, high_half, is_set, word_of_halves, low_half, word_where}
+use Rattle.ffa_model.specs.Bits.{bits, bits_of, is_set, word_where}
 use Rattle.ffa_model.specs.Identifiers.{identifier, place}
 use Rattle.ffa_model.specs.Lists.{listed}
 use Rattle.ffa_model.specs.State.{State, is_known_among}
@@ -118,7 +119,7 @@ with_framework_bit n receiver = with_pending n receiver manager_class message_bi
 
 -- the checks of each call in order, by a caller among this many endpoints
 
--- FFA_NOTIFICATION_BITMAP_CREATE, with w1 and w2
+-- FFA_NOTIFICATION_BITMAP_CREATE, for an endpoint with so many execution contexts
 abbrev pub create_guards : Notifications → ℕ → ℕ → ℕ → List (Bool × Refusal)
 create_guards n caller endpoint contexts =
     (caller == 0, NotNormalWorld)
@@ -127,7 +128,7 @@ create_guards n caller endpoint contexts =
     ∷ (not (has_bitmaps_in n 0), BitmapsExist)
     ∷ []
 
--- FFA_NOTIFICATION_BITMAP_DESTROY, with w1
+-- FFA_NOTIFICATION_BITMAP_DESTROY
 abbrev pub destroy_guards : Notifications → ℕ → ℕ → List (Bool × Refusal)
 destroy_guards n caller endpoint =
     (caller == 0, NotNormalWorld)
@@ -136,15 +137,14 @@ destroy_guards n caller endpoint =
     ∷ (not (has_pending n 0), BitsPending)
     ∷ []
 
--- FFA_NOTIFICATION_BIND and FFA_NOTIFICATION_UNBIND alike, with w1, w2 and the bitmap, and then others: the sender stands in
--- the high half of w1, the receiver in the low
-abbrev pub sender_guards : ℕ → Notifications → ℕ → ℕ → ℕ → ℕ → List (Bool × Refusal) → List (Bool × Refusal)
-sender_guards endpoints n caller word flags bitmap rest =
-    (low_half word == caller, ReceiverIsAnother)
-    ∷ (is_known_among endpoints (high_half word), SenderUnknown)
-    ∷ (not (high_half word == caller), SenderIsCaller)
-    ∷ (flags == 0, FlagsReserved)
-    ∷ (not (bitmap == 0), BitsNone)
+-- FFA_NOTIFICATION_BIND and FFA_NOTIFICATION_UNBIND alike, and then others
+abbrev pub sender_guards : ℕ → Notifications → ℕ → NotificationBits → List (Bool × Refusal) → List (Bool × Refusal)
+sender_guards endpoints n caller its rest =
+    (its.receiver.0 == caller, ReceiverIsAnother)
+    ∷ (is_known_among endpoints its.sender.0, SenderUnknown)
+    ∷ (not (its.sender.0 == caller), SenderIsCaller)
+    ∷ (its.flags == 0, FlagsReserved)
+    ∷ (not (its.bitmap == 0), BitsNone)
     ∷ (has_bitmaps_in n caller, BitmapsMissing)
     ∷ rest
 
@@ -153,35 +153,37 @@ abbrev pub is_bindable : ℕ → Notifications → ℕ → ℕ → ℕ → Bool
 is_bindable endpoints n receiver sender bit =
     not (is_bound_to_another endpoints n receiver (class_of sender) bit sender) && not (is_pending n receiver (class_of sender) bit)
 
-abbrev pub bind_guards : ℕ → Notifications → ℕ → ℕ → ℕ → ℕ → List (Bool × Refusal)
-bind_guards endpoints n caller word flags bitmap =
-    sender_guards endpoints n caller word flags bitmap ((list_all (is_bindable endpoints n caller (high_half word)) (bits_of bitmap), BitsTaken) ∷ [])
+abbrev pub bind_guards : ℕ → Notifications → ℕ → NotificationBits → List (Bool × Refusal)
+bind_guards endpoints n caller its =
+    sender_guards endpoints n caller its
+    ((list_all (is_bindable endpoints n caller its.sender.0) (bits_of its.bitmap), BitsTaken) ∷ [])
 
 -- FFA_NOTIFICATION_UNBIND
 abbrev pub is_unbindable : Notifications → ℕ → ℕ → ℕ → Bool
 is_unbindable n receiver sender bit =
     is_bound n receiver (class_of sender) bit sender && not (is_pending n receiver (class_of sender) bit)
 
-abbrev pub unbind_guards : ℕ → Notifications → ℕ → ℕ → ℕ → ℕ → List (Bool × Refusal)
-unbind_guards endpoints n caller word flags bitmap =
-    sender_guards endpoints n caller word flags bitmap ((list_all (is_unbindable n caller (high_half word)) (bits_of bitmap), BitsNotTheSenders) ∷ [])
+abbrev pub unbind_guards : ℕ → Notifications → ℕ → NotificationBits → List (Bool × Refusal)
+unbind_guards endpoints n caller its =
+    sender_guards endpoints n caller its
+    ((list_all (is_unbindable n caller its.sender.0) (bits_of its.bitmap), BitsNotTheSenders) ∷ [])
 
--- FFA_NOTIFICATION_SET, with the same: the flag that delays the schedule receiver interrupt has no effect
-abbrev pub set_guards : ℕ → Notifications → ℕ → ℕ → ℕ → ℕ → List (Bool × Refusal)
-set_guards endpoints n caller word flags bitmap =
-    (high_half word == caller, SenderIsAnother)
-    ∷ (is_known_among endpoints (low_half word), ReceiverUnknown)
-    ∷ (not (low_half word == caller), ReceiverIsCaller)
-    ∷ (flags == 0 || flags == 2, FlagsReserved)
-    ∷ (not (bitmap == 0), BitsNone)
-    ∷ (list_all (λ k. is_bound n (low_half word) (class_of caller) k caller) (bits_of bitmap), BitsNotTheCallers)
+-- FFA_NOTIFICATION_SET: the flag that delays the schedule receiver interrupt has no effect
+abbrev pub set_guards : ℕ → Notifications → ℕ → NotificationBits → List (Bool × Refusal)
+set_guards endpoints n caller its =
+    (its.sender.0 == caller, SenderIsAnother)
+    ∷ (is_known_among endpoints its.receiver.0, ReceiverUnknown)
+    ∷ (not (its.receiver.0 == caller), ReceiverIsCaller)
+    ∷ (its.flags == 0 || its.flags == 2, FlagsReserved)
+    ∷ (not (its.bitmap == 0), BitsNone)
+    ∷ (list_all (λ k. is_bound n its.receiver.0 (class_of caller) k caller) (bits_of its.bitmap), BitsNotTheCallers)
     ∷ []
 
--- FFA_NOTIFICATION_GET, with w1 and w2: the receiver stands in the low half of w1, its context in the high
-abbrev pub get_guards : Notifications → ℕ → ℕ → ℕ → List (Bool × Refusal)
-get_guards n caller word flags =
-    (low_half word == caller, ReceiverIsAnother)
-    ∷ (high_half word == 0, ContextUnknown)
+-- FFA_NOTIFICATION_GET, of a receiver in one of its execution contexts
+abbrev pub get_guards : Notifications → ℕ → ℕ → ℕ → ℕ → List (Bool × Refusal)
+get_guards n caller receiver context flags =
+    (receiver == caller, ReceiverIsAnother)
+    ∷ (context == 0, ContextUnknown)
     ∷ (nat_le flags 15, ClassesUnknown)
     ∷ (has_bitmaps_in n caller, BitmapsMissing)
     ∷ []
@@ -225,35 +227,34 @@ bitmap_destroy s endpoint =
       reply = success 0 0;
     }
 
-abbrev pub notification_bind : State → ℕ → ℕ → ℕ → ℕ → Service
-notification_bind s word flags low high =
+abbrev pub notification_bind : State → NotificationBits → Service
+notification_bind s its =
     record {
-      guards = bind_guards (length s.parties) (notifications_of s) s.runner word flags (word_of_halves low high);
-      state = with_notifications s (with_bound (notifications_of s) s.runner (high_half word) (bits_of (word_of_halves low high)));
+      guards = bind_guards (length s.parties) (notifications_of s) s.runner its;
+      state = with_notifications s (with_bound (notifications_of s) s.runner its.sender.0 (bits_of its.bitmap));
       reply = success 0 0;
     }
 
-abbrev pub notification_unbind : State → ℕ → ℕ → ℕ → ℕ → Service
-notification_unbind s word flags low high =
+abbrev pub notification_unbind : State → NotificationBits → Service
+notification_unbind s its =
     record {
-      guards = unbind_guards (length s.parties) (notifications_of s) s.runner word flags (word_of_halves low high);
-      state = with_notifications s (without_bound (notifications_of s) s.runner (high_half word) (bits_of (word_of_halves low high)));
+      guards = unbind_guards (length s.parties) (notifications_of s) s.runner its;
+      state = with_notifications s (without_bound (notifications_of s) s.runner its.sender.0 (bits_of its.bitmap));
       reply = success 0 0;
     }
 
-abbrev pub notification_set : State → ℕ → ℕ → ℕ → ℕ → Service
-notification_set s word flags low high =
+abbrev pub notification_set : State → NotificationBits → Service
+notification_set s its =
     record {
-      guards = set_guards (length s.parties) (notifications_of s) s.runner word flags (word_of_halves low high);
-      state =
-          with_notifications s (with_pending (notifications_of s) (low_half word) (class_of s.runner) (bits_of (word_of_halves low high)));
+      guards = set_guards (length s.parties) (notifications_of s) s.runner its;
+      state = with_notifications s (with_pending (notifications_of s) its.receiver.0 (class_of s.runner) (bits_of its.bitmap));
       reply = success 0 0;
     }
 
-abbrev pub notification_get : State → ℕ → ℕ → Service
-notification_get s word flags =
+abbrev pub notification_get : State → ℕ → ℕ → ℕ → Service
+notification_get s receiver context flags =
     record {
-      guards = get_guards (notifications_of s) s.runner word flags;
+      guards = get_guards (notifications_of s) s.runner receiver context flags;
       state = with_notifications s (without_pending (notifications_of s) s.runner flags);
       reply = get_reply (notifications_of s) s.runner flags;
     }

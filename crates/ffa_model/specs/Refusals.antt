@@ -21,6 +21,6 @@ is_error reply = slice_index (encode reply) 0 == FFA_ERROR
 
 -- whether what a call passes on is not seen as FFA_ERROR
 abbrev pub passes_no_error : Call → Bool
-passes_no_error (DirectRequest function word flags payload) = not (function == FFA_ERROR)
-passes_no_error (DirectResponse function word flags payload) = not (function == FFA_ERROR)
+passes_no_error (DirectRequest message) = not (message.function == FFA_ERROR)
+passes_no_error (DirectResponse message) = not (message.function == FFA_ERROR)
 passes_no_error call = true

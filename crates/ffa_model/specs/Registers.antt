@@ -3,7 +3,11 @@
 -- One table says it all: for reading a call, for FFA_FEATURES and for the step.
 use Rattle.std.specs.Prelude.{ℕ, ◌+◌, ◌%◌, ◌^◌, ◌==◌, Bool, true, false, ◌&&◌, ◌||◌, List, [], ◌∷◌, ◌++◌, Option, Some, None, find, is_some, slice_index, if◌then◌else◌}
 use Rattle.ffa_model.specs.declared.call.Call.{Call}
+use Rattle.ffa_model.specs.declared.call.DirectMessage.{DirectMessage}
+use Rattle.ffa_model.specs.declared.call.NotificationBits.{NotificationBits}
 use Rattle.ffa_model.specs.declared.call.Transfer.{Transfer}
+use Rattle.ffa_model.specs.declared.endpoint.EndpointId.{EndpointId}
+use Rattle.ffa_model.specs.Bits.{high_half, low_half, word_of_halves}
 use Rattle.ffa_model.specs.declared.call.Call.TheVariants.{Version, Features, RxRelease, RxtxMap, RxtxUnmap, PartitionInfoGet, IdGet, MsgWait, Yield, Run, DirectRequest, DirectResponse, MemDonate, MemLend, MemShare, MemRetrieve, MemRelinquish, MemReclaim, BitmapCreate, BitmapDestroy, NotificationBind, NotificationUnbind, NotificationSet, NotificationGet, SpmIdGet, MsgSend2, Unknown}
 use Rattle.ffa_model.specs.declared.function.TheConstants.{FFA_VERSION, FFA_FEATURES, FFA_RX_RELEASE, FFA_RXTX_MAP, FFA_RXTX_UNMAP, FFA_PARTITION_INFO_GET, FFA_ID_GET, FFA_MSG_WAIT, FFA_YIELD, FFA_RUN, FFA_MSG_SEND_DIRECT_REQ, FFA_MSG_SEND_DIRECT_RESP, FFA_MEM_DONATE, FFA_MEM_LEND, FFA_MEM_SHARE, FFA_MEM_RETRIEVE_REQ, FFA_MEM_RELINQUISH, FFA_MEM_RECLAIM, FFA_NOTIFICATION_BITMAP_CREATE, FFA_NOTIFICATION_BITMAP_DESTROY, FFA_NOTIFICATION_BIND, FFA_NOTIFICATION_UNBIND, FFA_NOTIFICATION_SET, FFA_NOTIFICATION_GET, FFA_SPM_ID_GET, FFA_MSG_SEND2}
 
@@ -24,8 +28,25 @@ narrow function call = record { function = function; is_wide = false; call = λ 
 abbrev pub wide : ℕ → ((ℕ → ℕ) → (ℕ → ℕ) → Call) → Function
 wide function call = record { function = function; is_wide = true; call = call }
 
+-- the endpoints that the halves of a register name
+abbrev pub high_endpoint : ℕ → EndpointId
+high_endpoint word = record { 0 = high_half word }
+
+abbrev pub low_endpoint : ℕ → EndpointId
+low_endpoint word = record { 0 = low_half word }
+
+-- of a direct message, which w1 addresses: its sender in the high half, its receiver in the low
 abbrev pub payload : (ℕ → ℕ) → List ℕ
 payload x = x 3 ∷ x 4 ∷ x 5 ∷ x 6 ∷ x 7 ∷ []
+
+abbrev pub direct_message : (ℕ → ℕ) → (ℕ → ℕ) → DirectMessage
+direct_message w x =
+    record { function = w 0; sender = high_endpoint (w 1); receiver = low_endpoint (w 1); flags = w 2; payload = payload x }
+
+-- of a call on notifications, whose ends stand in w1 in the same way; w3 has the bitmap's low half, and w4 its high half
+abbrev pub notification_bits : (ℕ → ℕ) → NotificationBits
+notification_bits w =
+    record { sender = high_endpoint (w 1); receiver = low_endpoint (w 1); flags = w 2; bitmap = word_of_halves (w 3) (w 4) }
 
 -- of a call whose descriptor stands in TX
 abbrev pub transfer : (ℕ → ℕ) → (ℕ → ℕ) → Transfer
@@ -47,9 +68,9 @@ abbrev pub messages : List Function
 messages =
     narrow FFA_MSG_WAIT (λ w. MsgWait)
     ∷ narrow FFA_YIELD (λ w. Yield)
-    ∷ narrow FFA_RUN (λ w. Run (w 1))
-    ∷ wide FFA_MSG_SEND_DIRECT_REQ (λ w x. DirectRequest (w 0) (w 1) (w 2) (payload x))
-    ∷ wide FFA_MSG_SEND_DIRECT_RESP (λ w x. DirectResponse (w 0) (w 1) (w 2) (payload x))
+    ∷ narrow FFA_RUN (λ w. Run (high_endpoint (w 1)) (low_half (w 1)))
+    ∷ wide FFA_MSG_SEND_DIRECT_REQ (λ w x. DirectRequest (direct_message w x))
+    ∷ wide FFA_MSG_SEND_DIRECT_RESP (λ w x. DirectResponse (direct_message w x))
     ∷ []
 
 abbrev pub memory : List Function
@@ -59,17 +80,17 @@ memory =
     ∷ wide FFA_MEM_SHARE (λ w x. MemShare (transfer w x))
     ∷ wide FFA_MEM_RETRIEVE_REQ (λ w x. MemRetrieve (transfer w x))
     ∷ narrow FFA_MEM_RELINQUISH (λ w. MemRelinquish)
-    ∷ narrow FFA_MEM_RECLAIM (λ w. MemReclaim (w 1) (w 2) (w 3))
+    ∷ narrow FFA_MEM_RECLAIM (λ w. MemReclaim (record { 0 = word_of_halves (w 1) (w 2) }) (w 3))
     ∷ []
 
 abbrev pub notifications : List Function
 notifications =
     narrow FFA_NOTIFICATION_BITMAP_CREATE (λ w. BitmapCreate (w 1) (w 2))
     ∷ narrow FFA_NOTIFICATION_BITMAP_DESTROY (λ w. BitmapDestroy (w 1))
-    ∷ narrow FFA_NOTIFICATION_BIND (λ w. NotificationBind (w 1) (w 2) (w 3) (w 4))
-    ∷ narrow FFA_NOTIFICATION_UNBIND (λ w. NotificationUnbind (w 1) (w 2) (w 3) (w 4))
-    ∷ narrow FFA_NOTIFICATION_SET (λ w. NotificationSet (w 1) (w 2) (w 3) (w 4))
-    ∷ narrow FFA_NOTIFICATION_GET (λ w. NotificationGet (w 1) (w 2))
+    ∷ narrow FFA_NOTIFICATION_BIND (λ w. NotificationBind (notification_bits w))
+    ∷ narrow FFA_NOTIFICATION_UNBIND (λ w. NotificationUnbind (notification_bits w))
+    ∷ narrow FFA_NOTIFICATION_SET (λ w. NotificationSet (notification_bits w))
+    ∷ narrow FFA_NOTIFICATION_GET (λ w. NotificationGet (low_endpoint (w 1)) (high_half (w 1)) (w 2))
     ∷ []
 
 -- those that version 1.1 added beside these

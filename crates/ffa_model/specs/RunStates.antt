@@ -1,6 +1,6 @@
 -- SPDX-License-Identifier: MIT OR Apache-2.0
 -- Who runs, who waits, and for whom a partition works (DEN0077A, 8.2 and 15).
-use Rattle.std.specs.Prelude.{ℕ, ◌==◌, Bool, true, false, not, ◌||◌, List, [], ◌∷◌, length, replicate, Option, Some, None, slice_index_or, slice_set, is_some}
+use Rattle.std.specs.Prelude.{ℕ, ◌==◌, Bool, true, false, not, ◌&&◌, ◌||◌, List, [], ◌∷◌, length, replicate, Option, Some, None, slice_index_or, slice_set, is_some}
 use Rattle.ffa_model.specs.declared.refusal.Refusal.{Refusal}
 use Rattle.ffa_model.specs.declared.refusal.Refusal.TheVariants.{SenderIsAnother, FlagsReserved, ReceiverUnknown, ReceiverIsCaller, ReceiverIsNormalWorld, RequestsUnsent, RequestsUnreceived, ReceiverNotWaiting, NoRequest, AnswerMisdirected, NotNormalWorld, TargetUnknown, ContextUnknown, TargetNotReady, NotRun, NobodyToYieldTo}
 use Rattle.ffa_model.specs.declared.schedule.Status.{Status}
@@ -8,9 +8,10 @@ use Rattle.ffa_model.specs.declared.schedule.Status.TheVariants.{Running, Waitin
 use Rattle.ffa_model.specs.declared.schedule.Work.{Work}
 use Rattle.ffa_model.specs.declared.schedule.Work.TheVariants.{Run, Request}
 use Rattle.ffa_model.specs.declared.call.Reply.{Reply}
-use Rattle.ffa_model.specs.declared.call.Reply.TheVariants.{Passed}
+use Rattle.ffa_model.specs.declared.call.DirectMessage.{DirectMessage}
+use Rattle.ffa_model.specs.declared.call.Reply.TheVariants.{Passed, Scheduled}
+use Rattle.ffa_model.specs.declared.endpoint.EndpointId.{EndpointId}
 use Rattle.ffa_model.specs.declared.function.TheConstants.{FFA_RUN, FFA_MSG_WAIT, FFA_YIELD}
-use Rattle.ffa_model.specs.Bits.{high_half, low_half, word_of_two}
 use Rattle.ffa_model.specs.Identifiers.{place}
 use Rattle.ffa_model.specs.Lists.{listed}
 use Rattle.ffa_model.specs.First.{first_status}
@@ -25,10 +26,10 @@ pub record Schedule : Type 0 where
   pub works : List (Option Work)  -- by endpoint
 
 abbrev pub status_in : Schedule → ℕ → Status
-status_in c e = slice_index_or c.statuses (place e) Waiting
+status_in schedule e = slice_index_or schedule.statuses (place e) Waiting
 
 abbrev pub work_in : Schedule → ℕ → Option Work
-work_in c e = slice_index_or c.works (place e) None
+work_in schedule e = slice_index_or schedule.works (place e) None
 
 -- the normal world runs, and each of its partitions waits
 abbrev pub first_schedule : ℕ → Schedule
@@ -71,123 +72,123 @@ is_endpoint e (Some by) = by == e
 
 -- the changes of run states
 abbrev pub with_status : Schedule → ℕ → Status → Schedule
-with_status c e status = record c { statuses = slice_set c.statuses (place e) status }
+with_status schedule e status = record schedule { statuses = slice_set schedule.statuses (place e) status }
 
 abbrev pub with_work : Schedule → ℕ → Option Work → Schedule
-with_work c e work = record c { works = slice_set c.works (place e) work }
+with_work schedule e work = record schedule { works = slice_set schedule.works (place e) work }
 
 -- the runner stops in this status, and e runs
 abbrev pub switched : Schedule → Status → ℕ → Schedule
-switched c status e = record (with_status (with_status c c.runner status) e Running) { runner = e }
+switched schedule status e = record (with_status (with_status schedule schedule.runner status) e Running) { runner = e }
 
 -- the runner is blocked for the receiver, which answers its request
 abbrev pub requested : Schedule → ℕ → Schedule
-requested c receiver = with_work (switched c Blocked receiver) receiver (Some (Request (record { 0 = c.runner })))
+requested schedule receiver = with_work (switched schedule Blocked receiver) receiver (Some (Request (record { 0 = schedule.runner })))
 
 -- the runner waits without work, and e runs
 abbrev pub finished : Schedule → ℕ → Schedule
-finished c e = with_work (switched c Waiting e) c.runner None
+finished schedule e = with_work (switched schedule Waiting e) schedule.runner None
 
 -- a waiting target gets work, and a yielded one keeps its own; no other is asked for, since a guard refuses it
 abbrev pub given_cycles : Schedule → ℕ → Status → Schedule
-given_cycles c e Waiting = with_work (switched c Blocked e) e (Some Run)
-given_cycles c e Yielded = switched c Blocked e
-given_cycles c e Running = c
-given_cycles c e Blocked = c
+given_cycles schedule e Waiting = with_work (switched schedule Blocked e) e (Some Run)
+given_cycles schedule e Yielded = switched schedule Blocked e
+given_cycles schedule e Running = schedule
+given_cycles schedule e Blocked = schedule
 
 -- the checks of each call, in order
 
--- FFA_MSG_SEND_DIRECT_REQ, with w1 and w2
-abbrev pub request_guards : List Party → Schedule → ℕ → ℕ → List (Bool × Refusal)
-request_guards parties c word flags =
-    (high_half word == c.runner, SenderIsAnother)
-    ∷ (flags == 0, FlagsReserved)
-    ∷ (is_known_among (length parties) (low_half word), ReceiverUnknown)
-    ∷ (not (low_half word == c.runner), ReceiverIsCaller)
-    ∷ (not (low_half word == 0), ReceiverIsNormalWorld)
-    ∷ (has_property parties c.runner 1, RequestsUnsent)
-    ∷ (has_property parties (low_half word) 0, RequestsUnreceived)
-    ∷ (is_waiting (status_in c (low_half word)), ReceiverNotWaiting)
+-- FFA_MSG_SEND_DIRECT_REQ
+abbrev pub request_guards : List Party → Schedule → DirectMessage → List (Bool × Refusal)
+request_guards parties schedule message =
+    (message.sender.0 == schedule.runner, SenderIsAnother)
+    ∷ (message.flags == 0, FlagsReserved)
+    ∷ (is_known_among (length parties) message.receiver.0, ReceiverUnknown)
+    ∷ (not (message.receiver.0 == schedule.runner), ReceiverIsCaller)
+    ∷ (not (message.receiver.0 == 0), ReceiverIsNormalWorld)
+    ∷ (has_property parties schedule.runner 1, RequestsUnsent)
+    ∷ (has_property parties message.receiver.0 0, RequestsUnreceived)
+    ∷ (is_waiting (status_in schedule message.receiver.0), ReceiverNotWaiting)
     ∷ []
 
--- whether w1 names the runner and the endpoint whose request it answers
-abbrev pub is_answer : ℕ → ℕ → Option ℕ → Bool
-is_answer runner word None = false
-is_answer runner word (Some by) = word == word_of_two runner by
+-- whether a message goes from the runner to the endpoint whose request it answers
+abbrev pub is_answer : ℕ → DirectMessage → Option ℕ → Bool
+is_answer runner message None = false
+is_answer runner message (Some by) = message.sender.0 == runner && message.receiver.0 == by
 
--- FFA_MSG_SEND_DIRECT_RESP, with w1 and w2
-abbrev pub response_guards : Schedule → ℕ → ℕ → List (Bool × Refusal)
-response_guards c word flags =
-    (is_some (requester (work_in c c.runner)), NoRequest)
-    ∷ (is_answer c.runner word (requester (work_in c c.runner)), AnswerMisdirected)
-    ∷ (flags == 0, FlagsReserved)
+-- FFA_MSG_SEND_DIRECT_RESP
+abbrev pub response_guards : Schedule → DirectMessage → List (Bool × Refusal)
+response_guards schedule message =
+    (is_some (requester (work_in schedule schedule.runner)), NoRequest)
+    ∷ (is_answer schedule.runner message (requester (work_in schedule schedule.runner)), AnswerMisdirected)
+    ∷ (message.flags == 0, FlagsReserved)
     ∷ []
 
--- FFA_RUN among this many endpoints, with w1
-abbrev pub run_guards : ℕ → Schedule → ℕ → List (Bool × Refusal)
-run_guards endpoints c word =
-    (c.runner == 0, NotNormalWorld)
-    ∷ (is_partition_among endpoints (high_half word), TargetUnknown)
-    ∷ (low_half word == 0, ContextUnknown)
-    ∷ (is_waiting (status_in c (high_half word)) || is_yielded (status_in c (high_half word)), TargetNotReady)
+-- FFA_RUN among this many endpoints, of a target in one of its execution contexts
+abbrev pub run_guards : ℕ → Schedule → ℕ → ℕ → List (Bool × Refusal)
+run_guards endpoints schedule target context =
+    (schedule.runner == 0, NotNormalWorld)
+    ∷ (is_partition_among endpoints target, TargetUnknown)
+    ∷ (context == 0, ContextUnknown)
+    ∷ (is_waiting (status_in schedule target) || is_yielded (status_in schedule target), TargetNotReady)
     ∷ []
 
 -- FFA_MSG_WAIT
 abbrev pub wait_guards : Schedule → List (Bool × Refusal)
-wait_guards c = (is_run (work_in c c.runner), NotRun) ∷ []
+wait_guards schedule = (is_run (work_in schedule schedule.runner), NotRun) ∷ []
 
 -- FFA_YIELD
 abbrev pub yield_guards : Schedule → List (Bool × Refusal)
-yield_guards c = (is_run (work_in c c.runner) || is_endpoint 0 (requester (work_in c c.runner)), NobodyToYieldTo) ∷ []
+yield_guards schedule = (is_run (work_in schedule schedule.runner) || is_endpoint 0 (requester (work_in schedule schedule.runner)), NobodyToYieldTo) ∷ []
 
--- what the endpoint that runs next sees: w0 and w1, and zeros
-abbrev pub passed : ℕ → ℕ → Reply
-passed w0 w1 = Passed w0 w1 (replicate 5 0)
+-- what the endpoint that runs next sees of a partition that is given cycles, or that gives them back
+abbrev pub scheduled : ℕ → ℕ → Reply
+scheduled function partition = Scheduled function (record { 0 = partition })
 
 -- a partition that waited sees FFA_RUN, and one that had yielded that its FFA_YIELD is done; no other is asked for, since a
 -- guard refuses it
 abbrev pub run_reply : ℕ → Status → Reply
-run_reply word Waiting = passed FFA_RUN word
-run_reply word Yielded = success 0 0
-run_reply word Running = success 0 0
-run_reply word Blocked = success 0 0
+run_reply target Waiting = scheduled FFA_RUN target
+run_reply target Yielded = success 0 0
+run_reply target Running = success 0 0
+run_reply target Blocked = success 0 0
 
 abbrev pub wait_reply : ℕ → Reply
-wait_reply runner = passed FFA_MSG_WAIT (word_of_two runner 0)
+wait_reply runner = scheduled FFA_MSG_WAIT runner
 
 abbrev pub yield_reply : ℕ → Reply
-yield_reply runner = passed FFA_YIELD (word_of_two runner 0)
+yield_reply runner = scheduled FFA_YIELD runner
 
 -- ON A STATE
 abbrev pub schedule_of : State → Schedule
 schedule_of s = record { runner = s.runner; statuses = s.statuses; works = s.works }
 
 abbrev pub with_schedule : State → Schedule → State
-with_schedule s c = record s { runner = c.runner; statuses = c.statuses; works = c.works }
+with_schedule s schedule = record s { runner = schedule.runner; statuses = schedule.statuses; works = schedule.works }
 
-abbrev pub direct_request : State → ℕ → ℕ → ℕ → List ℕ → Service
-direct_request s function word flags payload =
+abbrev pub direct_request : State → DirectMessage → Service
+direct_request s message =
     record {
-      guards = request_guards s.parties (schedule_of s) word flags;
-      state = with_schedule s (requested (schedule_of s) (low_half word));
-      reply = Passed function word payload;
+      guards = request_guards s.parties (schedule_of s) message;
+      state = with_schedule s (requested (schedule_of s) message.receiver.0);
+      reply = Passed message;
     }
 
--- the guards leave one requester, whom w1 names in its low half
-abbrev pub direct_response : State → ℕ → ℕ → ℕ → List ℕ → Service
-direct_response s function word flags payload =
+-- the guards leave one requester, who is the message's receiver
+abbrev pub direct_response : State → DirectMessage → Service
+direct_response s message =
     record {
-      guards = response_guards (schedule_of s) word flags;
-      state = with_schedule s (finished (schedule_of s) (low_half word));
-      reply = Passed function word payload;
+      guards = response_guards (schedule_of s) message;
+      state = with_schedule s (finished (schedule_of s) message.receiver.0);
+      reply = Passed message;
     }
 
-abbrev pub run_partition : State → ℕ → Service
-run_partition s word =
+abbrev pub run_partition : State → ℕ → ℕ → Service
+run_partition s target context =
     record {
-      guards = run_guards (length s.parties) (schedule_of s) word;
-      state = with_schedule s (given_cycles (schedule_of s) (high_half word) (status_in (schedule_of s) (high_half word)));
-      reply = run_reply word (status_in (schedule_of s) (high_half word));
+      guards = run_guards (length s.parties) (schedule_of s) target context;
+      state = with_schedule s (given_cycles (schedule_of s) target (status_in (schedule_of s) target));
+      reply = run_reply target (status_in (schedule_of s) target);
     }
 
 -- FFA_MSG_WAIT also empties the caller's RX; a message may fill it while the caller waits

@@ -1,7 +1,9 @@
 // SPDX-License-Identifier: MIT OR Apache-2.0
 //! Calls and what they answer, before they stand in registers.
 
+use crate::endpoint::EndpointId;
 use crate::operation::ErrorCode;
+use crate::transaction::Handle;
 
 /// The registers of a call whose descriptor stands in TX (DEN0077A, 16.1).
 #[derive(Clone, Copy)]
@@ -16,8 +18,30 @@ pub struct Transfer {
     pub pages: u32,
 }
 
-/// A call with its arguments (DEN0077A, 11 to 16). An argument that the calling convention gives in 32 bits is a
-/// `u32`, and one that the 64-bit form widens is a `u64`.
+/// A direct message (DEN0077A, 15.2 and 15.3): a request or a response, by the identifier of either form.
+#[derive(Clone, Copy, PartialEq, Eq)]
+pub struct DirectMessage {
+    /// The identifier of the call.
+    pub function: u32,
+    pub sender: EndpointId,
+    pub receiver: EndpointId,
+    pub flags: u32,
+    /// What stands in x3 to x7.
+    pub payload: [u64; 5],
+}
+
+/// Notifications of a receiver that a sender may set, may set no more, or sets (DEN0077A, 16.5 to 16.7).
+#[derive(Clone, Copy, PartialEq, Eq)]
+pub struct NotificationBits {
+    pub sender: EndpointId,
+    pub receiver: EndpointId,
+    pub flags: u32,
+    /// A bit for each of the 64 notifications.
+    pub bitmap: u64,
+}
+
+/// A call with its arguments (DEN0077A, 11 to 16), each as the standard names it. An argument that the 64-bit form of a call
+/// widens is a `u64`.
 #[derive(Clone, Copy)]
 pub enum Call {
     /// FFA_VERSION.
@@ -51,24 +75,15 @@ pub enum Call {
     MsgWait,
     /// FFA_YIELD.
     Yield,
-    /// FFA_RUN.
+    /// FFA_RUN: the partition that is given cycles, and which of its execution contexts.
     Run {
-        target: u32,
+        target: EndpointId,
+        context: u16,
     },
-    /// FFA_MSG_SEND_DIRECT_REQ, by the identifier of either form.
-    DirectRequest {
-        function: u32,
-        word: u32,
-        flags: u32,
-        payload: [u64; 5],
-    },
-    /// FFA_MSG_SEND_DIRECT_RESP, by the identifier of either form.
-    DirectResponse {
-        function: u32,
-        word: u32,
-        flags: u32,
-        payload: [u64; 5],
-    },
+    /// FFA_MSG_SEND_DIRECT_REQ.
+    DirectRequest(DirectMessage),
+    /// FFA_MSG_SEND_DIRECT_RESP.
+    DirectResponse(DirectMessage),
     /// FFA_MEM_DONATE.
     MemDonate(Transfer),
     /// FFA_MEM_LEND.
@@ -79,10 +94,9 @@ pub enum Call {
     MemRetrieve(Transfer),
     /// FFA_MEM_RELINQUISH.
     MemRelinquish,
-    /// FFA_MEM_RECLAIM: the handle's halves.
+    /// FFA_MEM_RECLAIM.
     MemReclaim {
-        low: u32,
-        high: u32,
+        handle: Handle,
         flags: u32,
     },
     /// FFA_NOTIFICATION_BITMAP_CREATE.
@@ -95,29 +109,15 @@ pub enum Call {
         endpoint: u32,
     },
     /// FFA_NOTIFICATION_BIND.
-    NotificationBind {
-        word: u32,
-        flags: u32,
-        low: u32,
-        high: u32,
-    },
+    NotificationBind(NotificationBits),
     /// FFA_NOTIFICATION_UNBIND.
-    NotificationUnbind {
-        word: u32,
-        flags: u32,
-        low: u32,
-        high: u32,
-    },
+    NotificationUnbind(NotificationBits),
     /// FFA_NOTIFICATION_SET.
-    NotificationSet {
-        word: u32,
-        flags: u32,
-        low: u32,
-        high: u32,
-    },
-    /// FFA_NOTIFICATION_GET.
+    NotificationSet(NotificationBits),
+    /// FFA_NOTIFICATION_GET: the receiver, and which of its execution contexts.
     NotificationGet {
-        receiver: u32,
+        receiver: EndpointId,
+        context: u16,
         flags: u32,
     },
     /// FFA_SPM_ID_GET.
@@ -137,8 +137,14 @@ pub enum Reply {
     Error(ErrorCode),
     /// FFA_SUCCESS, with w2 to w7.
     Success([u32; 6]),
-    /// What the endpoint that runs next is passed: w0, w1, 0 and x3 to x7.
-    Passed { w0: u32, w1: u32, payload: [u64; 5] },
+    /// A direct message, as its receiver sees it.
+    Passed(DirectMessage),
+    /// FFA_RUN, FFA_MSG_WAIT or FFA_YIELD, as the endpoint that runs next sees it: the partition that is given cycles, or that
+    /// gives them back, in its execution context 0.
+    Scheduled {
+        function: u32,
+        partition: EndpointId,
+    },
     /// FFA_MEM_RETRIEVE_RESP, with the response's length.
     Retrieved(u32),
 }

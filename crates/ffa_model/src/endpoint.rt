@@ -1,7 +1,6 @@
 // SPDX-License-Identifier: MIT OR Apache-2.0
 //! Endpoints, pages and regions.
 ghost use Rattle.std.specs.Prelude.{⊤, true, ◌≡◌, ◌↔◌, ℕ, ◌+◌, ◌*◌, ◌<◌, ◌≤◌, ◌^◌, [], ◌∷◌, All, codes};
-ghost use Rattle.ffa_model.specs.Bits.{high_half, low_half};
 ghost use Rattle.ffa_model.specs.Identifiers.{identifier, place};
 ghost use Rattle.ffa_model.specs.Regions.{has_page, right_in};
 ghost use Rattle.ffa_model.specs.State.{is_known_among, is_partition_among};
@@ -18,6 +17,9 @@ use bitflags::{Flag, Flags, bitflag_items};
 pub struct EndpointId(pub u16);
 
 impl EndpointId {
+    /// The normal world, which has no partition's identifier.
+    pub const NORMAL_WORLD: EndpointId = EndpointId(0);
+
     /// The manager itself, which is no endpoint.
     pub const MANAGER: EndpointId = EndpointId(0x8000);
 
@@ -27,24 +29,10 @@ impl EndpointId {
         ensures { result.0 ≡ identifier place }
     {
         if place == 0 {
-            EndpointId(0)
+            EndpointId::NORMAL_WORLD
         } else {
             EndpointId(0x8000 + place as u16)
         }
-    }
-
-    /// The identifier in the high half of a word that names two endpoints.
-    pub fn in_high_half(word: u32) -> EndpointId
-        ensures { result.0 ≡ high_half word }
-    {
-        EndpointId((word / 0x1_0000) as u16)
-    }
-
-    /// The identifier in the low half of a word that names two endpoints.
-    pub fn in_low_half(word: u32) -> EndpointId
-        ensures { result.0 ≡ low_half word }
-    {
-        EndpointId((word % 0x1_0000) as u16)
     }
 
     /// The place in the manifest of the endpoint with this identifier. Each identifier up to 0x8000 has place 0, the normal
@@ -59,7 +47,7 @@ impl EndpointId {
     pub fn is_among(self, endpoints: usize) -> bool
         ensures { result ≡ is_known_among endpoints self.0 }
     {
-        self == EndpointId(0) || self.is_partition_among(endpoints)
+        self == EndpointId::NORMAL_WORLD || self.is_partition_among(endpoints)
     }
 
     /// Whether this names a partition of a machine that has so many endpoints.

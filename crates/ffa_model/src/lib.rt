@@ -21,7 +21,7 @@ pub mod schedule;
 pub mod transaction;
 pub mod why;
 
-pub use call::{Call, Reply, Transfer};
+pub use call::{Call, DirectMessage, NotificationBits, Reply, Transfer};
 pub use certificate::CertRun;
 pub use descriptor::{RelinquishDesc, Response, RetrieveDesc, SendDesc};
 pub use endpoint::{
@@ -44,5 +44,5 @@ pub use refusal::Refusal;
 pub use rights::{Data, Kind, Rights};
 pub use room::Room;
 pub use schedule::{Status, Work};
-pub use transaction::{Range, Receiver};
+pub use transaction::{Handle, Range, Receiver};
 pub use why::{About, Grant, Obstacle, Why};

@@ -1,5 +1,7 @@
 // SPDX-License-Identifier: MIT OR Apache-2.0
 //! What an endpoint does, and what it gets for it.
+ghost use Rattle.std.specs.Prelude.{◌≡◌};
+ghost use Rattle.ffa_model.specs.Memory.{size_of};
 
 use crate::endpoint::EndpointId;
 
@@ -10,6 +12,20 @@ pub enum Size {
     B2,
     B4,
     B8,
+}
+
+impl Size {
+    /// How many bytes these are.
+    pub fn bytes(self) -> u64
+        ensures { result ≡ size_of self }
+    {
+        match self {
+            Size::B1 => 1,
+            Size::B2 => 2,
+            Size::B4 => 4,
+            Size::B8 => 8,
+        }
+    }
 }
 
 /// Why a call is refused (DEN0077A, 11.2): the codes -1 to -4 and -6.

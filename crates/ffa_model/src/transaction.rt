@@ -4,6 +4,11 @@
 use crate::endpoint::EndpointId;
 use crate::rights::Data;
 
+/// The handle of a memory transaction (DEN0077A, 5.10.2), by which sender and receivers name it: the sender's identifier in the high
+/// half, and in the low half which of its sends it is, counted from 1.
+#[derive(Clone, Copy, Debug, PartialEq, Eq, PartialOrd, Ord, Default)]
+pub struct Handle(pub u64);
+
 /// Pages in a row, by the address of the first.
 #[derive(Clone, Copy, Debug, PartialEq, Eq, Default)]
 pub struct Range {

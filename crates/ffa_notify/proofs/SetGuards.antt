@@ -5,7 +5,8 @@ use Rattle.std.specs.Prelude.{◌==◌, ◌||◌, not}
 use Rattle.std.specs.List.{list_all}
 use Rattle.ffa_model.specs.declared.refusal.Refusal.{Refusal}
 use Rattle.ffa_model.specs.declared.refusal.Refusal.TheVariants.{SenderIsAnother, ReceiverUnknown, ReceiverIsCaller, FlagsReserved, BitsNone, BitsNotTheCallers}
-use Rattle.ffa_model.specs.Bits.{bits_of, high_half, low_half}
+use Rattle.ffa_model.specs.declared.call.NotificationBits.{NotificationBits}
+use Rattle.ffa_model.specs.Bits.{bits_of}
 use Rattle.ffa_model.specs.Calls.{first_refusal}
 use Rattle.ffa_model.specs.Notifications.{Notifications, class_of, is_bound, set_guards}
 use Rattle.ffa_model.specs.State.{is_known_among}
@@ -44,42 +45,42 @@ module _ (sender known other flags bits bound : Bool) where
   all-pass-by s k o f b l = grind arith
 
 -- the tests of a call
-module _ (v : Notifications) (caller word flags bitmap : ℕ) where
+module _ (v : Notifications) (caller : ℕ) (its : NotificationBits) where
   abbrev by_caller : Bool
-  by_caller = high_half word == caller
+  by_caller = its.sender.0 == caller
 
   abbrev known : Bool
-  known = is_known_among (length v.bitmaps) (low_half word)
+  known = is_known_among (length v.bitmaps) its.receiver.0
 
   abbrev another : Bool
-  another = not (low_half word == caller)
+  another = not (its.receiver.0 == caller)
 
   abbrev flagged : Bool
-  flagged = flags == 0 || flags == 2
+  flagged = its.flags == 0 || its.flags == 2
 
   abbrev some : Bool
-  some = not (bitmap == 0)
+  some = not (its.bitmap == 0)
 
   abbrev settable : Bool
-  settable = list_all (λ k. is_bound v (low_half word) (class_of caller) k caller) (bits_of bitmap)
+  settable = list_all (λ k. is_bound v its.receiver.0 (class_of caller) k caller) (bits_of its.bitmap)
 
-  pub another-sender : by_caller ≡ false → Some SenderIsAnother ≡ first_refusal (set_guards (length v.bitmaps) v caller word flags bitmap)
+  pub another-sender : by_caller ≡ false → Some SenderIsAnother ≡ first_refusal (set_guards (length v.bitmaps) v caller its)
   another-sender = another-sender-by by_caller known another flagged some settable
 
-  pub receiver-unknown : by_caller ≡ true → known ≡ false → Some ReceiverUnknown ≡ first_refusal (set_guards (length v.bitmaps) v caller word flags bitmap)
+  pub receiver-unknown : by_caller ≡ true → known ≡ false → Some ReceiverUnknown ≡ first_refusal (set_guards (length v.bitmaps) v caller its)
   receiver-unknown = receiver-unknown-by by_caller known another flagged some settable
 
-  pub receiver-caller : by_caller ≡ true → known ≡ true → another ≡ false → Some ReceiverIsCaller ≡ first_refusal (set_guards (length v.bitmaps) v caller word flags bitmap)
+  pub receiver-caller : by_caller ≡ true → known ≡ true → another ≡ false → Some ReceiverIsCaller ≡ first_refusal (set_guards (length v.bitmaps) v caller its)
   receiver-caller = receiver-caller-by by_caller known another flagged some settable
 
-  pub flags-reserved : by_caller ≡ true → known ≡ true → another ≡ true → flagged ≡ false → Some FlagsReserved ≡ first_refusal (set_guards (length v.bitmaps) v caller word flags bitmap)
+  pub flags-reserved : by_caller ≡ true → known ≡ true → another ≡ true → flagged ≡ false → Some FlagsReserved ≡ first_refusal (set_guards (length v.bitmaps) v caller its)
   flags-reserved = flags-reserved-by by_caller known another flagged some settable
 
-  pub no-bits : by_caller ≡ true → known ≡ true → another ≡ true → flagged ≡ true → some ≡ false → Some BitsNone ≡ first_refusal (set_guards (length v.bitmaps) v caller word flags bitmap)
+  pub no-bits : by_caller ≡ true → known ≡ true → another ≡ true → flagged ≡ true → some ≡ false → Some BitsNone ≡ first_refusal (set_guards (length v.bitmaps) v caller its)
   no-bits = no-bits-by by_caller known another flagged some settable
 
-  pub bits-of-others : by_caller ≡ true → known ≡ true → another ≡ true → flagged ≡ true → some ≡ true → settable ≡ false → Some BitsNotTheCallers ≡ first_refusal (set_guards (length v.bitmaps) v caller word flags bitmap)
+  pub bits-of-others : by_caller ≡ true → known ≡ true → another ≡ true → flagged ≡ true → some ≡ true → settable ≡ false → Some BitsNotTheCallers ≡ first_refusal (set_guards (length v.bitmaps) v caller its)
   bits-of-others = bits-of-others-by by_caller known another flagged some settable
 
-  pub all-pass : by_caller ≡ true → known ≡ true → another ≡ true → flagged ≡ true → some ≡ true → settable ≡ true → None ≡ first_refusal (set_guards (length v.bitmaps) v caller word flags bitmap)
+  pub all-pass : by_caller ≡ true → known ≡ true → another ≡ true → flagged ≡ true → some ≡ true → settable ≡ true → None ≡ first_refusal (set_guards (length v.bitmaps) v caller its)
   all-pass = all-pass-by by_caller known another flagged some settable

@@ -22,7 +22,7 @@ impl Class {
     pub fn of(sender: EndpointId) -> Class
         ensures { class_number result ≡ class_of sender.0 }
     {
-        if sender == EndpointId(0) {
+        if sender == EndpointId::NORMAL_WORLD {
             Class::NormalWorld
         } else {
             Class::Partitions

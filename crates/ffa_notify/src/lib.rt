@@ -6,8 +6,9 @@ mod bitmaps;
 mod calls;
 mod checks;
 mod class;
-mod failing;
 mod first;
+mod questions;
+mod reasons;
 mod words;
 
 pub use bitmaps::Bitmaps;

@@ -2,7 +2,7 @@
 //! Words of bits.
 ghost use Rattle.std.specs.Prelude.{◌≡◌, ℕ, ◌+◌, ◌≤◌, nat_lt, not, length, slice_index, if◌then◌else◌};
 ghost use Rattle.std.specs.List.{list_all};
-ghost use Rattle.ffa_model.specs.Bits.{bits, word_of_halves};
+ghost use Rattle.ffa_model.specs.Bits.{bits};
 ghost use Rattle.ffa_notify.specs.Stored.{is_asked};
 
 use ffa_model::MOST_ENDPOINTS;
@@ -52,11 +52,4 @@ pub(crate) fn high_word(word: u64) -> u32
     ensures { result ≡ bits 63 32 word }
 {
     (word / 0x1_0000_0000) as u32
-}
-
-// The word of two halves.
-pub(crate) fn word_of_halves(low: u32, high: u32) -> u64
-    ensures { result ≡ word_of_halves low high }
-{
-    u64::from(high) * 0x1_0000_0000 + u64::from(low)
 }

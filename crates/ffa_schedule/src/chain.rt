@@ -3,20 +3,18 @@
 ghost use Rattle.std.specs.Prelude.{◌≡◌, ◌==◌, ◌⊎◌, ◌||◌, ◌≤◌, length, is_some, true, Some, None, OnOk, OnErr, IfOk, IsSomeAnd};
 ghost use Rattle.std.specs.List.{list_any};
 ghost use Rattle.std.specs.Result.{result_err};
-ghost use Rattle.ffa_model.specs.Bits.{high_half, word_of_two};
-ghost use Rattle.ffa_model.specs.Calls.{first_failure, first_refusal};
+ghost use Rattle.ffa_model.specs.Calls.{first_failure};
 ghost use Rattle.ffa_model.specs.declared.endpoint.EndpointId.{EndpointId};
 ghost use Rattle.ffa_model.specs.declared.schedule.Status.TheVariants.{Yielded, Blocked};
-ghost use Rattle.ffa_model.specs.declared.schedule.Work.TheVariants.{Run};
 ghost use Rattle.ffa_model.specs.Identifiers.{place};
-ghost use Rattle.ffa_model.specs.RunStates.{finished, first_schedule, given_cycles, is_endpoint, is_run, is_waiting, is_yielded, passed, requested, requester, run_guards, run_reply, status_in, switched, wait_guards, wait_reply, with_work, work_in, yield_guards, yield_reply};
+ghost use Rattle.ffa_model.specs.RunStates.{finished, first_schedule, given_cycles, is_waiting, is_yielded, requested, requester, run_guards, run_reply, scheduled, status_in, switched, wait_guards, wait_reply, with_work, work_in, yield_guards, yield_reply};
 ghost use Rattle.ffa_model.specs.Sound.{IsSound, origin};
 ghost use Rattle.ffa_model.specs.State.{is_partition_among};
 ghost use Rattle.ffa_model.specs.Links.{status_outside};
 
 use arrayvec::ArrayVec;
 use ffa_model::function::{FFA_MSG_WAIT, FFA_RUN, FFA_YIELD};
-use ffa_model::{EndpointId, ErrorCode, MOST_ENDPOINTS, Refusal, Reply, Status, Work};
+use ffa_model::{EndpointId, ErrorCode, MOST_ENDPOINTS, Reply, Status, Work};
 use std::marker::Model;
 
 /// Who runs, and for whom: the endpoints from the normal world to the runner, each of which is blocked for the one
@@ -24,9 +22,9 @@ use std::marker::Model;
 #[derive(Drop)]
 pub struct Chain {
     // From the normal world to the runner, each of which works for the one before it.
-    links: ArrayVec<EndpointId, MOST_ENDPOINTS>,
+    pub(crate) links: ArrayVec<EndpointId, MOST_ENDPOINTS>,
     // Of each endpoint the work that it has.
-    works: ArrayVec<Option<Work>, MOST_ENDPOINTS>,
+    pub(crate) works: ArrayVec<Option<Work>, MOST_ENDPOINTS>,
 }
 
 impl Model for Chain {
@@ -53,7 +51,7 @@ impl Chain {
         ensures sound { IsSound result }
     {
         let mut links = ArrayVec::new();
-        links.push(EndpointId(0));
+        links.push(EndpointId::NORMAL_WORLD);
         let mut works = ArrayVec::new();
         for _place in 0..endpoints {
             works.push(None);
@@ -97,26 +95,26 @@ impl Chain {
         }
     }
 
-    /// FFA_RUN, with w1 (DEN0077A, 8.2): the normal world is blocked, and the target runs. A waiting target gets work,
-    /// and one that has yielded goes on with its own. The reply is what the target sees.
+    /// FFA_RUN of a target in one of its execution contexts (DEN0077A, 8.2): the normal world is blocked, and the target
+    /// runs. A waiting target gets work, and one that has yielded goes on with its own. The reply is what the target sees.
     ///
     /// # Errors
     ///
-    /// In this order: `Denied` where the runner isn't the normal world; `InvalidParameters` where the word names no
-    /// partition, or an execution context that isn't 0; `Busy` where the target neither waits nor has yielded, though
+    /// In this order: `Denied` where the runner isn't the normal world; `InvalidParameters` where the target is no
+    /// partition, or the execution context isn't 0; `Busy` where the target neither waits nor has yielded, though
     /// there is no such partition while the normal world runs. An error changes nothing.
-    pub fn run(&mut self, word: u32) -> Result<Reply, ErrorCode>
-        ensures refusal { result_err result ≡ first_failure (run_guards (length self.old.works) self.old word) }
-        ensures reply { IfOk result (λ reply. reply ≡ run_reply word (status_in self.old (high_half word))) }
+    pub fn run(&mut self, target: EndpointId, context: u16) -> Result<Reply, ErrorCode>
+        ensures refusal { result_err result ≡ first_failure (run_guards (length self.old.works) self.old target.0 context) }
+        ensures reply { IfOk result (λ reply. reply ≡ run_reply target.0 (status_in self.old target.0)) }
         ensures kept { OnErr result (self.new ≡ self.old) }
-        ensures changed { OnOk result (self.new ≡ given_cycles self.old (high_half word) (status_in self.old (high_half word))) }
+        ensures changed { OnOk result (self.new ≡ given_cycles self.old target.0 (status_in self.old target.0)) }
         ensures sound { IsSound self.new }
     {
-        let target = self.check_run(word)?;
+        self.check_run(target, context)?;
         match self.work(target) {
             None => {
                 self.start(target, Work::Run);
-                Ok(passed(FFA_RUN, word))
+                Ok(scheduled(FFA_RUN, target))
             }
             Some(work) => {
                 self.start(target, work);
@@ -141,7 +139,7 @@ impl Chain {
         let runner = self.runner();
         self.check_wait()?;
         self.stop(None);
-        Ok(given_back(FFA_MSG_WAIT, runner))
+        Ok(scheduled(FFA_MSG_WAIT, runner))
     }
 
     /// FFA_YIELD (DEN0077A, 8.2): the runner has yielded and keeps its work, and the normal world, for which it works,
@@ -160,53 +158,7 @@ impl Chain {
         let runner = self.runner();
         let work = self.check_yield()?;
         self.stop(Some(work));
-        Ok(given_back(FFA_YIELD, runner))
-    }
-
-    /// The checks of FFA_RUN in order: the first that fails, or the target, which may be given cycles.
-    pub fn check_run(&self, word: u32) -> Result<EndpointId, Refusal>
-        ensures refusal { result_err result ≡ first_refusal (run_guards (length self.now.works) self.now word) }
-        ensures target { IfOk result (λ target. target.0 ≡ high_half word) }
-        ensures sound { IsSound self.now }
-    {
-        let target = EndpointId::in_high_half(word);
-        if self.runner().0 != 0 {
-            return Err(Refusal::NotNormalWorld);
-        }
-        if !target.is_partition_among(self.works.len()) {
-            return Err(Refusal::TargetUnknown);
-        }
-        if word % 0x1_0000 != 0 {
-            return Err(Refusal::ContextUnknown);
-        }
-        match self.status(target) {
-            Status::Waiting | Status::Yielded => Ok(target),
-            Status::Running | Status::Blocked => Err(Refusal::TargetNotReady),
-        }
-    }
-
-    /// The check of FFA_MSG_WAIT, which fails where the normal world didn't give the runner cycles.
-    pub fn check_wait(&self) -> Result<(), Refusal>
-        ensures refusal { result_err result ≡ first_refusal (wait_guards self.now) }
-        ensures work { OnOk result (work_in self.now self.now.runner ≡ Some Run) }
-    {
-        match self.own_work() {
-            Some(Work::Run) => Ok(()),
-            _ => Err(Refusal::NotRun),
-        }
-    }
-
-    /// The check of FFA_YIELD, which fails where the runner doesn't work for the normal world. Finds the work with which
-    /// the runner yields.
-    pub fn check_yield(&self) -> Result<Work, Refusal>
-        ensures refusal { result_err result ≡ first_refusal (yield_guards self.now) }
-        ensures work { IfOk result (λ work. work_in self.now self.now.runner ≡ Some work) }
-        ensures origin { IfOk result (λ work. origin (Some work) ≡ Some 0) }
-    {
-        match self.own_work() {
-            Some(work) if works_for_normal_world(work) => Ok(work),
-            _ => Err(Refusal::NobodyToYieldTo),
-        }
+        Ok(scheduled(FFA_YIELD, runner))
     }
 
     /// A direct request of the runner (DEN0077A, 15): it is blocked, and the receiver works for it and runs.
@@ -227,13 +179,6 @@ impl Chain {
         ensures sound { IsSound self.new }
     {
         self.stop(None);
-    }
-
-    // The work of the runner.
-    fn own_work(&self) -> Option<Work>
-        ensures { result ≡ work_in self.now self.now.runner }
-    {
-        self.work(self.runner())
     }
 
     // The runner is blocked, and a partition that stands outside has this work for it and runs.
@@ -278,30 +223,12 @@ fn status_outside(work: Option<Work>) -> Status
     }
 }
 
-// Whether work was set going by the normal world.
-fn works_for_normal_world(work: Work) -> bool
-    ensures { result ≡ (is_run (Some work) || is_endpoint 0 (requester (Some work))) }
+// What the endpoint that runs next is told of a partition which is given cycles, or gives them back.
+fn scheduled(function: u32, partition: EndpointId) -> Reply
+    ensures { result ≡ scheduled function partition.0 }
 {
-    match work {
-        Work::Run => true,
-        Work::Request(by) => by.0 == 0,
-    }
-}
-
-// What the normal world is passed by a runner that gives its cycles back.
-fn given_back(function: u32, runner: EndpointId) -> Reply
-    ensures { result ≡ passed function (word_of_two runner.0 0) }
-{
-    passed(function, u32::from(runner.0) * 0x1_0000)
-}
-
-// What the endpoint that runs next is passed, in w0 and w1.
-fn passed(function: u32, word: u32) -> Reply
-    ensures { result ≡ passed function word }
-{
-    Reply::Passed {
-        w0: function,
-        w1: word,
-        payload: [0; 5],
+    Reply::Scheduled {
+        function,
+        partition,
     }
 }

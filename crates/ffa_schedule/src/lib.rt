@@ -3,5 +3,6 @@
 #![tactic(auto)]
 
 pub mod chain;
+mod checks;
 
 pub use chain::Chain;

@@ -19,7 +19,7 @@ use Rattle.ffa_model.specs.Messages.{header_in, tx_bytes}
 use Rattle.ffa_model.specs.Notifications.{notifications_of}
 use Rattle.ffa_model.specs.SendDescriptor.{send_of}
 use Rattle.ffa_model.specs.State.{State, buffers_of, transaction_of, version_of}
-use Rattle.ffa_model.specs.Transactions.{handle_of, own_rights_of}
+use Rattle.ffa_model.specs.Transactions.{own_rights_of}
 use Rattle.ffa_rxtx.specs.Parts.{candidates_in, tx_in}
 use Rattle.ffa_spmc.specs.Managed.{Managed}
 use Rattle.ffa_spmc.specs.Meaning.{IsManager, Parts, state_of}
@@ -35,9 +35,9 @@ pub seen-in : {X : Type 0} (x : Parts) {past : Option (List Step)} (now : Manage
 seen-in x now view c o is = is ∙ ap (λ (m : Managed). c m.state) view
 
 module _ (x : Parts) (machine : IsManager x) (refusal : Refusal) where
-  pub reclaim-failing : (low high h : ℕ) → h ≡ handle_of high low
-      → failing_reclaim (own_rights_in x.kept.pages x.manifest.ram_base.0) (finite.get (map_in x.kept.pool.slots) h) refusal ≡ failing_reclaim (own_rights_of (state_of x)) (transaction_of (state_of x) (handle_of high low)) refusal
-  reclaim-failing low high h handle = λ i. failing_reclaim (own_rights-are x machine i) (transaction_of (state_of x) (handle i)) refusal
+  pub reclaim-failing : (h : ℕ)
+      → failing_reclaim (own_rights_in x.kept.pages x.manifest.ram_base.0) (finite.get (map_in x.kept.pool.slots) h) refusal ≡ failing_reclaim (own_rights_of (state_of x)) (transaction_of (state_of x) h) refusal
+  reclaim-failing h = λ i. failing_reclaim (own_rights-are x machine i) (transaction_of (state_of x) h) refusal
 
 -- the code's runner is that of the run states
 module _ (x : Parts) (machine : IsManager x) (e : ℕ) (at : e ≡ x.kept.chain.runner) (refusal : Refusal) where

@@ -55,7 +55,7 @@ module _ (s : State) (e p : ℕ) where
   left-service (MemShare x) beside = absurd (true≢false beside)
   left-service (MemRetrieve x) beside = absurd (true≢false beside)
   left-service MemRelinquish beside = absurd (true≢false beside)
-  left-service (MemReclaim low high flags) beside = absurd (true≢false beside)
+  left-service (MemReclaim handle flags) beside = absurd (true≢false beside)
   left-service call beside = refl
 
   pub access-served : (call : Call) → is_memory_call call ≡ false → access (serve s call).state e p ≡ access s e p

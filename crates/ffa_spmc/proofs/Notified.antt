@@ -11,7 +11,8 @@ use Rattle.ffa_model.specs.declared.refusal.Refusal.{Refusal}
 use Rattle.ffa_model.specs.declared.call.Call as calls
 use Rattle.ffa_model.specs.declared.call.Reply.{Reply}
 use Rattle.ffa_model.specs.declared.operation.ErrorCode.{ErrorCode}
-use Rattle.ffa_model.specs.Bits.{bits_of, high_half, low_half, word_of_halves}
+use Rattle.ffa_model.specs.declared.call.NotificationBits.{NotificationBits}
+use Rattle.ffa_model.specs.Bits.{bits_of}
 use Rattle.ffa_model.specs.Calls.{Service, Stepped, first_failure, replied, served, success}
 use Rattle.ffa_model.specs.First.{first}
 use Rattle.ffa_model.specs.Notifications.{Notifications, bind_guards, bitmap_create, bitmap_destroy, class_of, create_guards, destroy_guards, get_guards, get_reply, has_pending, is_pending, manager_class, normal_class, notification_bind, notification_get, notification_set, notification_unbind, notifications_of, partition_class, receiver_bit, set_guards, unbind_guards, with_bitmaps, with_bound, with_notifications, with_pending, without_bitmaps, without_bound, without_pending}
@@ -63,12 +64,12 @@ module _ (x : Parts) where
       pub runner-notified : is_known_among (length x.kept.bitmaps.bitmaps) e ≡ true
       runner-notified = known-notified e (runner-there x machine e at)
 
-      pub got : (r : Result Reply ErrorCode) (new : Notifications) (word flags : ℕ) → result_err r ≡ first_failure (get_guards x.kept.bitmaps e word flags)
+      pub got : (r : Result Reply ErrorCode) (new : Notifications) (receiver context flags : ℕ) → result_err r ≡ first_failure (get_guards x.kept.bitmaps e receiver context flags)
           → IfOk r (λ reply. reply ≡ get_reply x.kept.bitmaps e flags) → OnErr r (new ≡ x.kept.bitmaps) → OnOk r (new ≡ without_pending x.kept.bitmaps e flags)
-          → replied (with_bits new) (reply_or_error r) ≡ served s (notification_get s word flags)
-      got r new word flags refusal replies same cleared =
-          notified (notification_get s word flags) (without_pending x.kept.bitmaps x.kept.chain.runner flags) new r (λ reply. reply) refl
-          (refusal ∙ ap (λ (f : ℕ). first_failure (get_guards x.kept.bitmaps f word flags)) at)
+          → replied (with_bits new) (reply_or_error r) ≡ served s (notification_get s receiver context flags)
+      got r new receiver context flags refusal replies same cleared =
+          notified (notification_get s receiver context flags) (without_pending x.kept.bitmaps x.kept.chain.runner flags) new r (λ reply. reply) refl
+          (refusal ∙ ap (λ (f : ℕ). first_failure (get_guards x.kept.bitmaps f receiver context flags)) at)
           same
           (done-so r (λ none is. is ∙ ap (λ (f : ℕ). without_pending x.kept.bitmaps f flags) at) cleared)
           (subst (λ (f : ℕ). IfOk r (λ reply. reply ≡ get_reply x.kept.bitmaps f flags)) at replies)
@@ -87,36 +88,35 @@ module _ (x : Parts) where
             (refusal ∙ ap (λ (f : ℕ). first_failure (destroy_guards x.kept.bitmaps f endpoint)) at) same done (done-replies r)
 
         -- a call with a bitmap, by its guards and what it leaves
-        halved : (c : Service) (guards : ℕ → ℕ → ℕ → List (Bool × Refusal)) (change : ℕ → ℕ → Notifications) (asked : ℕ)
-            → c.guards ≡ guards (length s.parties) x.kept.chain.runner asked → c.state ≡ with_notifications s (change x.kept.chain.runner asked) → c.reply ≡ success 0 0
-            → (bitmap : ℕ) → bitmap ≡ asked
-            → result_err r ≡ first_failure (guards (length x.kept.bitmaps.bitmaps) e bitmap) → OnErr r (new ≡ x.kept.bitmaps) → OnOk r (new ≡ change e bitmap)
-            → replied (with_bits new) (done_or_error r) ≡ served s c
-        halved c guards change asked checks leaves replies bitmap halves refusal same done =
-            notified c (change x.kept.chain.runner asked) new r (λ done. success 0 0) leaves
-            (refusal ∙ (λ i. first_failure (guards (each-bitmap i) (at i) (halves i))) ∙ ap first_failure (sym checks))
+        marked : (service : Service) (guards : ℕ → ℕ → List (Bool × Refusal)) (change : ℕ → Notifications)
+            → service.guards ≡ guards (length s.parties) x.kept.chain.runner → service.state ≡ with_notifications s (change x.kept.chain.runner) → service.reply ≡ success 0 0
+            → result_err r ≡ first_failure (guards (length x.kept.bitmaps.bitmaps) e) → OnErr r (new ≡ x.kept.bitmaps) → OnOk r (new ≡ change e)
+            → replied (with_bits new) (done_or_error r) ≡ served s service
+        marked service guards change checks leaves replies refusal same done =
+            notified service (change x.kept.chain.runner) new r (λ done. success 0 0) leaves
+            (refusal ∙ (λ i. first_failure (guards (each-bitmap i) (at i))) ∙ ap first_failure (sym checks))
             same
-            (done-so r (λ none is. is ∙ (λ i. change (at i) (halves i))) done)
+            (done-so r (λ none is. is ∙ (λ i. change (at i))) done)
             (subst (λ (reply : Reply). IfOk r (λ done. success 0 0 ≡ reply)) (sym replies) (done-replies r))
 
-        module _ (word flags low high bitmap : ℕ) (halves : bitmap ≡ word_of_halves low high) (same : OnErr r (new ≡ x.kept.bitmaps)) where
-          pub bound : result_err r ≡ first_failure (bind_guards (length x.kept.bitmaps.bitmaps) x.kept.bitmaps e word flags bitmap)
-              → OnOk r (new ≡ with_bound x.kept.bitmaps e (high_half word) (bits_of bitmap)) → replied (with_bits new) (done_or_error r) ≡ served s (notification_bind s word flags low high)
+        module _ (its : NotificationBits) (same : OnErr r (new ≡ x.kept.bitmaps)) where
+          pub bound : result_err r ≡ first_failure (bind_guards (length x.kept.bitmaps.bitmaps) x.kept.bitmaps e its)
+              → OnOk r (new ≡ with_bound x.kept.bitmaps e its.sender.0 (bits_of its.bitmap)) → replied (with_bits new) (done_or_error r) ≡ served s (notification_bind s its)
           bound refusal done =
-              halved (notification_bind s word flags low high) (λ n f b. bind_guards n x.kept.bitmaps f word flags b) (λ f b. with_bound x.kept.bitmaps f (high_half word) (bits_of b))
-              (word_of_halves low high) refl refl refl bitmap halves refusal same done
+              marked (notification_bind s its) (λ n f. bind_guards n x.kept.bitmaps f its) (λ f. with_bound x.kept.bitmaps f its.sender.0 (bits_of its.bitmap))
+              refl refl refl refusal same done
 
-          pub unbound : result_err r ≡ first_failure (unbind_guards (length x.kept.bitmaps.bitmaps) x.kept.bitmaps e word flags bitmap)
-              → OnOk r (new ≡ without_bound x.kept.bitmaps e (high_half word) (bits_of bitmap)) → replied (with_bits new) (done_or_error r) ≡ served s (notification_unbind s word flags low high)
+          pub unbound : result_err r ≡ first_failure (unbind_guards (length x.kept.bitmaps.bitmaps) x.kept.bitmaps e its)
+              → OnOk r (new ≡ without_bound x.kept.bitmaps e its.sender.0 (bits_of its.bitmap)) → replied (with_bits new) (done_or_error r) ≡ served s (notification_unbind s its)
           unbound refusal done =
-              halved (notification_unbind s word flags low high) (λ n f b. unbind_guards n x.kept.bitmaps f word flags b) (λ f b. without_bound x.kept.bitmaps f (high_half word) (bits_of b))
-              (word_of_halves low high) refl refl refl bitmap halves refusal same done
+              marked (notification_unbind s its) (λ n f. unbind_guards n x.kept.bitmaps f its) (λ f. without_bound x.kept.bitmaps f its.sender.0 (bits_of its.bitmap))
+              refl refl refl refusal same done
 
-          pub set : result_err r ≡ first_failure (set_guards (length x.kept.bitmaps.bitmaps) x.kept.bitmaps e word flags bitmap)
-              → OnOk r (new ≡ with_pending x.kept.bitmaps (low_half word) (class_of e) (bits_of bitmap)) → replied (with_bits new) (done_or_error r) ≡ served s (notification_set s word flags low high)
+          pub set : result_err r ≡ first_failure (set_guards (length x.kept.bitmaps.bitmaps) x.kept.bitmaps e its)
+              → OnOk r (new ≡ with_pending x.kept.bitmaps its.receiver.0 (class_of e) (bits_of its.bitmap)) → replied (with_bits new) (done_or_error r) ≡ served s (notification_set s its)
           set refusal done =
-              halved (notification_set s word flags low high) (λ n f b. set_guards n x.kept.bitmaps f word flags b) (λ f b. with_pending x.kept.bitmaps (low_half word) (class_of f) (bits_of b))
-              (word_of_halves low high) refl refl refl bitmap halves refusal same done
+              marked (notification_set s its) (λ n f. set_guards n x.kept.bitmaps f its) (λ f. with_pending x.kept.bitmaps its.receiver.0 (class_of f) (bits_of its.bitmap))
+              refl refl refl refusal same done
 
 -- nothing that fails of each element holds of any
 none-any : {X : Type 0} (test : X → Bool) (xs : List X) → ((x : X) → test x ≡ false) → list_any test xs ≡ false

@@ -14,7 +14,7 @@ use Rattle.ffa_model.specs.declared.operation.FaultKind.{FaultKind}
 use Rattle.ffa_model.specs.declared.operation.Outcome.{Outcome}
 use Rattle.ffa_model.specs.declared.refusal.Refusal.{Refusal}
 use Rattle.ffa_model.specs.declared.rights.Kind.{Kind}
-use Rattle.ffa_model.specs.Bits.{word_of_halves}
+use Rattle.ffa_model.specs.declared.call.NotificationBits.{NotificationBits}
 use Rattle.ffa_model.specs.Buffers.{buffers_in, map_guards, release_guards, rx_release, rxtx_map, rxtx_unmap, unmap_guards}
 use Rattle.ffa_model.specs.Calls.{Service, first_refusal}
 use Rattle.ffa_model.specs.DescriptorPlaces.{in_version}
@@ -29,7 +29,7 @@ use Rattle.ffa_model.specs.RelinquishDescriptor.{relinquish_of}
 use Rattle.ffa_model.specs.RetrieveDescriptor.{retrieve_of}
 use Rattle.ffa_model.specs.SendDescriptor.{send_of}
 use Rattle.ffa_model.specs.State.{State, transaction_of, version_of}
-use Rattle.ffa_model.specs.Transactions.{handle_of, open_of}
+use Rattle.ffa_model.specs.Transactions.{open_of}
 use Rattle.ffa_rxtx.specs.Parts.{candidates_in, tx_in}
 use Rattle.ffa_spmc.specs.Managed.{Managed}
 use Rattle.ffa_spmc.specs.Meaning.{IsManager, Parts, state_of}
@@ -86,10 +86,10 @@ module _ (x : Parts) (machine : IsManager x) (e : ℕ) (at : e ≡ x.kept.chain.
   relinquish-checked =
       λ i. first_refusal (relinquish_guards (buffers_in x.kept.buffers (at i)) (open_of s) (at i) (relinquish_of (sent-is x machine e at i)))
 
-  pub reclaim-checked : (low high flags h : ℕ) → h ≡ handle_of high low
-      → first_refusal (reclaim_guards (own_rights_in x.kept.pages x.kept.layout.base.0) e flags (finite.get (map_in x.kept.pool.slots) h)) ≡ first_refusal (memory_reclaim s low high flags).guards
-  reclaim-checked low high flags h handle =
-      λ i. first_refusal (reclaim_guards ((ap (own_rights_in x.kept.pages) machine.layout.base ∙ own_rights-are x machine) i) (at i) flags (transaction_of s (handle i)))
+  pub reclaim-checked : (h flags : ℕ)
+      → first_refusal (reclaim_guards (own_rights_in x.kept.pages x.kept.layout.base.0) e flags (finite.get (map_in x.kept.pool.slots) h)) ≡ first_refusal (memory_reclaim s h flags).guards
+  reclaim-checked h flags =
+      λ i. first_refusal (reclaim_guards ((ap (own_rights_in x.kept.pages) machine.layout.base ∙ own_rights-are x machine) i) (at i) flags (transaction_of s h))
 
   -- a call whose descriptor stands in TX
   module _ (call : DescriptorCall) (spoken : call.version ≡ version_of (state_of x) (state_of x).runner) where
@@ -111,16 +111,16 @@ module _ (x : Parts) (machine : IsManager x) (e : ℕ) (at : e ≡ x.kept.chain.
   pub destroy-checked : (endpoint : ℕ) → first_refusal (destroy_guards x.kept.bitmaps e endpoint) ≡ first_refusal (bitmap_destroy s endpoint).guards
   destroy-checked endpoint = ap (λ (f : ℕ). first_refusal (destroy_guards x.kept.bitmaps f endpoint)) at
 
-  pub get-checked : (word flags : ℕ) → first_refusal (get_guards x.kept.bitmaps e word flags) ≡ first_refusal (notification_get s word flags).guards
-  get-checked word flags = ap (λ (f : ℕ). first_refusal (get_guards x.kept.bitmaps f word flags)) at
+  pub get-checked : (receiver context flags : ℕ) → first_refusal (get_guards x.kept.bitmaps e receiver context flags) ≡ first_refusal (notification_get s receiver context flags).guards
+  get-checked receiver context flags = ap (λ (f : ℕ). first_refusal (get_guards x.kept.bitmaps f receiver context flags)) at
 
   -- a call with a bitmap
-  module _ (word flags low high bitmap : ℕ) (halves : bitmap ≡ word_of_halves low high) where
-    pub bind-checked : first_refusal (bind_guards (length x.kept.bitmaps.bitmaps) x.kept.bitmaps e word flags bitmap) ≡ first_refusal (notification_bind s word flags low high).guards
-    bind-checked = λ i. first_refusal (bind_guards (each-bitmap x machine i) x.kept.bitmaps (at i) word flags (halves i))
+  module _ (its : NotificationBits) where
+    pub bind-checked : first_refusal (bind_guards (length x.kept.bitmaps.bitmaps) x.kept.bitmaps e its) ≡ first_refusal (notification_bind s its).guards
+    bind-checked = λ i. first_refusal (bind_guards (each-bitmap x machine i) x.kept.bitmaps (at i) its)
 
-    pub unbind-checked : first_refusal (unbind_guards (length x.kept.bitmaps.bitmaps) x.kept.bitmaps e word flags bitmap) ≡ first_refusal (notification_unbind s word flags low high).guards
-    unbind-checked = λ i. first_refusal (unbind_guards (each-bitmap x machine i) x.kept.bitmaps (at i) word flags (halves i))
+    pub unbind-checked : first_refusal (unbind_guards (length x.kept.bitmaps.bitmaps) x.kept.bitmaps e its) ≡ first_refusal (notification_unbind s its).guards
+    unbind-checked = λ i. first_refusal (unbind_guards (each-bitmap x machine i) x.kept.bitmaps (at i) its)
 
-    pub set-checked : first_refusal (set_guards (length x.kept.bitmaps.bitmaps) x.kept.bitmaps e word flags bitmap) ≡ first_refusal (notification_set s word flags low high).guards
-    set-checked = λ i. first_refusal (set_guards (each-bitmap x machine i) x.kept.bitmaps (at i) word flags (halves i))
+    pub set-checked : first_refusal (set_guards (length x.kept.bitmaps.bitmaps) x.kept.bitmaps e its) ≡ first_refusal (notification_set s its).guards
+    set-checked = λ i. first_refusal (set_guards (each-bitmap x machine i) x.kept.bitmaps (at i) its)

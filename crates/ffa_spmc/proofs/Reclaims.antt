@@ -18,7 +18,7 @@ use Rattle.ffa_model.specs.Memory.{zeroed_if}
 use Rattle.ffa_model.specs.Ram.{Ram}
 use Rattle.ffa_model.specs.SoundState.{IsSoundState}
 use Rattle.ffa_model.specs.State.{State, Transaction, transaction_of}
-use Rattle.ffa_model.specs.Transactions.{OwnRights, own_rights_of, closed, handle_of, open_of, with_open}
+use Rattle.ffa_model.specs.Transactions.{OwnRights, own_rights_of, closed, open_of, with_open}
 use Rattle.ffa_model.proofs.Guards.{guard-passes}
 use Rattle.ffa_model.proofs.KeptCalls.{reclaimed-sound}
 use Rattle.ffa_pages.specs.Entry.{Entry, own_right_at}
@@ -44,7 +44,7 @@ use Rattle.ffa_spmc.proofs.Pools.{own_right-is, own_rights-are, slot-open}
 use Rattle.ffa_spmc.proofs.Unowned.{open-entered, unowned-moved, unowned-same}
 
 -- the code's runner is that of the run states; and the pool has reclaimed a handle, or refused to
-module _ (x : Parts) (machine : IsManager x) (e : ℕ) (at : e ≡ x.kept.chain.runner) (low high flags h : ℕ) (handle : h ≡ handle_of high low) (ram : Ram) (pages : List (Option Entry)) (pool : Pooled) where
+module _ (x : Parts) (machine : IsManager x) (e : ℕ) (at : e ≡ x.kept.chain.runner) (h flags : ℕ) (ram : Ram) (pages : List (Option Entry)) (pool : Pooled) where
   abbrev s : State
   s = state_of x
 
@@ -172,12 +172,12 @@ module _ (x : Parts) (machine : IsManager x) (e : ℕ) (at : e ≡ x.kept.chain.
         ∙ ap (λ (b : OwnRights). first_failure (reclaim_guards b e flags (transaction_of s h))) (own_rights-are x machine)
         ∙ ap (λ (f : ℕ). first_failure (reclaim_guards (own_rights_of s) f flags (transaction_of s h))) at
 
-    pub reclaim-served : replied (state_of after_reclaim) (done_or_error r) ≡ served s (memory_reclaim s low high flags)
+    pub reclaim-served : replied (state_of after_reclaim) (done_or_error r) ≡ served s (memory_reclaim s h flags)
     reclaim-served =
-        answered-by s (state_of after_reclaim) (memory_reclaim s low high flags) r (λ done. success 0 0)
-        (refuses ∙ ap (λ (k : ℕ). first_failure (reclaim_guards (own_rights_of s) s.runner flags (transaction_of s k))) handle)
+        answered-by s (state_of after_reclaim) (memory_reclaim s h flags) r (λ done. success 0 0)
+        refuses
         (refused-so r (λ is. ap state_of is) unchanged)
-        (done-so r (λ none facts. state-reclaimed (sym none ∙ refuses) facts ∙ ap (λ (k : ℕ). reclaimed s k (is_set 0 flags)) handle) done)
+        (done-so r (λ none facts. state-reclaimed (sym none ∙ refuses) facts) done)
         (done-replies r)
 
     pub reclaim-machine : IsManager after_reclaim

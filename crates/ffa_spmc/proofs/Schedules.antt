@@ -51,8 +51,8 @@ module _ (x : Parts) where
   waited e at (Err code) new list ok fails is emptied = absurd (false≢true ok)
 
 -- what FFA_RUN replies is no error
-pub run-plain : (word : ℕ) (status : Status) → is_error (run_reply word status) ≡ false
-run-plain word Waiting = refl
-run-plain word Yielded = refl
-run-plain word Running = refl
-run-plain word Blocked = refl
+pub run-plain : (target : ℕ) (status : Status) → is_error (run_reply target status) ≡ false
+run-plain target Waiting = refl
+run-plain target Yielded = refl
+run-plain target Running = refl
+run-plain target Blocked = refl

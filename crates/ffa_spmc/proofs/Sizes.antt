@@ -30,7 +30,7 @@ use Rattle.ffa_model.specs.SendDescriptor.{SendRecord}
 use Rattle.ffa_model.specs.Setup.{info_bytes, is_count_alone, uuid_bytes}
 use Rattle.ffa_model.specs.State.{State, Buffers, Page, Transaction, buffers_of, transaction_of, version_of}
 use Rattle.ffa_model.specs.Step.{service, step}
-use Rattle.ffa_model.specs.Transactions.{own_rights_of, closed, handle_of, not_holding, open_of, with_open, with_transaction}
+use Rattle.ffa_model.specs.Transactions.{own_rights_of, closed, not_holding, open_of, with_open, with_transaction}
 use Rattle.ffa_model.proofs.Accesses.{length-map_at}
 use Rattle.ffa_laws.proofs.Form.{accessed-kept, served-kept}
 use Rattle.ffa_spmc.specs.Unowned.{pages_of_tables}
@@ -94,8 +94,8 @@ service-sizes s (MemLend x) = sent-sizes s Lend (send_read s Lend x.total)
 service-sizes s (MemShare x) = sent-sizes s Share (send_read s Share x.total)
 service-sizes s (MemRetrieve x) = retrieved-sizes s (retrieve_read s x.total)
 service-sizes s MemRelinquish = relinquished-sizes s (relinquish_read s)
-service-sizes s (MemReclaim low high flags) =
-    let h : ℕ = handle_of high low in
+service-sizes s (MemReclaim handle flags) =
+    let h : ℕ = handle.0 in
     of-pages s _ (changed-size (is_set 0 flags) (with_open s (closed (open_of s) h)) (named_ranges (transaction_of s h)) zeroed_page)
 service-sizes s call = refl
 

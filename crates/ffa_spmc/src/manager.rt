@@ -5,7 +5,6 @@ ghost use Rattle.std.specs.Option.{option_or};
 ghost use Rattle.ffa_model.specs.declared.limits.TheConstants.{MOST_ENDPOINTS};
 ghost use Rattle.ffa_model.specs.Access.{access};
 ghost use Rattle.ffa_model.specs.Agreement.{Agrees};
-ghost use Rattle.ffa_model.specs.Bits.{word_of_halves};
 ghost use Rattle.ffa_model.specs.SoundState.{IsSoundState};
 ghost use Rattle.ffa_laws.specs.OwnAccess.{AreApart};
 ghost use Rattle.ffa_model.specs.Refusals.{is_refusal, passes_no_error};
@@ -231,55 +230,27 @@ impl<M: PhysMem + Drop, S: Store> Manager<M, S> {
             Call::SpmIdGet => ffa_setup::spm_id(),
             Call::MsgWait => self.wait(),
             Call::Yield => self.yield_now(),
-            Call::Run { target } => self.run_partition(target),
-            Call::DirectRequest {
-                function,
-                word,
-                flags,
-                payload,
-            } => self.request(function, word, flags, payload),
-            Call::DirectResponse {
-                function,
-                word,
-                flags,
-                payload,
-            } => self.respond(function, word, flags, payload),
+            Call::Run { target, context } => self.run_partition(target, context),
+            Call::DirectRequest(message) => self.request(&message),
+            Call::DirectResponse(message) => self.respond(&message),
             Call::MsgSend2 => self.send(),
             Call::MemDonate(transfer) => self.offer(Kind::Donate, transfer, cache, news),
             Call::MemLend(transfer) => self.offer(Kind::Lend, transfer, cache, news),
             Call::MemShare(transfer) => self.offer(Kind::Share, transfer, cache, news),
             Call::MemRetrieve(transfer) => self.retrieve(transfer, cache, news),
             Call::MemRelinquish => self.relinquish(cache, news),
-            Call::MemReclaim { low, high, flags } => self.reclaim(low, high, flags, cache, news),
+            Call::MemReclaim { handle, flags } => self.reclaim(handle, flags, cache, news),
             Call::BitmapCreate { endpoint, contexts } => { self.create_bitmaps(endpoint, contexts) }
             Call::BitmapDestroy { endpoint } => self.destroy_bitmaps(endpoint),
-            Call::NotificationBind {
-                word,
+            Call::NotificationBind(bits) => self.bind(&bits),
+            Call::NotificationUnbind(bits) => self.unbind(&bits),
+            Call::NotificationSet(bits) => self.set(&bits),
+            Call::NotificationGet {
+                receiver,
+                context,
                 flags,
-                low,
-                high,
-            } => self.bind(word, flags, low, high),
-            Call::NotificationUnbind {
-                word,
-                flags,
-                low,
-                high,
-            } => self.unbind(word, flags, low, high),
-            Call::NotificationSet {
-                word,
-                flags,
-                low,
-                high,
-            } => self.set(word, flags, low, high),
-            Call::NotificationGet { receiver, flags } => self.get(receiver, flags),
+            } => self.get(receiver, context, flags),
             Call::Unknown => Reply::Error(ErrorCode::NotSupported),
         }
     }
-}
-
-// The word of which the registers of a call hold the halves.
-fn word_of_halves(low: u32, high: u32) -> u64
-    ensures { result ≡ word_of_halves low high }
-{
-    u64::from(high) * (1 << 32) + u64::from(low)
 }

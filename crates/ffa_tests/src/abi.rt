@@ -2,7 +2,7 @@
 //! The identifiers and values of the standard.
 use crate::checks::{holds, holds_at, same, same_at};
 use ffa_abi::{call_name, decode, encode, error_name, is_function, is_read_whole};
-use ffa_model::{Call, ErrorCode, Reply, Transfer};
+use ffa_model::{Call, DirectMessage, EndpointId, ErrorCode, NotificationBits, Reply, Transfer};
 use std::alloc::Global;
 use std::process::Abort;
 use std::test::Fail;
@@ -27,7 +27,7 @@ fn registers(function: u32) -> [u64; 8] {
 }
 
 // Identifiers, and the calls that registers with them are, with their numbers and 0 behind these: register n, where it is
-// passed whole, is 160 + n times 2^32, plus n.
+// passed whole, is 160 + n times 2^32, plus n. A handle and a bitmap have two registers, the low half first.
 const SETUP: &str = "\
 84000063 Version [1, 0, 0, 0, 0, 0, 0, 0]
 84000064 Features [1, 0, 0, 0, 0, 0, 0, 0]
@@ -59,14 +59,14 @@ C4000072 MemLend [1, 2, 700079669251, 4, 0, 0, 0, 0]
 C4000073 MemShare [1, 2, 700079669251, 4, 0, 0, 0, 0]
 C4000074 MemRetrieve [1, 2, 700079669251, 4, 0, 0, 0, 0]
 84000076 MemRelinquish [0, 0, 0, 0, 0, 0, 0, 0]
-84000077 MemReclaim [1, 2, 3, 0, 0, 0, 0, 0]";
+84000077 MemReclaim [8589934593, 3, 0, 0, 0, 0, 0, 0]";
 
 const NOTIFICATIONS: &str = "\
 8400007D BitmapCreate [1, 2, 0, 0, 0, 0, 0, 0]
 8400007E BitmapDestroy [1, 0, 0, 0, 0, 0, 0, 0]
-8400007F NotificationBind [1, 2, 3, 4, 0, 0, 0, 0]
-84000080 NotificationUnbind [1, 2, 3, 4, 0, 0, 0, 0]
-84000081 NotificationSet [1, 2, 3, 4, 0, 0, 0, 0]
+8400007F NotificationBind [1, 2, 17179869187, 0, 0, 0, 0, 0]
+84000080 NotificationUnbind [1, 2, 17179869187, 0, 0, 0, 0, 0]
+84000081 NotificationSet [1, 2, 17179869187, 0, 0, 0, 0, 0]
 84000082 NotificationGet [1, 2, 0, 0, 0, 0, 0, 0]";
 
 fn numbers(a: u64, b: u64, c: u64, d: u64) -> [u64; 8] {
@@ -82,9 +82,24 @@ fn of_transfer(transfer: Transfer) -> [u64; 8] {
     )
 }
 
-fn of_message(function: u32, word: u32, flags: u32, payload: [u64; 5]) -> [u64; 8] {
-    let [a, b, c, d, e] = payload;
-    [function.into(), word.into(), flags.into(), a, b, c, d, e]
+// The word that names two endpoints.
+fn of_ends(high: EndpointId, low: EndpointId) -> u64 {
+    u64::from(high.0) << 16 | u64::from(low.0)
+}
+
+fn of_message(message: &DirectMessage) -> [u64; 8] {
+    let ends = of_ends(message.sender, message.receiver);
+    let [a, b, c, d, e] = message.payload;
+    [
+        message.function.into(),
+        ends,
+        message.flags.into(),
+        a,
+        b,
+        c,
+        d,
+        e,
+    ]
 }
 
 // A call's name and its numbers. Calls stand in four functions, since one for all takes the proof longer than these.
@@ -111,20 +126,15 @@ fn said_of_messages(call: Call) -> (&'static str, [u64; 8]) {
     match call {
         Call::MsgWait => ("MsgWait", [0; 8]),
         Call::Yield => ("Yield", [0; 8]),
-        Call::Run { target } => ("Run", numbers(target.into(), 0, 0, 0)),
+        Call::Run { target, context } => {
+            (
+                "Run",
+                numbers(of_ends(target, EndpointId(context)), 0, 0, 0),
+            )
+        }
         Call::MsgSend2 => ("MsgSend2", [0; 8]),
-        Call::DirectRequest {
-            function,
-            word,
-            flags,
-            payload,
-        } => ("DirectRequest", of_message(function, word, flags, payload)),
-        Call::DirectResponse {
-            function,
-            word,
-            flags,
-            payload,
-        } => ("DirectResponse", of_message(function, word, flags, payload)),
+        Call::DirectRequest(message) => ("DirectRequest", of_message(&message)),
+        Call::DirectResponse(message) => ("DirectResponse", of_message(&message)),
         _ => said_of_memory(call),
     }
 }
@@ -136,44 +146,37 @@ fn said_of_memory(call: Call) -> (&'static str, [u64; 8]) {
         Call::MemShare(transfer) => ("MemShare", of_transfer(transfer)),
         Call::MemRetrieve(transfer) => ("MemRetrieve", of_transfer(transfer)),
         Call::MemRelinquish => ("MemRelinquish", [0; 8]),
-        Call::MemReclaim { low, high, flags } => {
-            let found = numbers(low.into(), high.into(), flags.into(), 0);
-            ("MemReclaim", found)
+        Call::MemReclaim { handle, flags } => {
+            ("MemReclaim", numbers(handle.0, flags.into(), 0, 0))
         }
         _ => said_of_notifications(call),
     }
 }
 
-fn of_bits(word: u32, flags: u32, low: u32, high: u32) -> [u64; 8] {
-    numbers(word.into(), flags.into(), low.into(), high.into())
+fn of_bits(bits: &NotificationBits) -> [u64; 8] {
+    let ends = of_ends(bits.sender, bits.receiver);
+    numbers(ends, bits.flags.into(), bits.bitmap, 0)
 }
 
 fn said_of_notifications(call: Call) -> (&'static str, [u64; 8]) {
     match call {
         Call::BitmapCreate { endpoint, contexts } => {
-            ("BitmapCreate", of_bits(endpoint, contexts, 0, 0))
+            (
+                "BitmapCreate",
+                numbers(endpoint.into(), contexts.into(), 0, 0),
+            )
         }
-        Call::BitmapDestroy { endpoint } => ("BitmapDestroy", of_bits(endpoint, 0, 0, 0)),
-        Call::NotificationBind {
-            word,
+        Call::BitmapDestroy { endpoint } => ("BitmapDestroy", numbers(endpoint.into(), 0, 0, 0)),
+        Call::NotificationBind(bits) => ("NotificationBind", of_bits(&bits)),
+        Call::NotificationUnbind(bits) => ("NotificationUnbind", of_bits(&bits)),
+        Call::NotificationSet(bits) => ("NotificationSet", of_bits(&bits)),
+        Call::NotificationGet {
+            receiver,
+            context,
             flags,
-            low,
-            high,
-        } => ("NotificationBind", of_bits(word, flags, low, high)),
-        Call::NotificationUnbind {
-            word,
-            flags,
-            low,
-            high,
-        } => ("NotificationUnbind", of_bits(word, flags, low, high)),
-        Call::NotificationSet {
-            word,
-            flags,
-            low,
-            high,
-        } => ("NotificationSet", of_bits(word, flags, low, high)),
-        Call::NotificationGet { receiver, flags } => {
-            ("NotificationGet", of_bits(receiver, flags, 0, 0))
+        } => {
+            let ends = of_ends(EndpointId(context), receiver);
+            ("NotificationGet", numbers(ends, flags.into(), 0, 0))
         }
         _ => ("no call", [0; 8]),
     }
@@ -202,6 +205,62 @@ fn calls_by_their_identifiers(rt: HostRuntime) -> Result<(), Fail> {
         }
     }
     Ok(())
+}
+
+// Whom a call names in w1 = 8001 0002.
+#[test]
+fn ends_of_a_call(rt: HostRuntime) {
+    for function in [
+        0x8400_006F,
+        0xC400_0070,
+        0x8400_007F,
+        0x8400_0080,
+        0x8400_0081,
+    ] {
+        let mut x = registers(function);
+        x[1] = 0x8001_0002;
+        let (sender, receiver) = match decode(x) {
+            Call::DirectRequest(message) | Call::DirectResponse(message) => {
+                (message.sender, message.receiver)
+            }
+            Call::NotificationBind(bits)
+            | Call::NotificationUnbind(bits)
+            | Call::NotificationSet(bits) => (bits.sender, bits.receiver),
+            _ => (EndpointId(0), EndpointId(0)),
+        };
+        same_at(&rt, sender.0, 0x8001, &function);
+        same_at(&rt, receiver.0, 2, &function);
+    }
+}
+
+// Which endpoint, in which of its execution contexts, w1 = 8001 0002 names.
+#[test]
+fn contexts_of_a_call(rt: HostRuntime) {
+    let mut run = registers(0x8400_006D);
+    run[1] = 0x8001_0002;
+    holds(
+        &rt,
+        matches!(
+            decode(run),
+            Call::Run {
+                target: EndpointId(0x8001),
+                context: 2
+            }
+        ),
+    );
+    let mut get = registers(0x8400_0082);
+    get[1] = 0x8001_0002;
+    holds(
+        &rt,
+        matches!(
+            decode(get),
+            Call::NotificationGet {
+                receiver: EndpointId(2),
+                context: 0x8001,
+                ..
+            }
+        ),
+    );
 }
 
 // Numbers beside the calls, results, and 64-bit forms that their calls do not have.
@@ -267,17 +326,19 @@ fn replies(rt: HostRuntime) {
     let results = Reply::Success([0, 0, 0, 0, 1, 2]);
     same(&rt, encode(&results), [0x8400_0061, 0, 0, 0, 0, 0, 1, 2]);
     let payload = [0x1122_3344_5566_7788, 0, 0, 0, 1 << 63];
-    let passed = Reply::Passed {
-        w0: 0xC400_006F,
-        w1: 0x8001,
+    let passed = Reply::Passed(DirectMessage {
+        function: 0xC400_006F,
+        sender: EndpointId(0x8002),
+        receiver: EndpointId(0x8001),
+        flags: 0,
         payload,
-    };
+    });
     same(
         &rt,
         encode(&passed),
         [
             0xC400_006F,
-            0x8001,
+            0x8002_8001,
             0,
             0x1122_3344_5566_7788,
             0,
@@ -285,6 +346,15 @@ fn replies(rt: HostRuntime) {
             0,
             1 << 63,
         ],
+    );
+    let scheduled = Reply::Scheduled {
+        function: 0x8400_006D,
+        partition: EndpointId(0x8002),
+    };
+    same(
+        &rt,
+        encode(&scheduled),
+        [0x8400_006D, 0x8002_0000, 0, 0, 0, 0, 0, 0],
     );
     same(
         &rt,

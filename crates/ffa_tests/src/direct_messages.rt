@@ -3,8 +3,8 @@
 ghost use Rattle.std.specs.Prelude.{◌≡◌, length};
 
 use crate::checks::{alike, same};
-use ffa_messages::{DirectMessage, direct_req, direct_resp};
-use ffa_model::{EndpointId, ErrorCode, Reply, Status, Work, row_machine};
+use ffa_messages::{direct_req, direct_resp};
+use ffa_model::{DirectMessage, EndpointId, ErrorCode, Reply, Status, Work, row_machine};
 use ffa_schedule::Chain;
 use std::test::Fail;
 
@@ -21,51 +21,51 @@ const REQUEST: u32 = 0xC400_006F;
 
 const RESPONSE: u32 = 0x8400_0070;
 
+// A direct message between the endpoints of these identifiers.
+fn message(function: u32, sender: u16, receiver: u16, flags: u32) -> DirectMessage {
+    DirectMessage {
+        function,
+        sender: EndpointId(sender),
+        receiver: EndpointId(receiver),
+        flags,
+        payload: PAYLOAD,
+    }
+}
+
 // A request of the runner.
-fn ask(chain: &mut Chain, word: u32, flags: u32) -> Result<Reply, ErrorCode>
+fn ask(chain: &mut Chain, sender: u16, receiver: u16, flags: u32) -> Result<Reply, ErrorCode>
     requires { length chain.old.works ≡ 3 }
     ensures { length chain.new.works ≡ 3 }
 {
-    let message = DirectMessage {
-        function: REQUEST,
-        word,
-        flags,
-        payload: PAYLOAD,
-    };
-    direct_req(chain, &row_machine(), &message)
+    let request = message(REQUEST, sender, receiver, flags);
+    direct_req(chain, &row_machine(), &request)
 }
 
 // A response of the runner.
-fn answer(chain: &mut Chain, word: u32, flags: u32) -> Result<Reply, ErrorCode> {
-    let message = DirectMessage {
-        function: RESPONSE,
-        word,
-        flags,
-        payload: PAYLOAD,
-    };
-    direct_resp(chain, &message)
+fn answer(chain: &mut Chain, sender: u16, receiver: u16, flags: u32) -> Result<Reply, ErrorCode> {
+    direct_resp(chain, &message(RESPONSE, sender, receiver, flags))
 }
 
-// What the endpoint that runs next is passed.
-fn passed(w0: u32, w1: u32) -> Result<Reply, ErrorCode> {
-    Ok(Reply::Passed {
-        w0,
-        w1,
-        payload: PAYLOAD,
-    })
+// What the receiver of a message sees.
+fn passed(function: u32, sender: u16, receiver: u16) -> Result<Reply, ErrorCode> {
+    Ok(Reply::Passed(message(function, sender, receiver, 0)))
 }
 
 #[test]
 fn request_and_response(rt: HostRuntime) -> Result<(), Fail> {
     let mut chain = Chain::first(3);
-    alike(&rt, ask(&mut chain, 0x8001, 0), passed(REQUEST, 0x8001));
+    alike(
+        &rt,
+        ask(&mut chain, 0, 0x8001, 0),
+        passed(REQUEST, 0, 0x8001),
+    );
     same(&rt, chain.runner(), FIRST);
     same(&rt, chain.status(NORMAL), Status::Blocked);
     same(&rt, chain.work(FIRST), Some(Work::Request(NORMAL)));
     alike(
         &rt,
-        answer(&mut chain, 0x8001_0000, 0),
-        passed(RESPONSE, 0x8001_0000),
+        answer(&mut chain, 0x8001, 0, 0),
+        passed(RESPONSE, 0x8001, 0),
     );
     same(&rt, chain.runner(), NORMAL);
     same(&rt, chain.status(FIRST), Status::Waiting);
@@ -75,28 +75,36 @@ fn request_and_response(rt: HostRuntime) -> Result<(), Fail> {
 
 #[test]
 fn refused_requests(rt: HostRuntime) -> Result<(), Fail> {
-    for word in [0x8003, 0x8000, 0, 0x8002_8001] {
+    for (sender, receiver) in [(0, 0x8003), (0, 0x8000), (0, 0), (0x8002, 0x8001)] {
         let mut chain = Chain::first(3);
         alike(
             &rt,
-            ask(&mut chain, word, 0),
+            ask(&mut chain, sender, receiver, 0),
             Err(ErrorCode::InvalidParameters),
         );
     }
     let mut chain = Chain::first(3);
     alike(
         &rt,
-        ask(&mut chain, 0x8001, 1),
+        ask(&mut chain, 0, 0x8001, 1),
         Err(ErrorCode::InvalidParameters),
     );
-    alike(&rt, ask(&mut chain, 0x8001, 0), passed(REQUEST, 0x8001));
-    alike(&rt, ask(&mut chain, 0x8001_0000, 0), Err(ErrorCode::Denied));
     alike(
         &rt,
-        ask(&mut chain, 0x8001_8002, 0),
-        passed(REQUEST, 0x8001_8002),
+        ask(&mut chain, 0, 0x8001, 0),
+        passed(REQUEST, 0, 0x8001),
     );
-    alike(&rt, ask(&mut chain, 0x8002_8001, 0), Err(ErrorCode::Busy));
+    alike(&rt, ask(&mut chain, 0x8001, 0, 0), Err(ErrorCode::Denied));
+    alike(
+        &rt,
+        ask(&mut chain, 0x8001, 0x8002, 0),
+        passed(REQUEST, 0x8001, 0x8002),
+    );
+    alike(
+        &rt,
+        ask(&mut chain, 0x8002, 0x8001, 0),
+        Err(ErrorCode::Busy),
+    );
     same(&rt, chain.runner(), SECOND);
     Ok(())
 }
@@ -104,19 +112,23 @@ fn refused_requests(rt: HostRuntime) -> Result<(), Fail> {
 #[test]
 fn refused_responses(rt: HostRuntime) -> Result<(), Fail> {
     let mut chain = Chain::first(3);
-    alike(&rt, answer(&mut chain, 0, 0), Err(ErrorCode::Denied));
+    alike(&rt, answer(&mut chain, 0, 0, 0), Err(ErrorCode::Denied));
     let mut chain = Chain::first(3);
-    alike(&rt, ask(&mut chain, 0x8001, 0), passed(REQUEST, 0x8001));
-    for word in [0x8001_8002, 0x8002_0000, 0x8001] {
+    alike(
+        &rt,
+        ask(&mut chain, 0, 0x8001, 0),
+        passed(REQUEST, 0, 0x8001),
+    );
+    for (sender, receiver) in [(0x8001, 0x8002), (0x8002, 0), (0, 0x8001)] {
         alike(
             &rt,
-            answer(&mut chain, word, 0),
+            answer(&mut chain, sender, receiver, 0),
             Err(ErrorCode::InvalidParameters),
         );
     }
     alike(
         &rt,
-        answer(&mut chain, 0x8001_0000, 1),
+        answer(&mut chain, 0x8001, 0, 1),
         Err(ErrorCode::InvalidParameters),
     );
     same(&rt, chain.runner(), FIRST);

@@ -11,12 +11,11 @@ const FIRST: EndpointId = EndpointId(0x8001);
 
 const SECOND: EndpointId = EndpointId(0x8002);
 
-// What the endpoint that runs next is passed without a payload.
-fn passed(w0: u32, w1: u32) -> Reply {
-    Reply::Passed {
-        w0,
-        w1,
-        payload: [0; 5],
+// What the endpoint that runs next sees of a partition.
+fn scheduled(function: u32, partition: EndpointId) -> Reply {
+    Reply::Scheduled {
+        function,
+        partition,
     }
 }
 
@@ -26,18 +25,14 @@ fn run_and_wait(rt: HostRuntime) -> Result<(), Fail> {
     same(&rt, chain.runner(), NORMAL);
     alike(&rt, chain.wait(), Err(ErrorCode::Denied));
     alike(&rt, chain.yield_now(), Err(ErrorCode::Denied));
-    alike(
-        &rt,
-        chain.run(0x8001_0000),
-        Ok(passed(0x8400_006D, 0x8001_0000)),
-    );
+    alike(&rt, chain.run(FIRST, 0), Ok(scheduled(0x8400_006D, FIRST)));
     same(&rt, chain.runner(), FIRST);
     same(&rt, chain.status(FIRST), Status::Running);
     same(&rt, chain.status(NORMAL), Status::Blocked);
     same(&rt, chain.status(SECOND), Status::Waiting);
     same(&rt, chain.work(FIRST), Some(Work::Run));
-    alike(&rt, chain.run(0x8002_0001), Err(ErrorCode::Denied));
-    alike(&rt, chain.wait(), Ok(passed(0x8400_006B, 0x8001_0000)));
+    alike(&rt, chain.run(SECOND, 1), Err(ErrorCode::Denied));
+    alike(&rt, chain.wait(), Ok(scheduled(0x8400_006B, FIRST)));
     same(&rt, chain.runner(), NORMAL);
     same(&rt, chain.status(FIRST), Status::Waiting);
     same(&rt, chain.work(FIRST), None);
@@ -47,8 +42,12 @@ fn run_and_wait(rt: HostRuntime) -> Result<(), Fail> {
 #[test]
 fn refused_targets(rt: HostRuntime) -> Result<(), Fail> {
     let mut chain = Chain::first(3);
-    for word in [0, 0x8000_0000, 0x8003_0000, 0x7FFF_0000, 0x8001_0001] {
-        alike(&rt, chain.run(word), Err(ErrorCode::InvalidParameters));
+    for (target, context) in [(0, 0), (0x8000, 0), (0x8003, 0), (0x7FFF, 0), (0x8001, 1)] {
+        alike(
+            &rt,
+            chain.run(EndpointId(target), context),
+            Err(ErrorCode::InvalidParameters),
+        );
     }
     same(&rt, chain.runner(), NORMAL);
     same(&rt, chain.status(FIRST), Status::Waiting);
@@ -58,17 +57,13 @@ fn refused_targets(rt: HostRuntime) -> Result<(), Fail> {
 #[test]
 fn yield_and_run_again(rt: HostRuntime) -> Result<(), Fail> {
     let mut chain = Chain::first(3);
-    alike(
-        &rt,
-        chain.run(0x8001_0000),
-        Ok(passed(0x8400_006D, 0x8001_0000)),
-    );
-    alike(&rt, chain.yield_now(), Ok(passed(0x8400_006C, 0x8001_0000)));
+    alike(&rt, chain.run(FIRST, 0), Ok(scheduled(0x8400_006D, FIRST)));
+    alike(&rt, chain.yield_now(), Ok(scheduled(0x8400_006C, FIRST)));
     same(&rt, chain.runner(), NORMAL);
     same(&rt, chain.status(NORMAL), Status::Running);
     same(&rt, chain.status(FIRST), Status::Yielded);
     same(&rt, chain.work(FIRST), Some(Work::Run));
-    alike(&rt, chain.run(0x8001_0000), Ok(Reply::Success([0; 6])));
+    alike(&rt, chain.run(FIRST, 0), Ok(Reply::Success([0; 6])));
     same(&rt, chain.runner(), FIRST);
     same(&rt, chain.work(FIRST), Some(Work::Run));
     Ok(())
@@ -77,11 +72,7 @@ fn yield_and_run_again(rt: HostRuntime) -> Result<(), Fail> {
 #[test]
 fn requests(rt: HostRuntime) -> Result<(), Fail> {
     let mut chain = Chain::first(3);
-    alike(
-        &rt,
-        chain.run(0x8001_0000),
-        Ok(passed(0x8400_006D, 0x8001_0000)),
-    );
+    alike(&rt, chain.run(FIRST, 0), Ok(scheduled(0x8400_006D, FIRST)));
     chain.request(SECOND);
     same(&rt, chain.runner(), SECOND);
     same(&rt, chain.status(FIRST), Status::Blocked);
@@ -100,9 +91,9 @@ fn requests(rt: HostRuntime) -> Result<(), Fail> {
 fn request_of_the_normal_world(rt: HostRuntime) -> Result<(), Fail> {
     let mut chain = Chain::first(3);
     chain.request(SECOND);
-    alike(&rt, chain.yield_now(), Ok(passed(0x8400_006C, 0x8002_0000)));
+    alike(&rt, chain.yield_now(), Ok(scheduled(0x8400_006C, SECOND)));
     same(&rt, chain.status(SECOND), Status::Yielded);
-    alike(&rt, chain.run(0x8002_0000), Ok(Reply::Success([0; 6])));
+    alike(&rt, chain.run(SECOND, 0), Ok(Reply::Success([0; 6])));
     same(&rt, chain.work(SECOND), Some(Work::Request(NORMAL)));
     chain.respond();
     same(&rt, chain.runner(), NORMAL);

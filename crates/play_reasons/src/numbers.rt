@@ -157,8 +157,8 @@ fn listed(call: &Call) -> &'static [Refusal]
             Refusal::ContextUnknown,
             Refusal::TargetNotReady,
         ],
-        Call::DirectRequest { .. } => REQUEST,
-        Call::DirectResponse { .. } => &[
+        Call::DirectRequest(_) => REQUEST,
+        Call::DirectResponse(_) => &[
             Refusal::NoRequest,
             Refusal::AnswerMisdirected,
             Refusal::FlagsReserved,
@@ -185,9 +185,9 @@ fn listed(call: &Call) -> &'static [Refusal]
             Refusal::BitmapsMissing,
             Refusal::BitsPending,
         ],
-        Call::NotificationBind { .. } => BIND,
-        Call::NotificationUnbind { .. } => UNBIND,
-        Call::NotificationSet { .. } => SET,
+        Call::NotificationBind(_) => BIND,
+        Call::NotificationUnbind(_) => UNBIND,
+        Call::NotificationSet(_) => SET,
         Call::NotificationGet { .. } => &[
             Refusal::ReceiverIsAnother,
             Refusal::ContextUnknown,

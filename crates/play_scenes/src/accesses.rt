@@ -76,12 +76,7 @@ impl<'m, S: Stage + Drop> Generator<'m, S> {
 impl Dice {
     // A place in a page: at its beginning, at its end or between, mostly a multiple of the size.
     fn offset(&mut self, size: Size) -> u64 {
-        let count = match size {
-            Size::B1 => 1,
-            Size::B2 => 2,
-            Size::B4 => 4,
-            Size::B8 => 8,
-        };
+        let count = size.bytes();
         let word = self.word();
         let aligned = word % PAGE / 8 * 8;
         self.pick(&[0, PAGE - count, PAGE - 4, aligned, aligned, word % PAGE])

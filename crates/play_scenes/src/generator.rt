@@ -8,9 +8,6 @@ use ffa_abi::decode;
 use ffa_model::function::FFA_ERROR;
 use ffa_model::{EndpointId, MOST_ENDPOINTS, Manifest, Op, Outcome};
 
-/// The normal world.
-pub const NORMAL_WORLD: EndpointId = EndpointId(0);
-
 /// Makes the lines of a trace. It plays each operation at once, and so knows what came of it.
 #[derive(Drop)]
 pub struct Generator<'m, S: Stage + Drop> {

@@ -1,6 +1,6 @@
 // SPDX-License-Identifier: MIT OR Apache-2.0
 //! What is learned of the endpoints from the answers to their calls.
-use crate::generator::{Generator, NORMAL_WORLD};
+use crate::generator::Generator;
 use crate::stage::Stage;
 use ffa_model::function::FFA_RUN;
 use ffa_model::{Call, EndpointId, Work};
@@ -55,21 +55,13 @@ impl Known {
             Call::RxtxUnmap { .. } => self.buffers = None,
             Call::RxRelease => self.set_full(false),
             Call::PartitionInfoGet { flags, .. } if flags % 2 == 0 => self.set_full(true),
-            Call::NotificationBind {
-                word,
-                low,
-                high,
-                ..
-            } => {
-                let bits = u64::from(high) << 32 | u64::from(low);
-                self.bound = Some((bits, EndpointId::in_high_half(word)));
-            }
-            Call::NotificationUnbind { .. } => self.bound = None,
+            Call::NotificationBind(bits) => self.bound = Some((bits.bitmap, bits.sender)),
+            Call::NotificationUnbind(_) => self.bound = None,
             Call::MsgWait => {
                 self.work = None;
                 self.set_full(false);
             }
-            Call::DirectResponse { .. } => self.work = None,
+            Call::DirectResponse(_) => self.work = None,
             _ => {}
         }
     }
@@ -79,7 +71,7 @@ impl Known {
 fn work_of(caller: EndpointId, call: Call, answer: &[u64; 8]) -> Option<Work> {
     match call {
         Call::Run { .. } if answer[0] == u64::from(FFA_RUN) => Some(Work::Run),
-        Call::DirectRequest { .. } => Some(Work::Request(caller)),
+        Call::DirectRequest(_) => Some(Work::Request(caller)),
         _ => None,
     }
 }
@@ -96,6 +88,6 @@ impl<'m, S: Stage + Drop> Generator<'m, S> {
 
     /// Whether an endpoint could be sent a direct request now.
     pub fn is_waiting(&self, endpoint: EndpointId) -> bool {
-        endpoint != NORMAL_WORLD && self.known_of(endpoint).work.is_none()
+        endpoint != EndpointId::NORMAL_WORLD && self.known_of(endpoint).work.is_none()
     }
 }

@@ -2,7 +2,7 @@
 //! Direct messages, run states and indirect messages.
 use crate::dice::Dice;
 use crate::flaws::PAGE_SIZE;
-use crate::generator::{Generator, NORMAL_WORLD};
+use crate::generator::Generator;
 use crate::layout::has_properties;
 use crate::learning::Buffers;
 use crate::stage::Stage;
@@ -18,6 +18,11 @@ pub fn pair(high: EndpointId, low: EndpointId) -> u64 {
     u64::from(high.0) << 16 | u64::from(low.0)
 }
 
+// A word with an endpoint in its high half and one of its execution contexts in its low half.
+fn in_context(endpoint: EndpointId, context: u16) -> u64 {
+    pair(endpoint, EndpointId(context))
+}
+
 // Puts the header of a message into a page.
 fn put_header(page: &mut [u8; PAGE_SIZE], sender: EndpointId, receiver: EndpointId, size: u32) {
     LittleEndian::write_u32(&mut page[8..], MESSAGE_START);
@@ -29,7 +34,7 @@ fn put_header(page: &mut [u8; PAGE_SIZE], sender: EndpointId, receiver: Endpoint
 impl<'m, S: Stage + Drop> Generator<'m, S> {
     /// FFA_RUN of a partition.
     pub fn run(&mut self, partition: EndpointId) {
-        self.call(FFA_RUN, &[pair(partition, EndpointId(0))]);
+        self.call(FFA_RUN, &[in_context(partition, 0)]);
     }
 
     pub fn wait(&mut self) {
@@ -77,7 +82,7 @@ impl<'m, S: Stage + Drop> Generator<'m, S> {
             1 => (runner, other, 1),
             2 => (runner, stranger, 0),
             3 => (runner, runner, 0),
-            4 => (runner, NORMAL_WORLD, 0),
+            4 => (runner, EndpointId::NORMAL_WORLD, 0),
             _ => (runner, other, 0),
         };
         self.direct(FFA_MSG_SEND_DIRECT_REQ, pair(sender, receiver), flags);
@@ -89,7 +94,7 @@ impl<'m, S: Stage + Drop> Generator<'m, S> {
         let other = self.another();
         let asker = match self.known_of(runner).work {
             Some(Work::Request(sender)) => sender,
-            Some(Work::Run) | None => NORMAL_WORLD,
+            Some(Work::Run) | None => EndpointId::NORMAL_WORLD,
         };
         let (sender, receiver, flags) = match self.dice.below(4) {
             0 => (asker, runner, 0),
@@ -144,10 +149,10 @@ impl Dice {
         match self.below(6) {
             0 => (FFA_MSG_WAIT, 0),
             1 => (FFA_YIELD, 0),
-            2 => (FFA_RUN, pair(other, EndpointId(0))),
-            3 => (FFA_RUN, pair(self.any_identifier(), EndpointId(0))),
-            4 => (FFA_RUN, pair(other, EndpointId(1))),
-            _ => (FFA_RUN, pair(EndpointId::MANAGER, EndpointId(0))),
+            2 => (FFA_RUN, in_context(other, 0)),
+            3 => (FFA_RUN, in_context(self.any_identifier(), 0)),
+            4 => (FFA_RUN, in_context(other, 1)),
+            _ => (FFA_RUN, in_context(EndpointId::MANAGER, 0)),
         }
     }
 

@@ -1,7 +1,7 @@
 // SPDX-License-Identifier: MIT OR Apache-2.0
 //! Notifications.
 use crate::dice::Dice;
-use crate::generator::{Generator, NORMAL_WORLD};
+use crate::generator::Generator;
 use crate::messages::pair;
 use crate::stage::Stage;
 use ffa_model::EndpointId;
@@ -62,7 +62,7 @@ impl BitsFlaw {
 impl<'m, S: Stage + Drop> Generator<'m, S> {
     /// A call on notifications, as it should be or turned.
     pub fn play_notification(&mut self) {
-        let is_normal_world = self.runner() == NORMAL_WORLD;
+        let is_normal_world = self.runner() == EndpointId::NORMAL_WORLD;
         match self.dice.notification(is_normal_world) {
             0 | 1 => self.play_bitmaps(),
             2 | 3 => self.play_bind(),
@@ -88,7 +88,7 @@ impl<'m, S: Stage + Drop> Generator<'m, S> {
 
     // The normal world gets what is pending first, so that its bitmaps can go.
     fn play_destroy(&mut self) {
-        if self.runner() == NORMAL_WORLD && !self.dice.one_in(3) {
+        if self.runner() == EndpointId::NORMAL_WORLD && !self.dice.one_in(3) {
             self.get_all();
         }
         let endpoint = self.dice.pick(&[0, 0, 0, 0x8001]);

@@ -1,6 +1,6 @@
 // SPDX-License-Identifier: MIT OR Apache-2.0
 //! How an endpoint comes to run.
-use crate::generator::{Generator, NORMAL_WORLD};
+use crate::generator::Generator;
 use crate::layout::has_properties;
 use crate::stage::Stage;
 use ffa_model::{EndpointId, Properties, Work};
@@ -21,7 +21,7 @@ impl<'m, S: Stage + Drop> Generator<'m, S> {
     // One call on the way to this endpoint.
     fn hand_on(&mut self, wanted: EndpointId) {
         let runner = self.runner();
-        if runner == NORMAL_WORLD {
+        if runner == EndpointId::NORMAL_WORLD {
             self.set_going(wanted);
         } else {
             self.stop_running(self.known_of(runner).work);
@@ -32,7 +32,7 @@ impl<'m, S: Stage + Drop> Generator<'m, S> {
     fn stop_running(&mut self, work: Option<Work>) {
         match work {
             Some(Work::Request(sender)) => {
-                if sender == NORMAL_WORLD && self.dice.one_in(3) {
+                if sender == EndpointId::NORMAL_WORLD && self.dice.one_in(3) {
                     self.give_back();
                 } else {
                     self.respond(sender);
@@ -61,7 +61,7 @@ impl<'m, S: Stage + Drop> Generator<'m, S> {
     fn may_ask(&self, partition: EndpointId) -> bool {
         has_properties(
             self.manifest,
-            NORMAL_WORLD,
+            EndpointId::NORMAL_WORLD,
             Properties::SENDS_DIRECT_REQUESTS,
         ) && has_properties(
             self.manifest,

@@ -5,12 +5,12 @@ ghost use Rattle.ffa_model.specs.About.{about, about_page, about_pages, failing_
 ghost use Rattle.ffa_model.specs.Buffers.{candidates};
 ghost use Rattle.ffa_model.specs.Obstacles.{unless_own};
 ghost use Rattle.ffa_model.specs.State.{transaction_of};
-ghost use Rattle.ffa_model.specs.Transactions.{handle_of, own_rights_of};
+ghost use Rattle.ffa_model.specs.Transactions.{own_rights_of};
 
-use super::{Manager, word_of_halves};
+use super::Manager;
 use crate::storage::Store;
 use ffa_memshare::DescriptorCall;
-use ffa_model::{About, Call, Home, Kind, Obstacle, PageNo, Refusal, Transfer};
+use ffa_model::{About, Call, Handle, Home, Kind, Obstacle, PageNo, Refusal, Transfer};
 use ffa_physmem::PhysMem;
 
 impl<M: PhysMem + Drop, S: Store> Manager<M, S> {
@@ -46,7 +46,7 @@ impl<M: PhysMem + Drop, S: Store> Manager<M, S> {
             Call::MemDonate(transfer) => self.failing_sent(Kind::Donate, transfer, refusal),
             Call::MemLend(transfer) => self.failing_sent(Kind::Lend, transfer, refusal),
             Call::MemShare(transfer) => self.failing_sent(Kind::Share, transfer, refusal),
-            Call::MemReclaim { low, high, .. } => self.failing_reclaim(low, high, refusal),
+            Call::MemReclaim { handle, .. } => self.failing_reclaim(handle, refusal),
             _ => None,
         }
     }
@@ -75,12 +75,11 @@ impl<M: PhysMem + Drop, S: Store> Manager<M, S> {
     }
 
     // Of FFA_MEM_RECLAIM.
-    fn failing_reclaim(&self, low: u32, high: u32, refusal: Refusal) -> Option<PageNo>
-        ensures { result ≡ failing_reclaim (own_rights_of self.now.state) (transaction_of self.now.state (handle_of high low)) refusal }
+    fn failing_reclaim(&self, handle: Handle, refusal: Refusal) -> Option<PageNo>
+        ensures { result ≡ failing_reclaim (own_rights_of self.now.state) (transaction_of self.now.state handle.0) refusal }
     {
-        let handle = word_of_halves(low, high);
         let base = self.kept.records.get().manifest.ram_base;
-        ffa_memshare::failing_reclaim(&self.kept.pool, &self.kept.pages, base, handle, refusal)
+        ffa_memshare::failing_reclaim(&self.kept.pool, &self.kept.pages, base, handle.0, refusal)
     }
 
     // A page, with what stands in the runner's way there.

@@ -25,9 +25,9 @@ impl<M: PhysMem + Drop, S: Store> Manager<M, S> {
             Call::MemShare(transfer) => self.about_sent(Kind::Share, transfer, refusal),
             Call::MemRetrieve(transfer) => self.about_retrieved(transfer, refusal),
             Call::MemRelinquish => self.about_relinquished(refusal),
-            Call::NotificationBind { .. } => self.about_bits(&call, refusal),
-            Call::NotificationUnbind { .. } => self.about_bits(&call, refusal),
-            Call::NotificationSet { .. } => self.about_bits(&call, refusal),
+            Call::NotificationBind(_) => self.about_bits(&call, refusal),
+            Call::NotificationUnbind(_) => self.about_bits(&call, refusal),
+            Call::NotificationSet(_) => self.about_bits(&call, refusal),
             _ => None,
         }
     }

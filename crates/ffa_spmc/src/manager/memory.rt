@@ -8,12 +8,12 @@ ghost use Rattle.ffa_model.specs.MemoryReturn.{memory_reclaim, memory_relinquish
 ghost use Rattle.ffa_model.specs.MemorySend.{memory_send};
 ghost use Rattle.ffa_spmc.specs.Served.{IsAnswered, IsTold};
 
+use super::Manager;
 use super::forgetting::forget;
-use super::{Manager, word_of_halves};
 use crate::answer::Answer;
 use crate::storage::Store;
 use ffa_memshare::{DescriptorCall, News};
-use ffa_model::{Home, Kind, Reply, Transfer};
+use ffa_model::{Handle, Home, Kind, Reply, Transfer};
 use ffa_physmem::PhysMem;
 use ffa_tlb::Translations;
 
@@ -139,30 +139,28 @@ impl<M: PhysMem + Drop, S: Store> Manager<M, S> {
     #[inline(never)]
     pub(super) fn reclaim<T: Translations>(
         &mut self,
-        low: u32,
-        high: u32,
+        handle: Handle,
         flags: u32,
         cache: &mut T,
         news: &mut News,
     ) -> Reply
-        ensures { IsAnswered self.old self.new (T.entries cache.old) (T.entries cache.new) news.old news.new (memory_reclaim self.old.state low high flags) result }
+        ensures { IsAnswered self.old self.new (T.entries cache.old) (T.entries cache.new) news.old news.new (memory_reclaim self.old.state handle.0 flags) result }
     {
         // Proof step: the state is sound.
         self.holds();
         let base = self.ram_base();
-        let answer = self.reclaimed(low, high, flags, news);
+        let answer = self.reclaimed(handle, flags, news);
         forget(cache, base, &answer.changed);
         answer.reply
     }
 
     // The same, and whose access it changed.
     #[inline(always)]
-    fn reclaimed(&mut self, low: u32, high: u32, flags: u32, news: &mut News) -> Answer
-        ensures done { IsTold self.old self.new (memory_reclaim self.old.state low high flags) result }
+    fn reclaimed(&mut self, handle: Handle, flags: u32, news: &mut News) -> Answer
+        ensures done { IsTold self.old self.new (memory_reclaim self.old.state handle.0 flags) result }
         ensures told { news.new ≡ option_or result.changed news.old }
     {
         let runner = self.kept.chain.runner();
-        let handle = word_of_halves(low, high);
         let kept = &mut self.kept;
         let pages = &mut kept.pages;
         let records = kept.records.get();
@@ -172,7 +170,7 @@ impl<M: PhysMem + Drop, S: Store> Manager<M, S> {
             &records.layout,
             pages,
             runner,
-            handle,
+            handle.0,
             flags,
             news,
         ))

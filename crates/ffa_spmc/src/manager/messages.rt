@@ -9,16 +9,16 @@ ghost use Rattle.ffa_spmc.specs.Served.{IsReplied};
 use super::Manager;
 use crate::replies::{DONE, reply_or_error};
 use crate::storage::Store;
-use ffa_messages::{DirectMessage, direct_req, direct_resp, send2};
-use ffa_model::{Home, Reply};
+use ffa_messages::{direct_req, direct_resp, send2};
+use ffa_model::{DirectMessage, EndpointId, Home, Reply};
 use ffa_physmem::PhysMem;
 
 impl<M: PhysMem + Drop, S: Store> Manager<M, S> {
     // FFA_RUN of the runner.
-    pub(super) fn run_partition(&mut self, target: u32) -> Reply
-        ensures { IsReplied self.old self.new (run_partition self.old.state target) result }
+    pub(super) fn run_partition(&mut self, target: EndpointId, context: u16) -> Reply
+        ensures { IsReplied self.old self.new (run_partition self.old.state target.0 context) result }
     {
-        reply_or_error(self.kept.chain.run(target))
+        reply_or_error(self.kept.chain.run(target, context))
     }
 
     // FFA_MSG_WAIT of the runner, whose RX is empty then.
@@ -41,45 +41,21 @@ impl<M: PhysMem + Drop, S: Store> Manager<M, S> {
     }
 
     // FFA_MSG_SEND_DIRECT_REQ of the runner.
-    pub(super) fn request(
-        &mut self,
-        function: u32,
-        word: u32,
-        flags: u32,
-        payload: [u64; 5],
-    ) -> Reply
-        requires { (function == FFA_ERROR) ≡ false }
-        ensures { IsReplied self.old self.new (direct_request self.old.state function word flags payload) result }
+    pub(super) fn request(&mut self, message: &DirectMessage) -> Reply
+        requires { (message.now.function == FFA_ERROR) ≡ false }
+        ensures { IsReplied self.old self.new (direct_request self.old.state message.now) result }
     {
-        let message = DirectMessage {
-            function,
-            word,
-            flags,
-            payload,
-        };
         let kept = &mut self.kept;
         let records = kept.records.get();
-        reply_or_error(direct_req(&mut kept.chain, &records.manifest, &message))
+        reply_or_error(direct_req(&mut kept.chain, &records.manifest, message))
     }
 
     // FFA_MSG_SEND_DIRECT_RESP of the runner.
-    pub(super) fn respond(
-        &mut self,
-        function: u32,
-        word: u32,
-        flags: u32,
-        payload: [u64; 5],
-    ) -> Reply
-        requires { (function == FFA_ERROR) ≡ false }
-        ensures { IsReplied self.old self.new (direct_response self.old.state function word flags payload) result }
+    pub(super) fn respond(&mut self, message: &DirectMessage) -> Reply
+        requires { (message.now.function == FFA_ERROR) ≡ false }
+        ensures { IsReplied self.old self.new (direct_response self.old.state message.now) result }
     {
-        let message = DirectMessage {
-            function,
-            word,
-            flags,
-            payload,
-        };
-        reply_or_error(direct_resp(&mut self.kept.chain, &message))
+        reply_or_error(direct_resp(&mut self.kept.chain, message))
     }
 
     // FFA_MSG_SEND2 of the runner. The receiver is told of a message by a bit of the manager's.

@@ -4,10 +4,10 @@ ghost use Rattle.std.specs.Prelude.{◌≡◌};
 ghost use Rattle.ffa_model.specs.Notifications.{bitmap_create, bitmap_destroy, has_pending, notifications_of, notification_bind, notification_get, notification_set, notification_unbind};
 ghost use Rattle.ffa_spmc.specs.Served.{IsReplied};
 
-use super::{Manager, word_of_halves};
+use super::Manager;
 use crate::replies::{done_or_error, reply_or_error};
 use crate::storage::Store;
-use ffa_model::{EndpointId, Home, Reply};
+use ffa_model::{EndpointId, Home, NotificationBits, Reply};
 use ffa_physmem::PhysMem;
 
 impl<M: PhysMem + Drop, S: Store> Manager<M, S> {
@@ -37,41 +37,38 @@ impl<M: PhysMem + Drop, S: Store> Manager<M, S> {
     }
 
     // FFA_NOTIFICATION_BIND of the runner.
-    pub(super) fn bind(&mut self, word: u32, flags: u32, low: u32, high: u32) -> Reply
-        ensures { IsReplied self.old self.new (notification_bind self.old.state word flags low high) result }
+    pub(super) fn bind(&mut self, bits: &NotificationBits) -> Reply
+        ensures { IsReplied self.old self.new (notification_bind self.old.state bits.now) result }
     {
         let runner = self.kept.chain.runner();
-        let bitmap = word_of_halves(low, high);
         let records = self.kept.records.get_mut();
-        done_or_error(records.bitmaps.bind(runner, word, flags, bitmap))
+        done_or_error(records.bitmaps.bind(runner, bits))
     }
 
     // FFA_NOTIFICATION_UNBIND of the runner.
-    pub(super) fn unbind(&mut self, word: u32, flags: u32, low: u32, high: u32) -> Reply
-        ensures { IsReplied self.old self.new (notification_unbind self.old.state word flags low high) result }
+    pub(super) fn unbind(&mut self, bits: &NotificationBits) -> Reply
+        ensures { IsReplied self.old self.new (notification_unbind self.old.state bits.now) result }
     {
         let runner = self.kept.chain.runner();
-        let bitmap = word_of_halves(low, high);
         let records = self.kept.records.get_mut();
-        done_or_error(records.bitmaps.unbind(runner, word, flags, bitmap))
+        done_or_error(records.bitmaps.unbind(runner, bits))
     }
 
     // FFA_NOTIFICATION_SET of the runner.
-    pub(super) fn set(&mut self, word: u32, flags: u32, low: u32, high: u32) -> Reply
-        ensures { IsReplied self.old self.new (notification_set self.old.state word flags low high) result }
+    pub(super) fn set(&mut self, bits: &NotificationBits) -> Reply
+        ensures { IsReplied self.old self.new (notification_set self.old.state bits.now) result }
     {
         let runner = self.kept.chain.runner();
-        let bitmap = word_of_halves(low, high);
         let records = self.kept.records.get_mut();
-        done_or_error(records.bitmaps.set(runner, word, flags, bitmap))
+        done_or_error(records.bitmaps.set(runner, bits))
     }
 
     // FFA_NOTIFICATION_GET of the runner.
-    pub(super) fn get(&mut self, word: u32, flags: u32) -> Reply
-        ensures { IsReplied self.old self.new (notification_get self.old.state word flags) result }
+    pub(super) fn get(&mut self, receiver: EndpointId, context: u16, flags: u32) -> Reply
+        ensures { IsReplied self.old self.new (notification_get self.old.state receiver.0 context flags) result }
     {
         let runner = self.kept.chain.runner();
         let records = self.kept.records.get_mut();
-        reply_or_error(records.bitmaps.get(runner, word, flags))
+        reply_or_error(records.bitmaps.get(runner, receiver, context, flags))
     }
 }

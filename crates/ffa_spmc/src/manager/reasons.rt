@@ -17,13 +17,13 @@ ghost use Rattle.ffa_model.specs.Step.{service};
 ghost use Rattle.ffa_model.specs.Why.{granted};
 ghost use Rattle.ffa_spmc.specs.Replies.{fault_in};
 
-use super::{Manager, word_of_halves};
+use super::Manager;
 use crate::storage::Store;
 use ffa_memshare::{DescriptorCall, Draft};
-use ffa_messages::{DirectMessage, check_direct_req, check_direct_resp, check_send2};
+use ffa_messages::{check_direct_req, check_direct_resp, check_send2};
 use ffa_model::{
-    Call, EndpointId, FaultKind, Grant, Home, Kind, Obstacle, Outcome, PageNo, Refusal, Size,
-    Transfer,
+    Call, DirectMessage, EndpointId, FaultKind, Grant, Handle, Home, Kind, NotificationBits,
+    Obstacle, Outcome, PageNo, Refusal, Size, Transfer,
 };
 use ffa_physmem::PhysMem;
 
@@ -43,47 +43,26 @@ impl<M: PhysMem + Drop, S: Store> Manager<M, S> {
             Call::SpmIdGet => None,
             Call::MsgWait => self.wait_refusal(),
             Call::Yield => self.yield_refusal(),
-            Call::Run { target } => self.run_refusal(target),
-            Call::DirectRequest {
-                function,
-                word,
-                flags,
-                payload,
-            } => self.request_refusal(function, word, flags, payload),
-            Call::DirectResponse {
-                function,
-                word,
-                flags,
-                payload,
-            } => self.response_refusal(function, word, flags, payload),
+            Call::Run { target, context } => self.run_refusal(target, context),
+            Call::DirectRequest(message) => self.request_refusal(&message),
+            Call::DirectResponse(message) => self.response_refusal(&message),
             Call::MsgSend2 => self.send_refusal(),
             Call::MemDonate(transfer) => self.offer_refusal(Kind::Donate, transfer),
             Call::MemLend(transfer) => self.offer_refusal(Kind::Lend, transfer),
             Call::MemShare(transfer) => self.offer_refusal(Kind::Share, transfer),
             Call::MemRetrieve(transfer) => self.retrieve_refusal(transfer),
             Call::MemRelinquish => self.relinquish_refusal(),
-            Call::MemReclaim { low, high, flags } => self.reclaim_refusal(low, high, flags),
+            Call::MemReclaim { handle, flags } => self.reclaim_refusal(handle, flags),
             Call::BitmapCreate { endpoint, contexts } => self.create_refusal(endpoint, contexts),
             Call::BitmapDestroy { endpoint } => self.destroy_refusal(endpoint),
-            Call::NotificationBind {
-                word,
+            Call::NotificationBind(bits) => self.bind_refusal(&bits),
+            Call::NotificationUnbind(bits) => self.unbind_refusal(&bits),
+            Call::NotificationSet(bits) => self.set_refusal(&bits),
+            Call::NotificationGet {
+                receiver,
+                context,
                 flags,
-                low,
-                high,
-            } => self.bind_refusal(word, flags, low, high),
-            Call::NotificationUnbind {
-                word,
-                flags,
-                low,
-                high,
-            } => self.unbind_refusal(word, flags, low, high),
-            Call::NotificationSet {
-                word,
-                flags,
-                low,
-                high,
-            } => self.set_refusal(word, flags, low, high),
-            Call::NotificationGet { receiver, flags } => self.get_refusal(receiver, flags),
+            } => self.get_refusal(receiver, context, flags),
             Call::Unknown => Some(Refusal::FunctionUnknown),
         }
     }
@@ -132,49 +111,25 @@ impl<M: PhysMem + Drop, S: Store> Manager<M, S> {
     }
 
     // Of FFA_RUN.
-    fn run_refusal(&self, target: u32) -> Option<Refusal>
-        ensures { result ≡ first_refusal (run_partition self.now.state target).guards }
+    fn run_refusal(&self, target: EndpointId, context: u16) -> Option<Refusal>
+        ensures { result ≡ first_refusal (run_partition self.now.state target.0 context).guards }
     {
-        self.kept.chain.check_run(target).err()
+        self.kept.chain.check_run(target, context).err()
     }
 
     // Of FFA_MSG_SEND_DIRECT_REQ.
-    fn request_refusal(
-        &self,
-        function: u32,
-        word: u32,
-        flags: u32,
-        payload: [u64; 5],
-    ) -> Option<Refusal>
-        ensures { result ≡ first_refusal (direct_request self.now.state function word flags payload).guards }
+    fn request_refusal(&self, message: &DirectMessage) -> Option<Refusal>
+        ensures { result ≡ first_refusal (direct_request self.now.state message.now).guards }
     {
-        let message = DirectMessage {
-            function,
-            word,
-            flags,
-            payload,
-        };
         let records = self.kept.records.get();
-        check_direct_req(&self.kept.chain, &records.manifest, &message).err()
+        check_direct_req(&self.kept.chain, &records.manifest, message).err()
     }
 
     // Of FFA_MSG_SEND_DIRECT_RESP.
-    fn response_refusal(
-        &self,
-        function: u32,
-        word: u32,
-        flags: u32,
-        payload: [u64; 5],
-    ) -> Option<Refusal>
-        ensures { result ≡ first_refusal (direct_response self.now.state function word flags payload).guards }
+    fn response_refusal(&self, message: &DirectMessage) -> Option<Refusal>
+        ensures { result ≡ first_refusal (direct_response self.now.state message.now).guards }
     {
-        let message = DirectMessage {
-            function,
-            word,
-            flags,
-            payload,
-        };
-        check_direct_resp(&self.kept.chain, &message).err()
+        check_direct_resp(&self.kept.chain, message).err()
     }
 
     // Of FFA_MSG_SEND2.
@@ -237,16 +192,15 @@ impl<M: PhysMem + Drop, S: Store> Manager<M, S> {
     }
 
     // Of FFA_MEM_RECLAIM.
-    fn reclaim_refusal(&self, low: u32, high: u32, flags: u32) -> Option<Refusal>
-        ensures { result ≡ first_refusal (memory_reclaim self.now.state low high flags).guards }
+    fn reclaim_refusal(&self, handle: Handle, flags: u32) -> Option<Refusal>
+        ensures { result ≡ first_refusal (memory_reclaim self.now.state handle.0 flags).guards }
     {
         let runner = self.kept.chain.runner();
-        let handle = word_of_halves(low, high);
         let kept = &self.kept;
         let base = kept.records.get().layout.base;
         let found = kept
             .pool
-            .check_reclaim(&kept.pages, base, runner, handle, flags);
+            .check_reclaim(&kept.pages, base, runner, handle.0, flags);
         found.err()
     }
 
@@ -272,48 +226,42 @@ impl<M: PhysMem + Drop, S: Store> Manager<M, S> {
     }
 
     // Of FFA_NOTIFICATION_BIND.
-    fn bind_refusal(&self, word: u32, flags: u32, low: u32, high: u32) -> Option<Refusal>
-        ensures { result ≡ first_refusal (notification_bind self.now.state word flags low high).guards }
+    fn bind_refusal(&self, bits: &NotificationBits) -> Option<Refusal>
+        ensures { result ≡ first_refusal (notification_bind self.now.state bits.now).guards }
     {
         let runner = self.kept.chain.runner();
-        let bitmap = word_of_halves(low, high);
         let records = self.kept.records.get();
-        records
-            .bitmaps
-            .check_bind(runner, word, flags, bitmap)
-            .err()
+        records.bitmaps.check_bind(runner, bits).err()
     }
 
     // Of FFA_NOTIFICATION_UNBIND.
-    fn unbind_refusal(&self, word: u32, flags: u32, low: u32, high: u32) -> Option<Refusal>
-        ensures { result ≡ first_refusal (notification_unbind self.now.state word flags low high).guards }
+    fn unbind_refusal(&self, bits: &NotificationBits) -> Option<Refusal>
+        ensures { result ≡ first_refusal (notification_unbind self.now.state bits.now).guards }
     {
         let runner = self.kept.chain.runner();
-        let bitmap = word_of_halves(low, high);
         let records = self.kept.records.get();
-        records
-            .bitmaps
-            .check_unbind(runner, word, flags, bitmap)
-            .err()
+        records.bitmaps.check_unbind(runner, bits).err()
     }
 
     // Of FFA_NOTIFICATION_SET.
-    fn set_refusal(&self, word: u32, flags: u32, low: u32, high: u32) -> Option<Refusal>
-        ensures { result ≡ first_refusal (notification_set self.now.state word flags low high).guards }
+    fn set_refusal(&self, bits: &NotificationBits) -> Option<Refusal>
+        ensures { result ≡ first_refusal (notification_set self.now.state bits.now).guards }
     {
         let runner = self.kept.chain.runner();
-        let bitmap = word_of_halves(low, high);
         let records = self.kept.records.get();
-        records.bitmaps.check_set(runner, word, flags, bitmap).err()
+        records.bitmaps.check_set(runner, bits).err()
     }
 
     // Of FFA_NOTIFICATION_GET.
-    fn get_refusal(&self, word: u32, flags: u32) -> Option<Refusal>
-        ensures { result ≡ first_refusal (notification_get self.now.state word flags).guards }
+    fn get_refusal(&self, receiver: EndpointId, context: u16, flags: u32) -> Option<Refusal>
+        ensures { result ≡ first_refusal (notification_get self.now.state receiver.0 context flags).guards }
     {
         let runner = self.kept.chain.runner();
         let records = self.kept.records.get();
-        records.bitmaps.check_get(runner, word, flags).err()
+        records
+            .bitmaps
+            .check_get(runner, receiver, context, flags)
+            .err()
     }
 
     // The fault of a load.

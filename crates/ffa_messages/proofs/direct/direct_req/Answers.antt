@@ -7,11 +7,11 @@ use Rattle.ffa_messages.proofs.direct.direct_req.Goals as goal
 
 pub returns-in_err-receiver-clause-refusal : goal.returns-in_err-receiver-clause-refusal
 returns-in_err-receiver-clause-refusal c =
-    answers-code (request_guards (map party_of c.args.manifest.now.endpoints.items) c.args.chain.now c.args.message.now.word c.args.message.now.flags) c.in_err-receiver.field-0.0 c.from_residual.result c.in_err-receiver.ensures.refusal c.from_residual.ensures.1
+    answers-code (request_guards (map party_of c.args.manifest.now.endpoints.items) c.args.chain.now c.args.message.now) c.in_err-receiver.field-0.0 c.from_residual.result c.in_err-receiver.ensures.refusal c.from_residual.ensures.1
 
 pub returns-clause-refusal : goal.returns-clause-refusal
 returns-clause-refusal c =
-    answers-pass (request_guards (map party_of c.args.manifest.now.endpoints.items) c.args.chain.now c.args.message.now.word c.args.message.now.flags) c.in_ok-receiver.ensures.refusal
+    answers-pass (request_guards (map party_of c.args.manifest.now.endpoints.items) c.args.chain.now c.args.message.now) c.in_ok-receiver.ensures.refusal
 
 pub returns-clause-changed : goal.returns-clause-changed
 returns-clause-changed c = search rules

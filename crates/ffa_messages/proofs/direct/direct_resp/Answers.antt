@@ -5,7 +5,7 @@ use Rattle.ffa_messages.proofs.direct.direct_resp.Goals as goal
 
 pub returns-in_err-check_direct_resp-clause-refusal : goal.returns-in_err-check_direct_resp-clause-refusal
 returns-in_err-check_direct_resp-clause-refusal c =
-    answers-code (response_guards c.args.chain.now c.args.message.now.word c.args.message.now.flags) c.in_err-check_direct_resp.field-0.0 c.from_residual.result c.in_err-check_direct_resp.ensures.refusal c.from_residual.ensures.1
+    answers-code (response_guards c.args.chain.now c.args.message.now) c.in_err-check_direct_resp.field-0.0 c.from_residual.result c.in_err-check_direct_resp.ensures.refusal c.from_residual.ensures.1
 
 pub returns-clause-refusal : goal.returns-clause-refusal
-returns-clause-refusal c = answers-pass (response_guards c.args.chain.now c.args.message.now.word c.args.message.now.flags) c.in_ok-check_direct_resp.ensures.refusal
+returns-clause-refusal c = answers-pass (response_guards c.args.chain.now c.args.message.now) c.in_ok-check_direct_resp.ensures.refusal

@@ -7,11 +7,11 @@ use Rattle.ffa_notify.proofs.bitmaps.Bitmaps.set.Goals as goal
 
 pub returns-in_err-check_set-clause-refusal : goal.returns-in_err-check_set-clause-refusal
 returns-in_err-check_set-clause-refusal c =
-    answers-code (set_guards (length c.args.self.now.bitmaps) c.args.self.now c.args.caller.0 c.args.word c.args.flags c.args.bitmap) c.in_err-check_set.field-0.0 c.from_residual.result c.in_err-check_set.ensures.refusal c.from_residual.ensures.1
+    answers-code (set_guards (length c.args.self.now.bitmaps) c.args.self.now c.args.caller.0 c.args.bits.now) c.in_err-check_set.field-0.0 c.from_residual.result c.in_err-check_set.ensures.refusal c.from_residual.ensures.1
 
 pub returns-clause-refusal : goal.returns-clause-refusal
-returns-clause-refusal c = answers-pass (set_guards (length c.args.self.now.bitmaps) c.args.self.now c.args.caller.0 c.args.word c.args.flags c.args.bitmap) c.in_ok-check_set.ensures.refusal
+returns-clause-refusal c = answers-pass (set_guards (length c.args.self.now.bitmaps) c.args.self.now c.args.caller.0 c.args.bits.now) c.in_ok-check_set.ensures.refusal
 
 pub returns-clause-pending : goal.returns-clause-pending
 returns-clause-pending c =
-    c.set_bits.ensures ∙ (λ t. with_pending c.args.self.now (c.in_low_half.ensures t) (c.of.ensures t) (bits_of c.args.bitmap))
+    c.set_bits.ensures ∙ (λ t. with_pending c.args.self.now c.args.bits.now.receiver.0 (c.of.ensures t) (bits_of c.args.bits.now.bitmap))

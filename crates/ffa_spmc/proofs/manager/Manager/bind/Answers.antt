@@ -27,8 +27,8 @@ invariant_of-self g c =
     let machine = machine-alike old (sym c.get_mut-records.ensures.value) c.self.invariant in
     let y : Parts = record x { kept = record x.kept { bitmaps = c.bind.new.self } } in
     machine-alike y (sym (g.met.S.Records.Home.written c.self.inside.kept.records (records_of y)))
-    (machine-notified x machine c.bind.new.self _ (NotificationBind c.args.word c.args.flags c.args.low c.args.high)
-    (bound x machine c.runner-runner.result.0 c.runner-runner.ensures.runner c.bind.result c.bind.new.self c.args.word c.args.flags c.args.low c.args.high c.word_of_halves-bitmap.result c.word_of_halves-bitmap.ensures c.bind.ensures.kept c.bind.ensures.refusal c.bind.ensures.bound))
+    (machine-notified x machine c.bind.new.self _ (NotificationBind c.args.bits.now)
+    (bound x machine c.runner-runner.result.0 c.runner-runner.ensures.runner c.bind.result c.bind.new.self c.args.bits.now c.bind.ensures.kept c.bind.ensures.refusal c.bind.ensures.bound))
 
 pub returns : goal.returns
 returns g c =
@@ -38,8 +38,8 @@ returns g c =
     let view = view-alike old (sym c.get_mut-records.ensures.value) c.self.view_is in
     let y : Parts = record x { kept = record x.kept { bitmaps = c.bind.new.self } } in
     replied-alike y (sym (g.met.S.Records.Home.written c.self.inside.kept.records (records_of y)))
-    (replied-beside x y c.args.self.now view (λ (s : State). notification_bind s c.args.word c.args.flags c.args.low c.args.high) c.done_or_error.result
+    (replied-beside x y c.args.self.now view (λ (s : State). notification_bind s c.args.bits.now) c.done_or_error.result
     (ap (λ (reply : Reply). replied (with_bits x c.bind.new.self) reply) c.done_or_error.ensures
-    ∙ bound x machine c.runner-runner.result.0 c.runner-runner.ensures.runner c.bind.result c.bind.new.self c.args.word c.args.flags c.args.low c.args.high c.word_of_halves-bitmap.result c.word_of_halves-bitmap.ensures c.bind.ensures.kept c.bind.ensures.refusal c.bind.ensures.bound)
+    ∙ bound x machine c.runner-runner.result.0 c.runner-runner.ensures.runner c.bind.result c.bind.new.self c.args.bits.now c.bind.ensures.kept c.bind.ensures.refusal c.bind.ensures.bound)
     (refused-done c.bind.result c.done_or_error.result c.done_or_error.ensures (refused-so c.bind.result (ap (λ (bitmaps : Notifications). record x { kept = record x.kept { bitmaps = bitmaps } })) c.bind.ensures.kept))
     refl)

@@ -13,8 +13,8 @@ returns g c =
     let x = with_records old c.get-records.result.now in
     let machine = machine-alike old (sym c.get-records.ensures) c.self.invariant in
     let view = view-alike old (sym c.get-records.ensures) c.self.view_is in
-    seen-refusal x c.args.self.now view (λ (s : State). notification_bind s c.args.word c.args.flags c.args.low c.args.high) c.err.result
-    (c.err.ensures.value ∙ c.check_bind.ensures.refusal ∙ bind-checked x machine c.runner-runner.result.0 c.runner-runner.ensures.runner c.args.word c.args.flags c.args.low c.args.high c.word_of_halves-bitmap.result c.word_of_halves-bitmap.ensures)
+    seen-refusal x c.args.self.now view (λ (s : State). notification_bind s c.args.bits.now) c.err.result
+    (c.err.ensures.value ∙ c.check_bind.ensures.refusal ∙ bind-checked x machine c.runner-runner.result.0 c.runner-runner.ensures.runner c.args.bits.now)
 
 pub check_bind-requires : goal.check_bind-requires
 check_bind-requires g c =

@@ -27,8 +27,8 @@ invariant_of-self g c =
     let machine = machine-alike old (sym c.get_mut-records.ensures.value) c.self.invariant in
     let y : Parts = record x { kept = record x.kept { bitmaps = c.get.new.self } } in
     machine-alike y (sym (g.met.S.Records.Home.written c.self.inside.kept.records (records_of y)))
-    (machine-notified x machine c.get.new.self _ (NotificationGet c.args.word c.args.flags)
-    (got x machine c.runner-runner.result.0 c.runner-runner.ensures.runner c.get.result c.get.new.self c.args.word c.args.flags c.get.ensures.refusal c.get.ensures.reply c.get.ensures.kept c.get.ensures.cleared))
+    (machine-notified x machine c.get.new.self _ (NotificationGet c.args.receiver c.args.context c.args.flags)
+    (got x machine c.runner-runner.result.0 c.runner-runner.ensures.runner c.get.result c.get.new.self c.args.receiver.0 c.args.context c.args.flags c.get.ensures.refusal c.get.ensures.reply c.get.ensures.kept c.get.ensures.cleared))
 
 pub returns : goal.returns
 returns g c =
@@ -38,8 +38,8 @@ returns g c =
     let view = view-alike old (sym c.get_mut-records.ensures.value) c.self.view_is in
     let y : Parts = record x { kept = record x.kept { bitmaps = c.get.new.self } } in
     replied-alike y (sym (g.met.S.Records.Home.written c.self.inside.kept.records (records_of y)))
-    (replied-beside x y c.args.self.now view (λ (s : State). notification_get s c.args.word c.args.flags) c.reply_or_error.result
+    (replied-beside x y c.args.self.now view (λ (s : State). notification_get s c.args.receiver.0 c.args.context c.args.flags) c.reply_or_error.result
     (ap (λ (reply : Reply). replied (with_bits x c.get.new.self) reply) c.reply_or_error.ensures
-    ∙ got x machine c.runner-runner.result.0 c.runner-runner.ensures.runner c.get.result c.get.new.self c.args.word c.args.flags c.get.ensures.refusal c.get.ensures.reply c.get.ensures.kept c.get.ensures.cleared)
+    ∙ got x machine c.runner-runner.result.0 c.runner-runner.ensures.runner c.get.result c.get.new.self c.args.receiver.0 c.args.context c.args.flags c.get.ensures.refusal c.get.ensures.reply c.get.ensures.kept c.get.ensures.cleared)
     (refused-replied c.get.result c.reply_or_error.result _ c.reply_or_error.ensures c.get.ensures.reply refl (refused-so c.get.result (ap (λ (bitmaps : Notifications). record x { kept = record x.kept { bitmaps = bitmaps } })) c.get.ensures.kept))
     refl)

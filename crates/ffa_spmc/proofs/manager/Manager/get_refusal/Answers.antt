@@ -12,5 +12,5 @@ returns g c =
     let x = with_records old c.get-records.result.now in
     let machine = machine-alike old (sym c.get-records.ensures) c.self.invariant in
     let view = view-alike old (sym c.get-records.ensures) c.self.view_is in
-    seen-refusal x c.args.self.now view (λ (s : State). notification_get s c.args.word c.args.flags) c.err.result
-    (c.err.ensures.value ∙ c.check_get.ensures.refusal ∙ get-checked x machine c.runner-runner.result.0 c.runner-runner.ensures.runner c.args.word c.args.flags)
+    seen-refusal x c.args.self.now view (λ (s : State). notification_get s c.args.receiver.0 c.args.context c.args.flags) c.err.result
+    (c.err.ensures.value ∙ c.check_get.ensures.refusal ∙ get-checked x machine c.runner-runner.result.0 c.runner-runner.ensures.runner c.args.receiver.0 c.args.context c.args.flags)

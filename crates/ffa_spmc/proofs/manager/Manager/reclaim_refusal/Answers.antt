@@ -14,8 +14,8 @@ returns g c =
     let x = with_records old c.get.result.now in
     let machine = machine-alike old (sym c.get.ensures) c.self.invariant in
     let view = view-alike old (sym c.get.ensures) c.self.view_is in
-    seen-refusal x c.args.self.now view (λ (s : State). memory_reclaim s c.args.low c.args.high c.args.flags) c.err.result
-    (c.err.ensures.value ∙ c.check_reclaim-found.ensures.refusal ∙ reclaim-checked x machine c.runner-runner.result.0 c.runner-runner.ensures.runner c.args.low c.args.high c.args.flags c.word_of_halves-handle.result c.word_of_halves-handle.ensures)
+    seen-refusal x c.args.self.now view (λ (s : State). memory_reclaim s c.args.handle.0 c.args.flags) c.err.result
+    (c.err.ensures.value ∙ c.check_reclaim-found.ensures.refusal ∙ reclaim-checked x machine c.runner-runner.result.0 c.runner-runner.ensures.runner c.args.handle.0 c.args.flags)
 
 pub check_reclaim-found-requires : goal.check_reclaim-found-requires
 check_reclaim-found-requires g c =

@@ -27,8 +27,7 @@ invariant_of-self g c =
     let machine = machine-alike old (sym c.get-records.ensures) c.self.invariant in
     let y : Parts = record x { ram = g.M.PhysMem.ram c.reclaim.new.ram; kept = record x.kept { pages = c.reclaim.new.pages; pool = c.reclaim.new.self } } in
     machine-alike y c.get-records.ensures
-    (reclaim-machine x machine c.runner-runner.result.0 c.runner-runner.ensures.runner c.args.low c.args.high c.args.flags
-    c.word_of_halves-handle.result c.word_of_halves-handle.ensures
+    (reclaim-machine x machine c.runner-runner.result.0 c.runner-runner.ensures.runner c.args.handle.0 c.args.flags
     (g.M.PhysMem.ram c.reclaim.new.ram) c.reclaim.new.pages c.reclaim.new.self c.reclaim.result c.reclaim.ensures.refusal
     c.reclaim.ensures.kept c.reclaim.ensures.kept_pages c.reclaim.ensures.kept_ram
     c.reclaim.ensures.slot c.reclaim.ensures.open_transactions c.reclaim.ensures.ram c.reclaim.ensures.pages c.reclaim.ensures.changed)
@@ -41,11 +40,10 @@ returns-clause-done g c =
     let view = view-alike old (sym c.get-records.ensures) c.self.view_is in
     let y : Parts = record x { ram = g.M.PhysMem.ram c.reclaim.new.ram; kept = record x.kept { pages = c.reclaim.new.pages; pool = c.reclaim.new.self } } in
     told-alike y c.get-records.ensures
-    (told-with x y c.args.self.now view (λ (s : State). memory_reclaim s c.args.low c.args.high c.args.flags) c.returned.result (result_ok c.reclaim.result)
+    (told-with x y c.args.self.now view (λ (s : State). memory_reclaim s c.args.handle.0 c.args.flags) c.returned.result (result_ok c.reclaim.result)
     (g.M.PhysMem.past c.reclaim.new.ram)
     (ap (λ (reply : Reply). replied (state_of y) reply) c.returned.ensures.reply
-    ∙ reclaim-served x machine c.runner-runner.result.0 c.runner-runner.ensures.runner c.args.low c.args.high c.args.flags
-    c.word_of_halves-handle.result c.word_of_halves-handle.ensures
+    ∙ reclaim-served x machine c.runner-runner.result.0 c.runner-runner.ensures.runner c.args.handle.0 c.args.flags
     (g.M.PhysMem.ram c.reclaim.new.ram) c.reclaim.new.pages c.reclaim.new.self c.reclaim.result c.reclaim.ensures.refusal
     c.reclaim.ensures.kept c.reclaim.ensures.kept_pages c.reclaim.ensures.kept_ram
     c.reclaim.ensures.slot c.reclaim.ensures.open_transactions c.reclaim.ensures.ram c.reclaim.ensures.pages c.reclaim.ensures.changed)
@@ -53,15 +51,13 @@ returns-clause-done g c =
     (kept-memory x c.reclaim.result (g.M.PhysMem.ram c.reclaim.new.ram) c.reclaim.new.pages c.reclaim.new.self
     c.reclaim.ensures.kept_ram c.reclaim.ensures.kept_pages c.reclaim.ensures.kept))
     (refused-done c.reclaim.result c.returned.result.reply c.returned.ensures.reply c.reclaim.ensures.kept_past)
-    (reclaim-unowned x machine c.runner-runner.result.0 c.runner-runner.ensures.runner c.args.low c.args.high c.args.flags
-    c.word_of_halves-handle.result c.word_of_halves-handle.ensures
+    (reclaim-unowned x machine c.runner-runner.result.0 c.runner-runner.ensures.runner c.args.handle.0 c.args.flags
     (g.M.PhysMem.ram c.reclaim.new.ram) c.reclaim.new.pages c.reclaim.new.self c.reclaim.result c.reclaim.ensures.refusal
     c.reclaim.ensures.kept c.reclaim.ensures.kept_pages c.reclaim.ensures.kept_ram
     c.reclaim.ensures.slot c.reclaim.ensures.open_transactions c.reclaim.ensures.ram c.reclaim.ensures.pages c.reclaim.ensures.changed)
     (moments-of x machine (g.M.PhysMem.ram c.reclaim.new.ram) _ _ c.reclaim.ensures.steps c.reclaim.ensures.ended)
     c.returned.ensures.changed
-    (reclaim-changes x machine c.runner-runner.result.0 c.runner-runner.ensures.runner c.args.low c.args.high c.args.flags
-    c.word_of_halves-handle.result c.word_of_halves-handle.ensures
+    (reclaim-changes x machine c.runner-runner.result.0 c.runner-runner.ensures.runner c.args.handle.0 c.args.flags
     (g.M.PhysMem.ram c.reclaim.new.ram) c.reclaim.new.pages c.reclaim.new.self c.reclaim.result c.reclaim.ensures.refusal
     c.reclaim.ensures.kept c.reclaim.ensures.kept_pages c.reclaim.ensures.kept_ram
     c.reclaim.ensures.slot c.reclaim.ensures.open_transactions c.reclaim.ensures.ram c.reclaim.ensures.pages c.reclaim.ensures.changed)

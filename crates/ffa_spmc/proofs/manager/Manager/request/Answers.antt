@@ -6,7 +6,6 @@ use Rattle.ffa_model.specs.Calls.{Stepped, replied}
 use Rattle.ffa_spmc.specs.Meaning.{Parts, state_of}
 use Rattle.ffa_spmc.proofs.Machines.{machine-called}
 use Rattle.std.specs.Prelude.{List}
-use Rattle.ffa_model.specs.Bits.{low_half}
 use Rattle.ffa_model.specs.Calls.{first_failure}
 use Rattle.ffa_model.specs.RunStates.{direct_request, request_guards, requested}
 use Rattle.ffa_model.specs.State.{Party}
@@ -26,8 +25,8 @@ invariant_of-self g c =
     let machine = machine-alike old (sym c.get-records.ensures) c.self.invariant in
     let y : Parts = record x { kept = record x.kept { chain = c.direct_req.new.chain } } in
     machine-alike y c.get-records.ensures
-    (machine-called x x.ram x.kept.buffers c.direct_req.new.chain machine machine.tables (DirectRequest c.args.function c.args.word c.args.flags c.args.payload)
-    (ap (λ (st : Stepped). st.state) (scheduled x (direct_request (state_of x) c.args.function c.args.word c.args.flags c.args.payload) (requested x.kept.chain (low_half c.args.word)) c.direct_req.new.chain c.direct_req.result refl (c.direct_req.ensures.refusal ∙ ap (λ (parties : List Party). first_failure (request_guards parties x.kept.chain c.args.word c.args.flags)) (parties-listed x)) c.direct_req.ensures.kept c.direct_req.ensures.changed c.direct_req.ensures.reply)))
+    (machine-called x x.ram x.kept.buffers c.direct_req.new.chain machine machine.tables (DirectRequest c.args.message.now)
+    (ap (λ (st : Stepped). st.state) (scheduled x (direct_request (state_of x) c.args.message.now) (requested x.kept.chain c.args.message.now.receiver.0) c.direct_req.new.chain c.direct_req.result refl (c.direct_req.ensures.refusal ∙ ap (λ (parties : List Party). first_failure (request_guards parties x.kept.chain c.args.message.now)) (parties-listed x)) c.direct_req.ensures.kept c.direct_req.ensures.changed c.direct_req.ensures.reply)))
 
 pub returns : goal.returns
 returns g c =
@@ -36,9 +35,9 @@ returns g c =
     let view = view-alike old (sym c.get-records.ensures) c.self.view_is in
     let y : Parts = record x { kept = record x.kept { chain = c.direct_req.new.chain } } in
     replied-alike y c.get-records.ensures
-    (replied-beside x y c.args.self.now view (λ (s : State). direct_request s c.args.function c.args.word c.args.flags c.args.payload) c.reply_or_error.result
+    (replied-beside x y c.args.self.now view (λ (s : State). direct_request s c.args.message.now) c.reply_or_error.result
     (ap (λ (reply : Reply). replied (with_chain x c.direct_req.new.chain) reply) c.reply_or_error.ensures
-    ∙ scheduled x (direct_request (state_of x) c.args.function c.args.word c.args.flags c.args.payload) (requested x.kept.chain (low_half c.args.word)) c.direct_req.new.chain c.direct_req.result refl (c.direct_req.ensures.refusal ∙ ap (λ (parties : List Party). first_failure (request_guards parties x.kept.chain c.args.word c.args.flags)) (parties-listed x)) c.direct_req.ensures.kept c.direct_req.ensures.changed c.direct_req.ensures.reply)
+    ∙ scheduled x (direct_request (state_of x) c.args.message.now) (requested x.kept.chain c.args.message.now.receiver.0) c.direct_req.new.chain c.direct_req.result refl (c.direct_req.ensures.refusal ∙ ap (λ (parties : List Party). first_failure (request_guards parties x.kept.chain c.args.message.now)) (parties-listed x)) c.direct_req.ensures.kept c.direct_req.ensures.changed c.direct_req.ensures.reply)
     (refused-replied c.direct_req.result c.reply_or_error.result _ c.reply_or_error.ensures c.direct_req.ensures.reply c.requires (refused-so c.direct_req.result (ap (λ (chain : Schedule). record x { kept = record x.kept { chain = chain } })) c.direct_req.ensures.kept))
     refl)
 

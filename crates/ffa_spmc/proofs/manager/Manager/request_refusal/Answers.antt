@@ -16,5 +16,5 @@ returns g c =
     let old = parts_of g.M.PhysMem.ram g.S.Records.Home.value c.self.inside in
     let x = with_records old c.get-records.result.now in
     let view = view-alike old (sym c.get-records.ensures) c.self.view_is in
-    seen-refusal x c.args.self.now view (λ (s : State). direct_request s c.args.function c.args.word c.args.flags c.args.payload) c.err.result
-    (c.err.ensures.value ∙ c.check_direct_req.ensures.refusal ∙ ap (λ (parties : List Party). first_refusal (request_guards parties x.kept.chain c.args.word c.args.flags)) (parties-listed x))
+    seen-refusal x c.args.self.now view (λ (s : State). direct_request s c.args.message.now) c.err.result
+    (c.err.ensures.value ∙ c.check_direct_req.ensures.refusal ∙ ap (λ (parties : List Party). first_refusal (request_guards parties x.kept.chain c.args.message.now)) (parties-listed x))

@@ -9,5 +9,5 @@ use Rattle.ffa_spmc.proofs.manager.Manager.response_refusal.Goals as goal
 pub returns : goal.returns
 returns g c =
     let x = parts_of g.M.PhysMem.ram g.S.Records.Home.value c.self.inside in
-    seen-refusal x c.args.self.now c.self.view_is (λ (s : State). direct_response s c.args.function c.args.word c.args.flags c.args.payload) c.err.result
+    seen-refusal x c.args.self.now c.self.view_is (λ (s : State). direct_response s c.args.message.now) c.err.result
     (c.err.ensures.value ∙ c.check_direct_resp.ensures.refusal)

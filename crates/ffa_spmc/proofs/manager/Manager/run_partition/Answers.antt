@@ -6,7 +6,6 @@ use Rattle.ffa_model.specs.Calls.{Stepped, replied}
 use Rattle.ffa_spmc.specs.Meaning.{state_of}
 use Rattle.ffa_spmc.proofs.Machines.{machine-called}
 use Rattle.std.specs.Prelude.{ℕ}
-use Rattle.ffa_model.specs.Bits.{high_half}
 use Rattle.ffa_model.specs.Calls.{first_failure}
 use Rattle.ffa_model.specs.RunStates.{given_cycles, run_guards, run_partition, status_in}
 use Rattle.ffa_spmc.proofs.Held.{counted, parties_are}
@@ -21,14 +20,14 @@ use Rattle.ffa_spmc.proofs.manager.Manager.run_partition.Goals as goal
 pub invariant_of-self : goal.invariant_of-self
 invariant_of-self g c =
     let x = parts_of g.M.PhysMem.ram g.S.Records.Home.value c.self.inside in
-    machine-called x x.ram x.kept.buffers c.run.new.self c.self.invariant c.self.invariant.tables (Run c.args.target)
-    (ap (λ (st : Stepped). st.state) (scheduled x (run_partition (state_of x) c.args.target) (given_cycles x.kept.chain (high_half c.args.target) (status_in x.kept.chain (high_half c.args.target))) c.run.new.self c.run.result refl (c.run.ensures.refusal ∙ ap (λ (n : ℕ). first_failure (run_guards n x.kept.chain c.args.target)) (counted x c.self.invariant ∙ sym (parties_are x))) c.run.ensures.kept c.run.ensures.changed c.run.ensures.reply))
+    machine-called x x.ram x.kept.buffers c.run.new.self c.self.invariant c.self.invariant.tables (Run c.args.target c.args.context)
+    (ap (λ (st : Stepped). st.state) (scheduled x (run_partition (state_of x) c.args.target.0 c.args.context) (given_cycles x.kept.chain c.args.target.0 (status_in x.kept.chain c.args.target.0)) c.run.new.self c.run.result refl (c.run.ensures.refusal ∙ ap (λ (n : ℕ). first_failure (run_guards n x.kept.chain c.args.target.0 c.args.context)) (counted x c.self.invariant ∙ sym (parties_are x))) c.run.ensures.kept c.run.ensures.changed c.run.ensures.reply))
 
 pub returns : goal.returns
 returns g c =
     let x = parts_of g.M.PhysMem.ram g.S.Records.Home.value c.self.inside in
-    replied-beside x (record x { kept = record x.kept { chain = c.run.new.self } }) c.args.self.now c.self.view_is (λ (s : State). run_partition s c.args.target) c.reply_or_error.result
+    replied-beside x (record x { kept = record x.kept { chain = c.run.new.self } }) c.args.self.now c.self.view_is (λ (s : State). run_partition s c.args.target.0 c.args.context) c.reply_or_error.result
     (ap (λ (reply : Reply). replied (with_chain x c.run.new.self) reply) c.reply_or_error.ensures
-    ∙ scheduled x (run_partition (state_of x) c.args.target) (given_cycles x.kept.chain (high_half c.args.target) (status_in x.kept.chain (high_half c.args.target))) c.run.new.self c.run.result refl (c.run.ensures.refusal ∙ ap (λ (n : ℕ). first_failure (run_guards n x.kept.chain c.args.target)) (counted x c.self.invariant ∙ sym (parties_are x))) c.run.ensures.kept c.run.ensures.changed c.run.ensures.reply)
-    (refused-replied c.run.result c.reply_or_error.result _ c.reply_or_error.ensures c.run.ensures.reply (run-plain c.args.target (status_in x.kept.chain (high_half c.args.target))) (refused-so c.run.result (ap (λ (chain : Schedule). record x { kept = record x.kept { chain = chain } })) c.run.ensures.kept))
+    ∙ scheduled x (run_partition (state_of x) c.args.target.0 c.args.context) (given_cycles x.kept.chain c.args.target.0 (status_in x.kept.chain c.args.target.0)) c.run.new.self c.run.result refl (c.run.ensures.refusal ∙ ap (λ (n : ℕ). first_failure (run_guards n x.kept.chain c.args.target.0 c.args.context)) (counted x c.self.invariant ∙ sym (parties_are x))) c.run.ensures.kept c.run.ensures.changed c.run.ensures.reply)
+    (refused-replied c.run.result c.reply_or_error.result _ c.reply_or_error.ensures c.run.ensures.reply (run-plain c.args.target.0 (status_in x.kept.chain c.args.target.0)) (refused-so c.run.result (ap (λ (chain : Schedule). record x { kept = record x.kept { chain = chain } })) c.run.ensures.kept))
     refl

@@ -13,5 +13,5 @@ use Rattle.ffa_spmc.proofs.manager.Manager.run_refusal.Goals as goal
 pub returns : goal.returns
 returns g c =
     let x = parts_of g.M.PhysMem.ram g.S.Records.Home.value c.self.inside in
-    seen-refusal x c.args.self.now c.self.view_is (λ (s : State). run_partition s c.args.target) c.err.result
-    (c.err.ensures.value ∙ c.check_run.ensures.refusal ∙ ap (λ (n : ℕ). first_refusal (run_guards n x.kept.chain c.args.target)) (counted x c.self.invariant ∙ sym (parties_are x)))
+    seen-refusal x c.args.self.now c.self.view_is (λ (s : State). run_partition s c.args.target.0 c.args.context) c.err.result
+    (c.err.ensures.value ∙ c.check_run.ensures.refusal ∙ ap (λ (n : ℕ). first_refusal (run_guards n x.kept.chain c.args.target.0 c.args.context)) (counted x c.self.invariant ∙ sym (parties_are x)))

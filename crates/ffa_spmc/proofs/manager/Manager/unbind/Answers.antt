@@ -27,8 +27,8 @@ invariant_of-self g c =
     let machine = machine-alike old (sym c.get_mut-records.ensures.value) c.self.invariant in
     let y : Parts = record x { kept = record x.kept { bitmaps = c.unbind.new.self } } in
     machine-alike y (sym (g.met.S.Records.Home.written c.self.inside.kept.records (records_of y)))
-    (machine-notified x machine c.unbind.new.self _ (NotificationUnbind c.args.word c.args.flags c.args.low c.args.high)
-    (unbound x machine c.runner-runner.result.0 c.runner-runner.ensures.runner c.unbind.result c.unbind.new.self c.args.word c.args.flags c.args.low c.args.high c.word_of_halves-bitmap.result c.word_of_halves-bitmap.ensures c.unbind.ensures.kept c.unbind.ensures.refusal c.unbind.ensures.unbound))
+    (machine-notified x machine c.unbind.new.self _ (NotificationUnbind c.args.bits.now)
+    (unbound x machine c.runner-runner.result.0 c.runner-runner.ensures.runner c.unbind.result c.unbind.new.self c.args.bits.now c.unbind.ensures.kept c.unbind.ensures.refusal c.unbind.ensures.unbound))
 
 pub returns : goal.returns
 returns g c =
@@ -38,8 +38,8 @@ returns g c =
     let view = view-alike old (sym c.get_mut-records.ensures.value) c.self.view_is in
     let y : Parts = record x { kept = record x.kept { bitmaps = c.unbind.new.self } } in
     replied-alike y (sym (g.met.S.Records.Home.written c.self.inside.kept.records (records_of y)))
-    (replied-beside x y c.args.self.now view (λ (s : State). notification_unbind s c.args.word c.args.flags c.args.low c.args.high) c.done_or_error.result
+    (replied-beside x y c.args.self.now view (λ (s : State). notification_unbind s c.args.bits.now) c.done_or_error.result
     (ap (λ (reply : Reply). replied (with_bits x c.unbind.new.self) reply) c.done_or_error.ensures
-    ∙ unbound x machine c.runner-runner.result.0 c.runner-runner.ensures.runner c.unbind.result c.unbind.new.self c.args.word c.args.flags c.args.low c.args.high c.word_of_halves-bitmap.result c.word_of_halves-bitmap.ensures c.unbind.ensures.kept c.unbind.ensures.refusal c.unbind.ensures.unbound)
+    ∙ unbound x machine c.runner-runner.result.0 c.runner-runner.ensures.runner c.unbind.result c.unbind.new.self c.args.bits.now c.unbind.ensures.kept c.unbind.ensures.refusal c.unbind.ensures.unbound)
     (refused-done c.unbind.result c.done_or_error.result c.done_or_error.ensures (refused-so c.unbind.result (ap (λ (bitmaps : Notifications). record x { kept = record x.kept { bitmaps = bitmaps } })) c.unbind.ensures.kept))
     refl)

@@ -1,15 +1,14 @@
 // SPDX-License-Identifier: MIT OR Apache-2.0
-//! Which bit fails a check of the bits that a call names.
+//! Which bit fails a check of the bits that a call names. Only who asks why a call was refused asks this: no call does.
 ghost use Rattle.std.specs.Prelude.{◌≡◌, ℕ, true, find, length};
 ghost use Rattle.std.specs.Option.{option_map};
 ghost use Rattle.ffa_model.specs.declared.why.About.TheVariants.{Bit};
 ghost use Rattle.ffa_model.specs.AboutContents.{about_bind, about_bits, about_set, about_unbind};
-ghost use Rattle.ffa_model.specs.Bits.{high_half, is_set, low_half, word_of_halves};
+ghost use Rattle.ffa_model.specs.Bits.{is_set};
 ghost use Rattle.ffa_model.specs.Lists.{listed};
 ghost use Rattle.ffa_model.specs.State.{is_known_among};
 
 use crate::bitmaps::Bitmaps;
-use crate::words::word_of_halves;
 use ffa_model::{About, Call, EndpointId, Refusal};
 
 impl Bitmaps {
@@ -20,33 +19,24 @@ impl Bitmaps {
         ensures { result ≡ about_bits (length self.now.bitmaps) self.now caller.0 call.now refusal }
     {
         match *call {
-            Call::NotificationBind {
-                word,
-                low,
-                high,
-                ..
-            } => {
-                let sender = EndpointId::in_high_half(word);
-                self.about_bind(caller, sender, word_of_halves(low, high), refusal)
-            }
-            Call::NotificationUnbind {
-                word,
-                low,
-                high,
-                ..
-            } => {
-                let sender = EndpointId::in_high_half(word);
-                self.about_unbind(caller, sender, word_of_halves(low, high), refusal)
-            }
-            Call::NotificationSet {
-                word,
-                low,
-                high,
-                ..
-            } => {
-                let receiver = EndpointId::in_low_half(word);
-                self.about_set(caller, receiver, word_of_halves(low, high), refusal)
-            }
+            Call::NotificationBind(bits) => self.about_bind(
+                caller,
+                bits.sender,
+                bits.bitmap,
+                refusal,
+            ),
+            Call::NotificationUnbind(bits) => self.about_unbind(
+                caller,
+                bits.sender,
+                bits.bitmap,
+                refusal,
+            ),
+            Call::NotificationSet(bits) => self.about_set(
+                caller,
+                bits.receiver,
+                bits.bitmap,
+                refusal,
+            ),
             _ => None,
         }
     }

@@ -10,7 +10,7 @@ use Rattle.ffa_rxtx.specs.Stored.{buffers_of}
 use Rattle.ffa_messages.specs.Parts.{header_of}
 use Rattle.ffa_messages.proofs.Known.{known_with_buffers}
 use Rattle.ffa_messages.proofs.Refusals.{refused-ends, refused-header}
-use Rattle.ffa_messages.proofs.indirect.check_send2.Goals as goal
+use Rattle.ffa_messages.proofs.checks.check_send2.Goals as goal
 
 pub read_header-header-requires : goal.read_header-header-requires
 read_header-header-requires g c = c.requires (place c.args.caller.0) (buffers_of c.in-Some.from) (sym c.in-Some.ensures)

@@ -1,6 +1,6 @@
 -- SPDX-License-Identifier: MIT OR Apache-2.0
 use Rattle.std.proofs.Common.{rules}
-use Rattle.ffa_schedule.proofs.chain.given_back.Goals as goal
+use Rattle.ffa_messages.proofs.direct.reply_of.Goals as goal
 
 pub returns : goal.returns
 returns c = search rules

@@ -2,7 +2,7 @@
 use Rattle.std.proofs.Common.{◌∙◌, ap, [], ◌∷◌}
 use Rattle.ffa_model.specs.Bits.{bits}
 use Rattle.ffa_model.specs.declared.call.Reply.TheVariants.{Success}
-use Rattle.ffa_notify.proofs.bitmaps.Bitmaps.asked.Goals as goal
+use Rattle.ffa_notify.proofs.bitmaps.Bitmaps.pending_reply.Goals as goal
 
 pub returns : goal.returns
 returns c = λ t.

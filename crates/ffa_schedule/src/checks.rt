@@ -1,0 +1,74 @@
+// SPDX-License-Identifier: MIT OR Apache-2.0
+//! The checks of the calls on run states, each of which names the first that fails (DEN0077A, 8.2).
+ghost use Rattle.std.specs.Prelude.{◌≡◌, ◌||◌, length, Some, OnOk, IfOk};
+ghost use Rattle.std.specs.Result.{result_err};
+ghost use Rattle.ffa_model.specs.Calls.{first_refusal};
+ghost use Rattle.ffa_model.specs.declared.schedule.Work.TheVariants.{Run};
+ghost use Rattle.ffa_model.specs.RunStates.{is_endpoint, is_run, requester, run_guards, wait_guards, work_in, yield_guards};
+ghost use Rattle.ffa_model.specs.Sound.{IsSound, origin};
+
+use crate::chain::Chain;
+use ffa_model::{EndpointId, Refusal, Status, Work};
+
+impl Chain {
+    /// The checks of FFA_RUN in order: the first that fails.
+    pub fn check_run(&self, target: EndpointId, context: u16) -> Result<(), Refusal>
+        ensures refusal { result_err result ≡ first_refusal (run_guards (length self.now.works) self.now target.0 context) }
+        ensures sound { IsSound self.now }
+    {
+        if self.runner() != EndpointId::NORMAL_WORLD {
+            return Err(Refusal::NotNormalWorld);
+        }
+        if !target.is_partition_among(self.works.len()) {
+            return Err(Refusal::TargetUnknown);
+        }
+        if context != 0 {
+            return Err(Refusal::ContextUnknown);
+        }
+        match self.status(target) {
+            Status::Waiting | Status::Yielded => Ok(()),
+            Status::Running | Status::Blocked => Err(Refusal::TargetNotReady),
+        }
+    }
+
+    /// The check of FFA_MSG_WAIT, which fails where the normal world didn't give the runner cycles.
+    pub fn check_wait(&self) -> Result<(), Refusal>
+        ensures refusal { result_err result ≡ first_refusal (wait_guards self.now) }
+        ensures work { OnOk result (work_in self.now self.now.runner ≡ Some Run) }
+    {
+        match self.own_work() {
+            Some(Work::Run) => Ok(()),
+            _ => Err(Refusal::NotRun),
+        }
+    }
+
+    /// The check of FFA_YIELD, which fails where the runner doesn't work for the normal world. Finds the work with which
+    /// the runner yields.
+    pub fn check_yield(&self) -> Result<Work, Refusal>
+        ensures refusal { result_err result ≡ first_refusal (yield_guards self.now) }
+        ensures work { IfOk result (λ work. work_in self.now self.now.runner ≡ Some work) }
+        ensures origin { IfOk result (λ work. origin (Some work) ≡ Some 0) }
+    {
+        match self.own_work() {
+            Some(work) if works_for_normal_world(work) => Ok(work),
+            _ => Err(Refusal::NobodyToYieldTo),
+        }
+    }
+
+    // The work of the runner.
+    fn own_work(&self) -> Option<Work>
+        ensures { result ≡ work_in self.now self.now.runner }
+    {
+        self.work(self.runner())
+    }
+}
+
+// Whether work was set going by the normal world.
+fn works_for_normal_world(work: Work) -> bool
+    ensures { result ≡ (is_run (Some work) || is_endpoint 0 (requester (Some work))) }
+{
+    match work {
+        Work::Run => true,
+        Work::Request(by) => by == EndpointId::NORMAL_WORLD,
+    }
+}
