@@ -1,7 +1,7 @@
 -- SPDX-License-Identifier: MIT OR Apache-2.0
 -- FOR PROOFS ALONE
 -- The steps of a play line by line, which private functions promise one another.
-use Rattle.std.specs.Prelude.{◌≡◌, ◌≤◌, ℕ, List, [], ◌∷◌, ◌++◌, length, Option, None, Some, Result, Ok, Err, ⊤}
+use Rattle.std.specs.Prelude.{◌≡◌, ◌≤◌, ℕ, Bool, List, [], ◌∷◌, ◌++◌, length, Option, None, Some, Result, Ok, Err, ⊤}
 use Rattle.std.specs.Io.KnownBytes.{Appends}
 use Rattle.ffa_model.specs.State.{State}
 use Rattle.ffa_model.specs.declared.operation.Outcome.{Outcome}
@@ -11,7 +11,8 @@ use Rattle.play_syntax.specs.Lines.{outcome_of}
 use Rattle.play_syntax.specs.Output.{TookFront}
 use Rattle.play_syntax.specs.declared.output.PlayError.{PlayError}
 use Rattle.play_syntax.specs.declared.output.PlayError.TheVariants.{Read, Write, NoMemory, BadLine}
-use Rattle.play_reasons.specs.Reasons.{reason_if}
+use Rattle.play_reasons.specs.Reasons.{reason_if, told_line}
+use Rattle.play_reasons.specs.declared.reason.Reason.{Reason}
 use Rattle.play_forms.specs.declared.comparison.Difference.{Difference}
 use Rattle.play_forms.specs.declared.form.Form.{Form}
 use Rattle.play_forms.specs.Forms.{line_text_in, spoken_in, unnumbered_in}
@@ -20,6 +21,18 @@ use Rattle.play_forms.specs.Forms.{line_text_in, spoken_in, unnumbered_in}
 -- held before, and holds.
 
 -- OF A LINE'S TEXT
+
+-- a line was done, and its plain text was put behind what stood there, or there is no memory for it
+abbrev pub PutsPlain : State → State → Line → List ℕ → List ℕ → Result (Option Outcome) PlayError → Type 0
+PutsPlain start now line old new (Ok outcome) =
+    (now ≡ line_after start line) × (new ≡ old ++ line_text start line) × (outcome ≡ outcome_of start line)
+PutsPlain start now line old new (Err e) = e ≡ NoMemory
+
+-- whichever state a line was done in, where this came of its operation: the reason is that of the operation in that state
+abbrev pub SaysWhy : Bool → State → Line → Option Outcome → Option Reason → Type 0
+SaysWhy explain now line outcome reason =
+    (start : State) → now ≡ line_after start line → outcome ≡ outcome_of start line
+    → told_line reason ≡ reason_if explain start line
 
 -- a text that ends with what came of a line has names behind it, where they are asked for
 abbrev pub TakesNames : Form → Option Outcome → List ℕ → List ℕ → Type 0

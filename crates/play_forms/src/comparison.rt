@@ -1,19 +1,17 @@
 // SPDX-License-Identifier: MIT OR Apache-2.0
 //! A play against a text that is expected.
-ghost use Rattle.std.specs.Prelude.{◌≡◌, IfOk, IfSome};
-ghost use Rattle.play_syntax.specs.Lines.{meant};
-ghost use Rattle.play_reasons.specs.Reasons.{reason_if, told_line};
+ghost use Rattle.std.specs.Prelude.{IfOk, IfSome};
 ghost use Rattle.play_forms.specs.Followed.{Compared, NeverPrints};
-ghost use Rattle.play_forms.specs.Forms.{WritesIn, plain};
+ghost use Rattle.play_forms.specs.Forms.{plain};
 ghost use Rattle.play_forms.specs.Steps.{LeavesOver};
 
-use crate::form::{Form, make_text};
+use crate::form::put_plain;
 use crate::read::take_line;
 use crate::reason::reason_of;
 use ffa_playable::Playable;
 use play_player::Player;
 use play_reasons::Reason;
-use play_syntax::{Line, PlayError};
+use play_syntax::PlayError;
 use std::alloc::Allocator;
 use std::io::BufRead;
 
@@ -55,8 +53,10 @@ pub fn compare<P: Playable, A: Allocator + Copy, R: BufRead>(
         let Some(line) = take_line(reader, bytes, number)? else {
             return Ok(left_over(rest, number, place));
         };
-        let reason = tell_text(player, alloc, explain, number, &line, text)?;
+        text.clear();
+        let outcome = put_plain(player, alloc, &line, text)?;
         let Some(more) = rest.strip_prefix(text.as_slice()) else {
+            let reason = reason_of(player, explain, &line, outcome);
             return Ok(Some(Difference {
                 number,
                 place,
@@ -67,28 +67,6 @@ pub fn compare<P: Playable, A: Allocator + Copy, R: BufRead>(
         number += 1;
     }
     Err(PlayError::Read)
-}
-
-// Does a line and makes its plain text, and answers why its operation is refused, where that is asked for.
-fn tell_text<P: Playable, A: Allocator + Copy>(
-    player: &mut Player<P>,
-    alloc: A,
-    explain: bool,
-    number: u64,
-    line: &Line,
-    text: &mut Vec<u8, A>,
-) -> Result<Option<Reason>, PlayError>
-    ensures made { WritesIn plain player.old.state player.new.state number (meant line.now) text.new.items result }
-    ensures told { IfOk result (λ reason. told_line reason ≡ reason_if explain player.old.state (meant line.now)) }
-{
-    let plain = Form {
-        number: false,
-        names: false,
-        explain: false,
-    };
-    let reason = reason_of(player, explain, line);
-    make_text(player, alloc, plain, number, line, text)?;
-    Ok(reason)
 }
 
 // The difference where no line is left: there is one if the expected text goes on.

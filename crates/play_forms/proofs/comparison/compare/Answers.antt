@@ -7,6 +7,7 @@ use Rattle.std.proofs.lemmas.Slice.Eq.{strip_prefix_is}
 use Rattle.play_syntax.specs.Lines.{meant}
 use Rattle.play_forms.specs.Reading.{TakesLine}
 use Rattle.play_forms.proofs.Follows.{followed_more, followed_none, untaken_compared, differs_in_line, left_over_compared}
+use Rattle.play_forms.proofs.Plain.{said_plainly}
 use Rattle.play_forms.proofs.Unequal.{compared_unequal, never_prints}
 use Rattle.play_forms.proofs.comparison.compare.Goals as goal
 
@@ -34,11 +35,13 @@ returns-in_default-strip_prefix-clause-compared g c =
     let i = c.loop-number.invariant in
     let one = subst (λ o. TakesLine (g.R.Read.remaining c.loop-number.reader) (g.R.Read.remaining c.take_line.new.reader) c.take_line.new.bytes.items c.loop-number.number (Ok o)) c.in-Some.is c.in_ok-line.ensures in
     let rest = c.loop-number.rest.now in
-    let said = c.tell_text.new.text.items in
+    let said = c.put_plain.new.text.items in
+    let made = c.in_ok-outcome.ensures in
     let other = subst (λ r. MatchOption r ((words : List ℕ) → rest ≢ c.as_slice.result.now ++ words) (λ x. rest ≡ c.as_slice.result.now ++ x.now)) c.in_default-strip_prefix.is
     (strip_prefix_is Decides-eqb rest c.as_slice.result.now c.strip_prefix.result c.strip_prefix.ensures.cases) in
-    differs_in_line _ _ _ _ _ i.0 i.1 i.2 c.loop-number.number i.4 c.tell_text.new.player.state _ c.take_line.new.bytes.items (meant c.in-Some.line) said _ rest _ c.args.explain c.in_ok-reason.reason one.0 one.1 one.2
-    c.in_ok-reason.ensures.made.0 c.in_ok-reason.ensures.made.1 i.3 (omega (arith, ap length i.3, length-append i.1 rest)) (λ words same. other words (same ∙ ap (λ t. t ++ words) (sym c.as_slice.ensures.value))) c.in_ok-reason.ensures.told
+    differs_in_line _ _ _ _ _ i.0 i.1 i.2 c.loop-number.number i.4 c.put_plain.new.player.state _ c.take_line.new.bytes.items (meant c.in-Some.line) said _ rest _ c.args.explain c.reason_of-reason.result one.0 one.1 one.2
+    made.0 (said_plainly c.loop-number.number c.loop-number.player.state (meant c.in-Some.line) _ said c.clear.ensures.items made.1) i.3 (omega (arith, ap length i.3, length-append i.1 rest))
+    (λ words same. other words (same ∙ ap (λ t. t ++ words) (sym c.as_slice.ensures.value))) (c.reason_of-reason.ensures c.loop-number.player.state made.0 made.2)
 
 pub returns-in_default-strip_prefix-clause-unequal : goal.returns-in_default-strip_prefix-clause-unequal
 returns-in_default-strip_prefix-clause-unequal g c = never_prints _ _ _ _ _ _ _ _ (returns-in_default-strip_prefix-clause-compared g c)
@@ -54,14 +57,15 @@ loop-number-preserved g c =
     let one = subst (λ o. TakesLine (g.R.Read.remaining c.loop-number.reader) (g.R.Read.remaining c.take_line.new.reader) c.take_line.new.bytes.items c.loop-number.number (Ok o)) c.in-Some.is c.in_ok-line.ensures in
     let line = c.take_line.new.bytes.items in
     let rest = c.loop-number.rest.now in
-    let said = c.tell_text.new.text.items in
-    let made = c.in_ok-reason.ensures.made in
+    let said = c.put_plain.new.text.items in
+    let made = c.in_ok-outcome.ensures in
     let begins = subst (λ r. MatchOption r ((words : List ℕ) → rest ≢ c.as_slice.result.now ++ words) (λ x. rest ≡ c.as_slice.result.now ++ x.now)) c.in-Some-strip_prefix.is
     (strip_prefix_is Decides-eqb rest c.as_slice.result.now c.strip_prefix.result c.strip_prefix.ensures.cases) in
     let more = c.in-Some-strip_prefix.more.now in (
       i.0 ++ line ∷ [],
       i.1 ++ said,
-      followed_more _ _ _ _ _ i.0 i.1 i.2 c.loop-number.number i.4 _ _ line (meant c.in-Some.line) _ one.0 one.1 one.2 made.0 made.1,
+      followed_more _ _ _ _ _ i.0 i.1 i.2 c.loop-number.number i.4 _ _ line (meant c.in-Some.line) _ one.0 one.1 one.2 made.0
+          (said_plainly c.loop-number.number c.loop-number.player.state (meant c.in-Some.line) _ said c.clear.ensures.items made.1),
       i.3 ∙ ap (λ r. i.1 ++ r) (begins ∙ ap (λ t. t ++ more) c.as_slice.ensures.value) ∙ sym (append_assoc i.1 said more),
       omega (arith, i.4, length-append i.0 (line ∷ [])),
     )
