@@ -1,6 +1,6 @@
 -- SPDX-License-Identifier: MIT OR Apache-2.0
 -- What reading a line leaves.
-use Rattle.std.specs.Prelude.{◌≡◌, ◌≢◌, ◌≤◌, ◌⊎◌, ℕ, Bool, true, false, List, [], ◌∷◌, ◌++◌, length, Option, None, Some, Result, Ok, Err, ⊤}
+use Rattle.std.specs.Prelude.{◌≡◌, ◌≢◌, ◌≤◌, ◌⊎◌, ℕ, ◌+◌, Bool, true, false, List, [], ◌∷◌, ◌++◌, length, Option, None, Some, Result, Ok, Err, ⊤}
 use Rattle.std.specs.Io.KnownBytes.{Consumes, IsAtEnd}
 use Rattle.play_syntax.specs.TraceLines.{feed, has_no_feed, is_good, line_of}
 use Rattle.play_syntax.specs.Lines.{meant}
@@ -47,3 +47,11 @@ TakesLine had has bytes number (Err (BadLine n)) = (n ≡ number) × IsBadLine h
 TakesLine had has bytes number (Err Read) = ⊤
 TakesLine had has bytes number (Err NoMemory) = ⊤
 TakesLine had has bytes number (Err Write) = ⊥
+
+-- The line that has this number was read and taken, and the next has the next; or the reader was at its end; or a bad line was read, or none can
+-- be.
+abbrev pub TakesNext : ℕ → ℕ → Option (List ℕ) → Option (List ℕ) → List ℕ → Result (Option (ℕ × Line)) PlayError → Type 0
+TakesNext number next had has bytes (Ok None) = (next ≡ number) × TakesLine had has bytes number (Ok None)
+TakesNext number next had has bytes (Ok (Some (its, line))) =
+    (its ≡ number) × (next ≡ 1 + number) × TakesLine had has bytes number (Ok (Some line))
+TakesNext number next had has bytes (Err e) = TakesLine had has bytes number (Err e)

@@ -6,7 +6,7 @@ ghost use Rattle.play_forms.specs.Forms.{plain};
 ghost use Rattle.play_forms.specs.Steps.{LeavesOver};
 
 use crate::form::put_plain;
-use crate::read::take_line;
+use crate::read::Lines;
 use crate::reason::reason_of;
 use ffa_playable::Playable;
 use play_player::Player;
@@ -47,26 +47,20 @@ pub fn compare<P: Playable, A: Allocator + Copy, R: BufRead>(
     ensures unequal { IfOk result (λ d. IfSome d (λ _. NeverPrints plain player.old.state (R.remaining reader.old) expected.now)) }
 {
     let mut rest = expected;
-    let mut number = 1;
-    while number < u64::MAX {
-        let place = expected.len() - rest.len();
-        let Some(line) = take_line(reader, bytes, number)? else {
-            return Ok(left_over(rest, number, place));
-        };
+    let mut lines = Lines::new();
+    while let Some((number, line)) = lines.next(reader, bytes)? {
         text.clear();
         let outcome = put_plain(player, alloc, &line, text)?;
         let Some(more) = rest.strip_prefix(text.as_slice()) else {
-            let reason = reason_of(player, explain, &line, outcome);
             return Ok(Some(Difference {
                 number,
-                place,
-                reason,
+                place: expected.len() - rest.len(),
+                reason: reason_of(player, explain, &line, outcome),
             }));
         };
         rest = more;
-        number += 1;
     }
-    Err(PlayError::Read)
+    Ok(left_over(rest, lines.number, expected.len() - rest.len()))
 }
 
 // The difference where no line is left: there is one if the expected text goes on.

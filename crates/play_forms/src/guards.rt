@@ -10,7 +10,7 @@ ghost use Rattle.play_forms.specs.Guards.{GuardedIn, first_line, guard_of, unspa
 ghost use Rattle.play_forms.specs.Steps.{PrintsLine};
 
 use crate::form::{Form, make_texts};
-use crate::read::take_line;
+use crate::read::Lines;
 use ffa_playable::Playable;
 use play_player::Player;
 use play_syntax::text::{self, Text};
@@ -76,11 +76,8 @@ pub fn play_guarded<P: Playable, A: Allocator + Copy, R: BufRead, W: Write>(
 {
     let mut unasked = Vec::new(alloc);
     let mut text = Vec::new(alloc);
-    let mut number = 1;
-    while number < u64::MAX {
-        let Some(line) = take_line(reader, bytes, number)? else {
-            return Ok(None);
-        };
+    let mut lines = Lines::new();
+    while let Some((number, line)) = lines.next(reader, bytes)? {
         if let Some(asks) = unmet(player, bytes, &mut unasked, found)? {
             return Ok(Some(Breach { number, asks }));
         }
@@ -94,9 +91,8 @@ pub fn play_guarded<P: Playable, A: Allocator + Copy, R: BufRead, W: Write>(
             &mut unasked,
             &mut text,
         )?;
-        number += 1;
     }
-    Err(PlayError::Read)
+    Ok(None)
 }
 
 // Does a line and writes its text, which it makes in `text`, and puts the plain text into `said`, where there is one.

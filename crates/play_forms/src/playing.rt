@@ -5,7 +5,7 @@ ghost use Rattle.play_forms.specs.Followed.{PlayedIn};
 ghost use Rattle.play_forms.specs.Steps.{PrintsLine};
 
 use crate::form::{Form, make_text};
-use crate::read::take_line;
+use crate::read::Lines;
 use ffa_playable::Playable;
 use play_player::Player;
 use play_syntax::{Line, PlayError, output};
@@ -30,15 +30,11 @@ pub fn play<P: Playable, A: Allocator + Copy, R: BufRead, W: Write>(
     ensures { PlayedIn form player.old.state player.new.state (W.contents writer.old) (W.contents writer.new) (R.remaining reader.old) bytes.new.items result }
 {
     let mut text = Vec::new(alloc);
-    let mut number = 1;
-    while number < u64::MAX {
-        match take_line(reader, bytes, number)? {
-            Some(line) => print_line(player, alloc, form, number, &line, writer, &mut text)?,
-            None => return Ok(()),
-        }
-        number += 1;
+    let mut lines = Lines::new();
+    while let Some((number, line)) = lines.next(reader, bytes)? {
+        print_line(player, alloc, form, number, &line, writer, &mut text)?;
     }
-    Err(PlayError::Read)
+    Ok(())
 }
 
 // Does a line and writes its text, which it makes in `text`.

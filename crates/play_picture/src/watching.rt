@@ -9,7 +9,7 @@ ghost use Rattle.play_picture.specs.Watching.{AreFirst, SeesLine, Watched};
 use ffa_model::CertRun;
 use ffa_playable::Playable;
 use play_drawing::{Keep, Row, put_row};
-use play_forms::take_line;
+use play_forms::Lines;
 use play_player::{Player, certificate};
 use play_syntax::{Line, PlayError};
 use std::alloc::Allocator;
@@ -38,15 +38,11 @@ pub fn watch<P: Playable, A: Allocator + Copy, R: BufRead>(
     ensures { Watched keep player.old.state player.new.state (R.remaining reader.old) bytes.new.items result }
 {
     let mut seen = begin(player, alloc)?;
-    let mut number = 1;
-    while number < u64::MAX {
-        let Some(line) = take_line(reader, bytes, number)? else {
-            return Ok(seen.rows);
-        };
+    let mut lines = Lines::new();
+    while let Some((number, line)) = lines.next(reader, bytes)? {
         watch_line(player, alloc, keep, number, &line, bytes, &mut seen)?;
-        number += 1;
     }
-    Err(PlayError::Read)
+    Ok(seen.rows)
 }
 
 // The row of the beginning.
