@@ -18,8 +18,8 @@ use std::io::BufRead;
 /// Where a text first differs from what is expected.
 #[derive(Clone, Copy)]
 pub struct Difference {
-    /// The number of the line whose text differs, counted from 1, or of the line behind the last, where the expected text
-    /// goes on.
+    /// The number of the line whose text differs, counted from 1, or of the line behind the last, where the expected
+    /// text goes on.
     pub number: u64,
     /// How many bytes of the expected text the lines before it printed.
     pub place: usize,
@@ -27,13 +27,13 @@ pub struct Difference {
     pub reason: Option<Reason>,
 }
 
-/// Does the lines that the reader gives, one after another, up to the first whose text isn't how the expected text goes on,
-/// and answers where that is. That line is done too. Its bytes stand in `bytes`, without the LF that ends them, and its plain
-/// text in `text`, of which no clause speaks.
+/// Does the lines that the reader gives, one after another, up to the first whose text isn't how the expected text goes
+/// on, and answers where that is. That line is done too. Its bytes stand in `bytes`, without the LF that ends them, and
+/// its plain text in `text`, of which no clause speaks.
 ///
-/// At a bad line, and where the reader fails, the lines before it were done, and nothing more, and their text begins the
-/// expected one. The bytes of a bad line stand in `bytes` as they stand in the trace, with the LF that ends them, where one
-/// does. What is left where there is no memory is in no clause.
+/// At a bad line, and where the reader fails, the lines before it were done, and nothing more, and their text begins
+/// the expected one. The bytes of a bad line stand in `bytes` as they stand in the trace, with the LF that ends them,
+/// where one does. What is left where there is no memory is in no clause.
 pub fn compare<P: Playable, A: Allocator + Copy, R: BufRead>(
     player: &mut Player<P>,
     alloc: A,
@@ -43,8 +43,10 @@ pub fn compare<P: Playable, A: Allocator + Copy, R: BufRead>(
     bytes: &mut Vec<u8, A>,
     text: &mut Vec<u8, A>,
 ) -> Result<Option<Difference>, PlayError>
-    ensures compared { Compared plain player.old.state player.new.state (R.remaining reader.old) explain expected.now bytes.new.items result }
-    ensures unequal { IfOk result (λ d. IfSome d (λ _. NeverPrints plain player.old.state (R.remaining reader.old) expected.now)) }
+    ensures compared { let had = R.remaining reader.old in
+        Compared plain player.old.state player.new.state had explain expected.now bytes.new.items result }
+    ensures unequal { let had = R.remaining reader.old in
+        IfOk result (λ d. IfSome d (λ _. NeverPrints plain player.old.state had expected.now)) }
 {
     let mut rest = expected;
     let mut lines = Lines::new();

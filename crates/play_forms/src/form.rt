@@ -56,7 +56,9 @@ fn put_spoken<P: Playable, A: Allocator + Copy>(
     line: &Line,
     text: &mut Vec<u8, A>,
 ) -> Result<(), PlayError>
-    ensures { Speaks form player.old.state player.new.state number (meant line.now) text.old.items text.new.items result }
+    ensures { let start = player.old.state in
+        let now = player.new.state in
+        Speaks form start now number (meant line.now) text.old.items text.new.items result }
 {
     put_number_in(form, number, text)?;
     put_explained(player, alloc, form, line, text)
@@ -123,7 +125,9 @@ fn put_both<P: Playable, A: Allocator + Copy>(
     said: &mut Vec<u8, A>,
     text: &mut Vec<u8, A>,
 ) -> Result<(), PlayError>
-    ensures spoken { Speaks form player.old.state player.new.state number (meant line.now) text.old.items text.new.items result }
+    ensures spoken { let start = player.old.state in
+        let now = player.new.state in
+        Speaks form start now number (meant line.now) text.old.items text.new.items result }
     ensures said { OnOk result (said.new.items ≡ line_text player.old.state (meant line.now)) }
 {
     put_number_in(form, number, text)?;
@@ -166,7 +170,8 @@ fn put_texts<P: Playable, A: Allocator + Copy>(
     Ok(outcome)
 }
 
-/// Does a line, and puts its plain text behind what stands there. It answers what came of the operation that the line is.
+/// Does a line, and puts its plain text behind what stands there. It answers what came of the operation that the line
+/// is.
 pub(crate) fn put_plain<P: Playable, A: Allocator + Copy>(
     player: &mut Player<P>,
     alloc: A,

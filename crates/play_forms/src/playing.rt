@@ -16,9 +16,9 @@ use std::io::{BufRead, Write};
 /// done. Lines count from 1.
 ///
 /// At a bad line, and where the reader fails, the lines before it were done, and nothing more, and their whole text was
-/// written; where the writer fails, it took a beginning of the text of the line that was done last. The bytes of a bad line
-/// stand in `bytes` as they stand in the trace, with the LF that ends them, where one does. What is left where there is no
-/// memory is in no clause.
+/// written; where the writer fails, it took a beginning of the text of the line that was done last. The bytes of a bad
+/// line stand in `bytes` as they stand in the trace, with the LF that ends them, where one does. What is left where
+/// there is no memory is in no clause.
 pub fn play<P: Playable, A: Allocator + Copy, R: BufRead, W: Write>(
     player: &mut Player<P>,
     alloc: A,
@@ -27,7 +27,10 @@ pub fn play<P: Playable, A: Allocator + Copy, R: BufRead, W: Write>(
     writer: &mut W,
     bytes: &mut Vec<u8, A>,
 ) -> Result<(), PlayError>
-    ensures { PlayedIn form player.old.state player.new.state (W.contents writer.old) (W.contents writer.new) (R.remaining reader.old) bytes.new.items result }
+    ensures { let held = W.contents writer.old in
+        let holds = W.contents writer.new in
+        let had = R.remaining reader.old in
+        PlayedIn form player.old.state player.new.state held holds had bytes.new.items result }
 {
     let mut text = Vec::new(alloc);
     let mut lines = Lines::new();
@@ -47,7 +50,9 @@ fn print_line<P: Playable, A: Allocator + Copy, W: Write>(
     writer: &mut W,
     text: &mut Vec<u8, A>,
 ) -> Result<(), PlayError>
-    ensures { PrintsLine form player.old.state player.new.state number (meant line.now) (W.contents writer.old) (W.contents writer.new) result }
+    ensures { let held = W.contents writer.old in
+        let holds = W.contents writer.new in
+        PrintsLine form player.old.state player.new.state number (meant line.now) held holds result }
 {
     make_text(player, alloc, form, number, line, text)?;
     output::write_text(writer, text)

@@ -8,19 +8,19 @@ use play_syntax::{Line, PlayError};
 use std::alloc::Allocator;
 use std::io::{BufRead, ErrorKind};
 
-/// Reads the next line, which has this number, into `line`, and answers whether there is one. The LF that ends a line is
-/// none of its bytes.
+/// Reads the next line, which has this number, into `line`, and answers whether there is one. The LF that ends a line
+/// is none of its bytes.
 ///
-/// After an interrupt it asks the reader again, as `read_until` does. A rest that no LF ends is a bad line, and stands in
-/// `line` then.
+/// After an interrupt it asks the reader again, as `read_until` does. A rest that no LF ends is a bad line, and stands
+/// in `line` then.
 pub fn next_line<A: Allocator, R: BufRead>(
     reader: &mut R,
     line: &mut Vec<u8, A>,
     number: u64,
 ) -> Result<bool, PlayError>
-    ensures { let unread = R.remaining reader.old in
-        let left = R.remaining reader.new in
-        ReadsLine unread left line.new.items number result }
+    ensures { let had = R.remaining reader.old in
+        let has = R.remaining reader.new in
+        ReadsLine had has line.new.items number result }
 {
     line.clear();
     match reader.read_until(b'\n', line) {
@@ -62,17 +62,17 @@ impl Lines {
 
     /// Reads the next line, and answers its number and what it is, or nothing where the reader is at its end.
     ///
-    /// The bytes of a line that is taken stand in `bytes` without the LF that ends them. Those of a bad line stand there as
-    /// they stand in the trace, with the LF that ends them, where one does. A trace of more lines than can be counted can't
-    /// be read.
+    /// The bytes of a line that is taken stand in `bytes` without the LF that ends them. Those of a bad line stand
+    /// there as they stand in the trace, with the LF that ends them, where one does. A trace of more lines than can be
+    /// counted can't be read.
     pub fn next<A: Allocator, R: BufRead>(
         &mut self,
         reader: &mut R,
         bytes: &mut Vec<u8, A>,
     ) -> Result<Option<(u64, Line)>, PlayError>
-        ensures { let unread = R.remaining reader.old in
-            let left = R.remaining reader.new in
-            TakesNext self.old.number self.new.number unread left bytes.new.items result }
+        ensures { let had = R.remaining reader.old in
+            let has = R.remaining reader.new in
+            TakesNext self.old.number self.new.number had has bytes.new.items result }
     {
         let number = self.number;
         if number == u64::MAX {
@@ -92,9 +92,9 @@ fn take_line<A: Allocator, R: BufRead>(
     bytes: &mut Vec<u8, A>,
     number: u64,
 ) -> Result<Option<Line>, PlayError>
-    ensures { let unread = R.remaining reader.old in
-        let left = R.remaining reader.new in
-        TakesLine unread left bytes.new.items number result }
+    ensures { let had = R.remaining reader.old in
+        let has = R.remaining reader.new in
+        TakesLine had has bytes.new.items number result }
 {
     if !next_line(reader, bytes, number)? {
         return Ok(None);

@@ -12,8 +12,8 @@ use play_player::Player;
 use play_reasons::Reason;
 use play_syntax::Line;
 
-/// Why the operation of a line that was done is refused, where that is asked for. It is asked behind the line, and only where
-/// the outcome refuses: a refusal changes nothing, so the machine still stands as the operation found it.
+/// Why the operation of a line that was done is refused, where that is asked for. It is asked behind the line, and only
+/// where the outcome refuses: a refusal changes nothing, so the machine still stands as the operation found it.
 pub(crate) fn reason_of<P: Playable>(
     player: &Player<P>,
     explain: bool,

@@ -22,12 +22,12 @@ struct Seen<A: Allocator> {
     latest: Vec<CertRun, A>,
 }
 
-/// Does the lines that the reader gives, one after another, and answers the rows of those that have one, each with what the
-/// machine is behind it. The first row is that of the beginning.
+/// Does the lines that the reader gives, one after another, and answers the rows of those that have one, each with what
+/// the machine is behind it. The first row is that of the beginning.
 ///
-/// At a bad line, and where the reader fails, the lines before it were done, and nothing more. The bytes of a bad line stand
-/// in `bytes` as they stand in the trace, with the LF that ends them, where one does. What is left where there is no memory
-/// is in no clause.
+/// At a bad line, and where the reader fails, the lines before it were done, and nothing more. The bytes of a bad line
+/// stand in `bytes` as they stand in the trace, with the LF that ends them, where one does. What is left where there is
+/// no memory is in no clause.
 pub fn watch<P: Playable, A: Allocator + Copy, R: BufRead>(
     player: &mut Player<P>,
     alloc: A,
@@ -88,7 +88,8 @@ fn alone<A: Allocator + Copy>(alloc: A, row: Row<A>) -> Result<Vec<Row<A>, A>, P
     }
 }
 
-// Does the line of this number, of which these are the bytes, and puts its row behind the others, where it is to have one.
+// Does the line of this number, of which these are the bytes, and puts its row behind the others, where it is to have
+// one.
 fn watch_line<P: Playable, A: Allocator + Copy>(
     player: &mut Player<P>,
     alloc: A,
@@ -99,7 +100,11 @@ fn watch_line<P: Playable, A: Allocator + Copy>(
     seen: &mut Seen<A>,
 ) -> Result<(), PlayError>
     requires { seen.old.latest.items ≡ certificate player.old.state }
-    ensures seen { OnOk result (SeesLine keep number (meant line.now) bytes.now player.old.state player.new.state seen.old.rows.items seen.new.rows.items) }
+    ensures seen { let start = player.old.state in
+        let now = player.new.state in
+        let old = seen.old.rows.items in
+        let new = seen.new.rows.items in
+        OnOk result (SeesLine keep number (meant line.now) bytes.now start now old new) }
     ensures latest { OnOk result (seen.new.latest.items ≡ certificate player.new.state) }
     ensures failed { IfErr result (λ e. e ≡ PlayError.NoMemory) }
 {
