@@ -3,7 +3,7 @@
 use Rattle.std.proofs.Common.{◌≡◌, ◌∙◌, ℕ, Bool, true, false, cond, List, [], ◌∷◌, Option, Some, None, is_some, refl, sym, ap}
 use Rattle.std.specs.Prelude.{IfSome}
 use Rattle.std.specs.Option.{option_map}
-use Rattle.std.proofs.lemmas.Bool.{not-true}
+use Rattle.std.proofs.lemmas.Bool.{not-true, true≢false}
 use Rattle.std.proofs.lemmas.Option.{none-some}
 use Rattle.ffa_model.specs.declared.call.Call as calls
 use Rattle.ffa_model.specs.declared.call.Call.TheVariants.{Version, Features, RxRelease, RxtxMap, RxtxUnmap, PartitionInfoGet, IdGet, MsgWait, Yield, Run, DirectRequest, DirectResponse, MemDonate, MemLend, MemShare, MemRetrieve, MemRelinquish, MemReclaim, BitmapCreate, BitmapDestroy, NotificationBind, NotificationUnbind, NotificationSet, NotificationGet, SpmIdGet, MsgSend2, Unknown}
@@ -101,6 +101,14 @@ module _ (s : State) (x : List ℕ) (c : Service) where
       of None is = tt
       of (Some refusal) is = by-name ∙ ap (λ (q : Option Refusal). (answered (option_map code_of q) s c.state c.reply).outcome) is
 
+  unchanged-call : (first_failure c.guards ≡ None → is_error c.reply ≡ false) → is_refusal (served s c).outcome ≡ true → (served s c).state ≡ s
+  unchanged-call plain = of (first_failure c.guards) refl
+    where
+      of : (o : Option ErrorCode) → first_failure c.guards ≡ o → is_refusal (answered o s c.state c.reply).outcome ≡ true
+          → (answered o s c.state c.reply).state ≡ s
+      of None is refused = absurd (true≢false (sym refused ∙ plain is))
+      of (Some code) is refused = refl
+
 -- of an access, by its fault
 module _ (s new : State) (outcome : Outcome) (address : ℕ) where
   refused-access : is_refusal outcome ≡ false → (fault : Option FaultKind) → is_some (why_fault s address fault) ≡ is_refusal (accessed fault s new outcome).outcome
@@ -110,6 +118,11 @@ module _ (s new : State) (outcome : Outcome) (address : ℕ) where
   outcome-access : (fault : Option FaultKind) → IfSome (why_fault s address fault) (λ w. (accessed fault s new outcome).outcome ≡ outcome_of s w)
   outcome-access None = tt
   outcome-access (Some fault) = refl
+
+  unchanged-access : is_refusal outcome ≡ false → (fault : Option FaultKind) → is_refusal (accessed fault s new outcome).outcome ≡ true
+      → (accessed fault s new outcome).state ≡ s
+  unchanged-access plain None refused = absurd (true≢false (sym refused ∙ plain))
+  unchanged-access plain (Some fault) refused = refl
 
 -- there is a reason just where the operation is refused
 pub why-refused : (s : State) (op : Op) → is_some (why s op) ≡ is_refusal (step s op).outcome
@@ -126,6 +139,26 @@ why-outcome s (Load address size) = outcome-access s s (Data (number_at s addres
 why-outcome s (Store address size value) =
     outcome-access s (stored s address (little_bytes (size_of size) value)) Done address (store_fault s address (size_of size))
 why-outcome s (Fetch address) = outcome-access s s (Data (number_at s address 4)) address (fetch_fault s address)
+
+-- an operation that is refused changes nothing
+pub refused-unchanged : (s : State) (op : Op) → is_refusal (step s op).outcome ≡ true → (step s op).state ≡ s
+refused-unchanged s (Call x) = unchanged-call s x (service s (decode x)) (done-no-error s (decode x) (decode-named x))
+refused-unchanged s (Load address size) =
+    unchanged-access s s (Data (number_at s address (size_of size))) address refl (read_fault s address (size_of size))
+refused-unchanged s (Store address size value) =
+    unchanged-access s (stored s address (little_bytes (size_of size) value)) Done address refl (store_fault s address (size_of size))
+refused-unchanged s (Fetch address) = unchanged-access s s (Data (number_at s address 4)) address refl (fetch_fault s address)
+
+-- so why it is refused can be asked of the state behind it, and there is no reason where it isn't
+pub why-behind : (s : State) (op : Op) → is_refusal (step s op).outcome ≡ true → why (step s op).state op ≡ why s op
+why-behind s op refused = ap (λ (state : State). why state op) (refused-unchanged s op refused)
+
+pub why-not : (s : State) (op : Op) → is_refusal (step s op).outcome ≡ false → why s op ≡ None
+why-not s op done = none-of (why s op) (why-refused s op ∙ done)
+  where
+    none-of : (o : Option Why) → is_some o ≡ false → o ≡ None
+    none-of None none = refl
+    none-of (Some reason) none = absurd (true≢false none)
 
 -- an endpoint has access to a page by something just where it has access
 pub granted-access : (s : State) (e p : ℕ) → is_some (granted s e p) ≡ is_some (access s e p)

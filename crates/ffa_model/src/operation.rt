@@ -2,8 +2,10 @@
 //! What an endpoint does, and what it gets for it.
 ghost use Rattle.std.specs.Prelude.{◌≡◌};
 ghost use Rattle.ffa_model.specs.Memory.{size_of};
+ghost use Rattle.ffa_model.specs.Refusals.{is_refusal};
 
 use crate::endpoint::EndpointId;
+use crate::function::FFA_ERROR;
 
 /// How many bytes a load or a store moves.
 #[derive(Clone, Copy, PartialEq, Eq)]
@@ -75,4 +77,17 @@ pub enum Outcome {
     /// A store was done.
     Done,
     Fault(FaultKind),
+}
+
+impl Outcome {
+    /// Whether the operation is refused: its endpoint sees FFA_ERROR, or a fault.
+    pub fn is_refusal(&self) -> bool
+        ensures { result ≡ is_refusal self.now }
+    {
+        match self {
+            Outcome::Regs { x, .. } => x[0] == u64::from(FFA_ERROR),
+            Outcome::Fault(_) => true,
+            Outcome::Data(_) | Outcome::Done => false,
+        }
+    }
 }

@@ -29,7 +29,8 @@ pub trait Playable: Drop {
     fn why(&self, op: &Op) -> Option<Why>
         ensures why { result ≡ why (state self.now) op.now }
         ensures refused { is_some result ≡ is_refusal (step (state self.now) op.now).outcome }
-        ensures outcome { IfSome result (λ reason. (step (state self.now) op.now).outcome ≡ outcome_of (state self.now) reason) };
+        ensures outcome { IfSome result (λ reason.
+            (step (state self.now) op.now).outcome ≡ outcome_of (state self.now) reason) };
 
     /// The endpoint that runs.
     fn runner(&self) -> EndpointId
@@ -59,15 +60,15 @@ pub trait Playable: Drop {
     fn access(&self, endpoint: EndpointId, page: PageNo) -> Option<Rights>
         ensures { result ≡ access (state self.now) endpoint.0 page.0 };
 
-    /// The longest run from a page of the RAM on whose pages have one owner, one open transaction or none, and one access of
-    /// each endpoint. It takes no memory.
+    /// The longest run from a page of the RAM on whose pages have one owner, one open transaction or none, and one
+    /// access of each endpoint. It takes no memory.
     fn cert_run(&self, from: PageNo) -> CertRun
         requires { from.0 < length (state self.now).pages }
         ensures run { IsRun (state self.now) from.0 result }
         ensures computed { result ≡ run_from (state self.now) from.0 };
 
-    /// Whether runs of pages are a certificate that the machine's tables give. The runs of `cert_run` from page 0 on, one
-    /// behind the other, are such a certificate. It takes no memory.
+    /// Whether runs of pages are a certificate that the machine's tables give. The runs of `cert_run` from page 0 on,
+    /// one behind the other, are such a certificate. It takes no memory.
     fn audit(&self, runs: &[CertRun]) -> bool
         ensures { runs.now ≡ certificate (state self.now) → IsTrue result };
 }

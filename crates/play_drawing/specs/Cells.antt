@@ -15,11 +15,13 @@ use Rattle.play_drawing.specs.Columns.{run_in}
 -- the cell of a column in a row: what the row's run says of the column's first page, of the column's pages
 abbrev pub cell_of : {A : Type 0} → Row A → Column → Option Cell
 cell_of row column =
-    option_map (λ (run : CertRun). record { number = row.number; pages = record run { first = column.first; last = column.last } })
+    option_map (λ (run : CertRun).
+    record { number = row.number; pages = record run { first = column.first; last = column.last } })
     (run_in column.first.0 row.runs.items)
 
 -- what a cell says holds of a page
 pub record TellsPage (s : State) (cell : Cell) (p : ℕ) : Type 0 where
   pub owner : cell.pages.owner.0 ≡ owner_of s p
   pub handle : cell.pages.handle ≡ handle_at s p
-  pub access : (place : ℕ) → place < MOST_ENDPOINTS → slice_index_or cell.pages.access place None ≡ access_by_place s p place
+  pub access : (place : ℕ) → place < MOST_ENDPOINTS
+      → slice_index_or cell.pages.access place None ≡ access_by_place s p place

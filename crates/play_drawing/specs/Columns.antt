@@ -29,7 +29,8 @@ pub record IsColumn {A : Type 0} (rows : List (Row A)) (pages first last : ℕ) 
   pub whole : All (LieInOne first last) rows
   pub longest : (last + 1 ≡ pages) ⊎ Any (EndsRun first last) rows
 
--- the columns of so many pages from page p on, one behind the other, up to the last page or before one of which a row says nothing
+-- the columns of so many pages from page p on, one behind the other, up to the last page or before one of which a row
+-- says nothing
 abbrev pub AreColumns : {A : Type 0} → List (Row A) → ℕ → ℕ → List Column → Type 0
 AreColumns rows pages p [] = (pages ≤ p) ⊎ Any (IsUnsaid p) rows
 AreColumns rows pages p (column ∷ columns) =

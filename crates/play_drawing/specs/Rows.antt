@@ -26,23 +26,31 @@ HasRow Changes n before behind = before ≢ behind
 HasRow (Every m) n before behind = n % m ≡ 0
 
 -- the row of a line was put behind others, where it is to have one
-abbrev pub PutsRow : {A : Type 0} → Keep → ℕ → List ℕ → ℕ → List CertRun → List CertRun → List (Row A) → List (Row A) → Type 0
+abbrev pub PutsRow : {A : Type 0} → Keep → ℕ → List ℕ → ℕ → List CertRun → List CertRun → List (Row A) → List (Row A)
+    → Type 0
 PutsRow {A} keep n bytes runner before behind old new =
     (HasRow keep n before behind × ((row : Row A) × IsRowOf n bytes runner behind row × (new ≡ old ++ row ∷ [])))
     ⊎ ((HasRow keep n before behind → ⊥) × (new ≡ old))
 
 -- a line is to have a row, behind others that are done from a state on
 abbrev pub HasRowBehind : Keep → State → List (List ℕ) → List ℕ → Type 0
-HasRowBehind keep start lines line = HasRow keep (1 + length lines) (certificate (after_all start lines)) (certificate (after_all start (lines ++ line ∷ [])))
+HasRowBehind keep start lines line =
+    let before = certificate (after_all start lines) in
+    let behind = certificate (after_all start (lines ++ line ∷ [])) in
+    HasRow keep (1 + length lines) before behind
 
--- the rows of lines that are done from a state on: that of the beginning, and then those of the lines that are to have one, in order
+-- the rows of lines that are done from a state on: that of the beginning, and then those of the lines that are to have
+-- one, in order
 pub data AreRows {A : Type 0} (keep : Keep) (start : State) : List (List ℕ) → List (Row A) → Type 0 where
   begun : (row : Row A) → IsRow 0 [] start row → AreRows keep start [] (row ∷ [])
   with_row :
-      (lines : List (List ℕ)) (rows : List (Row A)) (line : List ℕ) (row : Row A) → AreRows keep start lines rows → HasRowBehind keep start lines line
-      → IsRow (1 + length lines) line (after_all start (lines ++ line ∷ [])) row → AreRows keep start (lines ++ line ∷ []) (rows ++ row ∷ [])
+      (lines : List (List ℕ)) (rows : List (Row A)) (line : List ℕ) (row : Row A) → AreRows keep start lines rows
+      → HasRowBehind keep start lines line
+      → IsRow (1 + length lines) line (after_all start (lines ++ line ∷ [])) row
+      → AreRows keep start (lines ++ line ∷ []) (rows ++ row ∷ [])
   without :
-      (lines : List (List ℕ)) (rows : List (Row A)) (line : List ℕ) → AreRows keep start lines rows → (HasRowBehind keep start lines line → ⊥)
+      (lines : List (List ℕ)) (rows : List (Row A)) (line : List ℕ) → AreRows keep start lines rows
+      → (HasRowBehind keep start lines line → ⊥)
       → AreRows keep start (lines ++ line ∷ []) rows
 
 -- the state behind the line of a number, of lines that are done from a state on; that of number 0 is the beginning

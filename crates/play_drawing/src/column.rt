@@ -16,8 +16,8 @@ pub struct Column {
     pub last: PageNo,
 }
 
-/// The longest columns of RAM of so many pages, one behind the other from its first page on: each lies in one run of each row.
-/// They end before a page of which a row says nothing.
+/// The longest columns of RAM of so many pages, one behind the other from its first page on: each lies in one run of
+/// each row. They end before a page of which a row says nothing.
 pub fn columns<A: Allocator>(
     alloc: A,
     rows: &[Row<A>],

@@ -1,5 +1,6 @@
 // SPDX-License-Identifier: MIT OR Apache-2.0
-//! Pictures of who reaches which page of RAM: rows, columns and cells, and their text as an SVG. No machine is needed for them.
+//! Pictures of who reaches which page of RAM: rows, columns and cells, and their text as an SVG. No machine is needed
+//! for them.
 #![tactic(auto)]
 
 mod cell;

@@ -37,7 +37,8 @@ impl<A: Allocator + Copy> Picture<A> {
         ensures endpoints { IfOk result (λ picture. picture.endpoints ≡ endpoints) }
         ensures rows { IfOk result (λ picture. picture.rows ≡ rows) }
         ensures columns { IfOk result (λ picture. AreColumns rows.items pages 0 picture.columns.items) }
-        ensures cells { IfOk result (λ picture. picture.cells.items ≡ flat_map (λ row. filter_map (cell_of row) picture.columns.items) rows.items) }
+        ensures cells { IfOk result (λ picture.
+            picture.cells.items ≡ flat_map (λ row. filter_map (cell_of row) picture.columns.items) rows.items) }
     {
         let columns = columns(alloc, &rows, pages)?;
         let cells = cells(alloc, &rows, &columns)?;

@@ -74,8 +74,9 @@ fn right_text(right: Option<Rights>) -> &'static str {
     }
 }
 
-/// Writes the picture as an SVG. Across stand its columns, with the address of the first page of each; down its rows, with
-/// number and text of the line and with the endpoint that runs. A cell has a band for each endpoint that reaches its pages.
+/// Writes the picture as an SVG. Across stand its columns, with the address of the first page of each; down its rows,
+/// with number and text of the line and with the endpoint that runs. A cell has a band for each endpoint that reaches
+/// its pages.
 pub fn write_svg<A: Allocator, W: Write>(picture: &Picture<A>, writer: &mut W) -> io::Result<()> {
     let sizes = Sizes::of(picture);
     legend::write_head(&sizes, writer)?;
@@ -203,8 +204,8 @@ fn write_title<A: Allocator, W: Write>(
     writeln!(writer, "</title>")
 }
 
-// Writes what is behind the bands of a cell: grey where its pages are the manager's, and else a bar of their owner's colour,
-// with a line below where they stand in a transaction.
+// Writes what is behind the bands of a cell: grey where its pages are the manager's, and else a bar of their owner's
+// colour, with a line below where they stand in a transaction.
 fn write_ground<W: Write>(cell: &Cell, sizes: &Sizes, writer: &mut W) -> io::Result<()> {
     let (width, height) = (sizes.column, sizes.row);
     if cell.pages.owner == EndpointId::MANAGER {

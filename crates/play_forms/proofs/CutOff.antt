@@ -1,10 +1,10 @@
 -- SPDX-License-Identifier: MIT OR Apache-2.0
 -- In each form the plain text is what is left when numbers and names are cut off and reasons left out.
-use Rattle.std.proofs.Common.{◌≡◌, ℕ, suc, zero, ◌+◌, ◌*◌, ◌/◌, ◌%◌, ◌^◌, ◌-◌, Bool, true, false, List, [], ◌∷◌, ◌++◌, length, take, Option, None, Some, inl, inr, sym, ap, ◌∙◌, subst, arith, append-nil, refl}
-use Rattle.std.specs.Prelude.{◌==◌, codes, nat_lt, slice_index, if◌then◌else◌}
-use Rattle.std.specs.List.{list_all, flat_map, range_with_len}
+use Rattle.std.proofs.Common.{◌≡◌, ℕ, ◌+◌, ◌*◌, ◌-◌, Bool, true, false, List, [], ◌∷◌, ◌++◌, length, take, Option, None, Some, sym, ap, ◌∙◌, subst, append-nil, refl}
+use Rattle.std.specs.Prelude.{◌==◌, codes, slice_index, if◌then◌else◌}
+use Rattle.std.specs.List.{flat_map, range_with_len}
 use Rattle.std.specs.Option.{option_map_or}
-use Rattle.std.proofs.lemmas.Bool.{cases_Bool, and_parts, and_from}
+use Rattle.std.proofs.lemmas.Bool.{and_from}
 use Rattle.std.proofs.lemmas.List.Folds.{list_all-append}
 use Rattle.ffa_model.specs.declared.rights.Rights.{Rights}
 use Rattle.ffa_model.specs.declared.certificate.CertRun.{CertRun}
@@ -23,14 +23,14 @@ use Rattle.ffa_model.specs.Certificate.{certificate}
 use Rattle.ffa_model.specs.Identifiers.{identifier}
 use Rattle.ffa_model.specs.Step.{step}
 use Rattle.play_syntax.specs.TraceLines.{Line, operate, show, audit, skip, space, has_no_feed, line_of}
-use Rattle.play_syntax.specs.TraceText.{digit, hex, spaced, ended, fault_name, bytes_moved, outcome_words, outcome_text, rights_text, runs_of, run_text, runner_text, show_text, cert_text, root_text, handle_text, cert_run_text, audit_text, line_text, text_of, text, after}
-use Rattle.ffa_abi.specs.Names.{Row, error_names, name_in, call_name_of, error_name_of}
+use Rattle.play_syntax.specs.TraceText.{hex, spaced, ended, fault_name, bytes_moved, outcome_words, outcome_text, rights_text, runs_of, run_text, runner_text, show_text, cert_text, root_text, handle_text, cert_run_text, audit_text, line_text, text_of, text, after}
+use Rattle.ffa_abi.specs.Names.{error_names, name_in, call_name_of, error_name_of}
 use Rattle.play_reasons.specs.Marks.{names_mark}
 use Rattle.play_forms.specs.Cut.{CutsTo, cut_names}
 use Rattle.play_forms.specs.Forms.{number_in, outcome_in, unnumbered_in, line_text_in, text_of_in, text_in}
 use Rattle.play_reasons.specs.Reasons.{reason_if}
 use Rattle.play_forms.specs.declared.form.Form.{Form}
-use Rattle.play_forms.proofs.Cuts.{is_inner, IsInner, is_headed, inner_append, inner_flat_map, inner_above, inner_single, cut_names-inner, cut_names-mark, cuts_none, cuts_append, cuts_flat_map, cuts_line, cuts_words, cuts_first}
+use Rattle.play_forms.proofs.Cuts.{IsInner, is_headed, inner_append, inner_flat_map, inner_single, cut_names-inner, cut_names-mark, cuts_none, cuts_append, cuts_flat_map, cuts_line, cuts_words, cuts_first}
 use Rattle.play_forms.proofs.PrintedWords.{inner_hex, single_in, single_call}
 use Rattle.play_forms.proofs.ReasonLines.{reason_cuts}
 

@@ -1,6 +1,6 @@
 -- SPDX-License-Identifier: MIT OR Apache-2.0
 -- A play line by line.
-use Rattle.std.proofs.Common.{◌≡◌, ◌≢◌, ◌+◌, ◌≤◌, ℕ, Bool, true, List, [], ◌∷◌, ◌++◌, length, Option, None, Some, Result, Ok, Err, inl, inr, sym, ap, ◌∙◌, subst, arith, append_assoc, append-nil, refl}
+use Rattle.std.proofs.Common.{◌≡◌, ◌≢◌, ◌+◌, ◌≤◌, ℕ, Bool, true, List, [], ◌∷◌, ◌++◌, length, Option, None, Some, Ok, Err, inl, inr, sym, ap, ◌∙◌, subst, arith, append_assoc, append-nil, refl}
 use Rattle.std.specs.Prelude.{is_some}
 use Rattle.std.specs.Option.{option_map_or}
 use Rattle.std.specs.Io.KnownBytes.{Appends, Consumes, IsAtEnd}
@@ -11,7 +11,7 @@ use Rattle.ffa_model.specs.State.{State}
 use Rattle.play_syntax.specs.TraceLines.{Line, feed, line_of, is_good, is_line, has_no_feed, joined}
 use Rattle.play_syntax.specs.TraceText.{line_after, after, after_all}
 use Rattle.play_player.proofs.Runs.{joined-append}
-use Rattle.play_syntax.specs.Output.{TookFront, Writes}
+use Rattle.play_syntax.specs.Output.{TookFront}
 use Rattle.play_syntax.specs.declared.output.PlayError.{PlayError}
 use Rattle.play_syntax.specs.declared.output.PlayError.TheVariants.{Read, Write, NoMemory, BadLine}
 use Rattle.play_forms.specs.Followed.{Followed, EndsBadly, FailsToWrite, DiffersAt, PlayedIn, Compared}
@@ -156,12 +156,3 @@ module _ (form : Form) (start mid : State) (had has : Option (List ℕ)) (lines 
       (has, lines, subst (Followed form start mid had has lines) (sym (alike ∙ ap (λ r. text ++ r) none ∙ append-nil text)) f, at_end)
   left_over_compared bytes expected more place explain at_end alike at (Some difference) (some, is) =
       subst (DiffersAt form start mid had explain expected bytes) (sym is) (differs_at_end bytes expected more place explain at_end alike at some)
-
--- a line's text, written
-pub prints_line : (form : Form) (start now : State) (number : ℕ) (line : Line) (text : List ℕ) (held holds : Option (List ℕ)) → now ≡ line_after start line → text ≡ line_text_in form number start line
-    → (r : Result (Unit {0}) PlayError) → Writes held holds text r → PrintsLine form start now number line held holds r
-prints_line form start now number line text held holds next makes (Ok _) wrote = (next, subst (Appends held holds) makes wrote)
-prints_line form start now number line text held holds next makes (Err Read) wrote = absurd wrote
-prints_line form start now number line text held holds next makes (Err Write) wrote = (next, subst (TookFront held holds) makes wrote)
-prints_line form start now number line text held holds next makes (Err NoMemory) wrote = absurd wrote
-prints_line form start now number line text held holds next makes (Err (BadLine n)) wrote = absurd wrote

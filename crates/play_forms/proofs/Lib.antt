@@ -9,3 +9,4 @@ pub mod PrintedWords
 pub mod ReadLines
 pub mod ReasonLines
 pub mod Unequal
+pub mod Whys

@@ -1,19 +1,18 @@
 -- SPDX-License-Identifier: MIT OR Apache-2.0
 -- Registers with names behind them.
-use Rattle.std.proofs.Common.{◌≡◌, ℕ, true, List, [], ◌∷◌, ◌++◌, Option, Some, Result, Ok, Err, sym, ap, ◌∙◌, append_assoc, refl}
-use Rattle.std.specs.Prelude.{IfErr, OnOk}
+use Rattle.std.proofs.Common.{◌≡◌, ℕ, true, List, [], ◌∷◌, ◌++◌, Some, Result, Ok, Err, sym, ap, ◌∙◌, append_assoc, refl}
+use Rattle.std.specs.Prelude.{OnOk}
 use Rattle.ffa_model.specs.declared.endpoint.EndpointId.{EndpointId}
 use Rattle.ffa_model.specs.declared.operation.Outcome.{Outcome}
 use Rattle.ffa_model.specs.declared.operation.Outcome.TheVariants.{Regs}
 use Rattle.ffa_model.specs.State.{State}
 use Rattle.ffa_model.specs.Step.{step}
 use Rattle.play_syntax.specs.TraceLines.{Line, operate, show, audit, skip, feed}
-use Rattle.play_syntax.specs.TraceText.{ended, line_text, line_after, outcome_words}
+use Rattle.play_syntax.specs.TraceText.{ended, line_text, outcome_words}
 use Rattle.play_syntax.specs.Lines.{outcome_of}
 use Rattle.play_syntax.specs.declared.output.PlayError.{PlayError}
-use Rattle.play_syntax.specs.declared.output.PlayError.TheVariants.{NoMemory}
 use Rattle.play_reasons.specs.Marks.{names_mark}
-use Rattle.play_forms.specs.Forms.{PutsIn, outcome_in, unnumbered_in}
+use Rattle.play_forms.specs.Forms.{outcome_in, unnumbered_in}
 use Rattle.play_forms.specs.Steps.{TakesNames}
 use Rattle.play_forms.specs.declared.form.Form.{Form}
 
@@ -38,8 +37,3 @@ pub takes_registers : (form : Form) → form.names ≡ true → (runner : Endpoi
     → (r : Result (Unit {0}) PlayError) → OnOk r ((front : List ℕ) → old ≡ ended front → new ≡ ended (front ++ names_mark x)) → OnOk r (TakesNames form (Some (Regs runner x)) old new)
 takes_registers form asked runner x old new (Ok _) put = λ s line front came written. registers_named form asked s line runner x front old new came written put
 takes_registers form asked runner x old new (Err e) put = tt
-
-pub puts_in : (form : Form) (s now : State) (line : Line) (outcome : Option Outcome) (old mid new : List ℕ) → now ≡ line_after s line → outcome ≡ outcome_of s line → mid ≡ old ++ line_text s line
-    → (r : Result (Unit {0}) PlayError) → IfErr r (λ e. e ≡ NoMemory) → OnOk r (TakesNames form outcome mid new) → PutsIn form s now line old new r
-puts_in form s now line outcome old mid new next came written (Ok _) failed takes = (next, takes s line old came written)
-puts_in form s now line outcome old mid new next came written (Err e) failed takes = failed

@@ -1,6 +1,6 @@
 -- SPDX-License-Identifier: MIT OR Apache-2.0
 -- With neither numbers nor names nor reasons a play line by line prints what the player prints.
-use Rattle.std.proofs.Common.{◌≡◌, ℕ, ◌+◌, List, [], ◌∷◌, ◌++◌, Option, None, Some, ap, ◌∙◌, append-nil, refl}
+use Rattle.std.proofs.Common.{◌≡◌, ℕ, ◌+◌, List, [], ◌∷◌, ◌++◌, Option, None, Some, ap, ◌∙◌, append-nil, sym, refl}
 use Rattle.std.specs.Option.{option_map_or}
 use Rattle.ffa_model.specs.declared.operation.Op.{Op}
 use Rattle.ffa_model.specs.declared.operation.Outcome.{Outcome}
@@ -23,6 +23,10 @@ plain_line number s (Some (operate op)) = append-nil (outcome_in plain op (step 
 plain_line number s (Some show) = append-nil (line_text s show)
 plain_line number s (Some audit) = append-nil (line_text s audit)
 plain_line number s (Some skip) = refl
+
+-- a text of which nothing stood before is a line's plain text
+pub said_plainly : (number : ℕ) (s : State) (line : Line) (old text : List ℕ) → old ≡ [] → text ≡ old ++ line_text s line → text ≡ line_text_in plain number s line
+said_plainly number s line old text none is = is ∙ ap (λ t. t ++ line_text s line) none ∙ sym (plain_line number s (Some line))
 
 plain_of : (number : ℕ) (s : State) (bytes : List ℕ) → text_of_in plain number s bytes ≡ text_of s bytes
 unfolding text_of_in text_of

@@ -11,7 +11,8 @@ use Rattle.play_forms.specs.declared.guards.Asks.{Asks}
 use Rattle.play_forms.specs.declared.guards.Asks.TheVariants.{Printed, Runner}
 use Rattle.play_forms.specs.Guards.{first_line}
 
--- What follows speaks of what was unasked before and now (`old`, `new`), and of what was found in place of what is wanted.
+-- What follows speaks of what was unasked before and now (`old`, `new`), and of what was found in place of what is
+-- wanted.
 
 -- a line is wanted of a printed text: it begins the text, and was taken off, or it doesn't
 abbrev pub AsksPrinted : List ℕ → List ℕ → List ℕ → List ℕ → Result Bool PlayError → Type 0
@@ -31,7 +32,8 @@ Asked s guard old new found (Err e) = e ≡ NoMemory
 Asked s None old new found (Ok None) = new ≡ old
 Asked s None old new found (Ok (Some asks)) = ⊥
 Asked s (Some (Printed, wants)) old new found (Ok None) = AsksPrinted wants old new found (Ok true)
-Asked s (Some (Printed, wants)) old new found (Ok (Some asks)) = (asks ≡ Printed) × AsksPrinted wants old new found (Ok false)
+Asked s (Some (Printed, wants)) old new found (Ok (Some asks)) =
+    (asks ≡ Printed) × AsksPrinted wants old new found (Ok false)
 Asked s (Some (Runner, wants)) old new found (Ok None) = AsksRunner s wants found (Ok true) × (new ≡ old)
 Asked s (Some (Runner, wants)) old new found (Ok (Some asks)) = (asks ≡ Runner) × AsksRunner s wants found (Ok false)
 

@@ -29,8 +29,8 @@ cut_line line = cut_names (cut_number line)
 abbrev pub is_reason : List ℕ → Bool
 is_reason line = starts_with nat_eq line reason_mark
 
--- The second text is the first without its lines that say why an operation is refused, and with each of the others cut. No line has an LF, so the
--- lines of a text are these and no others.
+-- The second text is the first without its lines that say why an operation is refused, and with each of the others cut.
+-- No line has an LF, so the lines of a text are these and no others.
 pub record CutsTo (text plain : List ℕ) : Type 0 where
   pub lines : List (List ℕ)
   pub each : list_all has_no_feed lines ≡ true

@@ -23,7 +23,8 @@ abbrev pub number_in : Form → ℕ → List ℕ
 number_in form number = if form.number then number_mark number else []
 
 abbrev pub outcome_in : Form → Op → Outcome → List ℕ
-outcome_in form op (Regs runner x) = ended (outcome_words op (Regs runner x) ++ (if form.names then names_mark x else []))
+outcome_in form op (Regs runner x) =
+    ended (outcome_words op (Regs runner x) ++ (if form.names then names_mark x else []))
 outcome_in form op (Data value) = ended (outcome_words op (Data value))
 outcome_in form op Done = ended (outcome_words op Done)
 outcome_in form op (Fault fault) = ended (outcome_words op (Fault fault))
@@ -61,5 +62,6 @@ PutsIn form start now line old new (Err e) = e ≡ NoMemory
 
 -- a line was done, and this is its text, or there is no memory for it
 abbrev pub WritesIn : {X : Type 0} → Form → State → State → ℕ → Line → List ℕ → Result X PlayError → Type 0
-WritesIn form start now number line text (Ok _) = (now ≡ line_after start line) × (text ≡ line_text_in form number start line)
+WritesIn form start now number line text (Ok _) =
+    (now ≡ line_after start line) × (text ≡ line_text_in form number start line)
 WritesIn form start now number line text (Err e) = e ≡ NoMemory

@@ -69,13 +69,16 @@ IsUnasked start lines rest = Leaves start lines rest ⊎ ((are_silent lines ≡ 
 
 -- WHICH GUARDS ARE MET
 
--- a guard behind these lines is met: its text is the first line of the rest, or the identifier of the endpoint that runs
+-- a guard behind these lines is met: its text is the first line of the rest, or the identifier of the endpoint that
+-- runs
 abbrev pub IsMet : State → List (List ℕ) → Asks × List ℕ → Type 0
 IsMet start lines (Printed, text) = (rest : List ℕ) × Leaves start lines (text ++ feed ∷ rest)
 IsMet start lines (Runner, text) = text ≡ hex 4 (after_all start lines).runner
 
 abbrev pub AreMet : State → List (List ℕ) → Type 0
-AreMet start lines = (front : List (List ℕ)) (line : List ℕ) (back : List (List ℕ)) (guard : Asks × List ℕ) → lines ≡ front ++ line ∷ back → guard_of line ≡ Some guard → IsMet start front guard
+AreMet start lines =
+    (front : List (List ℕ)) (line : List ℕ) (back : List (List ℕ)) (guard : Asks × List ℕ)
+    → lines ≡ front ++ line ∷ back → guard_of line ≡ Some guard → IsMet start front guard
 
 -- the line at the front, without the LF that ends it
 abbrev pub first_line : List ℕ → List ℕ
@@ -88,10 +91,12 @@ IsFound start lines Runner found = found ≡ hex 4 (after_all start lines).runne
 
 -- A PLAY
 
--- What follows speaks of the machine's state before and now (`start`, `now`), and of what was unread in the reader before.
+-- What follows speaks of the machine's state before and now (`start`, `now`), and of what was unread in the reader
+-- before.
 
 -- these guards were met, and the line that was read behind them is one that isn't
-pub record Breaks (form : Form) (start now : State) (had : Option (List ℕ)) (text bytes found : List ℕ) (breach : Breach) : Type 0 where
+pub record Breaks (form : Form) (start now : State) (had : Option (List ℕ)) (text bytes found : List ℕ)
+    (breach : Breach) : Type 0 where
   pub left : Option (List ℕ)
   pub after_guard : Option (List ℕ)
   pub lines : List (List ℕ)
@@ -105,15 +110,21 @@ pub record Breaks (form : Form) (start now : State) (had : Option (List ℕ)) (t
   pub is_next : breach.number ≡ 1 + length lines
   pub finds : IsFound start lines breach.asks found
 
--- A play that writes each text and checks guards: whole, or up to a guard that isn't met, or up to a bad line, or as far as could be read, or as
--- far as could be written. Of what it leaves where there is no memory nothing is said.
-abbrev pub GuardedIn : Form → State → State → Option (List ℕ) → Option (List ℕ) → Option (List ℕ) → List ℕ → List ℕ → Result (Option Breach) PlayError → Type 0
+-- A play that writes each text and checks guards: whole, or up to a guard that isn't met, or up to a bad line, or as
+-- far as could be read, or as far as could be written. Of what it leaves where there is no memory nothing is said.
+abbrev pub GuardedIn : Form → State → State → Option (List ℕ) → Option (List ℕ) → Option (List ℕ) → List ℕ → List ℕ
+    → Result (Option Breach) PlayError → Type 0
 GuardedIn form start now held holds had bytes found (Ok None) =
-    (left : Option (List ℕ)) × (lines : List (List ℕ)) × (text : List ℕ) × Followed form start now had left lines text × IsAtEnd left × Appends held holds text × AreMet start lines
-GuardedIn form start now held holds had bytes found (Ok (Some breach)) = (text : List ℕ) × Breaks form start now had text bytes found breach × Appends held holds text
+    (left : Option (List ℕ)) × (lines : List (List ℕ)) × (text : List ℕ)
+    × Followed form start now had left lines text × IsAtEnd left × Appends held holds text × AreMet start lines
+GuardedIn form start now held holds had bytes found (Ok (Some breach)) =
+    (text : List ℕ) × Breaks form start now had text bytes found breach × Appends held holds text
 GuardedIn form start now held holds had bytes found (Err (BadLine n)) =
-    (text : List ℕ) × (ends : EndsBadly form start now had text bytes n) × Appends held holds text × AreMet start ends.lines
+    (text : List ℕ) × (ends : EndsBadly form start now had text bytes n) × Appends held holds text
+    × AreMet start ends.lines
 GuardedIn form start now held holds had bytes found (Err Read) =
-    (left : Option (List ℕ)) × (lines : List (List ℕ)) × (text : List ℕ) × Followed form start now had left lines text × Appends held holds text × AreMet start lines
-GuardedIn form start now held holds had bytes found (Err Write) = (fails : FailsToWrite form start now held holds had) × AreMet start (fails.lines ++ fails.last ∷ [])
+    (left : Option (List ℕ)) × (lines : List (List ℕ)) × (text : List ℕ)
+    × Followed form start now had left lines text × Appends held holds text × AreMet start lines
+GuardedIn form start now held holds had bytes found (Err Write) =
+    (fails : FailsToWrite form start now held holds had) × AreMet start (fails.lines ++ fails.last ∷ [])
 GuardedIn form start now held holds had bytes found (Err NoMemory) = ⊤

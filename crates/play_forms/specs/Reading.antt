@@ -1,6 +1,6 @@
 -- SPDX-License-Identifier: MIT OR Apache-2.0
 -- What reading a line leaves.
-use Rattle.std.specs.Prelude.{◌≡◌, ◌≢◌, ◌≤◌, ◌⊎◌, ℕ, Bool, true, false, List, [], ◌∷◌, ◌++◌, length, Option, None, Some, Result, Ok, Err, ⊤}
+use Rattle.std.specs.Prelude.{◌≡◌, ◌≢◌, ◌≤◌, ◌⊎◌, ℕ, ◌+◌, Bool, true, false, List, [], ◌∷◌, ◌++◌, length, Option, None, Some, Result, Ok, Err, ⊤}
 use Rattle.std.specs.Io.KnownBytes.{Consumes, IsAtEnd}
 use Rattle.play_syntax.specs.TraceLines.{feed, has_no_feed, is_good, line_of}
 use Rattle.play_syntax.specs.Lines.{meant}
@@ -13,12 +13,13 @@ abbrev pub IsAll : Option (List ℕ) → List ℕ → Type 0
 IsAll None all = ⊤
 IsAll (Some bytes) all = bytes ≡ all
 
--- A line was read, by what was unread in the reader before and after. There is one, and its LF was read too; or the reader was at its end; or
--- a rest was left that no LF ends, which has this number.
+-- A line was read, by what was unread in the reader before and after. There is one, and its LF was read too; or the
+-- reader was at its end; or a rest was left that no LF ends, which has this number.
 abbrev pub ReadsLine : Option (List ℕ) → Option (List ℕ) → List ℕ → ℕ → Result Bool PlayError → Type 0
 ReadsLine had has line number (Ok true) = Consumes had has (line ++ feed ∷ []) × (has_no_feed line ≡ true)
 ReadsLine had has line number (Ok false) = IsAtEnd had
-ReadsLine had has line number (Err (BadLine n)) = (n ≡ number) × IsAll had line × (has_no_feed line ≡ true) × (1 ≤ length line)
+ReadsLine had has line number (Err (BadLine n)) =
+    (n ≡ number) × IsAll had line × (has_no_feed line ≡ true) × (1 ≤ length line)
 ReadsLine had has line number (Err Read) = ⊤
 ReadsLine had has line number (Err NoMemory) = ⊤
 ReadsLine had has line number (Err Write) = ⊥
@@ -27,23 +28,36 @@ ReadsLine had has line number (Err Write) = ⊥
 abbrev pub TakesFeed : List ℕ → List ℕ → ℕ → Result Bool PlayError → Type 0
 TakesFeed old new number (Ok true) = old ≡ new ++ feed ∷ []
 TakesFeed old new number (Ok false) = ⊥
-TakesFeed old new number (Err (BadLine n)) = (n ≡ number) × (new ≡ old) × ((front : List ℕ) × (last : ℕ) × (old ≡ front ++ last ∷ []) × (last ≢ feed))
+TakesFeed old new number (Err (BadLine n)) =
+    (n ≡ number) × (new ≡ old) × ((front : List ℕ) × (last : ℕ) × (old ≡ front ++ last ∷ []) × (last ≢ feed))
 TakesFeed old new number (Err Read) = ⊤
 TakesFeed old new number (Err NoMemory) = ⊤
 TakesFeed old new number (Err Write) = ⊥
 
--- what is unread begins with these bytes, which are a line that is none of the format, and its LF; or they are all of it, and no LF ends them
+-- what is unread begins with these bytes, which are a line that is none of the format, and its LF; or they are all of
+-- it, and no LF ends them
 abbrev pub IsBadLine : Option (List ℕ) → List ℕ → Type 0
 IsBadLine left bytes =
-    ((bad : List ℕ) × (rest : Option (List ℕ)) × (bytes ≡ bad ++ feed ∷ []) × (has_no_feed bad ≡ true) × (is_good bad ≡ false) × Consumes left rest bytes)
+    ((bad : List ℕ) × (rest : Option (List ℕ)) × (bytes ≡ bad ++ feed ∷ []) × (has_no_feed bad ≡ true)
+    × (is_good bad ≡ false) × Consumes left rest bytes)
     ⊎ ((has_no_feed bytes ≡ true) × (1 ≤ length bytes) × IsAll left bytes)
 
--- A line was read and is taken, and these are its bytes without its LF; or the reader was at its end; or a bad line was read, which has this
--- number, and these are its bytes.
+-- A line was read and is taken, and these are its bytes without its LF; or the reader was at its end; or a bad line was
+-- read, which has this number, and these are its bytes.
 abbrev pub TakesLine : Option (List ℕ) → Option (List ℕ) → List ℕ → ℕ → Result (Option Line) PlayError → Type 0
 TakesLine had has bytes number (Ok None) = IsAtEnd had
-TakesLine had has bytes number (Ok (Some line)) = Consumes had has (bytes ++ feed ∷ []) × (has_no_feed bytes ≡ true) × (Some (meant line) ≡ line_of bytes)
+TakesLine had has bytes number (Ok (Some line)) =
+    Consumes had has (bytes ++ feed ∷ []) × (has_no_feed bytes ≡ true) × (Some (meant line) ≡ line_of bytes)
 TakesLine had has bytes number (Err (BadLine n)) = (n ≡ number) × IsBadLine had bytes
 TakesLine had has bytes number (Err Read) = ⊤
 TakesLine had has bytes number (Err NoMemory) = ⊤
 TakesLine had has bytes number (Err Write) = ⊥
+
+-- The line that has this number was read and taken, and the next has the next; or the reader was at its end; or a bad
+-- line was read, or none can be.
+abbrev pub TakesNext : ℕ → ℕ → Option (List ℕ) → Option (List ℕ) → List ℕ → Result (Option (ℕ × Line)) PlayError
+    → Type 0
+TakesNext number next had has bytes (Ok None) = (next ≡ number) × TakesLine had has bytes number (Ok None)
+TakesNext number next had has bytes (Ok (Some (its, line))) =
+    (its ≡ number) × (next ≡ 1 + number) × TakesLine had has bytes number (Ok (Some line))
+TakesNext number next had has bytes (Err e) = TakesLine had has bytes number (Err e)

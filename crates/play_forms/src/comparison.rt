@@ -1,27 +1,25 @@
 // SPDX-License-Identifier: MIT OR Apache-2.0
 //! A play against a text that is expected.
-ghost use Rattle.std.specs.Prelude.{◌≡◌, IfOk, IfSome};
-ghost use Rattle.play_syntax.specs.Lines.{meant};
-ghost use Rattle.play_reasons.specs.Reasons.{reason_if, told_line};
+ghost use Rattle.std.specs.Prelude.{IfOk, IfSome};
 ghost use Rattle.play_forms.specs.Followed.{Compared, NeverPrints};
-ghost use Rattle.play_forms.specs.Forms.{WritesIn, plain};
+ghost use Rattle.play_forms.specs.Forms.{plain};
 ghost use Rattle.play_forms.specs.Steps.{LeavesOver};
 
-use crate::form::{Form, make_text};
-use crate::read::take_line;
+use crate::form::put_plain;
+use crate::read::Lines;
 use crate::reason::reason_of;
 use ffa_playable::Playable;
 use play_player::Player;
 use play_reasons::Reason;
-use play_syntax::{Line, PlayError};
+use play_syntax::PlayError;
 use std::alloc::Allocator;
 use std::io::BufRead;
 
 /// Where a text first differs from what is expected.
 #[derive(Clone, Copy)]
 pub struct Difference {
-    /// The number of the line whose text differs, counted from 1, or of the line behind the last, where the expected text
-    /// goes on.
+    /// The number of the line whose text differs, counted from 1, or of the line behind the last, where the expected
+    /// text goes on.
     pub number: u64,
     /// How many bytes of the expected text the lines before it printed.
     pub place: usize,
@@ -29,13 +27,13 @@ pub struct Difference {
     pub reason: Option<Reason>,
 }
 
-/// Does the lines that the reader gives, one after another, up to the first whose text isn't how the expected text goes on,
-/// and answers where that is. That line is done too. Its bytes stand in `bytes`, without the LF that ends them, and its plain
-/// text in `text`, of which no clause speaks.
+/// Does the lines that the reader gives, one after another, up to the first whose text isn't how the expected text goes
+/// on, and answers where that is. That line is done too. Its bytes stand in `bytes`, without the LF that ends them, and
+/// its plain text in `text`, of which no clause speaks.
 ///
-/// At a bad line, and where the reader fails, the lines before it were done, and nothing more, and their text begins the
-/// expected one. The bytes of a bad line stand in `bytes` as they stand in the trace, with the LF that ends them, where one
-/// does. What is left where there is no memory is in no clause.
+/// At a bad line, and where the reader fails, the lines before it were done, and nothing more, and their text begins
+/// the expected one. The bytes of a bad line stand in `bytes` as they stand in the trace, with the LF that ends them,
+/// where one does. What is left where there is no memory is in no clause.
 pub fn compare<P: Playable, A: Allocator + Copy, R: BufRead>(
     player: &mut Player<P>,
     alloc: A,
@@ -45,50 +43,26 @@ pub fn compare<P: Playable, A: Allocator + Copy, R: BufRead>(
     bytes: &mut Vec<u8, A>,
     text: &mut Vec<u8, A>,
 ) -> Result<Option<Difference>, PlayError>
-    ensures compared { Compared plain player.old.state player.new.state (R.remaining reader.old) explain expected.now bytes.new.items result }
-    ensures unequal { IfOk result (λ d. IfSome d (λ _. NeverPrints plain player.old.state (R.remaining reader.old) expected.now)) }
+    ensures compared { let had = R.remaining reader.old in
+        Compared plain player.old.state player.new.state had explain expected.now bytes.new.items result }
+    ensures unequal { let had = R.remaining reader.old in
+        IfOk result (λ d. IfSome d (λ _. NeverPrints plain player.old.state had expected.now)) }
 {
     let mut rest = expected;
-    let mut number = 1;
-    while number < u64::MAX {
-        let place = expected.len() - rest.len();
-        let Some(line) = take_line(reader, bytes, number)? else {
-            return Ok(left_over(rest, number, place));
-        };
-        let reason = tell_text(player, alloc, explain, number, &line, text)?;
+    let mut lines = Lines::new();
+    while let Some((number, line)) = lines.next(reader, bytes)? {
+        text.clear();
+        let outcome = put_plain(player, alloc, &line, text)?;
         let Some(more) = rest.strip_prefix(text.as_slice()) else {
             return Ok(Some(Difference {
                 number,
-                place,
-                reason,
+                place: expected.len() - rest.len(),
+                reason: reason_of(player, explain, &line, outcome),
             }));
         };
         rest = more;
-        number += 1;
     }
-    Err(PlayError::Read)
-}
-
-// Does a line and makes its plain text, and answers why its operation is refused, where that is asked for.
-fn tell_text<P: Playable, A: Allocator + Copy>(
-    player: &mut Player<P>,
-    alloc: A,
-    explain: bool,
-    number: u64,
-    line: &Line,
-    text: &mut Vec<u8, A>,
-) -> Result<Option<Reason>, PlayError>
-    ensures made { WritesIn plain player.old.state player.new.state number (meant line.now) text.new.items result }
-    ensures told { IfOk result (λ reason. told_line reason ≡ reason_if explain player.old.state (meant line.now)) }
-{
-    let plain = Form {
-        number: false,
-        names: false,
-        explain: false,
-    };
-    let reason = reason_of(player, explain, line);
-    make_text(player, alloc, plain, number, line, text)?;
-    Ok(reason)
+    Ok(left_over(rest, lines.number, expected.len() - rest.len()))
 }
 
 // The difference where no line is left: there is one if the expected text goes on.

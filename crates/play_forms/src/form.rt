@@ -1,11 +1,11 @@
 // SPDX-License-Identifier: MIT OR Apache-2.0
 //! The forms in which a line's text is written.
-ghost use Rattle.std.specs.Prelude.{◌≡◌, ◌++◌, IfErr, OnOk};
+ghost use Rattle.std.specs.Prelude.{◌≡◌, ◌++◌, IfErr, IfOk, OnOk};
 ghost use Rattle.play_syntax.specs.TraceText.{line_text};
-ghost use Rattle.play_syntax.specs.Lines.{meant};
+ghost use Rattle.play_syntax.specs.Lines.{meant, outcome_of};
 ghost use Rattle.play_forms.specs.Asking.{unasked_by};
 ghost use Rattle.play_forms.specs.Forms.{PutsIn, WritesIn, number_in};
-ghost use Rattle.play_forms.specs.Steps.{Explains, Speaks, TakesNames};
+ghost use Rattle.play_forms.specs.Steps.{Explains, PutsPlain, Speaks, TakesNames};
 
 use crate::reason::reason_of;
 use ffa_model::Outcome;
@@ -56,7 +56,9 @@ fn put_spoken<P: Playable, A: Allocator + Copy>(
     line: &Line,
     text: &mut Vec<u8, A>,
 ) -> Result<(), PlayError>
-    ensures { Speaks form player.old.state player.new.state number (meant line.now) text.old.items text.new.items result }
+    ensures { let start = player.old.state in
+        let now = player.new.state in
+        Speaks form start now number (meant line.now) text.old.items text.new.items result }
 {
     put_number_in(form, number, text)?;
     put_explained(player, alloc, form, line, text)
@@ -77,7 +79,7 @@ fn put_number_in<A: Allocator>(
     }
 }
 
-// Without its number. Why an operation is refused is asked before it is done.
+// Without its number.
 fn put_explained<P: Playable, A: Allocator + Copy>(
     player: &mut Player<P>,
     alloc: A,
@@ -87,9 +89,8 @@ fn put_explained<P: Playable, A: Allocator + Copy>(
 ) -> Result<(), PlayError>
     ensures { Explains form player.old.state player.new.state (meant line.now) text.old.items text.new.items result }
 {
-    let reason = reason_of(player, form.explain, line);
-    put_text(player, alloc, form, line, text)?;
-    put_reason(text, reason)
+    let outcome = put_text(player, alloc, form, line, text)?;
+    put_reason(text, reason_of(player, form.explain, line, outcome))
 }
 
 /// As `make_text`, and puts the plain text into `said`, which a line that says nothing leaves as it is.
@@ -124,30 +125,30 @@ fn put_both<P: Playable, A: Allocator + Copy>(
     said: &mut Vec<u8, A>,
     text: &mut Vec<u8, A>,
 ) -> Result<(), PlayError>
-    ensures spoken { Speaks form player.old.state player.new.state number (meant line.now) text.old.items text.new.items result }
+    ensures spoken { let start = player.old.state in
+        let now = player.new.state in
+        Speaks form start now number (meant line.now) text.old.items text.new.items result }
     ensures said { OnOk result (said.new.items ≡ line_text player.old.state (meant line.now)) }
 {
     put_number_in(form, number, text)?;
-    let reason = reason_of(player, form.explain, line);
-    put_texts(player, alloc, form, line, said, text)?;
-    put_reason(text, reason)
+    let outcome = put_texts(player, alloc, form, line, said, text)?;
+    put_reason(text, reason_of(player, form.explain, line, outcome))
 }
 
-// Does a line, and puts its text behind what stands there.
+// Does a line, and puts its text behind what stands there. It answers what came of the operation that the line is.
 fn put_text<P: Playable, A: Allocator + Copy>(
     player: &mut Player<P>,
     alloc: A,
     form: Form,
     line: &Line,
     text: &mut Vec<u8, A>,
-) -> Result<(), PlayError>
-    ensures { PutsIn form player.old.state player.new.state (meant line.now) text.old.items text.new.items result }
+) -> Result<Option<Outcome>, PlayError>
+    ensures put { PutsIn form player.old.state player.new.state (meant line.now) text.old.items text.new.items result }
+    ensures outcome { IfOk result (λ o. o ≡ outcome_of player.old.state (meant line.now)) }
 {
-    match player.line(alloc, line, text) {
-        Ok(outcome) => put_names_in(form, outcome, text),
-        // A text in memory takes all that there is memory for.
-        Err(_) => Err(PlayError::NoMemory),
-    }
+    let outcome = put_plain(player, alloc, line, text)?;
+    put_names_in(form, outcome, text)?;
+    Ok(outcome)
 }
 
 // The same, with the plain text in `said`.
@@ -158,15 +159,31 @@ fn put_texts<P: Playable, A: Allocator + Copy>(
     line: &Line,
     said: &mut Vec<u8, A>,
     text: &mut Vec<u8, A>,
-) -> Result<(), PlayError>
+) -> Result<Option<Outcome>, PlayError>
     ensures put { PutsIn form player.old.state player.new.state (meant line.now) text.old.items text.new.items result }
+    ensures outcome { IfOk result (λ o. o ≡ outcome_of player.old.state (meant line.now)) }
     ensures said { OnOk result (said.new.items ≡ line_text player.old.state (meant line.now)) }
 {
     said.clear();
-    match player.line(alloc, line, said) {
-        Ok(outcome) => put_said(form, outcome, said, text),
-        Err(_) => Err(PlayError::NoMemory),
-    }
+    let outcome = put_plain(player, alloc, line, said)?;
+    put_said(form, outcome, said, text)?;
+    Ok(outcome)
+}
+
+/// Does a line, and puts its plain text behind what stands there. It answers what came of the operation that the line
+/// is.
+pub(crate) fn put_plain<P: Playable, A: Allocator + Copy>(
+    player: &mut Player<P>,
+    alloc: A,
+    line: &Line,
+    text: &mut Vec<u8, A>,
+) -> Result<Option<Outcome>, PlayError>
+    ensures { PutsPlain player.old.state player.new.state (meant line.now) text.old.items text.new.items result }
+{
+    // A text in memory takes all that there is memory for.
+    player
+        .line(alloc, line, text)
+        .map_err(|_| PlayError::NoMemory)
 }
 
 // Puts the plain text of a line behind what stands there, with names where they are asked for.

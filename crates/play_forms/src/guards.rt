@@ -10,7 +10,7 @@ ghost use Rattle.play_forms.specs.Guards.{GuardedIn, first_line, guard_of, unspa
 ghost use Rattle.play_forms.specs.Steps.{PrintsLine};
 
 use crate::form::{Form, make_texts};
-use crate::read::take_line;
+use crate::read::Lines;
 use ffa_playable::Playable;
 use play_player::Player;
 use play_syntax::text::{self, Text};
@@ -59,10 +59,10 @@ fn without_space(text: &[u8]) -> &[u8]
 /// As `play`, and checks guards: it stops at the first that isn't met.
 ///
 /// Guards of a printed text ask for the lines of the plain text that the last line before them printed, one each and in
-/// order, and guards of the runner for the endpoint that runs. The bytes of a guard that isn't met stand in `bytes`, without
-/// the LF that ends them, and what there is in place of what it wants in `found`: the next line that no guard has asked for,
-/// without its LF, which is empty where there is none; or the identifier of the endpoint that runs. The guards of the lines
-/// that were done are met, also where the play stops for another reason.
+/// order, and guards of the runner for the endpoint that runs. The bytes of a guard that isn't met stand in `bytes`,
+/// without the LF that ends them, and what there is in place of what it wants in `found`: the next line that no guard
+/// has asked for, without its LF, which is empty where there is none; or the identifier of the endpoint that runs. The
+/// guards of the lines that were done are met, also where the play stops for another reason.
 pub fn play_guarded<P: Playable, A: Allocator + Copy, R: BufRead, W: Write>(
     player: &mut Player<P>,
     alloc: A,
@@ -72,15 +72,15 @@ pub fn play_guarded<P: Playable, A: Allocator + Copy, R: BufRead, W: Write>(
     bytes: &mut Vec<u8, A>,
     found: &mut Vec<u8, A>,
 ) -> Result<Option<Breach>, PlayError>
-    ensures { GuardedIn form player.old.state player.new.state (W.contents writer.old) (W.contents writer.new) (R.remaining reader.old) bytes.new.items found.new.items result }
+    ensures { let held = W.contents writer.old in
+        let holds = W.contents writer.new in
+        let had = R.remaining reader.old in
+        GuardedIn form player.old.state player.new.state held holds had bytes.new.items found.new.items result }
 {
     let mut unasked = Vec::new(alloc);
     let mut text = Vec::new(alloc);
-    let mut number = 1;
-    while number < u64::MAX {
-        let Some(line) = take_line(reader, bytes, number)? else {
-            return Ok(None);
-        };
+    let mut lines = Lines::new();
+    while let Some((number, line)) = lines.next(reader, bytes)? {
         if let Some(asks) = unmet(player, bytes, &mut unasked, found)? {
             return Ok(Some(Breach { number, asks }));
         }
@@ -94,9 +94,8 @@ pub fn play_guarded<P: Playable, A: Allocator + Copy, R: BufRead, W: Write>(
             &mut unasked,
             &mut text,
         )?;
-        number += 1;
     }
-    Err(PlayError::Read)
+    Ok(None)
 }
 
 // Does a line and writes its text, which it makes in `text`, and puts the plain text into `said`, where there is one.
@@ -110,15 +109,17 @@ fn print_asked<P: Playable, A: Allocator + Copy, W: Write>(
     said: &mut Vec<u8, A>,
     text: &mut Vec<u8, A>,
 ) -> Result<(), PlayError>
-    ensures printed { PrintsLine form player.old.state player.new.state number (meant line.now) (W.contents writer.old) (W.contents writer.new) result }
+    ensures printed { let held = W.contents writer.old in
+        let holds = W.contents writer.new in
+        PrintsLine form player.old.state player.new.state number (meant line.now) held holds result }
     ensures said { OnOk result (said.new.items ≡ unasked_by player.old.state (meant line.now) said.old.items) }
 {
     make_texts(player, alloc, form, number, line, said, text)?;
     output::write_text(writer, text)
 }
 
-// Asks the guard that a line is, if it is one, and answers what it asks about if it isn't met. What it wants of a printed
-// text is taken off what is unasked.
+// Asks the guard that a line is, if it is one, and answers what it asks about if it isn't met. What it wants of a
+// printed text is taken off what is unasked.
 fn unmet<P: Playable, A: Allocator>(
     player: &Player<P>,
     line: &[u8],
@@ -168,7 +169,9 @@ fn ask_runner<P: Playable, A: Allocator>(
 
 // What stands behind a line and its LF, where a text begins with them.
 fn behind_line<'a>(text: &'a [u8], line: &[u8]) -> Option<&'a [u8]>
-    ensures { MatchOption result ((rest : List ℕ) → text.now ≢ line.now ++ feed ∷ rest) (λ rest. text.now ≡ line.now ++ feed ∷ rest.now) }
+    ensures { MatchOption result
+        ((rest : List ℕ) → text.now ≢ line.now ++ feed ∷ rest)
+        (λ rest. text.now ≡ line.now ++ feed ∷ rest.now) }
 {
     let Some(rest) = text.strip_prefix(line) else {
         return None;

@@ -14,4 +14,4 @@ pub use comparison::{Difference, compare};
 pub use form::{Form, make_text};
 pub use guards::{Asks, Breach, guard_text, play_guarded};
 pub use playing::play;
-pub use read::{next_line, take_line};
+pub use read::{Lines, next_line};

@@ -5,7 +5,7 @@ ghost use Rattle.play_forms.specs.Followed.{PlayedIn};
 ghost use Rattle.play_forms.specs.Steps.{PrintsLine};
 
 use crate::form::{Form, make_text};
-use crate::read::take_line;
+use crate::read::Lines;
 use ffa_playable::Playable;
 use play_player::Player;
 use play_syntax::{Line, PlayError, output};
@@ -16,9 +16,9 @@ use std::io::{BufRead, Write};
 /// done. Lines count from 1.
 ///
 /// At a bad line, and where the reader fails, the lines before it were done, and nothing more, and their whole text was
-/// written; where the writer fails, it took a beginning of the text of the line that was done last. The bytes of a bad line
-/// stand in `bytes` as they stand in the trace, with the LF that ends them, where one does. What is left where there is no
-/// memory is in no clause.
+/// written; where the writer fails, it took a beginning of the text of the line that was done last. The bytes of a bad
+/// line stand in `bytes` as they stand in the trace, with the LF that ends them, where one does. What is left where
+/// there is no memory is in no clause.
 pub fn play<P: Playable, A: Allocator + Copy, R: BufRead, W: Write>(
     player: &mut Player<P>,
     alloc: A,
@@ -27,18 +27,17 @@ pub fn play<P: Playable, A: Allocator + Copy, R: BufRead, W: Write>(
     writer: &mut W,
     bytes: &mut Vec<u8, A>,
 ) -> Result<(), PlayError>
-    ensures { PlayedIn form player.old.state player.new.state (W.contents writer.old) (W.contents writer.new) (R.remaining reader.old) bytes.new.items result }
+    ensures { let held = W.contents writer.old in
+        let holds = W.contents writer.new in
+        let had = R.remaining reader.old in
+        PlayedIn form player.old.state player.new.state held holds had bytes.new.items result }
 {
     let mut text = Vec::new(alloc);
-    let mut number = 1;
-    while number < u64::MAX {
-        match take_line(reader, bytes, number)? {
-            Some(line) => print_line(player, alloc, form, number, &line, writer, &mut text)?,
-            None => return Ok(()),
-        }
-        number += 1;
+    let mut lines = Lines::new();
+    while let Some((number, line)) = lines.next(reader, bytes)? {
+        print_line(player, alloc, form, number, &line, writer, &mut text)?;
     }
-    Err(PlayError::Read)
+    Ok(())
 }
 
 // Does a line and writes its text, which it makes in `text`.
@@ -51,7 +50,9 @@ fn print_line<P: Playable, A: Allocator + Copy, W: Write>(
     writer: &mut W,
     text: &mut Vec<u8, A>,
 ) -> Result<(), PlayError>
-    ensures { PrintsLine form player.old.state player.new.state number (meant line.now) (W.contents writer.old) (W.contents writer.new) result }
+    ensures { let held = W.contents writer.old in
+        let holds = W.contents writer.new in
+        PrintsLine form player.old.state player.new.state number (meant line.now) held holds result }
 {
     make_text(player, alloc, form, number, line, text)?;
     output::write_text(writer, text)

@@ -1,23 +1,26 @@
 // SPDX-License-Identifier: MIT OR Apache-2.0
 //! Reading the lines of a trace.
-ghost use Rattle.play_forms.specs.Reading.{ReadsLine, TakesFeed, TakesLine};
+ghost use Rattle.std.specs.Prelude.{◌≡◌};
+ghost use Rattle.play_forms.specs.Reading.{ReadsLine, TakesFeed, TakesLine, TakesNext};
 ghost use Rattle.play_forms.specs.Steps.{Refuses};
 
 use play_syntax::{Line, PlayError};
 use std::alloc::Allocator;
 use std::io::{BufRead, ErrorKind};
 
-/// Reads the next line, which has this number, into `line`, and answers whether there is one. The LF that ends a line is
-/// none of its bytes.
+/// Reads the next line, which has this number, into `line`, and answers whether there is one. The LF that ends a line
+/// is none of its bytes.
 ///
-/// After an interrupt it asks the reader again, as `read_until` does. A rest that no LF ends is a bad line, and stands in
-/// `line` then.
+/// After an interrupt it asks the reader again, as `read_until` does. A rest that no LF ends is a bad line, and stands
+/// in `line` then.
 pub fn next_line<A: Allocator, R: BufRead>(
     reader: &mut R,
     line: &mut Vec<u8, A>,
     number: u64,
 ) -> Result<bool, PlayError>
-    ensures { ReadsLine (R.remaining reader.old) (R.remaining reader.new) line.new.items number result }
+    ensures { let had = R.remaining reader.old in
+        let has = R.remaining reader.new in
+        ReadsLine had has line.new.items number result }
 {
     line.clear();
     match reader.read_until(b'\n', line) {
@@ -42,16 +45,56 @@ fn take_feed<A: Allocator>(line: &mut Vec<u8, A>, number: u64) -> Result<bool, P
     }
 }
 
-/// Reads the next line, which has this number, and answers what it is, or nothing where the reader is at its end.
-///
-/// The bytes of a line that is taken stand in `bytes` without the LF that ends them. Those of a bad line stand there as they
-/// stand in the trace, with the LF that ends them, where one does.
-pub fn take_line<A: Allocator, R: BufRead>(
+/// The lines of a trace, one after another.
+#[derive(Drop)]
+pub struct Lines {
+    /// The number of the line that is read next, counted from 1.
+    pub number: u64,
+}
+
+impl Lines {
+    /// The lines of a trace of which none was read.
+    pub fn new() -> Lines
+        ensures { result.number ≡ 1 }
+    {
+        Lines { number: 1 }
+    }
+
+    /// Reads the next line, and answers its number and what it is, or nothing where the reader is at its end.
+    ///
+    /// The bytes of a line that is taken stand in `bytes` without the LF that ends them. Those of a bad line stand
+    /// there as they stand in the trace, with the LF that ends them, where one does. A trace of more lines than can be
+    /// counted can't be read.
+    pub fn next<A: Allocator, R: BufRead>(
+        &mut self,
+        reader: &mut R,
+        bytes: &mut Vec<u8, A>,
+    ) -> Result<Option<(u64, Line)>, PlayError>
+        ensures { let had = R.remaining reader.old in
+            let has = R.remaining reader.new in
+            TakesNext self.old.number self.new.number had has bytes.new.items result }
+    {
+        let number = self.number;
+        if number == u64::MAX {
+            return Err(PlayError::Read);
+        }
+        let Some(line) = take_line(reader, bytes, number)? else {
+            return Ok(None);
+        };
+        self.number += 1;
+        Ok(Some((number, line)))
+    }
+}
+
+// Reads the line of this number, and answers what it is, or nothing where the reader is at its end.
+fn take_line<A: Allocator, R: BufRead>(
     reader: &mut R,
     bytes: &mut Vec<u8, A>,
     number: u64,
 ) -> Result<Option<Line>, PlayError>
-    ensures { TakesLine (R.remaining reader.old) (R.remaining reader.new) bytes.new.items number result }
+    ensures { let had = R.remaining reader.old in
+        let has = R.remaining reader.new in
+        TakesLine had has bytes.new.items number result }
 {
     if !next_line(reader, bytes, number)? {
         return Ok(None);

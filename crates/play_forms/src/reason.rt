@@ -1,23 +1,28 @@
 // SPDX-License-Identifier: MIT OR Apache-2.0
 //! Why a line's operation is refused, asked of the machine.
-ghost use Rattle.std.specs.Prelude.{◌≡◌};
+ghost use Rattle.std.specs.Prelude.{◌≡◌, false};
+ghost use Rattle.std.specs.Option.{option_map_or};
+ghost use Rattle.ffa_model.specs.Refusals.{is_refusal};
 ghost use Rattle.play_syntax.specs.Lines.{meant};
-ghost use Rattle.play_reasons.specs.Reasons.{reason_if, told_line};
+ghost use Rattle.play_forms.specs.Steps.{SaysWhy};
 
+use ffa_model::Outcome;
 use ffa_playable::Playable;
 use play_player::Player;
 use play_reasons::Reason;
 use play_syntax::Line;
 
-/// Why a line's operation would be refused now, where that is asked for.
+/// Why the operation of a line that was done is refused, where that is asked for. It is asked behind the line, and only
+/// where the outcome refuses: a refusal changes nothing, so the machine still stands as the operation found it.
 pub(crate) fn reason_of<P: Playable>(
     player: &Player<P>,
     explain: bool,
     line: &Line,
+    outcome: Option<Outcome>,
 ) -> Option<Reason>
-    ensures { told_line result ≡ reason_if explain player.now.state (meant line.now) }
+    ensures { SaysWhy explain player.now.state (meant line.now) outcome result }
 {
-    if !explain {
+    if !explain || !is_refused(outcome) {
         return None;
     }
     match *line {
@@ -27,5 +32,15 @@ pub(crate) fn reason_of<P: Playable>(
             Some(Reason { base, op, why })
         }
         Line::Show | Line::Audit | Line::Nothing => None,
+    }
+}
+
+// Whether an operation came to a refusal, where there was one.
+fn is_refused(outcome: Option<Outcome>) -> bool
+    ensures { result ≡ option_map_or is_refusal outcome false }
+{
+    match outcome {
+        Some(outcome) => outcome.is_refusal(),
+        None => false,
     }
 }

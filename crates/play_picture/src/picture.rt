@@ -10,8 +10,9 @@ use play_syntax::PlayError;
 use std::alloc::Allocator;
 use std::io::BufRead;
 
-/// Plays a trace as `watch` does, and answers the picture of what was seen: what each cell says is so of each of its pages
-/// behind the line of its row. What `watch` leaves of a bad line, and of a trace that can't be read, this leaves too.
+/// Plays a trace as `watch` does, and answers the picture of what was seen: what each cell says is so of each of its
+/// pages behind the line of its row. What `watch` leaves of a bad line, and of a trace that can't be read, this leaves
+/// too.
 pub fn picture_of<P: Playable, A: Allocator + Copy, R: BufRead>(
     player: &mut Player<P>,
     alloc: A,

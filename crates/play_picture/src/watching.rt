@@ -9,7 +9,7 @@ ghost use Rattle.play_picture.specs.Watching.{AreFirst, SeesLine, Watched};
 use ffa_model::CertRun;
 use ffa_playable::Playable;
 use play_drawing::{Keep, Row, put_row};
-use play_forms::take_line;
+use play_forms::Lines;
 use play_player::{Player, certificate};
 use play_syntax::{Line, PlayError};
 use std::alloc::Allocator;
@@ -22,12 +22,12 @@ struct Seen<A: Allocator> {
     latest: Vec<CertRun, A>,
 }
 
-/// Does the lines that the reader gives, one after another, and answers the rows of those that have one, each with what the
-/// machine is behind it. The first row is that of the beginning.
+/// Does the lines that the reader gives, one after another, and answers the rows of those that have one, each with what
+/// the machine is behind it. The first row is that of the beginning.
 ///
-/// At a bad line, and where the reader fails, the lines before it were done, and nothing more. The bytes of a bad line stand
-/// in `bytes` as they stand in the trace, with the LF that ends them, where one does. What is left where there is no memory
-/// is in no clause.
+/// At a bad line, and where the reader fails, the lines before it were done, and nothing more. The bytes of a bad line
+/// stand in `bytes` as they stand in the trace, with the LF that ends them, where one does. What is left where there is
+/// no memory is in no clause.
 pub fn watch<P: Playable, A: Allocator + Copy, R: BufRead>(
     player: &mut Player<P>,
     alloc: A,
@@ -38,15 +38,11 @@ pub fn watch<P: Playable, A: Allocator + Copy, R: BufRead>(
     ensures { Watched keep player.old.state player.new.state (R.remaining reader.old) bytes.new.items result }
 {
     let mut seen = begin(player, alloc)?;
-    let mut number = 1;
-    while number < u64::MAX {
-        let Some(line) = take_line(reader, bytes, number)? else {
-            return Ok(seen.rows);
-        };
+    let mut lines = Lines::new();
+    while let Some((number, line)) = lines.next(reader, bytes)? {
         watch_line(player, alloc, keep, number, &line, bytes, &mut seen)?;
-        number += 1;
     }
-    Err(PlayError::Read)
+    Ok(seen.rows)
 }
 
 // The row of the beginning.
@@ -92,7 +88,8 @@ fn alone<A: Allocator + Copy>(alloc: A, row: Row<A>) -> Result<Vec<Row<A>, A>, P
     }
 }
 
-// Does the line of this number, of which these are the bytes, and puts its row behind the others, where it is to have one.
+// Does the line of this number, of which these are the bytes, and puts its row behind the others, where it is to have
+// one.
 fn watch_line<P: Playable, A: Allocator + Copy>(
     player: &mut Player<P>,
     alloc: A,
@@ -103,7 +100,11 @@ fn watch_line<P: Playable, A: Allocator + Copy>(
     seen: &mut Seen<A>,
 ) -> Result<(), PlayError>
     requires { seen.old.latest.items ≡ certificate player.old.state }
-    ensures seen { OnOk result (SeesLine keep number (meant line.now) bytes.now player.old.state player.new.state seen.old.rows.items seen.new.rows.items) }
+    ensures seen { let start = player.old.state in
+        let now = player.new.state in
+        let old = seen.old.rows.items in
+        let new = seen.new.rows.items in
+        OnOk result (SeesLine keep number (meant line.now) bytes.now start now old new) }
     ensures latest { OnOk result (seen.new.latest.items ≡ certificate player.new.state) }
     ensures failed { IfErr result (λ e. e ≡ PlayError.NoMemory) }
 {

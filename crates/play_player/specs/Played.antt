@@ -13,19 +13,22 @@ use Rattle.play_syntax.specs.declared.output.PlayError.TheVariants.{Read, Write,
 -- and of what was unread in the reader before and after.
 
 -- these lines were done, and all their text was written
-pub record Did (state_before state_after : State) (written_before written_after : Option (List ℕ)) (lines : List (List ℕ)) : Type 0 where
+pub record Did (state_before state_after : State) (written_before written_after : Option (List ℕ))
+    (lines : List (List ℕ)) : Type 0 where
   pub each : are_lines lines ≡ true
   pub state : state_after ≡ after_all state_before lines
   pub written : Appends written_before written_after (text state_before lines)
 
 -- a line was done, and the writer took a beginning of its text
-pub record Began (state_before state_after : State) (written_before written_after : Option (List ℕ)) (line : List ℕ) : Type 0 where
+pub record Began (state_before state_after : State) (written_before written_after : Option (List ℕ)) (line : List ℕ)
+    : Type 0 where
   pub good : is_good line ≡ true
   pub state : state_after ≡ after state_before line
   pub written : TookFront written_before written_after (text_of state_before line)
 
 -- these lines were done and all their text was written, and then one whose text wasn't written whole
-pub record DidAndBegan (state_before state_after : State) (written_before written_after : Option (List ℕ)) (lines : List (List ℕ)) (line : List ℕ) : Type 0 where
+pub record DidAndBegan (state_before state_after : State) (written_before written_after : Option (List ℕ))
+    (lines : List (List ℕ)) (line : List ℕ) : Type 0 where
   pub state_between : State
   pub written_between : Option (List ℕ)
   pub did : Did state_before state_between written_before written_between lines
@@ -37,7 +40,8 @@ abbrev pub most_lines : ℕ
 most_lines = 2 ^ 64 - 2
 
 -- a play, by its answer
-abbrev pub Played : {X : Type 0} → (state_before state_after : State) → (written_before written_after unread_before unread_after : Option (List ℕ)) → Result X PlayError → Type 0
+abbrev pub Played : {X : Type 0} → (state_before state_after : State)
+    → (written_before written_after unread_before unread_after : Option (List ℕ)) → Result X PlayError → Type 0
 -- the reader was read to its end, and what it gave are these lines, no more than can be counted
 Played state_before state_after written_before written_after unread_before unread_after (Ok _) =
     (lines : List (List ℕ))
@@ -69,4 +73,5 @@ Played state_before state_after written_before written_after unread_before unrea
     × Did state_before state_after written_before written_after lines
     × Consumes unread_before unread_after (joined lines ++ (bad ++ more))
     × (n ≡ 1 + length lines) × (n ≤ most_lines) × (has_no_feed bad ≡ true)
-    × ((((next : List ℕ) × (more ≡ feed ∷ next)) × (is_good bad ≡ false)) ⊎ ((more ≡ []) × (1 ≤ length bad) × IsAtEnd unread_after))
+    × ((((next : List ℕ) × (more ≡ feed ∷ next)) × (is_good bad ≡ false))
+    ⊎ ((more ≡ []) × (1 ≤ length bad) × IsAtEnd unread_after))

@@ -16,8 +16,8 @@ use play_syntax::text::{self, CAPACITY, Text};
 use std::alloc::{AllocError, Allocator};
 use std::io::Write;
 
-/// Writes the machine's certificate with the addresses of its level 1 tables, and whether the tables give it. The runs are
-/// put together first: where there is no memory for them, nothing is written.
+/// Writes the machine's certificate with the addresses of its level 1 tables, and whether the tables give it. The runs
+/// are put together first: where there is no memory for them, nothing is written.
 pub(crate) fn write_audit<P: Playable, A: Allocator, W: Write>(
     machine: &P,
     alloc: A,
@@ -69,7 +69,9 @@ fn write_runs<P: Playable, W: Write>(
     runs: &[CertRun],
     writer: &mut W,
 ) -> Result<(), PlayError>
-    ensures { Writes (W.contents writer.old) (W.contents writer.new) (flat_map (cert_run_text (P.state machine.now)) runs.now) result }
+    ensures { let held = W.contents writer.old in
+        let holds = W.contents writer.new in
+        Writes held holds (flat_map (cert_run_text (P.state machine.now)) runs.now) result }
 {
     let mut text = Text::new();
     for run in runs {
@@ -111,7 +113,8 @@ fn push_cert<P: Playable>(text: &mut Text, machine: &P)
 // Appends the line of each endpoint's level 1 table.
 fn push_roots<P: Playable>(text: &mut Text, machine: &P)
     requires { array_vec_len text.old ≤ 64 }
-    ensures { text.new.items ≡ text.old.items ++ flat_map (root_text (P.state machine.now)) (range_with_len 0 (length (P.state machine.now).parties)) }
+    ensures { let s = P.state machine.now in
+        text.new.items ≡ text.old.items ++ flat_map (root_text s) (range_with_len 0 (length s.parties)) }
 {
     for place in 0..machine.endpoints() {
         push_root(text, machine, place);
@@ -132,7 +135,8 @@ fn push_root<P: Playable>(text: &mut Text, machine: &P, place: usize)
     text.push(b'\n');
 }
 
-// The address of the level 1 table of the endpoint at a place: its table pages stand behind those of the endpoints before.
+// The address of the level 1 table of the endpoint at a place: its table pages stand behind those of the endpoints
+// before.
 fn root_at<P: Playable>(machine: &P, place: usize) -> u64
     requires { place < MOST_ENDPOINTS }
     ensures { result ≡ root (P.state machine.now) place }

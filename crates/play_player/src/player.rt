@@ -87,7 +87,11 @@ impl<P: Playable> Player<P> {
         reader: &mut R,
         writer: &mut W,
     ) -> Result<(), PlayError>
-        ensures { Played self.old.state self.new.state (W.contents writer.old) (W.contents writer.new) (R.remaining reader.old) (R.remaining reader.new) result }
+        ensures { let held = W.contents writer.old in
+            let holds = W.contents writer.new in
+            let had = R.remaining reader.old in
+            let has = R.remaining reader.new in
+            Played self.old.state self.new.state held holds had has result }
     {
         self.play_in(alloc, reader, writer)
     }
@@ -101,7 +105,9 @@ impl<P: Playable> Player<P> {
         line: &Line,
         writer: &mut W,
     ) -> Result<Option<Outcome>, PlayError>
-        ensures { Answered self.old.state self.new.state (W.contents writer.old) (W.contents writer.new) (meant line.now) result }
+        ensures { let held = W.contents writer.old in
+            let holds = W.contents writer.new in
+            Answered self.old.state self.new.state held holds (meant line.now) result }
     {
         answer(&mut self.machine, alloc, writer, line)
     }
@@ -109,8 +115,8 @@ impl<P: Playable> Player<P> {
     /// Takes bytes of a trace, of which `begun` came before: does each line that ends in them, and writes its text, and
     /// answers what has begun of the line behind these.
     ///
-    /// So no text of a line whose LF has come is kept back. It asks the writer for `write` alone, and tries nothing again
-    /// after an error. After `PlayError::Read` there are more lines than can be counted.
+    /// So no text of a line whose LF has come is kept back. It asks the writer for `write` alone, and tries nothing
+    /// again after an error. After `PlayError::Read` there are more lines than can be counted.
     pub fn feed<A: Allocator + Copy, W: Write>(
         &mut self,
         alloc: A,
@@ -118,20 +124,34 @@ impl<P: Playable> Player<P> {
         bytes: &[u8],
         writer: &mut W,
     ) -> Result<Begun<A>, PlayError>
-        ensures fed { IfOk result (λ next. Feeding self.old.state self.new.state (W.contents writer.old) (W.contents writer.new) begun.number next.number (begun.bytes.items ++ bytes.now) next.bytes.items) }
-        ensures failed { IfErr result (StopsIn self.old.state self.new.state (W.contents writer.old) (W.contents writer.new) begun.number (begun.bytes.items ++ bytes.now)) }
+        ensures fed { let start = self.old.state in
+            let now = self.new.state in
+            let held = W.contents writer.old in
+            let holds = W.contents writer.new in
+            let all = begun.bytes.items ++ bytes.now in
+            IfOk result (λ next. Feeding start now held holds begun.number next.number all next.bytes.items) }
+        ensures failed { let start = self.old.state in
+            let now = self.new.state in
+            let held = W.contents writer.old in
+            let holds = W.contents writer.new in
+            IfErr result (StopsIn start now held holds begun.number (begun.bytes.items ++ bytes.now)) }
     {
         feed(&mut self.machine, alloc, writer, begun, bytes)
     }
 
-    /// Plays as `play` does, with memory of any allocator. It is `feed`, with what each `read` gave, before the next `read`.
+    /// Plays as `play` does, with memory of any allocator. It is `feed`, with what each `read` gave, before the next
+    /// `read`.
     pub fn play_in<A: Allocator + Copy, R: Read, W: Write>(
         &mut self,
         alloc: A,
         reader: &mut R,
         writer: &mut W,
     ) -> Result<(), PlayError>
-        ensures { Played self.old.state self.new.state (W.contents writer.old) (W.contents writer.new) (R.remaining reader.old) (R.remaining reader.new) result }
+        ensures { let held = W.contents writer.old in
+            let holds = W.contents writer.new in
+            let had = R.remaining reader.old in
+            let has = R.remaining reader.new in
+            Played self.old.state self.new.state held holds had has result }
     {
         play_lines(&mut self.machine, alloc, reader, writer)
     }
@@ -145,7 +165,11 @@ fn play_lines<P: Playable, A: Allocator + Copy, R: Read, W: Write>(
     reader: &mut R,
     writer: &mut W,
 ) -> Result<(), PlayError>
-    ensures { Played (P.state machine.old) (P.state machine.new) (W.contents writer.old) (W.contents writer.new) (R.remaining reader.old) (R.remaining reader.new) result }
+    ensures { let held = W.contents writer.old in
+        let holds = W.contents writer.new in
+        let had = R.remaining reader.old in
+        let has = R.remaining reader.new in
+        Played (P.state machine.old) (P.state machine.new) held holds had has result }
 {
     let mut begun = Begun::new(alloc);
     let mut block = [0; BLOCK];
@@ -167,8 +191,17 @@ fn feed<P: Playable, A: Allocator + Copy, W: Write>(
     begun: Begun<A>,
     bytes: &[u8],
 ) -> Result<Begun<A>, PlayError>
-    ensures fed { IfOk result (λ next. Feeding (P.state machine.old) (P.state machine.new) (W.contents writer.old) (W.contents writer.new) begun.number next.number (begun.bytes.items ++ bytes.now) next.bytes.items) }
-    ensures failed { IfErr result (StopsIn (P.state machine.old) (P.state machine.new) (W.contents writer.old) (W.contents writer.new) begun.number (begun.bytes.items ++ bytes.now)) }
+    ensures fed { let start = P.state machine.old in
+        let now = P.state machine.new in
+        let held = W.contents writer.old in
+        let holds = W.contents writer.new in
+        let all = begun.bytes.items ++ bytes.now in
+        IfOk result (λ next. Feeding start now held holds begun.number next.number all next.bytes.items) }
+    ensures failed { let start = P.state machine.old in
+        let now = P.state machine.new in
+        let held = W.contents writer.old in
+        let holds = W.contents writer.new in
+        IfErr result (StopsIn start now held holds begun.number (begun.bytes.items ++ bytes.now)) }
 {
     let Begun {
         bytes: mut line,
@@ -181,8 +214,8 @@ fn feed<P: Playable, A: Allocator + Copy, W: Write>(
     })
 }
 
-// Takes bytes that were read: `begun` are those of the line that hasn't ended, and `number` is its number. The last number
-// is that of no line, so bytes behind the lines that can be counted are those of an input that is too long.
+// Takes bytes that were read: `begun` are those of the line that hasn't ended, and `number` is its number. The last
+// number is that of no line, so bytes behind the lines that can be counted are those of an input that is too long.
 fn do_lines<P: Playable, A: Allocator + Copy, W: Write>(
     machine: &mut P,
     alloc: A,
@@ -193,7 +226,11 @@ fn do_lines<P: Playable, A: Allocator + Copy, W: Write>(
 ) -> Result<(), PlayError>
     requires unended { has_no_feed begun.old.items ≡ true }
     requires numbered { IsNumbered number.old begun.old.items }
-    ensures { Fed (P.state machine.old) (P.state machine.new) (W.contents writer.old) (W.contents writer.new) number.old number.new (begun.old.items ++ bytes.now) begun.new.items result }
+    ensures { let start = P.state machine.old in
+        let now = P.state machine.new in
+        let held = W.contents writer.old in
+        let holds = W.contents writer.new in
+        Fed start now held holds number.old number.new (begun.old.items ++ bytes.now) begun.new.items result }
 {
     let mut rest = bytes;
     while *number < u64::MAX {
@@ -235,7 +272,11 @@ fn end_line<P: Playable, A: Allocator + Copy, W: Write>(
     number: u64,
     piece: &[u8],
 ) -> Result<(), PlayError>
-    ensures line { LineEnded (P.state machine.old) (P.state machine.new) (W.contents writer.old) (W.contents writer.new) number (begun.old.items ++ piece.now) result }
+    ensures line { let start = P.state machine.old in
+        let now = P.state machine.new in
+        let held = W.contents writer.old in
+        let holds = W.contents writer.new in
+        LineEnded start now held holds number (begun.old.items ++ piece.now) result }
     ensures none_begun { OnOk result (begun.new.items ≡ []) }
 {
     if begun.is_empty() {
@@ -247,8 +288,9 @@ fn end_line<P: Playable, A: Allocator + Copy, W: Write>(
     Ok(())
 }
 
-// Does a line, and writes its text. The commands that most lines have are told by their bytes, and each is done where it
-// was read.
+// Does a line, and writes its text. It tells the commands that most lines have by their bytes, as `Line::read` does,
+// and does each where it was read: a line that is made into a `Line` first, and that taken apart again, takes 87
+// instructions more.
 fn do_line<P: Playable, A: Allocator + Copy, W: Write>(
     machine: &mut P,
     alloc: A,
@@ -256,7 +298,9 @@ fn do_line<P: Playable, A: Allocator + Copy, W: Write>(
     number: u64,
     bytes: &[u8],
 ) -> Result<(), PlayError>
-    ensures { LineDone (P.state machine.old) (P.state machine.new) (W.contents writer.old) (W.contents writer.new) number bytes.now result }
+    ensures { let held = W.contents writer.old in
+        let holds = W.contents writer.new in
+        LineDone (P.state machine.old) (P.state machine.new) held holds number bytes.now result }
 {
     match bytes {
         [] | [b'#', ..] => Ok(()),
@@ -277,7 +321,11 @@ fn do_call<P: Playable, W: Write>(
     number: u64,
     words: &[u8],
 ) -> Result<(), PlayError>
-    ensures { LineDone (P.state machine.old) (P.state machine.new) (W.contents writer.old) (W.contents writer.new) number (codes "call " ++ words.now) result }
+    ensures { let start = P.state machine.old in
+        let now = P.state machine.new in
+        let held = W.contents writer.old in
+        let holds = W.contents writer.new in
+        LineDone start now held holds number (codes "call " ++ words.now) result }
 {
     let mut x = [0; 8];
     if line::registers(words, &mut x) {
@@ -295,7 +343,11 @@ fn do_load<P: Playable, W: Write>(
     number: u64,
     words: &[u8],
 ) -> Result<(), PlayError>
-    ensures { LineDone (P.state machine.old) (P.state machine.new) (W.contents writer.old) (W.contents writer.new) number (codes "load " ++ words.now) result }
+    ensures { let start = P.state machine.old in
+        let now = P.state machine.new in
+        let held = W.contents writer.old in
+        let holds = W.contents writer.new in
+        LineDone start now held holds number (codes "load " ++ words.now) result }
 {
     match line::load(words) {
         Some((addr, size)) => operate(machine, writer, &Op::Load { addr, size }),
@@ -311,7 +363,11 @@ fn do_store<P: Playable, W: Write>(
     number: u64,
     words: &[u8],
 ) -> Result<(), PlayError>
-    ensures { LineDone (P.state machine.old) (P.state machine.new) (W.contents writer.old) (W.contents writer.new) number (codes "store " ++ words.now) result }
+    ensures { let start = P.state machine.old in
+        let now = P.state machine.new in
+        let held = W.contents writer.old in
+        let holds = W.contents writer.new in
+        LineDone start now held holds number (codes "store " ++ words.now) result }
 {
     match line::store(words) {
         Some((addr, size, value)) => operate(machine, writer, &Op::Store { addr, size, value }),
@@ -328,7 +384,9 @@ fn do_other<P: Playable, A: Allocator + Copy, W: Write>(
     number: u64,
     bytes: &[u8],
 ) -> Result<(), PlayError>
-    ensures { LineDone (P.state machine.old) (P.state machine.new) (W.contents writer.old) (W.contents writer.new) number bytes.now result }
+    ensures { let held = W.contents writer.old in
+        let holds = W.contents writer.new in
+        LineDone (P.state machine.old) (P.state machine.new) held holds number bytes.now result }
 {
     match Line::read(bytes) {
         Some(line) => {
@@ -346,7 +404,9 @@ fn answer<P: Playable, A: Allocator + Copy, W: Write>(
     writer: &mut W,
     line: &Line,
 ) -> Result<Option<Outcome>, PlayError>
-    ensures { Answered (P.state machine.old) (P.state machine.new) (W.contents writer.old) (W.contents writer.new) (meant line.now) result }
+    ensures { let held = W.contents writer.old in
+        let holds = W.contents writer.new in
+        Answered (P.state machine.old) (P.state machine.new) held holds (meant line.now) result }
 {
     match *line {
         Line::Operation(op) => {
@@ -364,7 +424,9 @@ fn answer<P: Playable, A: Allocator + Copy, W: Write>(
 #[inline(always)]
 fn operate<P: Playable, W: Write>(machine: &mut P, writer: &mut W, op: &Op) -> Result<(), PlayError>
     ensures state { P.state machine.new ≡ (step (P.state machine.old) op.now).state }
-    ensures text { Writes (W.contents writer.old) (W.contents writer.new) (outcome_text op.now (step (P.state machine.old) op.now).outcome) result }
+    ensures text { let held = W.contents writer.old in
+        let holds = W.contents writer.new in
+        Writes held holds (outcome_text op.now (step (P.state machine.old) op.now).outcome) result }
 {
     let outcome = machine.op(op);
     write_outcome(writer, op, &outcome)
@@ -399,7 +461,9 @@ fn write_data<W: Write>(writer: &mut W, op: &Op, value: u64) -> Result<(), PlayE
 
 // Writes the line of data of one size.
 fn write_bytes<W: Write>(writer: &mut W, size: Size, value: u64) -> Result<(), PlayError>
-    ensures { Writes (W.contents writer.old) (W.contents writer.new) (ended (codes "data" ++ spaced (hex (2 * size_of size) value))) result }
+    ensures { let held = W.contents writer.old in
+        let holds = W.contents writer.new in
+        Writes held holds (ended (codes "data" ++ spaced (hex (2 * size_of size) value))) result }
 {
     match size {
         Size::B1 => output::write_text(writer, &text::byte_line(value)),
@@ -412,7 +476,10 @@ fn write_bytes<W: Write>(writer: &mut W, size: Size, value: u64) -> Result<(), P
 // Writes the line of the runner and its registers. It stands alone, so that other lines have no room for it.
 #[inline(never)]
 fn write_registers<W: Write>(writer: &mut W, runner: u16, x: &[u64; 8]) -> Result<(), PlayError>
-    ensures { Writes (W.contents writer.old) (W.contents writer.new) (ended (codes "regs" ++ spaced (hex 4 runner) ++ flat_map (λ v. spaced (hex 16 v)) x.now)) result }
+    ensures { let held = W.contents writer.old in
+        let holds = W.contents writer.new in
+        let registers = flat_map (λ v. spaced (hex 16 v)) x.now in
+        Writes held holds (ended (codes "regs" ++ spaced (hex 4 runner) ++ registers)) result }
 {
     let mut line = [0; text::REGISTERS];
     text::put_registers(&mut line, runner, x);

@@ -67,7 +67,8 @@ fn push_run<P: Playable>(text: &mut Text, machine: &P, first: u32, last: u32)
 // Appends the access of each endpoint to a page.
 fn push_accesses<P: Playable>(text: &mut Text, machine: &P, page: PageNo)
     requires { array_vec_len text.old ≤ 64 }
-    ensures items { text.new.items ≡ text.old.items ++ flat_map (λ e. spaced (rights_text (access (P.state machine.now) e page.0))) (identifiers (P.state machine.now)) }
+    ensures items { let s = P.state machine.now in
+        text.new.items ≡ text.old.items ++ flat_map (λ e. spaced (rights_text (access s e page.0))) (identifiers s) }
     ensures room { array_vec_len text.new < CAPACITY }
 {
     for place in 0..machine.endpoints() {
@@ -103,7 +104,8 @@ fn is_alike<P: Playable>(machine: &P, page: PageNo, other: PageNo) -> bool
 }
 
 fn has_same_accesses<P: Playable>(machine: &P, page: PageNo, other: PageNo) -> bool
-    ensures { result ≡ list_all (λ e. is_same_right (access (P.state machine.now) e page.0) (access (P.state machine.now) e other.0)) (identifiers (P.state machine.now)) }
+    ensures { let s = P.state machine.now in
+        result ≡ list_all (λ e. is_same_right (access s e page.0) (access s e other.0)) (identifiers s) }
 {
     for place in 0..machine.endpoints() {
         if !is_same_right(access(machine, place, page), access(machine, place, other)) {

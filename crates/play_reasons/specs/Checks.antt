@@ -49,7 +49,8 @@ retrieve_checks =
 
 -- FFA_MEM_RELINQUISH
 abbrev pub relinquish_checks : List Refusal
-relinquish_checks = BuffersMissing ∷ DescriptorMalformed ∷ EndpointIsAnother ∷ NotOffered ∷ NotHeld ∷ ZerosNotAllowed ∷ []
+relinquish_checks =
+    BuffersMissing ∷ DescriptorMalformed ∷ EndpointIsAnother ∷ NotOffered ∷ NotHeld ∷ ZerosNotAllowed ∷ []
 
 -- FFA_MSG_SEND2
 abbrev pub message_checks : List Refusal
@@ -111,9 +112,13 @@ checks MemRelinquish = relinquish_checks
 checks (MemReclaim handle flags) = FlagsReserved ∷ NotTheSenders ∷ StillHeld ∷ ZerosUnwritable ∷ []
 checks (BitmapCreate endpoint contexts) = NotNormalWorld ∷ EndpointNotNormalWorld ∷ ContextCount ∷ BitmapsExist ∷ []
 checks (BitmapDestroy endpoint) = NotNormalWorld ∷ EndpointNotNormalWorld ∷ BitmapsMissing ∷ BitsPending ∷ []
-checks (NotificationBind its) = ReceiverIsAnother ∷ SenderUnknown ∷ SenderIsCaller ∷ FlagsReserved ∷ BitsNone ∷ BitmapsMissing ∷ BitsTaken ∷ []
-checks (NotificationUnbind its) = ReceiverIsAnother ∷ SenderUnknown ∷ SenderIsCaller ∷ FlagsReserved ∷ BitsNone ∷ BitmapsMissing ∷ BitsNotTheSenders ∷ []
-checks (NotificationSet its) = SenderIsAnother ∷ ReceiverUnknown ∷ ReceiverIsCaller ∷ FlagsReserved ∷ BitsNone ∷ BitsNotTheCallers ∷ []
+checks (NotificationBind its) =
+    ReceiverIsAnother ∷ SenderUnknown ∷ SenderIsCaller ∷ FlagsReserved ∷ BitsNone ∷ BitmapsMissing ∷ BitsTaken ∷ []
+checks (NotificationUnbind its) =
+    ReceiverIsAnother ∷ SenderUnknown ∷ SenderIsCaller ∷ FlagsReserved ∷ BitsNone ∷ BitmapsMissing
+    ∷ BitsNotTheSenders ∷ []
+checks (NotificationSet its) =
+    SenderIsAnother ∷ ReceiverUnknown ∷ ReceiverIsCaller ∷ FlagsReserved ∷ BitsNone ∷ BitsNotTheCallers ∷ []
 checks (NotificationGet receiver context flags) = ReceiverIsAnother ∷ ContextUnknown ∷ ClassesUnknown ∷ BitmapsMissing ∷ []
 checks Unknown = FunctionUnknown ∷ []
 
@@ -208,8 +213,8 @@ is_of_reading DescriptorMalformed = true
 is_of_reading HandleUnknown = true
 is_of_reading refusal = false
 
--- The checks of a list that are made, in order, where the first `read` of these find it: they aren't among them, and the next
--- of these, which doesn't, is the last.
+-- The checks of a list that are made, in order, where the first `read` of these find it: they aren't among them, and
+-- the next of these, which doesn't, is the last.
 abbrev pub made : ℕ → List Refusal → List Refusal
 made read [] = []
 made read (check ∷ list) =

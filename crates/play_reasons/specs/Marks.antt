@@ -11,4 +11,5 @@ number_mark number = decimal number ++ codes ": "
 
 -- what stands behind registers: the name of the call that they are, and of the error
 abbrev pub names_mark : List ℕ → List ℕ
-names_mark x = option_map_or (λ name. codes " # " ++ name ++ option_map_or spaced (error_name_of x) []) (call_name_of x) []
+names_mark x =
+    option_map_or (λ name. codes " # " ++ name ++ option_map_or spaced (error_name_of x) []) (call_name_of x) []

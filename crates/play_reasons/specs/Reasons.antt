@@ -141,7 +141,8 @@ value_text size value = option_map_or (λ v. verb_text size ++ hex (field_digits
 -- the condition that the descriptor breaks, the field of which it speaks, and the number in that
 unfoldable pub field_text : Flaw → FieldPlace → Option ℕ → List ℕ
 field_text flaw place value =
-    index_text flaw ++ flaw_words_of flaw ++ codes ": " ++ place_text place.first place.size ++ value_text place.size value
+    index_text flaw ++ flaw_words_of flaw ++ codes ": " ++ place_text place.first place.size
+    ++ value_text place.size value
 
 abbrev pub subject_text : ℕ → Op → About → List ℕ
 subject_text base op (Page page obstacle) = page_text base page.0 obstacle

@@ -44,7 +44,8 @@ pub enum WordFault {
 }
 
 /// Says what is wrong first with a line as it stands in a trace, with the LF that ends it where there is one. Words are
-/// read from the left, and that some are missing, or are too many registers, comes behind what is wrong with one of them.
+/// read from the left, and that some are missing, or are too many registers, comes behind what is wrong with one of
+/// them.
 pub fn line_fault(bytes: &[u8]) -> Option<LineFault>
     ensures { IsNone result ↔ IsWhole bytes.now }
 {
@@ -152,8 +153,8 @@ fn value_fault(word: &[u8]) -> Option<WordFault> {
     }
 }
 
-// What is wrong with a line of so many bytes, with so many words behind the command, of which each is as it should be. The
-// ninth word stands at this column.
+// What is wrong with a line of so many bytes, with so many words behind the command, of which each is as it should be.
+// The ninth word stands at this column.
 fn count_fault(command: Command, count: usize, ninth: usize, bytes: usize) -> LineFault {
     match command {
         Command::Call => LineFault::Words {

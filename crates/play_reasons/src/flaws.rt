@@ -7,8 +7,8 @@ use ffa_model::{
     AccessFlaw, CompositeFlaw, Flaw, HeaderFlaw, RangeFlaw, RelinquishFlaw, RetrieveFlaw, SendFlaw,
 };
 
-/// What is wrong with the bytes that break a condition of a descriptor, in words. Of an access descriptor and of a range they
-/// go on from its index, which stands in front of them.
+/// What is wrong with the bytes that break a condition of a descriptor, in words. Of an access descriptor and of a
+/// range they go on from its index, which stands in front of them.
 pub fn flaw_words(flaw: Flaw) -> &'static str
     ensures { result.now ≡ flaw_words_of flaw }
 {

@@ -1,7 +1,7 @@
 // SPDX-License-Identifier: MIT OR Apache-2.0
-//! Why a call is refused, for a reader: what each check finds and what is wrong with a descriptor, in words, and the numbers
-//! of a call's checks; and what is printed beside the text of a line: its number, the names of what registers hold, why an
-//! operation is refused, and why a line is none of the format. None of it asks a machine.
+//! Why a call is refused, for a reader: what each check finds and what is wrong with a descriptor, in words, and the
+//! numbers of a call's checks; and what is printed beside the text of a line: its number, the names of what registers
+//! hold, why an operation is refused, and why a line is none of the format. None of it asks a machine.
 #![tactic(auto)]
 
 mod fault;

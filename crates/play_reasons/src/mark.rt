@@ -19,7 +19,8 @@ pub fn put_number<A: Allocator>(text: &mut Vec<u8, A>, number: u64) -> Result<()
 
 /// Puts the name of the call that registers are, and of their error, before the LF that ends a text.
 pub fn put_names<A: Allocator>(text: &mut Vec<u8, A>, x: &[u64; 8]) -> Result<(), PlayError>
-    ensures written { OnOk result ((front : List ℕ) → text.old.items ≡ ended front → text.new.items ≡ ended (front ++ names_mark x.now)) }
+    ensures written { let old = text.old.items in
+        OnOk result ((front : List ℕ) → old ≡ ended front → text.new.items ≡ ended (front ++ names_mark x.now)) }
     ensures failed { IfErr result (λ e. e ≡ PlayError.NoMemory) }
 {
     let Some(name) = call_name(x) else {

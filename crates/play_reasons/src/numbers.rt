@@ -197,7 +197,8 @@ fn listed(call: &Call) -> &'static [Refusal]
     }
 }
 
-/// The number of a check in the list of a call, counted from 1, if it is one of the call's. A check that is the first to fail is.
+/// The number of a check in the list of a call, counted from 1, if it is one of the call's. A check that is the first
+/// to fail is.
 pub fn check_number(call: &Call, refusal: Refusal) -> Option<usize>
     ensures number { result ≡ number_of call.now refusal }
     ensures numbered { (s : State) → first_refusal (service s call.now).guards ≡ Some refusal → is_some result ≡ true }

@@ -78,7 +78,8 @@ fn put_refused<A: Allocator>(
     refusal: Refusal,
     about: Option<About>,
 ) -> Result<(), PlayError>
-    ensures written { OnOk result (text.new.items ≡ text.old.items ++ (call_text op refusal ++ words_of refusal ++ about_text base.0 op about)) }
+    ensures written { let reason = call_text op refusal ++ words_of refusal ++ about_text base.0 op about in
+        OnOk result (text.new.items ≡ text.old.items ++ reason) }
     ensures failed { IfErr result (λ e. e ≡ PlayError.NoMemory) }
 {
     put_call(text, op, refusal)?;
@@ -92,7 +93,8 @@ fn put_faulted<A: Allocator>(
     kind: FaultKind,
     obstacle: Option<Obstacle>,
 ) -> Result<(), PlayError>
-    ensures written { OnOk result (text.new.items ≡ text.old.items ++ (address_text (address_of op) ++ fault_text op kind obstacle)) }
+    ensures written { let fault = address_text (address_of op) ++ fault_text op kind obstacle in
+        OnOk result (text.new.items ≡ text.old.items ++ fault) }
     ensures failed { IfErr result (λ e. e ≡ PlayError.NoMemory) }
 {
     put_address(text, op)?;
@@ -364,7 +366,8 @@ fn put_obstacle<A: Allocator>(
 }
 
 fn put_owner<A: Allocator>(text: &mut Vec<u8, A>, endpoint: EndpointId) -> Result<(), PlayError>
-    ensures written { OnOk result (text.new.items ≡ text.old.items ++ obstacle_text (Some (Obstacle.OwnedBy endpoint))) }
+    ensures written { let owned = obstacle_text (Some (Obstacle.OwnedBy endpoint)) in
+        OnOk result (text.new.items ≡ text.old.items ++ owned) }
     ensures failed { IfErr result (λ e. e ≡ PlayError.NoMemory) }
 {
     put(text, " belongs to ")?;

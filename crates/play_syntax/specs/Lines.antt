@@ -27,12 +27,15 @@ outcome_of s trace.show = None
 outcome_of s trace.audit = None
 outcome_of s trace.skip = None
 
--- What follows speaks of the machine's state before and now (`start`, `now`), and of what the writer held and holds. A line was done
--- and its text was written, or a beginning of it; or there is no memory for it, and nothing was done and nothing written. No other line
--- than `audit` wants memory.
-abbrev pub Answered : State → State → Option (List ℕ) → Option (List ℕ) → trace.Line → Result (Option Outcome) PlayError → Type 0
-Answered start now held holds line (Ok outcome) = (now ≡ line_after start line) × Appends held holds (line_text start line) × (outcome ≡ outcome_of start line)
-Answered start now held holds line (Err Write) = (now ≡ line_after start line) × TookFront held holds (line_text start line)
+-- What follows speaks of the machine's state before and now (`start`, `now`), and of what the writer held and holds. A
+-- line was done and its text was written, or a beginning of it; or there is no memory for it, and nothing was done and
+-- nothing written. No other line than `audit` wants memory.
+abbrev pub Answered : State → State → Option (List ℕ) → Option (List ℕ) → trace.Line → Result (Option Outcome) PlayError
+    → Type 0
+Answered start now held holds line (Ok outcome) =
+    (now ≡ line_after start line) × Appends held holds (line_text start line) × (outcome ≡ outcome_of start line)
+Answered start now held holds line (Err Write) =
+    (now ≡ line_after start line) × TookFront held holds (line_text start line)
 Answered start now held holds line (Err NoMemory) = (line ≡ trace.audit) × (now ≡ start) × Keeps held holds
 Answered start now held holds line (Err Read) = ⊥
 Answered start now held holds line (Err (BadLine n)) = ⊥

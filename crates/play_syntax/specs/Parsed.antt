@@ -29,12 +29,15 @@ pub record GoesOn (bytes : List ℕ) (end : ℕ) : Type 0 where
 -- what the first word of these bytes is: all of them, a word before others, or none that is a number
 abbrev pub IsFront : List ℕ → Front → Type 0
 IsFront bytes (Last number) = (trace.words_of bytes ≡ bytes ∷ []) × (trace.number_of bytes ≡ Some number)
-IsFront bytes (More number rest) = (word : List ℕ) × (trace.words_of bytes ≡ word ∷ trace.words_of rest.now) × (trace.number_of word ≡ Some number)
-IsFront bytes Other = (word : List ℕ) × (words : List (List ℕ)) × (trace.words_of bytes ≡ word ∷ words) × (trace.number_of word ≡ None)
+IsFront bytes (More number rest) =
+    (word : List ℕ) × (trace.words_of bytes ≡ word ∷ trace.words_of rest.now) × (trace.number_of word ≡ Some number)
+IsFront bytes Other =
+    (word : List ℕ) × (words : List (List ℕ)) × (trace.words_of bytes ≡ word ∷ words) × (trace.number_of word ≡ None)
 
 -- the value that a store's last word writes, with its size, where all bytes are that word
 abbrev pub IsStored : List ℕ → Option (Size × ℕ) → Type 0
-IsStored bytes (Some (size, value)) = (trace.words_of bytes ≡ bytes ∷ []) × (trace.size_written bytes ≡ Some size) × (trace.number_of bytes ≡ Some value)
+IsStored bytes (Some (size, value)) =
+    (trace.words_of bytes ≡ bytes ∷ []) × (trace.size_written bytes ≡ Some size) × (trace.number_of bytes ≡ Some value)
 IsStored bytes None = (word : List ℕ) → trace.store_of (word ∷ trace.words_of bytes) ≡ None
 
 -- a line of none of the commands that most lines have

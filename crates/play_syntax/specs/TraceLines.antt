@@ -94,7 +94,9 @@ load_of _ = None
 -- `store A V`
 unfoldable pub store_of : List (List ℕ) → Option Line
 store_of (a ∷ v ∷ []) =
-    option_and_then (λ addr. option_and_then (λ size. option_map (λ value. operate (Store addr size value)) (number_of v)) (size_written v)) (number_of a)
+    option_and_then (λ addr.
+    option_and_then (λ size. option_map (λ value. operate (Store addr size value)) (number_of v)) (size_written v))
+    (number_of a)
 store_of _ = None
 
 -- `fetch A`

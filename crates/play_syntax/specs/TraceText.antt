@@ -90,7 +90,8 @@ runs_of s =
 unfoldable pub run_text : State → ℕ × ℕ → List ℕ
 run_text s run =
     ended (
-    codes "pages" ++ spaced (hex 8 (address_of s run.0)) ++ spaced (hex 8 (address_of s run.1 + 4095)) ++ spaced (hex 4 (owner_of s run.0))
+    codes "pages" ++ spaced (hex 8 (address_of s run.0)) ++ spaced (hex 8 (address_of s run.1 + 4095))
+    ++ spaced (hex 4 (owner_of s run.0))
     ++ flat_map (λ e. spaced (rights_text (access s e run.0))) (identifiers s))
 
 unfoldable pub runner_text : State → List ℕ
@@ -106,7 +107,8 @@ show_text s = runner_text s ++ flat_map (run_text s) (runs_of s)
 unfoldable pub cert_text : State → List ℕ
 cert_text s =
     ended (
-    codes "cert" ++ spaced (hex 8 s.ram_base) ++ spaced (hex 8 (address_of s (length s.pages - 1) + 4095)) ++ spaced (hex 1 (length s.parties)))
+    codes "cert" ++ spaced (hex 8 s.ram_base) ++ spaced (hex 8 (address_of s (length s.pages - 1) + 4095))
+    ++ spaced (hex 1 (length s.parties)))
 
 -- the endpoint at a place, and the address of its level 1 table
 unfoldable pub root_text : State → ℕ → List ℕ
@@ -120,7 +122,8 @@ handle_text (Some handle) = hex 16 handle
 unfoldable pub cert_run_text : State → CertRun → List ℕ
 cert_run_text s run =
     ended (
-    codes "pages" ++ spaced (hex 8 (address_of s run.first.0)) ++ spaced (hex 8 (address_of s run.last.0 + 4095)) ++ spaced (hex 4 run.owner.0)
+    codes "pages" ++ spaced (hex 8 (address_of s run.first.0)) ++ spaced (hex 8 (address_of s run.last.0 + 4095))
+    ++ spaced (hex 4 run.owner.0)
     ++ spaced (handle_text run.handle)
     ++ flat_map (λ right. spaced (rights_text right)) (take (length s.parties) run.access))
 

@@ -23,6 +23,9 @@ pub enum Line {
 
 impl Line {
     /// The line that these bytes are, where they are one. The LF that ends a line is none of them.
+    ///
+    /// A play tells commands apart a second time, in `do_line` of `play_player`, which does a line where it is read:
+    /// that saves 87 instructions a line.
     pub fn read(bytes: &[u8]) -> Option<Line>
         ensures { option_map meant result ≡ line_of bytes.now }
     {

@@ -8,8 +8,8 @@ ghost use Rattle.play_syntax.specs.TraceText.{digit, hex, spaced, ended, fault_n
 use arrayvec::ArrayVec;
 use ffa_model::{Data, FaultKind, MOST_ENDPOINTS, Rights};
 
-/// Room for the longest text that is written at once, which is where the tables of all endpoints stand: 32 bytes for each,
-/// and for one more.
+/// Room for the longest text that is written at once, which is where the tables of all endpoints stand: 32 bytes for
+/// each, and for one more.
 pub const CAPACITY: usize = 32 * (MOST_ENDPOINTS + 1);
 
 /// A text that is being made.

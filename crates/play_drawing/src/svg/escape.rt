@@ -3,8 +3,8 @@
 
 use std::fmt;
 
-/// Bytes as text that XML takes: what has a meaning there is escaped, and a byte that isn't a printed character of ASCII is
-/// written as its number.
+/// Bytes as text that XML takes: what has a meaning there is escaped, and a byte that isn't a printed character of
+/// ASCII is written as its number.
 #[derive(Clone, Copy)]
 pub(super) struct Escaped<'a>(pub(super) &'a [u8]);
 

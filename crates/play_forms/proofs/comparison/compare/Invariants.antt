@@ -7,7 +7,7 @@ use Rattle.play_forms.proofs.comparison.compare.Given as goal
 abbrev pub invariant-loop-number : goal.invariant-loop-number
 invariant-loop-number g l =
     (lines : List (List ℕ)) × (text : List ℕ) × Followed plain l.fn.player.state l.player.state (g.R.Read.remaining l.fn.reader) (g.R.Read.remaining l.reader) lines text
-    × (l.fn.expected ≡ text ++ l.rest) × (l.number ≡ 1 + length lines)
+    × (l.fn.expected ≡ text ++ l.rest) × (l.lines.number ≡ 1 + length lines)
 
 abbrev pub decreases-loop-number : goal.decreases-loop-number
-decreases-loop-number g l = 2 ^ 64 - l.number
+decreases-loop-number g l = 2 ^ 64 - l.lines.number

@@ -5,11 +5,11 @@ use Rattle.play_forms.specs.Followed.{Followed}
 use Rattle.play_forms.specs.Guards.{AreMet, IsUnasked}
 use Rattle.play_forms.proofs.guards.play_guarded.Given as goal
 
-abbrev pub invariant-loop-number : goal.invariant-loop-number
-invariant-loop-number g l =
+abbrev pub invariant-loop-text : goal.invariant-loop-text
+invariant-loop-text g l =
     (lines : List (List ℕ)) × (text : List ℕ) × Followed l.fn.form l.fn.player.state l.player.state (g.R.Read.remaining l.fn.reader) (g.R.Read.remaining l.reader) lines text
-    × Appends (g.W.Write.contents l.fn.writer) (g.W.Write.contents l.writer) text × (l.number ≡ 1 + length lines)
+    × Appends (g.W.Write.contents l.fn.writer) (g.W.Write.contents l.writer) text × (l.lines.number ≡ 1 + length lines)
     × AreMet l.fn.player.state lines × IsUnasked l.fn.player.state lines l.unasked.items
 
-abbrev pub decreases-loop-number : goal.decreases-loop-number
-decreases-loop-number g l = 2 ^ 64 - l.number
+abbrev pub decreases-loop-text : goal.decreases-loop-text
+decreases-loop-text g l = 2 ^ 64 - l.lines.number

@@ -7,10 +7,10 @@ use Rattle.play_drawing.specs.Rows.{AreRows}
 use Rattle.play_picture.proofs.watching.watch.Given as goal
 
 -- the lines so far and their rows
-abbrev pub invariant-loop-number : goal.invariant-loop-number
-invariant-loop-number g l =
+abbrev pub invariant-loop-seen : goal.invariant-loop-seen
+invariant-loop-seen g l =
     (lines : List (List ℕ)) × (text : List ℕ) × Followed plain l.fn.player.state l.player.state (g.R.Read.remaining l.fn.reader) (g.R.Read.remaining l.reader) lines text
-    × (l.number ≡ 1 + length lines) × AreRows l.fn.keep l.fn.player.state lines l.seen.rows.items × (l.seen.latest.items ≡ certificate l.player.state)
+    × (l.lines.number ≡ 1 + length lines) × AreRows l.fn.keep l.fn.player.state lines l.seen.rows.items × (l.seen.latest.items ≡ certificate l.player.state)
 
-abbrev pub decreases-loop-number : goal.decreases-loop-number
-decreases-loop-number g l = 2 ^ 64 - l.number
+abbrev pub decreases-loop-seen : goal.decreases-loop-seen
+decreases-loop-seen g l = 2 ^ 64 - l.lines.number

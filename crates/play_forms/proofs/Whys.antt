@@ -1,0 +1,49 @@
+-- SPDX-License-Identifier: MIT OR Apache-2.0
+-- Why an operation is refused, asked behind it: a refusal changes nothing.
+use Rattle.std.proofs.Common.{◌≡◌, Bool, true, false, Option, None, Some, [], sym, ap, ◌∙◌, refl}
+use Rattle.std.specs.Option.{option_map_or}
+use Rattle.ffa_model.specs.declared.endpoint.Address.{Address}
+use Rattle.ffa_model.specs.declared.operation.Op.{Op}
+use Rattle.ffa_model.specs.declared.operation.Outcome.{Outcome}
+use Rattle.ffa_model.specs.declared.why.Why.{Why}
+use Rattle.ffa_model.specs.Refusals.{is_refusal}
+use Rattle.ffa_model.specs.State.{State}
+use Rattle.ffa_model.specs.Step.{step}
+use Rattle.ffa_model.specs.Why.{why}
+use Rattle.ffa_model.proofs.Reasons.{refused-unchanged, why-not}
+use Rattle.play_syntax.specs.TraceLines.{Line, operate, show, audit, skip}
+use Rattle.play_reasons.specs.Reasons.{reason_if, reason_line, reason_text, told_line}
+use Rattle.play_reasons.specs.declared.reason.Reason.{Reason}
+use Rattle.play_forms.specs.Steps.{SaysWhy}
+
+-- what came of an operation refuses it, or doesn't
+came_refused : (outcome : Option Outcome) (came : Outcome) (b : Bool) → outcome ≡ Some came → option_map_or is_refusal outcome false ≡ b → is_refusal came ≡ b
+came_refused outcome came b is refused = ap (λ o. option_map_or is_refusal o false) (sym is) ∙ refused
+
+pub says_unasked : (explain : Bool) (now : State) (line : Line) (outcome : Option Outcome) → explain ≡ false → SaysWhy explain now line outcome None
+says_unasked explain now line outcome unasked = λ start next came. ap (λ b. reason_if b start line) (sym unasked)
+
+-- no operation that is done has a reason
+pub says_nothing : (explain : Bool) (now : State) (line : Line) (outcome : Option Outcome) → option_map_or is_refusal outcome false ≡ false → SaysWhy explain now line outcome None
+says_nothing false now line outcome plain = λ start next came. refl
+says_nothing true now (operate op) outcome plain =
+    λ start next came. ap (λ o. option_map_or (reason_line start.ram_base op) o []) (sym (why-not start op (came_refused outcome (step start op).outcome false came plain)))
+says_nothing true now show outcome plain = λ start next came. refl
+says_nothing true now audit outcome plain = λ start next came. refl
+says_nothing true now skip outcome plain = λ start next came. refl
+
+-- one that is refused has the reason that the machine gives behind it
+module _ (explain : Bool) (now : State) (op : Op) (outcome : Option Outcome) (asked : explain ≡ true) (refused : option_map_or is_refusal outcome false ≡ true) where
+  as_before : (reason : Option Reason) → told_line reason ≡ reason_text now (operate op) → SaysWhy explain now (operate op) outcome reason
+  as_before reason tells =
+      λ start next came.
+      let stays : now ≡ start = next ∙ refused-unchanged start op (came_refused outcome (step start op).outcome true came refused) in
+      tells ∙ ap (λ s. reason_text s (operate op)) stays ∙ ap (λ b. reason_if b start (operate op)) (sym asked)
+
+  pub says_why : (base : Address) (reason : Why) → base.0 ≡ now.ram_base → Some reason ≡ why now op → SaysWhy explain now (operate op) outcome (Some (record { base = base; op = op; why = reason }))
+  says_why base reason begins is =
+      as_before (Some (record { base = base; op = op; why = reason }))
+      (ap (λ b. reason_line b op reason) begins ∙ ap (λ o. option_map_or (reason_line now.ram_base op) o []) is)
+
+  pub says_none : None ≡ why now op → SaysWhy explain now (operate op) outcome None
+  says_none is = as_before None (ap (λ o. option_map_or (reason_line now.ram_base op) o []) is)
