@@ -25,23 +25,31 @@ ram_of m = let frames = frame_ram m.frames in record { base = frames.base; pages
 -- the same RAM with other bytes in one page: in its copy, or in its frame
 abbrev pub with_bytes : LentRam → ℕ → List ℕ → LentRam
 with_bytes m i bytes =
-    if is_observed m i then record m { copies = with_item m.copies (i - m.first.0) bytes } else record m { frames = with_frame m.frames i bytes }
+    if is_observed m i
+    then record m { copies = with_item m.copies (i - m.first.0) bytes }
+    else record m { frames = with_frame m.frames i bytes }
 
 -- ---- lists that are changed at one place
 
-map_at-same : {X Y : Type 0} (f g : ℕ → X → Y) (xs : List X) → ((q : ℕ) (x : X) → g q x ≡ f q x) → map_at g xs ≡ map_at f xs
+map_at-same :
+    {X Y : Type 0} (f g : ℕ → X → Y) (xs : List X) → ((q : ℕ) (x : X) → g q x ≡ f q x) → map_at g xs ≡ map_at f xs
 map_at-same f g [] same = refl
 map_at-same f g (x ∷ xs) same = λ k. same 0 x k ∷ map_at-same (λ q. f (suc q)) (λ q. g (suc q)) xs (λ q. same (suc q)) k
 
-pub map_at-but : {X Y : Type 0} (f g : ℕ → X → Y) (xs : List X) (i : ℕ) (y : Y) → ((x : X) → g i x ≡ y) → ((q : ℕ) (x : X) → q ≢ i → g q x ≡ f q x) → map_at g xs ≡ set (map_at f xs) i y
+pub map_at-but :
+    {X Y : Type 0} (f g : ℕ → X → Y) (xs : List X) (i : ℕ) (y : Y)
+    → ((x : X) → g i x ≡ y) → ((q : ℕ) (x : X) → q ≢ i → g q x ≡ f q x) → map_at g xs ≡ set (map_at f xs) i y
 map_at-but f g [] i y here there = refl
 map_at-but f g (x ∷ xs) zero y here there =
-    λ k. here x k ∷ map_at-same (λ q. f (suc q)) (λ q. g (suc q)) xs (λ q z. there (suc q) z (λ same. absurd (omega (arith, same)))) k
+    λ k. here x k
+    ∷ map_at-same (λ q. f (suc q)) (λ q. g (suc q)) xs (λ q z. there (suc q) z (λ same. absurd (omega (arith, same)))) k
 map_at-but f g (x ∷ xs) (suc i) y here there =
     λ k. there 0 x (λ same. absurd (omega (arith, same))) k
-    ∷ map_at-but (λ q. f (suc q)) (λ q. g (suc q)) xs i y here (λ q z off. there (suc q) z (λ same. off (omega (arith, same)))) k
+    ∷ map_at-but (λ q. f (suc q)) (λ q. g (suc q)) xs i y here
+    (λ q z off. there (suc q) z (λ same. off (omega (arith, same)))) k
 
-pub map_at-set : {X Y : Type 0} (f : ℕ → X → Y) (xs : List X) (i : ℕ) (x : X) → map_at f (set xs i x) ≡ set (map_at f xs) i (f i x)
+pub map_at-set :
+    {X Y : Type 0} (f : ℕ → X → Y) (xs : List X) (i : ℕ) (x : X) → map_at f (set xs i x) ≡ set (map_at f xs) i (f i x)
 map_at-set f [] i x = refl
 map_at-set f (y ∷ ys) zero x = refl
 map_at-set f (y ∷ ys) (suc i) x = ap (λ zs. f 0 y ∷ zs) (map_at-set (λ j. f (suc j)) ys i x)
@@ -77,10 +85,13 @@ module _ (m : LentRam) (i : ℕ) (bytes : List ℕ) where
   copied-here at b =
       let (low, high) = in-run m.first.0 m.count i at in
       let inside : i - m.first.0 < length m.copies.items = omega (arith, low, high, m.held, m.copies.ok) in
-      ap (λ c. cond c (get_or copied.copies.items (i - m.first.0) []) b) at ∙ get_or-set_same m.copies.items (i - m.first.0) bytes [] inside
+      ap (λ c. cond c (get_or copied.copies.items (i - m.first.0) []) b) at
+      ∙ get_or-set_same m.copies.items (i - m.first.0) bytes [] inside
 
   ram_of-copied : is_observed m i ≡ true → ram_of copied ≡ with_page (ram_of m) i bytes
-  ram_of-copied at = ap ram_with (map_at-but (bytes_seen m) (bytes_seen copied) frames.pages i bytes (copied-here at) (copied-there at))
+  ram_of-copied at =
+      ap ram_with
+      (map_at-but (bytes_seen m) (bytes_seen copied) frames.pages i bytes (copied-here at) (copied-there at))
 
   -- the frame of another one
   abbrev framed : LentRam
@@ -88,11 +99,14 @@ module _ (m : LentRam) (i : ℕ) (bytes : List ℕ) where
 
   ram_of-framed : is_observed m i ≡ false → ram_of framed ≡ with_page (ram_of m) i bytes
   ram_of-framed off =
-      ap (λ (r : Ram). let seen : Ram = record { base = r.base; pages = map_at (bytes_seen m) r.pages } in seen) (ram_of-with_frame m.frames i bytes)
+      let copy : List ℕ = get_or m.copies.items (i - m.first.0) [] in
+      ap (λ (r : Ram). let seen : Ram = record { base = r.base; pages = map_at (bytes_seen m) r.pages } in seen)
+      (ram_of-with_frame m.frames i bytes)
       ∙ ap ram_with (map_at-set (bytes_seen m) frames.pages i bytes
-      ∙ ap (λ c. set (map_at (bytes_seen m) frames.pages) i (cond c (get_or m.copies.items (i - m.first.0) []) bytes)) off)
+      ∙ ap (λ c. set (map_at (bytes_seen m) frames.pages) i (cond c copy bytes)) off)
 
-pub ram_of-with_bytes : (m : LentRam) (i : ℕ) (bytes : List ℕ) → ram_of (with_bytes m i bytes) ≡ with_page (ram_of m) i bytes
+pub ram_of-with_bytes :
+    (m : LentRam) (i : ℕ) (bytes : List ℕ) → ram_of (with_bytes m i bytes) ≡ with_page (ram_of m) i bytes
 ram_of-with_bytes m i bytes = elim (cases_Bool (is_observed m i)) [
   | inl at ↦ ap (λ c. ram_of (cond c (copied m i bytes) (framed m i bytes))) at ∙ ram_of-copied m i bytes at
   | inr off ↦ ap (λ c. ram_of (cond c (copied m i bytes) (framed m i bytes))) off ∙ ram_of-framed m i bytes off

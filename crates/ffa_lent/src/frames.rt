@@ -29,7 +29,11 @@ impl Model for Frames {
 
     ghost coded = { coded_listed };
 
-    ghost view = { λ f. record { pages = map (λ b. b.value) f.list.items; room = vec_capacity f.list; is_ready = is_some f.copies } };
+    ghost view = { λ f. record {
+      pages = map (λ b. b.value) f.list.items;
+      room = vec_capacity f.list;
+      is_ready = is_some f.copies;
+    } };
 }
 
 impl Frames {
@@ -191,7 +195,7 @@ impl LentRam {
 fn room_for_copies(alloc: Global) -> Result<Vec<[u8; 4096]>, AllocError> {
     let mut copies = Vec::with_capacity(alloc, MOST_BUFFER_PAGES as usize)?;
     for _page in 0..MOST_BUFFER_PAGES {
-        copies.push([0; 4096])?;
+        copies.push([0; PAGE_SIZE])?;
     }
     Ok(copies)
 }

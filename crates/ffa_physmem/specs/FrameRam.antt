@@ -19,11 +19,15 @@ with_frame m i bytes = elim (slice_get m.frames.items i) [
 ]
 
 -- only that page changes
-pub ram_of-with_frame : {A L : Type 0} (m : FrameRam A L) (i : ℕ) (bytes : List ℕ) → ram_of (with_frame m i bytes) ≡ with_page (ram_of m) i bytes
+pub ram_of-with_frame :
+    {A L : Type 0} (m : FrameRam A L) (i : ℕ) (bytes : List ℕ)
+    → ram_of (with_frame m i bytes) ≡ with_page (ram_of m) i bytes
 ram_of-with_frame m i bytes =
     let pages = map (λ b. b.value) m.frames.items in
     elim (slice_get_cases m.frames.items i).1 [
-      | inl (b, inside, there, read) ↦ rw (there, with_frame) (ap (λ p. record { base = m.base.0; pages = p }) (map-set (λ x. x.value) m.frames.items i (with_value b bytes)))
+      | inl (b, inside, there, read) ↦
+          rw (there, with_frame) (ap (λ p. record { base = m.base.0; pages = p })
+          (map-set (λ x. x.value) m.frames.items i (with_value b bytes)))
       | inr (outside, missing) ↦
           let past : length pages ≤ i = simp length-map outside in
           rw (missing, with_frame) (ap (λ p. record { base = m.base.0; pages = p }) (sym (set_past pages i bytes past)))

@@ -4,11 +4,14 @@ ghost use Rattle.std.specs.Prelude.{◌≡◌, ◌*◌, ◌^◌, ◌==◌};
 ghost use Rattle.ffa_model.specs.Bits.{bits, is_set};
 ghost use Rattle.ffa_physmem.specs.Levels.{shift};
 
-/// Bits 1:0 of a block, at levels 1 and 2. With bit 0 clear a descriptor is invalid.
+/// Type 01 in bits 1:0, a block at levels 1 and 2. Where bit 0 is clear a descriptor is invalid.
 pub const BLOCK: u64 = 0b01;
 
-/// What a table has above a block, and a page at level 3, in bits 1:0.
+/// What a page of level 3 has above a block.
 pub const PAGE: u64 = 0b10;
+
+/// Type 11: a table at levels 1 and 2, and a page at level 3.
+pub const TABLE: u64 = BLOCK + PAGE;
 
 /// S2AP's lower bit.
 pub const READABLE: u64 = 1 << 6;
@@ -26,7 +29,7 @@ pub const EXECUTE_NEVER: u64 = 1 << 54;
 pub const ADDRESS: u64 = 0x0000_ffff_ffff_f000;
 
 /// A page of normal memory that may be read: type 11, MemAttr 1111, S2AP 01, SH 11 and AF.
-pub const READABLE_PAGE: u64 = BLOCK + PAGE + (0b1111 << 2) + READABLE + (0b11 << 8) + ACCESSED;
+pub const READABLE_PAGE: u64 = TABLE + (0b1111 << 2) + READABLE + (0b11 << 8) + ACCESSED;
 
 /// The level of a table, by which an address is looked up.
 #[derive(Clone, Copy, Debug, PartialEq, Eq)]
@@ -65,7 +68,7 @@ impl Descriptor {
     pub fn is_page(self) -> bool
         ensures { result ≡ (bits 1 0 self.0 == 3) }
     {
-        self.0 % 4 == BLOCK + PAGE
+        self.0 % 4 == TABLE
     }
 
     /// Whether AF lets it be used.

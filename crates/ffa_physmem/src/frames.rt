@@ -3,7 +3,7 @@
 ghost use Rattle.std.specs.Prelude.{◌≡◌, ℕ, ◌+◌, ◌*◌, ◌%◌, ◌^◌, ◌<◌, ◌≤◌, length, map, replicate, IfOk, vec_len};
 
 use crate::flat::NoMemory;
-use crate::memory::{PhysMem, put_word};
+use crate::memory::{PAGE_SIZE, PhysMem, put_word};
 use ffa_model::{Address, PageNo};
 use std::alloc::{AllocError, Allocator, Global};
 
@@ -77,7 +77,7 @@ pub fn zero_frames<A: Allocator + Copy>(
 {
     let mut frames = Vec::with_capacity(alloc, count as usize)?;
     for _index in 0..count {
-        frames.push(Box::new(alloc, [0; 4096])?)?;
+        frames.push(Box::new(alloc, [0; PAGE_SIZE])?)?;
     }
     Ok(frames)
 }

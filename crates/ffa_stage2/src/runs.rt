@@ -5,6 +5,7 @@ ghost use Rattle.ffa_stage2.specs.Blocks.{IsUniform};
 ghost use Rattle.ffa_stage2.specs.Places.{IsRun};
 
 use byteorder::{ByteOrder, LittleEndian};
+use ffa_physmem::PAGE_SIZE;
 use std::simd::prelude::*;
 
 /// What the words of 8 lanes have above the first of them.
@@ -26,7 +27,7 @@ pub fn uniform(page: &[u8; 4096]) -> bool
 {
     let first = LittleEndian::read_u64(page);
     // No word is 511 pages above it.
-    if first > u64::MAX - 4096 * 511 {
+    if first > u64::MAX - PAGE_SIZE as u64 * 511 {
         return false;
     }
     for run in 0..64 {

@@ -60,7 +60,8 @@ impl<P: Replacement, const N: usize> Translations for Tlb<P, N> {
         ensures held { lookup (entries_of self.new.slots) endpoint.0 page.0 ≡ Some leaf }
 
         // The new entry stands where the policy says. Each other slot is as before, but that the page's last entry is out.
-        ensures slots { self.new.slots ≡ slice_set (without self.old.slots endpoint.0 page.0) (P.picked self.old.policy endpoint.0 page.0 % N)
+        ensures slots { let place = P.picked self.old.policy endpoint.0 page.0 % N in
+            self.new.slots ≡ slice_set (without self.old.slots endpoint.0 page.0) place
             (Some (record { endpoint = endpoint; page = page; leaf = leaf })) }
         ensures policy { self.new.policy ≡ P.moved self.old.policy endpoint.0 page.0 }
     {

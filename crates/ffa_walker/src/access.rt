@@ -97,8 +97,10 @@ fn read_number<M: PhysMem>(memory: &M, physical: u64, size: Size) -> u64
 fn write_number<M: PhysMem>(memory: &mut M, physical: u64, size: Size, value: u64)
     requires inside { IsTrue (walk.is_in_ram (M.ram memory.old) physical) }
     requires aligned { physical % size_of size ≡ 0 }
-    ensures written { M.ram memory.new ≡ spec.with_bytes_at (M.ram memory.old) physical (little_bytes (size_of size) value) }
-    ensures steps { Only (M.past memory.old) (M.past memory.new) (λ _ s. IsWriting (M.ram memory.old) (λ p. p == spec.page_index (M.ram memory.old) physical) s) }
+    ensures written { let bytes = little_bytes (size_of size) value in
+        M.ram memory.new ≡ spec.with_bytes_at (M.ram memory.old) physical bytes }
+    ensures steps { let page = spec.page_index (M.ram memory.old) physical in
+        Only (M.past memory.old) (M.past memory.new) (λ _ s. IsWriting (M.ram memory.old) (λ p. p == page) s) }
 {
     let place = physical - u64::from(memory.base().0);
     let page = memory.page_mut(PageNo((place / PAGE_SIZE as u64) as u32));
@@ -203,7 +205,8 @@ pub fn store_at<M: PhysMem>(
     ensures answer { result ≡ spec.store_answer_by (M.ram memory.old) walked address (size_of size) }
     ensures stored { M.ram memory.new ≡ spec.ram_after_store_by (M.ram memory.old) walked address (size_of size) value }
     ensures kept_past { OnErr result (M.past memory.new ≡ M.past memory.old) }
-    ensures roots { (root : ℕ) → walk.is_page_address (M.ram memory.new) root ≡ walk.is_page_address (M.ram memory.old) root }
+    ensures roots { (root : ℕ)
+        → walk.is_page_address (M.ram memory.new) root ≡ walk.is_page_address (M.ram memory.old) root }
     ensures steps { Only (M.past memory.old) (M.past memory.new) (λ _ s. (physical : ℕ)
         × (spec.reach_by (M.ram memory.old) walked address (size_of size) spec.may_store_to ≡ Ok physical)
         × IsWriting (M.ram memory.old) (λ p. p == spec.page_index (M.ram memory.old) physical) s) }

@@ -56,7 +56,8 @@ fn are_in_order(runs: &[CertRun], pages: u32) -> bool
 fn gives_root<M: PhysMem>(memory: &M, root: u32, runs: &[CertRun], place: usize) -> bool
     requires root { walk.is_page_address (M.ram memory.now) root ≡ true }
     requires place { place < MOST_ENDPOINTS }
-    ensures { IsTrue result ↔ AreCertified (M.ram memory.now) runs.now place 0 (2 ^ 32) (walk.walk (M.ram memory.now) root) }
+    ensures { IsTrue result
+        ↔ AreCertified (M.ram memory.now) runs.now place 0 (2 ^ 32) (walk.walk (M.ram memory.now) root) }
 {
     for index in 0..4u64 {
         let word = read_entry(memory, u64::from(root), index);
@@ -78,7 +79,8 @@ fn gives_level1<M: PhysMem>(
     requires start { start % 2 ^ 30 ≡ 0 }
     requires below { start + 2 ^ 30 ≤ 2 ^ 32 }
     requires place { place < MOST_ENDPOINTS }
-    ensures { IsTrue result ↔ AreCertified (M.ram memory.now) runs.now place start (2 ^ 30) (walk.from_level1 (M.ram memory.now) word.0) }
+    ensures { IsTrue result
+        ↔ AreCertified (M.ram memory.now) runs.now place start (2 ^ 30) (walk.from_level1 (M.ram memory.now) word.0) }
 {
     if !word.is_valid() {
         return have_access(memory, runs, place, start, LEVEL1, None);
@@ -105,7 +107,8 @@ fn gives_table2<M: PhysMem>(
     requires start { start % 2 ^ 30 ≡ 0 }
     requires below { start + 2 ^ 30 ≤ 2 ^ 32 }
     requires place { place < MOST_ENDPOINTS }
-    ensures { IsTrue result ↔ AreCertified (M.ram memory.now) runs.now place start (2 ^ 30) (from_table2 (M.ram memory.now) table) }
+    ensures { IsTrue result
+        ↔ AreCertified (M.ram memory.now) runs.now place start (2 ^ 30) (from_table2 (M.ram memory.now) table) }
 {
     let mut rest = runs;
     for index in 0..512u64 {
@@ -130,7 +133,8 @@ fn gives_level2<M: PhysMem>(
     requires start { start % 2 ^ 21 ≡ 0 }
     requires below { start + 2 ^ 21 ≤ 2 ^ 32 }
     requires place { place < MOST_ENDPOINTS }
-    ensures { IsTrue result ↔ AreCertified (M.ram memory.now) runs.now place start (2 ^ 21) (walk.from_level2 (M.ram memory.now) word.0) }
+    ensures { IsTrue result
+        ↔ AreCertified (M.ram memory.now) runs.now place start (2 ^ 21) (walk.from_level2 (M.ram memory.now) word.0) }
 {
     if !word.is_valid() {
         return have_access(memory, runs, place, start, LEVEL2, None);
@@ -168,7 +172,8 @@ fn gives_table3<M: PhysMem>(
     requires start { start % 2 ^ 21 ≡ 0 }
     requires below { start + 2 ^ 21 ≤ 2 ^ 32 }
     requires place { place < MOST_ENDPOINTS }
-    ensures { IsTrue result ↔ AreCertified (M.ram memory.now) runs.now place start (2 ^ 21) (from_table3 (M.ram memory.now) table) }
+    ensures { IsTrue result
+        ↔ AreCertified (M.ram memory.now) runs.now place start (2 ^ 21) (from_table3 (M.ram memory.now) table) }
 {
     let mut rest = runs;
     for index in 0..512u64 {
@@ -224,7 +229,8 @@ fn gives_leaf<M: PhysMem>(
     requires some { 0 < size }
     requires below { start + size ≤ 2 ^ 32 }
     requires place { place < MOST_ENDPOINTS }
-    ensures { IsTrue result ↔ AreCertified (M.ram memory.now) runs.now place start size (λ address. walk.leaf_of word.0 (output + (address - start))) }
+    ensures { let answer = λ (address : ℕ). walk.leaf_of word.0 (output + (address - start)) in
+        IsTrue result ↔ AreCertified (M.ram memory.now) runs.now place start size answer }
 {
     match right_to_itself(word, output, start) {
         Some(right) => have_access(memory, runs, place, start, size, Some(right)),
@@ -236,7 +242,8 @@ fn gives_leaf<M: PhysMem>(
 #[tactic(auto, unfolding(ffa_model::specs::Walk::mapped_answer))]
 fn right_to_itself(word: Descriptor, output: u64, address: u64) -> Option<Rights>
     ensures some { IfSome result (λ right. walk.leaf_of word.0 output ≡ walk.mapped_answer (Some right) address) }
-    ensures none { IfNone result ((right : Option Rights) → walk.leaf_of word.0 output ≢ walk.mapped_answer right address) }
+    ensures none { IfNone result ((right : Option Rights)
+        → walk.leaf_of word.0 output ≢ walk.mapped_answer right address) }
 {
     let leaf = read_leaf(word, output).ok()?;
     if leaf.phys != address || !leaf.read {
