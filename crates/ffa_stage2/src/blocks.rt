@@ -13,7 +13,7 @@ ghost use Rattle.ffa_stage2.specs.Orders.{IsWritten};
 ghost use Rattle.ffa_stage2.specs.Places.{IsPlace, IsCut, IsFilled, IsFilling, IsOnTheWay, IsOrderly, IsReplacing, IsOneOf, Maps, Names, KeepsBeside, with_run, word_at, IsPlaceOf};
 
 use crate::layout::Layout;
-use crate::runs::uniform;
+use crate::runs::is_uniform;
 use crate::tables::leaf;
 use ffa_model::{Address, PageNo, Rights};
 use ffa_physmem::descriptor::{BLOCK, PAGE, TABLE};
@@ -102,7 +102,7 @@ fn is_one<M: PhysMem>(memory: &M, place: &BlockPlace, within: u32, right: Option
     if !has_right(memory, place, 0, right) {
         return false;
     }
-    uniform(memory.page(place.table))
+    is_uniform(memory.page(place.table))
 }
 
 // Puts a word at level 2 in place of a valid one that has another size, by way of nothing, which every translation unit

@@ -22,7 +22,7 @@ fn is_run(page: &[u8], at: usize, first: u64) -> bool
 }
 
 /// Whether each of a page's 512 words is its first word plus 4096 times its place, over whole numbers without wrapping.
-pub fn uniform(page: &[u8; 4096]) -> bool
+pub fn is_uniform(page: &[u8; 4096]) -> bool
     ensures { IsTrue result ↔ IsUniform page.now }
 {
     let first = LittleEndian::read_u64(page);

@@ -52,7 +52,7 @@ impl<P: Replacement, const N: usize> Translations for Tlb<P, N> {
     ghost entries = { λ t. entries_of t.slots };
 
     fn lookup(&self, endpoint: EndpointId, page: PageNo) -> Option<Leaf> {
-        held_in(&self.slots, endpoint, page)
+        find_leaf(&self.slots, endpoint, page)
     }
 
     fn fill(&mut self, endpoint: EndpointId, page: PageNo, leaf: Leaf)
@@ -95,7 +95,7 @@ impl<P: Replacement, const N: usize> Translations for Tlb<P, N> {
 }
 
 // The leaf in the first of these slots that holds one for a page of an endpoint.
-fn held_in(slots: &[Option<Entry>], endpoint: EndpointId, page: PageNo) -> Option<Leaf>
+fn find_leaf(slots: &[Option<Entry>], endpoint: EndpointId, page: PageNo) -> Option<Leaf>
     ensures { result ≡ lookup (entries_of slots.now) endpoint.0 page.0 }
 {
     for slot in slots {
