@@ -1,97 +1,92 @@
 -- SPDX-License-Identifier: MIT OR Apache-2.0
 -- Pages as they are seen: a copy in place of each frame that is observed.
-use Rattle.std.proofs.Common.{◌≡◌, ◌≢◌, ◌∙◌, ℕ, zero, suc, ◌+◌, ◌-◌, ◌<◌, ◌≤◌, true, false, cond, List, [], ◌∷◌, map, Box, length, get_or, set, refl, ap, sym, arith, inl, inr}
+use Rattle.std.proofs.Common.{◌≡◌, ◌≢◌, ◌∙◌, ℕ, zero, suc, ◌+◌, ◌-◌, ◌<◌, ◌≤◌, true, false, cond, List, [], ◌∷◌, length, get_or, set, refl, ap, sym, arith, inl, inr}
 use Rattle.std.proofs.lemmas.Bool.{cases_Bool, cases_eq, false_from_ne_true, false≢true}
-use Rattle.std.proofs.lemmas.List.{get_or-map, get_or-set_other, get_or-set_same, length-set}
-use Rattle.std.specs.Box.{with_value}
+use Rattle.std.proofs.lemmas.List.{get_or-set_other, get_or-set_same, length-set}
 use Rattle.ffa_model.specs.Lists.{is_in_run, map_at}
 use Rattle.ffa_model.proofs.Runs.{in-run, to-run}
-use Rattle.ffa_lent.specs.declared.lent.Lent.{Lent}
 
-abbrev pub Frame : Type 0
-Frame = Box (List ℕ) Lent
-
--- the bytes of page p with this frame, where so many pages from one on have these copies
-abbrev pub seen_by : List (List ℕ) → ℕ → ℕ → ℕ → Frame → List ℕ
-seen_by copies first count p b = cond (is_in_run first count p) (get_or copies (p - first) []) b.value
+-- the bytes of page p with these in its frame, where so many pages from one on have these copies
+abbrev pub seen_by : List (List ℕ) → ℕ → ℕ → ℕ → List ℕ → List ℕ
+seen_by copies first count p b = cond (is_in_run first count p) (get_or copies (p - first) []) b
 
 -- ---- lists that are seen in two ways
 
-pub alike : (xs ys : List Frame) (f g : ℕ → Frame → List ℕ) → length ys ≡ length xs
-    → ((p : ℕ) (d : Frame) → p < length xs → g p (get_or ys p d) ≡ f p (get_or xs p d)) → map_at g ys ≡ map_at f xs
+pub alike : (xs ys : List (List ℕ)) (f g : ℕ → List ℕ → List ℕ) → length ys ≡ length xs
+    → ((p : ℕ) → p < length xs → g p (get_or ys p []) ≡ f p (get_or xs p [])) → map_at g ys ≡ map_at f xs
 alike [] [] f g each same = refl
 alike [] (y ∷ ys) f g each same = absurd (omega arith)
 alike (x ∷ xs) [] f g each same = absurd (omega arith)
 alike (x ∷ xs) (y ∷ ys) f g each same =
-    λ k. same 0 x (omega arith) k ∷ alike xs ys (λ p. f (suc p)) (λ p. g (suc p)) (omega arith) (λ p d lt. same (suc p) d (omega arith)) k
+    λ k. same 0 (omega arith) k ∷ alike xs ys (λ p. f (suc p)) (λ p. g (suc p)) (omega arith) (λ p lt. same (suc p) (omega arith)) k
 
-page-alike : (xs : List Frame) (f g : ℕ → Frame → List ℕ) (p : ℕ) → ((d : Frame) → p < length xs → g p (get_or xs p d) ≡ f p (get_or xs p d))
+page-alike : (xs : List (List ℕ)) (f g : ℕ → List ℕ → List ℕ) (p : ℕ) → (p < length xs → g p (get_or xs p []) ≡ f p (get_or xs p []))
     → get_or (map_at g xs) p [] ≡ get_or (map_at f xs) p []
 page-alike [] f g p same = refl
-page-alike (x ∷ xs) f g zero same = same x (omega arith)
-page-alike (x ∷ xs) f g (suc p) same = page-alike xs (λ q. f (suc q)) (λ q. g (suc q)) p (λ d lt. same d (omega arith))
+page-alike (x ∷ xs) f g zero same = same (omega arith)
+page-alike (x ∷ xs) f g (suc p) same = page-alike xs (λ q. f (suc q)) (λ q. g (suc q)) p (λ lt. same (omega arith))
 
-length-alike : (xs : List Frame) (f g : ℕ → Frame → List ℕ) (p : ℕ) → ((d : Frame) → p < length xs → length (g p (get_or xs p d)) ≡ length (f p (get_or xs p d)))
+length-alike : (xs : List (List ℕ)) (f g : ℕ → List ℕ → List ℕ) (p : ℕ) → (p < length xs → length (g p (get_or xs p [])) ≡ length (f p (get_or xs p [])))
     → length (get_or (map_at g xs) p []) ≡ length (get_or (map_at f xs) p [])
 length-alike [] f g p same = refl
-length-alike (x ∷ xs) f g zero same = same x (omega arith)
-length-alike (x ∷ xs) f g (suc p) same = length-alike xs (λ q. f (suc q)) (λ q. g (suc q)) p (λ d lt. same d (omega arith))
+length-alike (x ∷ xs) f g zero same = same (omega arith)
+length-alike (x ∷ xs) f g (suc p) same = length-alike xs (λ q. f (suc q)) (λ q. g (suc q)) p (λ lt. same (omega arith))
 
 -- ---- one page, by whether it is observed
 
-seen-in : (copies : List (List ℕ)) (first count p : ℕ) (b : Frame) → is_in_run first count p ≡ true → seen_by copies first count p b ≡ get_or copies (p - first) []
-seen-in copies first count p b at = ap (λ c. cond c (get_or copies (p - first) []) b.value) at
+seen-in : (copies : List (List ℕ)) (first count p : ℕ) (b : List ℕ) → is_in_run first count p ≡ true → seen_by copies first count p b ≡ get_or copies (p - first) []
+seen-in copies first count p b at = ap (λ c. cond c (get_or copies (p - first) []) b) at
 
-seen-off : (copies : List (List ℕ)) (first count p : ℕ) (b : Frame) → is_in_run first count p ≡ false → seen_by copies first count p b ≡ b.value
-seen-off copies first count p b off = ap (λ c. cond c (get_or copies (p - first) []) b.value) off
+seen-off : (copies : List (List ℕ)) (first count p : ℕ) (b : List ℕ) → is_in_run first count p ≡ false → seen_by copies first count p b ≡ b
+seen-off copies first count p b off = ap (λ c. cond c (get_or copies (p - first) []) b) off
 
 none-in : (first count p : ℕ) → count ≡ 0 → is_in_run first count p ≡ false
 none-in first count p none = false_from_ne_true (is_in_run first count p) (λ at. let (low, high) = in-run first count p at in absurd (omega (arith, low, high, none)))
 
 -- ---- to observe
 
-module _ (frames : List Frame) (copies : List (List ℕ)) (first count : ℕ) (within : first + count ≤ length frames) where
+module _ (frames : List (List ℕ)) (copies : List (List ℕ)) (first count : ℕ) (within : first + count ≤ length frames) where
   -- the bytes of frame p, by its place among the copies
-  frame-of : (p : ℕ) (d : Frame) → is_in_run first count p ≡ true → get_or (map (λ b. b.value) frames) (first + (p - first)) [] ≡ (get_or frames p d).value
-  frame-of p d at =
-      let (low, high) = in-run first count p at in
+  frame-of : (p : ℕ) → is_in_run first count p ≡ true → get_or frames (first + (p - first)) [] ≡ get_or frames p []
+  frame-of p at =
+      let (low, _) = in-run first count p at in
       let back : first + (p - first) ≡ p = omega (arith, low) in
-      ap (λ n. get_or (map (λ b. b.value) frames) n []) back ∙ get_or-map (λ b. b.value) frames p d [] (omega (arith, high, within))
+      ap (λ n. get_or frames n []) back
 
   -- copies of what the frames hold change nothing that is seen
-  pub observed-same : (old : List (List ℕ)) (was none : ℕ) → none ≡ 0 → ((k : ℕ) → k < count → get_or copies k [] ≡ get_or (map (λ b. b.value) frames) (first + k) [])
+  pub observed-same : (old : List (List ℕ)) (was none : ℕ) → none ≡ 0 → ((k : ℕ) → k < count → get_or copies k [] ≡ get_or frames (first + k) [])
       → map_at (seen_by copies first count) frames ≡ map_at (seen_by old was none) frames
-  observed-same old was none is copied = alike frames frames (seen_by old was none) (seen_by copies first count) refl (λ p d lt.
-      let off = seen-off old was none p (get_or frames p d) (none-in was none p is) in
+  observed-same old was none is copied = alike frames frames (seen_by old was none) (seen_by copies first count) refl (λ p lt.
+      let off = seen-off old was none p (get_or frames p []) (none-in was none p is) in
       elim (cases_Bool (is_in_run first count p)) [
         | inl at ↦
             (let (low, high) = in-run first count p at in
-            seen-in copies first count p (get_or frames p d) at ∙ copied (p - first) (omega (arith, low, high)) ∙ frame-of p d at ∙ sym off)
-        | inr no_copy ↦ seen-off copies first count p (get_or frames p d) no_copy ∙ sym off
+            seen-in copies first count p (get_or frames p []) at ∙ copied (p - first) (omega (arith, low, high)) ∙ frame-of p at ∙ sym off)
+        | inr no_copy ↦ seen-off copies first count p (get_or frames p []) no_copy ∙ sym off
       ])
 
   -- ---- to end that
 
   pub released-page : (none : ℕ) → none ≡ 0 → (p : ℕ) → is_in_run first count p ≡ false
       → get_or (map_at (seen_by copies first none) frames) p [] ≡ get_or (map_at (seen_by copies first count) frames) p []
-  released-page none is p off = page-alike frames (seen_by copies first count) (seen_by copies first none) p (λ d lt.
-      seen-off copies first none p (get_or frames p d) (none-in first none p is) ∙ sym (seen-off copies first count p (get_or frames p d) off))
+  released-page none is p off = page-alike frames (seen_by copies first count) (seen_by copies first none) p (λ lt.
+      seen-off copies first none p (get_or frames p []) (none-in first none p is) ∙ sym (seen-off copies first count p (get_or frames p []) off))
 
-  pub released-whole : (none : ℕ) → none ≡ 0 → ((k : ℕ) → k < count → length (get_or copies k []) ≡ length (get_or (map (λ b. b.value) frames) (first + k) []))
+  pub released-whole : (none : ℕ) → none ≡ 0 → ((k : ℕ) → k < count → length (get_or copies k []) ≡ length (get_or frames (first + k) []))
       → (p : ℕ) → length (get_or (map_at (seen_by copies first none) frames) p []) ≡ length (get_or (map_at (seen_by copies first count) frames) p [])
-  released-whole none is whole p = length-alike frames (seen_by copies first count) (seen_by copies first none) p (λ d lt.
-      let off = seen-off copies first none p (get_or frames p d) (none-in first none p is) in
+  released-whole none is whole p = length-alike frames (seen_by copies first count) (seen_by copies first none) p (λ lt.
+      let off = seen-off copies first none p (get_or frames p []) (none-in first none p is) in
       elim (cases_Bool (is_in_run first count p)) [
         | inl at ↦
             (let (low, high) = in-run first count p at in
-            ap length (off ∙ sym (frame-of p d at)) ∙ sym (whole (p - first) (omega (arith, low, high)))
-            ∙ ap length (sym (seen-in copies first count p (get_or frames p d) at)))
-        | inr no_copy ↦ ap length (off ∙ sym (seen-off copies first count p (get_or frames p d) no_copy))
+            ap length (off ∙ sym (frame-of p at)) ∙ sym (whole (p - first) (omega (arith, low, high)))
+            ∙ ap length (sym (seen-in copies first count p (get_or frames p []) at)))
+        | inr no_copy ↦ ap length (off ∙ sym (seen-off copies first count p (get_or frames p []) no_copy))
       ])
 
 -- ---- to write the last copy back
 
-module _ (frames : List Frame) (copies : List (List ℕ)) (first last : ℕ) where
+module _ (frames : List (List ℕ)) (copies : List (List ℕ)) (first last : ℕ) where
   in-more : (p : ℕ) → p ≢ first + last → is_in_run first last p ≡ is_in_run first (last + 1) p
   in-more p other = elim (cases_Bool (is_in_run first last p)) [
     | inl at ↦ (let (low, high) = in-run first last p at in at ∙ sym (to-run first (last + 1) p low (omega (arith, high))))
@@ -105,25 +100,25 @@ module _ (frames : List Frame) (copies : List (List ℕ)) (first last : ℕ) whe
 
   -- where it has no frame
   pub written-none : length frames ≤ first + last → map_at (seen_by copies first last) frames ≡ map_at (seen_by copies first (last + 1)) frames
-  written-none past = alike frames frames (seen_by copies first (last + 1)) (seen_by copies first last) refl (λ p d lt.
-      ap (λ c. cond c (get_or copies (p - first) []) (get_or frames p d).value) (in-more p (λ same. absurd (omega (arith, lt, past, same)))))
+  written-none past = alike frames frames (seen_by copies first (last + 1)) (seen_by copies first last) refl (λ p lt.
+      ap (λ c. cond c (get_or copies (p - first) []) (get_or frames p [])) (in-more p (λ same. absurd (omega (arith, lt, past, same)))))
 
   -- where it has
-  module _ (b : Frame) (bytes : List ℕ) (copy : bytes ≡ get_or copies last []) (inside : first + last < length frames) where
-    abbrev new : List Frame
-    new = set frames (first + last) (with_value b bytes)
+  module _ (bytes : List ℕ) (copy : bytes ≡ get_or copies last []) (inside : first + last < length frames) where
+    abbrev new : List (List ℕ)
+    new = set frames (first + last) bytes
 
     pub written-last : map_at (seen_by copies first last) new ≡ map_at (seen_by copies first (last + 1)) frames
-    written-last = alike frames new (seen_by copies first (last + 1)) (seen_by copies first last) (length-set frames (first + last) (with_value b bytes)) (λ p d lt.
+    written-last = alike frames new (seen_by copies first (last + 1)) (seen_by copies first last) (length-set frames (first + last) bytes) (λ p lt.
         elim (cases_eq p (first + last)) [
           | inl here ↦
               (let off : is_in_run first last p ≡ false = false_from_ne_true (is_in_run first last p) (λ at. let (low, high) = in-run first last p at in absurd (omega (arith, high, here))) in
               let at : is_in_run first (last + 1) p ≡ true = to-run first (last + 1) p (omega (arith, here)) (omega (arith, here)) in
               let place : p - first ≡ last = omega (arith, here) in
-              seen-off copies first last p (get_or new p d) off
-              ∙ ap (λ (n : ℕ). (get_or new n d).value) here ∙ ap (λ (x : Frame). x.value) (get_or-set_same frames (first + last) (with_value b bytes) d inside)
-              ∙ copy ∙ sym (seen-in copies first (last + 1) p (get_or frames p d) at ∙ ap (λ k. get_or copies k []) place))
+              seen-off copies first last p (get_or new p []) off
+              ∙ ap (λ (n : ℕ). get_or new n []) here ∙ get_or-set_same frames (first + last) bytes [] inside
+              ∙ copy ∙ sym (seen-in copies first (last + 1) p (get_or frames p []) at ∙ ap (λ k. get_or copies k []) place))
           | inr other ↦
-              ap (λ c. cond c (get_or copies (p - first) []) (get_or new p d).value) (in-more p other)
-              ∙ ap (λ (x : Frame). cond (is_in_run first (last + 1) p) (get_or copies (p - first) []) x.value) (get_or-set_other frames (first + last) p (with_value b bytes) d other)
+              ap (λ c. cond c (get_or copies (p - first) []) (get_or new p [])) (in-more p other)
+              ∙ ap (λ (x : List ℕ). cond (is_in_run first (last + 1) p) (get_or copies (p - first) []) x) (get_or-set_other frames (first + last) p bytes [] other)
         ])

@@ -1,13 +1,15 @@
 // SPDX-License-Identifier: MIT OR Apache-2.0
 //! Pages that are lent, and RAM over them.
-ghost use Rattle.std.specs.Prelude.{◌≡◌, true, false, ℕ, ◌+◌, ◌*◌, ◌%◌, ◌^◌, ◌<◌, ◌≤◌, ◌++◌, [], ◌∷◌, None, IfOk, IfErr, IfSome, Some, max, ◌-◌, is_ok, slice_index_or, if◌then◌else◌, length, map, vec_len};
+ghost use Rattle.std.specs.Prelude.{◌≡◌, true, false, ℕ, ◌+◌, ◌*◌, ◌%◌, ◌^◌, ◌<◌, ◌≤◌, ◌++◌, [], ◌∷◌, None, IfOk, IfErr, IfSome, Some, max, ◌-◌, is_ok, slice_index_or, if◌then◌else◌, length, vec_len};
 ghost use Rattle.std.specs.Option.{option_map, option_to_list};
 ghost use Rattle.ffa_lent.specs.Listed.{empty, nothing_listed};
+ghost use Rattle.ffa_model.specs.Ram.{page_of};
+ghost use Rattle.ffa_physmem.specs.FrameRam.{ram_of as frame_ram};
 
 use crate::lent::Lent;
 use crate::settling;
 use ffa_model::{Address, MOST_BUFFER_PAGES, PageNo};
-use ffa_physmem::{PAGE_SIZE, PhysMem, put_word};
+use ffa_physmem::{FrameRam, PAGE_SIZE, PhysMem, put_word};
 use std::alloc::{AllocError, Global};
 use std::marker::Model;
 
@@ -27,7 +29,11 @@ impl Model for Frames {
 
     ghost coded = { coded_listed };
 
-    ghost view = { λ f. record { pages = map (λ b. b.value) f.list.items; room = vec_capacity f.list; is_ready = is_some f.copies } };
+    ghost view = { λ f. record {
+      pages = map (λ b. b.value) f.list.items;
+      room = vec_capacity f.list;
+      is_ready = is_some f.copies;
+    } };
 }
 
 impl Frames {
@@ -95,14 +101,11 @@ impl Frames {
 /// a copy, which is read in their place, so they are what one reading gave.
 #[derive(Drop)]
 pub struct LentRam {
-    base: Address,
-    frames: Vec<Box<[u8; 4096], Lent>>,
+    frames: FrameRam<Lent, Global>,
     // Copies of so many pages, from the first that is observed on.
     copies: Vec<[u8; 4096]>,
     first: PageNo,
     count: usize,
-    ghost aligned: { base.0 % 4096 ≡ 0 },
-    ghost fits: { base.0 + 4096 * vec_len frames ≤ 2 ^ 32 },
     ghost held: { count ≤ vec_len copies },
 }
 
@@ -127,8 +130,7 @@ impl LentRam {
             },
         };
         Ok(LentRam {
-            base,
-            frames: list,
+            frames: FrameRam::of(base, list),
             copies,
             first: PageNo(0),
             count: 0,
@@ -143,7 +145,7 @@ impl LentRam {
         let mut ram = self;
         ram.write_back();
         Frames {
-            list: ram.frames,
+            list: ram.frames.into_frames(),
             copies: Some(ram.copies),
         }
     }
@@ -180,11 +182,11 @@ impl LentRam {
     {
         let last = self.count - 1;
         let page = self.first.0 as usize + last;
-        if page >= self.frames.len() {
+        if page >= self.frames.pages() as usize {
             self.count = last;
             return;
         }
-        *self.frames[page] = self.copies[last];
+        *self.frames.page_mut(PageNo(page as u32)) = self.copies[last];
         self.count = last;
     }
 }
@@ -193,7 +195,7 @@ impl LentRam {
 fn room_for_copies(alloc: Global) -> Result<Vec<[u8; 4096]>, AllocError> {
     let mut copies = Vec::with_capacity(alloc, MOST_BUFFER_PAGES as usize)?;
     for _page in 0..MOST_BUFFER_PAGES {
-        copies.push([0; 4096])?;
+        copies.push([0; PAGE_SIZE])?;
     }
     Ok(copies)
 }
@@ -215,11 +217,11 @@ impl PhysMem for LentRam {
     ghost in_loan = { λ _ _ _. unrecorded };
 
     fn base(&self) -> Address {
-        self.base
+        self.frames.base()
     }
 
     fn pages(&self) -> u32 {
-        self.frames.len() as u32
+        self.frames.pages()
     }
 
     fn page(&self, page: PageNo) -> &[u8; 4096] {
@@ -229,10 +231,7 @@ impl PhysMem for LentRam {
             let _ = &copy[..];
             return copy;
         }
-        let frame = self.frames[page.0 as usize].as_ref();
-        // Proof step: so here.
-        let _ = &frame[..];
-        frame
+        self.frames.page(page)
     }
 
     // What is written to an observed page is written to its copy, and gone with that.
@@ -240,7 +239,7 @@ impl PhysMem for LentRam {
         if let Some(place) = self.place(page) {
             return &mut self.copies[place];
         }
-        self.frames[page.0 as usize].as_mut()
+        self.frames.page_mut(page)
     }
 
     fn write_word(&mut self, page: PageNo, index: usize, value: u64) {
@@ -254,16 +253,15 @@ impl PhysMem for LentRam {
     }
 
     fn settle(&mut self, endpoint: usize, first: PageNo, count: u32) {
-        settling::ask(endpoint, self.base, first, count);
+        settling::ask(endpoint, self.frames.base(), first, count);
     }
 
     // Observes nothing where pages are observed already, or more are named than a TX may have.
     fn observe(&mut self, first: PageNo, count: u32) {
-        let count = count as usize;
-        if self.count == 0 && count <= self.copies.len() {
-            copy_frames(&mut self.copies, &self.frames, first.0 as usize, count);
+        if self.count == 0 && count as usize <= self.copies.len() {
+            copy_frames(&mut self.copies, &self.frames, first, count);
             self.first = first;
-            self.count = count;
+            self.count = count as usize;
         }
     }
 
@@ -271,7 +269,7 @@ impl PhysMem for LentRam {
     fn release(&mut self, first: PageNo, count: u32) {
         if self.first == first && self.count == count as usize {
             // Proof step: a copy has as many bytes as its frame.
-            are_whole(&self.copies, &self.frames, first.0 as usize, self.count);
+            are_whole(&self.copies, &self.frames, first, count);
             self.count = 0;
         }
     }
@@ -280,29 +278,30 @@ impl PhysMem for LentRam {
 // Copies so many frames, from one on. Each byte of a frame is read once.
 fn copy_frames(
     copies: &mut [[u8; 4096]],
-    frames: &[Box<[u8; 4096], Lent>],
-    first: usize,
-    count: usize,
+    frames: &FrameRam<Lent, Global>,
+    first: PageNo,
+    count: u32,
 )
-    requires within { first + count ≤ length frames.now }
+    requires within { first.0 + count ≤ length (frame_ram frames.now).pages }
     requires room { count ≤ length copies.old }
     ensures room { length copies.new ≡ length copies.old }
-    ensures copied { (k : ℕ) → k < count → slice_index_or copies.new k [] ≡ slice_index_or (map (λ b. b.value) frames.now) (first + k) [] }
+    ensures copied { (k : ℕ) → k < count
+        → slice_index_or copies.new k [] ≡ page_of (frame_ram frames.now) (first.0 + k) }
 {
     for index in 0..count {
-        copies[index].copy_from_slice(frames[first + index].as_ref());
+        copies[index as usize].copy_from_slice(frames.page(PageNo(first.0 + index)));
     }
 }
 
 // Each of these copies has as many bytes as its frame.
-fn are_whole(copies: &[[u8; 4096]], frames: &[Box<[u8; 4096], Lent>], first: usize, count: usize)
-    requires within { first + count ≤ length frames.now }
+fn are_whole(copies: &[[u8; 4096]], frames: &FrameRam<Lent, Global>, first: PageNo, count: u32)
+    requires within { first.0 + count ≤ length (frame_ram frames.now).pages }
     requires room { count ≤ length copies.now }
-    ensures { (k : ℕ) → k < count → length (slice_index_or copies.now k []) ≡ length (slice_index_or (map (λ b. b.value) frames.now) (first + k) []) }
+    ensures { (k : ℕ) → k < count
+        → length (slice_index_or copies.now k []) ≡ length (page_of (frame_ram frames.now) (first.0 + k)) }
 {
     for index in 0..count {
-        let _ = &copies[index][..];
-        let frame = frames[first + index].as_ref();
-        let _ = &frame[..];
+        let _ = &copies[index as usize][..];
+        let _ = frames.page(PageNo(first.0 + index));
     }
 }

@@ -6,6 +6,7 @@ ghost use Rattle.ffa_model.specs.Identifiers.{identifier};
 
 use byteorder::{ByteOrder, LittleEndian};
 use ffa_model::{Address, EndpointId, PageNo};
+use ffa_physmem::PAGE_SIZE;
 
 /// A descriptor that no file has: firmware knows by it what is asked, and `write` of a C library does nothing.
 const DESCRIPTOR: i32 = -0xFFA;
@@ -28,8 +29,8 @@ fn request(endpoint: usize, base: Address, first: PageNo, count: u32) -> [u8; 24
     LittleEndian::write_u64(&mut bytes, u64::from(identifier));
     LittleEndian::write_u64(
         &mut bytes[8..],
-        u64::from(base.0) + 4096 * u64::from(first.0),
+        u64::from(base.0) + PAGE_SIZE as u64 * u64::from(first.0),
     );
-    LittleEndian::write_u64(&mut bytes[16..], 4096 * u64::from(count));
+    LittleEndian::write_u64(&mut bytes[16..], PAGE_SIZE as u64 * u64::from(count));
     bytes
 }

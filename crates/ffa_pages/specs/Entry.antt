@@ -28,7 +28,8 @@ slot_at table p = option_and_then (λ (e : Entry). e.slot) (entry_at table p)
 
 -- the table in which an endpoint owns a page with this right; a transaction that names the page goes on naming it
 abbrev pub given : List (Option Entry) → ℕ → ℕ → Rights → List (Option Entry)
-given table p owner right = slice_set table p (Some (record { owner = owner; own_right = right; slot = slot_at table p }))
+given table p owner right =
+    slice_set table p (Some (record { owner = owner; own_right = right; slot = slot_at table p }))
 
 -- the table in which the transaction at a place in the pool, or none, names a page
 abbrev pub marked : List (Option Entry) → ℕ → Option ℕ → List (Option Entry)

@@ -37,7 +37,8 @@ standing_of page = if page.owner.0 == manager then None else Some page.standing
 
 abbrev pub entry_of : KeptPage → Option Entry
 entry_of page =
-    option_map (λ (s : Standing). record { owner = page.owner.0; own_right = own_right_in s; slot = slot_in s }) (standing_of page)
+    option_map (λ (s : Standing). record { owner = page.owner.0; own_right = own_right_in s; slot = slot_in s })
+    (standing_of page)
 
 abbrev pub entries_of : List KeptPage → List (Option Entry)
 entries_of pages = map entry_of pages

@@ -38,7 +38,8 @@ impl PageTable {
     /// The table in which each page of a region is the region's endpoint's, with the region's right, all others are the
     /// manager's, and no transaction is open. It takes no memory.
     pub fn of(manifest: &Manifest) -> PageTable
-        ensures { result ≡ listed (512 * manifest.now.ram_blocks) (first_entry manifest.now.ram_base.0 manifest.now.endpoints.items) }
+        ensures { let entry = first_entry manifest.now.ram_base.0 manifest.now.endpoints.items in
+            result ≡ listed (512 * manifest.now.ram_blocks) entry }
     {
         let mut table = PageTable::none();
         table.begin(512 * manifest.ram_blocks as usize);
@@ -95,7 +96,8 @@ impl<P: Room<KeptPage> + Drop> PageTable<P> {
     /// are the manager's, and no transaction is open.
     pub fn fill(&mut self, manifest: &Manifest)
         requires { length self.old ≡ 512 * manifest.now.ram_blocks }
-        ensures { self.new ≡ listed (512 * manifest.now.ram_blocks) (first_entry manifest.now.ram_base.0 manifest.now.endpoints.items) }
+        ensures { let entry = first_entry manifest.now.ram_base.0 manifest.now.endpoints.items in
+            self.new ≡ listed (512 * manifest.now.ram_blocks) entry }
     {
         let end = 512 * manifest.ram_blocks;
         let mut next = 0;
@@ -239,7 +241,8 @@ fn alike_from(manifest: &Manifest, first: PageNo, end: u32) -> u32
     requires { first.0 < end }
     ensures some { first.0 < result }
     ensures end { result ≤ end }
-    ensures alike { (p : ℕ) → first.0 ≤ p → p < result → first_entry manifest.now.ram_base.0 manifest.now.endpoints.items p ≡ first_entry manifest.now.ram_base.0 manifest.now.endpoints.items first.0 }
+    ensures alike { let entry = first_entry manifest.now.ram_base.0 manifest.now.endpoints.items in
+        (p : ℕ) → first.0 ≤ p → p < result → entry p ≡ entry first.0 }
 {
     manifest.alike_until(first, end)
 }

@@ -11,7 +11,7 @@ use Rattle.ffa_model.specs.Ram.{page_of}
 use Rattle.ffa_physmem.specs.FrameRam.{ram_of, with_frame}
 use Rattle.ffa_physmem.specs.declared.frames.FrameRam.{FrameRam}
 
-module _ {A : Type 0} (m : FrameRam A) (i : ℕ) (b : Box (List ℕ) A) (inside : i < length (ram_of m).pages) (there : b ≡ slice_index_or m.frames.items i b) where
+module _ {A L : Type 0} (m : FrameRam A L) (i : ℕ) (b : Box (List ℕ) A) (inside : i < length (ram_of m).pages) (there : b ≡ slice_index_or m.frames.items i b) where
   -- it has the page's bytes
   pub page_of-there : page_of (ram_of m) i ≡ b.value
   page_of-there = get_or-map (λ x. x.value) m.frames.items i b [] (simp length-map at inside) ∙ ap (λ x. x.value) (sym there)

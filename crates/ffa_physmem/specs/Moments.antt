@@ -91,4 +91,6 @@ pub record Only (old new : Option (List Step)) (P : List Step → Step → Type 
 
 -- from one history to the next there is exactly one step, which has P
 pub record One (old new : Option (List Step)) (P : Step → Type 0) : Type 0 where
-  pub each : (h : List Step) → new ≡ Some h → (s : Step) × (earlier : List Step) × (h ≡ s ∷ earlier) × (old ≡ Some earlier) × P s
+  pub each :
+      (h : List Step) → new ≡ Some h
+      → (s : Step) × (earlier : List Step) × (h ≡ s ∷ earlier) × (old ≡ Some earlier) × P s

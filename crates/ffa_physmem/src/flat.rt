@@ -2,7 +2,7 @@
 //! RAM in one piece of memory.
 ghost use Rattle.std.specs.Prelude.{◌≡◌, ℕ, ◌+◌, ◌*◌, ◌%◌, ◌^◌, ◌<◌, ◌≤◌, length, replicate, IfOk, vec_len};
 
-use crate::memory::{PhysMem, put_word};
+use crate::memory::{PAGE_SIZE, PhysMem, put_word};
 use ffa_model::{Address, PageNo};
 use std::alloc::{AllocError, Allocator, Global};
 use std::fmt;
@@ -73,7 +73,7 @@ fn zero_pages<A: Allocator>(alloc: A, count: u32) -> Result<Vec<[u8; 4096], A>, 
 {
     let mut pages = Vec::with_capacity(alloc, count as usize)?;
     for _index in 0..count {
-        pages.push([0; 4096])?;
+        pages.push([0; PAGE_SIZE])?;
     }
     Ok(pages)
 }

@@ -3,15 +3,16 @@
 ghost use Rattle.std.specs.Prelude.{◌≡◌, ℕ, ◌+◌, ◌*◌, ◌%◌, ◌^◌, ◌<◌, ◌≤◌, length, map, replicate, IfOk, vec_len};
 
 use crate::flat::NoMemory;
-use crate::memory::{PhysMem, put_word};
+use crate::memory::{PAGE_SIZE, PhysMem, put_word};
 use ffa_model::{Address, PageNo};
 use std::alloc::{AllocError, Allocator, Global};
 
-/// RAM in frames of one page each, which need not lie side by side in memory.
+/// RAM in frames of one page each, which need not lie side by side in memory. The list of them may be in memory of another
+/// allocator.
 #[derive(Drop)]
-pub struct FrameRam<A: Allocator = Global> {
+pub struct FrameRam<A: Allocator = Global, L: Allocator = A> {
     base: Address,
-    frames: Vec<Box<[u8; 4096], A>, A>,
+    frames: Vec<Box<[u8; 4096], A>, L>,
     ghost aligned: { base.0 % 4096 ≡ 0 },
     ghost fits: { base.0 + 4096 * vec_len frames ≤ 2 ^ 32 },
 }
@@ -47,6 +48,26 @@ impl<A: Allocator + Copy> FrameRam<A> {
     }
 }
 
+impl<A: Allocator, L: Allocator> FrameRam<A, L> {
+    ghost use Rattle.ffa_physmem.specs.FrameRam.{ram_of};
+
+    /// RAM at this address, whose pages are these frames, with the bytes that are in them.
+    pub fn of(base: Address, frames: Vec<Box<[u8; 4096], A>, L>) -> FrameRam<A, L>
+        requires aligned { base.0 % 4096 ≡ 0 }
+        requires fits { base.0 + 4096 * vec_len frames ≤ 2 ^ 32 }
+        ensures { ram_of result ≡ record { base = base.0; pages = map (λ b. b.value) frames.items } }
+    {
+        FrameRam { base, frames }
+    }
+
+    /// The frames once more, with the bytes that RAM has.
+    pub fn into_frames(self) -> Vec<Box<[u8; 4096], A>, L>
+        ensures { map (λ b. b.value) result.items ≡ (ram_of self).pages }
+    {
+        self.frames
+    }
+}
+
 /// This many frames of zeros. An error is that the allocator refused, and then all that was taken is given back.
 pub fn zero_frames<A: Allocator + Copy>(
     alloc: A,
@@ -56,12 +77,12 @@ pub fn zero_frames<A: Allocator + Copy>(
 {
     let mut frames = Vec::with_capacity(alloc, count as usize)?;
     for _index in 0..count {
-        frames.push(Box::new(alloc, [0; 4096])?)?;
+        frames.push(Box::new(alloc, [0; PAGE_SIZE])?)?;
     }
     Ok(frames)
 }
 
-impl<A: Allocator> PhysMem for FrameRam<A> {
+impl<A: Allocator, L: Allocator> PhysMem for FrameRam<A, L> {
     ghost use Rattle.std.specs.Prelude.{None};
     ghost use Rattle.ffa_physmem.specs.Unrecorded.{unrecorded};
     ghost use Rattle.ffa_physmem.specs.FrameRam.{ram_of, with_frame, ram_of-with_frame};

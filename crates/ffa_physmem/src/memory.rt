@@ -13,6 +13,9 @@ use ffa_model::{Address, PageNo};
 pub const PAGE_SIZE: usize = 4096;
 
 /// RAM: a base address and pages of 4096 bytes. No two pages need lie side by side in the implementation's memory.
+///
+/// Others may read this memory beside us at any moment, above all the processor's walk of the tables. So what `write_word`
+/// writes has to come out as one store of 64 bits, which no contract can say.
 pub trait PhysMem {
     /// Where the RAM begins, and the bytes of each page.
     ghost ram: { Self → Ram };
@@ -59,7 +62,8 @@ pub trait PhysMem {
     fn write_word(&mut self, page: PageNo, index: usize, value: u64)
         requires page { page.0 < length (ram self.old).pages }
         requires index { index < 512 }
-        ensures ram { ram self.new ≡ with_page (ram self.old) page.0 (with_word (page_of (ram self.old) page.0) index value) }
+        ensures ram { let old = page_of (ram self.old) page.0 in
+            ram self.new ≡ with_page (ram self.old) page.0 (with_word old index value) }
         ensures steps { One (past self.old) (past self.new) (λ s. IsStore (ram self.old) page.0 index value s) };
 
     /// Waits until all that was written is seen by every translation unit, and none holds anything that it read before of
@@ -75,14 +79,16 @@ pub trait PhysMem {
         requires { first.0 + count ≤ length (ram self.old).pages }
         ensures beside { IsBeside (ram self.old) (ram self.new) (is_in_run first.0 count) }
         ensures whole { (p : ℕ) → length (page_of (ram self.new) p) ≡ length (page_of (ram self.old) p) }
-        ensures steps { One (past self.old) (past self.new) (λ s. IsReading (ram self.old) (ram self.new) first.0 count true s) };
+        ensures steps { One (past self.old) (past self.new)
+            (λ s. IsReading (ram self.old) (ram self.new) first.0 count true s) };
 
     /// Ends what `observe` of the same pages began: from now on they are again whatever others write to them.
     fn release(&mut self, first: PageNo, count: u32)
         requires { first.0 + count ≤ length (ram self.old).pages }
         ensures beside { IsBeside (ram self.old) (ram self.new) (is_in_run first.0 count) }
         ensures whole { (p : ℕ) → length (page_of (ram self.new) p) ≡ length (page_of (ram self.old) p) }
-        ensures steps { One (past self.old) (past self.new) (λ s. IsReading (ram self.old) (ram self.new) first.0 count false s) };
+        ensures steps { One (past self.old) (past self.new)
+            (λ s. IsReading (ram self.old) (ram self.new) first.0 count false s) };
 
     /// Fills a page with zeros.
     fn clear_page(&mut self, page: PageNo)
@@ -90,7 +96,7 @@ pub trait PhysMem {
         ensures ram { ram self.new ≡ with_page (ram self.old) page.0 (replicate 4096 0) }
         ensures steps { Only (past self.old) (past self.new) (λ _ s. IsInLoan (ram self.old) page.0 s) }
     {
-        *self.page_mut(page) = [0; 4096];
+        *self.page_mut(page) = [0; PAGE_SIZE];
     }
 
     /// Carries the first `count` bytes of one page to the front of another, whose other bytes stay.
@@ -98,7 +104,8 @@ pub trait PhysMem {
         requires from { from.0 < length (ram self.old).pages }
         requires to { to.0 < length (ram self.old).pages }
         requires count { count ≤ 4096 }
-        ensures ram { ram self.new ≡ with_page (ram self.old) to.0 (take count (page_of (ram self.old) from.0) ++ drop count (page_of (ram self.old) to.0)) }
+        ensures ram { let old = page_of (ram self.old) in
+            ram self.new ≡ with_page (ram self.old) to.0 (take count (old from.0) ++ drop count (old to.0)) }
         ensures steps { Only (past self.old) (past self.new) (λ _ s. IsInLoan (ram self.old) to.0 s) }
     {
         let mut buffer = [0; PAGE_SIZE];
@@ -107,10 +114,12 @@ pub trait PhysMem {
     }
 
     /// Only that page changes.
-    ghost one_page: { (m : Self) (page : ℕ) (bytes : List ℕ) → ram (with_bytes m page bytes) ≡ with_page (ram m) page bytes };
+    ghost one_page: { (m : Self) (page : ℕ) (bytes : List ℕ)
+        → ram (with_bytes m page bytes) ≡ with_page (ram m) page bytes };
 
     /// While a page is lent it may change in any number of steps, and nothing else does.
-    ghost in_loan: { (m : Self) (page : ℕ) (bytes : List ℕ) → Only (past m) (past (with_bytes m page bytes)) (λ _ s. IsInLoan (ram m) page s) };
+    ghost in_loan: { (m : Self) (page : ℕ) (bytes : List ℕ)
+        → Only (past m) (past (with_bytes m page bytes)) (λ _ s. IsInLoan (ram m) page s) };
 }
 
 /// Writes the word at a place of a page's bytes.

@@ -9,11 +9,24 @@ use Rattle.ffa_recorded.specs.declared.recorded.Noted.TheVariants.{Written, Sett
 
 -- the step that ended in this RAM
 abbrev pub step_to : Ram → Noted → Step
-step_to ram (Written held) = record { before = with_page ram held.page.0 held.bytes; after = ram; settled = None; reading = None }
-step_to ram (Settled x) =
-    record { before = ram; after = ram; settled = Some (record { endpoint = x.endpoint; first = x.first.0; count = x.count }); reading = None }
-step_to ram (Read x) =
-    record { before = ram; after = ram; settled = None; reading = Some (record { first = x.first.0; count = x.count; begins = x.begins }) }
+step_to ram (Written held) = record {
+  before = with_page ram held.page.0 held.bytes;
+  after = ram;
+  settled = None;
+  reading = None;
+}
+step_to ram (Settled x) = record {
+  before = ram;
+  after = ram;
+  settled = Some (record { endpoint = x.endpoint; first = x.first.0; count = x.count });
+  reading = None;
+}
+step_to ram (Read x) = record {
+  before = ram;
+  after = ram;
+  settled = None;
+  reading = Some (record { first = x.first.0; count = x.count; begins = x.begins });
+}
 
 -- from the last that was noted back to the first
 abbrev pub steps_to : Ram → List Noted → List Step

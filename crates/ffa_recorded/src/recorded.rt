@@ -89,7 +89,10 @@ impl PhysMem for Recorded {
 
     ghost ram = { λ m. ⟦<FlatRam as PhysMem>⟧.ram m.ram };
 
-    ghost with_bytes = { λ m page bytes. record m { ram = ⟦<FlatRam as PhysMem>⟧.with_bytes m.ram page bytes; is_kept = false } };
+    ghost with_bytes = { λ m page bytes. record m {
+      ram = ⟦<FlatRam as PhysMem>⟧.with_bytes m.ram page bytes;
+      is_kept = false;
+    } };
 
     ghost past = { λ m. history m.is_kept (⟦<FlatRam as PhysMem>⟧.ram m.ram) m.noted.items };
 

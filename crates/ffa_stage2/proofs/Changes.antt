@@ -7,7 +7,7 @@ use Rattle.ffa_model.specs.declared.limits.TheConstants.{MOST_BLOCKS, MOST_RAM}
 use Rattle.ffa_model.specs.Ram.{Ram, page_of, word_of}
 use Rattle.ffa_model.specs.Manifest.{table_pages}
 use Rattle.ffa_model.specs.declared.rights.Rights.{Rights}
-use Rattle.ffa_stage2.specs.declared.blocks.Place.{Place}
+use Rattle.ffa_stage2.specs.declared.blocks.BlockPlace.{BlockPlace}
 use Rattle.ffa_stage2.specs.Blocks.{IsMapped, IsEither}
 use Rattle.ffa_stage2.specs.Tables.{IsBuilt, IsBuiltBy, IsStanding, InBlock, InBlockBy, HasRoom, table_page, table_link, level2_place, level2_word, block_address, rights_of_block, KeepsOthers, BlocksWhereOne}
 use Rattle.ffa_stage2.specs.Places.{IsPlace, Maps, Stands, KeepsBeside, word_at, IsPlaceOf}
@@ -21,7 +21,7 @@ apart b e s e' s' hs hs' (inl h) same = h (same_from_place e s e' s' (table_page
 apart b e s e' s' hs hs' (inr h) same = h (same_from_place e s e' s' (table_pages b) hs hs' same).1
 
 -- the place of a block
-pub place-of : (ram : Ram) (n b e k : ℕ) (x : Place) → HasRoom ram n b
+pub place-of : (ram : Ram) (n b e k : ℕ) (x : BlockPlace) → HasRoom ram n b
     → ((s : ℕ) → s < table_pages b → length (page_of ram (table_page b e s)) ≡ 4096) → e < n → k < b → IsPlaceOf ram b e k x → IsPlace ram x
 place-of ram n b e k x fits whole he hk at =
     let place : ram.base % MOST_RAM ≡ 0 = fits.place in
@@ -44,13 +44,13 @@ place-of ram n b e k x fits whole he hk at =
     }
 
 -- what built tables say at a place
-pub maps-of : (ram : Ram) (b e k : ℕ) (x : Place) (rights : ℕ → Option Rights) → IsPlaceOf ram b e k x → InBlock ram b e rights k
+pub maps-of : (ram : Ram) (b e k : ℕ) (x : BlockPlace) (rights : ℕ → Option Rights) → IsPlaceOf ram b e k x → InBlock ram b e rights k
     → Maps ram x (rights_of_block rights k)
 maps-of ram b e k x rights at mapped = rw (at.middle, at.entry, at.table, at.link, at.address) mapped
 
 module _ (law : ℕ → ℕ → List ℕ → ℕ → (ℕ → Option Rights) → Type 0)
     (law-rights : (word link : ℕ) (page : List ℕ) (address : ℕ) (f g : ℕ → Option Rights) → ((j : ℕ) → j < 512 → f j ≡ g j) → law word link page address f → law word link page address g)
-    (old new : Ram) (n b e k : ℕ) (f g : ℕ → ℕ → Option Rights) (x : Place) (built : IsBuiltBy law old n b f) (he : e < n) (hk : k < b)
+    (old new : Ram) (n b e k : ℕ) (f g : ℕ → ℕ → Option Rights) (x : BlockPlace) (built : IsBuiltBy law old n b f) (he : e < n) (hk : k < b)
     (at : IsPlaceOf old b e k x) (beside : KeepsBeside old new x) (mapped : law (word_at new x) x.link (page_of new x.table.0) x.address (rights_of_block (g e) k))
     (same : (e' k' j : ℕ) → e' < n → k' < b → j < 512 → ((e' ≢ e) ⊎ (k' ≢ k)) → f e' (512 * k' + j) ≡ g e' (512 * k' + j)) where
   page-other : (e' s : ℕ) → s < table_pages b → ((e' ≢ e) ⊎ ((s ≢ 1) × (s ≢ 2 + k))) → page_of new (table_page b e' s) ≡ page_of old (table_page b e' s)
@@ -133,7 +133,7 @@ module _ (law : ℕ → ℕ → List ℕ → ℕ → (ℕ → Option Rights) →
     each = each-after;
   }
 
-module _ (old new : Ram) (n b e k : ℕ) (f g : ℕ → ℕ → Option Rights) (x : Place) where
+module _ (old new : Ram) (n b e k : ℕ) (f g : ℕ → ℕ → Option Rights) (x : BlockPlace) where
   pub built-beside : IsBuilt old n b f → e < n → k < b → IsPlaceOf old b e k x → KeepsBeside old new x → Maps new x (rights_of_block (g e) k)
       → ((e' k' j : ℕ) → e' < n → k' < b → j < 512 → ((e' ≢ e) ⊎ (k' ≢ k)) → f e' (512 * k' + j) ≡ g e' (512 * k' + j)) → IsBuilt new n b g
   built-beside built he hk at beside mapped same = built_by-beside IsMapped IsMapped-rights old new n b e k f g x built he hk at beside mapped same
@@ -144,7 +144,7 @@ module _ (old new : Ram) (n b e k : ℕ) (f g : ℕ → ℕ → Option Rights) (
   standing-beside standing he hk at beside stands same = built_by-beside IsEither IsEither-rights old new n b e k f g x standing he hk at beside stands same
 
 -- and no page but the endpoint's table pages changed
-pub others-beside : (old new : Ram) (b e k : ℕ) (x : Place) → k < b → IsPlaceOf old b e k x → KeepsBeside old new x → KeepsOthers old new b e
+pub others-beside : (old new : Ram) (b e k : ℕ) (x : BlockPlace) → k < b → IsPlaceOf old b e k x → KeepsBeside old new x → KeepsOthers old new b e
 others-beside old new b e k x hk at beside = record {
   base = beside.base;
   size = beside.size;

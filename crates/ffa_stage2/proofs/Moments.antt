@@ -10,7 +10,7 @@ use Rattle.ffa_model.specs.Walk.{is_in_ram, mapped_answer}
 use Rattle.ffa_model.specs.Descriptor.{page_word}
 use Rattle.ffa_model.specs.declared.operation.FaultKind.TheVariants.{Translation}
 use Rattle.ffa_model.specs.declared.rights.Rights.{Rights}
-use Rattle.ffa_stage2.specs.declared.blocks.Place.{Place}
+use Rattle.ffa_stage2.specs.declared.blocks.BlockPlace.{BlockPlace}
 use Rattle.ffa_physmem.specs.Moments.{IsBeside, IsSettledBy, Step}
 use Rattle.ffa_stage2.specs.Blocks.{IsBlock, IsEither, block_word}
 use Rattle.ffa_stage2.specs.Moments.{EndsSettled, IsBetween, IsMoment, IsNoMore, KeepsBehind, WalksBetween, WritesUnreached, walk_at}
@@ -28,11 +28,11 @@ use Rattle.ffa_stage2.proofs.Walks.{walk-standing, standing-of_built, walk-built
 -- ---- at one place
 
 -- nothing changed but words of the level 3 page
-pub record IsApart (old ram : Ram) (x : Place) : Type 0 where
+pub record IsApart (old ram : Ram) (x : BlockPlace) : Type 0 where
   pub beside : KeepsBeside old ram x
   pub middle : page_of ram x.middle.0 ≡ page_of old x.middle.0
 
-pub apart-same : (old : Ram) (x : Place) → IsPlace old x → IsApart old old x
+pub apart-same : (old : Ram) (x : BlockPlace) → IsPlace old x → IsApart old old x
 apart-same old x place = record {
   beside = record {
     base = refl;
@@ -45,14 +45,14 @@ apart-same old x place = record {
   middle = refl;
 }
 
-pub apart-filled : (old middle ram : Ram) (x : Place) (from to : ℕ) (word : ℕ → ℕ) → IsPlace old x → IsApart old middle x → IsFilled middle ram x.table.0 from to word → IsApart old ram x
+pub apart-filled : (old middle ram : Ram) (x : BlockPlace) (from to : ℕ) (word : ℕ → ℕ) → IsPlace old x → IsApart old middle x → IsFilled middle ram x.table.0 from to word → IsApart old ram x
 apart-filled old middle ram x from to word place apart filled = record {
   beside = KeepsBeside-then old middle ram x apart.beside (KeepsBeside-of_filled middle ram x from to word (IsPlace-kept old middle x place apart.beside) filled);
   middle = filled.pages x.middle.0 place.apart ∙ apart.middle;
 }
 
 -- while a block stands its level 3 page may be written
-pub way-apart : (old ram : Ram) (x : Place) (rights : ℕ → Option Rights) (from to : ℕ) (right : Option Rights) → IsBlock (word_at old x) x.address rights
+pub way-apart : (old ram : Ram) (x : BlockPlace) (rights : ℕ → Option Rights) (from to : ℕ) (right : Option Rights) → IsBlock (word_at old x) x.address rights
     → IsApart old ram x → IsOnTheWay old ram x rights from to right
 way-apart old ram x rights from to right block apart =
     let word : word_at ram x ≡ word_at old x = ap (λ (bytes : List ℕ). word_of bytes x.entry) apart.middle in
@@ -63,13 +63,13 @@ way-apart old ram x rights from to right block apart =
       beside = apart.beside;
     }
 
-pub way-filling : (old middle ram : Ram) (x : Place) (rights : ℕ → Option Rights) (from to : ℕ) (right : Option Rights) (low high : ℕ) (word : ℕ → ℕ) → IsPlace old x
+pub way-filling : (old middle ram : Ram) (x : BlockPlace) (rights : ℕ → Option Rights) (from to : ℕ) (right : Option Rights) (low high : ℕ) (word : ℕ → ℕ) → IsPlace old x
     → IsBlock (word_at old x) x.address rights → IsApart old middle x → IsFilling middle ram x.table.0 low high word → IsOnTheWay old ram x rights from to right
 way-filling old middle ram x rights from to right low high word place block apart (next, _, _, filled) =
     way-apart old ram x rights from to right block (apart-filled old middle ram x low next word place apart filled)
 
 -- while a table stands its words are written one by one
-pub way-table : (old ram : Ram) (x : Place) (rights : ℕ → Option Rights) (from to : ℕ) (right : Option Rights) → IsPlace old x → Names old x rights → to ≤ 512
+pub way-table : (old ram : Ram) (x : BlockPlace) (rights : ℕ → Option Rights) (from to : ℕ) (right : Option Rights) → IsPlace old x → Names old x rights → to ≤ 512
     → IsFilling old ram x.table.0 from to (λ j. page_word (x.address + 4096 * j) right) → IsOnTheWay old ram x rights from to right
 way-table old ram x rights from to right place names few (next, low, high, filled) =
     let middle : page_of ram x.middle.0 ≡ page_of old x.middle.0 = filled.pages x.middle.0 place.apart in
@@ -100,7 +100,7 @@ way-table old ram x rights from to right place names few (next, low, high, fille
     ]
 
 -- and in the end the rights are the other ones
-pub way-end : (old new ram : Ram) (x : Place) (rights : ℕ → Option Rights) (from to : ℕ) (right : Option Rights) → Maps new x (with_run rights from to right) → KeepsBeside old new x
+pub way-end : (old new ram : Ram) (x : BlockPlace) (rights : ℕ → Option Rights) (from to : ℕ) (right : Option Rights) → Maps new x (with_run rights from to right) → KeepsBeside old new x
     → ram ≡ new → IsOnTheWay old ram x rights from to right
 way-end old new ram x rights from to right maps beside is = subst (λ r. IsOnTheWay old r x rights from to right) (sym is) (record {
   now = with_run rights from to right;
@@ -110,7 +110,7 @@ way-end old new ram x rights from to right maps beside is = subst (λ r. IsOnThe
 })
 
 -- while nothing stands no page has a right
-pub way-cut : (old ram : Ram) (x : Place) (rights : ℕ → Option Rights) (from to : ℕ) (right : Option Rights) → IsCut old ram x → IsOnTheWay old ram x rights from to right
+pub way-cut : (old ram : Ram) (x : BlockPlace) (rights : ℕ → Option Rights) (from to : ℕ) (right : Option Rights) → IsCut old ram x → IsOnTheWay old ram x rights from to right
 way-cut old ram x rights from to right cut = record {
   now = λ j. None;
   stands = inr (inr (record { is = cut.nothing; none = λ j hj. refl }));
@@ -118,17 +118,17 @@ way-cut old ram x rights from to right cut = record {
   beside = cut.beside;
 }
 
-pub cut-written : (old ram : Ram) (x : Place) → IsPlace old x → IsWritten old ram x.middle.0 x.entry 0 → IsCut old ram x
+pub cut-written : (old ram : Ram) (x : BlockPlace) → IsPlace old x → IsWritten old ram x.middle.0 x.entry 0 → IsCut old ram x
 cut-written old ram x place write = record { beside = KeepsBeside-of_middle old ram x 0 place write; nothing = write.here }
 
 -- nothing yet, or the end
-pub way-replaced : (old new ram : Ram) (x : Place) (rights : ℕ → Option Rights) (from to : ℕ) (right : Option Rights) → Maps new x (with_run rights from to right) → KeepsBeside old new x
+pub way-replaced : (old new ram : Ram) (x : BlockPlace) (rights : ℕ → Option Rights) (from to : ℕ) (right : Option Rights) → Maps new x (with_run rights from to right) → KeepsBeside old new x
     → (IsCut old ram x ⊎ (ram ≡ new)) → IsOnTheWay old ram x rights from to right
 way-replaced old new ram x rights from to right maps beside (inl cut) = way-cut old ram x rights from to right cut
 way-replaced old new ram x rights from to right maps beside (inr is) = way-end old new ram x rights from to right maps beside is
 
 -- what was cut of a RAM that is beside another
-pub cut-then : (old middle ram : Ram) (x : Place) → KeepsBeside old middle x → IsCut middle ram x → IsCut old ram x
+pub cut-then : (old middle ram : Ram) (x : BlockPlace) → KeepsBeside old middle x → IsCut middle ram x → IsCut old ram x
 cut-then old middle ram x beside cut = record { beside = KeepsBeside-then old middle ram x beside cut.beside; nothing = cut.nothing }
 
 -- ---- in order
@@ -178,7 +178,7 @@ one-same old page from to word other s few one same = record {
 }
 
 -- of the level 3 page while a block stands, which doesn't name it
-pub orderly-apart : (x : Place) (h : List Step) (s : Step) (old ram : Ram) (to from : ℕ) (word : ℕ → ℕ) → IsPlace old x → IsApart old ram x → word_at old x % 4 ≡ 1 → to ≤ 512
+pub orderly-apart : (x : BlockPlace) (h : List Step) (s : Step) (old ram : Ram) (to from : ℕ) (word : ℕ → ℕ) → IsPlace old x → IsApart old ram x → word_at old x % 4 ≡ 1 → to ≤ 512
     → IsOneOf ram x.table.0 from to word s → IsOrderly x h s
 orderly-apart x h s old ram to from word place apart typed few one = inr (inl (record {
   place = one.place;
@@ -192,7 +192,7 @@ orderly-apart x h s old ram to from word place apart typed few one = inr (inl (r
 }))
 
 -- of the table that stands
-pub orderly-table : (x : Place) (h : List Step) (s : Step) (old : Ram) (to from : ℕ) (right : Option Rights) (rights : ℕ → Option Rights) → IsPlace old x → Names old x rights → to ≤ 512
+pub orderly-table : (x : BlockPlace) (h : List Step) (s : Step) (old : Ram) (to from : ℕ) (right : Option Rights) (rights : ℕ → Option Rights) → IsPlace old x → Names old x rights → to ≤ 512
     → IsOneOf old x.table.0 from to (λ j. page_word (x.address + 4096 * j) right) s → IsOrderly x h s
 orderly-table x h s old to from right rights place names few one = inr (inl (record {
   place = one.place;
@@ -203,7 +203,7 @@ orderly-table x h s old to from right rights place names few one = inr (inl (rec
 }))
 
 -- a write of the level 2 word, as the code does it
-pub orderly-write : (x : Place) (h : List Step) (s : Step) (old : Ram) (value : ℕ) → IsPlace old x → value < 2 ^ 64 → s.before ≡ old
+pub orderly-write : (x : BlockPlace) (h : List Step) (s : Step) (old : Ram) (value : ℕ) → IsPlace old x → value < 2 ^ 64 → s.before ≡ old
     → s.after ≡ with_page old x.middle.0 (with_word (page_of old x.middle.0) x.entry value)
     → ((value ≡ 0) ⊎ (((word_at s.before x ≡ 0) × IsSettledLast x.endpoint x.first.0 h)
     ⊎ ((r : Rights) × (q : Rights) × (word_at s.before x ≡ block_word x.address r) × (value ≡ block_word x.address q))))
@@ -215,7 +215,7 @@ orderly-write x h s old value place fits before after order = inr (inr (record {
 }))
 
 -- a place is the same in RAM that stands alike
-pub place-of-kept : (old new : Ram) (b e k : ℕ) (x : Place) → new.base ≡ old.base → IsPlaceOf old b e k x → IsPlaceOf new b e k x
+pub place-of-kept : (old new : Ram) (b e k : ℕ) (x : BlockPlace) → new.base ≡ old.base → IsPlaceOf old b e k x → IsPlaceOf new b e k x
 place-of-kept old new b e k x base at = record {
   middle = at.middle;
   entry = rw base at.entry;
@@ -248,7 +248,7 @@ pagewise e now access after p own now-far after-far = elim own [
   | inr nothing ↦ inl (λ e'. elim (cases_eq e' e) [ inl same ↦ inr (rw same nothing) | inr far ↦ inl (now-far e' far) ])
 ]
 
-module _ (old ram : Ram) (n b e k first next until end from to : ℕ) (access : ℕ → ℕ → Option Rights) (right : Option Rights) (x : Place)
+module _ (old ram : Ram) (n b e k first next until end from to : ℕ) (access : ℕ → ℕ → Option Rights) (right : Option Rights) (x : BlockPlace)
     (built : IsBuilt old n b (with_pages access e first next right)) (he : e < n) (hk : k < b) (at : IsPlaceOf old b e k x)
     (way : IsOnTheWay old ram x (rights_of_block (with_pages access e first next right e) k) from to right)
     (low : first ≤ next) (high : next ≤ until) (all : until ≤ end) (start : 512 * k + from ≡ next) (stop : 512 * k + to ≡ until) (few : to ≤ 512) where
@@ -421,7 +421,7 @@ nothing-ends old new n b past same h there e p he hp was gone =
     absurd (true≢false (sym was ∙ ap (λ (r : Ram). is_ok (walk_at r b e (r.base + 4096 * p))) (sym same) ∙ gone))
 
 -- at the place of a block
-pub ordered-of : (old : Ram) (b e k : ℕ) (x : Place) → k < b → IsPlaceOf old b e k x → (h : List Step) (s : Step) → IsOrderly x h s → IsOrdered old b e h s
+pub ordered-of : (old : Ram) (b e k : ℕ) (x : BlockPlace) → k < b → IsPlaceOf old b e k x → (h : List Step) (s : Step) → IsOrderly x h s → IsOrdered old b e h s
 ordered-of old b e k x hk at h s (inl same) = inl same
 ordered-of old b e k x hk at h s (inr (inl leaf)) = inr (k, hk, inl (leaf-at at.middle at.entry at.link at.table at.address leaf))
   where

@@ -8,7 +8,7 @@ use Rattle.ffa_model.specs.Ram.{Ram, page_of, with_page, word_of, with_word}
 use Rattle.ffa_model.specs.Descriptor.{page_word}
 use Rattle.ffa_model.specs.declared.rights.Rights.{Rights}
 use Rattle.ffa_physmem.proofs.Words.{word_of-with_word_same, word_of-with_word_other, length-with_word}
-use Rattle.ffa_stage2.specs.declared.blocks.Place.{Place}
+use Rattle.ffa_stage2.specs.declared.blocks.BlockPlace.{BlockPlace}
 use Rattle.ffa_stage2.specs.Blocks.{block_word, IsOne, IsBlock, IsMapped, IsEither, IsBlockWhereOne, IsUniform}
 use Rattle.ffa_stage2.specs.Orders.{IsWritten}
 use Rattle.ffa_stage2.specs.Places.{word_at, IsPlace, Maps, Names, Stands, KeepsBeside}
@@ -41,7 +41,7 @@ pub IsEither-of_mapped : (word link : ℕ) (page : List ℕ) (address : ℕ) (ri
 IsEither-of_mapped word link page address rights (inl block) = inl block
 IsEither-of_mapped word link page address rights (inr (table, mixed)) = inr (inl table)
 
-pub stands-of_maps : (ram : Ram) (x : Place) (rights : ℕ → Option Rights) → Maps ram x rights → Stands ram x rights
+pub stands-of_maps : (ram : Ram) (x : BlockPlace) (rights : ℕ → Option Rights) → Maps ram x rights → Stands ram x rights
 stands-of_maps ram x rights maps = IsEither-of_mapped (word_at ram x) x.link (page_of ram x.table.0) x.address rights maps
 
 -- any law, of the same numbers
@@ -140,13 +140,13 @@ module _ (old : Ram) (page place value : ℕ) (below : page < length old.pages) 
   pub written : (new : Ram) → new ≡ with_page old page (with_word (page_of old page) place value) → IsWritten old new page place value
   written new is = rw is written-so
 
-pub written-middle : (old new : Ram) (x : Place) (value : ℕ) → IsPlace old x → value < 2 ^ 64
+pub written-middle : (old new : Ram) (x : BlockPlace) (value : ℕ) → IsPlace old x → value < 2 ^ 64
     → new ≡ with_page old x.middle.0 (with_word (page_of old x.middle.0) x.entry value) → IsWritten old new x.middle.0 x.entry value
 written-middle old new x value place fits is = written old x.middle.0 x.entry value place.middle place.whole_middle place.entry fits new is
 
 -- ---- at one place
 
-pub IsPlace-kept : (old new : Ram) (x : Place) → IsPlace old x → KeepsBeside old new x → IsPlace new x
+pub IsPlace-kept : (old new : Ram) (x : BlockPlace) → IsPlace old x → KeepsBeside old new x → IsPlace new x
 IsPlace-kept old new x place beside = record {
   middle = omega (arith, beside.size, place.middle);
   table = omega (arith, beside.size, place.table);
@@ -160,7 +160,7 @@ IsPlace-kept old new x place beside = record {
   within = place.within;
 }
 
-pub KeepsBeside-then : (old middle new : Ram) (x : Place) → KeepsBeside old middle x → KeepsBeside middle new x → KeepsBeside old new x
+pub KeepsBeside-then : (old middle new : Ram) (x : BlockPlace) → KeepsBeside old middle x → KeepsBeside middle new x → KeepsBeside old new x
 KeepsBeside-then old middle new x first second = record {
   base = second.base ∙ first.base;
   size = second.size ∙ first.size;
@@ -171,7 +171,7 @@ KeepsBeside-then old middle new x first second = record {
 }
 
 -- a write of the level 2 word
-pub KeepsBeside-of_middle : (old new : Ram) (x : Place) (value : ℕ) → IsPlace old x → IsWritten old new x.middle.0 x.entry value → KeepsBeside old new x
+pub KeepsBeside-of_middle : (old new : Ram) (x : BlockPlace) (value : ℕ) → IsPlace old x → IsWritten old new x.middle.0 x.entry value → KeepsBeside old new x
 KeepsBeside-of_middle old new x value place write = record {
   base = write.base;
   size = write.size;
@@ -182,7 +182,7 @@ KeepsBeside-of_middle old new x value place write = record {
 }
 
 -- writes in the level 3 page
-pub KeepsBeside-of_table : (old new : Ram) (x : Place) → IsPlace old x → new.base ≡ old.base → length new.pages ≡ length old.pages
+pub KeepsBeside-of_table : (old new : Ram) (x : BlockPlace) → IsPlace old x → new.base ≡ old.base → length new.pages ≡ length old.pages
     → ((p : ℕ) → p ≢ x.table.0 → page_of new p ≡ page_of old p) → length (page_of new x.table.0) ≡ 4096 → KeepsBeside old new x
 KeepsBeside-of_table old new x place base size pages whole =
     let middle : page_of new x.middle.0 ≡ page_of old x.middle.0 = pages x.middle.0 place.apart in
@@ -196,32 +196,32 @@ KeepsBeside-of_table old new x place base size pages whole =
     }
 
 -- the type of the level 2 word tells which part of the law holds
-pub block-here : (ram : Ram) (x : Place) (rights : ℕ → Option Rights) → IsPlace ram x → Maps ram x rights → word_at ram x % 4 ≡ 1
+pub block-here : (ram : Ram) (x : BlockPlace) (rights : ℕ → Option Rights) → IsPlace ram x → Maps ram x rights → word_at ram x % 4 ≡ 1
     → IsBlock (word_at ram x) x.address rights
 block-here ram x rights place (inl block) h = block
 block-here ram x rights place (inr (table, mixed)) h = absurd (omega (arith, h, table.is, place.link))
 
-pub table-here : (ram : Ram) (x : Place) (rights : ℕ → Option Rights) → IsPlace ram x → Maps ram x rights → word_at ram x % 4 ≢ 1
+pub table-here : (ram : Ram) (x : BlockPlace) (rights : ℕ → Option Rights) → IsPlace ram x → Maps ram x rights → word_at ram x % 4 ≢ 1
     → Names ram x rights
 table-here ram x rights place (inl block) h = absurd (h (ap (λ (w : ℕ). w % 4) block.is ∙ block_word-type block.right x.address))
 table-here ram x rights place (inr (table, mixed)) h = table
 
 -- the type, of the word that was read
-pub typed : (ram : Ram) (x : Place) (word : ℕ) → word ≡ word_at ram x → word % 4 ≡ 1 → word_at ram x % 4 ≡ 1
+pub typed : (ram : Ram) (x : BlockPlace) (word : ℕ) → word ≡ word_at ram x → word % 4 ≡ 1 → word_at ram x % 4 ≡ 1
 typed ram x word is h = ap (λ (w : ℕ). w % 4) (sym is) ∙ h
 
-pub typed-other : (ram : Ram) (x : Place) (word : ℕ) → word ≡ word_at ram x → word % 4 ≢ 1 → word_at ram x % 4 ≢ 1
+pub typed-other : (ram : Ram) (x : BlockPlace) (word : ℕ) → word ≡ word_at ram x → word % 4 ≢ 1 → word_at ram x % 4 ≢ 1
 typed-other ram x word is h same = h (ap (λ (w : ℕ). w % 4) is ∙ same)
 
 -- a block's word leaves room for what is added to it
-pub block-fits : (ram : Ram) (x : Place) (rights : ℕ → Option Rights) → IsPlace ram x → Maps ram x rights → word_at ram x % 4 ≡ 1
+pub block-fits : (ram : Ram) (x : BlockPlace) (rights : ℕ → Option Rights) → IsPlace ram x → Maps ram x rights → word_at ram x % 4 ≡ 1
     → word_at ram x < 2 ^ 63
 block-fits ram x rights place maps h =
     let block = block-here ram x rights place maps h in
     omega (arith, block.is, block_word-fits block.right x.address)
 
 -- the descriptor of a page in a block
-pub block-word : (ram : Ram) (x : Place) (rights : ℕ → Option Rights) (j : ℕ) → IsPlace ram x → IsBlock (word_at ram x) x.address rights → j < 512
+pub block-word : (ram : Ram) (x : BlockPlace) (rights : ℕ → Option Rights) (j : ℕ) → IsPlace ram x → IsBlock (word_at ram x) x.address rights → j < 512
     → word_at ram x + 2 + 4096 * j ≡ page_word (x.address + 4096 * j) (rights j)
 block-word ram x rights j place block hj =
     ap (λ (w : ℕ). w + 2 + 4096 * j) block.is ∙ sym (block-page x.address j block.right place.aligned place.within hj)
@@ -230,7 +230,7 @@ block-word ram x rights j place block hj =
 -- ---- one right
 
 -- a uniform table whose page has a right has it for all pages
-pub one-of_uniform : (ram : Ram) (x : Place) (rights : ℕ → Option Rights) (within : ℕ) (r : Rights) → IsPlace ram x → Names ram x rights → within < 512
+pub one-of_uniform : (ram : Ram) (x : BlockPlace) (rights : ℕ → Option Rights) (within : ℕ) (r : Rights) → IsPlace ram x → Names ram x rights → within < 512
     → rights within ≡ Some r → IsUniform (page_of ram x.table.0) → IsOne rights r
 one-of_uniform ram x rights within r place names hw is uniform =
     let page : List ℕ = page_of ram x.table.0 in
@@ -243,7 +243,7 @@ one-of_uniform ram x rights within r place names hw is uniform =
     (sym (names.pages j hj) ∙ uniform j hj ∙ ap (λ (w : ℕ). w + 4096 * j) first ∙ sym (block-page x.address j r place.aligned place.within hj))
 
 -- and where all pages have one right the table is uniform
-pub uniform-of_one : (ram : Ram) (x : Place) (rights : ℕ → Option Rights) (r : Rights) → IsPlace ram x → Names ram x rights
+pub uniform-of_one : (ram : Ram) (x : BlockPlace) (rights : ℕ → Option Rights) (r : Rights) → IsPlace ram x → Names ram x rights
     → IsOne rights r → IsUniform (page_of ram x.table.0)
 uniform-of_one ram x rights r place names one =
     let page : List ℕ = page_of ram x.table.0 in
@@ -254,7 +254,7 @@ uniform-of_one ram x rights r place names one =
     λ i hi. omega (arith, word i hi, word 0 (omega arith))
 
 -- a block put where a table stood
-pub join-maps : (old new : Ram) (x : Place) (rights : ℕ → Option Rights) (value : ℕ) (r : Rights) → IsPlace old x → IsOne rights r
+pub join-maps : (old new : Ram) (x : BlockPlace) (rights : ℕ → Option Rights) (value : ℕ) (r : Rights) → IsPlace old x → IsOne rights r
     → IsWritten old new x.middle.0 x.entry value → value ≡ page_word x.address (Some r) - 2 → Maps new x rights
 join-maps old new x rights value r place one write is = inl (record {
   right = r;

@@ -7,7 +7,7 @@ use Rattle.std.proofs.lemmas.Bool.Decides.{nat_tests}
 use Rattle.ffa_model.specs.Ram.{Ram, page_of, with_page, word_of, with_word}
 use Rattle.ffa_model.specs.Descriptor.{page_word}
 use Rattle.ffa_model.specs.declared.rights.Rights.{Rights}
-use Rattle.ffa_stage2.specs.declared.blocks.Place.{Place}
+use Rattle.ffa_stage2.specs.declared.blocks.BlockPlace.{BlockPlace}
 use Rattle.ffa_stage2.specs.Blocks.{IsOne, IsBlock, IsMixed}
 use Rattle.ffa_stage2.specs.Orders.{IsWritten}
 use Rattle.ffa_stage2.specs.Places.{IsFilled, IsFilling, IsPlace, KeepsBeside, Maps, Names, with_run, word_at}
@@ -71,7 +71,7 @@ IsFilling-same old ram page from to word other few (next, low, high, filled) wor
 pub run-fits : (first step to : ℕ) → step ≤ 4096 → to < 512 → first + 0x200000 ≤ 2 ^ 64 → first + step * to < 2 ^ 64
 run-fits first step to few lt fits = omega (arith, mul-le-mul_right to few)
 
-pub KeepsBeside-of_filled : (old new : Ram) (x : Place) (from to : ℕ) (word : ℕ → ℕ) → IsPlace old x → IsFilled old new x.table.0 from to word → KeepsBeside old new x
+pub KeepsBeside-of_filled : (old new : Ram) (x : BlockPlace) (from to : ℕ) (word : ℕ → ℕ) → IsPlace old x → IsFilled old new x.table.0 from to word → KeepsBeside old new x
 KeepsBeside-of_filled old new x from to word place f = KeepsBeside-of_table old new x place f.base f.size f.pages f.whole
 
 -- the descriptors of a block's pages that have one right
@@ -114,7 +114,7 @@ with_run-same rights from to right r one is j hj = elim (cases_lt j from) [
 ]
 
 -- a block split: the pages before the run, those behind it, the run, and the word that names the table
-pub split-names : (old low high full new : Ram) (x : Place) (rights : ℕ → Option Rights) (from to : ℕ) (right : Option Rights) (word : ℕ)
+pub split-names : (old low high full new : Ram) (x : BlockPlace) (rights : ℕ → Option Rights) (from to : ℕ) (right : Option Rights) (word : ℕ)
     → IsPlace old x → IsBlock (word_at old x) x.address rights → word ≡ word_at old x → from < to → to ≤ 512
     → IsFilled old low x.table.0 0 from (λ j. word + 2 + 4096 * j) → IsFilled low high x.table.0 to 512 (λ j. word + 2 + 4096 * j)
     → IsFilled high full x.table.0 from to (λ j. page_word (x.address + 4096 * j) right) → IsWritten full new x.middle.0 x.entry x.link
@@ -156,7 +156,7 @@ split-mixed rights from to right r one some few (inl part) other q all =
     ]
 
 -- the right of a block, by its word
-pub block-right : (ram : Ram) (x : Place) (rights : ℕ → Option Rights) (right : Option Rights) (word first : ℕ) → IsPlace ram x → (block : IsBlock (word_at ram x) x.address rights)
+pub block-right : (ram : Ram) (x : BlockPlace) (rights : ℕ → Option Rights) (right : Option Rights) (word first : ℕ) → IsPlace ram x → (block : IsBlock (word_at ram x) x.address rights)
     → word ≡ word_at ram x → first ≡ page_word x.address right → (first ≡ word + 2) ↔ (right ≡ Some block.right)
 block-right ram x rights right word first place block is leaf =
     let its : word + 2 ≡ page_word x.address (Some block.right) =
@@ -167,14 +167,14 @@ block-right ram x rights right word first place block is leaf =
     )
 
 -- a block that has the right already
-pub split-kept : (ram : Ram) (x : Place) (rights : ℕ → Option Rights) (from to : ℕ) (right : Option Rights) (word first : ℕ) → IsPlace ram x → Maps ram x rights
+pub split-kept : (ram : Ram) (x : BlockPlace) (rights : ℕ → Option Rights) (from to : ℕ) (right : Option Rights) (word first : ℕ) → IsPlace ram x → Maps ram x rights
     → IsBlock (word_at ram x) x.address rights → word ≡ word_at ram x → first ≡ page_word x.address right → first ≡ word + 2 → Maps ram x (with_run rights from to right)
 split-kept ram x rights from to right word first place maps block is leaf same =
     IsMapped-rights _ _ _ _ rights (with_run rights from to right)
     (with_run-same rights from to right block.right block.one ((block-right ram x rights right word first place block is leaf).0 same)) maps
 
 -- a block split
-pub split-maps : (old low high full new : Ram) (x : Place) (rights : ℕ → Option Rights) (from to : ℕ) (right : Option Rights) (word first : ℕ)
+pub split-maps : (old low high full new : Ram) (x : BlockPlace) (rights : ℕ → Option Rights) (from to : ℕ) (right : Option Rights) (word first : ℕ)
     → IsPlace old x → IsBlock (word_at old x) x.address rights → word ≡ word_at old x → first ≡ page_word x.address right → (first ≡ word + 2 → ⊥) → from < to → to ≤ 512
     → ((to < from + 512) ⊎ (is_some right ≡ false))
     → IsFilled old low x.table.0 0 from (λ j. word + 2 + 4096 * j) → IsFilled low high x.table.0 to 512 (λ j. word + 2 + 4096 * j)
@@ -187,7 +187,7 @@ split-maps old low high full new x rights from to right word first place block i
     )
 
 -- three runs written
-pub three-filled : (old low high full : Ram) (x : Place) (a b c d e f : ℕ) (p q r : ℕ → ℕ) → IsPlace old x → IsFilled old low x.table.0 a b p → IsFilled low high x.table.0 c d q
+pub three-filled : (old low high full : Ram) (x : BlockPlace) (a b c d e f : ℕ) (p q r : ℕ → ℕ) → IsPlace old x → IsFilled old low x.table.0 a b p → IsFilled low high x.table.0 c d q
     → IsFilled high full x.table.0 e f r → KeepsBeside old full x
 three-filled old low high full x a b c d e f p q r place one two three =
     let first = KeepsBeside-of_filled old low x a b p place one in

@@ -7,7 +7,7 @@ use Rattle.std.proofs.lemmas.Bool.Decides.{nat_tests}
 use Rattle.ffa_model.specs.Ram.{Ram}
 use Rattle.ffa_model.specs.Walk.{Answer, is_in_ram, mapped_answer}
 use Rattle.ffa_model.specs.declared.rights.Rights.{Rights}
-use Rattle.ffa_stage2.specs.declared.blocks.Place.{Place}
+use Rattle.ffa_stage2.specs.declared.blocks.BlockPlace.{BlockPlace}
 use Rattle.ffa_stage2.specs.Tables.{IsBuilt, rights_of_block, with_pages, answer, is_in_pages, WalksChange, KeepsOthers}
 use Rattle.ffa_stage2.specs.Places.{Maps, KeepsBeside, with_run, IsPlaceOf}
 use Rattle.ffa_stage2.proofs.Changes.{built-beside, maps-of}
@@ -24,7 +24,7 @@ with_pages-block access e k from to right j =
 
 -- ---- tables
 
-pub run-built : (old new : Ram) (n b e k from to : ℕ) (access : ℕ → ℕ → Option Rights) (right : Option Rights) (x : Place) → IsBuilt old n b access → e < n → k < b
+pub run-built : (old new : Ram) (n b e k from to : ℕ) (access : ℕ → ℕ → Option Rights) (right : Option Rights) (x : BlockPlace) → IsBuilt old n b access → e < n → k < b
     → IsPlaceOf old b e k x → KeepsBeside old new x → to ≤ 512 → ((rights : ℕ → Option Rights) → Maps old x rights → Maps new x (with_run rights from to right))
     → IsBuilt new n b (with_pages access e (512 * k + from) (512 * k + to) right)
 run-built old new n b e k from to access right x built he hk at beside few mapped =
@@ -38,7 +38,7 @@ run-built old new n b e k from to access right x built he hk at beside few mappe
     ])))
 
 -- pages from the first up to the next have the right, and then those up to another
-pub runs-built : (old new : Ram) (n b e first next end k from to : ℕ) (access : ℕ → ℕ → Option Rights) (right : Option Rights) (x : Place)
+pub runs-built : (old new : Ram) (n b e first next end k from to : ℕ) (access : ℕ → ℕ → Option Rights) (right : Option Rights) (x : BlockPlace)
     → IsBuilt old n b (with_pages access e first next right) → e < n → k < b → IsPlaceOf old b e k x → KeepsBeside old new x → first ≤ next → next ≤ end
     → 512 * k + from ≡ next → 512 * k + to ≡ end → to ≤ 512
     → ((rights : ℕ → Option Rights) → Maps old x rights → Maps new x (with_run rights from to right))

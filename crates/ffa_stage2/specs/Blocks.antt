@@ -39,7 +39,8 @@ IsMixed rights = (r : Rights) → IsOne rights r → ⊥
 -- the law: a block where the 512 pages have one right other than nothing, and else the table of the level 3 page, whose
 -- words give the rights. Of that page nothing is said where a block stands
 abbrev pub IsMapped : ℕ → ℕ → List ℕ → ℕ → (ℕ → Option Rights) → Type 0
-IsMapped word link page address rights = (IsBlock word address rights) ⊎ (IsTable word link page address rights × IsMixed rights)
+IsMapped word link page address rights =
+    (IsBlock word address rights) ⊎ (IsTable word link page address rights × IsMixed rights)
 
 -- nothing stands, and no page has a right
 pub record IsGap (word : ℕ) (rights : ℕ → Option Rights) : Type 0 where

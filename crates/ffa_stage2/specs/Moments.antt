@@ -28,7 +28,8 @@ IsBetweenFor layout ram access after = IsBetween ram (array_vec_len layout.regio
 
 -- no right now, after which a page was settled if there was one before; or a right before and behind
 abbrev pub IsOutOrStays : Option Rights → Option Rights → Option Rights → Type 0 → Type 0
-IsOutOrStays now before behind settled = ((now ≡ None) × (is_some before ≡ true → settled)) ⊎ ((is_some before ≡ true) × (is_some behind ≡ true))
+IsOutOrStays now before behind settled =
+    ((now ≡ None) × (is_some before ≡ true → settled)) ⊎ ((is_some before ≡ true) × (is_some behind ≡ true))
 
 -- a step that leaves the pages from one on as they are
 abbrev pub KeepsBehind : ℕ → Step → Type 0
@@ -37,17 +38,21 @@ KeepsBehind first s = (p : ℕ) → first ≤ p → page_of s.after p ≡ page_o
 -- Before a step that writes pages behind the tables, the tables give these rights. To a page that it changes an endpoint has
 -- no right then, and if it had one before the operation, the page was settled since that ended; or the endpoint has a right to
 -- it both before the operation and behind it.
-pub record IsUnreached (old : Ram) (endpoints blocks : ℕ) (access after : ℕ → ℕ → Option Rights) (h : List Step) (s : Step) : Type 0 where
+pub record IsUnreached (old : Ram) (endpoints blocks : ℕ) (access after : ℕ → ℕ → Option Rights)
+    (h : List Step) (s : Step) : Type 0 where
   pub rights : ℕ → ℕ → Option Rights
   pub stands : IsStanding s.before endpoints blocks rights
   pub place : s.before.base ≡ old.base
   pub each :
       (p : ℕ) → table_page blocks endpoints 0 ≤ p
-      → (page_of s.after p ≡ page_of s.before p) ⊎ ((e : ℕ) → e < endpoints → IsOutOrStays (rights e p) (access e p) (after e p) (IsSettledBy (table_page blocks endpoints 0) e p h))
+      → (page_of s.after p ≡ page_of s.before p)
+      ⊎ ((e : ℕ) → e < endpoints
+      → IsOutOrStays (rights e p) (access e p) (after e p) (IsSettledBy (table_page blocks endpoints 0) e p h))
 
 -- a step that leaves all tables as they are, or is one in the tables of an endpoint, by way of nothing where it has to be
 abbrev pub IsInOrder : Ram → ℕ → ℕ → List Step → Step → Type 0
-IsInOrder old endpoints blocks h s = KeepsBelow (table_page blocks endpoints 0) s ⊎ ((e : ℕ) × (e < endpoints) × IsOrdered old blocks e h s)
+IsInOrder old endpoints blocks h s =
+    KeepsBelow (table_page blocks endpoints 0) s ⊎ ((e : ℕ) × (e < endpoints) × IsOrdered old blocks e h s)
 
 -- a step on the way from one RAM where tables are built to another
 pub record IsMoment (old new : Ram) (endpoints blocks : ℕ) (h : List Step) (s : Step) : Type 0 where
@@ -72,7 +77,8 @@ WalkAlike ram other endpoints blocks address =
 -- other
 abbrev pub WalksBetween : Ram → Ram → ℕ → ℕ → Ram → Type 0
 WalksBetween old new endpoints blocks ram =
-    (address : ℕ) → address < 2 ^ 32 → WalkAlike ram old endpoints blocks address ⊎ WalkAlike ram new endpoints blocks address
+    (address : ℕ) → address < 2 ^ 32
+    → WalkAlike ram old endpoints blocks address ⊎ WalkAlike ram new endpoints blocks address
 
 -- what an endpoint's walk gives at an address
 abbrev pub walk_at : Ram → ℕ → ℕ → ℕ → Answer
@@ -88,7 +94,8 @@ WritesUnreached old new endpoints blocks h s =
     ⊎ ((e : ℕ) → e < endpoints
     → ((walk_at s.before blocks e (old.base + 4096 * p) ≡ Err Translation)
     × (is_ok (walk_at old blocks e (old.base + 4096 * p)) ≡ true → IsSettledBy (table_page blocks endpoints 0) e p h))
-    ⊎ ((is_ok (walk_at old blocks e (old.base + 4096 * p)) ≡ true) × (is_ok (walk_at new blocks e (old.base + 4096 * p)) ≡ true)))
+    ⊎ ((is_ok (walk_at old blocks e (old.base + 4096 * p)) ≡ true)
+    × (is_ok (walk_at new blocks e (old.base + 4096 * p)) ≡ true)))
 
 -- At the end of a history, of what led from one RAM to another: where an endpoint's walk led to a page and leads there no more,
 -- the page was settled in the endpoint's tables, and no table has changed since then.

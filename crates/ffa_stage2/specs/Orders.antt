@@ -28,7 +28,8 @@ pub record IsLeafWrite (middle entry link table address : ℕ) (s : Step) : Type
   pub alike :
       word_of (page_of s.before middle) entry ≡ link
       → (r : Option Rights) × (q : Option Rights)
-      × (word_of (page_of s.before table) place ≡ page_word (address + 4096 * place) r) × (value ≡ page_word (address + 4096 * place) q)
+      × (word_of (page_of s.before table) place ≡ page_word (address + 4096 * place) r)
+      × (value ≡ page_word (address + 4096 * place) q)
 
 -- the last step settled the 512 pages of a block in an endpoint's tables
 abbrev pub IsSettledLast : ℕ → ℕ → List Step → Type 0
@@ -44,12 +45,14 @@ pub record IsBlockWrite (middle entry address endpoint first : ℕ) (h : List St
   pub order :
       (value ≡ 0)
       ⊎ (((word_of (page_of s.before middle) entry ≡ 0) × IsSettledLast endpoint first h)
-      ⊎ ((r : Rights) × (q : Rights) × (word_of (page_of s.before middle) entry ≡ block_word address r) × (value ≡ block_word address q)))
+      ⊎ ((r : Rights) × (q : Rights)
+      × (word_of (page_of s.before middle) entry ≡ block_word address r) × (value ≡ block_word address q)))
 
 -- a step in the tables of endpoint e: it leaves RAM as it is, or is such a write for one of the blocks
 abbrev pub IsOrdered : Ram → ℕ → ℕ → List Step → Step → Type 0
 IsOrdered old blocks e h s =
     (s.after ≡ s.before)
     ⊎ ((k : ℕ) × (k < blocks)
-    × (IsLeafWrite (table_page blocks e 1) (level2_place old.base + k) (table_link old.base blocks e (2 + k)) (table_page blocks e (2 + k)) (block_address old k) s
+    × (IsLeafWrite (table_page blocks e 1) (level2_place old.base + k) (table_link old.base blocks e (2 + k))
+    (table_page blocks e (2 + k)) (block_address old k) s
     ⊎ IsBlockWrite (table_page blocks e 1) (level2_place old.base + k) (block_address old k) e (512 * k) h s))

@@ -5,13 +5,13 @@ use Rattle.std.specs.Prelude.{◌≡◌, ◌≢◌, ℕ, ◌+◌, ◌*◌, ◌%�
 use Rattle.ffa_model.specs.Ram.{Ram, page_of, word_of}
 use Rattle.ffa_physmem.specs.Moments.{Step}
 use Rattle.ffa_model.specs.declared.rights.Rights.{Rights}
-use Rattle.ffa_stage2.specs.declared.blocks.Place.{Place}
+use Rattle.ffa_stage2.specs.declared.blocks.BlockPlace.{BlockPlace}
 use Rattle.ffa_stage2.specs.Blocks.{IsTable, IsMapped, IsEither}
 use Rattle.ffa_stage2.specs.Orders.{IsBlockWrite, IsLeafWrite, IsSettledLast, IsWritten}
 use Rattle.ffa_stage2.specs.Tables.{table_page, table_link, level2_place, block_address}
 
 -- where endpoint e's tables speak of block k
-pub record IsPlaceOf (ram : Ram) (blocks e k : ℕ) (x : Place) : Type 0 where
+pub record IsPlaceOf (ram : Ram) (blocks e k : ℕ) (x : BlockPlace) : Type 0 where
   pub middle : x.middle.0 ≡ table_page blocks e 1
   pub entry : x.entry ≡ level2_place ram.base + k
   pub table : x.table.0 ≡ table_page blocks e (2 + k)
@@ -29,11 +29,11 @@ abbrev pub IsRun : List ℕ → ℕ → ℕ → Type 0
 IsRun page at first = (j : ℕ) → j < 8 → word_of page (at + j) ≡ (first + 4096 * j) % 2 ^ 64
 
 -- the level 2 word of a place
-abbrev pub word_at : Ram → Place → ℕ
+abbrev pub word_at : Ram → BlockPlace → ℕ
 word_at ram x = word_of (page_of ram x.middle.0) x.entry
 
 -- the two pages of a place are whole and two, and its numbers are in range
-pub record IsPlace (ram : Ram) (x : Place) : Type 0 where
+pub record IsPlace (ram : Ram) (x : BlockPlace) : Type 0 where
   pub middle : x.middle.0 < length ram.pages
   pub table : x.table.0 < length ram.pages
   pub apart : x.middle.0 ≢ x.table.0
@@ -46,15 +46,15 @@ pub record IsPlace (ram : Ram) (x : Place) : Type 0 where
   pub within : x.address + 0x200000 ≤ 2 ^ 32
 
 -- the law at a place
-abbrev pub Maps : Ram → Place → (ℕ → Option Rights) → Type 0
+abbrev pub Maps : Ram → BlockPlace → (ℕ → Option Rights) → Type 0
 Maps ram x rights = IsMapped (word_at ram x) x.link (page_of ram x.table.0) x.address rights
 
 -- the table at a place
-abbrev pub Names : Ram → Place → (ℕ → Option Rights) → Type 0
+abbrev pub Names : Ram → BlockPlace → (ℕ → Option Rights) → Type 0
 Names ram x rights = IsTable (word_at ram x) x.link (page_of ram x.table.0) x.address rights
 
 -- from old to new nothing changed but the level 2 word and the level 3 page of a place
-pub record KeepsBeside (old new : Ram) (x : Place) : Type 0 where
+pub record KeepsBeside (old new : Ram) (x : BlockPlace) : Type 0 where
   pub base : new.base ≡ old.base
   pub size : length new.pages ≡ length old.pages
   pub pages : (p : ℕ) → p ≢ x.middle.0 → p ≢ x.table.0 → page_of new p ≡ page_of old p
@@ -76,12 +76,13 @@ abbrev pub IsFilling : Ram → Ram → ℕ → ℕ → ℕ → (ℕ → ℕ) →
 IsFilling old new page from to word = (next : ℕ) × (from ≤ next) × (next ≤ to) × IsFilled old new page from next word
 
 -- a block or the table at a place
-abbrev pub Stands : Ram → Place → (ℕ → Option Rights) → Type 0
+abbrev pub Stands : Ram → BlockPlace → (ℕ → Option Rights) → Type 0
 Stands ram x rights = IsEither (word_at ram x) x.link (page_of ram x.table.0) x.address rights
 
 -- On the way from old to a RAM where the pages from one up to another have a right: nothing changed but at that place, a
 -- block or the table stands there, and each page has the right that it had or that one.
-pub record IsOnTheWay (old ram : Ram) (x : Place) (rights : ℕ → Option Rights) (from to : ℕ) (right : Option Rights) : Type 0 where
+pub record IsOnTheWay (old ram : Ram) (x : BlockPlace) (rights : ℕ → Option Rights)
+    (from to : ℕ) (right : Option Rights) : Type 0 where
   pub now : ℕ → Option Rights
   pub stands : Stands ram x now
   pub each : (j : ℕ) → (now j ≡ rights j) ⊎ ((now j ≡ with_run rights from to right j) ⊎ (now j ≡ None))
@@ -97,16 +98,19 @@ pub record IsOneOf (old : Ram) (page from to : ℕ) (word : ℕ → ℕ) (s : St
   pub others : (p : ℕ) → p ≢ page → page_of s.before p ≡ page_of old p
 
 -- nothing stands at a place, and nothing else changed
-pub record IsCut (old ram : Ram) (x : Place) : Type 0 where
+pub record IsCut (old ram : Ram) (x : BlockPlace) : Type 0 where
   pub beside : KeepsBeside old ram x
   pub nothing : word_at ram x ≡ 0
 
 -- Break before make: nothing stands at the place; or nothing stood there, the block was settled since, and now the new word
 -- does.
-abbrev pub IsReplacing : Ram → Ram → Place → List Step → Step → Type 0
-IsReplacing old new x h s = (IsCut old s.after x) ⊎ ((word_at s.before x ≡ 0) × (s.after ≡ new) × IsSettledLast x.endpoint x.first.0 h)
+abbrev pub IsReplacing : Ram → Ram → BlockPlace → List Step → Step → Type 0
+IsReplacing old new x h s =
+    (IsCut old s.after x) ⊎ ((word_at s.before x ≡ 0) × (s.after ≡ new) × IsSettledLast x.endpoint x.first.0 h)
 
 -- what one step does at a place: nothing, or it writes a word of the level 3 page, or that of level 2
-abbrev pub IsOrderly : Place → List Step → Step → Type 0
+abbrev pub IsOrderly : BlockPlace → List Step → Step → Type 0
 IsOrderly x h s =
-    (s.after ≡ s.before) ⊎ (IsLeafWrite x.middle.0 x.entry x.link x.table.0 x.address s ⊎ IsBlockWrite x.middle.0 x.entry x.address x.endpoint x.first.0 h s)
+    (s.after ≡ s.before)
+    ⊎ (IsLeafWrite x.middle.0 x.entry x.link x.table.0 x.address s
+    ⊎ IsBlockWrite x.middle.0 x.entry x.address x.endpoint x.first.0 h s)

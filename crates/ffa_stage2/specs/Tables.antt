@@ -46,7 +46,8 @@ rights_of_block rights k j = rights (512 * k + j)
 
 -- block k of endpoint e gives these rights to its 512 pages, by a law of a level 2 word, the descriptor of the level 3
 -- page, that page, an address and rights
-abbrev pub InBlockBy : (ℕ → ℕ → List ℕ → ℕ → (ℕ → Option Rights) → Type 0) → Ram → ℕ → ℕ → (ℕ → Option Rights) → ℕ → Type 0
+abbrev pub InBlockBy :
+    (ℕ → ℕ → List ℕ → ℕ → (ℕ → Option Rights) → Type 0) → Ram → ℕ → ℕ → (ℕ → Option Rights) → ℕ → Type 0
 InBlockBy law ram blocks e rights k =
     law (level2_word ram blocks e k) (table_link ram.base blocks e (2 + k)) (page_of ram (table_page blocks e (2 + k)))
     (block_address ram k) (rights_of_block rights k)
@@ -55,12 +56,14 @@ abbrev pub InBlock : Ram → ℕ → ℕ → (ℕ → Option Rights) → ℕ →
 InBlock ram blocks e rights k = InBlockBy IsMapped ram blocks e rights k
 
 -- the tables of this many endpoints stand in the RAM, each block by a law, and endpoint e has `access e p` to page p
-pub record IsBuiltBy (law : ℕ → ℕ → List ℕ → ℕ → (ℕ → Option Rights) → Type 0) (ram : Ram) (endpoints blocks : ℕ) (access : ℕ → ℕ → Option Rights) : Type 0 where
+pub record IsBuiltBy (law : ℕ → ℕ → List ℕ → ℕ → (ℕ → Option Rights) → Type 0)
+    (ram : Ram) (endpoints blocks : ℕ) (access : ℕ → ℕ → Option Rights) : Type 0 where
   pub fits : HasRoom ram endpoints blocks
   pub whole : (e s : ℕ) → e < endpoints → s < table_pages blocks → length (page_of ram (table_page blocks e s)) ≡ 4096
   pub level1 :
       (e j : ℕ) → e < endpoints → j < 512
-      → word_of (page_of ram (table_page blocks e 0)) j ≡ (if j == level1_place ram.base then table_link ram.base blocks e 1 else 0)
+      → word_of (page_of ram (table_page blocks e 0)) j
+      ≡ (if j == level1_place ram.base then table_link ram.base blocks e 1 else 0)
   pub outside :
       (e j : ℕ) → e < endpoints → j < 512 → ((j < level2_place ram.base) ⊎ (level2_place ram.base + blocks ≤ j))
       → word_of (page_of ram (table_page blocks e 1)) j ≡ 0
@@ -80,7 +83,8 @@ with_right access endpoint page right e p = if e == endpoint && p == page then r
 
 -- the access with the rights to the pages from one up to another changed
 abbrev pub with_pages : (ℕ → ℕ → Option Rights) → ℕ → ℕ → ℕ → Option Rights → ℕ → ℕ → Option Rights
-with_pages access endpoint first end right e p = if e == endpoint && (nat_le first p && nat_lt p end) then right else access e p
+with_pages access endpoint first end right e p =
+    if e == endpoint && (nat_le first p && nat_lt p end) then right else access e p
 
 -- what the walk of endpoint e's table answers at an address: what its access gives in RAM, and nothing elsewhere
 abbrev pub answer : Ram → (ℕ → ℕ → Option Rights) → ℕ → ℕ → Answer
@@ -90,14 +94,16 @@ answer ram access e address =
 -- the walk of each endpoint's table gives its access at every address
 abbrev pub WalksTo : Ram → ℕ → ℕ → (ℕ → ℕ → Option Rights) → Type 0
 WalksTo ram endpoints blocks access =
-    (e address : ℕ) → e < endpoints → address < 2 ^ 32 → walk ram (root_of ram.base blocks e) address ≡ answer ram access e address
+    (e address : ℕ) → e < endpoints → address < 2 ^ 32
+    → walk ram (root_of ram.base blocks e) address ≡ answer ram access e address
 
 -- the level 2 word of every block is a 2 MiB block exactly where its 512 pages have one right other than nothing, and
 -- else names the level 3 page
 abbrev pub BlocksWhereOne : Ram → ℕ → ℕ → (ℕ → ℕ → Option Rights) → Type 0
 BlocksWhereOne ram endpoints blocks access =
     (e k : ℕ) → e < endpoints → k < blocks
-    → IsBlockWhereOne (level2_word ram blocks e k) (table_link ram.base blocks e (2 + k)) (block_address ram k) (rights_of_block (access e) k)
+    → IsBlockWhereOne (level2_word ram blocks e k) (table_link ram.base blocks e (2 + k)) (block_address ram k)
+    (rights_of_block (access e) k)
 
 -- whether an address stands in a page of the RAM
 abbrev pub is_in_page : Ram → ℕ → ℕ → Bool
@@ -130,7 +136,8 @@ pub record KeepsOthers (old new : Ram) (blocks endpoint : ℕ) : Type 0 where
   pub base : new.base ≡ old.base
   pub size : length new.pages ≡ length old.pages
   pub pages :
-      (p : ℕ) → ((p < table_page blocks endpoint 0) ⊎ (table_page blocks (endpoint + 1) 0 ≤ p)) → page_of new p ≡ page_of old p
+      (p : ℕ) → ((p < table_page blocks endpoint 0) ⊎ (table_page blocks (endpoint + 1) 0 ≤ p))
+      → page_of new p ≡ page_of old p
 
 -- the RAM stands where it did, and no page behind the table pages of this many endpoints changed
 pub record KeepsRest (old new : Ram) (endpoints blocks : ℕ) : Type 0 where

@@ -13,20 +13,15 @@ ghost use Rattle.ffa_stage2.specs.Orders.{IsWritten};
 ghost use Rattle.ffa_stage2.specs.Places.{IsPlace, IsCut, IsFilled, IsFilling, IsOnTheWay, IsOrderly, IsReplacing, IsOneOf, Maps, Names, KeepsBeside, with_run, word_at, IsPlaceOf};
 
 use crate::layout::Layout;
-use crate::runs::uniform;
+use crate::runs::is_uniform;
 use crate::tables::leaf;
 use ffa_model::{Address, PageNo, Rights};
-use ffa_physmem::PhysMem;
-
-/// The type of a block's descriptor, in bits 1:0.
-const BLOCK: u64 = 0b01;
-
-/// What a page's descriptor (type 11) has above that of a block.
-const PAGE: u64 = 0b10;
+use ffa_physmem::descriptor::{BLOCK, PAGE, TABLE};
+use ffa_physmem::{PAGE_SIZE, PhysMem};
 
 /// Where one endpoint's tables speak of one block of RAM.
 #[derive(Clone, Copy)]
-pub(crate) struct Place {
+pub(crate) struct BlockPlace {
     // The level 2 page, and the block's place in it.
     middle: PageNo,
     entry: usize,
@@ -39,9 +34,14 @@ pub(crate) struct Place {
     endpoint: usize,
 }
 
-impl Place {
+impl BlockPlace {
     // The place of a block in an endpoint's tables.
-    pub(crate) fn of<M: PhysMem>(memory: &M, layout: &Layout, index: usize, block: u32) -> Place
+    pub(crate) fn of<M: PhysMem>(
+        memory: &M,
+        layout: &Layout,
+        index: usize,
+        block: u32,
+    ) -> BlockPlace
         requires fits { HasRoom (M.ram memory.now) (array_vec_len layout.now.regions) layout.now.blocks }
         requires index { index < array_vec_len layout.now.regions }
         requires block { block < layout.now.blocks }
@@ -49,11 +49,11 @@ impl Place {
     {
         let Address(base) = memory.base();
         let table = layout.table_page(index, 2 + block);
-        Place {
+        BlockPlace {
             middle: layout.table_page(index, 1),
             entry: ((base >> 21) % 512 + block) as usize,
             table,
-            link: u64::from(base) + 4096 * u64::from(table.0) + 3,
+            link: u64::from(base) + PAGE_SIZE as u64 * u64::from(table.0) + TABLE,
             address: u64::from(base) + 0x20_0000 * u64::from(block),
             first: PageNo(512 * block),
             endpoint: index,
@@ -70,21 +70,21 @@ impl Place {
 }
 
 // Whether a page of a table has this right.
-fn has_right<M: PhysMem>(memory: &M, place: &Place, page: u32, right: Option<Rights>) -> bool
+fn has_right<M: PhysMem>(memory: &M, place: &BlockPlace, page: u32, right: Option<Rights>) -> bool
     requires place { IsPlace (M.ram memory.now) place.now }
     requires page { page < 512 }
     ensures { (rights : ℕ → Option Rights)
         → Names (M.ram memory.now) place.now rights
         → IsTrue result ↔ (rights page ≡ right) }
 {
-    let word = leaf(place.address + 4096 * u64::from(page), right);
+    let word = leaf(place.address + PAGE_SIZE as u64 * u64::from(page), right);
     memory.read_word(place.table, page as usize) == word
 }
 
 // Whether the 512 pages of a table have the right that one of them has, and that is a right. All are read only where the
 // next page and the first have it: while the pages of a block change one after another, up or down, one of the two
 // hasn't.
-fn is_one<M: PhysMem>(memory: &M, place: &Place, within: u32, right: Option<Rights>) -> bool
+fn is_one<M: PhysMem>(memory: &M, place: &BlockPlace, within: u32, right: Option<Rights>) -> bool
     requires place { IsPlace (M.ram memory.now) place.now }
     requires within { within < 512 }
     ensures one { (rights : ℕ → Option Rights)
@@ -102,15 +102,16 @@ fn is_one<M: PhysMem>(memory: &M, place: &Place, within: u32, right: Option<Righ
     if !has_right(memory, place, 0, right) {
         return false;
     }
-    uniform(memory.page(place.table))
+    is_uniform(memory.page(place.table))
 }
 
 // Puts a word at level 2 in place of a valid one that has another size, by way of nothing, which every translation unit
 // sees (DDI 0487, "Using break-before-make when updating translation table entries").
-fn replace<M: PhysMem>(memory: &mut M, place: &Place, word: u64)
+fn replace<M: PhysMem>(memory: &mut M, place: &BlockPlace, word: u64)
     requires place { IsPlace (M.ram memory.old) place.now }
     ensures written { IsWritten (M.ram memory.old) (M.ram memory.new) place.now.middle.0 place.now.entry word }
-    ensures steps { Only (M.past memory.old) (M.past memory.new) (λ h s. IsReplacing (M.ram memory.old) (M.ram memory.new) place.now h s) }
+    ensures steps { Only (M.past memory.old) (M.past memory.new)
+        (λ h s. IsReplacing (M.ram memory.old) (M.ram memory.new) place.now h s) }
     ensures orders { Only (M.past memory.old) (M.past memory.new) (λ h s. IsOrderly place.now h s) }
 {
     memory.write_word(place.middle, place.entry, 0);
@@ -119,7 +120,7 @@ fn replace<M: PhysMem>(memory: &mut M, place: &Place, word: u64)
 }
 
 // Puts a block where a table stands, if its pages have one right other than nothing.
-fn join<M: PhysMem>(memory: &mut M, place: &Place, within: u32, right: Option<Rights>)
+fn join<M: PhysMem>(memory: &mut M, place: &BlockPlace, within: u32, right: Option<Rights>)
     requires place { IsPlace (M.ram memory.old) place.now }
     requires within { within < 512 }
     ensures mapped { (rights : ℕ → Option Rights)
@@ -127,7 +128,8 @@ fn join<M: PhysMem>(memory: &mut M, place: &Place, within: u32, right: Option<Ri
         → rights within ≡ right
         → Maps (M.ram memory.new) place.now rights }
     ensures beside { KeepsBeside (M.ram memory.old) (M.ram memory.new) place.now }
-    ensures steps { Only (M.past memory.old) (M.past memory.new) (λ _ s. IsCut (M.ram memory.old) s.after place.now ⊎ (s.after ≡ M.ram memory.new)) }
+    ensures steps { Only (M.past memory.old) (M.past memory.new)
+        (λ _ s. IsCut (M.ram memory.old) s.after place.now ⊎ (s.after ≡ M.ram memory.new)) }
     ensures orders { Only (M.past memory.old) (M.past memory.new) (λ h s. IsOrderly place.now h s) }
 {
     if is_one(memory, place, within, right) {
@@ -145,8 +147,10 @@ fn write_words<M: PhysMem>(memory: &mut M, table: PageNo, from: u32, to: u32, fi
     requires step { step ≤ 4096 }
     requires fits { first + 0x200000 ≤ 2 ^ 64 }
     ensures filled { IsFilled (M.ram memory.old) (M.ram memory.new) table.0 from to (λ j. first + step * j) }
-    ensures steps { Only (M.past memory.old) (M.past memory.new) (λ _ s. IsFilling (M.ram memory.old) s.after table.0 from to (λ j. first + step * j)) }
-    ensures orders { Only (M.past memory.old) (M.past memory.new) (λ _ s. IsOneOf (M.ram memory.old) table.0 from to (λ j. first + step * j) s) }
+    ensures steps { Only (M.past memory.old) (M.past memory.new)
+        (λ _ s. IsFilling (M.ram memory.old) s.after table.0 from to (λ j. first + step * j)) }
+    ensures orders { Only (M.past memory.old) (M.past memory.new)
+        (λ _ s. IsOneOf (M.ram memory.old) table.0 from to (λ j. first + step * j) s) }
 {
     for place in from..to {
         memory.write_word(table, place as usize, first + step * u64::from(place));
@@ -154,28 +158,38 @@ fn write_words<M: PhysMem>(memory: &mut M, table: PageNo, from: u32, to: u32, fi
 }
 
 // Gives pages of a table the right of the block whose word this is.
-fn keep<M: PhysMem>(memory: &mut M, place: &Place, from: u32, to: u32, word: u64)
+fn keep<M: PhysMem>(memory: &mut M, place: &BlockPlace, from: u32, to: u32, word: u64)
     requires place { IsPlace (M.ram memory.old) place.now }
     requires from { from ≤ to }
     requires to { to ≤ 512 }
     requires word { word + 0x200002 ≤ 2 ^ 64 }
-    ensures filled { IsFilled (M.ram memory.old) (M.ram memory.new) place.now.table.0 from to (λ j. word + 2 + 4096 * j) }
-    ensures steps { Only (M.past memory.old) (M.past memory.new) (λ _ s. IsFilling (M.ram memory.old) s.after place.now.table.0 from to (λ j. word + 2 + 4096 * j)) }
-    ensures orders { Only (M.past memory.old) (M.past memory.new) (λ _ s. IsOneOf (M.ram memory.old) place.now.table.0 from to (λ j. word + 2 + 4096 * j) s) }
+    ensures filled { let words = λ (j : ℕ). word + 2 + 4096 * j in
+        IsFilled (M.ram memory.old) (M.ram memory.new) place.now.table.0 from to words }
+    ensures steps { let words = λ (j : ℕ). word + 2 + 4096 * j in
+        Only (M.past memory.old) (M.past memory.new)
+        (λ _ s. IsFilling (M.ram memory.old) s.after place.now.table.0 from to words) }
+    ensures orders { let words = λ (j : ℕ). word + 2 + 4096 * j in
+        Only (M.past memory.old) (M.past memory.new)
+        (λ _ s. IsOneOf (M.ram memory.old) place.now.table.0 from to words s) }
 {
-    write_words(memory, place.table, from, to, word + PAGE, 4096);
+    write_words(memory, place.table, from, to, word + PAGE, PAGE_SIZE as u64);
 }
 
 // Gives a right to pages of a table.
-fn fill<M: PhysMem>(memory: &mut M, place: &Place, from: u32, to: u32, right: Option<Rights>)
+fn fill<M: PhysMem>(memory: &mut M, place: &BlockPlace, from: u32, to: u32, right: Option<Rights>)
     requires place { IsPlace (M.ram memory.old) place.now }
     requires from { from ≤ to }
     requires to { to ≤ 512 }
-    ensures filled { IsFilled (M.ram memory.old) (M.ram memory.new) place.now.table.0 from to (λ j. page_word (place.now.address + 4096 * j) right) }
-    ensures steps { Only (M.past memory.old) (M.past memory.new) (λ _ s. IsFilling (M.ram memory.old) s.after place.now.table.0 from to (λ j. page_word (place.now.address + 4096 * j) right)) }
-    ensures orders { Only (M.past memory.old) (M.past memory.new) (λ _ s. IsOneOf (M.ram memory.old) place.now.table.0 from to (λ j. page_word (place.now.address + 4096 * j) right) s) }
+    ensures filled { let words = λ (j : ℕ). page_word (place.now.address + 4096 * j) right in
+        IsFilled (M.ram memory.old) (M.ram memory.new) place.now.table.0 from to words }
+    ensures steps { let words = λ (j : ℕ). page_word (place.now.address + 4096 * j) right in
+        Only (M.past memory.old) (M.past memory.new)
+        (λ _ s. IsFilling (M.ram memory.old) s.after place.now.table.0 from to words) }
+    ensures orders { let words = λ (j : ℕ). page_word (place.now.address + 4096 * j) right in
+        Only (M.past memory.old) (M.past memory.new)
+        (λ _ s. IsOneOf (M.ram memory.old) place.now.table.0 from to words s) }
 {
-    let step = if right.is_some() { 4096 } else { 0 };
+    let step = if right.is_some() { PAGE_SIZE as u64 } else { 0 };
     write_words(
         memory,
         place.table,
@@ -187,13 +201,14 @@ fn fill<M: PhysMem>(memory: &mut M, place: &Place, from: u32, to: u32, right: Op
 }
 
 // Gives a right to all pages of a block by its one word.
-fn put_block<M: PhysMem>(memory: &mut M, place: &Place, right: Option<Rights>)
+fn put_block<M: PhysMem>(memory: &mut M, place: &BlockPlace, right: Option<Rights>)
     requires place { IsPlace (M.ram memory.old) place.now }
     requires stands { (rights : ℕ → Option Rights) × Maps (M.ram memory.old) place.now rights }
     requires some { is_some right ≡ true }
     ensures mapped { Maps (M.ram memory.new) place.now (λ j. right) }
     ensures beside { KeepsBeside (M.ram memory.old) (M.ram memory.new) place.now }
-    ensures steps { Only (M.past memory.old) (M.past memory.new) (λ _ s. IsCut (M.ram memory.old) s.after place.now ⊎ (s.after ≡ M.ram memory.new)) }
+    ensures steps { Only (M.past memory.old) (M.past memory.new)
+        (λ _ s. IsCut (M.ram memory.old) s.after place.now ⊎ (s.after ≡ M.ram memory.new)) }
     ensures orders { Only (M.past memory.old) (M.past memory.new) (λ h s. IsOrderly place.now h s) }
 {
     let word = leaf(place.address, right) - PAGE;
@@ -211,7 +226,7 @@ fn put_block<M: PhysMem>(memory: &mut M, place: &Place, right: Option<Rights>)
 // Gives a right to pages of a block that stands, of which this is the word. The table is named when it is whole.
 fn split<M: PhysMem>(
     memory: &mut M,
-    place: &Place,
+    place: &BlockPlace,
     from: u32,
     to: u32,
     right: Option<Rights>,
@@ -230,7 +245,8 @@ fn split<M: PhysMem>(
     ensures beside { KeepsBeside (M.ram memory.old) (M.ram memory.new) place.now }
     ensures steps { (rights : ℕ → Option Rights)
         → Maps (M.ram memory.old) place.now rights
-        → Only (M.past memory.old) (M.past memory.new) (λ _ s. IsOnTheWay (M.ram memory.old) s.after place.now rights from to right) }
+        → Only (M.past memory.old) (M.past memory.new)
+        (λ _ s. IsOnTheWay (M.ram memory.old) s.after place.now rights from to right) }
     ensures orders { Only (M.past memory.old) (M.past memory.new) (λ h s. IsOrderly place.now h s) }
 {
     if leaf(place.address, right) == word + PAGE {
@@ -245,7 +261,7 @@ fn split<M: PhysMem>(
 // Gives a right to pages of a table that stands.
 fn change_table<M: PhysMem>(
     memory: &mut M,
-    place: &Place,
+    place: &BlockPlace,
     from: u32,
     to: u32,
     right: Option<Rights>,
@@ -259,7 +275,8 @@ fn change_table<M: PhysMem>(
     ensures beside { KeepsBeside (M.ram memory.old) (M.ram memory.new) place.now }
     ensures steps { (rights : ℕ → Option Rights)
         → Names (M.ram memory.old) place.now rights
-        → Only (M.past memory.old) (M.past memory.new) (λ _ s. IsOnTheWay (M.ram memory.old) s.after place.now rights from to right) }
+        → Only (M.past memory.old) (M.past memory.new)
+        (λ _ s. IsOnTheWay (M.ram memory.old) s.after place.now rights from to right) }
     ensures orders { (rights : ℕ → Option Rights)
         → Names (M.ram memory.old) place.now rights
         → Only (M.past memory.old) (M.past memory.new) (λ h s. IsOrderly place.now h s) }
@@ -280,7 +297,7 @@ fn is_whole(from: u32, to: u32) -> bool
 // Gives a right to the pages of a block from one up to another.
 pub(crate) fn change<M: PhysMem>(
     memory: &mut M,
-    place: &Place,
+    place: &BlockPlace,
     from: u32,
     to: u32,
     right: Option<Rights>,
@@ -295,7 +312,8 @@ pub(crate) fn change<M: PhysMem>(
     ensures beside { KeepsBeside (M.ram memory.old) (M.ram memory.new) place.now }
     ensures steps { (rights : ℕ → Option Rights)
         → Maps (M.ram memory.old) place.now rights
-        → Only (M.past memory.old) (M.past memory.new) (λ _ s. IsOnTheWay (M.ram memory.old) s.after place.now rights from to right) }
+        → Only (M.past memory.old) (M.past memory.new)
+        (λ _ s. IsOnTheWay (M.ram memory.old) s.after place.now rights from to right) }
     ensures orders { Only (M.past memory.old) (M.past memory.new) (λ h s. IsOrderly place.now h s) }
 {
     if is_whole(from, to) && right.is_some() {

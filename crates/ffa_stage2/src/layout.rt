@@ -10,6 +10,8 @@ use ffa_model::{
     Address, Endpoint, MOST_ENDPOINTS, MOST_REGIONS, Manifest, PageNo, Region, Rights,
     regions_until, right_in,
 };
+use ffa_physmem::PAGE_SIZE;
+use ffa_physmem::descriptor::TABLE;
 
 /// The regions of one endpoint.
 #[derive(Default, Drop)]
@@ -83,7 +85,8 @@ impl Layout {
         requires page { first.0 < 512 * self.now.blocks }
         ensures some { first.0 < result }
         ensures end { result ≤ 512 * self.now.blocks }
-        ensures same { (p : ℕ) → first.0 ≤ p → p < result → layout_right self.now index p ≡ layout_right self.now index first.0 }
+        ensures same { let right = layout_right self.now index in
+            (p : ℕ) → first.0 ≤ p → p < result → right p ≡ right first.0 }
     {
         regions_until(
             self.regions[index].list.as_slice(),
@@ -103,12 +106,13 @@ impl Layout {
         PageNo(index as u32 * (2 + self.blocks) + table)
     }
 
-    // The descriptor that names it, of type 11.
+    // The descriptor that names it.
     pub(crate) fn table_link(&self, index: usize, table: u32) -> u64
         requires index { index < array_vec_len self.now.regions }
         requires table { table < table_pages self.now.blocks }
         ensures { result ≡ table_link self.now.base.0 self.now.blocks index table }
     {
-        u64::from(self.base.0) + 4096 * u64::from(self.table_page(index, table).0) + 3
+        let page = self.table_page(index, table);
+        u64::from(self.base.0) + PAGE_SIZE as u64 * u64::from(page.0) + TABLE
     }
 }

@@ -8,5 +8,5 @@ pub mod runs;
 pub mod tables;
 
 pub use layout::{Layout, Regions};
-pub use runs::uniform;
+pub use runs::is_uniform;
 pub use tables::{build, built_tables, leaf, set_page, set_pages};

@@ -5,6 +5,7 @@ ghost use Rattle.ffa_stage2.specs.Blocks.{IsUniform};
 ghost use Rattle.ffa_stage2.specs.Places.{IsRun};
 
 use byteorder::{ByteOrder, LittleEndian};
+use ffa_physmem::PAGE_SIZE;
 use std::simd::prelude::*;
 
 /// What the words of 8 lanes have above the first of them.
@@ -21,12 +22,12 @@ fn is_run(page: &[u8], at: usize, first: u64) -> bool
 }
 
 /// Whether each of a page's 512 words is its first word plus 4096 times its place, over whole numbers without wrapping.
-pub fn uniform(page: &[u8; 4096]) -> bool
+pub fn is_uniform(page: &[u8; 4096]) -> bool
     ensures { IsTrue result ↔ IsUniform page.now }
 {
     let first = LittleEndian::read_u64(page);
     // No word is 511 pages above it.
-    if first > u64::MAX - 4096 * 511 {
+    if first > u64::MAX - PAGE_SIZE as u64 * 511 {
         return false;
     }
     for run in 0..64 {

@@ -12,22 +12,11 @@ ghost use Rattle.ffa_stage2.specs.Tables.{with_pages, with_right, WalkChanges, W
 ghost use Rattle.ffa_stage2.specs.Orders.{IsOrdered};
 ghost use Rattle.ffa_stage2.specs.Words.{linked, rights_until};
 
-use crate::blocks::{Place, change};
+use crate::blocks::{BlockPlace, change};
 use crate::layout::Layout;
 use ffa_model::{Data, PageNo, Rights};
 use ffa_physmem::PhysMem;
-
-/// Bits 47:12 of a descriptor: the address of a page.
-const ADDRESS: u64 = 0x0000_ffff_ffff_f000;
-
-/// A page of normal memory that may be read: type 11, MemAttr 1111, S2AP 01, SH 11 and AF.
-const READABLE_PAGE: u64 = 0b11 + (0b1111 << 2) + (1 << 6) + (0b11 << 8) + (1 << 10);
-
-/// S2AP's upper bit.
-const WRITABLE: u64 = 1 << 7;
-
-/// XN.
-const EXECUTE_NEVER: u64 = 1 << 54;
+use ffa_physmem::descriptor::{ADDRESS, EXECUTE_NEVER, READABLE_PAGE, WRITABLE};
 
 /// The level 3 descriptor that maps the page of an address to itself (DDI 0487, D8.3). Bits 47:12 of the address alone
 /// count. No right is 0.
@@ -64,7 +53,8 @@ pub fn set_page<M: PhysMem>(
         → IsBuiltFor layout.now (M.ram memory.new) (with_right access index page.0 right) }
     ensures steps { (access : ℕ → ℕ → Option Rights)
         → IsBuiltFor layout.now (M.ram memory.old) access
-        → Only (M.past memory.old) (M.past memory.new) (λ _ s. IsBetweenFor layout.now s.after access (with_right access index page.0 right)) }
+        → Only (M.past memory.old) (M.past memory.new)
+        (λ _ s. IsBetweenFor layout.now s.after access (with_right access index page.0 right)) }
     ensures walks { WalkChanges (M.ram memory.old) (M.ram memory.new)
         (array_vec_len layout.now.regions) layout.now.blocks index page.0 right }
     ensures others { KeepsOthers (M.ram memory.old) (M.ram memory.new) layout.now.blocks index }
@@ -99,14 +89,18 @@ pub fn set_pages<M: PhysMem>(
     // from before or the one behind. No page but the endpoint's table pages differs at any moment.
     ensures steps { (access : ℕ → ℕ → Option Rights)
         → IsBuiltFor layout.now (M.ram memory.old) access
-        → Only (M.past memory.old) (M.past memory.new) (λ _ s. IsBetweenFor layout.now s.after access (with_pages access index first.0 (first.0 + count) right)) }
-    ensures each_walk { Only (M.past memory.old) (M.past memory.new) (λ _ s. WalksBetween (M.ram memory.old) (M.ram memory.new)
-        (array_vec_len layout.now.regions) layout.now.blocks s.after) }
+        → let after = with_pages access index first.0 (first.0 + count) right in
+        Only (M.past memory.old) (M.past memory.new) (λ _ s. IsBetweenFor layout.now s.after access after) }
+    ensures each_walk { let endpoints = array_vec_len layout.now.regions in
+        Only (M.past memory.old) (M.past memory.new)
+        (λ _ s. WalksBetween (M.ram memory.old) (M.ram memory.new) endpoints layout.now.blocks s.after) }
     // Break before make: each step is one at the place of a block in the endpoint's tables, and there a level 2 word that is
     // valid gives way to one of another size only by way of an invalid one, behind which every translation unit has
     // forgotten the block.
-    ensures orders { Only (M.past memory.old) (M.past memory.new) (λ h s. IsOrdered (M.ram memory.old) layout.now.blocks index h s) }
-    ensures others_stay { Only (M.past memory.old) (M.past memory.new) (λ _ s. KeepsOthers (M.ram memory.old) s.after layout.now.blocks index) }
+    ensures orders { Only (M.past memory.old) (M.past memory.new)
+        (λ h s. IsOrdered (M.ram memory.old) layout.now.blocks index h s) }
+    ensures others_stay { Only (M.past memory.old) (M.past memory.new)
+        (λ _ s. KeepsOthers (M.ram memory.old) s.after layout.now.blocks index) }
     ensures blocks { (access : ℕ → ℕ → Option Rights)
         → IsBuiltFor layout.now (M.ram memory.old) access
         → BlocksWhereOneFor layout.now (M.ram memory.new) (with_pages access index first.0 (first.0 + count) right) }
@@ -116,7 +110,7 @@ pub fn set_pages<M: PhysMem>(
     while next < end {
         let block = next / 512;
         let to = end.min(512 * (block + 1));
-        let place = Place::of(memory, layout, index, block);
+        let place = BlockPlace::of(memory, layout, index, block);
         change(memory, &place, next % 512, to - 512 * block, right);
         next = to;
     }
@@ -139,7 +133,8 @@ fn link<M: PhysMem>(memory: &mut M, layout: &Layout, index: usize)
     requires index { index < array_vec_len layout.now.regions }
     requires base { (M.ram memory.old).base ≡ layout.now.base.0 }
     requires tables { TablesAreFor layout.now (M.ram memory.old) (linked layout.now.base.0 layout.now.blocks index) }
-    ensures tables { TablesAreFor layout.now (M.ram memory.new) (linked layout.now.base.0 layout.now.blocks (index + 1)) }
+    ensures tables { let linked_to = linked layout.now.base.0 layout.now.blocks in
+        TablesAreFor layout.now (M.ram memory.new) (linked_to (index + 1)) }
     ensures rest { KeepsRestFor layout.now (M.ram memory.old) (M.ram memory.new) }
 {
     let top = layout.table_page(index, 0);

@@ -11,7 +11,7 @@ use arrayvec::ArrayVec;
 use byteorder::{ByteOrder, LittleEndian};
 use ffa_model::{Address, Data, PageNo, Region, Rights, built_in, row_machine};
 use ffa_physmem::{FlatRam, NoMemory, PhysMem};
-use ffa_stage2::{Layout, Regions, build, leaf, set_page, uniform};
+use ffa_stage2::{Layout, Regions, build, is_uniform, leaf, set_page};
 use std::alloc::Global;
 use std::process::Abort;
 
@@ -232,7 +232,7 @@ fn uniform_counts_without_wrapping(rt: HostRuntime) {
         (u64::MAX - 4096 * 511, true),
         (u64::MAX - 4096 * 511 + 1, false),
     ] {
-        same_at(&rt, uniform(&rising(first)), answer, &first);
+        same_at(&rt, is_uniform(&rising(first)), answer, &first);
     }
 }
 
@@ -241,10 +241,10 @@ fn uniform_sees_each_word(rt: HostRuntime) {
     let mut page = rising(0x0040_0000_4020_07ff);
     for place in 0..512 {
         page[8 * place + 6] ^= 0x40;
-        same_at(&rt, uniform(&page), false, &place);
+        same_at(&rt, is_uniform(&page), false, &place);
         page[8 * place + 6] ^= 0x40;
     }
-    same(&rt, uniform(&page), true);
+    same(&rt, is_uniform(&page), true);
 }
 
 #[test]

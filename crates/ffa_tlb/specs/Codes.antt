@@ -11,7 +11,8 @@ use Rattle.ffa_tlb.specs.Slots.{Slotted}
 abbrev pub coded_leaf : Coded Leaf
 coded_leaf =
     code_by (ℕ × (Bool × (Bool × Bool))) (coded× coded_ℕ (coded× coded_bool (coded× coded_bool coded_bool)))
-    (λ l. (l.phys, (l.read, (l.write, l.exec)))) (λ p. record { phys = p.0; read = p.1.0; write = p.1.1.0; exec = p.1.1.1 }) (λ _. refl)
+    (λ l. (l.phys, (l.read, (l.write, l.exec))))
+    (λ p. record { phys = p.0; read = p.1.0; write = p.1.1.0; exec = p.1.1.1 }) (λ _. refl)
 
 abbrev pub coded_entry : Coded Entry
 coded_entry =

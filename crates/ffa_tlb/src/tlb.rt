@@ -52,7 +52,7 @@ impl<P: Replacement, const N: usize> Translations for Tlb<P, N> {
     ghost entries = { λ t. entries_of t.slots };
 
     fn lookup(&self, endpoint: EndpointId, page: PageNo) -> Option<Leaf> {
-        held_in(&self.slots, endpoint, page)
+        find_leaf(&self.slots, endpoint, page)
     }
 
     fn fill(&mut self, endpoint: EndpointId, page: PageNo, leaf: Leaf)
@@ -60,7 +60,8 @@ impl<P: Replacement, const N: usize> Translations for Tlb<P, N> {
         ensures held { lookup (entries_of self.new.slots) endpoint.0 page.0 ≡ Some leaf }
 
         // The new entry stands where the policy says. Each other slot is as before, but that the page's last entry is out.
-        ensures slots { self.new.slots ≡ slice_set (without self.old.slots endpoint.0 page.0) (P.picked self.old.policy endpoint.0 page.0 % N)
+        ensures slots { let place = P.picked self.old.policy endpoint.0 page.0 % N in
+            self.new.slots ≡ slice_set (without self.old.slots endpoint.0 page.0) place
             (Some (record { endpoint = endpoint; page = page; leaf = leaf })) }
         ensures policy { self.new.policy ≡ P.moved self.old.policy endpoint.0 page.0 }
     {
@@ -94,7 +95,7 @@ impl<P: Replacement, const N: usize> Translations for Tlb<P, N> {
 }
 
 // The leaf in the first of these slots that holds one for a page of an endpoint.
-fn held_in(slots: &[Option<Entry>], endpoint: EndpointId, page: PageNo) -> Option<Leaf>
+fn find_leaf(slots: &[Option<Entry>], endpoint: EndpointId, page: PageNo) -> Option<Leaf>
     ensures { result ≡ lookup (entries_of slots.now) endpoint.0 page.0 }
 {
     for slot in slots {

@@ -1,12 +1,12 @@
 -- SPDX-License-Identifier: MIT OR Apache-2.0
 -- Spans of addresses that runs of pages certify: how they are joined, and what descriptors say of theirs.
 use Rattle.std.proofs.Common.{◌≡◌, ◌∙◌, ℕ, suc, ◌+◌, ◌-◌, ◌*◌, ◌/◌, ◌%◌, ◌^◌, ◌<◌, ◌≤◌, Bool, true, false, List, length, drop, get_or, Option, Some, None, Result, Ok, Err, refl, sym, ap, ap₂, arith, inl, inr}
-use Rattle.std.specs.Prelude.{◌==◌, ◌↔◌, ◌≢◌, ◌&&◌, if◌then◌else◌, max, min, is_some, not, nat_lt, slice_index_or}
+use Rattle.std.specs.Prelude.{◌==◌, ◌↔◌, ◌≢◌, ◌&&◌, IsTrue, if◌then◌else◌, max, min, is_some, not, nat_lt, slice_index_or}
 use Rattle.std.specs.Result.{result_ok}
-use Rattle.std.proofs.lemmas.Bool.{cases_lt, eq-eqb, le-leb, le-ltb, lt-leb, lt-ltb, ne_eqb}
+use Rattle.std.proofs.lemmas.Bool.{both_ways, cases_lt, eq-eqb, eqb-false, eqb-true, false≢true, le-leb, le-ltb, lt-leb, lt-ltb, ne_eqb}
 use Rattle.std.proofs.lemmas.List.{drop_all}
 use Rattle.std.proofs.Math.Seq.{drop-cons}
-use Rattle.ffa_model.specs.Bits.{bits}
+use Rattle.ffa_model.specs.Bits.{bits, is_set}
 use Rattle.ffa_model.specs.Certified.{access_in, access_to, certified_answer}
 use Rattle.ffa_model.specs.Codes.{data_from, data_from-may_write}
 use Rattle.ffa_model.specs.Ram.{Ram}
@@ -96,18 +96,23 @@ leaf-moved word output start i r e =
 
 -- TYPES OF WORDS
 
-pub type-none : (word : ℕ) (block table : Answer) → word % 2 ≡ 0 → by_type word block table ≡ Err Translation
-type-none word block table h = ap (λ b. if b then Err Translation else (if bits 1 1 word == 0 then block else table)) (eq-eqb (bits 0 0 word) 0 (omega arith))
+no-bit : (bit : ℕ) → bit < 2 → (bit == 1) ≡ false → (bit == 0) ≡ true
+no-bit bit small h = let other = eqb-false bit 1 h in eq-eqb bit 0 (omega (arith, small, other))
 
-pub type-block : (word : ℕ) (block table : Answer) → word % 2 ≢ 0 → word / 2 % 2 ≡ 0 → by_type word block table ≡ block
-type-block word block table valid h =
-    ap (λ b. if b then Err Translation else (if bits 1 1 word == 0 then block else table)) (ne_eqb (bits 0 0 word) 0 (λ e. valid (omega arith)))
-    ∙ ap (λ b. if b then block else table) (eq-eqb (bits 1 1 word) 0 (omega arith))
+a-bit : (bit : ℕ) → (bit == 1) ≡ true → (bit == 0) ≡ false
+a-bit bit h = let one = eqb-true bit 1 h in ne_eqb bit 0 (λ none. absurd (omega (arith, none, one)))
 
-pub type-table : (word : ℕ) (block table : Answer) → word % 2 ≢ 0 → word / 2 % 2 ≢ 0 → by_type word block table ≡ table
-type-table word block table valid h =
-    ap (λ b. if b then Err Translation else (if bits 1 1 word == 0 then block else table)) (ne_eqb (bits 0 0 word) 0 (λ e. valid (omega arith)))
-    ∙ ap (λ b. if b then block else table) (ne_eqb (bits 1 1 word) 0 (λ e. h (omega arith)))
+abbrev typed : Bool → Bool → Answer → Answer → Answer
+typed invalid leaf block table = if invalid then Err Translation else (if leaf then block else table)
+
+type-none : (word : ℕ) (block table : Answer) → is_set 0 word ≡ false → by_type word block table ≡ Err Translation
+type-none word block table h = ap (λ b. typed b (bits 1 1 word == 0) block table) (no-bit (bits 0 0 word) (omega arith) h)
+
+type-block : (word : ℕ) (block table : Answer) → is_set 0 word ≡ true → is_set 1 word ≡ false → by_type word block table ≡ block
+type-block word block table valid h = ap₂ (λ a b. typed a b block table) (a-bit (bits 0 0 word) valid) (no-bit (bits 1 1 word) (omega arith) h)
+
+type-table : (word : ℕ) (block table : Answer) → is_set 0 word ≡ true → is_set 1 word ≡ true → by_type word block table ≡ table
+type-table word block table valid h = ap₂ (λ a b. typed a b block table) (a-bit (bits 0 0 word) valid) (a-bit (bits 1 1 word) h)
 
 -- TABLES
 
@@ -123,10 +128,10 @@ ended_there true x fault next named is e = cc
 ended_there false x fault next named is e = refl
 
 -- the walk goes on in a table of RAM
-pub table-there : (ram : Ram) (word table : ℕ) (next : ℕ → Answer) → table_named ram word ≡ Ok table → in_table ram word next ≡ next table
+table-there : (ram : Ram) (word table : ℕ) (next : ℕ → Answer) → table_named ram word ≡ Ok table → in_table ram word next ≡ next table
 table-there ram word table next e = going_on (is_page_address ram (bits 47 12 word * 2 ^ 12)) (bits 47 12 word * 2 ^ 12) table next (table_named ram word) refl e
 
-pub table-away : (ram : Ram) (word : ℕ) (fault : FaultKind) (next : ℕ → Answer) → table_named ram word ≡ Err fault → in_table ram word next ≡ Err OutsideRam
+table-away : (ram : Ram) (word : ℕ) (fault : FaultKind) (next : ℕ → Answer) → table_named ram word ≡ Err fault → in_table ram word next ≡ Err OutsideRam
 table-away ram word fault next e = ended_there (is_page_address ram (bits 47 12 word * 2 ^ 12)) (bits 47 12 word * 2 ^ 12) fault next (table_named ram word) refl e
 
 -- RUNS
@@ -240,3 +245,46 @@ module _ (ram : Ram) (runs : List CertRun) (place : ℕ) where
     where
       alike : (a : ℕ) → start ≤ a → mapped_answer (access_to ram narrow place a) a ≡ mapped_answer (access_to ram runs place a) a
       alike a from = ap (λ o. mapped_answer (if is_in_ram ram a then o else None) a) (same ((a - ram.base) / 4096) (omega arith))
+
+  -- WORDS, by what they are the descriptors of
+
+  module _ (word start size : ℕ) (f block : ℕ → Answer) (next : ℕ → ℕ → Answer) (is : (a : ℕ) → f a ≡ by_type word (block a) (in_table ram word (λ table. next table a))) where
+    pub word-none : is_set 0 word ≡ false → (Have start size None ↔ Certified start size f)
+    word-none invalid = nothing start size f (λ a. is a ∙ type-none word _ _ invalid)
+
+    pub word-block : is_set 0 word ≡ true → is_set 1 word ≡ false → (leaf : ℕ → Answer) → ((a : ℕ) → start ≤ a → a < start + size → block a ≡ leaf a)
+        → (Certified start size leaf ↔ Certified start size f)
+    word-block valid h leaf same = like start size leaf f (λ a from to. sym (is a ∙ type-block word _ _ valid h ∙ same a from to))
+
+    pub word-table : is_set 0 word ≡ true → is_set 1 word ≡ true → (table : ℕ) → table_named ram word ≡ Ok table
+        → (Certified start size (next table) ↔ Certified start size f)
+    word-table valid h table named =
+        like start size (next table) f (λ a from to. sym (is a ∙ type-table word _ _ valid h ∙ table-there ram word table (λ t. next t a) named))
+
+    pub word-away : is_set 0 word ≡ true → is_set 1 word ≡ true → (fault : FaultKind) → table_named ram word ≡ Err fault → 0 < size
+        → (IsTrue false ↔ Certified start size f)
+    word-away valid h fault named some = (
+      λ no. absurd (false≢true no),
+      λ all. absurd (outside start size f some (is start ∙ type-table word _ _ valid h ∙ table-away ram word fault (λ t. next t start) named) all),
+    )
+
+  -- TABLES, one word more of which is judged by the runs that are left for its pages
+
+  pub word-judged : (start size page : ℕ) (judged : Bool) (rest narrow : List CertRun) (f word : ℕ → Answer)
+      → page ≡ (start - ram.base) / 4096
+      → ((q p : ℕ) → (start - ram.base) / 4096 ≤ p → access_in rest q p ≡ access_in runs q p)
+      → ((q p : ℕ) → page ≤ p → access_in narrow q p ≡ access_in rest q p)
+      → ((a : ℕ) → start ≤ a → a < start + size → f a ≡ word a)
+      → (IsTrue judged ↔ AreCertified ram narrow place start size word) → (IsTrue judged ↔ Certified start size f)
+  word-judged start size page judged rest narrow f word its left narrower same gives =
+      through gives
+      (through (narrowed narrow page start size word its (λ p le. narrower place p le ∙ left place p (omega (arith, le, its))))
+      (like start size word f (λ a from to. sym (same a from to))))
+
+  -- a word that isn't as the runs say refuses its table
+  pub word-refused : (start size : ℕ) (judged : Bool) (f : ℕ → Answer) (first n : ℕ) → (IsTrue judged ↔ Certified start size f) → judged ≡ false
+      → first ≤ start → start + size ≤ first + n → (IsTrue false ↔ Certified first n f)
+  word-refused start size judged f first n by_all not_judged from to = (
+    λ is. absurd (false≢true is),
+    λ all. absurd (both_ways judged not_judged (by_all.1 (λ a low high. all a (omega arith) (omega arith)))),
+  )

@@ -12,7 +12,7 @@ ghost use Rattle.ffa_walker.specs.Offset.{KeepsOffset};
 use crate::translation::{is_in_ram, translate};
 use byteorder::{ByteOrder, LittleEndian};
 use ffa_model::{FaultKind, Leaf, PageNo, Size};
-use ffa_physmem::PhysMem;
+use ffa_physmem::{PAGE_SIZE, PhysMem};
 
 // What an access needs of the leaf.
 #[derive(Clone, Copy)]
@@ -83,8 +83,8 @@ fn read_number<M: PhysMem>(memory: &M, physical: u64, size: Size) -> u64
     ensures fits { result < 256 ^ size_of size }
 {
     let place = physical - u64::from(memory.base().0);
-    let page = memory.page(PageNo((place / 4096) as u32));
-    let bytes = &page[(place % 4096) as usize..];
+    let page = memory.page(PageNo((place / PAGE_SIZE as u64) as u32));
+    let bytes = &page[(place % PAGE_SIZE as u64) as usize..];
     match size {
         Size::B1 => u64::from(bytes[0]),
         Size::B2 => u64::from(LittleEndian::read_u16(bytes)),
@@ -97,12 +97,14 @@ fn read_number<M: PhysMem>(memory: &M, physical: u64, size: Size) -> u64
 fn write_number<M: PhysMem>(memory: &mut M, physical: u64, size: Size, value: u64)
     requires inside { IsTrue (walk.is_in_ram (M.ram memory.old) physical) }
     requires aligned { physical % size_of size ≡ 0 }
-    ensures written { M.ram memory.new ≡ spec.with_bytes_at (M.ram memory.old) physical (little_bytes (size_of size) value) }
-    ensures steps { Only (M.past memory.old) (M.past memory.new) (λ _ s. IsWriting (M.ram memory.old) (λ p. p == spec.page_index (M.ram memory.old) physical) s) }
+    ensures written { let bytes = little_bytes (size_of size) value in
+        M.ram memory.new ≡ spec.with_bytes_at (M.ram memory.old) physical bytes }
+    ensures steps { let page = spec.page_index (M.ram memory.old) physical in
+        Only (M.past memory.old) (M.past memory.new) (λ _ s. IsWriting (M.ram memory.old) (λ p. p == page) s) }
 {
     let place = physical - u64::from(memory.base().0);
-    let page = memory.page_mut(PageNo((place / 4096) as u32));
-    let bytes = &mut page[(place % 4096) as usize..];
+    let page = memory.page_mut(PageNo((place / PAGE_SIZE as u64) as u32));
+    let bytes = &mut page[(place % PAGE_SIZE as u64) as usize..];
     match size {
         Size::B1 => bytes[0] = (value % (1 << 8)) as u8,
         Size::B2 => LittleEndian::write_u16(bytes, (value % (1 << 16)) as u16),
@@ -203,7 +205,8 @@ pub fn store_at<M: PhysMem>(
     ensures answer { result ≡ spec.store_answer_by (M.ram memory.old) walked address (size_of size) }
     ensures stored { M.ram memory.new ≡ spec.ram_after_store_by (M.ram memory.old) walked address (size_of size) value }
     ensures kept_past { OnErr result (M.past memory.new ≡ M.past memory.old) }
-    ensures roots { (root : ℕ) → walk.is_page_address (M.ram memory.new) root ≡ walk.is_page_address (M.ram memory.old) root }
+    ensures roots { (root : ℕ)
+        → walk.is_page_address (M.ram memory.new) root ≡ walk.is_page_address (M.ram memory.old) root }
     ensures steps { Only (M.past memory.old) (M.past memory.new) (λ _ s. (physical : ℕ)
         × (spec.reach_by (M.ram memory.old) walked address (size_of size) spec.may_store_to ≡ Ok physical)
         × IsWriting (M.ram memory.old) (λ p. p == spec.page_index (M.ram memory.old) physical) s) }

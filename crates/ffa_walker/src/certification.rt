@@ -10,7 +10,7 @@ ghost use Rattle.ffa_walker.specs.Spans.{AreCertified, HaveAccess, HavePages, fr
 
 use crate::translation::{read_entry, read_leaf, table_of};
 use ffa_model::{CertRun, Data, Rights};
-use ffa_physmem::PhysMem;
+use ffa_physmem::{Descriptor, Level, PAGE_SIZE, PhysMem};
 
 // The addresses that one descriptor of each level maps.
 const LEVEL1: u64 = 1 << 30;
@@ -56,7 +56,8 @@ fn are_in_order(runs: &[CertRun], pages: u32) -> bool
 fn gives_root<M: PhysMem>(memory: &M, root: u32, runs: &[CertRun], place: usize) -> bool
     requires root { walk.is_page_address (M.ram memory.now) root ≡ true }
     requires place { place < MOST_ENDPOINTS }
-    ensures { IsTrue result ↔ AreCertified (M.ram memory.now) runs.now place 0 (2 ^ 32) (walk.walk (M.ram memory.now) root) }
+    ensures { IsTrue result
+        ↔ AreCertified (M.ram memory.now) runs.now place 0 (2 ^ 32) (walk.walk (M.ram memory.now) root) }
 {
     for index in 0..4u64 {
         let word = read_entry(memory, u64::from(root), index);
@@ -70,7 +71,7 @@ fn gives_root<M: PhysMem>(memory: &M, root: u32, runs: &[CertRun], place: usize)
 // Whether the walks from a word of level 1, which maps the addresses from `start` on, are those of the runs.
 fn gives_level1<M: PhysMem>(
     memory: &M,
-    word: u64,
+    word: Descriptor,
     runs: &[CertRun],
     place: usize,
     start: u64,
@@ -78,13 +79,14 @@ fn gives_level1<M: PhysMem>(
     requires start { start % 2 ^ 30 ≡ 0 }
     requires below { start + 2 ^ 30 ≤ 2 ^ 32 }
     requires place { place < MOST_ENDPOINTS }
-    ensures { IsTrue result ↔ AreCertified (M.ram memory.now) runs.now place start (2 ^ 30) (walk.from_level1 (M.ram memory.now) word) }
+    ensures { IsTrue result
+        ↔ AreCertified (M.ram memory.now) runs.now place start (2 ^ 30) (walk.from_level1 (M.ram memory.now) word.0) }
 {
-    if word % 2 == 0 {
+    if !word.is_valid() {
         return have_access(memory, runs, place, start, LEVEL1, None);
     }
-    if (word >> 1) % 2 == 0 {
-        let output = (word >> 30) % (1 << 18) * LEVEL1;
+    if !word.is_table() {
+        let output = word.output(Level::One);
         return gives_leaf(memory, word, output, runs, place, start, LEVEL1);
     }
     match table_of(memory, word) {
@@ -105,7 +107,8 @@ fn gives_table2<M: PhysMem>(
     requires start { start % 2 ^ 30 ≡ 0 }
     requires below { start + 2 ^ 30 ≤ 2 ^ 32 }
     requires place { place < MOST_ENDPOINTS }
-    ensures { IsTrue result ↔ AreCertified (M.ram memory.now) runs.now place start (2 ^ 30) (from_table2 (M.ram memory.now) table) }
+    ensures { IsTrue result
+        ↔ AreCertified (M.ram memory.now) runs.now place start (2 ^ 30) (from_table2 (M.ram memory.now) table) }
 {
     let mut rest = runs;
     for index in 0..512u64 {
@@ -122,7 +125,7 @@ fn gives_table2<M: PhysMem>(
 // Whether the walks from a word of level 2 are those of the runs.
 fn gives_level2<M: PhysMem>(
     memory: &M,
-    word: u64,
+    word: Descriptor,
     runs: &[CertRun],
     place: usize,
     start: u64,
@@ -130,13 +133,14 @@ fn gives_level2<M: PhysMem>(
     requires start { start % 2 ^ 21 ≡ 0 }
     requires below { start + 2 ^ 21 ≤ 2 ^ 32 }
     requires place { place < MOST_ENDPOINTS }
-    ensures { IsTrue result ↔ AreCertified (M.ram memory.now) runs.now place start (2 ^ 21) (walk.from_level2 (M.ram memory.now) word) }
+    ensures { IsTrue result
+        ↔ AreCertified (M.ram memory.now) runs.now place start (2 ^ 21) (walk.from_level2 (M.ram memory.now) word.0) }
 {
-    if word % 2 == 0 {
+    if !word.is_valid() {
         return have_access(memory, runs, place, start, LEVEL2, None);
     }
-    if (word >> 1) % 2 == 0 {
-        let output = (word >> 21) % (1 << 27) * LEVEL2;
+    if !word.is_table() {
+        let output = word.output(Level::Two);
         return gives_leaf(memory, word, output, runs, place, start, LEVEL2);
     }
     match table_of(memory, word) {
@@ -168,7 +172,8 @@ fn gives_table3<M: PhysMem>(
     requires start { start % 2 ^ 21 ≡ 0 }
     requires below { start + 2 ^ 21 ≤ 2 ^ 32 }
     requires place { place < MOST_ENDPOINTS }
-    ensures { IsTrue result ↔ AreCertified (M.ram memory.now) runs.now place start (2 ^ 21) (from_table3 (M.ram memory.now) table) }
+    ensures { IsTrue result
+        ↔ AreCertified (M.ram memory.now) runs.now place start (2 ^ 21) (from_table3 (M.ram memory.now) table) }
 {
     let mut rest = runs;
     for index in 0..512u64 {
@@ -186,13 +191,13 @@ fn gives_table3<M: PhysMem>(
 fn page_behind<M: PhysMem>(memory: &M, address: u64) -> u64
     ensures { result ≡ (address - (M.ram memory.now).base) / 4096 }
 {
-    address.saturating_sub(u64::from(memory.base().0)) / 4096
+    address.saturating_sub(u64::from(memory.base().0)) / PAGE_SIZE as u64
 }
 
 // Whether the walks from a word of level 3 are those of the runs.
 fn gives_level3<M: PhysMem>(
     memory: &M,
-    word: u64,
+    word: Descriptor,
     runs: &[CertRun],
     place: usize,
     start: u64,
@@ -200,19 +205,19 @@ fn gives_level3<M: PhysMem>(
     requires start { start % 2 ^ 12 ≡ 0 }
     requires below { start + 2 ^ 12 ≤ 2 ^ 32 }
     requires place { place < MOST_ENDPOINTS }
-    ensures { IsTrue result ↔ AreCertified (M.ram memory.now) runs.now place start (2 ^ 12) (walk.from_level3 word) }
+    ensures { IsTrue result ↔ AreCertified (M.ram memory.now) runs.now place start (2 ^ 12) (walk.from_level3 word.0) }
 {
-    if word % 4 != 3 {
+    if !word.is_page() {
         return have_access(memory, runs, place, start, LEVEL3, None);
     }
-    let output = (word >> 12) % (1 << 36) * LEVEL3;
+    let output = word.output(Level::Three);
     gives_leaf(memory, word, output, runs, place, start, LEVEL3)
 }
 
 // Whether a leaf descriptor, which leads the addresses of a span to those from `output` on, gives what the runs say.
 fn gives_leaf<M: PhysMem>(
     memory: &M,
-    word: u64,
+    word: Descriptor,
     output: u64,
     runs: &[CertRun],
     place: usize,
@@ -224,7 +229,8 @@ fn gives_leaf<M: PhysMem>(
     requires some { 0 < size }
     requires below { start + size ≤ 2 ^ 32 }
     requires place { place < MOST_ENDPOINTS }
-    ensures { IsTrue result ↔ AreCertified (M.ram memory.now) runs.now place start size (λ address. walk.leaf_of word (output + (address - start))) }
+    ensures { let answer = λ (address : ℕ). walk.leaf_of word.0 (output + (address - start)) in
+        IsTrue result ↔ AreCertified (M.ram memory.now) runs.now place start size answer }
 {
     match right_to_itself(word, output, start) {
         Some(right) => have_access(memory, runs, place, start, size, Some(right)),
@@ -234,9 +240,10 @@ fn gives_leaf<M: PhysMem>(
 
 // The right that a leaf descriptor gives to an address, if it leads to the address itself and gives a right.
 #[tactic(auto, unfolding(ffa_model::specs::Walk::mapped_answer))]
-fn right_to_itself(word: u64, output: u64, address: u64) -> Option<Rights>
-    ensures some { IfSome result (λ right. walk.leaf_of word output ≡ walk.mapped_answer (Some right) address) }
-    ensures none { IfNone result ((right : Option Rights) → walk.leaf_of word output ≢ walk.mapped_answer right address) }
+fn right_to_itself(word: Descriptor, output: u64, address: u64) -> Option<Rights>
+    ensures some { IfSome result (λ right. walk.leaf_of word.0 output ≡ walk.mapped_answer (Some right) address) }
+    ensures none { IfNone result ((right : Option Rights)
+        → walk.leaf_of word.0 output ≢ walk.mapped_answer right address) }
 {
     let leaf = read_leaf(word, output).ok()?;
     if leaf.phys != address || !leaf.read {
@@ -265,7 +272,7 @@ fn have_access<M: PhysMem>(
     ensures { IsTrue result ↔ HaveAccess (M.ram memory.now) runs.now place start size access }
 {
     let base = u64::from(memory.base().0);
-    let ram_end = base + 4096 * u64::from(memory.pages());
+    let ram_end = base + PAGE_SIZE as u64 * u64::from(memory.pages());
     let first = start.max(base);
     let end = (start + size).min(ram_end);
     // A part of the span is outside.
@@ -276,8 +283,8 @@ fn have_access<M: PhysMem>(
         || have_pages(
             runs,
             place,
-            (first - base) / 4096,
-            (end - base) / 4096,
+            (first - base) / PAGE_SIZE as u64,
+            (end - base) / PAGE_SIZE as u64,
             access,
         )
 }

@@ -7,83 +7,81 @@ ghost use Rattle.ffa_model.specs.declared.operation.FaultKind.TheVariants.{Outsi
 ghost use Rattle.ffa_walker.specs.Offset.{KeepsOffset};
 
 use ffa_model::{FaultKind, Leaf, PageNo};
-use ffa_physmem::PhysMem;
+use ffa_physmem::{Descriptor, Level, PAGE_SIZE, PhysMem};
 
 /// Whether a byte of the RAM stands at an address.
 pub fn is_in_ram<M: PhysMem>(memory: &M, address: u64) -> bool
     ensures { result ≡ walk.is_in_ram (M.ram memory.now) address }
 {
     let base = u64::from(memory.base().0);
-    base <= address && address < base + 4096 * u64::from(memory.pages())
+    base <= address && address < base + PAGE_SIZE as u64 * u64::from(memory.pages())
 }
 
-// The word at a place of the table at an address.
-pub(crate) fn read_entry<M: PhysMem>(memory: &M, table: u64, index: u64) -> u64
+// The descriptor at a place of the table at an address.
+pub(crate) fn read_entry<M: PhysMem>(memory: &M, table: u64, index: u64) -> Descriptor
     requires table { IsTrue (walk.is_in_ram (M.ram memory.now) table) }
     requires index { index < 512 }
-    ensures { result ≡ walk.entry (M.ram memory.now) table index }
+    ensures { result.0 ≡ walk.entry (M.ram memory.now) table index }
 {
-    let page = (table - u64::from(memory.base().0)) / 4096;
-    memory.read_word(PageNo(page as u32), index as usize)
+    let page = (table - u64::from(memory.base().0)) / PAGE_SIZE as u64;
+    Descriptor(memory.read_word(PageNo(page as u32), index as usize))
 }
 
-// The table that a word names, which has to be a page of the RAM.
-pub(crate) fn table_of<M: PhysMem>(memory: &M, word: u64) -> Result<u64, FaultKind>
-    ensures value { let table = bits 47 12 word * 2 ^ 12 in
+// The table that a descriptor names, which has to be a page of the RAM.
+pub(crate) fn table_of<M: PhysMem>(memory: &M, word: Descriptor) -> Result<u64, FaultKind>
+    ensures value { let table = bits 47 12 word.0 * 2 ^ 12 in
         result ≡ (if walk.is_page_address (M.ram memory.now) table then Ok table else Err OutsideRam) }
     ensures inside { IfOk result (λ table. IsTrue (walk.is_in_ram (M.ram memory.now) table)) }
 {
-    let table = (word >> 12) % (1 << 36) * (1 << 12);
+    let table = word.table();
     if !is_in_ram(memory, table) {
         return Err(FaultKind::OutsideRam);
     }
     Ok(table)
 }
 
-// What a leaf descriptor says: AF is bit 10, S2AP is bit 6 to read and bit 7 to write, XN is bit 54.
+// What the descriptor of a block or a page says.
 #[tactic(auto, unfolding(ffa_model::specs::Walk::leaf_of))]
-pub(crate) fn read_leaf(word: u64, phys: u64) -> Result<Leaf, FaultKind>
-    ensures { result ≡ walk.leaf_of word phys }
+pub(crate) fn read_leaf(word: Descriptor, phys: u64) -> Result<Leaf, FaultKind>
+    ensures { result ≡ walk.leaf_of word.0 phys }
 {
-    if (word >> 10) % 2 == 0 {
+    if !word.is_accessed() {
         return Err(FaultKind::AccessFlag);
     }
-    let read = (word >> 6) % 2 == 1;
+    let read = word.is_readable();
     Ok(Leaf {
         phys,
         read,
-        write: (word >> 7) % 2 == 1,
-        exec: read && (word >> 54) % 2 == 0,
+        write: word.is_writable(),
+        exec: read && !word.is_execute_never(),
     })
 }
 
 // The walk from a word of level 3, where type 01 is invalid.
 #[tactic(auto, unfolding(ffa_model::specs::Walk::from_level3))]
-fn walk_from_level3(word: u64, address: u64) -> Result<Leaf, FaultKind>
-    ensures { result ≡ walk.from_level3 word address }
+fn walk_from_level3(word: Descriptor, address: u64) -> Result<Leaf, FaultKind>
+    ensures { result ≡ walk.from_level3 word.0 address }
 {
-    if word % 4 != 3 {
+    if !word.is_page() {
         return Err(FaultKind::Translation);
     }
-    read_leaf(
-        word,
-        (word >> 12) % (1 << 36) * (1 << 12) + address % (1 << 12),
-    )
+    read_leaf(word, word.output(Level::Three) + address % (1 << 12))
 }
 
 // The walk from a word of level 2: a block of 2 MiB, or a table of level 3.
 #[tactic(auto, unfolding(ffa_model::specs::Walk::from_level2))]
-fn walk_from_level2<M: PhysMem>(memory: &M, word: u64, address: u64) -> Result<Leaf, FaultKind>
-    ensures { result ≡ walk.from_level2 (M.ram memory.now) word address }
+fn walk_from_level2<M: PhysMem>(
+    memory: &M,
+    word: Descriptor,
+    address: u64,
+) -> Result<Leaf, FaultKind>
+    ensures { result ≡ walk.from_level2 (M.ram memory.now) word.0 address }
 {
-    if word % 2 == 0 {
+    if !word.is_valid() {
         return Err(FaultKind::Translation);
     }
-    if (word >> 1) % 2 == 0 {
-        return read_leaf(
-            word,
-            (word >> 21) % (1 << 27) * (1 << 21) + address % (1 << 21),
-        );
+    if !word.is_table() {
+        return read_leaf(word, word.output(Level::Two) + address % (1 << 21));
     }
     let table = table_of(memory, word)?;
     walk_from_level3(read_entry(memory, table, (address >> 12) % 512), address)
@@ -91,17 +89,18 @@ fn walk_from_level2<M: PhysMem>(memory: &M, word: u64, address: u64) -> Result<L
 
 // The walk from a word of level 1: a block of 1 GiB, or a table of level 2.
 #[tactic(auto, unfolding(ffa_model::specs::Walk::from_level1))]
-fn walk_from_level1<M: PhysMem>(memory: &M, word: u64, address: u64) -> Result<Leaf, FaultKind>
-    ensures { result ≡ walk.from_level1 (M.ram memory.now) word address }
+fn walk_from_level1<M: PhysMem>(
+    memory: &M,
+    word: Descriptor,
+    address: u64,
+) -> Result<Leaf, FaultKind>
+    ensures { result ≡ walk.from_level1 (M.ram memory.now) word.0 address }
 {
-    if word % 2 == 0 {
+    if !word.is_valid() {
         return Err(FaultKind::Translation);
     }
-    if (word >> 1) % 2 == 0 {
-        return read_leaf(
-            word,
-            (word >> 30) % (1 << 18) * (1 << 30) + address % (1 << 30),
-        );
+    if !word.is_table() {
+        return read_leaf(word, word.output(Level::One) + address % (1 << 30));
     }
     let table = table_of(memory, word)?;
     walk_from_level2(

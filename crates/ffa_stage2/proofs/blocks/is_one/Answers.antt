@@ -23,6 +23,6 @@ returns-clause-one g c rights names is =
     let ram = g.M.PhysMem.ram c.args.memory.now in
     let x = c.args.place.now in
     let (r, some) = some_of c.args.right (c.is_none.ensures ∙ ap not c.if-is_none.false) in (
-      λ yes. (r, one-of_uniform ram x rights c.args.within r c.requires.place names c.requires.within (is ∙ some) (rw c.page.ensures.value at (c.uniform.ensures.0 yes))),
-      λ (q, one). c.uniform.ensures.1 (rw c.page.ensures.value (uniform-of_one ram x rights q c.requires.place names one)),
+      λ yes. (r, one-of_uniform ram x rights c.args.within r c.requires.place names c.requires.within (is ∙ some) (rw c.page.ensures.value at (c.is_uniform.ensures.0 yes))),
+      λ (q, one). c.is_uniform.ensures.1 (rw c.page.ensures.value (uniform-of_one ram x rights q c.requires.place names one)),
     )

@@ -1,34 +1,36 @@
 -- SPDX-License-Identifier: MIT OR Apache-2.0
-use Rattle.std.proofs.Common.{◌∙◌, sym, arith}
-use Rattle.std.proofs.lemmas.Bool.{false≢true}
-use Rattle.ffa_walker.proofs.Levels.{level1-away, level1-block, level1-none, level1-table}
-use Rattle.ffa_walker.proofs.Spans.{like, nothing, outside, through}
+use Rattle.std.proofs.Common.{◌∙◌, ◌^◌, sym, arith}
+use Rattle.ffa_walker.specs.Spans.{from_table2}
+use Rattle.ffa_walker.proofs.Levels.{block1, level1}
+use Rattle.ffa_walker.proofs.Spans.{through, word-away, word-block, word-none, word-table}
 use Rattle.ffa_walker.proofs.certification.gives_level1.Goals as goal
 
-pub returns-then-word-eq0 : goal.returns-then-word-eq0
-returns-then-word-eq0 g c =
+pub returns-then-not-is_valid : goal.returns-then-not-is_valid
+returns-then-not-is_valid g c =
     let ram = g.M.PhysMem.ram c.args.memory.now in
     through c.have_access.ensures
-    (nothing ram c.args.runs.now c.args.place c.args.start 1073741824 _ (level1-none ram c.args.word c.if-word-eq0.true))
+    (word-none ram c.args.runs.now c.args.place c.args.word.0 c.args.start (2 ^ 30) _ _ (from_table2 ram) (level1 ram c.args.word.0)
+    (sym c.is_valid.ensures ∙ c.if-not-is_valid.true))
 
-pub returns-then-word-eq0-2 : goal.returns-then-word-eq0-2
-returns-then-word-eq0-2 g c =
+pub returns-then-not-is_table : goal.returns-then-not-is_table
+returns-then-not-is_table g c =
     let ram = g.M.PhysMem.ram c.args.memory.now in
     through c.gives_leaf.ensures
-    (like ram c.args.runs.now c.args.place c.args.start 1073741824 _ _
-    (λ a from to. sym (level1-block ram c.args.word c.if-word-eq0.false c.if-word-eq0-2.true c.args.start a c.requires.start from to)))
+    (word-block ram c.args.runs.now c.args.place c.args.word.0 c.args.start (2 ^ 30) _ _ (from_table2 ram) (level1 ram c.args.word.0)
+    (sym c.is_valid.ensures ∙ c.if-not-is_valid.false) (sym c.is_table.ensures ∙ c.if-not-is_table.true) _
+    (λ a from to. block1 c.args.word.0 c.output-output.result c.args.start a from c.output-output.ensures c.requires.start to))
 
 pub returns-in-Ok : goal.returns-in-Ok
 returns-in-Ok g c =
     let ram = g.M.PhysMem.ram c.args.memory.now in
     through c.gives_table2.ensures
-    (like ram c.args.runs.now c.args.place c.args.start 1073741824 _ _
-    (λ a from to. sym (level1-table ram c.args.word c.if-word-eq0.false c.if-word-eq0-2.false c.in-Ok.table a (sym c.table_of.ensures.value ∙ c.in-Ok.is))))
+    (word-table ram c.args.runs.now c.args.place c.args.word.0 c.args.start (2 ^ 30) _ _ (from_table2 ram) (level1 ram c.args.word.0)
+    (sym c.is_valid.ensures ∙ c.if-not-is_valid.false) (sym c.is_table.ensures ∙ c.if-not-is_table.false) c.in-Ok.table
+    (sym c.table_of.ensures.value ∙ c.in-Ok.is))
 
 pub returns-in-Err : goal.returns-in-Err
 returns-in-Err g c =
-    let ram = g.M.PhysMem.ram c.args.memory.now in (
-      λ no. absurd (false≢true no),
-      λ all. absurd (outside ram c.args.runs.now c.args.place c.args.start 1073741824 _ (omega arith)
-          (level1-away ram c.args.word c.if-word-eq0.false c.if-word-eq0-2.false c.in-Err.field-0 c.args.start (sym c.table_of.ensures.value ∙ c.in-Err.is)) all),
-    )
+    let ram = g.M.PhysMem.ram c.args.memory.now in
+    word-away ram c.args.runs.now c.args.place c.args.word.0 c.args.start (2 ^ 30) _ _ (from_table2 ram) (level1 ram c.args.word.0)
+    (sym c.is_valid.ensures ∙ c.if-not-is_valid.false) (sym c.is_table.ensures ∙ c.if-not-is_table.false) c.in-Err.field-0
+    (sym c.table_of.ensures.value ∙ c.in-Err.is) (omega arith)

@@ -5,5 +5,5 @@ use Rattle.ffa_walker.proofs.certification.right_to_itself.Goals as goal
 
 pub returns-in_err-leaf-clause-none : goal.returns-in_err-leaf-clause-none
 returns-in_err-leaf-clause-none c =
-    let is = no-leaf c.args.word c.args.output c.args.address c.read_leaf.result c.read_leaf.ensures (sym c.ok.ensures.value ∙ c.in_err-leaf.was) in
+    let is = no-leaf c.args.word.0 c.args.output c.args.address c.read_leaf.result c.read_leaf.ensures (sym c.ok.ensures.value ∙ c.in_err-leaf.was) in
     rw c.from_residual.ensures is

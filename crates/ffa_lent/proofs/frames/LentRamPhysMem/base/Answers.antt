@@ -4,7 +4,4 @@ use Rattle.ffa_lent.proofs.Boxes.{pages-seen}
 use Rattle.ffa_lent.proofs.frames.LentRamPhysMem.base.Goals as goal
 
 pub returns-clause-within : goal.returns-clause-within
-returns-clause-within c =
-    let m = c.args.self.now in
-    let same = pages-seen m in
-    omega (arith, m.fits, same, m.frames.ok)
+returns-clause-within c = let same = pages-seen c.args.self.now in omega (arith, same, c.base.ensures.within)

@@ -6,10 +6,7 @@ use Rattle.ffa_lent.proofs.Boxes.{pages-seen, unchanged}
 use Rattle.ffa_lent.proofs.frames.LentRamPhysMem.observe.Goals as goal
 
 pub copy_frames-requires-clause-within : goal.copy_frames-requires-clause-within
-copy_frames-requires-clause-within c =
-    let same = pages-seen c.args.self.now in
-    let frames = ap length c.deref.ensures.value in
-    omega (arith, c.requires, same, frames)
+copy_frames-requires-clause-within c = let same = pages-seen c.args.self.now in omega (arith, c.requires, same)
 
 pub returns-then-count-len-clause-beside : goal.returns-then-count-len-clause-beside
 returns-then-count-len-clause-beside c =
@@ -17,7 +14,7 @@ returns-then-count-len-clause-beside c =
     let new : List (List ℕ) = (with_items m.copies c.copy_frames.new.copies).items in
     let are : new ≡ c.copy_frames.new.copies = with_items_is m.copies c.copy_frames.new.copies (c.copy_frames.ensures.room ∙ c.deref_mut.ensures.len) in
     let pages =
-    unchanged m c.args.first.0 c.args.count new c.deref.result.now c.requires c.if-self-eq0.true c.deref.ensures.value
+    unchanged m c.args.first.0 c.args.count new c.requires c.if-self-eq0.true
     (λ k lt. ap (λ (xs : List (List ℕ)). get_or xs k []) are ∙ c.copy_frames.ensures.copied k lt)
     in
     record {
@@ -32,5 +29,5 @@ returns-then-count-len-clause-whole c = λ p.
     let new : List (List ℕ) = (with_items m.copies c.copy_frames.new.copies).items in
     let are : new ≡ c.copy_frames.new.copies = with_items_is m.copies c.copy_frames.new.copies (c.copy_frames.ensures.room ∙ c.deref_mut.ensures.len) in
     ap (λ (xs : List (List ℕ)). length (get_or xs p []))
-    (unchanged m c.args.first.0 c.args.count new c.deref.result.now c.requires c.if-self-eq0.true c.deref.ensures.value
+    (unchanged m c.args.first.0 c.args.count new c.requires c.if-self-eq0.true
     (λ k lt. ap (λ (xs : List (List ℕ)). get_or xs k []) are ∙ c.copy_frames.ensures.copied k lt))

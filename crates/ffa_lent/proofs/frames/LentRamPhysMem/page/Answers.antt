@@ -16,14 +16,17 @@ returns-in-Some-clause-value c =
 pub returns-in-Some-clause-whole : goal.returns-in-Some-clause-whole
 returns-in-Some-clause-whole c = ap length (sym (returns-in-Some-clause-value c)) ∙ grind (arith, common_steps)
 
-pub index-requires : goal.index-requires
-index-requires c = frame-inside c.args.self.now c.args.page.0 c.requires
+pub page-requires : goal.page-requires
+page-requires c = frame-inside c.args.self.now c.args.page.0 c.requires
 
 pub returns-clause-value : goal.returns-clause-value
 returns-clause-value c =
     let m = c.args.self.now in
     let off = observed-no m c.args.page.0 (sym c.in_default.is ∙ c.place.ensures.value) in
-    c.as_ref-frame.ensures ∙ sym (page_of-frame m c.args.page.0 c.requires c.index.result.now c.index.ensures off)
+    c.page.ensures.value ∙ sym (page_of-frame m c.args.page.0 c.requires off)
 
 pub returns-clause-whole : goal.returns-clause-whole
-returns-clause-whole c = ap length (sym (returns-clause-value c)) ∙ grind (arith, common_steps)
+returns-clause-whole c =
+    let m = c.args.self.now in
+    let off = observed-no m c.args.page.0 (sym c.in_default.is ∙ c.place.ensures.value) in
+    ap length (page_of-frame m c.args.page.0 c.requires off) ∙ c.page.ensures.whole

@@ -2,7 +2,7 @@
 use Rattle.std.proofs.Common.{◌≡◌, drop}
 use Rattle.ffa_tlb.specs.Lookups.{lookup}
 use Rattle.ffa_tlb.specs.Slots.{entries_of}
-use Rattle.ffa_tlb.proofs.tlb.held_in.Given as goal
+use Rattle.ffa_tlb.proofs.tlb.find_leaf.Given as goal
 
 abbrev pub invariant-loop-slot : goal.invariant-loop-slot
 invariant-loop-slot l =

@@ -2,7 +2,7 @@
 use Rattle.std.proofs.Common.{refl, arith}
 use Rattle.std.proofs.lemmas.Bool.{both_ways, false≢true}
 use Rattle.ffa_stage2.proofs.Lanes.{no_room, run_next, run_of}
-use Rattle.ffa_stage2.proofs.runs.uniform.Goals as goal
+use Rattle.ffa_stage2.proofs.runs.is_uniform.Goals as goal
 
 pub returns-then-first : goal.returns-then-first
 returns-then-first c =

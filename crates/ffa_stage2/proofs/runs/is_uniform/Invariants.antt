@@ -1,7 +1,7 @@
 -- SPDX-License-Identifier: MIT OR Apache-2.0
 use Rattle.std.proofs.Common.{◌≡◌, ℕ, ◌+◌, ◌*◌, ◌<◌}
 use Rattle.ffa_model.specs.Ram.{word_of}
-use Rattle.ffa_stage2.proofs.runs.uniform.Given as goal
+use Rattle.ffa_stage2.proofs.runs.is_uniform.Given as goal
 
 -- the words so far
 abbrev pub invariant-loop-run : goal.invariant-loop-run
