@@ -21,7 +21,7 @@ use std::alloc::{AllocError, Global};
 /// Boots the machine of a manifest's text, in RAM of the heap. 0 is that it was booted. Else nothing has changed: `OCCUPIED`,
 /// where a machine stands already, 1, where there is no memory, or 2 to 14, the cause for which the manifest is refused.
 #[unsafe(no_mangle)]
-pub extern "C" fn ffa_boot(alloc: Global, machine: &mut FfaMachine, text: &[u8]) -> u32
+pub extern "C" fn gorseplumb_boot(alloc: Global, machine: &mut FfaMachine, text: &[u8]) -> u32
     ensures occupied { machine.old.live ≡ true → result ≡ OCCUPIED }
     ensures booted { result ≡ 0 → (machine.old.held.value ≡ None) × HasBooted (Describes text.now) false machine.new.held.value }
     ensures refused { result ≢ 0 → machine.new ≡ machine.old }
@@ -38,7 +38,11 @@ pub extern "C" fn ffa_boot(alloc: Global, machine: &mut FfaMachine, text: &[u8])
 
 /// The same for a manifest that is given as numbers.
 #[unsafe(no_mangle)]
-pub extern "C" fn ffa_boot_parts(alloc: Global, machine: &mut FfaMachine, parts: &FfaParts) -> u32
+pub extern "C" fn gorseplumb_boot_manifest(
+    alloc: Global,
+    machine: &mut FfaMachine,
+    parts: &FfaParts,
+) -> u32
     ensures occupied { machine.old.live ≡ true → result ≡ OCCUPIED }
     ensures booted { result ≡ 0 → (machine.old.held.value ≡ None) × HasBooted (Gives parts.now) false machine.new.held.value }
     ensures refused { result ≢ 0 → machine.new ≡ machine.old }
@@ -55,10 +59,10 @@ pub extern "C" fn ffa_boot_parts(alloc: Global, machine: &mut FfaMachine, parts:
 }
 
 /// Boots the machine of a manifest's text in the pages of a list, which it clears, and leaves the list empty. 0 is that it was
-/// booted. Else nothing has changed: `OCCUPIED`, `NO_LIST`, 1 to 14 as `ffa_boot` answers, or `WRONG_COUNT`, where the manifest's
+/// booted. Else nothing has changed: `OCCUPIED`, `NO_LIST`, 1 to 14 as `gorseplumb_boot` answers, or `WRONG_COUNT`, where the manifest's
 /// RAM has more pages or fewer. Where the list has as many pages as it was begun for, memory is taken for the text alone, while it is read.
 #[unsafe(no_mangle)]
-pub extern "C" fn ffa_boot_lent(
+pub extern "C" fn gorseplumb_boot_lent(
     alloc: Global,
     machine: &mut FfaMachine,
     lent: &mut FfaLent,
@@ -86,7 +90,7 @@ pub extern "C" fn ffa_boot_lent(
 
 /// The same for a manifest that is given as numbers, for which no memory is taken: none at all where the list has no more pages than it was begun for.
 #[unsafe(no_mangle)]
-pub extern "C" fn ffa_boot_lent_parts(
+pub extern "C" fn gorseplumb_boot_lent_manifest(
     alloc: Global,
     machine: &mut FfaMachine,
     lent: &mut FfaLent,
@@ -113,10 +117,10 @@ pub extern "C" fn ffa_boot_lent_parts(
     }
 }
 
-/// The same as `ffa_boot_lent`, but pages of the manifest's regions keep their bytes, so that what was put there, as images of
+/// The same as `gorseplumb_boot_lent`, but pages of the manifest's regions keep their bytes, so that what was put there, as images of
 /// partitions or of a kernel, is there before the first operation. All others behind the tables are zeros.
 #[unsafe(no_mangle)]
-pub extern "C" fn ffa_boot_held(
+pub extern "C" fn gorseplumb_boot_held(
     alloc: Global,
     machine: &mut FfaMachine,
     lent: &mut FfaLent,
@@ -143,9 +147,9 @@ pub extern "C" fn ffa_boot_held(
     }
 }
 
-/// The same for a manifest that is given as numbers, for which memory is taken as `ffa_boot_lent_parts` takes it.
+/// The same for a manifest that is given as numbers, for which memory is taken as `gorseplumb_boot_lent_manifest` takes it.
 #[unsafe(no_mangle)]
-pub extern "C" fn ffa_boot_held_parts(
+pub extern "C" fn gorseplumb_boot_held_manifest(
     alloc: Global,
     machine: &mut FfaMachine,
     lent: &mut FfaLent,

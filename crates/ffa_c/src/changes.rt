@@ -53,7 +53,7 @@ pub struct FfaChange {
 /// Whose access to which pages the last call on memory that was done has changed, told once: true, and `change` says it; or
 /// false, and it stays, where there is nothing to tell, or nobody's access has changed.
 #[unsafe(no_mangle)]
-pub extern "C" fn ffa_changed(
+pub extern "C" fn gorseplumb_changed(
     alloc: Global,
     machine: &mut FfaMachine,
     change: &mut FfaChange,

@@ -10,7 +10,7 @@ use std::alloc::Global;
 
 /// A call of an endpoint, with eight registers. Of one that doesn't run it is answered BUSY.
 #[unsafe(no_mangle)]
-pub extern "C" fn ffa_call_as(
+pub extern "C" fn gorseplumb_call_as(
     alloc: Global,
     machine: &mut FfaMachine,
     endpoint: u16,
@@ -23,7 +23,7 @@ pub extern "C" fn ffa_call_as(
 
 /// A load of an endpoint, of 1, 2, 4 or 8 bytes, by its own table.
 #[unsafe(no_mangle)]
-pub extern "C" fn ffa_load_as(
+pub extern "C" fn gorseplumb_load_as(
     alloc: Global,
     machine: &mut FfaMachine,
     endpoint: u16,
@@ -40,7 +40,7 @@ pub extern "C" fn ffa_load_as(
 
 /// A store of an endpoint, of the value's lowest 1, 2, 4 or 8 bytes, by its own table.
 #[unsafe(no_mangle)]
-pub extern "C" fn ffa_store_as(
+pub extern "C" fn gorseplumb_store_as(
     alloc: Global,
     machine: &mut FfaMachine,
     endpoint: u16,
@@ -58,7 +58,7 @@ pub extern "C" fn ffa_store_as(
 
 /// A fetch of an endpoint, of one instruction, by its own table.
 #[unsafe(no_mangle)]
-pub extern "C" fn ffa_fetch_as(
+pub extern "C" fn gorseplumb_fetch_as(
     alloc: Global,
     machine: &mut FfaMachine,
     endpoint: u16,

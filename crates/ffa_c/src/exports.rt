@@ -26,7 +26,7 @@ pub struct FfaPage {
 
 /// A call of the runner, with eight registers.
 #[unsafe(no_mangle)]
-pub extern "C" fn ffa_call(
+pub extern "C" fn gorseplumb_call(
     alloc: Global,
     machine: &mut FfaMachine,
     registers: &FfaRegisters,
@@ -38,7 +38,7 @@ pub extern "C" fn ffa_call(
 
 /// A load of 1, 2, 4 or 8 bytes.
 #[unsafe(no_mangle)]
-pub extern "C" fn ffa_load(
+pub extern "C" fn gorseplumb_load(
     alloc: Global,
     machine: &mut FfaMachine,
     addr: u64,
@@ -54,7 +54,7 @@ pub extern "C" fn ffa_load(
 
 /// A store of the value's lowest 1, 2, 4 or 8 bytes.
 #[unsafe(no_mangle)]
-pub extern "C" fn ffa_store(
+pub extern "C" fn gorseplumb_store(
     alloc: Global,
     machine: &mut FfaMachine,
     addr: u64,
@@ -71,7 +71,7 @@ pub extern "C" fn ffa_store(
 
 /// A fetch of one instruction.
 #[unsafe(no_mangle)]
-pub extern "C" fn ffa_fetch(alloc: Global, machine: &mut FfaMachine, addr: u64) -> FfaOutcome
+pub extern "C" fn gorseplumb_fetch(alloc: Global, machine: &mut FfaMachine, addr: u64) -> FfaOutcome
     ensures { Operated machine.old.held.value machine.new.held.value (Op.Fetch addr) result }
 {
     operate(alloc, machine, &Op::Fetch { addr })
@@ -106,7 +106,7 @@ pub(crate) fn size_of(bytes: u32) -> Option<Size>
 
 /// The endpoint that runs.
 #[unsafe(no_mangle)]
-pub extern "C" fn ffa_runner(alloc: Global, machine: &mut FfaMachine) -> u32
+pub extern "C" fn gorseplumb_runner(alloc: Global, machine: &mut FfaMachine) -> u32
     ensures same { machine.new.held.value ≡ machine.old.held.value }
     ensures value { result ≡ asked (λ s. s.state.runner) machine.old.held.value }
 {
@@ -122,7 +122,7 @@ pub extern "C" fn ffa_runner(alloc: Global, machine: &mut FfaMachine) -> u32
 
 /// The number of endpoints.
 #[unsafe(no_mangle)]
-pub extern "C" fn ffa_endpoints(alloc: Global, machine: &mut FfaMachine) -> u32
+pub extern "C" fn gorseplumb_endpoints(alloc: Global, machine: &mut FfaMachine) -> u32
     ensures same { machine.new.held.value ≡ machine.old.held.value }
     ensures value { result ≡ asked (λ s. length s.state.parties) machine.old.held.value }
 {
@@ -138,7 +138,7 @@ pub extern "C" fn ffa_endpoints(alloc: Global, machine: &mut FfaMachine) -> u32
 
 /// The owner of a page of the RAM; 0x8000 is the manager.
 #[unsafe(no_mangle)]
-pub extern "C" fn ffa_owner(alloc: Global, machine: &mut FfaMachine, page: u32) -> u32
+pub extern "C" fn gorseplumb_owner(alloc: Global, machine: &mut FfaMachine, page: u32) -> u32
     ensures same { machine.new.held.value ≡ machine.old.held.value }
     ensures value { result ≡ asked (λ s. owner_number s page) machine.old.held.value }
 {
@@ -154,7 +154,7 @@ pub extern "C" fn ffa_owner(alloc: Global, machine: &mut FfaMachine, page: u32) 
 
 /// The right of an endpoint to a page: 0 is none, 1 to read, 3 to write too, and 4 more to execute.
 #[unsafe(no_mangle)]
-pub extern "C" fn ffa_access(
+pub extern "C" fn gorseplumb_access(
     alloc: Global,
     machine: &mut FfaMachine,
     endpoint: u16,
@@ -175,7 +175,7 @@ pub extern "C" fn ffa_access(
 
 /// Whether an endpoint has a notification pending.
 #[unsafe(no_mangle)]
-pub extern "C" fn ffa_pending(alloc: Global, machine: &mut FfaMachine, endpoint: u16) -> bool
+pub extern "C" fn gorseplumb_pending(alloc: Global, machine: &mut FfaMachine, endpoint: u16) -> bool
     ensures same { machine.new.held.value ≡ machine.old.held.value }
     ensures value { result ≡ is_pending_for endpoint machine.old.held.value }
 {
@@ -191,7 +191,7 @@ pub extern "C" fn ffa_pending(alloc: Global, machine: &mut FfaMachine, endpoint:
 
 /// Copies the bytes of a page, and says whether there is such a page.
 #[unsafe(no_mangle)]
-pub extern "C" fn ffa_read_page(
+pub extern "C" fn gorseplumb_read_page(
     alloc: Global,
     machine: &mut FfaMachine,
     page: u32,

@@ -108,7 +108,7 @@ fn put_page(slot: &mut FfaSlot, page: Box<[u8; 4096], Lent>)
 /// Makes an empty list with room for so many pages, and with all that a machine in them takes beside them. 0 is that it was made.
 /// Else nothing has changed: `OCCUPIED`, where there is a list, or `NO_MEMORY`.
 #[unsafe(no_mangle)]
-pub extern "C" fn ffa_begin_lending(alloc: Global, lent: &mut FfaLent, pages: u32) -> u32
+pub extern "C" fn gorseplumb_begin_lending(alloc: Global, lent: &mut FfaLent, pages: u32) -> u32
     ensures answer { result ≢ NO_MEMORY → result ≡ begun_answer (pages_of lent.old.held.value) }
     ensures wanting { result ≡ NO_MEMORY → lent.old.held.value ≡ None }
     ensures made { result ≡ 0 → lent.new.held.value ≡ Some (empty pages) }
@@ -146,7 +146,7 @@ fn boxed_list(alloc: Global, list: LentList) -> Option<Box<LentList>>
 /// Moves a page from its slot to the end of the list. 0 is that it was moved. Else no page was: `NO_LIST`, `NO_PAGE`, where
 /// there is none in the slot, or `NO_MEMORY`, where the list has no room for it.
 #[unsafe(no_mangle)]
-pub extern "C" fn ffa_lend(alloc: Global, lent: &mut FfaLent, slot: &mut FfaSlot) -> u32
+pub extern "C" fn gorseplumb_lend(alloc: Global, lent: &mut FfaLent, slot: &mut FfaSlot) -> u32
     ensures answer { result ≢ NO_MEMORY → result ≡ lent_answer (pages_of lent.old.held.value) slot.old.page.bytes }
     ensures wanting { result ≡ NO_MEMORY → lent_answer (pages_of lent.old.held.value) slot.old.page.bytes ≡ 0 }
     ensures full { result ≡ NO_MEMORY → IsFull lent.old.held.value }
@@ -190,7 +190,7 @@ fn lend_to(list: &mut LentList, slot: &mut FfaSlot) -> u32
 /// Moves the last page of the list to the slot, which is empty. 0 is that it was moved. Else nothing has changed: `NO_LIST`,
 /// `OCCUPIED`, where there is a page in the slot, or `NO_PAGE`, where the list has none. The list's room stays.
 #[unsafe(no_mangle)]
-pub extern "C" fn ffa_take_back(alloc: Global, lent: &mut FfaLent, slot: &mut FfaSlot) -> u32
+pub extern "C" fn gorseplumb_take_back(alloc: Global, lent: &mut FfaLent, slot: &mut FfaSlot) -> u32
     ensures answer { result ≡ taken_answer (pages_of lent.old.held.value) slot.old.page.bytes }
     ensures taken { result ≡ 0 → IsLent (pages_of lent.new.held.value) (pages_of lent.old.held.value) slot.new.page.bytes slot.old.page.bytes }
     ensures list { result ≢ 0 → pages_of lent.new.held.value ≡ pages_of lent.old.held.value }
@@ -229,7 +229,7 @@ fn take_from(list: &mut LentList, slot: &mut FfaSlot) -> u32
 
 /// The number of pages in the list; 0 where there is none.
 #[unsafe(no_mangle)]
-pub extern "C" fn ffa_lent_pages(alloc: Global, lent: &mut FfaLent) -> u64
+pub extern "C" fn gorseplumb_lent_pages(alloc: Global, lent: &mut FfaLent) -> u64
     ensures same { lent.new.held.value ≡ lent.old.held.value }
     ensures count { result ≡ page_count (pages_of lent.old.held.value) }
 {
@@ -245,7 +245,7 @@ pub extern "C" fn ffa_lent_pages(alloc: Global, lent: &mut FfaLent) -> u64
 
 /// Ends an empty list. 0 is that it is none now. Else nothing has changed: `NO_LIST`, or `HAS_PAGES`.
 #[unsafe(no_mangle)]
-pub extern "C" fn ffa_end_lending(alloc: Global, lent: &mut FfaLent) -> u32
+pub extern "C" fn gorseplumb_end_lending(alloc: Global, lent: &mut FfaLent) -> u32
     ensures answer { result ≡ list_answer (pages_of lent.old.held.value) }
     ensures ended { result ≡ 0 → lent.new.held.value ≡ None }
     ensures refused { result ≢ 0 → lent.new.held.value ≡ lent.old.held.value }
@@ -266,7 +266,11 @@ pub extern "C" fn ffa_end_lending(alloc: Global, lent: &mut FfaLent) -> u32
 /// list takes none. 0 is that the machine has ended. Else nothing has changed: `NO_MACHINE`, and for RAM that was lent `NO_LIST`
 /// or `HAS_PAGES`.
 #[unsafe(no_mangle)]
-pub extern "C" fn ffa_free(alloc: Global, machine: &mut FfaMachine, lent: &mut FfaLent) -> u32
+pub extern "C" fn gorseplumb_free(
+    alloc: Global,
+    machine: &mut FfaMachine,
+    lent: &mut FfaLent,
+) -> u32
     ensures answer { result ≡ freed_answer machine.old.held.value (pages_of lent.old.held.value) }
     ensures ended { result ≡ 0 → machine.new.held.value ≡ None }
     ensures given_back { result ≡ 0 → pages_of lent.new.held.value ≡ given_back machine.old.held.value (pages_of lent.old.held.value) }

@@ -3,7 +3,7 @@ use Rattle.ffa_manifest.specs.Document.{parts_of}
 use Rattle.ffa_c.specs.Booting.{Describes, IsRefusedFor}
 use Rattle.ffa_c.specs.Lending.{pages_of}
 use Rattle.ffa_c.proofs.Reasons.{pages-why, text-wants-memory}
-use Rattle.ffa_c.proofs.booting.ffa_boot_held.Goals as goal
+use Rattle.ffa_c.proofs.booting.gorseplumb_boot_held.Goals as goal
 
 pub returns-in-Ok-clause-cause : goal.returns-in-Ok-clause-cause
 returns-in-Ok-clause-cause c = λ refused _.

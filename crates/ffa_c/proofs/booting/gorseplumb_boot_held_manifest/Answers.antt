@@ -5,7 +5,7 @@ use Rattle.ffa_c.specs.Given.{Gives, IsGivenFor}
 use Rattle.ffa_c.specs.Lending.{pages_of}
 use Rattle.ffa_c.proofs.Given.{number-in-room}
 use Rattle.ffa_c.proofs.Reasons.{pages-why, numbers-want-memory}
-use Rattle.ffa_c.proofs.booting.ffa_boot_held_parts.Goals as goal
+use Rattle.ffa_c.proofs.booting.gorseplumb_boot_held_manifest.Goals as goal
 
 pub returns-in-Ok-clause-cause : goal.returns-in-Ok-clause-cause
 returns-in-Ok-clause-cause c = λ refused _.
