@@ -87,7 +87,7 @@ static void transaction(uint64_t ranges) {
     printf("%" PRIu64 " ranges, a descriptor of %" PRIu64 " bytes:\n", ranges, size);
     for (uint64_t i = 0; i < 10; i++) store(TX + 8 * i, header[i]);
     for (uint64_t i = 0; i < ranges; i++) {
-        store(TX + 80 + 16 * i, PAGES + 2 * GORSEPLUMB_PAGE_BYTES * i);
+        store(TX + 80 + 16 * i, PAGES + 2 * GORSEPLUMB_PAGE_SIZE * i);
         store(TX + 88 + 16 * i, 1);
     }
     uint64_t handle = count("lend", LEND, size, size).x[2];
@@ -108,9 +108,9 @@ int main(void) {
     if (gorseplumb_lend_all(&lent, pages, RAM_PAGES) != GORSEPLUMB_OK) stop("no pages were lent");
     if (gorseplumb_boot_lent(&machine, &lent, (const uint8_t *)manifest, sizeof manifest - 1) != GORSEPLUMB_OK)
         stop("the manifest is refused");
-    call(BUFFER_MAP, TX, TX + GORSEPLUMB_PAGE_BYTES, 1);
+    call(BUFFER_MAP, TX, TX + GORSEPLUMB_PAGE_SIZE, 1);
     call(RUN, PARTITION << 16, 0, 0);
-    call(BUFFER_MAP, TX_OF_PARTITION, TX_OF_PARTITION + GORSEPLUMB_PAGE_BYTES, 1);
+    call(BUFFER_MAP, TX_OF_PARTITION, TX_OF_PARTITION + GORSEPLUMB_PAGE_SIZE, 1);
     call(WAIT, 0, 0, 0);
     transaction(1);
     transaction(GORSEPLUMB_MOST_RANGES);

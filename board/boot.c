@@ -26,7 +26,7 @@ static void name_endpoints(struct board *board) {
     board->count = gorseplumb_endpoints(&board->machine);
     for (uint32_t i = 0; i < board->count; i++) {
         board->endpoints[i].identifier = identifier_of(i);
-        board->endpoints[i].root = RAM_BASE + (uint64_t)GORSEPLUMB_PAGE_BYTES * i * tables;
+        board->endpoints[i].root = RAM_BASE + (uint64_t)GORSEPLUMB_PAGE_SIZE * i * tables;
     }
 }
 

@@ -22,7 +22,7 @@ static bool is_of_programs(struct board *board, uint64_t address) {
 static void find_pages(struct board *board, uint32_t place) {
     uint32_t count = 0;
     for (uint32_t page = 0; page < board->pages && count < MOST_PAGES; page++) {
-        uint64_t address = RAM_BASE + (uint64_t)GORSEPLUMB_PAGE_BYTES * page;
+        uint64_t address = RAM_BASE + (uint64_t)GORSEPLUMB_PAGE_SIZE * page;
         bool edge = page < 512 || page % 512 < 4 || page % 512 == 511;
         bool own = gorseplumb_owner(&board->machine, page) == identifier_of(place);
         if (own && edge && !is_of_programs(board, address)) pages[place][count++] = address;

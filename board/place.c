@@ -9,7 +9,7 @@
 static uint64_t page_of_program(struct board *board, uint16_t identifier) {
     for (uint32_t page = board->pages; page > 0; page--) {
         if (gorseplumb_access(&board->machine, identifier, page - 1) == (GORSEPLUMB_WRITE | GORSEPLUMB_EXECUTE)) {
-            return RAM_BASE + (uint64_t)GORSEPLUMB_PAGE_BYTES * (page - 1);
+            return RAM_BASE + (uint64_t)GORSEPLUMB_PAGE_SIZE * (page - 1);
         }
     }
     stop("an endpoint has no page for its program");

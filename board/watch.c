@@ -90,7 +90,7 @@ static void unlock(void) { write_now(&held, 0); }
 
 /* The words are those that stand in RAM: the first processor's endpoints store them, and the core's zeros are written over them. */
 static struct sight look(struct board *board, uint64_t address) {
-    uint32_t page = (uint32_t)((address - RAM_BASE) / GORSEPLUMB_PAGE_BYTES);
+    uint32_t page = (uint32_t)((address - RAM_BASE) / GORSEPLUMB_PAGE_SIZE);
     struct sight sight = {.right = gorseplumb_access(&board->machine, watch.identifier, page)};
     sight.word = *(const volatile uint64_t *)(address + WORD_AT);
     return sight;

@@ -7,7 +7,7 @@
 /* No processor walks these tables: nothing is to be settled. */
 void gorseplumb_settle(uint16_t endpoint, uint64_t address, uint64_t size) { (void)endpoint, (void)address, (void)size; }
 
-static _Alignas(GORSEPLUMB_PAGE_BYTES) struct gorseplumb_page pages[512];
+static _Alignas(GORSEPLUMB_PAGE_SIZE) struct gorseplumb_page pages[512];
 static struct gorseplumb_machine machine;
 static struct gorseplumb_lent list;
 

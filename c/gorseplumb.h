@@ -29,7 +29,7 @@
 extern "C" {
 #endif
 
-#define GORSEPLUMB_PAGE_BYTES 4096
+#define GORSEPLUMB_PAGE_SIZE 4096
 
 /* A machine, or none. { 0 } is none. */
 struct gorseplumb_machine {
@@ -110,7 +110,7 @@ struct gorseplumb_outcome {
 
 /* The bytes of a page. */
 struct gorseplumb_page {
-    uint8_t bytes[GORSEPLUMB_PAGE_BYTES];
+    uint8_t bytes[GORSEPLUMB_PAGE_SIZE];
 };
 
 /* Pages in a row that an endpoint owns from the start. */

@@ -81,7 +81,7 @@ static uint32_t pages_of_ram(void) {
 
 /* The number of a page of RAM; one that RAM doesn't have for an address outside. */
 static uint32_t page_of(uint64_t address) {
-    uint64_t page = (address - RAM_BASE) / GORSEPLUMB_PAGE_BYTES;
+    uint64_t page = (address - RAM_BASE) / GORSEPLUMB_PAGE_SIZE;
     return page < MOST_PAGES ? (uint32_t)page : MOST_PAGES;
 }
 
@@ -102,7 +102,7 @@ static void show(void) {
     while (gorseplumb_owner(&machine, first) != GORSEPLUMB_NOTHING) {
         uint32_t behind = first + 1;
         while (gorseplumb_owner(&machine, behind) != GORSEPLUMB_NOTHING && is_as_before(behind, endpoints)) behind++;
-        uint64_t start = RAM_BASE + (uint64_t)GORSEPLUMB_PAGE_BYTES * first, end = RAM_BASE + (uint64_t)GORSEPLUMB_PAGE_BYTES * behind;
+        uint64_t start = RAM_BASE + (uint64_t)GORSEPLUMB_PAGE_SIZE * first, end = RAM_BASE + (uint64_t)GORSEPLUMB_PAGE_SIZE * behind;
         printf("pages %08" PRIX64 " %08" PRIX64 " %04" PRIX32, start, end - 1, gorseplumb_owner(&machine, first));
         for (uint32_t place = 0; place < endpoints; place++) {
             printf(" %s", rights[gorseplumb_access(&machine, identifier(place), first)]);
@@ -121,7 +121,7 @@ static uint32_t right_of(uint64_t word) {
 /* Whether a word maps just the pages of so many bytes to which gorseplumb_access says that the endpoint has access. */
 static bool maps(uint16_t endpoint, uint64_t word, bool is_leaf, uint64_t first, uint64_t size) {
     if (is_leaf && (word & ADDRESS) != first) return false;
-    for (uint64_t address = first; address < first + size; address += GORSEPLUMB_PAGE_BYTES) {
+    for (uint64_t address = first; address < first + size; address += GORSEPLUMB_PAGE_SIZE) {
         if (gorseplumb_access(&machine, endpoint, page_of(address)) != (is_leaf ? right_of(word) : 0)) return false;
     }
     return true;
@@ -129,7 +129,7 @@ static bool maps(uint16_t endpoint, uint64_t word, bool is_leaf, uint64_t first,
 
 /* The same of the table of a level, and of those that it leads to. */
 static bool agrees(uint16_t endpoint, uint64_t table, int level, uint64_t first) {
-    uint64_t words[WORDS], size = (uint64_t)GORSEPLUMB_PAGE_BYTES << 9 * (3 - level);
+    uint64_t words[WORDS], size = (uint64_t)GORSEPLUMB_PAGE_SIZE << 9 * (3 - level);
     struct gorseplumb_page bytes;
     if (!gorseplumb_read_page(&machine, page_of(table), &bytes)) return false;
     memcpy(words, bytes.bytes, sizeof words);
@@ -143,11 +143,11 @@ static bool agrees(uint16_t endpoint, uint64_t table, int level, uint64_t first)
 
 static void audit(void) {
     uint32_t pages = pages_of_ram(), endpoints = gorseplumb_endpoints(&machine);
-    uint64_t end = RAM_BASE + (uint64_t)GORSEPLUMB_PAGE_BYTES * pages;
+    uint64_t end = RAM_BASE + (uint64_t)GORSEPLUMB_PAGE_SIZE * pages;
     bool all_agree = true;
     printf("cert %08" PRIX32 " %08" PRIX64 " %" PRIX32 "\n", RAM_BASE, end - 1, endpoints);
     for (uint32_t place = 0; place < endpoints; place++) {
-        uint64_t root = RAM_BASE + (uint64_t)GORSEPLUMB_PAGE_BYTES * place * (2 + pages / PAGES_OF_BLOCK);
+        uint64_t root = RAM_BASE + (uint64_t)GORSEPLUMB_PAGE_SIZE * place * (2 + pages / PAGES_OF_BLOCK);
         printf("root %04" PRIX16 " %08" PRIX64 "\n", identifier(place), root);
         all_agree = all_agree && agrees(identifier(place), root, 1, 0);
     }

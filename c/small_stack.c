@@ -79,7 +79,7 @@ static _Alignas(16) struct {
     unsigned char stack[STACK_BYTES];
 } painted;
 
-static _Alignas(GORSEPLUMB_PAGE_BYTES) struct gorseplumb_page pages[512];
+static _Alignas(GORSEPLUMB_PAGE_SIZE) struct gorseplumb_page pages[512];
 static struct gorseplumb_machine machine;
 static struct gorseplumb_lent list;
 static const char *wrong; /* what was first not as it has to be */

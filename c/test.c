@@ -102,7 +102,7 @@ static void changed(uint32_t endpoint, uint64_t address) {
     static struct gorseplumb_change change;
     memset(&change, 0x5A, sizeof change);
     CHECK(gorseplumb_changed(&machine, &change) && change.endpoint == endpoint && change.range_count == 1);
-    CHECK(change.ranges[0].address == address && change.ranges[0].size == GORSEPLUMB_PAGE_BYTES);
+    CHECK(change.ranges[0].address == address && change.ranges[0].size == GORSEPLUMB_PAGE_SIZE);
     for (int place = 1; place < GORSEPLUMB_MOST_RANGES; place++) CHECK(change.ranges[place].address == 0 && change.ranges[place].size == 0);
     nothing_changed();
 }
@@ -312,7 +312,7 @@ static void lists(void) {
 static void comes_back(const struct gorseplumb_page *page, uint8_t byte) {
     struct gorseplumb_slot slot = {0};
     CHECK(gorseplumb_take_back(&list, &slot) == GORSEPLUMB_OK && slot.live && slot.at == page);
-    for (int i = 0; i < GORSEPLUMB_PAGE_BYTES; i++) CHECK(page->bytes[i] == byte);
+    for (int i = 0; i < GORSEPLUMB_PAGE_SIZE; i++) CHECK(page->bytes[i] == byte);
 }
 
 /* Pages side by side go to the list by one call. */
@@ -408,8 +408,8 @@ static void numbers(void) {
 /* In lent RAM the page of `lend` is settled where its lender and then its borrower have lost it, before another can have it. */
 static void settles(void) {
     CHECK(settlings == 2);
-    CHECK(settled[0].endpoint == 0x8001 && settled[0].address == 0x40021000 && settled[0].size == GORSEPLUMB_PAGE_BYTES);
-    CHECK(settled[1].endpoint == 0x8002 && settled[1].address == 0x40021000 && settled[1].size == GORSEPLUMB_PAGE_BYTES);
+    CHECK(settled[0].endpoint == 0x8001 && settled[0].address == 0x40021000 && settled[0].size == GORSEPLUMB_PAGE_SIZE);
+    CHECK(settled[1].endpoint == 0x8002 && settled[1].address == 0x40021000 && settled[1].size == GORSEPLUMB_PAGE_SIZE);
 }
 
 /* RAM is the pages of both spans, in the order in which these were lent. */
@@ -492,7 +492,7 @@ static void mark_pages(void) {
 }
 
 static bool is_filled(const struct gorseplumb_page *page, uint8_t byte) {
-    for (int i = 0; i < GORSEPLUMB_PAGE_BYTES; i++) {
+    for (int i = 0; i < GORSEPLUMB_PAGE_SIZE; i++) {
         if (page->bytes[i] != byte) return false;
     }
     return true;

@@ -23,9 +23,9 @@ static struct buffers {
 static uint64_t word_at(struct board *board, uint64_t address) {
     static struct gorseplumb_page page;
     uint64_t word;
-    if (!gorseplumb_read_page(&board->machine, (uint32_t)((address - RAM_BASE) / GORSEPLUMB_PAGE_BYTES), &page))
+    if (!gorseplumb_read_page(&board->machine, (uint32_t)((address - RAM_BASE) / GORSEPLUMB_PAGE_SIZE), &page))
         stop("a buffer isn't in RAM");
-    memcpy(&word, page.bytes + address % GORSEPLUMB_PAGE_BYTES, 8);
+    memcpy(&word, page.bytes + address % GORSEPLUMB_PAGE_SIZE, 8);
     return word;
 }
 
@@ -94,7 +94,7 @@ void record_answer(struct board *board, const struct gorseplumb_registers *regis
     put_registers(outcome->runner, outcome->x);
     if ((uint32_t)outcome->x[0] == FFA_ERROR) return;
     if ((function & ~WITH_64_BITS) == FFA_RXTX_MAP) {
-        *of = (struct buffers){registers->x[1], registers->x[2], GORSEPLUMB_PAGE_BYTES * registers->x[3]};
+        *of = (struct buffers){registers->x[1], registers->x[2], GORSEPLUMB_PAGE_SIZE * registers->x[3]};
     } else if (function == FFA_RXTX_UNMAP) {
         *of = (struct buffers){0};
     }

@@ -12,6 +12,7 @@ ghost use Rattle.ffa_c.specs.Border.{HasDoneIn, access_code, nothing_done, owner
 ghost use Rattle.ffa_c.specs.Changes.{with_all_told};
 ghost use Rattle.ffa_c.specs.Elsewhere.{HasActed};
 
+use crate::codes::KIND_NO_ENDPOINT;
 use crate::kind::{
     Kind, access_by, acted_by, done_among, done_by, endpoints_of, owner_by, page_in, pages_of,
     runner_of,
@@ -127,7 +128,7 @@ impl Board {
         ensures kind { self.new.is_lent ≡ self.old.is_lent }
     {
         if !endpoint.is_among(self.endpoints() as usize) {
-            return FfaOutcome::nothing(6);
+            return FfaOutcome::nothing(KIND_NO_ENDPOINT);
         }
         if u32::from(endpoint.0) == self.runner() {
             return self.op(op);

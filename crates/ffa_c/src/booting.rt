@@ -7,7 +7,13 @@ ghost use Rattle.ffa_c.specs.Given.{Gives, IsGivenFor};
 ghost use Rattle.ffa_c.specs.Lending.{bytes_of, page_count, pages_of, ready_for};
 
 use crate::board::{Board, Bytes};
-use crate::lending::{FfaLent, NO_LIST, NO_MEMORY, OCCUPIED, WRONG_COUNT, put_list, take_list};
+use crate::codes::{
+    MANIFEST_ENDPOINT_COUNT, MANIFEST_MISSING_KEY, MANIFEST_PROPERTY, MANIFEST_RAM_BASE,
+    MANIFEST_RAM_BLOCKS, MANIFEST_REGION_COUNT, MANIFEST_REGION_OUTSIDE, MANIFEST_REGION_OVERLAP,
+    MANIFEST_TOML, MANIFEST_UNKNOWN_KEY, MANIFEST_UUID, MANIFEST_VERSION, MANIFEST_WRONG_KIND,
+    NO_LIST, NO_MEMORY, OCCUPIED, OK, WRONG_COUNT,
+};
+use crate::lending::{FfaLent, put_list, take_list};
 use crate::lent_list::LentList;
 use crate::machine::{FfaMachine, put};
 use crate::parts::{FfaParts, manifest_given};
@@ -182,20 +188,20 @@ fn number_of(cause: ManifestError) -> u32
     ensures positive { result ≢ 0 }
 {
     match cause {
-        ManifestError::NoMemory => 1,
-        ManifestError::Toml => 2,
-        ManifestError::UnknownKey => 3,
-        ManifestError::MissingKey => 4,
-        ManifestError::WrongKind => 5,
-        ManifestError::RamBase => 6,
-        ManifestError::RamBlocks => 7,
-        ManifestError::EndpointCount => 8,
-        ManifestError::Uuid => 9,
-        ManifestError::Property => 10,
-        ManifestError::RegionCount => 11,
-        ManifestError::RegionOutside => 12,
-        ManifestError::RegionOverlap => 13,
-        ManifestError::Version => 14,
+        ManifestError::NoMemory => NO_MEMORY,
+        ManifestError::Toml => MANIFEST_TOML,
+        ManifestError::UnknownKey => MANIFEST_UNKNOWN_KEY,
+        ManifestError::MissingKey => MANIFEST_MISSING_KEY,
+        ManifestError::WrongKind => MANIFEST_WRONG_KIND,
+        ManifestError::RamBase => MANIFEST_RAM_BASE,
+        ManifestError::RamBlocks => MANIFEST_RAM_BLOCKS,
+        ManifestError::EndpointCount => MANIFEST_ENDPOINT_COUNT,
+        ManifestError::Uuid => MANIFEST_UUID,
+        ManifestError::Property => MANIFEST_PROPERTY,
+        ManifestError::RegionCount => MANIFEST_REGION_COUNT,
+        ManifestError::RegionOutside => MANIFEST_REGION_OUTSIDE,
+        ManifestError::RegionOverlap => MANIFEST_REGION_OVERLAP,
+        ManifestError::Version => MANIFEST_VERSION,
     }
 }
 
@@ -220,7 +226,7 @@ fn boot_heap(alloc: Global, machine: &mut FfaMachine, manifest: &Manifest) -> u3
     match boxed(alloc, manifest) {
         Ok(seat) => {
             put(machine, seat);
-            0
+            OK
         }
         Err(NoMemory) => NO_MEMORY,
     }
@@ -288,7 +294,7 @@ fn boot_over(
     match list.boot(alloc, manifest, bytes) {
         Ok(seat) => {
             put(machine, seat);
-            0
+            OK
         }
         Err(AllocError) => NO_MEMORY,
     }

@@ -2,6 +2,7 @@
 //! Operations of an endpoint that may not run, as on another processor, for C. Of the runner each is its namesake without `_as`.
 ghost use Rattle.ffa_c.specs.Elsewhere.{OperatedAs, OperatedSizedAs};
 
+use crate::codes::{KIND_BAD_SIZE, KIND_NO_MACHINE};
 use crate::exports::{FfaRegisters, size_of};
 use crate::machine::{FfaMachine, put, take};
 use crate::outcome::FfaOutcome;
@@ -34,7 +35,7 @@ pub extern "C" fn gorseplumb_load_as(
 {
     match size_of(size) {
         Some(size) => operate_as(alloc, machine, endpoint, &Op::Load { addr, size }),
-        None => FfaOutcome::nothing(5),
+        None => FfaOutcome::nothing(KIND_BAD_SIZE),
     }
 }
 
@@ -52,7 +53,7 @@ pub extern "C" fn gorseplumb_store_as(
 {
     match size_of(size) {
         Some(size) => operate_as(alloc, machine, endpoint, &Op::Store { addr, size, value }),
-        None => FfaOutcome::nothing(5),
+        None => FfaOutcome::nothing(KIND_BAD_SIZE),
     }
 }
 
@@ -73,7 +74,7 @@ fn operate_as(alloc: Global, machine: &mut FfaMachine, endpoint: u16, op: &Op) -
     ensures { OperatedAs machine.old.held.value machine.new.held.value endpoint op.now result }
 {
     match take(machine, alloc) {
-        None => FfaOutcome::nothing(4),
+        None => FfaOutcome::nothing(KIND_NO_MACHINE),
         Some(mut seat) => {
             let outcome = seat.op_as(EndpointId(endpoint), op);
             put(machine, seat);

@@ -5,10 +5,11 @@ ghost use Rattle.ffa_model.specs.Access.{access};
 ghost use Rattle.ffa_model.specs.Ram.{page_of};
 ghost use Rattle.ffa_c.specs.Border.{Operated, OperatedSized, access_code, asked, has_page, is_pending_for, owner_number, size_at};
 
-use crate::kind::NOTHING;
+use crate::codes::{KIND_BAD_SIZE, KIND_NO_MACHINE, NOTHING};
 use crate::machine::{FfaMachine, put, take};
 use crate::outcome::FfaOutcome;
 use ffa_model::{Op, Size};
+use ffa_physmem::PAGE_SIZE;
 use std::alloc::Global;
 
 /// Eight registers.
@@ -21,7 +22,7 @@ pub struct FfaRegisters {
 /// The bytes of a page.
 #[repr(C)]
 pub struct FfaPage {
-    pub bytes: [u8; 4096],
+    pub bytes: [u8; PAGE_SIZE],
 }
 
 /// A call of the runner, with eight registers.
@@ -48,7 +49,7 @@ pub extern "C" fn gorseplumb_load(
 {
     match size_of(size) {
         Some(size) => operate(alloc, machine, &Op::Load { addr, size }),
-        None => FfaOutcome::nothing(5),
+        None => FfaOutcome::nothing(KIND_BAD_SIZE),
     }
 }
 
@@ -65,7 +66,7 @@ pub extern "C" fn gorseplumb_store(
 {
     match size_of(size) {
         Some(size) => operate(alloc, machine, &Op::Store { addr, size, value }),
-        None => FfaOutcome::nothing(5),
+        None => FfaOutcome::nothing(KIND_BAD_SIZE),
     }
 }
 
@@ -82,7 +83,7 @@ fn operate(alloc: Global, machine: &mut FfaMachine, op: &Op) -> FfaOutcome
     ensures { Operated machine.old.held.value machine.new.held.value op.now result }
 {
     match take(machine, alloc) {
-        None => FfaOutcome::nothing(4),
+        None => FfaOutcome::nothing(KIND_NO_MACHINE),
         Some(mut seat) => {
             let outcome = seat.op(op);
             put(machine, seat);

@@ -7,6 +7,7 @@ ghost use Rattle.ffa_model.specs.State.{is_known};
 ghost use Rattle.ffa_c.specs.Border.{HasDone, HasDoneAmong, access_code, exec_code, level_code, owner_number};
 ghost use Rattle.ffa_c.specs.Elsewhere.{HasActed};
 
+use crate::codes::{EXECUTE, NOTHING, READ, WRITE};
 use crate::outcome::FfaOutcome;
 use ffa_lent::LentRam;
 use ffa_model::{Data, EndpointId, Op, PageNo, Rights};
@@ -14,9 +15,6 @@ use ffa_physmem::{FlatRam, PhysMem};
 use ffa_spmc::{Given, Machine, Store};
 use ffa_tlb::NoTlb;
 use std::alloc::Global;
-
-/// What a question answers where there is no machine, or no such page.
-pub const NOTHING: u32 = 0xFFFF_FFFF;
 
 /// A machine over RAM of the heap, or over RAM that is lent.
 #[derive(Drop)]
@@ -133,13 +131,13 @@ fn level_code(level: Data) -> u32
     ensures { result ≡ level_code level }
 {
     match level {
-        Data::Ro => 1,
-        Data::Rw => 3,
+        Data::Ro => READ,
+        Data::Rw => WRITE,
     }
 }
 
 fn exec_code(exec: bool) -> u32
     ensures { result ≡ exec_code exec }
 {
-    if exec { 4 } else { 0 }
+    if exec { EXECUTE } else { 0 }
 }

@@ -6,6 +6,7 @@ ghost use Rattle.ffa_c.specs.LentPages.{empty};
 ghost use Rattle.ffa_c.specs.Boarded.{lends, ram_pages};
 ghost use Rattle.ffa_c.specs.Lending.{IsFull, IsLent, begun_answer, freed_answer, given_back, lent_answer, list_answer, page_count, pages_of, ready_for, room_of, taken_answer};
 
+use crate::codes::{HAS_PAGES, NO_LIST, NO_MACHINE, NO_MEMORY, NO_PAGE, OCCUPIED, OK};
 use crate::held_list::HeldList;
 use crate::lent_list::LentList;
 use crate::machine::{FfaMachine, put, take};
@@ -13,27 +14,6 @@ use crate::seat::Seat;
 use ffa_lent::{Lent, Slot};
 use std::alloc::Global;
 use std::mem;
-
-/// There is no memory.
-pub const NO_MEMORY: u32 = 1;
-
-/// What is to be made is there already.
-pub const OCCUPIED: u32 = 15;
-
-/// There is no list of pages.
-pub const NO_LIST: u32 = 16;
-
-/// There is no page in the slot, or none in the list.
-pub const NO_PAGE: u32 = 17;
-
-/// The list has pages still.
-pub const HAS_PAGES: u32 = 18;
-
-/// There is no machine.
-pub const NO_MACHINE: u32 = 19;
-
-/// The list has more pages or fewer than the manifest's RAM.
-pub const WRONG_COUNT: u32 = 20;
 
 /// A list of lent pages, or none. Memory of zeros is none.
 #[repr(C)]
@@ -120,7 +100,7 @@ pub extern "C" fn gorseplumb_begin_lending(alloc: Global, lent: &mut FfaLent, pa
     match empty_list(alloc, pages as usize) {
         Some(list) => {
             put_list(lent, list);
-            0
+            OK
         }
         None => NO_MEMORY,
     }
@@ -179,7 +159,7 @@ fn lend_to(list: &mut LentList, slot: &mut FfaSlot) -> u32
         return NO_PAGE;
     };
     match list.lend(page) {
-        Ok(()) => 0,
+        Ok(()) => OK,
         Err(page) => {
             put_page(slot, page);
             NO_MEMORY
@@ -222,7 +202,7 @@ fn take_from(list: &mut LentList, slot: &mut FfaSlot) -> u32
         None => NO_PAGE,
         Some(page) => {
             put_page(slot, page);
-            0
+            OK
         }
     }
 }
@@ -254,7 +234,7 @@ pub extern "C" fn gorseplumb_end_lending(alloc: Global, lent: &mut FfaLent) -> u
         return NO_LIST;
     };
     if list.pages() == 0 {
-        0
+        OK
     } else {
         put_list(lent, list);
         HAS_PAGES
@@ -285,7 +265,7 @@ pub extern "C" fn gorseplumb_free(
         free_lent(alloc, machine, lent, seat)
     } else {
         drop(seat);
-        0
+        OK
     }
 }
 
@@ -310,5 +290,5 @@ fn free_lent(alloc: Global, machine: &mut FfaMachine, lent: &mut FfaLent, seat: 
     }
     list.take_in(seat);
     put_list(lent, list);
-    0
+    OK
 }

@@ -6,6 +6,7 @@
 pub mod board;
 pub mod booting;
 pub mod changes;
+pub mod codes;
 pub mod elsewhere;
 pub mod exports;
 pub mod held;

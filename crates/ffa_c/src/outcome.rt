@@ -3,6 +3,10 @@
 ghost use Rattle.std.specs.Prelude.{◌≡◌, replicate};
 ghost use Rattle.ffa_c.specs.Border.{packed, nothing_done, fault_number};
 
+use crate::codes::{
+    FAULT_ACCESS_FLAG, FAULT_ALIGNMENT, FAULT_OUTSIDE_RAM, FAULT_PERMISSION, FAULT_TRANSLATION,
+    KIND_DATA, KIND_DONE, KIND_FAULT, KIND_REGISTERS,
+};
 use ffa_model::{FaultKind, Outcome};
 
 /// What an operation gives, by `kind`: 0 the registers that the next runner sees, 1 data, 2 done, 3 a fault, 4 no machine,
@@ -26,14 +30,14 @@ impl FfaOutcome {
     {
         match *outcome {
             Outcome::Regs { runner, x } => FfaOutcome {
-                kind: 0,
+                kind: KIND_REGISTERS,
                 runner: u32::from(runner.0),
                 value: 0,
                 x,
             },
-            Outcome::Data(value) => plain(1, value),
-            Outcome::Done => plain(2, 0),
-            Outcome::Fault(fault) => plain(3, fault_code(fault)),
+            Outcome::Data(value) => plain(KIND_DATA, value),
+            Outcome::Done => plain(KIND_DONE, 0),
+            Outcome::Fault(fault) => plain(KIND_FAULT, fault_code(fault)),
         }
     }
 
@@ -63,10 +67,10 @@ fn fault_code(fault: FaultKind) -> u64
     ensures { result ≡ fault_number fault }
 {
     match fault {
-        FaultKind::Translation => 1,
-        FaultKind::Permission => 2,
-        FaultKind::Alignment => 3,
-        FaultKind::AccessFlag => 4,
-        FaultKind::OutsideRam => 5,
+        FaultKind::Translation => FAULT_TRANSLATION,
+        FaultKind::Permission => FAULT_PERMISSION,
+        FaultKind::Alignment => FAULT_ALIGNMENT,
+        FaultKind::AccessFlag => FAULT_ACCESS_FLAG,
+        FaultKind::OutsideRam => FAULT_OUTSIDE_RAM,
     }
 }

@@ -9,6 +9,7 @@ ghost use Rattle.ffa_c.specs.Changes.{told_by, with_all_told};
 ghost use Rattle.ffa_c.specs.Elsewhere.{OperatedAs};
 
 use crate::board::Board;
+use crate::codes::KIND_NO_MACHINE;
 use crate::outcome::FfaOutcome;
 use ffa_lent::Frames;
 use ffa_memshare::Changed;
@@ -74,7 +75,7 @@ impl Seat {
         ensures there { is_some self.new ≡ is_some self.old }
     {
         let Some(board) = &mut self.board else {
-            return FfaOutcome::nothing(4);
+            return FfaOutcome::nothing(KIND_NO_MACHINE);
         };
         board.op(op)
     }
@@ -85,7 +86,7 @@ impl Seat {
         ensures there { is_some self.new ≡ is_some self.old }
     {
         let Some(board) = &mut self.board else {
-            return FfaOutcome::nothing(4);
+            return FfaOutcome::nothing(KIND_NO_MACHINE);
         };
         board.op_as(endpoint, op)
     }

@@ -4,7 +4,8 @@ ghost use Rattle.std.specs.Prelude.{◌≡◌, ◌≢◌, ◌≤◌, Some, lengt
 ghost use Rattle.ffa_c.specs.Lending.{pages_of, ready_for, room_of};
 ghost use Rattle.ffa_c.specs.Spans.{AreLent, LacksRoom, span_answer};
 
-use crate::lending::{FfaLent, NO_LIST, NO_MEMORY, NO_PAGE, put_list, take_list};
+use crate::codes::{NO_LIST, NO_MEMORY, NO_PAGE, OK};
+use crate::lending::{FfaLent, put_list, take_list};
 use crate::lent_list::LentList;
 use ffa_lent::Span;
 use std::alloc::Global;
@@ -46,7 +47,7 @@ fn lend_all(list: &mut LentList, span: &mut Span) -> u32
         return NO_PAGE;
     }
     match list.lend_span(mem::replace(span, Span::none())) {
-        Ok(()) => 0,
+        Ok(()) => OK,
         Err(returned) => {
             mem::replace(span, returned).end();
             NO_MEMORY
