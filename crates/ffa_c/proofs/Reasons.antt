@@ -10,7 +10,7 @@ use Rattle.ffa_manifest.specs.declared.error.ManifestError.TheVariants.{NoMemory
 use Rattle.ffa_spmc.specs.Snapshot.{Snapshot}
 use Rattle.ffa_c.specs.Booting.{IsFirst, IsRefusedFor, TellsWhy}
 use Rattle.ffa_c.specs.Given.{IsGivenFor}
-use Rattle.ffa_c.specs.declared.parts.FfaParts.{FfaParts}
+use Rattle.ffa_c.specs.declared.manifest.CManifest.{CManifest}
 
 pub first-pages : (parts : Parts) (s : Snapshot) → IsFirst parts s → length s.ram.pages ≡ 512 * parts.ram_blocks
 unfolding first
@@ -20,7 +20,7 @@ first-pages parts s h = h.agrees.size ∙ ap (λ (x : State). length x.pages) h.
 pub text-wants-memory : (text : List ℕ) → IsUtf8 text → IsRefusedFor text NoMemory
 text-wants-memory text utf8 = record { garbled = λ garbled. absurd (garbled utf8); read = λ _ other. absurd (other refl) }
 
-pub numbers-want-memory : (given : FfaParts) → IsGivenFor given NoMemory
+pub numbers-want-memory : (given : CManifest) → IsGivenFor given NoMemory
 numbers-want-memory given other = absurd (other refl)
 
 -- why a manifest that was read isn't booted in these pages

@@ -17,7 +17,7 @@ use crate::kind::{
     Kind, access_by, acted_by, done_among, done_by, endpoints_of, owner_by, page_in, pages_of,
     runner_of,
 };
-use crate::outcome::FfaOutcome;
+use crate::outcome::COutcome;
 use ffa_lent::{Frames, LentRam};
 use ffa_memshare::Changed;
 use ffa_model::{EndpointId, Manifest, Op, PageNo};
@@ -108,7 +108,7 @@ impl Board {
     }
 
     /// Does one operation of the runner, to whose TX others may write at the same time where the RAM is lent.
-    pub fn op(&mut self, op: &Op) -> FfaOutcome
+    pub fn op(&mut self, op: &Op) -> COutcome
         ensures done { HasDoneIn self.old.is_lent self.old.machine self.new.machine op.now result }
         ensures kind { self.new.is_lent ≡ self.old.is_lent }
     {
@@ -119,7 +119,7 @@ impl Board {
     }
 
     /// Does one operation of an endpoint, whoever runs: that of the runner is `op`. Where there is no such endpoint, nothing is done.
-    pub fn op_as(&mut self, endpoint: EndpointId, op: &Op) -> FfaOutcome
+    pub fn op_as(&mut self, endpoint: EndpointId, op: &Op) -> COutcome
         ensures unknown { is_known self.old.machine.state endpoint.0 ≡ false → (self.new ≡ self.old) × (result ≡ nothing_done 6) }
         ensures runner { is_known self.old.machine.state endpoint.0 ≡ true → self.old.machine.state.runner ≡ endpoint.0
             → HasDoneIn self.old.is_lent self.old.machine self.new.machine op.now result }
@@ -128,7 +128,7 @@ impl Board {
         ensures kind { self.new.is_lent ≡ self.old.is_lent }
     {
         if !endpoint.is_among(self.endpoints() as usize) {
-            return FfaOutcome::nothing(KIND_NO_ENDPOINT);
+            return COutcome::nothing(KIND_NO_ENDPOINT);
         }
         if u32::from(endpoint.0) == self.runner() {
             return self.op(op);

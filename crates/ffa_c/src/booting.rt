@@ -13,10 +13,10 @@ use crate::codes::{
     MANIFEST_TOML, MANIFEST_UNKNOWN_KEY, MANIFEST_UUID, MANIFEST_VERSION, MANIFEST_WRONG_KIND,
     NO_LIST, NO_MEMORY, OCCUPIED, OK, WRONG_COUNT,
 };
-use crate::lending::{FfaLent, put_list, take_list};
+use crate::lending::{CLent, put_list, take_list};
 use crate::lent_list::LentList;
-use crate::machine::{FfaMachine, put};
-use crate::parts::{FfaParts, manifest_given};
+use crate::machine::{CMachine, put};
+use crate::manifest::{CManifest, manifest_given};
 use crate::seat::Seat;
 use ffa_manifest::ManifestError;
 use ffa_model::Manifest;
@@ -27,7 +27,7 @@ use std::alloc::{AllocError, Global};
 /// Boots the machine of a manifest's text, in RAM of the heap. 0 is that it was booted. Else nothing has changed: `OCCUPIED`,
 /// where a machine stands already, 1, where there is no memory, or 2 to 14, the cause for which the manifest is refused.
 #[unsafe(no_mangle)]
-pub extern "C" fn gorseplumb_boot(alloc: Global, machine: &mut FfaMachine, text: &[u8]) -> u32
+pub extern "C" fn gorseplumb_boot(alloc: Global, machine: &mut CMachine, text: &[u8]) -> u32
     ensures occupied { machine.old.live ≡ true → result ≡ OCCUPIED }
     ensures booted { result ≡ 0 → (machine.old.held.value ≡ None) × HasBooted (Describes text.now) false machine.new.held.value }
     ensures refused { result ≢ 0 → machine.new ≡ machine.old }
@@ -46,18 +46,18 @@ pub extern "C" fn gorseplumb_boot(alloc: Global, machine: &mut FfaMachine, text:
 #[unsafe(no_mangle)]
 pub extern "C" fn gorseplumb_boot_manifest(
     alloc: Global,
-    machine: &mut FfaMachine,
-    parts: &FfaParts,
+    machine: &mut CMachine,
+    given: &CManifest,
 ) -> u32
     ensures occupied { machine.old.live ≡ true → result ≡ OCCUPIED }
-    ensures booted { result ≡ 0 → (machine.old.held.value ≡ None) × HasBooted (Gives parts.now) false machine.new.held.value }
+    ensures booted { result ≡ 0 → (machine.old.held.value ≡ None) × HasBooted (Gives given.now) false machine.new.held.value }
     ensures refused { result ≢ 0 → machine.new ≡ machine.old }
-    ensures cause { result ≢ 0 → machine.old.live ≡ false → TellsCause (IsGivenFor parts.now) result }
+    ensures cause { result ≢ 0 → machine.old.live ≡ false → TellsCause (IsGivenFor given.now) result }
 {
     if machine.live {
         OCCUPIED
     } else {
-        match manifest_given(parts) {
+        match manifest_given(given) {
             Ok(manifest) => boot_heap(alloc, machine, &manifest),
             Err(cause) => number_of(cause),
         }
@@ -70,8 +70,8 @@ pub extern "C" fn gorseplumb_boot_manifest(
 #[unsafe(no_mangle)]
 pub extern "C" fn gorseplumb_boot_lent(
     alloc: Global,
-    machine: &mut FfaMachine,
-    lent: &mut FfaLent,
+    machine: &mut CMachine,
+    lent: &mut CLent,
     text: &[u8],
 ) -> u32
     ensures occupied { machine.old.live ≡ true → result ≡ OCCUPIED }
@@ -98,17 +98,17 @@ pub extern "C" fn gorseplumb_boot_lent(
 #[unsafe(no_mangle)]
 pub extern "C" fn gorseplumb_boot_lent_manifest(
     alloc: Global,
-    machine: &mut FfaMachine,
-    lent: &mut FfaLent,
-    parts: &FfaParts,
+    machine: &mut CMachine,
+    lent: &mut CLent,
+    given: &CManifest,
 ) -> u32
     ensures occupied { machine.old.live ≡ true → result ≡ OCCUPIED }
     ensures no_list { machine.old.live ≡ false → lent.old.live ≡ false → result ≡ NO_LIST }
-    ensures booted { result ≡ 0 → (machine.old.held.value ≡ None) × HasBooted (Gives parts.now) true machine.new.held.value }
+    ensures booted { result ≡ 0 → (machine.old.held.value ≡ None) × HasBooted (Gives given.now) true machine.new.held.value }
     ensures emptied { result ≡ 0 → pages_of lent.new.held.value ≡ Some [] }
     ensures machine { result ≢ 0 → machine.new ≡ machine.old }
     ensures list { result ≢ 0 → lent.new.held.value ≡ lent.old.held.value }
-    ensures cause { result ≢ 0 → machine.old.live ≡ false → IfSome (pages_of lent.old.held.value) (λ pages. TellsWhy (Gives parts.now) (IsGivenFor parts.now) (length pages) result) }
+    ensures cause { result ≢ 0 → machine.old.live ≡ false → IfSome (pages_of lent.old.held.value) (λ pages. TellsWhy (Gives given.now) (IsGivenFor given.now) (length pages) result) }
     ensures unready { result ≡ NO_MEMORY → ready_for lent.old.held.value < page_count (pages_of lent.old.held.value) }
 {
     if machine.live {
@@ -116,7 +116,7 @@ pub extern "C" fn gorseplumb_boot_lent_manifest(
     } else if !lent.live {
         NO_LIST
     } else {
-        match manifest_given(parts) {
+        match manifest_given(given) {
             Ok(manifest) => boot_lent(alloc, machine, lent, &manifest, Bytes::Cleared),
             Err(cause) => number_of(cause),
         }
@@ -128,8 +128,8 @@ pub extern "C" fn gorseplumb_boot_lent_manifest(
 #[unsafe(no_mangle)]
 pub extern "C" fn gorseplumb_boot_held(
     alloc: Global,
-    machine: &mut FfaMachine,
-    lent: &mut FfaLent,
+    machine: &mut CMachine,
+    lent: &mut CLent,
     text: &[u8],
 ) -> u32
     ensures occupied { machine.old.live ≡ true → result ≡ OCCUPIED }
@@ -157,18 +157,18 @@ pub extern "C" fn gorseplumb_boot_held(
 #[unsafe(no_mangle)]
 pub extern "C" fn gorseplumb_boot_held_manifest(
     alloc: Global,
-    machine: &mut FfaMachine,
-    lent: &mut FfaLent,
-    parts: &FfaParts,
+    machine: &mut CMachine,
+    lent: &mut CLent,
+    given: &CManifest,
 ) -> u32
     ensures occupied { machine.old.live ≡ true → result ≡ OCCUPIED }
     ensures no_list { machine.old.live ≡ false → lent.old.live ≡ false → result ≡ NO_LIST }
     ensures booted { result ≡ 0 → (machine.old.held.value ≡ None)
-        × HasBootedHeld (Gives parts.now) (bytes_of lent.old.held.value) machine.new.held.value }
+        × HasBootedHeld (Gives given.now) (bytes_of lent.old.held.value) machine.new.held.value }
     ensures emptied { result ≡ 0 → pages_of lent.new.held.value ≡ Some [] }
     ensures machine { result ≢ 0 → machine.new ≡ machine.old }
     ensures list { result ≢ 0 → lent.new.held.value ≡ lent.old.held.value }
-    ensures cause { result ≢ 0 → machine.old.live ≡ false → IfSome (pages_of lent.old.held.value) (λ pages. TellsWhy (Gives parts.now) (IsGivenFor parts.now) (length pages) result) }
+    ensures cause { result ≢ 0 → machine.old.live ≡ false → IfSome (pages_of lent.old.held.value) (λ pages. TellsWhy (Gives given.now) (IsGivenFor given.now) (length pages) result) }
     ensures unready { result ≡ NO_MEMORY → ready_for lent.old.held.value < page_count (pages_of lent.old.held.value) }
 {
     if machine.live {
@@ -176,7 +176,7 @@ pub extern "C" fn gorseplumb_boot_held_manifest(
     } else if !lent.live {
         NO_LIST
     } else {
-        match manifest_given(parts) {
+        match manifest_given(given) {
             Ok(manifest) => boot_lent(alloc, machine, lent, &manifest, Bytes::Kept),
             Err(cause) => number_of(cause),
         }
@@ -218,7 +218,7 @@ pub(crate) fn manifest_of(alloc: Global, text: &[u8]) -> Result<Manifest, Manife
 }
 
 // Boots a machine, where there is none, in RAM of the heap. Where there is no memory for it, nothing has changed.
-fn boot_heap(alloc: Global, machine: &mut FfaMachine, manifest: &Manifest) -> u32
+fn boot_heap(alloc: Global, machine: &mut CMachine, manifest: &Manifest) -> u32
     requires { machine.old.held.value ≡ None }
     ensures booted { result ≡ 0 → HasBooted (λ p. p ≡ parts_of manifest.now) false machine.new.held.value }
     ensures refused { result ≢ 0 → (result ≡ NO_MEMORY) × (machine.new ≡ machine.old) }
@@ -249,8 +249,8 @@ pub(crate) fn boxed(alloc: Global, manifest: &Manifest) -> Result<Box<Seat>, NoM
 // Boots a machine, where there is none, in the pages of a list.
 fn boot_lent(
     alloc: Global,
-    machine: &mut FfaMachine,
-    lent: &mut FfaLent,
+    machine: &mut CMachine,
+    lent: &mut CLent,
     manifest: &Manifest,
     bytes: Bytes,
 ) -> u32
@@ -274,7 +274,7 @@ fn boot_lent(
 // Boots a machine, where there is none, in the pages of this list.
 fn boot_over(
     alloc: Global,
-    machine: &mut FfaMachine,
+    machine: &mut CMachine,
     list: &mut LentList,
     manifest: &Manifest,
     bytes: Bytes,

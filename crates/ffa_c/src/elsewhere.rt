@@ -3,9 +3,9 @@
 ghost use Rattle.ffa_c.specs.Elsewhere.{OperatedAs, OperatedSizedAs};
 
 use crate::codes::{KIND_BAD_SIZE, KIND_NO_MACHINE};
-use crate::exports::{FfaRegisters, size_of};
-use crate::machine::{FfaMachine, put, take};
-use crate::outcome::FfaOutcome;
+use crate::exports::{CRegisters, size_of};
+use crate::machine::{CMachine, put, take};
+use crate::outcome::COutcome;
 use ffa_model::{EndpointId, Op};
 use std::alloc::Global;
 
@@ -13,10 +13,10 @@ use std::alloc::Global;
 #[unsafe(no_mangle)]
 pub extern "C" fn gorseplumb_call_as(
     alloc: Global,
-    machine: &mut FfaMachine,
+    machine: &mut CMachine,
     endpoint: u16,
-    registers: &FfaRegisters,
-) -> FfaOutcome
+    registers: &CRegisters,
+) -> COutcome
     ensures { OperatedAs machine.old.held.value machine.new.held.value endpoint (Op.Call registers.now.x) result }
 {
     operate_as(alloc, machine, endpoint, &Op::Call(registers.x))
@@ -26,16 +26,16 @@ pub extern "C" fn gorseplumb_call_as(
 #[unsafe(no_mangle)]
 pub extern "C" fn gorseplumb_load_as(
     alloc: Global,
-    machine: &mut FfaMachine,
+    machine: &mut CMachine,
     endpoint: u16,
     addr: u64,
     size: u32,
-) -> FfaOutcome
+) -> COutcome
     ensures { OperatedSizedAs machine.old.held.value machine.new.held.value endpoint size (λ s. Op.Load addr s) result }
 {
     match size_of(size) {
         Some(size) => operate_as(alloc, machine, endpoint, &Op::Load { addr, size }),
-        None => FfaOutcome::nothing(KIND_BAD_SIZE),
+        None => COutcome::nothing(KIND_BAD_SIZE),
     }
 }
 
@@ -43,17 +43,17 @@ pub extern "C" fn gorseplumb_load_as(
 #[unsafe(no_mangle)]
 pub extern "C" fn gorseplumb_store_as(
     alloc: Global,
-    machine: &mut FfaMachine,
+    machine: &mut CMachine,
     endpoint: u16,
     addr: u64,
     size: u32,
     value: u64,
-) -> FfaOutcome
+) -> COutcome
     ensures { OperatedSizedAs machine.old.held.value machine.new.held.value endpoint size (λ s. Op.Store addr s value) result }
 {
     match size_of(size) {
         Some(size) => operate_as(alloc, machine, endpoint, &Op::Store { addr, size, value }),
-        None => FfaOutcome::nothing(KIND_BAD_SIZE),
+        None => COutcome::nothing(KIND_BAD_SIZE),
     }
 }
 
@@ -61,20 +61,20 @@ pub extern "C" fn gorseplumb_store_as(
 #[unsafe(no_mangle)]
 pub extern "C" fn gorseplumb_fetch_as(
     alloc: Global,
-    machine: &mut FfaMachine,
+    machine: &mut CMachine,
     endpoint: u16,
     addr: u64,
-) -> FfaOutcome
+) -> COutcome
     ensures { OperatedAs machine.old.held.value machine.new.held.value endpoint (Op.Fetch addr) result }
 {
     operate_as(alloc, machine, endpoint, &Op::Fetch { addr })
 }
 
-fn operate_as(alloc: Global, machine: &mut FfaMachine, endpoint: u16, op: &Op) -> FfaOutcome
+fn operate_as(alloc: Global, machine: &mut CMachine, endpoint: u16, op: &Op) -> COutcome
     ensures { OperatedAs machine.old.held.value machine.new.held.value endpoint op.now result }
 {
     match take(machine, alloc) {
-        None => FfaOutcome::nothing(KIND_NO_MACHINE),
+        None => COutcome::nothing(KIND_NO_MACHINE),
         Some(mut seat) => {
             let outcome = seat.op_as(EndpointId(endpoint), op);
             put(machine, seat);

@@ -8,7 +8,7 @@ ghost use Rattle.ffa_c.specs.Border.{HasDone, HasDoneAmong, access_code, exec_co
 ghost use Rattle.ffa_c.specs.Elsewhere.{HasActed};
 
 use crate::codes::{EXECUTE, NOTHING, READ, WRITE};
-use crate::outcome::FfaOutcome;
+use crate::outcome::COutcome;
 use ffa_lent::LentRam;
 use ffa_model::{Data, EndpointId, Op, PageNo, Rights};
 use ffa_physmem::{FlatRam, PhysMem};
@@ -30,10 +30,10 @@ pub enum Kind {
 pub(crate) fn done_by<M: PhysMem + Drop, S: Store>(
     machine: &mut Machine<M, NoTlb, S>,
     op: &Op,
-) -> FfaOutcome
+) -> COutcome
     ensures { HasDone machine.old machine.new op.now result }
 {
-    FfaOutcome::of(&machine.op(op))
+    COutcome::of(&machine.op(op))
 }
 
 /// The same, while others may write to the runner's TX.
@@ -41,10 +41,10 @@ pub(crate) fn done_by<M: PhysMem + Drop, S: Store>(
 pub(crate) fn done_among<M: PhysMem + Drop, S: Store>(
     machine: &mut Machine<M, NoTlb, S>,
     op: &Op,
-) -> FfaOutcome
+) -> COutcome
     ensures { HasDoneAmong machine.old machine.new op.now result }
 {
-    FfaOutcome::of(&machine.op_among_others(op))
+    COutcome::of(&machine.op_among_others(op))
 }
 
 /// An operation of an endpoint of a machine, whoever runs, with the outcome for C.
@@ -53,11 +53,11 @@ pub(crate) fn acted_by<M: PhysMem + Drop, S: Store>(
     machine: &mut Machine<M, NoTlb, S>,
     endpoint: EndpointId,
     op: &Op,
-) -> FfaOutcome
+) -> COutcome
     requires { is_known machine.old.state endpoint.0 ≡ true }
     ensures { HasActed machine.old machine.new endpoint.0 op.now result }
 {
-    FfaOutcome::of(&machine.op_as(endpoint, op))
+    COutcome::of(&machine.op_as(endpoint, op))
 }
 
 /// The endpoint that runs.

@@ -15,7 +15,7 @@ pub mod kind;
 pub mod lending;
 pub mod lent_list;
 pub mod machine;
+pub mod manifest;
 pub mod outcome;
-pub mod parts;
 pub mod seat;
 pub mod spans;

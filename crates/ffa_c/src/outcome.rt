@@ -13,7 +13,7 @@ use ffa_model::{FaultKind, Outcome};
 /// 5 a size that is none.
 #[repr(C)]
 #[derive(Clone, Copy)]
-pub struct FfaOutcome {
+pub struct COutcome {
     pub kind: u32,
     /// The endpoint that runs next, with registers.
     pub runner: u32,
@@ -22,14 +22,14 @@ pub struct FfaOutcome {
     pub x: [u64; 8],
 }
 
-impl FfaOutcome {
+impl COutcome {
     /// An outcome for C.
     #[inline]
-    pub fn of(outcome: &Outcome) -> FfaOutcome
+    pub fn of(outcome: &Outcome) -> COutcome
         ensures { result ≡ packed outcome.now }
     {
         match *outcome {
-            Outcome::Regs { runner, x } => FfaOutcome {
+            Outcome::Regs { runner, x } => COutcome {
                 kind: KIND_REGISTERS,
                 runner: u32::from(runner.0),
                 value: 0,
@@ -42,20 +42,20 @@ impl FfaOutcome {
     }
 
     /// Nothing was done, for this reason.
-    pub fn nothing(kind: u32) -> FfaOutcome
+    pub fn nothing(kind: u32) -> COutcome
         ensures { result ≡ nothing_done kind }
     {
         plain(kind, 0)
     }
 }
 
-fn plain(kind: u32, value: u64) -> FfaOutcome
+fn plain(kind: u32, value: u64) -> COutcome
     ensures kind { result.kind ≡ kind }
     ensures runner { result.runner ≡ 0 }
     ensures value { result.value ≡ value }
     ensures x { result.x ≡ replicate 8 0 }
 {
-    FfaOutcome {
+    COutcome {
         kind,
         runner: 0,
         value,

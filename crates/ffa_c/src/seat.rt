@@ -10,7 +10,7 @@ ghost use Rattle.ffa_c.specs.Elsewhere.{OperatedAs};
 
 use crate::board::Board;
 use crate::codes::KIND_NO_MACHINE;
-use crate::outcome::FfaOutcome;
+use crate::outcome::COutcome;
 use ffa_lent::Frames;
 use ffa_memshare::Changed;
 use ffa_model::{EndpointId, Op};
@@ -70,23 +70,23 @@ impl Seat {
     }
 
     /// Does one operation of the runner.
-    pub fn op(&mut self, op: &Op) -> FfaOutcome
+    pub fn op(&mut self, op: &Op) -> COutcome
         ensures done { Operated self.old self.new op.now result }
         ensures there { is_some self.new ≡ is_some self.old }
     {
         let Some(board) = &mut self.board else {
-            return FfaOutcome::nothing(KIND_NO_MACHINE);
+            return COutcome::nothing(KIND_NO_MACHINE);
         };
         board.op(op)
     }
 
     /// Does one operation of an endpoint, whoever runs.
-    pub fn op_as(&mut self, endpoint: EndpointId, op: &Op) -> FfaOutcome
+    pub fn op_as(&mut self, endpoint: EndpointId, op: &Op) -> COutcome
         ensures done { OperatedAs self.old self.new endpoint.0 op.now result }
         ensures there { is_some self.new ≡ is_some self.old }
     {
         let Some(board) = &mut self.board else {
-            return FfaOutcome::nothing(KIND_NO_MACHINE);
+            return COutcome::nothing(KIND_NO_MACHINE);
         };
         board.op_as(endpoint, op)
     }

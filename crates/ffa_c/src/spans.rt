@@ -5,7 +5,7 @@ ghost use Rattle.ffa_c.specs.Lending.{pages_of, ready_for, room_of};
 ghost use Rattle.ffa_c.specs.Spans.{AreLent, LacksRoom, span_answer};
 
 use crate::codes::{NO_LIST, NO_MEMORY, NO_PAGE, OK};
-use crate::lending::{FfaLent, put_list, take_list};
+use crate::lending::{CLent, put_list, take_list};
 use crate::lent_list::LentList;
 use ffa_lent::Span;
 use std::alloc::Global;
@@ -14,7 +14,7 @@ use std::mem;
 /// Moves the pages of a span to the end of the list, in order. 0 is that all were moved. Else nothing has changed: `NO_LIST`,
 /// `NO_PAGE`, where the span has none, or `NO_MEMORY`, where the list has no room for all of them.
 #[unsafe(no_mangle)]
-pub extern "C" fn gorseplumb_lend_span(alloc: Global, lent: &mut FfaLent, span: &mut Span) -> u32
+pub extern "C" fn gorseplumb_lend_span(alloc: Global, lent: &mut CLent, span: &mut Span) -> u32
     ensures answer { result ≢ NO_MEMORY → result ≡ span_answer (pages_of lent.old.held.value) span.old.strip.pages }
     ensures wanting { result ≡ NO_MEMORY → span_answer (pages_of lent.old.held.value) span.old.strip.pages ≡ 0 }
     ensures full { result ≡ NO_MEMORY → LacksRoom (length span.old.strip.pages) lent.old.held.value }
