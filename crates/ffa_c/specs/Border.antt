@@ -83,7 +83,8 @@ pub record HasDone (old new : Snapshot) (op : Op) (told : COutcome) : Type 0 whe
   pub only_writers : OnlyWriters old.state op
   pub silent_offers : OfferSaysNothing old.state op
 
--- so it was while others may have written to the runner's TX: of that it read each page once, as the machine's own call promises it
+-- so it was while others may have written to the runner's TX: of that it read each page once, as the machine's own call
+-- promises it
 pub record HasDoneAmong (old new : Snapshot) (op : Op) (told : COutcome) : Type 0 where
   pub outcome : Outcome
   pub is_told : told ≡ packed outcome
@@ -101,11 +102,17 @@ HasDoneIn true old new op told = HasDoneAmong old new op told
 abbrev pub Operated : Option Boarded → Option Boarded → Op → COutcome → Type 0
 Operated None new op told = (new ≡ None) × (told ≡ nothing_done 4)
 Operated (Some old) new op told =
-    (s : Snapshot) × (new ≡ Some (record { machine = s; is_lent = old.is_lent })) × HasDoneIn old.is_lent old.machine s op told
+    (s : Snapshot) × (new ≡ Some (record { machine = s; is_lent = old.is_lent }))
+    × HasDoneIn old.is_lent old.machine s op told
 
 -- the size of so many bytes
 abbrev pub size_at : ℕ → Option Size
-size_at bytes = if bytes == 1 then Some B1 else (if bytes == 2 then Some B2 else (if bytes == 4 then Some B4 else (if bytes == 8 then Some B8 else None)))
+size_at bytes =
+    if bytes == 1 then Some B1
+    else if bytes == 2 then Some B2
+    else if bytes == 4 then Some B4
+    else if bytes == 8 then Some B8
+    else None
 
 -- the same of an access of so many bytes, where those are a size
 abbrev pub OperatedAt : Option Size → Option Boarded → Option Boarded → (Size → Op) → COutcome → Type 0

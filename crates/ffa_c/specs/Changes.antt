@@ -21,7 +21,8 @@ range_told range = record { address = range.address; size = 4096 * range.pages }
 abbrev pub StandIn : List CRange → List Range → Type 0
 StandIn places ranges =
     (place : ℕ) (other : Range)
-    → slice_index_or places place no_range ≡ (if nat_lt place (length ranges) then range_told (slice_index_or ranges place other) else no_range)
+    → slice_index_or places place no_range
+    ≡ (if nat_lt place (length ranges) then range_told (slice_index_or ranges place other) else no_range)
 
 -- what is told says that this endpoint's access to the pages of these ranges has changed
 pub record Says (told : CChange) (endpoint : EndpointId) (ranges : List Range) : Type 0 where

@@ -36,8 +36,8 @@ pub record HasActed (old new : Snapshot) (e : ℕ) (op : Op) (told : COutcome) :
   pub own_access : OwnAccessAs old.state e op
   pub only_writers : OnlyWritersAs old.state e op
 
--- Of what C holds, which may be no machine: the runner's operation is the machine's; so it is of another endpoint that acts; and
--- where there is no such endpoint nothing was done.
+-- Of what C holds, which may be no machine: the runner's operation is the machine's; so it is of another endpoint that
+-- acts; and where there is no such endpoint nothing was done.
 abbrev pub OperatedAs : Option Boarded → Option Boarded → ℕ → Op → COutcome → Type 0
 OperatedAs None new e op told = (new ≡ None) × (told ≡ nothing_done 4)
 OperatedAs (Some old) new e op told =

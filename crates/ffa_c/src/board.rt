@@ -56,7 +56,8 @@ impl Board {
     /// The machine of a manifest in its first state, in RAM that is zeros.
     pub fn boot(manifest: &Manifest, ram: FlatRam, storage: Storage<Given<Global>>) -> Board
         requires storage { IsRoomFor manifest.now storage }
-        requires ram { ⟦<FlatRam as PhysMem>⟧.ram ram ≡ zero_ram manifest.now.ram_base.0 (512 * manifest.now.ram_blocks) }
+        requires ram { let pages = 512 * manifest.now.ram_blocks in
+            ⟦<FlatRam as PhysMem>⟧.ram ram ≡ zero_ram manifest.now.ram_base.0 pages }
         ensures first { IsFirst (parts_of manifest.now) result.machine }
         ensures kind { result.is_lent ≡ false }
     {
@@ -64,7 +65,8 @@ impl Board {
         Board { kind }
     }
 
-    /// The machine of a manifest in its first state, in RAM that is lent, which it clears, or whose regions keep their bytes.
+    /// The machine of a manifest in its first state, in RAM that is lent, which it clears, or whose regions keep their
+    /// bytes.
     pub fn boot_lent(
         manifest: &Manifest,
         ram: LentRam,
@@ -93,7 +95,8 @@ impl Board {
         matches!(self.kind, Kind::Lent(_))
     }
 
-    /// Ends the machine: the pages that were lent, with the bytes that they had in the end, and the room for another machine.
+    /// Ends the machine: the pages that were lent, with the bytes that they had in the end, and the room for another
+    /// machine.
     pub fn into_frames(self) -> (Frames, Storage<Given<Global>>)
         requires { self.is_lent ≡ true }
         ensures pages { result.0.pages ≡ self.machine.ram.pages }
@@ -118,9 +121,11 @@ impl Board {
         }
     }
 
-    /// Does one operation of an endpoint, whoever runs: that of the runner is `op`. Where there is no such endpoint, nothing is done.
+    /// Does one operation of an endpoint, whoever runs: that of the runner is `op`. Where there is no such endpoint,
+    /// nothing is done.
     pub fn op_as(&mut self, endpoint: EndpointId, op: &Op) -> COutcome
-        ensures unknown { is_known self.old.machine.state endpoint.0 ≡ false → (self.new ≡ self.old) × (result ≡ nothing_done 6) }
+        ensures unknown { is_known self.old.machine.state endpoint.0 ≡ false → result ≡ nothing_done 6 }
+        ensures unchanged { is_known self.old.machine.state endpoint.0 ≡ false → self.new ≡ self.old }
         ensures runner { is_known self.old.machine.state endpoint.0 ≡ true → self.old.machine.state.runner ≡ endpoint.0
             → HasDoneIn self.old.is_lent self.old.machine self.new.machine op.now result }
         ensures other { is_known self.old.machine.state endpoint.0 ≡ true → self.old.machine.state.runner ≢ endpoint.0

@@ -24,12 +24,14 @@ use ffa_physmem::{FlatRam, NoMemory};
 use ffa_spmc::Storage;
 use std::alloc::{AllocError, Global};
 
-/// Boots the machine of a manifest's text, in RAM of the heap. 0 is that it was booted. Else nothing has changed: `OCCUPIED`,
-/// where a machine stands already, 1, where there is no memory, or 2 to 14, the cause for which the manifest is refused.
+/// Boots the machine of a manifest's text, in RAM of the heap. 0 is that it was booted. Else nothing has changed:
+/// `OCCUPIED`, where a machine stands already, `NO_MEMORY`, or the cause for which the manifest is refused, from
+/// `MANIFEST_TOML` to `MANIFEST_VERSION`.
 #[unsafe(no_mangle)]
 pub extern "C" fn gorseplumb_boot(alloc: Global, machine: &mut CMachine, text: &[u8]) -> u32
     ensures occupied { machine.old.live ≡ true → result ≡ OCCUPIED }
-    ensures booted { result ≡ 0 → (machine.old.held.value ≡ None) × HasBooted (Describes text.now) false machine.new.held.value }
+    ensures vacant { result ≡ 0 → machine.old.held.value ≡ None }
+    ensures booted { result ≡ 0 → HasBooted (Describes text.now) false machine.new.held.value }
     ensures refused { result ≢ 0 → machine.new ≡ machine.old }
     ensures cause { result ≢ 0 → machine.old.live ≡ false → TellsCause (IsRefusedFor text.now) result }
 {
@@ -50,7 +52,8 @@ pub extern "C" fn gorseplumb_boot_manifest(
     given: &CManifest,
 ) -> u32
     ensures occupied { machine.old.live ≡ true → result ≡ OCCUPIED }
-    ensures booted { result ≡ 0 → (machine.old.held.value ≡ None) × HasBooted (Gives given.now) false machine.new.held.value }
+    ensures vacant { result ≡ 0 → machine.old.held.value ≡ None }
+    ensures booted { result ≡ 0 → HasBooted (Gives given.now) false machine.new.held.value }
     ensures refused { result ≢ 0 → machine.new ≡ machine.old }
     ensures cause { result ≢ 0 → machine.old.live ≡ false → TellsCause (IsGivenFor given.now) result }
 {
@@ -64,9 +67,10 @@ pub extern "C" fn gorseplumb_boot_manifest(
     }
 }
 
-/// Boots the machine of a manifest's text in the pages of a list, which it clears, and leaves the list empty. 0 is that it was
-/// booted. Else nothing has changed: `OCCUPIED`, `NO_LIST`, 1 to 14 as `gorseplumb_boot` answers, or `WRONG_COUNT`, where the manifest's
-/// RAM has more pages or fewer. Where the list has as many pages as it was begun for, memory is taken for the text alone, while it is read.
+/// Boots the machine of a manifest's text in the pages of a list, which it clears, and leaves the list empty. 0 is that
+/// it was booted. Else nothing has changed: `OCCUPIED`, `NO_LIST`, what `gorseplumb_boot` answers, or `WRONG_COUNT`,
+/// where the manifest's RAM has more pages or fewer. Where the list has as many pages as it was begun for, memory is
+/// taken for the text alone, while it is read.
 #[unsafe(no_mangle)]
 pub extern "C" fn gorseplumb_boot_lent(
     alloc: Global,
@@ -76,11 +80,13 @@ pub extern "C" fn gorseplumb_boot_lent(
 ) -> u32
     ensures occupied { machine.old.live ≡ true → result ≡ OCCUPIED }
     ensures no_list { machine.old.live ≡ false → lent.old.live ≡ false → result ≡ NO_LIST }
-    ensures booted { result ≡ 0 → (machine.old.held.value ≡ None) × HasBooted (Describes text.now) true machine.new.held.value }
+    ensures vacant { result ≡ 0 → machine.old.held.value ≡ None }
+    ensures booted { result ≡ 0 → HasBooted (Describes text.now) true machine.new.held.value }
     ensures emptied { result ≡ 0 → pages_of lent.new.held.value ≡ Some [] }
     ensures machine { result ≢ 0 → machine.new ≡ machine.old }
     ensures list { result ≢ 0 → lent.new.held.value ≡ lent.old.held.value }
-    ensures cause { result ≢ 0 → machine.old.live ≡ false → IfSome (pages_of lent.old.held.value) (λ pages. TellsWhy (Describes text.now) (IsRefusedFor text.now) (length pages) result) }
+    ensures cause { let pages = pages_of lent.old.held.value in
+        result ≢ 0 → machine.old.live ≡ false → TellsWhy (Describes text.now) (IsRefusedFor text.now) pages result }
 {
     if machine.live {
         OCCUPIED
@@ -94,7 +100,8 @@ pub extern "C" fn gorseplumb_boot_lent(
     }
 }
 
-/// The same for a manifest that is given as numbers, for which no memory is taken: none at all where the list has no more pages than it was begun for.
+/// The same for a manifest that is given as numbers, for which no memory is taken: none at all where the list has no
+/// more pages than it was begun for.
 #[unsafe(no_mangle)]
 pub extern "C" fn gorseplumb_boot_lent_manifest(
     alloc: Global,
@@ -104,11 +111,13 @@ pub extern "C" fn gorseplumb_boot_lent_manifest(
 ) -> u32
     ensures occupied { machine.old.live ≡ true → result ≡ OCCUPIED }
     ensures no_list { machine.old.live ≡ false → lent.old.live ≡ false → result ≡ NO_LIST }
-    ensures booted { result ≡ 0 → (machine.old.held.value ≡ None) × HasBooted (Gives given.now) true machine.new.held.value }
+    ensures vacant { result ≡ 0 → machine.old.held.value ≡ None }
+    ensures booted { result ≡ 0 → HasBooted (Gives given.now) true machine.new.held.value }
     ensures emptied { result ≡ 0 → pages_of lent.new.held.value ≡ Some [] }
     ensures machine { result ≢ 0 → machine.new ≡ machine.old }
     ensures list { result ≢ 0 → lent.new.held.value ≡ lent.old.held.value }
-    ensures cause { result ≢ 0 → machine.old.live ≡ false → IfSome (pages_of lent.old.held.value) (λ pages. TellsWhy (Gives given.now) (IsGivenFor given.now) (length pages) result) }
+    ensures cause { let pages = pages_of lent.old.held.value in
+        result ≢ 0 → machine.old.live ≡ false → TellsWhy (Gives given.now) (IsGivenFor given.now) pages result }
     ensures unready { result ≡ NO_MEMORY → ready_for lent.old.held.value < page_count (pages_of lent.old.held.value) }
 {
     if machine.live {
@@ -123,8 +132,9 @@ pub extern "C" fn gorseplumb_boot_lent_manifest(
     }
 }
 
-/// The same as `gorseplumb_boot_lent`, but pages of the manifest's regions keep their bytes, so that what was put there, as images of
-/// partitions or of a kernel, is there before the first operation. All others behind the tables are zeros.
+/// The same as `gorseplumb_boot_lent`, but pages of the manifest's regions keep their bytes, so that what was put
+/// there, as images of partitions or of a kernel, is there before the first operation. All others behind the tables are
+/// zeros.
 #[unsafe(no_mangle)]
 pub extern "C" fn gorseplumb_boot_held(
     alloc: Global,
@@ -134,12 +144,14 @@ pub extern "C" fn gorseplumb_boot_held(
 ) -> u32
     ensures occupied { machine.old.live ≡ true → result ≡ OCCUPIED }
     ensures no_list { machine.old.live ≡ false → lent.old.live ≡ false → result ≡ NO_LIST }
-    ensures booted { result ≡ 0 → (machine.old.held.value ≡ None)
-        × HasBootedHeld (Describes text.now) (bytes_of lent.old.held.value) machine.new.held.value }
+    ensures vacant { result ≡ 0 → machine.old.held.value ≡ None }
+    ensures booted { let bytes = bytes_of lent.old.held.value in
+        result ≡ 0 → HasBootedHeld (Describes text.now) bytes machine.new.held.value }
     ensures emptied { result ≡ 0 → pages_of lent.new.held.value ≡ Some [] }
     ensures machine { result ≢ 0 → machine.new ≡ machine.old }
     ensures list { result ≢ 0 → lent.new.held.value ≡ lent.old.held.value }
-    ensures cause { result ≢ 0 → machine.old.live ≡ false → IfSome (pages_of lent.old.held.value) (λ pages. TellsWhy (Describes text.now) (IsRefusedFor text.now) (length pages) result) }
+    ensures cause { let pages = pages_of lent.old.held.value in
+        result ≢ 0 → machine.old.live ≡ false → TellsWhy (Describes text.now) (IsRefusedFor text.now) pages result }
 {
     if machine.live {
         OCCUPIED
@@ -153,7 +165,8 @@ pub extern "C" fn gorseplumb_boot_held(
     }
 }
 
-/// The same for a manifest that is given as numbers, for which memory is taken as `gorseplumb_boot_lent_manifest` takes it.
+/// The same for a manifest that is given as numbers, for which memory is taken as `gorseplumb_boot_lent_manifest` takes
+/// it.
 #[unsafe(no_mangle)]
 pub extern "C" fn gorseplumb_boot_held_manifest(
     alloc: Global,
@@ -163,12 +176,14 @@ pub extern "C" fn gorseplumb_boot_held_manifest(
 ) -> u32
     ensures occupied { machine.old.live ≡ true → result ≡ OCCUPIED }
     ensures no_list { machine.old.live ≡ false → lent.old.live ≡ false → result ≡ NO_LIST }
-    ensures booted { result ≡ 0 → (machine.old.held.value ≡ None)
-        × HasBootedHeld (Gives given.now) (bytes_of lent.old.held.value) machine.new.held.value }
+    ensures vacant { result ≡ 0 → machine.old.held.value ≡ None }
+    ensures booted { let bytes = bytes_of lent.old.held.value in
+        result ≡ 0 → HasBootedHeld (Gives given.now) bytes machine.new.held.value }
     ensures emptied { result ≡ 0 → pages_of lent.new.held.value ≡ Some [] }
     ensures machine { result ≢ 0 → machine.new ≡ machine.old }
     ensures list { result ≢ 0 → lent.new.held.value ≡ lent.old.held.value }
-    ensures cause { result ≢ 0 → machine.old.live ≡ false → IfSome (pages_of lent.old.held.value) (λ pages. TellsWhy (Gives given.now) (IsGivenFor given.now) (length pages) result) }
+    ensures cause { let pages = pages_of lent.old.held.value in
+        result ≢ 0 → machine.old.live ≡ false → TellsWhy (Gives given.now) (IsGivenFor given.now) pages result }
     ensures unready { result ≡ NO_MEMORY → ready_for lent.old.held.value < page_count (pages_of lent.old.held.value) }
 {
     if machine.live {
@@ -255,12 +270,14 @@ fn boot_lent(
     bytes: Bytes,
 ) -> u32
     requires { machine.old.held.value ≡ None }
-    ensures booted { result ≡ 0
-        → HasBegun (λ p. p ≡ parts_of manifest.now) (IsFirstBy bytes (bytes_of lent.old.held.value)) true machine.new.held.value }
+    ensures booted { let is_first = IsFirstBy bytes (bytes_of lent.old.held.value) in
+        result ≡ 0 → HasBegun (λ p. p ≡ parts_of manifest.now) is_first true machine.new.held.value }
     ensures emptied { result ≡ 0 → pages_of lent.new.held.value ≡ Some [] }
     ensures machine { result ≢ 0 → machine.new ≡ machine.old }
     ensures list { result ≢ 0 → lent.new.held.value ≡ lent.old.held.value }
-    ensures why { result ≢ 0 → IfSome (pages_of lent.old.held.value) (λ pages. (result ≡ NO_MEMORY) ⊎ ((result ≡ WRONG_COUNT) × (length pages ≢ 512 * manifest.now.ram_blocks))) }
+    ensures why { result ≢ 0 → IfSome lent.old.held.value (λ _. (result ≡ NO_MEMORY) ⊎ (result ≡ WRONG_COUNT)) }
+    ensures wrong_count { let pages = page_count (pages_of lent.old.held.value) in
+        result ≡ WRONG_COUNT → pages ≢ 512 * manifest.now.ram_blocks }
     ensures unready { result ≡ NO_MEMORY → ready_for lent.old.held.value < page_count (pages_of lent.old.held.value) }
 {
     let Some(mut list) = take_list(lent, alloc) else {
@@ -285,7 +302,8 @@ fn boot_over(
     ensures emptied { result ≡ 0 → list.new.pages ≡ [] }
     ensures machine { result ≢ 0 → machine.new ≡ machine.old }
     ensures list { result ≢ 0 → list.new ≡ list.old }
-    ensures why { result ≢ 0 → (result ≡ NO_MEMORY) ⊎ ((result ≡ WRONG_COUNT) × (length list.old.pages ≢ 512 * manifest.now.ram_blocks)) }
+    ensures why { result ≢ 0 → (result ≡ NO_MEMORY) ⊎ (result ≡ WRONG_COUNT) }
+    ensures wrong_count { result ≡ WRONG_COUNT → length list.old.pages ≢ 512 * manifest.now.ram_blocks }
     ensures unready { result ≡ NO_MEMORY → list.old.ready_for < length list.old.pages }
 {
     if list.pages() != 512 * manifest.ram_blocks as usize {

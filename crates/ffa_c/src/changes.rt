@@ -50,8 +50,8 @@ pub struct CChange {
     pub ranges: [CRange; MOST_RANGES],
 }
 
-/// Whose access to which pages the last call on memory that was done has changed, told once: true, and `change` says it; or
-/// false, and it stays, where there is nothing to tell, or nobody's access has changed.
+/// Whose access to which pages the last call on memory that was done has changed, told once: true, and `change` says
+/// it; or false, and it stays, where there is nothing to tell, or nobody's access has changed.
 #[unsafe(no_mangle)]
 pub extern "C" fn gorseplumb_changed(
     alloc: Global,

@@ -1,5 +1,6 @@
 // SPDX-License-Identifier: MIT OR Apache-2.0
-//! Operations of an endpoint that may not run, as on another processor, for C. Of the runner each is its namesake without `_as`.
+//! Operations of an endpoint that may not run, as on another processor, for C. Of the runner each is its namesake
+//! without `_as`.
 ghost use Rattle.ffa_c.specs.Elsewhere.{OperatedAs, OperatedSizedAs};
 
 use crate::codes::{KIND_BAD_SIZE, KIND_NO_MACHINE};
@@ -31,7 +32,8 @@ pub extern "C" fn gorseplumb_load_as(
     addr: u64,
     size: u32,
 ) -> COutcome
-    ensures { OperatedSizedAs machine.old.held.value machine.new.held.value endpoint size (λ s. Op.Load addr s) result }
+    ensures { let old = machine.old.held.value in let new = machine.new.held.value in
+        OperatedSizedAs old new endpoint size (λ s. Op.Load addr s) result }
 {
     match size_of(size) {
         Some(size) => operate_as(alloc, machine, endpoint, &Op::Load { addr, size }),
@@ -49,7 +51,8 @@ pub extern "C" fn gorseplumb_store_as(
     size: u32,
     value: u64,
 ) -> COutcome
-    ensures { OperatedSizedAs machine.old.held.value machine.new.held.value endpoint size (λ s. Op.Store addr s value) result }
+    ensures { let old = machine.old.held.value in let new = machine.new.held.value in
+        OperatedSizedAs old new endpoint size (λ s. Op.Store addr s value) result }
 {
     match size_of(size) {
         Some(size) => operate_as(alloc, machine, endpoint, &Op::Store { addr, size, value }),

@@ -117,7 +117,7 @@ pub(crate) fn access_by<M: PhysMem + Drop, S: Store>(
     code_of(machine.access(endpoint, page))
 }
 
-// 1 for a right to read, 3 for one to write too, 4 more for one to execute, and 0 for none.
+// `READ` for a right to read, `WRITE` for one to write too, `EXECUTE` more for one to execute, and 0 for none.
 fn code_of(rights: Option<Rights>) -> u32
     ensures { result ≡ access_code rights }
 {

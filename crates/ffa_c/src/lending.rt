@@ -85,8 +85,8 @@ fn put_page(slot: &mut CSlot, page: Box<[u8; 4096], Lent>)
     slot.live = true;
 }
 
-/// Makes an empty list with room for so many pages, and with all that a machine in them takes beside them. 0 is that it was made.
-/// Else nothing has changed: `OCCUPIED`, where there is a list, or `NO_MEMORY`.
+/// Makes an empty list with room for so many pages, and with all that a machine in them takes beside them. 0 is that it
+/// was made. Else nothing has changed: `OCCUPIED`, where there is a list, or `NO_MEMORY`.
 #[unsafe(no_mangle)]
 pub extern "C" fn gorseplumb_begin_lending(alloc: Global, lent: &mut CLent, pages: u32) -> u32
     ensures answer { result ≢ NO_MEMORY → result ≡ begun_answer (pages_of lent.old.held.value) }
@@ -123,14 +123,15 @@ fn boxed_list(alloc: Global, list: LentList) -> Option<Box<LentList>>
     Box::new(alloc, list).ok()
 }
 
-/// Moves a page from its slot to the end of the list. 0 is that it was moved. Else no page was: `NO_LIST`, `NO_PAGE`, where
-/// there is none in the slot, or `NO_MEMORY`, where the list has no room for it.
+/// Moves a page from its slot to the end of the list. 0 is that it was moved. Else no page was: `NO_LIST`, `NO_PAGE`,
+/// where there is none in the slot, or `NO_MEMORY`, where the list has no room for it.
 #[unsafe(no_mangle)]
 pub extern "C" fn gorseplumb_lend(alloc: Global, lent: &mut CLent, slot: &mut CSlot) -> u32
     ensures answer { result ≢ NO_MEMORY → result ≡ lent_answer (pages_of lent.old.held.value) slot.old.page.bytes }
     ensures wanting { result ≡ NO_MEMORY → lent_answer (pages_of lent.old.held.value) slot.old.page.bytes ≡ 0 }
     ensures full { result ≡ NO_MEMORY → IsFull lent.old.held.value }
-    ensures lent { result ≡ 0 → IsLent (pages_of lent.old.held.value) (pages_of lent.new.held.value) slot.old.page.bytes slot.new.page.bytes }
+    ensures lent { let old = pages_of lent.old.held.value in let new = pages_of lent.new.held.value in
+        result ≡ 0 → IsLent old new slot.old.page.bytes slot.new.page.bytes }
     ensures list { result ≢ 0 → pages_of lent.new.held.value ≡ pages_of lent.old.held.value }
     ensures page { result ≢ 0 → slot.new.page.bytes ≡ slot.old.page.bytes }
     ensures room { room_of lent.old.held.value ≤ room_of lent.new.held.value }
@@ -149,7 +150,8 @@ fn lend_to(list: &mut LentList, slot: &mut CSlot) -> u32
     ensures answer { result ≢ NO_MEMORY → result ≡ lent_answer (Some list.old.pages) slot.old.page.bytes }
     ensures wanting { result ≡ NO_MEMORY → lent_answer (Some list.old.pages) slot.old.page.bytes ≡ 0 }
     ensures full { result ≡ NO_MEMORY → IsFull (Some list.old) }
-    ensures lent { result ≡ 0 → IsLent (Some list.old.pages) (Some list.new.pages) slot.old.page.bytes slot.new.page.bytes }
+    ensures lent { let old = Some list.old.pages in let new = Some list.new.pages in
+        result ≡ 0 → IsLent old new slot.old.page.bytes slot.new.page.bytes }
     ensures list { result ≢ 0 → list.new.pages ≡ list.old.pages }
     ensures page { result ≢ 0 → slot.new.page.bytes ≡ slot.old.page.bytes }
     ensures room { list.old.room ≤ list.new.room }
@@ -167,12 +169,14 @@ fn lend_to(list: &mut LentList, slot: &mut CSlot) -> u32
     }
 }
 
-/// Moves the last page of the list to the slot, which is empty. 0 is that it was moved. Else nothing has changed: `NO_LIST`,
-/// `OCCUPIED`, where there is a page in the slot, or `NO_PAGE`, where the list has none. The list's room stays.
+/// Moves the last page of the list to the slot, which is empty. 0 is that it was moved. Else nothing has changed:
+/// `NO_LIST`, `OCCUPIED`, where there is a page in the slot, or `NO_PAGE`, where the list has none. The list's room
+/// stays.
 #[unsafe(no_mangle)]
 pub extern "C" fn gorseplumb_take_back(alloc: Global, lent: &mut CLent, slot: &mut CSlot) -> u32
     ensures answer { result ≡ taken_answer (pages_of lent.old.held.value) slot.old.page.bytes }
-    ensures taken { result ≡ 0 → IsLent (pages_of lent.new.held.value) (pages_of lent.old.held.value) slot.new.page.bytes slot.old.page.bytes }
+    ensures taken { let old = pages_of lent.old.held.value in let new = pages_of lent.new.held.value in
+        result ≡ 0 → IsLent new old slot.new.page.bytes slot.old.page.bytes }
     ensures list { result ≢ 0 → pages_of lent.new.held.value ≡ pages_of lent.old.held.value }
     ensures page { result ≢ 0 → slot.new.page.bytes ≡ slot.old.page.bytes }
     ensures room { room_of lent.new.held.value ≡ room_of lent.old.held.value }
@@ -189,7 +193,8 @@ pub extern "C" fn gorseplumb_take_back(alloc: Global, lent: &mut CLent, slot: &m
 // Moves the last page of a list to a slot.
 fn take_from(list: &mut LentList, slot: &mut CSlot) -> u32
     ensures answer { result ≡ taken_answer (Some list.old.pages) slot.old.page.bytes }
-    ensures taken { result ≡ 0 → IsLent (Some list.new.pages) (Some list.old.pages) slot.new.page.bytes slot.old.page.bytes }
+    ensures taken { let old = Some list.old.pages in let new = Some list.new.pages in
+        result ≡ 0 → IsLent new old slot.new.page.bytes slot.old.page.bytes }
     ensures list { result ≢ 0 → list.new.pages ≡ list.old.pages }
     ensures page { result ≢ 0 → slot.new.page.bytes ≡ slot.old.page.bytes }
     ensures room { list.new.room ≡ list.old.room }
@@ -241,15 +246,16 @@ pub extern "C" fn gorseplumb_end_lending(alloc: Global, lent: &mut CLent) -> u32
     }
 }
 
-/// Ends a machine. RAM of the heap is given back to it. RAM that was lent goes, page by page and in order, with the bytes that
-/// it had in the end, to the list, which has to be there and empty, and so does the machine's own memory: the next boot in the
-/// list takes none. 0 is that the machine has ended. Else nothing has changed: `NO_MACHINE`, and for RAM that was lent `NO_LIST`
-/// or `HAS_PAGES`.
+/// Ends a machine. RAM of the heap is given back to it. RAM that was lent goes, page by page and in order, with the
+/// bytes that it had in the end, to the list, which has to be there and empty, and so does the machine's own memory:
+/// the next boot in the list takes none. 0 is that the machine has ended. Else nothing has changed: `NO_MACHINE`, and
+/// for RAM that was lent `NO_LIST` or `HAS_PAGES`.
 #[unsafe(no_mangle)]
 pub extern "C" fn gorseplumb_free(alloc: Global, machine: &mut CMachine, lent: &mut CLent) -> u32
     ensures answer { result ≡ freed_answer machine.old.held.value (pages_of lent.old.held.value) }
     ensures ended { result ≡ 0 → machine.new.held.value ≡ None }
-    ensures given_back { result ≡ 0 → pages_of lent.new.held.value ≡ given_back machine.old.held.value (pages_of lent.old.held.value) }
+    ensures given_back { let list = pages_of lent.old.held.value in
+        result ≡ 0 → pages_of lent.new.held.value ≡ given_back machine.old.held.value list }
     ensures heap { IfSome machine.old.held.value (λ b. b.is_lent ≡ false → lent.new.held.value ≡ lent.old.held.value) }
     ensures machine { result ≢ 0 → machine.new.held.value ≡ machine.old.held.value }
     ensures list { result ≢ 0 → lent.new.held.value ≡ lent.old.held.value }

@@ -3,7 +3,7 @@
 ghost use Rattle.std.specs.Prelude.{◌≡◌, ◌≤◌, [], Some, None, IfOk, IfErr, length};
 ghost use Rattle.ffa_manifest.specs.Document.{parts_of};
 ghost use Rattle.ffa_manifest.specs.Reading.{Exact};
-ghost use Rattle.ffa_c.specs.Given.{Gives, counted, each_given, endpoint_given, parts_given, refusal_of, region_given, rights_given, version_given};
+ghost use Rattle.ffa_c.specs.Given.{Gives, each_given, endpoint_given, endpoints_given, parts_given, refusal_of, region_given, regions_given, rights_given, version_given};
 
 use arrayvec::ArrayVec;
 use bitflags::Flags;
@@ -39,7 +39,7 @@ pub struct CEndpoint {
     pub regions: [CRegion; MOST_REGIONS],
 }
 
-/// A machine.
+/// A manifest: a machine's RAM, and its endpoints.
 #[repr(C)]
 #[derive(Clone, Copy)]
 pub struct CManifest {
@@ -101,7 +101,7 @@ fn regions_of(given: &[CRegion]) -> Result<ArrayVec<Region, MOST_REGIONS>, Manif
 
 // The regions that an endpoint gives, where its array has so many places.
 fn counted_regions(given: &CEndpoint) -> Result<ArrayVec<Region, MOST_REGIONS>, ManifestError>
-    ensures { Exact (λ rs. rs.items) result (counted region_given MOST_REGIONS ManifestError.RegionCount given.now.region_count given.now.regions) }
+    ensures { Exact (λ rs. rs.items) result (regions_given given.now) }
 {
     let count = given.region_count as usize;
     if count <= MOST_REGIONS {
@@ -139,7 +139,7 @@ fn endpoints_of(given: &[CEndpoint]) -> Result<ArrayVec<Endpoint, MOST_ENDPOINTS
 
 // The endpoints that are given, where the array has so many places.
 fn counted_endpoints(given: &CManifest) -> Result<ArrayVec<Endpoint, MOST_ENDPOINTS>, ManifestError>
-    ensures { Exact (λ es. es.items) result (counted endpoint_given MOST_ENDPOINTS ManifestError.EndpointCount given.now.endpoint_count given.now.endpoints) }
+    ensures { Exact (λ es. es.items) result (endpoints_given given.now) }
 {
     let count = given.endpoint_count as usize;
     if count <= MOST_ENDPOINTS {

@@ -9,15 +9,15 @@ use crate::codes::{
 };
 use ffa_model::{FaultKind, Outcome};
 
-/// What an operation gives, by `kind`: 0 the registers that the next runner sees, 1 data, 2 done, 3 a fault, 4 no machine,
-/// 5 a size that is none.
+/// What an operation gives. What its kind doesn't name is zero.
 #[repr(C)]
 #[derive(Clone, Copy)]
 pub struct COutcome {
+    /// What it is, as one of `KIND_REGISTERS` to `KIND_NO_ENDPOINT`.
     pub kind: u32,
     /// The endpoint that runs next, with registers.
     pub runner: u32,
-    /// The data, or the fault: 1 translation, 2 permission, 3 alignment, 4 access flag, 5 outside RAM.
+    /// The data, or the fault, as one of `FAULT_TRANSLATION` to `FAULT_OUTSIDE_RAM`.
     pub value: u64,
     pub x: [u64; 8],
 }

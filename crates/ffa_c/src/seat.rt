@@ -18,8 +18,8 @@ use ffa_spmc::{Given, Storage};
 use std::alloc::{AllocError, Global};
 use std::marker::Model;
 
-/// Memory for a board, with one in it or none, so that it can be there before the board is and after it. Contracts see the
-/// board, if there is one.
+/// Memory for a board, with one in it or none, so that it can be there before the board is and after it. Contracts see
+/// the board, if there is one.
 #[derive(Drop)]
 pub struct Seat {
     board: Option<Board>,
@@ -51,8 +51,8 @@ impl Seat {
         self.board = Some(board);
     }
 
-    /// Ends the machine that is there, in RAM that is lent: the pages with the bytes that they had in the end, and the room for
-    /// another machine.
+    /// Ends the machine that is there, in RAM that is lent: the pages with the bytes that they had in the end, and the
+    /// room for another machine.
     pub fn vacate(&mut self) -> (Frames, Storage<Given<Global>>)
         requires { lends self.old ≡ Some true }
         ensures pages { Some result.0.pages ≡ ram_pages self.old }
