@@ -11,7 +11,7 @@
 #define MOST_TEXT 0x10000
 #define PAGES_OF_BLOCK 512
 
-static struct ffa_page pages[FFA_MOST_BLOCKS * PAGES_OF_BLOCK];
+static struct gorseplumb_page pages[GORSEPLUMB_MOST_BLOCKS * PAGES_OF_BLOCK];
 
 static void stop(const char *why) {
     fprintf(stderr, "boots: %s\n", why);
@@ -34,14 +34,14 @@ static double now(void) {
 
 /* How many seconds a boot in so many pages takes, without their lending and their return. */
 static double boot(const uint8_t *text, size_t size, uint32_t count) {
-    struct ffa_machine machine = {0};
-    struct ffa_lent lent = {0};
-    if (lend_all(&lent, pages, count) != FFA_OK) stop("no pages were lent");
+    struct gorseplumb_machine machine = {0};
+    struct gorseplumb_lent lent = {0};
+    if (gorseplumb_lend_all(&lent, pages, count) != GORSEPLUMB_OK) stop("no pages were lent");
     double began = now();
-    uint32_t answer = ffa_boot_lent(&machine, &lent, text, size);
+    uint32_t answer = gorseplumb_boot_lent(&machine, &lent, text, size);
     double ended = now();
-    if (answer != FFA_OK) stop("the manifest is refused");
-    if (ffa_free(&machine, &lent) != FFA_OK || !take_all_back(&lent, pages, count)) stop("pages stayed lent");
+    if (answer != GORSEPLUMB_OK) stop("the manifest is refused");
+    if (gorseplumb_free(&machine, &lent) != GORSEPLUMB_OK || !gorseplumb_take_all_back(&lent, pages, count)) stop("pages stayed lent");
     return ended - began;
 }
 
@@ -49,7 +49,7 @@ int main(int count, char **words) {
     static uint8_t text[MOST_TEXT];
     if (count != 3) stop("boots MANIFEST BLOCKS");
     unsigned long blocks = strtoul(words[2], NULL, 10);
-    if (blocks == 0 || blocks > FFA_MOST_BLOCKS) stop("there are not so many blocks");
+    if (blocks == 0 || blocks > GORSEPLUMB_MOST_BLOCKS) stop("there are not so many blocks");
     uint32_t lent = (uint32_t)blocks * PAGES_OF_BLOCK;
     size_t size = read_text(words[1], text);
     double first = boot(text, size, lent), least = first;

@@ -31,8 +31,8 @@ static const char manifest[] =
     "[[endpoint]]\nversion = \"1.1\"\nuuid = \"00112233-4455-6677-8899-aabbccddeeff\"\nproperties = 15\n"
     "regions = [{ base = 0x40020000, pages = 16, rights = \"rw\" }]\n";
 
-static struct ffa_page pages[RAM_PAGES];
-static struct ffa_machine machine;
+static struct gorseplumb_page pages[RAM_PAGES];
+static struct gorseplumb_machine machine;
 static uint64_t copied, cleared;
 
 void *__real_memcpy(void *to, const void *from, size_t size);
@@ -62,21 +62,21 @@ static void stop(const char *why) {
     exit(1);
 }
 
-static struct ffa_outcome call(uint64_t x0, uint64_t x1, uint64_t x2, uint64_t x3) {
-    struct ffa_registers registers = {{x0, x1, x2, x3}};
-    struct ffa_outcome told = ffa_call(&machine, &registers);
-    if (told.kind != FFA_REGISTERS || told.x[0] == 0x84000060) stop("a call is refused");
+static struct gorseplumb_outcome call(uint64_t x0, uint64_t x1, uint64_t x2, uint64_t x3) {
+    struct gorseplumb_registers registers = {{x0, x1, x2, x3}};
+    struct gorseplumb_outcome told = gorseplumb_call(&machine, &registers);
+    if (told.kind != GORSEPLUMB_KIND_REGISTERS || told.x[0] == 0x84000060) stop("a call is refused");
     return told;
 }
 
 static void store(uint64_t address, uint64_t value) {
-    if (ffa_store(&machine, address, 8, value).kind != FFA_DONE) stop("a store faults");
+    if (gorseplumb_store(&machine, address, 8, value).kind != GORSEPLUMB_KIND_DONE) stop("a store faults");
 }
 
 /* Makes a call, and prints what it copied and cleared. */
-static struct ffa_outcome count(const char *name, uint64_t x0, uint64_t x1, uint64_t x2) {
+static struct gorseplumb_outcome count(const char *name, uint64_t x0, uint64_t x1, uint64_t x2) {
     uint64_t copied_before = copied, cleared_before = cleared;
-    struct ffa_outcome told = call(x0, x1, x2, 0);
+    struct gorseplumb_outcome told = call(x0, x1, x2, 0);
     printf("  %-10s %6" PRIu64 " bytes copied, %6" PRIu64 " cleared\n", name, copied - copied_before, cleared - cleared_before);
     return told;
 }
@@ -87,7 +87,7 @@ static void transaction(uint64_t ranges) {
     printf("%" PRIu64 " ranges, a descriptor of %" PRIu64 " bytes:\n", ranges, size);
     for (uint64_t i = 0; i < 10; i++) store(TX + 8 * i, header[i]);
     for (uint64_t i = 0; i < ranges; i++) {
-        store(TX + 80 + 16 * i, PAGES + 2 * FFA_PAGE_BYTES * i);
+        store(TX + 80 + 16 * i, PAGES + 2 * GORSEPLUMB_PAGE_SIZE * i);
         store(TX + 88 + 16 * i, 1);
     }
     uint64_t handle = count("lend", LEND, size, size).x[2];
@@ -104,15 +104,16 @@ static void transaction(uint64_t ranges) {
 }
 
 int main(void) {
-    struct ffa_lent lent = {0};
-    if (lend_all(&lent, pages, RAM_PAGES) != FFA_OK) stop("no pages were lent");
-    if (ffa_boot_lent(&machine, &lent, (const uint8_t *)manifest, sizeof manifest - 1) != FFA_OK) stop("the manifest is refused");
-    call(BUFFER_MAP, TX, TX + FFA_PAGE_BYTES, 1);
+    struct gorseplumb_lent lent = {0};
+    if (gorseplumb_lend_all(&lent, pages, RAM_PAGES) != GORSEPLUMB_OK) stop("no pages were lent");
+    if (gorseplumb_boot_lent(&machine, &lent, (const uint8_t *)manifest, sizeof manifest - 1) != GORSEPLUMB_OK)
+        stop("the manifest is refused");
+    call(BUFFER_MAP, TX, TX + GORSEPLUMB_PAGE_SIZE, 1);
     call(RUN, PARTITION << 16, 0, 0);
-    call(BUFFER_MAP, TX_OF_PARTITION, TX_OF_PARTITION + FFA_PAGE_BYTES, 1);
+    call(BUFFER_MAP, TX_OF_PARTITION, TX_OF_PARTITION + GORSEPLUMB_PAGE_SIZE, 1);
     call(WAIT, 0, 0, 0);
     transaction(1);
-    transaction(FFA_MOST_RANGES);
+    transaction(GORSEPLUMB_MOST_RANGES);
     transaction(1);
     return 0;
 }

@@ -8,17 +8,17 @@
 #include "gorseplumb.h"
 
 struct board {
-    struct ffa_machine machine;
+    struct gorseplumb_machine machine;
     uint32_t pages; /* of RAM */
     uint32_t count; /* of endpoints */
-    struct endpoint endpoints[FFA_MOST_ENDPOINTS];
+    struct endpoint endpoints[GORSEPLUMB_MOST_ENDPOINTS];
     uint32_t running; /* a place of the manifest */
 };
 
 static inline struct endpoint *running(struct board *board) { return &board->endpoints[board->running]; }
 
-/* How a machine is made of a manifest's text in the pages of a list: ffa_boot_lent. */
-typedef uint32_t boot_in_list(struct ffa_machine *machine, struct ffa_lent *list, const uint8_t *text, size_t size);
+/* How a machine is made of a manifest's text in the pages of a list: gorseplumb_boot_lent. */
+typedef uint32_t boot_in_list(struct gorseplumb_machine *machine, struct gorseplumb_lent *list, const uint8_t *text, size_t size);
 
 /* Makes the machine of a manifest's text in the first pages of the board's own RAM, as many as the manifest asks for. Its endpoints have their
  * identifiers and their tables then. */
@@ -32,7 +32,7 @@ void end_memory(void);
 void serve_call(struct board *board);
 
 /* What a firmware does right before the core has a call, and right behind its answer. Each firmware defines both. */
-void begin_call(struct board *board, const struct ffa_registers *registers);
-void end_call(struct board *board, const struct ffa_registers *registers, const struct ffa_outcome *outcome);
+void begin_call(struct board *board, const struct gorseplumb_registers *registers);
+void end_call(struct board *board, const struct gorseplumb_registers *registers, const struct gorseplumb_outcome *outcome);
 
 #endif

@@ -3,8 +3,8 @@
 #include "tables.h"
 #include "text.h"
 
-static struct ffa_registers first_registers(const struct context *context) {
-    struct ffa_registers registers;
+static struct gorseplumb_registers first_registers(const struct context *context) {
+    struct gorseplumb_registers registers;
     for (unsigned i = 0; i < 8; i++) registers.x[i] = context->x[i];
     return registers;
 }
@@ -17,13 +17,13 @@ static void switch_to(struct board *board, uint32_t next) {
 }
 
 void serve_call(struct board *board) {
-    struct ffa_registers registers = first_registers(&running(board)->context);
+    struct gorseplumb_registers registers = first_registers(&running(board)->context);
     begin_call(board, &registers);
-    struct ffa_outcome outcome = ffa_call(&board->machine, &registers);
+    struct gorseplumb_outcome outcome = gorseplumb_call(&board->machine, &registers);
     after_call((uint32_t)registers.x[0], (uint32_t)outcome.x[0]);
     end_call(board, &registers, &outcome);
     uint32_t next = place_of(outcome.runner);
-    if (outcome.kind != FFA_REGISTERS || next >= board->count) stop("the core's outcome is no answer to a call");
+    if (outcome.kind != GORSEPLUMB_KIND_REGISTERS || next >= board->count) stop("the core's outcome is no answer to a call");
     if (next != board->running) switch_to(board, next);
     for (unsigned i = 0; i < 8; i++) running(board)->context.x[i] = outcome.x[i];
 }

@@ -7,7 +7,8 @@ compiler=aarch64-linux-gnu-gcc
 copier=aarch64-linux-gnu-objcopy
 emulator=qemu-system-aarch64
 flags=(-std=c11 -Wall -Wextra -Wpedantic -Wshadow -Werror -ffreestanding -fno-stack-protector -fno-tree-loop-distribute-patterns
-    -mno-outline-atomics "-I$top/c" "-I$board" -DARRAY_TELLS -DARRAY_BYTES=0x1000000 -nostdlib -static "-Wl,--gc-sections" "-Wl,--build-id=none")
+    -mno-outline-atomics "-I$top/c" "-I$board" -DGORSEPLUMB_ARRAY_TELLS -DGORSEPLUMB_ARRAY_BYTES=0x1000000
+    -nostdlib -static "-Wl,--gc-sections" "-Wl,--build-id=none")
 
 # A program for EL1 that stands in pages of its own: no translation, no vector registers, no variables, and no access that isn't aligned.
 program_flags=(-Os -fpie -mgeneral-regs-only -mstrict-align -ffunction-sections)

@@ -6,7 +6,7 @@
 
 #define MOST_PAGES 24 /* of an endpoint that generators work with */
 
-static uint64_t pages[FFA_MOST_ENDPOINTS][MOST_PAGES];
+static uint64_t pages[GORSEPLUMB_MOST_ENDPOINTS][MOST_PAGES];
 static uint64_t notices[MOST_NOTICES][NOTICE_WORDS];
 static uint64_t seed_of_all, left;
 
@@ -22,9 +22,9 @@ static bool is_of_programs(struct board *board, uint64_t address) {
 static void find_pages(struct board *board, uint32_t place) {
     uint32_t count = 0;
     for (uint32_t page = 0; page < board->pages && count < MOST_PAGES; page++) {
-        uint64_t address = RAM_BASE + (uint64_t)FFA_PAGE_BYTES * page;
+        uint64_t address = RAM_BASE + (uint64_t)GORSEPLUMB_PAGE_SIZE * page;
         bool edge = page < 512 || page % 512 < 4 || page % 512 == 511;
-        bool own = ffa_owner(&board->machine, page) == identifier_of(place);
+        bool own = gorseplumb_owner(&board->machine, page) == identifier_of(place);
         if (own && edge && !is_of_programs(board, address)) pages[place][count++] = address;
     }
     if (count < 4) stop("an endpoint has too few pages for its generator");

@@ -62,7 +62,7 @@ struct operation next_operation(struct board *of) {
 void firmware(void) {
     uint64_t seed, count;
     begin_tables(PROGRAM_HCR);
-    boot(&board, (const char *)MANIFEST_TEXT, ffa_boot_lent);
+    boot(&board, (const char *)MANIFEST_TEXT, gorseplumb_boot_lent);
     begin_scene(&seed, &count);
     place_programs(&board, generated);
     if (generated) begin_generators(&board, seed, count);

@@ -3,12 +3,12 @@
 #include "board.h"
 #include "text.h"
 
-void array_asked(void);
+void gorseplumb_array_asked(void);
 
 static bool ended;
 
 void end_memory(void) { ended = true; }
 
-void array_asked(void) {
+void gorseplumb_array_asked(void) {
     if (ended) stop("an operation asks for memory");
 }

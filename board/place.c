@@ -8,8 +8,8 @@
 /* Where an endpoint's program stands: the last page that it may load, store and fetch. */
 static uint64_t page_of_program(struct board *board, uint16_t identifier) {
     for (uint32_t page = board->pages; page > 0; page--) {
-        if (ffa_access(&board->machine, identifier, page - 1) == (FFA_WRITE | FFA_EXECUTE)) {
-            return RAM_BASE + (uint64_t)FFA_PAGE_BYTES * (page - 1);
+        if (gorseplumb_access(&board->machine, identifier, page - 1) == (GORSEPLUMB_WRITE | GORSEPLUMB_EXECUTE)) {
+            return RAM_BASE + (uint64_t)GORSEPLUMB_PAGE_SIZE * (page - 1);
         }
     }
     stop("an endpoint has no page for its program");
@@ -19,15 +19,15 @@ static uint64_t page_of_program(struct board *board, uint16_t identifier) {
 static void store(struct board *board, uint64_t address, uint64_t value) {
     struct operation operation = {.kind = STORE, .address = address, .size = 8, .value = value};
     put_operation(&operation);
-    if (ffa_store(&board->machine, address, 8, value).kind != FFA_DONE) stop("a program can't be stored");
+    if (gorseplumb_store(&board->machine, address, 8, value).kind != GORSEPLUMB_KIND_DONE) stop("a program can't be stored");
     put_done();
 }
 
 static void call(struct board *board, uint64_t function, uint64_t argument) {
     struct operation operation = {.kind = CALL, .x = {function, argument}};
-    struct ffa_registers registers = {.x = {function, argument}};
+    struct gorseplumb_registers registers = {.x = {function, argument}};
     put_operation(&operation);
-    struct ffa_outcome told = ffa_call(&board->machine, &registers);
+    struct gorseplumb_outcome told = gorseplumb_call(&board->machine, &registers);
     put_registers(told.runner, told.x);
 }
 

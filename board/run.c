@@ -78,13 +78,13 @@ static void seen(struct board *board) {
     endpoint->phase = SETTLED;
 }
 
-void begin_call(struct board *board, const struct ffa_registers *registers) {
+void begin_call(struct board *board, const struct gorseplumb_registers *registers) {
     (void)registers;
     if (running(board)->operation.kind != CALL || running(board)->phase != DOING) unexpected(board, "call");
     begin_change();
 }
 
-void end_call(struct board *board, const struct ffa_registers *registers, const struct ffa_outcome *outcome) {
+void end_call(struct board *board, const struct gorseplumb_registers *registers, const struct gorseplumb_outcome *outcome) {
     (void)registers, (void)outcome;
     end_change(board);
     answered = true;

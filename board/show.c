@@ -11,25 +11,25 @@ SYSTEM_REGISTER(par_el1)
 #define ALL_PAGES (1u << 20) /* of the 2^32 addresses that stage 2 takes */
 
 /* What each endpoint may do with each page: bit 0 is to load, bit 1 to store, bit 2 to fetch. */
-static uint8_t reached[FFA_MOST_ENDPOINTS][MOST_PAGES];
+static uint8_t reached[GORSEPLUMB_MOST_ENDPOINTS][MOST_PAGES];
 
 /* Loads and stores are the walk's answers; no instruction asks a walk for a fetch, so that is the core's. */
 static void ask_walks(struct board *board, uint32_t place) {
     struct endpoint *endpoint = &board->endpoints[place];
     walk_tables(place, endpoint->root);
     for (uint32_t page = 0; page < board->pages; page++) {
-        uint64_t address = RAM_BASE + (uint64_t)FFA_PAGE_BYTES * page;
-        unsigned fetches = ffa_access(&board->machine, endpoint->identifier, page) & FFA_EXECUTE;
+        uint64_t address = RAM_BASE + (uint64_t)GORSEPLUMB_PAGE_SIZE * page;
+        unsigned fetches = gorseplumb_access(&board->machine, endpoint->identifier, page) & GORSEPLUMB_EXECUTE;
         reached[place][page] = (uint8_t)(fetches | (walk_reads(address) ? 1u : 0u) | (walk_writes(address) ? 2u : 0u));
     }
 }
 
 /* The first page outside RAM that the walk of an endpoint's tables gives it, and ALL_PAGES where there is none. */
 static uint32_t reached_outside(struct board *board, uint32_t place) {
-    uint32_t first = RAM_BASE / FFA_PAGE_BYTES, page = 0;
+    uint32_t first = RAM_BASE / GORSEPLUMB_PAGE_SIZE, page = 0;
     walk_tables(place, board->endpoints[place].root);
     for (; page < ALL_PAGES; page++) {
-        uint64_t address = (uint64_t)FFA_PAGE_BYTES * page;
+        uint64_t address = (uint64_t)GORSEPLUMB_PAGE_SIZE * page;
         bool outside = page < first || page >= first + board->pages;
         if (outside && (walk_reads(address) || walk_writes(address))) break;
     }
@@ -45,7 +45,7 @@ void look_outside(struct board *board) {
 }
 
 static bool is_as_before(struct board *board, uint32_t page) {
-    if (ffa_owner(&board->machine, page) != ffa_owner(&board->machine, page - 1)) return false;
+    if (gorseplumb_owner(&board->machine, page) != gorseplumb_owner(&board->machine, page - 1)) return false;
     for (uint32_t place = 0; place < board->count; place++) {
         if (reached[place][page] != reached[place][page - 1]) return false;
     }
@@ -55,11 +55,11 @@ static bool is_as_before(struct board *board, uint32_t page) {
 static void put_run(struct board *board, uint32_t first, uint32_t behind) {
     static const char *const rights[] = {" ---", " r--", " -w-", " rw-", " --x", " r-x", " -wx", " rwx"};
     put_text("< pages ");
-    put_hex(RAM_BASE + (uint64_t)FFA_PAGE_BYTES * first, 8);
+    put_hex(RAM_BASE + (uint64_t)GORSEPLUMB_PAGE_SIZE * first, 8);
     put_text(" ");
-    put_hex(RAM_BASE + (uint64_t)FFA_PAGE_BYTES * behind - 1, 8);
+    put_hex(RAM_BASE + (uint64_t)GORSEPLUMB_PAGE_SIZE * behind - 1, 8);
     put_text(" ");
-    put_hex(ffa_owner(&board->machine, first), 4);
+    put_hex(gorseplumb_owner(&board->machine, first), 4);
     for (uint32_t place = 0; place < board->count; place++) put_text(rights[reached[place][first]]);
     put_text("\n");
 }

@@ -40,8 +40,8 @@ void walk_tables(uint32_t place, uint64_t root) { load_root(root, VMID_OF(place)
 static void forget(uint32_t place, uint64_t address, uint64_t size) {
     uint64_t walked = read_vttbr_el2();
     load_root((uintptr_t)maps_nothing, VMID_OF(place));
-    if (size <= MOST_SINGLY * FFA_PAGE_BYTES) {
-        for (uint64_t page = address; page < address + size; page += FFA_PAGE_BYTES) {
+    if (size <= MOST_SINGLY * GORSEPLUMB_PAGE_SIZE) {
+        for (uint64_t page = address; page < address + size; page += GORSEPLUMB_PAGE_SIZE) {
             __asm__ volatile("tlbi ipas2e1is, %0" : : "r"(page >> 12) : "memory");
         }
         DO("dsb ish");
@@ -60,7 +60,7 @@ void settle_tables(uint16_t endpoint, uint64_t address, uint64_t size) {
     DO("dsb ishst");
     if (size == 0) return;
     settled.times++;
-    settled.pages += size / FFA_PAGE_BYTES;
+    settled.pages += size / GORSEPLUMB_PAGE_SIZE;
     if (SETTLE) forget(place_of(endpoint), address, size);
 }
 

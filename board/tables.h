@@ -28,7 +28,7 @@ void begin_tables(uint64_t hcr);
 /* Has EL1 walk the tables of the endpoint at a place of the manifest, whose level 1 table this is. */
 void walk_tables(uint32_t place, uint64_t root);
 
-/* What ffa_settle has to do, which each firmware defines. */
+/* What gorseplumb_settle has to do, which each firmware defines. */
 void settle_tables(uint16_t endpoint, uint64_t address, uint64_t size);
 
 /* How often translations had to be forgotten, and of how many pages. */

@@ -32,7 +32,7 @@
 enum access { A_LOAD, A_STORE, A_FETCH, ACCESSES };
 enum gives { DATA, FAULT };
 
-/* What a page has for the endpoint: its right, as ffa_access says it, and the word that is loaded. */
+/* What a page has for the endpoint: its right, as gorseplumb_access says it, and the word that is loaded. */
 struct sight {
     uint32_t right;
     uint64_t word;
@@ -90,7 +90,8 @@ static void unlock(void) { write_now(&held, 0); }
 
 /* The words are those that stand in RAM: the first processor's endpoints store them, and the core's zeros are written over them. */
 static struct sight look(struct board *board, uint64_t address) {
-    struct sight sight = {.right = ffa_access(&board->machine, watch.identifier, (uint32_t)((address - RAM_BASE) / FFA_PAGE_BYTES))};
+    uint32_t page = (uint32_t)((address - RAM_BASE) / GORSEPLUMB_PAGE_SIZE);
+    struct sight sight = {.right = gorseplumb_access(&board->machine, watch.identifier, page)};
     sight.word = *(const volatile uint64_t *)(address + WORD_AT);
     return sight;
 }
@@ -140,7 +141,7 @@ static enum gives try_access(struct seen *seen, uint64_t address, uint64_t store
 /* Whether an access gives this where the page is so. Of a fetch that is whether it faults: which word is executed isn't judged, since QEMU before
  * 8.1 may keep what it made of code that another processor changes at the same time. */
 static bool fits(const struct seen *seen, const struct sight *sight) {
-    static const uint32_t needed[ACCESSES] = {FFA_READ, FFA_WRITE, FFA_EXECUTE};
+    static const uint32_t needed[ACCESSES] = {GORSEPLUMB_READ, GORSEPLUMB_WRITE, GORSEPLUMB_EXECUTE};
     bool granted = (sight->right & needed[seen->access]) == needed[seen->access];
     if (seen->gives == FAULT || !granted) return (seen->gives == FAULT) != granted;
     return seen->access != A_LOAD || seen->value == sight->word;
@@ -264,7 +265,7 @@ static void await_watch(void) {
     while (watch.on && is_awaited() && !read_now(&waits)) continue;
 }
 
-void ffa_settle(uint16_t endpoint, uint64_t address, uint64_t size) {
+void gorseplumb_settle(uint16_t endpoint, uint64_t address, uint64_t size) {
     static uint32_t turn;
     if (size != 0) note_settling(endpoint);
     settle_tables(endpoint, address, size);

@@ -1,20 +1,21 @@
 /* SPDX-License-Identifier: MIT OR Apache-2.0 */
-/* The memory of libffa_c.a with no C library: the three functions that it asks of the program, over an array of ARRAY_BYTES, of which a
- * block is given and never taken back. A block is aligned to 16, and `p` is never null, even where there is no memory. */
+/* The memory of libffa_c.a with no C library: the three functions that it asks of the program, over an array of
+ * GORSEPLUMB_ARRAY_BYTES, of which a block is given and never taken back. A block is aligned to 16, and `p` is never null, even
+ * where there is no memory. */
 #include <stdbool.h>
 #include <stddef.h>
 
 void *memcpy(void *to, const void *from, size_t size);
 
-#ifndef ARRAY_BYTES
-#define ARRAY_BYTES (1 << 20) /* lent pages are RAM, so a boot takes little */
+#ifndef GORSEPLUMB_ARRAY_BYTES
+#define GORSEPLUMB_ARRAY_BYTES (1 << 20) /* lent pages are RAM, so a boot takes little */
 #endif
 
-/* A program that wants to know of each block that is asked for defines ARRAY_TELLS, and this function. */
-#ifdef ARRAY_TELLS
-void array_asked(void);
+/* A program that wants to know of each block that is asked for defines GORSEPLUMB_ARRAY_TELLS, and this function. */
+#ifdef GORSEPLUMB_ARRAY_TELLS
+void gorseplumb_array_asked(void);
 #else
-static void array_asked(void) {}
+static void gorseplumb_array_asked(void) {}
 #endif
 
 struct tried {
@@ -26,11 +27,11 @@ struct tried rattle_alloc(size_t size, size_t align);
 struct tried rattle_realloc(void *block, size_t kept, size_t size, size_t align);
 void rattle_dealloc(void *block);
 
-static _Alignas(16) unsigned char memory[ARRAY_BYTES];
+static _Alignas(16) unsigned char memory[GORSEPLUMB_ARRAY_BYTES];
 static size_t taken;
 
 struct tried rattle_alloc(size_t size, size_t align) {
-    array_asked();
+    gorseplumb_array_asked();
     size_t whole = ((size != 0 ? size : align) + 15) & ~(size_t)15;
     if (whole > sizeof memory - taken) return (struct tried){false, memory};
     taken += whole;

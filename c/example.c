@@ -6,17 +6,17 @@
 #include "machine.toml.h"
 
 int main(void) {
-    struct ffa_machine machine = {0};
-    uint32_t booted = ffa_boot(&machine, (const uint8_t *)manifest, sizeof manifest - 1);
-    if (booted != FFA_OK) {
+    struct gorseplumb_machine machine = {0};
+    uint32_t booted = gorseplumb_boot(&machine, (const uint8_t *)manifest_text, sizeof manifest_text - 1);
+    if (booted != GORSEPLUMB_OK) {
         fprintf(stderr, "not booted: %" PRIu32 "\n", booted);
         return 1;
     }
-    ffa_store(&machine, 0x40010000, 1, 0x2A);
-    printf("loaded %02" PRIX64 "\n", ffa_load(&machine, 0x40010000, 1).value);
-    struct ffa_registers run = {{0x8400006D, 0x80010000}};
-    struct ffa_outcome told = ffa_call(&machine, &run);
+    gorseplumb_store(&machine, 0x40010000, 1, 0x2A);
+    printf("loaded %02" PRIX64 "\n", gorseplumb_load(&machine, 0x40010000, 1).value);
+    struct gorseplumb_registers run = {{0x8400006D, 0x80010000}};
+    struct gorseplumb_outcome told = gorseplumb_call(&machine, &run);
     printf("runner %04" PRIX32 " sees %" PRIX64 "\n", told.runner, told.x[0]);
-    struct ffa_lent none = {0}; /* no page was lent */
-    return ffa_free(&machine, &none) == FFA_OK ? 0 : 1;
+    struct gorseplumb_lent none = {0}; /* no page was lent */
+    return gorseplumb_free(&machine, &none) == GORSEPLUMB_OK ? 0 : 1;
 }

@@ -5,29 +5,29 @@
 #include "lending.h"
 
 /* No processor walks these tables: nothing is to be settled. */
-void ffa_settle(uint16_t endpoint, uint64_t address, uint64_t size) { (void)endpoint, (void)address, (void)size; }
+void gorseplumb_settle(uint16_t endpoint, uint64_t address, uint64_t size) { (void)endpoint, (void)address, (void)size; }
 
-static _Alignas(FFA_PAGE_BYTES) struct ffa_page pages[512];
-static struct ffa_machine machine;
-static struct ffa_lent list;
+static _Alignas(GORSEPLUMB_PAGE_SIZE) struct gorseplumb_page pages[512];
+static struct gorseplumb_machine machine;
+static struct gorseplumb_lent list;
 
 /* The normal world and one partition, in RAM of 2 MiB. */
-static const struct ffa_parts parts = {
+static const struct gorseplumb_manifest manifest = {
     .ram_base = 0x40000000,
     .ram_blocks = 1,
     .endpoint_count = 2,
     .endpoints = {
-        {.properties = 6, .region_count = 1, .regions = {{0x40010000, 16, FFA_WRITE}}},
-        {.properties = 15, .uuid = {1}, .region_count = 1, .regions = {{0x40020000, 16, FFA_WRITE | FFA_EXECUTE}}},
+        {.properties = 6, .region_count = 1, .regions = {{0x40010000, 16, GORSEPLUMB_WRITE}}},
+        {.properties = 15, .uuid = {1}, .region_count = 1, .regions = {{0x40020000, 16, GORSEPLUMB_WRITE | GORSEPLUMB_EXECUTE}}},
     },
 };
 
 static int run(void) {
-    if (lend_all(&list, pages, 512) != FFA_OK) return 1;
-    if (ffa_boot_lent_parts(&machine, &list, &parts) != FFA_OK) return 2;
-    if (ffa_store(&machine, 0x40010000, 1, 0x2A).kind != FFA_DONE) return 3;
-    if (ffa_load(&machine, 0x40010000, 1).value != 0x2A || pages[16].bytes[0] != 0x2A) return 4;
-    if (ffa_free(&machine, &list) != FFA_OK || !take_all_back(&list, pages, 512)) return 5;
+    if (gorseplumb_lend_all(&list, pages, 512) != GORSEPLUMB_OK) return 1;
+    if (gorseplumb_boot_lent_manifest(&machine, &list, &manifest) != GORSEPLUMB_OK) return 2;
+    if (gorseplumb_store(&machine, 0x40010000, 1, 0x2A).kind != GORSEPLUMB_KIND_DONE) return 3;
+    if (gorseplumb_load(&machine, 0x40010000, 1).value != 0x2A || pages[16].bytes[0] != 0x2A) return 4;
+    if (gorseplumb_free(&machine, &list) != GORSEPLUMB_OK || !gorseplumb_take_all_back(&list, pages, 512)) return 5;
     return 0;
 }
 

@@ -6,20 +6,20 @@
 
 #include "gorseplumb.h"
 
-/* Makes a list of these pages. Where the answer isn't FFA_OK nothing has changed. */
-static inline uint32_t lend_all(struct ffa_lent *lent, struct ffa_page *pages, uint32_t count) {
-    struct ffa_span span = {pages, count};
-    uint32_t answer = ffa_begin_lending(lent, count);
-    return answer == FFA_OK && count != 0 ? ffa_lend_span(lent, &span) : answer;
+/* Makes a list of these pages. Where the answer isn't GORSEPLUMB_OK nothing has changed. */
+static inline uint32_t gorseplumb_lend_all(struct gorseplumb_lent *lent, struct gorseplumb_page *pages, uint32_t count) {
+    struct gorseplumb_span span = {pages, count};
+    uint32_t answer = gorseplumb_begin_lending(lent, count);
+    return answer == GORSEPLUMB_OK && count != 0 ? gorseplumb_lend_span(lent, &span) : answer;
 }
 
 /* Takes pages back, and ends the list: whether it had just these pages in this order. */
-static inline bool take_all_back(struct ffa_lent *lent, struct ffa_page *pages, uint32_t count) {
+static inline bool gorseplumb_take_all_back(struct gorseplumb_lent *lent, struct gorseplumb_page *pages, uint32_t count) {
     for (uint32_t i = count; i > 0; i--) {
-        struct ffa_slot slot = {false, 0};
-        if (ffa_take_back(lent, &slot) != FFA_OK || slot.at != &pages[i - 1]) return false;
+        struct gorseplumb_slot slot = {false, 0};
+        if (gorseplumb_take_back(lent, &slot) != GORSEPLUMB_OK || slot.at != &pages[i - 1]) return false;
     }
-    return ffa_end_lending(lent) == FFA_OK;
+    return gorseplumb_end_lending(lent) == GORSEPLUMB_OK;
 }
 
 #endif

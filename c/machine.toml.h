@@ -1,6 +1,6 @@
 /* SPDX-License-Identifier: MIT OR Apache-2.0 */
 /* The manifest of the tests: the normal world and two partitions. */
-static const char manifest[] =
+static const char manifest_text[] =
     "ram_base = 0x40000000\n"
     "ram_blocks = 1\n"
     "[[endpoint]]\n"

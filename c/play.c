@@ -1,7 +1,7 @@
 /* SPDX-License-Identifier: MIT OR Apache-2.0 */
 /* Plays a trace through the border, and prints what the program prints: play heap|lent MANIFEST TRACE. With `lent` the machine
  * stands in pages of this program. RAM is taken to begin at 40000000, as in each manifest of examples/. Of `audit` the runs are left
- * out, since the library tells no handles; whether the tables agree with ffa_access is found by a walk of their bytes. */
+ * out, since the library tells no handles; whether the tables agree with gorseplumb_access is found by a walk of their bytes. */
 #include <inttypes.h>
 #include <stdio.h>
 #include <stdlib.h>
@@ -11,7 +11,7 @@
 
 #define RAM_BASE UINT32_C(0x40000000)
 #define PAGES_OF_BLOCK 512
-#define MOST_PAGES (FFA_MOST_BLOCKS * PAGES_OF_BLOCK)
+#define MOST_PAGES (GORSEPLUMB_MOST_BLOCKS * PAGES_OF_BLOCK)
 
 /* Fields of a table's word (DDI 0487, D8.3). */
 #define WORDS 512
@@ -20,7 +20,7 @@
 #define ACCESS_FLAG (UINT64_C(1) << 10)
 #define EXECUTE_NEVER (UINT64_C(1) << 54)
 
-static struct ffa_machine machine;
+static struct gorseplumb_machine machine;
 
 static void stop(const char *why) {
     fprintf(stderr, "play: %s\n", why);
@@ -48,21 +48,21 @@ static void print_value(uint64_t value, unsigned size) {
     printf("data %0*" PRIX64 "\n", (int)(2 * size), value);
 }
 
-static void print_outcome(struct ffa_outcome told, unsigned size) {
+static void print_outcome(struct gorseplumb_outcome told, unsigned size) {
     static const char *const faults[] = {"", "translation", "permission", "alignment", "access-flag", "outside-ram"};
     switch (told.kind) {
-    case FFA_REGISTERS:
+    case GORSEPLUMB_KIND_REGISTERS:
         printf("regs %04" PRIX32, told.runner);
         for (int i = 0; i < 8; i++) printf(" %016" PRIX64, told.x[i]);
         printf("\n");
         break;
-    case FFA_DATA:
+    case GORSEPLUMB_KIND_DATA:
         print_value(told.value, size);
         break;
-    case FFA_DONE:
+    case GORSEPLUMB_KIND_DONE:
         printf("done\n");
         break;
-    case FFA_FAULT:
+    case GORSEPLUMB_KIND_FAULT:
         if (told.value == 0 || told.value > 5) stop("a fault of no kind");
         printf("fault %s\n", faults[told.value]);
         break;
@@ -75,63 +75,63 @@ static uint16_t identifier(uint32_t place) { return place == 0 ? 0 : (uint16_t)(
 
 static uint32_t pages_of_ram(void) {
     uint32_t pages = 0;
-    while (ffa_owner(&machine, pages) != FFA_NOTHING) pages++;
+    while (gorseplumb_owner(&machine, pages) != GORSEPLUMB_NOTHING) pages++;
     return pages;
 }
 
 /* The number of a page of RAM; one that RAM doesn't have for an address outside. */
 static uint32_t page_of(uint64_t address) {
-    uint64_t page = (address - RAM_BASE) / FFA_PAGE_BYTES;
+    uint64_t page = (address - RAM_BASE) / GORSEPLUMB_PAGE_SIZE;
     return page < MOST_PAGES ? (uint32_t)page : MOST_PAGES;
 }
 
 static bool is_as_before(uint32_t page, uint32_t endpoints) {
-    if (ffa_owner(&machine, page) != ffa_owner(&machine, page - 1)) return false;
+    if (gorseplumb_owner(&machine, page) != gorseplumb_owner(&machine, page - 1)) return false;
     for (uint32_t place = 0; place < endpoints; place++) {
         uint16_t endpoint = identifier(place);
-        if (ffa_access(&machine, endpoint, page) != ffa_access(&machine, endpoint, page - 1)) return false;
+        if (gorseplumb_access(&machine, endpoint, page) != gorseplumb_access(&machine, endpoint, page - 1)) return false;
     }
     return true;
 }
 
 static void show(void) {
     static const char *const rights[] = {"---", "r--", "", "rw-", "", "r-x", "", "rwx"};
-    uint32_t endpoints = ffa_endpoints(&machine);
-    printf("runner %04" PRIX32 "\n", ffa_runner(&machine));
+    uint32_t endpoints = gorseplumb_endpoints(&machine);
+    printf("runner %04" PRIX32 "\n", gorseplumb_runner(&machine));
     uint32_t first = 0;
-    while (ffa_owner(&machine, first) != FFA_NOTHING) {
+    while (gorseplumb_owner(&machine, first) != GORSEPLUMB_NOTHING) {
         uint32_t behind = first + 1;
-        while (ffa_owner(&machine, behind) != FFA_NOTHING && is_as_before(behind, endpoints)) behind++;
-        uint64_t start = RAM_BASE + (uint64_t)FFA_PAGE_BYTES * first, end = RAM_BASE + (uint64_t)FFA_PAGE_BYTES * behind;
-        printf("pages %08" PRIX64 " %08" PRIX64 " %04" PRIX32, start, end - 1, ffa_owner(&machine, first));
+        while (gorseplumb_owner(&machine, behind) != GORSEPLUMB_NOTHING && is_as_before(behind, endpoints)) behind++;
+        uint64_t start = RAM_BASE + (uint64_t)GORSEPLUMB_PAGE_SIZE * first, end = RAM_BASE + (uint64_t)GORSEPLUMB_PAGE_SIZE * behind;
+        printf("pages %08" PRIX64 " %08" PRIX64 " %04" PRIX32, start, end - 1, gorseplumb_owner(&machine, first));
         for (uint32_t place = 0; place < endpoints; place++) {
-            printf(" %s", rights[ffa_access(&machine, identifier(place), first)]);
+            printf(" %s", rights[gorseplumb_access(&machine, identifier(place), first)]);
         }
         printf("\n");
         first = behind;
     }
 }
 
-/* What a word that maps pages from an address on lets an endpoint do with each of them, as ffa_access says it. */
+/* What a word that maps pages from an address on lets an endpoint do with each of them, as gorseplumb_access says it. */
 static uint32_t right_of(uint64_t word) {
     if ((word & ACCESS_FLAG) == 0) return 0;
-    return (uint32_t)(word >> 6 & 3) | (word & EXECUTE_NEVER ? 0 : FFA_EXECUTE);
+    return (uint32_t)(word >> 6 & 3) | (word & EXECUTE_NEVER ? 0 : GORSEPLUMB_EXECUTE);
 }
 
-/* Whether a word maps just the pages of so many bytes to which ffa_access says that the endpoint has access. */
+/* Whether a word maps just the pages of so many bytes to which gorseplumb_access says that the endpoint has access. */
 static bool maps(uint16_t endpoint, uint64_t word, bool is_leaf, uint64_t first, uint64_t size) {
     if (is_leaf && (word & ADDRESS) != first) return false;
-    for (uint64_t address = first; address < first + size; address += FFA_PAGE_BYTES) {
-        if (ffa_access(&machine, endpoint, page_of(address)) != (is_leaf ? right_of(word) : 0)) return false;
+    for (uint64_t address = first; address < first + size; address += GORSEPLUMB_PAGE_SIZE) {
+        if (gorseplumb_access(&machine, endpoint, page_of(address)) != (is_leaf ? right_of(word) : 0)) return false;
     }
     return true;
 }
 
 /* The same of the table of a level, and of those that it leads to. */
 static bool agrees(uint16_t endpoint, uint64_t table, int level, uint64_t first) {
-    uint64_t words[WORDS], size = (uint64_t)FFA_PAGE_BYTES << 9 * (3 - level);
-    struct ffa_page bytes;
-    if (!ffa_read_page(&machine, page_of(table), &bytes)) return false;
+    uint64_t words[WORDS], size = (uint64_t)GORSEPLUMB_PAGE_SIZE << 9 * (3 - level);
+    struct gorseplumb_page bytes;
+    if (!gorseplumb_read_page(&machine, page_of(table), &bytes)) return false;
     memcpy(words, bytes.bytes, sizeof words);
     for (uint64_t i = 0; i < WORDS && first + size * i <= UINT32_MAX; i++) {
         uint64_t word = words[i], address = first + size * i;
@@ -142,12 +142,12 @@ static bool agrees(uint16_t endpoint, uint64_t table, int level, uint64_t first)
 }
 
 static void audit(void) {
-    uint32_t pages = pages_of_ram(), endpoints = ffa_endpoints(&machine);
-    uint64_t end = RAM_BASE + (uint64_t)FFA_PAGE_BYTES * pages;
+    uint32_t pages = pages_of_ram(), endpoints = gorseplumb_endpoints(&machine);
+    uint64_t end = RAM_BASE + (uint64_t)GORSEPLUMB_PAGE_SIZE * pages;
     bool all_agree = true;
     printf("cert %08" PRIX32 " %08" PRIX64 " %" PRIX32 "\n", RAM_BASE, end - 1, endpoints);
     for (uint32_t place = 0; place < endpoints; place++) {
-        uint64_t root = RAM_BASE + (uint64_t)FFA_PAGE_BYTES * place * (2 + pages / PAGES_OF_BLOCK);
+        uint64_t root = RAM_BASE + (uint64_t)GORSEPLUMB_PAGE_SIZE * place * (2 + pages / PAGES_OF_BLOCK);
         printf("root %04" PRIX16 " %08" PRIX64 "\n", identifier(place), root);
         all_agree = all_agree && agrees(identifier(place), root, 1, 0);
     }
@@ -165,15 +165,15 @@ static void play(char *line) {
         digits = strlen(next);
     }
     if (strcmp(word, "call") == 0) {
-        struct ffa_registers registers;
+        struct gorseplumb_registers registers;
         memcpy(registers.x, numbers, sizeof registers.x);
-        print_outcome(ffa_call(&machine, &registers), 0);
+        print_outcome(gorseplumb_call(&machine, &registers), 0);
     } else if (strcmp(word, "load") == 0) {
-        print_outcome(ffa_load(&machine, numbers[0], (uint32_t)numbers[1]), (unsigned)numbers[1]);
+        print_outcome(gorseplumb_load(&machine, numbers[0], (uint32_t)numbers[1]), (unsigned)numbers[1]);
     } else if (strcmp(word, "store") == 0) {
-        print_outcome(ffa_store(&machine, numbers[0], (uint32_t)(digits / 2), numbers[1]), 0);
+        print_outcome(gorseplumb_store(&machine, numbers[0], (uint32_t)(digits / 2), numbers[1]), 0);
     } else if (strcmp(word, "fetch") == 0) {
-        print_outcome(ffa_fetch(&machine, numbers[0]), 4);
+        print_outcome(gorseplumb_fetch(&machine, numbers[0]), 4);
     } else if (strcmp(word, "show") == 0) {
         show();
     } else if (strcmp(word, "audit") == 0) {
@@ -184,22 +184,22 @@ static void play(char *line) {
 }
 
 static void boot_on_heap(const char *text, size_t size) {
-    if (ffa_boot(&machine, (const uint8_t *)text, size) != FFA_OK) stop("the manifest is refused");
+    if (gorseplumb_boot(&machine, (const uint8_t *)text, size) != GORSEPLUMB_OK) stop("the manifest is refused");
 }
 
 /* Boots in as many pages as a machine on the heap's RAM has: the answer is how many. */
-static uint32_t boot_in(struct ffa_page *pages, struct ffa_lent *lent, const char *text, size_t size) {
+static uint32_t boot_in(struct gorseplumb_page *pages, struct gorseplumb_lent *lent, const char *text, size_t size) {
     boot_on_heap(text, size);
     uint32_t count = pages_of_ram();
-    if (ffa_free(&machine, lent) != FFA_OK) stop("the machine wasn't freed");
-    if (lend_all(lent, pages, count) != FFA_OK) stop("no pages were lent");
-    if (ffa_boot_lent(&machine, lent, (const uint8_t *)text, size) != FFA_OK) stop("no boot in lent pages");
+    if (gorseplumb_free(&machine, lent) != GORSEPLUMB_OK) stop("the machine wasn't freed");
+    if (gorseplumb_lend_all(lent, pages, count) != GORSEPLUMB_OK) stop("no pages were lent");
+    if (gorseplumb_boot_lent(&machine, lent, (const uint8_t *)text, size) != GORSEPLUMB_OK) stop("no boot in lent pages");
     return count;
 }
 
 int main(int count, char **words) {
-    static struct ffa_page pages[MOST_PAGES];
-    struct ffa_lent lent = {0};
+    static struct gorseplumb_page pages[MOST_PAGES];
+    struct gorseplumb_lent lent = {0};
     if (count != 4) stop("play heap|lent MANIFEST TRACE");
     bool is_lent = strcmp(words[1], "lent") == 0;
     size_t size, trace_size;
@@ -213,8 +213,8 @@ int main(int count, char **words) {
         *end = '\0';
         play(line);
     }
-    if (ffa_free(&machine, &lent) != FFA_OK) stop("the machine wasn't freed");
-    if (is_lent && !take_all_back(&lent, pages, lent_pages)) stop("pages weren't given back");
+    if (gorseplumb_free(&machine, &lent) != GORSEPLUMB_OK) stop("the machine wasn't freed");
+    if (is_lent && !gorseplumb_take_all_back(&lent, pages, lent_pages)) stop("pages weren't given back");
     free(text);
     free(trace);
     return 0;

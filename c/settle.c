@@ -9,9 +9,9 @@ void *memcpy(void *to, const void *from, size_t size);
 ptrdiff_t write(int descriptor, const void *bytes, size_t size);
 
 ptrdiff_t write(int descriptor, const void *bytes, size_t size) {
-    struct ffa_settling asked;
-    if (descriptor != FFA_SETTLES || size != sizeof asked) return -1;
+    struct gorseplumb_settling asked;
+    if (descriptor != GORSEPLUMB_SETTLES || size != sizeof asked) return -1;
     memcpy(&asked, bytes, sizeof asked);
-    ffa_settle((uint16_t)asked.endpoint, asked.address, asked.size);
+    gorseplumb_settle((uint16_t)asked.endpoint, asked.address, asked.size);
     return (ptrdiff_t)size;
 }

@@ -11,7 +11,7 @@
 #define BELOW_BYTES 0x100000
 #define PAINT 0xA5
 
-void ffa_settle(uint16_t endpoint, uint64_t address, uint64_t size) { (void)endpoint, (void)address, (void)size; }
+void gorseplumb_settle(uint16_t endpoint, uint64_t address, uint64_t size) { (void)endpoint, (void)address, (void)size; }
 
 /* Runs a function on the stack that ends below `top`. */
 void run_on(unsigned char *top, void (*part)(void));
@@ -79,9 +79,9 @@ static _Alignas(16) struct {
     unsigned char stack[STACK_BYTES];
 } painted;
 
-static _Alignas(FFA_PAGE_BYTES) struct ffa_page pages[512];
-static struct ffa_machine machine;
-static struct ffa_lent list;
+static _Alignas(GORSEPLUMB_PAGE_SIZE) struct gorseplumb_page pages[512];
+static struct gorseplumb_machine machine;
+static struct gorseplumb_lent list;
 static const char *wrong; /* what was first not as it has to be */
 
 static void check(bool is_so, const char *what) {
@@ -89,41 +89,41 @@ static void check(bool is_so, const char *what) {
 }
 
 /* The normal world and two partitions, in RAM of 2 MiB. */
-static const struct ffa_parts parts = {
+static const struct gorseplumb_manifest manifest = {
     .ram_base = 0x40000000,
     .ram_blocks = 1,
     .endpoint_count = 3,
     .endpoints = {
-        {.properties = 6, .region_count = 1, .regions = {{0x40010000, 16, FFA_WRITE}}},
-        {.properties = 15, .uuid = {1}, .region_count = 1, .regions = {{0x40020000, 16, FFA_WRITE | FFA_EXECUTE}}},
-        {.properties = 15, .uuid = {2}, .region_count = 1, .regions = {{0x40030000, 16, FFA_WRITE}}},
+        {.properties = 6, .region_count = 1, .regions = {{0x40010000, 16, GORSEPLUMB_WRITE}}},
+        {.properties = 15, .uuid = {1}, .region_count = 1, .regions = {{0x40020000, 16, GORSEPLUMB_WRITE | GORSEPLUMB_EXECUTE}}},
+        {.properties = 15, .uuid = {2}, .region_count = 1, .regions = {{0x40030000, 16, GORSEPLUMB_WRITE}}},
     },
 };
 
-static void lend_pages(void) { check(lend_all(&list, pages, 512) == FFA_OK, "no pages are lent"); }
+static void lend_pages(void) { check(gorseplumb_lend_all(&list, pages, 512) == GORSEPLUMB_OK, "no pages are lent"); }
 
-static void boot_lent(void) { check(ffa_boot_lent_parts(&machine, &list, &parts) == FFA_OK, "no boot in lent pages"); }
+static void boot_lent(void) { check(gorseplumb_boot_lent_manifest(&machine, &list, &manifest) == GORSEPLUMB_OK, "no boot in lent pages"); }
 
-static void boot_heap(void) { check(ffa_boot_parts(&machine, &parts) == FFA_OK, "no boot on RAM of the heap"); }
+static void boot_heap(void) { check(gorseplumb_boot_manifest(&machine, &manifest) == GORSEPLUMB_OK, "no boot on RAM of the heap"); }
 
-static void end(void) { check(ffa_free(&machine, &list) == FFA_OK, "the machine doesn't end"); }
+static void end(void) { check(gorseplumb_free(&machine, &list) == GORSEPLUMB_OK, "the machine doesn't end"); }
 
-static void take_pages_back(void) { check(take_all_back(&list, pages, 512), "pages stay lent"); }
+static void take_pages_back(void) { check(gorseplumb_take_all_back(&list, pages, 512), "pages stay lent"); }
 
 /* An endpoint makes a call, behind which the runner sees `seen` in w0. */
 static void call(uint16_t endpoint, uint64_t function, uint64_t x1, uint64_t x2, uint64_t x3, uint64_t seen) {
-    struct ffa_registers given = {{function, x1, x2, x3}};
-    struct ffa_outcome told = ffa_call_as(&machine, endpoint, &given);
-    check(told.kind == FFA_REGISTERS && told.x[0] == seen, "a call has another answer");
+    struct gorseplumb_registers given = {{function, x1, x2, x3}};
+    struct gorseplumb_outcome told = gorseplumb_call_as(&machine, endpoint, &given);
+    check(told.kind == GORSEPLUMB_KIND_REGISTERS && told.x[0] == seen, "a call has another answer");
 }
 
 static void store(uint64_t address, uint64_t value) {
-    check(ffa_store(&machine, address, 8, value).kind == FFA_DONE, "a store isn't done");
+    check(gorseplumb_store(&machine, address, 8, value).kind == GORSEPLUMB_KIND_DONE, "a store isn't done");
 }
 
 static void load(uint64_t address, uint64_t value) {
-    struct ffa_outcome told = ffa_load(&machine, address, 8);
-    check(told.kind == FFA_DATA && told.value == value, "a load gives something else");
+    struct gorseplumb_outcome told = gorseplumb_load(&machine, address, 8);
+    check(told.kind == GORSEPLUMB_KIND_DATA && told.value == value, "a load gives something else");
 }
 
 /* The normal world lends 8001 a page, to read and write. */
@@ -137,7 +137,7 @@ static void lend(void) {
     store(0x4001E050, 0x40010000);
     store(0x4001E058, 1);
     call(0, FFA_MEM_LEND, 0x60, 0x60, 0, FFA_SUCCESS);
-    check(ffa_load(&machine, 0x40010000, 8).kind == FFA_FAULT, "a page that is lent is still there");
+    check(gorseplumb_load(&machine, 0x40010000, 8).kind == GORSEPLUMB_KIND_FAULT, "a page that is lent is still there");
 }
 
 /* 8001 retrieves it, and gives it up. */
@@ -156,12 +156,12 @@ static void borrow(void) {
 }
 
 static void operate(void) {
-    static struct ffa_change change;
+    static struct gorseplumb_change change;
     lend();
     call(0, FFA_RUN, 0x80010000, 0, 0, FFA_RUN);
     borrow();
-    check(ffa_changed(&machine, &change) && change.endpoint == 0x8001, "no change is told");
-    check(ffa_fetch(&machine, 0x40020000).kind == FFA_DATA, "a fetch isn't done");
+    check(gorseplumb_changed(&machine, &change) && change.endpoint == 0x8001, "no change is told");
+    check(gorseplumb_fetch(&machine, 0x40020000).kind == GORSEPLUMB_KIND_DATA, "a fetch isn't done");
     call(0x8002, FFA_ID_GET, 0, 0, 0, FFA_ERROR);
     call(0x8001, FFA_MSG_WAIT, 0, 0, 0, FFA_MSG_WAIT);
     call(0, FFA_MEM_RECLAIM, 1, 0, 0, FFA_SUCCESS);

@@ -98,7 +98,7 @@ for compiler in gcc clang; do
     $compiler $bare -Wl,--gc-sections "$here"/{freestanding,array,bytes,settle}.c "$to/native.a" -o "$to/free"
     "$to/free"
     echo "$compiler: linked with no C library, and run: $(bytes "$to/free") bytes, and $(bytes "$to/whole") with what nobody calls"
-    $compiler $bare -Wl,--gc-sections -DARRAY_BYTES=0x400000 "$here"/{small_stack,array,bytes,settle}.c "$to/native.a" -o "$to/small"
+    $compiler $bare -Wl,--gc-sections -DGORSEPLUMB_ARRAY_BYTES=0x400000 "$here"/{small_stack,array,bytes,settle}.c "$to/native.a" -o "$to/small"
     says "$compiler" "$to/small"
 done
 if has g++; then
@@ -127,7 +127,7 @@ if has aarch64-linux-gnu-gcc && has qemu-aarch64-static; then
     $arm $bare "$here"/{freestanding,array,bytes,settle}.c "$to/arm.a" -o "$to/free"
     qemu-aarch64-static "$to/free"
     echo "AArch64: linked with no C library, and run"
-    $arm $bare -DARRAY_BYTES=0x400000 "$here"/{small_stack,array,bytes,settle}.c "$to/arm.a" -o "$to/small"
+    $arm $bare -DGORSEPLUMB_ARRAY_BYTES=0x400000 "$here"/{small_stack,array,bytes,settle}.c "$to/arm.a" -o "$to/small"
     says AArch64 qemu-aarch64-static "$to/small"
     archive native
 fi

@@ -34,19 +34,19 @@ static bool serve_feature(struct context *context) {
 /* Linux is interrupted where something is pending for it and nothing was before: it asks for all that is, until it was given that. */
 static void notify_linux(struct board *board) {
     static bool was_pending;
-    bool pending = ffa_pending(&board->machine, 0);
+    bool pending = gorseplumb_pending(&board->machine, 0);
     if (pending && !was_pending) INTERRUPT_OF_ITS(PENDING_NUMBER);
     was_pending = pending;
 }
 
-void begin_call(struct board *board, const struct ffa_registers *registers) { record_call(board, registers); }
+void begin_call(struct board *board, const struct gorseplumb_registers *registers) { record_call(board, registers); }
 
-void end_call(struct board *board, const struct ffa_registers *registers, const struct ffa_outcome *outcome) {
+void end_call(struct board *board, const struct gorseplumb_registers *registers, const struct gorseplumb_outcome *outcome) {
     record_answer(board, registers, outcome);
     if (NOTIFY) notify_linux(board);
 }
 
-void ffa_settle(uint16_t endpoint, uint64_t address, uint64_t size) { settle_tables(endpoint, address, size); }
+void gorseplumb_settle(uint16_t endpoint, uint64_t address, uint64_t size) { settle_tables(endpoint, address, size); }
 
 void serve_trap(struct board *board) {
     struct context *context = &running(board)->context;

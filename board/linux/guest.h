@@ -29,8 +29,8 @@ bool serve_device(struct context *context, uint64_t syndrome, uint64_t address);
 
 /* What the core does is printed as a trace with its outcomes, between the lines of Linux: what a call reads in TX, the call, what it answers, and
  * what it wrote to RX. */
-void record_call(struct board *board, const struct ffa_registers *registers);
-void record_answer(struct board *board, const struct ffa_registers *registers, const struct ffa_outcome *outcome);
+void record_call(struct board *board, const struct gorseplumb_registers *registers);
+void record_answer(struct board *board, const struct gorseplumb_registers *registers, const struct gorseplumb_outcome *outcome);
 
 /* A line of the firmware's own begins: it ends the line of Linux's that is open. */
 void begin_line(void);

@@ -23,7 +23,7 @@ static void put_boot(uint64_t took) {
 
 void firmware(void) {
     uint64_t begin = nanoseconds();
-    boot(&board, (const char *)MANIFEST_TEXT, ffa_boot_held);
+    boot(&board, (const char *)MANIFEST_TEXT, gorseplumb_boot_held);
     put_boot(nanoseconds() - begin);
     place_endpoints(&board, (const char *)ENDPOINT_LIST);
     begin_guests(&board);

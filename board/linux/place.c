@@ -29,7 +29,7 @@ static void place_endpoint(struct board *board, const char **list) {
 /* Linux begins with its caches off, and reads what it finds behind them: what the core wrote is cleaned out of them, all of RAM. */
 static void clean_machine(struct board *board) {
     uint64_t line = UINT64_C(4) << (read_ctr_el0() >> 16 & 15);
-    uint64_t end = RAM_BASE + (uint64_t)FFA_PAGE_BYTES * board->pages;
+    uint64_t end = RAM_BASE + (uint64_t)GORSEPLUMB_PAGE_SIZE * board->pages;
     for (uint64_t at = RAM_BASE; at < end; at += line) __asm__ volatile("dc civac, %0" : : "r"(at) : "memory");
     DO("dsb sy");
 }

@@ -18,13 +18,14 @@
 
 static struct buffers {
     uint64_t tx, rx, bytes;
-} buffers[FFA_MOST_ENDPOINTS];
+} buffers[GORSEPLUMB_MOST_ENDPOINTS];
 
 static uint64_t word_at(struct board *board, uint64_t address) {
-    static struct ffa_page page;
+    static struct gorseplumb_page page;
     uint64_t word;
-    if (!ffa_read_page(&board->machine, (uint32_t)((address - RAM_BASE) / FFA_PAGE_BYTES), &page)) stop("a buffer isn't in RAM");
-    memcpy(&word, page.bytes + address % FFA_PAGE_BYTES, 8);
+    if (!gorseplumb_read_page(&board->machine, (uint32_t)((address - RAM_BASE) / GORSEPLUMB_PAGE_SIZE), &page))
+        stop("a buffer isn't in RAM");
+    memcpy(&word, page.bytes + address % GORSEPLUMB_PAGE_SIZE, 8);
     return word;
 }
 
@@ -69,9 +70,9 @@ static void put_loads(struct board *board, uint64_t address, uint64_t bytes) {
     }
 }
 
-void record_call(struct board *board, const struct ffa_registers *registers) {
+void record_call(struct board *board, const struct gorseplumb_registers *registers) {
     struct operation operation = {.kind = CALL};
-    struct buffers *of = &buffers[place_of(ffa_runner(&board->machine))];
+    struct buffers *of = &buffers[place_of(gorseplumb_runner(&board->machine))];
     if (!RECORD) return;
     begin_line();
     put_stores(board, of->tx, read_by(board, registers->x, of));
@@ -80,20 +81,20 @@ void record_call(struct board *board, const struct ffa_registers *registers) {
 }
 
 /* How many bytes a call that ended well has written to its caller's RX. */
-static uint64_t written_by(const uint64_t *x, const struct ffa_outcome *outcome) {
+static uint64_t written_by(const uint64_t *x, const struct gorseplumb_outcome *outcome) {
     if ((uint32_t)outcome->x[0] == FFA_MEM_RETRIEVE_RESP) return outcome->x[1];
     if ((uint32_t)x[0] == FFA_PARTITION_INFO_GET && (x[5] & 1) == 0) return outcome->x[2] * outcome->x[3];
     return 0;
 }
 
-void record_answer(struct board *board, const struct ffa_registers *registers, const struct ffa_outcome *outcome) {
+void record_answer(struct board *board, const struct gorseplumb_registers *registers, const struct gorseplumb_outcome *outcome) {
     uint32_t function = (uint32_t)registers->x[0];
     struct buffers *of = &buffers[place_of(outcome->runner)];
     if (!RECORD) return;
     put_registers(outcome->runner, outcome->x);
     if ((uint32_t)outcome->x[0] == FFA_ERROR) return;
     if ((function & ~WITH_64_BITS) == FFA_RXTX_MAP) {
-        *of = (struct buffers){registers->x[1], registers->x[2], FFA_PAGE_BYTES * registers->x[3]};
+        *of = (struct buffers){registers->x[1], registers->x[2], GORSEPLUMB_PAGE_SIZE * registers->x[3]};
     } else if (function == FFA_RXTX_UNMAP) {
         *of = (struct buffers){0};
     }

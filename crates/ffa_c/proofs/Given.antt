@@ -12,9 +12,9 @@ use Rattle.ffa_manifest.specs.Parts.{Tests, endpoint_tests, first_cause, first_f
 use Rattle.ffa_manifest.specs.Reading.{◌>>=◌, or_cause}
 use Rattle.ffa_manifest.specs.declared.error.ManifestError.{ManifestError}
 use Rattle.ffa_manifest.specs.declared.error.ManifestError.TheVariants.{NoMemory, Toml, UnknownKey, MissingKey, WrongKind, RamBase, RamBlocks, EndpointCount, Uuid, Property, RegionCount, RegionOutside, RegionOverlap, Version}
-use Rattle.ffa_c.specs.declared.parts.FfaEndpoint.{FfaEndpoint}
-use Rattle.ffa_c.specs.declared.parts.FfaParts.{FfaParts}
-use Rattle.ffa_c.specs.declared.parts.FfaRegion.{FfaRegion}
+use Rattle.ffa_c.specs.declared.manifest.CEndpoint.{CEndpoint}
+use Rattle.ffa_c.specs.declared.manifest.CManifest.{CManifest}
+use Rattle.ffa_c.specs.declared.manifest.CRegion.{CRegion}
 use Rattle.ffa_c.specs.Booting.{cause_number}
 use Rattle.ffa_c.specs.Given.{counted, each_given, endpoint_given, parts_given, refusal_of, region_given, rights_given, version_given}
 
@@ -46,16 +46,16 @@ counted-in-room one most count cause places other each = of (nat_le count most)
     of true = each-in-room one [] (take count places) each
     of false = other
 
-region-in-room : (r : FfaRegion) → InRoom (region_given r)
+region-in-room : (r : CRegion) → InRoom (region_given r)
 region-in-room r = or-in-room WrongKind (option_map (λ rights. record { base = r.base; pages = r.pages; rights = rights }) (rights_given r.rights)) (λ same. cc)
 
-endpoint-in-room : (e : FfaEndpoint) → InRoom (endpoint_given e)
+endpoint-in-room : (e : CEndpoint) → InRoom (endpoint_given e)
 endpoint-in-room e =
     then-in-room (or_cause Version (version_given e.version)) _ (or-in-room Version (version_given e.version) (λ same. cc)) (λ version.
     then-in-room (counted region_given MOST_REGIONS RegionCount e.region_count e.regions) _
     (counted-in-room region_given MOST_REGIONS e.region_count RegionCount e.regions (λ same. cc) region-in-room) (λ regions. tt))
 
-parts-in-room : (p : FfaParts) → InRoom (parts_given p)
+parts-in-room : (p : CManifest) → InRoom (parts_given p)
 parts-in-room p =
     then-in-room (counted endpoint_given MOST_ENDPOINTS EndpointCount p.endpoint_count p.endpoints) _
     (counted-in-room endpoint_given MOST_ENDPOINTS p.endpoint_count EndpointCount p.endpoints (λ same. cc) endpoint-in-room) (λ endpoints. tt)
@@ -112,7 +112,7 @@ cause-in-room : (parts : Parts) (cause : ManifestError) → first_cause parts �
 unfolding first_cause
 cause-in-room parts cause is = failure-in-room (tests_of parts) cause (machine-tests parts) is
 
-pub refusal-in-room : (p : FfaParts) (cause : ManifestError) → refusal_of (parts_given p) ≡ Some cause → cause ≢ NoMemory
+pub refusal-in-room : (p : CManifest) (cause : ManifestError) → refusal_of (parts_given p) ≡ Some cause → cause ≢ NoMemory
 refusal-in-room p cause is = of (parts_given p) (parts-in-room p) is
   where
     of : (r : Result Parts ManifestError) → InRoom r → refusal_of r ≡ Some cause → cause ≢ NoMemory
@@ -120,7 +120,7 @@ refusal-in-room p cause is = of (parts_given p) (parts-in-room p) is
     of (Ok parts) room is same = cause-in-room parts cause is same
 
 -- and so isn't the number that C is told
-pub number-in-room : (p : FfaParts) (cause : ManifestError) → refusal_of (parts_given p) ≡ Some cause → cause_number cause ≢ 1
+pub number-in-room : (p : CManifest) (cause : ManifestError) → refusal_of (parts_given p) ≡ Some cause → cause_number cause ≢ 1
 number-in-room p cause is = of cause (refusal-in-room p cause is)
   where
     of : (cause : ManifestError) → cause ≢ NoMemory → cause_number cause ≢ 1

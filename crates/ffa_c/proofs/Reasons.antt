@@ -10,7 +10,9 @@ use Rattle.ffa_manifest.specs.declared.error.ManifestError.TheVariants.{NoMemory
 use Rattle.ffa_spmc.specs.Snapshot.{Snapshot}
 use Rattle.ffa_c.specs.Booting.{IsFirst, IsRefusedFor, TellsWhy}
 use Rattle.ffa_c.specs.Given.{IsGivenFor}
-use Rattle.ffa_c.specs.declared.parts.FfaParts.{FfaParts}
+use Rattle.ffa_c.specs.Lending.{page_count, pages_of}
+use Rattle.ffa_c.specs.LentPages.{LentPages}
+use Rattle.ffa_c.specs.declared.manifest.CManifest.{CManifest}
 
 pub first-pages : (parts : Parts) (s : Snapshot) → IsFirst parts s → length s.ram.pages ≡ 512 * parts.ram_blocks
 unfolding first
@@ -20,16 +22,17 @@ first-pages parts s h = h.agrees.size ∙ ap (λ (x : State). length x.pages) h.
 pub text-wants-memory : (text : List ℕ) → IsUtf8 text → IsRefusedFor text NoMemory
 text-wants-memory text utf8 = record { garbled = λ garbled. absurd (garbled utf8); read = λ _ other. absurd (other refl) }
 
-pub numbers-want-memory : (given : FfaParts) → IsGivenFor given NoMemory
+pub numbers-want-memory : (given : CManifest) → IsGivenFor given NoMemory
 numbers-want-memory given other = absurd (other refl)
 
 -- why a manifest that was read isn't booted in these pages
-pub pages-why : (describes : Parts → Type 0) (is_cause : ManifestError → Type 0) (parts : Parts) (list : Option (List (List ℕ))) (number : ℕ)
-    → describes parts → is_cause NoMemory
-    → IfSome list (λ pages. (number ≡ 1) ⊎ ((number ≡ 20) × (length pages ≢ 512 * parts.ram_blocks)))
-    → IfSome list (λ pages. TellsWhy describes is_cause (length pages) number)
-pages-why describes is_cause parts None number described wanting why = why
-pages-why describes is_cause parts (Some pages) number described wanting why = elim why [
+pub pages-why : (describes : Parts → Type 0) (is_cause : ManifestError → Type 0)
+    (parts : Parts) (list : Option LentPages) (number : ℕ)
+    → describes parts → is_cause NoMemory → IfSome list (λ _. (number ≡ 1) ⊎ (number ≡ 20))
+    → (number ≡ 20 → page_count (pages_of list) ≢ 512 * parts.ram_blocks)
+    → TellsWhy describes is_cause (pages_of list) number
+pages-why describes is_cause parts None number described wanting why differs = tt
+pages-why describes is_cause parts (Some l) number described wanting why differs = elim why [
   | inl want ↦ inl (NoMemory, want, wanting)
-  | inr (told, differs) ↦ inr (record { parts = parts; described = described; differs = differs; told = told })
+  | inr told ↦ inr (record { parts = parts; described = described; differs = differs told; told = told })
 ]

@@ -1,6 +1,6 @@
 -- SPDX-License-Identifier: MIT OR Apache-2.0
 -- What a boot tells C, and what C holds after it.
-use Rattle.std.specs.Prelude.{◌≡◌, ◌≢◌, ◌⊎◌, ℕ, ◌*◌, ◌<◌, ◌≤◌, Bool, true, List, [], length, replicate, slice_index_or, Option, None, Some, Ok, Err, IsUtf8}
+use Rattle.std.specs.Prelude.{◌≡◌, ◌≢◌, ◌⊎◌, ⊤, ℕ, ◌*◌, ◌<◌, ◌≤◌, Bool, true, List, [], length, replicate, slice_index_or, Option, None, Some, Ok, Err, IsUtf8}
 use Rattle.ffa_model.specs.Agreement.{Agrees}
 use Rattle.ffa_model.specs.First.{first, first_held}
 use Rattle.ffa_model.specs.Manifest.{table_pages}
@@ -36,16 +36,19 @@ cause_number causes.Version = 14
 pub record IsFirst (parts : Parts) (s : Snapshot) : Type 0 where
   pub state : s.state ≡ first parts.ram_base parts.ram_blocks parts.endpoints
   pub agrees : Agrees s.ram s.state
-  pub cleared : (p : ℕ) → length s.state.parties * table_pages parts.ram_blocks ≤ p → p < length s.ram.pages → page_of s.ram p ≡ replicate 4096 0
+  pub cleared :
+      (p : ℕ) → length s.state.parties * table_pages parts.ram_blocks ≤ p → p < length s.ram.pages
+      → page_of s.ram p ≡ replicate 4096 0
   pub sound : IsSoundState s.state
 
--- the same where pages of its regions have the bytes of pages that are given, and all others behind the tables are zeros
+-- the same where pages of its regions have the bytes of pages that are given, and all others behind the tables are
+-- zeros
 pub record IsFirstHeld (pages : List (List ℕ)) (parts : Parts) (s : Snapshot) : Type 0 where
   pub state : s.state ≡ first_held parts.ram_base parts.ram_blocks parts.endpoints (λ p. slice_index_or pages p [])
   pub agrees : Agrees s.ram s.state
   pub cleared :
-      (p : ℕ) → length s.state.parties * table_pages parts.ram_blocks ≤ p → p < length s.ram.pages → page_at s.state p ≡ None
-      → page_of s.ram p ≡ replicate 4096 0
+      (p : ℕ) → length s.state.parties * table_pages parts.ram_blocks ≤ p → p < length s.ram.pages
+      → page_at s.state p ≡ None → page_of s.ram p ≡ replicate 4096 0
   pub sound : IsSoundState s.state
 
 -- by what a boot does with the bytes of lent pages
@@ -54,7 +57,8 @@ IsFirstBy Cleared pages parts s = IsFirst parts s
 IsFirstBy Kept pages parts s = IsFirstHeld pages parts s
 
 -- the machine of parts that C described is in a first state, over RAM that is lent or not
-pub record IsBooted (describes : Parts → Type 0) (begins : Parts → Snapshot → Type 0) (is_lent : Bool) (b : Boarded) : Type 0 where
+pub record IsBooted (describes : Parts → Type 0) (begins : Parts → Snapshot → Type 0)
+    (is_lent : Bool) (b : Boarded) : Type 0 where
   pub parts : Parts
   pub described : describes parts
   pub begun : begins parts b.machine
@@ -82,9 +86,11 @@ pub record IsWrongCount (describes : Parts → Type 0) (pages number : ℕ) : Ty
   pub differs : pages ≢ 512 * parts.ram_blocks
   pub told : number ≡ 20
 
--- the number tells why a manifest isn't booted in so many pages
-abbrev pub TellsWhy : (Parts → Type 0) → (ManifestError → Type 0) → ℕ → ℕ → Type 0
-TellsWhy describes is_cause pages number = TellsCause is_cause number ⊎ IsWrongCount describes pages number
+-- the number tells why a manifest isn't booted in the pages of a list, if there is a list
+abbrev pub TellsWhy : (Parts → Type 0) → (ManifestError → Type 0) → Option (List (List ℕ)) → ℕ → Type 0
+TellsWhy describes is_cause None number = ⊤
+TellsWhy describes is_cause (Some pages) number =
+    TellsCause is_cause number ⊎ IsWrongCount describes (length pages) number
 
 -- a text describes these parts
 abbrev pub Describes : List ℕ → Parts → Type 0

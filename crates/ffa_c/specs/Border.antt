@@ -28,7 +28,7 @@ use Rattle.ffa_spmc.specs.Among.{IsDoneReading, pages_read}
 use Rattle.ffa_spmc.specs.Moments.{AreMoments}
 use Rattle.ffa_spmc.specs.Snapshot.{Snapshot}
 use Rattle.ffa_spmc.specs.Unowned.{KeepsUnowned}
-use Rattle.ffa_c.specs.declared.outcome.FfaOutcome.{FfaOutcome}
+use Rattle.ffa_c.specs.declared.outcome.COutcome.{COutcome}
 use Rattle.ffa_c.specs.Boarded.{Boarded}
 
 abbrev pub fault_number : FaultKind → ℕ
@@ -39,16 +39,16 @@ fault_number AccessFlag = 4
 fault_number OutsideRam = 5
 
 -- an outcome without registers
-abbrev pub plain_outcome : ℕ → ℕ → FfaOutcome
+abbrev pub plain_outcome : ℕ → ℕ → COutcome
 plain_outcome kind value = record { kind = kind; runner = 0; value = value; x = replicate 8 0 }
 
-abbrev pub packed : Outcome → FfaOutcome
+abbrev pub packed : Outcome → COutcome
 packed (Regs runner x) = record { kind = 0; runner = runner.0; value = 0; x = x }
 packed (Data value) = plain_outcome 1 value
 packed Done = plain_outcome 2 0
 packed (Fault fault) = plain_outcome 3 (fault_number fault)
 
-abbrev pub nothing_done : ℕ → FfaOutcome
+abbrev pub nothing_done : ℕ → COutcome
 nothing_done kind = plain_outcome kind 0
 
 -- 1 to read, 3 to read and write, and 4 more to execute
@@ -65,7 +65,7 @@ access_code None = 0
 access_code (Some rights) = level_code rights.level + exec_code rights.exec
 
 -- an operation was done as the machine's own call promises it, and C was told the outcome
-pub record HasDone (old new : Snapshot) (op : Op) (told : FfaOutcome) : Type 0 where
+pub record HasDone (old new : Snapshot) (op : Op) (told : COutcome) : Type 0 where
   pub outcome : told ≡ packed (step old.state op).outcome
   pub state : new.state ≡ (step old.state op).state
   pub agrees : Agrees new.ram new.state
@@ -83,8 +83,9 @@ pub record HasDone (old new : Snapshot) (op : Op) (told : FfaOutcome) : Type 0 w
   pub only_writers : OnlyWriters old.state op
   pub silent_offers : OfferSaysNothing old.state op
 
--- so it was while others may have written to the runner's TX: of that it read each page once, as the machine's own call promises it
-pub record HasDoneAmong (old new : Snapshot) (op : Op) (told : FfaOutcome) : Type 0 where
+-- so it was while others may have written to the runner's TX: of that it read each page once, as the machine's own call
+-- promises it
+pub record HasDoneAmong (old new : Snapshot) (op : Op) (told : COutcome) : Type 0 where
   pub outcome : Outcome
   pub is_told : told ≡ packed outcome
   pub done : IsDoneReading (pages_read old.state op) old op outcome new
@@ -93,26 +94,32 @@ pub record HasDoneAmong (old new : Snapshot) (op : Op) (told : FfaOutcome) : Typ
   pub sound : IsSoundState new.state
 
 -- by whose the RAM is: others may write to RAM that is lent
-abbrev pub HasDoneIn : Bool → Snapshot → Snapshot → Op → FfaOutcome → Type 0
+abbrev pub HasDoneIn : Bool → Snapshot → Snapshot → Op → COutcome → Type 0
 HasDoneIn false old new op told = HasDone old new op told
 HasDoneIn true old new op told = HasDoneAmong old new op told
 
 -- the same of what C holds, which may be no machine; whose the RAM is stays
-abbrev pub Operated : Option Boarded → Option Boarded → Op → FfaOutcome → Type 0
+abbrev pub Operated : Option Boarded → Option Boarded → Op → COutcome → Type 0
 Operated None new op told = (new ≡ None) × (told ≡ nothing_done 4)
 Operated (Some old) new op told =
-    (s : Snapshot) × (new ≡ Some (record { machine = s; is_lent = old.is_lent })) × HasDoneIn old.is_lent old.machine s op told
+    (s : Snapshot) × (new ≡ Some (record { machine = s; is_lent = old.is_lent }))
+    × HasDoneIn old.is_lent old.machine s op told
 
 -- the size of so many bytes
 abbrev pub size_at : ℕ → Option Size
-size_at bytes = if bytes == 1 then Some B1 else (if bytes == 2 then Some B2 else (if bytes == 4 then Some B4 else (if bytes == 8 then Some B8 else None)))
+size_at bytes =
+    if bytes == 1 then Some B1
+    else if bytes == 2 then Some B2
+    else if bytes == 4 then Some B4
+    else if bytes == 8 then Some B8
+    else None
 
 -- the same of an access of so many bytes, where those are a size
-abbrev pub OperatedAt : Option Size → Option Boarded → Option Boarded → (Size → Op) → FfaOutcome → Type 0
+abbrev pub OperatedAt : Option Size → Option Boarded → Option Boarded → (Size → Op) → COutcome → Type 0
 OperatedAt None old new op told = (new ≡ old) × (told ≡ nothing_done 5)
 OperatedAt (Some size) old new op told = Operated old new (op size) told
 
-abbrev pub OperatedSized : Option Boarded → Option Boarded → ℕ → (Size → Op) → FfaOutcome → Type 0
+abbrev pub OperatedSized : Option Boarded → Option Boarded → ℕ → (Size → Op) → COutcome → Type 0
 OperatedSized old new bytes op told = OperatedAt (size_at bytes) old new op told
 
 -- what a question answers, of the machine if there is one

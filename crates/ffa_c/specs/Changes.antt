@@ -5,26 +5,27 @@ use Rattle.std.specs.Option.{option_and_then, option_map}
 use Rattle.ffa_model.specs.declared.endpoint.EndpointId.{EndpointId}
 use Rattle.ffa_model.specs.declared.transaction.Range.{Range}
 use Rattle.ffa_memshare.specs.declared.changed.Changed.{Changed}
-use Rattle.ffa_c.specs.declared.changes.FfaChange.{FfaChange}
-use Rattle.ffa_c.specs.declared.changes.FfaRange.{FfaRange}
+use Rattle.ffa_c.specs.declared.changes.CChange.{CChange}
+use Rattle.ffa_c.specs.declared.changes.CRange.{CRange}
 use Rattle.ffa_c.specs.Boarded.{Boarded}
 
 -- a place without a range
-abbrev pub no_range : FfaRange
+abbrev pub no_range : CRange
 no_range = record { address = 0; size = 0 }
 
 -- a range by its address and its size in bytes
-abbrev pub range_told : Range → FfaRange
+abbrev pub range_told : Range → CRange
 range_told range = record { address = range.address; size = 4096 * range.pages }
 
 -- the ranges stand in an array from its front on, and behind them none
-abbrev pub StandIn : List FfaRange → List Range → Type 0
+abbrev pub StandIn : List CRange → List Range → Type 0
 StandIn places ranges =
     (place : ℕ) (other : Range)
-    → slice_index_or places place no_range ≡ (if nat_lt place (length ranges) then range_told (slice_index_or ranges place other) else no_range)
+    → slice_index_or places place no_range
+    ≡ (if nat_lt place (length ranges) then range_told (slice_index_or ranges place other) else no_range)
 
 -- what is told says that this endpoint's access to the pages of these ranges has changed
-pub record Says (told : FfaChange) (endpoint : EndpointId) (ranges : List Range) : Type 0 where
+pub record Says (told : CChange) (endpoint : EndpointId) (ranges : List Range) : Type 0 where
   pub whose : told.endpoint ≡ endpoint.0
   pub count : told.range_count ≡ length ranges
   pub each : StandIn told.ranges ranges

@@ -14,12 +14,12 @@ use Rattle.ffa_spmc.specs.AccessChange.{IsTelling}
 use Rattle.ffa_spmc.specs.Moments.{AreMoments}
 use Rattle.ffa_spmc.specs.Snapshot.{Snapshot}
 use Rattle.ffa_spmc.specs.Unowned.{KeepsUnowned}
-use Rattle.ffa_c.specs.declared.outcome.FfaOutcome.{FfaOutcome}
+use Rattle.ffa_c.specs.declared.outcome.COutcome.{COutcome}
 use Rattle.ffa_c.specs.Boarded.{Boarded}
 use Rattle.ffa_c.specs.Border.{Operated, nothing_done, packed, size_at}
 
 -- an operation of an endpoint was done as the machine's own call promises it, and C was told the outcome
-pub record HasActed (old new : Snapshot) (e : ℕ) (op : Op) (told : FfaOutcome) : Type 0 where
+pub record HasActed (old new : Snapshot) (e : ℕ) (op : Op) (told : COutcome) : Type 0 where
   pub outcome : told ≡ packed (step_as old.state e op).outcome
   pub state : new.state ≡ (step_as old.state e op).state
   pub agrees : Agrees new.ram new.state
@@ -36,9 +36,9 @@ pub record HasActed (old new : Snapshot) (e : ℕ) (op : Op) (told : FfaOutcome)
   pub own_access : OwnAccessAs old.state e op
   pub only_writers : OnlyWritersAs old.state e op
 
--- Of what C holds, which may be no machine: the runner's operation is the machine's; so it is of another endpoint that acts; and
--- where there is no such endpoint nothing was done.
-abbrev pub OperatedAs : Option Boarded → Option Boarded → ℕ → Op → FfaOutcome → Type 0
+-- Of what C holds, which may be no machine: the runner's operation is the machine's; so it is of another endpoint that
+-- acts; and where there is no such endpoint nothing was done.
+abbrev pub OperatedAs : Option Boarded → Option Boarded → ℕ → Op → COutcome → Type 0
 OperatedAs None new e op told = (new ≡ None) × (told ≡ nothing_done 4)
 OperatedAs (Some old) new e op told =
     (is_known old.machine.state e ≡ false → (new ≡ Some old) × (told ≡ nothing_done 6))
@@ -47,9 +47,9 @@ OperatedAs (Some old) new e op told =
     → (s : Snapshot) × (new ≡ Some (record { machine = s; is_lent = old.is_lent })) × HasActed old.machine s e op told)
 
 -- the same of an access of so many bytes, where those are a size
-abbrev pub OperatedAtAs : Option Size → Option Boarded → Option Boarded → ℕ → (Size → Op) → FfaOutcome → Type 0
+abbrev pub OperatedAtAs : Option Size → Option Boarded → Option Boarded → ℕ → (Size → Op) → COutcome → Type 0
 OperatedAtAs None old new e op told = (new ≡ old) × (told ≡ nothing_done 5)
 OperatedAtAs (Some size) old new e op told = OperatedAs old new e (op size) told
 
-abbrev pub OperatedSizedAs : Option Boarded → Option Boarded → ℕ → ℕ → (Size → Op) → FfaOutcome → Type 0
+abbrev pub OperatedSizedAs : Option Boarded → Option Boarded → ℕ → ℕ → (Size → Op) → COutcome → Type 0
 OperatedSizedAs old new e bytes op told = OperatedAtAs (size_at bytes) old new e op told

@@ -14,9 +14,9 @@ use Rattle.ffa_manifest.specs.Parts.{first_cause}
 use Rattle.ffa_manifest.specs.Reading.{◌>>=◌, or_cause}
 use Rattle.ffa_manifest.specs.declared.error.ManifestError.{ManifestError}
 use Rattle.ffa_manifest.specs.declared.error.ManifestError.TheVariants.{NoMemory, WrongKind, EndpointCount, RegionCount, Version}
-use Rattle.ffa_c.specs.declared.parts.FfaRegion.{FfaRegion}
-use Rattle.ffa_c.specs.declared.parts.FfaEndpoint.{FfaEndpoint}
-use Rattle.ffa_c.specs.declared.parts.FfaParts.{FfaParts}
+use Rattle.ffa_c.specs.declared.manifest.CRegion.{CRegion}
+use Rattle.ffa_c.specs.declared.manifest.CEndpoint.{CEndpoint}
+use Rattle.ffa_c.specs.declared.manifest.CManifest.{CManifest}
 
 -- 1 to read, 3 to write too, and 4 more to execute
 abbrev pub rights_given : ℕ → Option Rights
@@ -30,8 +30,10 @@ rights_given code =
 abbrev pub version_given : ℕ → Option versions.Version
 version_given code = if code == 0 then Some V1_1 else if code == 1 then Some Compact else None
 
-abbrev pub region_given : FfaRegion → Result Region ManifestError
-region_given r = or_cause WrongKind (option_map (λ rights. record { base = r.base; pages = r.pages; rights = rights }) (rights_given r.rights))
+abbrev pub region_given : CRegion → Result Region ManifestError
+region_given r =
+    let with_rights : Rights → Region = λ rights. record { base = r.base; pages = r.pages; rights = rights } in
+    or_cause WrongKind (option_map with_rights (rights_given r.rights))
 
 -- the first of these that are given, each as it is told, or the first cause
 abbrev pub each_given : {A B : Type 0} → (A → Result B ManifestError) → List B → List A → Result (List B) ManifestError
@@ -39,22 +41,34 @@ each_given one before [] = Ok before
 each_given one before (x ∷ xs) = one x >>= λ y. each_given one (before ++ y ∷ []) xs
 
 -- so many from the front of an array, where it has as many places
-abbrev pub counted : {A B : Type 0} → (A → Result B ManifestError) → ℕ → ManifestError → ℕ → List A → Result (List B) ManifestError
+abbrev pub counted : {A B : Type 0}
+    → (A → Result B ManifestError) → ℕ → ManifestError → ℕ → List A → Result (List B) ManifestError
 counted one most cause count places = if nat_le count most then each_given one [] (take count places) else Err cause
 
-abbrev pub endpoint_given : FfaEndpoint → Result Endpoint ManifestError
+abbrev pub regions_given : CEndpoint → Result (List Region) ManifestError
+regions_given e = counted region_given MOST_REGIONS RegionCount e.region_count e.regions
+
+abbrev pub endpoint_given : CEndpoint → Result Endpoint ManifestError
 endpoint_given e = do
   version ← or_cause Version (version_given e.version)
-  regions ← counted region_given MOST_REGIONS RegionCount e.region_count e.regions
-  Ok (record { version = version; uuid = e.uuid; properties = record { 0 = e.properties }; regions = record { items = regions } })
+  regions ← regions_given e
+  Ok (record {
+    version = version;
+    uuid = e.uuid;
+    properties = record { 0 = e.properties };
+    regions = record { items = regions };
+  })
 
-abbrev pub parts_given : FfaParts → Result Parts ManifestError
-parts_given p = do
-  endpoints ← counted endpoint_given MOST_ENDPOINTS EndpointCount p.endpoint_count p.endpoints
-  Ok (record { ram_base = p.ram_base; ram_blocks = p.ram_blocks; endpoints = endpoints })
+abbrev pub endpoints_given : CManifest → Result (List Endpoint) ManifestError
+endpoints_given m = counted endpoint_given MOST_ENDPOINTS EndpointCount m.endpoint_count m.endpoints
+
+abbrev pub parts_given : CManifest → Result Parts ManifestError
+parts_given m = do
+  endpoints ← endpoints_given m
+  Ok (record { ram_base = m.ram_base; ram_blocks = m.ram_blocks; endpoints = endpoints })
 
 -- C's numbers tell these parts, and they make a machine
-pub record Gives (given : FfaParts) (parts : Parts) : Type 0 where
+pub record Gives (given : CManifest) (parts : Parts) : Type 0 where
   pub told : parts_given given ≡ Ok parts
   pub whole : first_cause parts ≡ None
 
@@ -64,5 +78,5 @@ refusal_of (Err cause) = Some cause
 refusal_of (Ok parts) = first_cause parts
 
 -- for want of memory any may be
-abbrev pub IsGivenFor : FfaParts → ManifestError → Type 0
+abbrev pub IsGivenFor : CManifest → ManifestError → Type 0
 IsGivenFor given cause = cause ≢ NoMemory → refusal_of (parts_given given) ≡ Some cause

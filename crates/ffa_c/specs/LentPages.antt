@@ -1,6 +1,7 @@
 -- SPDX-License-Identifier: MIT OR Apache-2.0
--- What a contract sees of a list of lent pages and of what stands beside them for a machine: the bytes of each page, for how many
--- pages the list's own memory has room, and how many pages RAM may have so that a boot in it takes no memory.
+-- What a contract sees of a list of lent pages and of what stands beside them for a machine: the bytes of each page,
+-- for how many pages the list's own memory has room, and how many pages RAM may have so that a boot in it takes no
+-- memory.
 use Rattle.std.specs.Prelude.{ℕ, List, [], min, refl}
 use Rattle.std.specs.Coded.{Coded, code_by, coded_list, coded_ℕ, coded×}
 use Rattle.ffa_model.specs.declared.limits.TheConstants.{MOST_PAGES}

@@ -1,6 +1,7 @@
 -- SPDX-License-Identifier: MIT OR Apache-2.0
 -- FOR PROOFS ALONE
--- How many pages RAM may have so that a machine in it takes no memory: as many as its room has, where all else is there too.
+-- How many pages RAM may have so that a machine in it takes no memory: as many as its room has, where all else is there
+-- too.
 use Rattle.std.specs.Prelude.{ℕ, ◌==◌, Bool, true, false, length, Option, None, Some, if◌then◌else◌}
 use Rattle.ffa_model.specs.declared.limits.TheConstants.{MOST_ENDPOINTS}
 use Rattle.ffa_spmc.specs.declared.storage.Storage.{Storage}

@@ -12,11 +12,12 @@ ghost use Rattle.ffa_c.specs.Border.{HasDoneIn, access_code, nothing_done, owner
 ghost use Rattle.ffa_c.specs.Changes.{with_all_told};
 ghost use Rattle.ffa_c.specs.Elsewhere.{HasActed};
 
+use crate::codes::KIND_NO_ENDPOINT;
 use crate::kind::{
     Kind, access_by, acted_by, done_among, done_by, endpoints_of, owner_by, page_in, pages_of,
     runner_of,
 };
-use crate::outcome::FfaOutcome;
+use crate::outcome::COutcome;
 use ffa_lent::{Frames, LentRam};
 use ffa_memshare::Changed;
 use ffa_model::{EndpointId, Manifest, Op, PageNo};
@@ -55,7 +56,8 @@ impl Board {
     /// The machine of a manifest in its first state, in RAM that is zeros.
     pub fn boot(manifest: &Manifest, ram: FlatRam, storage: Storage<Given<Global>>) -> Board
         requires storage { IsRoomFor manifest.now storage }
-        requires ram { ⟦<FlatRam as PhysMem>⟧.ram ram ≡ zero_ram manifest.now.ram_base.0 (512 * manifest.now.ram_blocks) }
+        requires ram { let pages = 512 * manifest.now.ram_blocks in
+            ⟦<FlatRam as PhysMem>⟧.ram ram ≡ zero_ram manifest.now.ram_base.0 pages }
         ensures first { IsFirst (parts_of manifest.now) result.machine }
         ensures kind { result.is_lent ≡ false }
     {
@@ -63,7 +65,8 @@ impl Board {
         Board { kind }
     }
 
-    /// The machine of a manifest in its first state, in RAM that is lent, which it clears, or whose regions keep their bytes.
+    /// The machine of a manifest in its first state, in RAM that is lent, which it clears, or whose regions keep their
+    /// bytes.
     pub fn boot_lent(
         manifest: &Manifest,
         ram: LentRam,
@@ -92,7 +95,8 @@ impl Board {
         matches!(self.kind, Kind::Lent(_))
     }
 
-    /// Ends the machine: the pages that were lent, with the bytes that they had in the end, and the room for another machine.
+    /// Ends the machine: the pages that were lent, with the bytes that they had in the end, and the room for another
+    /// machine.
     pub fn into_frames(self) -> (Frames, Storage<Given<Global>>)
         requires { self.is_lent ≡ true }
         ensures pages { result.0.pages ≡ self.machine.ram.pages }
@@ -107,7 +111,7 @@ impl Board {
     }
 
     /// Does one operation of the runner, to whose TX others may write at the same time where the RAM is lent.
-    pub fn op(&mut self, op: &Op) -> FfaOutcome
+    pub fn op(&mut self, op: &Op) -> COutcome
         ensures done { HasDoneIn self.old.is_lent self.old.machine self.new.machine op.now result }
         ensures kind { self.new.is_lent ≡ self.old.is_lent }
     {
@@ -117,9 +121,11 @@ impl Board {
         }
     }
 
-    /// Does one operation of an endpoint, whoever runs: that of the runner is `op`. Where there is no such endpoint, nothing is done.
-    pub fn op_as(&mut self, endpoint: EndpointId, op: &Op) -> FfaOutcome
-        ensures unknown { is_known self.old.machine.state endpoint.0 ≡ false → (self.new ≡ self.old) × (result ≡ nothing_done 6) }
+    /// Does one operation of an endpoint, whoever runs: that of the runner is `op`. Where there is no such endpoint,
+    /// nothing is done.
+    pub fn op_as(&mut self, endpoint: EndpointId, op: &Op) -> COutcome
+        ensures unknown { is_known self.old.machine.state endpoint.0 ≡ false → result ≡ nothing_done 6 }
+        ensures unchanged { is_known self.old.machine.state endpoint.0 ≡ false → self.new ≡ self.old }
         ensures runner { is_known self.old.machine.state endpoint.0 ≡ true → self.old.machine.state.runner ≡ endpoint.0
             → HasDoneIn self.old.is_lent self.old.machine self.new.machine op.now result }
         ensures other { is_known self.old.machine.state endpoint.0 ≡ true → self.old.machine.state.runner ≢ endpoint.0
@@ -127,7 +133,7 @@ impl Board {
         ensures kind { self.new.is_lent ≡ self.old.is_lent }
     {
         if !endpoint.is_among(self.endpoints() as usize) {
-            return FfaOutcome::nothing(6);
+            return COutcome::nothing(KIND_NO_ENDPOINT);
         }
         if u32::from(endpoint.0) == self.runner() {
             return self.op(op);

@@ -7,10 +7,16 @@ ghost use Rattle.ffa_c.specs.Given.{Gives, IsGivenFor};
 ghost use Rattle.ffa_c.specs.Lending.{bytes_of, page_count, pages_of, ready_for};
 
 use crate::board::{Board, Bytes};
-use crate::lending::{FfaLent, NO_LIST, NO_MEMORY, OCCUPIED, WRONG_COUNT, put_list, take_list};
+use crate::codes::{
+    MANIFEST_ENDPOINT_COUNT, MANIFEST_MISSING_KEY, MANIFEST_PROPERTY, MANIFEST_RAM_BASE,
+    MANIFEST_RAM_BLOCKS, MANIFEST_REGION_COUNT, MANIFEST_REGION_OUTSIDE, MANIFEST_REGION_OVERLAP,
+    MANIFEST_TOML, MANIFEST_UNKNOWN_KEY, MANIFEST_UUID, MANIFEST_VERSION, MANIFEST_WRONG_KIND,
+    NO_LIST, NO_MEMORY, OCCUPIED, OK, WRONG_COUNT,
+};
+use crate::lending::{CLent, put_list, take_list};
 use crate::lent_list::LentList;
-use crate::machine::{FfaMachine, put};
-use crate::parts::{FfaParts, manifest_given};
+use crate::machine::{CMachine, put};
+use crate::manifest::{CManifest, manifest_given};
 use crate::seat::Seat;
 use ffa_manifest::ManifestError;
 use ffa_model::Manifest;
@@ -18,12 +24,14 @@ use ffa_physmem::{FlatRam, NoMemory};
 use ffa_spmc::Storage;
 use std::alloc::{AllocError, Global};
 
-/// Boots the machine of a manifest's text, in RAM of the heap. 0 is that it was booted. Else nothing has changed: `OCCUPIED`,
-/// where a machine stands already, 1, where there is no memory, or 2 to 14, the cause for which the manifest is refused.
+/// Boots the machine of a manifest's text, in RAM of the heap. 0 is that it was booted. Else nothing has changed:
+/// `OCCUPIED`, where a machine stands already, `NO_MEMORY`, or the cause for which the manifest is refused, from
+/// `MANIFEST_TOML` to `MANIFEST_VERSION`.
 #[unsafe(no_mangle)]
-pub extern "C" fn ffa_boot(alloc: Global, machine: &mut FfaMachine, text: &[u8]) -> u32
+pub extern "C" fn gorseplumb_boot(alloc: Global, machine: &mut CMachine, text: &[u8]) -> u32
     ensures occupied { machine.old.live ≡ true → result ≡ OCCUPIED }
-    ensures booted { result ≡ 0 → (machine.old.held.value ≡ None) × HasBooted (Describes text.now) false machine.new.held.value }
+    ensures vacant { result ≡ 0 → machine.old.held.value ≡ None }
+    ensures booted { result ≡ 0 → HasBooted (Describes text.now) false machine.new.held.value }
     ensures refused { result ≢ 0 → machine.new ≡ machine.old }
     ensures cause { result ≢ 0 → machine.old.live ≡ false → TellsCause (IsRefusedFor text.now) result }
 {
@@ -38,39 +46,47 @@ pub extern "C" fn ffa_boot(alloc: Global, machine: &mut FfaMachine, text: &[u8])
 
 /// The same for a manifest that is given as numbers.
 #[unsafe(no_mangle)]
-pub extern "C" fn ffa_boot_parts(alloc: Global, machine: &mut FfaMachine, parts: &FfaParts) -> u32
+pub extern "C" fn gorseplumb_boot_manifest(
+    alloc: Global,
+    machine: &mut CMachine,
+    given: &CManifest,
+) -> u32
     ensures occupied { machine.old.live ≡ true → result ≡ OCCUPIED }
-    ensures booted { result ≡ 0 → (machine.old.held.value ≡ None) × HasBooted (Gives parts.now) false machine.new.held.value }
+    ensures vacant { result ≡ 0 → machine.old.held.value ≡ None }
+    ensures booted { result ≡ 0 → HasBooted (Gives given.now) false machine.new.held.value }
     ensures refused { result ≢ 0 → machine.new ≡ machine.old }
-    ensures cause { result ≢ 0 → machine.old.live ≡ false → TellsCause (IsGivenFor parts.now) result }
+    ensures cause { result ≢ 0 → machine.old.live ≡ false → TellsCause (IsGivenFor given.now) result }
 {
     if machine.live {
         OCCUPIED
     } else {
-        match manifest_given(parts) {
+        match manifest_given(given) {
             Ok(manifest) => boot_heap(alloc, machine, &manifest),
             Err(cause) => number_of(cause),
         }
     }
 }
 
-/// Boots the machine of a manifest's text in the pages of a list, which it clears, and leaves the list empty. 0 is that it was
-/// booted. Else nothing has changed: `OCCUPIED`, `NO_LIST`, 1 to 14 as `ffa_boot` answers, or `WRONG_COUNT`, where the manifest's
-/// RAM has more pages or fewer. Where the list has as many pages as it was begun for, memory is taken for the text alone, while it is read.
+/// Boots the machine of a manifest's text in the pages of a list, which it clears, and leaves the list empty. 0 is that
+/// it was booted. Else nothing has changed: `OCCUPIED`, `NO_LIST`, what `gorseplumb_boot` answers, or `WRONG_COUNT`,
+/// where the manifest's RAM has more pages or fewer. Where the list has as many pages as it was begun for, memory is
+/// taken for the text alone, while it is read.
 #[unsafe(no_mangle)]
-pub extern "C" fn ffa_boot_lent(
+pub extern "C" fn gorseplumb_boot_lent(
     alloc: Global,
-    machine: &mut FfaMachine,
-    lent: &mut FfaLent,
+    machine: &mut CMachine,
+    lent: &mut CLent,
     text: &[u8],
 ) -> u32
     ensures occupied { machine.old.live ≡ true → result ≡ OCCUPIED }
     ensures no_list { machine.old.live ≡ false → lent.old.live ≡ false → result ≡ NO_LIST }
-    ensures booted { result ≡ 0 → (machine.old.held.value ≡ None) × HasBooted (Describes text.now) true machine.new.held.value }
+    ensures vacant { result ≡ 0 → machine.old.held.value ≡ None }
+    ensures booted { result ≡ 0 → HasBooted (Describes text.now) true machine.new.held.value }
     ensures emptied { result ≡ 0 → pages_of lent.new.held.value ≡ Some [] }
     ensures machine { result ≢ 0 → machine.new ≡ machine.old }
     ensures list { result ≢ 0 → lent.new.held.value ≡ lent.old.held.value }
-    ensures cause { result ≢ 0 → machine.old.live ≡ false → IfSome (pages_of lent.old.held.value) (λ pages. TellsWhy (Describes text.now) (IsRefusedFor text.now) (length pages) result) }
+    ensures cause { let pages = pages_of lent.old.held.value in
+        result ≢ 0 → machine.old.live ≡ false → TellsWhy (Describes text.now) (IsRefusedFor text.now) pages result }
 {
     if machine.live {
         OCCUPIED
@@ -84,21 +100,24 @@ pub extern "C" fn ffa_boot_lent(
     }
 }
 
-/// The same for a manifest that is given as numbers, for which no memory is taken: none at all where the list has no more pages than it was begun for.
+/// The same for a manifest that is given as numbers, for which no memory is taken: none at all where the list has no
+/// more pages than it was begun for.
 #[unsafe(no_mangle)]
-pub extern "C" fn ffa_boot_lent_parts(
+pub extern "C" fn gorseplumb_boot_lent_manifest(
     alloc: Global,
-    machine: &mut FfaMachine,
-    lent: &mut FfaLent,
-    parts: &FfaParts,
+    machine: &mut CMachine,
+    lent: &mut CLent,
+    given: &CManifest,
 ) -> u32
     ensures occupied { machine.old.live ≡ true → result ≡ OCCUPIED }
     ensures no_list { machine.old.live ≡ false → lent.old.live ≡ false → result ≡ NO_LIST }
-    ensures booted { result ≡ 0 → (machine.old.held.value ≡ None) × HasBooted (Gives parts.now) true machine.new.held.value }
+    ensures vacant { result ≡ 0 → machine.old.held.value ≡ None }
+    ensures booted { result ≡ 0 → HasBooted (Gives given.now) true machine.new.held.value }
     ensures emptied { result ≡ 0 → pages_of lent.new.held.value ≡ Some [] }
     ensures machine { result ≢ 0 → machine.new ≡ machine.old }
     ensures list { result ≢ 0 → lent.new.held.value ≡ lent.old.held.value }
-    ensures cause { result ≢ 0 → machine.old.live ≡ false → IfSome (pages_of lent.old.held.value) (λ pages. TellsWhy (Gives parts.now) (IsGivenFor parts.now) (length pages) result) }
+    ensures cause { let pages = pages_of lent.old.held.value in
+        result ≢ 0 → machine.old.live ≡ false → TellsWhy (Gives given.now) (IsGivenFor given.now) pages result }
     ensures unready { result ≡ NO_MEMORY → ready_for lent.old.held.value < page_count (pages_of lent.old.held.value) }
 {
     if machine.live {
@@ -106,30 +125,33 @@ pub extern "C" fn ffa_boot_lent_parts(
     } else if !lent.live {
         NO_LIST
     } else {
-        match manifest_given(parts) {
+        match manifest_given(given) {
             Ok(manifest) => boot_lent(alloc, machine, lent, &manifest, Bytes::Cleared),
             Err(cause) => number_of(cause),
         }
     }
 }
 
-/// The same as `ffa_boot_lent`, but pages of the manifest's regions keep their bytes, so that what was put there, as images of
-/// partitions or of a kernel, is there before the first operation. All others behind the tables are zeros.
+/// The same as `gorseplumb_boot_lent`, but pages of the manifest's regions keep their bytes, so that what was put
+/// there, as images of partitions or of a kernel, is there before the first operation. All others behind the tables are
+/// zeros.
 #[unsafe(no_mangle)]
-pub extern "C" fn ffa_boot_held(
+pub extern "C" fn gorseplumb_boot_held(
     alloc: Global,
-    machine: &mut FfaMachine,
-    lent: &mut FfaLent,
+    machine: &mut CMachine,
+    lent: &mut CLent,
     text: &[u8],
 ) -> u32
     ensures occupied { machine.old.live ≡ true → result ≡ OCCUPIED }
     ensures no_list { machine.old.live ≡ false → lent.old.live ≡ false → result ≡ NO_LIST }
-    ensures booted { result ≡ 0 → (machine.old.held.value ≡ None)
-        × HasBootedHeld (Describes text.now) (bytes_of lent.old.held.value) machine.new.held.value }
+    ensures vacant { result ≡ 0 → machine.old.held.value ≡ None }
+    ensures booted { let bytes = bytes_of lent.old.held.value in
+        result ≡ 0 → HasBootedHeld (Describes text.now) bytes machine.new.held.value }
     ensures emptied { result ≡ 0 → pages_of lent.new.held.value ≡ Some [] }
     ensures machine { result ≢ 0 → machine.new ≡ machine.old }
     ensures list { result ≢ 0 → lent.new.held.value ≡ lent.old.held.value }
-    ensures cause { result ≢ 0 → machine.old.live ≡ false → IfSome (pages_of lent.old.held.value) (λ pages. TellsWhy (Describes text.now) (IsRefusedFor text.now) (length pages) result) }
+    ensures cause { let pages = pages_of lent.old.held.value in
+        result ≢ 0 → machine.old.live ≡ false → TellsWhy (Describes text.now) (IsRefusedFor text.now) pages result }
 {
     if machine.live {
         OCCUPIED
@@ -143,22 +165,25 @@ pub extern "C" fn ffa_boot_held(
     }
 }
 
-/// The same for a manifest that is given as numbers, for which memory is taken as `ffa_boot_lent_parts` takes it.
+/// The same for a manifest that is given as numbers, for which memory is taken as `gorseplumb_boot_lent_manifest` takes
+/// it.
 #[unsafe(no_mangle)]
-pub extern "C" fn ffa_boot_held_parts(
+pub extern "C" fn gorseplumb_boot_held_manifest(
     alloc: Global,
-    machine: &mut FfaMachine,
-    lent: &mut FfaLent,
-    parts: &FfaParts,
+    machine: &mut CMachine,
+    lent: &mut CLent,
+    given: &CManifest,
 ) -> u32
     ensures occupied { machine.old.live ≡ true → result ≡ OCCUPIED }
     ensures no_list { machine.old.live ≡ false → lent.old.live ≡ false → result ≡ NO_LIST }
-    ensures booted { result ≡ 0 → (machine.old.held.value ≡ None)
-        × HasBootedHeld (Gives parts.now) (bytes_of lent.old.held.value) machine.new.held.value }
+    ensures vacant { result ≡ 0 → machine.old.held.value ≡ None }
+    ensures booted { let bytes = bytes_of lent.old.held.value in
+        result ≡ 0 → HasBootedHeld (Gives given.now) bytes machine.new.held.value }
     ensures emptied { result ≡ 0 → pages_of lent.new.held.value ≡ Some [] }
     ensures machine { result ≢ 0 → machine.new ≡ machine.old }
     ensures list { result ≢ 0 → lent.new.held.value ≡ lent.old.held.value }
-    ensures cause { result ≢ 0 → machine.old.live ≡ false → IfSome (pages_of lent.old.held.value) (λ pages. TellsWhy (Gives parts.now) (IsGivenFor parts.now) (length pages) result) }
+    ensures cause { let pages = pages_of lent.old.held.value in
+        result ≢ 0 → machine.old.live ≡ false → TellsWhy (Gives given.now) (IsGivenFor given.now) pages result }
     ensures unready { result ≡ NO_MEMORY → ready_for lent.old.held.value < page_count (pages_of lent.old.held.value) }
 {
     if machine.live {
@@ -166,7 +191,7 @@ pub extern "C" fn ffa_boot_held_parts(
     } else if !lent.live {
         NO_LIST
     } else {
-        match manifest_given(parts) {
+        match manifest_given(given) {
             Ok(manifest) => boot_lent(alloc, machine, lent, &manifest, Bytes::Kept),
             Err(cause) => number_of(cause),
         }
@@ -178,20 +203,20 @@ fn number_of(cause: ManifestError) -> u32
     ensures positive { result ≢ 0 }
 {
     match cause {
-        ManifestError::NoMemory => 1,
-        ManifestError::Toml => 2,
-        ManifestError::UnknownKey => 3,
-        ManifestError::MissingKey => 4,
-        ManifestError::WrongKind => 5,
-        ManifestError::RamBase => 6,
-        ManifestError::RamBlocks => 7,
-        ManifestError::EndpointCount => 8,
-        ManifestError::Uuid => 9,
-        ManifestError::Property => 10,
-        ManifestError::RegionCount => 11,
-        ManifestError::RegionOutside => 12,
-        ManifestError::RegionOverlap => 13,
-        ManifestError::Version => 14,
+        ManifestError::NoMemory => NO_MEMORY,
+        ManifestError::Toml => MANIFEST_TOML,
+        ManifestError::UnknownKey => MANIFEST_UNKNOWN_KEY,
+        ManifestError::MissingKey => MANIFEST_MISSING_KEY,
+        ManifestError::WrongKind => MANIFEST_WRONG_KIND,
+        ManifestError::RamBase => MANIFEST_RAM_BASE,
+        ManifestError::RamBlocks => MANIFEST_RAM_BLOCKS,
+        ManifestError::EndpointCount => MANIFEST_ENDPOINT_COUNT,
+        ManifestError::Uuid => MANIFEST_UUID,
+        ManifestError::Property => MANIFEST_PROPERTY,
+        ManifestError::RegionCount => MANIFEST_REGION_COUNT,
+        ManifestError::RegionOutside => MANIFEST_REGION_OUTSIDE,
+        ManifestError::RegionOverlap => MANIFEST_REGION_OVERLAP,
+        ManifestError::Version => MANIFEST_VERSION,
     }
 }
 
@@ -208,7 +233,7 @@ pub(crate) fn manifest_of(alloc: Global, text: &[u8]) -> Result<Manifest, Manife
 }
 
 // Boots a machine, where there is none, in RAM of the heap. Where there is no memory for it, nothing has changed.
-fn boot_heap(alloc: Global, machine: &mut FfaMachine, manifest: &Manifest) -> u32
+fn boot_heap(alloc: Global, machine: &mut CMachine, manifest: &Manifest) -> u32
     requires { machine.old.held.value ≡ None }
     ensures booted { result ≡ 0 → HasBooted (λ p. p ≡ parts_of manifest.now) false machine.new.held.value }
     ensures refused { result ≢ 0 → (result ≡ NO_MEMORY) × (machine.new ≡ machine.old) }
@@ -216,7 +241,7 @@ fn boot_heap(alloc: Global, machine: &mut FfaMachine, manifest: &Manifest) -> u3
     match boxed(alloc, manifest) {
         Ok(seat) => {
             put(machine, seat);
-            0
+            OK
         }
         Err(NoMemory) => NO_MEMORY,
     }
@@ -239,18 +264,20 @@ pub(crate) fn boxed(alloc: Global, manifest: &Manifest) -> Result<Box<Seat>, NoM
 // Boots a machine, where there is none, in the pages of a list.
 fn boot_lent(
     alloc: Global,
-    machine: &mut FfaMachine,
-    lent: &mut FfaLent,
+    machine: &mut CMachine,
+    lent: &mut CLent,
     manifest: &Manifest,
     bytes: Bytes,
 ) -> u32
     requires { machine.old.held.value ≡ None }
-    ensures booted { result ≡ 0
-        → HasBegun (λ p. p ≡ parts_of manifest.now) (IsFirstBy bytes (bytes_of lent.old.held.value)) true machine.new.held.value }
+    ensures booted { let is_first = IsFirstBy bytes (bytes_of lent.old.held.value) in
+        result ≡ 0 → HasBegun (λ p. p ≡ parts_of manifest.now) is_first true machine.new.held.value }
     ensures emptied { result ≡ 0 → pages_of lent.new.held.value ≡ Some [] }
     ensures machine { result ≢ 0 → machine.new ≡ machine.old }
     ensures list { result ≢ 0 → lent.new.held.value ≡ lent.old.held.value }
-    ensures why { result ≢ 0 → IfSome (pages_of lent.old.held.value) (λ pages. (result ≡ NO_MEMORY) ⊎ ((result ≡ WRONG_COUNT) × (length pages ≢ 512 * manifest.now.ram_blocks))) }
+    ensures why { result ≢ 0 → IfSome lent.old.held.value (λ _. (result ≡ NO_MEMORY) ⊎ (result ≡ WRONG_COUNT)) }
+    ensures wrong_count { let pages = page_count (pages_of lent.old.held.value) in
+        result ≡ WRONG_COUNT → pages ≢ 512 * manifest.now.ram_blocks }
     ensures unready { result ≡ NO_MEMORY → ready_for lent.old.held.value < page_count (pages_of lent.old.held.value) }
 {
     let Some(mut list) = take_list(lent, alloc) else {
@@ -264,7 +291,7 @@ fn boot_lent(
 // Boots a machine, where there is none, in the pages of this list.
 fn boot_over(
     alloc: Global,
-    machine: &mut FfaMachine,
+    machine: &mut CMachine,
     list: &mut LentList,
     manifest: &Manifest,
     bytes: Bytes,
@@ -275,7 +302,8 @@ fn boot_over(
     ensures emptied { result ≡ 0 → list.new.pages ≡ [] }
     ensures machine { result ≢ 0 → machine.new ≡ machine.old }
     ensures list { result ≢ 0 → list.new ≡ list.old }
-    ensures why { result ≢ 0 → (result ≡ NO_MEMORY) ⊎ ((result ≡ WRONG_COUNT) × (length list.old.pages ≢ 512 * manifest.now.ram_blocks)) }
+    ensures why { result ≢ 0 → (result ≡ NO_MEMORY) ⊎ (result ≡ WRONG_COUNT) }
+    ensures wrong_count { result ≡ WRONG_COUNT → length list.old.pages ≢ 512 * manifest.now.ram_blocks }
     ensures unready { result ≡ NO_MEMORY → list.old.ready_for < length list.old.pages }
 {
     if list.pages() != 512 * manifest.ram_blocks as usize {
@@ -284,7 +312,7 @@ fn boot_over(
     match list.boot(alloc, manifest, bytes) {
         Ok(seat) => {
             put(machine, seat);
-            0
+            OK
         }
         Err(AllocError) => NO_MEMORY,
     }

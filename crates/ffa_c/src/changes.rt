@@ -4,7 +4,7 @@ ghost use Rattle.std.specs.Prelude.{◌≡◌, true, false, is_some, IfSome};
 ghost use Rattle.std.specs.Option.{option_map};
 ghost use Rattle.ffa_c.specs.Changes.{Says, StandIn, no_range, range_told, somebodys, told_by, with_all_told};
 
-use crate::machine::{FfaMachine, put, take};
+use crate::machine::{CMachine, put, take};
 use ffa_memshare::{Changed, PageRanges};
 use ffa_model::{MOST_RANGES, Range};
 use std::alloc::Global;
@@ -12,27 +12,27 @@ use std::alloc::Global;
 /// Pages in a row.
 #[repr(C)]
 #[derive(Clone, Copy)]
-pub struct FfaRange {
+pub struct CRange {
     /// The address of the first byte.
     pub address: u64,
     /// Of all pages, in bytes.
     pub size: u64,
 }
 
-impl FfaRange {
-    fn none() -> FfaRange
+impl CRange {
+    fn none() -> CRange
         ensures { result ≡ no_range }
     {
-        FfaRange {
+        CRange {
             address: 0,
             size: 0,
         }
     }
 
-    fn of(range: &Range) -> FfaRange
+    fn of(range: &Range) -> CRange
         ensures { result ≡ range_told range.now }
     {
-        FfaRange {
+        CRange {
             address: range.address,
             size: 4096 * u64::from(range.pages),
         }
@@ -42,21 +42,21 @@ impl FfaRange {
 /// Whose access to which pages has changed.
 #[repr(C)]
 #[derive(Clone, Copy)]
-pub struct FfaChange {
+pub struct CChange {
     /// The endpoint.
     pub endpoint: u32,
     /// How many of `ranges` there are, from the first on. Behind them stand zeros.
     pub range_count: u32,
-    pub ranges: [FfaRange; MOST_RANGES],
+    pub ranges: [CRange; MOST_RANGES],
 }
 
-/// Whose access to which pages the last call on memory that was done has changed, told once: true, and `change` says it; or
-/// false, and it stays, where there is nothing to tell, or nobody's access has changed.
+/// Whose access to which pages the last call on memory that was done has changed, told once: true, and `change` says
+/// it; or false, and it stays, where there is nothing to tell, or nobody's access has changed.
 #[unsafe(no_mangle)]
-pub extern "C" fn ffa_changed(
+pub extern "C" fn gorseplumb_changed(
     alloc: Global,
-    machine: &mut FfaMachine,
-    change: &mut FfaChange,
+    machine: &mut CMachine,
+    change: &mut CChange,
 ) -> bool
     ensures rest { machine.new.held.value ≡ option_map with_all_told machine.old.held.value }
     ensures there { result ≡ is_some (somebodys (told_by machine.old.held.value)) }
@@ -74,7 +74,7 @@ pub extern "C" fn ffa_changed(
 }
 
 // Tells a change, if it is somebody's.
-fn tell(changed: &Option<Changed>, change: &mut FfaChange) -> bool
+fn tell(changed: &Option<Changed>, change: &mut CChange) -> bool
     ensures there { result ≡ is_some (somebodys changed.now) }
     ensures told { IfSome (somebodys changed.now) (λ its. Says change.new its.0 its.1) }
     ensures kept { result ≡ false → change.new ≡ change.old }
@@ -92,12 +92,12 @@ fn tell(changed: &Option<Changed>, change: &mut FfaChange) -> bool
 }
 
 // The ranges from an array's front on, and behind them none.
-fn listed(ranges: &PageRanges) -> [FfaRange; MOST_RANGES]
+fn listed(ranges: &PageRanges) -> [CRange; MOST_RANGES]
     ensures { StandIn result ranges.now }
 {
-    let mut places = [FfaRange::none(); MOST_RANGES];
+    let mut places = [CRange::none(); MOST_RANGES];
     for place in 0..ranges.len() {
-        places[place] = FfaRange::of(&ranges.at(place));
+        places[place] = CRange::of(&ranges.at(place));
     }
     places
 }

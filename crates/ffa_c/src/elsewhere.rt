@@ -1,21 +1,23 @@
 // SPDX-License-Identifier: MIT OR Apache-2.0
-//! Operations of an endpoint that may not run, as on another processor, for C. Of the runner each is its namesake without `_as`.
+//! Operations of an endpoint that may not run, as on another processor, for C. Of the runner each is its namesake
+//! without `_as`.
 ghost use Rattle.ffa_c.specs.Elsewhere.{OperatedAs, OperatedSizedAs};
 
-use crate::exports::{FfaRegisters, size_of};
-use crate::machine::{FfaMachine, put, take};
-use crate::outcome::FfaOutcome;
+use crate::codes::{KIND_BAD_SIZE, KIND_NO_MACHINE};
+use crate::exports::{CRegisters, size_of};
+use crate::machine::{CMachine, put, take};
+use crate::outcome::COutcome;
 use ffa_model::{EndpointId, Op};
 use std::alloc::Global;
 
 /// A call of an endpoint, with eight registers. Of one that doesn't run it is answered BUSY.
 #[unsafe(no_mangle)]
-pub extern "C" fn ffa_call_as(
+pub extern "C" fn gorseplumb_call_as(
     alloc: Global,
-    machine: &mut FfaMachine,
+    machine: &mut CMachine,
     endpoint: u16,
-    registers: &FfaRegisters,
-) -> FfaOutcome
+    registers: &CRegisters,
+) -> COutcome
     ensures { OperatedAs machine.old.held.value machine.new.held.value endpoint (Op.Call registers.now.x) result }
 {
     operate_as(alloc, machine, endpoint, &Op::Call(registers.x))
@@ -23,57 +25,59 @@ pub extern "C" fn ffa_call_as(
 
 /// A load of an endpoint, of 1, 2, 4 or 8 bytes, by its own table.
 #[unsafe(no_mangle)]
-pub extern "C" fn ffa_load_as(
+pub extern "C" fn gorseplumb_load_as(
     alloc: Global,
-    machine: &mut FfaMachine,
+    machine: &mut CMachine,
     endpoint: u16,
     addr: u64,
     size: u32,
-) -> FfaOutcome
-    ensures { OperatedSizedAs machine.old.held.value machine.new.held.value endpoint size (λ s. Op.Load addr s) result }
+) -> COutcome
+    ensures { let old = machine.old.held.value in let new = machine.new.held.value in
+        OperatedSizedAs old new endpoint size (λ s. Op.Load addr s) result }
 {
     match size_of(size) {
         Some(size) => operate_as(alloc, machine, endpoint, &Op::Load { addr, size }),
-        None => FfaOutcome::nothing(5),
+        None => COutcome::nothing(KIND_BAD_SIZE),
     }
 }
 
 /// A store of an endpoint, of the value's lowest 1, 2, 4 or 8 bytes, by its own table.
 #[unsafe(no_mangle)]
-pub extern "C" fn ffa_store_as(
+pub extern "C" fn gorseplumb_store_as(
     alloc: Global,
-    machine: &mut FfaMachine,
+    machine: &mut CMachine,
     endpoint: u16,
     addr: u64,
     size: u32,
     value: u64,
-) -> FfaOutcome
-    ensures { OperatedSizedAs machine.old.held.value machine.new.held.value endpoint size (λ s. Op.Store addr s value) result }
+) -> COutcome
+    ensures { let old = machine.old.held.value in let new = machine.new.held.value in
+        OperatedSizedAs old new endpoint size (λ s. Op.Store addr s value) result }
 {
     match size_of(size) {
         Some(size) => operate_as(alloc, machine, endpoint, &Op::Store { addr, size, value }),
-        None => FfaOutcome::nothing(5),
+        None => COutcome::nothing(KIND_BAD_SIZE),
     }
 }
 
 /// A fetch of an endpoint, of one instruction, by its own table.
 #[unsafe(no_mangle)]
-pub extern "C" fn ffa_fetch_as(
+pub extern "C" fn gorseplumb_fetch_as(
     alloc: Global,
-    machine: &mut FfaMachine,
+    machine: &mut CMachine,
     endpoint: u16,
     addr: u64,
-) -> FfaOutcome
+) -> COutcome
     ensures { OperatedAs machine.old.held.value machine.new.held.value endpoint (Op.Fetch addr) result }
 {
     operate_as(alloc, machine, endpoint, &Op::Fetch { addr })
 }
 
-fn operate_as(alloc: Global, machine: &mut FfaMachine, endpoint: u16, op: &Op) -> FfaOutcome
+fn operate_as(alloc: Global, machine: &mut CMachine, endpoint: u16, op: &Op) -> COutcome
     ensures { OperatedAs machine.old.held.value machine.new.held.value endpoint op.now result }
 {
     match take(machine, alloc) {
-        None => FfaOutcome::nothing(4),
+        None => COutcome::nothing(KIND_NO_MACHINE),
         Some(mut seat) => {
             let outcome = seat.op_as(EndpointId(endpoint), op);
             put(machine, seat);

@@ -5,32 +5,33 @@ ghost use Rattle.ffa_model.specs.Access.{access};
 ghost use Rattle.ffa_model.specs.Ram.{page_of};
 ghost use Rattle.ffa_c.specs.Border.{Operated, OperatedSized, access_code, asked, has_page, is_pending_for, owner_number, size_at};
 
-use crate::kind::NOTHING;
-use crate::machine::{FfaMachine, put, take};
-use crate::outcome::FfaOutcome;
+use crate::codes::{KIND_BAD_SIZE, KIND_NO_MACHINE, NOTHING};
+use crate::machine::{CMachine, put, take};
+use crate::outcome::COutcome;
 use ffa_model::{Op, Size};
+use ffa_physmem::PAGE_SIZE;
 use std::alloc::Global;
 
 /// Eight registers.
 #[repr(C)]
 #[derive(Clone, Copy)]
-pub struct FfaRegisters {
+pub struct CRegisters {
     pub x: [u64; 8],
 }
 
 /// The bytes of a page.
 #[repr(C)]
-pub struct FfaPage {
-    pub bytes: [u8; 4096],
+pub struct CPage {
+    pub bytes: [u8; PAGE_SIZE],
 }
 
 /// A call of the runner, with eight registers.
 #[unsafe(no_mangle)]
-pub extern "C" fn ffa_call(
+pub extern "C" fn gorseplumb_call(
     alloc: Global,
-    machine: &mut FfaMachine,
-    registers: &FfaRegisters,
-) -> FfaOutcome
+    machine: &mut CMachine,
+    registers: &CRegisters,
+) -> COutcome
     ensures { Operated machine.old.held.value machine.new.held.value (Op.Call registers.now.x) result }
 {
     operate(alloc, machine, &Op::Call(registers.x))
@@ -38,51 +39,51 @@ pub extern "C" fn ffa_call(
 
 /// A load of 1, 2, 4 or 8 bytes.
 #[unsafe(no_mangle)]
-pub extern "C" fn ffa_load(
+pub extern "C" fn gorseplumb_load(
     alloc: Global,
-    machine: &mut FfaMachine,
+    machine: &mut CMachine,
     addr: u64,
     size: u32,
-) -> FfaOutcome
+) -> COutcome
     ensures { OperatedSized machine.old.held.value machine.new.held.value size (λ s. Op.Load addr s) result }
 {
     match size_of(size) {
         Some(size) => operate(alloc, machine, &Op::Load { addr, size }),
-        None => FfaOutcome::nothing(5),
+        None => COutcome::nothing(KIND_BAD_SIZE),
     }
 }
 
 /// A store of the value's lowest 1, 2, 4 or 8 bytes.
 #[unsafe(no_mangle)]
-pub extern "C" fn ffa_store(
+pub extern "C" fn gorseplumb_store(
     alloc: Global,
-    machine: &mut FfaMachine,
+    machine: &mut CMachine,
     addr: u64,
     size: u32,
     value: u64,
-) -> FfaOutcome
+) -> COutcome
     ensures { OperatedSized machine.old.held.value machine.new.held.value size (λ s. Op.Store addr s value) result }
 {
     match size_of(size) {
         Some(size) => operate(alloc, machine, &Op::Store { addr, size, value }),
-        None => FfaOutcome::nothing(5),
+        None => COutcome::nothing(KIND_BAD_SIZE),
     }
 }
 
 /// A fetch of one instruction.
 #[unsafe(no_mangle)]
-pub extern "C" fn ffa_fetch(alloc: Global, machine: &mut FfaMachine, addr: u64) -> FfaOutcome
+pub extern "C" fn gorseplumb_fetch(alloc: Global, machine: &mut CMachine, addr: u64) -> COutcome
     ensures { Operated machine.old.held.value machine.new.held.value (Op.Fetch addr) result }
 {
     operate(alloc, machine, &Op::Fetch { addr })
 }
 
 #[inline]
-fn operate(alloc: Global, machine: &mut FfaMachine, op: &Op) -> FfaOutcome
+fn operate(alloc: Global, machine: &mut CMachine, op: &Op) -> COutcome
     ensures { Operated machine.old.held.value machine.new.held.value op.now result }
 {
     match take(machine, alloc) {
-        None => FfaOutcome::nothing(4),
+        None => COutcome::nothing(KIND_NO_MACHINE),
         Some(mut seat) => {
             let outcome = seat.op(op);
             put(machine, seat);
@@ -106,7 +107,7 @@ pub(crate) fn size_of(bytes: u32) -> Option<Size>
 
 /// The endpoint that runs.
 #[unsafe(no_mangle)]
-pub extern "C" fn ffa_runner(alloc: Global, machine: &mut FfaMachine) -> u32
+pub extern "C" fn gorseplumb_runner(alloc: Global, machine: &mut CMachine) -> u32
     ensures same { machine.new.held.value ≡ machine.old.held.value }
     ensures value { result ≡ asked (λ s. s.state.runner) machine.old.held.value }
 {
@@ -122,7 +123,7 @@ pub extern "C" fn ffa_runner(alloc: Global, machine: &mut FfaMachine) -> u32
 
 /// The number of endpoints.
 #[unsafe(no_mangle)]
-pub extern "C" fn ffa_endpoints(alloc: Global, machine: &mut FfaMachine) -> u32
+pub extern "C" fn gorseplumb_endpoints(alloc: Global, machine: &mut CMachine) -> u32
     ensures same { machine.new.held.value ≡ machine.old.held.value }
     ensures value { result ≡ asked (λ s. length s.state.parties) machine.old.held.value }
 {
@@ -138,7 +139,7 @@ pub extern "C" fn ffa_endpoints(alloc: Global, machine: &mut FfaMachine) -> u32
 
 /// The owner of a page of the RAM; 0x8000 is the manager.
 #[unsafe(no_mangle)]
-pub extern "C" fn ffa_owner(alloc: Global, machine: &mut FfaMachine, page: u32) -> u32
+pub extern "C" fn gorseplumb_owner(alloc: Global, machine: &mut CMachine, page: u32) -> u32
     ensures same { machine.new.held.value ≡ machine.old.held.value }
     ensures value { result ≡ asked (λ s. owner_number s page) machine.old.held.value }
 {
@@ -154,9 +155,9 @@ pub extern "C" fn ffa_owner(alloc: Global, machine: &mut FfaMachine, page: u32) 
 
 /// The right of an endpoint to a page: 0 is none, 1 to read, 3 to write too, and 4 more to execute.
 #[unsafe(no_mangle)]
-pub extern "C" fn ffa_access(
+pub extern "C" fn gorseplumb_access(
     alloc: Global,
-    machine: &mut FfaMachine,
+    machine: &mut CMachine,
     endpoint: u16,
     page: u32,
 ) -> u32
@@ -175,7 +176,7 @@ pub extern "C" fn ffa_access(
 
 /// Whether an endpoint has a notification pending.
 #[unsafe(no_mangle)]
-pub extern "C" fn ffa_pending(alloc: Global, machine: &mut FfaMachine, endpoint: u16) -> bool
+pub extern "C" fn gorseplumb_pending(alloc: Global, machine: &mut CMachine, endpoint: u16) -> bool
     ensures same { machine.new.held.value ≡ machine.old.held.value }
     ensures value { result ≡ is_pending_for endpoint machine.old.held.value }
 {
@@ -191,11 +192,11 @@ pub extern "C" fn ffa_pending(alloc: Global, machine: &mut FfaMachine, endpoint:
 
 /// Copies the bytes of a page, and says whether there is such a page.
 #[unsafe(no_mangle)]
-pub extern "C" fn ffa_read_page(
+pub extern "C" fn gorseplumb_read_page(
     alloc: Global,
-    machine: &mut FfaMachine,
+    machine: &mut CMachine,
     page: u32,
-    bytes: &mut FfaPage,
+    bytes: &mut CPage,
 ) -> bool
     ensures same { machine.new.held.value ≡ machine.old.held.value }
     ensures there { result ≡ has_page machine.old.held.value page }

@@ -7,16 +7,14 @@ ghost use Rattle.ffa_model.specs.State.{is_known};
 ghost use Rattle.ffa_c.specs.Border.{HasDone, HasDoneAmong, access_code, exec_code, level_code, owner_number};
 ghost use Rattle.ffa_c.specs.Elsewhere.{HasActed};
 
-use crate::outcome::FfaOutcome;
+use crate::codes::{EXECUTE, NOTHING, READ, WRITE};
+use crate::outcome::COutcome;
 use ffa_lent::LentRam;
 use ffa_model::{Data, EndpointId, Op, PageNo, Rights};
 use ffa_physmem::{FlatRam, PhysMem};
 use ffa_spmc::{Given, Machine, Store};
 use ffa_tlb::NoTlb;
 use std::alloc::Global;
-
-/// What a question answers where there is no machine, or no such page.
-pub const NOTHING: u32 = 0xFFFF_FFFF;
 
 /// A machine over RAM of the heap, or over RAM that is lent.
 #[derive(Drop)]
@@ -32,10 +30,10 @@ pub enum Kind {
 pub(crate) fn done_by<M: PhysMem + Drop, S: Store>(
     machine: &mut Machine<M, NoTlb, S>,
     op: &Op,
-) -> FfaOutcome
+) -> COutcome
     ensures { HasDone machine.old machine.new op.now result }
 {
-    FfaOutcome::of(&machine.op(op))
+    COutcome::of(&machine.op(op))
 }
 
 /// The same, while others may write to the runner's TX.
@@ -43,10 +41,10 @@ pub(crate) fn done_by<M: PhysMem + Drop, S: Store>(
 pub(crate) fn done_among<M: PhysMem + Drop, S: Store>(
     machine: &mut Machine<M, NoTlb, S>,
     op: &Op,
-) -> FfaOutcome
+) -> COutcome
     ensures { HasDoneAmong machine.old machine.new op.now result }
 {
-    FfaOutcome::of(&machine.op_among_others(op))
+    COutcome::of(&machine.op_among_others(op))
 }
 
 /// An operation of an endpoint of a machine, whoever runs, with the outcome for C.
@@ -55,11 +53,11 @@ pub(crate) fn acted_by<M: PhysMem + Drop, S: Store>(
     machine: &mut Machine<M, NoTlb, S>,
     endpoint: EndpointId,
     op: &Op,
-) -> FfaOutcome
+) -> COutcome
     requires { is_known machine.old.state endpoint.0 ≡ true }
     ensures { HasActed machine.old machine.new endpoint.0 op.now result }
 {
-    FfaOutcome::of(&machine.op_as(endpoint, op))
+    COutcome::of(&machine.op_as(endpoint, op))
 }
 
 /// The endpoint that runs.
@@ -119,7 +117,7 @@ pub(crate) fn access_by<M: PhysMem + Drop, S: Store>(
     code_of(machine.access(endpoint, page))
 }
 
-// 1 for a right to read, 3 for one to write too, 4 more for one to execute, and 0 for none.
+// `READ` for a right to read, `WRITE` for one to write too, `EXECUTE` more for one to execute, and 0 for none.
 fn code_of(rights: Option<Rights>) -> u32
     ensures { result ≡ access_code rights }
 {
@@ -133,13 +131,13 @@ fn level_code(level: Data) -> u32
     ensures { result ≡ level_code level }
 {
     match level {
-        Data::Ro => 1,
-        Data::Rw => 3,
+        Data::Ro => READ,
+        Data::Rw => WRITE,
     }
 }
 
 fn exec_code(exec: bool) -> u32
     ensures { result ≡ exec_code exec }
 {
-    if exec { 4 } else { 0 }
+    if exec { EXECUTE } else { 0 }
 }

@@ -6,38 +6,18 @@ ghost use Rattle.ffa_c.specs.LentPages.{empty};
 ghost use Rattle.ffa_c.specs.Boarded.{lends, ram_pages};
 ghost use Rattle.ffa_c.specs.Lending.{IsFull, IsLent, begun_answer, freed_answer, given_back, lent_answer, list_answer, page_count, pages_of, ready_for, room_of, taken_answer};
 
+use crate::codes::{HAS_PAGES, NO_LIST, NO_MACHINE, NO_MEMORY, NO_PAGE, OCCUPIED, OK};
 use crate::held_list::HeldList;
 use crate::lent_list::LentList;
-use crate::machine::{FfaMachine, put, take};
+use crate::machine::{CMachine, put, take};
 use crate::seat::Seat;
 use ffa_lent::{Lent, Slot};
 use std::alloc::Global;
 use std::mem;
 
-/// There is no memory.
-pub const NO_MEMORY: u32 = 1;
-
-/// What is to be made is there already.
-pub const OCCUPIED: u32 = 15;
-
-/// There is no list of pages.
-pub const NO_LIST: u32 = 16;
-
-/// There is no page in the slot, or none in the list.
-pub const NO_PAGE: u32 = 17;
-
-/// The list has pages still.
-pub const HAS_PAGES: u32 = 18;
-
-/// There is no machine.
-pub const NO_MACHINE: u32 = 19;
-
-/// The list has more pages or fewer than the manifest's RAM.
-pub const WRONG_COUNT: u32 = 20;
-
 /// A list of lent pages, or none. Memory of zeros is none.
 #[repr(C)]
-pub struct FfaLent {
+pub struct CLent {
     /// Whether there is a list.
     pub live: bool,
     /// Where it is.
@@ -47,7 +27,7 @@ pub struct FfaLent {
 
 /// A page's memory, or none. Memory of zeros is none.
 #[repr(C)]
-pub struct FfaSlot {
+pub struct CSlot {
     /// Whether there is a page.
     pub live: bool,
     /// Where it is.
@@ -57,7 +37,7 @@ pub struct FfaSlot {
 
 // Takes the list out.
 #[inline]
-pub(crate) fn take_list(lent: &mut FfaLent, alloc: Global) -> Option<Box<LentList>>
+pub(crate) fn take_list(lent: &mut CLent, alloc: Global) -> Option<Box<LentList>>
     ensures taken { lent.old.held.value ≡ option_map (λ b. b.value) result }
     ensures none_left { lent.new.held.value ≡ None }
 {
@@ -72,7 +52,7 @@ pub(crate) fn take_list(lent: &mut FfaLent, alloc: Global) -> Option<Box<LentLis
 
 // Puts a list where there is none.
 #[inline]
-pub(crate) fn put_list(lent: &mut FfaLent, list: Box<LentList>)
+pub(crate) fn put_list(lent: &mut CLent, list: Box<LentList>)
     requires { lent.old.held.value ≡ None }
     ensures { lent.new.held.value ≡ Some list.value }
 {
@@ -82,7 +62,7 @@ pub(crate) fn put_list(lent: &mut FfaLent, list: Box<LentList>)
 
 // Takes the page out.
 #[inline]
-fn take_page(slot: &mut FfaSlot) -> Option<Box<[u8; 4096], Lent>>
+fn take_page(slot: &mut CSlot) -> Option<Box<[u8; 4096], Lent>>
     ensures taken { slot.old.page.bytes ≡ option_map (λ b. b.value) result }
     ensures none_left { slot.new.page.bytes ≡ None }
 {
@@ -97,7 +77,7 @@ fn take_page(slot: &mut FfaSlot) -> Option<Box<[u8; 4096], Lent>>
 
 // Puts a page where there is none.
 #[inline]
-fn put_page(slot: &mut FfaSlot, page: Box<[u8; 4096], Lent>)
+fn put_page(slot: &mut CSlot, page: Box<[u8; 4096], Lent>)
     requires { slot.old.page.bytes ≡ None }
     ensures { slot.new.page.bytes ≡ Some page.value }
 {
@@ -105,10 +85,10 @@ fn put_page(slot: &mut FfaSlot, page: Box<[u8; 4096], Lent>)
     slot.live = true;
 }
 
-/// Makes an empty list with room for so many pages, and with all that a machine in them takes beside them. 0 is that it was made.
-/// Else nothing has changed: `OCCUPIED`, where there is a list, or `NO_MEMORY`.
+/// Makes an empty list with room for so many pages, and with all that a machine in them takes beside them. 0 is that it
+/// was made. Else nothing has changed: `OCCUPIED`, where there is a list, or `NO_MEMORY`.
 #[unsafe(no_mangle)]
-pub extern "C" fn ffa_begin_lending(alloc: Global, lent: &mut FfaLent, pages: u32) -> u32
+pub extern "C" fn gorseplumb_begin_lending(alloc: Global, lent: &mut CLent, pages: u32) -> u32
     ensures answer { result ≢ NO_MEMORY → result ≡ begun_answer (pages_of lent.old.held.value) }
     ensures wanting { result ≡ NO_MEMORY → lent.old.held.value ≡ None }
     ensures made { result ≡ 0 → lent.new.held.value ≡ Some (empty pages) }
@@ -120,7 +100,7 @@ pub extern "C" fn ffa_begin_lending(alloc: Global, lent: &mut FfaLent, pages: u3
     match empty_list(alloc, pages as usize) {
         Some(list) => {
             put_list(lent, list);
-            0
+            OK
         }
         None => NO_MEMORY,
     }
@@ -143,14 +123,15 @@ fn boxed_list(alloc: Global, list: LentList) -> Option<Box<LentList>>
     Box::new(alloc, list).ok()
 }
 
-/// Moves a page from its slot to the end of the list. 0 is that it was moved. Else no page was: `NO_LIST`, `NO_PAGE`, where
-/// there is none in the slot, or `NO_MEMORY`, where the list has no room for it.
+/// Moves a page from its slot to the end of the list. 0 is that it was moved. Else no page was: `NO_LIST`, `NO_PAGE`,
+/// where there is none in the slot, or `NO_MEMORY`, where the list has no room for it.
 #[unsafe(no_mangle)]
-pub extern "C" fn ffa_lend(alloc: Global, lent: &mut FfaLent, slot: &mut FfaSlot) -> u32
+pub extern "C" fn gorseplumb_lend(alloc: Global, lent: &mut CLent, slot: &mut CSlot) -> u32
     ensures answer { result ≢ NO_MEMORY → result ≡ lent_answer (pages_of lent.old.held.value) slot.old.page.bytes }
     ensures wanting { result ≡ NO_MEMORY → lent_answer (pages_of lent.old.held.value) slot.old.page.bytes ≡ 0 }
     ensures full { result ≡ NO_MEMORY → IsFull lent.old.held.value }
-    ensures lent { result ≡ 0 → IsLent (pages_of lent.old.held.value) (pages_of lent.new.held.value) slot.old.page.bytes slot.new.page.bytes }
+    ensures lent { let old = pages_of lent.old.held.value in let new = pages_of lent.new.held.value in
+        result ≡ 0 → IsLent old new slot.old.page.bytes slot.new.page.bytes }
     ensures list { result ≢ 0 → pages_of lent.new.held.value ≡ pages_of lent.old.held.value }
     ensures page { result ≢ 0 → slot.new.page.bytes ≡ slot.old.page.bytes }
     ensures room { room_of lent.old.held.value ≤ room_of lent.new.held.value }
@@ -165,11 +146,12 @@ pub extern "C" fn ffa_lend(alloc: Global, lent: &mut FfaLent, slot: &mut FfaSlot
 }
 
 // Moves a page to the end of a list.
-fn lend_to(list: &mut LentList, slot: &mut FfaSlot) -> u32
+fn lend_to(list: &mut LentList, slot: &mut CSlot) -> u32
     ensures answer { result ≢ NO_MEMORY → result ≡ lent_answer (Some list.old.pages) slot.old.page.bytes }
     ensures wanting { result ≡ NO_MEMORY → lent_answer (Some list.old.pages) slot.old.page.bytes ≡ 0 }
     ensures full { result ≡ NO_MEMORY → IsFull (Some list.old) }
-    ensures lent { result ≡ 0 → IsLent (Some list.old.pages) (Some list.new.pages) slot.old.page.bytes slot.new.page.bytes }
+    ensures lent { let old = Some list.old.pages in let new = Some list.new.pages in
+        result ≡ 0 → IsLent old new slot.old.page.bytes slot.new.page.bytes }
     ensures list { result ≢ 0 → list.new.pages ≡ list.old.pages }
     ensures page { result ≢ 0 → slot.new.page.bytes ≡ slot.old.page.bytes }
     ensures room { list.old.room ≤ list.new.room }
@@ -179,7 +161,7 @@ fn lend_to(list: &mut LentList, slot: &mut FfaSlot) -> u32
         return NO_PAGE;
     };
     match list.lend(page) {
-        Ok(()) => 0,
+        Ok(()) => OK,
         Err(page) => {
             put_page(slot, page);
             NO_MEMORY
@@ -187,12 +169,14 @@ fn lend_to(list: &mut LentList, slot: &mut FfaSlot) -> u32
     }
 }
 
-/// Moves the last page of the list to the slot, which is empty. 0 is that it was moved. Else nothing has changed: `NO_LIST`,
-/// `OCCUPIED`, where there is a page in the slot, or `NO_PAGE`, where the list has none. The list's room stays.
+/// Moves the last page of the list to the slot, which is empty. 0 is that it was moved. Else nothing has changed:
+/// `NO_LIST`, `OCCUPIED`, where there is a page in the slot, or `NO_PAGE`, where the list has none. The list's room
+/// stays.
 #[unsafe(no_mangle)]
-pub extern "C" fn ffa_take_back(alloc: Global, lent: &mut FfaLent, slot: &mut FfaSlot) -> u32
+pub extern "C" fn gorseplumb_take_back(alloc: Global, lent: &mut CLent, slot: &mut CSlot) -> u32
     ensures answer { result ≡ taken_answer (pages_of lent.old.held.value) slot.old.page.bytes }
-    ensures taken { result ≡ 0 → IsLent (pages_of lent.new.held.value) (pages_of lent.old.held.value) slot.new.page.bytes slot.old.page.bytes }
+    ensures taken { let old = pages_of lent.old.held.value in let new = pages_of lent.new.held.value in
+        result ≡ 0 → IsLent new old slot.new.page.bytes slot.old.page.bytes }
     ensures list { result ≢ 0 → pages_of lent.new.held.value ≡ pages_of lent.old.held.value }
     ensures page { result ≢ 0 → slot.new.page.bytes ≡ slot.old.page.bytes }
     ensures room { room_of lent.new.held.value ≡ room_of lent.old.held.value }
@@ -207,9 +191,10 @@ pub extern "C" fn ffa_take_back(alloc: Global, lent: &mut FfaLent, slot: &mut Ff
 }
 
 // Moves the last page of a list to a slot.
-fn take_from(list: &mut LentList, slot: &mut FfaSlot) -> u32
+fn take_from(list: &mut LentList, slot: &mut CSlot) -> u32
     ensures answer { result ≡ taken_answer (Some list.old.pages) slot.old.page.bytes }
-    ensures taken { result ≡ 0 → IsLent (Some list.new.pages) (Some list.old.pages) slot.new.page.bytes slot.old.page.bytes }
+    ensures taken { let old = Some list.old.pages in let new = Some list.new.pages in
+        result ≡ 0 → IsLent new old slot.new.page.bytes slot.old.page.bytes }
     ensures list { result ≢ 0 → list.new.pages ≡ list.old.pages }
     ensures page { result ≢ 0 → slot.new.page.bytes ≡ slot.old.page.bytes }
     ensures room { list.new.room ≡ list.old.room }
@@ -222,14 +207,14 @@ fn take_from(list: &mut LentList, slot: &mut FfaSlot) -> u32
         None => NO_PAGE,
         Some(page) => {
             put_page(slot, page);
-            0
+            OK
         }
     }
 }
 
 /// The number of pages in the list; 0 where there is none.
 #[unsafe(no_mangle)]
-pub extern "C" fn ffa_lent_pages(alloc: Global, lent: &mut FfaLent) -> u64
+pub extern "C" fn gorseplumb_lent_pages(alloc: Global, lent: &mut CLent) -> u64
     ensures same { lent.new.held.value ≡ lent.old.held.value }
     ensures count { result ≡ page_count (pages_of lent.old.held.value) }
 {
@@ -245,7 +230,7 @@ pub extern "C" fn ffa_lent_pages(alloc: Global, lent: &mut FfaLent) -> u64
 
 /// Ends an empty list. 0 is that it is none now. Else nothing has changed: `NO_LIST`, or `HAS_PAGES`.
 #[unsafe(no_mangle)]
-pub extern "C" fn ffa_end_lending(alloc: Global, lent: &mut FfaLent) -> u32
+pub extern "C" fn gorseplumb_end_lending(alloc: Global, lent: &mut CLent) -> u32
     ensures answer { result ≡ list_answer (pages_of lent.old.held.value) }
     ensures ended { result ≡ 0 → lent.new.held.value ≡ None }
     ensures refused { result ≢ 0 → lent.new.held.value ≡ lent.old.held.value }
@@ -254,22 +239,23 @@ pub extern "C" fn ffa_end_lending(alloc: Global, lent: &mut FfaLent) -> u32
         return NO_LIST;
     };
     if list.pages() == 0 {
-        0
+        OK
     } else {
         put_list(lent, list);
         HAS_PAGES
     }
 }
 
-/// Ends a machine. RAM of the heap is given back to it. RAM that was lent goes, page by page and in order, with the bytes that
-/// it had in the end, to the list, which has to be there and empty, and so does the machine's own memory: the next boot in the
-/// list takes none. 0 is that the machine has ended. Else nothing has changed: `NO_MACHINE`, and for RAM that was lent `NO_LIST`
-/// or `HAS_PAGES`.
+/// Ends a machine. RAM of the heap is given back to it. RAM that was lent goes, page by page and in order, with the
+/// bytes that it had in the end, to the list, which has to be there and empty, and so does the machine's own memory:
+/// the next boot in the list takes none. 0 is that the machine has ended. Else nothing has changed: `NO_MACHINE`, and
+/// for RAM that was lent `NO_LIST` or `HAS_PAGES`.
 #[unsafe(no_mangle)]
-pub extern "C" fn ffa_free(alloc: Global, machine: &mut FfaMachine, lent: &mut FfaLent) -> u32
+pub extern "C" fn gorseplumb_free(alloc: Global, machine: &mut CMachine, lent: &mut CLent) -> u32
     ensures answer { result ≡ freed_answer machine.old.held.value (pages_of lent.old.held.value) }
     ensures ended { result ≡ 0 → machine.new.held.value ≡ None }
-    ensures given_back { result ≡ 0 → pages_of lent.new.held.value ≡ given_back machine.old.held.value (pages_of lent.old.held.value) }
+    ensures given_back { let list = pages_of lent.old.held.value in
+        result ≡ 0 → pages_of lent.new.held.value ≡ given_back machine.old.held.value list }
     ensures heap { IfSome machine.old.held.value (λ b. b.is_lent ≡ false → lent.new.held.value ≡ lent.old.held.value) }
     ensures machine { result ≢ 0 → machine.new.held.value ≡ machine.old.held.value }
     ensures list { result ≢ 0 → lent.new.held.value ≡ lent.old.held.value }
@@ -281,12 +267,12 @@ pub extern "C" fn ffa_free(alloc: Global, machine: &mut FfaMachine, lent: &mut F
         free_lent(alloc, machine, lent, seat)
     } else {
         drop(seat);
-        0
+        OK
     }
 }
 
 // Ends a machine over lent RAM, which was taken out, or puts it back.
-fn free_lent(alloc: Global, machine: &mut FfaMachine, lent: &mut FfaLent, seat: Box<Seat>) -> u32
+fn free_lent(alloc: Global, machine: &mut CMachine, lent: &mut CLent, seat: Box<Seat>) -> u32
     requires taken { machine.old.held.value ≡ None }
     requires lent { lends seat.value ≡ Some true }
     ensures answer { result ≡ list_answer (pages_of lent.old.held.value) }
@@ -306,5 +292,5 @@ fn free_lent(alloc: Global, machine: &mut FfaMachine, lent: &mut FfaLent, seat: 
     }
     list.take_in(seat);
     put_list(lent, list);
-    0
+    OK
 }

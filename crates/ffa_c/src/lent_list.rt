@@ -18,8 +18,9 @@ use std::alloc::{AllocError, Global};
 use std::marker::Model;
 use std::mem;
 
-/// Pages that are lent, and beside them memory for the machine that is booted in them: its place, and room for what it keeps.
-/// Contracts see the bytes of each page, for how many there is room, and how many RAM may have so that a boot takes no memory.
+/// Pages that are lent, and beside them memory for the machine that is booted in them: its place, and room for what it
+/// keeps. Contracts see the bytes of each page, for how many there is room, and how many RAM may have so that a boot
+/// takes no memory.
 #[derive(Drop)]
 pub struct LentList {
     frames: Frames,
@@ -36,7 +37,8 @@ impl Model for LentList {
 
     ghost coded = { coded_lent_pages };
 
-    ghost view = { λ l. record { pages = l.frames.pages; room = l.frames.room; ready_for = ready_pages l.frames.is_ready (is_some l.seat) l.storage } };
+    ghost view = { λ l. let ready_for = ready_pages l.frames.is_ready (is_some l.seat) l.storage in
+        record { pages = l.frames.pages; room = l.frames.room; ready_for = ready_for } };
 
     // No machine stands in the seat.
     ghost invariant = { λ l. IfSome l.seat (λ b. b.value ≡ None) };
@@ -85,8 +87,8 @@ impl LentList {
         self.frames.take_back()
     }
 
-    /// Adds the pages of a span behind the others, in order. Where there is no room and no memory for all of them, they come back,
-    /// and nothing changes.
+    /// Adds the pages of a span behind the others, in order. Where there is no room and no memory for all of them, they
+    /// come back, and nothing changes.
     pub fn lend_span(&mut self, span: Span) -> Result<(), Span>
         ensures lent { IfOk result (λ _. self.new.pages ≡ self.old.pages ++ span.strip.pages) }
         ensures room { IfOk result (λ _. self.old.room ≤ self.new.room) }
@@ -98,8 +100,8 @@ impl LentList {
         self.frames.lend_span(span)
     }
 
-    /// Boots the machine of a manifest in the pages, which it clears, or whose bytes it keeps, and leaves none. It takes memory only
-    /// for what the list lacks, and where that is refused the list is as before.
+    /// Boots the machine of a manifest in the pages, which it clears, or whose bytes it keeps, and leaves none. It
+    /// takes memory only for what the list lacks, and where that is refused the list is as before.
     #[inline(never)]
     pub fn boot(
         &mut self,
@@ -134,8 +136,8 @@ impl LentList {
         }
     }
 
-    /// Ends the machine in a seat, whose RAM is lent: its pages are those of the list, with the bytes that they had in the end, and
-    /// so is its memory.
+    /// Ends the machine in a seat, whose RAM is lent: its pages are those of the list, with the bytes that they had in
+    /// the end, and so is its memory.
     pub fn take_in(&mut self, seat: Box<Seat>)
         requires { lends seat.value ≡ Some true }
         ensures pages { Some self.new.pages ≡ ram_pages seat.value }

@@ -1,11 +1,14 @@
 // SPDX-License-Identifier: MIT OR Apache-2.0
-//! The machine for C: a static library. Its four operations say again what `Machine::op` promises, but for what that says of a
-//! cache, since there is none. Boots say that the machine is in its first state; questions, changes and lists have promises of their own.
+//! The machine for C: a static library. Its four operations say again what `Machine::op` promises, but for what that
+//! says of a cache, since there is none. Boots say that the machine is in its first state; questions, changes and lists
+//! have promises of their own. A function has the name that it has in C; what is `struct gorseplumb_machine` there is
+//! `CMachine` here, and so on.
 #![tactic(auto)]
 
 pub mod board;
 pub mod booting;
 pub mod changes;
+pub mod codes;
 pub mod elsewhere;
 pub mod exports;
 pub mod held;
@@ -14,7 +17,7 @@ pub mod kind;
 pub mod lending;
 pub mod lent_list;
 pub mod machine;
+pub mod manifest;
 pub mod outcome;
-pub mod parts;
 pub mod seat;
 pub mod spans;

@@ -10,7 +10,7 @@ use std::mem;
 
 /// What C holds: a machine, or none. Memory of zeros is none.
 #[repr(C)]
-pub struct FfaMachine {
+pub struct CMachine {
     /// Whether there is a machine.
     pub live: bool,
     /// Where it is.
@@ -20,7 +20,7 @@ pub struct FfaMachine {
 
 /// Takes the machine out, in its seat.
 #[inline]
-pub fn take(machine: &mut FfaMachine, alloc: Global) -> Option<Box<Seat>>
+pub fn take(machine: &mut CMachine, alloc: Global) -> Option<Box<Seat>>
     ensures taken { machine.old.held.value ≡ option_and_then (λ b. b.value) result }
     ensures there { IfSome result (λ b. IsSome b.value) }
     ensures none_left { machine.new.held.value ≡ None }
@@ -36,7 +36,7 @@ pub fn take(machine: &mut FfaMachine, alloc: Global) -> Option<Box<Seat>>
 
 /// Puts a machine, in its seat, where there is none.
 #[inline]
-pub fn put(machine: &mut FfaMachine, seat: Box<Seat>)
+pub fn put(machine: &mut CMachine, seat: Box<Seat>)
     requires none { machine.old.held.value ≡ None }
     requires there { IsSome seat.value }
     ensures { machine.new.held.value ≡ seat.value }

@@ -3,55 +3,59 @@
 ghost use Rattle.std.specs.Prelude.{◌≡◌, replicate};
 ghost use Rattle.ffa_c.specs.Border.{packed, nothing_done, fault_number};
 
+use crate::codes::{
+    FAULT_ACCESS_FLAG, FAULT_ALIGNMENT, FAULT_OUTSIDE_RAM, FAULT_PERMISSION, FAULT_TRANSLATION,
+    KIND_DATA, KIND_DONE, KIND_FAULT, KIND_REGISTERS,
+};
 use ffa_model::{FaultKind, Outcome};
 
-/// What an operation gives, by `kind`: 0 the registers that the next runner sees, 1 data, 2 done, 3 a fault, 4 no machine,
-/// 5 a size that is none.
+/// What an operation gives. What its kind doesn't name is zero.
 #[repr(C)]
 #[derive(Clone, Copy)]
-pub struct FfaOutcome {
+pub struct COutcome {
+    /// What it is, as one of `KIND_REGISTERS` to `KIND_NO_ENDPOINT`.
     pub kind: u32,
     /// The endpoint that runs next, with registers.
     pub runner: u32,
-    /// The data, or the fault: 1 translation, 2 permission, 3 alignment, 4 access flag, 5 outside RAM.
+    /// The data, or the fault, as one of `FAULT_TRANSLATION` to `FAULT_OUTSIDE_RAM`.
     pub value: u64,
     pub x: [u64; 8],
 }
 
-impl FfaOutcome {
+impl COutcome {
     /// An outcome for C.
     #[inline]
-    pub fn of(outcome: &Outcome) -> FfaOutcome
+    pub fn of(outcome: &Outcome) -> COutcome
         ensures { result ≡ packed outcome.now }
     {
         match *outcome {
-            Outcome::Regs { runner, x } => FfaOutcome {
-                kind: 0,
+            Outcome::Regs { runner, x } => COutcome {
+                kind: KIND_REGISTERS,
                 runner: u32::from(runner.0),
                 value: 0,
                 x,
             },
-            Outcome::Data(value) => plain(1, value),
-            Outcome::Done => plain(2, 0),
-            Outcome::Fault(fault) => plain(3, fault_code(fault)),
+            Outcome::Data(value) => plain(KIND_DATA, value),
+            Outcome::Done => plain(KIND_DONE, 0),
+            Outcome::Fault(fault) => plain(KIND_FAULT, fault_code(fault)),
         }
     }
 
     /// Nothing was done, for this reason.
-    pub fn nothing(kind: u32) -> FfaOutcome
+    pub fn nothing(kind: u32) -> COutcome
         ensures { result ≡ nothing_done kind }
     {
         plain(kind, 0)
     }
 }
 
-fn plain(kind: u32, value: u64) -> FfaOutcome
+fn plain(kind: u32, value: u64) -> COutcome
     ensures kind { result.kind ≡ kind }
     ensures runner { result.runner ≡ 0 }
     ensures value { result.value ≡ value }
     ensures x { result.x ≡ replicate 8 0 }
 {
-    FfaOutcome {
+    COutcome {
         kind,
         runner: 0,
         value,
@@ -63,10 +67,10 @@ fn fault_code(fault: FaultKind) -> u64
     ensures { result ≡ fault_number fault }
 {
     match fault {
-        FaultKind::Translation => 1,
-        FaultKind::Permission => 2,
-        FaultKind::Alignment => 3,
-        FaultKind::AccessFlag => 4,
-        FaultKind::OutsideRam => 5,
+        FaultKind::Translation => FAULT_TRANSLATION,
+        FaultKind::Permission => FAULT_PERMISSION,
+        FaultKind::Alignment => FAULT_ALIGNMENT,
+        FaultKind::AccessFlag => FAULT_ACCESS_FLAG,
+        FaultKind::OutsideRam => FAULT_OUTSIDE_RAM,
     }
 }

@@ -9,7 +9,8 @@ ghost use Rattle.ffa_c.specs.Changes.{told_by, with_all_told};
 ghost use Rattle.ffa_c.specs.Elsewhere.{OperatedAs};
 
 use crate::board::Board;
-use crate::outcome::FfaOutcome;
+use crate::codes::KIND_NO_MACHINE;
+use crate::outcome::COutcome;
 use ffa_lent::Frames;
 use ffa_memshare::Changed;
 use ffa_model::{EndpointId, Op};
@@ -17,8 +18,8 @@ use ffa_spmc::{Given, Storage};
 use std::alloc::{AllocError, Global};
 use std::marker::Model;
 
-/// Memory for a board, with one in it or none, so that it can be there before the board is and after it. Contracts see the
-/// board, if there is one.
+/// Memory for a board, with one in it or none, so that it can be there before the board is and after it. Contracts see
+/// the board, if there is one.
 #[derive(Drop)]
 pub struct Seat {
     board: Option<Board>,
@@ -50,8 +51,8 @@ impl Seat {
         self.board = Some(board);
     }
 
-    /// Ends the machine that is there, in RAM that is lent: the pages with the bytes that they had in the end, and the room for
-    /// another machine.
+    /// Ends the machine that is there, in RAM that is lent: the pages with the bytes that they had in the end, and the
+    /// room for another machine.
     pub fn vacate(&mut self) -> (Frames, Storage<Given<Global>>)
         requires { lends self.old ≡ Some true }
         ensures pages { Some result.0.pages ≡ ram_pages self.old }
@@ -69,23 +70,23 @@ impl Seat {
     }
 
     /// Does one operation of the runner.
-    pub fn op(&mut self, op: &Op) -> FfaOutcome
+    pub fn op(&mut self, op: &Op) -> COutcome
         ensures done { Operated self.old self.new op.now result }
         ensures there { is_some self.new ≡ is_some self.old }
     {
         let Some(board) = &mut self.board else {
-            return FfaOutcome::nothing(4);
+            return COutcome::nothing(KIND_NO_MACHINE);
         };
         board.op(op)
     }
 
     /// Does one operation of an endpoint, whoever runs.
-    pub fn op_as(&mut self, endpoint: EndpointId, op: &Op) -> FfaOutcome
+    pub fn op_as(&mut self, endpoint: EndpointId, op: &Op) -> COutcome
         ensures done { OperatedAs self.old self.new endpoint.0 op.now result }
         ensures there { is_some self.new ≡ is_some self.old }
     {
         let Some(board) = &mut self.board else {
-            return FfaOutcome::nothing(4);
+            return COutcome::nothing(KIND_NO_MACHINE);
         };
         board.op_as(endpoint, op)
     }

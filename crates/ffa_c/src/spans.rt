@@ -4,20 +4,22 @@ ghost use Rattle.std.specs.Prelude.{◌≡◌, ◌≢◌, ◌≤◌, Some, lengt
 ghost use Rattle.ffa_c.specs.Lending.{pages_of, ready_for, room_of};
 ghost use Rattle.ffa_c.specs.Spans.{AreLent, LacksRoom, span_answer};
 
-use crate::lending::{FfaLent, NO_LIST, NO_MEMORY, NO_PAGE, put_list, take_list};
+use crate::codes::{NO_LIST, NO_MEMORY, NO_PAGE, OK};
+use crate::lending::{CLent, put_list, take_list};
 use crate::lent_list::LentList;
 use ffa_lent::Span;
 use std::alloc::Global;
 use std::mem;
 
-/// Moves the pages of a span to the end of the list, in order. 0 is that all were moved. Else nothing has changed: `NO_LIST`,
-/// `NO_PAGE`, where the span has none, or `NO_MEMORY`, where the list has no room for all of them.
+/// Moves the pages of a span to the end of the list, in order. 0 is that all were moved. Else nothing has changed:
+/// `NO_LIST`, `NO_PAGE`, where the span has none, or `NO_MEMORY`, where the list has no room for all of them.
 #[unsafe(no_mangle)]
-pub extern "C" fn ffa_lend_span(alloc: Global, lent: &mut FfaLent, span: &mut Span) -> u32
+pub extern "C" fn gorseplumb_lend_span(alloc: Global, lent: &mut CLent, span: &mut Span) -> u32
     ensures answer { result ≢ NO_MEMORY → result ≡ span_answer (pages_of lent.old.held.value) span.old.strip.pages }
     ensures wanting { result ≡ NO_MEMORY → span_answer (pages_of lent.old.held.value) span.old.strip.pages ≡ 0 }
     ensures full { result ≡ NO_MEMORY → LacksRoom (length span.old.strip.pages) lent.old.held.value }
-    ensures lent { result ≡ 0 → AreLent (pages_of lent.old.held.value) (pages_of lent.new.held.value) span.old.strip.pages span.new.strip.pages }
+    ensures lent { let old = pages_of lent.old.held.value in let new = pages_of lent.new.held.value in
+        result ≡ 0 → AreLent old new span.old.strip.pages span.new.strip.pages }
     ensures list { result ≢ 0 → lent.new.held.value ≡ lent.old.held.value }
     ensures span { result ≢ 0 → span.new ≡ span.old }
     ensures room { room_of lent.old.held.value ≤ room_of lent.new.held.value }
@@ -36,7 +38,8 @@ fn lend_all(list: &mut LentList, span: &mut Span) -> u32
     ensures answer { result ≢ NO_MEMORY → result ≡ span_answer (Some list.old.pages) span.old.strip.pages }
     ensures wanting { result ≡ NO_MEMORY → span_answer (Some list.old.pages) span.old.strip.pages ≡ 0 }
     ensures full { result ≡ NO_MEMORY → LacksRoom (length span.old.strip.pages) (Some list.old) }
-    ensures lent { result ≡ 0 → AreLent (Some list.old.pages) (Some list.new.pages) span.old.strip.pages span.new.strip.pages }
+    ensures lent { let old = Some list.old.pages in let new = Some list.new.pages in
+        result ≡ 0 → AreLent old new span.old.strip.pages span.new.strip.pages }
     ensures list { result ≢ 0 → list.new ≡ list.old }
     ensures span { result ≢ 0 → span.new ≡ span.old }
     ensures room { list.old.room ≤ list.new.room }
@@ -46,7 +49,7 @@ fn lend_all(list: &mut LentList, span: &mut Span) -> u32
         return NO_PAGE;
     }
     match list.lend_span(mem::replace(span, Span::none())) {
-        Ok(()) => 0,
+        Ok(()) => OK,
         Err(returned) => {
             mem::replace(span, returned).end();
             NO_MEMORY

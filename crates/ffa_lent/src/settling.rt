@@ -9,13 +9,13 @@ use ffa_model::{Address, EndpointId, PageNo};
 use ffa_physmem::PAGE_SIZE;
 
 /// A descriptor that no file has: firmware knows by it what is asked, and `write` of a C library does nothing.
-const DESCRIPTOR: i32 = -0xFFA;
+const SETTLES: i32 = -0xFFA;
 
 /// Writes to it which pages of RAM at this address, from one on, are to be settled, in the tables of the endpoint at a place.
 /// Of no pages at all, what was written is still to be seen by others before anything that is written behind.
 pub(crate) fn ask(endpoint: usize, base: Address, first: PageNo, count: u32) {
     let asked = request(endpoint, base, first, count);
-    let _ = io::write_all(DESCRIPTOR, &asked);
+    let _ = io::write_all(SETTLES, &asked);
 }
 
 // What is written: the endpoint's identifier, the address of the first page, and how many bytes the pages have. Each takes 8

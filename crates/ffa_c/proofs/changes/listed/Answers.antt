@@ -6,12 +6,12 @@ use Rattle.std.proofs.lemmas.Bool.Decides.{nat_tests}
 use Rattle.std.proofs.lemmas.Grind.{common_steps}
 use Rattle.std.proofs.lemmas.List.{get_or-replicate, get_or-set_other, get_or-set_same, get_or_past, length-replicate, length-set}
 use Rattle.ffa_model.specs.declared.limits.TheConstants.{MOST_RANGES}
-use Rattle.ffa_c.specs.declared.changes.FfaRange.{FfaRange}
+use Rattle.ffa_c.specs.declared.changes.CRange.{CRange}
 use Rattle.ffa_c.specs.Changes.{no_range, range_told}
 use Rattle.ffa_c.proofs.changes.listed.Goals as goal
 
 -- the same in each place
-everywhere : (n place : ℕ) (x : FfaRange) → x ≡ no_range → slice_index_or (replicate n x) place no_range ≡ no_range
+everywhere : (n place : ℕ) (x : CRange) → x ≡ no_range → slice_index_or (replicate n x) place no_range ≡ no_range
 everywhere n place x is = elim (cases_lt place n) [
   | inl low ↦ get_or-replicate n place x no_range low ∙ is
   | inr high ↦ get_or_past (replicate n x) place no_range (omega (arith, high, length-replicate n x))

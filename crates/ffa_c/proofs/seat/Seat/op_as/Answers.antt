@@ -10,7 +10,7 @@ returns-clause-done c =
     let was : c.args.self.now ≡ Some c.in-Some.board = sym c.self.view_is ∙ c.in-Some.is in
     let put = ap (λ k. Some (record { machine = new.machine; is_lent = k })) its.kind in
     rw was (
-      λ unknown. let (same, told) = its.unknown unknown in (ap (λ (b : Boarded). Some b) same, told),
+      λ unknown. (ap (λ (b : Boarded). Some b) (its.unchanged unknown), its.unknown unknown),
       λ known is. (new.machine, put, its.runner known is),
       λ known other. (new.machine, put, its.other known other),
     )

@@ -3,7 +3,7 @@
 ghost use Rattle.std.specs.Prelude.{◌≡◌, ◌≤◌, [], Some, None, IfOk, IfErr, length};
 ghost use Rattle.ffa_manifest.specs.Document.{parts_of};
 ghost use Rattle.ffa_manifest.specs.Reading.{Exact};
-ghost use Rattle.ffa_c.specs.Given.{Gives, counted, each_given, endpoint_given, parts_given, refusal_of, region_given, rights_given, version_given};
+ghost use Rattle.ffa_c.specs.Given.{Gives, each_given, endpoint_given, endpoints_given, parts_given, refusal_of, region_given, regions_given, rights_given, version_given};
 
 use arrayvec::ArrayVec;
 use bitflags::Flags;
@@ -15,7 +15,7 @@ use ffa_model::{
 /// Pages in a row that an endpoint owns from the start.
 #[repr(C)]
 #[derive(Clone, Copy)]
-pub struct FfaRegion {
+pub struct CRegion {
     /// The address of the first byte.
     pub base: u32,
     /// How many pages.
@@ -27,7 +27,7 @@ pub struct FfaRegion {
 /// An endpoint. The first is the normal world.
 #[repr(C)]
 #[derive(Clone, Copy)]
-pub struct FfaEndpoint {
+pub struct CEndpoint {
     /// The form of its descriptors: 0 is that of FF-A 1.1, 1 the compact one.
     pub version: u32,
     /// What it takes part in, as bits.
@@ -36,20 +36,20 @@ pub struct FfaEndpoint {
     pub uuid: [u8; 16],
     /// How many of `regions` are given.
     pub region_count: u32,
-    pub regions: [FfaRegion; MOST_REGIONS],
+    pub regions: [CRegion; MOST_REGIONS],
 }
 
-/// A machine.
+/// A manifest: a machine's RAM, and its endpoints.
 #[repr(C)]
 #[derive(Clone, Copy)]
-pub struct FfaParts {
+pub struct CManifest {
     /// The address of RAM's first byte.
     pub ram_base: u32,
     /// RAM's size, in blocks of 2 MiB.
     pub ram_blocks: u32,
     /// How many of `endpoints` are given.
     pub endpoint_count: u32,
-    pub endpoints: [FfaEndpoint; MOST_ENDPOINTS],
+    pub endpoints: [CEndpoint; MOST_ENDPOINTS],
 }
 
 fn rights_of(code: u32) -> Option<Rights>
@@ -75,7 +75,7 @@ fn version_of(code: u32) -> Option<Version>
     }
 }
 
-fn region_of(given: &FfaRegion) -> Result<Region, ManifestError>
+fn region_of(given: &CRegion) -> Result<Region, ManifestError>
     ensures { Exact (λ r. r) result (region_given given.now) }
 {
     let Some(rights) = rights_of(given.rights) else {
@@ -88,7 +88,7 @@ fn region_of(given: &FfaRegion) -> Result<Region, ManifestError>
     })
 }
 
-fn regions_of(given: &[FfaRegion]) -> Result<ArrayVec<Region, MOST_REGIONS>, ManifestError>
+fn regions_of(given: &[CRegion]) -> Result<ArrayVec<Region, MOST_REGIONS>, ManifestError>
     requires { length given.now ≤ MOST_REGIONS }
     ensures { Exact (λ rs. rs.items) result (each_given region_given [] given.now) }
 {
@@ -100,8 +100,8 @@ fn regions_of(given: &[FfaRegion]) -> Result<ArrayVec<Region, MOST_REGIONS>, Man
 }
 
 // The regions that an endpoint gives, where its array has so many places.
-fn counted_regions(given: &FfaEndpoint) -> Result<ArrayVec<Region, MOST_REGIONS>, ManifestError>
-    ensures { Exact (λ rs. rs.items) result (counted region_given MOST_REGIONS ManifestError.RegionCount given.now.region_count given.now.regions) }
+fn counted_regions(given: &CEndpoint) -> Result<ArrayVec<Region, MOST_REGIONS>, ManifestError>
+    ensures { Exact (λ rs. rs.items) result (regions_given given.now) }
 {
     let count = given.region_count as usize;
     if count <= MOST_REGIONS {
@@ -111,7 +111,7 @@ fn counted_regions(given: &FfaEndpoint) -> Result<ArrayVec<Region, MOST_REGIONS>
     }
 }
 
-fn endpoint_of(given: &FfaEndpoint) -> Result<Endpoint, ManifestError>
+fn endpoint_of(given: &CEndpoint) -> Result<Endpoint, ManifestError>
     ensures { Exact (λ e. e) result (endpoint_given given.now) }
 {
     let Some(version) = version_of(given.version) else {
@@ -126,7 +126,7 @@ fn endpoint_of(given: &FfaEndpoint) -> Result<Endpoint, ManifestError>
     })
 }
 
-fn endpoints_of(given: &[FfaEndpoint]) -> Result<ArrayVec<Endpoint, MOST_ENDPOINTS>, ManifestError>
+fn endpoints_of(given: &[CEndpoint]) -> Result<ArrayVec<Endpoint, MOST_ENDPOINTS>, ManifestError>
     requires { length given.now ≤ MOST_ENDPOINTS }
     ensures { Exact (λ es. es.items) result (each_given endpoint_given [] given.now) }
 {
@@ -138,8 +138,8 @@ fn endpoints_of(given: &[FfaEndpoint]) -> Result<ArrayVec<Endpoint, MOST_ENDPOIN
 }
 
 // The endpoints that are given, where the array has so many places.
-fn counted_endpoints(given: &FfaParts) -> Result<ArrayVec<Endpoint, MOST_ENDPOINTS>, ManifestError>
-    ensures { Exact (λ es. es.items) result (counted endpoint_given MOST_ENDPOINTS ManifestError.EndpointCount given.now.endpoint_count given.now.endpoints) }
+fn counted_endpoints(given: &CManifest) -> Result<ArrayVec<Endpoint, MOST_ENDPOINTS>, ManifestError>
+    ensures { Exact (λ es. es.items) result (endpoints_given given.now) }
 {
     let count = given.endpoint_count as usize;
     if count <= MOST_ENDPOINTS {
@@ -152,7 +152,7 @@ fn counted_endpoints(given: &FfaParts) -> Result<ArrayVec<Endpoint, MOST_ENDPOIN
 /// The manifest that C's numbers give, or the first cause for which they are refused. It takes no memory.
 // Not inlined, so that no boot has its frame.
 #[inline(never)]
-pub(crate) fn manifest_given(given: &FfaParts) -> Result<Manifest, ManifestError>
+pub(crate) fn manifest_given(given: &CManifest) -> Result<Manifest, ManifestError>
     ensures given { IfOk result (λ m. Gives given.now (parts_of m)) }
     ensures refused { IfErr result (λ e. refusal_of (parts_given given.now) ≡ Some e) }
 {

@@ -1,0 +1,114 @@
+// SPDX-License-Identifier: MIT OR Apache-2.0
+//! The numbers that C is told, each by the name that C has for it behind `GORSEPLUMB_`. Names of the standard, as those
+//! of calls and of their errors, are others.
+
+/// It was done.
+pub const OK: u32 = 0;
+
+/// An allocation was refused.
+pub const NO_MEMORY: u32 = 1;
+
+/// A manifest's text is no TOML, or no UTF-8.
+pub const MANIFEST_TOML: u32 = 2;
+
+/// A table of a manifest has a key that isn't one of its own.
+pub const MANIFEST_UNKNOWN_KEY: u32 = 3;
+
+/// A table of a manifest lacks one of its keys.
+pub const MANIFEST_MISSING_KEY: u32 = 4;
+
+/// A value of a manifest has another kind, or rights are unknown.
+pub const MANIFEST_WRONG_KIND: u32 = 5;
+
+/// RAM's base isn't where RAM may begin.
+pub const MANIFEST_RAM_BASE: u32 = 6;
+
+/// RAM has no block, or too many.
+pub const MANIFEST_RAM_BLOCKS: u32 = 7;
+
+/// There is no endpoint, or there are too many.
+pub const MANIFEST_ENDPOINT_COUNT: u32 = 8;
+
+/// A UUID can't be read, or isn't one that its endpoint may have.
+pub const MANIFEST_UUID: u32 = 9;
+
+/// Properties of an endpoint are unknown, or not such as it may have.
+pub const MANIFEST_PROPERTY: u32 = 10;
+
+/// An endpoint has no region, or too many.
+pub const MANIFEST_REGION_COUNT: u32 = 11;
+
+/// A region isn't of whole pages in RAM behind the tables.
+pub const MANIFEST_REGION_OUTSIDE: u32 = 12;
+
+/// A region has a page of a region before it.
+pub const MANIFEST_REGION_OVERLAP: u32 = 13;
+
+/// A version is unknown.
+pub const MANIFEST_VERSION: u32 = 14;
+
+/// What is to be made, or to be filled, is there already.
+pub const OCCUPIED: u32 = 15;
+
+/// There is no list of pages.
+pub const NO_LIST: u32 = 16;
+
+/// There is no page in the slot, in the span or in the list.
+pub const NO_PAGE: u32 = 17;
+
+/// The list has pages still.
+pub const HAS_PAGES: u32 = 18;
+
+/// There is no machine.
+pub const NO_MACHINE: u32 = 19;
+
+/// The list has more pages than the manifest's RAM, or fewer.
+pub const WRONG_COUNT: u32 = 20;
+
+/// What a question answers where there is no machine, or no such page.
+pub const NOTHING: u32 = 0xFFFF_FFFF;
+
+/// Of an outcome: an endpoint runs next, with registers.
+pub const KIND_REGISTERS: u32 = 0;
+
+/// Of an outcome: data was loaded or fetched.
+pub const KIND_DATA: u32 = 1;
+
+/// Of an outcome: a store was done.
+pub const KIND_DONE: u32 = 2;
+
+/// Of an outcome: an access faults.
+pub const KIND_FAULT: u32 = 3;
+
+/// Of an outcome: there is no machine, and nothing was done.
+pub const KIND_NO_MACHINE: u32 = 4;
+
+/// Of an outcome: there is no access of such a size, and nothing was done.
+pub const KIND_BAD_SIZE: u32 = 5;
+
+/// Of an outcome: the machine has no such endpoint, and nothing was done.
+pub const KIND_NO_ENDPOINT: u32 = 6;
+
+/// No descriptor maps the address.
+pub const FAULT_TRANSLATION: u64 = 1;
+
+/// The descriptor lacks the right.
+pub const FAULT_PERMISSION: u64 = 2;
+
+/// The address is no multiple of the access's size.
+pub const FAULT_ALIGNMENT: u64 = 3;
+
+/// The descriptor's access flag is 0.
+pub const FAULT_ACCESS_FLAG: u64 = 4;
+
+/// The walk or the access leaves RAM.
+pub const FAULT_OUTSIDE_RAM: u64 = 5;
+
+/// A right to read.
+pub const READ: u32 = 1;
+
+/// A right to read and to write.
+pub const WRITE: u32 = 3;
+
+/// A right to execute, beside one of those.
+pub const EXECUTE: u32 = 4;
