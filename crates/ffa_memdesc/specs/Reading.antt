@@ -55,7 +55,8 @@ is_access_from kind sender composite b at =
 -- the receiver at a place, where its access descriptor is one and no earlier one names it
 unfoldable pub receiver_of : Kind → ℕ → ℕ → List ℕ → ℕ → List Receiver → Option Receiver
 receiver_of kind sender composite b at earlier =
-    if is_access_from kind sender composite b at && not (is_named (endpoint_field b at) earlier) then Some (receiver_at b at) else None
+    if is_access_from kind sender composite b at && not (is_named (endpoint_field b at) earlier)
+    then Some (receiver_at b at) else None
 
 -- receiver i of an array, and whether it is one beside the earlier ones
 abbrev pub receiver_after : List ℕ → ℕ → ℕ → Receiver
@@ -68,7 +69,8 @@ is_receiver_after kind sender composite b array i =
 
 unfoldable pub receivers_of : Kind → ℕ → ℕ → List ℕ → ℕ → ℕ → Option (List Receiver)
 receivers_of kind sender composite b array n =
-    if holds_at_each (is_receiver_after kind sender composite b array) n then Some (listed n (receiver_after b array)) else None
+    if holds_at_each (is_receiver_after kind sender composite b array) n
+    then Some (listed n (receiver_after b array)) else None
 
 -- how many ranges a composite has that stands behind the array's end and inside the bytes
 unfoldable pub range_count_of : List ℕ → ℕ → ℕ → Option ℕ
@@ -92,7 +94,8 @@ range_after b composite i = range_at b (composite + 16 + 16 * i)
 
 abbrev pub is_range_after : List ℕ → ℕ → ℕ → Bool
 is_range_after b composite i =
-    is_range b (composite + 16 + 16 * i) && list_all (are_apart (range_after b composite i)) (listed i (range_after b composite))
+    is_range b (composite + 16 + 16 * i)
+    && list_all (are_apart (range_after b composite i)) (listed i (range_after b composite))
 
 unfoldable pub ranges_of : List ℕ → ℕ → ℕ → Option (List Range)
 ranges_of b composite n =

@@ -83,7 +83,8 @@ fn read_in<B: Bytes>(bytes: &B, version: Version) -> Result<Header, HeaderFlaw>
     ensures whole { OnOk result (IsHeader (in_version version (B.bytes bytes.now))) }
     ensures found { IfOk result (λ h. h ≡ header_in (in_version version (B.bytes bytes.now))) }
     ensures inside { IfOk result (λ h. h.array + 16 * h.count ≤ length (B.bytes bytes.now)) }
-    ensures first { option_map (λ flaw. FlawOfHeader flaw) (result_err result) ≡ header_flaw (in_version version (B.bytes bytes.now)) }
+    ensures first { let broken = option_map (λ flaw. FlawOfHeader flaw) (result_err result) in
+        broken ≡ header_flaw (in_version version (B.bytes bytes.now)) }
 {
     let len = bytes.len();
     let size = header_size(version);
@@ -123,7 +124,8 @@ pub fn read_header<B: Bytes>(bytes: &B, version: Version) -> Result<Header, Head
     ensures whole { OnOk result (IsHeader (in_version version (B.bytes bytes.now))) }
     ensures found { IfOk result (λ h. h ≡ header_in (in_version version (B.bytes bytes.now))) }
     ensures inside { IfOk result (λ h. h.array + 16 * h.count ≤ length (B.bytes bytes.now)) }
-    ensures first { option_map (λ flaw. FlawOfHeader flaw) (result_err result) ≡ header_flaw (in_version version (B.bytes bytes.now)) }
+    ensures first { let broken = option_map (λ flaw. FlawOfHeader flaw) (result_err result) in
+        broken ≡ header_flaw (in_version version (B.bytes bytes.now)) }
 {
     match version {
         Version::Compact => read_in(bytes, Version::Compact),

@@ -20,7 +20,8 @@ use ffa_model::{Range, Version};
 /// Writes the header's end, behind its first 32 bytes: where the access descriptors stand, where the header tells it.
 pub fn write_rest(out: &mut [u8], version: Version)
     requires { header_size version ≤ length out.old }
-    ensures { (old front : List ℕ) → Wrote old front 32 out.old → Wrote old (front ++ rest_bytes version) (header_size version) out.new }
+    ensures { (old front : List ℕ) → Wrote old front 32 out.old
+        → Wrote old (front ++ rest_bytes version) (header_size version) out.new }
 {
     match version {
         Version::Compact => {}
@@ -37,7 +38,8 @@ pub fn write_composite(out: &mut [u8], at: usize, ranges: &[Range])
     requires room { at + 16 ≤ length out.old }
     requires few { length ranges.now ≤ MOST_RANGES }
     requires total { page_total ranges.now < 2 ^ 32 }
-    ensures { (old front : List ℕ) → Wrote old front at out.old → Wrote old (front ++ composite_bytes ranges.now) (at + 16) out.new }
+    ensures { (old front : List ℕ) → Wrote old front at out.old
+        → Wrote old (front ++ composite_bytes ranges.now) (at + 16) out.new }
 {
     put_u32(out, at, page_total(ranges) as u32);
     put_u32(out, at + 4, ranges.len() as u32);
@@ -46,7 +48,8 @@ pub fn write_composite(out: &mut [u8], at: usize, ranges: &[Range])
 
 fn write_range(out: &mut [u8], at: usize, range: &Range)
     requires { at + 16 ≤ length out.old }
-    ensures { (old front : List ℕ) → Wrote old front at out.old → Wrote old (front ++ range_bytes range.now) (at + 16) out.new }
+    ensures { (old front : List ℕ) → Wrote old front at out.old
+        → Wrote old (front ++ range_bytes range.now) (at + 16) out.new }
 {
     put_u64(out, at, range.address);
     put_u32(out, at + 8, range.pages);

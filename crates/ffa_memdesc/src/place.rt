@@ -164,8 +164,8 @@ fn entry_place(first: u64, index: u32) -> u64
     first + ENTRY_SIZE as u64 * index as u64
 }
 
-/// The field of which a condition speaks that these bytes break, in a descriptor of an endpoint of this version. What the
-/// bytes don't tell, since they end before, counts as 0.
+/// The field of which a condition speaks that these bytes break, in a descriptor of an endpoint of this
+/// version. What the bytes don't tell, since they end before, counts as 0.
 pub fn flaw_place<B: Bytes>(bytes: &B, version: Version, flaw: Flaw) -> FieldPlace
     ensures { result ≡ flaw_place (in_version version (B.bytes bytes.now)) flaw }
 {

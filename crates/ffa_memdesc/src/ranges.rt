@@ -23,11 +23,13 @@ pub fn read_range_count<B: Bytes>(
     header: &Header,
     composite: u32,
 ) -> Result<u32, CompositeFlaw>
-    ensures found { IfOk result (λ n. Some n ≡ range_count_of (B.bytes bytes.now) (header.now.array + 16 * header.now.count) composite) }
+    ensures found { let end = header.now.array + 16 * header.now.count in
+        IfOk result (λ n. Some n ≡ range_count_of (B.bytes bytes.now) end composite) }
     ensures few { IfOk result (λ n. n ≤ MOST_RANGES) }
     ensures inside { IfOk result (λ n. composite + 16 + 16 * n ≤ length (B.bytes bytes.now)) }
-    ensures first { option_map (λ flaw. FlawOfComposite flaw) (result_err result)
-        ≡ composite_flaw_at (B.bytes bytes.now) (header.now.array + 16 * header.now.count) composite }
+    ensures first { let end = header.now.array + 16 * header.now.count in
+        let broken = option_map (λ flaw. FlawOfComposite flaw) (result_err result) in
+        broken ≡ composite_flaw_at (B.bytes bytes.now) end composite }
 {
     let len = bytes.len() as u64;
     let first = composite as u64 + 16;
@@ -82,7 +84,8 @@ pub fn is_apart_from(range: &Range, others: &[Range]) -> bool
 fn read_range<B: Bytes>(bytes: &B, at: usize, earlier: &[Range]) -> Result<Range, RangeFlaw>
     requires { at + 16 ≤ length (B.bytes bytes.now) }
     ensures found { IfOk result (λ r. Some r ≡ range_of (B.bytes bytes.now) at earlier.now) }
-    ensures first { (i : ℕ) → option_map (λ flaw. FlawOfRange i flaw) (result_err result) ≡ range_flaw_at (B.bytes bytes.now) at earlier.now i }
+    ensures first { (i : ℕ) → let broken = option_map (λ flaw. FlawOfRange i flaw) (result_err result) in
+        broken ≡ range_flaw_at (B.bytes bytes.now) at earlier.now i }
 {
     // Proof step: the number of bytes fits a usize.
     let _ = bytes.len();
@@ -108,7 +111,8 @@ fn read_range<B: Bytes>(bytes: &B, at: usize, earlier: &[Range]) -> Result<Range
     Ok(range)
 }
 
-/// Puts the ranges of the composite into an empty list, where all fit. The list is the caller's, since it is large to move.
+/// Puts the ranges of the composite into an empty list, where all fit. The list is the caller's, since it is
+/// large to move.
 pub fn read_ranges<B: Bytes>(
     bytes: &B,
     composite: u32,

@@ -94,9 +94,11 @@ pub fn read_receivers<B: Bytes>(
 ) -> Result<ArrayVec<Receiver, MOST_RECEIVERS>, Flaw>
     requires few { header.now.count ≤ MOST_RECEIVERS }
     requires inside { header.now.array + 16 * header.now.count ≤ length (B.bytes bytes.now) }
-    ensures found { IfOk result (λ v. Some v.items ≡ receivers_of kind header.now.sender.0 composite (B.bytes bytes.now) header.now.array header.now.count) }
-    ensures first { result_err result
-        ≡ first_of header.now.count (access_flaw_after kind header.now.sender.0 composite (B.bytes bytes.now) header.now.array) }
+    ensures found { let sender = header.now.sender.0 in let array = header.now.array in let count = header.now.count in
+        IfOk result (λ v. Some v.items ≡ receivers_of kind sender composite (B.bytes bytes.now) array count) }
+    ensures first { let sender = header.now.sender.0 in let array = header.now.array in
+        let broken = access_flaw_after kind sender composite (B.bytes bytes.now) array in
+        result_err result ≡ first_of header.now.count broken }
 {
     let mut receivers = ArrayVec::new();
     for i in 0..header.count {

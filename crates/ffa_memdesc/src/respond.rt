@@ -69,7 +69,8 @@ fn write_access(out: &mut [u8], at: usize, response: &Response)
 fn write_in(response: &Response, version: Version, out: &mut [u8; 4096]) -> usize
     requires { page_total response.now.ranges.items < 2 ^ 32 }
     ensures size { result ≡ response_size version response.now.ranges.items }
-    ensures bytes { out.new ≡ response_bytes version (response_record response.now) ++ drop (response_size version response.now.ranges.items) out.old }
+    ensures bytes { let told = response_bytes version (response_record response.now) in
+        out.new ≡ told ++ drop (response_size version response.now.ranges.items) out.old }
 {
     let ranges = response.ranges.as_slice();
     let header = header_size(version) as usize;
@@ -85,7 +86,8 @@ fn write_in(response: &Response, version: Version, out: &mut [u8; 4096]) -> usiz
 pub fn write_response(response: &Response, version: Version, out: &mut [u8; 4096]) -> usize
     requires { page_total response.now.ranges.items < 2 ^ 32 }
     ensures size { result ≡ response_size version response.now.ranges.items }
-    ensures bytes { out.new ≡ response_bytes version (response_record response.now) ++ drop (response_size version response.now.ranges.items) out.old }
+    ensures bytes { let told = response_bytes version (response_record response.now) in
+        out.new ≡ told ++ drop (response_size version response.now.ranges.items) out.old }
 {
     match version {
         Version::Compact => write_in(response, Version::Compact, out),

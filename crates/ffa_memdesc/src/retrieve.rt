@@ -35,7 +35,8 @@ fn kind_of(flags: u32) -> Option<Kind>
 #[tactic(auto, unfolding(ffa_model::specs::RetrieveDescriptor::is_retrieve_header, ffa_model::specs::FirstFlaws::asked_header_flaw))]
 fn check_header(header: &Header) -> Result<(), RetrieveFlaw>
     ensures fits { (b : Versioned) → header.now ≡ header_in b → OnOk result (is_retrieve_header b ≡ true) }
-    ensures first { (b : Versioned) → header.now ≡ header_in b → option_map (λ flaw. FlawOfRetrieve flaw) (result_err result) ≡ asked_header_flaw b }
+    ensures first { let broken = option_map (λ flaw. FlawOfRetrieve flaw) (result_err result) in
+        (b : Versioned) → header.now ≡ header_in b → broken ≡ asked_header_flaw b }
 {
     if header.attributes != 0 && header.attributes != NORMAL_MEMORY {
         return Err(RetrieveFlaw::Attributes);
@@ -52,9 +53,10 @@ fn check_header(header: &Header) -> Result<(), RetrieveFlaw>
 /// Whether the access descriptor is that of a retrieve for this endpoint.
 #[tactic(auto, unfolding(ffa_model::specs::RetrieveDescriptor::is_retrieve_access, ffa_model::specs::FirstFlaws::asked_access_flaw))]
 fn check_access(endpoint: EndpointId, access: &Access) -> Result<(), RetrieveFlaw>
-    ensures fits { (b : Versioned) → access.now ≡ access_in b.bytes (array_place b) → OnOk result (is_retrieve_access endpoint.0 b ≡ true) }
-    ensures first { (b : Versioned) → access.now ≡ access_in b.bytes (array_place b)
-        → option_map (λ flaw. FlawOfRetrieve flaw) (result_err result) ≡ asked_access_flaw endpoint.0 b }
+    ensures fits { (b : Versioned) → access.now ≡ access_in b.bytes (array_place b)
+        → OnOk result (is_retrieve_access endpoint.0 b ≡ true) }
+    ensures first { let broken = option_map (λ flaw. FlawOfRetrieve flaw) (result_err result) in
+        (b : Versioned) → access.now ≡ access_in b.bytes (array_place b) → broken ≡ asked_access_flaw endpoint.0 b }
 {
     if access.endpoint.0 != endpoint.0 {
         return Err(RetrieveFlaw::ReceiverIsAnother);
@@ -109,15 +111,16 @@ fn retrieve_in<B: Bytes>(
     })
 }
 
-/// What the bytes say, wherever they lie, as a retrieve descriptor for this endpoint, which has this version. An error is
-/// the first condition of these that they break.
+/// What the bytes say, wherever they lie, as a retrieve descriptor for this endpoint, which has this version.
+/// An error is the first condition of these that they break.
 pub fn read_retrieve<B: Bytes>(
     bytes: &B,
     version: Version,
     endpoint: EndpointId,
 ) -> Result<RetrieveDesc, Flaw>
     ensures found { IfOk result (λ d. Retrieve endpoint.0 (in_version version (B.bytes bytes.now)) d) }
-    ensures none { OnErr result ((r : RetrieveDesc) → Retrieve endpoint.0 (in_version version (B.bytes bytes.now)) r → ⊥) }
+    ensures none { let described = in_version version (B.bytes bytes.now) in
+        OnErr result ((r : RetrieveDesc) → Retrieve endpoint.0 described r → ⊥) }
     ensures computed { result_ok result ≡ retrieve_of endpoint.0 (in_version version (B.bytes bytes.now)) }
     ensures broken { IfErr result (RetrieveBreaks endpoint.0 (in_version version (B.bytes bytes.now))) }
     ensures first { result_err result ≡ retrieve_flaw endpoint.0 (in_version version (B.bytes bytes.now)) }

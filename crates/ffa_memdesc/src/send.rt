@@ -54,7 +54,8 @@ pub fn attributes_of(kind: Kind, count: u32) -> u16
 fn check_header(kind: Kind, header: &Header) -> Result<(), SendFlaw>
     ensures fits { (b : Versioned) → header.now ≡ header_in b → OnOk result (is_send_header kind b ≡ true) }
     ensures few { OnOk result (header.now.count ≤ MOST_RECEIVERS) }
-    ensures first { (b : Versioned) → header.now ≡ header_in b → option_map (λ flaw. FlawOfSend flaw) (result_err result) ≡ send_header_flaw kind b }
+    ensures first { let broken = option_map (λ flaw. FlawOfSend flaw) (result_err result) in
+        (b : Versioned) → header.now ≡ header_in b → broken ≡ send_header_flaw kind b }
 {
     if header.attributes != attributes_of(kind, header.count) {
         return Err(SendFlaw::Attributes);
@@ -108,9 +109,9 @@ fn send_in<B: Bytes>(
     Ok(())
 }
 
-/// Puts what the bytes say, wherever they lie, as a send descriptor of this kind, from a caller of this version, in the
-/// place of an offer, which is large to clear and to move. An error is the first condition of these that they break, and
-/// says nothing of the offer.
+/// Puts what the bytes say, wherever they lie, as a send descriptor of this kind, from a caller of this
+/// version, in the place of an offer, which is large to clear and to move. An error is the first condition of
+/// these that they break, and says nothing of the offer.
 pub fn read_send<B: Bytes>(
     bytes: &B,
     version: Version,
@@ -119,7 +120,8 @@ pub fn read_send<B: Bytes>(
 ) -> Result<(), Flaw>
     ensures found { OnOk result (Send kind (in_version version (B.bytes bytes.now)) (send_record offer.new)) }
     ensures none { OnErr result ((r : SendRecord) → Send kind (in_version version (B.bytes bytes.now)) r → ⊥) }
-    ensures computed { option_map (λ _. send_record offer.new) (result_ok result) ≡ send_of kind (in_version version (B.bytes bytes.now)) }
+    ensures computed { let offered = option_map (λ _. send_record offer.new) (result_ok result) in
+        offered ≡ send_of kind (in_version version (B.bytes bytes.now)) }
     ensures broken { IfErr result (SendBreaks kind (in_version version (B.bytes bytes.now))) }
     ensures first { result_err result ≡ send_flaw kind (in_version version (B.bytes bytes.now)) }
 {

@@ -1,12 +1,11 @@
 -- SPDX-License-Identifier: MIT OR Apache-2.0
 -- The transaction in the slot that was found for a handle.
-use Rattle.std.proofs.Common.{◌≡◌, ◌∙◌, ℕ, List, length, Option, Some, sym, ap, subst}
+use Rattle.std.proofs.Common.{◌≡◌, ◌∙◌, ℕ, List, length, Some, sym, ap, subst}
 use Rattle.std.proofs.lemmas.Option.{same_Some}
 use Rattle.std.specs.FinMap as finite
-use Rattle.ffa_model.specs.Ram.{Ram}
 use Rattle.ffa_model.specs.State.{Transaction}
-use Rattle.ffa_pages.specs.Entry.{Entry}
 use Rattle.ffa_memshare.specs.declared.transaction.OpenTransaction.{OpenTransaction}
+use Rattle.ffa_memshare.specs.Memory.{Memory}
 use Rattle.ffa_memshare.specs.Ranges.{ArePlaced}
 use Rattle.ffa_memshare.specs.Shared.{AreInRam, IsShared}
 use Rattle.ffa_memshare.specs.Stored.{Slot, map_in, pool_slot, view_of}
@@ -30,5 +29,6 @@ module _ (slots : List Slot) (k h : ℕ) (it : OpenTransaction) (found : (t : Tr
   asked-open given = subst (λ (g : ℕ). finite.get (map_in slots) g ≡ Some (view_of it)) same-handle given
 
 -- the pages of what is open are in RAM
-pub shared-placed : {ram : Ram} {base n blocks : ℕ} {pages : List (Option Entry)} {slots : List Slot} → IsShared ram base n blocks pages slots → AreInRam slots base (length pages)
-shared-placed {base = base} shared k h t at = subst (λ (count : ℕ). ArePlaced base count t.ranges) (sym shared.room.size) (shared.each k h t at).placed
+pub shared-placed : {memory : Memory} {slots : List Slot} → IsShared memory slots → AreInRam slots memory.base (length memory.entries)
+shared-placed {memory = memory} shared k h t at =
+    subst (λ (count : ℕ). ArePlaced memory.base count t.ranges) (sym shared.room.size) (shared.each k h t at).placed

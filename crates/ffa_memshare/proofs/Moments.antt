@@ -22,6 +22,7 @@ use Rattle.ffa_stage2.proofs.Kept.{built-kept, built_by-kept}
 use Rattle.ffa_stage2.proofs.Walks.{standing-of_built}
 use Rattle.ffa_stage2.proofs.Moments.{between-beside, between-last as between-behind, between-then, ends-of-rights, no-right-ends, ordered-behind}
 use Rattle.ffa_memshare.specs.Callers.{IsRxApart}
+use Rattle.ffa_memshare.specs.Memory.{Memory}
 use Rattle.ffa_memshare.specs.Changes.{AreBehind, IsCleared}
 use Rattle.ffa_memshare.specs.Grants.{with_rights}
 use Rattle.ffa_memshare.specs.Ranges.{in_range, in_ranges}
@@ -215,10 +216,19 @@ before-run : (first n p : ℕ) → p < first → is_in_run first n p ≡ false
 before-run first n p low = grind (arith, nat_tests)
 
 -- rights, and then a response in RX, whose pages aren't named
-module _ (old granted new : Ram) (n b index : ℕ) (named : ℕ → Bool) (right : ℕ → Option Rights) (own : Option Buffers) (rx : IsRxApart n b own named)
-    (access : ℕ → ℕ → Option Rights) (built : IsBuilt old n b access)
-    (done : (f : ℕ → ℕ → Option Rights) → IsBuilt old n b f → IsBuilt granted n b (with_rights f index named right)) (base : granted.base ≡ old.base)
-    (beside : IsBesideRx granted new own) where
+module _ (memory : Memory) (granted new : Ram) (index : ℕ) (named : ℕ → Bool) (right : ℕ → Option Rights) (own : Option Buffers) (rx : IsRxApart memory own named)
+    (access : ℕ → ℕ → Option Rights) (built : IsBuilt memory.ram memory.endpoints memory.blocks access)
+    (done : (f : ℕ → ℕ → Option Rights) → IsBuilt memory.ram memory.endpoints memory.blocks f → IsBuilt granted memory.endpoints memory.blocks (with_rights f index named right))
+    (base : granted.base ≡ memory.ram.base) (beside : IsBesideRx granted new own) where
+  abbrev old : Ram
+  old = memory.ram
+
+  abbrev n : ℕ
+  n = memory.endpoints
+
+  abbrev b : ℕ
+  b = memory.blocks
+
   behind-rx : (x : Buffers) → own ≡ Some x → AreBehind n b (is_in_run x.rx x.pages)
   behind-rx x are p at = elim (cases_lt p x.rx) [
     | inl low ↦ absurd (false≢true (sym (before-run x.rx x.pages p low) ∙ at))

@@ -15,7 +15,8 @@ use Rattle.ffa_memshare.specs.declared.found.FoundRight.{FoundRight}
 use Rattle.ffa_memshare.specs.Stored.{Slot, pool_slot}
 
 -- the slot of the transaction that these bytes of e ask for, and the right that they ask for
-pub record IsAskedFor (slots : List Slot) (own_rights : OwnRights) (e : ℕ) (bytes : Versioned) (found : FoundRight) : Type 0 where
+pub record IsAskedFor (slots : List Slot) (own_rights : OwnRights) (e : ℕ) (bytes : Versioned) (found : FoundRight)
+    : Type 0 where
   pub asked : RetrieveDesc
   pub transaction : Transaction
   pub described : retrieve_of e bytes ≡ Some asked

@@ -15,7 +15,9 @@ Held = finite.FinMap nat_cmp Rights
 
 -- the rights that are held, by place
 abbrev pub held_in : List (Option Rights) → Held
-held_in held = finite.from_entries (filter_map (λ x. x) (map_at (λ i. option_map (λ (right : Rights). (identifier i, right))) held))
+held_in held =
+    finite.from_entries
+    (filter_map (λ x. x) (map_at (λ i. option_map (λ (right : Rights). (identifier i, right))) held))
 
 -- an endpoint holds this right, or none
 abbrev pub held_with : Held → ℕ → Option Rights → Held

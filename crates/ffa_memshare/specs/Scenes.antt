@@ -5,23 +5,24 @@ use Rattle.ffa_model.specs.Buffers.{buffers_in}
 use Rattle.ffa_model.specs.DescriptorPlaces.{Versioned, in_version}
 use Rattle.ffa_model.specs.Ram.{Ram}
 use Rattle.ffa_model.specs.State.{Buffers}
-use Rattle.ffa_model.specs.Transactions.{OpenTransactions, Scene}
-use Rattle.ffa_pages.specs.Entry.{Entry}
+use Rattle.ffa_model.specs.Transactions.{Scene}
 use Rattle.ffa_rxtx.specs.Parts.{candidates_in, tx_in}
 use Rattle.ffa_memshare.specs.declared.descriptor_call.DescriptorCall.{DescriptorCall}
+use Rattle.ffa_memshare.specs.Memory.{MemoryParts}
 use Rattle.ffa_memshare.specs.Named.{own_rights_in}
+use Rattle.ffa_memshare.specs.Stored.{open_in}
 
 -- the first bytes of e's TX, as many as its descriptor has, in e's version
 abbrev pub descriptor_in : Ram → List (Option Buffers) → ℕ → DescriptorCall → Versioned
 descriptor_in ram buffers e x = in_version x.version (take x.transfer.total (tx_in ram (buffers_in buffers e)))
 
--- what the checks read of this many endpoints, in the RAM at an address
-abbrev pub scene_in : ℕ → List (Option Entry) → ℕ → List (Option Buffers) → OpenTransactions → Scene
-scene_in endpoints table base buffers open_transactions =
+-- what the checks read
+abbrev pub scene_in : MemoryParts → Scene
+scene_in parts =
     record {
-      endpoints = endpoints;
-      ram = candidates_in table base;
-      own_rights = own_rights_in table base;
-      buffers = buffers;
-      open_transactions = open_transactions;
+      endpoints = parts.memory.endpoints;
+      ram = candidates_in parts.memory.entries parts.memory.base;
+      own_rights = own_rights_in parts.memory.entries parts.memory.base;
+      buffers = parts.buffers;
+      open_transactions = open_in parts.pool;
     }

@@ -1,16 +1,14 @@
 -- SPDX-License-Identifier: MIT OR Apache-2.0
 -- What a send leaves.
-use Rattle.std.specs.Prelude.{◌≡◌, ℕ, false, List, Option, Some, None}
+use Rattle.std.specs.Prelude.{◌≡◌, ℕ, false, Some, None}
 use Rattle.ffa_model.specs.declared.rights.Kind.{Kind}
 use Rattle.ffa_model.specs.declared.rights.Kind.TheVariants.{Share, Lend, Donate}
 use Rattle.ffa_model.specs.Access.{is_receiver}
 use Rattle.ffa_model.specs.DescriptorPlaces.{Versioned}
 use Rattle.ffa_model.specs.Identifiers.{place}
 use Rattle.ffa_model.specs.MemorySend.{offered_in, transaction_from}
-use Rattle.ffa_model.specs.Ram.{Ram}
 use Rattle.ffa_model.specs.SendDescriptor.{SendRecord, send_of}
 use Rattle.ffa_model.specs.Transactions.{next_handle}
-use Rattle.ffa_pages.specs.Entry.{Entry}
 use Rattle.ffa_memshare.specs.declared.changed.Changed.{Changed}
 use Rattle.ffa_memshare.specs.declared.grants.NewRight.{NewRight}
 use Rattle.ffa_memshare.specs.declared.grants.NewRight.TheVariants.{Same, Own}
@@ -18,10 +16,11 @@ use Rattle.ffa_memshare.specs.declared.marks.Mark.TheVariants.{Named}
 use Rattle.ffa_memshare.specs.Changed.{IsChanged, changed_sender}
 use Rattle.ffa_memshare.specs.Changes.{IsMarked, IsMoved}
 use Rattle.ffa_memshare.specs.Grants.{new_right}
+use Rattle.ffa_memshare.specs.Memory.{MemoryParts}
 use Rattle.ffa_memshare.specs.Offers.{IsOwnOffer}
 use Rattle.ffa_memshare.specs.Ranges.{in_ranges}
 use Rattle.ffa_memshare.specs.SlotChanges.{IsOpened}
-use Rattle.ffa_memshare.specs.Stored.{Pooled, open_in}
+use Rattle.ffa_memshare.specs.Stored.{open_in}
 
 -- what a sender keeps: of a share its own right, and else nothing
 abbrev pub right_after : Kind → NewRight
@@ -29,18 +28,20 @@ right_after Share = Own
 right_after Lend = Same None
 right_after Donate = Same None
 
--- the open transactions of this many endpoints, the pages' entries, and the RAM from an address on with its blocks, after
--- e has sent what these bytes describe: a free slot of e has it, e's pages are marked with that slot, e has the right to
--- them that it keeps, and they are zeros where that is asked; this is the access that changed
-pub record IsSent (old new : Pooled) (table marked : List (Option Entry)) (ram after : Ram) (base n blocks e : ℕ) (kind : Kind) (bytes : Versioned) (changed : Changed)
-    : Type 0 where
+-- The parts after e has sent what these bytes describe: a free slot of e has it, e's pages are marked with that
+-- slot, e has the right to them that it keeps, and they are zeros where that is asked; and the access that
+-- changed.
+pub record IsSent (old new : MemoryParts) (e : ℕ) (kind : Kind) (bytes : Versioned) (changed : Changed) : Type 0 where
   pub offer : SendRecord
   pub slot : ℕ
   pub described : send_of kind bytes ≡ Some offer
-  pub own : IsOwnOffer table base e offer
+  pub own : IsOwnOffer old.memory.entries old.memory.base e offer
   pub other : is_receiver e (transaction_from kind offer) ≡ false
-  pub opened : IsOpened old new slot (next_handle (open_in old) e) (transaction_from kind offer)
-  pub open_transactions : open_in new ≡ offered_in (open_in old) e kind offer
-  pub marks : IsMarked table marked (in_ranges base offer.ranges) (Named (Some slot))
-  pub moved : IsMoved ram after n blocks (place e) (in_ranges base offer.ranges) (new_right (right_after kind) table) offer.zero
+  pub opened : IsOpened old.pool new.pool slot (next_handle (open_in old.pool) e) (transaction_from kind offer)
+  pub open_transactions : open_in new.pool ≡ offered_in (open_in old.pool) e kind offer
+  pub marks :
+      IsMarked old.memory.entries new.memory.entries (in_ranges old.memory.base offer.ranges) (Named (Some slot))
+  pub moved :
+      IsMoved old.memory.ram new.memory.ram old.memory.endpoints old.memory.blocks (place e)
+      (in_ranges old.memory.base offer.ranges) (new_right (right_after kind) old.memory.entries) offer.zero
   pub access : IsChanged changed offer.ranges (changed_sender kind e)

@@ -33,8 +33,8 @@ pub struct Retrieved {
     pub changed: Changed,
 }
 
-// What was told last, or nothing. It is filled in where it stands, since its ranges are large to move. Contracts see what is
-// told.
+// What was told last, or nothing. It is filled in where it stands, since its ranges are large to move.
+// Contracts see what is told.
 #[derive(Drop)]
 pub(crate) struct Told {
     is_told: bool,
@@ -64,8 +64,8 @@ impl Told {
         }
     }
 
-    // Tells that the access of an endpoint, or of nobody, to the pages of these ranges has changed, in place of what was told
-    // before, and gives it.
+    // Tells that the access of an endpoint, or of nobody, to the pages of these ranges has changed, in place
+    // of what was told before, and gives it.
     #[inline(always)]
     pub(crate) fn tell(&mut self, ranges: &PageRanges, endpoint: Option<EndpointId>) -> Changed
         ensures told { self.new ≡ Some result }

@@ -56,8 +56,12 @@ fn common_with<P: Room<KeptPage> + Drop>(
     before: Common,
 ) -> Common
     requires { IsPlaced base.0 (length pages.now) range.now }
-    ensures writable { result.is_writable ≡ (before.is_writable && all_named (length pages.now) (in_range base.0 range.now) (λ p. may_store (own_right_at pages.now p))) }
-    ensures executable { result.is_executable ≡ (before.is_executable && all_named (length pages.now) (in_range base.0 range.now) (λ p. may_fetch (own_right_at pages.now p))) }
+    ensures writable { let named = in_range base.0 range.now in
+        let are_writable = all_named (length pages.now) named (λ p. may_store (own_right_at pages.now p)) in
+        result.is_writable ≡ (before.is_writable && are_writable) }
+    ensures executable { let named = in_range base.0 range.now in
+        let are_executable = all_named (length pages.now) named (λ p. may_fetch (own_right_at pages.now p)) in
+        result.is_executable ≡ (before.is_executable && are_executable) }
 {
     // Proof step: the number of pages is 2^14 at most.
     let _ = pages.pages();

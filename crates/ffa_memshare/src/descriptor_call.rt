@@ -36,7 +36,8 @@ impl DescriptorCall {
         requires tx { (b : Own) → buffers_in buffers.now caller.0 ≡ Some b → IsInRam (length (M.ram ram.now).pages) b }
         ensures refusal { result_err result ≡ first_refusal (after_transfer buffers.now caller.0 self.now.transfer []) }
         ensures buffers { OnOk result (is_some (buffers_in buffers.now caller.0) ≡ true) }
-        ensures bytes { IfOk result (λ bytes. bytes ≡ (descriptor_in (M.ram ram.now) buffers.now caller.0 self.now).bytes) }
+        ensures bytes { let descriptor = descriptor_in (M.ram ram.now) buffers.now caller.0 self.now in
+            IfOk result (λ bytes. bytes ≡ descriptor.bytes) }
     {
         let Some(mapped) = buffers.of(caller) else {
             return Err(Refusal::BuffersMissing);

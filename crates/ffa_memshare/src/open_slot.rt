@@ -11,8 +11,8 @@ use crate::transaction::OpenTransaction;
 use ffa_model::{EndpointId, Rights};
 use std::marker::Model;
 
-/// Where one transaction may be open. It is filled in where it stands, since a transaction is large to move. Contracts see
-/// the transaction, if one is open.
+/// Where one transaction may be open. It is filled in where it stands, since a transaction is large to move.
+/// Contracts see the transaction, if one is open.
 #[derive(Drop)]
 pub struct OpenSlot {
     is_open: bool,
@@ -79,7 +79,8 @@ impl OpenSlot {
     pub(crate) fn set_held(&mut self, endpoint: EndpointId, right: Option<Rights>)
         requires known { identifier (place endpoint.0) ≡ endpoint.0 }
         requires few { place endpoint.0 < MOST_ENDPOINTS }
-        ensures { (t : OpenTransaction) → self.old ≡ Some t → self.new ≡ Some (record t { held = held_with t.held endpoint.0 right }) }
+        ensures { (t : OpenTransaction) → self.old ≡ Some t
+            → self.new ≡ Some (record t { held = held_with t.held endpoint.0 right }) }
     {
         self.transaction.held.set(endpoint, right);
     }

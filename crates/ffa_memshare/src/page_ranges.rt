@@ -70,7 +70,8 @@ fn put<P: Room<KeptPage> + Drop>(
     }
 }
 
-/// Ranges of pages of one RAM, eight bytes for each: a transaction is small to keep and to move. Contracts see the ranges.
+/// Ranges of pages of one RAM, eight bytes for each: a transaction is small to keep and to move. Contracts
+/// see the ranges.
 #[derive(Drop)]
 pub struct PageRanges {
     base: Address,
@@ -151,8 +152,8 @@ impl PageRanges {
         self.list[place].range(self.base)
     }
 
-    /// Puts each range by its address, in their order, into an empty list. The list is the caller's, since it is large to
-    /// move.
+    /// Puts each range by its address, in their order, into an empty list. The list is the caller's, since it
+    /// is large to move.
     pub(crate) fn list_in(&self, ranges: &mut ArrayVec<Range, MOST_RANGES>)
         requires { ranges.old.items ≡ [] }
         ensures { ranges.new.items ≡ self.now }

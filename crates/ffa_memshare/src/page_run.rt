@@ -85,8 +85,8 @@ impl<'m, M: PhysMem> Bytes for PageRun<'m, M> {
     }
 }
 
-/// Puts what the bytes say as a send descriptor of this kind, from a caller of this version, in the place of an offer; else
-/// the first condition that they break. In one page they are read as a slice.
+/// Puts what the bytes say as a send descriptor of this kind, from a caller of this version, in the place of
+/// an offer; else the first condition that they break. In one page they are read as a slice.
 pub(crate) fn read_send<M: PhysMem>(
     bytes: &PageRun<M>,
     version: Version,
@@ -94,7 +94,8 @@ pub(crate) fn read_send<M: PhysMem>(
     offer: &mut SendDesc,
 ) -> Result<(), Flaw>
     ensures found { OnOk result (Send kind (in_version version bytes.now) (send_record offer.new)) }
-    ensures computed { option_map (λ _. send_record offer.new) (result_ok result) ≡ send_of kind (in_version version bytes.now) }
+    ensures computed { let offered = option_map (λ _. send_record offer.new) (result_ok result) in
+        offered ≡ send_of kind (in_version version bytes.now) }
     ensures broken { IfErr result (SendBreaks kind (in_version version bytes.now)) }
     ensures first { result_err result ≡ send_flaw kind (in_version version bytes.now) }
 {
@@ -104,7 +105,8 @@ pub(crate) fn read_send<M: PhysMem>(
     }
 }
 
-/// What the bytes say as a retrieve descriptor for this endpoint, which has this version; else a condition that they break.
+/// What the bytes say as a retrieve descriptor for this endpoint, which has this version; else a condition
+/// that they break.
 pub(crate) fn read_retrieve<M: PhysMem>(
     bytes: &PageRun<M>,
     version: Version,

@@ -1,23 +1,22 @@
 // SPDX-License-Identifier: MIT OR Apache-2.0
 //! FFA_MEM_RECLAIM.
 ghost use Rattle.std.specs.Prelude.{◌≡◌, ◌==◌, None, Some, IfOk, OnOk, OnErr};
-ghost use Rattle.std.specs.FinMap as finite;
 ghost use Rattle.std.specs.Result.{result_err};
-ghost use Rattle.arrayvec.specs.ArrayVec.{array_vec_len};
 ghost use Rattle.ffa_model.specs.Calls.{first_failure};
 ghost use Rattle.ffa_model.specs.Identifiers.{place};
 ghost use Rattle.ffa_model.specs.MemoryReturn.{named_ranges, reclaim_guards};
 ghost use Rattle.ffa_model.specs.Transactions.{closed};
 ghost use Rattle.ffa_physmem.specs.Moments.{Only};
-ghost use Rattle.ffa_stage2.specs.Moments.{EndsSettled, IsMoment};
 ghost use Rattle.ffa_pages.specs.Entry.{own_right_at};
 ghost use Rattle.ffa_memshare.specs.Changed.{IsChanged, changed_reclaimer};
-ghost use Rattle.ffa_memshare.specs.Changes.{IsMarked, IsMoved};
+ghost use Rattle.ffa_memshare.specs.Changes.{IsMarked, IsMovedFor};
+ghost use Rattle.ffa_memshare.specs.Memory.{memory_of};
 ghost use Rattle.ffa_memshare.specs.Named.{own_rights_in};
 ghost use Rattle.ffa_memshare.specs.Ranges.{in_ranges};
 ghost use Rattle.ffa_memshare.specs.Shared.{IsShared};
 ghost use Rattle.ffa_memshare.specs.SlotChanges.{IsClosed};
-ghost use Rattle.ffa_memshare.specs.Stored.{map_in, open_in};
+ghost use Rattle.ffa_memshare.specs.Steps.{EndsSettledFor, IsMomentFor};
+ghost use Rattle.ffa_memshare.specs.Stored.{open_in, transaction_in};
 
 use crate::changed::{Changed, News, changed_sender};
 use crate::marks::Mark;
@@ -29,15 +28,15 @@ use ffa_physmem::PhysMem;
 use ffa_stage2::Layout;
 
 impl<O: Room<OpenSlot> + Drop> Pool<O> {
-    /// FFA_MEM_RECLAIM of an endpoint, with w3: the transaction is open no more, its pages are the sender's with its own
-    /// right, and zeros where bit 0 of the word asks for it. It gives whose access changed: the sender's, but nobody's
-    /// of a share.
+    /// FFA_MEM_RECLAIM of an endpoint, with w3: the transaction is open no more, its pages are the sender's
+    /// with its own right, and zeros where bit 0 of the word asks for it. It gives whose access changed: the
+    /// sender's, but nobody's of a share.
     ///
     /// # Errors
     ///
-    /// In this order: `InvalidParameters` where the word is above 1 or no transaction of the caller with this handle is
-    /// open; `Denied` where a receiver holds it, or zeros are asked of a page whose own right isn't rw. An error changes
-    /// nothing.
+    /// In this order: `InvalidParameters` where the word is above 1 or no transaction of the caller with this
+    /// handle is open; `Denied` where a receiver holds it, or zeros are asked of a page whose own right isn't
+    /// rw. An error changes nothing.
     #[inline(always)]
     pub fn reclaim<M: PhysMem, P: Room<KeptPage> + Drop>(
         &mut self,
@@ -49,8 +48,10 @@ impl<O: Room<OpenSlot> + Drop> Pool<O> {
         flags: u32,
         news: &mut News,
     ) -> Result<Changed, ErrorCode>
-        requires { IsShared (M.ram ram.old) layout.now.base.0 (array_vec_len layout.now.regions) layout.now.blocks pages.old self.old.slots }
-        ensures refusal { result_err result ≡ first_failure (reclaim_guards (own_rights_in pages.old layout.now.base.0) caller.0 flags (finite.get (map_in self.old.slots) handle)) }
+        requires { IsShared (memory_of (M.ram ram.old) layout.now pages.old) self.old.slots }
+        ensures refusal { let own_rights = own_rights_in pages.old layout.now.base.0 in
+            let transaction = transaction_in self.old.slots handle in
+            result_err result ≡ first_failure (reclaim_guards own_rights caller.0 flags transaction) }
         ensures kept { OnErr result (self.new ≡ self.old) }
         ensures kept_pages { OnErr result (pages.new ≡ pages.old) }
         ensures kept_ram { OnErr result (M.ram ram.new ≡ M.ram ram.old) }
@@ -59,14 +60,17 @@ impl<O: Room<OpenSlot> + Drop> Pool<O> {
         ensures told { IfOk result (λ changed. news.new ≡ Some changed) }
         ensures slot { OnOk result (IsClosed self.old self.new handle) }
         ensures open_transactions { OnOk result (open_in self.new ≡ closed (open_in self.old) handle) }
-        ensures ram { OnOk result (IsMoved (M.ram ram.old) (M.ram ram.new) (array_vec_len layout.now.regions) layout.now.blocks
-            (place caller.0) (in_ranges layout.now.base.0 (named_ranges (finite.get (map_in self.old.slots) handle))) (own_right_at pages.old) (flags == 1)) }
-        ensures steps { Only (M.past ram.old) (M.past ram.new) (λ h s. IsMoment (M.ram ram.old) (M.ram ram.new) (array_vec_len layout.now.regions) layout.now.blocks h s) }
-        ensures ended { EndsSettled (M.ram ram.old) (M.ram ram.new) (array_vec_len layout.now.regions) layout.now.blocks (M.past ram.new) }
-        ensures pages { OnOk result (IsMarked pages.old pages.new
-            (in_ranges layout.now.base.0 (named_ranges (finite.get (map_in self.old.slots) handle))) (Mark.Named None)) }
-        ensures changed { IfOk result (λ changed. IsChanged changed (named_ranges (finite.get (map_in self.old.slots) handle))
-            (changed_reclaimer (finite.get (map_in self.old.slots) handle) caller.0)) }
+        ensures ram { let named = in_ranges layout.now.base.0 (named_ranges (transaction_in self.old.slots handle)) in
+            let right = own_right_at pages.old in let zero = flags == 1 in
+            OnOk result (IsMovedFor layout.now (M.ram ram.old) (M.ram ram.new) (place caller.0) named right zero) }
+        ensures steps { Only (M.past ram.old) (M.past ram.new)
+            (IsMomentFor layout.now (M.ram ram.old) (M.ram ram.new)) }
+        ensures ended { EndsSettledFor layout.now (M.ram ram.old) (M.ram ram.new) (M.past ram.new) }
+        ensures pages { let named = in_ranges layout.now.base.0 (named_ranges (transaction_in self.old.slots handle)) in
+            OnOk result (IsMarked pages.old pages.new named (Mark.Named None)) }
+        ensures changed { let transaction = transaction_in self.old.slots handle in
+            let whose = changed_reclaimer transaction caller.0 in
+            IfOk result (λ changed. IsChanged changed (named_ranges transaction) whose) }
     {
         let found = self.check_reclaim(pages, layout.base, caller, handle, flags)?;
         let open = self.at(found.slot);

@@ -2,17 +2,17 @@
 //! FFA_MEM_RELINQUISH.
 ghost use Rattle.std.specs.Prelude.{◌≡◌, length, Some, IfOk, OnErr};
 ghost use Rattle.std.specs.Result.{result_err};
-ghost use Rattle.arrayvec.specs.ArrayVec.{array_vec_len};
 ghost use Rattle.ffa_model.specs.Buffers.{buffers_in};
 ghost use Rattle.ffa_model.specs.Calls.{first_failure};
 ghost use Rattle.ffa_model.specs.MemoryReturn.{relinquish_guards};
 ghost use Rattle.ffa_model.specs.RelinquishDescriptor.{relinquish_of};
 ghost use Rattle.ffa_physmem.specs.Moments.{Only};
-ghost use Rattle.ffa_stage2.specs.Moments.{EndsSettled, IsMoment};
 ghost use Rattle.ffa_rxtx.specs.Parts.{tx_in};
 ghost use Rattle.ffa_memshare.specs.Callers.{IsCaller};
+ghost use Rattle.ffa_memshare.specs.Memory.{memory_of, memory_parts};
 ghost use Rattle.ffa_memshare.specs.Relinquished.{IsRelinquished};
 ghost use Rattle.ffa_memshare.specs.Shared.{IsShared};
+ghost use Rattle.ffa_memshare.specs.Steps.{EndsSettledFor, IsMomentFor};
 ghost use Rattle.ffa_memshare.specs.Stored.{open_in};
 
 use crate::changed::{Changed, News};
@@ -27,15 +27,16 @@ use ffa_rxtx::Buffers;
 use ffa_stage2::Layout;
 
 impl<O: Room<OpenSlot> + Drop> Pool<O> {
-    /// FFA_MEM_RELINQUISH of an endpoint, with the descriptor in its TX: it holds the transaction no more and has no right
-    /// to the pages, which are zeros where the descriptor asks for it. It gives that the caller's access to the pages
-    /// changed.
+    /// FFA_MEM_RELINQUISH of an endpoint, with the descriptor in its TX: it holds the transaction no more and
+    /// has no right to the pages, which are zeros where the descriptor asks for it. It gives that the
+    /// caller's access to the pages changed.
     ///
     /// # Errors
     ///
-    /// In this order: `InvalidParameters` where the caller has no buffers, TX has no descriptor, it names another endpoint
-    /// than the caller, or no transaction with its handle is open that is offered to the caller; `Denied` where the caller
-    /// doesn't hold it, or zeros are asked of what the caller doesn't hold in a lend with rw. An error changes nothing.
+    /// In this order: `InvalidParameters` where the caller has no buffers, TX has no descriptor, it names
+    /// another endpoint than the caller, or no transaction with its handle is open that is offered to the
+    /// caller; `Denied` where the caller doesn't hold it, or zeros are asked of what the caller doesn't hold
+    /// in a lend with rw. An error changes nothing.
     #[inline(always)]
     pub fn relinquish<M: PhysMem, P: Room<KeptPage> + Drop>(
         &mut self,
@@ -46,19 +47,23 @@ impl<O: Room<OpenSlot> + Drop> Pool<O> {
         caller: EndpointId,
         news: &mut News,
     ) -> Result<Changed, ErrorCode>
-        requires shared { IsShared (M.ram ram.old) layout.now.base.0 (array_vec_len layout.now.regions) layout.now.blocks pages.now self.old.slots }
-        requires caller { IsCaller (array_vec_len layout.now.regions) (length (M.ram ram.old).pages) caller.0 buffers.now }
-        ensures refusal { result_err result ≡ first_failure (relinquish_guards (buffers_in buffers.now caller.0) (open_in self.old) caller.0
-            (relinquish_of (tx_in (M.ram ram.old) (buffers_in buffers.now caller.0)))) }
+        requires shared { IsShared (memory_of (M.ram ram.old) layout.now pages.now) self.old.slots }
+        requires caller { IsCaller (memory_of (M.ram ram.old) layout.now pages.now) buffers.now caller.0 }
+        ensures refusal { let own = buffers_in buffers.now caller.0 in
+            let asked = relinquish_of (tx_in (M.ram ram.old) own) in
+            result_err result ≡ first_failure (relinquish_guards own (open_in self.old) caller.0 asked) }
         ensures kept { OnErr result (self.new ≡ self.old) }
         ensures kept_ram { OnErr result (M.ram ram.new ≡ M.ram ram.old) }
         ensures kept_past { OnErr result (M.past ram.new ≡ M.past ram.old) }
         ensures kept_news { OnErr result (news.new ≡ news.old) }
         ensures told { IfOk result (λ changed. news.new ≡ Some changed) }
-        ensures done { IfOk result (λ changed. IsRelinquished self.old self.new (M.ram ram.old) (M.ram ram.new) layout.now.base.0
-            (array_vec_len layout.now.regions) layout.now.blocks caller.0 (tx_in (M.ram ram.old) (buffers_in buffers.now caller.0)) changed) }
-        ensures steps { Only (M.past ram.old) (M.past ram.new) (λ h s. IsMoment (M.ram ram.old) (M.ram ram.new) (array_vec_len layout.now.regions) layout.now.blocks h s) }
-        ensures ended { EndsSettled (M.ram ram.old) (M.ram ram.new) (array_vec_len layout.now.regions) layout.now.blocks (M.past ram.new) }
+        ensures done { let before = memory_parts (M.ram ram.old) layout.now pages.now buffers.now self.old in
+            let after = memory_parts (M.ram ram.new) layout.now pages.now buffers.now self.new in
+            let bytes = tx_in (M.ram ram.old) (buffers_in buffers.now caller.0) in
+            IfOk result (λ changed. IsRelinquished before after caller.0 bytes changed) }
+        ensures steps { Only (M.past ram.old) (M.past ram.new)
+            (IsMomentFor layout.now (M.ram ram.old) (M.ram ram.new)) }
+        ensures ended { EndsSettledFor layout.now (M.ram ram.old) (M.ram ram.new) (M.past ram.new) }
     {
         let found = self.check_relinquish(ram, buffers, caller)?;
         let open = self.at(found.slot);

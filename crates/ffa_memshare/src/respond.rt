@@ -13,8 +13,8 @@ use ffa_model::{EndpointId, Response, Version};
 use ffa_physmem::PhysMem;
 use ffa_rxtx::Buffers;
 
-/// Writes a response in this version to the start of RX of an endpoint that has buffers, says that RX is full, and answers
-/// how many bytes the response has. The other bytes of RX stay.
+/// Writes a response in this version to the start of RX of an endpoint that has buffers, says that RX is
+/// full, and answers how many bytes the response has. The other bytes of RX stay.
 pub fn respond<M: PhysMem>(
     ram: &mut M,
     buffers: &mut Buffers,
@@ -26,10 +26,12 @@ pub fn respond<M: PhysMem>(
     requires rx { IsSomeAnd (buffers_in buffers.old endpoint.0) (λ b. IsInRam (length (M.ram ram.old).pages) b) }
     requires total { page_total response.now.ranges.items < 2 ^ 32 }
     ensures size { result ≡ response_size version response.now.ranges.items }
-    ensures ram { M.ram ram.new ≡ with_rx_bytes (M.ram ram.old) (buffers_in buffers.old endpoint.0) (response_bytes version (response_record response.now)) }
+    ensures ram { let bytes = response_bytes version (response_record response.now) in
+        M.ram ram.new ≡ with_rx_bytes (M.ram ram.old) (buffers_in buffers.old endpoint.0) bytes }
     ensures full { buffers.new ≡ buffers_with_rx buffers.old endpoint.0 true }
     ensures beside { IsBesideRx (M.ram ram.old) (M.ram ram.new) (buffers_in buffers.old endpoint.0) }
-    ensures steps { Only (M.past ram.old) (M.past ram.new) (λ _ s. IsRxWriting (M.ram ram.old) (buffers_in buffers.old endpoint.0) s) }
+    ensures steps { let own = buffers_in buffers.old endpoint.0 in
+        Only (M.past ram.old) (M.past ram.new) (λ _ s. IsRxWriting (M.ram ram.old) own s) }
 {
     match buffers.of(endpoint) {
         Some(mapped) => {

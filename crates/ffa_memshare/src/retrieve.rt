@@ -2,7 +2,6 @@
 //! FFA_MEM_RETRIEVE_REQ.
 ghost use Rattle.std.specs.Prelude.{ℕ, ◌≡◌, ◌≢◌, ◌<◌, length, true, is_some, Some, IfOk, OnOk, OnErr};
 ghost use Rattle.std.specs.Result.{result_err};
-ghost use Rattle.arrayvec.specs.ArrayVec.{array_vec_len};
 ghost use Rattle.ffa_model.specs.declared.limits.TheConstants.{MOST_ENDPOINTS};
 ghost use Rattle.ffa_model.specs.Buffers.{buffers_in, buffers_with_rx};
 ghost use Rattle.ffa_model.specs.Calls.{first_failure};
@@ -13,12 +12,13 @@ ghost use Rattle.ffa_model.specs.RetrieveDescriptor.{retrieve_of};
 ghost use Rattle.ffa_model.specs.State.{Transaction};
 ghost use Rattle.ffa_pages.specs.Entry.{owner_at};
 ghost use Rattle.ffa_physmem.specs.Moments.{Only};
-ghost use Rattle.ffa_stage2.specs.Moments.{EndsSettled, IsMoment};
-ghost use Rattle.ffa_memshare.specs.Callers.{IsCaller, IsRxApart};
+ghost use Rattle.ffa_memshare.specs.Callers.{IsCaller, IsRxApart, IsRxApartOfOpen};
+ghost use Rattle.ffa_memshare.specs.Memory.{memory_of, memory_parts};
 ghost use Rattle.ffa_memshare.specs.Ranges.{ArePlaced, in_ranges};
-ghost use Rattle.ffa_memshare.specs.Retrieved.{IsAnswered, IsPassedOn, IsRetrieved, IsTaken};
+ghost use Rattle.ffa_memshare.specs.Retrieved.{IsPassedOn, IsResponded, IsRetrieved, IsTaken};
 ghost use Rattle.ffa_memshare.specs.Scenes.{descriptor_in, scene_in};
 ghost use Rattle.ffa_memshare.specs.Shared.{IsHeld, IsShared};
+ghost use Rattle.ffa_memshare.specs.Steps.{EndsSettledFor, IsMomentFor};
 ghost use Rattle.ffa_memshare.specs.Stored.{open_in, pool_slot, view_of};
 
 use crate::changed::{News, Retrieved};
@@ -38,16 +38,16 @@ use ffa_rxtx::Buffers;
 use ffa_stage2::Layout;
 
 impl<O: Room<OpenSlot> + Drop> Pool<O> {
-    /// FFA_MEM_RETRIEVE_REQ of an endpoint, with the descriptor in its TX: it holds the right that it asked for, which the
-    /// answer in its RX tells, and the pages of a donate are its own. It gives the length of the answer, and that
-    /// the caller's access to the pages changed.
+    /// FFA_MEM_RETRIEVE_REQ of an endpoint, with the descriptor in its TX: it holds the right that it asked
+    /// for, which the answer in its RX tells, and the pages of a donate are its own. It gives the length of
+    /// the answer, and that the caller's access to the pages changed.
     ///
     /// # Errors
     ///
-    /// In this order: `InvalidParameters` where the caller has no buffers, the descriptor doesn't stand whole in TX, the
-    /// bytes are none, no transaction with its handle is open that is offered to the caller, or it describes another sender,
-    /// tag or kind; `Denied` where the caller holds it already, or asks for more than it may hold; `Busy` where RX is full.
-    /// An error changes nothing.
+    /// In this order: `InvalidParameters` where the caller has no buffers, the descriptor doesn't stand whole
+    /// in TX, the bytes are none, no transaction with its handle is open that is offered to the caller, or it
+    /// describes another sender, tag or kind; `Denied` where the caller holds it already, or asks for more
+    /// than it may hold; `Busy` where RX is full. An error changes nothing.
     #[inline(always)]
     pub fn retrieve<M: PhysMem, P: Room<KeptPage> + Drop>(
         &mut self,
@@ -59,11 +59,11 @@ impl<O: Room<OpenSlot> + Drop> Pool<O> {
         call: &DescriptorCall,
         news: &mut News,
     ) -> Result<Retrieved, ErrorCode>
-        requires shared { IsShared (M.ram ram.old) layout.now.base.0 (array_vec_len layout.now.regions) layout.now.blocks pages.old self.old.slots }
-        requires caller { IsCaller (array_vec_len layout.now.regions) (length (M.ram ram.old).pages) caller.0 buffers.old }
-        ensures refusal { result_err result ≡ first_failure (retrieve_guards
-            (scene_in (array_vec_len layout.now.regions) pages.old layout.now.base.0 buffers.old (open_in self.old)) caller.0 call.now.transfer
-            (retrieve_of caller.0 (descriptor_in (M.ram ram.old) buffers.old caller.0 call.now))) }
+        requires shared { IsShared (memory_of (M.ram ram.old) layout.now pages.old) self.old.slots }
+        requires caller { IsCaller (memory_of (M.ram ram.old) layout.now pages.old) buffers.old caller.0 }
+        ensures refusal { let parts = memory_parts (M.ram ram.old) layout.now pages.old buffers.old self.old in
+            let asked = retrieve_of caller.0 (descriptor_in (M.ram ram.old) buffers.old caller.0 call.now) in
+            result_err result ≡ first_failure (retrieve_guards (scene_in parts) caller.0 call.now.transfer asked) }
         ensures kept { OnErr result (self.new ≡ self.old) }
         ensures kept_pages { OnErr result (pages.new ≡ pages.old) }
         ensures kept_buffers { OnErr result (buffers.new ≡ buffers.old) }
@@ -72,17 +72,16 @@ impl<O: Room<OpenSlot> + Drop> Pool<O> {
         ensures kept_news { OnErr result (news.new ≡ news.old) }
         ensures told { IfOk result (λ retrieved. news.new ≡ Some retrieved.changed) }
         ensures full { OnOk result (buffers.new ≡ buffers_with_rx buffers.old caller.0 true) }
-        ensures done { IfOk result (λ retrieved. IsRetrieved self.old self.new (M.ram ram.old) (M.ram ram.new) pages.old pages.new layout.now.base.0
-            (array_vec_len layout.now.regions) layout.now.blocks (buffers_in buffers.old caller.0) caller
-            (descriptor_in (M.ram ram.old) buffers.old caller.0 call.now) retrieved.size retrieved.changed) }
-        ensures steps { ((k h : ℕ) (t : Transaction)
-            → pool_slot self.old.slots k ≡ Some (h, t)
-            → IsRxApart (array_vec_len layout.now.regions) layout.now.blocks (buffers_in buffers.old caller.0) (in_ranges layout.now.base.0 t.ranges))
-            → Only (M.past ram.old) (M.past ram.new) (λ h s. IsMoment (M.ram ram.old) (M.ram ram.new) (array_vec_len layout.now.regions) layout.now.blocks h s) }
-        ensures ended { ((k h : ℕ) (t : Transaction)
-            → pool_slot self.old.slots k ≡ Some (h, t)
-            → IsRxApart (array_vec_len layout.now.regions) layout.now.blocks (buffers_in buffers.old caller.0) (in_ranges layout.now.base.0 t.ranges))
-            → EndsSettled (M.ram ram.old) (M.ram ram.new) (array_vec_len layout.now.regions) layout.now.blocks (M.past ram.new) }
+        ensures done { let before = memory_parts (M.ram ram.old) layout.now pages.old buffers.old self.old in
+            let after = memory_parts (M.ram ram.new) layout.now pages.new buffers.new self.new in
+            let bytes = descriptor_in (M.ram ram.old) buffers.old caller.0 call.now in
+            IfOk result (λ retrieved. IsRetrieved before after caller bytes retrieved.size retrieved.changed) }
+        ensures steps { let before = memory_parts (M.ram ram.old) layout.now pages.old buffers.old self.old in
+            IsRxApartOfOpen before caller.0
+            → Only (M.past ram.old) (M.past ram.new) (IsMomentFor layout.now (M.ram ram.old) (M.ram ram.new)) }
+        ensures ended { let before = memory_parts (M.ram ram.old) layout.now pages.old buffers.old self.old in
+            IsRxApartOfOpen before caller.0
+            → EndsSettledFor layout.now (M.ram ram.old) (M.ram ram.new) (M.past ram.new) }
     {
         let found = self.check_retrieve(ram, layout, pages, buffers, caller, call)?;
         let open = self.at(found.slot);
@@ -93,8 +92,8 @@ impl<O: Room<OpenSlot> + Drop> Pool<O> {
         Ok(Retrieved { size, changed })
     }
 
-    // Notes that an endpoint holds the open transaction in a slot with this right. The pages of a donate are its own then,
-    // with this right, and the donate is open no more.
+    // Notes that an endpoint holds the open transaction in a slot with this right. The pages of a donate are
+    // its own then, with this right, and the donate is open no more.
     fn take<P: Room<KeptPage> + Drop>(
         &mut self,
         pages: &mut PageTable<P>,
@@ -104,13 +103,15 @@ impl<O: Room<OpenSlot> + Drop> Pool<O> {
         right: Rights,
     )
         requires open { (x : ℕ × Transaction) × (pool_slot self.old.slots slot ≡ Some x) }
-        requires placed { (h : ℕ) (t : Transaction) → pool_slot self.old.slots slot ≡ Some (h, t) → ArePlaced base.0 (length pages.old) t.ranges }
+        requires placed { (h : ℕ) (t : Transaction) → pool_slot self.old.slots slot ≡ Some (h, t)
+            → ArePlaced base.0 (length pages.old) t.ranges }
         requires owned { (h : ℕ) (t : Transaction) → pool_slot self.old.slots slot ≡ Some (h, t)
             → (p : ℕ) → in_ranges base.0 t.ranges p ≡ true → owner_at pages.old p ≢ manager }
         requires endpoint { endpoint.0 ≢ manager }
         requires known { identifier (place endpoint.0) ≡ endpoint.0 }
         requires few { place endpoint.0 < MOST_ENDPOINTS }
-        ensures slot { (h : ℕ) (t : Transaction) → pool_slot self.old.slots slot ≡ Some (h, t) → IsTaken t.kind self.old self.new h endpoint.0 right }
+        ensures slot { (h : ℕ) (t : Transaction) → pool_slot self.old.slots slot ≡ Some (h, t)
+            → IsTaken t.kind self.old self.new h endpoint.0 right }
         ensures open_transactions { (h : ℕ) (t : Transaction) → pool_slot self.old.slots slot ≡ Some (h, t)
             → open_in self.new ≡ taken_in t.kind (open_in self.old) h t endpoint.0 right }
         ensures pages { (h : ℕ) (t : Transaction) → pool_slot self.old.slots slot ≡ Some (h, t)
@@ -128,8 +129,8 @@ impl<O: Room<OpenSlot> + Drop> Pool<O> {
 }
 
 impl OpenTransaction {
-    // Gives an endpoint this right to the pages, and tells the endpoint so in its RX, in its version. RX is full then. It
-    // answers how many bytes that takes.
+    // Gives an endpoint this right to the pages, and tells the endpoint so in its RX, in its version. RX is
+    // full then. It answers how many bytes that takes.
     fn hand_over<M: PhysMem, P: Room<KeptPage> + Drop>(
         &self,
         ram: &mut M,
@@ -140,16 +141,19 @@ impl OpenTransaction {
         version: Version,
         right: Rights,
     ) -> u32
-        requires held { IsHeld (M.ram ram.old) layout.now.base.0 (array_vec_len layout.now.regions) layout.now.blocks pages.now (view_of self.now) }
-        requires caller { IsCaller (array_vec_len layout.now.regions) (length (M.ram ram.old).pages) caller.0 buffers.old }
+        requires held { IsHeld (memory_of (M.ram ram.old) layout.now pages.now) (view_of self.now) }
+        requires caller { IsCaller (memory_of (M.ram ram.old) layout.now pages.now) buffers.old caller.0 }
         requires buffers { is_some (buffers_in buffers.old caller.0) ≡ true }
-        ensures answered { IsAnswered (M.ram ram.old) (M.ram ram.new) layout.now.base.0 (array_vec_len layout.now.regions) layout.now.blocks
-            (buffers_in buffers.old caller.0) self.now.handle (view_of self.now) caller.0 version right result }
+        ensures answered { let before = memory_of (M.ram ram.old) layout.now pages.now in
+            let told = response_to self.now.handle (view_of self.now) caller.0 right in
+            IsResponded before (M.ram ram.new) (buffers_in buffers.old caller.0) version told result }
         ensures full { buffers.new ≡ buffers_with_rx buffers.old caller.0 true }
-        ensures steps { IsRxApart (array_vec_len layout.now.regions) layout.now.blocks (buffers_in buffers.old caller.0) (in_ranges layout.now.base.0 self.now.ranges)
-            → Only (M.past ram.old) (M.past ram.new) (λ h s. IsMoment (M.ram ram.old) (M.ram ram.new) (array_vec_len layout.now.regions) layout.now.blocks h s) }
-        ensures ended { IsRxApart (array_vec_len layout.now.regions) layout.now.blocks (buffers_in buffers.old caller.0) (in_ranges layout.now.base.0 self.now.ranges)
-            → EndsSettled (M.ram ram.old) (M.ram ram.new) (array_vec_len layout.now.regions) layout.now.blocks (M.past ram.new) }
+        ensures steps { let before = memory_of (M.ram ram.old) layout.now pages.now in
+            IsRxApart before (buffers_in buffers.old caller.0) (in_ranges layout.now.base.0 self.now.ranges)
+            → Only (M.past ram.old) (M.past ram.new) (IsMomentFor layout.now (M.ram ram.old) (M.ram ram.new)) }
+        ensures ended { let before = memory_of (M.ram ram.old) layout.now pages.now in
+            IsRxApart before (buffers_in buffers.old caller.0) (in_ranges layout.now.base.0 self.now.ranges)
+            → EndsSettledFor layout.now (M.ram ram.old) (M.ram ram.new) (M.past ram.new) }
     {
         // Proof step: the ranges are `MOST_RANGES` at most.
         let _ = self.ranges.len();

@@ -8,13 +8,14 @@ ghost use Rattle.ffa_model.specs.MemorySend.{send_guards};
 ghost use Rattle.ffa_model.specs.SendDescriptor.{send_of};
 ghost use Rattle.ffa_model.specs.Transactions.{next_handle};
 ghost use Rattle.ffa_physmem.specs.Moments.{Only};
-ghost use Rattle.ffa_stage2.specs.Moments.{EndsSettled, IsMoment};
 ghost use Rattle.ffa_pages.specs.Entry.{entry_at};
 ghost use Rattle.ffa_stage2.specs.Tables.{table_page};
 ghost use Rattle.ffa_memshare.specs.Callers.{IsCaller};
+ghost use Rattle.ffa_memshare.specs.Memory.{memory_of, memory_parts};
 ghost use Rattle.ffa_memshare.specs.Scenes.{descriptor_in, scene_in};
 ghost use Rattle.ffa_memshare.specs.Sent.{IsSent};
 ghost use Rattle.ffa_memshare.specs.Shared.{IsRoom};
+ghost use Rattle.ffa_memshare.specs.Steps.{EndsSettledFor, IsMomentFor};
 ghost use Rattle.ffa_memshare.specs.Stored.{open_in};
 
 use crate::changed::{News, Sent, changed_sender};
@@ -28,18 +29,19 @@ use ffa_rxtx::Buffers;
 use ffa_stage2::Layout;
 
 impl<O: Room<OpenSlot> + Drop> Pool<O> {
-    /// FFA_MEM_DONATE, FFA_MEM_LEND or FFA_MEM_SHARE of an endpoint, with the descriptor in its TX: the transaction is
-    /// open, and nobody holds it. The sender has no right to the pages, but keeps its own in a share, and they are zeros
-    /// where the descriptor asks for it. Returns the handle, and whose access changed: the sender's, but nobody's
-    /// where it shares.
+    /// FFA_MEM_DONATE, FFA_MEM_LEND or FFA_MEM_SHARE of an endpoint, with the descriptor in its TX: the
+    /// transaction is open, and nobody holds it. The sender has no right to the pages, but keeps its own in a
+    /// share, and they are zeros where the descriptor asks for it. Returns the handle, and whose access
+    /// changed: the sender's, but nobody's where it shares.
     ///
     /// # Errors
     ///
-    /// In this order: `InvalidParameters` where the caller has no buffers, the registers don't say that the descriptor
-    /// stands whole in TX, TX has no descriptor of this kind, it names another sender than the caller or a receiver that is
-    /// no endpoint; `Denied` where a range isn't in RAM, a page isn't the caller's, stands in an open transaction or is
-    /// somebody's buffer, or has less itself than is granted or than zeros need; `NoMemory` where `MOST_OPEN` transactions of
-    /// the caller are open or it has made `MOST_SENDS` sends. An error changes nothing.
+    /// In this order: `InvalidParameters` where the caller has no buffers, the registers don't say that the
+    /// descriptor stands whole in TX, TX has no descriptor of this kind, it names another sender than the
+    /// caller or a receiver that is no endpoint; `Denied` where a range isn't in RAM, a page isn't the
+    /// caller's, stands in an open transaction or is somebody's buffer, or has less itself than is granted or
+    /// than zeros need; `NoMemory` where `MOST_OPEN` transactions of the caller are open or it has made
+    /// `MOST_SENDS` sends. An error changes nothing.
     #[inline(always)]
     pub fn send<M: PhysMem, P: Room<KeptPage> + Drop>(
         &mut self,
@@ -52,13 +54,14 @@ impl<O: Room<OpenSlot> + Drop> Pool<O> {
         call: &DescriptorCall,
         news: &mut News,
     ) -> Result<Sent, ErrorCode>
-        requires room { IsRoom (M.ram ram.old) layout.now.base.0 (array_vec_len layout.now.regions) layout.now.blocks pages.old }
-        requires caller { IsCaller (array_vec_len layout.now.regions) (length (M.ram ram.old).pages) caller.0 buffers.now }
+        requires room { IsRoom (memory_of (M.ram ram.old) layout.now pages.old) }
+        requires caller { IsCaller (memory_of (M.ram ram.old) layout.now pages.old) buffers.now caller.0 }
         requires endpoints { length self.old.sent ≡ array_vec_len layout.now.regions }
-        requires tables { (p : ℕ) → p < table_page layout.now.blocks (array_vec_len layout.now.regions) 0 → entry_at pages.old p ≡ None }
-        ensures refusal { result_err result ≡ first_failure (send_guards
-            (scene_in (array_vec_len layout.now.regions) pages.old layout.now.base.0 buffers.now (open_in self.old))
-            caller.0 call.now.transfer (send_of kind (descriptor_in (M.ram ram.old) buffers.now caller.0 call.now))) }
+        requires tables { let end = table_page layout.now.blocks (array_vec_len layout.now.regions) 0 in
+            (p : ℕ) → p < end → entry_at pages.old p ≡ None }
+        ensures refusal { let parts = memory_parts (M.ram ram.old) layout.now pages.old buffers.now self.old in
+            let offer = send_of kind (descriptor_in (M.ram ram.old) buffers.now caller.0 call.now) in
+            result_err result ≡ first_failure (send_guards (scene_in parts) caller.0 call.now.transfer offer) }
         ensures kept { OnErr result (self.new ≡ self.old) }
         ensures kept_pages { OnErr result (pages.new ≡ pages.old) }
         ensures kept_ram { OnErr result (M.ram ram.new ≡ M.ram ram.old) }
@@ -66,12 +69,16 @@ impl<O: Room<OpenSlot> + Drop> Pool<O> {
         ensures kept_news { OnErr result (news.new ≡ news.old) }
         ensures told { IfOk result (λ sent. news.new ≡ Some sent.changed) }
         ensures handle { IfOk result (λ sent. sent.handle ≡ next_handle (open_in self.old) caller.0) }
-        ensures sent { IfOk result (λ sent. IsSent self.old self.new pages.old pages.new (M.ram ram.old) (M.ram ram.new) layout.now.base.0
-            (array_vec_len layout.now.regions) layout.now.blocks caller.0 kind (descriptor_in (M.ram ram.old) buffers.now caller.0 call.now) sent.changed) }
+        ensures sent { let before = memory_parts (M.ram ram.old) layout.now pages.old buffers.now self.old in
+            let after = memory_parts (M.ram ram.new) layout.now pages.new buffers.now self.new in
+            let bytes = descriptor_in (M.ram ram.old) buffers.now caller.0 call.now in
+            IfOk result (λ sent. IsSent before after caller.0 kind bytes sent.changed) }
 
-        // At each moment the walks of all endpoints at an address are those from before the call, or all are those from behind.
-        ensures steps { Only (M.past ram.old) (M.past ram.new) (λ h s. IsMoment (M.ram ram.old) (M.ram ram.new) (array_vec_len layout.now.regions) layout.now.blocks h s) }
-        ensures ended { EndsSettled (M.ram ram.old) (M.ram ram.new) (array_vec_len layout.now.regions) layout.now.blocks (M.past ram.new) }
+        // At each moment the walks of all endpoints at an address are those from before the call, or all are
+        // those from behind.
+        ensures steps { Only (M.past ram.old) (M.past ram.new)
+            (IsMomentFor layout.now (M.ram ram.old) (M.ram ram.new)) }
+        ensures ended { EndsSettledFor layout.now (M.ram ram.old) (M.ram ram.new) (M.past ram.new) }
     {
         let draft = &mut news.draft;
         let slot = self.check_send(ram, layout, pages, buffers, caller, kind, call, draft)?;

@@ -1,7 +1,6 @@
 // SPDX-License-Identifier: MIT OR Apache-2.0
 //! One open transaction.
 ghost use Rattle.std.specs.Prelude.{◌≡◌, ◌==◌, [], length, find, Some, None};
-ghost use Rattle.arrayvec.specs.ArrayVec.{array_vec_len};
 ghost use Rattle.ffa_model.specs.declared.transaction.Receiver.{Receiver as Named};
 ghost use Rattle.ffa_model.specs.Access.{held_by, is_receiver, right_by};
 ghost use Rattle.ffa_model.specs.Identifiers.{place};
@@ -10,14 +9,15 @@ ghost use Rattle.ffa_model.specs.SendDescriptor.{send_record};
 ghost use Rattle.ffa_model.specs.State.{Page};
 ghost use Rattle.ffa_model.specs.Transactions.{are_executable, are_writable};
 ghost use Rattle.ffa_physmem.specs.Moments.{Only};
-ghost use Rattle.ffa_stage2.specs.Moments.{EndsSettled, IsMoment};
 ghost use Rattle.ffa_pages.specs.Entry.{own_right_at};
-ghost use Rattle.ffa_memshare.specs.Changes.{IsMarked, IsMoved};
+ghost use Rattle.ffa_memshare.specs.Changes.{IsMarked, IsMovedFor};
+ghost use Rattle.ffa_memshare.specs.Memory.{memory_of};
 ghost use Rattle.ffa_memshare.specs.Named.{own_rights_in};
 ghost use Rattle.ffa_memshare.specs.Ranges.{ArePlaced, in_ranges};
 ghost use Rattle.ffa_memshare.specs.Grants.{new_right};
 ghost use Rattle.ffa_memshare.specs.Sent.{right_after};
 ghost use Rattle.ffa_memshare.specs.Shared.{IsHeld};
+ghost use Rattle.ffa_memshare.specs.Steps.{EndsSettledFor, IsMomentFor};
 
 use crate::common::{Common, common_of};
 use crate::grants::NewRight;
@@ -79,7 +79,8 @@ impl OpenTransaction {
     // Becomes what a sender offers with this handle, of which the ranges stand here already.
     pub(crate) fn offer(&mut self, handle: u64, kind: Kind, offer: &SendDesc)
         ensures handle { self.new.handle ≡ handle }
-        ensures offered { self.old.ranges ≡ offer.now.ranges.items → view_of self.new ≡ transaction_from kind (send_record offer.now) }
+        ensures offered { self.old.ranges ≡ offer.now.ranges.items
+            → view_of self.new ≡ transaction_from kind (send_record offer.now) }
     {
         self.handle = handle;
         self.kind = kind;
@@ -132,7 +133,8 @@ impl OpenTransaction {
 
     // What an endpoint may do with one of its pages, to which the sender's own right is this.
     pub(crate) fn right_to(&self, endpoint: EndpointId, own_right: Rights) -> Option<Rights>
-        ensures { (page : Page) → page.own_right ≡ own_right → result ≡ right_by endpoint.0 page (view_of self.now) (held_by (view_of self.now) endpoint.0) }
+        ensures { let transaction = view_of self.now in (page : Page) → page.own_right ≡ own_right
+            → result ≡ right_by endpoint.0 page transaction (held_by transaction endpoint.0) }
     {
         let held = self.held(endpoint);
         if held.is_some() {
@@ -165,12 +167,15 @@ impl OpenTransaction {
         pages: &mut PageTable<P>,
         zero: bool,
     )
-        requires { IsHeld (M.ram ram.old) layout.now.base.0 (array_vec_len layout.now.regions) layout.now.blocks pages.old (view_of self.now) }
-        ensures moved { IsMoved (M.ram ram.old) (M.ram ram.new) (array_vec_len layout.now.regions) layout.now.blocks
-            (place self.now.sender.0) (in_ranges layout.now.base.0 self.now.ranges) (own_right_at pages.old) zero }
-        ensures steps { Only (M.past ram.old) (M.past ram.new) (λ h s. IsMoment (M.ram ram.old) (M.ram ram.new) (array_vec_len layout.now.regions) layout.now.blocks h s) }
-        ensures ended { EndsSettled (M.ram ram.old) (M.ram ram.new) (array_vec_len layout.now.regions) layout.now.blocks (M.past ram.new) }
-        ensures marked { IsMarked pages.old pages.new (in_ranges layout.now.base.0 self.now.ranges) (Mark.Named None) }
+        requires { IsHeld (memory_of (M.ram ram.old) layout.now pages.old) (view_of self.now) }
+        ensures moved { let named = in_ranges layout.now.base.0 self.now.ranges in
+            let index = place self.now.sender.0 in let right = own_right_at pages.old in
+            IsMovedFor layout.now (M.ram ram.old) (M.ram ram.new) index named right zero }
+        ensures steps { Only (M.past ram.old) (M.past ram.new)
+            (IsMomentFor layout.now (M.ram ram.old) (M.ram ram.new)) }
+        ensures ended { EndsSettledFor layout.now (M.ram ram.old) (M.ram ram.new) (M.past ram.new) }
+        ensures marked { let named = in_ranges layout.now.base.0 self.now.ranges in
+            IsMarked pages.old pages.new named (Mark.Named None) }
     {
         let ranges = &self.ranges;
         let index = self.sender.place();
@@ -178,8 +183,8 @@ impl OpenTransaction {
         mark_all(pages, layout.base, ranges, Mark::Named(None));
     }
 
-    // Takes its pages from the sender, who keeps its own right to them in a share alone: they are marked with the slot, and
-    // zeros where that is asked.
+    // Takes its pages from the sender, who keeps its own right to them in a share alone: they are marked with
+    // the slot, and zeros where that is asked.
     pub(crate) fn take_pages<M: PhysMem, P: Room<KeptPage> + Drop>(
         &self,
         ram: &mut M,
@@ -187,12 +192,15 @@ impl OpenTransaction {
         pages: &mut PageTable<P>,
         slot: SlotNumber,
     )
-        requires { IsHeld (M.ram ram.old) layout.now.base.0 (array_vec_len layout.now.regions) layout.now.blocks pages.old (view_of self.now) }
-        ensures moved { IsMoved (M.ram ram.old) (M.ram ram.new) (array_vec_len layout.now.regions) layout.now.blocks
-            (place self.now.sender.0) (in_ranges layout.now.base.0 self.now.ranges) (new_right (right_after self.now.kind) pages.old) self.now.zero }
-        ensures steps { Only (M.past ram.old) (M.past ram.new) (λ h s. IsMoment (M.ram ram.old) (M.ram ram.new) (array_vec_len layout.now.regions) layout.now.blocks h s) }
-        ensures ended { EndsSettled (M.ram ram.old) (M.ram ram.new) (array_vec_len layout.now.regions) layout.now.blocks (M.past ram.new) }
-        ensures marked { IsMarked pages.old pages.new (in_ranges layout.now.base.0 self.now.ranges) (Mark.Named (Some slot)) }
+        requires { IsHeld (memory_of (M.ram ram.old) layout.now pages.old) (view_of self.now) }
+        ensures moved { let named = in_ranges layout.now.base.0 self.now.ranges in
+            let index = place self.now.sender.0 in let right = new_right (right_after self.now.kind) pages.old in
+            IsMovedFor layout.now (M.ram ram.old) (M.ram ram.new) index named right self.now.zero }
+        ensures steps { Only (M.past ram.old) (M.past ram.new)
+            (IsMomentFor layout.now (M.ram ram.old) (M.ram ram.new)) }
+        ensures ended { EndsSettledFor layout.now (M.ram ram.old) (M.ram ram.new) (M.past ram.new) }
+        ensures marked { let named = in_ranges layout.now.base.0 self.now.ranges in
+            IsMarked pages.old pages.new named (Mark.Named (Some slot)) }
     {
         let ranges = &self.ranges;
         let index = self.sender.place();

@@ -12,7 +12,9 @@ use Rattle.ffa_pages.specs.Entry.{Entry, entry_at}
 
 abbrev pub candidate_in : List (Option Entry) → ℕ → Option Candidate
 candidate_in table p =
-    option_map (λ (e : Entry). record { owner = e.owner; own_right = e.own_right; named = is_some e.slot }) (entry_at table p)
+    option_map
+    (λ (entry : Entry). record { owner = entry.owner; own_right = entry.own_right; named = is_some entry.slot })
+    (entry_at table p)
 
 abbrev pub candidates_in : List (Option Entry) → ℕ → Candidates
 candidates_in table base = record { base = base; count = length table; page = candidate_in table }

@@ -3,7 +3,15 @@
 #![tactic(auto)]
 
 pub mod buffers;
-mod failing;
+
+// The checks that refuse a call.
+mod checks;
+
+// The calls.
+mod calls;
+
+// Why a call was refused: for diagnostics alone.
+mod reasons;
 
 pub use buffers::{Buffers, Mapped};
-pub use failing::failing_map;
+pub use reasons::failing_map;

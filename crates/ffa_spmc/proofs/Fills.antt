@@ -25,6 +25,7 @@ use Rattle.ffa_spmc.proofs.Held.{each, parties_are, size_is, owned-behind}
 use Rattle.ffa_spmc.proofs.Machines.{StillHasTables}
 use Rattle.ffa_spmc.proofs.Reaches.{owned-in}
 use Rattle.ffa_spmc.proofs.Stores.{state-written}
+use Rattle.ffa_spmc.proofs.MemoryParts.{memory_in}
 
 -- the pages of f's buffers are owned by f
 pub record AreThere (s : State) (f : ℕ) (b : Buffers) : Type 0 where
@@ -115,9 +116,9 @@ module _ (x : Parts) (machine : IsManager x) where
   known-buffered e known = subst (λ (n : ℕ). is_known_among n e ≡ true) (parties_are x ∙ sym (each x machine)) known
 
   -- what calls with a descriptor in TX ask of their caller
-  pub caller-is : (e : ℕ) → e ≡ x.kept.chain.runner → IsCaller (array_vec_len x.kept.layout.regions) (length x.ram.pages) e x.kept.buffers
+  pub caller-is : (e : ℕ) → e ≡ x.kept.chain.runner → IsCaller (memory_in x) x.kept.buffers e
   caller-is e at =
-      subst (λ (n : ℕ). IsCaller n (length x.ram.pages) e x.kept.buffers) (parties_are x ∙ sym machine.layout.endpoints)
+      subst (λ (n : ℕ). IsCaller (record (memory_in x) { endpoints = n }) x.kept.buffers e) (parties_are x ∙ sym machine.layout.endpoints)
       (record {
         some = machine.sound.sized.some;
         few = machine.sound.sized.few;

@@ -1,4 +1,5 @@
 -- SPDX-License-Identifier: MIT OR Apache-2.0
+pub mod MemoryParts
 pub mod Answered
 pub mod Replied
 pub mod Granted

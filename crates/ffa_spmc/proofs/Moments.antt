@@ -10,7 +10,7 @@ use Rattle.ffa_model.specs.Lists.{is_in_run}
 use Rattle.ffa_model.specs.Ram.{Ram}
 use Rattle.ffa_model.specs.State.{Buffers, State, Transaction, is_known}
 use Rattle.ffa_model.proofs.Runs.{to-run}
-use Rattle.ffa_memshare.specs.Callers.{IsRxApart}
+use Rattle.ffa_memshare.specs.Callers.{IsRxApartOfOpen}
 use Rattle.ffa_memshare.specs.Ranges.{in_ranges}
 use Rattle.ffa_memshare.specs.Stored.{pool_slot}
 use Rattle.ffa_memshare.proofs.Moments.{stays-same, written-moment}
@@ -26,6 +26,7 @@ use Rattle.ffa_spmc.proofs.Fills.{buffers-there, rx-unnamed, there-inside}
 use Rattle.ffa_spmc.proofs.Held.{owned-behind, parties_are, size_is}
 use Rattle.ffa_spmc.proofs.Moves.{of-manifest}
 use Rattle.ffa_spmc.proofs.Pools.{named-kept}
+use Rattle.ffa_spmc.proofs.MemoryParts.{memory_parts_in}
 
 -- where nothing was written
 pub still-moments : (s : State) (old new : Ram) (past later : Option (List Step)) → new ≡ old → later ≡ past → AreMoments s old new past later
@@ -97,8 +98,7 @@ module _ (x : Parts) (machine : IsManager x) where
   rx-pages f known buffers are p its = let (page, there) = (buffers-there x machine f known buffers are).rx p its in owned-behind x machine p page there
 
   -- and no open transaction names its pages
-  pub rx-apart : (f : ℕ) → is_known (state_of x) f ≡ true → (k h : ℕ) (t : Transaction) → pool_slot x.kept.pool.slots k ≡ Some (h, t)
-      → IsRxApart (array_vec_len x.kept.layout.regions) x.kept.layout.blocks (buffers_in x.kept.buffers f) (in_ranges x.kept.layout.base.0 t.ranges)
+  pub rx-apart : (f : ℕ) → is_known (state_of x) f ≡ true → IsRxApartOfOpen (memory_parts_in x) f
   rx-apart f known k h t is = record {
     behind = λ buffers are.
         let some : 1 ≤ buffers.pages = (buffers-there x machine f known buffers are).some in

@@ -54,6 +54,7 @@ use Rattle.ffa_spmc.proofs.Pools.{named-kept, own_right-is, slot-open}
 use Rattle.ffa_spmc.proofs.Retrieves.{scene-is}
 use Rattle.ffa_spmc.proofs.Sends.{sent-is}
 use Rattle.ffa_spmc.proofs.Unowned.{unowned-moved, unowned-same}
+use Rattle.ffa_spmc.proofs.MemoryParts.{memory_parts_in}
 
 -- the pool counts the sends of each endpoint
 pub offer-endpoints : (x : Parts) → IsManager x → length x.kept.pool.sent ≡ array_vec_len x.kept.layout.regions
@@ -79,7 +80,7 @@ module _ (x : Parts) (machine : IsManager x) (e : ℕ) (at : e ≡ x.kept.chain.
 
   -- what the pool has done
   abbrev IsDone : Changed → Type 0
-  IsDone changed = IsSent x.kept.pool pool x.kept.pages pages x.ram ram x.kept.layout.base.0 (array_vec_len x.kept.layout.regions) x.kept.layout.blocks e kind bytes changed
+  IsDone changed = IsSent (memory_parts_in x) (memory_parts_in after_offer) e kind bytes changed
 
   read-is : send_of kind bytes ≡ send_read s kind a.total
   read-is = λ i. send_of kind (in_version (spoken i) (take call.transfer.total (sent-is x machine e at i)))
@@ -198,7 +199,7 @@ module _ (x : Parts) (machine : IsManager x) (e : ℕ) (at : e ≡ x.kept.chain.
 
   -- the clauses of the pool's call
   module _ (result : Result Sent ErrorCode)
-      (refusal : result_err result ≡ first_failure (send_guards (scene_in (array_vec_len x.kept.layout.regions) x.kept.pages x.kept.layout.base.0 x.kept.buffers (open_in x.kept.pool)) e a (send_of kind bytes)))
+      (refusal : result_err result ≡ first_failure (send_guards (scene_in (memory_parts_in x)) e a (send_of kind bytes)))
       (kept : OnErr result (pool ≡ x.kept.pool)) (kept_pages : OnErr result (pages ≡ x.kept.pages)) (kept_ram : OnErr result (ram ≡ x.ram))
       (handle : IfOk result (λ sent. sent.handle ≡ next_handle (open_in x.kept.pool) e)) (done : IfOk result (λ sent. IsDone sent.changed)) where
     refuses : result_err result ≡ first_failure guards

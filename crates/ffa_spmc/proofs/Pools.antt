@@ -21,10 +21,12 @@ use Rattle.ffa_laws.proofs.SoundSteady.{sound-steady}
 use Rattle.ffa_pages.specs.Entry.{Entry, own_right_at, entry_at, slot_at}
 use Rattle.ffa_stage2.specs.Tables.{table_page}
 use Rattle.ffa_memshare.specs.Named.{own_rights_in}
+use Rattle.ffa_memshare.specs.Memory.{Memory}
 use Rattle.ffa_memshare.specs.Shared.{IsHeld, IsRoom, IsShared}
 use Rattle.ffa_memshare.specs.Stored.{Slot, handle_in, named_in, page_in, pool_slot}
 use Rattle.ffa_spmc.specs.Meaning.{IsManager, Parts, access_by_place, slot_names, state_of}
 use Rattle.ffa_spmc.proofs.Held.{entry-past, owned-behind, owner-is, owners-size, page-held, page-past, parties_are, size_is}
+use Rattle.ffa_spmc.proofs.MemoryParts.{memory_in}
 
 module _ (x : Parts) (machine : IsManager x) where
   abbrev s : State
@@ -130,7 +132,17 @@ module _ (x : Parts) (machine : IsManager x) where
   own_rights-are = λ i. record { ram_base = x.manifest.ram_base.0; pages = (owners-size x machine ∙ sym (size_is x)) i; right = λ p. own_right-is p i }
 
   -- what the calls of the pool ask
-  room : IsRoom x.ram x.manifest.ram_base.0 (length x.manifest.endpoints.items) x.manifest.ram_blocks pages
+  abbrev of_manifest : Memory
+  of_manifest =
+      record {
+        ram = x.ram;
+        base = x.manifest.ram_base.0;
+        endpoints = length x.manifest.endpoints.items;
+        blocks = x.manifest.ram_blocks;
+        entries = pages;
+      }
+
+  room : IsRoom of_manifest
   room = record { place = machine.tables.base; built = (access_by_place s, machine.tables.built); size = machine.owners.size }
 
   -- no endpoint is the manager
@@ -147,7 +159,7 @@ module _ (x : Parts) (machine : IsManager x) where
     own : (p : ℕ) → names s t.ranges p ≡ true → owner_of s p ≡ t.sender
     own p named = ((sound-steady s machine.sound).transactions h t opened).owned p named
 
-    pub held-in : IsHeld x.ram x.manifest.ram_base.0 (length x.manifest.endpoints.items) x.manifest.ram_blocks pages t
+    pub held-in : IsHeld of_manifest t
     held-in =
         record {
           room = room;
@@ -161,9 +173,12 @@ module _ (x : Parts) (machine : IsManager x) where
         of p named None there = absurd (known-owner (length s.parties) t.sender known (sym (own p named) ∙ ap (λ (o : Option Page). option_map_or (λ (q : Page). q.owner) o manager) there))
         of p named (Some page) there = owned-behind x machine p page there
 
-  pub pool-shared : IsShared x.ram x.kept.layout.base.0 (array_vec_len x.kept.layout.regions) x.kept.layout.blocks pages slots
-  pool-shared =
-      subst (λ (b : ℕ). IsShared x.ram b (array_vec_len x.kept.layout.regions) x.kept.layout.blocks pages slots) (sym machine.layout.base)
-      (subst (λ (n : ℕ). IsShared x.ram x.manifest.ram_base.0 n x.kept.layout.blocks pages slots) (sym machine.layout.endpoints)
-      (subst (λ (b : ℕ). IsShared x.ram x.manifest.ram_base.0 (length x.manifest.endpoints.items) b pages slots) (sym machine.layout.blocks)
-      (record { room = room; each = held-in })))
+  memory-is : of_manifest ≡ memory_in x
+  memory-is = λ i. record of_manifest {
+    base = sym machine.layout.base i;
+    endpoints = sym machine.layout.endpoints i;
+    blocks = sym machine.layout.blocks i;
+  }
+
+  pub pool-shared : IsShared (memory_in x) slots
+  pool-shared = subst (λ (memory : Memory). IsShared memory slots) memory-is (record { room = room; each = held-in })

@@ -42,6 +42,7 @@ use Rattle.ffa_physmem.specs.Moments.{Step}
 use Rattle.ffa_spmc.proofs.Replied.{managed_of}
 use Rattle.ffa_spmc.proofs.Retrieves.{scene-is}
 use Rattle.ffa_spmc.proofs.Sends.{sent-is}
+use Rattle.ffa_spmc.proofs.MemoryParts.{memory_parts_in}
 
 -- what is so of the parts is so of what contracts see
 pub seen-refusal : (x : Parts) {past : Option (List Step)} (now : Managed) → managed_of x past ≡ now → (c : State → Service) (o : Option Refusal)
@@ -94,13 +95,13 @@ module _ (x : Parts) (machine : IsManager x) (e : ℕ) (at : e ≡ x.kept.chain.
   -- a call whose descriptor stands in TX
   module _ (call : DescriptorCall) (spoken : call.version ≡ version_of (state_of x) (state_of x).runner) where
     pub offer-checked : (kind : Kind)
-        → first_refusal (send_guards (scene_in (array_vec_len x.kept.layout.regions) x.kept.pages x.kept.layout.base.0 x.kept.buffers (open_in x.kept.pool)) e call.transfer (send_of kind (descriptor_in x.ram x.kept.buffers e call)))
+        → first_refusal (send_guards (scene_in (memory_parts_in x)) e call.transfer (send_of kind (descriptor_in x.ram x.kept.buffers e call)))
         ≡ first_refusal (memory_send s kind call.transfer).guards
     offer-checked kind =
         λ i. first_refusal (send_guards (scene-is x machine i) (at i) call.transfer (send_of kind (in_version (spoken i) (take call.transfer.total (sent-is x machine e at i)))))
 
     pub retrieve-checked :
-        first_refusal (retrieve_guards (scene_in (array_vec_len x.kept.layout.regions) x.kept.pages x.kept.layout.base.0 x.kept.buffers (open_in x.kept.pool)) e call.transfer (retrieve_of e (descriptor_in x.ram x.kept.buffers e call)))
+        first_refusal (retrieve_guards (scene_in (memory_parts_in x)) e call.transfer (retrieve_of e (descriptor_in x.ram x.kept.buffers e call)))
         ≡ first_refusal (memory_retrieve s call.transfer).guards
     retrieve-checked =
         λ i. first_refusal (retrieve_guards (scene-is x machine i) (at i) call.transfer (retrieve_of (at i) (in_version (spoken i) (take call.transfer.total (sent-is x machine e at i)))))

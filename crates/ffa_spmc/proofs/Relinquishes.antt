@@ -40,6 +40,7 @@ use Rattle.ffa_spmc.proofs.Moves.{of-manifest, pages-moved, same-owners, tables-
 use Rattle.ffa_spmc.proofs.Pools.{open-slot}
 use Rattle.ffa_spmc.proofs.Sends.{sent-is}
 use Rattle.ffa_spmc.proofs.Unowned.{open-entered, unowned-moved, unowned-same}
+use Rattle.ffa_spmc.proofs.MemoryParts.{memory_parts_in}
 
 -- the code's runner is that of the run states; and it has given up what its TX describes, or was refused
 module _ (x : Parts) (machine : IsManager x) (e : ℕ) (at : e ≡ x.kept.chain.runner) (ram : Ram) (pool : Pooled) where
@@ -57,7 +58,7 @@ module _ (x : Parts) (machine : IsManager x) (e : ℕ) (at : e ≡ x.kept.chain.
 
   -- what the pool has done
   abbrev IsDone : Changed → Type 0
-  IsDone changed = IsRelinquished x.kept.pool pool x.ram ram x.kept.layout.base.0 (array_vec_len x.kept.layout.regions) x.kept.layout.blocks e bytes changed
+  IsDone changed = IsRelinquished (memory_parts_in x) (memory_parts_in after_relinquish) e bytes changed
 
   module _ (changed : Changed) (none : None ≡ first_failure guards) (done : IsDone changed) where
     abbrev d : RelinquishDesc

@@ -64,9 +64,10 @@ use Rattle.ffa_spmc.proofs.Moves.{of-manifest, same-owners, slot-given, tables-m
 use Rattle.ffa_spmc.proofs.Pools.{own_rights-are, open-slot, slot-open}
 use Rattle.ffa_spmc.proofs.Sends.{sent-is}
 use Rattle.ffa_spmc.proofs.Unowned.{open-entered, unowned-filled, unowned-moved, unowned-same, unowned-then}
+use Rattle.ffa_spmc.proofs.MemoryParts.{memory_parts_in}
 
 -- what the checks of a call read is the same in the state
-pub scene-is : (x : Parts) → IsManager x → scene_in (array_vec_len x.kept.layout.regions) x.kept.pages x.kept.layout.base.0 x.kept.buffers (open_in x.kept.pool) ≡ scene_of (state_of x)
+pub scene-is : (x : Parts) → IsManager x → scene_in (memory_parts_in x) ≡ scene_of (state_of x)
 scene-is x machine = λ i. record {
   endpoints = (machine.layout.endpoints ∙ sym (parties_are x)) i;
   ram = (ap (candidates_in x.kept.pages) machine.layout.base ∙ sym (candidates-are x machine)) i;
@@ -98,7 +99,7 @@ module _ (x : Parts) (machine : IsManager x) (e : EndpointId) (at : e.0 ≡ x.ke
 
   -- what the pool has done
   abbrev IsDone : Taken → Type 0
-  IsDone taken = IsRetrieved x.kept.pool pool x.ram ram x.kept.pages pages x.kept.layout.base.0 (array_vec_len x.kept.layout.regions) x.kept.layout.blocks (buffers_in x.kept.buffers e.0) e bytes taken.size taken.changed
+  IsDone taken = IsRetrieved (memory_parts_in x) (memory_parts_in after_retrieve) e bytes taken.size taken.changed
 
   descriptor-is : retrieve_of e.0 bytes ≡ retrieve_read s total
   descriptor-is = λ i. retrieve_of (at i) (in_version (spoken i) (take total (sent-is x machine e.0 at i)))
@@ -280,7 +281,7 @@ module _ (x : Parts) (machine : IsManager x) (e : EndpointId) (at : e.0 ≡ x.ke
   -- the clauses of the pool's call
   module _ (r : Result Taken ErrorCode)
       (refusal : result_err r ≡ first_failure (retrieve_guards
-      (scene_in (array_vec_len x.kept.layout.regions) x.kept.pages x.kept.layout.base.0 x.kept.buffers (open_in x.kept.pool)) e.0 registers (retrieve_of e.0 bytes)))
+      (scene_in (memory_parts_in x)) e.0 registers (retrieve_of e.0 bytes)))
       (kept : OnErr r (pool ≡ x.kept.pool)) (kept_pages : OnErr r (pages ≡ x.kept.pages)) (kept_buffers : OnErr r (buffers ≡ x.kept.buffers)) (kept_ram : OnErr r (ram ≡ x.ram))
       (full : OnOk r (buffers ≡ buffers_with_rx x.kept.buffers e.0 true)) (done : IfOk r IsDone) where
     refuses : result_err r ≡ first_failure guards

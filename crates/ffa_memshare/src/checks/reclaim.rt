@@ -1,7 +1,6 @@
 // SPDX-License-Identifier: MIT OR Apache-2.0
 //! The checks of FFA_MEM_RECLAIM: whether a sender may end its transaction.
 ghost use Rattle.std.specs.Prelude.{◌≡◌, ◌≤◌, ◌==◌, ℕ, length, Some, IfOk};
-ghost use Rattle.std.specs.FinMap as finite;
 ghost use Rattle.std.specs.Result.{result_err};
 ghost use Rattle.ffa_model.specs.Calls.{first_refusal};
 ghost use Rattle.ffa_model.specs.MemoryReturn.{is_unheld, reclaim_guards};
@@ -9,7 +8,7 @@ ghost use Rattle.ffa_model.specs.State.{Transaction};
 ghost use Rattle.ffa_memshare.specs.Named.{own_rights_in};
 ghost use Rattle.ffa_memshare.specs.Ranges.{ArePlaced};
 ghost use Rattle.ffa_memshare.specs.Shared.{AreInRam};
-ghost use Rattle.ffa_memshare.specs.Stored.{map_in, pool_slot};
+ghost use Rattle.ffa_memshare.specs.Stored.{pool_slot, transaction_in};
 
 use crate::found::FoundReturn;
 use crate::open_slot::OpenSlot;
@@ -19,7 +18,8 @@ use ffa_model::{Address, EndpointId, Refusal, Room};
 use ffa_pages::{KeptPage, PageTable};
 
 impl<O: Room<OpenSlot> + Drop> Pool<O> {
-    /// Whether an endpoint may reclaim the transaction with this handle, with w3: its slot, and whether zeros are asked.
+    /// Whether an endpoint may reclaim the transaction with this handle, with w3: its slot, and whether zeros
+    /// are asked.
     ///
     /// # Errors
     ///
@@ -33,8 +33,11 @@ impl<O: Room<OpenSlot> + Drop> Pool<O> {
         flags: u32,
     ) -> Result<FoundReturn, Refusal>
         requires { AreInRam self.now.slots base.0 (length pages.now) }
-        ensures refusal { result_err result ≡ first_refusal (reclaim_guards (own_rights_in pages.now base.0) caller.0 flags (finite.get (map_in self.now.slots) handle)) }
-        ensures slot { IfOk result (λ found. (t : Transaction) × (pool_slot self.now.slots found.slot ≡ Some (handle, t))) }
+        ensures refusal { let own_rights = own_rights_in pages.now base.0 in
+            let transaction = transaction_in self.now.slots handle in
+            result_err result ≡ first_refusal (reclaim_guards own_rights caller.0 flags transaction) }
+        ensures slot { let slots = self.now.slots in
+            IfOk result (λ found. (t : Transaction) × (pool_slot slots found.slot ≡ Some (handle, t))) }
         ensures zero { IfOk result (λ found. found.zero ≡ (flags == 1)) }
     {
         if flags > 1 {
@@ -65,7 +68,8 @@ impl OpenTransaction {
     ) -> Result<(), Refusal>
         requires placed { ArePlaced base.0 (length pages.now) self.now.ranges }
         requires flags { flags ≤ 1 }
-        ensures { result_err result ≡ first_refusal (reclaim_guards (own_rights_in pages.now base.0) caller.0 flags (Some (view_of self.now))) }
+        ensures { let own_rights = own_rights_in pages.now base.0 in let transaction = Some (view_of self.now) in
+            result_err result ≡ first_refusal (reclaim_guards own_rights caller.0 flags transaction) }
     {
         if self.sender != caller {
             return Err(Refusal::NotTheSenders);

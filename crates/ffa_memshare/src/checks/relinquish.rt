@@ -21,7 +21,8 @@ use ffa_physmem::PhysMem;
 use ffa_rxtx::Buffers;
 
 impl<O: Room<OpenSlot> + Drop> Pool<O> {
-    /// Whether an endpoint may give up what the descriptor in its TX says: the transaction's slot, and whether zeros are asked.
+    /// Whether an endpoint may give up what the descriptor in its TX says: the transaction's slot, and
+    /// whether zeros are asked.
     ///
     /// # Errors
     ///
@@ -33,9 +34,11 @@ impl<O: Room<OpenSlot> + Drop> Pool<O> {
         caller: EndpointId,
     ) -> Result<FoundReturn, Refusal>
         requires { (b : Own) → buffers_in buffers.now caller.0 ≡ Some b → IsInRam (length (M.ram ram.now).pages) b }
-        ensures refusal { result_err result ≡ first_refusal (relinquish_guards (buffers_in buffers.now caller.0) (open_in self.now) caller.0
-            (relinquish_of (tx_in (M.ram ram.now) (buffers_in buffers.now caller.0)))) }
-        ensures found { IfOk result (IsGivenUp self.now.slots (tx_in (M.ram ram.now) (buffers_in buffers.now caller.0))) }
+        ensures refusal { let own = buffers_in buffers.now caller.0 in
+            let asked = relinquish_of (tx_in (M.ram ram.now) own) in
+            result_err result ≡ first_refusal (relinquish_guards own (open_in self.now) caller.0 asked) }
+        ensures found { let bytes = tx_in (M.ram ram.now) (buffers_in buffers.now caller.0) in
+            IfOk result (IsGivenUp self.now.slots bytes) }
     {
         let Some(mapped) = buffers.of(caller) else {
             return Err(Refusal::BuffersMissing);

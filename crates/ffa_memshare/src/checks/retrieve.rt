@@ -2,7 +2,6 @@
 //! The checks of FFA_MEM_RETRIEVE_REQ: what a receiver asks for, and the most that it may hold.
 ghost use Rattle.std.specs.Prelude.{◌≡◌, ℕ, length, true, is_some, OnOk, IfOk, IfSome, Some};
 ghost use Rattle.std.specs.Result.{result_err};
-ghost use Rattle.arrayvec.specs.ArrayVec.{array_vec_len};
 ghost use Rattle.ffa_model.specs.Access.{is_receiver};
 ghost use Rattle.ffa_model.specs.Buffers.{buffers_in};
 ghost use Rattle.ffa_model.specs.Calls.{first_refusal};
@@ -12,11 +11,11 @@ ghost use Rattle.ffa_model.specs.Rights.{is_at_most};
 ghost use Rattle.ffa_model.specs.Transactions.{ceiling, grant_to};
 ghost use Rattle.ffa_memshare.specs.Callers.{IsCaller};
 ghost use Rattle.ffa_memshare.specs.Found.{IsAskedFor};
+ghost use Rattle.ffa_memshare.specs.Memory.{memory_of, memory_parts};
 ghost use Rattle.ffa_memshare.specs.Named.{own_rights_in};
 ghost use Rattle.ffa_memshare.specs.Ranges.{ArePlaced};
 ghost use Rattle.ffa_memshare.specs.Scenes.{descriptor_in, scene_in};
 ghost use Rattle.ffa_memshare.specs.Shared.{AreInRam};
-ghost use Rattle.ffa_memshare.specs.Stored.{open_in};
 
 use crate::descriptor_call::DescriptorCall;
 use crate::found::FoundRight;
@@ -31,8 +30,8 @@ use ffa_rxtx::Buffers;
 use ffa_stage2::Layout;
 
 impl<O: Room<OpenSlot> + Drop> Pool<O> {
-    /// Whether an endpoint may take what the descriptor in its TX asks for: the transaction's slot, and the right that the
-    /// endpoint gets.
+    /// Whether an endpoint may take what the descriptor in its TX asks for: the transaction's slot, and the
+    /// right that the endpoint gets.
     ///
     /// # Errors
     ///
@@ -47,12 +46,14 @@ impl<O: Room<OpenSlot> + Drop> Pool<O> {
         call: &DescriptorCall,
     ) -> Result<FoundRight, Refusal>
         requires placed { AreInRam self.now.slots layout.now.base.0 (length pages.now) }
-        requires caller { IsCaller (array_vec_len layout.now.regions) (length (M.ram ram.now).pages) caller.0 buffers.now }
-        ensures refusal { result_err result ≡ first_refusal (retrieve_guards
-            (scene_in (array_vec_len layout.now.regions) pages.now layout.now.base.0 buffers.now (open_in self.now)) caller.0 call.now.transfer
-            (retrieve_of caller.0 (descriptor_in (M.ram ram.now) buffers.now caller.0 call.now))) }
+        requires caller { IsCaller (memory_of (M.ram ram.now) layout.now pages.now) buffers.now caller.0 }
+        ensures refusal { let parts = memory_parts (M.ram ram.now) layout.now pages.now buffers.now self.now in
+            let asked = retrieve_of caller.0 (descriptor_in (M.ram ram.now) buffers.now caller.0 call.now) in
+            result_err result ≡ first_refusal (retrieve_guards (scene_in parts) caller.0 call.now.transfer asked) }
         ensures buffers { OnOk result (is_some (buffers_in buffers.now caller.0) ≡ true) }
-        ensures found { IfOk result (IsAskedFor self.now.slots (own_rights_in pages.now layout.now.base.0) caller.0 (descriptor_in (M.ram ram.now) buffers.now caller.0 call.now)) }
+        ensures found { let own_rights = own_rights_in pages.now layout.now.base.0 in
+            let bytes = descriptor_in (M.ram ram.now) buffers.now caller.0 call.now in
+            IfOk result (IsAskedFor self.now.slots own_rights caller.0 bytes) }
     {
         let bytes = call.descriptor(ram, buffers, caller)?;
         let Ok(asked) = read_retrieve(&bytes, call.version, caller) else {
@@ -89,7 +90,8 @@ impl OpenTransaction {
         granted: Data,
     ) -> Rights
         requires { ArePlaced base.0 (length pages.now) self.now.ranges }
-        ensures { (e : ℕ) → grant_to (view_of self.now) e ≡ granted → result ≡ ceiling (own_rights_in pages.now base.0) (view_of self.now) e }
+        ensures { (e : ℕ) → grant_to (view_of self.now) e ≡ granted
+            → result ≡ ceiling (own_rights_in pages.now base.0) (view_of self.now) e }
     {
         match self.kind {
             Kind::Share => Rights {
@@ -114,8 +116,11 @@ impl OpenTransaction {
         asked: &RetrieveDesc,
     ) -> Result<Rights, Refusal>
         requires { ArePlaced base.0 (length pages.now) self.now.ranges }
-        ensures refusal { result_err result ≡ first_refusal (holding_guards (own_rights_in pages.now base.0) is_full caller.0 asked.now (Some (view_of self.now))) }
-        ensures right { IfOk result (λ right. right ≡ right_for (own_rights_in pages.now base.0) (view_of self.now) caller.0 asked.now) }
+        ensures refusal { let own_rights = own_rights_in pages.now base.0 in
+            let transaction = Some (view_of self.now) in
+            result_err result ≡ first_refusal (holding_guards own_rights is_full caller.0 asked.now transaction) }
+        ensures right { let own_rights = own_rights_in pages.now base.0 in
+            IfOk result (λ right. right ≡ right_for own_rights (view_of self.now) caller.0 asked.now) }
     {
         let Some(granted) = self.granted_to(caller) else {
             return Err(Refusal::NotReceiver);

@@ -13,6 +13,7 @@ ghost use Rattle.ffa_model.specs.SendDescriptor.{send_of, send_record};
 ghost use Rattle.ffa_model.specs.Transactions.{next_handle, sends_of};
 ghost use Rattle.ffa_rxtx.specs.Parts.{candidate_in, candidates_in};
 ghost use Rattle.ffa_memshare.specs.Callers.{IsCaller};
+ghost use Rattle.ffa_memshare.specs.Memory.{memory_of, memory_parts};
 ghost use Rattle.ffa_memshare.specs.Named.{all_named, own_rights_in};
 ghost use Rattle.ffa_memshare.specs.Offers.{AreAligned, IsOffered, IsOwnOffer, grants_writes, write_guards};
 ghost use Rattle.ffa_memshare.specs.Ranges.{ArePlaced, IsPlaced, in_range, in_ranges};
@@ -37,8 +38,8 @@ use ffa_rxtx::Buffers;
 use ffa_stage2::Layout;
 
 impl<O: Room<OpenSlot> + Drop> Pool<O> {
-    /// Whether an endpoint may send what the descriptor in its TX offers: the free slot for the transaction that it opens,
-    /// which stands in the draft then.
+    /// Whether an endpoint may send what the descriptor in its TX offers: the free slot for the transaction
+    /// that it opens, which stands in the draft then.
     ///
     /// # Errors
     ///
@@ -54,14 +55,15 @@ impl<O: Room<OpenSlot> + Drop> Pool<O> {
         call: &DescriptorCall,
         draft: &mut Draft,
     ) -> Result<usize, Refusal>
-        requires caller { IsCaller (array_vec_len layout.now.regions) (length (M.ram ram.now).pages) caller.0 buffers.now }
+        requires caller { IsCaller (memory_of (M.ram ram.now) layout.now pages.now) buffers.now caller.0 }
         requires endpoints { length self.now.sent ≡ array_vec_len layout.now.regions }
-        ensures refusal { result_err result ≡ first_refusal (send_guards
-            (scene_in (array_vec_len layout.now.regions) pages.now layout.now.base.0 buffers.now (open_in self.now))
-            caller.0 call.now.transfer (send_of kind (descriptor_in (M.ram ram.now) buffers.now caller.0 call.now))) }
+        ensures refusal { let parts = memory_parts (M.ram ram.now) layout.now pages.now buffers.now self.now in
+            let offer = send_of kind (descriptor_in (M.ram ram.now) buffers.now caller.0 call.now) in
+            result_err result ≡ first_refusal (send_guards (scene_in parts) caller.0 call.now.transfer offer) }
         ensures handle { OnOk result (draft.new.transaction.handle ≡ next_handle (open_in self.now) caller.0) }
-        ensures offered { OnOk result (IsOffered pages.now layout.now.base.0 caller.0 kind
-            (descriptor_in (M.ram ram.now) buffers.now caller.0 call.now) (view_of draft.new.transaction)) }
+        ensures offered { let bytes = descriptor_in (M.ram ram.now) buffers.now caller.0 call.now in
+            let opened = view_of draft.new.transaction in
+            OnOk result (IsOffered pages.now layout.now.base.0 caller.0 kind bytes opened) }
         ensures free { IfOk result (IsFree self.now.slots (place caller.0)) }
         ensures few { OnOk result (sends_of (open_in self.now) caller.0 < MOST_SENDS) }
         ensures fits { IfOk result (λ slot. slot < MOST_SLOTS) }
@@ -138,7 +140,8 @@ fn is_range_sendable<P: Room<KeptPage> + Drop>(
     range: &Range,
 ) -> bool
     requires { IsPlaced base.0 (length pages.now) range.now }
-    ensures { result ≡ all_named (length pages.now) (in_range base.0 range.now) (is_sendable sender.0 (candidates_in pages.now base.0) buffers.now) }
+    ensures { let is_its = is_sendable sender.0 (candidates_in pages.now base.0) buffers.now in
+        result ≡ all_named (length pages.now) (in_range base.0 range.now) is_its }
 {
     // Proof step: the number of pages is 2^14 at most.
     let _ = pages.pages();
@@ -161,7 +164,8 @@ fn are_sendable<P: Room<KeptPage> + Drop>(
     ranges: &PageRanges,
 ) -> bool
     requires { ArePlaced base.0 (length pages.now) ranges.now }
-    ensures { result ≡ all_named (length pages.now) (in_ranges base.0 ranges.now) (is_sendable sender.0 (candidates_in pages.now base.0) buffers.now) }
+    ensures { let is_its = is_sendable sender.0 (candidates_in pages.now base.0) buffers.now in
+        result ≡ all_named (length pages.now) (in_ranges base.0 ranges.now) is_its }
 {
     let mut all = true;
     for place in 0..ranges.len() {
@@ -186,8 +190,8 @@ fn asks_for_writes(offer: &SendDesc) -> bool
     offer.zero || grants_writes(offer.receivers.as_slice())
 }
 
-// Whether the pages that are offered, which are those of these ranges, have rw themselves, where that is asked for, or what
-// it is asked for.
+// Whether the pages that are offered, which are those of these ranges, have rw themselves, where that is
+// asked for, or what it is asked for.
 fn check_writes<P: Room<KeptPage> + Drop>(
     offer: &SendDesc,
     ranges: &PageRanges,
@@ -196,7 +200,8 @@ fn check_writes<P: Room<KeptPage> + Drop>(
 ) -> Result<(), Refusal>
     requires ranges { ranges.now ≡ offer.now.ranges.items }
     requires own { (e : ℕ) × IsOwnOffer pages.now base.0 e (send_record offer.now) }
-    ensures { result_err result ≡ first_refusal (write_guards (own_rights_in pages.now base.0) (send_record offer.now)) }
+    ensures { let own_rights = own_rights_in pages.now base.0 in
+        result_err result ≡ first_refusal (write_guards own_rights (send_record offer.now)) }
 {
     if !asks_for_writes(offer) {
         return Ok(());
@@ -220,7 +225,11 @@ fn check_offer<P: Room<KeptPage> + Drop>(
     ranges: &mut PageRanges,
 ) -> Result<(), Refusal>
     requires aligned { AreAligned offer.now.ranges.items }
-    ensures refusal { result_err result ≡ first_refusal (after_offer (array_vec_len layout.now.regions) (candidates_in pages.now layout.now.base.0) (own_rights_in pages.now layout.now.base.0) buffers.now caller.0 (send_record offer.now) []) }
+    ensures refusal { let endpoints = array_vec_len layout.now.regions in
+        let candidates = candidates_in pages.now layout.now.base.0 in
+        let own_rights = own_rights_in pages.now layout.now.base.0 in
+        let guards = after_offer endpoints candidates own_rights buffers.now caller.0 (send_record offer.now) [] in
+        result_err result ≡ first_refusal guards }
     ensures offered { OnOk result (IsOwnOffer pages.now layout.now.base.0 caller.0 (send_record offer.now)) }
     ensures ranges { OnOk result (ranges.new ≡ offer.now.ranges.items) }
 {

@@ -2,7 +2,6 @@
 use Rattle.std.proofs.Common.{◌≡◌, ◌∙◌, of_calls, Bool, Option, Some, Err, sym, ap}
 use Rattle.std.specs.FinMap as finite
 use Rattle.std.specs.Result.{result_err}
-use Rattle.arrayvec.specs.ArrayVec.{array_vec_len}
 use Rattle.ffa_model.specs.Buffers.{buffers_in, is_full}
 use Rattle.ffa_model.specs.Calls.{first_refusal}
 use Rattle.ffa_model.specs.DescriptorPlaces.{in_version}
@@ -10,8 +9,9 @@ use Rattle.ffa_model.specs.MemoryRetrieve.{holding_guards}
 use Rattle.ffa_model.specs.RetrieveDescriptor.{retrieve_of}
 use Rattle.ffa_model.specs.State.{Transaction}
 use Rattle.ffa_memshare.specs.Named.{own_rights_in}
+use Rattle.ffa_memshare.specs.Memory.{memory_parts}
 use Rattle.ffa_memshare.specs.Scenes.{descriptor_in, scene_in}
-use Rattle.ffa_memshare.specs.Stored.{map_in, open_in, view_of}
+use Rattle.ffa_memshare.specs.Stored.{map_in, view_of}
 use Rattle.ffa_memshare.proofs.Asks.{asked-open, asked-slot}
 use Rattle.ffa_memshare.proofs.Firsts.{retrieve-asked, retrieve-transfer}
 use Rattle.ffa_memshare.proofs.pool.Pool.check_retrieve.Goals as goal
@@ -21,8 +21,7 @@ check_retrieve-requires g c = let it = c.at-open.result.now in c.requires.placed
 
 pub returns-in_err-bytes-clause-refusal : goal.returns-in_err-bytes-clause-refusal
 returns-in_err-bytes-clause-refusal g c =
-    let l = c.args.layout.now in
-    let scene = scene_in (array_vec_len l.regions) c.args.pages.now l.base.0 c.args.buffers.now (open_in c.args.self.now) in
+    let scene = scene_in (memory_parts (g.M.PhysMem.ram c.args.ram.now) c.args.layout.now c.args.pages.now c.args.buffers.now c.args.self.now) in
     let read = retrieve_of c.args.caller.0 (descriptor_in (g.M.PhysMem.ram c.args.ram.now) c.args.buffers.now c.args.caller.0 c.args.call.now) in
     let refused : c.from_residual.result ≡ Err c.in_err-bytes.field-0.0 = search of_calls in
     rw refused
@@ -33,7 +32,7 @@ returns-clause-refusal g c =
     let l = c.args.layout.now in
     let e = c.args.caller.0 in
     let slots = c.args.self.now.slots in
-    let scene = scene_in (array_vec_len l.regions) c.args.pages.now l.base.0 c.args.buffers.now (open_in c.args.self.now) in
+    let scene = scene_in (memory_parts (g.M.PhysMem.ram c.args.ram.now) c.args.layout.now c.args.pages.now c.args.buffers.now c.args.self.now) in
     let read = retrieve_of e (descriptor_in (g.M.PhysMem.ram c.args.ram.now) c.args.buffers.now e c.args.call.now) in
     let asked = c.in-Ok.asked in
     let it = c.at-open.result.now in
@@ -49,7 +48,7 @@ returns-in_err-right-clause-refusal g c =
     let l = c.args.layout.now in
     let e = c.args.caller.0 in
     let slots = c.args.self.now.slots in
-    let scene = scene_in (array_vec_len l.regions) c.args.pages.now l.base.0 c.args.buffers.now (open_in c.args.self.now) in
+    let scene = scene_in (memory_parts (g.M.PhysMem.ram c.args.ram.now) c.args.layout.now c.args.pages.now c.args.buffers.now c.args.self.now) in
     let read = retrieve_of e (descriptor_in (g.M.PhysMem.ram c.args.ram.now) c.args.buffers.now e c.args.call.now) in
     let asked = c.in-Ok.asked in
     let it = c.at-open.result.now in

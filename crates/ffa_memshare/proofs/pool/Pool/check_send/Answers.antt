@@ -3,8 +3,8 @@ use Rattle.std.proofs.Common.{◌≡◌, ◌∙◌, of_calls, Some, Err, sym, ap
 use Rattle.arrayvec.specs.ArrayVec.{array_vec_len}
 use Rattle.ffa_model.specs.DescriptorPlaces.{in_version}
 use Rattle.ffa_model.specs.SendDescriptor.{send_of, send_record}
+use Rattle.ffa_memshare.specs.Memory.{memory_parts}
 use Rattle.ffa_memshare.specs.Scenes.{descriptor_in, scene_in}
-use Rattle.ffa_memshare.specs.Stored.{open_in}
 use Rattle.ffa_model.proofs.Places.{known-named}
 use Rattle.ffa_memshare.proofs.Firsts.{send-offer, send-room, send-transfer}
 use Rattle.ffa_memshare.proofs.Offered.{sent-aligned, sent-other}
@@ -19,8 +19,7 @@ room-requires-clause-known g c = known-named (array_vec_len c.args.layout.now.re
 
 pub returns-in_err-bytes-clause-refusal : goal.returns-in_err-bytes-clause-refusal
 returns-in_err-bytes-clause-refusal g c =
-    let l = c.args.layout.now in
-    let scene = scene_in (array_vec_len l.regions) c.args.pages.now l.base.0 c.args.buffers.now (open_in c.args.self.now) in
+    let scene = scene_in (memory_parts (g.M.PhysMem.ram c.args.ram.now) c.args.layout.now c.args.pages.now c.args.buffers.now c.args.self.now) in
     let read = send_of c.args.kind (descriptor_in (g.M.PhysMem.ram c.args.ram.now) c.args.buffers.now c.args.caller.0 c.args.call.now) in
     let refused : c.from_residual.result ≡ Err c.in_err-bytes.field-0.0 = search of_calls in
     rw refused
@@ -28,8 +27,7 @@ returns-in_err-bytes-clause-refusal g c =
 
 pub returns-in_err-check_offer-clause-refusal : goal.returns-in_err-check_offer-clause-refusal
 returns-in_err-check_offer-clause-refusal g c =
-    let l = c.args.layout.now in
-    let scene = scene_in (array_vec_len l.regions) c.args.pages.now l.base.0 c.args.buffers.now (open_in c.args.self.now) in
+    let scene = scene_in (memory_parts (g.M.PhysMem.ram c.args.ram.now) c.args.layout.now c.args.pages.now c.args.buffers.now c.args.self.now) in
     let read = send_of c.args.kind (descriptor_in (g.M.PhysMem.ram c.args.ram.now) c.args.buffers.now c.args.caller.0 c.args.call.now) in
     let is : read ≡ Some (send_record c.read_send.new.offer) =
     sym (ap (λ b. send_of c.args.kind (in_version c.args.call.now.version b)) c.in_ok-bytes.ensures.bytes) ∙ sym c.in-Ok.ensures.computed in
@@ -39,8 +37,7 @@ returns-in_err-check_offer-clause-refusal g c =
 
 pub returns-in_err-slot-clause-refusal : goal.returns-in_err-slot-clause-refusal
 returns-in_err-slot-clause-refusal g c =
-    let l = c.args.layout.now in
-    let scene = scene_in (array_vec_len l.regions) c.args.pages.now l.base.0 c.args.buffers.now (open_in c.args.self.now) in
+    let scene = scene_in (memory_parts (g.M.PhysMem.ram c.args.ram.now) c.args.layout.now c.args.pages.now c.args.buffers.now c.args.self.now) in
     let read = send_of c.args.kind (descriptor_in (g.M.PhysMem.ram c.args.ram.now) c.args.buffers.now c.args.caller.0 c.args.call.now) in
     let is : read ≡ Some (send_record c.read_send.new.offer) =
     sym (ap (λ b. send_of c.args.kind (in_version c.args.call.now.version b)) c.in_ok-bytes.ensures.bytes) ∙ sym c.in-Ok.ensures.computed in
@@ -50,8 +47,7 @@ returns-in_err-slot-clause-refusal g c =
 
 pub returns-clause-refusal : goal.returns-clause-refusal
 returns-clause-refusal g c =
-    let l = c.args.layout.now in
-    let scene = scene_in (array_vec_len l.regions) c.args.pages.now l.base.0 c.args.buffers.now (open_in c.args.self.now) in
+    let scene = scene_in (memory_parts (g.M.PhysMem.ram c.args.ram.now) c.args.layout.now c.args.pages.now c.args.buffers.now c.args.self.now) in
     let read = send_of c.args.kind (descriptor_in (g.M.PhysMem.ram c.args.ram.now) c.args.buffers.now c.args.caller.0 c.args.call.now) in
     let is : read ≡ Some (send_record c.read_send.new.offer) =
     sym (ap (λ b. send_of c.args.kind (in_version c.args.call.now.version b)) c.in_ok-bytes.ensures.bytes) ∙ sym c.in-Ok.ensures.computed in

@@ -1,15 +1,15 @@
 -- SPDX-License-Identifier: MIT OR Apache-2.0
 use Rattle.std.proofs.Common.{◌∙◌, ℕ, refl, ap, sym, subst}
-use Rattle.arrayvec.specs.ArrayVec.{array_vec_len}
 use Rattle.ffa_model.specs.Buffers.{buffers_in}
-use Rattle.ffa_model.specs.MemoryRetrieve.{retrieve_guards, right_for}
+use Rattle.ffa_model.specs.MemoryRetrieve.{response_to, retrieve_guards, right_for}
 use Rattle.ffa_model.specs.RetrieveDescriptor.{retrieve_of}
 use Rattle.ffa_model.specs.State.{Transaction}
 use Rattle.ffa_model.proofs.Guards.{answers-code, answers-pass}
+use Rattle.ffa_memshare.specs.Memory.{memory_of, memory_parts}
 use Rattle.ffa_memshare.specs.Named.{own_rights_in}
-use Rattle.ffa_memshare.specs.Retrieved.{IsAnswered}
+use Rattle.ffa_memshare.specs.Retrieved.{IsResponded}
 use Rattle.ffa_memshare.specs.Scenes.{descriptor_in, scene_in}
-use Rattle.ffa_memshare.specs.Stored.{open_in, view_of}
+use Rattle.ffa_memshare.specs.Stored.{view_of}
 use Rattle.ffa_physmem.proofs.Moments.{Only-none}
 use Rattle.ffa_stage2.proofs.Moments.{nothing-ends}
 use Rattle.ffa_memshare.proofs.Asks.{asked-open, asked-slot, same-handle, same-open, shared-placed}
@@ -33,7 +33,7 @@ pub returns-in_err-found-clause-refusal : goal.returns-in_err-found-clause-refus
 returns-in_err-found-clause-refusal g c =
     let l = c.args.layout.now in
     answers-code
-    (retrieve_guards (scene_in (array_vec_len l.regions) c.args.pages.now l.base.0 c.args.buffers.now (open_in c.args.self.now)) c.args.caller.0 c.args.call.now.transfer
+    (retrieve_guards (scene_in (memory_parts (g.M.PhysMem.ram c.args.ram.now) l c.args.pages.now c.args.buffers.now c.args.self.now)) c.args.caller.0 c.args.call.now.transfer
     (retrieve_of c.args.caller.0 (descriptor_in (g.M.PhysMem.ram c.args.ram.now) c.args.buffers.now c.args.caller.0 c.args.call.now)))
     c.in_err-found.field-0.0 c.from_residual.result c.in_err-found.ensures.refusal c.from_residual.ensures.1
 
@@ -41,7 +41,7 @@ pub returns-clause-refusal : goal.returns-clause-refusal
 returns-clause-refusal g c =
     let l = c.args.layout.now in
     answers-pass
-    (retrieve_guards (scene_in (array_vec_len l.regions) c.args.pages.now l.base.0 c.args.buffers.now (open_in c.args.self.now)) c.args.caller.0 c.args.call.now.transfer
+    (retrieve_guards (scene_in (memory_parts (g.M.PhysMem.ram c.args.ram.now) l c.args.pages.now c.args.buffers.now c.args.self.now)) c.args.caller.0 c.args.call.now.transfer
     (retrieve_of c.args.caller.0 (descriptor_in (g.M.PhysMem.ram c.args.ram.now) c.args.buffers.now c.args.caller.0 c.args.call.now)))
     c.in_ok-found.ensures.refusal
 
@@ -65,8 +65,8 @@ returns-clause-done g c =
       open_transactions = c.take.ensures.open_transactions its.asked.handle (view_of it) there;
       pages = c.take.ensures.pages its.asked.handle (view_of it) there;
       answer =
-          subst (λ (h : ℕ). IsAnswered (g.M.PhysMem.ram c.args.ram.now) (g.M.PhysMem.ram c.hand_over-size.new.ram) l.base.0 (array_vec_len l.regions) l.blocks
-          (buffers_in c.args.buffers.now c.args.caller.0) h (view_of it) c.args.caller.0 c.args.call.now.version found.right c.hand_over-size.result)
+          subst (λ (h : ℕ). IsResponded (memory_of (g.M.PhysMem.ram c.args.ram.now) l c.args.pages.now) (g.M.PhysMem.ram c.hand_over-size.new.ram)
+          (buffers_in c.args.buffers.now c.args.caller.0) c.args.call.now.version (response_to h (view_of it) c.args.caller.0 found.right) c.hand_over-size.result)
           (same-handle slots found.slot its.asked.handle it (its.transaction, its.slot) c.at-open.ensures.value)
           c.hand_over-size.ensures.answered;
       access = c.tell-changed.ensures.changed;

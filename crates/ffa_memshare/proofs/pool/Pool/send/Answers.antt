@@ -1,11 +1,10 @@
 -- SPDX-License-Identifier: MIT OR Apache-2.0
 use Rattle.std.proofs.Common.{rules, refl}
-use Rattle.arrayvec.specs.ArrayVec.{array_vec_len}
 use Rattle.ffa_model.specs.MemorySend.{send_guards}
 use Rattle.ffa_model.specs.SendDescriptor.{send_of}
 use Rattle.ffa_model.proofs.Guards.{answers-code, answers-pass}
+use Rattle.ffa_memshare.specs.Memory.{memory_parts}
 use Rattle.ffa_memshare.specs.Scenes.{descriptor_in, scene_in}
-use Rattle.ffa_memshare.specs.Stored.{open_in}
 use Rattle.ffa_physmem.proofs.Moments.{Only-none}
 use Rattle.ffa_stage2.proofs.Moments.{nothing-ends}
 use Rattle.ffa_memshare.proofs.pool.Pool.send.Goals as goal
@@ -14,7 +13,7 @@ pub returns-in_err-slot-clause-refusal : goal.returns-in_err-slot-clause-refusal
 returns-in_err-slot-clause-refusal g c =
     let l = c.args.layout.now in
     answers-code
-    (send_guards (scene_in (array_vec_len l.regions) c.args.pages.now l.base.0 c.args.buffers.now (open_in c.args.self.now)) c.args.caller.0 c.args.call.now.transfer
+    (send_guards (scene_in (memory_parts (g.M.PhysMem.ram c.args.ram.now) l c.args.pages.now c.args.buffers.now c.args.self.now)) c.args.caller.0 c.args.call.now.transfer
     (send_of c.args.kind (descriptor_in (g.M.PhysMem.ram c.args.ram.now) c.args.buffers.now c.args.caller.0 c.args.call.now)))
     c.in_err-slot.field-0.0 c.from_residual.result c.in_err-slot.ensures.refusal c.from_residual.ensures.1
 
@@ -22,7 +21,7 @@ pub returns-clause-refusal : goal.returns-clause-refusal
 returns-clause-refusal g c =
     let l = c.args.layout.now in
     answers-pass
-    (send_guards (scene_in (array_vec_len l.regions) c.args.pages.now l.base.0 c.args.buffers.now (open_in c.args.self.now)) c.args.caller.0 c.args.call.now.transfer
+    (send_guards (scene_in (memory_parts (g.M.PhysMem.ram c.args.ram.now) l c.args.pages.now c.args.buffers.now c.args.self.now)) c.args.caller.0 c.args.call.now.transfer
     (send_of c.args.kind (descriptor_in (g.M.PhysMem.ram c.args.ram.now) c.args.buffers.now c.args.caller.0 c.args.call.now)))
     c.in_ok-slot.ensures.refusal
 

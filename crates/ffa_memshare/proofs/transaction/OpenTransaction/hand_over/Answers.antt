@@ -9,6 +9,7 @@ use Rattle.ffa_model.specs.ResponseBytes.{ResponseRecord, response_bytes, respon
 use Rattle.ffa_model.specs.SendDescriptor.{page_total}
 use Rattle.ffa_rxtx.specs.Parts.{with_rx_bytes}
 use Rattle.ffa_memshare.specs.Changes.{IsMoved}
+use Rattle.ffa_memshare.specs.Memory.{memory_of}
 use Rattle.ffa_memshare.specs.Ranges.{in_ranges}
 use Rattle.ffa_memshare.proofs.Moments.{responded-ends, then-responded}
 use Rattle.ffa_memshare.proofs.Retrieves.{few-pages}
@@ -43,15 +44,13 @@ returns-clause-answered g c =
 pub returns-clause-steps : goal.returns-clause-steps
 returns-clause-steps g c rx_apart =
     let l = c.args.layout.now in
-    let n = array_vec_len l.regions in
-    let b = l.blocks in
-    let old = g.M.PhysMem.ram c.args.ram.now in
+    let memory = memory_of (g.M.PhysMem.ram c.args.ram.now) l c.args.pages.now in
     let granted = g.M.PhysMem.ram c.change_pages.new.ram in
     let new = g.M.PhysMem.ram c.respond.new.ram in
     let moved = c.change_pages.ensures.moved in
     let (access, built) = c.requires.held.room.built in
     let index = c.place-index.result in
-    then-responded old granted new n b index (in_ranges l.base.0 c.args.self.now.ranges) (λ p. Some c.args.right) _ rx_apart access built moved.built moved.base c.respond.ensures.beside
+    then-responded memory granted new index (in_ranges l.base.0 c.args.self.now.ranges) (λ p. Some c.args.right) _ rx_apart access built moved.built moved.base c.respond.ensures.beside
     (g.M.PhysMem.past c.args.ram.now) _ _ (c.change_pages.ensures.steps (λ p at zero. absurd (false≢true zero))) c.respond.ensures.steps
 
 pub returns-clause-ended : goal.returns-clause-ended
@@ -59,6 +58,6 @@ returns-clause-ended g c rx_apart =
     let l = c.args.layout.now in
     let moved = c.change_pages.ensures.moved in
     let (access, built) = c.requires.held.room.built in
-    responded-ends (g.M.PhysMem.ram c.args.ram.now) (g.M.PhysMem.ram c.change_pages.new.ram) (g.M.PhysMem.ram c.respond.new.ram) (array_vec_len l.regions) l.blocks
+    responded-ends (memory_of (g.M.PhysMem.ram c.args.ram.now) l c.args.pages.now) (g.M.PhysMem.ram c.change_pages.new.ram) (g.M.PhysMem.ram c.respond.new.ram)
     c.place-index.result (in_ranges l.base.0 c.args.self.now.ranges) (λ p. Some c.args.right) _ rx_apart access built moved.built moved.base c.respond.ensures.beside
     (λ p at. refl) _

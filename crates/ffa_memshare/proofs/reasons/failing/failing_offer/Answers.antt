@@ -7,7 +7,7 @@ use Rattle.ffa_rxtx.specs.Parts.{candidates_in}
 use Rattle.ffa_memshare.specs.Named.{own_rights_in}
 use Rattle.ffa_memshare.specs.Ranges.{in_ranges}
 use Rattle.ffa_memshare.proofs.FirstFailing.{first-at, first-none, none-next}
-use Rattle.ffa_memshare.proofs.failing.failing_offer.Goals as goal
+use Rattle.ffa_memshare.proofs.reasons.failing.failing_offer.Goals as goal
 
 pub returns-then-fails : goal.returns-then-fails
 returns-then-fails g c =

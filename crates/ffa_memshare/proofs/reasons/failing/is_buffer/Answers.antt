@@ -4,7 +4,7 @@ use Rattle.std.specs.Prelude.{◌↔◌, IsTrue}
 use Rattle.std.proofs.lemmas.Bool.{cases_Bool, both_ways}
 use Rattle.ffa_model.specs.MemorySend.{is_buffer}
 use Rattle.ffa_model.specs.State.{Buffers}
-use Rattle.ffa_memshare.proofs.failing.is_buffer.Goals as goal
+use Rattle.ffa_memshare.proofs.reasons.failing.is_buffer.Goals as goal
 
 -- of the pages from one on up to the next
 buffer-here : (buffers : List (Option Buffers)) (page : ℕ) (any : Bool) → (IsTrue any ↔ ((p : ℕ) × (page ≤ p) × (p < page + 1) × (is_buffer buffers p ≡ true)))

@@ -4,7 +4,7 @@ use Rattle.std.specs.Prelude.{◌&&◌, not}
 use Rattle.ffa_model.specs.Rights.{may_store}
 use Rattle.ffa_pages.specs.Entry.{own_right_at}
 use Rattle.ffa_memshare.specs.Ranges.{in_ranges}
-use Rattle.ffa_memshare.proofs.failing.first_unwritable.Given as goal
+use Rattle.ffa_memshare.proofs.reasons.failing.first_unwritable.Given as goal
 
 -- no page so far is one that may not be written
 abbrev pub invariant-loop-number : goal.invariant-loop-number

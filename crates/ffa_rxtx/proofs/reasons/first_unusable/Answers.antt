@@ -6,7 +6,7 @@ use Rattle.ffa_model.specs.About.{numbered}
 use Rattle.ffa_model.specs.Buffers.{is_usable}
 use Rattle.ffa_model.proofs.Finds.{find-listed, find-none}
 use Rattle.ffa_rxtx.specs.Parts.{candidate_in}
-use Rattle.ffa_rxtx.proofs.failing.first_unusable.Goals as goal
+use Rattle.ffa_rxtx.proofs.reasons.first_unusable.Goals as goal
 
 pub returns-then-not-is_usable : goal.returns-then-not-is_usable
 returns-then-not-is_usable g c =

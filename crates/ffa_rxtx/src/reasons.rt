@@ -1,17 +1,18 @@
 // SPDX-License-Identifier: MIT OR Apache-2.0
-//! The first page that a mapping names and that can't be a buffer's.
+//! Why a call on buffers was refused: the first page that a mapping names and that can't be a buffer's. This serves
+//! diagnostics alone. No call is done by it and nothing is changed, so who audits the core can skip it.
 ghost use Rattle.std.specs.Prelude.{◌≡◌, ◌+◌, ◌≤◌, length};
 ghost use Rattle.ffa_model.specs.About.{failing_map, first_failing, unusable_from};
 ghost use Rattle.ffa_model.specs.Buffers.{is_usable};
 ghost use Rattle.ffa_model.specs.Lists.{run};
 ghost use Rattle.ffa_rxtx.specs.Parts.{candidate_in, candidates_in};
 
-use crate::buffers::{is_usable, run_at};
+use crate::checks::{is_usable, run_at};
 use ffa_model::{Address, EndpointId, PageNo, Refusal, Room};
 use ffa_pages::{KeptPage, PageTable};
 
-/// The page that a check of FFA_RXTX_MAP of an endpoint is about, where it fails: the first page of TX, or of RX, that can't be
-/// one of its buffers.
+/// The page that a check of FFA_RXTX_MAP of an endpoint is about, where it fails: the first page of TX, or of RX, that
+/// can't be one of its buffers.
 pub fn failing_map<P: Room<KeptPage> + Drop>(
     table: &PageTable<P>,
     ram_base: Address,

@@ -3,7 +3,7 @@ use Rattle.std.proofs.Common.{ℕ, Bool, sym, arith}
 use Rattle.ffa_model.specs.Buffers.{is_usable}
 use Rattle.ffa_model.proofs.Runs.{run-all, run-fails}
 use Rattle.ffa_rxtx.specs.Parts.{candidate_in}
-use Rattle.ffa_rxtx.proofs.buffers.are_usable.Goals as goal
+use Rattle.ffa_rxtx.proofs.checks.are_usable.Goals as goal
 
 pub returns-then-not-is_usable : goal.returns-then-not-is_usable
 returns-then-not-is_usable g c =

@@ -1,7 +1,6 @@
 // SPDX-License-Identifier: MIT OR Apache-2.0
 //! The first page that fails a check of a send or a reclaim.
 ghost use Rattle.std.specs.Prelude.{◌≡◌, ◌<◌, ◌&&◌, ℕ, [], Some, length, not};
-ghost use Rattle.std.specs.FinMap as finite;
 ghost use Rattle.std.specs.List.{list_all};
 ghost use Rattle.ffa_model.specs.declared.limits.TheConstants.{MOST_PAGES};
 ghost use Rattle.ffa_model.specs.declared.transaction.Receiver.{Receiver as Named};
@@ -17,7 +16,7 @@ ghost use Rattle.ffa_rxtx.specs.Parts.{IsInRam, candidates_in};
 ghost use Rattle.ffa_memshare.specs.Named.{own_rights_in};
 ghost use Rattle.ffa_memshare.specs.Ranges.{in_range, in_ranges};
 ghost use Rattle.ffa_memshare.specs.Scenes.{descriptor_in};
-ghost use Rattle.ffa_memshare.specs.Stored.{map_in};
+ghost use Rattle.ffa_memshare.specs.Stored.{transaction_in};
 
 use crate::checks::send::is_own;
 use crate::descriptor_call::DescriptorCall;
@@ -33,8 +32,8 @@ use ffa_pages::{KeptPage, PageTable};
 use ffa_physmem::PhysMem;
 use ffa_rxtx::Buffers;
 
-/// The page that a check of FFA_MEM_DONATE, FFA_MEM_LEND or FFA_MEM_SHARE of an endpoint is about, where it fails: the first page
-/// of the RAM from `base` on that the descriptor in TX names and that fails it.
+/// The page that a check of FFA_MEM_DONATE, FFA_MEM_LEND or FFA_MEM_SHARE of an endpoint is about, where it
+/// fails: the first page of the RAM from `base` on that the descriptor in TX names and that fails it.
 pub fn failing_send<M: PhysMem, P: Room<KeptPage> + Drop>(
     ram: &M,
     base: Address,
@@ -46,8 +45,9 @@ pub fn failing_send<M: PhysMem, P: Room<KeptPage> + Drop>(
     refusal: Refusal,
 ) -> Option<PageNo>
     requires tx { (b : Own) → buffers_in buffers.now caller.0 ≡ Some b → IsInRam (length (M.ram ram.now).pages) b }
-    ensures { result ≡ failing_send caller.0 (candidates_in pages.now base.0) (own_rights_in pages.now base.0) buffers.now call.now.transfer
-        (send_of kind (descriptor_in (M.ram ram.now) buffers.now caller.0 call.now)) refusal }
+    ensures { let candidates = candidates_in pages.now base.0 in let own_rights = own_rights_in pages.now base.0 in
+        let offer = send_of kind (descriptor_in (M.ram ram.now) buffers.now caller.0 call.now) in
+        result ≡ failing_send caller.0 candidates own_rights buffers.now call.now.transfer offer refusal }
 {
     let Ok(bytes) = call.descriptor(ram, buffers, caller) else {
         return None;
@@ -68,7 +68,8 @@ fn failing_offer<P: Room<KeptPage> + Drop>(
     sender: EndpointId,
     refusal: Refusal,
 ) -> Option<PageNo>
-    ensures { result ≡ failing_offer sender.0 (candidates_in pages.now base.0) (own_rights_in pages.now base.0) buffers.now refusal (send_record offer.now) }
+    ensures { let candidates = candidates_in pages.now base.0 in let own_rights = own_rights_in pages.now base.0 in
+        result ≡ failing_offer sender.0 candidates own_rights buffers.now refusal (send_record offer.now) }
 {
     for number in 0..pages.pages() {
         let page = PageNo(number);
@@ -90,8 +91,9 @@ fn fails<P: Room<KeptPage> + Drop>(
     page: PageNo,
 ) -> bool
     requires { page.0 < length pages.now }
-    ensures { result ≡ (in_ranges base.0 offer.now.ranges.items page.0
-        && not (passes sender.0 (candidates_in pages.now base.0) (own_rights_in pages.now base.0) buffers.now (send_record offer.now) refusal page.0)) }
+    ensures { let candidates = candidates_in pages.now base.0 in let own_rights = own_rights_in pages.now base.0 in
+        let passes = passes sender.0 candidates own_rights buffers.now (send_record offer.now) refusal page.0 in
+        result ≡ (in_ranges base.0 offer.now.ranges.items page.0 && not passes) }
 {
     is_in_any(offer.ranges.as_slice(), base, page)
         && !passes(offer, pages, buffers, sender, refusal, page)
@@ -107,7 +109,9 @@ fn passes<P: Room<KeptPage> + Drop>(
     page: PageNo,
 ) -> bool
     requires { page.0 < length pages.now }
-    ensures { (base : ℕ) → result ≡ passes sender.0 (candidates_in pages.now base) (own_rights_in pages.now base) buffers.now (send_record offer.now) refusal page.0 }
+    ensures { (base : ℕ) → let candidates = candidates_in pages.now base in
+        let own_rights = own_rights_in pages.now base in
+        result ≡ passes sender.0 candidates own_rights buffers.now (send_record offer.now) refusal page.0 }
 {
     match refusal {
         Refusal::PageUnsendable => is_sendable(pages, buffers, sender, page),
@@ -119,8 +123,8 @@ fn passes<P: Room<KeptPage> + Drop>(
     }
 }
 
-/// The page that a check of FFA_MEM_RECLAIM of the transaction with this handle is about, where it fails: the first of its pages
-/// that its owner may not write, in the RAM from `base` on.
+/// The page that a check of FFA_MEM_RECLAIM of the transaction with this handle is about, where it fails: the
+/// first of its pages that its owner may not write, in the RAM from `base` on.
 pub fn failing_reclaim<P: Room<KeptPage> + Drop, O: Room<OpenSlot> + Drop>(
     pool: &Pool<O>,
     pages: &PageTable<P>,
@@ -128,7 +132,8 @@ pub fn failing_reclaim<P: Room<KeptPage> + Drop, O: Room<OpenSlot> + Drop>(
     handle: u64,
     refusal: Refusal,
 ) -> Option<PageNo>
-    ensures { result ≡ failing_reclaim (own_rights_in pages.now base.0) (finite.get (map_in pool.now.slots) handle) refusal }
+    ensures { let transaction = transaction_in pool.now.slots handle in
+        result ≡ failing_reclaim (own_rights_in pages.now base.0) transaction refusal }
 {
     match refusal {
         Refusal::ZerosUnwritable => {
@@ -147,7 +152,7 @@ fn list_ranges<O: Room<OpenSlot> + Drop>(
     ranges: &mut ArrayVec<Range, MOST_RANGES>,
 )
     requires { ranges.old.items ≡ [] }
-    ensures { ranges.new.items ≡ named_ranges (finite.get (map_in pool.now.slots) handle) }
+    ensures { ranges.new.items ≡ named_ranges (transaction_in pool.now.slots handle) }
 {
     if let Some(slot) = pool.find(handle) {
         pool.at(slot).ranges.list_in(ranges);

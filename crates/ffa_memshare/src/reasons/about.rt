@@ -20,8 +20,9 @@ use ffa_model::{
 use ffa_physmem::PhysMem;
 use ffa_rxtx::Buffers;
 
-/// What a check of FFA_MEM_DONATE, FFA_MEM_LEND or FFA_MEM_SHARE of an endpoint, one of so many, is about, where it fails and
-/// the descriptor in TX tells it: the field of which a condition is broken, or an endpoint.
+/// What a check of FFA_MEM_DONATE, FFA_MEM_LEND or FFA_MEM_SHARE of an endpoint, one of so many, is about,
+/// where it fails and the descriptor in TX tells it: the field of which a condition is broken, or an
+/// endpoint.
 pub fn about_send<M: PhysMem>(
     ram: &M,
     buffers: &Buffers,
@@ -32,8 +33,8 @@ pub fn about_send<M: PhysMem>(
     refusal: Refusal,
 ) -> Option<About>
     requires tx { (b : Own) → buffers_in buffers.now caller.0 ≡ Some b → IsInRam (length (M.ram ram.now).pages) b }
-    ensures { result ≡ where_whole buffers.now caller.0 call.now.transfer
-        (about_send kind endpoints (descriptor_in (M.ram ram.now) buffers.now caller.0 call.now) refusal) }
+    ensures { let bytes = descriptor_in (M.ram ram.now) buffers.now caller.0 call.now in
+        result ≡ where_whole buffers.now caller.0 call.now.transfer (about_send kind endpoints bytes refusal) }
 {
     let Ok(bytes) = call.descriptor(ram, buffers, caller) else {
         return None;
@@ -45,8 +46,8 @@ pub fn about_send<M: PhysMem>(
     }
 }
 
-/// What a check of FFA_MEM_RETRIEVE_REQ of an endpoint is about, where it fails and the descriptor in TX tells it: the field of
-/// which a condition is broken, an endpoint or a handle.
+/// What a check of FFA_MEM_RETRIEVE_REQ of an endpoint is about, where it fails and the descriptor in TX
+/// tells it: the field of which a condition is broken, an endpoint or a handle.
 pub fn about_retrieve<M: PhysMem>(
     ram: &M,
     buffers: &Buffers,
@@ -55,8 +56,8 @@ pub fn about_retrieve<M: PhysMem>(
     refusal: Refusal,
 ) -> Option<About>
     requires tx { (b : Own) → buffers_in buffers.now caller.0 ≡ Some b → IsInRam (length (M.ram ram.now).pages) b }
-    ensures { result ≡ where_whole buffers.now caller.0 call.now.transfer
-        (about_retrieve caller.0 (descriptor_in (M.ram ram.now) buffers.now caller.0 call.now) refusal) }
+    ensures { let bytes = descriptor_in (M.ram ram.now) buffers.now caller.0 call.now in
+        result ≡ where_whole buffers.now caller.0 call.now.transfer (about_retrieve caller.0 bytes refusal) }
 {
     let Ok(bytes) = call.descriptor(ram, buffers, caller) else {
         return None;
@@ -75,7 +76,8 @@ pub fn about_relinquish<M: PhysMem>(
     refusal: Refusal,
 ) -> Option<About>
     requires tx { (b : Own) → buffers_in buffers.now caller.0 ≡ Some b → IsInRam (length (M.ram ram.now).pages) b }
-    ensures { result ≡ where_mapped (buffers_in buffers.now caller.0) (about_relinquish (tx_in (M.ram ram.now) (buffers_in buffers.now caller.0)) refusal) }
+    ensures { let own = buffers_in buffers.now caller.0 in
+        result ≡ where_mapped own (about_relinquish (tx_in (M.ram ram.now) own) refusal) }
 {
     let Some(mapped) = buffers.of(caller) else {
         return None;

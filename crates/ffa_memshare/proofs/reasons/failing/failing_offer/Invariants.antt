@@ -6,7 +6,7 @@ use Rattle.ffa_model.specs.SendDescriptor.{send_record}
 use Rattle.ffa_rxtx.specs.Parts.{candidates_in}
 use Rattle.ffa_memshare.specs.Named.{own_rights_in}
 use Rattle.ffa_memshare.specs.Ranges.{in_ranges}
-use Rattle.ffa_memshare.proofs.failing.failing_offer.Given as goal
+use Rattle.ffa_memshare.proofs.reasons.failing.failing_offer.Given as goal
 
 -- no page so far is one that fails
 abbrev pub invariant-loop-number : goal.invariant-loop-number

@@ -5,7 +5,7 @@ use Rattle.ffa_model.specs.Rights.{may_store}
 use Rattle.ffa_pages.specs.Entry.{own_right_at}
 use Rattle.ffa_memshare.specs.Ranges.{in_ranges}
 use Rattle.ffa_memshare.proofs.FirstFailing.{first-at, first-none, none-next}
-use Rattle.ffa_memshare.proofs.failing.first_unwritable.Goals as goal
+use Rattle.ffa_memshare.proofs.reasons.failing.first_unwritable.Goals as goal
 
 pub returns-then-is_unwritable : goal.returns-then-is_unwritable
 returns-then-is_unwritable g c =
